@@ -10,13 +10,15 @@ mod name;
 mod plain;
 mod statement;
 mod tape;
+#[cfg(test)]
+mod tests;
 mod text;
 mod value;
 
 pub use list::List;
 pub use memory::OutOfMemory;
 pub use name::Name;
-pub use plain::Plain;
+pub use plain::{Plain, copy_all, same_all};
 pub use statement::{KeyIs, Line, Script, Set, SetTo, Statement};
 pub use tape::{Act, Actor, Entry, Refusal, Reply, Tape, Turn};
 pub use text::Text;

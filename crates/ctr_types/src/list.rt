@@ -1,8 +1,8 @@
 // A list of values of one type, which contracts see as a list.
-ghost use Rattle.std.specs.Prelude.{◌≡◌, ◌==◌, ◌↔◌, IsTrue, List, [], ◌∷◌, ◌++◌, length, take, IfOk, OnOk, OnErr, IfErr};
+ghost use Rattle.std.specs.Prelude.{◌≡◌, ◌==◌, ◌↔◌, IsTrue, List, [], ◌∷◌, ◌++◌, length, IfOk, OnOk, OnErr, IfErr};
 ghost use Rattle.std.specs.Cmp.Lexicographic.{pointwise, lists_per, lists_equiv};
 
-use crate::Plain;
+use crate::{Plain, copy_all, same_all};
 use std::alloc::{AllocError, AllocFailed, Global};
 use std::marker::Model;
 
@@ -88,35 +88,11 @@ impl<T: Eq> Eq for List<T> {
 impl<T: Plain> Plain for List<T> {
     fn copy(&self, alloc: Global) -> Result<Self, AllocError> {
         Ok(List {
-            items: copied(alloc, &self.items)?,
+            items: copy_all(alloc, &self.items)?,
         })
     }
 
     fn same(&self, other: &Self) -> bool {
-        all_same(&self.items, &other.items)
+        same_all(&self.items, &other.items)
     }
-}
-
-fn copied<T: Plain>(alloc: Global, from: &[T]) -> Result<Vec<T>, AllocError>
-    ensures { IfOk result (λ to. to.items ≡ from.now) }
-{
-    let mut to = Vec::with_capacity(alloc, from.len())?;
-    for item in from {
-        to.push(item.copy(alloc)?)?;
-    }
-    Ok(to)
-}
-
-fn all_same<T: Plain>(a: &[T], b: &[T]) -> bool
-    ensures { IsTrue result ↔ (a.now ≡ b.now) }
-{
-    if a.len() != b.len() {
-        return false;
-    }
-    for i in 0..a.len() {
-        if !a[i].same(&b[i]) {
-            return false;
-        }
-    }
-    true
 }

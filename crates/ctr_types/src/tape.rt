@@ -1,5 +1,6 @@
 // What sessions do and are answered, and the tape on which it stands.
-use crate::{List, Name, Rows};
+use crate::{List, Name, Plain, Rows};
+use std::alloc::{AllocError, Global};
 
 /// Who takes a turn.
 #[derive(Clone, Copy, Debug, PartialEq, Eq)]
@@ -97,4 +98,80 @@ pub struct Entry {
 #[derive(Debug, PartialEq, Eq, Drop)]
 pub struct Tape {
     pub entries: List<Entry>,
+}
+
+impl Plain for Act {
+    fn copy(&self, alloc: Global) -> Result<Self, AllocError> {
+        match self {
+            Act::Begin => Ok(Act::Begin),
+            Act::Read => Ok(Act::Read),
+            Act::Lock => Ok(Act::Lock),
+            Act::Write => Ok(Act::Write),
+            Act::Ask => Ok(Act::Ask),
+            Act::Answer => Ok(Act::Answer),
+            Act::Rollback => Ok(Act::Rollback),
+            Act::Release { name } => Ok(Act::Release {
+                name: name.copy(alloc)?,
+            }),
+        }
+    }
+
+    fn same(&self, other: &Self) -> bool {
+        match (self, other) {
+            (Act::Begin, Act::Begin) => true,
+            (Act::Read, Act::Read) => true,
+            (Act::Lock, Act::Lock) => true,
+            (Act::Write, Act::Write) => true,
+            (Act::Ask, Act::Ask) => true,
+            (Act::Answer, Act::Answer) => true,
+            (Act::Rollback, Act::Rollback) => true,
+            (Act::Release { name: a }, Act::Release { name: b }) => a.same(b),
+            _ => false,
+        }
+    }
+}
+
+impl Plain for Refusal {
+    fn copy(&self, _alloc: Global) -> Result<Self, AllocError> {
+        Ok(*self)
+    }
+
+    fn same(&self, other: &Self) -> bool {
+        *self == *other
+    }
+}
+
+impl Plain for Reply {
+    fn copy(&self, alloc: Global) -> Result<Self, AllocError> {
+        match self {
+            Reply::Began { n } => Ok(Reply::Began { n: *n }),
+            Reply::Granted => Ok(Reply::Granted),
+            Reply::Rows { rows } => Ok(Reply::Rows {
+                rows: rows.copy(alloc)?,
+            }),
+            Reply::Done => Ok(Reply::Done),
+            Reply::Asked { k } => Ok(Reply::Asked { k: *k }),
+            Reply::ReadOnly => Ok(Reply::ReadOnly),
+            Reply::Answered { k } => Ok(Reply::Answered { k: *k }),
+            Reply::RolledBack => Ok(Reply::RolledBack),
+            Reply::Released => Ok(Reply::Released),
+            Reply::Refused { refusal } => Ok(Reply::Refused { refusal: *refusal }),
+        }
+    }
+
+    fn same(&self, other: &Self) -> bool {
+        match (self, other) {
+            (Reply::Began { n: a }, Reply::Began { n: b }) => *a == *b,
+            (Reply::Granted, Reply::Granted) => true,
+            (Reply::Rows { rows: a }, Reply::Rows { rows: b }) => a.same(b),
+            (Reply::Done, Reply::Done) => true,
+            (Reply::Asked { k: a }, Reply::Asked { k: b }) => *a == *b,
+            (Reply::ReadOnly, Reply::ReadOnly) => true,
+            (Reply::Answered { k: a }, Reply::Answered { k: b }) => *a == *b,
+            (Reply::RolledBack, Reply::RolledBack) => true,
+            (Reply::Released, Reply::Released) => true,
+            (Reply::Refused { refusal: a }, Reply::Refused { refusal: b }) => a.same(b),
+            _ => false,
+        }
+    }
 }
