@@ -1,3 +1,10 @@
 pub mod Image
 pub mod Crash
 pub mod Outside
+pub mod Replay
+pub mod TornLaws
+pub mod ReplayLaws
+pub mod Counting
+pub mod Memory
+pub mod MemoryEdges
+pub mod Silent

@@ -1,0 +1,4 @@
+pub mod Moments
+mod Sections
+mod Kept
+mod InPlace
