@@ -1,0 +1,6 @@
+mod Entries
+pub mod Sessions
+mod Determined
+mod Snapshots
+mod Rollbacks
+mod Sound

@@ -1,0 +1,301 @@
+-- The grammar of scripts, as a relation between bytes and scripts.
+--
+-- A form says how much of the language is taken. The first form is the one that the engine takes
+-- today; the whole form comes with further cases of `Takes`, `IsKeyword` and `EndsLine`, and no rule
+-- below them changes.
+use Rattle.std.specs.Prelude.{◌≡◌, ◌≢◌, ◌⊎◌, ℕ, ◌+◌, ◌-◌, ◌<◌, ◌≤◌, ◌^◌, ℤ, pos, negsuc, Bool, true, false, List, [], ◌∷◌, ◌++◌, length, map, codes, Option, Some, None, ◌==◌, ◌&&◌, nat_le, if◌then◌else◌}
+use Rattle.std.specs.List.{AllByRecursion}
+use Rattle.std.specs.Str.Parse.{digits_value}
+use Rattle.ctr_types.specs.Names.{IsName}
+use Rattle.ctr_types.specs.declared.value.Column.{Column}
+use Rattle.ctr_types.specs.declared.value.Kind.{Kind}
+use Rattle.ctr_types.specs.declared.value.Kind.TheVariants as kind
+use Rattle.ctr_types.specs.declared.value.Value.{Value}
+use Rattle.ctr_types.specs.declared.value.Value.TheVariants as value
+use Rattle.ctr_types.specs.declared.statement.Statement.{Statement}
+use Rattle.ctr_types.specs.declared.statement.Statement.TheVariants as st
+use Rattle.ctr_types.specs.declared.statement.KeyIs.{KeyIs}
+use Rattle.ctr_types.specs.declared.statement.Set.{Set}
+use Rattle.ctr_types.specs.declared.statement.SetTo.{SetTo}
+use Rattle.ctr_types.specs.declared.statement.SetTo.TheVariants as to
+use Rattle.ctr_types.specs.declared.statement.Line.{Line}
+use Rattle.ctr_model.specs.State.{same_name, has_name}
+use Rattle.ctr_model.specs.Texts.{quoted}
+
+-- ---- bytes
+
+abbrev pub IsBlank : ℕ → Type 0
+IsBlank c = (c ≡ 32) ⊎ (c ≡ 9)
+
+abbrev pub IsPrintable : ℕ → Type 0
+IsPrintable c = (32 ≤ c) × (c ≤ 126)
+
+abbrev pub IsDigit : ℕ → Type 0
+IsDigit c = (48 ≤ c) × (c ≤ 57)
+
+abbrev pub IsCapital : ℕ → Type 0
+IsCapital c = (65 ≤ c) × (c ≤ 90)
+
+-- a letter or _
+abbrev pub IsLetter : ℕ → Type 0
+IsLetter c = IsCapital c ⊎ (((97 ≤ c) × (c ≤ 122)) ⊎ (c ≡ 95))
+
+abbrev pub IsWordByte : ℕ → Type 0
+IsWordByte c = IsLetter c ⊎ IsDigit c
+
+-- > ; ( ) , = + *
+abbrev pub IsSign : ℕ → Type 0
+IsSign c = (c ≡ 62) ⊎ ((c ≡ 59) ⊎ ((c ≡ 40) ⊎ ((c ≡ 41) ⊎ ((c ≡ 44) ⊎ ((c ≡ 61) ⊎ ((c ≡ 43) ⊎ (c ≡ 42)))))))
+
+-- ---- tokens
+
+-- a letter or _, then letters, digits and _
+abbrev pub IsWord : List ℕ → Type 0
+IsWord [] = ⊥
+IsWord (c ∷ cs) = IsLetter c × AllByRecursion IsWordByte cs
+
+-- one digit or more
+abbrev pub IsNumeral : List ℕ → Type 0
+IsNumeral ds = (0 < length ds) × AllByRecursion IsDigit ds
+
+-- digits that stand for a number, behind a - or not; -0 and leading zeros among them
+abbrev pub IsInteger : List ℕ → ℤ → Type 0
+IsInteger text (pos n) = (IsNumeral text × (digits_value 10 text ≡ n)) ⊎ ((ds : List ℕ) × (text ≡ 45 ∷ ds) × IsNumeral ds × (digits_value 10 ds ≡ n) × (n ≡ 0))
+IsInteger text (negsuc n) = (ds : List ℕ) × (text ≡ 45 ∷ ds) × IsNumeral ds × (digits_value 10 ds ≡ n + 1)
+
+-- it is a whole number of 64 bits
+abbrev pub IsWide : ℤ → Type 0
+IsWide (pos n) = n < 2 ^ 63
+IsWide (negsuc n) = n < 2 ^ 63
+
+-- the text between quotes, each quote in it doubled
+abbrev pub IsQuoted : List ℕ → List ℕ → Type 0
+IsQuoted spelled text = (spelled ≡ quoted text) × AllByRecursion IsPrintable text
+
+-- a token: a word, an integer, a text or a sign
+abbrev pub IsToken : List ℕ → Type 0
+IsToken spelled =
+    IsWord spelled ⊎ (((z : ℤ) × IsInteger spelled z) ⊎ (((text : List ℕ) × IsQuoted spelled text) ⊎ ((c : ℕ) × IsSign c × (spelled ≡ c ∷ []))))
+
+-- no longer front of what follows is a token too
+abbrev pub IsLongest : List ℕ → List ℕ → Type 0
+IsLongest spelled rest = (more after : List ℕ) → rest ≡ more ++ after → 0 < length more → IsToken (spelled ++ more) → ⊥
+
+-- the bytes are these tokens, with any blanks before each and behind the last
+abbrev pub Lexes : List ℕ → List (List ℕ) → Type 0
+Lexes bytes [] = AllByRecursion IsBlank bytes
+Lexes bytes (t ∷ ts) =
+    (blanks rest : List ℕ) × (bytes ≡ blanks ++ t ++ rest) × AllByRecursion IsBlank blanks × IsToken t × IsLongest t rest × Lexes rest ts
+
+-- ---- what a token must be
+
+-- how much of the language is taken
+pub data Form : Type 0 where
+  first : Form
+
+-- a place of a statement, for a token
+pub data Part : Type 0 where
+  key : List ℕ → Part
+  name : List ℕ → Part
+  int : ℤ → Part
+  text : List ℕ → Part
+  sign : ℕ → Part
+  session : ℕ → Part
+
+-- the keywords, in capitals
+abbrev pub keywords : List (List ℕ)
+keywords =
+    codes "CREATE" ∷ codes "TABLE" ∷ codes "DROP" ∷ codes "BEGIN" ∷ codes "COMMIT" ∷ codes "ROLLBACK" ∷ codes "INSERT" ∷ codes "INTO" ∷ codes "VALUES" ∷ codes "SELECT"
+    ∷ codes "FROM" ∷ codes "WHERE" ∷ codes "UPDATE" ∷ codes "SET" ∷ codes "DELETE" ∷ codes "INT" ∷ codes "TEXT" ∷ codes "PRIMARY" ∷ codes "KEY" ∷ []
+
+-- a small letter as a capital
+abbrev pub capital : ℕ → ℕ
+capital c = if nat_le 97 c && nat_le c 122 then c - 32 else c
+
+-- a word of 1 to 16 bytes that is no keyword in any case
+abbrev pub IsNameSpelled : List ℕ → Type 0
+IsNameSpelled word = IsName word × IsWord word × (has_name (map capital word) keywords ≡ false)
+
+-- how a keyword is spelled
+abbrev pub IsKeyword : Form → List ℕ → List ℕ → Type 0
+IsKeyword first keyword spelled = spelled ≡ keyword
+
+-- the token stands at the place
+abbrev pub Matches : Form → Part → List ℕ → Type 0
+Matches form (key k) spelled = IsKeyword form k spelled
+Matches form (name n) spelled = (spelled ≡ n) × IsNameSpelled n
+Matches form (int z) spelled = IsInteger spelled z × IsWide z
+Matches form (text t) spelled = IsQuoted spelled t
+Matches form (sign c) spelled = spelled ≡ c ∷ []
+Matches form (session s) spelled = spelled ≡ (48 + s) ∷ []
+
+abbrev pub AllMatch : Form → List Part → List (List ℕ) → Type 0
+AllMatch form [] [] = Unit {0}
+AllMatch form [] (t ∷ ts) = ⊥
+AllMatch form (p ∷ ps) [] = ⊥
+AllMatch form (p ∷ ps) (t ∷ ts) = Matches form p t × AllMatch form ps ts
+
+-- ---- statements
+
+abbrev pub comma : Part
+comma = sign 44
+
+abbrev pub open_paren : Part
+open_paren = sign 40
+
+abbrev pub close_paren : Part
+close_paren = sign 41
+
+abbrev pub literal : Value → Part
+literal (value.Int n) = int n
+literal (value.Chars t) = text t
+
+abbrev pub literals : List Value → List Part
+literals [] = []
+literals (v ∷ []) = literal v ∷ []
+literals (v ∷ w ∷ vs) = literal v ∷ comma ∷ literals (w ∷ vs)
+
+abbrev pub kind_parts : Kind → List Part
+kind_parts kind.Int = key (codes "INT") ∷ []
+kind_parts (kind.Chars most) = key (codes "TEXT") ∷ open_paren ∷ int (pos most) ∷ close_paren ∷ []
+
+-- the columns behind the first
+abbrev pub column_parts : List Column → List Part
+column_parts [] = []
+column_parts (c ∷ cs) = comma ∷ name c.name ∷ kind_parts c.kind ++ column_parts cs
+
+abbrev pub schema_parts : List Column → List Part
+schema_parts [] = []
+schema_parts (c ∷ cs) = name c.name ∷ key (codes "INT") ∷ key (codes "PRIMARY") ∷ key (codes "KEY") ∷ column_parts cs
+
+abbrev pub where_parts : KeyIs → List Part
+where_parts at = key (codes "WHERE") ∷ name at.column ∷ sign 61 ∷ int at.key ∷ []
+
+abbrev pub optional_where : Option KeyIs → List Part
+optional_where None = []
+optional_where (Some at) = where_parts at
+
+abbrev pub set_parts : List ℕ → SetTo → List Part
+set_parts column (to.Is v) = name column ∷ sign 61 ∷ literal v ∷ []
+set_parts column (to.Sum other n) = name column ∷ sign 61 ∷ name other ∷ sign 43 ∷ int n ∷ []
+
+abbrev pub sets_parts : List Set → List Part
+sets_parts [] = []
+sets_parts (s ∷ []) = set_parts s.column s.to
+sets_parts (s ∷ t ∷ ss) = set_parts s.column s.to ++ comma ∷ sets_parts (t ∷ ss)
+
+-- the places of a statement, in order
+abbrev pub statement_parts : Statement → List Part
+statement_parts st.Begin = key (codes "BEGIN") ∷ []
+statement_parts st.Commit = key (codes "COMMIT") ∷ []
+statement_parts st.Rollback = key (codes "ROLLBACK") ∷ []
+statement_parts (st.Create table schema) = key (codes "CREATE") ∷ key (codes "TABLE") ∷ name table ∷ open_paren ∷ schema_parts schema.columns ++ close_paren ∷ []
+statement_parts (st.DropTable table) = key (codes "DROP") ∷ key (codes "TABLE") ∷ name table ∷ []
+statement_parts (st.Insert table values) = key (codes "INSERT") ∷ key (codes "INTO") ∷ name table ∷ key (codes "VALUES") ∷ open_paren ∷ literals values ++ close_paren ∷ []
+statement_parts (st.Select table at) = key (codes "SELECT") ∷ sign 42 ∷ key (codes "FROM") ∷ name table ∷ optional_where at
+statement_parts (st.Update table sets at) = key (codes "UPDATE") ∷ name table ∷ key (codes "SET") ∷ sets_parts sets ++ where_parts at
+statement_parts (st.Delete table at) = key (codes "DELETE") ∷ key (codes "FROM") ∷ name table ∷ where_parts at
+
+abbrev pub IsAmount : {X : Type 0} → List X → Type 0
+IsAmount xs = (1 ≤ length xs) × (length xs ≤ 8)
+
+-- a text column has room for 1 to 64 bytes
+abbrev pub IsKind : Kind → Type 0
+IsKind kind.Int = Unit {0}
+IsKind (kind.Chars most) = (1 ≤ most) × (most ≤ 64)
+
+-- no two columns have one name
+abbrev pub AreDistinct : List Column → Type 0
+AreDistinct [] = Unit {0}
+AreDistinct (c ∷ cs) = (has_name c.name (map (λ d. d.name) cs) ≡ false) × AreDistinct cs
+
+abbrev pub first_is_int : List Column → Type 0
+first_is_int [] = ⊥
+first_is_int (c ∷ cs) = c.kind ≡ kind.Int
+
+pub record IsSchema (columns : List Column) : Type 0 where
+  pub amount : IsAmount columns
+  pub key : first_is_int columns
+  pub kinds : AllByRecursion (λ c. IsKind c.kind) columns
+  pub distinct : AreDistinct columns
+
+-- what no token shows: 1 to 8 columns of different names, values and assignments
+abbrev pub IsWithin : Statement → Type 0
+IsWithin (st.Create table schema) = IsSchema schema.columns
+IsWithin (st.Insert table values) = IsAmount values
+IsWithin (st.Update table sets at) = IsAmount sets
+IsWithin s = Unit {0}
+
+-- The first form takes session 1, and BEGIN, COMMIT, CREATE, INSERT and SELECT without WHERE.
+abbrev pub Takes : Form → ℕ → Statement → Type 0
+Takes first s st.Begin = s ≡ 1
+Takes first s st.Commit = s ≡ 1
+Takes first s (st.Create table schema) = s ≡ 1
+Takes first s (st.Insert table values) = s ≡ 1
+Takes first s (st.Select table None) = s ≡ 1
+Takes first s (st.Select table (Some at)) = ⊥
+Takes first s st.Rollback = ⊥
+Takes first s (st.DropTable table) = ⊥
+Takes first s (st.Update table sets at) = ⊥
+Takes first s (st.Delete table at) = ⊥
+
+-- ---- lines
+
+abbrev pub line_parts : Line → List Part
+line_parts l = session l.session ∷ sign 62 ∷ statement_parts l.statement ++ sign 59 ∷ []
+
+-- the bytes of a line, without its end, are this statement
+pub record IsLine (form : Form) (bytes : List ℕ) (l : Line) : Type 0 where
+  pub takes : Takes form l.session l.statement
+  pub within : IsWithin l.statement
+  pub tokens : List (List ℕ)
+  pub lexes : Lexes bytes tokens
+  pub match : AllMatch form (line_parts l) tokens
+
+-- a line that is skipped
+abbrev pub IsSkipped : Form → List ℕ → Type 0
+IsSkipped first bytes = AllByRecursion IsBlank bytes
+
+-- A line without its end, and its end: in the first form LF alone, which stands behind each line.
+abbrev pub EndsLine : Form → List ℕ → Type 0
+EndsLine first end = end ≡ 10 ∷ []
+
+abbrev pub HasNoEnd : List ℕ → Type 0
+HasNoEnd line = AllByRecursion (λ c. c ≢ 10) line
+
+-- The bytes are these lines, with skipped lines between. A script ends behind the end of a line.
+pub data IsScript (form : Form) : List ℕ → List Line → Type 0 where
+  ends : IsScript form [] []
+  skips : {bytes : List ℕ} {ls : List Line} (line end rest : List ℕ) → bytes ≡ line ++ end ++ rest → HasNoEnd line → EndsLine form end → IsSkipped form line → IsScript form rest ls
+      → IsScript form bytes ls
+  goes_on : {bytes : List ℕ} {ls : List Line} (line end rest : List ℕ) (l : Line) → bytes ≡ line ++ end ++ rest → HasNoEnd line → EndsLine form end → IsLine form line l → IsScript form rest ls
+      → IsScript form bytes (l ∷ ls)
+
+-- ---- refusals
+
+-- how many lines end in these bytes
+abbrev pub line_ends : List ℕ → ℕ
+line_ends [] = 0
+line_ends (c ∷ cs) = (if c == 10 then 1 else 0) + line_ends cs
+
+-- no line that is skipped or is a statement begins the bytes
+abbrev pub NoLine : Form → List ℕ → Type 0
+NoLine form bytes =
+    (line end rest : List ℕ) → bytes ≡ line ++ end ++ rest → HasNoEnd line → EndsLine form end → (IsSkipped form line ⊎ ((l : Line) × IsLine form line l)) → ⊥
+
+-- Where a script is refused: at its first line that is none, which is told from 1. The first form
+-- tells byte 1 of that line.
+pub record IsRefusedAt (form : Form) (bytes : List ℕ) (line at : ℕ) : Type 0 where
+  pub front : List ℕ
+  pub lines : List Line
+  pub rest : List ℕ
+  pub split : bytes ≡ front ++ rest
+  pub script : IsScript form front lines
+  pub more : rest ≢ []
+  pub refused : NoLine form rest
+  pub number : line ≡ line_ends front + 1
+  pub place : at ≡ 1
+
+-- the most bytes that a script has
+abbrev pub most_bytes : ℕ
+most_bytes = 16777216

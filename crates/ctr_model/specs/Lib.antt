@@ -1,0 +1,9 @@
+pub mod Maps
+pub mod Database
+pub mod State
+pub mod Refusals
+pub mod Reply
+pub mod Tape
+pub mod Texts
+pub mod Laws
+pub mod Grammar

@@ -1,0 +1,136 @@
+-- Which tapes are legal: each reply is allowed at its point, and each session's acts are those of its statements in order.
+use Rattle.std.specs.Prelude.{◌≡◌, ◌⊎◌, zero, suc, ℕ, ◌+◌, ◌==◌, ◌≤◌, nat_le, Bool, true, false, ◌&&◌, IsTrue, List, [], ◌∷◌, length, map, Option, Some, None, slice_get, if◌then◌else◌, option_and_then, unwrap_or}
+use Rattle.std.specs.Option.{option_map_or}
+use Rattle.std.specs.List.{filter}
+use Rattle.std.specs.Ordering.{nat_cmp}
+use Rattle.std.specs.FinMap.Entries.{put, find}
+use Rattle.ctr_types.specs.declared.statement.Statement.{Statement}
+use Rattle.ctr_types.specs.declared.statement.Statement.TheVariants as st
+use Rattle.ctr_types.specs.declared.statement.Line.{Line}
+use Rattle.ctr_types.specs.declared.tape.Act.{Act}
+use Rattle.ctr_types.specs.declared.tape.Act.TheVariants as act
+use Rattle.ctr_types.specs.declared.tape.Reply.{Reply}
+use Rattle.ctr_types.specs.declared.tape.Reply.TheVariants as reply
+use Rattle.ctr_types.specs.declared.tape.Entry.{Entry}
+use Rattle.ctr_model.specs.Database.{Database}
+use Rattle.ctr_model.specs.State.{State, Transaction, has_name, transaction_of, at_rest}
+use Rattle.ctr_model.specs.Reply.{reply_to, next_state, MayStandFor}
+pub use Rattle.ctr_model.specs.declared.tape.Progress.{Progress}
+pub use Rattle.ctr_model.specs.declared.tape.Point.{Point}
+
+-- the acts of a statement, in order
+abbrev pub acts_of : Statement → List Act
+acts_of st.Begin = act.Begin ∷ []
+acts_of st.Commit = act.Ask ∷ act.Answer ∷ []
+acts_of st.Rollback = act.Rollback ∷ []
+acts_of (st.Create table schema) = act.Lock ∷ act.Write ∷ []
+acts_of (st.DropTable table) = act.Lock ∷ act.Write ∷ []
+acts_of (st.Insert table values) = act.Lock ∷ act.Write ∷ []
+acts_of (st.Select table at) = act.Read ∷ []
+acts_of (st.Update table sets at) = act.Lock ∷ act.Write ∷ []
+acts_of (st.Delete table at) = act.Lock ∷ act.Write ∷ []
+
+-- a session's statements, in the order of the script
+abbrev pub statements_of : ℕ → List Line → List Statement
+statements_of s lines = map (λ l. l.statement) (filter (λ l. l.session == s) lines)
+
+-- a session's statement of a number from 1
+abbrev pub statement_of : List Line → ℕ → ℕ → Option Statement
+statement_of lines s zero = None
+statement_of lines s (suc n) = slice_get (statements_of s lines) n
+
+-- ---- progress
+
+abbrev pub progress_of : Point → ℕ → Progress
+progress_of p s = unwrap_or (find nat_cmp s p.progress) (record { finished = 0; made = 0 })
+
+-- A refusal ends the statement, and so does a commit that took no number.
+abbrev pub goes_on : Reply → Bool
+goes_on (reply.Refused why) = false
+goes_on reply.ReadOnly = false
+goes_on r = true
+
+-- one act more, or the statement is finished
+abbrev pub advanced : Statement → Reply → Progress → Progress
+advanced statement r p =
+    if goes_on r && nat_le (p.made + 2) (length (acts_of statement)) then record p { made = p.made + 1 } else
+    record { finished = p.finished + 1; made = 0 }
+
+-- ---- one entry
+
+-- commits are answered in the order in which they were asked, and to the session that asked
+abbrev pub IsInTurn : State → ℕ → Act → Type 0
+IsInTurn state s act.Answer = option_and_then (λ (me : Transaction). me.asked) (transaction_of state s) ≡ Some (state.answered + 1)
+IsInTurn state s a = Unit {0}
+
+abbrev pub Allowed : State → ℕ → Act → Option Statement → Reply → Type 0
+Allowed state s a statement r = (r ≡ reply_to state s a statement) ⊎ MayStandFor statement (reply_to state s a statement) r
+
+-- the entry is the next act of this statement, the next of its session, with a reply that is allowed
+pub record IsActOf (statement : Statement) (p : Point) (e : Entry) : Type 0 where
+  pub number : e.statement ≡ (progress_of p e.session).finished + 1
+  pub next_act : slice_get (acts_of statement) (progress_of p e.session).made ≡ Some e.act
+  pub in_turn : IsInTurn p.state e.session e.act
+  pub allowed : Allowed p.state e.session e.act (Some statement) e.reply
+
+-- the entry is the next act of its session, by the script
+abbrev pub IsNextAct : List Line → Point → Entry → Type 0
+IsNextAct lines p e = (statement : Statement) × (statement_of lines e.session e.statement ≡ Some statement) × IsActOf statement p e
+
+-- recovery gives a name free that it holds
+pub record IsRelease (p : Point) (e : Entry) : Type 0 where
+  pub name : List ℕ
+  pub act : e.act ≡ act.Release name
+  pub session : e.session ≡ 0
+  pub statement : e.statement ≡ 0
+  pub held : IsTrue (has_name name p.state.stuck)
+  pub released : e.reply ≡ reply.Released
+
+-- the entry may come here
+pub record Comes (lines : List Line) (p : Point) (e : Entry) : Type 0 where
+  pub later : p.moment ≤ e.moment
+  pub one_of : IsNextAct lines p e ⊎ IsRelease p e
+
+-- where a run stands after an entry of this statement
+abbrev pub passed_by : Option Statement → Point → Entry → Point
+passed_by statement p e = record {
+  state = next_state p.state e.session e.act statement e.reply;
+  progress = option_map_or (λ s. put nat_cmp e.session (advanced s e.reply (progress_of p e.session)) p.progress) statement p.progress;
+  moment = e.moment;
+}
+
+abbrev pub passed : List Line → Point → Entry → Point
+passed lines p e = passed_by (statement_of lines e.session e.statement) p e
+
+-- ---- a tape
+
+-- where a run stands after these entries
+abbrev pub final : List Line → Point → List Entry → Point
+final lines p [] = p
+final lines p (e ∷ es) = final lines (passed lines p e) es
+
+-- each entry may come where the ones before it have led
+abbrev pub Legal : List Line → Point → List Entry → Type 0
+Legal lines p [] = Unit {0}
+Legal lines p (e ∷ es) = Comes lines p e × Legal lines (passed lines p e) es
+
+-- where a run begins: its moment, the database, and the names that recovery holds
+abbrev pub at_start : ℕ → Database → List (List ℕ) → Point
+at_start moment base stuck = record { state = at_rest base stuck; progress = []; moment = moment }
+
+-- every statement of the script is finished
+abbrev pub IsWhole : List Line → Point → Type 0
+IsWhole lines p = (s : ℕ) → (progress_of p s).finished ≡ length (statements_of s lines)
+
+abbrev pub is_answer : Reply → Bool
+is_answer (reply.Answered k) = true
+is_answer r = false
+
+abbrev pub is_refused : Reply → Bool
+is_refused (reply.Refused why) = true
+is_refused r = false
+
+-- how many commits were answered by a moment
+abbrev pub answered_by : ℕ → List Entry → ℕ
+answered_by t [] = 0
+answered_by t (e ∷ es) = (if is_answer e.reply && nat_le e.moment t then 1 else 0) + answered_by t es
