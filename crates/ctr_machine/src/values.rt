@@ -1,0 +1,240 @@
+// Which values and assignments suit a table, and what an update makes of a row.
+ghost use Rattle.std.specs.Prelude.{◌≡◌, ◌<◌, ◌+◌, ◌^◌, [], length, IfOk, OnOk};
+ghost use Rattle.std.specs.Option.{option_copied, option_map};
+ghost use Rattle.ctr_model.specs.Refusals.{fits, bad_from, is_first_column, kind_of, is_int_column, bad_right_side, is_bad_set, is_assigned, bad_set_behind, bad_where, bad_value, int_at, sum_of, set_of, new_value, new_values, updated};
+
+use ctr_types::{Column, KeyIs, Kind, List, Name, Plain, Row, Set, SetTo, Statement, Value};
+use std::alloc::{AllocError, Global};
+
+fn fits(kind: Kind, value: &Value) -> bool
+    ensures { result ≡ fits kind value.now }
+{
+    match (kind, value) {
+        (Kind::Int, Value::Int(_)) => true,
+        (Kind::Chars(most), Value::Chars(text)) => text.len() <= most as usize,
+        (Kind::Int, Value::Chars(_)) => false,
+        (Kind::Chars(_), Value::Int(_)) => false,
+    }
+}
+
+// The position of the first bad value, where the first has this position.
+fn bad_from(at: u64, columns: &[Column], values: &[Value]) -> Option<u64>
+    requires { at + length values.now < 2 ^ 64 }
+    ensures { result ≡ bad_from at columns.now values.now }
+{
+    match (columns.split_first(), values.split_first()) {
+        (None, None) => None,
+        (None, Some(_)) => Some(at),
+        (Some(_), None) => Some(at),
+        (Some((column, columns)), Some((value, values))) => {
+            if fits(column.kind, value) {
+                bad_from(at + 1, columns, values)
+            } else {
+                Some(at)
+            }
+        }
+    }
+}
+
+fn is_first_column(name: &Name, columns: &[Column]) -> bool
+    ensures { result ≡ is_first_column name.now columns.now }
+{
+    match columns.first() {
+        Some(column) => *name == column.name,
+        None => false,
+    }
+}
+
+fn kind_of(name: &Name, columns: &[Column]) -> Option<Kind>
+    ensures { result ≡ kind_of name.now columns.now }
+{
+    let (first, rest) = columns.split_first()?;
+    if *name == first.name {
+        return Some(first.kind);
+    }
+    kind_of(name, rest)
+}
+
+fn is_int_column(name: &Name, columns: &[Column]) -> bool
+    ensures { result ≡ is_int_column name.now columns.now }
+{
+    match kind_of(name, columns) {
+        Some(Kind::Int) => true,
+        Some(Kind::Chars(_)) => false,
+        None => false,
+    }
+}
+
+fn bad_right_side(columns: &[Column], column: &Name, to: &SetTo) -> bool
+    ensures { result ≡ bad_right_side columns.now column.now to.now }
+{
+    match to {
+        SetTo::Is(value) => match kind_of(column, columns) {
+            Some(kind) => !fits(kind, value),
+            None => true,
+        },
+        SetTo::Sum(other, _) => {
+            !(is_int_column(column, columns) && is_int_column(other, columns))
+        }
+    }
+}
+
+// Whether one of the assignments is to the column.
+fn is_assigned(name: &Name, sets: &[Set]) -> bool
+    ensures { result ≡ is_assigned name.now sets.now }
+{
+    sets.iter().any(|set| set.column == *name)
+}
+
+fn is_bad_set(columns: &[Column], before: &[Set], set: &Set) -> bool
+    ensures { result ≡ is_bad_set columns.now before.now set.now }
+{
+    kind_of(&set.column, columns).is_none()
+        || is_first_column(&set.column, columns)
+        || is_assigned(&set.column, before)
+        || bad_right_side(columns, &set.column, &set.to)
+}
+
+// The position of the first bad assignment.
+fn bad_set(columns: &[Column], sets: &[Set]) -> Option<u64>
+    ensures { result ≡ bad_set_behind columns.now [] sets.now }
+{
+    for i in 0..sets.len() {
+        if is_bad_set(columns, &sets[..i], &sets[i]) {
+            return Some(i as u64 + 1);
+        }
+    }
+    None
+}
+
+fn bad_where(columns: &[Column], at: &KeyIs) -> Option<u64>
+    ensures { result ≡ bad_where columns.now at.now }
+{
+    if is_first_column(&at.column, columns) {
+        None
+    } else {
+        Some(0)
+    }
+}
+
+// The position of the first bad value or assignment of a statement, or 0 for a bad WHERE.
+pub fn bad_value(columns: &[Column], statement: &Statement) -> Option<u64>
+    ensures { result ≡ bad_value columns.now statement.now }
+{
+    match statement {
+        Statement::Insert { values, .. } => bad_from(1, columns, values.as_slice()),
+        Statement::Select { at: Some(at), .. } => bad_where(columns, at),
+        Statement::Select { at: None, .. } => None,
+        Statement::Update { sets, at, .. } => {
+            if let Some(position) = bad_where(columns, at) {
+                return Some(position);
+            }
+            bad_set(columns, sets.as_slice())
+        }
+        Statement::Delete { at, .. } => bad_where(columns, at),
+        Statement::Begin | Statement::Commit | Statement::Rollback => None,
+        Statement::Create { .. } => None,
+        Statement::DropTable { .. } => None,
+    }
+}
+
+// ---- an update
+
+// A column's value in a row, as a number.
+fn int_at(name: &Name, columns: &[Column], values: &[Value]) -> i64
+    ensures { result ≡ int_at name.now columns.now values.now }
+{
+    let (Some((column, columns)), Some((value, values))) = (
+        columns.split_first(),
+        values.split_first(),
+    ) else {
+        return 0;
+    };
+    if *name != column.name {
+        return int_at(name, columns, values);
+    }
+    match value {
+        Value::Int(number) => *number,
+        Value::Chars(_) => 0,
+    }
+}
+
+fn sum_of(a: i64, b: i64) -> Option<Value>
+    ensures { result ≡ sum_of a b }
+{
+    let sum = a.checked_add(b)?;
+    Some(Value::Int(sum))
+}
+
+// The first assignment to a column.
+fn set_of<'a>(column: &Name, sets: &'a [Set]) -> Option<&'a SetTo>
+    ensures { option_copied result ≡ set_of column.now sets.now }
+{
+    let (first, rest) = sets.split_first()?;
+    if first.column == *column {
+        return Some(&first.to);
+    }
+    set_of(column, rest)
+}
+
+// The new value of a column, by the row as it was; none where a sum is out of range.
+fn new_value(
+    alloc: Global,
+    columns: &[Column],
+    old: &[Value],
+    value: &Value,
+    to: Option<&SetTo>,
+) -> Result<Option<Value>, AllocError>
+    ensures { IfOk result (λ new. new ≡ new_value columns.now old.now value.now (option_copied to.entry)) }
+{
+    match to {
+        None => Ok(Some(value.copy(alloc)?)),
+        Some(SetTo::Is(new)) => Ok(Some(new.copy(alloc)?)),
+        Some(SetTo::Sum(other, number)) => Ok(sum_of(int_at(other, columns, old), *number)),
+    }
+}
+
+// The new values of the last columns of a row, by the row as it was.
+fn new_values(
+    alloc: Global,
+    all: &[Column],
+    old: &[Value],
+    sets: &[Set],
+    columns: &[Column],
+    values: &[Value],
+) -> Result<Option<Vec<Value>>, AllocError>
+    ensures { IfOk result (λ new. option_map (λ v. v.items) new ≡ new_values all.now old.now sets.now columns.now values.now) }
+{
+    let (Some((column, columns)), Some((value, values))) = (
+        columns.split_first(),
+        values.split_first(),
+    ) else {
+        return Ok(Some(Vec::new(alloc)));
+    };
+    let Some(first) = new_value(alloc, all, old, value, set_of(&column.name, sets))? else {
+        return Ok(None);
+    };
+    let Some(mut rest) = new_values(alloc, all, old, sets, columns, values)? else {
+        return Ok(None);
+    };
+    rest.insert(0, first)?;
+    Ok(Some(rest))
+}
+
+// The row that an update makes; none where a sum is out of range.
+pub fn updated(
+    alloc: Global,
+    columns: &[Column],
+    sets: &[Set],
+    row: &Row,
+) -> Result<Option<Row>, AllocError>
+    ensures { IfOk result (λ new. new ≡ updated columns.now sets.now row.now) }
+{
+    let old = row.values.as_slice();
+    let Some(values) = new_values(alloc, columns, old, sets, columns, old)? else {
+        return Ok(None);
+    };
+    Ok(Some(Row {
+        values: List::from_vec(values),
+    }))
+}
