@@ -1,0 +1,6 @@
+// Worked runs, with transcripts written by hand.
+mod check;
+mod legality;
+mod refusals;
+mod rows;
+mod states;
