@@ -1,0 +1,16 @@
+pub mod FieldLaws
+pub mod Moments
+pub mod Torn
+pub mod HomeLemmas
+pub mod RootLemmas
+pub mod LogLemmas
+pub mod FlushLemmas
+pub mod ReadLemmas
+pub mod InitLemmas
+pub mod PayloadLaws
+pub mod PayloadLoops
+pub mod RecordLoops
+pub mod RecordLaws
+pub mod ItemLaws
+pub mod FairLaws
+pub mod EncodeLaws

@@ -1,0 +1,10 @@
+-- Where a check failed, what it wants and what is there.
+use Rattle.std.specs.Prelude.{◌≡◌, ◌≢◌}
+use Rattle.ctr_disk.specs.declared.disk.File.{File}
+use Rattle.ctr_disk.specs.declared.fault.StoreFault.{StoreFault}
+use Rattle.ctr_disk.specs.declared.fault.StoreFault.TheVariants.{Fault, Damaged}
+
+-- it is damage of this file, and what is wanted differs from what is there
+abbrev pub IsDamage : File → StoreFault → Type 0
+IsDamage file Fault = ⊥
+IsDamage file (Damaged f at want got) = (f ≡ file) × (want ≢ got)

@@ -1,0 +1,10 @@
+pub mod Fields
+pub mod Settled
+pub mod Damage
+pub mod Homes
+pub mod Logs
+pub mod LogFile
+pub mod Reading
+pub mod Fresh
+pub mod Payload
+pub mod Records
