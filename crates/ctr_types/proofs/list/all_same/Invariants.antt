@@ -1,5 +1,0 @@
-use Rattle.std.proofs.Common.{◌≡◌, take, length}
-use Rattle.ctr_types.proofs.list.all_same.Given as goal
-
-abbrev pub invariant-loop-i : goal.invariant-loop-i
-invariant-loop-i g l = (take l.i l.a ≡ take l.i l.b) × (length l.a ≡ length l.b)
