@@ -1,0 +1,85 @@
+-- What the fields of a log's writer say of the batch that it flushes.
+use Rattle.std.proofs.Common.{◌≡◌, inl, inr, ℕ, ◌+◌, ◌-◌, ◌^◌, ◌<◌, List, [], ◌∷◌, ◌++◌, length, take, drop, vec_len, refl, sym, ◌∙◌, ap, subst, arith, length-append, length-drop}
+use Rattle.std.proofs.lemmas.List.{append-nil, take_at, drop_at, take_all}
+use Rattle.ctr_disk.specs.declared.disk.Image.{Image}
+use Rattle.ctr_disk.specs.declared.disk.File.{File}
+use Rattle.ctr_disk.specs.Image.{content}
+use Rattle.ctr_log.specs.declared.log.LogFile.TheInside.{Inside}
+use Rattle.ctr_bytes.specs.Fields.{spelled}
+use Rattle.ctr_log.specs.Settled.{SameBut}
+use Rattle.ctr_log.specs.Logs.{Log, headed, sealed, frames, records, GoesOn, Extends, IsBeforeOrAfter, IsAfter, HasPrefix, with_batch, unframed, HasBatches}
+use Rattle.ctr_log.specs.LogFile.{log_of, Keeps}
+use Rattle.ctr_bytes.proofs.FieldLaws.{length-spelled}
+use Rattle.ctr_log.proofs.LogLemmas.{length-push, length-unframed, length-batches-push, records-push}
+
+pub length-headed : (first count : ℕ) (bytes : List ℕ) → length (headed first count bytes) ≡ 20 + length bytes
+length-headed first count bytes = omega (
+  arith,
+  length-append (spelled 8 (length bytes) ++ spelled 8 first ++ spelled 4 count) bytes,
+  length-append (spelled 8 (length bytes) ++ spelled 8 first) (spelled 4 count),
+  length-append (spelled 8 (length bytes)) (spelled 8 first),
+  length-spelled 8 (length bytes),
+  length-spelled 8 first,
+  length-spelled 4 count,
+)
+
+-- the frames in a buffer that was sealed and opened again
+pub reopened : (first count len : ℕ) (bytes : List ℕ) → len ≡ 20 + length bytes → drop 20 (take len (sealed first count bytes)) ≡ bytes
+reopened first count len bytes is =
+    let head = spelled 8 (length bytes) ++ spelled 8 first ++ spelled 4 count in
+    let long : length head ≡ 20 = omega (
+      arith,
+      length-append (spelled 8 (length bytes) ++ spelled 8 first) (spelled 4 count),
+      length-append (spelled 8 (length bytes)) (spelled 8 first),
+      length-spelled 8 (length bytes),
+      length-spelled 8 first,
+      length-spelled 4 count,
+    ) in
+    ap (λ (l : List ℕ). drop 20 l) (take_at (headed first count bytes) (0 ∷ []) len (omega (arith, length-headed first count bytes))) ∙ drop_at head bytes 20 long
+
+pub with_some : (bs : List (List (List ℕ))) (rs : List (List ℕ)) → 0 < length rs → with_batch bs rs ≡ bs ++ rs ∷ []
+with_some bs [] some = absurd (omega arith)
+with_some bs (r ∷ rs) some = refl
+
+-- the log before the batch or with it has a front of the batch's records
+pub prefix : (file : File) (first : ℕ) (bs : List (List (List ℕ))) (rs : List (List ℕ)) (old c : Image) → 0 < length bs → IsBeforeOrAfter file first bs rs old c → HasPrefix file first (records bs) rs old c
+prefix file first bs rs old c some (same, inl log) = (same, (0, (bs, sym (append-nil (records bs)), record { some = some; batches_are = log })))
+prefix file first bs rs old c some (same, inr log) =
+    (same, (length rs, (bs ++ rs ∷ [], records-push bs rs ∙ ap (λ (l : List (List ℕ)). records bs ++ l) (sym (take_all (length rs) rs (omega arith))), record { some = omega (arith, length-push bs rs); batches_are = log })))
+
+module _ (a : Inside) (keeps : Keeps a) (some : 0 < a.count) (few : a.count < 2 ^ 32) (long : vec_len a.buffer ≡ length a.buffer.items) (first : ℕ) (bs : List (List (List ℕ))) where
+  abbrev held : List ℕ
+  held = drop 20 a.buffer.items
+
+  abbrev rs : List (List ℕ)
+  rs = unframed a.count held
+
+  count_is : length rs ≡ a.count
+  count_is = length-unframed a.count held
+
+  -- what is sealed stands for the batch
+  pub extends : (image : Image) → GoesOn first bs (log_of a) image → Extends first bs rs a.place (sealed a.first a.count held) (content a.file image)
+  extends image goes = record {
+    log_is = goes.log_is.batches_are;
+    place_is = goes.place;
+    body_is = ap (λ (n : ℕ). sealed n a.count held) goes.first_is ∙ ap (λ (n : ℕ). sealed (first + length (records bs)) n held) (sym count_is)
+        ∙ ap (λ (l : List ℕ). sealed (first + length (records bs)) (length rs) l) keeps.frames_are;
+    is_batch = (omega (arith, count_is), omega (arith, count_is));
+  }
+
+  -- and behind it the writer goes on
+  pub goes_on : (image new : Image) (log : Log) → GoesOn first bs (log_of a) image → IsAfter a.file first bs rs image new → log.file ≡ a.file → log.place ≡ a.place + (1 + vec_len a.buffer) → log.first ≡ a.first + a.count
+      → SameBut a.file image new × GoesOn first (with_batch bs rs) log new
+  goes_on image new log goes after file place number =
+      let head = keeps.head in
+      let held_len : length (frames rs) ≡ vec_len a.buffer - 20 = omega (arith, ap length keeps.frames_are, length-drop 20 a.buffer.items) in
+      let place_was = goes.place in
+      let first_was = goes.first_is in
+      let P : List (List (List ℕ)) → Type 0 = λ all. GoesOn first all log new in (
+        after.0,
+        subst P (sym (with_some bs rs (omega (arith, count_is)))) (record {
+          log_is = record { some = omega (arith, length-push bs rs); batches_are = subst (λ (f : File). HasBatches first (bs ++ rs ∷ []) (content f new)) (sym file) after.1 };
+          place = omega (arith, place, place_was, held_len, length-batches-push first bs rs);
+          first_is = omega (arith, number, first_was, count_is, ap length (records-push bs rs), length-append (records bs) rs);
+        }),
+      )

@@ -1,0 +1,92 @@
+use Rattle.std.proofs.Common.{◌≡◌, ◌∙◌, ◌+◌, [], ℕ, List, length, take, drop, ap, subst, sym, refl, arith, length-drop, length-take}
+use Rattle.std.proofs.lemmas.List.{drop_all}
+use Rattle.ctr_disk.specs.Image.{content}
+use Rattle.ctr_disk.specs.Crash.{LeavesOnly}
+use Rattle.ctr_log.specs.Settled.{SameBut}
+use Rattle.ctr_log.specs.Logs.{Log, frames, records, unframed, GoesOn, Extends, IsBeforeOrAfter, HasPrefix, with_batch}
+use Rattle.ctr_log.specs.LogFile.{log_of}
+use Rattle.ctr_disk.proofs.Moments.{weaker}
+use Rattle.ctr_log.proofs.FlushLemmas.{reopened, prefix, extends, goes_on}
+use Rattle.ctr_log.proofs.log.LogFile.flush.Goals as goal
+
+pub invariant_of-self : goal.invariant_of-self
+invariant_of-self g c =
+    let a = c.self.inside in
+    let new = c.truncate.new.self in
+    let held = drop 20 a.buffer.items in
+    let keeps = c.self.invariant in
+    let old_len = a.buffer.ok.0 in
+    let long : c.len-len.result ≡ 20 + length held = omega (arith, length-drop 20 a.buffer.items) in
+    let frames_in : drop 20 new.items ≡ held =
+    ap (λ (l : List ℕ). drop 20 l) (c.truncate.ensures.items ∙ ap (λ (l : List ℕ). take c.len-len.result l) c.seal.ensures.items) ∙ reopened a.first a.count c.len-len.result held long in
+    record {
+      head = omega arith;
+      spare = omega arith;
+      frames_are = frames_in ∙ keeps.frames_are ∙ ap (λ (l : List ℕ). frames (unframed a.count l)) (sym frames_in);
+      place = keeps.place;
+      next = keeps.next;
+    }
+
+pub returns-in_err-written-clause-any_moment : goal.returns-in_err-written-clause-any_moment
+returns-in_err-written-clause-any_moment g c first bs settled goes =
+    let d = g.D.Disk in
+    let a = c.self.inside in
+    let old = d.reads c.args.disk.now in
+    let new = c.write_batch-written.new.disk in
+    let held = drop 20 a.buffer.items in
+    let rs = unframed a.count held in
+    let keeps = c.self.invariant in
+    let body = c.deref.ensures.value ∙ c.seal.ensures.items in
+    let ext = extends a keeps (omega arith) (omega arith) a.buffer.ok.0 first bs old (subst (λ (v : Log). GoesOn first bs v old) (sym c.self.view_is) goes) in
+    let crash = c.write_batch-written.ensures.any_moment first bs rs settled (subst (λ (b : List ℕ). Extends first bs rs a.place b (content a.file old)) (sym body) ext) in
+    let P : Log → Type 0 = λ v. LeavesOnly d.moment_of d.since c.args.disk.now new (HasPrefix v.file first (records bs) v.buffered old) in
+    subst P c.self.view_is (weaker d.moment_of d.since c.args.disk.now new (IsBeforeOrAfter a.file first bs rs old) (HasPrefix a.file first (records bs) rs old) crash (λ i is. prefix a.file first bs rs old i goes.log_is.some is))
+
+pub invariant_of-self-2 : goal.invariant_of-self-2
+invariant_of-self-2 g c =
+    let a = c.self.inside in
+    let keeps = c.self.invariant in
+    let last = c.truncate-2.new.self in
+    let mid = c.truncate.new.self in
+    let fits = c.in_ok-written.ensures.fits in
+    let body_len = c.deref.ensures.len in
+    let none : drop 20 last.items ≡ [] = drop_all 20 last.items (omega (arith, ap length c.truncate-2.ensures.items, length-take 20 mid.items)) in
+    record {
+      head = omega arith;
+      spare = omega arith;
+      frames_are = none;
+      place = omega arith;
+      next = omega arith;
+    }
+
+pub returns-clause-any_moment : goal.returns-clause-any_moment
+returns-clause-any_moment g c first bs settled goes =
+    let d = g.D.Disk in
+    let a = c.self.inside in
+    let old = d.reads c.args.disk.now in
+    let new = c.write_batch-written.new.disk in
+    let held = drop 20 a.buffer.items in
+    let rs = unframed a.count held in
+    let keeps = c.self.invariant in
+    let body = c.deref.ensures.value ∙ c.seal.ensures.items in
+    let ext = extends a keeps (omega arith) (omega arith) a.buffer.ok.0 first bs old (subst (λ (v : Log). GoesOn first bs v old) (sym c.self.view_is) goes) in
+    let crash = c.write_batch-written.ensures.any_moment first bs rs settled (subst (λ (b : List ℕ). Extends first bs rs a.place b (content a.file old)) (sym body) ext) in
+    let P : Log → Type 0 = λ v. LeavesOnly d.moment_of d.since c.args.disk.now new (HasPrefix v.file first (records bs) v.buffered old) in
+    subst P c.self.view_is (weaker d.moment_of d.since c.args.disk.now new (IsBeforeOrAfter a.file first bs rs old) (HasPrefix a.file first (records bs) rs old) crash (λ i is. prefix a.file first bs rs old i goes.log_is.some is))
+
+pub returns-clause-flushed : goal.returns-clause-flushed
+returns-clause-flushed g c first bs told goes =
+    let d = g.D.Disk in
+    let a = c.self.inside in
+    let old = d.reads c.args.disk.now in
+    let new = d.reads c.write_batch-written.new.disk in
+    let held = drop 20 a.buffer.items in
+    let rs = unframed a.count held in
+    let keeps = c.self.invariant in
+    let body = c.deref.ensures.value ∙ c.seal.ensures.items in
+    let goes_a = subst (λ (v : Log). GoesOn first bs v old) (sym c.self.view_is) goes in
+    let ext = extends a keeps (omega arith) (omega arith) a.buffer.ok.0 first bs old goes_a in
+    let after = c.in_ok-written.ensures.added first bs rs told (subst (λ (b : List ℕ). Extends first bs rs a.place b (content a.file old)) (sym body) ext) in
+    let log : Log = log_of (record { file = a.file; place = a.place + (1 + c.len-len.result); first = a.first + a.count; count = 0; buffer = c.truncate-2.new.self }) in
+    let Q : Log → Type 0 = λ v. SameBut v.file old new × GoesOn first (with_batch bs v.buffered) log new in
+    subst Q c.self.view_is (goes_on a keeps (omega arith) (omega arith) a.buffer.ok.0 first bs old new log goes_a after refl (omega (arith, c.len-len.ensures)) refl)

@@ -1,0 +1,7 @@
+pub mod Settled
+pub mod Damage
+pub mod Homes
+pub mod Logs
+pub mod LogFile
+pub mod Reading
+pub mod Fresh

@@ -1,0 +1,22 @@
+-- What the writer of a log keeps, and what that stands for.
+use Rattle.std.specs.Prelude.{◌≡◌, ◌≤◌, ◌<◌, ◌+◌, ◌-◌, ◌^◌, drop, vec_len, vec_capacity}
+use Rattle.ctr_log.specs.declared.log.LogFile.TheInside.{Inside}
+use Rattle.ctr_log.specs.Logs.{Log, frames, unframed}
+
+-- the buffer has room for a batch's first fields, and then the frames
+abbrev pub log_of : Inside → Log
+log_of a = record {
+  file = a.file;
+  place = a.place;
+  first = a.first;
+  buffered = unframed a.count (drop 20 a.buffer.items);
+  room = vec_capacity a.buffer - vec_len a.buffer - 1;
+}
+
+-- a byte of room is left for the closed gate
+pub record Keeps (a : Inside) : Type 0 where
+  pub head : 20 ≤ vec_len a.buffer
+  pub spare : vec_len a.buffer < vec_capacity a.buffer
+  pub frames_are : drop 20 a.buffer.items ≡ frames (unframed a.count (drop 20 a.buffer.items))
+  pub place : a.place < 2 ^ 63
+  pub next : a.first + a.count < 2 ^ 64

@@ -1,0 +1,113 @@
+-- A file of the log: batches of records, each behind a gate, up to the first closed gate.
+use Rattle.std.specs.Prelude.{◌≡◌, ◌≢◌, ◌⊎◌, ℕ, zero, suc, ◌+◌, ◌^◌, ◌<◌, List, [], ◌∷◌, ◌++◌, length, take, drop}
+use Rattle.ctr_disk.specs.declared.disk.Image.{Image}
+use Rattle.ctr_disk.specs.declared.disk.File.{File}
+use Rattle.ctr_disk.specs.Image.{content}
+use Rattle.ctr_bytes.specs.Fields.{spelled, field}
+use Rattle.ctr_log.specs.Settled.{SameBut}
+
+-- a record in a batch: its length, and its bytes
+abbrev pub frame : List ℕ → List ℕ
+frame bytes = spelled 8 (length bytes) ++ bytes
+
+-- the frames of records, one behind another
+abbrev pub frames : List (List ℕ) → List ℕ
+frames [] = []
+frames (r ∷ rs) = frame r ++ frames rs
+
+-- frames behind their length, the first LSN and the count of the records
+abbrev pub headed : ℕ → ℕ → List ℕ → List ℕ
+headed first count bytes = spelled 8 (length bytes) ++ spelled 8 first ++ spelled 4 count ++ bytes
+
+-- and before a closed gate
+abbrev pub sealed : ℕ → ℕ → List ℕ → List ℕ
+sealed first count bytes = headed first count bytes ++ 0 ∷ []
+
+-- a batch behind its gate: the length of its frames, its first LSN, the count of its records, the frames
+abbrev pub batch : ℕ → List (List ℕ) → List ℕ
+batch first rs = headed first (length rs) (frames rs)
+
+-- the records of each batch of a log
+abbrev pub Batches : Type 0
+Batches = List (List (List ℕ))
+
+-- open batches one behind another, whose records are numbered from this LSN on
+abbrev pub batches : ℕ → Batches → List ℕ
+batches first [] = []
+batches first (rs ∷ bs) = 1 ∷ (batch first rs ++ batches (first + length rs) bs)
+
+-- the records of batches, in order
+abbrev pub records : Batches → List (List ℕ)
+records [] = []
+records (rs ∷ bs) = rs ++ records bs
+
+-- a batch has a record, and a count of 4 bytes
+abbrev pub IsBatch : List (List ℕ) → Type 0
+IsBatch rs = (0 < length rs) × (length rs < 2 ^ 32)
+
+-- each of them is one
+abbrev pub AreBatches : Batches → Type 0
+AreBatches [] = Unit {0}
+AreBatches (rs ∷ bs) = IsBatch rs × AreBatches bs
+
+-- These batches stand in the file from its start, and behind them a closed gate that lies in the file.
+-- What stands behind it is no part of the log.
+pub record HasBatches (first : ℕ) (bs : Batches) (bytes : List ℕ) : Type 0 where
+  pub gate : ℕ
+  pub rest : List ℕ
+  pub bytes_are : bytes ≡ batches first bs ++ gate ∷ rest
+  pub closed : gate ≢ 1
+  pub each : AreBatches bs
+
+-- the file's log: these batches, one at least
+pub record HasLog (first : ℕ) (bs : Batches) (bytes : List ℕ) : Type 0 where
+  pub some : 0 < length bs
+  pub batches_are : HasBatches first bs bytes
+
+-- the file's log has these records
+abbrev pub HasRecords : ℕ → List (List ℕ) → List ℕ → Type 0
+HasRecords first rs bytes = (bs : Batches) × (records bs ≡ rs) × HasLog first bs bytes
+
+-- The records of n frames that stand one behind another.
+abbrev pub unframed : ℕ → List ℕ → List (List ℕ)
+unframed zero bytes = []
+unframed (suc n) bytes = take (field 8 0 bytes) (drop 8 bytes) ∷ unframed n (drop (8 + field 8 0 bytes) bytes)
+
+-- What the writer of a log knows: its file, the place of the closed gate behind the log, the LSN of the
+-- first record that isn't flushed, the records that aren't, and how many bytes of frames more fit.
+pub record Log : Type 0 where
+  pub file : File
+  pub place : ℕ
+  pub first : ℕ
+  pub buffered : List (List ℕ)
+  pub room : ℕ
+
+-- the writer goes on behind the last batch of its file's log
+pub record GoesOn (first : ℕ) (bs : Batches) (log : Log) (image : Image) : Type 0 where
+  pub log_is : HasLog first bs (content log.file image)
+  pub place : log.place ≡ length (batches first bs)
+  pub first_is : log.first ≡ first + length (records bs)
+
+-- the batches with one of these records behind them, where there are any
+abbrev pub with_batch : Batches → List (List ℕ) → Batches
+with_batch bs [] = bs
+with_batch bs (r ∷ rs) = bs ++ (r ∷ rs) ∷ []
+
+-- the file has these records and a front of those, and the other files are as they were
+abbrev pub HasPrefix : File → ℕ → List (List ℕ) → List (List ℕ) → Image → Image → Type 0
+HasPrefix file first flushed more old new = SameBut file old new × ((k : ℕ) × HasRecords first (flushed ++ take k more) (content file new))
+
+-- a batch that is to stand at the closed gate behind the log, with a closed gate behind it
+pub record Extends (first : ℕ) (bs : Batches) (rs : List (List ℕ)) (place : ℕ) (body bytes : List ℕ) : Type 0 where
+  pub log_is : HasBatches first bs bytes
+  pub place_is : place ≡ length (batches first bs)
+  pub body_is : body ≡ batch (first + length (records bs)) rs ++ 0 ∷ []
+  pub is_batch : IsBatch rs
+
+-- the file has its old batches or one more, and the other files are as they were
+abbrev pub IsBeforeOrAfter : File → ℕ → Batches → List (List ℕ) → Image → Image → Type 0
+IsBeforeOrAfter file first bs rs old new = SameBut file old new × (HasBatches first bs (content file new) ⊎ HasBatches first (bs ++ rs ∷ []) (content file new))
+
+-- the file has a batch more, and the other files are as they were
+abbrev pub IsAfter : File → ℕ → Batches → List (List ℕ) → Image → Image → Type 0
+IsAfter file first bs rs old new = SameBut file old new × HasBatches first (bs ++ rs ∷ []) (content file new)

@@ -1,0 +1,85 @@
+-- What reading a file of the log finds.
+use Rattle.std.specs.Prelude.{◌≡◌, ℕ, zero, suc, ◌+◌, ◌<◌, List, [], ◌∷◌, ◌++◌, length}
+use Rattle.ctr_disk.specs.declared.disk.File.{File}
+use Rattle.ctr_disk.specs.declared.disk.File.TheVariants.{LogA, LogB}
+use Rattle.ctr_disk.specs.declared.disk.Image.{Image}
+use Rattle.ctr_disk.specs.declared.fault.StoreFault.TheVariants.{Fault, Damaged}
+use Rattle.ctr_log.specs.declared.reading.ReadError.{ReadError}
+use Rattle.ctr_log.specs.declared.reading.ReadError.TheVariants.{Store, OutOfMemory}
+use Rattle.ctr_log.specs.Damage.{IsDamage}
+use Rattle.ctr_log.specs.Logs.{Batches, frame, frames, batch, batches, records, IsBatch, HasLog, Log, GoesOn}
+
+-- what was to be read isn't there, and damage of the file is told; or memory was refused
+abbrev pub Refuses : File → Type 0 → ReadError → Type 0
+Refuses file P OutOfMemory = Unit {0}
+Refuses file P (Store e) = IsDamage file e × (P → ⊥)
+
+-- the same, or the disk failed
+abbrev pub RefusesOrFails : File → Type 0 → ReadError → Type 0
+RefusesOrFails file P OutOfMemory = Unit {0}
+RefusesOrFails file P (Store Fault) = Unit {0}
+RefusesOrFails file P (Store (Damaged f at want got)) = IsDamage file (Damaged f at want got) × (P → ⊥)
+
+-- the bytes begin with a frame
+abbrev pub BeginsWithFrame : List ℕ → Type 0
+BeginsWithFrame bytes = (r : List ℕ) × (more : List ℕ) × (bytes ≡ frame r ++ more)
+
+-- the bytes are frames
+abbrev pub AreFrames : List ℕ → Type 0
+AreFrames bytes = (rs : List (List ℕ)) × (bytes ≡ frames rs)
+
+-- the bytes are frames of records, which were added to a list; n is their count
+pub record ReadsFrames (bytes : List ℕ) (old new : List (List ℕ)) (n : ℕ) : Type 0 where
+  pub rs : List (List ℕ)
+  pub bytes_are : bytes ≡ frames rs
+  pub added : new ≡ old ++ rs
+  pub count : n ≡ length rs
+
+-- the bytes begin with an open batch of records from this LSN on, behind which a gate stands
+pub record BeginsWithBatch (next : ℕ) (bytes : List ℕ) : Type 0 where
+  pub rs : List (List ℕ)
+  pub behind : List ℕ
+  pub bytes_are : bytes ≡ 1 ∷ (batch next rs ++ behind)
+  pub is_batch : IsBatch rs
+  pub gate : 0 < length behind
+
+-- such a batch was read: its records were added to a list, n is their count, and this stands behind it
+pub record ReadsBatch (next : ℕ) (bytes : List ℕ) (old new : List (List ℕ)) (behind : List ℕ) (n : ℕ) : Type 0 where
+  pub rs : List (List ℕ)
+  pub bytes_are : bytes ≡ 1 ∷ (batch next rs ++ behind)
+  pub is_batch : IsBatch rs
+  pub gate : 0 < length behind
+  pub added : new ≡ old ++ rs
+  pub count : n ≡ length rs
+
+-- a log was read: its records, the place of the closed gate behind it, and the next LSN
+pub record ReadsLog (first : ℕ) (bytes : List ℕ) (rs : List (List ℕ)) (place next : ℕ) : Type 0 where
+  pub bs : Batches
+  pub log_is : HasLog first bs bytes
+  pub records_are : rs ≡ records bs
+  pub place_is : place ≡ length (batches first bs)
+  pub next_is : next ≡ first + length (records bs)
+
+-- some log stands in the bytes
+abbrev pub HasSome : ℕ → List ℕ → Type 0
+HasSome first bytes = (bs : Batches) × HasLog first bs bytes
+
+-- the file that a root's byte names
+abbrev pub log_file : ℕ → File
+log_file zero = LogA
+log_file (suc n) = LogB
+
+-- a writer with nothing to flush, at this place
+pub record IsEmptyAt (file : File) (place next : ℕ) (log : Log) : Type 0 where
+  pub file_is : log.file ≡ file
+  pub place_is : log.place ≡ place
+  pub next_is : log.first ≡ next
+  pub none : log.buffered ≡ []
+
+-- a writer that goes on behind the log of a file, with nothing to flush, and the log's records
+pub record OpensLog (first : ℕ) (file : File) (image : Image) (log : Log) (rs : List (List ℕ)) : Type 0 where
+  pub bs : Batches
+  pub records_are : rs ≡ records bs
+  pub file_is : log.file ≡ file
+  pub goes_on : GoesOn first bs log image
+  pub none : log.buffered ≡ []

@@ -1,0 +1,239 @@
+// A file of the log and its writer: a batch is flushed whole or not at all.
+ghost use Rattle.std.specs.Prelude.{◌≡◌, ◌≤◌, ◌<◌, ◌+◌, ◌-◌, ◌^◌, IsTrue, ℕ, List, [], ◌∷◌, ◌++◌, length, take, drop, vec_len, vec_capacity, ◌⊎◌, Err, IfOk, IfErr, OnOk, OnErr};
+ghost use Rattle.ctr_disk.specs.declared.disk.File.TheVariants.{LogA};
+ghost use Rattle.ctr_disk.specs.declared.fault.StoreFault.TheVariants.{Fault};
+ghost use Rattle.ctr_disk.specs.Image.{content};
+ghost use Rattle.ctr_disk.specs.Crash.{Only, LeavesOnly, HasCause, Rose};
+ghost use Rattle.ctr_bytes.specs.Fields.{spelled};
+ghost use Rattle.ctr_log.specs.Settled.{IsSettled, OnlyReads, SameBut};
+ghost use Rattle.ctr_log.specs.declared.reading.ReadError.TheVariants.{Store, OutOfMemory as NoMemory};
+ghost use Rattle.ctr_log.specs.Reading.{RefusesOrFails, HasSome, OpensLog, IsEmptyAt, log_file};
+ghost use Rattle.ctr_log.specs.Logs.{Batches, headed, sealed, frame, frames, records, HasLog, GoesOn, Extends, IsBeforeOrAfter, IsAfter, HasPrefix, with_batch};
+
+use crate::reading::{ReadError, read_log};
+use ctr_bytes::{put_u32, put_u64};
+use ctr_disk::{Disk, Failed, File, Root, StoreFault, write_through};
+use ctr_types::{List, OutOfMemory, Text};
+use std::alloc::{AllocError, Global};
+use std::marker::Model;
+
+/// The number of a record of the log, from 1.
+pub type Lsn = u64;
+
+/// The bytes of a batch's length, first LSN and count.
+const HEAD: usize = 20;
+
+/// The writer of a log: where its file's log ends, and the records that aren't flushed. After a
+/// flush that failed, open the log again.
+#[derive(Debug, Drop)]
+pub struct LogFile {
+    file: File,
+    // of the closed gate behind the log
+    place: u64,
+    // of the first record that isn't flushed
+    first: Lsn,
+    count: u32,
+    // a batch behind its gate, its head not yet filled in
+    buffer: Vec<u8>,
+}
+
+impl Model for LogFile {
+    ghost use Rattle.ctr_log.specs.Logs.{Log};
+
+    ghost Value = { Log };
+
+    ghost use Rattle.ctr_log.specs.LogFile.{log_of, Keeps};
+
+    ghost view = { log_of };
+
+    ghost invariant = { Keeps };
+}
+
+impl LogFile {
+    // The writer behind a log whose closed gate stands at a place.
+    fn behind(alloc: Global, file: File, place: u64, next: Lsn) -> Result<LogFile, AllocError>
+        requires place { place < 2 ^ 63 }
+        requires next { next < 2 ^ 64 }
+        ensures { IfOk result (λ log. IsEmptyAt file place next log) }
+    {
+        let mut buffer = Vec::with_capacity(alloc, HEAD + 1)?;
+        put_bytes(&mut buffer, &[0; HEAD]);
+        Ok(LogFile {
+            file,
+            place,
+            first: next,
+            count: 0,
+            buffer,
+        })
+    }
+
+    /// The number that the next record gets.
+    pub fn next(&self) -> Lsn
+        ensures { result ≡ self.now.first + length self.now.buffered }
+    {
+        self.first + self.count as u64
+    }
+
+    /// Takes room for frames of so many bytes: a record's length, and 8 for each record.
+    pub fn reserve(&mut self, bytes: usize) -> Result<(), OutOfMemory>
+        ensures ok { OnOk result (bytes ≤ self.new.room) }
+        ensures kept { self.old.room ≤ self.new.room }
+        ensures same { self.new ≡ record self.old { room = self.new.room } }
+    {
+        if bytes == usize::MAX {
+            return Err(OutOfMemory);
+        }
+        self.buffer.reserve(bytes + 1)?;
+        Ok(())
+    }
+
+    /// Adds a record, for which room was taken. It takes no memory.
+    pub fn append(&mut self, bytes: &[u8]) -> Lsn
+        requires room { 8 + length bytes.now ≤ self.old.room }
+        requires few { length self.old.buffered < 2 ^ 32 - 1 }
+        requires next { self.old.first + length self.old.buffered < 2 ^ 63 - 1 }
+        ensures number { result ≡ self.old.first + length self.old.buffered }
+        ensures added { self.new ≡ record self.old { buffered = self.old.buffered ++ bytes.now ∷ []; room = self.new.room } }
+        ensures room_left { self.old.room ≤ self.new.room + (8 + length bytes.now) }
+    {
+        let lsn = self.first + self.count as u64;
+        put_frame(&mut self.buffer, bytes);
+        self.count += 1;
+        lsn
+    }
+
+    /// Writes the records that aren't flushed as one batch behind the log. A crash at any moment
+    /// leaves the log with a front of them, and after Ok with all. It takes no memory.
+    pub fn flush<D: Disk>(&mut self, disk: &mut D) -> Result<(), StoreFault>
+        ensures any_moment { (first : ℕ) (bs : Batches) → IsSettled D.tells D.reads D.images disk.old → GoesOn first bs self.old (D.reads disk.old)
+            → LeavesOnly D.moment_of D.since disk.old disk.new (HasPrefix self.old.file first (records bs) self.old.buffered (D.reads disk.old)) }
+        ensures flushed { (first : ℕ) (bs : Batches) → IsTrue D.tells → GoesOn first bs self.old (D.reads disk.old)
+            → OnOk result (SameBut self.old.file (D.reads disk.old) (D.reads disk.new) × GoesOn first (with_batch bs self.old.buffered) self.new (D.reads disk.new)) }
+        ensures emptied { OnOk result ((self.new.buffered ≡ []) × (self.old.room ≤ self.new.room)) }
+        ensures durable { Only (D.reads disk.old) (D.images disk.old) → OnOk result (Only (D.reads disk.new) (D.images disk.new)) }
+        ensures later { D.moment_of disk.old ≤ D.moment_of disk.new }
+        ensures fault { OnErr result ((result ≡ Err Fault) × Rose (D.faults_of disk.old) (D.faults_of disk.new)) }
+        ensures faults { D.faults_of disk.old ≤ D.faults_of disk.new }
+        ensures stray { self.old.place + (22 + length (frames self.old.buffered)) < 2 ^ 63 → D.strays_of disk.new ≡ D.strays_of disk.old }
+    {
+        if self.count == 0 {
+            return Ok(());
+        }
+        let len = self.buffer.len();
+        seal(&mut self.buffer, self.first, self.count);
+        let written = write_batch(disk, self.file, self.place, &self.buffer);
+        self.buffer.truncate(len);
+        written?;
+        self.place += 1 + len as u64;
+        self.first += self.count as u64;
+        self.count = 0;
+        self.buffer.truncate(HEAD);
+        Ok(())
+    }
+}
+
+/// Reads the log that the root names, and answers its writer and its records. Where the disk tells
+/// what it holds, these are the records of the file's log and no others, and damage is told exactly
+/// where no log stands in the file.
+pub fn read_all<D: Disk>(
+    alloc: Global,
+    disk: &mut D,
+    root: &Root,
+) -> Result<(LogFile, List<Text>), ReadError>
+    requires file { root.now.file ≤ 1 }
+    requires first { root.now.first ≤ 2 ^ 63 }
+    ensures found { IsTrue D.tells → IfOk result (λ r. OpensLog root.now.first (log_file root.now.file) (D.reads disk.old) r.0 r.1) }
+    ensures only { (bs : Batches) → IsTrue D.tells → HasLog root.now.first bs (content (log_file root.now.file) (D.reads disk.old)) → IfOk result (λ r. r.1 ≡ records bs) }
+    ensures refused { IsTrue D.tells → IfErr result (RefusesOrFails (log_file root.now.file) (HasSome root.now.first (content (log_file root.now.file) (D.reads disk.old)))) }
+    ensures quiet { OnlyReads D.reads D.images D.moment_of D.since disk.old disk.new }
+    ensures fault { result ≡ Err (Store Fault) → Rose (D.faults_of disk.old) (D.faults_of disk.new) }
+    ensures faults { D.faults_of disk.old ≤ D.faults_of disk.new }
+    ensures stray { D.strays_of disk.new ≡ D.strays_of disk.old }
+{
+    let file = if root.file == 0 {
+        File::LogA
+    } else {
+        File::LogB
+    };
+    let bytes = file_bytes(alloc, disk, file)?;
+    let found = read_log(alloc, file, &bytes, root.first)?;
+    let log = LogFile::behind(alloc, file, found.place, found.next)?;
+    Ok((log, found.records))
+}
+
+// All bytes of a file.
+fn file_bytes<D: Disk>(alloc: Global, disk: &mut D, file: File) -> Result<Vec<u8>, ReadError>
+    ensures told { IsTrue D.tells → IfOk result (λ v. v.items ≡ content file (D.reads disk.old)) }
+    ensures not_damaged { IfErr result (λ e. (e ≡ Store Fault) ⊎ (e ≡ NoMemory)) }
+    ensures quiet { OnlyReads D.reads D.images D.moment_of D.since disk.old disk.new }
+    ensures fault { result ≡ Err (Store Fault) → Rose (D.faults_of disk.old) (D.faults_of disk.new) }
+    ensures faults { D.faults_of disk.old ≤ D.faults_of disk.new }
+    ensures stray { D.strays_of disk.new ≡ D.strays_of disk.old }
+{
+    let size = disk.size(file)?;
+    let mut bytes = vec![in alloc; 0u8; size as usize]?;
+    disk.read(file, 0, &mut bytes)?;
+    Ok(bytes)
+}
+
+fn put_frame(buffer: &mut Vec<u8>, bytes: &[u8])
+    requires { vec_len buffer.old + 8 + length bytes.now ≤ vec_capacity buffer.old }
+    ensures items { buffer.new.items ≡ buffer.old.items ++ frame bytes.now }
+    ensures long { vec_len buffer.new ≡ vec_len buffer.old + (8 + length bytes.now) }
+    ensures capacity { vec_capacity buffer.old ≤ vec_capacity buffer.new }
+{
+    let mut len = [0; 8];
+    put_u64(&mut len, 0, bytes.len() as u64);
+    put_bytes(buffer, &len);
+    put_bytes(buffer, bytes);
+}
+
+fn put_bytes(buffer: &mut Vec<u8>, bytes: &[u8])
+    requires { vec_len buffer.old + length bytes.now ≤ vec_capacity buffer.old }
+    ensures items { buffer.new.items ≡ buffer.old.items ++ bytes.now }
+    ensures long { vec_len buffer.new ≡ vec_len buffer.old + length bytes.now }
+    ensures capacity { vec_capacity buffer.old ≤ vec_capacity buffer.new }
+{
+    let Ok(()) = buffer.extend_from_slice(bytes) else {
+        unreachable!()
+    };
+}
+
+// Fills in the head, and puts the closed gate behind the frames.
+fn seal(buffer: &mut Vec<u8>, first: Lsn, count: u32)
+    requires head { 20 ≤ vec_len buffer.old }
+    requires spare { vec_len buffer.old < vec_capacity buffer.old }
+    ensures items { buffer.new.items ≡ sealed first count (drop 20 buffer.old.items) }
+    ensures long { vec_len buffer.new ≡ vec_len buffer.old + 1 }
+    ensures capacity { vec_capacity buffer.old ≤ vec_capacity buffer.new }
+{
+    fill_head(buffer.as_mut_slice(), first, count);
+    put_bytes(buffer, &[0]);
+}
+
+fn fill_head(body: &mut [u8], first: Lsn, count: u32)
+    requires { 20 ≤ length body.old }
+    ensures { body.new ≡ headed first count (drop 20 body.old) }
+{
+    let frames_len = (body.len() - HEAD) as u64;
+    put_u64(body, 0, frames_len);
+    put_u64(body, 8, first);
+    put_u32(body, 16, count);
+}
+
+/// Writes the batch and the closed gate behind its own, and then opens that.
+pub fn write_batch<D: Disk>(disk: &mut D, file: File, place: u64, body: &[u8]) -> Result<(), Failed>
+    requires { place < 2 ^ 63 }
+    ensures any_moment { (first : ℕ) (bs : Batches) (rs : List (List ℕ)) → IsSettled D.tells D.reads D.images disk.old
+        → Extends first bs rs place body.now (content file (D.reads disk.old)) → LeavesOnly D.moment_of D.since disk.old disk.new (IsBeforeOrAfter file first bs rs (D.reads disk.old)) }
+    ensures added { (first : ℕ) (bs : Batches) (rs : List (List ℕ)) → IsTrue D.tells
+        → Extends first bs rs place body.now (content file (D.reads disk.old)) → OnOk result (IsAfter file first bs rs (D.reads disk.old) (D.reads disk.new)) }
+    ensures durable { OnOk result (Only (D.reads disk.new) (D.images disk.new)) }
+    ensures later { D.moment_of disk.old ≤ D.moment_of disk.new }
+    ensures fits { OnOk result (place + 1 + length body.now < 2 ^ 63) }
+    ensures cause { HasCause (D.faults_of disk.old) (D.faults_of disk.new) result }
+    ensures stray { place + 1 + length body.now < 2 ^ 63 → D.strays_of disk.new ≡ D.strays_of disk.old }
+{
+    write_through(disk, file, place + 1, body)?;
+    write_through(disk, file, place, &[1])
+}
