@@ -1,0 +1,6 @@
+pub mod Lists
+pub mod ByFirst
+pub mod Texts
+pub mod Ones
+pub mod Lexing
+pub mod Fronts

@@ -1,0 +1,59 @@
+-- The line is gone over, or a byte is found at which no token begins.
+use Rattle.std.proofs.Common.{◌≡◌, ◌<◌, ◌-◌, length, Some, rules, refl, ap}
+use Rattle.ctr_lex.specs.Tokens.{texts_of, NoneBegins, IsBadAt}
+use Rattle.ctr_lex.proofs.Lexing.{lexes_one}
+use Rattle.ctr_lex.proofs.Fronts.{IsFront, front_blanks, front_token, front_end, front_places, front_bad, behind_blanks, bad_none, bad_one}
+use Rattle.ctr_lex.proofs.lex.tokens.Goals as goal
+use Rattle.ctr_lex.proofs.lex.tokens.Goals.{After-split_at}
+
+front : (c : After-split_at) → IsFront c.args.line.now c.loop-from.items c.split_at.result.1.now
+front c = front_blanks _ _ _ _ _ c.loop-from.invariant c.blanks_len.ensures.within c.blanks_len.ensures.all c.split_at.ensures.back
+
+bad_at : (c : After-split_at) → 0 < length c.split_at.result.1.now → NoneBegins c.split_at.result.1.now → IsBadAt c.args.line.now (texts_of c.loop-from.items) (length c.args.line.now - length c.split_at.result.1.now)
+bad_at c some none = front_bad _ _ _ (front c) some (behind_blanks _ _ _ c.blanks_len.ensures.within c.split_at.ensures.back c.blanks_len.ensures.stops some) none
+
+-- at the end of the line
+pub returns-then-is_empty-clause-found : goal.returns-then-is_empty-clause-found
+returns-then-is_empty-clause-found c =
+    let none : length c.split_at.result.1.now ≡ 0 = search rules in
+    front_end _ _ _ (front (goal.at.returns-then-is_empty-clause-found c).After-split_at) none
+
+pub returns-then-is_empty-clause-only : goal.returns-then-is_empty-clause-only
+returns-then-is_empty-clause-only c = λ us lexes.
+    let none : length c.split_at.result.1.now ≡ 0 = search rules in
+    (refl, lexes_one _ _ _ (front_end _ _ _ (front (goal.at.returns-then-is_empty-clause-only c).After-split_at) none) lexes)
+
+pub returns-then-is_empty-clause-places : goal.returns-then-is_empty-clause-places
+returns-then-is_empty-clause-places c = front_places _ _ _ c.loop-from.invariant
+
+pub returns-then-is_empty-clause-only_bad : goal.returns-then-is_empty-clause-only_bad
+returns-then-is_empty-clause-only_bad c = λ us i bad.
+    let none : length c.split_at.result.1.now ≡ 0 = search rules in
+    absurd (bad_none _ us _ i bad (front_end _ _ _ (front (goal.at.returns-then-is_empty-clause-only_bad c).After-split_at) none))
+
+-- where no token begins
+pub returns-in_default-clause-found : goal.returns-in_default-clause-found
+returns-in_default-clause-found c =
+    let some : 0 < length c.split_at.result.1.now = search rules in
+    bad_at (goal.at.returns-in_default-clause-found c).After-split_at some c.in_default.ensures
+
+pub returns-in_default-clause-only : goal.returns-in_default-clause-only
+returns-in_default-clause-only c = λ us lexes.
+    let some : 0 < length c.split_at.result.1.now = search rules in
+    absurd (bad_none _ _ us _ (bad_at (goal.at.returns-in_default-clause-only c).After-split_at some c.in_default.ensures) lexes)
+
+pub returns-in_default-clause-only_bad : goal.returns-in_default-clause-only_bad
+returns-in_default-clause-only_bad c = λ us i bad.
+    let some : 0 < length c.split_at.result.1.now = search rules in
+    let same = bad_one _ _ us _ i (bad_at (goal.at.returns-in_default-clause-only_bad c).After-split_at some c.in_default.ensures) bad in
+    (ap Some same.0, same.1)
+
+pub returns-in_default-clause-places : goal.returns-in_default-clause-places
+returns-in_default-clause-places c = front_places _ _ _ c.loop-from.invariant
+
+-- a token is pushed
+pub loop-from-preserved : goal.loop-from-preserved
+loop-from-preserved c =
+    let parts = c.split_at-in-loop-from.ensures in
+    rw c.in_ok-push.ensures.ok
+    (front_token _ _ _ _ _ c.in-Some.len (front (goal.at.loop-from-preserved c).After-split_at) c.in-Some.ensures parts.front refl parts.back)

@@ -1,0 +1,88 @@
+// The classes of bytes, and how long a line goes on in one of them.
+ghost use Rattle.std.specs.Prelude.{◌≡◌, ◌≤◌, ◌<◌, ◌↔◌, ℕ, length, IsTrue, slice_index};
+ghost use Rattle.ctr_model.specs.Grammar.{IsBlank, IsDigit, IsLetter, IsPrintable, IsSign, IsWordByte};
+
+pub(crate) fn is_blank(byte: u8) -> bool
+    ensures { IsTrue result ↔ IsBlank byte }
+{
+    byte == b' ' || byte == b'\t'
+}
+
+pub(crate) fn is_printable(byte: u8) -> bool
+    ensures { IsTrue result ↔ IsPrintable byte }
+{
+    b' ' <= byte && byte <= b'~'
+}
+
+pub(crate) fn is_digit(byte: u8) -> bool
+    ensures { IsTrue result ↔ IsDigit byte }
+{
+    b'0' <= byte && byte <= b'9'
+}
+
+pub(crate) fn is_letter(byte: u8) -> bool
+    ensures { IsTrue result ↔ IsLetter byte }
+{
+    b'A' <= byte && byte <= b'Z' || b'a' <= byte && byte <= b'z' || byte == b'_'
+}
+
+fn is_word_byte(byte: u8) -> bool
+    ensures { IsTrue result ↔ IsWordByte byte }
+{
+    is_letter(byte) || is_digit(byte)
+}
+
+pub(crate) fn is_sign(byte: u8) -> bool
+    ensures { IsTrue result ↔ IsSign byte }
+{
+    byte == b'>'
+        || byte == b';'
+        || byte == b'('
+        || byte == b')'
+        || byte == b','
+        || byte == b'='
+        || byte == b'+'
+        || byte == b'*'
+}
+
+/// How many blanks stand in front.
+pub(crate) fn blanks_len(bytes: &[u8]) -> usize
+    ensures within { result ≤ length bytes.now }
+    ensures all { (k : ℕ) → k < result → IsBlank (slice_index bytes.now k) }
+    ensures stops { result < length bytes.now → IsBlank (slice_index bytes.now result) → ⊥ }
+{
+    for (i, byte) in bytes.iter().enumerate() {
+        if !is_blank(*byte) {
+            return i;
+        }
+    }
+    bytes.len()
+}
+
+/// How many letters, digits and _ stand in front.
+pub(crate) fn word_len(bytes: &[u8]) -> usize
+    ensures within { result ≤ length bytes.now }
+    ensures all { (k : ℕ) → k < result → IsWordByte (slice_index bytes.now k) }
+    ensures stops { result < length bytes.now → IsWordByte (slice_index bytes.now result) → ⊥ }
+{
+    for (i, byte) in bytes.iter().enumerate() {
+        if !is_word_byte(*byte) {
+            return i;
+        }
+    }
+    bytes.len()
+}
+
+/// How many digits stand in front.
+pub(crate) fn digits_len(bytes: &[u8]) -> usize
+    ensures within { result ≤ length bytes.now }
+    ensures all { (k : ℕ) → k < result → IsDigit (slice_index bytes.now k) }
+    ensures stops { result < length bytes.now → IsDigit (slice_index bytes.now result) → ⊥ }
+{
+    for (i, byte) in bytes.iter().enumerate() {
+        if !is_digit(*byte) {
+            return i;
+        }
+    }
+    bytes.len()
+}

@@ -1,0 +1,43 @@
+// The tokens of a line.
+ghost use Rattle.std.specs.Prelude.{◌≡◌, ◌≤◌, List, ℕ, None, Some, length, IfOk, MatchOption};
+ghost use Rattle.ctr_model.specs.Grammar.{Lexes};
+ghost use Rattle.ctr_lex.specs.Tokens.{texts_of, StandFrom, IsBadAt};
+
+use crate::bytes::blanks_len;
+use crate::one::token_len;
+use crate::token::{Token, Tokens};
+use ctr_types::{List, OutOfMemory};
+use std::alloc::Global;
+
+/// The tokens of a line, given without its end. Each byte is looked at a few times at most. Only
+/// memory can be wanting.
+pub fn tokens(alloc: Global, line: &[u8]) -> Result<Tokens<'_>, OutOfMemory>
+    // The line is the tokens with blanks between, or there is a first byte at which none begins.
+    ensures found { IfOk result (λ ts. MatchOption ts.bad (Lexes line.now (texts_of ts.items)) (λ i. IsBadAt line.now (texts_of ts.items) i)) }
+    // What lexes the line is found, so nothing lexes a line with a bad byte.
+    ensures only { IfOk result (λ ts. (us : List (List ℕ)) → Lexes line.now us → (ts.bad ≡ None) × (texts_of ts.items ≡ us)) }
+    // The bad byte is found, with the tokens in front of it.
+    ensures only_bad { IfOk result (λ ts. (us : List (List ℕ)) (i : ℕ) → IsBadAt line.now us i → (ts.bad ≡ Some i) × (texts_of ts.items ≡ us)) }
+    // Where each token stands.
+    ensures places { IfOk result (λ ts. StandFrom 0 line.now ts.items) }
+    ensures few { IfOk result (λ ts. length ts.items ≤ length line.now) }
+{
+    let mut items = List::new(alloc);
+    let mut rest = line;
+    loop {
+        let (_, from) = rest.split_at(blanks_len(rest));
+        if from.is_empty() {
+            return Ok(Tokens { items, bad: None });
+        }
+        let at = line.len() - from.len();
+        let Some(len) = token_len(from) else {
+            return Ok(Tokens {
+                items,
+                bad: Some(at),
+            });
+        };
+        let (text, after) = from.split_at(len);
+        items.push(Token { text, at })?;
+        rest = after;
+    }
+}

@@ -1,0 +1,17 @@
+//! The tokens of a line of a script: words, integers, texts and signs, with blanks between.
+//!
+//! A token is the longest front of what follows that is one, so a line is taken apart in one way
+//! only.
+#![tactic(auto)]
+
+mod bytes;
+mod laws;
+mod lex;
+mod one;
+#[cfg(test)]
+mod tests;
+mod token;
+
+pub use laws::one_lexing;
+pub use lex::tokens;
+pub use token::{Token, Tokens};
