@@ -1,0 +1,69 @@
+-- Tests of a token's bytes that compute, and what a token stands for.
+use Rattle.std.specs.Prelude.{ℕ, zero, suc, ◌^◌, ℤ, pos, negsuc, Bool, true, false, not, ◌&&◌, ◌||◌, ◌==◌, nat_lt, nat_le, List, [], ◌∷◌, ◌++◌, length, map, Option, Some, None, if◌then◌else◌}
+use Rattle.std.specs.List.{list_all}
+use Rattle.std.specs.Str.Parse.{digits_value}
+use Rattle.ctr_model.specs.State.{has_name}
+use Rattle.ctr_model.specs.Grammar.{capital, keywords}
+
+abbrev pub is_between : ℕ → ℕ → ℕ → Bool
+is_between low high c = nat_le low c && nat_le c high
+
+abbrev pub is_digit : ℕ → Bool
+is_digit c = is_between 48 57 c
+
+-- a letter or _
+abbrev pub is_letter : ℕ → Bool
+is_letter c = is_between 65 90 c || (is_between 97 122 c || c == 95)
+
+abbrev pub is_word_byte : ℕ → Bool
+is_word_byte c = is_letter c || is_digit c
+
+abbrev pub is_word : List ℕ → Bool
+is_word [] = false
+is_word (c ∷ cs) = is_letter c && list_all is_word_byte cs
+
+abbrev pub is_keyword : List ℕ → Bool
+is_keyword word = has_name (map capital word) keywords
+
+-- the word is a name
+unfoldable pub is_name : List ℕ → Bool
+is_name word = is_word word && (nat_le (length word) 16 && not (is_keyword word))
+
+abbrev pub is_numeral : List ℕ → Bool
+is_numeral [] = false
+is_numeral (d ∷ ds) = is_digit d && list_all is_digit ds
+
+-- a number behind a -
+abbrev pub below_zero : ℕ → ℤ
+below_zero zero = pos 0
+below_zero (suc n) = negsuc n
+
+abbrev pub negative_of : List ℕ → Option ℤ
+negative_of ds = if is_numeral ds && nat_le (digits_value 10 ds) (2 ^ 63) then Some (below_zero (digits_value 10 ds)) else None
+
+abbrev pub positive_of : List ℕ → Option ℤ
+positive_of ds = if is_numeral ds && nat_lt (digits_value 10 ds) (2 ^ 63) then Some (pos (digits_value 10 ds)) else None
+
+-- the whole number of 64 bits that is spelled so
+unfoldable pub int_of : List ℕ → Option ℤ
+int_of [] = None
+int_of (c ∷ cs) = if c == 45 then negative_of cs else positive_of (c ∷ cs)
+
+-- bytes in front of a text
+abbrev pub with_bytes : List ℕ → Option (List ℕ) → Option (List ℕ)
+with_bytes front None = None
+with_bytes front (Some text) = Some (front ++ text)
+
+-- The text that bytes behind a quote spell. Behind a second quote, which is closed, they may end; or a
+-- third one follows, and the two stand for one.
+abbrev pub unquoted : Bool → List ℕ → Option (List ℕ)
+unquoted false [] = None
+unquoted true [] = Some []
+unquoted false (c ∷ cs) =
+    if c == 39 then unquoted true cs else (if is_between 32 126 c then with_bytes (c ∷ []) (unquoted false cs) else None)
+unquoted true (c ∷ cs) = if c == 39 then with_bytes (39 ∷ []) (unquoted false cs) else None
+
+-- the text that is spelled so
+unfoldable pub text_of : List ℕ → Option (List ℕ)
+text_of [] = None
+text_of (c ∷ cs) = if c == 39 then unquoted false cs else None

@@ -1,0 +1,17 @@
+//! The parser: the tokens of a line to its statement.
+#![tactic(auto)]
+
+mod cursor;
+mod error;
+mod line;
+mod numeral;
+mod quoted;
+mod schema;
+mod statement;
+#[cfg(test)]
+mod tests;
+mod value;
+mod word;
+
+pub use error::ParseError;
+pub use line::{one_line, parse_line};

@@ -1,0 +1,40 @@
+// Whole numbers.
+ghost use Rattle.std.specs.Prelude.{◌≡◌, ◌≢◌, slice_index};
+ghost use Rattle.ctr_lex.specs.Tokens.{texts_of as texts};
+ghost use Rattle.ctr_parse.specs.Spelled.{int_of as number_of};
+ghost use Rattle.ctr_parse.specs.Reading.{GivesSome, int_at};
+
+use crate::cursor::next;
+use ctr_lex::Token;
+
+// The number that digits behind a sign spell. A + is none.
+fn parsed(text: &str) -> Option<i64>
+    requires { slice_index text.now 0 ≢ 43 }
+    ensures { result ≡ number_of text.now }
+{
+    text.parse::<i64>().ok()
+}
+
+/// The number that a token spells: digits, behind a - or not, that stand for a number of 64 bits.
+#[tactic(auto, unfolding(crate::specs::Spelled::int_of))]
+pub fn int_of(token: &[u8]) -> Option<i64>
+    ensures { result ≡ number_of token.now }
+{
+    let (first, _) = token.split_first()?;
+    if *first == b'+' {
+        return None;
+    }
+    let Ok(text) = std::str::from_utf8(token) else {
+        return None;
+    };
+    parsed(text)
+}
+
+/// A number.
+pub fn int<'a>(tokens: &'a [Token<'a>]) -> Option<(i64, &'a [Token<'a>])>
+    ensures { GivesSome (λ x. (x.0, texts x.1.now)) result (int_at (texts tokens.now)) }
+{
+    let (token, rest) = next(tokens)?;
+    let number = int_of(token)?;
+    Some((number, rest))
+}

@@ -1,0 +1,17 @@
+//! Scripts: the bytes of a source to its statements.
+//!
+//! A source is read whole, up to the longest script and a byte, and then taken apart line by line.
+#![tactic(auto)]
+
+mod bytes;
+mod error;
+mod laws;
+mod line;
+mod script;
+#[cfg(test)]
+mod tests;
+
+pub use bytes::MOST_BYTES;
+pub use error::ScriptError;
+pub use laws::{no_script_is_refused, one_refusal, one_script};
+pub use script::read_script;
