@@ -1,0 +1,3 @@
+pub mod ReplayLemmas
+pub mod OpenLemmas
+pub mod LawLemmas

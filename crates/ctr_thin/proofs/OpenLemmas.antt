@@ -1,0 +1,130 @@
+-- What the root and the log that it names say of the image.
+use Rattle.std.proofs.Common.{◌≡◌, ◌≢◌, ◌+◌, ◌<◌, ◌≤◌, ◌^◌, ◌-◌, ℕ, List, [], ◌∷◌, ◌++◌, length, sym, ◌∙◌, ap, subst, arith, Option, Some, None, append_assoc, length-append}
+use Rattle.std.specs.Prelude.{codes}
+use Rattle.ctr_bytes.specs.Fields.{spelled, field}
+use Rattle.ctr_bytes.proofs.FieldLaws.{field_at, length-spelled}
+use Rattle.ctr_disk.specs.declared.disk.Image.{Image}
+use Rattle.ctr_disk.specs.declared.disk.File.{File}
+use Rattle.ctr_disk.specs.declared.fault.Root.{Root}
+use Rattle.ctr_disk.specs.declared.fault.StoreFault.TheVariants as store
+use Rattle.ctr_disk.specs.Image.{content}
+use Rattle.ctr_log.specs.declared.reading.ReadError.{ReadError}
+use Rattle.ctr_log.specs.declared.reading.ReadError.TheVariants as read
+use Rattle.ctr_log.specs.Homes.{Block, root_block, root_value, IsRoot, SaysRoot}
+use Rattle.ctr_log.specs.Logs.{Batches, records, HasLog, Log, GoesOn}
+use Rattle.ctr_log.specs.Reading.{log_file, HasSome, RefusesOrFails, OpensLog}
+use Rattle.ctr_log.specs.Fresh.{first_checkpoint}
+use Rattle.ctr_model.specs.Database.{Database}
+use Rattle.ctr_rec.specs.Fold.{FoldsRecords}
+use Rattle.ctr_tables.specs.Tables.{database_of}
+use Rattle.ctr_thin.specs.declared.opening.Opened.{Opened}
+use Rattle.ctr_thin.specs.declared.opening.OpenError.{OpenError}
+use Rattle.ctr_thin.specs.declared.opening.OpenError.TheVariants as open_error
+use Rattle.ctr_thin.specs.Opening.{of_read}
+use Rattle.ctr_thin.specs.Thin.{StandsFor, Makes, MakesSome, RefusesToOpen, Opens, Explains}
+use Rattle.ctr_thin.proofs.ReplayLemmas.{OneFold}
+
+-- ---- a block says one root at most
+
+module _ (r : Root) (root : IsRoot r) where
+  abbrev to_format : List ℕ
+  to_format = codes "CTRDB001" ++ spelled 4 r.format
+
+  long_format : length to_format ≡ 12
+  long_format = omega (arith, length-append (codes "CTRDB001") (spelled 4 r.format), length-spelled 4 r.format)
+
+  long_file : length (to_format ++ spelled 1 r.file) ≡ 13
+  long_file = omega (arith, long_format, length-append to_format (spelled 1 r.file), length-spelled 1 r.file)
+
+  file_of : field 1 12 (root_block r).body ≡ r.file
+  file_of =
+      let small = root.file in
+      let fits : r.file < 256 ^ 1 = omega arith in
+      ap (field 1 12) (append_assoc (to_format ++ spelled 1 r.file) (spelled 8 r.first) (spelled 4 r.pages)) ∙ field_at 1 r.file 12 to_format (spelled 8 r.first ++ spelled 4 r.pages) long_format fits
+
+  first_of_root : field 8 13 (root_block r).body ≡ r.first
+  first_of_root =
+      let high = root.first_high in
+      let fits : r.first < 256 ^ 8 = omega arith in
+      field_at 8 r.first 13 (to_format ++ spelled 1 r.file) (spelled 4 r.pages) long_file fits
+
+same_blocks : (a b : Root) → IsRoot a → IsRoot b → root_block a ≡ root_block b → a ≡ b
+same_blocks a b ra rb same =
+    let body : (root_block a).body ≡ (root_block b).body = ap (λ (x : Block). x.body) same in
+    let stamp : a.stamp ≡ b.stamp = ap (λ (x : Block). x.stamp) same in
+    let format : a.format ≡ b.format = ra.format ∙ sym rb.format in
+    let file : a.file ≡ b.file = sym (file_of a ra) ∙ ap (field 1 12) body ∙ file_of b rb in
+    let first : a.first ≡ b.first = sym (first_of_root a ra) ∙ ap (field 8 13) body ∙ first_of_root b rb in
+    let pages : a.pages ≡ b.pages = ra.pages ∙ sym rb.pages in
+    λ i. record { stamp = stamp i; format = format i; file = file i; first = first i; pages = pages i }
+
+pub one_root : (value : Option Block) (a b : Root) → SaysRoot value a → SaysRoot value b → a ≡ b
+one_root value a b sa sb =
+    let blocks : Some (root_block a) ≡ Some (root_block b) = sym sa.0 ∙ sb.0 in
+    let same : root_block a ≡ root_block b = cc in
+    same_blocks a b sa.1 sb.1 same
+
+-- ---- the image, where its root is known; it reads so later too
+
+module _ (image mid : Image) (same : mid ≡ image) (r : Root) (says : SaysRoot (root_value image.root) r) where
+  not_none : root_value image.root ≢ None
+  not_none none = let both : Some (root_block r) ≡ None = sym says.0 ∙ none in cc
+
+  -- the log of what the image stands for
+  pub log_of_image : (db : Database) (s : StandsFor image db) → HasLog r.first s.bs (content (log_file r.file) mid)
+  log_of_image db s =
+      let root : s.r ≡ r = one_root (root_value image.root) s.r r s.root says in
+      subst (λ (i : Image). HasLog r.first s.bs (content (log_file r.file) i)) (sym same) (subst (λ (q : Root). HasLog q.first s.bs (content (log_file q.file) image)) root s.log)
+
+  pub log_refused : (e : ReadError) → RefusesOrFails (log_file r.file) (HasSome r.first (content (log_file r.file) mid)) e → Explains image (of_read e)
+  log_refused read.OutOfMemory refused = tt
+  log_refused (read.Store store.Fault) refused = tt
+  log_refused (read.Store (store.Damaged f at want got)) refused = (refused.0.1, not_none, λ db s low. refused.1 (s.bs, log_of_image db s))
+
+  -- records of the log, where they were read
+  module _ (rs : List (List ℕ)) (only : (bs : Batches) → HasLog r.first bs (content (log_file r.file) mid) → rs ≡ records bs) where
+    records_of_image : (db : Database) (s : StandsFor image db) → rs ≡ first_checkpoint ∷ s.rs
+    records_of_image db s = only s.bs (log_of_image db s) ∙ s.begins
+
+    pub records_refused : (e : OpenError) → RefusesToOpen (MakesSome rs) e → Explains image e
+    records_refused open_error.OutOfMemory refused = tt
+    records_refused open_error.Fault refused = absurd refused
+    records_refused open_error.NoDatabase refused = absurd refused
+    records_refused (open_error.Damaged f at want got) refused = (refused.0, not_none, λ db s low. refused.1 (db, (s.rs, records_of_image db s, s.folds)))
+
+    pub only_tables : OneFold → (made : Database) → Makes rs made → (db : Database) → StandsFor image db → made ≡ db
+    only_tables one made makes db s =
+        let heads : first_checkpoint ∷ makes.0 ≡ first_checkpoint ∷ s.rs = sym makes.1 ∙ records_of_image db s in
+        let rests : makes.0 ≡ s.rs = cc in
+        one [] s.rs made db (subst (λ (l : List (List ℕ)). FoldsRecords [] l made) rests makes.2) s.folds
+
+    module _ (log : Log) (opens : OpensLog r.first (log_file r.file) mid log rs) where
+      next_is_of : log.first + length log.buffered ≡ r.first + length rs
+      next_is_of = omega (arith, opens.goes_on.first_is, ap length opens.none, ap length opens.records_are)
+
+      pub next_refused : (file : File) (next : ℕ) → next ≡ log.first + length log.buffered → 2 ^ 62 ≤ next → Explains image (open_error.Damaged file 0 (2 ^ 62 - 1) next)
+      next_refused file next is high = (
+        λ e. omega (arith, e),
+        not_none,
+        λ db s low.
+            let root : s.r ≡ r = one_root (root_value image.root) s.r r s.root says in
+            let long : length rs ≡ length (records s.bs) = ap length (only s.bs (log_of_image db s)) in
+            omega (arith, low, long, next_is_of, ap (λ (q : Root). q.first) root),
+      )
+
+    pub was_opened : (o : Opened) → OpensLog r.first (log_file r.file) mid o.log rs → Makes rs (database_of o.tables) → o.log.first + length o.log.buffered < 2 ^ 62 → Opens image o
+    was_opened o opens makes low = record {
+      stands = record {
+        r = r;
+        bs = opens.bs;
+        rs = makes.0;
+        root = says;
+        log = subst (λ (i : Image). HasLog r.first opens.bs (content (log_file r.file) i)) same (subst (λ (f : File). HasLog r.first opens.bs (content f mid)) opens.file_is opens.goes_on.log_is);
+        begins = sym opens.records_are ∙ makes.1;
+        folds = makes.2;
+      };
+      low = omega (arith, low, next_is_of o.log opens, ap length opens.records_are);
+      file = opens.file_is;
+      goes_on = subst (λ (i : Image). GoesOn r.first opens.bs o.log i) same opens.goes_on;
+      none = opens.none;
+    }

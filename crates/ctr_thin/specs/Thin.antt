@@ -1,0 +1,114 @@
+-- Which database an image stands for in the thin form: the records of the log that its root names,
+-- from the checkpoint of an empty engine on, make it.
+use Rattle.std.specs.Prelude.{◌≡◌, ◌≢◌, ℕ, ◌+◌, ◌^◌, ◌<◌, List, [], ◌∷◌, length, None, Result, Ok, Err}
+use Rattle.ctr_disk.specs.declared.disk.Image.{Image}
+use Rattle.ctr_disk.specs.declared.fault.Root.{Root}
+use Rattle.ctr_disk.specs.Image.{content}
+use Rattle.ctr_log.specs.Homes.{root_value, SaysRoot}
+use Rattle.ctr_log.specs.Logs.{Batches, records, HasLog, GoesOn}
+use Rattle.ctr_log.specs.Reading.{log_file}
+use Rattle.ctr_log.specs.Fresh.{first_checkpoint}
+use Rattle.ctr_model.specs.declared.database.Change.{Change}
+use Rattle.ctr_model.specs.Database.{Database, changed}
+use Rattle.ctr_rec.specs.declared.records.Item.{Item}
+use Rattle.ctr_rec.specs.declared.records.RecordError.{RecordError}
+use Rattle.ctr_rec.specs.declared.records.RecordError.TheVariants as record_error
+use Rattle.ctr_rec.specs.Fold.{Stands, Folds, FoldsRecord, FoldsRecords}
+use Rattle.ctr_tables.specs.Tables.{database_of}
+use Rattle.ctr_thin.specs.declared.opening.Opened.{Opened}
+use Rattle.ctr_thin.specs.declared.opening.OpenError.{OpenError}
+use Rattle.ctr_thin.specs.declared.opening.OpenError.TheVariants.{NoDatabase, Damaged, Fault, OutOfMemory}
+
+-- ---- what an image stands for
+
+-- The root's value says a root whose checks hold, and the file that it names has a log of batches from
+-- its first LSN on. The first record is the checkpoint of an empty engine, and the others make the
+-- database from nothing.
+pub record StandsFor (image : Image) (db : Database) : Type 0 where
+  pub r : Root
+  pub bs : Batches
+  pub rs : List (List ℕ)
+  pub root : SaysRoot (root_value image.root) r
+  pub log : HasLog r.first bs (content (log_file r.file) image)
+  pub begins : records bs ≡ first_checkpoint ∷ rs
+  pub folds : FoldsRecords [] rs db
+
+-- the number that the next record of a log gets
+abbrev pub next_lsn : Root → Batches → ℕ
+next_lsn r bs = r.first + length (records bs)
+
+-- it is below this bound, as at a database that can be opened
+abbrev pub IsLow : Root → Batches → Type 0
+IsLow r bs = next_lsn r bs < 2 ^ 62
+
+-- an image that stands for the database, by the same root and these batches
+abbrev pub StandsBy : Image → Database → Root → Batches → Type 0
+StandsBy image db r bs = (s : StandsFor image db) × (s.r ≡ r) × (s.bs ≡ bs)
+
+-- ---- what applying finds
+
+-- what was to be applied can't be, and the numbers that tell it differ; or memory was refused
+abbrev pub Refuses : Type 0 → RecordError → Type 0
+Refuses P record_error.OutOfMemory = Unit {0}
+Refuses P (record_error.Bad f) = (f.want ≢ f.got) × (P → ⊥)
+
+-- the item stands for a change of the first database that leaves the second
+abbrev pub Applies : Database → Item → Database → Type 0
+Applies old item new = (c : Change) × Stands old item c × (new ≡ changed c old)
+
+-- some database is left
+abbrev pub AppliesSome : Database → Item → Type 0
+AppliesSome old item = (new : Database) × Applies old item new
+
+abbrev pub FoldsSome : Database → List Item → Type 0
+FoldsSome old is = (new : Database) × Folds old is new
+
+abbrev pub FoldsRecordSome : Database → List ℕ → Type 0
+FoldsRecordSome old bytes = (new : Database) × FoldsRecord old bytes new
+
+abbrev pub FoldsRecordsSome : Database → List (List ℕ) → Type 0
+FoldsRecordsSome old rs = (new : Database) × FoldsRecords old rs new
+
+-- ---- what opening finds
+
+-- the records of a log that makes the database: the checkpoint of an empty engine, and those that fold
+abbrev pub Makes : List (List ℕ) → Database → Type 0
+Makes all db = (rs : List (List ℕ)) × (all ≡ first_checkpoint ∷ rs) × FoldsRecords [] rs db
+
+abbrev pub MakesSome : List (List ℕ) → Type 0
+MakesSome all = (db : Database) × Makes all db
+
+-- damage told by numbers that differ, where this doesn't hold; or memory was refused
+abbrev pub RefusesToOpen : Type 0 → OpenError → Type 0
+RefusesToOpen P OutOfMemory = Unit {0}
+RefusesToOpen P (Damaged file at want got) = (want ≢ got) × (P → ⊥)
+RefusesToOpen P NoDatabase = ⊥
+RefusesToOpen P Fault = ⊥
+
+-- the tables are those of the database that the image stands for, and the log's writer goes on behind
+-- the log with nothing to flush
+pub record Opens (image : Image) (o : Opened) : Type 0 where
+  pub stands : StandsFor image (database_of o.tables)
+  pub low : IsLow stands.r stands.bs
+  pub file : o.log.file ≡ log_file stands.r.file
+  pub goes_on : GoesOn stands.r.first stands.bs o.log image
+  pub none : o.log.buffered ≡ []
+
+-- the image stands for no database that can be opened
+abbrev pub StandsForNone : Image → Type 0
+StandsForNone image = (db : Database) (s : StandsFor image db) → IsLow s.r s.bs → ⊥
+
+-- why nothing was opened: there is no root, or the image stands for no database that can be opened
+abbrev pub Explains : Image → OpenError → Type 0
+Explains image NoDatabase = root_value image.root ≡ None
+Explains image (Damaged file at want got) = (want ≢ got) × (root_value image.root ≢ None) × StandsForNone image
+Explains image Fault = Unit {0}
+Explains image OutOfMemory = Unit {0}
+
+-- no database is there, or that couldn't be found out
+abbrev pub FindsNone : Result Opened OpenError → Type 0
+FindsNone (Ok o) = ⊥
+FindsNone (Err NoDatabase) = Unit {0}
+FindsNone (Err (Damaged file at want got)) = ⊥
+FindsNone (Err Fault) = Unit {0}
+FindsNone (Err OutOfMemory) = Unit {0}

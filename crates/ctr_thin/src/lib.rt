@@ -1,0 +1,11 @@
+//! The thin form: which database an image stands for, and opening it.
+#![tactic(auto)]
+
+mod laws;
+mod opening;
+mod replay;
+#[cfg(test)]
+mod tests;
+
+pub use laws::{fresh_stands, goes_on_by_record, goes_on_by_records, one_database, same_files};
+pub use opening::{OpenError, Opened, open};

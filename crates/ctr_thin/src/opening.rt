@@ -1,0 +1,243 @@
+// Opening a database: the root, the log that it names, and the tables that its records make.
+ghost use Rattle.std.specs.Prelude.{◌≡◌, ◌≢◌, ◌↔◌, ◌≤◌, ◌<◌, ◌-◌, ◌^◌, IsTrue, ℕ, None, Err, IfOk, IfErr, OnOk, MatchResult};
+ghost use Rattle.ctr_disk.specs.Crash.{Only, LeavesOnly, Rose};
+ghost use Rattle.ctr_log.specs.Settled.{OnlyReads};
+ghost use Rattle.ctr_log.specs.Homes.{root_value, IsRoot};
+ghost use Rattle.ctr_log.specs.Fresh.{first_checkpoint};
+ghost use Rattle.ctr_log.specs.Reading.{log_file};
+ghost use Rattle.ctr_model.specs.Database.{Database};
+ghost use Rattle.ctr_tables.specs.Tables.{database_of};
+ghost use Rattle.ctr_thin.specs.declared.opening.OpenError.TheVariants.{Damaged, Fault};
+ghost use Rattle.ctr_thin.specs.Opening.{of_record};
+ghost use Rattle.ctr_thin.specs.Thin.{StandsFor, Opens, Explains, FindsNone, Makes, MakesSome, RefusesToOpen};
+
+use crate::replay::replay;
+use ctr_disk::{Disk, Failed, File, Root, StoreFault};
+use ctr_log::{LogFile, Lsn, ReadError, read_all, read_root};
+use ctr_rec::{RecordError, fold_is_one};
+use ctr_tables::Tables;
+use ctr_types::Text;
+use std::alloc::Global;
+
+/// The first number that no record of a database that can be opened has: 2^62.
+const LSN_END: Lsn = 1 << 62;
+
+/// The checkpoint of an engine without tables: its tag, the next transaction, 1, and three empty lists.
+const CHECKPOINT: [u8; 34] = [
+    1, 1, 0, 0, 0, 0, 0, 0, 0, 0, 0, 0, 0, 0, 0, 0, 0, 0, 0, 0, 0, 0, 0, 0, 0, 0, 0, 0, 0, 0, 0, 0,
+    0, 0,
+];
+
+/// A database that was opened: the writer of its log, and its tables.
+#[derive(Drop)]
+pub struct Opened {
+    pub log: LogFile,
+    pub tables: Tables,
+}
+
+/// Why a database wasn't opened.
+#[derive(Clone, Copy, Debug, PartialEq, Eq)]
+pub enum OpenError {
+    /// No home of the root is open.
+    NoDatabase,
+    /// The file in which a check failed, the byte at which it did, or 0 where that isn't known, what the
+    /// check wants and what is there. The last two differ.
+    Damaged {
+        file: File,
+        at: u64,
+        want: u128,
+        got: u128,
+    },
+    /// As in `StoreFault`.
+    Fault,
+    OutOfMemory,
+}
+
+impl From<Failed> for OpenError {
+    ghost from_gives = { λ _ e. e ≡ Fault };
+
+    fn from(_: Failed) -> OpenError {
+        OpenError::Fault
+    }
+}
+
+impl From<StoreFault> for OpenError {
+    ghost use Rattle.ctr_thin.specs.Opening.{of_store};
+
+    ghost from_gives = { λ s e. e ≡ of_store s };
+
+    fn from(fault: StoreFault) -> OpenError {
+        match fault {
+            StoreFault::Fault => OpenError::Fault,
+            StoreFault::Damaged {
+                file,
+                at,
+                want,
+                got,
+            } => OpenError::Damaged {
+                file,
+                at,
+                want,
+                got,
+            },
+        }
+    }
+}
+
+impl From<ReadError> for OpenError {
+    ghost use Rattle.ctr_thin.specs.Opening.{of_read};
+
+    ghost from_gives = { λ s e. e ≡ of_read s };
+
+    fn from(error: ReadError) -> OpenError {
+        match error {
+            ReadError::Store(fault) => OpenError::from(fault),
+            ReadError::OutOfMemory => OpenError::OutOfMemory,
+        }
+    }
+}
+
+// A root that was read passes. On a disk that doesn't tell what it holds this isn't known.
+fn check_root(root: &Root) -> Result<(), OpenError>
+    ensures { MatchResult result (λ _. (root.now.file ≤ 1) × (root.now.first ≤ 2 ^ 63)) (λ e. (e ≢ Fault) × (IsRoot root.now → ⊥)) }
+{
+    if root.file > 1 {
+        return Err(OpenError::Damaged {
+            file: File::Root,
+            at: 0,
+            want: 1,
+            got: root.file as u128,
+        });
+    }
+    if root.first > 1 << 63 {
+        return Err(OpenError::Damaged {
+            file: File::Root,
+            at: 0,
+            want: 1 << 63,
+            got: root.first as u128,
+        });
+    }
+    Ok(())
+}
+
+fn named_file(root: &Root) -> File
+    ensures { result ≡ log_file root.now.file }
+{
+    if root.file == 0 {
+        File::LogA
+    } else {
+        File::LogB
+    }
+}
+
+// The first record isn't the checkpoint: 1 stands for the checkpoint, 0 for another or none.
+fn no_checkpoint(file: File) -> OpenError
+    ensures { result ≡ Damaged file 0 1 0 }
+{
+    OpenError::Damaged {
+        file,
+        at: 0,
+        want: 1,
+        got: 0,
+    }
+}
+
+// What a record of the log is refused for.
+fn bad_record(file: File, error: RecordError) -> OpenError
+    ensures { result ≡ of_record file error }
+{
+    match error {
+        RecordError::OutOfMemory => OpenError::OutOfMemory,
+        RecordError::Bad(bad) => OpenError::Damaged {
+            file,
+            at: 0,
+            want: bad.want,
+            got: bad.got,
+        },
+    }
+}
+
+fn is_checkpoint(bytes: &[u8]) -> bool
+    ensures { IsTrue result ↔ (bytes.now ≡ first_checkpoint) }
+{
+    bytes == CHECKPOINT.as_slice()
+}
+
+// The tables that a log's records make.
+fn load(alloc: Global, file: File, records: &[Text]) -> Result<Tables, OpenError>
+    ensures found { IfOk result (λ t. Makes records.now (database_of t)) }
+    ensures refused { IfErr result (RefusesToOpen (MakesSome records.now)) }
+{
+    let Some((first, others)) = records.split_first() else {
+        return Err(no_checkpoint(file));
+    };
+    if !is_checkpoint(first.as_slice()) {
+        return Err(no_checkpoint(file));
+    }
+    let mut tables = Tables::new(alloc);
+    match replay(alloc, &mut tables, others) {
+        Ok(()) => Ok(tables),
+        Err(error) => Err(bad_record(file, error)),
+    }
+}
+
+// Numbers are left for further records.
+fn check_next(file: File, next: Lsn) -> Result<(), OpenError>
+    ensures { MatchResult result (λ _. next < 2 ^ 62) (λ e. (2 ^ 62 ≤ next) × (e ≡ Damaged file 0 (2 ^ 62 - 1) next)) }
+{
+    if next >= LSN_END {
+        return Err(OpenError::Damaged {
+            file,
+            at: 0,
+            want: (LSN_END - 1) as u128,
+            got: next as u128,
+        });
+    }
+    Ok(())
+}
+
+// What the root and the log that it names make.
+fn read_database<D: Disk>(alloc: Global, disk: &mut D) -> Result<Opened, OpenError>
+    ensures opened { IsTrue D.tells → IfOk result (Opens (D.reads disk.old)) }
+    ensures only { (db : Database) → IsTrue D.tells → StandsFor (D.reads disk.old) db → IfOk result (λ o. database_of o.tables ≡ db) }
+    ensures refused { IsTrue D.tells → IfErr result (Explains (D.reads disk.old)) }
+    ensures quiet { OnlyReads D.reads D.images D.moment_of D.since disk.old disk.new }
+    ensures fault { result ≡ Err Fault → Rose (D.faults_of disk.old) (D.faults_of disk.new) }
+    ensures faults { D.faults_of disk.old ≤ D.faults_of disk.new }
+    ensures stray { D.strays_of disk.new ≡ D.strays_of disk.old }
+{
+    fold_is_one();
+    let Some(root) = read_root(disk)? else {
+        return Err(OpenError::NoDatabase);
+    };
+    check_root(&root)?;
+    let (log, records) = read_all(alloc, disk, &root)?;
+    let file = named_file(&root);
+    let tables = load(alloc, file, records.as_slice())?;
+    check_next(file, log.next())?;
+    Ok(Opened { log, tables })
+}
+
+/// Opens the database of a disk, in time linear in its log, times the logarithm of its tables. It writes
+/// nothing, and what was pending is durable after Ok.
+pub fn open<D: Disk>(alloc: Global, disk: &mut D) -> Result<Opened, OpenError>
+    // What is opened is the database that the image stands for.
+    ensures opened { IsTrue D.tells → IfOk result (Opens (D.reads disk.old)) }
+    ensures only { (db : Database) → IsTrue D.tells → StandsFor (D.reads disk.old) db → IfOk result (λ o. database_of o.tables ≡ db) }
+    // There is no root, or the image stands for no database that can be opened.
+    ensures refused { IsTrue D.tells → IfErr result (Explains (D.reads disk.old)) }
+    ensures no_database { IsTrue D.tells → root_value (D.reads disk.old).root ≡ None → FindsNone result }
+    // The disk reads as before, and a crash leaves what it might have left.
+    ensures any_moment { LeavesOnly D.moment_of D.since disk.old disk.new (D.images disk.old) }
+    ensures same { D.reads disk.new ≡ D.reads disk.old }
+    ensures durable { OnOk result (Only (D.reads disk.new) (D.images disk.new)) }
+    // From the moment of its end on a crash leaves what is read.
+    ensures settled { OnOk result ((t : ℕ) → D.moment_of disk.new ≤ t → Only (D.reads disk.new) (D.since disk.new t)) }
+    ensures later { OnOk result (D.moment_of disk.old < D.moment_of disk.new) }
+    ensures fault { result ≡ Err Fault → Rose (D.faults_of disk.old) (D.faults_of disk.new) }
+    ensures faults { D.faults_of disk.old ≤ D.faults_of disk.new }
+    ensures stray { D.strays_of disk.new ≡ D.strays_of disk.old }
+{
+    disk.sync()?;
+    read_database(alloc, disk)
+}
