@@ -1,5 +1,5 @@
 -- Replies are determined by the acts, but for the three that may stand for others.
-use Rattle.std.proofs.Common.{◌≡◌, ◌⊎◌, inl, inr, ℕ, zero, suc, ◌+◌, Bool, true, false, List, [], ◌∷◌, Option, Some, None, refl, sym, ◌∙◌, ap, slice_get}
+use Rattle.std.proofs.Common.{◌≡◌, inl, inr, ℕ, zero, suc, ◌+◌, true, false, List, [], ◌∷◌, Option, Some, None, refl, sym, ◌∙◌, ap, slice_get}
 use Rattle.std.specs.Option.{option_map_or}
 use Rattle.std.specs.Prelude.{unwrap_or}
 use Rattle.std.specs.Ordering.{nat_cmp}
@@ -7,15 +7,12 @@ use Rattle.std.specs.FinMap.Entries.{put}
 use Rattle.ctr_types.specs.declared.statement.Statement.{Statement}
 use Rattle.ctr_types.specs.declared.statement.Statement.TheVariants as st
 use Rattle.ctr_types.specs.declared.statement.Line.{Line}
-use Rattle.ctr_types.specs.declared.tape.Act.{Act}
 use Rattle.ctr_types.specs.declared.tape.Act.TheVariants as act
 use Rattle.ctr_types.specs.declared.tape.Reply.{Reply}
 use Rattle.ctr_types.specs.declared.tape.Reply.TheVariants as reply
-use Rattle.ctr_types.specs.declared.tape.Refusal.TheVariants as refusal
 use Rattle.ctr_types.specs.declared.tape.Entry.{Entry}
-use Rattle.ctr_model.specs.State.{State}
 use Rattle.ctr_model.specs.Reply.{reply_to, next_state, MayStandFor}
-use Rattle.ctr_model.specs.Tape.{acts_of, advanced, progress_of, statement_of, passed, Comes, IsNextAct, IsActOf, IsRelease, Legal}
+use Rattle.ctr_model.specs.Tape.{acts_of, advanced, progress_of, statement_of, passed, Comes, IsNextAct, IsActOf, Legal}
 use Rattle.ctr_model.specs.declared.tape.Progress.{Progress}
 use Rattle.ctr_model.specs.declared.tape.Point.{Point}
 use Rattle.ctr_model.specs.Laws.{SameActs, is_free, NoneFree, replies_of, RepliesAreDetermined}

@@ -1,7 +1,6 @@
 -- The sessions of a state, after one of them changes.
-use Rattle.std.proofs.Common.{◌≡◌, ℕ, ◌==◌, Bool, true, false, cond, not, List, Option, Some, None, refl, sym, ◌∙◌, ap}
-use Rattle.std.specs.declared.cmp.Ordering.{Ordering}
-use Rattle.std.specs.declared.cmp.Ordering.TheVariants.{Less, Equal, Greater}
+use Rattle.std.proofs.Common.{◌≡◌, ℕ, ◌==◌, Bool, true, false, cond, not, List, Some, None, refl, sym, ◌∙◌, ap}
+use Rattle.std.specs.declared.cmp.Ordering.TheVariants.{Equal}
 use Rattle.std.specs.Ordering.{nat_cmp, eq_by_cmp, is_eq}
 use Rattle.std.specs.Cmp.{nat_cmp_total, unsigned_tied}
 use Rattle.std.proofs.lemmas.Cmp.{tied_itself, nat_eq_equiv}
@@ -30,3 +29,19 @@ pub find-without-same : {X : Type 0} (s : ℕ) (es : List (ℕ × X)) → find n
 find-without-same s es =
     find-where_key nat_cmp (λ k. not (eq_by_cmp nat_cmp s k)) s (alike s s) es
     ∙ ap (λ o. cond (not (is_eq o)) (find nat_cmp s es) None) (tied_itself nat_cmp_total s)
+
+-- the values of a key stay alike, whatever key is put in both or taken from both
+pub find-put-alike : {X : Type 0} (s t : ℕ) (x : X) (es fs : List (ℕ × X)) → find nat_cmp s es ≡ find nat_cmp s fs → find nat_cmp s (put nat_cmp t x es) ≡ find nat_cmp s (put nat_cmp t x fs)
+find-put-alike s t x es fs same =
+    find-put nat_cmp nat_cmp_total s t x es ∙ ap (λ f. cond (is_eq (nat_cmp s t)) (Some x) f) same ∙ sym (find-put nat_cmp nat_cmp_total s t x fs)
+
+pub find-without-alike : {X : Type 0} (s t : ℕ) (es fs : List (ℕ × X)) → find nat_cmp s es ≡ find nat_cmp s fs → find nat_cmp s (without nat_cmp t es) ≡ find nat_cmp s (without nat_cmp t fs)
+find-without-alike s t es fs same =
+    find-where_key nat_cmp (λ k. not (eq_by_cmp nat_cmp t k)) s (alike t s) es
+    ∙ ap (λ f. cond (not (eq_by_cmp nat_cmp t s)) f None) same
+    ∙ sym (find-where_key nat_cmp (λ k. not (eq_by_cmp nat_cmp t k)) s (alike t s) fs)
+
+-- a case for each answer of a test
+pub known : {A : Type 0} (b : Bool) → (b ≡ true → A) → (b ≡ false → A) → A
+known true at_true at_false = at_true refl
+known false at_true at_false = at_false refl

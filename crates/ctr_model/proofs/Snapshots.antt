@@ -1,11 +1,8 @@
 -- What a session sees stays while others act.
-use Rattle.std.proofs.Common.{◌≡◌, ◌⊎◌, inl, inr, ℕ, ◌+◌, ◌==◌, ◌≤◌, Bool, true, false, List, [], ◌∷◌, ◌++◌, length, take, Option, Some, None, refl, sym, ◌∙◌, ap, subst, arith, length-append}
-use Rattle.std.specs.Prelude.{unwrap_or, IfSome}
+use Rattle.std.proofs.Common.{◌≡◌, ℕ, ◌==◌, ◌≤◌, false, List, [], ◌∷◌, length, take, Option, Some, None, refl, sym, ◌∙◌, ap, arith, length-append}
+use Rattle.std.specs.Prelude.{unwrap_or}
 use Rattle.std.specs.Option.{option_map_or}
-use Rattle.std.specs.Ordering.{nat_cmp}
-use Rattle.std.specs.FinMap.Entries.{put, find}
 use Rattle.std.proofs.lemmas.List.{append-nil, take-append-le}
-use Rattle.std.proofs.lemmas.Map.Views.{exact_unsigned_eq}
 use Rattle.ctr_types.specs.declared.statement.Statement.{Statement}
 use Rattle.ctr_types.specs.declared.statement.Statement.TheVariants as st
 use Rattle.ctr_types.specs.declared.statement.Line.{Line}
@@ -13,19 +10,16 @@ use Rattle.ctr_types.specs.declared.tape.Act.{Act}
 use Rattle.ctr_types.specs.declared.tape.Act.TheVariants as act
 use Rattle.ctr_types.specs.declared.tape.Reply.{Reply}
 use Rattle.ctr_types.specs.declared.tape.Reply.TheVariants as reply
-use Rattle.ctr_types.specs.declared.tape.Refusal.{Refusal}
-use Rattle.ctr_types.specs.declared.tape.Refusal.TheVariants as refusal
 use Rattle.ctr_types.specs.declared.tape.Entry.{Entry}
 use Rattle.ctr_model.specs.declared.database.Change.{Change}
 use Rattle.ctr_model.specs.declared.state.State.{State}
 use Rattle.ctr_model.specs.declared.state.Transaction.{Transaction}
 use Rattle.ctr_model.specs.declared.tape.Point.{Point}
-use Rattle.ctr_model.specs.Maps.{without}
-use Rattle.ctr_model.specs.Database.{Database, after, after_all}
-use Rattle.ctr_model.specs.State.{transaction_of, rows_at, view}
-use Rattle.ctr_model.specs.Reply.{refused_or, reply_inside, reply_outside, reply_to, MayStandFor, next_inside, next_outside, next_state}
-use Rattle.ctr_model.specs.Tape.{statement_of, passed, final, Legal, Comes, IsNextAct, IsActOf, IsRelease, IsInTurn, Allowed, at_start}
-use Rattle.ctr_model.specs.Laws.{is_asked, OthersOnly, SeesTheSame, SnapshotsStay}
+use Rattle.ctr_model.specs.Database.{after, after_all}
+use Rattle.ctr_model.specs.State.{transaction_of, rows_at}
+use Rattle.ctr_model.specs.Reply.{next_inside, next_outside, next_state}
+use Rattle.ctr_model.specs.Tape.{statement_of, passed, final}
+use Rattle.ctr_model.specs.Laws.{asked_by, Grows, OthersOnly, SeesTheSame, SnapshotsStay}
 use Rattle.ctr_model.proofs.Sessions.{find-put-other, find-without-other}
 
 -- ---- one step of another session
@@ -65,7 +59,7 @@ module _ (state : State) (s t : ℕ) (other : (s == t) ≡ false) where
   outside_stays a reply.Released = released_stays a
   outside_stays a (reply.Refused why) = refl
 
-  others_stay : (a : Act) (statement : Option Statement) (r : Reply) → transaction_of (next_state state t a statement r) s ≡ transaction_of state s
+  pub others_stay : (a : Act) (statement : Option Statement) (r : Reply) → transaction_of (next_state state t a statement r) s ≡ transaction_of state s
   others_stay a statement r =
       let of = unwrap_or statement st.Begin in
       elim (transaction_of state t) as (λ f. transaction_of (option_map_or (λ me. next_inside state t me of r) f (next_outside state t a r)) s ≡ transaction_of state s) [
@@ -75,62 +69,55 @@ module _ (state : State) (s t : ℕ) (other : (s == t) ≡ false) where
 
 -- ---- what was asked stays
 
--- the same base, and more transactions behind those that asked, but none where none asks
-pub record Grows (r : Reply) (old new : State) : Type 0 where
-  pub base : new.base ≡ old.base
-  pub more : List (List Change)
-  pub asked : new.asked ≡ old.asked ++ more
-  pub quiet : is_asked r ≡ false → more ≡ []
+same_asked : (old new : State) → new.base ≡ old.base → new.asked ≡ old.asked → Grows [] old new
+same_asked old new base asked = record { base = base; asked = asked ∙ sym (append-nil old.asked) }
 
-same_asked : (r : Reply) (old new : State) → new.base ≡ old.base → new.asked ≡ old.asked → Grows r old new
-same_asked r old new base asked = record { base = base; more = []; asked = asked ∙ sym (append-nil old.asked); quiet = λ no. refl }
+inside_grows : (state : State) (t : ℕ) (me : Transaction) (statement : Statement) (r : Reply) → Grows (asked_by r (Some me)) state (next_inside state t me statement r)
+inside_grows state t me statement (reply.Began n) = same_asked _ _ refl refl
+inside_grows state t me statement reply.Granted = same_asked _ _ refl refl
+inside_grows state t me statement (reply.Rows rows) = same_asked _ _ refl refl
+inside_grows state t me statement reply.Done = same_asked _ _ refl refl
+inside_grows state t me statement (reply.Asked k) = record { base = refl; asked = refl }
+inside_grows state t me statement reply.ReadOnly = same_asked _ _ refl refl
+inside_grows state t me statement (reply.Answered k) = same_asked _ _ refl refl
+inside_grows state t me statement reply.RolledBack = same_asked _ _ refl refl
+inside_grows state t me statement reply.Released = same_asked _ _ refl refl
+inside_grows state t me statement (reply.Refused why) = same_asked _ _ refl refl
 
-inside_grows : (state : State) (t : ℕ) (me : Transaction) (statement : Statement) (r : Reply) → Grows r state (next_inside state t me statement r)
-inside_grows state t me statement (reply.Began n) = same_asked _ _ _ refl refl
-inside_grows state t me statement reply.Granted = same_asked _ _ _ refl refl
-inside_grows state t me statement (reply.Rows rows) = same_asked _ _ _ refl refl
-inside_grows state t me statement reply.Done = same_asked _ _ _ refl refl
-inside_grows state t me statement (reply.Asked k) = record { base = refl; more = me.own ∷ []; asked = refl; quiet = λ no. absurd (cc no) }
-inside_grows state t me statement reply.ReadOnly = same_asked _ _ _ refl refl
-inside_grows state t me statement (reply.Answered k) = same_asked _ _ _ refl refl
-inside_grows state t me statement reply.RolledBack = same_asked _ _ _ refl refl
-inside_grows state t me statement reply.Released = same_asked _ _ _ refl refl
-inside_grows state t me statement (reply.Refused why) = same_asked _ _ _ refl refl
+released_grows : (state : State) (t : ℕ) (a : Act) → Grows [] state (next_outside state t a reply.Released)
+released_grows state t act.Begin = same_asked _ _ refl refl
+released_grows state t act.Read = same_asked _ _ refl refl
+released_grows state t act.Lock = same_asked _ _ refl refl
+released_grows state t act.Write = same_asked _ _ refl refl
+released_grows state t act.Ask = same_asked _ _ refl refl
+released_grows state t act.Answer = same_asked _ _ refl refl
+released_grows state t act.Rollback = same_asked _ _ refl refl
+released_grows state t (act.Release name) = same_asked _ _ refl refl
 
-released_grows : (state : State) (t : ℕ) (a : Act) → Grows reply.Released state (next_outside state t a reply.Released)
-released_grows state t act.Begin = same_asked _ _ _ refl refl
-released_grows state t act.Read = same_asked _ _ _ refl refl
-released_grows state t act.Lock = same_asked _ _ _ refl refl
-released_grows state t act.Write = same_asked _ _ _ refl refl
-released_grows state t act.Ask = same_asked _ _ _ refl refl
-released_grows state t act.Answer = same_asked _ _ _ refl refl
-released_grows state t act.Rollback = same_asked _ _ _ refl refl
-released_grows state t (act.Release name) = same_asked _ _ _ refl refl
-
-outside_grows : (state : State) (t : ℕ) (a : Act) (r : Reply) → Grows r state (next_outside state t a r)
-outside_grows state t a (reply.Began n) = same_asked _ _ _ refl refl
-outside_grows state t a reply.Granted = same_asked _ _ _ refl refl
-outside_grows state t a (reply.Rows rows) = same_asked _ _ _ refl refl
-outside_grows state t a reply.Done = same_asked _ _ _ refl refl
-outside_grows state t a (reply.Asked k) = same_asked _ _ _ refl refl
-outside_grows state t a reply.ReadOnly = same_asked _ _ _ refl refl
-outside_grows state t a (reply.Answered k) = same_asked _ _ _ refl refl
-outside_grows state t a reply.RolledBack = same_asked _ _ _ refl refl
+outside_grows : (state : State) (t : ℕ) (a : Act) (r : Reply) → Grows (asked_by r None) state (next_outside state t a r)
+outside_grows state t a (reply.Began n) = same_asked _ _ refl refl
+outside_grows state t a reply.Granted = same_asked _ _ refl refl
+outside_grows state t a (reply.Rows rows) = same_asked _ _ refl refl
+outside_grows state t a reply.Done = same_asked _ _ refl refl
+outside_grows state t a (reply.Asked k) = same_asked _ _ refl refl
+outside_grows state t a reply.ReadOnly = same_asked _ _ refl refl
+outside_grows state t a (reply.Answered k) = same_asked _ _ refl refl
+outside_grows state t a reply.RolledBack = same_asked _ _ refl refl
 outside_grows state t a reply.Released = released_grows state t a
-outside_grows state t a (reply.Refused why) = same_asked _ _ _ refl refl
+outside_grows state t a (reply.Refused why) = same_asked _ _ refl refl
 
-pub next_grows : (state : State) (t : ℕ) (a : Act) (statement : Option Statement) (r : Reply) → Grows r state (next_state state t a statement r)
+pub next_grows : (state : State) (t : ℕ) (a : Act) (statement : Option Statement) (r : Reply) → Grows (asked_by r (transaction_of state t)) state (next_state state t a statement r)
 next_grows state t a statement r =
     let of = unwrap_or statement st.Begin in
-    elim (transaction_of state t) as (λ f. Grows r state (option_map_or (λ me. next_inside state t me of r) f (next_outside state t a r))) [
+    elim (transaction_of state t) as (λ f. Grows (asked_by r f) state (option_map_or (λ me. next_inside state t me of r) f (next_outside state t a r))) [
       | Some me ↦ inside_grows state t me of r
       | None ↦ outside_grows state t a r
     ]
 
 -- rows at a number that was asked stay
-rows_stay : (r : Reply) (old new : State) (j : ℕ) → Grows r old new → j ≤ length old.asked → rows_at new j ≡ rows_at old j
-rows_stay r old new j grows le =
-    (λ i. after_all (take j (grows.asked i)) (grows.base i)) ∙ ap (λ (ts : List (List Change)). after_all ts old.base) (take-append-le j old.asked grows.more le)
+rows_stay : (more : List (List Change)) (old new : State) (j : ℕ) → Grows more old new → j ≤ length old.asked → rows_at new j ≡ rows_at old j
+rows_stay more old new j grows le =
+    (λ i. after_all (take j (grows.asked i)) (grows.base i)) ∙ ap (λ (ts : List (List Change)). after_all ts old.base) (take-append-le j old.asked more le)
 
 -- ---- over a stretch
 
@@ -139,11 +126,12 @@ stays lines p [] s me is le others = record { transaction = is; snapshot = refl;
 stays lines p (e ∷ es) s me is le others =
     let q = passed lines p e in
     let of = statement_of lines e.session e.statement in
+    let more = asked_by e.reply (transaction_of p.state e.session) in
     let grows = next_grows p.state e.session e.act of e.reply in
-    let longer : length p.state.asked ≤ length q.state.asked = omega (arith, ap length grows.asked, length-append p.state.asked grows.more) in
+    let longer : length p.state.asked ≤ length q.state.asked = omega (arith, ap length grows.asked, length-append p.state.asked more) in
     let here : transaction_of q.state s ≡ Some me = others_stay p.state s e.session others.0 e.act of e.reply ∙ is in
     let rest = stays lines q es s me here (omega (arith, le, longer)) others.1 in
-    let same : rows_at (final lines q es).state me.snapshot ≡ rows_at p.state me.snapshot = rest.snapshot ∙ rows_stay e.reply p.state q.state me.snapshot grows le in
+    let same : rows_at (final lines q es).state me.snapshot ≡ rows_at p.state me.snapshot = rest.snapshot ∙ rows_stay more p.state q.state me.snapshot grows le in
     record { transaction = rest.transaction; snapshot = same; sees = ap (after me.own) same }
 
 pub snapshots_stay : SnapshotsStay

@@ -1,5 +1,5 @@
 -- What holds of a state on each legal tape.
-use Rattle.std.proofs.Common.{◌≡◌, ◌⊎◌, inl, inr, ℕ, ◌+◌, ◌==◌, ◌≤◌, Bool, true, false, List, [], ◌∷◌, ◌++◌, length, Option, Some, None, refl, sym, ◌∙◌, ap, subst, arith, length-append}
+use Rattle.std.proofs.Common.{◌≡◌, inl, inr, ℕ, ◌+◌, ◌==◌, ◌≤◌, Bool, true, false, List, [], ◌∷◌, ◌++◌, length, Option, Some, None, refl, sym, ◌∙◌, ap, subst, arith, length-append}
 use Rattle.std.specs.Prelude.{unwrap_or, IfSome, option_and_then, if◌then◌else◌}
 use Rattle.std.specs.Option.{option_map_or}
 use Rattle.std.specs.Ordering.{nat_cmp}
@@ -21,9 +21,9 @@ use Rattle.ctr_model.specs.Maps.{without}
 use Rattle.ctr_model.specs.State.{transaction_of, view, begun}
 use Rattle.ctr_model.specs.Refusals.{refusal_of, write_refusal, table_of, key_locked}
 use Rattle.ctr_model.specs.Reply.{refused_or, reply_inside, reply_outside, reply_to, MayStandFor, granted, with_lock, with_use, next_inside, next_outside, next_state}
-use Rattle.ctr_model.specs.Tape.{statement_of, passed, final, Legal, Comes, IsNextAct, IsActOf, IsRelease, IsInTurn, Allowed, at_start}
+use Rattle.ctr_model.specs.Tape.{statement_of, passed, final, Legal, Comes, IsInTurn, at_start}
 use Rattle.ctr_model.specs.Laws.{IsSound, LegalStatesAreSound}
-use Rattle.ctr_model.proofs.Sessions.{find-put-other, find-put-same, find-without-other, find-without-same}
+use Rattle.ctr_model.proofs.Sessions.{known, find-put-other, find-put-same, find-without-other, find-without-same}
 
 -- ---- what a reply tells of the state and the act
 
@@ -102,10 +102,6 @@ comes_tells lines p e comes = elim comes.one_of [
 
 abbrev Fits : ℕ → ℕ → Transaction → Type 0
 Fits answered asked me = (me.snapshot ≤ answered) × IfSome me.asked (λ k. k ≤ asked)
-
-known : {A : Type 0} (b : Bool) → (b ≡ true → A) → (b ≡ false → A) → A
-known true at_true at_false = at_true refl
-known false at_true at_false = at_false refl
 
 if_later : (o : Option ℕ) (a b : ℕ) → a ≤ b → IfSome o (λ k. k ≤ a) → IfSome o (λ k. k ≤ b)
 if_later None a b le is = tt

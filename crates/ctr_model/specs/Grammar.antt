@@ -1,9 +1,10 @@
 -- The grammar of scripts, as a relation between bytes and scripts.
 --
 -- A form says how much of the language is taken. The first form is the one that the engine takes
--- today; the whole form comes with further cases of `Takes`, `IsKeyword` and `EndsLine`, and no rule
--- below them changes.
-use Rattle.std.specs.Prelude.{◌≡◌, ◌≢◌, ◌⊎◌, ℕ, ◌+◌, ◌-◌, ◌<◌, ◌≤◌, ◌^◌, ℤ, pos, negsuc, Bool, true, false, List, [], ◌∷◌, ◌++◌, length, map, codes, Option, Some, None, ◌==◌, ◌&&◌, nat_le, if◌then◌else◌}
+-- today. What depends on the form are keywords, statements, skipped lines, the ends of lines, and the
+-- place of a refusal: `IsKeyword`, `Takes`, `IsSkipped`, `EndsLine` and `IsPlace` have a case for each
+-- form. The whole form comes with a further case of each, and no rule below them changes.
+use Rattle.std.specs.Prelude.{◌≡◌, ◌≢◌, ◌⊎◌, ℕ, ◌+◌, ◌-◌, ◌<◌, ◌≤◌, ◌^◌, ℤ, pos, negsuc, false, List, [], ◌∷◌, ◌++◌, length, map, codes, Option, Some, None, ◌==◌, ◌&&◌, nat_le, if◌then◌else◌}
 use Rattle.std.specs.List.{AllByRecursion}
 use Rattle.std.specs.Str.Parse.{digits_value}
 use Rattle.ctr_types.specs.Names.{IsName}
@@ -19,7 +20,7 @@ use Rattle.ctr_types.specs.declared.statement.Set.{Set}
 use Rattle.ctr_types.specs.declared.statement.SetTo.{SetTo}
 use Rattle.ctr_types.specs.declared.statement.SetTo.TheVariants as to
 use Rattle.ctr_types.specs.declared.statement.Line.{Line}
-use Rattle.ctr_model.specs.State.{same_name, has_name}
+use Rattle.ctr_model.specs.State.{has_name}
 use Rattle.ctr_model.specs.Texts.{quoted}
 
 -- ---- bytes
@@ -256,20 +257,26 @@ pub record IsLine (form : Form) (bytes : List ℕ) (l : Line) : Type 0 where
 abbrev pub IsSkipped : Form → List ℕ → Type 0
 IsSkipped first bytes = AllByRecursion IsBlank bytes
 
--- A line without its end, and its end: in the first form LF alone, which stands behind each line.
-abbrev pub EndsLine : Form → List ℕ → Type 0
-EndsLine first end = end ≡ 10 ∷ []
+-- What ends a line, in front of the bytes behind it: in the first form LF, which stands behind each
+-- line, the last too.
+abbrev pub EndsLine : Form → List ℕ → List ℕ → Type 0
+EndsLine first end behind = end ≡ 10 ∷ []
 
+-- a line without its end has no LF
 abbrev pub HasNoEnd : List ℕ → Type 0
 HasNoEnd line = AllByRecursion (λ c. c ≢ 10) line
 
--- The bytes are these lines, with skipped lines between. A script ends behind the end of a line.
-pub data IsScript (form : Form) : List ℕ → List Line → Type 0 where
-  ends : IsScript form [] []
-  skips : {bytes : List ℕ} {ls : List Line} (line end rest : List ℕ) → bytes ≡ line ++ end ++ rest → HasNoEnd line → EndsLine form end → IsSkipped form line → IsScript form rest ls
-      → IsScript form bytes ls
-  goes_on : {bytes : List ℕ} {ls : List Line} (line end rest : List ℕ) (l : Line) → bytes ≡ line ++ end ++ rest → HasNoEnd line → EndsLine form end → IsLine form line l → IsScript form rest ls
-      → IsScript form bytes (l ∷ ls)
+-- The bytes are these lines, with skipped lines between, and then this rest.
+pub data AreLines (form : Form) (rest : List ℕ) : List ℕ → List Line → Type 0 where
+  ends : AreLines form rest rest []
+  skips : {bytes : List ℕ} {ls : List Line} (line end behind : List ℕ) → bytes ≡ line ++ end ++ behind → HasNoEnd line → EndsLine form end behind → IsSkipped form line → AreLines form rest behind ls
+      → AreLines form rest bytes ls
+  goes_on : {bytes : List ℕ} {ls : List Line} (line end behind : List ℕ) (l : Line) → bytes ≡ line ++ end ++ behind → HasNoEnd line → EndsLine form end behind → IsLine form line l → AreLines form rest behind ls
+      → AreLines form rest bytes (l ∷ ls)
+
+-- A script is lines to its end.
+abbrev pub IsScript : Form → List ℕ → List Line → Type 0
+IsScript form bytes lines = AreLines form [] bytes lines
 
 -- ---- refusals
 
@@ -281,20 +288,24 @@ line_ends (c ∷ cs) = (if c == 10 then 1 else 0) + line_ends cs
 -- no line that is skipped or is a statement begins the bytes
 abbrev pub NoLine : Form → List ℕ → Type 0
 NoLine form bytes =
-    (line end rest : List ℕ) → bytes ≡ line ++ end ++ rest → HasNoEnd line → EndsLine form end → (IsSkipped form line ⊎ ((l : Line) × IsLine form line l)) → ⊥
+    (line end behind : List ℕ) → bytes ≡ line ++ end ++ behind → HasNoEnd line → EndsLine form end behind → (IsSkipped form line ⊎ ((l : Line) × IsLine form line l)) → ⊥
 
--- Where a script is refused: at its first line that is none, which is told from 1. The first form
--- tells byte 1 of that line.
+-- The place in the line, from 1, at which bytes are refused that no line begins: in the first form
+-- byte 1, wherever the line goes wrong.
+abbrev pub IsPlace : Form → List ℕ → ℕ → Type 0
+IsPlace first bytes at = at ≡ 1
+
+-- Where a script is refused: at its first line that is none, which is told from 1, and a place in it.
 pub record IsRefusedAt (form : Form) (bytes : List ℕ) (line at : ℕ) : Type 0 where
   pub front : List ℕ
   pub lines : List Line
   pub rest : List ℕ
   pub split : bytes ≡ front ++ rest
-  pub script : IsScript form front lines
+  pub read : AreLines form rest bytes lines
   pub more : rest ≢ []
   pub refused : NoLine form rest
   pub number : line ≡ line_ends front + 1
-  pub place : at ≡ 1
+  pub place : IsPlace form rest at
 
 -- the most bytes that a script has
 abbrev pub most_bytes : ℕ

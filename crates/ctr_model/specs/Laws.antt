@@ -1,14 +1,18 @@
 -- Laws of the model, over whole stretches of a tape.
-use Rattle.std.specs.Prelude.{◌≡◌, ℕ, ◌+◌, ◌==◌, ◌≤◌, Bool, true, false, List, [], ◌∷◌, ◌++◌, length, map, Option, Some, None, IfSome}
-use Rattle.std.specs.List.{AllByRecursion}
+use Rattle.std.specs.Prelude.{◌≡◌, ℕ, ◌==◌, ◌≤◌, Bool, true, false, not, List, [], ◌∷◌, ◌++◌, length, map, Option, Some, None, IfSome, if◌then◌else◌}
+use Rattle.std.specs.List.{AllByRecursion, filter}
 use Rattle.ctr_types.specs.declared.statement.Line.{Line}
+use Rattle.ctr_types.specs.declared.statement.Statement.{Statement}
+use Rattle.ctr_types.specs.declared.tape.Act.{Act}
 use Rattle.ctr_types.specs.declared.tape.Reply.{Reply}
 use Rattle.ctr_types.specs.declared.tape.Reply.TheVariants as reply
 use Rattle.ctr_types.specs.declared.tape.Refusal.TheVariants as refusal
 use Rattle.ctr_types.specs.declared.tape.Entry.{Entry}
+use Rattle.ctr_model.specs.declared.database.Change.{Change}
 use Rattle.ctr_model.specs.Database.{Database}
 use Rattle.ctr_model.specs.State.{State, Transaction, transaction_of, rows_at, view}
-use Rattle.ctr_model.specs.Tape.{Point, Legal, final, at_start}
+use Rattle.ctr_model.specs.Reply.{next_state}
+use Rattle.ctr_model.specs.Tape.{Point, Legal, passed, final, at_start}
 
 -- ---- replies are determined
 
@@ -62,27 +66,78 @@ pub record SeesTheSame (s : ℕ) (me : Transaction) (old new : State) : Type 0 w
 abbrev pub SnapshotsStay : Type 0
 SnapshotsStay = (lines : List Line) (p : Point) (es : List Entry) (s : ℕ) (me : Transaction) → IsSound p.state → transaction_of p.state s ≡ Some me → OthersOnly s es → SeesTheSame s me p.state (final lines p es).state
 
--- ---- a rollback leaves no trace
+-- ---- only asking changes rows
 
 abbrev pub is_asked : Reply → Bool
 is_asked (reply.Asked k) = true
 is_asked r = false
 
-abbrev pub is_rolled_back : Reply → Bool
-is_rolled_back reply.RolledBack = true
-is_rolled_back r = false
+-- the changes that a reply puts behind those asked: all that the transaction has made, where it is Asked
+abbrev pub asked_by : Reply → Option Transaction → List (List Change)
+asked_by (reply.Asked k) (Some me) = me.own ∷ []
+asked_by r me = []
 
--- the stretch is a session's alone, asks for no commit, and ends with a rollback
-abbrev pub IsRolledBack : ℕ → List Entry → Type 0
-IsRolledBack s [] = ⊥
-IsRolledBack s (e ∷ []) = (e.session ≡ s) × (is_rolled_back e.reply ≡ true)
-IsRolledBack s (e ∷ f ∷ es) = (e.session ≡ s) × (is_asked e.reply ≡ false) × IsRolledBack s (f ∷ es)
+-- the same base, and these transactions behind those that asked
+pub record Grows (more : List (List Change)) (old new : State) : Type 0 where
+  pub base : new.base ≡ old.base
+  pub asked : new.asked ≡ old.asked ++ more
 
--- the rows at every number are as they were, and the session is in no transaction
-pub record LeavesNoTrace (s : ℕ) (old new : State) : Type 0 where
+-- The base stays, and so does what was asked: behind it comes what a reply of Asked puts there.
+abbrev pub StatesGrow : Type 0
+StatesGrow = (state : State) (s : ℕ) (a : Act) (statement : Option Statement) (r : Reply) → Grows (asked_by r (transaction_of state s)) state (next_state state s a statement r)
+
+-- what was asked, and the rows at every number, are the same in both states
+pub record SameRows (old new : State) : Type 0 where
+  pub asked : new.asked ≡ old.asked
   pub rows : (j : ℕ) → rows_at new j ≡ rows_at old j
-  pub ended : transaction_of new s ≡ None
 
--- A transaction that is rolled back leaves the rows at every number as they were.
+-- An entry leaves what was asked, and the rows at every number, as they were, unless its reply is Asked.
+abbrev pub OnlyAskingChangesRows : Type 0
+OnlyAskingChangesRows = (lines : List Line) (p : Point) (e : Entry) → is_asked e.reply ≡ false → SameRows p.state (passed lines p e).state
+
+-- ---- a rollback leaves no trace
+
+-- the changes that the sessions but this one ask to commit in a stretch, in order
+abbrev pub asked_by_others : ℕ → List Line → Point → List Entry → List (List Change)
+asked_by_others s lines p [] = []
+asked_by_others s lines p (e ∷ es) =
+    (if s == e.session then [] else asked_by e.reply (transaction_of p.state e.session)) ++ asked_by_others s lines (passed lines p e) es
+
+-- the entries of the sessions but this one
+abbrev pub entries_of_others : ℕ → List Entry → List Entry
+entries_of_others s es = filter (λ e. not (s == e.session)) es
+
+-- no entry of the session is answered by Asked
+abbrev pub AsksNothing : ℕ → List Entry → Type 0
+AsksNothing s es = AllByRecursion (λ e. e.session ≡ s → is_asked e.reply ≡ false) es
+
+-- The session asks for no commit in the stretch, and the last entry that it has there is answered by
+-- RolledBack. Others may act, ask and be answered before, between and behind its entries.
+pub record IsRolledBack (s : ℕ) (es : List Entry) : Type 0 where
+  pub asks_nothing : AsksNothing s es
+  pub before : List Entry
+  pub rollback : Entry
+  pub behind : List Entry
+  pub split : es ≡ before ++ rollback ∷ behind
+  pub session : rollback.session ≡ s
+  pub reply : rollback.reply ≡ reply.RolledBack
+  pub last : OthersOnly s behind
+
+-- the rows at every number, and the transactions of the sessions but this one, are the same in both states
+pub record SameButFor (s : ℕ) (old new : State) : Type 0 where
+  pub rows : (j : ℕ) → rows_at new j ≡ rows_at old j
+  pub others : (t : ℕ) → (t == s) ≡ false → transaction_of new t ≡ transaction_of old t
+
+-- A session leaves no trace in a stretch: behind what was asked before stands what the others asked,
+-- in order and nothing else; and but for its own transaction all is as the others' entries alone leave it.
+pub record LeavesNoTrace (s : ℕ) (lines : List Line) (p : Point) (es : List Entry) : Type 0 where
+  pub asked : (final lines p es).state.asked ≡ p.state.asked ++ asked_by_others s lines p es
+  pub alone : SameButFor s (final lines p (entries_of_others s es)).state (final lines p es).state
+
+-- A transaction that isn't asked for leaves no trace, however long it is open and whatever it does.
+abbrev pub UnaskedLeavesNoTrace : Type 0
+UnaskedLeavesNoTrace = (lines : List Line) (p : Point) (es : List Entry) (s : ℕ) → AsksNothing s es → LeavesNoTrace s lines p es
+
+-- A transaction that is rolled back leaves no trace, and its session is in no transaction.
 abbrev pub RollbacksLeaveNoTrace : Type 0
-RollbacksLeaveNoTrace = (lines : List Line) (p : Point) (es : List Entry) (s : ℕ) → IsRolledBack s es → LeavesNoTrace s p.state (final lines p es).state
+RollbacksLeaveNoTrace = (lines : List Line) (p : Point) (es : List Entry) (s : ℕ) → IsRolledBack s es → LeavesNoTrace s lines p es × (transaction_of (final lines p es).state s ≡ None)

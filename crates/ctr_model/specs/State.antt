@@ -1,6 +1,6 @@
 -- The state of the model: what was committed in which order, and the transactions that are open.
-use Rattle.std.specs.Prelude.{◌≡◌, ℕ, ◌==◌, Bool, false, true, not, List, [], ◌∷◌, ◌++◌, take, Option, None, nat_eq}
-use Rattle.std.specs.List.{list_any, filter}
+use Rattle.std.specs.Prelude.{ℕ, Bool, false, List, [], take, Option, None, nat_eq}
+use Rattle.std.specs.List.{list_any}
 use Rattle.std.specs.Ordering.{nat_cmp}
 use Rattle.std.specs.Cmp.Lexicographic.{pointwise}
 use Rattle.std.specs.FinMap.Entries.{put, find}

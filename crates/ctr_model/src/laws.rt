@@ -1,5 +1,5 @@
 // Laws of the model. A call does nothing: what it ensures is the law.
-ghost use Rattle.ctr_model.specs.Laws.{RepliesAreDetermined, LegalStatesAreSound, SnapshotsStay, RollbacksLeaveNoTrace};
+ghost use Rattle.ctr_model.specs.Laws.{RepliesAreDetermined, LegalStatesAreSound, SnapshotsStay, StatesGrow, OnlyAskingChangesRows, UnaskedLeavesNoTrace, RollbacksLeaveNoTrace};
 
 /// Two legal tapes of one script and one start, with the same acts in the same order and none of the
 /// three replies that may stand for another, have the same replies.
@@ -18,7 +18,23 @@ pub fn snapshots_stay()
     ensures { SnapshotsStay }
 {}
 
-/// A transaction that is rolled back leaves the rows at every number as they were.
+/// The base stays for good, and what was asked stays in front of what is asked later.
+pub fn states_grow()
+    ensures { StatesGrow }
+{}
+
+/// The rows at every number change by no reply but Asked: an entry with another reply leaves them as
+/// they were. And a session that asks for no commit leaves no trace, over any stretch of a tape in
+/// which others may act, ask and be answered.
+pub fn only_asking_changes_rows()
+    ensures entry { OnlyAskingChangesRows }
+    ensures stretch { UnaskedLeavesNoTrace }
+{}
+
+/// A transaction that is rolled back leaves no trace, over any stretch of a tape up to its rollback or
+/// behind it, in which others may act, ask and be answered: what was asked are the others' changes
+/// alone, and the rows at every number, and the others' transactions, are as their entries alone leave
+/// them.
 pub fn rollbacks_leave_no_trace()
     ensures { RollbacksLeaveNoTrace }
 {}

@@ -12,7 +12,8 @@ mod tape;
 
 pub use database::{Change, Key, Table, apply_all};
 pub use laws::{
-    legal_states_are_sound, replies_are_determined, rollbacks_leave_no_trace, snapshots_stay,
+    legal_states_are_sound, only_asking_changes_rows, replies_are_determined,
+    rollbacks_leave_no_trace, snapshots_stay, states_grow,
 };
 pub use map::Map;
 pub use state::{KeyLock, State, Transaction};

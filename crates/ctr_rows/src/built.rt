@@ -71,7 +71,7 @@ fn values(alloc: Global, forms: &[ValueForm]) -> Result<List<Value>, Unbuilt> {
     Ok(values)
 }
 
-fn row(alloc: Global, forms: &[ValueForm]) -> Result<Row, Unbuilt> {
+pub fn row(alloc: Global, forms: &[ValueForm]) -> Result<Row, Unbuilt> {
     let values = values(alloc, forms)?;
     Ok(Row { values })
 }
@@ -237,7 +237,7 @@ fn act(alloc: Global, form: ActForm) -> Result<Act, Unbuilt> {
     }
 }
 
-fn reply(alloc: Global, form: ReplyForm) -> Result<Reply, Unbuilt> {
+pub fn reply(alloc: Global, form: ReplyForm) -> Result<Reply, Unbuilt> {
     match form {
         ReplyForm::Began(n) => Ok(Reply::Began { n }),
         ReplyForm::Granted => Ok(Reply::Granted),

@@ -95,8 +95,8 @@ fn progress_of(point: &Point, session: u8) -> Progress {
     }
 }
 
-// The statement of a session behind those that are finished.
-fn statement_behind(lines: &[Line], session: u8, finished: u64) -> Option<&Statement> {
+/// The statement of a session behind those that are finished.
+pub fn statement_behind(lines: &[Line], session: u8, finished: u64) -> Option<&Statement> {
     let mut left = finished;
     for line in lines {
         if line.session == session {

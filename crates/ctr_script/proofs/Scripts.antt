@@ -3,10 +3,11 @@ use Rattle.std.proofs.Common.{◌≡◌, ◌≢◌, ◌⊎◌, ℕ, ◌+◌, Lis
 use Rattle.std.specs.Prelude.{◌==◌}
 use Rattle.std.specs.List.{AllByRecursion}
 use Rattle.std.proofs.lemmas.Bool.Decides.{nat_tests}
+use Rattle.std.proofs.lemmas.List.{append_cancel_right}
 use Rattle.ctr_types.specs.declared.statement.Line.{Line}
 use Rattle.ctr_types.specs.declared.statement.Statement.{Statement}
 use Rattle.ctr_types.specs.declared.statement.Statement.TheVariants as st
-use Rattle.ctr_model.specs.Grammar.{first, Lexes, AllMatch, line_parts, Takes, HasNoEnd, EndsLine, IsSkipped, IsLine, IsScript, ends, skips, goes_on, NoLine, IsRefusedAt, line_ends}
+use Rattle.ctr_model.specs.Grammar.{first, Lexes, AllMatch, line_parts, Takes, HasNoEnd, EndsLine, IsSkipped, IsLine, AreLines, IsScript, ends, skips, goes_on, NoLine, IsRefusedAt, line_ends}
 use Rattle.ctr_parse.specs.Lines.{IsLineOf}
 use Rattle.ctr_script.specs.Added.{IsAdded, Adds, IsNone}
 
@@ -24,15 +25,15 @@ split_once (x ∷ a) (y ∷ b) r s na nb e =
     (ap (λ z. z ∷ a) h ∙ ap (λ l. y ∷ l) i.0, i.1)
 
 -- with the end as the definition writes it
-parted : (bytes line end rest : List ℕ) → bytes ≡ line ++ end ++ rest → EndsLine first end → bytes ≡ line ++ 10 ∷ rest
+parted : (bytes line end rest : List ℕ) → bytes ≡ line ++ end ++ rest → EndsLine first end rest → bytes ≡ line ++ 10 ∷ rest
 parted bytes line end rest e h = e ∙ append_assoc line end rest ∙ ap (λ x. line ++ (x ++ rest)) h
 
-pub first_line : (bytes line end rest other end' rest' : List ℕ) → bytes ≡ line ++ end ++ rest → HasNoEnd line → EndsLine first end → bytes ≡ other ++ end' ++ rest' → HasNoEnd other → EndsLine first end'
+pub first_line : (bytes line end rest other end' rest' : List ℕ) → bytes ≡ line ++ end ++ rest → HasNoEnd line → EndsLine first end rest → bytes ≡ other ++ end' ++ rest' → HasNoEnd other → EndsLine first end' rest'
     → (line ≡ other) × (rest ≡ rest')
 first_line bytes line end rest other end' rest' e n h e' n' h' = split_once line other rest rest' n n' (sym (parted bytes line end rest e h) ∙ parted bytes other end' rest' e' h')
 
 -- bytes with a line in front are some
-not_empty : (line end rest : List ℕ) → EndsLine first end → [] ≡ line ++ end ++ rest → ⊥
+not_empty : (line end rest : List ℕ) → EndsLine first end rest → [] ≡ line ++ end ++ rest → ⊥
 not_empty line end rest h e = absurd (omega (arith, ap length (parted [] line end rest e h), length-append line (10 ∷ rest)))
 
 no_end_append : (a b : List ℕ) → HasNoEnd (a ++ 10 ∷ b) → ⊥
@@ -41,29 +42,21 @@ no_end_append (x ∷ a) b h = no_end_append a b h.1
 
 -- ---- a line more
 
--- bytes with rest behind them
-behind : (bytes line end rest more : List ℕ) → bytes ≡ line ++ end ++ rest → bytes ++ more ≡ line ++ end ++ (rest ++ more)
-behind bytes line end rest more e = ap (λ l. l ++ more) e ∙ append_assoc (line ++ end) rest more
+one_more : (bytes line after : List ℕ) (added : List Line) → bytes ≡ line ++ 10 ∷ after → HasNoEnd line → IsAdded line added → AreLines first after bytes added
+one_more bytes line after [] e n h = skips line (10 ∷ []) after (e ∙ sym (append_assoc line (10 ∷ []) after)) n refl h ends
+one_more bytes line after (l ∷ []) e n h = goes_on line (10 ∷ []) after l (e ∙ sym (append_assoc line (10 ∷ []) after)) n refl h ends
+one_more bytes line after (l ∷ m ∷ ls) e n h = absurd h
 
--- a line at the front of nothing else
-alone : (line : List ℕ) → line ++ 10 ∷ [] ≡ line ++ (10 ∷ []) ++ []
-alone line = ap (λ l. line ++ l) refl ∙ sym (append_assoc line (10 ∷ []) [])
-
-one_more : (line : List ℕ) (added : List Line) → HasNoEnd line → IsAdded line added → IsScript first (line ++ 10 ∷ []) added
-one_more line [] n h = skips line (10 ∷ []) [] (alone line) n refl h ends
-one_more line (l ∷ []) n h = goes_on line (10 ∷ []) [] l (alone line) n refl h ends
-one_more line (l ∷ m ∷ ls) n h = absurd h
-
-script_push : {front : List ℕ} {ls : List Line} → IsScript first front ls → (line : List ℕ) (added : List Line) → HasNoEnd line → IsAdded line added → IsScript first (front ++ (line ++ 10 ∷ [])) (ls ++ added)
-script_push ends line added n h = one_more line added n h
-script_push {front} {ls} (skips l e r p ne he s sub) line added n h = skips l e (r ++ (line ++ 10 ∷ [])) (behind front l e r (line ++ 10 ∷ []) p) ne he s (script_push sub line added n h)
-script_push {front} {ls} (goes_on l e r o p ne he s sub) line added n h = goes_on l e (r ++ (line ++ 10 ∷ [])) o (behind front l e r (line ++ 10 ∷ []) p) ne he s (script_push sub line added n h)
+lines_push : {rest bytes : List ℕ} {ls : List Line} → AreLines first rest bytes ls → (line after : List ℕ) (added : List Line) → rest ≡ line ++ 10 ∷ after → HasNoEnd line → IsAdded line added → AreLines first after bytes (ls ++ added)
+lines_push {rest} ends line after added e n h = one_more rest line after added e n h
+lines_push (skips l x r p ne he s sub) line after added e n h = skips l x r p ne he s (lines_push sub line after added e n h)
+lines_push (goes_on l x r o p ne he s sub) line after added e n h = goes_on l x r o p ne he s (lines_push sub line after added e n h)
 
 -- the lines in front of the rest are read, and the next has this number
 pub record StandsAt (bytes rest : List ℕ) (lines : List Line) (number : ℕ) : Type 0 where
   pub front : List ℕ
   pub split : bytes ≡ front ++ rest
-  pub script : IsScript first front lines
+  pub read : AreLines first rest bytes lines
   pub counted : number ≡ line_ends front + 1
 
 -- ---- what a line is
@@ -96,33 +89,27 @@ Behind rest ls ms = (ns : List Line) × IsScript first rest ns × (ms ≡ ls ++ 
 both_go_on : (o o' : Line) (ls ns ms : List Line) → o ≡ o' → ms ≡ ls ++ ns → o' ∷ ms ≡ (o ∷ ls) ++ ns
 both_go_on o o' ls ns ms e h = cc
 
--- behind a script in front of a script stands a script
-front_of : OneLexing → OneLine → {front : List ℕ} {ls : List Line} → IsScript first front ls → (rest bytes : List ℕ) → bytes ≡ front ++ rest → {ms : List Line} → IsScript first bytes ms → Behind rest ls ms
-front_of lex one ends rest bytes e {ms} h = (ms, subst (λ b. IsScript first b ms) e h, refl)
-front_of lex one {front} {ls} (skips l x r p n he s sub) rest bytes e ends = absurd (not_empty l x (r ++ rest) he (e ∙ behind front l x r rest p))
-front_of lex one {front} {ls} (skips l x r p n he s sub) rest bytes e (skips l' x' r' p' n' he' s' sub') =
-    let f = first_line bytes l x (r ++ rest) l' x' r' (e ∙ behind front l x r rest p) n he p' n' he' in
-    front_of lex one sub rest r' (sym f.1) sub'
-front_of lex one {front} {ls} (skips l x r p n he s sub) rest bytes e (goes_on l' x' r' o' p' n' he' s' sub') =
-    let f = first_line bytes l x (r ++ rest) l' x' r' (e ∙ behind front l x r rest p) n he p' n' he' in
-    absurd (no_skip lex l l' o' f.0 s s')
-front_of lex one {front} {ls} (goes_on l x r o p n he s sub) rest bytes e ends = absurd (not_empty l x (r ++ rest) he (e ∙ behind front l x r rest p))
-front_of lex one {front} {ls} (goes_on l x r o p n he s sub) rest bytes e (skips l' x' r' p' n' he' s' sub') =
-    let f = first_line bytes l x (r ++ rest) l' x' r' (e ∙ behind front l x r rest p) n he p' n' he' in
-    absurd (no_skip lex l' l o (sym f.0) s' s)
-front_of lex one {front} {ls} (goes_on {ls = ks} l x r o p n he s sub) rest bytes e (goes_on {ls = js} l' x' r' o' p' n' he' s' sub') =
-    let f = first_line bytes l x (r ++ rest) l' x' r' (e ∙ behind front l x r rest p) n he p' n' he' in
-    let b = front_of lex one sub rest r' (sym f.1) sub' in
+-- behind the first lines of a script stands a script
+front_of : OneLexing → OneLine → {rest bytes other : List ℕ} {ls ms : List Line} → AreLines first rest bytes ls → bytes ≡ other → IsScript first other ms → Behind rest ls ms
+front_of lex one {rest} {bytes} {other} {ls} {ms} ends e h = (ms, subst (λ b. IsScript first b ms) (sym e) h, refl)
+front_of lex one (skips l x r p n he s sub) e ends = absurd (not_empty l x r he (sym e ∙ p))
+front_of lex one {rest} {bytes} (skips l x r p n he s sub) e (skips l' x' r' p' n' he' s' sub') = front_of lex one sub (first_line bytes l x r l' x' r' p n he (e ∙ p') n' he').1 sub'
+front_of lex one {rest} {bytes} (skips l x r p n he s sub) e (goes_on l' x' r' o' p' n' he' s' sub') = absurd (no_skip lex l l' o' (first_line bytes l x r l' x' r' p n he (e ∙ p') n' he').0 s s')
+front_of lex one (goes_on l x r o p n he s sub) e ends = absurd (not_empty l x r he (sym e ∙ p))
+front_of lex one {rest} {bytes} (goes_on l x r o p n he s sub) e (skips l' x' r' p' n' he' s' sub') = absurd (no_skip lex l' l o (sym (first_line bytes l x r l' x' r' p n he (e ∙ p') n' he').0) s' s)
+front_of lex one {rest} {bytes} (goes_on {ls = ks} l x r o p n he s sub) e (goes_on {ls = js} l' x' r' o' p' n' he' s' sub') =
+    let f = first_line bytes l x r l' x' r' p n he (e ∙ p') n' he' in
+    let b = front_of lex one sub f.1 sub' in
     (b.0, b.1, both_go_on o o' ks b.0 js (same_line lex one l l' o o' f.0 s s') b.2)
 
 nothing : {bytes : List ℕ} {ls : List Line} → IsScript first bytes ls → [] ≡ bytes → ls ≡ []
 nothing ends e = refl
-nothing {bytes} (skips l x r p n he s sub) e = absurd (not_empty l x r he (e ∙ p))
-nothing {bytes} (goes_on l x r o p n he s sub) e = absurd (not_empty l x r he (e ∙ p))
+nothing (skips l x r p n he s sub) e = absurd (not_empty l x r he (e ∙ p))
+nothing (goes_on l x r o p n he s sub) e = absurd (not_empty l x r he (e ∙ p))
 
 pub scripts_are_one : OneLexing → OneLine → (bytes : List ℕ) (ls ms : List Line) → IsScript first bytes ls → IsScript first bytes ms → ls ≡ ms
 scripts_are_one lex one bytes ls ms a b =
-    let f = front_of lex one a [] bytes (sym (append-nil bytes)) b in
+    let f = front_of lex one a refl b in
     sym (f.2 ∙ ap (λ ns. ls ++ ns) (nothing f.1 refl) ∙ append-nil ls)
 
 -- ---- refusals
@@ -134,34 +121,26 @@ begins (goes_on l x r o p n he s sub) more none = none l x r p n he (inr (o, s))
 
 pub scripts_are_not_refused : OneLexing → OneLine → (bytes : List ℕ) (ls : List Line) (line at : ℕ) → IsScript first bytes ls → IsRefusedAt first bytes line at → ⊥
 scripts_are_not_refused lex one bytes ls line at h is =
-    let f = front_of lex one is.script is.rest bytes is.split h in
+    let f = front_of lex one is.read refl h in
     begins f.1 is.more is.refused
 
-with_line : (front other l x r l' x' r' rest rest' : List ℕ) → front ≡ l ++ x ++ r → HasNoEnd l → EndsLine first x → other ≡ l' ++ x' ++ r' → HasNoEnd l' → EndsLine first x' → front ++ rest ≡ other ++ rest'
-    → (r ++ rest ≡ r' ++ rest' → r ≡ r') → front ≡ other
-with_line front other l x r l' x' r' rest rest' p n he p' n' he' e again =
-    let f = first_line (front ++ rest) l x (r ++ rest) l' x' (r' ++ rest') (behind front l x r rest p) n he (e ∙ behind other l' x' r' rest' p') n' he' in
-    p ∙ ap (λ y. y ++ x ++ r) f.0 ∙ ap (λ y. l' ++ y ++ r) (he ∙ sym he') ∙ ap (λ y. l' ++ x' ++ y) (again f.1) ∙ sym p'
-
-same_front : {front other : List ℕ} {ls ms : List Line} → IsScript first front ls → IsScript first other ms → (rest rest' : List ℕ) → front ++ rest ≡ other ++ rest' → NoLine first rest → NoLine first rest' → front ≡ other
-same_front ends ends rest rest' e none none' = refl
-same_front {front} {other} ends (skips l x r p n he s sub) rest rest' e none none' = absurd (none l x (r ++ rest') (e ∙ behind other l x r rest' p) n he (inl s))
-same_front {front} {other} ends (goes_on l x r o p n he s sub) rest rest' e none none' = absurd (none l x (r ++ rest') (e ∙ behind other l x r rest' p) n he (inr (o, s)))
-same_front {front} {other} (skips l x r p n he s sub) ends rest rest' e none none' = absurd (none' l x (r ++ rest) (sym e ∙ behind front l x r rest p) n he (inl s))
-same_front {front} {other} (goes_on l x r o p n he s sub) ends rest rest' e none none' = absurd (none' l x (r ++ rest) (sym e ∙ behind front l x r rest p) n he (inr (o, s)))
-same_front {front} {other} (skips l x r p n he s sub) (skips l' x' r' p' n' he' s' sub') rest rest' e none none' =
-    with_line front other l x r l' x' r' rest rest' p n he p' n' he' e (λ q. same_front sub sub' rest rest' q none none')
-same_front {front} {other} (skips l x r p n he s sub) (goes_on l' x' r' o' p' n' he' s' sub') rest rest' e none none' =
-    with_line front other l x r l' x' r' rest rest' p n he p' n' he' e (λ q. same_front sub sub' rest rest' q none none')
-same_front {front} {other} (goes_on l x r o p n he s sub) (skips l' x' r' p' n' he' s' sub') rest rest' e none none' =
-    with_line front other l x r l' x' r' rest rest' p n he p' n' he' e (λ q. same_front sub sub' rest rest' q none none')
-same_front {front} {other} (goes_on l x r o p n he s sub) (goes_on l' x' r' o' p' n' he' s' sub') rest rest' e none none' =
-    with_line front other l x r l' x' r' rest rest' p n he p' n' he' e (λ q. same_front sub sub' rest rest' q none none')
+-- the lines in front of two refusals end at one place
+same_rest : {rest rest' bytes other : List ℕ} {ls ms : List Line} → AreLines first rest bytes ls → AreLines first rest' other ms → bytes ≡ other → NoLine first rest → NoLine first rest' → rest ≡ rest'
+same_rest ends ends e none none' = e
+same_rest ends (skips l x r p n he s sub) e none none' = absurd (none l x r (e ∙ p) n he (inl s))
+same_rest ends (goes_on l x r o p n he s sub) e none none' = absurd (none l x r (e ∙ p) n he (inr (o, s)))
+same_rest (skips l x r p n he s sub) ends e none none' = absurd (none' l x r (sym e ∙ p) n he (inl s))
+same_rest (goes_on l x r o p n he s sub) ends e none none' = absurd (none' l x r (sym e ∙ p) n he (inr (o, s)))
+same_rest {rest} {rest'} {bytes} (skips l x r p n he s sub) (skips l' x' r' p' n' he' s' sub') e none none' = same_rest sub sub' (first_line bytes l x r l' x' r' p n he (e ∙ p') n' he').1 none none'
+same_rest {rest} {rest'} {bytes} (skips l x r p n he s sub) (goes_on l' x' r' o' p' n' he' s' sub') e none none' = same_rest sub sub' (first_line bytes l x r l' x' r' p n he (e ∙ p') n' he').1 none none'
+same_rest {rest} {rest'} {bytes} (goes_on l x r o p n he s sub) (skips l' x' r' p' n' he' s' sub') e none none' = same_rest sub sub' (first_line bytes l x r l' x' r' p n he (e ∙ p') n' he').1 none none'
+same_rest {rest} {rest'} {bytes} (goes_on l x r o p n he s sub) (goes_on l' x' r' o' p' n' he' s' sub') e none none' = same_rest sub sub' (first_line bytes l x r l' x' r' p n he (e ∙ p') n' he').1 none none'
 
 pub refusals_are_one : (bytes : List ℕ) (line at other place : ℕ) → IsRefusedAt first bytes line at → IsRefusedAt first bytes other place → (line ≡ other) × (at ≡ place)
 refusals_are_one bytes line at other place a b =
-    let e = same_front a.script b.script a.rest b.rest (sym a.split ∙ b.split) a.refused b.refused in
-    (a.number ∙ ap (λ f. line_ends f + 1) e ∙ sym b.number, a.place ∙ sym b.place)
+    let rest : a.rest ≡ b.rest = same_rest a.read b.read refl a.refused b.refused in
+    let front : a.front ≡ b.front = append_cancel_right a.front b.front a.rest (sym a.split ∙ b.split ∙ ap (λ r. b.front ++ r) (sym rest)) in
+    (a.number ∙ ap (λ f. line_ends f + 1) front ∙ sym b.number, a.place ∙ sym b.place)
 
 -- ---- sessions
 
@@ -177,7 +156,7 @@ one_session n (st.Select table (Some at)) h = absurd h
 one_session n (st.Update table sets at) h = absurd h
 one_session n (st.Delete table at) h = absurd h
 
-pub sessions_are_one : {bytes : List ℕ} {ls : List Line} → IsScript first bytes ls → AllByRecursion (λ l. l.session ≡ 1) ls
+pub sessions_are_one : {rest bytes : List ℕ} {ls : List Line} → AreLines first rest bytes ls → AllByRecursion (λ l. l.session ≡ 1) ls
 sessions_are_one ends = tt
 sessions_are_one (skips l x r p n he s sub) = sessions_are_one sub
 sessions_are_one (goes_on l x r o p n he s sub) = (one_session o.session o.statement s.takes, sessions_are_one sub)
@@ -185,7 +164,7 @@ sessions_are_one (goes_on l x r o p n he s sub) = (one_session o.session o.state
 -- ---- the loop over the lines
 
 pub at_start : (bytes : List ℕ) (lines : List Line) → lines ≡ [] → StandsAt bytes bytes lines 1
-at_start bytes lines e = record { front = []; split = refl; script = subst (λ ls. IsScript first [] ls) (sym e) ends; counted = refl }
+at_start bytes lines e = record { front = []; split = refl; read = subst (λ ls. AreLines first bytes bytes ls) (sym e) ends; counted = refl }
 
 line_ends-append : (a b : List ℕ) → line_ends (a ++ b) ≡ line_ends a + line_ends b
 line_ends-append [] b = sym (zero-add (line_ends b))
@@ -204,13 +183,13 @@ pub one_further : (bytes rest : List ℕ) (lines new : List Line) (number n : �
 one_further bytes rest lines new number n at none e adds = record {
   front = at.front ++ (take n rest ++ 10 ∷ []);
   split = at.split ∙ ap (λ r. at.front ++ r) (e ∙ sym (append_assoc (take n rest) (10 ∷ []) (drop (n + 1) rest))) ∙ sym (append_assoc at.front (take n rest ++ 10 ∷ []) (drop (n + 1) rest));
-  script = subst (λ ls. IsScript first (at.front ++ (take n rest ++ 10 ∷ [])) ls) (sym adds.2) (script_push at.script (take n rest) adds.0 none adds.1);
+  read = subst (λ ls. AreLines first (drop (n + 1) rest) bytes ls) (sym adds.2) (lines_push at.read (take n rest) (drop (n + 1) rest) adds.0 e none adds.1);
   counted = omega (arith, at.counted, line_ends-append at.front (take n rest ++ 10 ∷ []), line_ends-append (take n rest) (10 ∷ []), no_ends (take n rest) none, one_end);
 }
 
 -- nothing is left
 pub at_end : (bytes rest : List ℕ) (lines : List Line) (number : ℕ) → StandsAt bytes rest lines number → rest ≡ [] → IsScript first bytes lines
-at_end bytes rest lines number at e = subst (λ b. IsScript first b lines) (sym (at.split ∙ ap (λ r. at.front ++ r) e ∙ append-nil at.front)) at.script
+at_end bytes rest lines number at e = subst (λ r. AreLines first r bytes lines) e at.read
 
 pub refused_at : (bytes rest : List ℕ) (lines : List Line) (number line at : ℕ) → StandsAt bytes rest lines number → rest ≢ [] → line ≡ number → at ≡ 1 → NoLine first rest → IsRefusedAt first bytes line at
 refused_at bytes rest lines number line at here more l a none = record {
@@ -218,7 +197,7 @@ refused_at bytes rest lines number line at here more l a none = record {
   lines = lines;
   rest = rest;
   split = here.split;
-  script = here.script;
+  read = here.read;
   more = more;
   refused = none;
   number = l ∙ here.counted;

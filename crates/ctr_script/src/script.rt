@@ -79,6 +79,8 @@ fn script_of(alloc: Global, bytes: &[u8]) -> Result<Script, ScriptError>
 pub fn read_script<S: Source>(alloc: Global, source: &mut S) -> Result<Script, ScriptError>
     ensures read { IsTrue S.tells → IfOk result (λ s. IsScript first (S.left source.old) s.lines) }
     ensures short { IsTrue S.tells → IfOk result (λ _. length (S.left source.old) ≤ most_bytes) }
+    // What was taken is a script, also where the source doesn't tell.
+    ensures is_script { IfOk result (λ s. (bytes : List ℕ) × IsScript first bytes s.lines × (length bytes ≤ most_bytes)) }
     // Each refusal has its cause.
     ensures reason { IfErr result (HasReason S.tells (S.left source.old) (S.faults_of source.old) (S.faults_of source.new)) }
     // What is a script is read, unless the source fails or memory runs out.

@@ -2,8 +2,8 @@
 use super::check::{KEY_ALONE, TEN};
 use crate::ActForm::{Answers, Asks, Begins, Locks, Reads, Releases, Writes};
 use crate::ReplyForm::{Answered, Asked, Began, Done, Granted, ReadOnly, Refused, Released, Rows};
-use crate::SetForm::Is;
-use crate::StatementForm::{Begin, Commit, Create, Insert, SelectAll, Update};
+use crate::SetForm::{Is, Sum};
+use crate::StatementForm::{Begin, Commit, Create, Delete, Insert, SelectAll, Update};
 use crate::ValueForm::Int;
 use crate::{EntryForm, LineForm, Unplayed, database, follow, names, script, tape};
 use ctr_types::Refusal;
@@ -24,6 +24,13 @@ const SCRIPT: &[LineForm] = &[
     (3, Create("w", KEY_ALONE)),
     (3, SelectAll("x")),
     (3, Commit),
+    (5, Begin),
+    (5, Insert("t", &[Int(1), Int(5)])),
+    (5, Delete("t", "k", 9)),
+    (
+        5,
+        Update("t", &[Sum("v", "v", 9223372036854775807)], "k", 1),
+    ),
 ];
 
 const BEGIN_1: EntryForm = (1, 1, Begins, Began(0), 1);
@@ -51,6 +58,18 @@ const BEGIN_3: EntryForm = (3, 1, Begins, Began(0), 1);
 const LOCK_3: EntryForm = (3, 2, Locks, Granted, 2);
 
 const WRITE_3: EntryForm = (3, 2, Writes, Done, 2);
+
+const BEGIN_5: EntryForm = (5, 1, Begins, Began(0), 1);
+
+const LOCK_5: EntryForm = (5, 2, Locks, Granted, 2);
+
+const DUPLICATE: EntryForm = (5, 2, Writes, Refused(Refusal::Duplicate), 2);
+
+const LOCK_MISSING: EntryForm = (5, 3, Locks, Granted, 2);
+
+const MISSING: EntryForm = (5, 3, Writes, Refused(Refusal::NotFound), 2);
+
+const LOCK_SUM: EntryForm = (5, 4, Locks, Granted, 2);
 
 const RELEASE: EntryForm = (0, 0, Releases("u"), Released, 2);
 
@@ -132,6 +151,18 @@ const LEGAL: &[Trial] = &[
     (
         "a full catalog at a create",
         &[BEGIN_3, LOCK_3, (3, 2, Writes, Refused(CATALOG_FULL), 2)],
+    ),
+    (
+        "a key that is there, one that isn't, and a sum out of range",
+        &[
+            BEGIN_5,
+            LOCK_5,
+            DUPLICATE,
+            LOCK_MISSING,
+            MISSING,
+            LOCK_SUM,
+            (5, 4, Writes, Refused(Refusal::OutOfRange), 2),
+        ],
     ),
 ];
 
@@ -265,6 +296,32 @@ const NOT_LEGAL: &[Trial] = &[
             LOCK_3,
             WRITE_3,
             (3, 3, Reads, Refused(NO_MEMORY), 2),
+        ],
+    ),
+    (
+        "full in the place of a duplicate",
+        &[BEGIN_5, LOCK_5, (5, 2, Writes, Refused(FULL), 2)],
+    ),
+    (
+        "full in the place of a key that isn't found",
+        &[
+            BEGIN_5,
+            LOCK_5,
+            DUPLICATE,
+            LOCK_MISSING,
+            (5, 3, Writes, Refused(FULL), 2),
+        ],
+    ),
+    (
+        "full in the place of a sum out of range",
+        &[
+            BEGIN_5,
+            LOCK_5,
+            DUPLICATE,
+            LOCK_MISSING,
+            MISSING,
+            LOCK_SUM,
+            (5, 4, Writes, Refused(FULL), 2),
         ],
     ),
     (

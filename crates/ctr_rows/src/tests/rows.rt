@@ -1,13 +1,18 @@
 // Whole runs: tables, updates, rollbacks, two sessions, and recovery that holds names.
 use super::check::{Case, KEY_ALONE, KEY_AND_NUMBER, KEY_AND_TEXT, TEN, check, check_all, makes};
+use super::ends::ChangeForm::{Drops, Makes, Puts};
+use super::ends::{AT_REST, BEGUN, EndForm, OpenForm};
 use crate::ActForm::{Answers, Asks, Begins, Locks, Writes};
-use crate::ReplyForm::{Answered, Asked, Began, Done, Granted};
+use crate::ReplyForm::{
+    Answered, Asked, Began, Done, Granted, ReadOnly, Refused, Released, RolledBack, Rows,
+};
 use crate::SetForm::{Is, Sum};
 use crate::StatementForm::{
     Begin, Commit, Create, Delete, DropTable, Insert, Rollback, SelectAll, SelectAt, Update,
 };
 use crate::ValueForm::{Chars, Int};
 use crate::{EntryForm, TableForm, Turn};
+use ctr_types::Refusal;
 
 const FIRST_TABLE: Case = Case {
     name: "a first table",
@@ -33,11 +38,31 @@ const FIRST_TABLE: Case = Case {
 1.7: commit none
 end: commits 1, refused 0, undo 0
 ",
+    replies: &[
+        Began(0),
+        Granted,
+        Done,
+        Granted,
+        Done,
+        Asked(1),
+        Answered(1),
+        Began(1),
+        Rows(&[&[Int(1), Chars("a")]]),
+        ReadOnly,
+    ],
     leaves: &[TableForm {
         name: "t",
         columns: KEY_AND_TEXT,
         rows: &[&[Int(1), Chars("a")]],
     }],
+    ends: EndForm {
+        asked: &[&[
+            Makes("t", KEY_AND_TEXT),
+            Puts("t", 1, &[Int(1), Chars("a")]),
+        ]],
+        answered: 1,
+        ..AT_REST
+    },
 };
 
 const EMPTY: Case = Case {
@@ -48,7 +73,9 @@ const EMPTY: Case = Case {
     turns: &[],
     shows: "end: commits 0, refused 0, undo 0
 ",
+    replies: &[],
     leaves: &[],
+    ends: AT_REST,
 };
 
 const OUTSIDE: Case = Case {
@@ -60,7 +87,9 @@ const OUTSIDE: Case = Case {
     shows: "1.1: refused NoTransaction
 end: commits 0, refused 1, undo 0
 ",
+    replies: &[Refused(Refusal::NoTransaction)],
     leaves: &[],
+    ends: AT_REST,
 };
 
 const SNAPSHOT: Case = Case {
@@ -85,11 +114,31 @@ const SNAPSHOT: Case = Case {
 2.3: refused RowChanged by commit 1
 end: commits 1, refused 1, undo 0
 ",
+    replies: &[
+        Began(0),
+        Began(0),
+        Granted,
+        Done,
+        Asked(1),
+        Answered(1),
+        Rows(&[&[Int(1), Int(10)]]),
+        Refused(Refusal::RowChanged { commit: 1 }),
+    ],
     leaves: &[TableForm {
         name: "t",
         columns: KEY_AND_NUMBER,
         rows: &[&[Int(1), Int(11)]],
     }],
+    ends: EndForm {
+        asked: &[&[Puts("t", 1, &[Int(1), Int(11)])]],
+        answered: 1,
+        open: &[OpenForm {
+            session: 2,
+            uses: &["t"],
+            ..BEGUN
+        }],
+        ..AT_REST
+    },
 };
 
 const LOCKED: Case = Case {
@@ -120,11 +169,35 @@ const LOCKED: Case = Case {
   (1, 12)
 end: commits 1, refused 1, undo 0
 ",
+    replies: &[
+        Began(0),
+        Began(0),
+        Granted,
+        Done,
+        Refused(Refusal::RowLocked { by: 1 }),
+        RolledBack,
+        Granted,
+        Done,
+        Asked(1),
+        Answered(1),
+        Began(1),
+        Rows(&[&[Int(1), Int(12)]]),
+    ],
     leaves: &[TableForm {
         name: "t",
         columns: KEY_AND_NUMBER,
         rows: &[&[Int(1), Int(12)]],
     }],
+    ends: EndForm {
+        asked: &[&[Puts("t", 1, &[Int(1), Int(12)])]],
+        answered: 1,
+        open: &[OpenForm {
+            snapshot: 1,
+            uses: &["t"],
+            ..BEGUN
+        }],
+        ..AT_REST
+    },
 };
 
 const INSERTED_AGAIN: Case = Case {
@@ -148,11 +221,27 @@ const INSERTED_AGAIN: Case = Case {
 1.6: commit 1
 end: commits 1, refused 0, undo 0
 ",
+    replies: &[
+        Began(0),
+        Granted,
+        Done,
+        RolledBack,
+        Began(0),
+        Granted,
+        Done,
+        Asked(1),
+        Answered(1),
+    ],
     leaves: &[TableForm {
         name: "t",
         columns: KEY_AND_NUMBER,
         rows: &[&[Int(1), Int(10)], &[Int(2), Int(21)]],
     }],
+    ends: EndForm {
+        asked: &[&[Puts("t", 2, &[Int(2), Int(21)])]],
+        answered: 1,
+        ..AT_REST
+    },
 };
 
 const ROLLED_BACK: Case = Case {
@@ -177,7 +266,24 @@ const ROLLED_BACK: Case = Case {
   (1, 10)
 end: commits 0, refused 0, undo 0
 ",
+    replies: &[
+        Began(0),
+        Granted,
+        Done,
+        Granted,
+        Done,
+        RolledBack,
+        Began(0),
+        Rows(&[&[Int(1), Int(10)]]),
+    ],
     leaves: TEN,
+    ends: EndForm {
+        open: &[OpenForm {
+            uses: &["t"],
+            ..BEGUN
+        }],
+        ..AT_REST
+    },
 };
 
 const DROP_WAITS: Case = Case {
@@ -204,7 +310,23 @@ const DROP_WAITS: Case = Case {
 1.4: commit 1
 end: commits 1, refused 1, undo 0
 ",
+    replies: &[
+        Began(0),
+        Rows(&[&[Int(1), Int(10)]]),
+        Began(0),
+        Refused(Refusal::TableBusy { by: 2 }),
+        ReadOnly,
+        Granted,
+        Done,
+        Asked(1),
+        Answered(1),
+    ],
     leaves: &[],
+    ends: EndForm {
+        asked: &[&[Drops("t")]],
+        answered: 1,
+        ..AT_REST
+    },
 };
 
 const DROPPED_BEFORE: Case = Case {
@@ -226,7 +348,25 @@ const DROPPED_BEFORE: Case = Case {
 2.2: refused SchemaChanged by commit 1
 end: commits 1, refused 1, undo 0
 ",
+    replies: &[
+        Began(0),
+        Began(0),
+        Granted,
+        Done,
+        Asked(1),
+        Answered(1),
+        Refused(Refusal::SchemaChanged { commit: 1 }),
+    ],
     leaves: &[],
+    ends: EndForm {
+        asked: &[&[Drops("t")]],
+        answered: 1,
+        open: &[OpenForm {
+            session: 2,
+            ..BEGUN
+        }],
+        ..AT_REST
+    },
 };
 
 const GREATEST: &[TableForm] = &[TableForm {
@@ -245,7 +385,17 @@ const SUM_TOO_GREAT: Case = Case {
 1.2: refused OutOfRange
 end: commits 0, refused 1, undo 0
 ",
+    replies: &[Began(0), Granted, Refused(Refusal::OutOfRange)],
     leaves: GREATEST,
+    ends: EndForm {
+        open: &[OpenForm {
+            writer: true,
+            locks: &[("t", 1)],
+            uses: &["t"],
+            ..BEGUN
+        }],
+        ..AT_REST
+    },
 };
 
 const BAD_VALUES: Case = Case {
@@ -269,7 +419,26 @@ const BAD_VALUES: Case = Case {
 1.6: refused NotFound
 end: commits 0, refused 5, undo 0
 ",
+    replies: &[
+        Began(0),
+        Refused(Refusal::BadValue { at: 2 }),
+        Refused(Refusal::BadValue { at: 1 }),
+        Refused(Refusal::BadValue { at: 0 }),
+        Granted,
+        Refused(Refusal::Duplicate),
+        Granted,
+        Refused(Refusal::NotFound),
+    ],
     leaves: TEN,
+    ends: EndForm {
+        open: &[OpenForm {
+            writer: true,
+            locks: &[("t", 1), ("t", 7)],
+            uses: &["t", "t"],
+            ..BEGUN
+        }],
+        ..AT_REST
+    },
 };
 
 #[test]
@@ -318,11 +487,26 @@ recovery: released a
 1.4: commit 1
 end: commits 1, refused 1, undo 3
 ",
+    replies: &[
+        Began(0),
+        Released,
+        Refused(Refusal::TableBusy { by: 0 }),
+        Released,
+        Granted,
+        Done,
+        Asked(1),
+        Answered(1),
+    ],
     leaves: &[TableForm {
         name: "a",
         columns: KEY_ALONE,
         rows: &[],
     }],
+    ends: EndForm {
+        asked: &[&[Makes("a", KEY_ALONE)]],
+        answered: 1,
+        ..AT_REST
+    },
 };
 
 #[test]
@@ -362,11 +546,31 @@ const ASKED_TOGETHER: Case = Case {
 2.3: commit 2
 end: commits 2, refused 0, undo 0
 ",
+    replies: &[
+        Began(0),
+        Began(0),
+        Granted,
+        Done,
+        Granted,
+        Done,
+        Asked(1),
+        Asked(2),
+        Answered(1),
+        Answered(2),
+    ],
     leaves: &[TableForm {
         name: "t",
         columns: KEY_AND_NUMBER,
         rows: &[&[Int(1), Int(10)], &[Int(2), Int(20)], &[Int(3), Int(30)]],
     }],
+    ends: EndForm {
+        asked: &[
+            &[Puts("t", 2, &[Int(2), Int(20)])],
+            &[Puts("t", 3, &[Int(3), Int(30)])],
+        ],
+        answered: 2,
+        ..AT_REST
+    },
 };
 
 const TWO_ANSWERS: &[EntryForm] = &[

@@ -1,11 +1,12 @@
-// The states that replies leave, built by hand.
+// The states that replies leave, at moments of a run.
 use super::check::{KEY_ALONE, TEN};
+use super::ends::ChangeForm::{Makes, Puts};
+use super::ends::{AT_REST, BEGUN, EndForm, OpenForm, state};
 use crate::SetForm::Is;
 use crate::StatementForm::{Begin, Commit, Create, Rollback, SelectAll, Update};
 use crate::ValueForm::Int;
-use crate::{LineForm, Run, Turn, Unplayed, database, name, names, replay, schema, script};
-use ctr_model::{Change, KeyLock, Map, State, Transaction};
-use ctr_types::{List, Plain, Row, Value};
+use crate::{LineForm, Turn, Unplayed, database, replay, script};
+use ctr_types::{List, Plain};
 use std::alloc::Global;
 
 // Session 1 updates a row and commits, session 2 reads, session 3 makes a table and takes it back.
@@ -20,118 +21,109 @@ const SCRIPT: &[LineForm] = &[
     (3, Rollback),
 ];
 
-const TO_THE_ASK: &[Turn] = &[
-    Turn::Whole(1),
-    Turn::Whole(1),
-    Turn::One(1),
-    Turn::Whole(2),
-    Turn::Whole(2),
+// What was done, the turns that do it, and the state behind them.
+type Trial<'a> = (&'a str, &'a [Turn<'a>], EndForm<'a>);
+
+const READING: OpenForm = OpenForm {
+    session: 2,
+    uses: &["t"],
+    ..BEGUN
+};
+
+const UPDATING: OpenForm = OpenForm {
+    own: &[Puts("t", 1, &[Int(1), Int(11)])],
+    writer: true,
+    locks: &[("t", 1)],
+    uses: &["t"],
+    asked: Some(1),
+    ..BEGUN
+};
+
+const MAKING: OpenForm = OpenForm {
+    session: 3,
+    own: &[Makes("u", KEY_ALONE)],
+    writer: true,
+    holds: &["u"],
+    ..BEGUN
+};
+
+const TRIALS: &[Trial] = &[
+    (
+        "a commit is asked",
+        &[
+            Turn::Whole(1),
+            Turn::Whole(1),
+            Turn::One(1),
+            Turn::Whole(2),
+            Turn::Whole(2),
+        ],
+        EndForm {
+            asked: &[&[Puts("t", 1, &[Int(1), Int(11)])]],
+            open: &[UPDATING, READING],
+            ..AT_REST
+        },
+    ),
+    (
+        "a commit is answered",
+        &[
+            Turn::Whole(1),
+            Turn::Whole(1),
+            Turn::One(1),
+            Turn::Whole(2),
+            Turn::Whole(2),
+            Turn::One(1),
+        ],
+        EndForm {
+            asked: &[&[Puts("t", 1, &[Int(1), Int(11)])]],
+            answered: 1,
+            open: &[READING],
+            ..AT_REST
+        },
+    ),
+    (
+        "a table is made",
+        &[Turn::Whole(3), Turn::Whole(3)],
+        EndForm {
+            open: &[MAKING],
+            ..AT_REST
+        },
+    ),
+    (
+        "a table that was made is taken back",
+        &[Turn::Whole(3), Turn::Whole(3), Turn::Whole(3)],
+        AT_REST,
+    ),
+    (
+        "a rollback takes nothing of another's commit back",
+        &[
+            Turn::Whole(3),
+            Turn::Whole(1),
+            Turn::Whole(3),
+            Turn::Whole(1),
+            Turn::One(1),
+            Turn::Whole(3),
+            Turn::One(1),
+        ],
+        EndForm {
+            asked: &[&[Puts("t", 1, &[Int(1), Int(11)])]],
+            answered: 1,
+            ..AT_REST
+        },
+    ),
 ];
 
-const TO_THE_ANSWER: &[Turn] = &[
-    Turn::Whole(1),
-    Turn::Whole(1),
-    Turn::One(1),
-    Turn::Whole(2),
-    Turn::Whole(2),
-    Turn::One(1),
-];
-
-const TO_THE_TABLE: &[Turn] = &[Turn::Whole(3), Turn::Whole(3)];
-
-const TO_THE_ROLLBACK: &[Turn] = &[Turn::Whole(3), Turn::Whole(3), Turn::Whole(3)];
-
-fn run(alloc: Global, turns: &[Turn]) -> Result<Run, Unplayed> {
+// Whether the turns of a trial lead to its state.
+fn leads(alloc: Global, trial: &Trial) -> Result<bool, Unplayed> {
     let base = database(alloc, TEN)?;
     let script = script(alloc, SCRIPT)?;
-    replay(alloc, &base, &List::new(alloc), &script, turns)
-}
-
-fn at_rest(alloc: Global) -> Result<State, Unplayed> {
-    Ok(State::at_rest(alloc, database(alloc, TEN)?, List::new(alloc)))
-}
-
-fn update(alloc: Global) -> Result<List<Change>, Unplayed> {
-    let row = Row {
-        values: List::from_vec(vec![in alloc; Value::Int(1), Value::Int(11)]?),
-    };
-    let table = name(alloc, "t")?;
-    let changes = vec![in alloc; Change::Put { table, key: 1, row }]?;
-    Ok(List::from_vec(changes))
-}
-
-fn updating(alloc: Global) -> Result<Transaction, Unplayed> {
-    let mut me = Transaction::begun(alloc, 0);
-    me.own = update(alloc)?;
-    me.writer = true;
-    let table = name(alloc, "t")?;
-    me.locks.push(KeyLock { table, key: 1 })?;
-    me.uses = names(alloc, &["t"])?;
-    me.asked = Some(1);
-    Ok(me)
-}
-
-fn reading(alloc: Global) -> Result<Transaction, Unplayed> {
-    let mut me = Transaction::begun(alloc, 0);
-    me.uses = names(alloc, &["t"])?;
-    Ok(me)
-}
-
-fn making(alloc: Global) -> Result<Transaction, Unplayed> {
-    let mut me = Transaction::begun(alloc, 0);
-    let table = name(alloc, "u")?;
-    let schema = schema(alloc, KEY_ALONE)?;
-    me.own.push(Change::Create { table, schema })?;
-    me.writer = true;
-    me.holds = names(alloc, &["u"])?;
-    Ok(me)
-}
-
-fn asked(alloc: Global) -> Result<State, Unplayed> {
-    let mut state = at_rest(alloc)?;
-    state.asked.push(update(alloc)?)?;
-    state.sessions.put(1, updating(alloc)?)?;
-    state.sessions.put(2, reading(alloc)?)?;
-    Ok(state)
-}
-
-fn answered(alloc: Global) -> Result<State, Unplayed> {
-    let mut state = asked(alloc)?;
-    state.answered = 1;
-    state.sessions = Map::new(alloc);
-    state.sessions.put(2, reading(alloc)?)?;
-    Ok(state)
-}
-
-fn made(alloc: Global) -> Result<State, Unplayed> {
-    let mut state = at_rest(alloc)?;
-    state.sessions.put(3, making(alloc)?)?;
-    Ok(state)
-}
-
-fn leads_to(alloc: Global, turns: &[Turn], state: &State) -> Result<bool, Unplayed> {
-    let run = run(alloc, turns)?;
-    Ok(run.point.state.same(state))
+    let run = replay(alloc, &base, &List::new(alloc), &script, trial.1)?;
+    let wanted = state(alloc, base, &trial.2)?;
+    Ok(run.point.state.same(&wanted))
 }
 
 #[test]
-fn a_commit_is_asked_and_answered(rt: HostRuntime) -> Result<(), Unplayed> {
-    let alloc = rt.alloc();
-    assert!(rt; leads_to(alloc, TO_THE_ASK, &asked(alloc)?)?, "asked");
-    assert!(rt;
-        leads_to(alloc, TO_THE_ANSWER, &answered(alloc)?)?,
-        "answered"
-    );
-    Ok(())
-}
-
-#[test]
-fn a_rollback_leaves_nothing(rt: HostRuntime) -> Result<(), Unplayed> {
-    let alloc = rt.alloc();
-    assert!(rt; leads_to(alloc, TO_THE_TABLE, &made(alloc)?)?, "made");
-    assert!(rt;
-        leads_to(alloc, TO_THE_ROLLBACK, &at_rest(alloc)?)?,
-        "rolled back"
-    );
-    Ok(())
+fn turns_lead_to_states(rt: HostRuntime) {
+    for trial in TRIALS {
+        assert_eq!(rt; leads(rt.alloc(), trial), Ok(true), "{}", trial.0);
+    }
 }

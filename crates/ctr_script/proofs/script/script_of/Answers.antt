@@ -12,4 +12,4 @@ loop-rest-preserved c =
     (subst (λ r. StandsAt c.args.bytes.now r c.add_next.new.lines (c.loop-rest.number + 1)) (sym c.split_at.ensures.back) further, omega (arith, c.loop-rest.invariant.1, c.split_at.ensures.back_len, f.0.0))
 
 pub returns-clause-sessions : goal.returns-clause-sessions
-returns-clause-sessions c = sessions_are_one c.loop-rest.invariant.0.script
+returns-clause-sessions c = sessions_are_one c.loop-rest.invariant.0.read

@@ -1,4 +1,4 @@
-use Rattle.std.proofs.Common.{◌≡◌, ◌∷◌, ◌++◌, take, drop, slice_index_or, true, false, sym, ◌∙◌, ap}
+use Rattle.std.proofs.Common.{slice_index_or, sym, ◌∙◌, ap}
 use Rattle.std.proofs.Math.ListN.{set}
 use Rattle.std.specs.List.{insert}
 use Rattle.std.specs.FinMap.Entries.{put}
