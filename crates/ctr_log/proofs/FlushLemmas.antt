@@ -4,10 +4,12 @@ use Rattle.std.proofs.lemmas.List.{append-nil, take_at, drop_at, take_all}
 use Rattle.ctr_disk.specs.declared.disk.Image.{Image}
 use Rattle.ctr_disk.specs.declared.disk.File.{File}
 use Rattle.ctr_disk.specs.Image.{content}
+use Rattle.ctr_disk.specs.Crash.{LeavesOnly}
+use Rattle.ctr_disk.proofs.Moments.{weaker}
 use Rattle.ctr_log.specs.declared.log.LogFile.TheInside.{Inside}
 use Rattle.ctr_bytes.specs.Fields.{spelled}
 use Rattle.ctr_log.specs.Settled.{SameBut}
-use Rattle.ctr_log.specs.Logs.{Log, headed, sealed, frames, records, GoesOn, Extends, IsBeforeOrAfter, IsAfter, HasPrefix, with_batch, unframed, HasBatches}
+use Rattle.ctr_log.specs.Logs.{Log, headed, sealed, frames, batches, records, GoesOn, Extends, IsBeforeOrAfter, IsAfter, HasPrefix, with_batch, unframed, HasBatches}
 use Rattle.ctr_log.specs.LogFile.{log_of, Keeps}
 use Rattle.ctr_bytes.proofs.FieldLaws.{length-spelled}
 use Rattle.ctr_log.proofs.LogLemmas.{length-push, length-unframed, length-batches-push, records-push}
@@ -42,10 +44,16 @@ with_some bs [] some = absurd (omega arith)
 with_some bs (r ∷ rs) some = refl
 
 -- the log before the batch or with it has a front of the batch's records
-pub prefix : (file : File) (first : ℕ) (bs : List (List (List ℕ))) (rs : List (List ℕ)) (old c : Image) → 0 < length bs → IsBeforeOrAfter file first bs rs old c → HasPrefix file first (records bs) rs old c
+prefix : (file : File) (first : ℕ) (bs : List (List (List ℕ))) (rs : List (List ℕ)) (old c : Image) → 0 < length bs → IsBeforeOrAfter file first bs rs old c → HasPrefix file first (records bs) rs old c
 prefix file first bs rs old c some (same, inl log) = (same, (0, (bs, sym (append-nil (records bs)), record { some = some; batches_are = log })))
 prefix file first bs rs old c some (same, inr log) =
     (same, (length rs, (bs ++ rs ∷ [], records-push bs rs ∙ ap (λ (l : List (List ℕ)). records bs ++ l) (sym (take_all (length rs) rs (omega arith))), record { some = omega (arith, length-push bs rs); batches_are = log })))
+
+-- and its closed gate, or that of the old batches, lies in the file
+gate_within : (file : File) (first : ℕ) (bs : List (List (List ℕ))) (rs : List (List ℕ)) (place : ℕ) (old c : Image) → place ≡ length (batches first bs) → IsBeforeOrAfter file first bs rs old c → place < length (content file c)
+gate_within file first bs rs place old c at (same, inl log) = omega (arith, ap length log.bytes_are, length-append (batches first bs) (log.gate ∷ log.rest))
+gate_within file first bs rs place old c at (same, inr log) =
+    omega (arith, ap length log.bytes_are, length-append (batches first (bs ++ rs ∷ [])) (log.gate ∷ log.rest), length-batches-push first bs rs)
 
 module _ (a : Inside) (keeps : Keeps a) (some : 0 < a.count) (few : a.count < 2 ^ 32) (long : vec_len a.buffer ≡ length a.buffer.items) (first : ℕ) (bs : List (List (List ℕ))) where
   abbrev held : List ℕ
@@ -66,6 +74,23 @@ module _ (a : Inside) (keeps : Keeps a) (some : 0 < a.count) (few : a.count < 2 
         ∙ ap (λ (l : List ℕ). sealed (first + length (records bs)) (length rs) l) keeps.frames_are;
     is_batch = (omega (arith, count_is), omega (arith, count_is));
   }
+
+  -- what a crash leaves while it is written behind the log
+  module _ {D : Type 0} (moment : D → ℕ) (since : D → ℕ → Image → Type 0) (old new : D) (image : Image) (log : Log) (log_is : log_of a ≡ log) (goes : GoesOn first bs log image) (body : List ℕ) (body_is : body ≡ sealed a.first a.count held)
+      (wrote : Extends first bs rs a.place body (content a.file image) → LeavesOnly moment since old new (IsBeforeOrAfter a.file first bs rs image)) where
+    goes_a : GoesOn first bs (log_of a) image
+    goes_a = subst (λ (v : Log). GoesOn first bs v image) (sym log_is) goes
+
+    leaves : (P : Log → Image → Type 0) → ((c : Image) → IsBeforeOrAfter a.file first bs rs image c → P (log_of a) c) → LeavesOnly moment since old new (P log)
+    leaves P gives =
+        let crash = wrote (subst (λ (b : List ℕ). Extends first bs rs a.place b (content a.file image)) (sym body_is) (extends image goes_a)) in
+        subst (λ (v : Log). LeavesOnly moment since old new (P v)) log_is (weaker moment since old new (IsBeforeOrAfter a.file first bs rs image) (P (log_of a)) crash gives)
+
+    pub leaves_prefix : LeavesOnly moment since old new (HasPrefix log.file first (records bs) log.buffered image)
+    leaves_prefix = leaves (λ v. HasPrefix v.file first (records bs) v.buffered image) (λ c is. prefix a.file first bs rs image c goes_a.log_is.some is)
+
+    pub leaves_gate : LeavesOnly moment since old new (λ c. log.place < length (content log.file c))
+    leaves_gate = leaves (λ v c. v.place < length (content v.file c)) (λ c is. gate_within a.file first bs rs a.place image c goes_a.place is)
 
   -- and behind it the writer goes on
   pub goes_on : (image new : Image) (log : Log) → GoesOn first bs (log_of a) image → IsAfter a.file first bs rs image new → log.file ≡ a.file → log.place ≡ a.place + (1 + vec_len a.buffer) → log.first ≡ a.first + a.count

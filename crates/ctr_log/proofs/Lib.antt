@@ -5,4 +5,5 @@ pub mod RootLemmas
 pub mod LogLemmas
 pub mod FlushLemmas
 pub mod ReadLemmas
+pub mod NearLemmas
 pub mod InitLemmas

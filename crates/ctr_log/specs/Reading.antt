@@ -1,5 +1,5 @@
 -- What reading a file of the log finds.
-use Rattle.std.specs.Prelude.{◌≡◌, ℕ, zero, suc, ◌+◌, ◌<◌, List, [], ◌∷◌, ◌++◌, length}
+use Rattle.std.specs.Prelude.{◌≡◌, ℕ, zero, suc, ◌+◌, ◌^◌, ◌≤◌, ◌<◌, List, [], ◌∷◌, ◌++◌, length}
 use Rattle.ctr_disk.specs.declared.disk.File.{File}
 use Rattle.ctr_disk.specs.declared.disk.File.TheVariants.{LogA, LogB}
 use Rattle.ctr_disk.specs.declared.disk.Image.{Image}
@@ -63,6 +63,16 @@ pub record ReadsLog (first : ℕ) (bytes : List ℕ) (rs : List (List ℕ)) (pla
 -- some log stands in the bytes
 abbrev pub HasSome : ℕ → List ℕ → Type 0
 HasSome first bytes = (bs : Batches) × HasLog first bs bytes
+
+-- so many bytes stand in the file, whose length is a number of 64 bits
+abbrev pub IsFront : ℕ → List ℕ → Type 0
+IsFront n bytes = (n ≤ length bytes) × (length bytes < 2 ^ 64)
+
+-- the file's log, whose numbers and places are low ones
+pub record HasShortLog (first : ℕ) (bs : Batches) (bytes : List ℕ) : Type 0 where
+  pub log_is : HasLog first bs bytes
+  pub low : first ≤ 2 ^ 63
+  pub short : length (batches first bs) < 2 ^ 62
 
 -- the file that a root's byte names
 abbrev pub log_file : ℕ → File

@@ -230,22 +230,3 @@ fn spell(root: &Root) -> [u8; 63]
     put_u32(&mut bytes, 33, root.pages);
     bytes
 }
-
-// What the checks tell of a root in the second home, one byte behind the gate changed.
-#[cfg(test)]
-pub fn damage_of_root(at: usize, byte: u8) -> Option<(u64, u128, u128)> {
-    let mut bytes = spell(&Root {
-        stamp: 1,
-        format: 0,
-        file: 0,
-        first: 1,
-        pages: 0,
-    });
-    if at < 63 {
-        bytes[at] = byte;
-    }
-    match root_of(&bytes, Home::Second) {
-        Err(StoreFault::Damaged { at, want, got, .. }) => Some((at, want, got)),
-        _ => None,
-    }
-}

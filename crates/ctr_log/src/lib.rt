@@ -5,6 +5,7 @@ mod damage;
 mod home;
 mod log;
 mod making;
+mod near;
 mod reading;
 #[cfg(test)]
 mod tests;

@@ -10,7 +10,8 @@ ghost use Rattle.ctr_log.specs.declared.reading.ReadError.TheVariants.{Store, Ou
 ghost use Rattle.ctr_log.specs.Reading.{RefusesOrFails, HasSome, OpensLog, IsEmptyAt, log_file};
 ghost use Rattle.ctr_log.specs.Logs.{Batches, headed, sealed, frame, frames, records, HasLog, GoesOn, Extends, IsBeforeOrAfter, IsAfter, HasPrefix, with_batch};
 
-use crate::reading::{ReadError, read_log};
+use crate::near::find_log;
+use crate::reading::ReadError;
 use ctr_bytes::{put_u32, put_u64};
 use ctr_disk::{Disk, Failed, File, Root, StoreFault, write_through};
 use ctr_types::{List, OutOfMemory, Text};
@@ -107,14 +108,20 @@ impl LogFile {
     pub fn flush<D: Disk>(&mut self, disk: &mut D) -> Result<(), StoreFault>
         ensures any_moment { (first : ℕ) (bs : Batches) → IsSettled D.tells D.reads D.images disk.old → GoesOn first bs self.old (D.reads disk.old)
             → LeavesOnly D.moment_of D.since disk.old disk.new (HasPrefix self.old.file first (records bs) self.old.buffered (D.reads disk.old)) }
+        // The closed gate behind the log lies in the file at each moment.
+        ensures long { (first : ℕ) (bs : Batches) → IsSettled D.tells D.reads D.images disk.old → GoesOn first bs self.old (D.reads disk.old)
+            → LeavesOnly D.moment_of D.since disk.old disk.new (λ c. self.old.place < length (content self.old.file c)) }
         ensures flushed { (first : ℕ) (bs : Batches) → IsTrue D.tells → GoesOn first bs self.old (D.reads disk.old)
             → OnOk result (SameBut self.old.file (D.reads disk.old) (D.reads disk.new) × GoesOn first (with_batch bs self.old.buffered) self.new (D.reads disk.new)) }
         ensures emptied { OnOk result ((self.new.buffered ≡ []) × (self.old.room ≤ self.new.room)) }
+        ensures file { self.new.file ≡ self.old.file }
+        ensures next { OnOk result (self.new.first ≡ self.old.first + length self.old.buffered) }
         ensures durable { Only (D.reads disk.old) (D.images disk.old) → OnOk result (Only (D.reads disk.new) (D.images disk.new)) }
         ensures later { D.moment_of disk.old ≤ D.moment_of disk.new }
         ensures fault { OnErr result ((result ≡ Err Fault) × Rose (D.faults_of disk.old) (D.faults_of disk.new)) }
         ensures faults { D.faults_of disk.old ≤ D.faults_of disk.new }
         ensures stray { self.old.place + (22 + length (frames self.old.buffered)) < 2 ^ 63 → D.strays_of disk.new ≡ D.strays_of disk.old }
+        ensures no_stray { OnOk result (D.strays_of disk.new ≡ D.strays_of disk.old) }
     {
         if self.count == 0 {
             return Ok(());
@@ -145,6 +152,7 @@ pub fn read_all<D: Disk>(
     ensures found { IsTrue D.tells → IfOk result (λ r. OpensLog root.now.first (log_file root.now.file) (D.reads disk.old) r.0 r.1) }
     ensures only { (bs : Batches) → IsTrue D.tells → HasLog root.now.first bs (content (log_file root.now.file) (D.reads disk.old)) → IfOk result (λ r. r.1 ≡ records bs) }
     ensures refused { IsTrue D.tells → IfErr result (RefusesOrFails (log_file root.now.file) (HasSome root.now.first (content (log_file root.now.file) (D.reads disk.old)))) }
+    ensures none { IfOk result (λ r. r.0.buffered ≡ []) }
     ensures quiet { OnlyReads D.reads D.images D.moment_of D.since disk.old disk.new }
     ensures fault { result ≡ Err (Store Fault) → Rose (D.faults_of disk.old) (D.faults_of disk.new) }
     ensures faults { D.faults_of disk.old ≤ D.faults_of disk.new }
@@ -155,25 +163,9 @@ pub fn read_all<D: Disk>(
     } else {
         File::LogB
     };
-    let bytes = file_bytes(alloc, disk, file)?;
-    let found = read_log(alloc, file, &bytes, root.first)?;
+    let found = find_log(alloc, disk, file, root.first)?;
     let log = LogFile::behind(alloc, file, found.place, found.next)?;
     Ok((log, found.records))
-}
-
-// All bytes of a file.
-fn file_bytes<D: Disk>(alloc: Global, disk: &mut D, file: File) -> Result<Vec<u8>, ReadError>
-    ensures told { IsTrue D.tells → IfOk result (λ v. v.items ≡ content file (D.reads disk.old)) }
-    ensures not_damaged { IfErr result (λ e. (e ≡ Store Fault) ⊎ (e ≡ NoMemory)) }
-    ensures quiet { OnlyReads D.reads D.images D.moment_of D.since disk.old disk.new }
-    ensures fault { result ≡ Err (Store Fault) → Rose (D.faults_of disk.old) (D.faults_of disk.new) }
-    ensures faults { D.faults_of disk.old ≤ D.faults_of disk.new }
-    ensures stray { D.strays_of disk.new ≡ D.strays_of disk.old }
-{
-    let size = disk.size(file)?;
-    let mut bytes = vec![in alloc; 0u8; size as usize]?;
-    disk.read(file, 0, &mut bytes)?;
-    Ok(bytes)
 }
 
 fn put_frame(buffer: &mut Vec<u8>, bytes: &[u8])

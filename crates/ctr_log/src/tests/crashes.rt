@@ -47,7 +47,7 @@ fn failing(alloc: Global, number: u64) -> Result<List<u64>, AllocError> {
 }
 
 // A new database on a disk of four empty files, of which no call fails but this one.
-fn new_disk(alloc: Global, fails: u64) -> Result<MemDisk, AllocError> {
+pub fn new_disk(alloc: Global, fails: u64) -> Result<MemDisk, AllocError> {
     MemDisk::new(alloc, Image::new(alloc), failing(alloc, fails)?)
 }
 
