@@ -1,5 +1,5 @@
 -- What a session's tables and the record that it gathers show of the model's state.
-use Rattle.std.specs.Prelude.{◌≡◌, ◌≢◌, ◌≤◌, ◌+◌, ℕ, true, false, List, [], ◌∷◌, ◌++◌, length, drop, Some, None, vec_len, vec_capacity}
+use Rattle.std.specs.Prelude.{◌≡◌, ◌≢◌, ◌≤◌, ◌+◌, ◌*◌, ◌^◌, ℕ, true, false, List, [], ◌∷◌, ◌++◌, length, drop, Some, None, vec_len, vec_capacity}
 use Rattle.std.specs.List.{AllByRecursion}
 use Rattle.ctr_types.specs.declared.value.Column.{Column}
 use Rattle.ctr_types.specs.declared.value.Value.{Value}
@@ -8,6 +8,7 @@ use Rattle.ctr_types.specs.declared.tape.Act.{Act}
 use Rattle.ctr_types.specs.declared.tape.Act.TheVariants as act
 use Rattle.ctr_types.specs.declared.tape.Reply.{Reply}
 use Rattle.ctr_types.specs.declared.tape.Reply.TheVariants as reply
+use Rattle.ctr_types.specs.declared.tape.Refusal.TheVariants as refusal
 use Rattle.ctr_model.specs.declared.database.Change.{Change}
 use Rattle.ctr_model.specs.declared.state.Transaction.{Transaction}
 use Rattle.ctr_model.specs.Database.{Database}
@@ -145,12 +146,20 @@ pub record RepliesTwice (state : State) (statement : Statement) (answer : Reply)
 abbrev pub IsTurn : Session → Type 0
 IsTurn a = a.stage ≢ stage.Asked
 
+-- The record is no longer than its tag, count and flag, and its items, each below 2^17 bytes. Until its
+-- commit is asked for it has no flag.
+pub record IsShort (a : Session) : Type 0 where
+  pub most : vec_len a.record ≤ 6 + a.count * 2 ^ 17
+  pub unended : a.stage ≢ stage.Idle → a.stage ≢ stage.Asked → vec_len a.record ≤ 5 + a.count * 2 ^ 17
+
 -- a session over these tables, before its first act
 pub record IsNew (tables : Held) (a : Session) : Type 0 where
   pub tables_are : a.tables ≡ tables
   pub answered : a.answered ≡ 0
   pub idle : a.stage ≡ stage.Idle
   pub room : 6 ≤ vec_capacity a.record
+  pub count : a.count ≡ 0
+  pub short : IsShort a
 
 -- Room for the commit of what was locked: the record's flag, and the record in the log's buffer.
 pub record HasCommitRoom (a : Session) (log : Log) : Type 0 where
@@ -178,6 +187,7 @@ pub record Appends (a : Session) (old new : Log) : Type 0 where
   pub bytes : List ℕ
   pub added : new.buffered ≡ old.buffered ++ bytes ∷ []
   pub same : new ≡ record old { buffered = new.buffered; room = new.room }
+  pub long : length bytes ≤ vec_len a.record + 1
   pub folds : (state : State) → Shows state a → FoldsRecord (rows_at state a.answered) bytes (database_of a.tables)
 
 -- what asking for a commit puts into the log
@@ -203,3 +213,14 @@ StageAsked r a = a.stage ≡ stage.Idle
 abbrev pub NotAsked : Reply → Type 0
 NotAsked (reply.Asked k) = ⊥
 NotAsked r = Unit {0}
+
+-- it is no refusal for want of room in the files
+abbrev pub IsNotFull : Reply → Type 0
+IsNotFull (reply.Refused (refusal.CatalogFull limit)) = ⊥
+IsNotFull (reply.Refused (refusal.Full limit)) = ⊥
+IsNotFull r = Unit {0}
+
+-- the same of a statement that locks and writes
+abbrev pub IsWrittenNotFull : Written → Type 0
+IsWrittenNotFull (written.Refused why) = IsNotFull (reply.Refused why)
+IsWrittenNotFull (written.Locked answer) = IsNotFull answer

@@ -13,8 +13,11 @@ ghost use Rattle.ctr_rec.specs.Records.{item, Fits, ColumnsFit};
 ghost use Rattle.ctr_tables.specs.Tables.{database_of, HasRowRoom, HasTableRoom};
 ghost use Rattle.ctr_tables.specs.Stored.{IsSchemaHeld};
 ghost use Rattle.ctr_exec.specs.declared.session.Stage.TheVariants as stage;
-ghost use Rattle.ctr_exec.specs.Session.{Shows, Replies, Grants, RepliesWritten, IsNew, IsTurn, IsReadyRow, IsReadyTable, CanCommit, HasItemRoom, AskedIn, StageAsked, NotAsked, SameSession};
+ghost use Rattle.ctr_exec.specs.Session.{Shows, Replies, Grants, RepliesWritten, IsNew, IsTurn, IsReadyRow, IsReadyTable, IsShort, CanCommit, HasItemRoom, AskedIn, StageAsked, NotAsked, IsNotFull, IsWrittenNotFull, SameSession};
 ghost use Rattle.ctr_model.specs.declared.state.State.{State};
+
+#[cfg(test)]
+mod tests;
 
 use crate::ready::{ReadyRow, ReadyTable, first_bad, ready_row, ready_table};
 use ctr_log::LogFile;
@@ -88,7 +91,10 @@ impl Session {
         ensures commit { (log : Log) → CanCommit self.old log → CanCommit self.new log }
         ensures turn { IsTurn self.old → IsTurn self.new }
         ensures not_asked { NotAsked result }
+        ensures not_full { IsNotFull result }
         ensures count { self.new.count ≤ self.old.count }
+        ensures answered { self.new.answered ≡ self.old.answered }
+        ensures short { IsShort self.old → IsShort self.new }
     {
         let Stage::Idle = self.stage else {
             return Reply::Refused {
@@ -106,6 +112,7 @@ impl Session {
     pub fn read(&self, alloc: Global, table: &Name) -> Reply
         ensures replies { (state : State) → Shows state self.now → IsTurn self.now → Replies state act.Read (st.Select table.now None) result self.now }
         ensures not_asked { NotAsked result }
+        ensures not_full { IsNotFull result }
     {
         if let Stage::Idle = self.stage {
             return Reply::Refused {
@@ -143,7 +150,10 @@ impl Session {
         ensures turn { IsTurn self.new }
         ensures record_room { vec_capacity self.old.record ≤ vec_capacity self.new.record }
         ensures count { self.new.count ≤ self.old.count + 1 }
+        ensures answered { self.new.answered ≡ self.old.answered }
         ensures log { log.new ≡ record log.old { room = log.new.room } }
+        ensures short { IsShort self.old → IsShort self.new }
+        ensures not_full { IsWrittenNotFull result }
     {
         match self.lock_row(alloc, log, table, values) {
             Ok(ready) => Written::Locked(self.write_row(table, ready)),
@@ -168,7 +178,11 @@ impl Session {
         ensures turn { IsTurn self.new }
         ensures record_room { vec_capacity self.old.record ≤ vec_capacity self.new.record }
         ensures count { self.new.count ≡ self.old.count }
+        ensures answered { self.new.answered ≡ self.old.answered }
         ensures log { log.new ≡ record log.old { room = log.new.room } }
+        ensures small { IfOk result (λ r. length (item r.item) < 2 ^ 17) }
+        ensures short { IsShort self.old → IsShort self.new }
+        ensures not_full { IfErr result (λ why. IsNotFull (reply.Refused why)) }
     {
         if let Stage::Idle = self.stage {
             return Err(Refusal::NoTransaction);
@@ -205,6 +219,9 @@ impl Session {
         ensures long { vec_len self.new.record ≤ vec_len self.old.record + length (item ready.item) }
         ensures begun { vec_len self.old.record ≤ vec_len self.new.record }
         ensures count { self.new.count ≤ self.old.count + 1 }
+        ensures answered { self.new.answered ≡ self.old.answered }
+        ensures short { length (item ready.item) < 2 ^ 17 → IsShort self.old → IsShort self.new }
+        ensures not_full { IsNotFull result }
     {
         if self.tables.has_row(table, ready.key) {
             return Reply::Refused {
@@ -234,7 +251,10 @@ impl Session {
         ensures turn { IsTurn self.new }
         ensures record_room { vec_capacity self.old.record ≤ vec_capacity self.new.record }
         ensures count { self.new.count ≤ self.old.count + 1 }
+        ensures answered { self.new.answered ≡ self.old.answered }
         ensures log { log.new ≡ record log.old { room = log.new.room } }
+        ensures short { IsShort self.old → IsShort self.new }
+        ensures not_full { IsWrittenNotFull result }
     {
         match self.lock_table(alloc, log, table, schema) {
             Ok(ready) => Written::Locked(self.create_table(alloc, table, ready)),
@@ -260,7 +280,11 @@ impl Session {
         ensures turn { IsTurn self.new }
         ensures record_room { vec_capacity self.old.record ≤ vec_capacity self.new.record }
         ensures count { self.new.count ≡ self.old.count }
+        ensures answered { self.new.answered ≡ self.old.answered }
         ensures log { log.new ≡ record log.old { room = log.new.room } }
+        ensures small { IfOk result (λ r. length (item r.item) < 2 ^ 17) }
+        ensures short { IsShort self.old → IsShort self.new }
+        ensures not_full { IfErr result (λ why. IsNotFull (reply.Refused why)) }
     {
         if let Stage::Idle = self.stage {
             return Err(Refusal::NoTransaction);
@@ -298,6 +322,9 @@ impl Session {
         ensures long { vec_len self.new.record ≤ vec_len self.old.record + length (item ready.item) }
         ensures begun { vec_len self.old.record ≤ vec_len self.new.record }
         ensures count { self.new.count ≤ self.old.count + 1 }
+        ensures answered { self.new.answered ≡ self.old.answered }
+        ensures short { length (item ready.item) < 2 ^ 17 → IsShort self.old → IsShort self.new }
+        ensures not_full { IsNotFull result }
     {
         push_item(&mut self.record, &ready.item);
         self.tables.create(alloc, table, ready.schema);
@@ -319,6 +346,8 @@ impl Session {
         ensures begun { self.new.stage ≢ stage.Idle → 5 ≤ vec_len self.new.record }
         ensures same { (self.new.tables ≡ self.old.tables) × (self.new.answered ≡ self.old.answered) × (self.new.count ≡ self.old.count) }
         ensures record_room { vec_capacity self.old.record ≤ vec_capacity self.new.record }
+        ensures short { IsShort self.old → IsShort self.new }
+        ensures not_full { IsNotFull result }
     {
         match self.stage {
             Stage::Idle => Reply::Refused {
@@ -350,6 +379,8 @@ impl Session {
         ensures is { result ≡ reply.Answered (self.old.answered + 1) }
         ensures same { (self.new.tables ≡ self.old.tables) × (self.new.answered ≡ self.old.answered + 1) × (self.new.count ≡ self.old.count) }
         ensures record_room { vec_capacity self.old.record ≤ vec_capacity self.new.record }
+        ensures short { IsShort self.old → IsShort self.new }
+        ensures not_full { IsNotFull result }
     {
         self.answered += 1;
         self.stage = Stage::Idle;
@@ -365,6 +396,7 @@ impl Session {
         ensures record_room { vec_capacity self.old.record ≤ vec_capacity self.new.record }
         ensures log { log.new ≡ record log.old { room = log.new.room } }
         ensures log_room { log.old.room ≤ log.new.room }
+        ensures small { OnOk result (length (item change.now) < 2 ^ 17) }
     {
         let len = spelled_len(change) + 1;
         self.record.reserve(len)?;

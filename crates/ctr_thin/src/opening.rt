@@ -1,5 +1,5 @@
 // Opening a database: the root, the log that it names, and the tables that its records make.
-ghost use Rattle.std.specs.Prelude.{◌≡◌, ◌≢◌, ◌↔◌, ◌≤◌, ◌<◌, ◌-◌, ◌^◌, IsTrue, ℕ, None, Err, IfOk, IfErr, OnOk, MatchResult};
+ghost use Rattle.std.specs.Prelude.{◌≡◌, ◌≢◌, ◌↔◌, ◌≤◌, ◌<◌, ◌-◌, ◌^◌, IsTrue, ℕ, [], None, Err, IfOk, IfErr, OnOk, MatchResult};
 ghost use Rattle.ctr_disk.specs.Crash.{Only, LeavesOnly, Rose};
 ghost use Rattle.ctr_log.specs.Settled.{OnlyReads};
 ghost use Rattle.ctr_log.specs.Homes.{root_value, IsRoot};
@@ -201,6 +201,7 @@ fn read_database<D: Disk>(alloc: Global, disk: &mut D) -> Result<Opened, OpenErr
     ensures opened { IsTrue D.tells → IfOk result (Opens (D.reads disk.old)) }
     ensures only { (db : Database) → IsTrue D.tells → StandsFor (D.reads disk.old) db → IfOk result (λ o. database_of o.tables ≡ db) }
     ensures refused { IsTrue D.tells → IfErr result (Explains (D.reads disk.old)) }
+    ensures next { IfOk result (λ o. (o.log.first < 2 ^ 62) × (o.log.buffered ≡ [])) }
     ensures quiet { OnlyReads D.reads D.images D.moment_of D.since disk.old disk.new }
     ensures fault { result ≡ Err Fault → Rose (D.faults_of disk.old) (D.faults_of disk.new) }
     ensures faults { D.faults_of disk.old ≤ D.faults_of disk.new }
@@ -218,12 +219,14 @@ fn read_database<D: Disk>(alloc: Global, disk: &mut D) -> Result<Opened, OpenErr
     Ok(Opened { log, tables })
 }
 
-/// Opens the database of a disk, in time linear in its log, times the logarithm of its tables. It writes
-/// nothing, and what was pending is durable after Ok.
+/// Opens the database of a disk, in time linear in its log, or in the log's file where that has none,
+/// times the logarithm of its tables. It writes nothing, and what was pending is durable after Ok.
 pub fn open<D: Disk>(alloc: Global, disk: &mut D) -> Result<Opened, OpenError>
     // What is opened is the database that the image stands for.
     ensures opened { IsTrue D.tells → IfOk result (Opens (D.reads disk.old)) }
     ensures only { (db : Database) → IsTrue D.tells → StandsFor (D.reads disk.old) db → IfOk result (λ o. database_of o.tables ≡ db) }
+    // The log's writer has nothing to flush, and numbers are left for further records.
+    ensures next { IfOk result (λ o. (o.log.first < 2 ^ 62) × (o.log.buffered ≡ [])) }
     // There is no root, or the image stands for no database that can be opened.
     ensures refused { IsTrue D.tells → IfErr result (Explains (D.reads disk.old)) }
     ensures no_database { IsTrue D.tells → root_value (D.reads disk.old).root ≡ None → FindsNone result }

@@ -20,5 +20,6 @@ returns-in-Writer-clause-asked c =
       bytes = c.end.new.into.items;
       added = added;
       same = c.append.ensures.added ∙ (λ i. record c.args.log.now { buffered = sym (ap (λ l. l.buffered) c.append.ensures.added) i; room = c.append.new.self.room });
+      long = omega (arith, c.end.ensures.long);
       folds = λ state shows. record_folds state (seen_of c.args.self.now) (subst (ShowsAs state (seen_of c.args.self.now)) c.in-Writer.is shows) c.end.new.into.items c.end.ensures.ended few;
     }

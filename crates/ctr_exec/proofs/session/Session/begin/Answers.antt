@@ -8,3 +8,8 @@ returns-clause-replies c = λ state shows. begins state (seen_of c.args.self.now
 
 pub returns-clause-commit : goal.returns-clause-commit
 returns-clause-commit c = λ log can. record { begun = λ _. omega (arith, ap length c.begin.ensures.begun ∙ length-begun); commit = λ is. absurd (reader_is_not_writer is) }
+
+pub returns-clause-short : goal.returns-clause-short
+returns-clause-short c =
+    let long = ap length c.begin.ensures.begun ∙ length-begun in
+    λ short. record { most = omega (arith, long); unended = λ _ _. omega (arith, long) }

@@ -1,4 +1,4 @@
-use Rattle.std.proofs.Common.{◌≡◌, Some, None, is_some, refl, sym, ◌∙◌, ap, subst}
+use Rattle.std.proofs.Common.{◌≡◌, Some, None, is_some, refl, sym, ◌∙◌, ap, subst, arith}
 use Rattle.ctr_types.specs.declared.statement.Statement.TheVariants as st
 use Rattle.ctr_types.specs.declared.tape.Act.TheVariants as act
 use Rattle.ctr_types.specs.declared.tape.Reply.TheVariants as reply
@@ -41,5 +41,9 @@ returns c =
       turn = writer_is_not_asked;
       record_room = c.make_room.ensures.record_room;
       count = same.count;
+      answered = same.answered;
       log = c.make_room.ensures.log;
+      small = c.in-Ok-make_room.ensures.small;
+      short = λ short. let now = short.unended c.in_default.not-Idle c.requires.turn in record { most = omega (arith, same.long, same.count); unended = λ _ _. omega (arith, same.long, same.count) };
+      not_full = tt;
     }
