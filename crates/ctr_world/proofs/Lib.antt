@@ -1,0 +1,10 @@
+mod TurnLemmas
+mod RepliesLemmas
+mod TapeLemmas
+mod CrashLemmas
+mod StepLemmas
+mod RunLemmas
+mod HardenLemmas
+mod BoundLemmas
+mod KeptLemmas
+mod OpenLemmas

@@ -1,0 +1,159 @@
+// The World: its type names what it was opened on, and keeps the tape legal and the disk's images in order.
+ghost use Rattle.std.specs.Prelude.{◌≡◌, ◌↔◌, ◌≤◌, ◌<◌, ◌-◌, ◌^◌, IsTrue, length, slice_get, IfOk, IfErr};
+ghost use Rattle.std.specs.Option.{option_map};
+ghost use Rattle.ctr_disk.specs.Crash.{Within};
+ghost use Rattle.ctr_model.specs.Database.{Database};
+ghost use Rattle.ctr_thin.specs.Thin.{StandsFor, Explains};
+ghost use Rattle.ctr_exec.specs.declared.session.Stage.TheVariants as stage;
+ghost use Rattle.ctr_world.specs.declared.parts.Parts.{Parts};
+ghost use Rattle.ctr_world.specs.World.{AreTaken, CanOpen, NoneFull, Says, Ends, StopsBy, RefusesWith};
+
+use crate::opening::Opening;
+use crate::parts::Parts;
+use ctr_disk::{Disk, Stop};
+use ctr_exec::Session;
+use ctr_thin::{OpenError, Opened, open};
+use ctr_types::{Actor, Entry, List, Script, Tape, Turn};
+use std::alloc::Global;
+use std::marker::{Model, PhantomData};
+
+/// A database that runs a script. Its tape is legal at every moment, and a crash at any moment leaves a
+/// prefix of the commit order with every commit that was answered by then.
+#[derive(Drop)]
+pub struct World<D: Disk, B: Opening> {
+    parts: Parts<D>,
+    of: PhantomData<B>,
+}
+
+impl<D: Disk, B: Opening> Model for World<D, B> {
+    ghost use Rattle.ctr_world.specs.declared.parts.Parts.{Parts};
+
+    ghost Value = { Parts D };
+
+    ghost view = { λ w. w.parts };
+
+    ghost use Rattle.ctr_world.specs.World.{Kept};
+
+    ghost invariant = { λ w. Kept D.tells D.reads D.images D.moment_of D.since D.faults_of D.strays_of B.image B.before B.start B.faults B.strays B.lines w.parts };
+}
+
+/// What a World leaves at its end.
+#[derive(Drop)]
+pub struct Finished<D> {
+    /// Every act with its reply.
+    pub tape: Tape,
+    /// Why it stopped, if it did.
+    pub stop: Option<Stop>,
+    /// The disk that it was opened on.
+    pub disk: D,
+}
+
+impl<D: Disk, B: Opening> World<D, B> {
+    /// Opens the database of a disk for a script. A refusal gives the disk back.
+    pub fn open(alloc: Global, disk: D, script: Script) -> Result<World<D, B>, (OpenError, D)>
+        requires image { B.image ≡ D.reads disk }
+        requires before { Within (D.images disk) B.before }
+        requires start { B.start ≡ D.moment_of disk }
+        requires faults { B.faults ≡ D.faults_of disk }
+        requires strays { B.strays ≡ D.strays_of disk }
+        requires lines { B.lines ≡ script.lines }
+        requires taken { AreTaken script.lines }
+        requires few { length script.lines < 2 ^ 32 - 1 }
+        ensures can_open { IsTrue D.tells → IfOk result (λ w. CanOpen (D.reads disk)) }
+        ensures refused { IsTrue D.tells → IfErr result (λ e. Explains (D.reads disk) e.0) }
+        ensures stays { IfErr result (λ e. RefusesWith D.reads D.images D.moment_of D.since D.faults_of D.strays_of disk e.0 e.1) }
+    {
+        let mut disk = disk;
+        let opened = match open(alloc, &mut disk) {
+            Ok(opened) => opened,
+            Err(error) => return Err((error, disk)),
+        };
+        let Ok(tape) = Vec::with_capacity(alloc, 2 * script.lines.len()) else {
+            return Err((OpenError::OutOfMemory, disk));
+        };
+        let Opened { log, tables } = opened;
+        let Ok(session) = Session::new(alloc, tables) else {
+            return Err((OpenError::OutOfMemory, disk));
+        };
+        Ok(World {
+            parts: Parts {
+                disk,
+                log,
+                session,
+                script,
+                tape,
+                finished: 0,
+                stop: None,
+            },
+            of: PhantomData,
+        })
+    }
+
+    /// How many lines the script has.
+    pub fn lines(&self) -> usize
+        ensures { result ≡ length self.now.script.lines }
+    {
+        self.parts.script.lines.len()
+    }
+
+    /// The session of a line of the script, by its index.
+    pub fn session_of(&self, line: usize) -> Option<u8>
+        ensures { result ≡ option_map (λ l. l.session) (slice_get self.now.script.lines line) }
+    {
+        self.parts
+            .script
+            .lines
+            .as_slice()
+            .get(line)
+            .map(|l| l.session)
+    }
+
+    /// The session has begun no statement that it hasn't finished.
+    pub fn is_between(&self, session: u8) -> bool
+        ensures { IsTrue result ↔ ¬ ((session ≡ 1) × (self.now.session.stage ≡ stage.Asked)) }
+    {
+        session != 1 || !self.parts.session.is_asked()
+    }
+
+    /// Why the World stopped, if it did.
+    pub fn stopped(&self) -> Option<Stop>
+        ensures { result ≡ self.now.stop }
+    {
+        self.parts.stop
+    }
+
+    /// The tape so far.
+    pub fn tape(&self) -> &[Entry]
+        ensures { result.now ≡ self.now.tape.items }
+    {
+        &self.parts.tape
+    }
+
+    /// A turn of an actor. After a stop it does nothing.
+    pub fn step(&mut self, alloc: Global, actor: Actor) -> Turn
+        ensures says { Says result actor self.old self.new }
+    {
+        self.parts.step::<B>(alloc, actor)
+    }
+
+    /// Steps the session until its statements are finished, or the World stops.
+    pub fn finish(self, alloc: Global) -> Finished<D>
+        ensures ends { (base : Database) → IsTrue D.tells → StandsFor B.image base → Ends D.moment_of D.since D.strays_of B.before B.start B.strays B.lines base
+            result.tape.entries result.stop result.disk }
+        ensures not_full { NoneFull result.tape.entries }
+        ensures later { B.start ≤ D.moment_of result.disk }
+        ensures stops { StopsBy result.stop B.faults (D.faults_of result.disk) }
+        ensures faults { B.faults ≤ D.faults_of result.disk }
+    {
+        let mut world = self;
+        while let Turn::Went = world.step(alloc, Actor::Session(1)) {}
+        let World { parts, of: _ } = world;
+        Finished {
+            tape: Tape {
+                entries: List::from_vec(parts.tape),
+            },
+            stop: parts.stop,
+            disk: parts.disk,
+        }
+    }
+}
