@@ -1,0 +1,4 @@
+mod WordLemmas
+mod RunLemmas
+mod ScriptLemmas
+mod CompleteLemmas

@@ -1,0 +1,20 @@
+use Rattle.std.proofs.Common.{◌≡◌, ◌++◌, pos, ap}
+use Rattle.ctr_model.specs.declared.tape.Report.{Report}
+use Rattle.ctr_model.specs.Texts.{transcript, last_line}
+use Rattle.ctr_print.proofs.Joins.{both, put_as}
+use Rattle.ctr_top.specs.Top.{report_of}
+use Rattle.ctr_top.proofs.run.ending.Goals as goal
+
+pub returns-clause-printed : goal.returns-clause-printed
+returns-clause-printed g c =
+    let o = c.args.outcome in
+    let es = o.tape.entries in
+    let made : Report = record { commits = c.count_answers.result; refused = c.count_refusals.result; undo_turns = 0; rows = 0; sum = pos 0 } in
+    let is : made ≡ report_of es = λ i. record { commits = c.count_answers.ensures i; refused = c.count_refusals.ensures i; undo_turns = 0; rows = 0; sum = pos 0 } in
+    let text : transcript es ++ last_line c.args.command.now o.status o.cause es made ≡ transcript es ++ last_line c.args.command.now o.status o.cause es (report_of es) = ap (λ (r : Report). transcript es ++ last_line c.args.command.now o.status o.cause es r) is in
+    record {
+      done = c.put_last_line-fine.result;
+      put = put_as text (both c.put_transcript-fine.ensures c.put_last_line-fine.ensures);
+      fine = c.status_after.ensures.fine;
+      failed = c.status_after.ensures.failed;
+    }

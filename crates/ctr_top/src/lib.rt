@@ -1,0 +1,12 @@
+//! The commands, from words and bytes to a database and a transcript.
+#![tactic(auto)]
+
+mod making;
+mod outcome;
+mod run;
+mod script;
+#[cfg(test)]
+mod tests;
+mod words;
+
+pub use run::{Ended, run_serial};
