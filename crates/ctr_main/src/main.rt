@@ -1,13 +1,60 @@
-//! The program `ctr`. It knows no command yet, so every command line is a faulty one.
+//! The program `ctr`: a command over the files of a folder, from standard input to standard output.
 #![tactic(auto)]
 
+mod file_disk;
+mod folder;
+mod streams;
+#[cfg(test)]
+mod tests;
+
+use file_disk::FileDisk;
+use std::alloc::{AllocError, Global};
+use std::env;
+use std::io::{self, ErrorKind};
 use std::process::ExitCode;
+use streams::{ReadSource, WriteSink};
 
 /// The status of a faulty command line.
 const USAGE: u8 = 2;
 
+/// The status of a program to which memory was refused.
+const NO_MEMORY: u8 = 8;
+
+// The words behind the program's name.
+fn words_behind(rt: &HostRuntime) -> io::Result<Vec<String>> {
+    let mut words = env::args(rt)?;
+    let _name = words.next();
+    Ok(words.collect(rt.alloc())?)
+}
+
+// The folder that the second word names. Where there is none, no call reaches the disk.
+fn folder_of(alloc: Global, words: &[String]) -> Result<String, AllocError> {
+    match words.get(1) {
+        Some(word) => word.clone(),
+        None => Ok(String::new(alloc)),
+    }
+}
+
 fn main(rt: HostRuntime) -> ExitCode {
-    // The status stands also where nobody reads the line.
-    let _ = println!(rt; "ctr: usage");
-    ExitCode::from(USAGE)
+    let words = match words_behind(&rt) {
+        Ok(words) => words,
+        // A word that isn't UTF-8 is no command's.
+        Err(error) if error.kind() == ErrorKind::InvalidData => {
+            let _ = println!(rt; "ctr: usage");
+            return ExitCode::from(USAGE);
+        }
+        Err(_) => {
+            let _ = println!(rt; "ctr: out of memory");
+            return ExitCode::from(NO_MEMORY);
+        }
+    };
+    let Ok(folder) = folder_of(rt.alloc(), &words) else {
+        let _ = println!(rt; "ctr: out of memory");
+        return ExitCode::from(NO_MEMORY);
+    };
+    let disk = FileDisk::new(rt, rt.alloc(), folder);
+    let mut source = ReadSource::new(rt.stdin());
+    let mut sink = WriteSink::new(io::writer(&rt));
+    let ended = ctr_top::run_serial(rt.alloc(), &words, disk, &mut source, &mut sink);
+    ExitCode::from(ended.status)
 }

@@ -1,0 +1,256 @@
+//! Four files in a folder, opened as they are needed.
+
+use ctr_disk::{Failed, File as Which};
+use std::alloc::Global;
+use std::fs::{self, File, OpenOptions};
+use std::io::ErrorKind;
+use std::os::fd::AsRawFd;
+use std::os::unix::fs::FileExt;
+use std::rt::Files;
+
+/// The highest descriptor of a standard stream.
+const LAST_STREAM: i32 = 2;
+
+/// One file, once it is opened.
+#[derive(Drop)]
+struct Slot {
+    file: Option<File>,
+    // Also before the first sync: what an earlier program wrote may not have reached the disk.
+    is_unsynced: bool,
+}
+
+impl Slot {
+    fn new() -> Slot {
+        Slot {
+            file: None,
+            is_unsynced: true,
+        }
+    }
+}
+
+/// The folder of a database.
+pub struct Folder<R: Files<File = File>> {
+    rt: R,
+    alloc: Global,
+    path: String,
+    is_there: bool,
+    are_names_unsynced: bool,
+    has_lost: bool,
+    root: Slot,
+    log_a: Slot,
+    log_b: Slot,
+    pages: Slot,
+}
+
+impl<R: Files<File = File> + Drop> Drop for Folder<R> {
+    fn drop(self) {
+        let Folder {
+            rt: _,
+            alloc: _,
+            path: _,
+            is_there: _,
+            are_names_unsynced: _,
+            has_lost: _,
+            root: _,
+            log_a: _,
+            log_b: _,
+            pages: _,
+        } = self;
+    }
+}
+
+fn name_of(file: Which) -> &'static str {
+    match file {
+        Which::Root => "root",
+        Which::LogA => "loga",
+        Which::LogB => "logb",
+        Which::Pages => "pages",
+    }
+}
+
+// Makes the folder, unless something stands at its name.
+fn make_folder<R: Files<File = File>>(rt: &R, path: &str) -> Result<(), Failed> {
+    if path.is_empty() {
+        return Err(Failed);
+    }
+    match fs::create_dir(rt, path) {
+        Ok(()) => Ok(()),
+        Err(error) if error.kind() == ErrorKind::AlreadyExists => Ok(()),
+        Err(_) => Err(Failed),
+    }
+}
+
+// A file whose descriptor is no standard stream's. Where such a stream was closed, what is meant for it
+// would land in the file.
+fn off_the_streams(file: File) -> Result<File, Failed> {
+    if file.as_raw_fd() > LAST_STREAM {
+        return Ok(file);
+    }
+    file.try_clone().map_err(|_| Failed)
+}
+
+// Opens a file for reading and writing, and makes it if it is missing.
+fn open_file<R: Files<File = File>>(
+    rt: &R,
+    alloc: Global,
+    folder: &str,
+    name: &str,
+) -> Result<File, Failed> {
+    let Ok(path) = format!(in alloc; "{folder}/{name}") else {
+        return Err(Failed);
+    };
+    let opened = OpenOptions::new()
+        .read(true)
+        .write(true)
+        .create(true)
+        .open(rt, path.as_str());
+    match opened {
+        Ok(file) => off_the_streams(file),
+        Err(_) => Err(Failed),
+    }
+}
+
+// Syncs the names in a folder.
+fn sync_names<R: Files<File = File>>(rt: &R, path: &str) -> Result<(), Failed> {
+    match File::open(rt, path) {
+        Ok(folder) => folder.sync_all().map_err(|_| Failed),
+        Err(_) => Err(Failed),
+    }
+}
+
+// Fills the buffer from a place of the file, with zeros past its end.
+fn read_or_zeros(file: &File, at: u64, into: &mut [u8]) -> Result<(), Failed> {
+    for byte in into.iter_mut() {
+        *byte = 0;
+    }
+    match file.read_exact_at(into, at) {
+        Ok(()) => Ok(()),
+        // The bytes up to the end were read, and those behind it are still zeros.
+        Err(error) if error.kind() == ErrorKind::UnexpectedEof => Ok(()),
+        Err(_) => Err(Failed),
+    }
+}
+
+impl<R: Files<File = File> + Drop> Folder<R> {
+    /// The folder at this path. It isn't touched yet.
+    pub fn new(rt: R, alloc: Global, path: String) -> Self {
+        Folder {
+            rt,
+            alloc,
+            path,
+            is_there: false,
+            are_names_unsynced: true,
+            has_lost: false,
+            root: Slot::new(),
+            log_a: Slot::new(),
+            log_b: Slot::new(),
+            pages: Slot::new(),
+        }
+    }
+
+    fn slot(&mut self, file: Which) -> &mut Slot {
+        match file {
+            Which::Root => &mut self.root,
+            Which::LogA => &mut self.log_a,
+            Which::LogB => &mut self.log_b,
+            Which::Pages => &mut self.pages,
+        }
+    }
+
+    // Opens the file, unless it is open.
+    fn open(&mut self, file: Which) -> Result<(), Failed> {
+        if self.slot(file).file.is_some() {
+            return Ok(());
+        }
+        if !self.is_there {
+            make_folder(&self.rt, self.path.as_str())?;
+            self.is_there = true;
+        }
+        let opened = open_file(&self.rt, self.alloc, self.path.as_str(), name_of(file))?;
+        self.are_names_unsynced = true;
+        self.slot(file).file = Some(opened);
+        Ok(())
+    }
+
+    /// The length of a file in bytes.
+    pub fn size(&mut self, file: Which) -> Result<u64, Failed> {
+        self.open(file)?;
+        let Some(opened) = &self.slot(file).file else {
+            return Err(Failed);
+        };
+        match opened.metadata() {
+            Ok(told) => Ok(told.len()),
+            Err(_) => Err(Failed),
+        }
+    }
+
+    /// Fills the buffer from a place of a file, with zeros past its end.
+    pub fn read(&mut self, file: Which, at: u64, into: &mut [u8]) -> Result<(), Failed> {
+        self.open(file)?;
+        let Some(opened) = &self.slot(file).file else {
+            return Err(Failed);
+        };
+        read_or_zeros(opened, at, into)
+    }
+
+    /// Writes the bytes at a place of a file.
+    pub fn write(&mut self, file: Which, at: u64, bytes: &[u8]) -> Result<(), Failed> {
+        self.open(file)?;
+        let slot = self.slot(file);
+        slot.is_unsynced = true;
+        let Some(opened) = &slot.file else {
+            return Err(Failed);
+        };
+        opened.write_all_at(bytes, at).map_err(|_| Failed)
+    }
+
+    // Syncs what was written to a file since its last sync.
+    fn sync_file(&mut self, file: Which) -> Result<(), Failed> {
+        self.open(file)?;
+        let slot = self.slot(file);
+        if !slot.is_unsynced {
+            return Ok(());
+        }
+        let Some(opened) = &slot.file else {
+            return Err(Failed);
+        };
+        opened.sync_all().map_err(|_| Failed)?;
+        slot.is_unsynced = false;
+        Ok(())
+    }
+
+    // Syncs the names of the files, and the folder's own in the folder above it.
+    fn sync_folder(&mut self) -> Result<(), Failed> {
+        if !self.are_names_unsynced {
+            return Ok(());
+        }
+        let path = self.path.as_str();
+        let Ok(above) = format!(in self.alloc; "{path}/..") else {
+            return Err(Failed);
+        };
+        sync_names(&self.rt, path)?;
+        sync_names(&self.rt, above.as_str())?;
+        self.are_names_unsynced = false;
+        Ok(())
+    }
+
+    fn sync_all(&mut self) -> Result<(), Failed> {
+        self.sync_file(Which::Root)?;
+        self.sync_file(Which::LogA)?;
+        self.sync_file(Which::LogB)?;
+        self.sync_file(Which::Pages)?;
+        self.sync_folder()
+    }
+
+    /// Syncs what was written since the last sync, the first time every file, and the names of files
+    /// that were made. After a sync that failed each later one fails: the system may have dropped what
+    /// it couldn't write, and would not say so again.
+    pub fn sync(&mut self) -> Result<(), Failed> {
+        if self.has_lost {
+            return Err(Failed);
+        }
+        let done = self.sync_all();
+        self.has_lost = done.is_err();
+        done
+    }
+}

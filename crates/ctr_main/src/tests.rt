@@ -1,0 +1,140 @@
+// The disk over a real folder, and streams that are cut short.
+ghost use Rattle.std.specs.Prelude.{◌≤◌, IfOk};
+
+use crate::file_disk::FileDisk;
+use crate::streams::{ReadSource, WriteSink};
+use ctr_disk::{Disk, Failed, File, Sink, Source};
+use std::io::{self, ErrorKind, Read, Write};
+use std::test::Fail;
+use std::{fs, mem};
+
+const FOLDER: &str = "a_folder";
+
+// What the first of two disks wrote is read by the second.
+#[test]
+fn files_keep_what_is_written(rt: HostRuntime) -> Result<(), Fail> {
+    let alloc = rt.alloc();
+    let mut disk = FileDisk::new(rt, alloc, String::from_str(alloc, FOLDER)?);
+    assert!(rt; disk.write(File::LogA, 2, b"ab").is_ok());
+    assert!(rt; disk.sync().is_ok());
+    assert_eq!(rt; disk.moment(), 2);
+    let mut again = FileDisk::new(rt, alloc, String::from_str(alloc, FOLDER)?);
+    assert_eq!(rt; again.size(File::LogA), Ok(4));
+    assert_eq!(rt; again.size(File::LogB), Ok(0));
+    let mut got = [9u8; 6];
+    assert!(rt; again.read(File::LogA, 0, &mut got).is_ok());
+    assert!(rt; got == [0, 0, b'a', b'b', 0, 0]);
+    assert_eq!(rt; again.moment(), 0);
+    fs::remove_dir_all(&rt, FOLDER)?;
+    Ok(())
+}
+
+#[test]
+fn a_call_past_the_last_place_strays(rt: HostRuntime) -> Result<(), Fail> {
+    let alloc = rt.alloc();
+    let mut disk = FileDisk::new(rt, alloc, String::from_str(alloc, "no_folder")?);
+    assert_eq!(rt; disk.write(File::Pages, (1 << 63) - 1, b"a"), Err(Failed));
+    assert_eq!(rt; (disk.moment(), disk.faults(), disk.strays()), (1, 1, 1));
+    assert_eq!(rt; disk.read(File::Pages, 1 << 63, &mut []), Err(Failed));
+    assert_eq!(rt; (disk.moment(), disk.faults(), disk.strays()), (1, 2, 2));
+    assert!(rt; !fs::exists(&rt, "no_folder")?);
+    Ok(())
+}
+
+#[test]
+fn a_folder_without_a_name_fails(rt: HostRuntime) -> Result<(), Fail> {
+    let alloc = rt.alloc();
+    let mut disk = FileDisk::new(rt, alloc, String::new(alloc));
+    assert_eq!(rt; disk.size(File::Root), Err(Failed));
+    assert_eq!(rt; disk.sync(), Err(Failed));
+    assert_eq!(rt; (disk.moment(), disk.faults(), disk.strays()), (1, 2, 0));
+    Ok(())
+}
+
+// What a stream does at its next calls, the last one ever after.
+#[derive(Clone, Copy)]
+enum Turn {
+    Interrupted,
+    One,
+    Nothing,
+    Broken,
+}
+
+#[derive(Drop)]
+struct Halting {
+    next: Turn,
+    then: Turn,
+}
+
+impl Halting {
+    fn turn(&mut self) -> io::Result<usize>
+        ensures { IfOk result (λ n. n ≤ 1) }
+    {
+        let then = self.then;
+        match mem::replace(&mut self.next, then) {
+            Turn::Interrupted => Err(io::Error::from(ErrorKind::Interrupted)),
+            Turn::One => Ok(1),
+            Turn::Nothing => Ok(0),
+            Turn::Broken => Err(io::Error::from(ErrorKind::BrokenPipe)),
+        }
+    }
+}
+
+impl Read for Halting {
+    fn read(&mut self, buf: &mut [u8]) -> io::Result<usize> {
+        let n = self.turn()?;
+        Ok(n.min(buf.len()))
+    }
+}
+
+impl Write for Halting {
+    fn write(&mut self, buf: &[u8]) -> io::Result<usize> {
+        let n = self.turn()?;
+        Ok(n.min(buf.len()))
+    }
+
+    fn flush(&mut self) -> io::Result<()> {
+        Ok(())
+    }
+}
+
+// A stream's next turns, what a call answers, and how many have failed then.
+struct Case(Turn, Turn, Result<usize, Failed>, u64);
+
+const TAKES: [Case; 3] = [
+    Case(Turn::Interrupted, Turn::One, Ok(1), 0),
+    Case(Turn::Nothing, Turn::One, Ok(0), 0),
+    Case(Turn::Broken, Turn::One, Err(Failed), 1),
+];
+
+const PUTS: [Case; 3] = [
+    Case(Turn::Interrupted, Turn::One, Ok(1), 0),
+    Case(Turn::Nothing, Turn::One, Err(Failed), 1),
+    Case(Turn::Interrupted, Turn::Broken, Err(Failed), 1),
+];
+
+#[test]
+fn takes_of_a_reader(rt: HostRuntime) -> Result<(), Fail> {
+    for Case(next, then, answer, faults) in &TAKES {
+        let mut source = ReadSource::new(Halting {
+            next: *next,
+            then: *then,
+        });
+        assert_eq!(rt; source.take(&mut [0; 4]), *answer);
+        assert_eq!(rt; source.faults(), *faults);
+    }
+    Ok(())
+}
+
+#[test]
+fn puts_on_a_writer(rt: HostRuntime) -> Result<(), Fail> {
+    for Case(next, then, answer, faults) in &PUTS {
+        let mut sink = WriteSink::new(Halting {
+            next: *next,
+            then: *then,
+        });
+        assert_eq!(rt; sink.put(b"abc"), *answer);
+        assert_eq!(rt; sink.faults(), *faults);
+    }
+    Ok(())
+}
