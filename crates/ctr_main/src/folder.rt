@@ -1,4 +1,6 @@
 //! Four files in a folder, opened as they are needed.
+ghost use Rattle.std.specs.Prelude.{◌≡◌, true, OnOk, OnErr};
+ghost use Rattle.ctr_main.specs.Folder.{IsUnsynced};
 
 use ctr_disk::{Failed, File as Which};
 use std::alloc::Global;
@@ -148,12 +150,33 @@ impl<R: Files<File = File> + Drop> Folder<R> {
         }
     }
 
-    fn slot(&mut self, file: Which) -> &mut Slot {
+    fn slot(&self, file: Which) -> &Slot {
+        match file {
+            Which::Root => &self.root,
+            Which::LogA => &self.log_a,
+            Which::LogB => &self.log_b,
+            Which::Pages => &self.pages,
+        }
+    }
+
+    fn slot_mut(&mut self, file: Which) -> &mut Slot {
         match file {
             Which::Root => &mut self.root,
             Which::LogA => &mut self.log_a,
             Which::LogB => &mut self.log_b,
             Which::Pages => &mut self.pages,
+        }
+    }
+
+    // What was written to a file since its last sync may not have reached the disk.
+    fn mark(&mut self, file: Which)
+        ensures { IsUnsynced file self.new }
+    {
+        match file {
+            Which::Root => self.root.is_unsynced = true,
+            Which::LogA => self.log_a.is_unsynced = true,
+            Which::LogB => self.log_b.is_unsynced = true,
+            Which::Pages => self.pages.is_unsynced = true,
         }
     }
 
@@ -168,7 +191,7 @@ impl<R: Files<File = File> + Drop> Folder<R> {
         }
         let opened = open_file(&self.rt, self.alloc, self.path.as_str(), name_of(file))?;
         self.are_names_unsynced = true;
-        self.slot(file).file = Some(opened);
+        self.slot_mut(file).file = Some(opened);
         Ok(())
     }
 
@@ -194,11 +217,13 @@ impl<R: Files<File = File> + Drop> Folder<R> {
     }
 
     /// Writes the bytes at a place of a file.
-    pub fn write(&mut self, file: Which, at: u64, bytes: &[u8]) -> Result<(), Failed> {
+    pub fn write(&mut self, file: Which, at: u64, bytes: &[u8]) -> Result<(), Failed>
+        // The next sync reaches the file.
+        ensures marked { OnOk result (IsUnsynced file self.new) }
+    {
         self.open(file)?;
-        let slot = self.slot(file);
-        slot.is_unsynced = true;
-        let Some(opened) = &slot.file else {
+        self.mark(file);
+        let Some(opened) = &self.slot(file).file else {
             return Err(Failed);
         };
         opened.write_all_at(bytes, at).map_err(|_| Failed)
@@ -215,7 +240,7 @@ impl<R: Files<File = File> + Drop> Folder<R> {
             return Err(Failed);
         };
         opened.sync_all().map_err(|_| Failed)?;
-        slot.is_unsynced = false;
+        self.slot_mut(file).is_unsynced = false;
         Ok(())
     }
 
@@ -245,7 +270,10 @@ impl<R: Files<File = File> + Drop> Folder<R> {
     /// Syncs what was written since the last sync, the first time every file, and the names of files
     /// that were made. After a sync that failed each later one fails: the system may have dropped what
     /// it couldn't write, and would not say so again.
-    pub fn sync(&mut self) -> Result<(), Failed> {
+    pub fn sync(&mut self) -> Result<(), Failed>
+        ensures lost { self.old.has_lost ≡ true → OnOk result ⊥ }
+        ensures loses { OnErr result (self.new.has_lost ≡ true) }
+    {
         if self.has_lost {
             return Err(Failed);
         }

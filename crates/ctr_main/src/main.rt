@@ -1,6 +1,9 @@
 //! The program `ctr`: a command over the files of a folder, from standard input to standard output.
 #![tactic(auto)]
 
+ghost use Rattle.std.specs.Prelude.{◌≡◌, ◌∷◌, List, String, IfOk};
+ghost use Rattle.std.specs.String.{string_bytes};
+
 mod file_disk;
 mod folder;
 mod streams;
@@ -28,7 +31,9 @@ fn words_behind(rt: &HostRuntime) -> io::Result<Vec<String>> {
 }
 
 // The folder that the second word names. Where there is none, no call reaches the disk.
-fn folder_of(alloc: Global, words: &[String]) -> Result<String, AllocError> {
+fn folder_of(alloc: Global, words: &[String]) -> Result<String, AllocError>
+    ensures second { IfOk result (λ folder. (command word : String Global) (rest : List (String Global)) → words.now ≡ command ∷ word ∷ rest → string_bytes folder ≡ string_bytes word) }
+{
     match words.get(1) {
         Some(word) => word.clone(),
         None => Ok(String::new(alloc)),

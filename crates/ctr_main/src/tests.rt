@@ -4,7 +4,9 @@ ghost use Rattle.std.specs.Prelude.{◌≤◌, IfOk};
 use crate::file_disk::FileDisk;
 use crate::streams::{ReadSource, WriteSink};
 use ctr_disk::{Disk, Failed, File, Sink, Source};
+use std::fs::Permissions;
 use std::io::{self, ErrorKind, Read, Write};
+use std::os::unix::fs::{PermissionsExt, symlink};
 use std::test::Fail;
 use std::{fs, mem};
 
@@ -48,6 +50,76 @@ fn a_folder_without_a_name_fails(rt: HostRuntime) -> Result<(), Fail> {
     assert_eq!(rt; disk.size(File::Root), Err(Failed));
     assert_eq!(rt; disk.sync(), Err(Failed));
     assert_eq!(rt; (disk.moment(), disk.faults(), disk.strays()), (1, 2, 0));
+    Ok(())
+}
+
+// A device that can be opened, and that the system neither writes to nor syncs.
+const FULL: &str = "/dev/full";
+
+const NAMES: [(File, &str); 4] = [
+    (File::Root, "a_device/root"),
+    (File::LogA, "a_device/loga"),
+    (File::LogB, "a_device/logb"),
+    (File::Pages, "a_device/pages"),
+];
+
+// Each file's own sync is made, also where nothing was written: the system refuses that of a device.
+#[test]
+fn a_sync_reaches_each_file(rt: HostRuntime) -> Result<(), Fail> {
+    for (file, name) in &NAMES {
+        fs::create_dir(&rt, "a_device")?;
+        symlink(&rt, FULL, *name)?;
+        let mut disk = FileDisk::new(rt, rt.alloc(), String::from_str(rt.alloc(), "a_device")?);
+        assert_eq!(rt; disk.sync(), Err(Failed));
+        assert_eq!(rt; disk.size(*file), Ok(0));
+        assert_eq!(rt; disk.write(*file, 0, b"a"), Err(Failed));
+        assert_eq!(rt; (disk.moment(), disk.faults(), disk.strays()), (2, 2, 0));
+        fs::remove_dir_all(&rt, "a_device")?;
+    }
+    Ok(())
+}
+
+// The folder's own name is synced in the folder above, which isn't reached through a file. After a sync
+// that failed none is answered, also where this one would go well.
+#[test]
+fn a_sync_that_failed_is_the_last(rt: HostRuntime) -> Result<(), Fail> {
+    let mut disk = FileDisk::new(
+        rt,
+        rt.alloc(),
+        String::from_str(rt.alloc(), "a_lost_folder")?,
+    );
+    assert!(rt; disk.write(File::Root, 0, b"a").is_ok());
+    for file in [File::LogA, File::LogB, File::Pages] {
+        assert_eq!(rt; disk.size(file), Ok(0));
+    }
+    fs::remove_dir_all(&rt, "a_lost_folder")?;
+    fs::write(&rt, "a_lost_folder", b"")?;
+    assert_eq!(rt; disk.sync(), Err(Failed));
+    fs::remove_file(&rt, "a_lost_folder")?;
+    fs::create_dir(&rt, "a_lost_folder")?;
+    assert_eq!(rt; disk.sync(), Err(Failed));
+    assert_eq!(rt; (disk.moment(), disk.faults(), disk.strays()), (3, 2, 0));
+    fs::remove_dir_all(&rt, "a_lost_folder")?;
+    Ok(())
+}
+
+// The names of the files are synced in their folder, which has to be read for that. A user who may read
+// every folder sees a sync that goes well.
+#[test]
+fn a_sync_reaches_the_names(rt: HostRuntime) -> Result<(), Fail> {
+    let mut disk = FileDisk::new(
+        rt,
+        rt.alloc(),
+        String::from_str(rt.alloc(), "a_shut_folder")?,
+    );
+    for file in [File::Root, File::LogA, File::LogB, File::Pages] {
+        assert_eq!(rt; disk.size(file), Ok(0));
+    }
+    fs::set_permissions(&rt, "a_shut_folder", Permissions::from_mode(0o300))?;
+    let reads_all = fs::File::open(&rt, "a_shut_folder").is_ok();
+    assert_eq!(rt; disk.sync().is_ok(), reads_all);
+    fs::set_permissions(&rt, "a_shut_folder", Permissions::from_mode(0o700))?;
+    fs::remove_dir_all(&rt, "a_shut_folder")?;
     Ok(())
 }
 

@@ -1,0 +1,12 @@
+-- What a folder keeps of its files: which may hold what didn't reach the disk.
+use Rattle.std.specs.Prelude.{◌≡◌, true}
+use Rattle.ctr_disk.specs.declared.disk.File.{File}
+use Rattle.ctr_disk.specs.declared.disk.File.TheVariants.{Root, LogA, LogB, Pages}
+use Rattle.ctr_main.specs.declared.folder.Folder.{Folder}
+
+-- the next sync has to reach the file
+abbrev pub IsUnsynced : {R Opened : Type 0} → File → Folder R Opened → Type 0
+IsUnsynced Root f = f.root.is_unsynced ≡ true
+IsUnsynced LogA f = f.log_a.is_unsynced ≡ true
+IsUnsynced LogB f = f.log_b.is_unsynced ≡ true
+IsUnsynced Pages f = f.pages.is_unsynced ≡ true
