@@ -19,7 +19,7 @@ use Rattle.ctr_model.specs.Grammar.{first, IsScript, IsRefusedAt, most_bytes}
 use Rattle.ctr_script.specs.declared.error.ScriptError.{ScriptError}
 use Rattle.ctr_script.specs.declared.error.ScriptError.TheVariants as script_error
 use Rattle.ctr_script.specs.Reading.{HasReason, IsHindrance}
-use Rattle.ctr_top.specs.Top.{Ran, OpenCauses, LinesCauses, ReadCauses, RunCauses, IsRunStatus, NoScript, IsNoneOrEmpty}
+use Rattle.ctr_top.specs.Top.{Ran, OpenCauses, LinesCauses, ReadCauses, RunCauses, IsRunStatus, IsRefusal, NoScript, IsNoneOrEmpty}
 
 -- the cause of a database that wasn't opened
 pub open_causes : (tells : Bool) (image : Image) (before now : ℕ) (error : OpenError) (status : ℕ) (why : Cause) (es : List Entry) → es ≡ [] → OpenCauses tells image before now error status why → LinesCauses tells image before now status why es
@@ -216,3 +216,16 @@ pub none_or_empty : {D : Type 0} (images : D → Image → Type 0) (d : D) → (
 none_or_empty images d fresh old c (inl h) = inl h
 none_or_empty images d fresh old c (inr (inl none)) = inr (inl none)
 none_or_empty images d fresh old c (inr (inr is)) = inr (inr (fresh old c is).0)
+
+-- a World that ended refuses nothing
+pub no_refusal : {R : Type 0} (status : ℕ) → (status ≡ 0) ⊎ ((status ≡ 5) × R) → IsRefusal status → ⊥
+no_refusal status (inl zero_is) (inl is) = absurd (omega (arith, zero_is, is))
+no_refusal status (inl zero_is) (inr (inl is)) = absurd (omega (arith, zero_is, is))
+no_refusal status (inl zero_is) (inr (inr (inl is))) = absurd (omega (arith, zero_is, is))
+no_refusal status (inl zero_is) (inr (inr (inr (inl is)))) = absurd (omega (arith, zero_is, is))
+no_refusal status (inl zero_is) (inr (inr (inr (inr is)))) = absurd (omega (arith, zero_is, is))
+no_refusal status (inr fault) (inl is) = absurd (omega (arith, fault.0, is))
+no_refusal status (inr fault) (inr (inl is)) = absurd (omega (arith, fault.0, is))
+no_refusal status (inr fault) (inr (inr (inl is))) = absurd (omega (arith, fault.0, is))
+no_refusal status (inr fault) (inr (inr (inr (inl is)))) = absurd (omega (arith, fault.0, is))
+no_refusal status (inr fault) (inr (inr (inr (inr is)))) = absurd (omega (arith, fault.0, is))

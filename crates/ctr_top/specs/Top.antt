@@ -3,7 +3,7 @@ use Rattle.std.specs.Prelude.{◌≡◌, ◌≢◌, ◌⊎◌, ◌==◌, ◌≤�
 use Rattle.ctr_types.specs.declared.statement.Line.{Line}
 use Rattle.ctr_types.specs.declared.tape.Entry.{Entry}
 use Rattle.ctr_disk.specs.declared.disk.Image.{Image}
-use Rattle.ctr_disk.specs.Crash.{Rose}
+use Rattle.ctr_disk.specs.Crash.{Rose, LeavesOnly}
 use Rattle.ctr_model.specs.declared.tape.Cause.{Cause}
 use Rattle.ctr_model.specs.declared.tape.Cause.TheVariants as cause
 use Rattle.ctr_model.specs.declared.tape.Command.{Command}
@@ -71,6 +71,19 @@ CantOpen image = (root_value image.root ≢ None) × StandsForNone image
 -- the status is one of those of a run
 abbrev pub IsRunStatus : ℕ → Type 0
 IsRunStatus status = (status ≡ 0) ⊎ ((status ≡ 1) ⊎ ((status ≡ 3) ⊎ ((status ≡ 4) ⊎ ((status ≡ 5) ⊎ ((status ≡ 6) ⊎ (status ≡ 8))))))
+
+-- with these nothing was run: there is no script, no database that can be opened, or no memory to begin
+abbrev pub IsRefusal : ℕ → Type 0
+IsRefusal status = (status ≡ 1) ⊎ ((status ≡ 3) ⊎ ((status ≡ 4) ⊎ ((status ≡ 6) ⊎ (status ≡ 8))))
+
+-- nothing is run: by the status, or whatever the status, where the image stands for no database that can be opened
+abbrev pub RunsNothing : Bool → Image → ℕ → Type 0
+RunsNothing tells image status = IsRefusal status ⊎ (IsTrue tells × (CanOpen image → ⊥))
+
+-- a read gives what it gave, and a crash at any moment leaves what it might have left
+pub record IsLeft {D : Type 0} (reads : D → Image) (images : D → Image → Type 0) (moment : D → ℕ) (since : D → ℕ → Image → Type 0) (old new : D) : Type 0 where
+  pub same : reads new ≡ reads old
+  pub any_moment : LeavesOnly moment since old new (images old)
 
 -- the disk's count of strays rose only where a file of the log is nearly as long as a file can be
 abbrev pub RoseOnlyLong : {D : Type 0} → (D → ℕ) → (D → ℕ → Image → Type 0) → (D → ℕ) → ℕ → D → Type 0

@@ -16,7 +16,7 @@ ghost use Rattle.ctr_print.specs.Prints.{PutsOn};
 ghost use Rattle.ctr_thin.specs.Thin.{StandsFor, IsLow};
 ghost use Rattle.ctr_exec.specs.Session.{IsNotFull};
 ghost use Rattle.ctr_top.specs.Words.{IsCommand};
-ghost use Rattle.ctr_top.specs.Top.{RanScript, RunCauses, RoseOnlyLong, MakeCauses, IsNoneOrEmpty, IsEmptyDatabase, PutsText, NoneRose, text_of, work_status, report_of};
+ghost use Rattle.ctr_top.specs.Top.{RanScript, RunCauses, RoseOnlyLong, MakeCauses, IsNoneOrEmpty, IsEmptyDatabase, PutsText, NoneRose, text_of, work_status, report_of, RunsNothing, IsLeft};
 
 use crate::making::make;
 use crate::outcome::Outcome;
@@ -110,6 +110,8 @@ pub fn run_serial<D: Disk, S: Source, K: Sink>(
         → RanScript D.moment_of D.since (D.images disk) (D.moment_of disk) base S.tells (S.left source.old) (work_status result.status) result.tape.entries result.disk }
     ensures run_causes { IsCommand (map string_bytes words.now) Run
         → RunCauses D.tells S.tells (D.reads disk) (S.left source.old) (D.faults_of disk) (D.faults_of result.disk) (S.faults_of source.old) (S.faults_of source.new) (work_status result.status) result.cause result.tape.entries }
+    // Where nothing was run, or no database can be opened, the disk is left as it was, at every moment.
+    ensures run_left { IsCommand (map string_bytes words.now) Run → RunsNothing D.tells (D.reads disk) (work_status result.status) → IsLeft D.reads D.images D.moment_of D.since disk result.disk }
     // The disk's strays rise only where a file of the log is nearly as long as a file can be.
     ensures run_strays { IsCommand (map string_bytes words.now) Run → (base : Database) → IsTrue D.tells → StandsFor (D.reads disk) base → RoseOnlyLong D.moment_of D.since D.strays_of (D.strays_of disk) result.disk }
     ensures not_full { AllByRecursion (λ e. IsNotFull e.reply) result.tape.entries }

@@ -9,7 +9,7 @@ ghost use Rattle.ctr_thin.specs.declared.opening.OpenError.TheVariants.{Fault};
 ghost use Rattle.ctr_thin.specs.Thin.{StandsFor, Explains};
 ghost use Rattle.ctr_exec.specs.Session.{IsNotFull};
 ghost use Rattle.ctr_world.specs.World.{AreTaken, StopsBy};
-ghost use Rattle.ctr_top.specs.Top.{Ran, RanScript, RunCauses, LinesCauses, OpenCauses, ReadCauses, RoseOnlyLong};
+ghost use Rattle.ctr_top.specs.Top.{Ran, RanScript, RunCauses, LinesCauses, OpenCauses, ReadCauses, RoseOnlyLong, RunsNothing, IsLeft};
 
 use crate::outcome::Outcome;
 use ctr_disk::{Disk, Source, Stop};
@@ -108,6 +108,7 @@ fn run_opened<D: Disk, B: Opening>(alloc: Global, disk: D, script: Script) -> Ou
     ensures ran { (base : Database) → IsTrue D.tells → StandsFor B.image base → Ran D.moment_of D.since B.before B.start base B.lines result.status result.tape.entries result.disk }
     ensures causes { LinesCauses D.tells B.image B.faults (D.faults_of result.disk) result.status result.cause result.tape.entries }
     ensures stray { (base : Database) → IsTrue D.tells → StandsFor B.image base → RoseOnlyLong D.moment_of D.since D.strays_of B.strays result.disk }
+    ensures left { RunsNothing D.tells (D.reads disk) result.status → IsLeft D.reads D.images D.moment_of D.since disk result.disk }
     ensures not_full { AllByRecursion (λ e. IsNotFull e.reply) result.tape.entries }
     ensures faults { B.faults ≤ D.faults_of result.disk }
     ensures later { B.start ≤ D.moment_of result.disk }
@@ -148,6 +149,7 @@ pub fn run_script<D: Disk, S: Source>(alloc: Global, disk: D, source: &mut S) ->
         → RanScript D.moment_of D.since (D.images disk) (D.moment_of disk) base S.tells (S.left source.old) result.status result.tape.entries result.disk }
     ensures causes { RunCauses D.tells S.tells (D.reads disk) (S.left source.old) (D.faults_of disk) (D.faults_of result.disk) (S.faults_of source.old) (S.faults_of source.new) result.status result.cause result.tape.entries }
     ensures stray { (base : Database) → IsTrue D.tells → StandsFor (D.reads disk) base → RoseOnlyLong D.moment_of D.since D.strays_of (D.strays_of disk) result.disk }
+    ensures left { RunsNothing D.tells (D.reads disk) result.status → IsLeft D.reads D.images D.moment_of D.since disk result.disk }
     ensures not_full { AllByRecursion (λ e. IsNotFull e.reply) result.tape.entries }
     ensures taken { IsTrue S.tells → length (S.left source.old) ≤ length (S.left source.new) + 16777217 }
     ensures disk_faults { D.faults_of disk ≤ D.faults_of result.disk }

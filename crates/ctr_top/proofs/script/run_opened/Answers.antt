@@ -1,7 +1,7 @@
-use Rattle.std.proofs.Common.{◌∙◌, sym, subst}
+use Rattle.std.proofs.Common.{◌∙◌, ⊎_elim, sym, subst}
 use Rattle.ctr_world.specs.World.{CanOpen}
-use Rattle.ctr_top.specs.Top.{Ran, LinesCauses}
-use Rattle.ctr_top.proofs.RunLemmas.{open_causes, end_causes, ran_none, not_fine}
+use Rattle.ctr_top.specs.Top.{Ran, LinesCauses, IsLeft}
+use Rattle.ctr_top.proofs.RunLemmas.{open_causes, end_causes, ran_none, not_fine, no_refusal}
 use Rattle.ctr_top.proofs.script.run_opened.Goals as goal
 
 pub returns-in-Err-clause-ran : goal.returns-in-Err-clause-ran
@@ -31,6 +31,20 @@ returns-in-Err-clause-causes g c =
     (subst (λ e. LinesCauses d.tells old (d.faults_of c.args.disk) (d.faults_of e) c.why_not_opened-status.result.0 c.why_not_opened-status.result.1 c.without_tape.result.tape.entries) (sym t.disk) made)) in
     subst (λ q. LinesCauses d.tells b.image b.faults (d.faults_of c.without_tape.result.disk) c.without_tape.result.status q c.without_tape.result.tape.entries) (sym t.cause)
     (subst (λ n. LinesCauses d.tells b.image b.faults (d.faults_of c.without_tape.result.disk) n c.why_not_opened-status.result.1 c.without_tape.result.tape.entries) (sym t.status) moved)
+
+pub returns-in-Err-clause-left : goal.returns-in-Err-clause-left
+returns-in-Err-clause-left g c = λ is.
+    let d = g.D.Disk in
+    let s = c.in-Err.ensures.stays in
+    subst (λ e. IsLeft d.reads d.images d.moment_of d.since c.args.disk e) (sym c.without_tape.ensures.disk) (record { same = s.same; any_moment = s.any_moment })
+
+pub returns-clause-left : goal.returns-clause-left
+returns-clause-left g c = λ is.
+    let d = g.D.Disk in
+    let b = g.B.Opening in
+    let f = c.finish-finished in
+    absurd (⊎_elim (no_refusal c.why_stopped-status.result.0 (c.why_stopped-status.ensures.fault b.faults (d.faults_of f.result.disk) f.ensures.stops))
+    (λ shut. shut.1 (c.in-Ok.ensures.can_open shut.0)) is)
 
 pub returns-clause-stray : goal.returns-clause-stray
 returns-clause-stray g c = λ base told stands. (c.finish-finished.ensures.ends base told stands).stray

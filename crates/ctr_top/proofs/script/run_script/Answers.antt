@@ -1,6 +1,6 @@
 use Rattle.std.proofs.Common.{◌∙◌, inl, inr, [], sym, subst, arith, refl}
 use Rattle.ctr_disk.proofs.Moments.{starts}
-use Rattle.ctr_top.specs.Top.{Ran, RunCauses}
+use Rattle.ctr_top.specs.Top.{Ran, RunCauses, IsLeft}
 use Rattle.ctr_top.proofs.ScriptLemmas.{lines_taken, lines_at_most}
 use Rattle.ctr_top.proofs.RunLemmas.{ran_none, lines_causes, read_causes, not_zero}
 use Rattle.ctr_top.proofs.script.run_script.Goals as goal
@@ -49,3 +49,9 @@ returns-in-Err-clause-causes g c =
     c.without_tape.result.tape.entries t.tape c.why_not_read-status.ensures c.in-Err.ensures.reason c.in-Err.ensures.only_refused c.in-Err.ensures.only_long in
     subst (λ q. RunCauses d.tells s.tells (d.reads c.args.disk) (s.left c.args.source.now) (d.faults_of c.args.disk) (d.faults_of c.without_tape.result.disk) (s.faults_of c.args.source.now) (s.faults_of c.read_script.new.source) c.without_tape.result.status q c.without_tape.result.tape.entries) (sym t.cause)
     (subst (λ n. RunCauses d.tells s.tells (d.reads c.args.disk) (s.left c.args.source.now) (d.faults_of c.args.disk) (d.faults_of c.without_tape.result.disk) (s.faults_of c.args.source.now) (s.faults_of c.read_script.new.source) n c.why_not_read-status.result.1 c.without_tape.result.tape.entries) (sym t.status) made)
+
+pub returns-in-Err-clause-left : goal.returns-in-Err-clause-left
+returns-in-Err-clause-left g c = λ is.
+    let d = g.D.Disk in
+    subst (λ e. IsLeft d.reads d.images d.moment_of d.since c.args.disk e) (sym c.without_tape.ensures.disk)
+    (record { same = refl; any_moment = starts d.moment_of d.since c.args.disk (d.images c.args.disk) (d.images c.args.disk) (λ i left. g.met.D.Disk.only_now c.args.disk i left) (λ i h. h) })
