@@ -1,0 +1,3 @@
+1> BEGIN;
+1> SELECT * FROM log;
+1> COMMIT;

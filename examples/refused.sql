@@ -1,0 +1,15 @@
+1> SELECT * FROM parts;
+1> BEGIN;
+1> BEGIN;
+1> SELECT * FROM parts;
+1> CREATE TABLE parts (id INT PRIMARY KEY, name TEXT(8));
+1> CREATE TABLE parts (id INT PRIMARY KEY);
+1> INSERT INTO parts VALUES ('one', 'nut');
+1> INSERT INTO parts VALUES (1, 'a nut with a long name');
+1> INSERT INTO parts VALUES (1);
+1> INSERT INTO parts VALUES (1, 'nut', 400);
+1> INSERT INTO parts VALUES (1, 'nut');
+1> INSERT INTO parts VALUES (1, 'bolt');
+1> SELECT * FROM parts;
+1> COMMIT;
+1> COMMIT;
