@@ -1,6 +1,6 @@
 //! Four files in a folder, opened as they are needed.
 ghost use Rattle.std.specs.Prelude.{◌≡◌, true, OnOk, OnErr};
-ghost use Rattle.ctr_main.specs.Folder.{IsUnsynced};
+ghost use Rattle.ctr_main.specs.Folder.{IsUnsynced, KeepsInMind};
 
 use ctr_disk::{Failed, File as Which};
 use std::alloc::Global;
@@ -159,29 +159,34 @@ impl<R: Files<File = File> + Drop> Folder<R> {
         }
     }
 
-    fn slot_mut(&mut self, file: Which) -> &mut Slot {
+    fn set_file(&mut self, file: Which, opened: File)
+        ensures { KeepsInMind self.old self.new }
+    {
         match file {
-            Which::Root => &mut self.root,
-            Which::LogA => &mut self.log_a,
-            Which::LogB => &mut self.log_b,
-            Which::Pages => &mut self.pages,
+            Which::Root => self.root.file = Some(opened),
+            Which::LogA => self.log_a.file = Some(opened),
+            Which::LogB => self.log_b.file = Some(opened),
+            Which::Pages => self.pages.file = Some(opened),
         }
     }
 
-    // What was written to a file since its last sync may not have reached the disk.
-    fn mark(&mut self, file: Which)
-        ensures { IsUnsynced file self.new }
+    // Whether what was written to a file may not have reached the disk.
+    fn set_unsynced(&mut self, file: Which, is_unsynced: bool)
+        ensures marked { is_unsynced ≡ true → IsUnsynced file self.new }
+        ensures kept { KeepsInMind self.old self.new }
     {
         match file {
-            Which::Root => self.root.is_unsynced = true,
-            Which::LogA => self.log_a.is_unsynced = true,
-            Which::LogB => self.log_b.is_unsynced = true,
-            Which::Pages => self.pages.is_unsynced = true,
+            Which::Root => self.root.is_unsynced = is_unsynced,
+            Which::LogA => self.log_a.is_unsynced = is_unsynced,
+            Which::LogB => self.log_b.is_unsynced = is_unsynced,
+            Which::Pages => self.pages.is_unsynced = is_unsynced,
         }
     }
 
     // Opens the file, unless it is open.
-    fn open(&mut self, file: Which) -> Result<(), Failed> {
+    fn open(&mut self, file: Which) -> Result<(), Failed>
+        ensures { KeepsInMind self.old self.new }
+    {
         if self.slot(file).file.is_some() {
             return Ok(());
         }
@@ -191,12 +196,14 @@ impl<R: Files<File = File> + Drop> Folder<R> {
         }
         let opened = open_file(&self.rt, self.alloc, self.path.as_str(), name_of(file))?;
         self.are_names_unsynced = true;
-        self.slot_mut(file).file = Some(opened);
+        self.set_file(file, opened);
         Ok(())
     }
 
     /// The length of a file in bytes.
-    pub fn size(&mut self, file: Which) -> Result<u64, Failed> {
+    pub fn size(&mut self, file: Which) -> Result<u64, Failed>
+        ensures { KeepsInMind self.old self.new }
+    {
         self.open(file)?;
         let Some(opened) = &self.slot(file).file else {
             return Err(Failed);
@@ -208,7 +215,9 @@ impl<R: Files<File = File> + Drop> Folder<R> {
     }
 
     /// Fills the buffer from a place of a file, with zeros past its end.
-    pub fn read(&mut self, file: Which, at: u64, into: &mut [u8]) -> Result<(), Failed> {
+    pub fn read(&mut self, file: Which, at: u64, into: &mut [u8]) -> Result<(), Failed>
+        ensures { KeepsInMind self.old self.new }
+    {
         self.open(file)?;
         let Some(opened) = &self.slot(file).file else {
             return Err(Failed);
@@ -220,9 +229,10 @@ impl<R: Files<File = File> + Drop> Folder<R> {
     pub fn write(&mut self, file: Which, at: u64, bytes: &[u8]) -> Result<(), Failed>
         // The next sync reaches the file.
         ensures marked { OnOk result (IsUnsynced file self.new) }
+        ensures kept { KeepsInMind self.old self.new }
     {
         self.open(file)?;
-        self.mark(file);
+        self.set_unsynced(file, true);
         let Some(opened) = &self.slot(file).file else {
             return Err(Failed);
         };
@@ -240,7 +250,7 @@ impl<R: Files<File = File> + Drop> Folder<R> {
             return Err(Failed);
         };
         opened.sync_all().map_err(|_| Failed)?;
-        self.slot_mut(file).is_unsynced = false;
+        self.set_unsynced(file, false);
         Ok(())
     }
 
