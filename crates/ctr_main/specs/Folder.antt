@@ -11,6 +11,7 @@ IsUnsynced LogA f = f.log_a.is_unsynced ≡ true
 IsUnsynced LogB f = f.log_b.is_unsynced ≡ true
 IsUnsynced Pages f = f.pages.is_unsynced ≡ true
 
--- a sync that failed isn't forgotten, nor are names that may not have reached the disk
+-- a sync that failed isn't forgotten, nor are names and bytes that may not have reached the disk
 abbrev pub KeepsInMind : {R Opened : Type 0} → Folder R Opened → Folder R Opened → Type 0
 KeepsInMind old new = (new.has_lost ≡ old.has_lost) × (old.are_names_unsynced ≡ true → new.are_names_unsynced ≡ true)
+    × (IsUnsynced Root old → IsUnsynced Root new) × (IsUnsynced LogA old → IsUnsynced LogA new) × (IsUnsynced LogB old → IsUnsynced LogB new) × (IsUnsynced Pages old → IsUnsynced Pages new)

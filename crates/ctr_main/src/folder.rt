@@ -170,16 +170,26 @@ impl<R: Files<File = File> + Drop> Folder<R> {
         }
     }
 
-    // Whether what was written to a file may not have reached the disk.
-    fn set_unsynced(&mut self, file: Which, is_unsynced: bool)
-        ensures marked { is_unsynced ≡ true → IsUnsynced file self.new }
+    // What was written to a file may not have reached the disk.
+    fn mark(&mut self, file: Which)
+        ensures marked { IsUnsynced file self.new }
         ensures kept { KeepsInMind self.old self.new }
     {
         match file {
-            Which::Root => self.root.is_unsynced = is_unsynced,
-            Which::LogA => self.log_a.is_unsynced = is_unsynced,
-            Which::LogB => self.log_b.is_unsynced = is_unsynced,
-            Which::Pages => self.pages.is_unsynced = is_unsynced,
+            Which::Root => self.root.is_unsynced = true,
+            Which::LogA => self.log_a.is_unsynced = true,
+            Which::LogB => self.log_b.is_unsynced = true,
+            Which::Pages => self.pages.is_unsynced = true,
+        }
+    }
+
+    // What was written to a file has reached the disk.
+    fn unmark(&mut self, file: Which) {
+        match file {
+            Which::Root => self.root.is_unsynced = false,
+            Which::LogA => self.log_a.is_unsynced = false,
+            Which::LogB => self.log_b.is_unsynced = false,
+            Which::Pages => self.pages.is_unsynced = false,
         }
     }
 
@@ -227,12 +237,12 @@ impl<R: Files<File = File> + Drop> Folder<R> {
 
     /// Writes the bytes at a place of a file.
     pub fn write(&mut self, file: Which, at: u64, bytes: &[u8]) -> Result<(), Failed>
-        // The next sync reaches the file.
+        // The file is marked for the next sync.
         ensures marked { OnOk result (IsUnsynced file self.new) }
         ensures kept { KeepsInMind self.old self.new }
     {
         self.open(file)?;
-        self.set_unsynced(file, true);
+        self.mark(file);
         let Some(opened) = &self.slot(file).file else {
             return Err(Failed);
         };
@@ -250,7 +260,7 @@ impl<R: Files<File = File> + Drop> Folder<R> {
             return Err(Failed);
         };
         opened.sync_all().map_err(|_| Failed)?;
-        self.set_unsynced(file, false);
+        self.unmark(file);
         Ok(())
     }
 
