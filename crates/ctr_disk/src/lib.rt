@@ -12,8 +12,6 @@ mod image;
 mod memory;
 mod memory_edges;
 mod record;
-#[cfg(test)]
-mod tests;
 mod through;
 
 pub use disk::{Disk, Failed, File, Image};

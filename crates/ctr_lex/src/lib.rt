@@ -8,8 +8,6 @@ mod bytes;
 mod laws;
 mod lex;
 mod one;
-#[cfg(test)]
-mod tests;
 mod token;
 
 pub use laws::one_lexing;

@@ -7,8 +7,6 @@ mod log;
 mod making;
 mod near;
 mod reading;
-#[cfg(test)]
-mod tests;
 
 pub use home::{is_open, read_root, write_root};
 pub use log::{LogFile, Lsn, read_all};

@@ -8,8 +8,6 @@ mod numeral;
 mod quoted;
 mod schema;
 mod statement;
-#[cfg(test)]
-mod tests;
 mod value;
 mod word;
 

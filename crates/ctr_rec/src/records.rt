@@ -11,8 +11,6 @@ use ctr_bytes::{get_i64, get_u8, get_u16, get_u32, put_i64, put_u16, put_u32};
 use ctr_types::{Column, Kind, List, Name, Schema, Text};
 use std::alloc::{AllocError, AllocFailed, Global};
 
-#[cfg(test)]
-mod tests;
 
 /// A change of a commit.
 #[derive(Debug, PartialEq, Eq, Drop)]

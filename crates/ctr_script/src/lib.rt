@@ -8,8 +8,6 @@ mod error;
 mod laws;
 mod line;
 mod script;
-#[cfg(test)]
-mod tests;
 
 pub use bytes::MOST_BYTES;
 pub use error::ScriptError;

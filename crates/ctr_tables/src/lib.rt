@@ -4,7 +4,5 @@
 
 mod stored;
 mod tables;
-#[cfg(test)]
-mod tests;
 
 pub use tables::Tables;

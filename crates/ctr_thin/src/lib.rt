@@ -4,8 +4,6 @@
 mod laws;
 mod opening;
 mod replay;
-#[cfg(test)]
-mod tests;
 
 pub use laws::{fresh_stands, goes_on_by_record, goes_on_by_records, one_database, same_files};
 pub use opening::{OpenError, Opened, open};

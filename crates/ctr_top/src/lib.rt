@@ -5,8 +5,6 @@ mod making;
 mod outcome;
 mod run;
 mod script;
-#[cfg(test)]
-mod tests;
 mod words;
 
 pub use run::{Ended, run_serial};

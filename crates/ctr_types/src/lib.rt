@@ -10,8 +10,6 @@ mod name;
 mod plain;
 mod statement;
 mod tape;
-#[cfg(test)]
-mod tests;
 mod text;
 mod value;
 

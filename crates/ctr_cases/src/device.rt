@@ -1,0 +1,157 @@
+// Device calls that a suite lists, and the writing of a root, over a disk in memory.
+use crate::calls::{counts_of, images_of, listing_of, moments_of};
+use crate::numbers::{hex_bytes, split_file, split_number, split_word};
+use crate::page::Page;
+use crate::run::disk_of;
+use crate::setup::{Ask, Ran, Setup};
+use ctr_disk::{Disk, File, MemDisk, Root};
+use ctr_log::{read_root, write_root};
+use ctr_types::{List, Tape};
+use std::alloc::{AllocError, Global};
+
+/// The most bytes that a listed call reads.
+const READ_MOST: usize = 64;
+
+fn put_failed(page: &mut Page) {
+    page.put(b"failed\n");
+}
+
+fn read(alloc: Global, disk: &mut MemDisk, page: &mut Page, file: File, at: u64, len: usize) {
+    let mut buffer = [9; READ_MOST];
+    let into = &mut buffer[..len.min(READ_MOST)];
+    if disk.read(file, at, into).is_err() {
+        put_failed(page);
+        return;
+    }
+    page.put(b"read");
+    for byte in into.iter() {
+        page.put_hex(alloc, *byte);
+    }
+    page.put(b"\n");
+}
+
+fn size(alloc: Global, disk: &mut MemDisk, page: &mut Page, file: File) {
+    match disk.size(file) {
+        Ok(size) => {
+            page.put_number(alloc, "size ", size);
+            page.put(b"\n");
+        }
+        Err(_) => put_failed(page),
+    }
+}
+
+fn write(disk: &mut MemDisk, page: &mut Page, file: File, at: u64, bytes: &[u8]) {
+    if disk.write(file, at, bytes).is_err() {
+        put_failed(page);
+    }
+}
+
+// A call on a file: `size FILE`, `read FILE FROM LENGTH` or `write FILE FROM BYTES`. None where it is none.
+fn call_on_file(
+    alloc: Global,
+    disk: &mut MemDisk,
+    page: &mut Page,
+    line: &[u8],
+) -> Result<Option<()>, AllocError> {
+    let (word, rest) = split_word(line);
+    let Some((file, rest)) = split_file(rest) else {
+        return Ok(None);
+    };
+    if word == b"size".as_slice() {
+        size(alloc, disk, page, file);
+        return Ok(Some(()));
+    }
+    let Some((at, rest)) = split_number(rest) else {
+        return Ok(None);
+    };
+    if word == b"read".as_slice() {
+        if let Some((len, _)) = split_number(rest) {
+            read(alloc, disk, page, file, at, len as usize);
+            return Ok(Some(()));
+        }
+    }
+    if word == b"write".as_slice() {
+        if let Some(bytes) = hex_bytes(alloc, rest)? {
+            write(disk, page, file, at, &bytes);
+            return Ok(Some(()));
+        }
+    }
+    Ok(None)
+}
+
+fn make_call(
+    alloc: Global,
+    disk: &mut MemDisk,
+    page: &mut Page,
+    line: &[u8],
+) -> Result<(), AllocError> {
+    if line.is_empty() {
+        return Ok(());
+    }
+    if line == b"sync".as_slice() {
+        if disk.sync().is_err() {
+            put_failed(page);
+        }
+        return Ok(());
+    }
+    if call_on_file(alloc, disk, page, line)?.is_none() {
+        page.put(b"?? no such call\n");
+    }
+    Ok(())
+}
+
+fn make_calls(
+    alloc: Global,
+    disk: &mut MemDisk,
+    page: &mut Page,
+    script: &[u8],
+) -> Result<(), AllocError> {
+    for line in script.split(|byte| *byte == b'\n') {
+        make_call(alloc, disk, page, line)?;
+    }
+    Ok(())
+}
+
+fn ended(alloc: Global, disk: &MemDisk, page: &Page, ask: Ask) -> Result<Ran, AllocError> {
+    Ok(Ran {
+        status: 0,
+        tape: Tape {
+            entries: List::new(alloc),
+        },
+        text: page.bytes().to_vec(alloc)?,
+        printing: page.bytes().to_vec(alloc)?,
+        moments: moments_of(alloc, disk.calls())?,
+        images: images_of(alloc, disk, ask)?,
+        listing: listing_of(alloc, disk.calls(), ask),
+        counts: counts_of(disk),
+    })
+}
+
+/// Makes the calls that the script lists.
+pub fn play_calls(alloc: Global, setup: &Setup, ask: Ask) -> Result<Ran, AllocError> {
+    let mut page = Page::new(alloc);
+    let mut disk = disk_of(alloc, setup)?;
+    make_calls(alloc, &mut disk, &mut page, &setup.script)?;
+    ended(alloc, &disk, &page, ask)
+}
+
+// Writes a root whose stamp is above that of the root that is there.
+fn write_above(disk: &mut MemDisk, page: &mut Page, root: &Root) {
+    match read_root(disk) {
+        Ok(Some(old)) if old.stamp < root.stamp => {
+            if write_root(disk, root).is_err() {
+                put_failed(page);
+            }
+        }
+        Ok(_) => page.put(b"?? no root with a smaller stamp\n"),
+        Err(_) => put_failed(page),
+    }
+}
+
+/// Writes the root.
+pub fn play_root(alloc: Global, setup: &Setup, root: Root, ask: Ask) -> Result<Ran, AllocError> {
+    let mut page = Page::new(alloc);
+    let mut disk = disk_of(alloc, setup)?;
+    write_above(&mut disk, &mut page, &root);
+    ended(alloc, &disk, &page, ask)
+}

@@ -1,0 +1,42 @@
+//! Plays a suite of cases from standard input over disks, sources and sinks in memory, and prints what came.
+//!
+//! A suite is text, one step a line; docs/CASES.md tells the steps. What a case expects is the program's
+//! output, which `rt ci` compares with the file `stdout`.
+#![tactic(auto)]
+
+mod calls;
+mod databases;
+mod device;
+mod judge;
+mod numbers;
+mod page;
+mod player;
+mod printed;
+mod reading;
+mod run;
+mod script;
+mod setup;
+mod steps;
+mod sweep;
+
+use page::Page;
+use player::Player;
+use std::alloc::Global;
+use std::io::{self, Read, Write};
+
+// Plays the lines of a suite in order.
+fn played(alloc: Global, suite: &[u8]) -> Page {
+    let mut player = Player::new(alloc);
+    for line in suite.split(|byte| *byte == b'\n') {
+        player.take_line(line);
+    }
+    player.finish();
+    player.into_page()
+}
+
+fn main(rt: HostRuntime) -> io::Result<()> {
+    let mut suite = Vec::new(rt.alloc());
+    let _ = rt.stdin().read_to_end(&mut suite)?;
+    let page = played(rt.alloc(), &suite);
+    io::writer(&rt).write_all(page.bytes())
+}

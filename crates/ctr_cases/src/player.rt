@@ -1,0 +1,486 @@
+// Plays the lines of a suite.
+use crate::databases::Right;
+use crate::judge::{Found, Probe, found_in, led_from, script_of};
+use crate::numbers::{hex_bytes, name_of, number, numbers, split_file, split_number, split_word};
+use crate::page::Page;
+use crate::reading::{put_cuts, put_line, put_record, put_tokens};
+use crate::run::play;
+use crate::script::add_line;
+use crate::setup::{Ask, Counts, Ran, Setup, Work, run_words, set_file};
+use crate::steps::{Step, step_of};
+use crate::sweep::{NO_DATABASE, sweep_failures, sweep_stops};
+use ctr_disk::{Image, Root};
+use ctr_types::{OutOfMemory, Plain};
+use std::alloc::{AllocError, Global};
+use std::mem;
+
+/// The status of a run that finds a damaged database.
+const DAMAGED: u8 = 4;
+
+/// How many lines of a long text are printed.
+const BRIEF: u64 = 4;
+
+/// What waits for the lines of its script.
+#[derive(Clone, Copy)]
+enum Waiting {
+    Nothing,
+    Run,
+    Tokens,
+    Lines,
+}
+
+/// Where a suite stands.
+#[derive(Drop)]
+pub struct Player {
+    alloc: Global,
+    page: Page,
+    /// What the disk holds.
+    image: Image,
+    /// The next run, or the one that waits for its script's end.
+    next: Setup,
+    waiting: Waiting,
+    brief: bool,
+    /// Whether the slow machine judges the runs of this case.
+    judged: bool,
+    /// The last run, as it began; what was right before it and what is now; and what it counted.
+    last: Setup,
+    before: Right,
+    right: Right,
+    counts: Counts,
+}
+
+impl Player {
+    pub fn new(alloc: Global) -> Player {
+        Player {
+            alloc,
+            page: Page::new(alloc),
+            image: Image::new(alloc),
+            next: Setup::new(alloc, Image::new(alloc)),
+            waiting: Waiting::Nothing,
+            brief: false,
+            judged: true,
+            last: Setup::new(alloc, Image::new(alloc)),
+            before: Right::nothing(alloc),
+            right: Right::nothing(alloc),
+            counts: Counts {
+                calls: 0,
+                faults: 0,
+                strays: 0,
+                starved: 0,
+                moment: 0,
+            },
+        }
+    }
+
+    pub fn into_page(self) -> Page {
+        self.page
+    }
+
+    /// Does what waits.
+    pub fn finish(&mut self) {
+        let waiting = mem::replace(&mut self.waiting, Waiting::Nothing);
+        let done = match waiting {
+            Waiting::Nothing => Ok(()),
+            Waiting::Run => self.run(),
+            Waiting::Tokens => self.put_each(true),
+            Waiting::Lines => self.put_each(false),
+        };
+        self.note(done);
+        if self.page.is_cut() {
+            self.page.put(b"?? out of memory\n");
+        }
+    }
+
+    fn note(&mut self, done: Result<(), OutOfMemory>) {
+        if done.is_err() {
+            self.page.put(b"?? out of memory\n");
+        }
+    }
+
+    fn refuse(&mut self, line: &[u8]) {
+        self.page.put(b"?? no such step: ");
+        self.page.put(line);
+        self.page.put(b"\n");
+    }
+
+    /// Takes a line of the suite.
+    pub fn take_line(&mut self, line: &[u8]) {
+        let (word, rest) = split_word(line);
+        if word.first() == Some(&b'|') {
+            match add_line(self.alloc, &mut self.next.script, word, rest) {
+                Ok(Some(())) => {}
+                Ok(None) => self.refuse(line),
+                Err(_) => self.note(Err(OutOfMemory)),
+            }
+            return;
+        }
+        self.finish();
+        if word.is_empty() || word == b"#".as_slice() {
+            return;
+        }
+        match step_of(word) {
+            Some(step) => self.take_step(step, line, rest),
+            None => self.refuse(line),
+        }
+    }
+
+    fn take_step(&mut self, step: Step, line: &[u8], rest: &[u8]) {
+        match self.step(step, rest) {
+            Ok(Some(())) => {}
+            Ok(None) => self.refuse(line),
+            Err(error) => self.note(Err(error)),
+        }
+    }
+
+    // None where what follows the word isn't of its form.
+    fn step(&mut self, step: Step, rest: &[u8]) -> Result<Option<()>, OutOfMemory> {
+        match step {
+            Step::Case => self.begin_case(rest),
+            Step::Brief => self.brief = true,
+            Step::Unjudged => self.judged = false,
+            Step::Any => self.right.least = 0,
+            Step::Tokens => self.waiting = Waiting::Tokens,
+            Step::Lines => self.waiting = Waiting::Lines,
+            Step::Init | Step::Run | Step::Words | Step::Device | Step::Root => {
+                return self.begin_run(step, rest);
+            }
+            Step::Alter | Step::Length | Step::Show => return self.on_file(step, rest),
+            Step::After => return self.go_on_after(rest),
+            Step::Calls => self.list_calls()?,
+            Step::Counts => self.put_counts(),
+            Step::Holds => self.put_found()?,
+            Step::Stops => self.sweep_stops()?,
+            Step::Failures => self.sweep_failures()?,
+            Step::Record | Step::Cuts => return self.read_record(step, rest),
+            _ => return self.set_fault(step, rest),
+        }
+        Ok(Some(()))
+    }
+
+    fn begin_case(&mut self, rest: &[u8]) {
+        self.page.put(b"\ncase ");
+        self.page.put(rest);
+        self.page.put(b"\n");
+        self.image = Image::new(self.alloc);
+        self.next = Setup::new(self.alloc, Image::new(self.alloc));
+        self.last = Setup::new(self.alloc, Image::new(self.alloc));
+        self.right = Right::nothing(self.alloc);
+        self.before = Right::nothing(self.alloc);
+        self.brief = false;
+        self.judged = true;
+    }
+
+    fn begin_run(&mut self, step: Step, rest: &[u8]) -> Result<Option<()>, OutOfMemory> {
+        match step {
+            Step::Init => self.next.words = words_in(self.alloc, b"init d")?,
+            Step::Run => self.next.words = run_words(self.alloc)?,
+            Step::Words => self.next.words = words_in(self.alloc, rest)?,
+            Step::Device => self.next.work = Work::Calls,
+            _ => match root_of(self.alloc, rest)? {
+                Some(root) => self.next.work = Work::WriteRoot(root),
+                None => return Ok(None),
+            },
+        }
+        self.waiting = Waiting::Run;
+        Ok(Some(()))
+    }
+
+    // What fails in the next run, how much is moved at once, and what its disk has counted before.
+    fn set_fault(&mut self, step: Step, rest: &[u8]) -> Result<Option<()>, OutOfMemory> {
+        let Some(list) = numbers(self.alloc, rest)? else {
+            return Ok(None);
+        };
+        let first = list.first().copied().unwrap_or(0);
+        match step {
+            Step::Disk => self.next.disk_fails = list,
+            Step::Source => self.next.source_fails = list,
+            Step::Sink => self.next.sink_fails = list,
+            Step::Gives => self.next.taken_most = first,
+            Step::Takes => self.next.put_most = first,
+            Step::Clock => self.next.moment = first,
+            _ => {
+                self.next.faults = first;
+                self.next.strays = list.get(1).copied().unwrap_or(0);
+            }
+        }
+        Ok(Some(()))
+    }
+
+    // alter FILE PLACE BYTES, length FILE LENGTH, show FILE FROM TO
+    fn on_file(&mut self, step: Step, rest: &[u8]) -> Result<Option<()>, OutOfMemory> {
+        let Some((file, rest)) = split_file(rest) else {
+            return Ok(None);
+        };
+        let Some((place, rest)) = split_number(rest) else {
+            return Ok(None);
+        };
+        let bytes = self.image.file(file).as_slice();
+        if step == Step::Length {
+            let changed = with_length(self.alloc, bytes, place)?;
+            set_file(&mut self.image, file, changed);
+            return Ok(Some(()));
+        }
+        if step == Step::Show {
+            let Some(to) = number(rest) else {
+                return Ok(None);
+            };
+            self.page.put(name_of(file).as_bytes());
+            for byte in part(bytes, place, to) {
+                self.page.put_hex(self.alloc, *byte);
+            }
+            self.page.put(b"\n");
+            return Ok(Some(()));
+        }
+        let Some(with) = hex_bytes(self.alloc, rest)? else {
+            return Ok(None);
+        };
+        let changed = altered(self.alloc, bytes, place, &with)?;
+        set_file(&mut self.image, file, changed);
+        Ok(Some(()))
+    }
+
+    fn run(&mut self) -> Result<(), OutOfMemory> {
+        let next = Setup::new(self.alloc, Image::new(self.alloc));
+        self.last = mem::replace(&mut self.next, next);
+        self.last.image = self.image.copy(self.alloc)?;
+        let ran = play(self.alloc, &self.last, Ask::Last)?;
+        self.tell(&ran);
+        self.counts = ran.counts;
+        self.before = self.right.copy(self.alloc)?;
+        if self.judged {
+            self.judge(&ran)?;
+        }
+        for image in ran.images.iter() {
+            self.image = image.copy(self.alloc)?;
+        }
+        if self.judged && ran.status != NO_DATABASE && ran.status != DAMAGED {
+            self.narrow()?;
+        }
+        Ok(())
+    }
+
+    fn tell(&mut self, ran: &Ran) {
+        if self.brief {
+            self.page.put_ends(self.alloc, &ran.text, BRIEF);
+        } else {
+            self.page.put(&ran.text);
+        }
+        self.brief = false;
+        if matches!(self.last.work, Work::Command) {
+            self.page
+                .put_number(self.alloc, "status ", ran.status as u64);
+            self.page.put(b"\n");
+        }
+    }
+
+    // Whether what was put is what the tape, the status and the cause say, and the tape is legal; and which databases are
+    // right after it.
+    fn judge(&mut self, ran: &Ran) -> Result<(), OutOfMemory> {
+        if !self.is_printed(ran) {
+            self.page.put(b"WRONG: another text was put\n");
+        }
+        if self.last.is_command("init") {
+            return self.judge_init(ran);
+        }
+        if ran.tape.entries.is_empty() {
+            return Ok(());
+        }
+        let script = script_of(self.alloc, &self.last.script)?;
+        match led_from(self.alloc, &self.right, &script, ran)? {
+            Some(right) => self.right = right,
+            None => self.page.put(b"WRONG: the tape isn't legal\n"),
+        }
+        Ok(())
+    }
+
+    // The text was put, or a front of it where the sink was to fail.
+    fn is_printed(&self, ran: &Ran) -> bool {
+        if self.last.sink_fails.is_empty() {
+            return ran.text.as_slice() == ran.printing.as_slice();
+        }
+        ran.printing.starts_with(&ran.text)
+    }
+
+    fn judge_init(&mut self, ran: &Ran) -> Result<(), OutOfMemory> {
+        if !ran.tape.entries.is_empty() {
+            self.page.put(b"WRONG: the tape isn't empty\n");
+        }
+        if self.right.none {
+            self.right = Right::empty(self.alloc, ran.status != 0)?;
+        }
+        Ok(())
+    }
+
+    fn found(&self) -> Result<Found, OutOfMemory> {
+        let probe = Probe::new(self.alloc, &self.right)?;
+        found_in(self.alloc, &self.right, &probe, &self.image)
+    }
+
+    // Which of the databases that are right the disk holds.
+    fn narrow(&mut self) -> Result<(), OutOfMemory> {
+        match self.found()? {
+            Found::Commits(number) if self.right.has(number) => {
+                self.right.least = number;
+                self.right.most = number;
+                self.right.none = false;
+            }
+            Found::Status(NO_DATABASE) if self.right.none => {}
+            _ => self
+                .page
+                .put(b"WRONG: the disk holds no database that is right\n"),
+        }
+        Ok(())
+    }
+
+    // after CALLS image DIGITS
+    fn go_on_after(&mut self, rest: &[u8]) -> Result<Option<()>, OutOfMemory> {
+        let Some((calls, rest)) = split_number(rest) else {
+            return Ok(None);
+        };
+        let (_image, rest) = split_word(rest);
+        let Some(digits) = number(rest) else {
+            return Ok(None);
+        };
+        let ran = play(self.alloc, &self.last, Ask::Stop(calls, digits))?;
+        for image in ran.images.iter() {
+            self.image = image.copy(self.alloc)?;
+        }
+        self.right.least = 0;
+        self.right.most = self.right.list.len();
+        self.right.none = self.before.none;
+        Ok(Some(()))
+    }
+
+    fn put_found(&mut self) -> Result<(), OutOfMemory> {
+        match self.found()? {
+            Found::Commits(number) => {
+                self.page
+                    .put_number(self.alloc, "holds commits ", number as u64);
+                self.right.least = number;
+                self.right.most = number;
+            }
+            Found::Status(status) => {
+                self.page
+                    .put_number(self.alloc, "holds none, status ", status as u64);
+            }
+            Found::Other => self.page.put(b"holds another database"),
+        }
+        self.page.put(b"\n");
+        Ok(())
+    }
+
+    fn list_calls(&mut self) -> Result<(), OutOfMemory> {
+        let ran = play(self.alloc, &self.last, Ask::Calls)?;
+        self.page.put(ran.listing.bytes());
+        Ok(())
+    }
+
+    fn put_counts(&mut self) {
+        let counts = self.counts;
+        self.page.put_number(self.alloc, "calls ", counts.calls);
+        self.page.put_number(self.alloc, ", faults ", counts.faults);
+        self.page.put_number(self.alloc, ", strays ", counts.strays);
+        self.page
+            .put_number(self.alloc, ", starved ", counts.starved);
+        self.page.put_number(self.alloc, ", moment ", counts.moment);
+        self.page.put(b"\n");
+    }
+
+    fn sweep_stops(&mut self) -> Result<(), OutOfMemory> {
+        sweep_stops(
+            self.alloc,
+            &self.last,
+            &self.right,
+            self.before.none,
+            &mut self.page,
+        )
+    }
+
+    fn sweep_failures(&mut self) -> Result<(), OutOfMemory> {
+        sweep_failures(self.alloc, &mut self.last, &self.before, &mut self.page)
+    }
+
+    // The tokens of each line, or whether it is a script.
+    fn put_each(&mut self, is_tokens: bool) -> Result<(), OutOfMemory> {
+        let next = Setup::new(self.alloc, Image::new(self.alloc));
+        let Setup { script, .. } = mem::replace(&mut self.next, next);
+        let lines = script.strip_suffix(b"\n").unwrap_or(&script);
+        for line in lines.split(|byte| *byte == b'\n') {
+            if is_tokens {
+                put_tokens(self.alloc, &mut self.page, line)?;
+            } else {
+                put_line(self.alloc, &mut self.page, line)?;
+            }
+        }
+        Ok(())
+    }
+
+    fn read_record(&mut self, step: Step, rest: &[u8]) -> Result<Option<()>, OutOfMemory> {
+        let Some(bytes) = hex_bytes(self.alloc, rest)? else {
+            return Ok(None);
+        };
+        if step == Step::Cuts {
+            put_cuts(self.alloc, &mut self.page, &bytes)?;
+        } else {
+            put_record(self.alloc, &mut self.page, &bytes)?;
+        }
+        Ok(Some(()))
+    }
+}
+
+// The words of a line; one that isn't UTF-8 is left out.
+fn words_in(alloc: Global, rest: &[u8]) -> Result<Vec<String>, AllocError> {
+    let mut words = Vec::new(alloc);
+    for word in rest.split(|byte| *byte == b' ') {
+        if let Ok(text) = str::from_utf8(word) {
+            if !text.is_empty() {
+                words.push(String::from_str(alloc, text)?)?;
+            }
+        }
+    }
+    Ok(words)
+}
+
+// A stamp, the number of a file and a first LSN.
+fn root_of(alloc: Global, rest: &[u8]) -> Result<Option<Root>, AllocError> {
+    let Some(list) = numbers(alloc, rest)? else {
+        return Ok(None);
+    };
+    match (list.first(), list.get(1), list.get(2)) {
+        (Some(stamp), Some(file), Some(first)) => Ok(Some(Root {
+            stamp: *stamp,
+            format: 0,
+            file: (*file % 2) as u8,
+            first: *first,
+            pages: 0,
+        })),
+        _ => Ok(None),
+    }
+}
+
+// The bytes from a place to another, as far as there are any.
+fn part(bytes: &[u8], from: u64, to: u64) -> &[u8] {
+    let to = (bytes.len() as u64).min(to);
+    let from = to.min(from);
+    &bytes[from as usize..to as usize]
+}
+
+// The bytes with others from a place on; those past the end are added.
+fn altered(alloc: Global, bytes: &[u8], place: u64, with: &[u8]) -> Result<Vec<u8>, AllocError> {
+    let mut altered = Vec::new(alloc);
+    altered.extend_from_slice(part(bytes, 0, place))?;
+    altered.extend_from_slice(with)?;
+    let after = altered.len() as u64;
+    altered.extend_from_slice(part(bytes, after, u64::MAX))?;
+    Ok(altered)
+}
+
+// The first bytes, with zeros after the last where there are fewer.
+fn with_length(alloc: Global, bytes: &[u8], length: u64) -> Result<Vec<u8>, AllocError> {
+    let mut changed = Vec::new(alloc);
+    changed.extend_from_slice(part(bytes, 0, length))?;
+    for _ in changed.len() as u64..length {
+        changed.push(0)?;
+    }
+    Ok(changed)
+}

@@ -1,0 +1,89 @@
+// One run of a command over a disk in memory.
+ghost use Rattle.std.specs.Prelude.{◌<◌};
+
+use crate::calls::{counts_of, images_of, listing_of, moments_of};
+use crate::device::{play_calls, play_root};
+use crate::printed::printing_of;
+use crate::setup::{Ask, Ran, Setup, Work};
+use ctr_disk::{MemDisk, MemSink, MemSource};
+use ctr_model::Command;
+use ctr_top::run_serial;
+use ctr_types::{List, Plain, Text};
+use std::alloc::{AllocError, Global};
+
+fn listed(alloc: Global, numbers: &[u64]) -> Result<List<u64>, AllocError> {
+    Ok(List::from_vec(numbers.to_vec(alloc)?))
+}
+
+// At least 1.
+fn most_of(pieces: u64) -> usize
+    ensures { 0 < result }
+{
+    if pieces == 0 {
+        usize::MAX
+    } else {
+        pieces as usize
+    }
+}
+
+fn source_of(alloc: Global, setup: &Setup) -> Result<MemSource, AllocError> {
+    let script = Text::from_slice(alloc, &setup.script)?;
+    let fails = listed(alloc, &setup.source_fails)?;
+    Ok(MemSource::in_pieces(script, fails, most_of(setup.taken_most)))
+}
+
+fn sink_of(alloc: Global, setup: &Setup) -> Result<MemSink, AllocError> {
+    let fails = listed(alloc, &setup.sink_fails)?;
+    Ok(MemSink::in_pieces(alloc, fails, most_of(setup.put_most)))
+}
+
+/// The disk that a run begins with.
+pub fn disk_of(alloc: Global, setup: &Setup) -> Result<MemDisk, AllocError> {
+    let fails = listed(alloc, &setup.disk_fails)?;
+    let disk = MemDisk::at_moment(alloc, setup.image.copy(alloc)?, fails, setup.moment)?;
+    Ok(disk.counted(setup.faults, setup.strays))
+}
+
+// Runs a command. This is the one function that calls `run_serial`.
+fn play_command(alloc: Global, setup: &Setup, ask: Ask) -> Result<Ran, AllocError> {
+    let mut source = source_of(alloc, setup)?;
+    let mut sink = sink_of(alloc, setup)?;
+    let disk = disk_of(alloc, setup)?;
+    let ended = run_serial(alloc, &setup.words, disk, &mut source, &mut sink);
+    let command = if setup.is_command("init") {
+        Command::Init
+    } else {
+        Command::Run
+    };
+    let printing = printing_of(
+        alloc,
+        &command,
+        ended.status,
+        &ended.cause,
+        &ended.tape,
+        &ended.report,
+    );
+    let counts = counts_of(&ended.disk);
+    let moments = moments_of(alloc, ended.disk.calls())?;
+    let images = images_of(alloc, &ended.disk, ask)?;
+    let listing = listing_of(alloc, ended.disk.calls(), ask);
+    Ok(Ran {
+        status: ended.status,
+        tape: ended.tape,
+        text: sink.into_bytes(),
+        printing,
+        moments,
+        images,
+        listing,
+        counts,
+    })
+}
+
+/// Does what a setup says.
+pub fn play(alloc: Global, setup: &Setup, ask: Ask) -> Result<Ran, AllocError> {
+    match setup.work {
+        Work::Command => play_command(alloc, setup, ask),
+        Work::Calls => play_calls(alloc, setup, ask),
+        Work::WriteRoot(root) => play_root(alloc, setup, root, ask),
+    }
+}

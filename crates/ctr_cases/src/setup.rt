@@ -1,0 +1,132 @@
+// What a run begins with, and what it leaves: plain data. A disk lives inside a run alone.
+use crate::page::Page;
+use ctr_disk::{File, Image, Root};
+use ctr_types::{Plain, Tape, Text};
+use std::alloc::{AllocError, Global};
+
+/// What is done.
+#[derive(Clone, Copy)]
+pub enum Work {
+    /// The command of the words.
+    Command,
+    /// The device calls that the script lists.
+    Calls,
+    /// The root is written.
+    WriteRoot(Root),
+}
+
+/// What a run begins with.
+#[derive(Drop)]
+pub struct Setup {
+    pub work: Work,
+    pub words: Vec<String>,
+    pub script: Vec<u8>,
+    pub image: Image,
+    /// The numbers, from 1, of the calls that fail.
+    pub disk_fails: Vec<u64>,
+    pub source_fails: Vec<u64>,
+    pub sink_fails: Vec<u64>,
+    /// The most bytes that are taken, or put, at once.
+    pub taken_most: u64,
+    pub put_most: u64,
+    /// The disk's clock at the start.
+    pub moment: u64,
+    /// The faults and strays that the disk has counted before.
+    pub faults: u64,
+    pub strays: u64,
+}
+
+/// Which images of a run are asked for.
+#[derive(Clone, Copy)]
+pub enum Ask {
+    /// What a read gives at its end.
+    Last,
+    /// What a crash leaves after so many calls, by these digits.
+    Stop(u64, u64),
+    /// What a crash leaves after each number of calls, by each number of digits below 64.
+    Each,
+    /// No image, but a line for each call.
+    Calls,
+}
+
+/// What a disk has counted.
+#[derive(Clone, Copy)]
+pub struct Counts {
+    /// Calls that were carried out, failed or were refused, but for want of memory.
+    pub calls: u64,
+    pub faults: u64,
+    pub strays: u64,
+    /// Calls that failed for want of memory.
+    pub starved: u64,
+    pub moment: u64,
+}
+
+/// What a run has left.
+#[derive(Drop)]
+pub struct Ran {
+    pub status: u8,
+    pub tape: Tape,
+    /// What was put.
+    pub text: Vec<u8>,
+    /// What is to be put by the tape, the status and the cause.
+    pub printing: Vec<u8>,
+    /// The clock after each call.
+    pub moments: Vec<u64>,
+    pub images: Vec<Image>,
+    pub listing: Page,
+    pub counts: Counts,
+}
+
+impl Setup {
+    pub fn new(alloc: Global, image: Image) -> Setup {
+        Setup {
+            work: Work::Command,
+            words: Vec::new(alloc),
+            script: Vec::new(alloc),
+            image,
+            disk_fails: Vec::new(alloc),
+            source_fails: Vec::new(alloc),
+            sink_fails: Vec::new(alloc),
+            taken_most: u64::MAX,
+            put_most: u64::MAX,
+            moment: 0,
+            faults: 0,
+            strays: 0,
+        }
+    }
+
+    /// Whether the command is this one.
+    pub fn is_command(&self, name: &str) -> bool {
+        match self.words.first() {
+            Some(word) => matches!(self.work, Work::Command) && word.as_str() == name,
+            None => false,
+        }
+    }
+}
+
+/// The words `run d`.
+pub fn run_words(alloc: Global) -> Result<Vec<String>, AllocError> {
+    let mut words = Vec::new(alloc);
+    words.push(String::from_str(alloc, "run")?)?;
+    words.push(String::from_str(alloc, "d")?)?;
+    Ok(words)
+}
+
+/// A run of a script over an image, in which nothing fails.
+pub fn plain_run(alloc: Global, image: &Image, script: Vec<u8>) -> Result<Setup, AllocError> {
+    let mut setup = Setup::new(alloc, image.copy(alloc)?);
+    setup.words = run_words(alloc)?;
+    setup.script = script;
+    Ok(setup)
+}
+
+/// The file's bytes in place of those that an image has.
+pub fn set_file(image: &mut Image, file: File, bytes: Vec<u8>) {
+    let text = Text::from_vec(bytes);
+    match file {
+        File::Root => image.root = text,
+        File::LogA => image.log_a = text,
+        File::LogB => image.log_b = text,
+        File::Pages => image.pages = text,
+    }
+}

@@ -1,0 +1,224 @@
+// A run under every stop, and under every failing call.
+use crate::calls::DIGITS;
+use crate::databases::Right;
+use crate::judge::{Found, Probe, answered_by, found_in, led_from, script_of};
+use crate::page::Page;
+use crate::run::play;
+use crate::setup::{Ask, Ran, Setup};
+use ctr_disk::Image;
+use ctr_types::OutOfMemory;
+use std::alloc::Global;
+use std::mem;
+
+/// The status of a run that finds no database.
+pub const NO_DATABASE: u8 = 3;
+
+/// How many images held each number of commits, and how many were wrong.
+#[derive(Drop)]
+struct Tally {
+    looked: u64,
+    held: Vec<u64>,
+    /// Images in which there was no database, rightly.
+    without: u64,
+    wrong: u64,
+}
+
+impl Tally {
+    fn new(alloc: Global, right: &Right) -> Result<Tally, OutOfMemory> {
+        let mut held = Vec::new(alloc);
+        for _database in right.list.iter() {
+            held.push(0)?;
+        }
+        Ok(Tally {
+            looked: 0,
+            held,
+            without: 0,
+            wrong: 0,
+        })
+    }
+
+    // Counts what was found, where at least so many commits are owed, or may no database be there.
+    fn count(&mut self, found: Found, least: usize, may_lack: bool) {
+        self.looked = self.looked.saturating_add(1);
+        match found {
+            Found::Commits(number) if number >= least => match self.held.get_mut(number) {
+                Some(held) => *held = held.saturating_add(1),
+                None => self.wrong = self.wrong.saturating_add(1),
+            },
+            Found::Status(NO_DATABASE) if may_lack => {
+                self.without = self.without.saturating_add(1);
+            }
+            _ => self.wrong = self.wrong.saturating_add(1),
+        }
+    }
+
+    fn put(&self, alloc: Global, page: &mut Page) {
+        page.put_number(alloc, "images ", self.looked);
+        page.put(b":");
+        for (number, held) in self.held.iter().enumerate() {
+            page.put_number(alloc, " ", *held);
+            page.put_number(alloc, " with ", number as u64);
+            page.put(b",");
+        }
+        page.put_number(alloc, " no database ", self.without);
+        page.put_number(alloc, ", wrong ", self.wrong);
+        page.put(b"\n");
+    }
+}
+
+// The clock after so many calls.
+fn clock(start: u64, moments: &[u64], calls: usize) -> u64 {
+    if calls == 0 {
+        return start;
+    }
+    moments.get(calls - 1).copied().unwrap_or(start)
+}
+
+// How many commits are owed after so many calls.
+fn owed(setup: &Setup, ran: &Ran, right: &Right, calls: usize) -> usize {
+    if ran.tape.entries.is_empty() {
+        return right.least;
+    }
+    if calls >= ran.moments.len() && ran.status == 0 {
+        return right.list.len().saturating_sub(1);
+    }
+    let moment = clock(setup.moment, &ran.moments, calls);
+    answered_by(ran.tape.entries.as_slice(), moment)
+}
+
+/// Judges the images that a crash leaves after each number of calls of a run. The databases that are right are those
+/// after it; before it there may have been none.
+pub fn sweep_stops(
+    alloc: Global,
+    setup: &Setup,
+    right: &Right,
+    was_none: bool,
+    page: &mut Page,
+) -> Result<(), OutOfMemory> {
+    let ran = play(alloc, setup, Ask::Each)?;
+    let probe = Probe::new(alloc, right)?;
+    let mut tally = Tally::new(alloc, right)?;
+    for (number, image) in ran.images.iter().enumerate() {
+        let calls = number / DIGITS as usize;
+        let least = owed(setup, &ran, right, calls);
+        let may_lack = was_none && (calls < ran.moments.len() || right.none);
+        let found = found_in(alloc, right, &probe, image)?;
+        tally.count(found, least, may_lack);
+    }
+    page.put(b"each stop: ");
+    tally.put(alloc, page);
+    Ok(())
+}
+
+/// How a run ended whose call failed, as far as a line tells it.
+#[derive(Clone, Copy, PartialEq, Eq)]
+struct Failing {
+    status: u8,
+    answered: usize,
+    /// The number of commits that were found, or what was wrong.
+    held: Option<usize>,
+    without: bool,
+}
+
+fn put_failing(alloc: Global, page: &mut Page, first: u64, last: u64, failing: Failing) {
+    page.put_number(alloc, "call ", first);
+    if last > first {
+        page.put_number(alloc, " to ", last);
+    }
+    page.put_number(alloc, " fails: status ", failing.status as u64);
+    page.put_number(alloc, ", answered ", failing.answered as u64);
+    match failing.held {
+        Some(number) => page.put_number(alloc, ", holds ", number as u64),
+        None if failing.without => page.put(b", no database"),
+        None => page.put(b", WRONG"),
+    }
+    page.put(b"\n");
+}
+
+// How the run ends, and what its disk holds then.
+fn judge_failing(
+    alloc: Global,
+    before: &Right,
+    setup: &Setup,
+    ran: &Ran,
+) -> Result<Failing, OutOfMemory> {
+    let answered = answered_by(ran.tape.entries.as_slice(), u64::MAX);
+    let mut failing = Failing {
+        status: ran.status,
+        answered,
+        held: None,
+        without: false,
+    };
+    if ran.text.as_slice() != ran.printing.as_slice() {
+        return Ok(failing);
+    }
+    let after = if setup.is_command("init") {
+        Some(Right::empty(alloc, true)?)
+    } else {
+        led_from(alloc, before, &script_of(alloc, &setup.script)?, ran)?
+    };
+    if let (Some(right), Some(image)) = (after, ran.images.first()) {
+        held_by(alloc, &right, before.none, image, &mut failing)?;
+    }
+    Ok(failing)
+}
+
+fn held_by(
+    alloc: Global,
+    right: &Right,
+    was_none: bool,
+    image: &Image,
+    failing: &mut Failing,
+) -> Result<(), OutOfMemory> {
+    let probe = Probe::new(alloc, right)?;
+    match found_in(alloc, right, &probe, image)? {
+        Found::Commits(number) if right.has(number) => failing.held = Some(number),
+        Found::Status(NO_DATABASE) => failing.without = was_none,
+        _ => {}
+    }
+    Ok(())
+}
+
+// A run once more, with one call that fails.
+fn fail_once(
+    alloc: Global,
+    setup: &mut Setup,
+    before: &Right,
+    number: u64,
+) -> Result<Failing, OutOfMemory> {
+    let mut fails = Vec::new(alloc);
+    fails.push(number)?;
+    let kept = mem::replace(&mut setup.disk_fails, fails);
+    let ran = play(alloc, setup, Ask::Last);
+    setup.disk_fails = kept;
+    let ran = ran?;
+    judge_failing(alloc, before, setup, &ran)
+}
+
+/// Lets each device call of a run fail in turn, and judges what it says and leaves. Calls that end alike are one line.
+pub fn sweep_failures(
+    alloc: Global,
+    setup: &mut Setup,
+    before: &Right,
+    page: &mut Page,
+) -> Result<(), OutOfMemory> {
+    let calls = play(alloc, setup, Ask::Last)?.moments.len() as u64;
+    let mut first = 1u64;
+    let mut last = None;
+    for number in 1..=calls {
+        let failing = fail_once(alloc, setup, before, number)?;
+        if last != Some(failing) {
+            put_group(alloc, page, first, number - 1, last);
+            first = number;
+            last = Some(failing);
+        }
+    }
+    put_group(alloc, page, first, calls, last);
+    Ok(())
+}
+
+fn put_group(alloc: Global, page: &mut Page, first: u64, last: u64, failing: Option<Failing>) {
+    if let Some(failing) = failing {
+        put_failing(alloc, page, first, last, failing);
+    }
+}
