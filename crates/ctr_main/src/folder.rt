@@ -1,7 +1,8 @@
 //! Four files in a folder, opened as they are needed.
-ghost use Rattle.std.specs.Prelude.{◌≡◌, true, OnOk, OnErr};
-ghost use Rattle.ctr_main.specs.Folder.{IsUnsynced, KeepsInMind};
+ghost use Rattle.std.specs.Prelude.{◌≡◌, true, false, OnOk, OnErr};
+ghost use Rattle.ctr_main.specs.Folder.{is_unsynced, IsUnsynced, KeepsInMind, IsSynced, SyncsNames};
 
+use crate::marked::Marked;
 use ctr_disk::{Failed, File as Which};
 use std::alloc::Global;
 use std::fs::{self, File, OpenOptions};
@@ -14,21 +15,7 @@ use std::rt::Files;
 const LAST_STREAM: i32 = 2;
 
 /// One file, once it is opened.
-#[derive(Drop)]
-struct Slot {
-    file: Option<File>,
-    // Also before the first sync: what an earlier program wrote may not have reached the disk.
-    is_unsynced: bool,
-}
-
-impl Slot {
-    fn new() -> Slot {
-        Slot {
-            file: None,
-            is_unsynced: true,
-        }
-    }
-}
+type Slot = Option<Marked<File>>;
 
 /// The folder of a database.
 pub struct Folder<R: Files<File = File>> {
@@ -133,6 +120,27 @@ fn read_or_zeros(file: &File, at: u64, into: &mut [u8]) -> Result<(), Failed> {
     }
 }
 
+// Writes the bytes at a place of an open file, which is marked first.
+fn write_in(slot: &mut Slot, at: u64, bytes: &[u8]) -> Result<(), Failed>
+    ensures marked { is_unsynced slot.new ≡ true }
+{
+    let Some(opened) = slot else {
+        return Err(Failed);
+    };
+    opened.mark();
+    opened.file().write_all_at(bytes, at).map_err(|_| Failed)
+}
+
+// Syncs an open file, if it is marked.
+fn sync_in(slot: &mut Slot) -> Result<(), Failed>
+    ensures synced { OnOk result (is_unsynced slot.new ≡ false) }
+{
+    let Some(opened) = slot else {
+        return Err(Failed);
+    };
+    opened.sync()
+}
+
 impl<R: Files<File = File> + Drop> Folder<R> {
     /// The folder at this path. It isn't touched yet.
     pub fn new(rt: R, alloc: Global, path: String) -> Self {
@@ -143,10 +151,10 @@ impl<R: Files<File = File> + Drop> Folder<R> {
             is_there: false,
             are_names_unsynced: true,
             has_lost: false,
-            root: Slot::new(),
-            log_a: Slot::new(),
-            log_b: Slot::new(),
-            pages: Slot::new(),
+            root: None,
+            log_a: None,
+            log_b: None,
+            pages: None,
         }
     }
 
@@ -162,34 +170,12 @@ impl<R: Files<File = File> + Drop> Folder<R> {
     fn set_file(&mut self, file: Which, opened: File)
         ensures { KeepsInMind self.old self.new }
     {
+        let slot = Some(Marked::new(opened));
         match file {
-            Which::Root => self.root.file = Some(opened),
-            Which::LogA => self.log_a.file = Some(opened),
-            Which::LogB => self.log_b.file = Some(opened),
-            Which::Pages => self.pages.file = Some(opened),
-        }
-    }
-
-    // What was written to a file may not have reached the disk.
-    fn mark(&mut self, file: Which)
-        ensures marked { IsUnsynced file self.new }
-        ensures kept { KeepsInMind self.old self.new }
-    {
-        match file {
-            Which::Root => self.root.is_unsynced = true,
-            Which::LogA => self.log_a.is_unsynced = true,
-            Which::LogB => self.log_b.is_unsynced = true,
-            Which::Pages => self.pages.is_unsynced = true,
-        }
-    }
-
-    // What was written to a file has reached the disk.
-    fn unmark(&mut self, file: Which) {
-        match file {
-            Which::Root => self.root.is_unsynced = false,
-            Which::LogA => self.log_a.is_unsynced = false,
-            Which::LogB => self.log_b.is_unsynced = false,
-            Which::Pages => self.pages.is_unsynced = false,
+            Which::Root => self.root = slot,
+            Which::LogA => self.log_a = slot,
+            Which::LogB => self.log_b = slot,
+            Which::Pages => self.pages = slot,
         }
     }
 
@@ -197,7 +183,7 @@ impl<R: Files<File = File> + Drop> Folder<R> {
     fn open(&mut self, file: Which) -> Result<(), Failed>
         ensures { KeepsInMind self.old self.new }
     {
-        if self.slot(file).file.is_some() {
+        if self.slot(file).is_some() {
             return Ok(());
         }
         if !self.is_there {
@@ -215,10 +201,10 @@ impl<R: Files<File = File> + Drop> Folder<R> {
         ensures { KeepsInMind self.old self.new }
     {
         self.open(file)?;
-        let Some(opened) = &self.slot(file).file else {
+        let Some(opened) = self.slot(file) else {
             return Err(Failed);
         };
-        match opened.metadata() {
+        match opened.file().metadata() {
             Ok(told) => Ok(told.len()),
             Err(_) => Err(Failed),
         }
@@ -229,10 +215,10 @@ impl<R: Files<File = File> + Drop> Folder<R> {
         ensures { KeepsInMind self.old self.new }
     {
         self.open(file)?;
-        let Some(opened) = &self.slot(file).file else {
+        let Some(opened) = self.slot(file) else {
             return Err(Failed);
         };
-        read_or_zeros(opened, at, into)
+        read_or_zeros(opened.file(), at, into)
     }
 
     /// Writes the bytes at a place of a file.
@@ -242,30 +228,18 @@ impl<R: Files<File = File> + Drop> Folder<R> {
         ensures kept { KeepsInMind self.old self.new }
     {
         self.open(file)?;
-        self.mark(file);
-        let Some(opened) = &self.slot(file).file else {
-            return Err(Failed);
-        };
-        opened.write_all_at(bytes, at).map_err(|_| Failed)
-    }
-
-    // Syncs what was written to a file since its last sync.
-    fn sync_file(&mut self, file: Which) -> Result<(), Failed> {
-        self.open(file)?;
-        let slot = self.slot(file);
-        if !slot.is_unsynced {
-            return Ok(());
+        match file {
+            Which::Root => write_in(&mut self.root, at, bytes),
+            Which::LogA => write_in(&mut self.log_a, at, bytes),
+            Which::LogB => write_in(&mut self.log_b, at, bytes),
+            Which::Pages => write_in(&mut self.pages, at, bytes),
         }
-        let Some(opened) = &slot.file else {
-            return Err(Failed);
-        };
-        opened.sync_all().map_err(|_| Failed)?;
-        self.unmark(file);
-        Ok(())
     }
 
     // Syncs the names of the files, and the folder's own in the folder above it.
-    fn sync_folder(&mut self) -> Result<(), Failed> {
+    fn sync_folder(&mut self) -> Result<(), Failed>
+        ensures synced { OnOk result (SyncsNames self.old self.new) }
+    {
         if !self.are_names_unsynced {
             return Ok(());
         }
@@ -279,11 +253,17 @@ impl<R: Files<File = File> + Drop> Folder<R> {
         Ok(())
     }
 
-    fn sync_all(&mut self) -> Result<(), Failed> {
-        self.sync_file(Which::Root)?;
-        self.sync_file(Which::LogA)?;
-        self.sync_file(Which::LogB)?;
-        self.sync_file(Which::Pages)?;
+    fn sync_all(&mut self) -> Result<(), Failed>
+        ensures synced { OnOk result (IsSynced self.new) }
+    {
+        self.open(Which::Root)?;
+        self.open(Which::LogA)?;
+        self.open(Which::LogB)?;
+        self.open(Which::Pages)?;
+        sync_in(&mut self.root)?;
+        sync_in(&mut self.log_a)?;
+        sync_in(&mut self.log_b)?;
+        sync_in(&mut self.pages)?;
         self.sync_folder()
     }
 
@@ -291,6 +271,8 @@ impl<R: Files<File = File> + Drop> Folder<R> {
     /// that were made. After a sync that failed each later one fails: the system may have dropped what
     /// it couldn't write, and would not say so again.
     pub fn sync(&mut self) -> Result<(), Failed>
+        // No file is left marked, nor are names of files.
+        ensures synced { OnOk result (IsSynced self.new) }
         ensures lost { self.old.has_lost ≡ true → OnOk result ⊥ }
         ensures loses { OnErr result (self.new.has_lost ≡ true) }
     {

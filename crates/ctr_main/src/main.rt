@@ -3,13 +3,16 @@
 
 ghost use Rattle.std.specs.Prelude.{◌≡◌, ◌∷◌, List, String, IfOk};
 ghost use Rattle.std.specs.String.{string_bytes};
+ghost use Rattle.std.specs.Process.{exit_status};
 
 mod file_disk;
 mod folder;
+mod marked;
 mod streams;
 #[cfg(test)]
 mod tests;
 
+use ctr_top::Ended;
 use file_disk::FileDisk;
 use std::alloc::{AllocError, Global};
 use std::env;
@@ -40,6 +43,13 @@ fn folder_of(alloc: Global, words: &[String]) -> Result<String, AllocError>
     }
 }
 
+// The status with which the program ends is that of the command.
+fn exit_code<D>(ended: &Ended<D>) -> ExitCode
+    ensures { exit_status result ≡ ended.now.status }
+{
+    ExitCode::from(ended.status)
+}
+
 fn main(rt: HostRuntime) -> ExitCode {
     let words = match words_behind(&rt) {
         Ok(words) => words,
@@ -61,5 +71,5 @@ fn main(rt: HostRuntime) -> ExitCode {
     let mut source = ReadSource::new(rt.stdin());
     let mut sink = WriteSink::new(io::writer(&rt));
     let ended = ctr_top::run_serial(rt.alloc(), &words, disk, &mut source, &mut sink);
-    ExitCode::from(ended.status)
+    exit_code(&ended)
 }

@@ -2,8 +2,10 @@
 ghost use Rattle.std.specs.Prelude.{◌≤◌, IfOk};
 
 use crate::file_disk::FileDisk;
+use crate::marked::{Marked, Syncs};
 use crate::streams::{ReadSource, WriteSink};
 use ctr_disk::{Disk, Failed, File, Sink, Source};
+use std::alloc::{AllocError, Global};
 use std::fs::Permissions;
 use std::io::{self, ErrorKind, Read, Write};
 use std::os::unix::fs::{PermissionsExt, symlink};
@@ -120,6 +122,96 @@ fn a_sync_reaches_the_names(rt: HostRuntime) -> Result<(), Fail> {
     assert_eq!(rt; disk.sync().is_ok(), reads_all);
     fs::set_permissions(&rt, "a_shut_folder", Permissions::from_mode(0o700))?;
     fs::remove_dir_all(&rt, "a_shut_folder")?;
+    Ok(())
+}
+
+// A file whose sync of this number fails, and how many it was asked for.
+#[derive(Drop)]
+struct Stubborn {
+    asked: u64,
+    fails: u64,
+}
+
+impl Syncs for Stubborn {
+    fn sync(&mut self) -> Result<(), Failed> {
+        self.asked = self.asked.saturating_add(1);
+        if self.asked == self.fails {
+            Err(Failed)
+        } else {
+            Ok(())
+        }
+    }
+}
+
+// A sync is made the first time and after each time the file was marked, and no other time; a later one that
+// can't be made is told, and the file stays marked.
+#[test]
+fn a_later_sync_is_made_too(rt: HostRuntime) -> Result<(), Fail> {
+    let mut file = Marked::new(Stubborn { asked: 0, fails: 3 });
+    let rows = [
+        (false, true, 1),
+        (false, true, 1),
+        (true, true, 2),
+        (true, false, 3),
+        (false, true, 4),
+        (false, true, 4),
+    ];
+    for (writes, fine, asked) in rows {
+        if writes {
+            file.mark();
+        }
+        assert_eq!(rt; file.sync().is_ok(), fine);
+        assert_eq!(rt; file.file().asked, asked);
+    }
+    Ok(())
+}
+
+// A million bytes whose values tell where they stand.
+fn million(alloc: Global) -> Result<Vec<u8>, AllocError> {
+    let mut bytes = Vec::new(alloc);
+    for n in 0..1_000_000u32 {
+        bytes.push((n % 251) as u8)?;
+    }
+    Ok(bytes)
+}
+
+// Puts all bytes, piece by piece as the sink takes them.
+fn put_all<W: Write>(sink: &mut WriteSink<W>, bytes: &[u8]) -> bool {
+    let mut rest = bytes;
+    while !rest.is_empty() {
+        match sink.put(rest) {
+            Ok(n) if n > 0 && n <= rest.len() => rest = &rest[n..],
+            _ => return false,
+        }
+    }
+    true
+}
+
+// Takes all bytes there are.
+fn take_all<R: Read>(alloc: Global, source: &mut ReadSource<R>) -> Result<Vec<u8>, Fail> {
+    let mut bytes = Vec::new(alloc);
+    let mut buffer = [0; 4096];
+    for _ in 0..1_000_000u32 {
+        match source.take(&mut buffer) {
+            Ok(0) => return Ok(bytes),
+            Ok(n) => bytes.extend_from_slice(&buffer[..n.min(4096)])?,
+            Err(_) => return Err(Fail::new("a take failed")),
+        }
+    }
+    Err(Fail::new("no end"))
+}
+
+// What a sink puts in a file is what a source takes from it, to the last byte.
+#[test]
+fn a_million_bytes_through_a_file(rt: HostRuntime) -> Result<(), Fail> {
+    let bytes = million(rt.alloc())?;
+    let mut sink = WriteSink::new(fs::File::create(&rt, "a_long_file")?);
+    assert!(rt; put_all(&mut sink, &bytes));
+    let mut source = ReadSource::new(fs::File::open(&rt, "a_long_file")?);
+    let read = take_all(rt.alloc(), &mut source)?;
+    assert!(rt; read.as_slice() == bytes.as_slice());
+    assert_eq!(rt; (sink.faults(), source.faults()), (0, 0));
+    fs::remove_file(&rt, "a_long_file")?;
     Ok(())
 }
 
