@@ -1,0 +1,240 @@
+// Entries of a tape as text: `1.2 lock granted @2`, session and statement, act, reply, moment.
+use crate::sql::{read_name, read_statement};
+use crate::trouble::Trouble;
+use crate::words::{last_word, number, split_at_byte, split_word};
+use ctr_types::{Act, Entry, List, Refusal, Reply, Row, Rows, Statement};
+use std::alloc::Global;
+
+/// The entry that a line is.
+pub fn read_entry(alloc: Global, line: &[u8]) -> Result<Entry, Trouble> {
+    let place = place_of(line)?;
+    let (act, words) = read_act(alloc, place.words)?;
+    let reply = read_reply(alloc, words)?;
+    Ok(Entry {
+        session: place.session,
+        statement: place.statement,
+        act,
+        reply,
+        moment: place.moment,
+    })
+}
+
+// Who made an entry and when, and the words between.
+#[derive(Drop)]
+struct Place<'a> {
+    session: u8,
+    statement: u64,
+    moment: u64,
+    words: &'a [u8],
+}
+
+fn place_of(line: &[u8]) -> Result<Place<'_>, Trouble> {
+    let (who, words) = split_word(line);
+    let (session, statement) = split_at_byte(who, b'.');
+    let when = last_word(words);
+    let length = words.len().saturating_sub(when.len()).saturating_sub(1);
+    let (words, _) = words.split_at(length.min(words.len()));
+    Ok(Place {
+        session: read_session(session)?,
+        statement: read_number(statement)?,
+        moment: read_number(when.strip_prefix(b"@").ok_or(Trouble::Spelling)?)?,
+        words,
+    })
+}
+
+/// The number that a word is.
+pub fn read_number(word: &[u8]) -> Result<u64, Trouble> {
+    number(word).ok_or(Trouble::Spelling)
+}
+
+/// The number of a session, or 0 for recovery.
+pub fn read_session(word: &[u8]) -> Result<u8, Trouble> {
+    u8::try_from(read_number(word)?).map_err(|_| Trouble::Spelling)
+}
+
+// ---- acts
+
+/// An act's word.
+pub fn act_word(act: &Act) -> &'static str {
+    match act {
+        Act::Begin => "begin",
+        Act::Read => "read",
+        Act::Lock => "lock",
+        Act::Write => "write",
+        Act::Ask => "ask",
+        Act::Answer => "answer",
+        Act::Rollback => "rollback",
+        Act::Release { .. } => "release",
+    }
+}
+
+// An act and what stands behind it.
+fn read_act(alloc: Global, words: &[u8]) -> Result<(Act, &[u8]), Trouble> {
+    let (word, rest) = split_word(words);
+    if word == b"release".as_slice() {
+        let (name, rest) = split_word(rest);
+        let name = read_name(alloc, name)?;
+        return Ok((Act::Release { name }, rest));
+    }
+    let simple = [
+        Act::Begin,
+        Act::Read,
+        Act::Lock,
+        Act::Write,
+        Act::Ask,
+        Act::Answer,
+        Act::Rollback,
+    ];
+    for act in simple {
+        if word == act_word(&act).as_bytes() {
+            return Ok((act, rest));
+        }
+    }
+    Err(Trouble::Spelling)
+}
+
+// ---- replies
+
+fn read_reply(alloc: Global, words: &[u8]) -> Result<Reply, Trouble> {
+    let (word, rest) = split_word(words);
+    if word == b"rows".as_slice() {
+        let rows = read_rows(alloc, rest)?;
+        return Ok(Reply::Rows { rows });
+    }
+    if word == b"refused".as_slice() {
+        let refusal = read_refusal(rest)?;
+        return Ok(Reply::Refused { refusal });
+    }
+    if rest.is_empty() {
+        return simple_reply(word);
+    }
+    numbered_reply(word, read_number(rest)?)
+}
+
+fn simple_reply(word: &[u8]) -> Result<Reply, Trouble> {
+    if word == b"granted".as_slice() {
+        return Ok(Reply::Granted);
+    }
+    if word == b"done".as_slice() {
+        return Ok(Reply::Done);
+    }
+    if word == b"read-only".as_slice() {
+        return Ok(Reply::ReadOnly);
+    }
+    if word == b"rolled-back".as_slice() {
+        return Ok(Reply::RolledBack);
+    }
+    if word == b"released".as_slice() {
+        return Ok(Reply::Released);
+    }
+    Err(Trouble::Spelling)
+}
+
+fn numbered_reply(word: &[u8], number: u64) -> Result<Reply, Trouble> {
+    if word == b"began".as_slice() {
+        return Ok(Reply::Began { n: number });
+    }
+    if word == b"asked".as_slice() {
+        return Ok(Reply::Asked { k: number });
+    }
+    if word == b"answered".as_slice() {
+        return Ok(Reply::Answered { k: number });
+    }
+    Err(Trouble::Spelling)
+}
+
+// Where a row in brackets ends: behind the bracket that stands in no text.
+fn row_length(words: &[u8]) -> usize {
+    let mut quoted = false;
+    for (at, byte) in words.iter().enumerate() {
+        if *byte == b'\'' {
+            quoted = !quoted;
+        } else if *byte == b')' && !quoted {
+            return at.saturating_add(1);
+        }
+    }
+    words.len()
+}
+
+// `(1, 'a')`
+fn read_row(alloc: Global, words: &[u8]) -> Result<Row, Trouble> {
+    let mut text = Vec::new(alloc);
+    text.extend_from_slice(b"INSERT INTO t VALUES ")?;
+    text.extend_from_slice(words)?;
+    match read_statement(alloc, &text)? {
+        Statement::Insert { values, .. } => Ok(Row { values }),
+        _ => Err(Trouble::Spelling),
+    }
+}
+
+// `(1, 'a') (2, 'b')`, or nothing.
+fn read_rows(alloc: Global, words: &[u8]) -> Result<Rows, Trouble> {
+    let mut rows = List::new(alloc);
+    let mut rest = words;
+    for _ in 0..words.len() {
+        if rest.is_empty() {
+            break;
+        }
+        let (row, behind) = rest.split_at(row_length(rest).min(rest.len()));
+        rows.push(read_row(alloc, row)?)?;
+        rest = behind.strip_prefix(b" ").unwrap_or(behind);
+    }
+    Ok(Rows { rows })
+}
+
+// ---- refusals
+
+const SIMPLE: &[(&str, Refusal)] = &[
+    ("NoTransaction", Refusal::NoTransaction),
+    ("InTransaction", Refusal::InTransaction),
+    ("NoTable", Refusal::NoTable),
+    ("TableExists", Refusal::TableExists),
+    ("OutOfMemory", Refusal::OutOfMemory),
+    ("Duplicate", Refusal::Duplicate),
+    ("NotFound", Refusal::NotFound),
+    ("OutOfRange", Refusal::OutOfRange),
+];
+
+/// A refusal, in the words of the transcript.
+pub fn read_refusal(words: &[u8]) -> Result<Refusal, Trouble> {
+    for (text, refusal) in SIMPLE {
+        if words == text.as_bytes() {
+            return Ok(*refusal);
+        }
+    }
+    if words == b"TableBusy by recovery".as_slice() {
+        return Ok(Refusal::TableBusy { by: 0 });
+    }
+    let last = last_word(words);
+    let front = words.strip_suffix(last).ok_or(Trouble::Spelling)?;
+    numbered_refusal(front, last)
+}
+
+fn numbered_refusal(front: &[u8], last: &[u8]) -> Result<Refusal, Trouble> {
+    let number = read_number(last)?;
+    if front == b"TableBusy by ".as_slice() {
+        let by = read_session(last)?;
+        return Ok(Refusal::TableBusy { by });
+    }
+    if front == b"RowLocked by ".as_slice() {
+        let by = read_session(last)?;
+        return Ok(Refusal::RowLocked { by });
+    }
+    if front == b"SchemaChanged by commit ".as_slice() {
+        return Ok(Refusal::SchemaChanged { commit: number });
+    }
+    if front == b"RowChanged by commit ".as_slice() {
+        return Ok(Refusal::RowChanged { commit: number });
+    }
+    if front == b"BadValue ".as_slice() {
+        return Ok(Refusal::BadValue { at: number });
+    }
+    let limit = u32::try_from(number).map_err(|_| Trouble::Spelling)?;
+    if front == b"CatalogFull ".as_slice() {
+        return Ok(Refusal::CatalogFull { limit });
+    }
+    if front == b"Full ".as_slice() {
+        return Ok(Refusal::Full { limit });
+    }
+    Err(Trouble::Spelling)
+}
