@@ -8,8 +8,9 @@ use std::alloc::Global;
 /// The entry that a line is.
 pub fn read_entry(alloc: Global, line: &[u8]) -> Result<Entry, Trouble> {
     let place = place_of(line)?;
-    let (act, words) = read_act(alloc, place.words)?;
-    let reply = read_reply(alloc, words)?;
+    let (word, rest) = split_word(place.words);
+    let act = read_act(alloc, word, rest)?;
+    let reply = read_reply(alloc, reply_words(word, rest))?;
     Ok(Entry {
         session: place.session,
         statement: place.statement,
@@ -35,7 +36,7 @@ fn place_of(line: &[u8]) -> Result<Place<'_>, Trouble> {
     let length = words.len().saturating_sub(when.len()).saturating_sub(1);
     let (words, _) = words.split_at(length.min(words.len()));
     Ok(Place {
-        session: read_session(session)?,
+        session: read_small(session)?,
         statement: read_number(statement)?,
         moment: read_number(when.strip_prefix(b"@").ok_or(Trouble::Spelling)?)?,
         words,
@@ -47,9 +48,11 @@ pub fn read_number(word: &[u8]) -> Result<u64, Trouble> {
     number(word).ok_or(Trouble::Spelling)
 }
 
-/// The number of a session, or 0 for recovery.
-pub fn read_session(word: &[u8]) -> Result<u8, Trouble> {
-    u8::try_from(read_number(word)?).map_err(|_| Trouble::Spelling)
+/// The number of 8 bits that a word is, as that of a session, or 0 for recovery.
+pub fn read_small(word: &[u8]) -> Result<u8, Trouble> {
+    u8::try_from(read_number(word)?)
+        .ok()
+        .ok_or(Trouble::Spelling)
 }
 
 // ---- acts
@@ -68,29 +71,42 @@ pub fn act_word(act: &Act) -> &'static str {
     }
 }
 
-// An act and what stands behind it.
-fn read_act(alloc: Global, words: &[u8]) -> Result<(Act, &[u8]), Trouble> {
-    let (word, rest) = split_word(words);
+// The act of a word. The name that recovery gives free stands behind it.
+fn read_act(alloc: Global, word: &[u8], rest: &[u8]) -> Result<Act, Trouble> {
     if word == b"release".as_slice() {
-        let (name, rest) = split_word(rest);
-        let name = read_name(alloc, name)?;
-        return Ok((Act::Release { name }, rest));
+        let name = read_name(alloc, split_word(rest).0)?;
+        return Ok(Act::Release { name });
     }
-    let simple = [
-        Act::Begin,
-        Act::Read,
-        Act::Lock,
-        Act::Write,
-        Act::Ask,
-        Act::Answer,
-        Act::Rollback,
-    ];
-    for act in simple {
-        if word == act_word(&act).as_bytes() {
-            return Ok((act, rest));
-        }
+    if word == b"begin".as_slice() {
+        return Ok(Act::Begin);
+    }
+    if word == b"read".as_slice() {
+        return Ok(Act::Read);
+    }
+    if word == b"lock".as_slice() {
+        return Ok(Act::Lock);
+    }
+    if word == b"write".as_slice() {
+        return Ok(Act::Write);
+    }
+    if word == b"ask".as_slice() {
+        return Ok(Act::Ask);
+    }
+    if word == b"answer".as_slice() {
+        return Ok(Act::Answer);
+    }
+    if word == b"rollback".as_slice() {
+        return Ok(Act::Rollback);
     }
     Err(Trouble::Spelling)
+}
+
+// What stands behind an act.
+fn reply_words<'a>(word: &[u8], rest: &'a [u8]) -> &'a [u8] {
+    if word == b"release".as_slice() {
+        return split_word(rest).1;
+    }
+    rest
 }
 
 // ---- replies
@@ -213,11 +229,11 @@ pub fn read_refusal(words: &[u8]) -> Result<Refusal, Trouble> {
 fn numbered_refusal(front: &[u8], last: &[u8]) -> Result<Refusal, Trouble> {
     let number = read_number(last)?;
     if front == b"TableBusy by ".as_slice() {
-        let by = read_session(last)?;
+        let by = read_small(last)?;
         return Ok(Refusal::TableBusy { by });
     }
     if front == b"RowLocked by ".as_slice() {
-        let by = read_session(last)?;
+        let by = read_small(last)?;
         return Ok(Refusal::RowLocked { by });
     }
     if front == b"SchemaChanged by commit ".as_slice() {
@@ -229,7 +245,7 @@ fn numbered_refusal(front: &[u8], last: &[u8]) -> Result<Refusal, Trouble> {
     if front == b"BadValue ".as_slice() {
         return Ok(Refusal::BadValue { at: number });
     }
-    let limit = u32::try_from(number).map_err(|_| Trouble::Spelling)?;
+    let limit = u32::try_from(number).ok().ok_or(Trouble::Spelling)?;
     if front == b"CatalogFull ".as_slice() {
         return Ok(Refusal::CatalogFull { limit });
     }

@@ -1,5 +1,5 @@
 // Last lines of other commands and statuses, and sinks that fail.
-use crate::entry::read_number;
+use crate::entry::{read_number, read_small};
 use crate::page::Page;
 use crate::trouble::Trouble;
 use crate::words::{signed, split_word, wide};
@@ -43,15 +43,17 @@ fn read_wide(word: &[u8]) -> Result<u128, Trouble> {
     wide(word).ok_or(Trouble::Spelling)
 }
 
+const FILES: &[(&str, File)] = &[
+    ("Root", File::Root),
+    ("LogA", File::LogA),
+    ("LogB", File::LogB),
+    ("Pages", File::Pages),
+];
+
 fn read_file(word: &[u8]) -> Result<File, Trouble> {
-    for (text, file) in [
-        ("Root", File::Root),
-        ("LogA", File::LogA),
-        ("LogB", File::LogB),
-        ("Pages", File::Pages),
-    ] {
+    for (text, file) in FILES {
         if word == text.as_bytes() {
-            return Ok(file);
+            return Ok(*file);
         }
     }
     Err(Trouble::Spelling)
@@ -134,10 +136,9 @@ pub fn read_end(line: &[u8]) -> Result<End, Trouble> {
     if word == b"report".as_slice() {
         return read_survey(five_words(rest));
     }
-    let status = u8::try_from(read_number(word)?).map_err(|_| Trouble::Spelling)?;
     Ok(End {
         command: Command::Run,
-        status,
+        status: read_small(word)?,
         cause: read_cause(rest)?,
         report: report_of(0),
     })

@@ -1,5 +1,5 @@
 // Plays the lines of a suite.
-use crate::entry::{read_entry, read_number, read_refusal, read_session};
+use crate::entry::{read_entry, read_number, read_refusal, read_small};
 use crate::follow::follow;
 use crate::judge::Judge;
 use crate::last::{count_fronts, put_end, read_end, report_of};
@@ -14,6 +14,7 @@ use crate::words::split_word;
 use ctr_model::{Change, Map, Point, Table, apply_all};
 use ctr_types::{Line, List, Name, Plain, Row, Statement, Value};
 use std::alloc::Global;
+use std::slice;
 
 /// Where a suite stands.
 #[derive(Drop)]
@@ -148,8 +149,7 @@ impl Player {
     }
 
     fn change(&mut self, change: Change) -> Result<(), Trouble> {
-        let changes = [change];
-        apply_all(self.alloc, &mut self.base, &changes)?;
+        apply_all(self.alloc, &mut self.base, slice::from_ref(&change))?;
         Ok(())
     }
 
@@ -195,7 +195,7 @@ impl Player {
     }
 
     fn add_line(&mut self, session: &[u8], rest: &[u8]) -> Result<(), Trouble> {
-        let session = read_session(session)?;
+        let session = read_small(session)?;
         if session == 0 || session > 8 {
             return Err(Trouble::Spelling);
         }
@@ -231,7 +231,7 @@ impl Player {
 
     fn go(&mut self, rest: &[u8]) -> Result<(), Trouble> {
         self.begin()?;
-        let session = read_session(rest)?;
+        let session = read_small(rest)?;
         play_statement(self.alloc, self.lines.as_slice(), &mut self.run, session)
     }
 
@@ -239,7 +239,7 @@ impl Player {
     fn act(&mut self, rest: &[u8]) -> Result<(), Trouble> {
         self.begin()?;
         let (session, rest) = split_word(rest);
-        let session = read_session(session)?;
+        let session = read_small(session)?;
         let instead = match rest.strip_prefix(b"refused ") {
             Some(words) => Some(read_refusal(words)?),
             None if rest.is_empty() => None,

@@ -122,7 +122,7 @@ fn name(alloc: Global, cursor: &mut Cursor) -> Result<Name, Trouble> {
 
 fn integer(cursor: &mut Cursor) -> Result<i64, Trouble> {
     let number = signed(cursor.next()).ok_or(Trouble::Spelling)?;
-    i64::try_from(number).map_err(|_| Trouble::Spelling)
+    i64::try_from(number).ok().ok_or(Trouble::Spelling)
 }
 
 // What stands between the quotes.
@@ -179,7 +179,8 @@ fn kind(cursor: &mut Cursor) -> Result<Kind, Trouble> {
     }
     cursor.wants(b"TEXT")?;
     cursor.wants(b"(")?;
-    let most = u8::try_from(integer(cursor)?).map_err(|_| Trouble::Spelling)?;
+    let most = u8::try_from(integer(cursor)?).ok();
+    let most = most.ok_or(Trouble::Spelling)?;
     cursor.wants(b")")?;
     Ok(Kind::Chars(most))
 }
@@ -190,24 +191,35 @@ fn column(alloc: Global, cursor: &mut Cursor) -> Result<Column, Trouble> {
     Ok(Column { name, kind })
 }
 
-// Up to eight columns in brackets, the key first.
-fn schema(alloc: Global, cursor: &mut Cursor) -> Result<Schema, Trouble> {
-    cursor.wants(b"(")?;
-    let mut columns = List::new(alloc);
-    let key = name(alloc, cursor)?;
+// The first column, the key.
+fn key_column(alloc: Global, cursor: &mut Cursor) -> Result<Column, Trouble> {
+    let name = name(alloc, cursor)?;
     cursor.wants(b"INT")?;
     cursor.wants(b"PRIMARY")?;
     cursor.wants(b"KEY")?;
-    columns.push(Column {
-        name: key,
+    Ok(Column {
+        name,
         kind: Kind::Int,
-    })?;
+    })
+}
+
+// Up to eight columns.
+fn columns(alloc: Global, cursor: &mut Cursor) -> Result<List<Column>, Trouble> {
+    let mut columns = List::new(alloc);
+    columns.push(key_column(alloc, cursor)?)?;
     for _ in 1..8 {
         if !cursor.takes(b",") {
             break;
         }
         columns.push(column(alloc, cursor)?)?;
     }
+    Ok(columns)
+}
+
+// The columns in brackets.
+fn schema(alloc: Global, cursor: &mut Cursor) -> Result<Schema, Trouble> {
+    cursor.wants(b"(")?;
+    let columns = columns(alloc, cursor)?;
     cursor.wants(b")")?;
     Ok(Schema { columns })
 }
