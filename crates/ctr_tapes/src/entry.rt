@@ -7,40 +7,32 @@ use std::alloc::Global;
 
 /// The entry that a line is.
 pub fn read_entry(alloc: Global, line: &[u8]) -> Result<Entry, Trouble> {
-    let place = place_of(line)?;
-    let (word, rest) = split_word(place.words);
+    let (who, words) = split_word(line);
+    let (session, statement) = split_at_byte(who, b'.');
+    let session = read_small(session)?;
+    let statement = read_number(statement)?;
+    let moment = read_moment(last_word(words))?;
+    let (word, rest) = split_word(without_last_word(words));
     let act = read_act(alloc, word, rest)?;
     let reply = read_reply(alloc, reply_words(word, rest))?;
     Ok(Entry {
-        session: place.session,
-        statement: place.statement,
+        session,
+        statement,
         act,
         reply,
-        moment: place.moment,
+        moment,
     })
 }
 
-// Who made an entry and when, and the words between.
-#[derive(Drop)]
-struct Place<'a> {
-    session: u8,
-    statement: u64,
-    moment: u64,
-    words: &'a [u8],
+fn without_last_word(words: &[u8]) -> &[u8] {
+    let behind = last_word(words).len().saturating_add(1);
+    let length = words.len().saturating_sub(behind);
+    words.split_at(length.min(words.len())).0
 }
 
-fn place_of(line: &[u8]) -> Result<Place<'_>, Trouble> {
-    let (who, words) = split_word(line);
-    let (session, statement) = split_at_byte(who, b'.');
-    let when = last_word(words);
-    let length = words.len().saturating_sub(when.len()).saturating_sub(1);
-    let (words, _) = words.split_at(length.min(words.len()));
-    Ok(Place {
-        session: read_small(session)?,
-        statement: read_number(statement)?,
-        moment: read_number(when.strip_prefix(b"@").ok_or(Trouble::Spelling)?)?,
-        words,
-    })
+// `@2`
+fn read_moment(word: &[u8]) -> Result<u64, Trouble> {
+    read_number(word.strip_prefix(b"@").ok_or(Trouble::Spelling)?)
 }
 
 /// The number that a word is.

@@ -20,15 +20,6 @@ pub fn report_of(undo_turns: u64) -> Report {
     }
 }
 
-/// How a run ended.
-#[derive(Drop)]
-pub struct End {
-    command: Command,
-    status: u8,
-    cause: Cause,
-    report: Report,
-}
-
 // Up to five words of a line; those that aren't there are empty.
 fn five_words(line: &[u8]) -> [&[u8]; 5] {
     let (first, rest) = split_word(line);
@@ -59,46 +50,51 @@ fn read_file(word: &[u8]) -> Result<File, Trouble> {
     Err(Trouble::Spelling)
 }
 
-// `script 1 9`, `worn 5`, `damaged LogA 63 1 0`, or nothing.
-fn read_cause(words: &[u8]) -> Result<Cause, Trouble> {
-    let [word, first, second, third, fourth] = five_words(words);
-    if word.is_empty() {
-        return Ok(Cause::Plain);
-    }
-    if word == b"script".as_slice() {
-        return Ok(Cause::Script {
-            line: read_number(first)?,
-            at: read_number(second)?,
-        });
-    }
-    if word == b"worn".as_slice() {
-        return Ok(Cause::Worn {
-            number: read_number(first)?,
-        });
-    }
-    if word != b"damaged".as_slice() {
-        return Err(Trouble::Spelling);
-    }
+// `LogA 63 1 0`
+fn read_damage(words: &[u8]) -> Result<Cause, Trouble> {
+    let [file, at, want, got, _] = five_words(words);
+    let file = read_file(file)?;
+    let at = read_number(at)?;
+    let want = read_wide(want)?;
+    let got = read_wide(got)?;
     Ok(Cause::Damaged {
-        file: read_file(first)?,
-        at: read_number(second)?,
-        want: read_wide(third)?,
-        got: read_wide(fourth)?,
+        file,
+        at,
+        want,
+        got,
     })
 }
 
-fn ended(command: Command, report: Report) -> End {
-    End {
-        command,
-        status: 0,
-        cause: Cause::Plain,
-        report,
+// `script 1 9`, `worn 5`, `damaged LogA 63 1 0`, or nothing.
+fn read_cause(words: &[u8]) -> Result<Cause, Trouble> {
+    let (word, rest) = split_word(words);
+    if word.is_empty() {
+        return Ok(Cause::Plain);
     }
+    if word == b"damaged".as_slice() {
+        return read_damage(rest);
+    }
+    if word == b"worn".as_slice() {
+        let number = read_number(rest)?;
+        return Ok(Cause::Worn { number });
+    }
+    if word != b"script".as_slice() {
+        return Err(Trouble::Spelling);
+    }
+    let (line, at) = split_word(rest);
+    let line = read_number(line)?;
+    let at = read_number(at)?;
+    Ok(Cause::Script { line, at })
 }
 
-// `load 1 3 97 -5`: sessions, statements, rows, sum.
-fn read_load(words: [&[u8]; 5]) -> Result<End, Trouble> {
-    let [_, sessions, statements, rows, sum] = words;
+// The last line of a run that came to its end.
+fn put_success(page: &mut Page, command: &Command, tape: &Tape, report: &Report) {
+    put_last_line(page, true, command, 0, &Cause::Plain, tape, report);
+}
+
+// `1 3 97 -5`: sessions, statements, rows, sum.
+fn put_load(page: &mut Page, words: &[u8], tape: &Tape) -> Result<(), Trouble> {
+    let [sessions, statements, rows, sum, _] = five_words(words);
     let command = Command::Load {
         sessions: read_number(sessions)?,
         statements: read_number(statements)?,
@@ -108,12 +104,13 @@ fn read_load(words: [&[u8]; 5]) -> Result<End, Trouble> {
         sum: signed(sum).ok_or(Trouble::Spelling)?,
         ..report_of(0)
     };
-    Ok(ended(command, report))
+    put_success(page, &command, tape, &report);
+    Ok(())
 }
 
 // `0 1 2 3 4`: tables, rows, open transactions, aborted ones, items.
-fn read_survey(words: [&[u8]; 5]) -> Result<End, Trouble> {
-    let [tables, rows, orphans, aborted, items] = words;
+fn put_survey(page: &mut Page, words: &[u8], tape: &Tape) -> Result<(), Trouble> {
+    let [tables, rows, orphans, aborted, items] = five_words(words);
     let start = Survey {
         tables: read_number(tables)?,
         rows: read_number(rows)?,
@@ -121,40 +118,29 @@ fn read_survey(words: [&[u8]; 5]) -> Result<End, Trouble> {
         aborted: read_number(aborted)?,
         items: read_number(items)?,
     };
-    Ok(ended(Command::Survey { start }, report_of(0)))
+    put_success(page, &Command::Survey { start }, tape, &report_of(0));
+    Ok(())
 }
 
-/// The end that a line tells: `init`, `load ..`, `report ..`, or a status and its cause.
-pub fn read_end(line: &[u8]) -> Result<End, Trouble> {
+/// The last line of the end that a line tells: `init`, `load ..`, `report ..`, or a status and its
+/// cause.
+pub fn put_end(page: &mut Page, line: &[u8], tape: &Tape) -> Result<(), Trouble> {
     let (word, rest) = split_word(line);
+    let report = report_of(0);
     if word == b"init".as_slice() {
-        return Ok(ended(Command::Init, report_of(0)));
+        put_success(page, &Command::Init, tape, &report);
+        return Ok(());
     }
     if word == b"load".as_slice() {
-        return read_load(five_words(line));
+        return put_load(page, rest, tape);
     }
     if word == b"report".as_slice() {
-        return read_survey(five_words(rest));
+        return put_survey(page, rest, tape);
     }
-    Ok(End {
-        command: Command::Run,
-        status: read_small(word)?,
-        cause: read_cause(rest)?,
-        report: report_of(0),
-    })
-}
-
-/// The last line of a run that ended so.
-pub fn put_end(page: &mut Page, end: &End, tape: &Tape) {
-    put_last_line(
-        page,
-        true,
-        &end.command,
-        end.status,
-        &end.cause,
-        tape,
-        &end.report,
-    );
+    let status = read_small(word)?;
+    let cause = read_cause(rest)?;
+    put_last_line(page, true, &Command::Run, status, &cause, tape, &report);
+    Ok(())
 }
 
 // Whether the put of this number, from 1, fails, and what was put is a front of the whole.

@@ -2,7 +2,7 @@
 use crate::entry::{read_entry, read_number, read_refusal, read_small};
 use crate::follow::follow;
 use crate::judge::Judge;
-use crate::last::{count_fronts, put_end, read_end, report_of};
+use crate::last::{count_fronts, put_end, report_of};
 use crate::machine::{put_replies, put_state, put_tables};
 use crate::page::Page;
 use crate::printed::shown;
@@ -346,7 +346,7 @@ impl Player {
 
     fn show_end(&mut self, rest: &[u8]) -> Result<(), Trouble> {
         let mut page = Page::new(self.alloc);
-        put_end(&mut page, &read_end(rest)?, &self.run.tape);
+        put_end(&mut page, rest, &self.run.tape)?;
         self.judge.give(&page);
         Ok(())
     }
