@@ -12,8 +12,6 @@ mod piece;
 mod pieces;
 mod put;
 mod refusal;
-#[cfg(test)]
-mod tests;
 mod value;
 
 pub use count::{count_answers, count_refusals};

@@ -1,0 +1,32 @@
+//! Plays a suite of cases from standard input: scripts and tapes in the slow machine, and what is
+//! printed of them. Each line is a step; what it gives is compared with the lines behind it that
+//! begin with `|`.
+#![tactic(auto)]
+
+mod entry;
+mod follow;
+mod judge;
+mod last;
+mod machine;
+mod page;
+mod player;
+mod printed;
+mod run;
+mod sql;
+mod steps;
+mod trouble;
+mod words;
+
+use player::Player;
+use std::io::{self, Read, Write};
+
+fn main(rt: HostRuntime) -> io::Result<()> {
+    let mut suite = Vec::new(rt.alloc());
+    let _ = rt.stdin().read_to_end(&mut suite)?;
+    let mut player = Player::new(rt.alloc());
+    for line in suite.split(|byte| *byte == b'\n') {
+        player.take_line(line);
+    }
+    let page = player.finished();
+    io::writer(&rt).write_all(&page.bytes)
+}
