@@ -47,6 +47,14 @@ pub fn read_small(word: &[u8]) -> Result<u8, Trouble> {
         .ok_or(Trouble::Spelling)
 }
 
+/// Refuses words that a line has too many.
+pub fn must_be_empty(rest: &[u8]) -> Result<(), Trouble> {
+    if rest.is_empty() {
+        return Ok(());
+    }
+    Err(Trouble::Spelling)
+}
+
 // ---- acts
 
 /// An act's word.

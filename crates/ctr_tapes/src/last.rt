@@ -1,5 +1,5 @@
 // Last lines of other commands and statuses, and sinks that fail.
-use crate::entry::{read_number, read_small};
+use crate::entry::{must_be_empty, read_number, read_small};
 use crate::page::Page;
 use crate::trouble::Trouble;
 use crate::words::{signed, split_word, wide};
@@ -9,7 +9,7 @@ use ctr_print::{put_last_line, put_transcript};
 use ctr_types::{List, Tape};
 use std::alloc::Global;
 
-/// The counts that a run has made nothing of but undo's turns.
+/// The report of a run that tells undo's turns alone.
 pub fn report_of(undo_turns: u64) -> Report {
     Report {
         commits: 0,
@@ -20,14 +20,13 @@ pub fn report_of(undo_turns: u64) -> Report {
     }
 }
 
-// Up to five words of a line; those that aren't there are empty.
+// The first four words of a line, and all that stands behind them. What isn't there is empty.
 fn five_words(line: &[u8]) -> [&[u8]; 5] {
     let (first, rest) = split_word(line);
     let (second, rest) = split_word(rest);
     let (third, rest) = split_word(rest);
     let (fourth, rest) = split_word(rest);
-    let (fifth, _) = split_word(rest);
-    [first, second, third, fourth, fifth]
+    [first, second, third, fourth, rest]
 }
 
 fn read_wide(word: &[u8]) -> Result<u128, Trouble> {
@@ -52,7 +51,8 @@ fn read_file(word: &[u8]) -> Result<File, Trouble> {
 
 // `LogA 63 1 0`
 fn read_damage(words: &[u8]) -> Result<Cause, Trouble> {
-    let [file, at, want, got, _] = five_words(words);
+    let [file, at, want, got, rest] = five_words(words);
+    must_be_empty(rest)?;
     let file = read_file(file)?;
     let at = read_number(at)?;
     let want = read_wide(want)?;
@@ -94,7 +94,8 @@ fn put_success(page: &mut Page, command: &Command, tape: &Tape, report: &Report)
 
 // `1 3 97 -5`: sessions, statements, rows, sum.
 fn put_load(page: &mut Page, words: &[u8], tape: &Tape) -> Result<(), Trouble> {
-    let [sessions, statements, rows, sum, _] = five_words(words);
+    let [sessions, statements, rows, sum, rest] = five_words(words);
+    must_be_empty(rest)?;
     let command = Command::Load {
         sessions: read_number(sessions)?,
         statements: read_number(statements)?,
@@ -127,7 +128,7 @@ fn put_survey(page: &mut Page, words: &[u8], tape: &Tape) -> Result<(), Trouble>
 pub fn put_end(page: &mut Page, line: &[u8], tape: &Tape) -> Result<(), Trouble> {
     let (word, rest) = split_word(line);
     let report = report_of(0);
-    if word == b"init".as_slice() {
+    if line == b"init".as_slice() {
         put_success(page, &Command::Init, tape, &report);
         return Ok(());
     }
@@ -143,7 +144,7 @@ pub fn put_end(page: &mut Page, line: &[u8], tape: &Tape) -> Result<(), Trouble>
     Ok(())
 }
 
-// Whether the put of this number, from 1, fails, and what was put is a front of the whole.
+// Whether a put fails as it is listed, and what was put is then a front of the whole.
 fn leaves_front(alloc: Global, fails: List<u64>, tape: &Tape, whole: &[u8]) -> bool {
     let mut sink = MemSink::in_pieces(alloc, fails, 3);
     let fine = put_transcript(&mut sink, true, tape);

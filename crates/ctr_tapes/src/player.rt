@@ -1,5 +1,5 @@
 // Plays the lines of a suite.
-use crate::entry::{read_entry, read_number, read_refusal, read_small};
+use crate::entry::{must_be_empty, read_entry, read_number, read_refusal, read_small};
 use crate::follow::follow;
 use crate::judge::Judge;
 use crate::last::{count_fronts, put_end, report_of};
@@ -8,7 +8,7 @@ use crate::page::Page;
 use crate::printed::shown;
 use crate::run::{Run, add, play_act, play_statement, release, statement_of};
 use crate::sql::{read_name, read_statement};
-use crate::steps::{Step, step_of};
+use crate::steps::{Step, has_words, step_of};
 use crate::trouble::Trouble;
 use crate::words::split_word;
 use ctr_model::{Change, Map, Point, Table, apply_all};
@@ -84,6 +84,9 @@ impl Player {
     }
 
     fn step(&mut self, step: Step, rest: &[u8]) -> Result<(), Trouble> {
+        if !has_words(step) {
+            must_be_empty(rest)?;
+        }
         match step {
             Step::Case => {
                 self.begin_case(rest);
@@ -289,7 +292,10 @@ impl Player {
     fn show(&mut self, rest: &[u8]) -> Result<(), Trouble> {
         let undo_turns = match rest.strip_prefix(b"undo ") {
             Some(number) => read_number(number)?,
-            None => 0,
+            None => {
+                must_be_empty(rest)?;
+                0
+            }
         };
         let mut page = Page::new(self.alloc);
         page.add(&shown(self.alloc, &self.run.tape, &report_of(undo_turns))?);

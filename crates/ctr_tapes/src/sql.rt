@@ -20,6 +20,9 @@ pub fn read_name(alloc: Global, word: &[u8]) -> Result<Name, Trouble> {
         Some(first) if is_word(*first) && !first.is_ascii_digit() => (),
         _ => return Err(Trouble::Spelling),
     }
+    if word_length(word) < word.len() {
+        return Err(Trouble::Spelling);
+    }
     let text = Text::from_slice(alloc, word)?;
     Name::new(text).ok_or(Trouble::Spelling)
 }

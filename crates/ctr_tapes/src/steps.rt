@@ -53,3 +53,11 @@ pub fn step_of(word: &[u8]) -> Option<Step> {
     }
     None
 }
+
+/// Whether a step has words behind its first one.
+pub fn has_words(step: Step) -> bool {
+    !matches!(
+        step,
+        Step::Run | Step::Legal | Step::Illegal | Step::Replies | Step::Tables | Step::State
+    )
+}
