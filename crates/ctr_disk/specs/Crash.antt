@@ -1,5 +1,5 @@
--- What a crash may leave, at one moment and over several calls; and the counts of a device.
-use Rattle.std.specs.Prelude.{◌≡◌, ◌⊎◌, ℕ, ◌+◌, ◌-◌, ◌^◌, ◌≤◌, ◌<◌, min, Result, OnErr, IsErr}
+-- What a crash may leave at one moment and over a call, and what the counts of a device do.
+use Rattle.std.specs.Prelude.{◌≡◌, ◌≢◌, ◌⊎◌, ℕ, ◌+◌, ◌-◌, ◌^◌, ◌≤◌, ◌<◌, min, Result, Err, OnOk, OnErr, IsErr}
 use Rattle.ctr_disk.specs.Image.{Image, TornImage}
 use Rattle.ctr_disk.specs.declared.disk.File.{File}
 
@@ -22,21 +22,23 @@ pub record Elapses (before now : ℕ) (past since : ℕ → Image → Type 0) (i
   pub nothing_else : (t : ℕ) (c : Image) → t ≤ before → since t c → past t c ⊎ images c
   pub keeps : (t : ℕ) (c : Image) → t ≤ before → past t c → since t c
 
--- A crash at any moment from the old state to the new one, inside a call too, leaves an image with P.
-pub record LeavesOnly {D : Type 0} (moment : D → ℕ) (since : D → ℕ → Image → Type 0) (old new : D) (P : Image → Type 0) : Type 0 where
-  pub later : moment old ≤ moment new
-  pub each : (c : Image) → since new (moment old) c → P c
-  -- for a run that began earlier
-  pub before : (t : ℕ) (c : Image) → t ≤ moment old → since new t c → since old t c ⊎ P c
+-- a failed call is counted: the count is one higher at least, or stands at the last value of its type
+abbrev pub CountsFault : ℕ → ℕ → Type 0
+CountsFault before now = min (before + 1) (2 ^ 64 - 1) ≤ now
 
--- a count rose, or stands at the last value of its type
-abbrev pub Rose : ℕ → ℕ → Type 0
-Rose before now = min (before + 1) (2 ^ 64 - 1) ≤ now
-
--- a count of faults never falls, and a call that failed raised it
+-- A count of failed calls never falls. A call that failed is counted, and one that was answered Ok
+-- leaves the count as it was.
 pub record HasCause {T E : Type 0} (before now : ℕ) (result : Result T E) : Type 0 where
   pub later : before ≤ now
-  pub failed : OnErr result (Rose before now)
+  pub failed : OnErr result (CountsFault before now)
+  pub fine : OnOk result (now ≡ before)
+
+-- The same of a call that has other errors too: this error alone says that the device failed, and
+-- after any other answer the count is as it was.
+pub record HasFault {T E : Type 0} (fault : E) (before now : ℕ) (result : Result T E) : Type 0 where
+  pub later : before ≤ now
+  pub failed : result ≡ Err fault → CountsFault before now
+  pub fine : result ≢ Err fault → now ≡ before
 
 -- A call whose range ends at this place: from 2 ^ 63 on it fails and the count of strays rises,
 -- and below that the count stays. It never falls.
@@ -44,7 +46,12 @@ pub record HasStray {T E : Type 0} (before now place : ℕ) (result : Result T E
   pub later : before ≤ now
   pub below : place < 2 ^ 63 → now ≡ before
   pub failed : 2 ^ 63 ≤ place → IsErr result
-  pub rose : 2 ^ 63 ≤ place → Rose before now
+  pub rose : 2 ^ 63 ≤ place → CountsFault before now
+
+-- Of calls of which this is the last place: below 2 ^ 63 the count of strays stays, and at Ok.
+pub record StraysOnlyPast {T E : Type 0} (before now place : ℕ) (result : Result T E) : Type 0 where
+  pub below : place < 2 ^ 63 → now ≡ before
+  pub fine : OnOk result (now ≡ before)
 
 -- the moment rises at this call, or it is the last one and the call fails
 pub record Ticks {T E : Type 0} (before now : ℕ) (result : Result T E) : Type 0 where

@@ -27,12 +27,17 @@ section at (suc n) bytes = slice_index bytes at ∷ section (at + 1) n bytes
 abbrev pub written : ℕ → List ℕ → List ℕ → List ℕ
 written at bytes old = take at (old ++ replicate at 0) ++ bytes ++ drop (at + length bytes) old
 
+-- the image after a write of bytes at a place of one file
 abbrev pub write_of : File → ℕ → List ℕ → Image → Image
 write_of file at bytes i = with_content file (written at bytes (content file i)) i
 
--- the list begins with this front
+-- the files but this one are as they were
+abbrev pub OtherFilesStay : File → Image → Image → Type 0
+OtherFilesStay file old new = new ≡ with_content file (content file new) old
+
+-- the list begins with this prefix
 abbrev pub BeginsWith : List ℕ → List ℕ → Type 0
-BeginsWith front bytes = (rest : List ℕ) × (bytes ≡ front ++ rest)
+BeginsWith prefix bytes = (rest : List ℕ) × (bytes ≡ prefix ++ rest)
 
 -- What a write of n bytes at a place may leave of a file until a sync: any bytes in the range and
 -- from the old end on, and an end anywhere from the old one to the new one. Other bytes stay.
@@ -45,4 +50,4 @@ pub record Torn (at n : ℕ) (old new : List ℕ) : Type 0 where
 -- of one file of the joint image; the other files stay
 pub record TornImage (file : File) (at n : ℕ) (old new : Image) : Type 0 where
   pub torn : Torn at n (content file old) (content file new)
-  pub others : new ≡ with_content file (content file new) old
+  pub others : OtherFilesStay file old new

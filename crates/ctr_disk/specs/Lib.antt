@@ -1,5 +1,6 @@
 pub mod Image
 pub mod Crash
+pub mod Device
 pub mod Outside
 pub mod Replay
 pub mod TornLaws

@@ -90,8 +90,8 @@ ticks_by Sync = true
 
 -- The call as it stands in the record where memory is not refused: it is refused past the last place
 -- and at the last moment, and else fails where its number is in the list.
-abbrev pub entry_of : Call → MemDisk → Recorded
-entry_of call d = record {
+abbrev pub recorded_as : Call → MemDisk → Recorded
+recorded_as call d = record {
   call = call;
   outcome = outcome_of (strays_by call || (ticks_by call && nat_le (2 ^ 64 - 1) (moment_at d))) (list_any (λ n. n == raised (counted_calls d)) (failing_calls d));
   moment = if ticks_by call then raised (moment_at d) else moment_at d;
@@ -106,9 +106,9 @@ abbrev pub IsStarved : {T E : Type 0} → List Recorded → List Recorded → �
 IsStarved old new starved_old starved_new result = (new ≡ old) × (starved_new ≡ raised starved_old) × IsErr result
 
 -- what a call does: it fails only at the bounds, where it is listed, and where memory is refused
-pub record Makes {T E : Type 0} (call : Call) (old new : MemDisk) (result : Result T E) : Type 0 where
+pub record DoesCall {T E : Type 0} (call : Call) (old new : MemDisk) (result : Result T E) : Type 0 where
   pub counted : counted_calls new ≡ raised (counted_calls old)
   pub first : first_image new ≡ first_image old
   pub listed : failing_calls new ≡ failing_calls old
-  pub goes : IsAnswered (entry_of call old) (recorded_calls old) (recorded_calls new) (starved_calls old) (starved_calls new) result
+  pub goes : IsAnswered (recorded_as call old) (recorded_calls old) (recorded_calls new) (starved_calls old) (starved_calls new) result
       ⊎ IsStarved (recorded_calls old) (recorded_calls new) (starved_calls old) (starved_calls new) result

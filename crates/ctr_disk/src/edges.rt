@@ -1,7 +1,7 @@
 // Where bytes come from and go to.
 ghost use Rattle.std.specs.Prelude.{◌≡◌, ◌≤◌, ◌<◌, ◌↔◌, Bool, IsTrue, List, ℕ, [], length, IfOk, OnErr};
 ghost use Rattle.ctr_disk.specs.Crash.{HasCause};
-ghost use Rattle.ctr_disk.specs.Outside.{Takes, Puts};
+ghost use Rattle.ctr_disk.specs.Outside.{TakesNext, PutsNext};
 
 use crate::Failed;
 
@@ -20,7 +20,7 @@ pub trait Source {
     fn take(&mut self, into: &mut [u8]) -> Result<usize, Failed>
         requires { 0 < length into.old }
         ensures bound { IfOk result (λ n. n ≤ length into.old) }
-        ensures told { IsTrue tells → IfOk result (λ n. Takes n into.new (left self.old) (left self.new)) }
+        ensures told { IsTrue tells → IfOk result (λ n. TakesNext n into.new (left self.old) (left self.new)) }
         ensures end { IsTrue tells → IfOk result (λ n. (n ≡ 0) ↔ (left self.old ≡ [])) }
         ensures err { IsTrue tells → OnErr result (left self.new ≡ left self.old) }
         ensures cause { HasCause (faults_of self.old) (faults_of self.new) result };
@@ -40,11 +40,11 @@ pub trait Sink {
 
     ghost faults_of: { Self → ℕ };
 
-    /// Puts a front of the bytes, from 1 byte to all of them where there are any, and says how many.
+    /// Puts a prefix of the bytes, from 1 byte to all of them where there are any, and says how many.
     /// A call that failed put none.
     fn put(&mut self, bytes: &[u8]) -> Result<usize, Failed>
         ensures bound { IfOk result (λ n. (n ≤ length bytes.now) × (0 < length bytes.now → 0 < n)) }
-        ensures told { IsTrue tells → IfOk result (λ n. Puts n bytes.now (taken self.old) (taken self.new)) }
+        ensures told { IsTrue tells → IfOk result (λ n. PutsNext n bytes.now (taken self.old) (taken self.new)) }
         ensures err { IsTrue tells → OnErr result (taken self.new ≡ taken self.old) }
         ensures cause { HasCause (faults_of self.old) (faults_of self.new) result };
 

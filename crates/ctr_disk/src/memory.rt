@@ -152,7 +152,7 @@ impl Disk for MemDisk {
     ghost use Rattle.std.specs.Prelude.{◌≡◌, ◌+◌, true, length, IfOk, OnOk};
     ghost use Rattle.ctr_disk.specs.Image.{content, section, write_of, TornImage};
     ghost use Rattle.ctr_disk.specs.Crash.{Only, Within, Tears, Elapses, HasCause, HasStray, Ticks};
-    ghost use Rattle.ctr_disk.specs.Memory.{Makes, image_read, images_of, since_of, moment_at, counted_faults, counted_strays};
+    ghost use Rattle.ctr_disk.specs.Memory.{DoesCall, image_read, images_of, since_of, moment_at, counted_faults, counted_strays};
     ghost use Rattle.ctr_disk.specs.declared.record.Call.TheVariants.{Size, Read, Write, Sync};
     ghost use Rattle.ctr_disk.specs.ReplayLaws.{counts_now_of, only_now_of, earlier_of, among_of};
 
@@ -191,7 +191,7 @@ impl Disk for MemDisk {
     }
 
     fn size(&mut self, file: File) -> Result<u64, Failed>
-        ensures makes { Makes (Size file) self.old self.new result }
+        ensures makes { DoesCall (Size file) self.old self.new result }
         ensures told { IfOk result (λ n. n ≡ length (content file (image_read self.old))) }
         ensures same { (image_read self.new ≡ image_read self.old) × (moment_at self.new ≡ moment_at self.old) }
         ensures crash { Within (images_of self.new) (images_of self.old) }
@@ -211,7 +211,7 @@ impl Disk for MemDisk {
     }
 
     fn read(&mut self, file: File, at: u64, into: &mut [u8]) -> Result<(), Failed>
-        ensures makes { Makes (Read file at (length into.old)) self.old self.new result }
+        ensures makes { DoesCall (Read file at (length into.old)) self.old self.new result }
         ensures told { OnOk result (into.new ≡ section at (length into.old) (content file (image_read self.old))) }
         ensures same { (image_read self.new ≡ image_read self.old) × (moment_at self.new ≡ moment_at self.old) }
         ensures crash { Within (images_of self.new) (images_of self.old) }
@@ -237,7 +237,7 @@ impl Disk for MemDisk {
     }
 
     fn write(&mut self, file: File, at: u64, bytes: &[u8]) -> Result<(), Failed>
-        ensures makes { Makes (Write file at bytes.now) self.old self.new result }
+        ensures makes { DoesCall (Write file at bytes.now) self.old self.new result }
         ensures told { OnOk result (image_read self.new ≡ write_of file at bytes.now (image_read self.old)) }
         ensures torn { TornImage file at (length bytes.now) (image_read self.old) (image_read self.new) }
         ensures crash { Within (images_of self.new) (Tears file at (length bytes.now) (images_of self.old)) }
@@ -262,7 +262,7 @@ impl Disk for MemDisk {
     }
 
     fn sync(&mut self) -> Result<(), Failed>
-        ensures makes { Makes Sync self.old self.new result }
+        ensures makes { DoesCall Sync self.old self.new result }
         ensures same { image_read self.new ≡ image_read self.old }
         ensures durable { OnOk result (Only (image_read self.old) (images_of self.new)) }
         ensures crash { Within (images_of self.new) (images_of self.old) }

@@ -49,7 +49,7 @@ impl MemSource {
 impl Source for MemSource {
     ghost use Rattle.std.specs.Prelude.{◌≡◌, ◌↔◌, [], min, true, is_err, IfOk, OnErr};
     ghost use Rattle.ctr_disk.specs.Crash.{HasCause};
-    ghost use Rattle.ctr_disk.specs.Outside.{Takes};
+    ghost use Rattle.ctr_disk.specs.Outside.{TakesNext};
     ghost use Rattle.ctr_disk.specs.MemoryEdges.{bytes_left, most_taken, failing_takes, counted_takes, source_faults, is_listed, TakeCounts};
 
     ghost tells = { true };
@@ -62,7 +62,7 @@ impl Source for MemSource {
         requires { 0 < length into.old }
         ensures bound { IfOk result (λ n. n ≤ length into.old) }
         ensures amount { IfOk result (λ n. n ≡ min (min (length (bytes_left self.old)) (length into.old)) (most_taken self.old)) }
-        ensures told { IfOk result (λ n. Takes n into.new (bytes_left self.old) (bytes_left self.new)) }
+        ensures told { IfOk result (λ n. TakesNext n into.new (bytes_left self.old) (bytes_left self.new)) }
         ensures end { IfOk result (λ n. (n ≡ 0) ↔ (bytes_left self.old ≡ [])) }
         ensures err { OnErr result (bytes_left self.new ≡ bytes_left self.old) }
         ensures listed { is_err result ≡ is_listed (failing_takes self.old) (counted_takes self.old) }
@@ -160,7 +160,7 @@ impl MemSink {
 impl Sink for MemSink {
     ghost use Rattle.std.specs.Prelude.{◌≡◌, min, true, IfOk, OnErr};
     ghost use Rattle.ctr_disk.specs.Crash.{HasCause};
-    ghost use Rattle.ctr_disk.specs.Outside.{Puts};
+    ghost use Rattle.ctr_disk.specs.Outside.{PutsNext};
     ghost use Rattle.ctr_disk.specs.MemoryEdges.{bytes_put, most_put, sink_faults, PutCounts, PutFails};
 
     ghost tells = { true };
@@ -172,7 +172,7 @@ impl Sink for MemSink {
     fn put(&mut self, bytes: &[u8]) -> Result<usize, Failed>
         ensures bound { IfOk result (λ n. (n ≤ length bytes.now) × (0 < length bytes.now → 0 < n)) }
         ensures amount { IfOk result (λ n. n ≡ min (length bytes.now) (most_put self.old)) }
-        ensures told { IfOk result (λ n. Puts n bytes.now (bytes_put self.old) (bytes_put self.new)) }
+        ensures told { IfOk result (λ n. PutsNext n bytes.now (bytes_put self.old) (bytes_put self.new)) }
         ensures err { OnErr result (bytes_put self.new ≡ bytes_put self.old) }
         ensures fails { PutFails self.old self.new result }
         ensures counts { PutCounts self.old self.new }

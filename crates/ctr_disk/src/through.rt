@@ -1,7 +1,8 @@
 // A write that is synced before it returns.
 ghost use Rattle.std.specs.Prelude.{◌≡◌, ◌≤◌, ◌<◌, ◌+◌, IsTrue, length, OnOk};
 ghost use Rattle.ctr_disk.specs.Image.{write_of, TornImage};
-ghost use Rattle.ctr_disk.specs.Crash.{Only, Tears, LeavesOnly, HasCause, HasStray, Ticks};
+ghost use Rattle.ctr_disk.specs.Crash.{Tears, HasCause, HasStray, Ticks};
+ghost use Rattle.ctr_disk.specs.Device.{LeavesOnly, IsDurable};
 
 use crate::{Disk, Failed, File};
 
@@ -10,8 +11,8 @@ use crate::{Disk, Failed, File};
 /// A crash at any moment of the call leaves what it might have left before, torn by this write.
 pub fn write_through<D: Disk>(disk: &mut D, file: File, at: u64, bytes: &[u8]) -> Result<(), Failed>
     ensures told { IsTrue D.tells → OnOk result (D.reads disk.new ≡ write_of file at bytes.now (D.reads disk.old)) }
-    ensures durable { OnOk result (Only (D.reads disk.new) (D.images disk.new)) }
-    ensures any_moment { LeavesOnly D.moment_of D.since disk.old disk.new (Tears file at (length bytes.now) (D.images disk.old)) }
+    ensures durable { OnOk result (IsDurable D.Disk disk.new) }
+    ensures any_moment { LeavesOnly D.Disk disk.old disk.new (Tears file at (length bytes.now) (D.images disk.old)) }
     ensures torn { IsTrue D.tells → TornImage file at (length bytes.now) (D.reads disk.old) (D.reads disk.new) }
     ensures ticks { Ticks (D.moment_of disk.old) (D.moment_of disk.new) result }
     ensures cause { HasCause (D.faults_of disk.old) (D.faults_of disk.new) result }

@@ -3,14 +3,14 @@ use Rattle.std.proofs.Common.{◌≡◌, inl, inr, ℕ, ◌+◌, ◌-◌, ◌^�
 use Rattle.std.proofs.lemmas.List.{append-nil, take_at, drop_at, take_all}
 use Rattle.ctr_disk.specs.declared.disk.Image.{Image}
 use Rattle.ctr_disk.specs.declared.disk.File.{File}
-use Rattle.ctr_disk.specs.Image.{content}
-use Rattle.ctr_disk.specs.Crash.{LeavesOnly}
+use Rattle.ctr_disk.specs.declared.disk.Disk.{Ghosts}
+use Rattle.ctr_disk.specs.Image.{content, OtherFilesStay}
+use Rattle.ctr_disk.specs.Device.{LeavesOnly}
 use Rattle.ctr_disk.proofs.Moments.{weaker}
 use Rattle.ctr_log.specs.declared.log.LogFile.TheInside.{Inside}
 use Rattle.ctr_bytes.specs.Fields.{spelled}
-use Rattle.ctr_log.specs.Settled.{SameBut}
-use Rattle.ctr_log.specs.Logs.{Log, headed, sealed, frames, batches, records, GoesOn, Extends, IsBeforeOrAfter, IsAfter, HasPrefix, with_batch, unframed, HasBatches}
-use Rattle.ctr_log.specs.LogFile.{log_of, Keeps}
+use Rattle.ctr_log.specs.Logs.{Log, headed, sealed, frames, batches, records, GoesOn, Extends, IsBeforeOrAfter, IsAfter, HasPrefix, IsFlushing, with_batch, unframed, HasBatches}
+use Rattle.ctr_log.specs.LogFile.{log_of, IsSound}
 use Rattle.ctr_bytes.proofs.FieldLaws.{length-spelled}
 use Rattle.ctr_log.proofs.LogLemmas.{length-push, length-unframed, length-batches-push, records-push}
 
@@ -55,7 +55,7 @@ gate_within file first bs rs place old c at (same, inl log) = omega (arith, ap l
 gate_within file first bs rs place old c at (same, inr log) =
     omega (arith, ap length log.bytes_are, length-append (batches first (bs ++ rs ∷ [])) (log.gate ∷ log.rest), length-batches-push first bs rs)
 
-module _ (a : Inside) (keeps : Keeps a) (some : 0 < a.count) (few : a.count < 2 ^ 32) (long : vec_len a.buffer ≡ length a.buffer.items) (first : ℕ) (bs : List (List (List ℕ))) where
+module _ (a : Inside) (keeps : IsSound a) (some : 0 < a.count) (few : a.count < 2 ^ 32) (long : vec_len a.buffer ≡ length a.buffer.items) (first : ℕ) (bs : List (List (List ℕ))) where
   abbrev held : List ℕ
   held = drop 20 a.buffer.items
 
@@ -76,25 +76,20 @@ module _ (a : Inside) (keeps : Keeps a) (some : 0 < a.count) (few : a.count < 2 
   }
 
   -- what a crash leaves while it is written behind the log
-  module _ {D : Type 0} (moment : D → ℕ) (since : D → ℕ → Image → Type 0) (old new : D) (image : Image) (log : Log) (log_is : log_of a ≡ log) (goes : GoesOn first bs log image) (body : List ℕ) (body_is : body ≡ sealed a.first a.count held)
-      (wrote : Extends first bs rs a.place body (content a.file image) → LeavesOnly moment since old new (IsBeforeOrAfter a.file first bs rs image)) where
+  module _ {D : Type 0} (g : Ghosts D) (old new : D) (image : Image) (log : Log) (log_is : log_of a ≡ log) (goes : GoesOn first bs log image) (body : List ℕ) (body_is : body ≡ sealed a.first a.count held)
+      (wrote : Extends first bs rs a.place body (content a.file image) → LeavesOnly g old new (IsBeforeOrAfter a.file first bs rs image)) where
     goes_a : GoesOn first bs (log_of a) image
     goes_a = subst (λ (v : Log). GoesOn first bs v image) (sym log_is) goes
 
-    leaves : (P : Log → Image → Type 0) → ((c : Image) → IsBeforeOrAfter a.file first bs rs image c → P (log_of a) c) → LeavesOnly moment since old new (P log)
-    leaves P gives =
+    pub leaves : LeavesOnly g old new (IsFlushing first bs log image)
+    leaves =
         let crash = wrote (subst (λ (b : List ℕ). Extends first bs rs a.place b (content a.file image)) (sym body_is) (extends image goes_a)) in
-        subst (λ (v : Log). LeavesOnly moment since old new (P v)) log_is (weaker moment since old new (IsBeforeOrAfter a.file first bs rs image) (P (log_of a)) crash gives)
-
-    pub leaves_prefix : LeavesOnly moment since old new (HasPrefix log.file first (records bs) log.buffered image)
-    leaves_prefix = leaves (λ v. HasPrefix v.file first (records bs) v.buffered image) (λ c is. prefix a.file first bs rs image c goes_a.log_is.some is)
-
-    pub leaves_gate : LeavesOnly moment since old new (λ c. log.place < length (content log.file c))
-    leaves_gate = leaves (λ v c. v.place < length (content v.file c)) (λ c is. gate_within a.file first bs rs a.place image c goes_a.place is)
+        subst (λ (v : Log). LeavesOnly g old new (IsFlushing first bs v image)) log_is (weaker g old new (IsBeforeOrAfter a.file first bs rs image) (IsFlushing first bs (log_of a) image) crash (λ c is.
+        record { records_are = prefix a.file first bs rs image c goes_a.log_is.some is; long = gate_within a.file first bs rs a.place image c goes_a.place is }))
 
   -- and behind it the writer goes on
   pub goes_on : (image new : Image) (log : Log) → GoesOn first bs (log_of a) image → IsAfter a.file first bs rs image new → log.file ≡ a.file → log.place ≡ a.place + (1 + vec_len a.buffer) → log.first ≡ a.first + a.count
-      → SameBut a.file image new × GoesOn first (with_batch bs rs) log new
+      → OtherFilesStay a.file image new × GoesOn first (with_batch bs rs) log new
   goes_on image new log goes after file place number =
       let head = keeps.head in
       let held_len : length (frames rs) ≡ vec_len a.buffer - 20 = omega (arith, ap length keeps.frames_are, length-drop 20 a.buffer.items) in

@@ -8,7 +8,7 @@ use Rattle.ctr_disk.specs.declared.disk.File.TheVariants.{Root}
 use Rattle.ctr_disk.specs.Image.{section, written, write_of, Torn, TornImage}
 use Rattle.ctr_log.specs.declared.home.Home.{Home}
 use Rattle.ctr_log.specs.declared.home.Home.TheVariants.{First, Second}
-use Rattle.ctr_log.specs.Homes.{Block, block_of, place, home_in, opened, later, root_value, IsAbove, chosen, chosen_in, IsShut, other, IsKept, IsMade, Keeps, Makes, KeepsOrMakes, IsOldOrNew, IsNew}
+use Rattle.ctr_log.specs.Homes.{Block, block_of, place, home_in, opened, later, root_value, IsAbove, home_chosen, chosen_in, IsShut, other, IsHomeKept, IsHomeMade, KeepsHome, MakesHome, KeepsOrMakesHome, IsOldOrNewRoot, IsNewRoot}
 use Rattle.ctr_disk.specs.TornLaws.{torn_whole}
 use Rattle.ctr_log.proofs.Torn.{torn_behind, torn_byte, written_behind, written_byte, written_end, split_at, same_but}
 
@@ -40,13 +40,13 @@ first_whole bytes b is = elim (cases_lt (length bytes) 64) [
 pub chosen_fits : (bytes : List ℕ) → place (chosen_in bytes) ≤ length bytes
 chosen_fits bytes = by_first (opened (home_in First bytes)) (opened (home_in Second bytes)) (first_whole bytes)
   where
-    by_first : (a b : Option Block) → ((x : Block) → a ≡ Some x → 64 ≤ length bytes) → place (chosen a b) ≤ length bytes
+    by_first : (a b : Option Block) → ((x : Block) → a ≡ Some x → 64 ≤ length bytes) → place (home_chosen a b) ≤ length bytes
     by_first None b whole = omega arith
     by_first (Some x) None whole = whole x refl
     by_first (Some x) (Some y) whole = elim (nat_lt x.stamp y.stamp) as (λ t. place (cond t First Second) ≤ length bytes) [ true ↦ omega arith | false ↦ whole x refl ]
 
 -- a value stays while the other home than its own is written
-keeps_first : (a b c : Option Block) → First ≡ chosen a b → (c ≡ None) ⊎ (c ≡ a) → later c b ≡ later a b
+keeps_first : (a b c : Option Block) → First ≡ home_chosen a b → (c ≡ None) ⊎ (c ≡ a) → later c b ≡ later a b
 keeps_first None b c is (inl none) = ap (λ (o : Option Block). later o b) none
 keeps_first None b c is (inr same) = ap (λ (o : Option Block). later o b) same
 keeps_first (Some x) None c is here = absurd (cc is)
@@ -57,7 +57,7 @@ keeps_first (Some x) (Some y) c is (inl none) = ap (λ (o : Option Block). later
     by_test true e = refl
     by_test false e = absurd (cc e)
 
-keeps_second : (a b c : Option Block) → Second ≡ chosen a b → (c ≡ None) ⊎ (c ≡ b) → later a c ≡ later a b
+keeps_second : (a b c : Option Block) → Second ≡ home_chosen a b → (c ≡ None) ⊎ (c ≡ b) → later a c ≡ later a b
 keeps_second None b c is here = absurd (cc is)
 keeps_second (Some x) b c is (inr same) = ap (λ (o : Option Block). later (Some x) o) same
 keeps_second (Some x) None c is (inl none) = ap (λ (o : Option Block). later (Some x) o) none
@@ -67,7 +67,7 @@ keeps_second (Some x) (Some y) c is (inl none) = ap (λ (o : Option Block). late
     by_test true e = absurd (cc e)
     by_test false e = refl
 
-pub kept_value : (home : Home) (old new : List ℕ) → home ≡ chosen_in old → IsKept home old new → root_value new ≡ root_value old
+pub kept_value : (home : Home) (old new : List ℕ) → home ≡ chosen_in old → IsHomeKept home old new → root_value new ≡ root_value old
 kept_value First old new is kept =
     ap (λ (o : Option Block). later (opened (home_in First new)) o) kept.beside ∙ keeps_first (opened (home_in First old)) (opened (home_in Second old)) (opened (home_in First new)) is kept.here
 kept_value Second old new is kept =
@@ -80,7 +80,7 @@ later_first y n above = grind (arith, nat_tests)
 later_second : (x n : Block) → x.stamp < n.stamp → later (Some x) (Some n) ≡ Some n
 later_second x n above = grind (arith, nat_tests)
 
-makes_first : (a b : Option Block) (n : Block) → First ≡ chosen a b → IsAbove n.stamp (later a b) → later (Some n) b ≡ Some n
+makes_first : (a b : Option Block) (n : Block) → First ≡ home_chosen a b → IsAbove n.stamp (later a b) → later (Some n) b ≡ Some n
 makes_first a None n is above = refl
 makes_first None (Some y) n is above = later_first y n above
 makes_first (Some x) (Some y) n is above = later_first y n (by_test (nat_lt x.stamp y.stamp) is above)
@@ -89,7 +89,7 @@ makes_first (Some x) (Some y) n is above = later_first y n (by_test (nat_lt x.st
     by_test true e up = up
     by_test false e up = absurd (cc e)
 
-makes_second : (a b : Option Block) (n : Block) → Second ≡ chosen a b → IsAbove n.stamp (later a b) → later a (Some n) ≡ Some n
+makes_second : (a b : Option Block) (n : Block) → Second ≡ home_chosen a b → IsAbove n.stamp (later a b) → later a (Some n) ≡ Some n
 makes_second None b n is above = absurd (cc is)
 makes_second (Some x) None n is above = later_second x n above
 makes_second (Some x) (Some y) n is above = later_second x n (by_test (nat_lt x.stamp y.stamp) is above)
@@ -98,7 +98,7 @@ makes_second (Some x) (Some y) n is above = later_second x n (by_test (nat_lt x.
     by_test true e up = absurd (cc e)
     by_test false e up = up
 
-pub made_value : (home : Home) (old new : List ℕ) (n : Block) → home ≡ chosen_in old → IsAbove n.stamp (root_value old) → IsMade home n old new → root_value new ≡ Some n
+pub made_value : (home : Home) (old new : List ℕ) (n : Block) → home ≡ chosen_in old → IsAbove n.stamp (root_value old) → IsHomeMade home n old new → root_value new ≡ Some n
 made_value First old new n is above made =
     ap (λ (o : Option Block). later o (opened (home_in Second new))) made.here ∙ ap (λ (o : Option Block). later (Some n) o) made.beside
     ∙ makes_first (opened (home_in First old)) (opened (home_in Second old)) n is above
@@ -136,7 +136,7 @@ module _ (home : Home) (old : List ℕ) (fits : place home ≤ length old) where
 
   -- closing the gate where it is open or isn't there
   module _ (open_ : place home < length old → gate ≡ 1) where
-    pub shut_torn : (c : List ℕ) → Torn (place home) 1 old c → IsKept home old c
+    pub shut_torn : (c : List ℕ) → Torn (place home) 1 old c → IsHomeKept home old c
     shut_torn c torn = record {
       beside = ap opened (beside_torn home old c (place home) 1 fits (omega arith) (omega arith) torn);
       here = elim (cases_lt (place home) (length old)) [
@@ -188,7 +188,7 @@ module _ (home : Home) (old : List ℕ) (shut : IsShut home old) (bytes : List �
   old_is = split_at (place home) old shut.0
 
   -- all but the gate, torn
-  pub body_torn : (c : List ℕ) → Torn (place home + 1) 63 old c → IsKept home old c
+  pub body_torn : (c : List ℕ) → Torn (place home + 1) 63 old c → IsHomeKept home old c
   body_torn c torn =
       let t = subst (λ o. Torn (place home + 1) 63 o c) old_is torn in
       let new_is = torn_behind before tail shut_gate (place home + 1) c 63 (omega (arith, before_is)) t in
@@ -209,7 +209,7 @@ module _ (home : Home) (old : List ℕ) (shut : IsShut home old) (bytes : List �
     mid_fits = omega (arith, ap length mid_is, length-append before (shut_gate ∷ behind), before_is)
 
     -- the gate, torn
-    pub gate_torn : (c : List ℕ) → Torn (place home) 1 mid c → IsKept home old c ⊎ IsMade home (block_of bytes) old c
+    pub gate_torn : (c : List ℕ) → Torn (place home) 1 mid c → IsHomeKept home old c ⊎ IsHomeMade home (block_of bytes) old c
     gate_torn c torn =
         let t = subst (λ o. Torn (place home) 1 o c) mid_is torn in
         let byte = torn_byte before behind shut_gate (place home) c before_is t in
@@ -223,7 +223,7 @@ module _ (home : Home) (old : List ℕ) (shut : IsShut home old) (bytes : List �
         ]
 
     -- and written
-    pub gate_written : (new : List ℕ) → new ≡ written (place home) (1 ∷ []) mid → home_in (other home) new ≡ home_in (other home) mid → IsMade home (block_of bytes) old new
+    pub gate_written : (new : List ℕ) → new ≡ written (place home) (1 ∷ []) mid → home_in (other home) new ≡ home_in (other home) mid → IsHomeMade home (block_of bytes) old new
     gate_written new is_new same =
         let new_is : new ≡ before ++ 1 ∷ behind = is_new ∙ ap (λ (l : List ℕ). written (place home) (1 ∷ []) l) mid_is ∙ written_byte before behind shut_gate (place home) 1 before_is in
         let slot : home_in home new ≡ 1 ∷ bytes =
@@ -232,23 +232,23 @@ module _ (home : Home) (old : List ℕ) (shut : IsShut home old) (bytes : List �
 
 -- the steps on images, of which the other files stay
 module _ (home : Home) (old : Image) where
-  kept_same : IsKept home old.root old.root
+  kept_same : IsHomeKept home old.root old.root
   kept_same = record { beside = refl; here = inr refl }
 
-  pub keeps_same : (new : Image) → new ≡ old → Keeps home old new
-  keeps_same new is = subst (Keeps home old) (sym is) (refl, kept_same)
+  pub keeps_same : (new : Image) → new ≡ old → KeepsHome home old new
+  keeps_same new is = subst (KeepsHome home old) (sym is) (refl, kept_same)
 
   module _ (low : place home ≤ length old.root) (open_ : place home < length old.root → get_or old.root (place home) 0 ≡ 1) where
-    pub shut_by_torn : (c : Image) → TornImage Root (place home) 1 old c → Keeps home old c
+    pub shut_by_torn : (c : Image) → TornImage Root (place home) 1 old c → KeepsHome home old c
     shut_by_torn c torn = (torn.others, shut_torn home old.root low open_ c.root torn.torn)
 
-    pub shut_by_write : (new : Image) → new ≡ write_of Root (place home) (0 ∷ []) old → Keeps home old new × IsShut home new.root
+    pub shut_by_write : (new : Image) → new ≡ write_of Root (place home) (0 ∷ []) old → KeepsHome home old new × IsShut home new.root
     shut_by_write new is =
-        let P : Image → Type 0 = λ c. Keeps home old c × IsShut home c.root in
+        let P : Image → Type 0 = λ c. KeepsHome home old c × IsShut home c.root in
         subst P (sym is) (shut_by_torn _ (torn_whole Root (place home) (0 ∷ []) old), shut_written home old.root low open_)
 
   module _ (shut : IsShut home old.root) (bytes : List ℕ) (whole : length bytes ≡ 63) where
-    pub body_by_torn : (c : Image) → TornImage Root (place home + 1) 63 old c → Keeps home old c
+    pub body_by_torn : (c : Image) → TornImage Root (place home + 1) 63 old c → KeepsHome home old c
     body_by_torn c torn = (torn.others, body_torn home old.root shut bytes whole c.root torn.torn)
 
     module _ (mid : Image) (is_mid : mid ≡ write_of Root (place home + 1) bytes old) where
@@ -261,12 +261,12 @@ module _ (home : Home) (old : Image) where
       mid_root : mid.root ≡ written (place home + 1) bytes old.root
       mid_root = ap (λ i. i.root) is_mid
 
-      pub gate_by_torn : (c : Image) → TornImage Root (place home) 1 mid c → Keeps home old c ⊎ Makes home (block_of bytes) old c
+      pub gate_by_torn : (c : Image) → TornImage Root (place home) 1 mid c → KeepsHome home old c ⊎ MakesHome home (block_of bytes) old c
       gate_by_torn c torn =
           let others = same_but Root old mid c mid_torn.others torn.others in
           ⊎_elim (λ kept. inl (others, kept)) (λ made. inr (others, made)) (gate_torn home old.root shut bytes whole mid.root mid_root beside_mid c.root torn.torn)
 
-      pub gate_by_write : (new : Image) → new ≡ write_of Root (place home) (1 ∷ []) mid → Makes home (block_of bytes) old new
+      pub gate_by_write : (new : Image) → new ≡ write_of Root (place home) (1 ∷ []) mid → MakesHome home (block_of bytes) old new
       gate_by_write new is =
           let torn = subst (λ c. TornImage Root (place home) 1 mid c) (sym is) (torn_whole Root (place home) (1 ∷ []) mid) in
           let within = shut.0 in
@@ -275,7 +275,7 @@ module _ (home : Home) (old : Image) where
           (same_but Root old mid new mid_torn.others torn.others, gate_written home old.root shut bytes whole mid.root mid_root beside_mid new.root (ap (λ i. i.root) is) same)
 
 -- what a step keeps or makes goes on from what an earlier one kept
-pub kept_then : (home : Home) (a b c : List ℕ) → IsKept home a b → IsKept home b c → IsKept home a c
+pub kept_then : (home : Home) (a b c : List ℕ) → IsHomeKept home a b → IsHomeKept home b c → IsHomeKept home a c
 kept_then home a b c first second = record {
   beside = second.beside ∙ first.beside;
   here = ⊎_elim (λ none. inl none) (λ same. ⊎_elim (λ none. inl (same ∙ none)) (λ was. inr (same ∙ was)) first.here) second.here;
@@ -283,20 +283,20 @@ kept_then home a b c first second = record {
 
 -- the writing of a home, seen as the value
 module _ (home : Home) (old : Image) (block : Block) (is : home ≡ chosen_in old.root) where
-  pub keeps_value : (c : Image) → Keeps home old c → IsOldOrNew old block c
+  pub keeps_value : (c : Image) → KeepsHome home old c → IsOldOrNewRoot old block c
   keeps_value c keeps = (keeps.0, inl (kept_value home old.root c.root is keeps.1))
 
-  module _ (mid : Image) (kept : Keeps home old mid) where
-    pub later_keeps : (c : Image) → Keeps home mid c → IsOldOrNew old block c
+  module _ (mid : Image) (kept : KeepsHome home old mid) where
+    pub later_keeps : (c : Image) → KeepsHome home mid c → IsOldOrNewRoot old block c
     later_keeps c keeps = keeps_value c (same_but Root old mid c kept.0 keeps.0, kept_then home old.root mid.root c.root kept.1 keeps.1)
 
-    pub later_makes : IsAbove block.stamp (root_value old.root) → (c : Image) → Makes home block mid c → IsNew old block c
+    pub later_makes : IsAbove block.stamp (root_value old.root) → (c : Image) → MakesHome home block mid c → IsNewRoot old block c
     later_makes above c makes = (
       same_but Root old mid c kept.0 makes.0,
       made_value home old.root c.root block is above (record { beside = makes.1.beside ∙ kept.1.beside; here = makes.1.here }),
     )
 
-    pub later_either : IsAbove block.stamp (root_value old.root) → (c : Image) → KeepsOrMakes home block mid c → IsOldOrNew old block c
+    pub later_either : IsAbove block.stamp (root_value old.root) → (c : Image) → KeepsOrMakesHome home block mid c → IsOldOrNewRoot old block c
     later_either above c (inl keeps) = later_keeps c keeps
     later_either above c (inr makes) = let new = later_makes above c makes in (new.0, inr new.1)
 

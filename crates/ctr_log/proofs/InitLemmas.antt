@@ -3,9 +3,9 @@ use Rattle.std.proofs.Common.{◌≡◌, inl, inr, ℕ, List, [], ◌∷◌, ◌
 use Rattle.ctr_disk.specs.declared.disk.Image.{Image}
 use Rattle.ctr_disk.specs.declared.disk.File.TheVariants.{LogA, LogB}
 use Rattle.ctr_disk.specs.Image.{write_of, TornImage}
-use Rattle.ctr_log.specs.Homes.{root_block, root_value, IsAbove, IsOldOrNew, IsNew}
+use Rattle.ctr_log.specs.Homes.{root_block, root_value, IsAbove, IsOldOrNewRoot, IsNewRoot}
 use Rattle.ctr_log.specs.Logs.{batch, HasLog, Extends, IsBeforeOrAfter, IsAfter}
-use Rattle.ctr_log.specs.Fresh.{first_checkpoint, fresh_log, fresh_root, IsClosed, IsFresh, IsNoneOrFresh, IsReady, IsEmptied, SameRoot}
+use Rattle.ctr_log.specs.Fresh.{first_checkpoint, fresh_log, fresh_root, IsClosed, IsFresh, IsNoneOrFresh, IsReady, AreEmptied, SameRoot}
 
 pub same_root_by_log_a : (at n : ℕ) (old d c : Image) → SameRoot old d → TornImage LogA at n d c → SameRoot old c
 same_root_by_log_a at n old d c same torn = (ap (λ i. i.root) torn.others ∙ same.0, ap (λ i. i.pages) torn.others ∙ same.1)
@@ -17,7 +17,7 @@ pub same_root : (old c : Image) → c ≡ old → SameRoot old c
 same_root old c is = (ap (λ i. i.root) is, ap (λ i. i.pages) is)
 
 -- both logs were closed
-pub emptied : (old one two : Image) → one ≡ write_of LogA 0 (0 ∷ []) old → two ≡ write_of LogB 0 (0 ∷ []) one → IsEmptied old two
+pub emptied : (old one two : Image) → one ≡ write_of LogA 0 (0 ∷ []) old → two ≡ write_of LogB 0 (0 ∷ []) one → AreEmptied old two
 emptied old one two first second = record {
   root = ap (λ i. i.root) second ∙ ap (λ i. i.root) first;
   log = (drop 1 old.log_a, ap (λ i. i.log_a) second ∙ ap (λ i. i.log_a) first);
@@ -38,10 +38,10 @@ fresh_extends body bytes rest is empty = record {
   is_batch = (omega arith, omega arith);
 }
 
-pub log_step : (old mid c : Image) → IsEmptied old mid → IsBeforeOrAfter LogA 1 [] (first_checkpoint ∷ []) mid c → SameRoot old c
+pub log_step : (old mid c : Image) → AreEmptied old mid → IsBeforeOrAfter LogA 1 [] (first_checkpoint ∷ []) mid c → SameRoot old c
 log_step old mid c empty step = (ap (λ i. i.root) step.0 ∙ empty.root, ap (λ i. i.pages) step.0 ∙ empty.pages)
 
-pub log_ready : (old mid new : Image) → IsEmptied old mid → IsAfter LogA 1 [] (first_checkpoint ∷ []) mid new → IsReady old new
+pub log_ready : (old mid new : Image) → AreEmptied old mid → IsAfter LogA 1 [] (first_checkpoint ∷ []) mid new → IsReady old new
 log_ready old mid new empty after = record {
   root = ap (λ i. i.root) after.0 ∙ empty.root;
   log = record { some = omega arith; batches_are = after.1 };
@@ -58,7 +58,7 @@ module _ (old : Image) (none : root_value old.root ≡ None) where
     pub root_above : IsAbove 1 (root_value mid.root)
     root_above = subst (IsAbove 1) (sym (ap root_value ready.root ∙ none)) tt
 
-    pub root_made : (c : Image) → IsNew mid (root_block fresh_root) c → IsFresh old c
+    pub root_made : (c : Image) → IsNewRoot mid (root_block fresh_root) c → IsFresh old c
     root_made c new = record {
       root = new.1;
       log = subst (HasLog 1 fresh_log) (sym (ap (λ i. i.log_a) new.0)) ready.log;
@@ -66,6 +66,6 @@ module _ (old : Image) (none : root_value old.root ≡ None) where
       pages = ap (λ i. i.pages) new.0 ∙ ready.pages;
     }
 
-    pub root_step : (c : Image) → IsOldOrNew mid (root_block fresh_root) c → IsNoneOrFresh old c
+    pub root_step : (c : Image) → IsOldOrNewRoot mid (root_block fresh_root) c → IsNoneOrFresh old c
     root_step c (same, inl was) = inl (was ∙ ap root_value ready.root ∙ none)
     root_step c (same, inr new) = inr (root_made c (same, new))

@@ -5,9 +5,8 @@ use Rattle.std.proofs.lemmas.List.{append-nil, take_at, drop_at, drop-drop, drop
 use Rattle.ctr_disk.specs.declared.disk.Image.{Image}
 use Rattle.ctr_disk.specs.declared.disk.File.{File}
 use Rattle.ctr_disk.specs.declared.disk.File.TheVariants.{Root, LogA, LogB, Pages}
-use Rattle.ctr_disk.specs.Image.{content, write_of, written, Torn, TornImage}
+use Rattle.ctr_disk.specs.Image.{content, write_of, written, Torn, TornImage, OtherFilesStay}
 use Rattle.ctr_bytes.specs.Fields.{spelled, field}
-use Rattle.ctr_log.specs.Settled.{SameBut}
 use Rattle.ctr_log.specs.Logs.{frame, frames, batch, batches, records, IsBatch, AreBatches, unframed, Extends, IsBeforeOrAfter, IsAfter, HasBatches}
 use Rattle.ctr_bytes.proofs.FieldLaws.{length-spelled, field_at}
 use Rattle.ctr_disk.specs.TornLaws.{torn_whole}
@@ -189,8 +188,8 @@ module _ (file : File) (first : ℕ) (bs : List (List (List ℕ))) (rs : List (L
     abbrev tail : List ℕ
     tail = drop (length body) rest
 
-    mid_others : SameBut file old mid
-    mid_others = subst (SameBut file old) (sym is_mid) (torn_whole file (place + 1) body old).others
+    mid_others : OtherFilesStay file old mid
+    mid_others = subst (OtherFilesStay file old) (sym is_mid) (torn_whole file (place + 1) body old).others
 
     -- and written
     mid_is : content file mid ≡ front ++ gate ∷ (batch number rs ++ 0 ∷ tail)
@@ -223,7 +222,7 @@ module _ (file : File) (first : ℕ) (bs : List (List (List ℕ))) (rs : List (L
     -- and written
     pub gate_written : (new : Image) → new ≡ write_of file place (1 ∷ []) mid → IsAfter file first bs rs old new
     gate_written new is =
-        let others = subst (SameBut file mid) (sym is) (torn_whole file place (1 ∷ []) mid).others in
+        let others = subst (OtherFilesStay file mid) (sym is) (torn_whole file place (1 ∷ []) mid).others in
         let log : content file new ≡ front ++ 1 ∷ (batch number rs ++ 0 ∷ tail) =
         ap (content file) is ∙ content_written file place (1 ∷ []) mid ∙ ap (λ (l : List ℕ). written place (1 ∷ []) l) mid_is
         ∙ written_byte front (batch number rs ++ 0 ∷ tail) gate place 1 ext.place_is in

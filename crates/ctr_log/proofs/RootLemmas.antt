@@ -6,8 +6,8 @@ use Rattle.ctr_disk.specs.declared.disk.File.TheVariants.{Root as RootFile}
 use Rattle.ctr_disk.specs.declared.fault.Root.{Root}
 use Rattle.ctr_disk.specs.declared.fault.StoreFault.{StoreFault}
 use Rattle.ctr_bytes.specs.Fields.{spelled, field, with_field}
-use Rattle.ctr_log.specs.Damage.{IsDamage}
-use Rattle.ctr_log.specs.Homes.{Block, block_of, opened, root_block, IsRoot, Passes, Says}
+use Rattle.ctr_log.specs.Damage.{IsDamageOf}
+use Rattle.ctr_log.specs.Homes.{Block, block_of, opened, root_block, IsRoot, Passes, BlockSays}
 use Rattle.ctr_bytes.proofs.FieldLaws.{put_next, side, AreBytes, length-spelled, field_at, field-append, field-drop, spelled_field}
 use Rattle.ctr_log.proofs.HomeLemmas.{opened_whole}
 
@@ -137,8 +137,8 @@ module _ (bytes : List ℕ) (whole : length bytes ≡ 63) (below : AreBytes byte
           stamp = omega (arith, first, pages, stamp, c6);
         }
 
-  pub says_fault : (e : StoreFault) (result : Result Root StoreFault) → result ≡ Err e → IsDamage RootFile e → (Passes bytes → ⊥) → Says (block_of bytes) result
-  says_fault e result is damage fails = subst (Says (block_of bytes)) (sym is) (damage, λ r same root. fails (passes_root r same root))
+  pub says_fault : (e : StoreFault) (result : Result Root StoreFault) → result ≡ Err e → IsDamageOf RootFile e → (Passes bytes → ⊥) → BlockSays (block_of bytes) result
+  says_fault e result is damage fails = subst (BlockSays (block_of bytes)) (sym is) (damage, λ r same root. fails (passes_root r same root))
 
 -- a block by its three parts
 block_is : (bytes : List ℕ) (n s : ℕ) (l : List ℕ) → field 4 0 bytes ≡ n → field 8 4 bytes ≡ s → take 25 (drop 12 bytes) ≡ l → block_of bytes ≡ record { number = n; stamp = s; body = l }

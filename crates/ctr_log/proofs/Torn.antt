@@ -2,13 +2,12 @@
 use Rattle.std.proofs.Common.{◌≡◌, ℕ, ◌+◌, ◌<◌, List, [], ◌∷◌, ◌++◌, length, take, drop, replicate, get_or, sym, ◌∙◌, ap, arith, length-append, take-append-drop, append_assoc}
 use Rattle.std.proofs.lemmas.List.{append-nil, take_at, drop_at, drop_all, drop_more, drop-drop}
 use Rattle.ctr_disk.specs.declared.disk.Image.{Image}
-use Rattle.ctr_disk.specs.Image.{with_content, written, Torn}
+use Rattle.ctr_disk.specs.Image.{with_content, written, Torn, OtherFilesStay}
 use Rattle.ctr_disk.specs.declared.disk.File.{File}
 use Rattle.ctr_disk.specs.declared.disk.File.TheVariants.{Root, LogA, LogB, Pages}
-use Rattle.ctr_log.specs.Settled.{SameBut}
 
 -- the other files stay over several calls
-pub same_but : (f : File) (a b c : Image) → SameBut f a b → SameBut f b c → SameBut f a c
+pub same_but : (f : File) (a b c : Image) → OtherFilesStay f a b → OtherFilesStay f b c → OtherFilesStay f a c
 same_but Root a b c first second = second ∙ ap (with_content Root c.root) first
 same_but LogA a b c first second = second ∙ ap (with_content LogA c.log_a) first
 same_but LogB a b c first second = second ∙ ap (with_content LogB c.log_b) first

@@ -5,6 +5,6 @@ use Rattle.ctr_disk.specs.declared.fault.StoreFault.{StoreFault}
 use Rattle.ctr_disk.specs.declared.fault.StoreFault.TheVariants.{Fault, Damaged}
 
 -- it is damage of this file, and what is wanted differs from what is there
-abbrev pub IsDamage : File → StoreFault → Type 0
-IsDamage file Fault = ⊥
-IsDamage file (Damaged f at want got) = (f ≡ file) × (want ≢ got)
+abbrev pub IsDamageOf : File → StoreFault → Type 0
+IsDamageOf file Fault = ⊥
+IsDamageOf file (Damaged f at want got) = (f ≡ file) × (want ≢ got)

@@ -42,7 +42,7 @@ pub record IsReady (old new : Image) : Type 0 where
   pub pages : new.pages ≡ old.pages
 
 -- the logs have no batch, and the other files are as they were
-pub record IsEmptied (old new : Image) : Type 0 where
+pub record AreEmptied (old new : Image) : Type 0 where
   pub root : new.root ≡ old.root
   pub log : (rest : List ℕ) × (new.log_a ≡ 0 ∷ rest)
   pub other_log : IsClosed new.log_b

@@ -8,8 +8,8 @@ use Rattle.ctr_disk.specs.declared.fault.StoreFault.TheVariants.{Fault, Damaged}
 use Rattle.ctr_log.specs.declared.home.Home.{Home}
 use Rattle.ctr_log.specs.declared.home.Home.TheVariants.{First, Second}
 use Rattle.ctr_bytes.specs.Fields.{spelled, field}
-use Rattle.ctr_log.specs.Settled.{SameBut}
-use Rattle.ctr_log.specs.Damage.{IsDamage}
+use Rattle.ctr_disk.specs.Image.{OtherFilesStay}
+use Rattle.ctr_log.specs.Damage.{IsDamageOf}
 
 -- what stands in a home behind its gate
 pub record Block : Type 0 where
@@ -78,9 +78,9 @@ pub record Passes (bytes : List ℕ) : Type 0 where
   pub stamp : field 8 4 bytes ≤ field 8 25 bytes + field 4 33 bytes
 
 -- what a block says, or that it says no root whose checks hold
-abbrev pub Says : Block → Result Root StoreFault → Type 0
-Says b (Ok r) = (b ≡ root_block r) × IsRoot r
-Says b (Err e) = IsDamage RootFile e × ((r : Root) → b ≡ root_block r → IsRoot r → ⊥)
+abbrev pub BlockSays : Block → Result Root StoreFault → Type 0
+BlockSays b (Ok r) = (b ≡ root_block r) × IsRoot r
+BlockSays b (Err e) = IsDamageOf RootFile e × ((r : Root) → b ≡ root_block r → IsRoot r → ⊥)
 
 -- What a read of the root answers: none exactly where neither home is open, and damage exactly where
 -- the block's value says no root whose checks hold. Then want and got differ.
@@ -88,7 +88,7 @@ abbrev pub Answers : Option Block → Result (Option Root) StoreFault → Type 0
 Answers value (Ok None) = value ≡ None
 Answers value (Ok (Some r)) = SaysRoot value r
 Answers value (Err Fault) = Unit {0}
-Answers value (Err (Damaged file at want got)) = IsDamage RootFile (Damaged file at want got) × (value ≢ None) × ((r : Root) → SaysRoot value r → ⊥)
+Answers value (Err (Damaged file at want got)) = IsDamageOf RootFile (Damaged file at want got) × (value ≢ None) × ((r : Root) → SaysRoot value r → ⊥)
 
 -- the number is above the block's stamp, where there is one
 abbrev pub IsAbove : ℕ → Option Block → Type 0
@@ -97,14 +97,14 @@ IsAbove stamp (Some b) = b.stamp < stamp
 
 -- the home to write, by what the two hold: the closed one, the first where both are closed; else the
 -- one with the smaller stamp, the second where both are equal
-abbrev pub chosen : Option Block → Option Block → Home
-chosen None b = First
-chosen (Some a) None = Second
-chosen (Some a) (Some b) = if nat_lt a.stamp b.stamp then First else Second
+abbrev pub home_chosen : Option Block → Option Block → Home
+home_chosen None b = First
+home_chosen (Some a) None = Second
+home_chosen (Some a) (Some b) = if nat_lt a.stamp b.stamp then First else Second
 
 -- the home to write in a file
 abbrev pub chosen_in : List ℕ → Home
-chosen_in bytes = chosen (opened (home_in First bytes)) (opened (home_in Second bytes))
+chosen_in bytes = home_chosen (opened (home_in First bytes)) (opened (home_in Second bytes))
 
 -- the gate lies in the file and isn't open
 abbrev pub IsShut : Home → List ℕ → Type 0
@@ -116,31 +116,31 @@ other First = Second
 other Second = First
 
 -- the other home holds what it held, and this one too or it is closed
-pub record IsKept (home : Home) (old new : List ℕ) : Type 0 where
+pub record IsHomeKept (home : Home) (old new : List ℕ) : Type 0 where
   pub beside : opened (home_in (other home) new) ≡ opened (home_in (other home) old)
   pub here : (opened (home_in home new) ≡ None) ⊎ (opened (home_in home new) ≡ opened (home_in home old))
 
 -- the other home holds what it held, and this one holds the block
-pub record IsMade (home : Home) (block : Block) (old new : List ℕ) : Type 0 where
+pub record IsHomeMade (home : Home) (block : Block) (old new : List ℕ) : Type 0 where
   pub beside : opened (home_in (other home) new) ≡ opened (home_in (other home) old)
   pub here : opened (home_in home new) ≡ Some block
 
 -- of an image, whose other files are as they were
-abbrev pub Keeps : Home → Image → Image → Type 0
-Keeps home old new = SameBut RootFile old new × IsKept home old.root new.root
+abbrev pub KeepsHome : Home → Image → Image → Type 0
+KeepsHome home old new = OtherFilesStay RootFile old new × IsHomeKept home old.root new.root
 
 -- of an image, whose other files are as they were
-abbrev pub Makes : Home → Block → Image → Image → Type 0
-Makes home block old new = SameBut RootFile old new × IsMade home block old.root new.root
+abbrev pub MakesHome : Home → Block → Image → Image → Type 0
+MakesHome home block old new = OtherFilesStay RootFile old new × IsHomeMade home block old.root new.root
 
 -- while the gate is opened
-abbrev pub KeepsOrMakes : Home → Block → Image → Image → Type 0
-KeepsOrMakes home block old new = Keeps home old new ⊎ Makes home block old new
+abbrev pub KeepsOrMakesHome : Home → Block → Image → Image → Type 0
+KeepsOrMakesHome home block old new = KeepsHome home old new ⊎ MakesHome home block old new
 
 -- the image says the old value or this one, and the other files are as they were
-abbrev pub IsOldOrNew : Image → Block → Image → Type 0
-IsOldOrNew old block new = SameBut RootFile old new × ((root_value new.root ≡ root_value old.root) ⊎ (root_value new.root ≡ Some block))
+abbrev pub IsOldOrNewRoot : Image → Block → Image → Type 0
+IsOldOrNewRoot old block new = OtherFilesStay RootFile old new × ((root_value new.root ≡ root_value old.root) ⊎ (root_value new.root ≡ Some block))
 
 -- the image says this value, and the other files are as they were
-abbrev pub IsNew : Image → Block → Image → Type 0
-IsNew old block new = SameBut RootFile old new × (root_value new.root ≡ Some block)
+abbrev pub IsNewRoot : Image → Block → Image → Type 0
+IsNewRoot old block new = OtherFilesStay RootFile old new × (root_value new.root ≡ Some block)

@@ -1,4 +1,3 @@
-pub mod Settled
 pub mod Damage
 pub mod Homes
 pub mod Logs

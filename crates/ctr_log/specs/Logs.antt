@@ -1,10 +1,9 @@
 -- A file of the log: batches of records, each behind a gate, up to the first closed gate.
-use Rattle.std.specs.Prelude.{◌≡◌, ◌≢◌, ◌⊎◌, ℕ, zero, suc, ◌+◌, ◌^◌, ◌<◌, List, [], ◌∷◌, ◌++◌, length, take, drop}
+use Rattle.std.specs.Prelude.{◌≡◌, ◌≢◌, ◌⊎◌, ℕ, zero, suc, ◌+◌, ◌^◌, ◌<◌, List, [], ◌∷◌, ◌++◌, length, take, drop, Result, OnOk, ◌≤◌}
 use Rattle.ctr_disk.specs.declared.disk.Image.{Image}
 use Rattle.ctr_disk.specs.declared.disk.File.{File}
-use Rattle.ctr_disk.specs.Image.{content}
+use Rattle.ctr_disk.specs.Image.{content, OtherFilesStay}
 use Rattle.ctr_bytes.specs.Fields.{spelled, field}
-use Rattle.ctr_log.specs.Settled.{SameBut}
 
 -- a record in a batch: its length, and its bytes
 abbrev pub frame : List ℕ → List ℕ
@@ -95,7 +94,21 @@ with_batch bs (r ∷ rs) = bs ++ (r ∷ rs) ∷ []
 
 -- the file has these records and a front of those, and the other files are as they were
 abbrev pub HasPrefix : File → ℕ → List (List ℕ) → List (List ℕ) → Image → Image → Type 0
-HasPrefix file first flushed more old new = SameBut file old new × ((k : ℕ) × HasRecords first (flushed ++ take k more) (content file new))
+HasPrefix file first flushed more old new = OtherFilesStay file old new × ((k : ℕ) × HasRecords first (flushed ++ take k more) (content file new))
+
+-- While the records that wait are flushed behind this log a crash leaves the log with a prefix of
+-- them, and the place of the log's closed gate lies in the file.
+pub record IsFlushing (first : ℕ) (bs : Batches) (log : Log) (old new : Image) : Type 0 where
+  pub records_are : HasPrefix log.file first (records bs) log.buffered old new
+  pub long : log.place < length (content log.file new)
+
+-- How a flush leaves the writer: its file stays, and at Ok nothing waits, the numbers go on behind
+-- the records that waited, and there is no less room.
+pub record IsEmptied {T E : Type 0} (old new : Log) (result : Result T E) : Type 0 where
+  pub file : new.file ≡ old.file
+  pub none : OnOk result (new.buffered ≡ [])
+  pub next : OnOk result (new.first ≡ old.first + length old.buffered)
+  pub room : OnOk result (old.room ≤ new.room)
 
 -- a batch that is to stand at the closed gate behind the log, with a closed gate behind it
 pub record Extends (first : ℕ) (bs : Batches) (rs : List (List ℕ)) (place : ℕ) (body bytes : List ℕ) : Type 0 where
@@ -106,8 +119,8 @@ pub record Extends (first : ℕ) (bs : Batches) (rs : List (List ℕ)) (place : 
 
 -- the file has its old batches or one more, and the other files are as they were
 abbrev pub IsBeforeOrAfter : File → ℕ → Batches → List (List ℕ) → Image → Image → Type 0
-IsBeforeOrAfter file first bs rs old new = SameBut file old new × (HasBatches first bs (content file new) ⊎ HasBatches first (bs ++ rs ∷ []) (content file new))
+IsBeforeOrAfter file first bs rs old new = OtherFilesStay file old new × (HasBatches first bs (content file new) ⊎ HasBatches first (bs ++ rs ∷ []) (content file new))
 
 -- the file has a batch more, and the other files are as they were
 abbrev pub IsAfter : File → ℕ → Batches → List (List ℕ) → Image → Image → Type 0
-IsAfter file first bs rs old new = SameBut file old new × HasBatches first (bs ++ rs ∷ []) (content file new)
+IsAfter file first bs rs old new = OtherFilesStay file old new × HasBatches first (bs ++ rs ∷ []) (content file new)

@@ -6,19 +6,19 @@ use Rattle.ctr_disk.specs.declared.disk.Image.{Image}
 use Rattle.ctr_disk.specs.declared.fault.StoreFault.TheVariants.{Fault, Damaged}
 use Rattle.ctr_log.specs.declared.reading.ReadError.{ReadError}
 use Rattle.ctr_log.specs.declared.reading.ReadError.TheVariants.{Store, OutOfMemory}
-use Rattle.ctr_log.specs.Damage.{IsDamage}
+use Rattle.ctr_log.specs.Damage.{IsDamageOf}
 use Rattle.ctr_log.specs.Logs.{Batches, frame, frames, batch, batches, records, IsBatch, HasLog, Log, GoesOn}
 
 -- what was to be read isn't there, and damage of the file is told; or memory was refused
-abbrev pub Refuses : File → Type 0 → ReadError → Type 0
-Refuses file P OutOfMemory = Unit {0}
-Refuses file P (Store e) = IsDamage file e × (P → ⊥)
+abbrev pub RefusesLog : File → Type 0 → ReadError → Type 0
+RefusesLog file P OutOfMemory = Unit {0}
+RefusesLog file P (Store e) = IsDamageOf file e × (P → ⊥)
 
 -- the same, or the disk failed
 abbrev pub RefusesOrFails : File → Type 0 → ReadError → Type 0
 RefusesOrFails file P OutOfMemory = Unit {0}
 RefusesOrFails file P (Store Fault) = Unit {0}
-RefusesOrFails file P (Store (Damaged f at want got)) = IsDamage file (Damaged f at want got) × (P → ⊥)
+RefusesOrFails file P (Store (Damaged f at want got)) = IsDamageOf file (Damaged f at want got) × (P → ⊥)
 
 -- the bytes begin with a frame
 abbrev pub BeginsWithFrame : List ℕ → Type 0

@@ -2,10 +2,9 @@
 ghost use Rattle.std.specs.Prelude.{◌≡◌, ◌≤◌, ◌<◌, ◌+◌, ◌↔◌, IsTrue, IsSome, length, Err, IfOk, OnOk, OnErr, MatchResult, IsErrOf, option_map};
 ghost use Rattle.ctr_disk.specs.declared.fault.StoreFault.TheVariants.{Fault};
 ghost use Rattle.ctr_disk.specs.declared.disk.File.TheVariants.{Root as RootFile};
-ghost use Rattle.ctr_disk.specs.Crash.{Only, LeavesOnly, HasCause, Rose};
-ghost use Rattle.ctr_log.specs.Damage.{IsDamage};
-ghost use Rattle.ctr_log.specs.Settled.{IsSettled, OnlyReads};
-ghost use Rattle.ctr_log.specs.Homes.{place, block_of, home_in, opened, root_value, root_block, Passes, Says, Answers, IsAbove, chosen_in, IsShut, Keeps, Makes, KeepsOrMakes, IsOldOrNew, IsNew};
+ghost use Rattle.ctr_disk.specs.Device.{LeavesOnly, IsDurable, IsSettled, OnlyReads, Counts, CountsAs};
+ghost use Rattle.ctr_log.specs.Damage.{IsDamageOf};
+ghost use Rattle.ctr_log.specs.Homes.{place, block_of, home_in, opened, root_value, root_block, Passes, BlockSays, Answers, IsAbove, chosen_in, IsShut, KeepsHome, MakesHome, KeepsOrMakesHome, IsOldOrNewRoot, IsNewRoot};
 
 use crate::damage::{at_least, at_most, same};
 use ctr_bytes::{get_u8, get_u32, get_u64, put_u8, put_u32, put_u64};
@@ -36,10 +35,8 @@ impl Home {
 /// Reads the value of the root, where a home is open.
 pub fn read_root<D: Disk>(disk: &mut D) -> Result<Option<Root>, StoreFault>
     ensures answer { IsTrue D.tells → Answers (root_value (D.reads disk.old).root) result }
-    ensures quiet { OnlyReads D.reads D.images D.moment_of D.since disk.old disk.new }
-    ensures fault { IsErrOf result Fault → Rose (D.faults_of disk.old) (D.faults_of disk.new) }
-    ensures faults { D.faults_of disk.old ≤ D.faults_of disk.new }
-    ensures stray { D.strays_of disk.new ≡ D.strays_of disk.old }
+    ensures quiet { OnlyReads D.Disk disk.old disk.new }
+    ensures counts { CountsAs D.Disk Fault disk.old disk.new result }
 {
     let first = open_home(disk, Home::First)?;
     let second = open_home(disk, Home::Second)?;
@@ -60,9 +57,8 @@ pub fn read_root<D: Disk>(disk: &mut D) -> Result<Option<Root>, StoreFault>
 /// Whether a home of the root is open.
 pub fn is_open<D: Disk>(disk: &mut D) -> Result<bool, Failed>
     ensures told { IsTrue D.tells → IfOk result (λ b. IsTrue b ↔ IsSome (root_value (D.reads disk.old).root)) }
-    ensures quiet { OnlyReads D.reads D.images D.moment_of D.since disk.old disk.new }
-    ensures cause { HasCause (D.faults_of disk.old) (D.faults_of disk.new) result }
-    ensures stray { D.strays_of disk.new ≡ D.strays_of disk.old }
+    ensures quiet { OnlyReads D.Disk disk.old disk.new }
+    ensures counts { Counts D.Disk disk.old disk.new result }
 {
     let first = open_home(disk, Home::First)?;
     let second = open_home(disk, Home::Second)?;
@@ -73,13 +69,11 @@ pub fn is_open<D: Disk>(disk: &mut D) -> Result<bool, Failed>
 /// the new value.
 pub fn write_root<D: Disk>(disk: &mut D, root: &Root) -> Result<(), StoreFault>
     requires { IsTrue D.tells → IsAbove root.now.stamp (root_value (D.reads disk.old).root) }
-    ensures any_moment { IsSettled D.tells D.reads D.images disk.old → LeavesOnly D.moment_of D.since disk.old disk.new (IsOldOrNew (D.reads disk.old) (root_block root.now)) }
-    ensures written { IsTrue D.tells → OnOk result (IsNew (D.reads disk.old) (root_block root.now) (D.reads disk.new)) }
-    ensures later { D.moment_of disk.old ≤ D.moment_of disk.new }
-    ensures durable { OnOk result (Only (D.reads disk.new) (D.images disk.new)) }
-    ensures fault { OnErr result ((result ≡ Err Fault) × Rose (D.faults_of disk.old) (D.faults_of disk.new)) }
-    ensures faults { D.faults_of disk.old ≤ D.faults_of disk.new }
-    ensures stray { D.strays_of disk.new ≡ D.strays_of disk.old }
+    ensures any_moment { IsSettled D.Disk disk.old → LeavesOnly D.Disk disk.old disk.new (IsOldOrNewRoot (D.reads disk.old) (root_block root.now)) }
+    ensures written { IsTrue D.tells → OnOk result (IsNewRoot (D.reads disk.old) (root_block root.now) (D.reads disk.new)) }
+    ensures durable { OnOk result (IsDurable D.Disk disk.new) }
+    ensures refused { OnErr result (result ≡ Err Fault) }
+    ensures counts { CountsAs D.Disk Fault disk.old disk.new result }
 {
     let home = choose_home(disk)?;
     shut_gate(disk, home)?;
@@ -90,9 +84,8 @@ pub fn write_root<D: Disk>(disk: &mut D, root: &Root) -> Result<(), StoreFault>
 // The home to write: the closed one, or the one with the smaller stamp.
 fn choose_home<D: Disk>(disk: &mut D) -> Result<Home, Failed>
     ensures told { IsTrue D.tells → IfOk result (λ h. h ≡ chosen_in (D.reads disk.old).root) }
-    ensures quiet { OnlyReads D.reads D.images D.moment_of D.since disk.old disk.new }
-    ensures cause { HasCause (D.faults_of disk.old) (D.faults_of disk.new) result }
-    ensures stray { D.strays_of disk.new ≡ D.strays_of disk.old }
+    ensures quiet { OnlyReads D.Disk disk.old disk.new }
+    ensures counts { Counts D.Disk disk.old disk.new result }
 {
     let first = open_home(disk, Home::First)?;
     let second = open_home(disk, Home::Second)?;
@@ -112,12 +105,10 @@ fn choose_home<D: Disk>(disk: &mut D) -> Result<Home, Failed>
 // Closes a gate that is open or lies past the file's end. Another gate isn't written: before the
 // sync a written byte may be any, 1 too.
 fn shut_gate<D: Disk>(disk: &mut D, home: Home) -> Result<(), Failed>
-    ensures any_moment { IsSettled D.tells D.reads D.images disk.old → place home ≤ length (D.reads disk.old).root → LeavesOnly D.moment_of D.since disk.old disk.new (Keeps home (D.reads disk.old)) }
-    ensures shut { IsTrue D.tells → place home ≤ length (D.reads disk.old).root → OnOk result (Keeps home (D.reads disk.old) (D.reads disk.new) × IsShut home (D.reads disk.new).root) }
-    ensures later { D.moment_of disk.old ≤ D.moment_of disk.new }
-    ensures durable { Only (D.reads disk.old) (D.images disk.old) → OnOk result (Only (D.reads disk.new) (D.images disk.new)) }
-    ensures cause { HasCause (D.faults_of disk.old) (D.faults_of disk.new) result }
-    ensures stray { D.strays_of disk.new ≡ D.strays_of disk.old }
+    ensures any_moment { IsSettled D.Disk disk.old → place home ≤ length (D.reads disk.old).root → LeavesOnly D.Disk disk.old disk.new (KeepsHome home (D.reads disk.old)) }
+    ensures shut { IsTrue D.tells → place home ≤ length (D.reads disk.old).root → OnOk result (KeepsHome home (D.reads disk.old) (D.reads disk.new) × IsShut home (D.reads disk.new).root) }
+    ensures durable { IsDurable D.Disk disk.old → OnOk result (IsDurable D.Disk disk.new) }
+    ensures counts { Counts D.Disk disk.old disk.new result }
 {
     if is_shut(disk, home)? {
         return Ok(());
@@ -127,9 +118,8 @@ fn shut_gate<D: Disk>(disk: &mut D, home: Home) -> Result<(), Failed>
 
 fn is_shut<D: Disk>(disk: &mut D, home: Home) -> Result<bool, Failed>
     ensures told { IsTrue D.tells → IfOk result (λ b. IsTrue b ↔ IsShut home (D.reads disk.old).root) }
-    ensures quiet { OnlyReads D.reads D.images D.moment_of D.since disk.old disk.new }
-    ensures cause { HasCause (D.faults_of disk.old) (D.faults_of disk.new) result }
-    ensures stray { D.strays_of disk.new ≡ D.strays_of disk.old }
+    ensures quiet { OnlyReads D.Disk disk.old disk.new }
+    ensures counts { Counts D.Disk disk.old disk.new result }
 {
     if disk.size(File::Root)? <= home.at() {
         return Ok(false);
@@ -141,12 +131,10 @@ fn is_shut<D: Disk>(disk: &mut D, home: Home) -> Result<bool, Failed>
 
 // Writes all but the gate, and then opens it.
 fn put_home<D: Disk>(disk: &mut D, home: Home, root: &Root) -> Result<(), Failed>
-    ensures any_moment { IsSettled D.tells D.reads D.images disk.old → IsShut home (D.reads disk.old).root → LeavesOnly D.moment_of D.since disk.old disk.new (KeepsOrMakes home (root_block root.now) (D.reads disk.old)) }
-    ensures made { IsTrue D.tells → IsShut home (D.reads disk.old).root → OnOk result (Makes home (root_block root.now) (D.reads disk.old) (D.reads disk.new)) }
-    ensures later { D.moment_of disk.old ≤ D.moment_of disk.new }
-    ensures durable { OnOk result (Only (D.reads disk.new) (D.images disk.new)) }
-    ensures cause { HasCause (D.faults_of disk.old) (D.faults_of disk.new) result }
-    ensures stray { D.strays_of disk.new ≡ D.strays_of disk.old }
+    ensures any_moment { IsSettled D.Disk disk.old → IsShut home (D.reads disk.old).root → LeavesOnly D.Disk disk.old disk.new (KeepsOrMakesHome home (root_block root.now) (D.reads disk.old)) }
+    ensures made { IsTrue D.tells → IsShut home (D.reads disk.old).root → OnOk result (MakesHome home (root_block root.now) (D.reads disk.old) (D.reads disk.new)) }
+    ensures durable { OnOk result (IsDurable D.Disk disk.new) }
+    ensures counts { Counts D.Disk disk.old disk.new result }
 {
     write_through(disk, File::Root, home.at() + 1, &spell(root))?;
     write_through(disk, File::Root, home.at(), &[1])
@@ -155,9 +143,8 @@ fn put_home<D: Disk>(disk: &mut D, home: Home, root: &Root) -> Result<(), Failed
 // The 63 bytes behind the gate of an open home.
 fn open_home<D: Disk>(disk: &mut D, home: Home) -> Result<Option<[u8; 63]>, Failed>
     ensures told { IsTrue D.tells → IfOk result (λ h. option_map block_of h ≡ opened (home_in home (D.reads disk.old).root)) }
-    ensures quiet { OnlyReads D.reads D.images D.moment_of D.since disk.old disk.new }
-    ensures cause { HasCause (D.faults_of disk.old) (D.faults_of disk.new) result }
-    ensures stray { D.strays_of disk.new ≡ D.strays_of disk.old }
+    ensures quiet { OnlyReads D.Disk disk.old disk.new }
+    ensures counts { Counts D.Disk disk.old disk.new result }
 {
     if disk.size(File::Root)? < home.at() + 64 {
         return Ok(None);
@@ -186,7 +173,7 @@ fn stamp_of(behind: &[u8; 63]) -> Stamp
 
 // The root that a block's bytes say, where its checks hold.
 fn root_of(behind: &[u8; 63], home: Home) -> Result<Root, StoreFault>
-    ensures { Says (block_of behind.now) result }
+    ensures { BlockSays (block_of behind.now) result }
 {
     check(behind, home.at())?;
     Ok(Root {
@@ -201,7 +188,7 @@ fn root_of(behind: &[u8; 63], home: Home) -> Result<Root, StoreFault>
 // The checks in their order, for a home at a place of the file. A root without pages has format 0.
 fn check(behind: &[u8; 63], home: u64) -> Result<(), StoreFault>
     requires { home ≤ 64 }
-    ensures { MatchResult result (λ _. Passes behind.now) (λ e. IsDamage RootFile e × (Passes behind.now → ⊥)) }
+    ensures { MatchResult result (λ _. Passes behind.now) (λ e. IsDamageOf RootFile e × (Passes behind.now → ⊥)) }
 {
     let first = get_u64(behind, 25);
     let pages = get_u32(behind, 33) as u64;

@@ -2,13 +2,13 @@
 ghost use Rattle.std.specs.Prelude.{◌≡◌, ◌≤◌, ◌<◌, ◌+◌, ◌-◌, ◌^◌, IsTrue, ℕ, List, [], ◌∷◌, ◌++◌, length, take, drop, vec_len, vec_capacity, ◌⊎◌, Err, IfOk, IfErr, OnOk, OnErr};
 ghost use Rattle.ctr_disk.specs.declared.disk.File.TheVariants.{LogA};
 ghost use Rattle.ctr_disk.specs.declared.fault.StoreFault.TheVariants.{Fault};
-ghost use Rattle.ctr_disk.specs.Image.{content};
-ghost use Rattle.ctr_disk.specs.Crash.{Only, LeavesOnly, HasCause, Rose};
+ghost use Rattle.ctr_disk.specs.Image.{content, OtherFilesStay};
+ghost use Rattle.ctr_disk.specs.Crash.{Only, HasCause, HasFault, StraysOnlyPast};
+ghost use Rattle.ctr_disk.specs.Device.{LeavesOnly, IsDurable, IsSettled, OnlyReads, CountsAs};
 ghost use Rattle.ctr_bytes.specs.Fields.{spelled};
-ghost use Rattle.ctr_log.specs.Settled.{IsSettled, OnlyReads, SameBut};
 ghost use Rattle.ctr_log.specs.declared.reading.ReadError.TheVariants.{Store, OutOfMemory as NoMemory};
 ghost use Rattle.ctr_log.specs.Reading.{RefusesOrFails, HasSome, OpensLog, IsEmptyAt, log_file};
-ghost use Rattle.ctr_log.specs.Logs.{Batches, headed, sealed, frame, frames, records, HasLog, GoesOn, Extends, IsBeforeOrAfter, IsAfter, HasPrefix, with_batch};
+ghost use Rattle.ctr_log.specs.Logs.{Batches, headed, sealed, frame, frames, records, HasLog, GoesOn, Extends, IsBeforeOrAfter, IsAfter, IsFlushing, IsEmptied, with_batch};
 
 use crate::near::find_log;
 use crate::reading::ReadError;
@@ -43,11 +43,11 @@ impl Model for LogFile {
 
     ghost Value = { Log };
 
-    ghost use Rattle.ctr_log.specs.LogFile.{log_of, Keeps};
+    ghost use Rattle.ctr_log.specs.LogFile.{log_of, IsSound};
 
     ghost view = { log_of };
 
-    ghost invariant = { Keeps };
+    ghost invariant = { IsSound };
 }
 
 impl LogFile {
@@ -106,22 +106,17 @@ impl LogFile {
     /// Writes the records that aren't flushed as one batch behind the log. A crash at any moment
     /// leaves the log with a front of them, and after Ok with all. It takes no memory.
     pub fn flush<D: Disk>(&mut self, disk: &mut D) -> Result<(), StoreFault>
-        ensures any_moment { (first : ℕ) (bs : Batches) → IsSettled D.tells D.reads D.images disk.old → GoesOn first bs self.old (D.reads disk.old)
-            → LeavesOnly D.moment_of D.since disk.old disk.new (HasPrefix self.old.file first (records bs) self.old.buffered (D.reads disk.old)) }
-        // The closed gate behind the log lies in the file at each moment.
-        ensures long { (first : ℕ) (bs : Batches) → IsSettled D.tells D.reads D.images disk.old → GoesOn first bs self.old (D.reads disk.old)
-            → LeavesOnly D.moment_of D.since disk.old disk.new (λ c. self.old.place < length (content self.old.file c)) }
+        ensures any_moment { (first : ℕ) (bs : Batches) → IsSettled D.Disk disk.old → GoesOn first bs self.old (D.reads disk.old)
+            → LeavesOnly D.Disk disk.old disk.new (IsFlushing first bs self.old (D.reads disk.old)) }
         ensures flushed { (first : ℕ) (bs : Batches) → IsTrue D.tells → GoesOn first bs self.old (D.reads disk.old)
-            → OnOk result (SameBut self.old.file (D.reads disk.old) (D.reads disk.new) × GoesOn first (with_batch bs self.old.buffered) self.new (D.reads disk.new)) }
-        ensures emptied { OnOk result ((self.new.buffered ≡ []) × (self.old.room ≤ self.new.room)) }
-        ensures file { self.new.file ≡ self.old.file }
-        ensures next { OnOk result (self.new.first ≡ self.old.first + length self.old.buffered) }
-        ensures durable { Only (D.reads disk.old) (D.images disk.old) → OnOk result (Only (D.reads disk.new) (D.images disk.new)) }
+            → OnOk result (OtherFilesStay self.old.file (D.reads disk.old) (D.reads disk.new) × GoesOn first (with_batch bs self.old.buffered) self.new (D.reads disk.new)) }
+        ensures emptied { IsEmptied self.old self.new result }
+        ensures durable { IsDurable D.Disk disk.old → OnOk result (IsDurable D.Disk disk.new) }
+        ensures refused { OnErr result (result ≡ Err Fault) }
         ensures later { D.moment_of disk.old ≤ D.moment_of disk.new }
-        ensures fault { OnErr result ((result ≡ Err Fault) × Rose (D.faults_of disk.old) (D.faults_of disk.new)) }
-        ensures faults { D.faults_of disk.old ≤ D.faults_of disk.new }
-        ensures stray { self.old.place + (22 + length (frames self.old.buffered)) < 2 ^ 63 → D.strays_of disk.new ≡ D.strays_of disk.old }
-        ensures no_stray { OnOk result (D.strays_of disk.new ≡ D.strays_of disk.old) }
+        ensures faults { HasFault Fault (D.faults_of disk.old) (D.faults_of disk.new) result }
+        // Only a write at the last places counts as a stray.
+        ensures stray { StraysOnlyPast (D.strays_of disk.old) (D.strays_of disk.new) (self.old.place + (22 + length (frames self.old.buffered))) result }
     {
         if self.count == 0 {
             return Ok(());
@@ -153,10 +148,8 @@ pub fn read_all<D: Disk>(
     ensures only { (bs : Batches) → IsTrue D.tells → HasLog root.now.first bs (content (log_file root.now.file) (D.reads disk.old)) → IfOk result (λ r. r.1 ≡ records bs) }
     ensures refused { IsTrue D.tells → IfErr result (RefusesOrFails (log_file root.now.file) (HasSome root.now.first (content (log_file root.now.file) (D.reads disk.old)))) }
     ensures none { IfOk result (λ r. r.0.buffered ≡ []) }
-    ensures quiet { OnlyReads D.reads D.images D.moment_of D.since disk.old disk.new }
-    ensures fault { result ≡ Err (Store Fault) → Rose (D.faults_of disk.old) (D.faults_of disk.new) }
-    ensures faults { D.faults_of disk.old ≤ D.faults_of disk.new }
-    ensures stray { D.strays_of disk.new ≡ D.strays_of disk.old }
+    ensures quiet { OnlyReads D.Disk disk.old disk.new }
+    ensures counts { CountsAs D.Disk (Store Fault) disk.old disk.new result }
 {
     let file = if root.file == 0 {
         File::LogA
@@ -216,11 +209,11 @@ fn fill_head(body: &mut [u8], first: Lsn, count: u32)
 /// Writes the batch and the closed gate behind its own, and then opens that.
 pub fn write_batch<D: Disk>(disk: &mut D, file: File, place: u64, body: &[u8]) -> Result<(), Failed>
     requires { place < 2 ^ 63 }
-    ensures any_moment { (first : ℕ) (bs : Batches) (rs : List (List ℕ)) → IsSettled D.tells D.reads D.images disk.old
-        → Extends first bs rs place body.now (content file (D.reads disk.old)) → LeavesOnly D.moment_of D.since disk.old disk.new (IsBeforeOrAfter file first bs rs (D.reads disk.old)) }
+    ensures any_moment { (first : ℕ) (bs : Batches) (rs : List (List ℕ)) → IsSettled D.Disk disk.old
+        → Extends first bs rs place body.now (content file (D.reads disk.old)) → LeavesOnly D.Disk disk.old disk.new (IsBeforeOrAfter file first bs rs (D.reads disk.old)) }
     ensures added { (first : ℕ) (bs : Batches) (rs : List (List ℕ)) → IsTrue D.tells
         → Extends first bs rs place body.now (content file (D.reads disk.old)) → OnOk result (IsAfter file first bs rs (D.reads disk.old) (D.reads disk.new)) }
-    ensures durable { OnOk result (Only (D.reads disk.new) (D.images disk.new)) }
+    ensures durable { OnOk result (IsDurable D.Disk disk.new) }
     ensures later { D.moment_of disk.old ≤ D.moment_of disk.new }
     ensures fits { OnOk result (place + 1 + length body.now < 2 ^ 63) }
     ensures cause { HasCause (D.faults_of disk.old) (D.faults_of disk.new) result }

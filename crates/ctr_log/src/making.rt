@@ -2,11 +2,10 @@
 ghost use Rattle.std.specs.Prelude.{◌≡◌, ◌⊎◌, ◌↔◌, ◌≤◌, IsTrue, IsSome, None, Ok, Err, IfOk, OnOk, OnErr};
 ghost use Rattle.ctr_disk.specs.declared.disk.Image.{Image};
 ghost use Rattle.ctr_disk.specs.declared.fault.StoreFault.TheVariants.{Fault};
-ghost use Rattle.ctr_disk.specs.Crash.{Only, LeavesOnly, HasCause, Rose};
+ghost use Rattle.ctr_disk.specs.Device.{LeavesOnly, IsDurable, IsSettled, OnlyReads, Counts, CountsAs};
 ghost use Rattle.ctr_log.specs.declared.making.Making.TheVariants.{Made, Exists};
-ghost use Rattle.ctr_log.specs.Settled.{IsSettled, OnlyReads};
 ghost use Rattle.ctr_log.specs.Homes.{root_value};
-ghost use Rattle.ctr_log.specs.Fresh.{IsFresh, IsNoneOrFresh, IsReady, IsEmptied, SameRoot};
+ghost use Rattle.ctr_log.specs.Fresh.{IsFresh, IsNoneOrFresh, IsReady, AreEmptied, SameRoot};
 
 use crate::home::{is_open, write_root};
 use crate::log::write_batch;
@@ -31,15 +30,13 @@ const FRESH: [u8; 63] = [
 /// moment leaves no open root home, or the database.
 pub fn init<D: Disk>(disk: &mut D) -> Result<Making, StoreFault>
     ensures exists { IsTrue D.tells → IfOk result (λ end. (end ≡ Exists) ↔ IsSome (root_value (D.reads disk.old).root)) }
-    ensures untouched { IsTrue D.tells → IsSome (root_value (D.reads disk.old).root) → OnlyReads D.reads D.images D.moment_of D.since disk.old disk.new }
+    ensures untouched { IsTrue D.tells → IsSome (root_value (D.reads disk.old).root) → OnlyReads D.Disk disk.old disk.new }
     ensures any_moment { IsTrue D.tells → root_value (D.reads disk.old).root ≡ None
-        → LeavesOnly D.moment_of D.since disk.old disk.new (λ c. D.images disk.old c ⊎ IsNoneOrFresh (D.reads disk.old) c) }
+        → LeavesOnly D.Disk disk.old disk.new (λ c. D.images disk.old c ⊎ IsNoneOrFresh (D.reads disk.old) c) }
     ensures made { IsTrue D.tells → result ≡ Ok Made → IsFresh (D.reads disk.old) (D.reads disk.new) }
-    ensures later { D.moment_of disk.old ≤ D.moment_of disk.new }
-    ensures durable { OnOk result (Only (D.reads disk.new) (D.images disk.new)) }
-    ensures fault { OnErr result ((result ≡ Err Fault) × Rose (D.faults_of disk.old) (D.faults_of disk.new)) }
-    ensures faults { D.faults_of disk.old ≤ D.faults_of disk.new }
-    ensures stray { D.strays_of disk.new ≡ D.strays_of disk.old }
+    ensures durable { OnOk result (IsDurable D.Disk disk.new) }
+    ensures refused { OnErr result (result ≡ Err Fault) }
+    ensures counts { CountsAs D.Disk Fault disk.old disk.new result }
 {
     disk.sync()?;
     if is_open(disk)? {
@@ -52,13 +49,11 @@ pub fn init<D: Disk>(disk: &mut D) -> Result<Making, StoreFault>
 // The logs and the root of a new database.
 fn make<D: Disk>(disk: &mut D) -> Result<(), StoreFault>
     requires { IsTrue D.tells → root_value (D.reads disk.old).root ≡ None }
-    ensures any_moment { IsSettled D.tells D.reads D.images disk.old → LeavesOnly D.moment_of D.since disk.old disk.new (IsNoneOrFresh (D.reads disk.old)) }
+    ensures any_moment { IsSettled D.Disk disk.old → LeavesOnly D.Disk disk.old disk.new (IsNoneOrFresh (D.reads disk.old)) }
     ensures made { IsTrue D.tells → OnOk result (IsFresh (D.reads disk.old) (D.reads disk.new)) }
-    ensures later { D.moment_of disk.old ≤ D.moment_of disk.new }
-    ensures durable { OnOk result (Only (D.reads disk.new) (D.images disk.new)) }
-    ensures fault { OnErr result ((result ≡ Err Fault) × Rose (D.faults_of disk.old) (D.faults_of disk.new)) }
-    ensures faults { D.faults_of disk.old ≤ D.faults_of disk.new }
-    ensures stray { D.strays_of disk.new ≡ D.strays_of disk.old }
+    ensures durable { OnOk result (IsDurable D.Disk disk.new) }
+    ensures refused { OnErr result (result ≡ Err Fault) }
+    ensures counts { CountsAs D.Disk Fault disk.old disk.new result }
 {
     make_logs(disk)?;
     let root = Root {
@@ -73,12 +68,10 @@ fn make<D: Disk>(disk: &mut D) -> Result<(), StoreFault>
 
 // The logs of a new database.
 fn make_logs<D: Disk>(disk: &mut D) -> Result<(), Failed>
-    ensures any_moment { IsSettled D.tells D.reads D.images disk.old → LeavesOnly D.moment_of D.since disk.old disk.new (SameRoot (D.reads disk.old)) }
+    ensures any_moment { IsSettled D.Disk disk.old → LeavesOnly D.Disk disk.old disk.new (SameRoot (D.reads disk.old)) }
     ensures made { IsTrue D.tells → OnOk result (IsReady (D.reads disk.old) (D.reads disk.new)) }
-    ensures later { D.moment_of disk.old ≤ D.moment_of disk.new }
-    ensures durable { OnOk result (Only (D.reads disk.new) (D.images disk.new)) }
-    ensures cause { HasCause (D.faults_of disk.old) (D.faults_of disk.new) result }
-    ensures stray { D.strays_of disk.new ≡ D.strays_of disk.old }
+    ensures durable { OnOk result (IsDurable D.Disk disk.new) }
+    ensures counts { Counts D.Disk disk.old disk.new result }
 {
     empty_logs(disk)?;
     write_batch(disk, File::LogA, 0, &FRESH)
@@ -86,12 +79,10 @@ fn make_logs<D: Disk>(disk: &mut D) -> Result<(), Failed>
 
 // Closes the first gate of both logs.
 fn empty_logs<D: Disk>(disk: &mut D) -> Result<(), Failed>
-    ensures any_moment { IsSettled D.tells D.reads D.images disk.old → LeavesOnly D.moment_of D.since disk.old disk.new (SameRoot (D.reads disk.old)) }
-    ensures made { IsTrue D.tells → OnOk result (IsEmptied (D.reads disk.old) (D.reads disk.new)) }
-    ensures later { D.moment_of disk.old ≤ D.moment_of disk.new }
-    ensures durable { OnOk result (Only (D.reads disk.new) (D.images disk.new)) }
-    ensures cause { HasCause (D.faults_of disk.old) (D.faults_of disk.new) result }
-    ensures stray { D.strays_of disk.new ≡ D.strays_of disk.old }
+    ensures any_moment { IsSettled D.Disk disk.old → LeavesOnly D.Disk disk.old disk.new (SameRoot (D.reads disk.old)) }
+    ensures made { IsTrue D.tells → OnOk result (AreEmptied (D.reads disk.old) (D.reads disk.new)) }
+    ensures durable { OnOk result (IsDurable D.Disk disk.new) }
+    ensures counts { Counts D.Disk disk.old disk.new result }
 {
     disk.write(File::LogA, 0, &[0])?;
     disk.write(File::LogB, 0, &[0])?;

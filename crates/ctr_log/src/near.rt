@@ -2,9 +2,8 @@
 ghost use Rattle.std.specs.Prelude.{◌≡◌, ◌≢◌, ◌⊎◌, ◌≤◌, ◌<◌, ◌+◌, ◌^◌, ℕ, IsTrue, Some, None, Err, IfOk, IfErr, take, length, slice_index};
 ghost use Rattle.ctr_disk.specs.declared.fault.StoreFault.TheVariants.{Fault};
 ghost use Rattle.ctr_disk.specs.Image.{content};
-ghost use Rattle.ctr_disk.specs.Crash.{HasCause, Rose};
+ghost use Rattle.ctr_disk.specs.Device.{OnlyReads, Counts, CountsAs};
 ghost use Rattle.ctr_bytes.specs.Fields.{field};
-ghost use Rattle.ctr_log.specs.Settled.{OnlyReads};
 ghost use Rattle.ctr_log.specs.declared.reading.ReadError.TheVariants.{Store, OutOfMemory as NoMemory};
 ghost use Rattle.ctr_log.specs.Logs.{Batches, batches, records, HasLog};
 ghost use Rattle.ctr_log.specs.Reading.{IsFront, HasShortLog, RefusesOrFails, HasSome, ReadsLog};
@@ -31,10 +30,8 @@ pub fn find_log<D: Disk>(
     ensures only { (bs : Batches) → IsTrue D.tells → HasLog first bs (content file (D.reads disk.old)) → IfOk result (λ f. f.records ≡ records bs) }
     ensures refused { IsTrue D.tells → IfErr result (RefusesOrFails file (HasSome first (content file (D.reads disk.old)))) }
     ensures place { IfOk result (λ f. f.place < 2 ^ 63) }
-    ensures quiet { OnlyReads D.reads D.images D.moment_of D.since disk.old disk.new }
-    ensures fault { result ≡ Err (Store Fault) → Rose (D.faults_of disk.old) (D.faults_of disk.new) }
-    ensures faults { D.faults_of disk.old ≤ D.faults_of disk.new }
-    ensures stray { D.strays_of disk.new ≡ D.strays_of disk.old }
+    ensures quiet { OnlyReads D.Disk disk.old disk.new }
+    ensures counts { CountsAs D.Disk (Store Fault) disk.old disk.new result }
 {
     let size = disk.size(file)?;
     let near = extent(disk, file, size)?;
@@ -51,9 +48,8 @@ fn extent<D: Disk>(disk: &mut D, file: File, size: u64) -> Result<u64, Failed>
     ensures within { IfOk result (λ n. n ≤ size) }
     // Where a log stands in the file, it's the log and the closed gate behind it, and no more.
     ensures exact { (first : ℕ) (bs : Batches) → IsTrue D.tells → size ≡ length (content file (D.reads disk.old)) → HasShortLog first bs (content file (D.reads disk.old)) → IfOk result (λ n. n ≡ length (batches first bs) + 1) }
-    ensures quiet { OnlyReads D.reads D.images D.moment_of D.since disk.old disk.new }
-    ensures cause { HasCause (D.faults_of disk.old) (D.faults_of disk.new) result }
-    ensures stray { D.strays_of disk.new ≡ D.strays_of disk.old }
+    ensures quiet { OnlyReads D.Disk disk.old disk.new }
+    ensures counts { Counts D.Disk disk.old disk.new result }
 {
     let mut gate = 0;
     while gate < size && gate < FAR {
@@ -73,9 +69,8 @@ fn frames_len<D: Disk>(disk: &mut D, file: File, gate: u64) -> Result<Option<u64
     requires { gate < 2 ^ 62 }
     ensures open_gate { IsTrue D.tells → gate + 9 ≤ length (content file (D.reads disk.old)) → slice_index (content file (D.reads disk.old)) gate ≡ 1 → IfOk result (λ l. l ≡ Some (field 8 (gate + 1) (content file (D.reads disk.old)))) }
     ensures shut { IsTrue D.tells → slice_index (content file (D.reads disk.old)) gate ≢ 1 → IfOk result (λ l. l ≡ None) }
-    ensures quiet { OnlyReads D.reads D.images D.moment_of D.since disk.old disk.new }
-    ensures cause { HasCause (D.faults_of disk.old) (D.faults_of disk.new) result }
-    ensures stray { D.strays_of disk.new ≡ D.strays_of disk.old }
+    ensures quiet { OnlyReads D.Disk disk.old disk.new }
+    ensures counts { Counts D.Disk disk.old disk.new result }
 {
     let mut head = [0; 9];
     disk.read(file, gate, &mut head)?;
@@ -98,10 +93,8 @@ fn found_in<D: Disk>(
     ensures only { (bs : Batches) → IsTrue D.tells → IsFront n (content file (D.reads disk.old)) → HasLog first bs (content file (D.reads disk.old)) → IfOk result (λ f. f.records ≡ records bs) }
     ensures refused { IsTrue D.tells → n ≡ length (content file (D.reads disk.old)) → IfErr result (RefusesOrFails file (HasSome first (content file (D.reads disk.old)))) }
     ensures place { IfOk result (λ f. f.place < 2 ^ 63) }
-    ensures quiet { OnlyReads D.reads D.images D.moment_of D.since disk.old disk.new }
-    ensures fault { result ≡ Err (Store Fault) → Rose (D.faults_of disk.old) (D.faults_of disk.new) }
-    ensures faults { D.faults_of disk.old ≤ D.faults_of disk.new }
-    ensures stray { D.strays_of disk.new ≡ D.strays_of disk.old }
+    ensures quiet { OnlyReads D.Disk disk.old disk.new }
+    ensures counts { CountsAs D.Disk (Store Fault) disk.old disk.new result }
 {
     let bytes = first_bytes(alloc, disk, file, n)?;
     read_log(alloc, file, &bytes, first)
@@ -116,10 +109,8 @@ fn first_bytes<D: Disk>(
 ) -> Result<Vec<u8>, ReadError>
     ensures told { IsTrue D.tells → n ≤ length (content file (D.reads disk.old)) → IfOk result (λ v. v.items ≡ take n (content file (D.reads disk.old))) }
     ensures not_damaged { IfErr result (λ e. (e ≡ Store Fault) ⊎ (e ≡ NoMemory)) }
-    ensures quiet { OnlyReads D.reads D.images D.moment_of D.since disk.old disk.new }
-    ensures fault { result ≡ Err (Store Fault) → Rose (D.faults_of disk.old) (D.faults_of disk.new) }
-    ensures faults { D.faults_of disk.old ≤ D.faults_of disk.new }
-    ensures stray { D.strays_of disk.new ≡ D.strays_of disk.old }
+    ensures quiet { OnlyReads D.Disk disk.old disk.new }
+    ensures counts { CountsAs D.Disk (Store Fault) disk.old disk.new result }
 {
     let mut bytes = vec![in alloc; 0u8; n as usize]?;
     disk.read(file, 0, &mut bytes)?;

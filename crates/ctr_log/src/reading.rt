@@ -2,9 +2,9 @@
 ghost use Rattle.std.specs.Prelude.{◌≡◌, ◌≤◌, ◌<◌, ◌+◌, ◌-◌, ◌^◌, ℕ, List, [], ◌++◌, length, take, drop, slice_index, IfOk, IfErr, MatchResult};
 ghost use Rattle.ctr_disk.specs.declared.fault.StoreFault.TheVariants.{Fault};
 ghost use Rattle.ctr_log.specs.declared.reading.ReadError.TheVariants.{Store};
-ghost use Rattle.ctr_log.specs.Damage.{IsDamage};
+ghost use Rattle.ctr_log.specs.Damage.{IsDamageOf};
 ghost use Rattle.ctr_log.specs.Logs.{Batches, frame, records, HasLog};
-ghost use Rattle.ctr_log.specs.Reading.{Refuses, BeginsWithFrame, AreFrames, ReadsFrames, BeginsWithBatch, ReadsBatch, ReadsLog, HasSome};
+ghost use Rattle.ctr_log.specs.Reading.{RefusesLog, BeginsWithFrame, AreFrames, ReadsFrames, BeginsWithBatch, ReadsBatch, ReadsLog, HasSome};
 
 use crate::damage::{at_least, at_most, same};
 use crate::log::Lsn;
@@ -58,7 +58,7 @@ impl<T: Drop> From<AllocFailed<T>> for ReadError {
 
 // The first frame's record, and what stands behind it.
 fn next_frame(file: File, rest: &[u8], at: u64) -> Result<(&[u8], &[u8]), StoreFault>
-    ensures { MatchResult result (λ p. rest.now ≡ frame p.0.now ++ p.1.now) (λ e. IsDamage file e × (BeginsWithFrame rest.now → ⊥)) }
+    ensures { MatchResult result (λ p. rest.now ≡ frame p.0.now ++ p.1.now) (λ e. IsDamageOf file e × (BeginsWithFrame rest.now → ⊥)) }
 {
     let len = rest.len() as u64;
     at_least(file, at, 8, len)?;
@@ -77,7 +77,7 @@ fn read_frames(
 ) -> Result<u64, ReadError>
     requires { at + length bytes.now < 2 ^ 64 }
     ensures found { IfOk result (ReadsFrames bytes.now records.old records.new) }
-    ensures refused { IfErr result (Refuses file (AreFrames bytes.now)) }
+    ensures refused { IfErr result (RefusesLog file (AreFrames bytes.now)) }
 {
     let mut rest = bytes;
     let mut count = 0;
@@ -127,7 +127,7 @@ fn read_batch<'a>(
     requires open { slice_index rest.now 0 ≡ 1 }
     requires fits { gate + length rest.now < 2 ^ 63 }
     ensures found { IfOk result (λ b. ReadsBatch next rest.now records.old records.new b.0.now b.1) }
-    ensures refused { IfErr result (Refuses file (BeginsWithBatch next rest.now)) }
+    ensures refused { IfErr result (RefusesLog file (BeginsWithBatch next rest.now)) }
 {
     let head = head_of(rest);
     let len = get_u64(&head, 1);
@@ -155,7 +155,7 @@ pub fn read_log(alloc: Global, file: File, bytes: &[u8], first: Lsn) -> Result<F
     requires low { first ≤ 2 ^ 63 }
     ensures found { IfOk result (λ f. ReadsLog first bytes.now f.records f.place f.next) }
     ensures only { (bs : Batches) → HasLog first bs bytes.now → IfOk result (λ f. f.records ≡ records bs) }
-    ensures refused { IfErr result (Refuses file (HasSome first bytes.now)) }
+    ensures refused { IfErr result (RefusesLog file (HasSome first bytes.now)) }
 {
     let gate = if bytes.is_empty() { 0 } else { bytes[0] };
     same(file, 0, 1, gate as u64)?;
@@ -168,7 +168,7 @@ fn read_batches(alloc: Global, file: File, bytes: &[u8], first: Lsn) -> Result<F
     requires low { first ≤ 2 ^ 63 }
     ensures found { IfOk result (λ f. ReadsLog first bytes.now f.records f.place f.next) }
     ensures only { (bs : Batches) → HasLog first bs bytes.now → IfOk result (λ f. f.records ≡ records bs) }
-    ensures refused { IfErr result (Refuses file (HasSome first bytes.now)) }
+    ensures refused { IfErr result (RefusesLog file (HasSome first bytes.now)) }
 {
     let mut records = List::new(alloc);
     let mut rest = bytes;

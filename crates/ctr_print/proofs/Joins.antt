@@ -1,7 +1,8 @@
 -- Two puts are one.
 use Rattle.std.proofs.Common.{◌≡◌, ◌≤◌, Bool, true, false, List, ℕ, [], ◌++◌, refl, sym, ◌∙◌, ap, subst, append_assoc, arith}
 use Rattle.std.proofs.lemmas.List.{append-nil}
-use Rattle.ctr_disk.specs.Crash.{Rose}
+use Rattle.ctr_disk.specs.Crash.{CountsFault}
+use Rattle.ctr_disk.specs.declared.edges.Sink.{Ghosts}
 use Rattle.ctr_print.specs.Prints.{Prints, PutsOn}
 
 known : {A : Type 0} (b : Bool) → (b ≡ true → A) → (b ≡ false → A) → A
@@ -18,31 +19,33 @@ prints_both {old} {mid} {new} {x} {y} {a} {b} {c} p q = record {
   stays = λ f. known b (λ t. absurd (cc (f, p.kept t))) (λ n. q.stays n ∙ p.stays f);
 }
 
-rose_then : (a b c : ℕ) → Rose a b → b ≤ c → Rose a c
+rose_then : (a b c : ℕ) → CountsFault a b → b ≤ c → CountsFault a c
 rose_then a b c rose le = omega arith
 
-then_rose : (a b c : ℕ) → a ≤ b → Rose b c → Rose a c
+then_rose : (a b c : ℕ) → a ≤ b → CountsFault b c → CountsFault a c
 then_rose a b c le rose = omega arith
 
-pub both : {S : Type 0} {tells : Bool} {taken : S → List ℕ} {faults : S → ℕ} {old mid new : S} {x y : List ℕ} {a b c : Bool} → PutsOn tells taken faults old a x mid b → PutsOn tells taken faults mid b y new c → PutsOn tells taken faults old a (x ++ y) new c
-both {S} {tells} {taken} {faults} {old} {mid} {new} {x} {y} {a} {b} {c} p q = record {
+pub both : {S : Type 0} {g : Ghosts S} {old mid new : S} {x y : List ℕ} {a b c : Bool} → PutsOn g old a x mid b → PutsOn g mid b y new c → PutsOn g old a (x ++ y) new c
+both {S} {g} {old} {mid} {new} {x} {y} {a} {b} {c} p q = record {
   told = λ t. prints_both (p.told t) (q.told t);
   kept = λ d. p.kept (q.kept d);
   stays = λ f. known b (λ t. absurd (cc (f, p.kept t))) (λ n. q.stays n ∙ p.stays f);
   later = omega (arith, p.later, q.later);
-  cause = λ f d. known b (λ t. then_rose (faults old) (faults mid) (faults new) p.later (q.cause t d)) (λ n. rose_then (faults old) (faults mid) (faults new) (p.cause f n) q.later);
+  cause = λ f d. known b (λ t. then_rose (g.faults_of old) (g.faults_of mid) (g.faults_of new) p.later (q.cause t d)) (λ n. rose_then (g.faults_of old) (g.faults_of mid) (g.faults_of new) (p.cause f n) q.later);
+  calm = λ d. q.calm d ∙ p.calm (q.kept d);
 }
 
 -- the same text, spelled otherwise
-pub put_as : {S : Type 0} {tells : Bool} {taken : S → List ℕ} {faults : S → ℕ} {old new : S} {x y : List ℕ} {a b : Bool} → x ≡ y → PutsOn tells taken faults old a x new b → PutsOn tells taken faults old a y new b
-put_as {S} {tells} {taken} {faults} {old} {new} {x} {y} {a} {b} is p = subst (λ (t : List ℕ). PutsOn tells taken faults old a t new b) is p
+pub put_as : {S : Type 0} {g : Ghosts S} {old new : S} {x y : List ℕ} {a b : Bool} → x ≡ y → PutsOn g old a x new b → PutsOn g old a y new b
+put_as {S} {g} {old} {new} {x} {y} {a} {b} is p = subst (λ (t : List ℕ). PutsOn g old a t new b) is p
 
 -- nothing is put
-pub nothing_put : {S : Type 0} {tells : Bool} {taken : S → List ℕ} {faults : S → ℕ} {s : S} {a : Bool} → PutsOn tells taken faults s a [] s a
-nothing_put {S} {tells} {taken} {faults} {s} {a} = record {
+pub nothing_put : {S : Type 0} {g : Ghosts S} {s : S} {a : Bool} → PutsOn g s a [] s a
+nothing_put {S} {g} {s} {a} = record {
   told = λ t. record { whole = λ d. search append-nil; kept = λ d. d; front = ([], [], refl, search append-nil); stays = λ f. refl };
   kept = λ d. d;
   stays = λ f. refl;
   later = omega arith;
   cause = λ f d. absurd (cc (f, d));
+  calm = λ d. refl;
 }

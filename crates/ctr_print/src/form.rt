@@ -10,12 +10,12 @@ pub trait Form<T> {
     ghost text: { T → List ℕ };
 
     fn put<K: Sink>(sink: &mut K, fine: bool, item: &T) -> bool
-        ensures { PutsOn K.tells K.taken K.faults_of sink.old fine (text item.now) sink.new result };
+        ensures { PutsOn K.Sink sink.old fine (text item.now) sink.new result };
 }
 
 /// Puts each item in this form.
 pub fn put_each<F: Form<T>, T, K: Sink>(sink: &mut K, fine: bool, items: &[T]) -> bool
-    ensures { PutsOn K.tells K.taken K.faults_of sink.old fine (flat_map F.text items.now) sink.new result }
+    ensures { PutsOn K.Sink sink.old fine (flat_map F.text items.now) sink.new result }
 {
     let mut well = fine;
     for item in items {

@@ -12,7 +12,7 @@ use ctr_model::{Cause, Command, Report, Survey};
 use ctr_types::Tape;
 
 fn put_end<K: Sink>(sink: &mut K, fine: bool, tape: &Tape, report: &Report) -> bool
-    ensures { PutsOn K.tells K.taken K.faults_of sink.old fine (end_line tape.now.entries report.now) sink.new result }
+    ensures { PutsOn K.Sink sink.old fine (end_line tape.now.entries report.now) sink.new result }
 {
     put_pieces(
         sink,
@@ -37,7 +37,7 @@ fn put_load<K: Sink>(
     tape: &Tape,
     report: &Report,
 ) -> bool
-    ensures { PutsOn K.tells K.taken K.faults_of sink.old fine (load_line sessions statements tape.now.entries report.now) sink.new result }
+    ensures { PutsOn K.Sink sink.old fine (load_line sessions statements tape.now.entries report.now) sink.new result }
 {
     put_pieces(
         sink,
@@ -61,7 +61,7 @@ fn put_load<K: Sink>(
 }
 
 fn put_report<K: Sink>(sink: &mut K, fine: bool, survey: &Survey) -> bool
-    ensures { PutsOn K.tells K.taken K.faults_of sink.old fine (report_line survey.now) sink.new result }
+    ensures { PutsOn K.Sink sink.old fine (report_line survey.now) sink.new result }
 {
     put_pieces(
         sink,
@@ -89,7 +89,7 @@ fn put_success<K: Sink>(
     tape: &Tape,
     report: &Report,
 ) -> bool
-    ensures { PutsOn K.tells K.taken K.faults_of sink.old fine (success_line command.now tape.now.entries report.now) sink.new result }
+    ensures { PutsOn K.Sink sink.old fine (success_line command.now tape.now.entries report.now) sink.new result }
 {
     match command {
         Command::Init => put_on(sink, fine, b"init: done\n"),
@@ -103,7 +103,7 @@ fn put_success<K: Sink>(
 }
 
 fn put_script<K: Sink>(sink: &mut K, fine: bool, cause: &Cause) -> bool
-    ensures { PutsOn K.tells K.taken K.faults_of sink.old fine (script_line cause.now) sink.new result }
+    ensures { PutsOn K.Sink sink.old fine (script_line cause.now) sink.new result }
 {
     let Cause::Script { line, at } = cause else {
         return put_on(sink, fine, b"ctr: script too long\n");
@@ -133,7 +133,7 @@ fn name_of(file: File) -> &'static [u8]
 }
 
 fn put_damage<K: Sink>(sink: &mut K, fine: bool, cause: &Cause) -> bool
-    ensures { PutsOn K.tells K.taken K.faults_of sink.old fine (damage_line cause.now) sink.new result }
+    ensures { PutsOn K.Sink sink.old fine (damage_line cause.now) sink.new result }
 {
     let Cause::Damaged {
         file,
@@ -162,7 +162,7 @@ fn put_damage<K: Sink>(sink: &mut K, fine: bool, cause: &Cause) -> bool
 }
 
 fn put_worn<K: Sink>(sink: &mut K, fine: bool, cause: &Cause) -> bool
-    ensures { PutsOn K.tells K.taken K.faults_of sink.old fine (worn_line cause.now) sink.new result }
+    ensures { PutsOn K.Sink sink.old fine (worn_line cause.now) sink.new result }
 {
     let Cause::Worn { number } = cause else {
         return fine;
@@ -188,7 +188,7 @@ pub fn put_last_line<K: Sink>(
     tape: &Tape,
     report: &Report,
 ) -> bool
-    ensures { PutsOn K.tells K.taken K.faults_of sink.old fine (last_line command.now status cause.now tape.now.entries report.now) sink.new result }
+    ensures { PutsOn K.Sink sink.old fine (last_line command.now status cause.now tape.now.entries report.now) sink.new result }
 {
     match status {
         0 => put_success(sink, fine, command, tape, report),

@@ -15,7 +15,7 @@ use ctr_types::{Act, Entry, Refusal, Reply, Row, Rows, Tape};
 
 // Who was answered.
 fn put_head<K: Sink>(sink: &mut K, fine: bool, entry: &Entry) -> bool
-    ensures { PutsOn K.tells K.taken K.faults_of sink.old fine (entry_head entry.now) sink.new result }
+    ensures { PutsOn K.Sink sink.old fine (entry_head entry.now) sink.new result }
 {
     put_pieces(
         sink,
@@ -31,7 +31,7 @@ fn put_head<K: Sink>(sink: &mut K, fine: bool, entry: &Entry) -> bool
 
 // A line of an entry.
 fn put_line<K: Sink>(sink: &mut K, fine: bool, entry: &Entry, pieces: &[Piece]) -> bool
-    ensures { PutsOn K.tells K.taken K.faults_of sink.old fine (entry_line entry.now (joined [] pieces.now)) sink.new result }
+    ensures { PutsOn K.Sink sink.old fine (entry_line entry.now (joined [] pieces.now)) sink.new result }
 {
     let fine = put_head(sink, fine, entry);
     let fine = put_pieces(sink, fine, pieces);
@@ -39,7 +39,7 @@ fn put_line<K: Sink>(sink: &mut K, fine: bool, entry: &Entry, pieces: &[Piece]) 
 }
 
 fn put_refused<K: Sink>(sink: &mut K, fine: bool, entry: &Entry, refusal: Refusal) -> bool
-    ensures { PutsOn K.tells K.taken K.faults_of sink.old fine (entry_line entry.now (codes "refused " ++ refusal_text refusal)) sink.new result }
+    ensures { PutsOn K.Sink sink.old fine (entry_line entry.now (codes "refused " ++ refusal_text refusal)) sink.new result }
 {
     let fine = put_head(sink, fine, entry);
     let fine = put_on(sink, fine, b"refused ");
@@ -58,7 +58,7 @@ impl Form<Row> for RowLine {
 }
 
 fn put_rows<K: Sink>(sink: &mut K, fine: bool, entry: &Entry, rows: &Rows) -> bool
-    ensures { PutsOn K.tells K.taken K.faults_of sink.old fine (reply_text entry.now (Reply.Rows rows.now)) sink.new result }
+    ensures { PutsOn K.Sink sink.old fine (reply_text entry.now (Reply.Rows rows.now)) sink.new result }
 {
     let rows = rows.rows.as_slice();
     let count = rows.len() as u64;
@@ -73,7 +73,7 @@ fn put_rows<K: Sink>(sink: &mut K, fine: bool, entry: &Entry, rows: &Rows) -> bo
 
 // That recovery gave the name of a table free.
 fn put_release<K: Sink>(sink: &mut K, fine: bool, act: &Act) -> bool
-    ensures { PutsOn K.tells K.taken K.faults_of sink.old fine (release_line act.now) sink.new result }
+    ensures { PutsOn K.Sink sink.old fine (release_line act.now) sink.new result }
 {
     let Act::Release { name } = act else {
         return fine;
@@ -91,7 +91,7 @@ fn put_release<K: Sink>(sink: &mut K, fine: bool, act: &Act) -> bool
 
 /// Puts what the transcript shows of an entry.
 pub fn put_entry<K: Sink>(sink: &mut K, fine: bool, entry: &Entry) -> bool
-    ensures { PutsOn K.tells K.taken K.faults_of sink.old fine (entry_text entry.now) sink.new result }
+    ensures { PutsOn K.Sink sink.old fine (entry_text entry.now) sink.new result }
 {
     match &entry.reply {
         Reply::Began { n } => put_line(
@@ -129,7 +129,7 @@ impl Form<Entry> for Shown {
 
 /// Puts the transcript: the entries in the order of the tape.
 pub fn put_transcript<K: Sink>(sink: &mut K, fine: bool, tape: &Tape) -> bool
-    ensures { PutsOn K.tells K.taken K.faults_of sink.old fine (transcript tape.now.entries) sink.new result }
+    ensures { PutsOn K.Sink sink.old fine (transcript tape.now.entries) sink.new result }
 {
     put_each::<Shown, Entry, K>(sink, fine, tape.entries.as_slice())
 }

@@ -11,7 +11,7 @@ use itoa::{Buffer, Integer};
 
 /// Puts a number in decimal.
 pub fn put_number<I: Integer, K: Sink>(sink: &mut K, fine: bool, n: I) -> bool
-    ensures { PutsOn K.tells K.taken K.faults_of sink.old fine (I.text n) sink.new result }
+    ensures { PutsOn K.Sink sink.old fine (I.text n) sink.new result }
 {
     let mut buffer = Buffer::new();
     put_on(sink, fine, buffer.format(n).as_bytes())
@@ -35,7 +35,7 @@ impl<'a> Form<Piece<'a>> for Part {
 
 /// Puts the pieces in order.
 pub fn put_pieces<K: Sink>(sink: &mut K, fine: bool, pieces: &[Piece]) -> bool
-    ensures { PutsOn K.tells K.taken K.faults_of sink.old fine (joined [] pieces.now) sink.new result }
+    ensures { PutsOn K.Sink sink.old fine (joined [] pieces.now) sink.new result }
 {
     put_each::<Part, Piece, K>(sink, fine, pieces)
 }

@@ -20,7 +20,7 @@ pub fn put_all<K: Sink>(sink: &mut K, bytes: &[u8]) -> Result<(), Failed>
 
 /// Puts the bytes, unless a put before has failed, and says whether all is well.
 pub fn put_on<K: Sink>(sink: &mut K, fine: bool, bytes: &[u8]) -> bool
-    ensures { PutsOn K.tells K.taken K.faults_of sink.old fine bytes.now sink.new result }
+    ensures { PutsOn K.Sink sink.old fine bytes.now sink.new result }
 {
     if !fine {
         return false;

@@ -12,7 +12,7 @@ use ctr_types::Refusal;
 
 /// Puts why an act was refused.
 pub fn put_refusal<K: Sink>(sink: &mut K, fine: bool, refusal: Refusal) -> bool
-    ensures { PutsOn K.tells K.taken K.faults_of sink.old fine (refusal_text refusal) sink.new result }
+    ensures { PutsOn K.Sink sink.old fine (refusal_text refusal) sink.new result }
 {
     match refusal {
         Refusal::NoTransaction => put_on(sink, fine, b"NoTransaction"),
@@ -36,13 +36,13 @@ pub fn put_refusal<K: Sink>(sink: &mut K, fine: bool, refusal: Refusal) -> bool
 }
 
 fn put_reason<K: Sink>(sink: &mut K, fine: bool, words: &[u8], number: u64) -> bool
-    ensures { PutsOn K.tells K.taken K.faults_of sink.old fine (words.now ++ decimal number) sink.new result }
+    ensures { PutsOn K.Sink sink.old fine (words.now ++ decimal number) sink.new result }
 {
     put_pieces(sink, fine, &[Piece::Bytes(words), Piece::Number(number)])
 }
 
 fn put_busy<K: Sink>(sink: &mut K, fine: bool, by: u8) -> bool
-    ensures { PutsOn K.tells K.taken K.faults_of sink.old fine (codes "TableBusy by " ++ holder_text by) sink.new result }
+    ensures { PutsOn K.Sink sink.old fine (codes "TableBusy by " ++ holder_text by) sink.new result }
 {
     if by == 0 {
         return put_on(sink, fine, b"TableBusy by recovery");

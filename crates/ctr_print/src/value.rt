@@ -25,7 +25,7 @@ impl Form<u8> for Doubled {
 
 /// Puts a text between quotes, each quote in it doubled.
 pub fn put_quoted<K: Sink>(sink: &mut K, fine: bool, text: &[u8]) -> bool
-    ensures { PutsOn K.tells K.taken K.faults_of sink.old fine (quoted text.now) sink.new result }
+    ensures { PutsOn K.Sink sink.old fine (quoted text.now) sink.new result }
 {
     let fine = put_on(sink, fine, b"'");
     let fine = put_each::<Doubled, u8, K>(sink, fine, text);
@@ -34,7 +34,7 @@ pub fn put_quoted<K: Sink>(sink: &mut K, fine: bool, text: &[u8]) -> bool
 
 /// Puts a value: a number in decimal, or a text between quotes.
 pub fn put_value<K: Sink>(sink: &mut K, fine: bool, value: &Value) -> bool
-    ensures { PutsOn K.tells K.taken K.faults_of sink.old fine (value_text value.now) sink.new result }
+    ensures { PutsOn K.Sink sink.old fine (value_text value.now) sink.new result }
 {
     match value {
         Value::Int(n) => put_number(sink, fine, *n),
@@ -56,7 +56,7 @@ impl Form<Value> for Following {
 
 /// Puts values with a comma and a blank between.
 pub fn put_values<K: Sink>(sink: &mut K, fine: bool, values: &[Value]) -> bool
-    ensures { PutsOn K.tells K.taken K.faults_of sink.old fine (values_text values.now) sink.new result }
+    ensures { PutsOn K.Sink sink.old fine (values_text values.now) sink.new result }
 {
     let Some((first, others)) = values.split_first() else {
         return fine;
@@ -67,7 +67,7 @@ pub fn put_values<K: Sink>(sink: &mut K, fine: bool, values: &[Value]) -> bool
 
 /// Puts a row: its values between brackets.
 pub fn put_row<K: Sink>(sink: &mut K, fine: bool, row: &Row) -> bool
-    ensures { PutsOn K.tells K.taken K.faults_of sink.old fine (row_text row.now) sink.new result }
+    ensures { PutsOn K.Sink sink.old fine (row_text row.now) sink.new result }
 {
     let fine = put_on(sink, fine, b"(");
     let fine = put_values(sink, fine, row.values.as_slice());
@@ -76,7 +76,7 @@ pub fn put_row<K: Sink>(sink: &mut K, fine: bool, row: &Row) -> bool
 
 /// Puts a row on a line of its own, behind two blanks.
 pub fn put_row_line<K: Sink>(sink: &mut K, fine: bool, row: &Row) -> bool
-    ensures { PutsOn K.tells K.taken K.faults_of sink.old fine (row_line row.now) sink.new result }
+    ensures { PutsOn K.Sink sink.old fine (row_line row.now) sink.new result }
 {
     let fine = put_on(sink, fine, b"  ");
     let fine = put_row(sink, fine, row);

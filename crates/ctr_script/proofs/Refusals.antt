@@ -16,3 +16,14 @@ refusal_again bytes (Err (error.Refused l a)) line at read is no_script one h = 
 refusal_again bytes (Err error.TooLong) line at read is no_script one h = absurd is
 refusal_again bytes (Err error.ReadFault) line at read is no_script one h = absurd is
 refusal_again bytes (Err error.OutOfMemory) line at read is no_script one h = inr (inr refl)
+
+-- what is a script is read
+pub script_again : (bytes : List ℕ) (r : Result Script ScriptError) (ls : List Line) → IfOk r (λ s. IsScript first bytes s.lines) → IfErr r (IsRefusal bytes)
+    → ((ks ms : List Line) → IsScript first bytes ks → IsScript first bytes ms → ks ≡ ms)
+    → ((ms : List Line) (l a : ℕ) → IsScript first bytes ms → IsRefusedAt first bytes l a → ⊥)
+    → IsScript first bytes ls → MatchResult r (λ s. s.lines ≡ ls) IsHindrance
+script_again bytes (Ok s) ls read is one no_script script = one s.lines ls read script
+script_again bytes (Err (error.Refused l a)) ls read is one no_script script = absurd (no_script ls l a script is)
+script_again bytes (Err error.TooLong) ls read is one no_script script = absurd is
+script_again bytes (Err error.ReadFault) ls read is one no_script script = absurd is
+script_again bytes (Err error.OutOfMemory) ls read is one no_script script = inr refl

@@ -1,6 +1,8 @@
 // The bytes of a source.
 ghost use Rattle.std.specs.Prelude.{◌≡◌, ◌+◌, ◌<◌, ◌≤◌, ◌++◌, ◌↔◌, [], IsTrue, length, vec_len, IfOk, IfErr, OnErr};
 ghost use Rattle.ctr_model.specs.Grammar.{most_bytes};
+ghost use Rattle.ctr_disk.specs.Crash.{HasFault};
+ghost use Rattle.ctr_script.specs.declared.error.ScriptError.TheVariants.{ReadFault};
 ghost use Rattle.ctr_script.specs.Reading.{StopsPiece, StopsReading};
 
 use crate::ScriptError;
@@ -24,8 +26,8 @@ fn take_piece<S: Source>(
     ensures end { IsTrue S.tells → IfOk result (λ n. n ≡ 0 → S.left source.old ≡ []) }
     ensures more { IfOk result (λ n. (vec_len bytes.new ≡ vec_len bytes.old + n) × (n ≤ length piece.old)) }
     ensures taken { IsTrue S.tells → OnErr result (length (S.left source.old) ≤ length (S.left source.new) + length piece.old) }
-    ensures stops { IfErr result (StopsPiece (S.faults_of source.old) (S.faults_of source.new)) }
-    ensures faults { S.faults_of source.old ≤ S.faults_of source.new }
+    ensures stops { IfErr result StopsPiece }
+    ensures faults { HasFault ReadFault (S.faults_of source.old) (S.faults_of source.new) result }
 {
     let n = source.take(piece)?;
     bytes.extend_from_slice(&piece[..n])?;
@@ -45,8 +47,8 @@ fn next_piece<S: Source>(
     ensures more { IfOk result (λ n. (vec_len bytes.new ≡ vec_len bytes.old + n) × (vec_len bytes.new ≤ most_bytes + 1)) }
     ensures taken { IsTrue S.tells → OnErr result
         (length (S.left source.old) + vec_len bytes.old ≤ length (S.left source.new) + (most_bytes + 1)) }
-    ensures stops { IfErr result (StopsPiece (S.faults_of source.old) (S.faults_of source.new)) }
-    ensures faults { S.faults_of source.old ≤ S.faults_of source.new }
+    ensures stops { IfErr result StopsPiece }
+    ensures faults { HasFault ReadFault (S.faults_of source.old) (S.faults_of source.new) result }
 {
     let room = piece.len().min(MOST_BYTES + 1 - bytes.len());
     take_piece(source, &mut piece[..room], bytes)
@@ -63,9 +65,9 @@ fn zeros(alloc: Global, len: usize) -> Result<Vec<u8>, AllocError>
 pub fn read_bytes<S: Source>(alloc: Global, source: &mut S) -> Result<Vec<u8>, ScriptError>
     ensures read { IsTrue S.tells → IfOk result (λ bytes. bytes.items ≡ S.left source.old) }
     ensures short { IfOk result (λ bytes. vec_len bytes ≤ most_bytes) }
-    ensures stops { IfErr result (StopsReading S.tells (S.left source.old) (S.faults_of source.old) (S.faults_of source.new)) }
+    ensures stops { IfErr result (StopsReading S.Source source.old) }
     ensures taken { IsTrue S.tells → length (S.left source.old) ≤ length (S.left source.new) + 16777217 }
-    ensures faults { S.faults_of source.old ≤ S.faults_of source.new }
+    ensures faults { HasFault ReadFault (S.faults_of source.old) (S.faults_of source.new) result }
 {
     let mut bytes = Vec::new(alloc);
     let mut piece = zeros(alloc, PIECE)?;

@@ -2,10 +2,11 @@
 ghost use Rattle.std.specs.Prelude.{◌≡◌, ◌⊎◌, ◌+◌, ◌<◌, ◌≤◌, ℕ, List, IsTrue, length, take, IfNone, IfSome, IfOk, IfErr, MatchResult};
 ghost use Rattle.std.specs.List.{AllByRecursion};
 ghost use Rattle.ctr_types.specs.declared.statement.Line.{Line};
-ghost use Rattle.ctr_model.specs.Grammar.{first, HasNoEnd, IsScript, IsRefusedAt, most_bytes};
-ghost use Rattle.ctr_script.specs.declared.error.ScriptError.TheVariants.{Refused, TooLong};
+ghost use Rattle.ctr_model.specs.Grammar.{first, HasNoEnd, IsScript};
+ghost use Rattle.ctr_disk.specs.Crash.{HasFault};
+ghost use Rattle.ctr_script.specs.declared.error.ScriptError.TheVariants.{Refused, ReadFault};
 ghost use Rattle.ctr_script.specs.Added.{Adds, IsFirstLine};
-ghost use Rattle.ctr_script.specs.Reading.{StopsAt, IsRefusal, HasReason, IsHindrance};
+ghost use Rattle.ctr_script.specs.Reading.{StopsAt, IsRefusal, IsShortScript, HasReason, IsDecided};
 
 use crate::ScriptError;
 use crate::bytes::read_bytes;
@@ -77,24 +78,15 @@ fn script_of(alloc: Global, bytes: &[u8]) -> Result<Script, ScriptError>
 /// Takes a source to its end and parses it: a script in the first form of the language, whose lines
 /// each end in LF. At most 16,777,217 bytes are taken.
 pub fn read_script<S: Source>(alloc: Global, source: &mut S) -> Result<Script, ScriptError>
-    ensures read { IsTrue S.tells → IfOk result (λ s. IsScript first (S.left source.old) s.lines) }
-    ensures short { IsTrue S.tells → IfOk result (λ _. length (S.left source.old) ≤ most_bytes) }
+    ensures read { IsTrue S.tells → IfOk result (λ s. IsShortScript (S.left source.old) s.lines) }
     // What was taken is a script, also where the source doesn't tell.
-    ensures is_script { IfOk result (λ s. (bytes : List ℕ) × IsScript first bytes s.lines × (length bytes ≤ most_bytes)) }
-    // Each refusal has its cause.
-    ensures reason { IfErr result (HasReason S.tells (S.left source.old) (S.faults_of source.old) (S.faults_of source.new)) }
-    // What is a script is read, unless the source fails or memory runs out.
-    ensures only { IsTrue S.tells → length (S.left source.old) ≤ most_bytes → (ls : List Line) → IsScript first (S.left source.old) ls
-        → MatchResult result (λ s. s.lines ≡ ls) IsHindrance }
-    // What is refused is refused at its place.
-    ensures only_refused { IsTrue S.tells → length (S.left source.old) ≤ most_bytes → (line at : ℕ) → IsRefusedAt first (S.left source.old) line at
-        → MatchResult result (λ _. ⊥) (λ e. (e ≡ Refused line at) ⊎ IsHindrance e) }
-    // What is too long is so whatever it holds.
-    ensures only_long { IsTrue S.tells → most_bytes < length (S.left source.old)
-        → MatchResult result (λ _. ⊥) (λ e. (e ≡ TooLong) ⊎ IsHindrance e) }
+    ensures is_script { IfOk result (λ s. (bytes : List ℕ) × IsShortScript bytes s.lines) }
+    ensures reason { IfErr result (HasReason S.Source source.old) }
+    // What the source has left decides the answer.
+    ensures only { IsTrue S.tells → IsDecided (S.left source.old) result }
     ensures sessions { IfOk result (λ s. AllByRecursion (λ l. l.session ≡ 1) s.lines) }
     ensures taken { IsTrue S.tells → length (S.left source.old) ≤ length (S.left source.new) + 16777217 }
-    ensures faults { S.faults_of source.old ≤ S.faults_of source.new }
+    ensures faults { HasFault ReadFault (S.faults_of source.old) (S.faults_of source.new) result }
 {
     one_script();
     no_script_is_refused();

@@ -21,7 +21,7 @@ use Rattle.ctr_thin.specs.declared.opening.Opened.{Opened}
 use Rattle.ctr_thin.specs.declared.opening.OpenError.{OpenError}
 use Rattle.ctr_thin.specs.declared.opening.OpenError.TheVariants as open_error
 use Rattle.ctr_thin.specs.Opening.{of_read}
-use Rattle.ctr_thin.specs.Thin.{StandsFor, Makes, MakesSome, RefusesToOpen, Opens, Explains}
+use Rattle.ctr_thin.specs.Thin.{StandsFor, MakesDatabase, MakesSomeDatabase, RefusesToOpen, Opens, Explains}
 use Rattle.ctr_thin.proofs.ReplayLemmas.{OneFold}
 
 -- ---- a block says one root at most
@@ -86,13 +86,13 @@ module _ (image mid : Image) (same : mid ≡ image) (r : Root) (says : SaysRoot 
     records_of_image : (db : Database) (s : StandsFor image db) → rs ≡ first_checkpoint ∷ s.rs
     records_of_image db s = only s.bs (log_of_image db s) ∙ s.begins
 
-    pub records_refused : (e : OpenError) → RefusesToOpen (MakesSome rs) e → Explains image e
+    pub records_refused : (e : OpenError) → RefusesToOpen (MakesSomeDatabase rs) e → Explains image e
     records_refused open_error.OutOfMemory refused = tt
     records_refused open_error.Fault refused = absurd refused
     records_refused open_error.NoDatabase refused = absurd refused
     records_refused (open_error.Damaged f at want got) refused = (refused.0, not_none, λ db s low. refused.1 (db, (s.rs, records_of_image db s, s.folds)))
 
-    pub only_tables : OneFold → (made : Database) → Makes rs made → (db : Database) → StandsFor image db → made ≡ db
+    pub only_tables : OneFold → (made : Database) → MakesDatabase rs made → (db : Database) → StandsFor image db → made ≡ db
     only_tables one made makes db s =
         let heads : first_checkpoint ∷ makes.0 ≡ first_checkpoint ∷ s.rs = sym makes.1 ∙ records_of_image db s in
         let rests : makes.0 ≡ s.rs = cc in
@@ -112,7 +112,7 @@ module _ (image mid : Image) (same : mid ≡ image) (r : Root) (says : SaysRoot 
             omega (arith, low, long, next_is_of, ap (λ (q : Root). q.first) root),
       )
 
-    pub was_opened : (o : Opened) → OpensLog r.first (log_file r.file) mid o.log rs → Makes rs (database_of o.tables) → o.log.first + length o.log.buffered < 2 ^ 62 → Opens image o
+    pub was_opened : (o : Opened) → OpensLog r.first (log_file r.file) mid o.log rs → MakesDatabase rs (database_of o.tables) → o.log.first + length o.log.buffered < 2 ^ 62 → Opens image o
     was_opened o opens makes low = record {
       stands = record {
         r = r;

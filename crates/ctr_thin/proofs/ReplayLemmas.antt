@@ -17,7 +17,7 @@ use Rattle.ctr_rec.specs.declared.payload.PayloadError.TheVariants as payload
 use Rattle.ctr_rec.specs.Payload.{IsRowOf, Refuses as RefusesPayload}
 use Rattle.ctr_rec.specs.Fold.{HasTable, StandAll, Folds, FoldsRecord, FoldsRecords}
 use Rattle.ctr_thin.specs.Opening.{of_payload}
-use Rattle.ctr_thin.specs.Thin.{Applies, AppliesSome, Refuses}
+use Rattle.ctr_thin.specs.Thin.{Applies, CanApply, RefusesRecord}
 
 -- what is left of a list, from an item on
 pub next_is : {A : Type 0} (xs : List A) (i : ℕ) (x : A) → x ≡ get_or xs i x → i < length xs → drop i xs ≡ x ∷ drop (i + 1) xs
@@ -39,17 +39,17 @@ put_done old mid new t p k read wrote row s read_is wrote_is found is same put =
 
 -- no row has a payload that was refused
 pub put_refused : (db : Database) (t p : List ℕ) (k read : ℤ) (s : Schema) (Bad : ℕ → ℕ → ℕ → Type 0) → read ≡ k → Some s ≡ option_map (λ (u : Table). u.schema) (table_at db t) → (e : PayloadError)
-    → RefusesPayload Bad e → ((row : Row) → IsRowOf s.columns read p row.values → e ≡ payload.OutOfMemory) → (r : RecordError) → r ≡ of_payload e → Refuses (AppliesSome db (item.Put t k p)) r
-put_refused db t p k read s Bad read_is found payload.OutOfMemory refused only r is = subst (Refuses (AppliesSome db (item.Put t k p))) (sym is) tt
+    → RefusesPayload Bad e → ((row : Row) → IsRowOf s.columns read p row.values → e ≡ payload.OutOfMemory) → (r : RecordError) → r ≡ of_payload e → RefusesRecord (CanApply db (item.Put t k p)) r
+put_refused db t p k read s Bad read_is found payload.OutOfMemory refused only r is = subst (RefusesRecord (CanApply db (item.Put t k p))) (sym is) tt
 put_refused db t p k read s Bad read_is found (payload.Bad at want got) refused only r is =
     let table = table_has (table_at db t) s found in
-    let none : AppliesSome db (item.Put t k p) → ⊥ = λ a.
+    let none : CanApply db (item.Put t k p) → ⊥ = λ a.
     let stands = a.1.1 in
     let same : stands.2.0 ≡ table.0 = cc (stands.2.1, table.1) in
     let row : IsRowOf s.columns k p stands.0.values = subst (λ (z : Schema). IsRowOf z.columns k p stands.0.values) (ap (λ (u : Table). u.schema) same ∙ table.2) stands.2.2 in
     let never : payload.Bad at want got ≡ payload.OutOfMemory = only stands.0 (subst (λ (z : ℤ). IsRowOf s.columns z p stands.0.values) (sym read_is) row) in
     cc in
-    subst (Refuses (AppliesSome db (item.Put t k p))) (sym is) (refused.1, none)
+    subst (RefusesRecord (CanApply db (item.Put t k p))) (sym is) (refused.1, none)
 
 -- ---- items
 
@@ -73,11 +73,11 @@ pub items_left : OneMeaning → (db : Database) (i : Item) (is : List Item) (mid
 items_left one db i is mid new a f = behind_first one db i is mid new a f.0 f.1 f.2
 
 -- where items fold, the first can be applied
-first_of_all : (db : Database) (i : Item) (is : List Item) (cs : List Change) → StandAll db (i ∷ is) cs → AppliesSome db i
+first_of_all : (db : Database) (i : Item) (is : List Item) (cs : List Change) → StandAll db (i ∷ is) cs → CanApply db i
 first_of_all db i is [] s = absurd s
 first_of_all db i is (c ∷ cs) s = (changed c db, (c, s.0, refl))
 
-pub first_applies : (db : Database) (i : Item) (is : List Item) (new : Database) → Folds db (i ∷ is) new → AppliesSome db i
+pub first_applies : (db : Database) (i : Item) (is : List Item) (new : Database) → Folds db (i ∷ is) new → CanApply db i
 first_applies db i is new f = first_of_all db i is f.0 f.1
 
 -- ---- records
@@ -94,6 +94,6 @@ records_left one db r rs mid new a f =
 -- ---- what is refused
 
 -- what was refused for one is refused for what needs it
-pub refuses_more : (P Q : Type 0) (e : RecordError) → (Q → P) → Refuses P e → Refuses Q e
+pub refuses_more : (P Q : Type 0) (e : RecordError) → (Q → P) → RefusesRecord P e → RefusesRecord Q e
 refuses_more P Q record_error.OutOfMemory so r = tt
 refuses_more P Q (record_error.Bad f) so r = (r.0, λ q. r.1 (so q))

@@ -16,6 +16,7 @@ abbrev pub of_store : StoreFault → OpenError
 of_store store.Fault = Fault
 of_store (store.Damaged file at want got) = Damaged file at want got
 
+-- with the same numbers, or for want of memory
 abbrev pub of_read : ReadError → OpenError
 of_read (read.Store e) = of_store e
 of_read read.OutOfMemory = OutOfMemory

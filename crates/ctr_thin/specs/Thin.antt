@@ -48,35 +48,39 @@ StandsBy image db r bs = (s : StandsFor image db) × (s.r ≡ r) × (s.bs ≡ bs
 -- ---- what applying finds
 
 -- what was to be applied can't be, and the numbers that tell it differ; or memory was refused
-abbrev pub Refuses : Type 0 → RecordError → Type 0
-Refuses P record_error.OutOfMemory = Unit {0}
-Refuses P (record_error.Bad f) = (f.want ≢ f.got) × (P → ⊥)
+abbrev pub RefusesRecord : Type 0 → RecordError → Type 0
+RefusesRecord P record_error.OutOfMemory = Unit {0}
+RefusesRecord P (record_error.Bad f) = (f.want ≢ f.got) × (P → ⊥)
 
 -- the item stands for a change of the first database that leaves the second
 abbrev pub Applies : Database → Item → Database → Type 0
 Applies old item new = (c : Change) × Stands old item c × (new ≡ changed c old)
 
 -- some database is left
-abbrev pub AppliesSome : Database → Item → Type 0
-AppliesSome old item = (new : Database) × Applies old item new
+abbrev pub CanApply : Database → Item → Type 0
+CanApply old item = (new : Database) × Applies old item new
 
-abbrev pub FoldsSome : Database → List Item → Type 0
-FoldsSome old is = (new : Database) × Folds old is new
+-- some database is left after the items
+abbrev pub CanApplyItems : Database → List Item → Type 0
+CanApplyItems old is = (new : Database) × Folds old is new
 
-abbrev pub FoldsRecordSome : Database → List ℕ → Type 0
-FoldsRecordSome old bytes = (new : Database) × FoldsRecord old bytes new
+-- the record can be replayed
+abbrev pub CanReplayRecord : Database → List ℕ → Type 0
+CanReplayRecord old bytes = (new : Database) × FoldsRecord old bytes new
 
-abbrev pub FoldsRecordsSome : Database → List (List ℕ) → Type 0
-FoldsRecordsSome old rs = (new : Database) × FoldsRecords old rs new
+-- the records can be replayed
+abbrev pub CanReplay : Database → List (List ℕ) → Type 0
+CanReplay old rs = (new : Database) × FoldsRecords old rs new
 
 -- ---- what opening finds
 
 -- the records of a log that makes the database: the checkpoint of an empty engine, and those that fold
-abbrev pub Makes : List (List ℕ) → Database → Type 0
-Makes all db = (rs : List (List ℕ)) × (all ≡ first_checkpoint ∷ rs) × FoldsRecords [] rs db
+abbrev pub MakesDatabase : List (List ℕ) → Database → Type 0
+MakesDatabase all db = (rs : List (List ℕ)) × (all ≡ first_checkpoint ∷ rs) × FoldsRecords [] rs db
 
-abbrev pub MakesSome : List (List ℕ) → Type 0
-MakesSome all = (db : Database) × Makes all db
+-- it makes some database
+abbrev pub MakesSomeDatabase : List (List ℕ) → Type 0
+MakesSomeDatabase all = (db : Database) × MakesDatabase all db
 
 -- damage told by numbers that differ, where this doesn't hold; or memory was refused
 abbrev pub RefusesToOpen : Type 0 → OpenError → Type 0

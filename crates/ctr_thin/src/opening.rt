@@ -1,7 +1,6 @@
 // Opening a database: the root, the log that it names, and the tables that its records make.
 ghost use Rattle.std.specs.Prelude.{◌≡◌, ◌≢◌, ◌↔◌, ◌≤◌, ◌<◌, ◌-◌, ◌^◌, IsTrue, ℕ, [], None, Err, IfOk, IfErr, OnOk, MatchResult};
-ghost use Rattle.ctr_disk.specs.Crash.{Only, LeavesOnly, Rose};
-ghost use Rattle.ctr_log.specs.Settled.{OnlyReads};
+ghost use Rattle.ctr_disk.specs.Device.{OnlyReads, CountsAs, IsDurableFrom};
 ghost use Rattle.ctr_log.specs.Homes.{root_value, IsRoot};
 ghost use Rattle.ctr_log.specs.Fresh.{first_checkpoint};
 ghost use Rattle.ctr_log.specs.Reading.{log_file};
@@ -9,7 +8,7 @@ ghost use Rattle.ctr_model.specs.Database.{Database};
 ghost use Rattle.ctr_tables.specs.Tables.{database_of};
 ghost use Rattle.ctr_thin.specs.declared.opening.OpenError.TheVariants.{Damaged, Fault};
 ghost use Rattle.ctr_thin.specs.Opening.{of_record};
-ghost use Rattle.ctr_thin.specs.Thin.{StandsFor, Opens, Explains, FindsNone, Makes, MakesSome, RefusesToOpen};
+ghost use Rattle.ctr_thin.specs.Thin.{StandsFor, Opens, Explains, FindsNone, MakesDatabase, MakesSomeDatabase, RefusesToOpen};
 
 use crate::replay::replay;
 use ctr_disk::{Disk, Failed, File, Root, StoreFault};
@@ -165,8 +164,8 @@ fn is_checkpoint(bytes: &[u8]) -> bool
 
 // The tables that a log's records make.
 fn load(alloc: Global, file: File, records: &[Text]) -> Result<Tables, OpenError>
-    ensures found { IfOk result (λ t. Makes records.now (database_of t)) }
-    ensures refused { IfErr result (RefusesToOpen (MakesSome records.now)) }
+    ensures found { IfOk result (λ t. MakesDatabase records.now (database_of t)) }
+    ensures refused { IfErr result (RefusesToOpen (MakesSomeDatabase records.now)) }
 {
     let Some((first, others)) = records.split_first() else {
         return Err(no_checkpoint(file));
@@ -202,10 +201,8 @@ fn read_database<D: Disk>(alloc: Global, disk: &mut D) -> Result<Opened, OpenErr
     ensures only { (db : Database) → IsTrue D.tells → StandsFor (D.reads disk.old) db → IfOk result (λ o. database_of o.tables ≡ db) }
     ensures refused { IsTrue D.tells → IfErr result (Explains (D.reads disk.old)) }
     ensures next { IfOk result (λ o. (o.log.first < 2 ^ 62) × (o.log.buffered ≡ [])) }
-    ensures quiet { OnlyReads D.reads D.images D.moment_of D.since disk.old disk.new }
-    ensures fault { result ≡ Err Fault → Rose (D.faults_of disk.old) (D.faults_of disk.new) }
-    ensures faults { D.faults_of disk.old ≤ D.faults_of disk.new }
-    ensures stray { D.strays_of disk.new ≡ D.strays_of disk.old }
+    ensures quiet { OnlyReads D.Disk disk.old disk.new }
+    ensures counts { CountsAs D.Disk Fault disk.old disk.new result }
 {
     fold_is_one();
     let Some(root) = read_root(disk)? else {
@@ -230,16 +227,10 @@ pub fn open<D: Disk>(alloc: Global, disk: &mut D) -> Result<Opened, OpenError>
     // There is no root, or the image stands for no database that can be opened.
     ensures refused { IsTrue D.tells → IfErr result (Explains (D.reads disk.old)) }
     ensures no_database { IsTrue D.tells → root_value (D.reads disk.old).root ≡ None → FindsNone result }
-    // The disk reads as before, and a crash leaves what it might have left.
-    ensures any_moment { LeavesOnly D.moment_of D.since disk.old disk.new (D.images disk.old) }
-    ensures same { D.reads disk.new ≡ D.reads disk.old }
-    ensures durable { OnOk result (Only (D.reads disk.new) (D.images disk.new)) }
-    // From the moment of its end on a crash leaves what is read.
-    ensures settled { OnOk result ((t : ℕ) → D.moment_of disk.new ≤ t → Only (D.reads disk.new) (D.since disk.new t)) }
-    ensures later { OnOk result (D.moment_of disk.old < D.moment_of disk.new) }
-    ensures fault { result ≡ Err Fault → Rose (D.faults_of disk.old) (D.faults_of disk.new) }
-    ensures faults { D.faults_of disk.old ≤ D.faults_of disk.new }
-    ensures stray { D.strays_of disk.new ≡ D.strays_of disk.old }
+    ensures quiet { OnlyReads D.Disk disk.old disk.new }
+    // What was pending is durable, from the moment of the call's end on.
+    ensures settled { OnOk result (IsDurableFrom D.Disk disk.old disk.new) }
+    ensures counts { CountsAs D.Disk Fault disk.old disk.new result }
 {
     disk.sync()?;
     read_database(alloc, disk)

@@ -9,7 +9,7 @@ ghost use Rattle.ctr_rec.specs.Records.{Fits, ColumnsFit};
 ghost use Rattle.ctr_rec.specs.Fold.{Folds, FoldsRecord, FoldsRecords};
 ghost use Rattle.ctr_tables.specs.Tables.{database_of};
 ghost use Rattle.ctr_thin.specs.Opening.{of_payload};
-ghost use Rattle.ctr_thin.specs.Thin.{Applies, AppliesSome, FoldsSome, FoldsRecordSome, FoldsRecordsSome, Refuses};
+ghost use Rattle.ctr_thin.specs.Thin.{Applies, CanApply, CanApplyItems, CanReplayRecord, CanReplay, RefusesRecord};
 
 use ctr_model::Key;
 use ctr_rec::{
@@ -55,7 +55,7 @@ fn apply_put(
     payload: &[u8],
 ) -> Result<(), RecordError>
     ensures done { OnOk result (Applies (database_of tables.old) (item_is.Put name.now key payload.now) (database_of tables.new)) }
-    ensures refused { IfErr result (Refuses (AppliesSome (database_of tables.old) (item_is.Put name.now key payload.now))) }
+    ensures refused { IfErr result (RefusesRecord (CanApply (database_of tables.old) (item_is.Put name.now key payload.now))) }
 {
     let Some(schema) = tables.schema(name) else {
         return Err(bad(1, 0));
@@ -71,7 +71,7 @@ fn apply_put(
 
 fn apply_remove(tables: &mut Tables, name: &Name, key: i64) -> Result<(), RecordError>
     ensures done { OnOk result (Applies (database_of tables.old) (item_is.Remove name.now key) (database_of tables.new)) }
-    ensures refused { IfErr result (Refuses (AppliesSome (database_of tables.old) (item_is.Remove name.now key))) }
+    ensures refused { IfErr result (RefusesRecord (CanApply (database_of tables.old) (item_is.Remove name.now key))) }
 {
     if tables.schema(name).is_none() {
         return Err(bad(1, 0));
@@ -88,7 +88,7 @@ fn apply_create(
 ) -> Result<(), RecordError>
     requires { ColumnsFit schema.now.columns }
     ensures done { OnOk result (Applies (database_of tables.old) (item_is.Create name.now schema.now) (database_of tables.new)) }
-    ensures refused { IfErr result (Refuses (AppliesSome (database_of tables.old) (item_is.Create name.now schema.now))) }
+    ensures refused { IfErr result (RefusesRecord (CanApply (database_of tables.old) (item_is.Create name.now schema.now))) }
 {
     schema_is_keyed();
     if tables.schema(name).is_some() {
@@ -102,7 +102,7 @@ fn apply_create(
 
 fn apply_drop(tables: &mut Tables, name: &Name) -> Result<(), RecordError>
     ensures done { OnOk result (Applies (database_of tables.old) (item_is.Drop name.now) (database_of tables.new)) }
-    ensures refused { IfErr result (Refuses (AppliesSome (database_of tables.old) (item_is.Drop name.now))) }
+    ensures refused { IfErr result (RefusesRecord (CanApply (database_of tables.old) (item_is.Drop name.now))) }
 {
     if tables.schema(name).is_none() {
         return Err(bad(1, 0));
@@ -115,7 +115,7 @@ fn apply_drop(tables: &mut Tables, name: &Name) -> Result<(), RecordError>
 fn apply_item(alloc: Global, tables: &mut Tables, item: &Item) -> Result<(), RecordError>
     requires { Fits item.now }
     ensures done { OnOk result (Applies (database_of tables.old) item.now (database_of tables.new)) }
-    ensures refused { IfErr result (Refuses (AppliesSome (database_of tables.old) item.now)) }
+    ensures refused { IfErr result (RefusesRecord (CanApply (database_of tables.old) item.now)) }
 {
     match item {
         Item::Put {
@@ -132,7 +132,7 @@ fn apply_item(alloc: Global, tables: &mut Tables, item: &Item) -> Result<(), Rec
 fn apply_items(alloc: Global, tables: &mut Tables, items: &[Item]) -> Result<(), RecordError>
     requires { AllByRecursion Fits items.now }
     ensures done { OnOk result (Folds (database_of tables.old) items.now (database_of tables.new)) }
-    ensures refused { IfErr result (Refuses (FoldsSome (database_of tables.old) items.now)) }
+    ensures refused { IfErr result (RefusesRecord (CanApplyItems (database_of tables.old) items.now)) }
 {
     one_meaning();
     for item in items {
@@ -143,7 +143,7 @@ fn apply_items(alloc: Global, tables: &mut Tables, items: &[Item]) -> Result<(),
 
 fn apply_record(alloc: Global, tables: &mut Tables, record_: &[u8]) -> Result<(), RecordError>
     ensures done { OnOk result (FoldsRecord (database_of tables.old) record_.now (database_of tables.new)) }
-    ensures refused { IfErr result (Refuses (FoldsRecordSome (database_of tables.old) record_.now)) }
+    ensures refused { IfErr result (RefusesRecord (CanReplayRecord (database_of tables.old) record_.now)) }
 {
     let items = decode(alloc, record_)?;
     apply_items(alloc, tables, items.as_slice())
@@ -152,7 +152,7 @@ fn apply_record(alloc: Global, tables: &mut Tables, record_: &[u8]) -> Result<()
 /// Applies records in order. After an error some of them are applied.
 pub fn replay(alloc: Global, tables: &mut Tables, records: &[Text]) -> Result<(), RecordError>
     ensures done { OnOk result (FoldsRecords (database_of tables.old) records.now (database_of tables.new)) }
-    ensures refused { IfErr result (Refuses (FoldsRecordsSome (database_of tables.old) records.now)) }
+    ensures refused { IfErr result (RefusesRecord (CanReplay (database_of tables.old) records.now)) }
 {
     fold_is_one();
     for text in records {

@@ -1,11 +1,9 @@
 // Makes the empty database.
-ghost use Rattle.std.specs.Prelude.{◌≡◌, ◌≢◌, ◌≤◌, ◌⊎◌, IsTrue, IsSome, None, [], ℕ};
+ghost use Rattle.std.specs.Prelude.{◌≡◌, ◌≤◌, ◌⊎◌, IsTrue, IsSome, None, []};
 ghost use Rattle.ctr_disk.specs.declared.disk.Image.{Image};
-ghost use Rattle.ctr_disk.specs.Crash.{LeavesOnly};
-ghost use Rattle.ctr_model.specs.declared.tape.Cause.TheVariants.{Plain};
+ghost use Rattle.ctr_disk.specs.Device.{LeavesOnly, OnlyReads};
 ghost use Rattle.ctr_log.specs.Homes.{root_value};
-ghost use Rattle.ctr_log.specs.Settled.{OnlyReads};
-ghost use Rattle.ctr_top.specs.Top.{MakeCauses, MakeStatus, IsNoneOrEmpty, IsEmptyDatabase};
+ghost use Rattle.ctr_top.specs.Top.{MakeStatus, MakeCauses, IsNoneOrEmpty, IsEmptyDatabase};
 
 use crate::outcome::Outcome;
 use ctr_disk::{Disk, StoreFault};
@@ -27,11 +25,10 @@ fn status_of(end: Result<Making, StoreFault>) -> u8
 
 /// Makes the empty database on a disk that has none.
 pub fn make<D: Disk>(alloc: Global, disk: D) -> Outcome<D>
-    ensures any_moment { IsTrue D.tells → root_value (D.reads disk).root ≡ None → LeavesOnly D.moment_of D.since disk result.disk (λ c. D.images disk c ⊎ IsNoneOrEmpty c) }
+    ensures any_moment { IsTrue D.tells → root_value (D.reads disk).root ≡ None → LeavesOnly D.Disk disk result.disk (λ c. D.images disk c ⊎ IsNoneOrEmpty c) }
     ensures made { IsTrue D.tells → result.status ≡ 0 → (c : Image) → D.since result.disk (D.moment_of result.disk) c → IsEmptyDatabase c }
-    ensures untouched { IsTrue D.tells → IsSome (root_value (D.reads disk).root) → OnlyReads D.reads D.images D.moment_of D.since disk result.disk }
-    ensures causes { MakeCauses D.tells (D.reads disk) (D.faults_of disk) (D.faults_of result.disk) result.status }
-    ensures plain { result.cause ≡ Plain }
+    ensures untouched { IsTrue D.tells → IsSome (root_value (D.reads disk).root) → OnlyReads D.Disk disk result.disk }
+    ensures causes { MakeCauses D.Disk disk result }
     ensures tape { result.tape.entries ≡ [] }
     ensures stray { D.strays_of result.disk ≡ D.strays_of disk }
     ensures faults { D.faults_of disk ≤ D.faults_of result.disk }

@@ -1,15 +1,12 @@
 // Runs a script over a database.
-ghost use Rattle.std.specs.Prelude.{◌≡◌, Bool, None, ◌≤◌, ◌<◌, ◌-◌, ◌+◌, ◌^◌, ◌⊎◌, IsTrue, ℕ, [], length, IfErr};
+ghost use Rattle.std.specs.Prelude.{◌≤◌, IsTrue};
 ghost use Rattle.std.specs.List.{AllByRecursion};
-ghost use Rattle.ctr_disk.specs.declared.disk.Image.{Image};
-ghost use Rattle.ctr_disk.specs.Crash.{Within, Rose};
+ghost use Rattle.ctr_disk.specs.Crash.{Within};
 ghost use Rattle.ctr_model.specs.Database.{Database};
-ghost use Rattle.ctr_model.specs.Grammar.{first, IsScript};
-ghost use Rattle.ctr_thin.specs.declared.opening.OpenError.TheVariants.{Fault};
-ghost use Rattle.ctr_thin.specs.Thin.{StandsFor, Explains};
+ghost use Rattle.ctr_thin.specs.Thin.{StandsFor};
 ghost use Rattle.ctr_exec.specs.Session.{IsNotFull};
-ghost use Rattle.ctr_world.specs.World.{AreTaken, StopsBy};
-ghost use Rattle.ctr_top.specs.Top.{Ran, RanScript, RunCauses, LinesCauses, OpenCauses, ReadCauses, RoseOnlyLong, RunsNothing, IsLeft};
+ghost use Rattle.ctr_world.specs.World.{IsOpenedOn, CanRun};
+ghost use Rattle.ctr_top.specs.Top.{Ran, RanScript, RunCauses, LinesCauses, TellsOpening, TellsReading, TellsStop, RunLeaves, GoesForward};
 
 use crate::outcome::Outcome;
 use ctr_disk::{Disk, Source, Stop};
@@ -44,7 +41,7 @@ fn run_lines<D: Disk, B: Opening>(alloc: Global, world: &mut World<D, B>) {
 
 // Why a database wasn't opened.
 fn why_not_opened(error: OpenError) -> (u8, Cause)
-    ensures { (tells : Bool) (image : Image) (before now : ℕ) → (IsTrue tells → Explains image error) → (error ≡ Fault → Rose before now) → OpenCauses tells image before now error result.0 result.1 }
+    ensures { TellsOpening error result.0 result.1 }
 {
     match error {
         OpenError::NoDatabase => (3, Cause::Plain),
@@ -69,8 +66,7 @@ fn why_not_opened(error: OpenError) -> (u8, Cause)
 
 // How a World ended.
 fn why_stopped(stop: Option<Stop>) -> (u8, Cause)
-    ensures fine { result.0 ≡ 0 → stop ≡ None }
-    ensures fault { (before now : ℕ) → StopsBy stop before now → (result.0 ≡ 0) ⊎ ((result.0 ≡ 5) × Rose before now) }
+    ensures { TellsStop stop result.0 result.1 }
 {
     match stop {
         None => (0, Cause::Plain),
@@ -97,21 +93,15 @@ fn why_stopped(stop: Option<Stop>) -> (u8, Cause)
 
 // Opens the database of the disk and runs a script over it.
 fn run_opened<D: Disk, B: Opening>(alloc: Global, disk: D, script: Script) -> Outcome<D>
-    requires image { B.image ≡ D.reads disk }
-    requires before { Within (D.images disk) B.before }
-    requires start { B.start ≡ D.moment_of disk }
-    requires faults { B.faults ≡ D.faults_of disk }
-    requires strays { B.strays ≡ D.strays_of disk }
-    requires lines { B.lines ≡ script.lines }
-    requires taken { AreTaken script.lines }
-    requires few { length script.lines < 2 ^ 32 - 1 }
-    ensures ran { (base : Database) → IsTrue D.tells → StandsFor B.image base → Ran D.moment_of D.since B.before B.start base B.lines result.status result.tape.entries result.disk }
-    ensures causes { LinesCauses D.tells B.image B.faults (D.faults_of result.disk) result.status result.cause result.tape.entries }
-    ensures stray { (base : Database) → IsTrue D.tells → StandsFor B.image base → RoseOnlyLong D.moment_of D.since D.strays_of B.strays result.disk }
-    ensures left { RunsNothing D.tells (D.reads disk) result.status → IsLeft D.reads D.images D.moment_of D.since disk result.disk }
+    requires named { IsOpenedOn B.Opening D.Disk disk script.lines }
+    requires before { Within B.before (D.images disk) }
+    requires runs { CanRun script.lines }
+    ensures ran { (base : Database) → IsTrue D.tells → StandsFor (D.reads disk) base → Ran D.Disk disk base script.lines result }
+    ensures causes { LinesCauses D.Disk disk result }
+    ensures leaves { RunLeaves D.Disk disk result }
     ensures not_full { AllByRecursion (λ e. IsNotFull e.reply) result.tape.entries }
-    ensures faults { B.faults ≤ D.faults_of result.disk }
-    ensures later { B.start ≤ D.moment_of result.disk }
+    ensures faults { D.faults_of disk ≤ D.faults_of result.disk }
+    ensures later { D.moment_of disk ≤ D.moment_of result.disk }
 {
     let mut world = match World::<D, B>::open(alloc, disk, script) {
         Ok(world) => world,
@@ -133,7 +123,7 @@ fn run_opened<D: Disk, B: Opening>(alloc: Global, disk: D, script: Script) -> Ou
 
 // Why there is no script.
 fn why_not_read(error: ScriptError) -> (u8, Cause)
-    ensures { ReadCauses error result.0 result.1 }
+    ensures { TellsReading error result.0 result.1 }
 {
     match error {
         ScriptError::Refused { line, at } => (1, Cause::Script { line, at }),
@@ -146,15 +136,11 @@ fn why_not_read(error: ScriptError) -> (u8, Cause)
 /// Reads a script and runs it over the database of a disk.
 pub fn run_script<D: Disk, S: Source>(alloc: Global, disk: D, source: &mut S) -> Outcome<D>
     ensures ran { (base : Database) → IsTrue D.tells → StandsFor (D.reads disk) base
-        → RanScript D.moment_of D.since (D.images disk) (D.moment_of disk) base S.tells (S.left source.old) result.status result.tape.entries result.disk }
-    ensures causes { RunCauses D.tells S.tells (D.reads disk) (S.left source.old) (D.faults_of disk) (D.faults_of result.disk) (S.faults_of source.old) (S.faults_of source.new) result.status result.cause result.tape.entries }
-    ensures stray { (base : Database) → IsTrue D.tells → StandsFor (D.reads disk) base → RoseOnlyLong D.moment_of D.since D.strays_of (D.strays_of disk) result.disk }
-    ensures left { RunsNothing D.tells (D.reads disk) result.status → IsLeft D.reads D.images D.moment_of D.since disk result.disk }
+        → RanScript D.Disk disk base S.Source source.old result }
+    ensures causes { RunCauses D.Disk disk S.Source source.old source.new result }
+    ensures leaves { RunLeaves D.Disk disk result }
     ensures not_full { AllByRecursion (λ e. IsNotFull e.reply) result.tape.entries }
-    ensures taken { IsTrue S.tells → length (S.left source.old) ≤ length (S.left source.new) + 16777217 }
-    ensures disk_faults { D.faults_of disk ≤ D.faults_of result.disk }
-    ensures source_faults { S.faults_of source.old ≤ S.faults_of source.new }
-    ensures later { D.moment_of disk ≤ D.moment_of result.disk }
+    ensures forward { GoesForward D.Disk S.Source disk result.disk source.old source.new }
 {
     match read_script(alloc, source) {
         Ok(script) => run_opened::<D, Brand>(alloc, disk, script),

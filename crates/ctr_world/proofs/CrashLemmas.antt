@@ -4,20 +4,21 @@ use Rattle.std.proofs.lemmas.Bool.Decides.{nat_tests}
 use Rattle.std.proofs.lemmas.List.{take-append-le}
 use Rattle.ctr_types.specs.declared.tape.Entry.{Entry}
 use Rattle.ctr_disk.specs.declared.disk.Image.{Image}
-use Rattle.ctr_disk.specs.Crash.{LeavesOnly}
+use Rattle.ctr_disk.specs.Device.{LeavesOnly}
 use Rattle.ctr_model.specs.declared.database.Change.{Change}
 use Rattle.ctr_model.specs.Database.{Database, after_all}
 use Rattle.ctr_model.specs.Tape.{is_answer, answered_by}
 use Rattle.ctr_model.specs.Texts.{answers}
 use Rattle.ctr_thin.specs.Thin.{StandsFor}
-use Rattle.ctr_world.specs.World.{HasCommits, NoneBy, Survives}
+use Rattle.ctr_disk.specs.declared.disk.Disk.{Ghosts}
+use Rattle.ctr_world.specs.World.{HasCommits, NoneBy, IsPrefixAt, Survives}
 
 pub order : (a b : ℕ) → (a ≤ b) ⊎ (b < a)
 order zero b = inl (omega arith)
 order (suc a) zero = inr (omega arith)
 order (suc a) (suc b) = ⊎_elim (λ h. inl (omega (arith, h))) (λ h. inr (omega (arith, h))) (order a b)
 
--- ---- answered by a moment
+-- ---- answered by a dev.moment_of
 
 early : (b : Bool) (m t : ℕ) → t < m → ◌≡◌ {A = ℕ} (cond (b && nat_le m t) 1 0) 0
 early true m t lt = grind (arith, nat_tests, lt)
@@ -51,29 +52,29 @@ has_more base asked more all least c is h =
     let long : length all ≡ length asked + length more = ap length is ∙ length-append asked more in
     record { k = h.k; at_least = h.at_least; at_most = omega (arith, h.at_most, long); stands = subst (λ (l : List (List Change)). StandsFor c (after_all l base)) same h.stands }
 
-module _ {D : Type 0} (images : D → Image → Type 0) (moment : D → ℕ) (since : D → ℕ → Image → Type 0) (earlier : (d : D) (s t : ℕ) (c : Image) → s ≤ t → since d t c → since d s c)
+module _ {D : Type 0} (dev : Ghosts D) (earlier : (d : D) (s t : ℕ) (c : Image) → s ≤ t → dev.since d t c → dev.since d s c)
     (start : ℕ) (before : Image → Type 0) (base : Database) where
-  -- an entry more, of this moment
-  pub survives_entry : (asked more all : List (List Change)) (es : List Entry) (e : Entry) (d : D) → Survives moment since start before base asked es d → e.moment ≡ moment d → all ≡ asked ++ more
-      → ((c : Image) → since d (moment d) c → HasCommits base all (answers (es ++ e ∷ [])) c) → Survives moment since start before base all (es ++ e ∷ []) d
+  -- an entry more, of this dev.moment_of
+  pub survives_entry : (asked more all : List (List Change)) (es : List Entry) (e : Entry) (d : D) → Survives dev start d (IsPrefixAt before base asked es) → e.moment ≡ dev.moment_of d → all ≡ asked ++ more
+      → ((c : Image) → dev.since d (dev.moment_of d) c → HasCommits base all (answers (es ++ e ∷ [])) c) → Survives dev start d (IsPrefixAt before base all (es ++ e ∷ []))
   survives_entry asked more all es e d so_far at is now t c start_le le left =
       ⊎_elim
-      (λ is_now. inl (has_less base all (answers (es ++ e ∷ [])) (answered_by t (es ++ e ∷ [])) c (answered_at_most t (es ++ e ∷ [])) (now c (earlier d (moment d) t c is_now left))))
+      (λ is_now. inl (has_less base all (answers (es ++ e ∷ [])) (answered_by t (es ++ e ∷ [])) c (answered_at_most t (es ++ e ∷ [])) (now c (earlier d (dev.moment_of d) t c is_now left))))
       (λ was.
       let lt : t < e.moment = omega (arith, at, was) in
       ⊎_elim
       (λ h. inl (subst (λ (n : ℕ). HasCommits base all n c) (sym (answered_before t es e lt)) (has_more base asked more all (answered_by t es) c is h)))
       (λ h. inr (h.0, none_more t es e h.1 lt))
       (so_far t c start_le le left))
-      (order (moment d) t)
+      (order (dev.moment_of d) t)
 
   -- a call that leaves enough commits
-  pub survives_call : (asked : List (List Change)) (es : List Entry) (old new : D) (P : Image → Type 0) → start ≤ moment old → Survives moment since start before base asked es old
-      → LeavesOnly moment since old new P
-      → ((c : Image) → P c → HasCommits base asked (answers es) c) → Survives moment since start before base asked es new
+  pub survives_call : (asked : List (List Change)) (es : List Entry) (old new : D) (P : Image → Type 0) → start ≤ dev.moment_of old → Survives dev start old (IsPrefixAt before base asked es)
+      → LeavesOnly dev old new P
+      → ((c : Image) → P c → HasCommits base asked (answers es) c) → Survives dev start new (IsPrefixAt before base asked es)
   survives_call asked es old new P later so_far leaves enough t c start_le le left =
       let has : P c → HasCommits base asked (answered_by t es) c = λ p. has_less base asked (answers es) (answered_by t es) c (answered_at_most t es) (enough c p) in
       ⊎_elim
       (λ was. ⊎_elim (λ h. so_far t c start_le was h) (λ p. inl (has p)) (leaves.before t c was left))
-      (λ after. inl (has (leaves.each c (earlier new (moment old) t c (omega (arith, after)) left))))
-      (order t (moment old))
+      (λ after. inl (has (leaves.each c (earlier new (dev.moment_of old) t c (omega (arith, after)) left))))
+      (order t (dev.moment_of old))

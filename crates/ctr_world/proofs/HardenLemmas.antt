@@ -9,18 +9,17 @@ use Rattle.ctr_types.specs.declared.tape.Entry.{Entry}
 use Rattle.ctr_disk.specs.declared.disk.Image.{Image}
 use Rattle.ctr_disk.specs.declared.disk.File.{File}
 use Rattle.ctr_disk.specs.declared.fault.Root.{Root}
-use Rattle.ctr_disk.specs.Image.{content, with_content}
-use Rattle.ctr_disk.specs.Crash.{Only, LeavesOnly}
+use Rattle.ctr_disk.specs.Image.{content, with_content, OtherFilesStay}
+use Rattle.ctr_disk.specs.Device.{LeavesOnly, IsDurable}
 use Rattle.ctr_model.specs.declared.database.Change.{Change}
 use Rattle.ctr_model.specs.declared.state.State.{State}
 use Rattle.ctr_model.specs.Database.{Database, after, after_all}
 use Rattle.ctr_model.specs.State.{transaction_of}
 use Rattle.ctr_model.specs.Reply.{next_state}
 use Rattle.ctr_model.specs.Laws.{StatesGrow, Grows, asked_by}
-use Rattle.ctr_model.specs.Tape.{acts_of, advanced, IsInTurn, is_answer}
+use Rattle.ctr_model.specs.Tape.{at_start, acts_of, advanced, IsInTurn, is_answer}
 use Rattle.ctr_model.specs.Texts.{answers}
-use Rattle.ctr_log.specs.Settled.{SameBut}
-use Rattle.ctr_log.specs.Logs.{Batches, Log, records, HasLog, HasPrefix, GoesOn, with_batch, frames}
+use Rattle.ctr_log.specs.Logs.{Batches, Log, records, HasLog, HasPrefix, IsFlushing, GoesOn, with_batch, frames}
 use Rattle.ctr_log.specs.Reading.{log_file}
 use Rattle.ctr_rec.specs.Fold.{FoldsRecord, FoldsRecords}
 use Rattle.ctr_tables.specs.Tables.{database_of}
@@ -30,9 +29,11 @@ use Rattle.ctr_exec.specs.declared.session.Stage.TheVariants as stage
 use Rattle.ctr_exec.specs.Session.{Seen, seen_of, Shows, ShowsAs, Replies, RepliesAs}
 use Rattle.ctr_disk.specs.declared.fault.Stop.TheVariants as stop
 use Rattle.ctr_world.specs.declared.parts.Parts.{Parts}
-use Rattle.ctr_world.specs.World.{reached, IsOn, IsAt, HasCommits, Survives, Waits, Rests, HasLongLog, Runs, IsBounded, IsCommitAt, made_in}
+use Rattle.ctr_world.specs.World.{reached, IsOn, IsAt, HasCommits, IsPrefixAt, Survives, Waits, Rests, HasLongLog, Runs, IsBounded, IsCommitAt, made_in}
 use Rattle.ctr_world.proofs.CrashLemmas.{order, has_less, survives_call, survives_entry}
 use Rattle.ctr_world.proofs.TapeLemmas.{Adds, act_adds, answers_more}
+use Rattle.ctr_disk.specs.declared.disk.Disk.{Ghosts}
+use Rattle.ctr_world.specs.declared.opening.Opening.{Ghosts as Opening}
 use Rattle.ctr_world.proofs.RunLemmas.{rests_has, second}
 
 -- ---- what a commit that is asked for will leave
@@ -58,16 +59,16 @@ asking_rows state a h =
     ∙ sym (after_all_push front me.own state.base)
     ∙ ap (λ (l : List (List Change)). after_all l state.base) (sym all)
 
--- ---- images of a flush
+-- ---- dev.images of a flush
 
 root_stays : (n : ℕ) (bytes : List ℕ) (old new : Image) → new ≡ with_content (log_file n) bytes old → new.root ≡ old.root
 root_stays zero bytes old new is = ap (λ (i : Image). i.root) is
 root_stays (suc n) bytes old new is = ap (λ (i : Image). i.root) is
 
-pub same_root : (n : ℕ) (file : File) (old new : Image) → file ≡ log_file n → SameBut file old new → new.root ≡ old.root
+pub same_root : (n : ℕ) (file : File) (old new : Image) → file ≡ log_file n → OtherFilesStay file old new → new.root ≡ old.root
 same_root n file old new is same = root_stays n (content file new) old new (same ∙ ap (λ (f : File). with_content f (content file new) old) is)
 
--- the laws of images that a flush leaves
+-- the laws of dev.images that a flush leaves
 abbrev pub ByRecords : Type 0
 ByRecords = (old new : Image) (db next : Database) (more : List (List ℕ)) (bs : Batches) (s : StandsFor old db) → new.root ≡ old.root
     → HasLog s.r.first bs (content (log_file s.r.file) new) → records bs ≡ records s.bs ++ more → FoldsRecords db more next → StandsBy new next s.r bs
@@ -80,15 +81,15 @@ pub take_none : {X : Type 0} (n : ℕ) → ◌≡◌ {A = List X} (take n []) []
 take_none zero = refl
 take_none (suc n) = refl
 
-module _ {D : Type 0} (reads : D → Image) (images : D → Image → Type 0) (by_records : ByRecords) (d : D) (log : Log) (a : Session) (state : State) (base : Database)
-    (rests : Rests reads images d log a state) (shows : ShowsAs state (seen_of a) stage.Asked) (base_is : state.base ≡ base)
+module _ {D : Type 0} (dev : Ghosts D) (by_records : ByRecords) (d : D) (log : Log) (a : Session) (state : State) (base : Database)
+    (rests : Rests dev d log a state) (shows : ShowsAs state (seen_of a) stage.Asked) (base_is : state.base ≡ base)
     (bytes : List ℕ) (buffered : log.buffered ≡ bytes ∷ []) (folds : FoldsRecord rests.rows bytes (database_of a.tables)) where
   -- each image of the flush has the commits that were answered, or this one too
-  either_way : (c : Image) (k : ℕ) (bs : Batches) → c.root ≡ (reads d).root → HasLog rests.stands.r.first bs (content (log_file rests.stands.r.file) c)
+  either_way : (c : Image) (k : ℕ) (bs : Batches) → c.root ≡ (dev.reads d).root → HasLog rests.stands.r.first bs (content (log_file rests.stands.r.file) c)
       → records bs ≡ records rests.stands.bs ++ take k (bytes ∷ [])
       → HasCommits base state.asked a.answered c
   either_way c zero bs root has all =
-      let stands = (by_records (reads d) c rests.rows rests.rows [] bs rests.stands root has all refl).0 in
+      let stands = (by_records (dev.reads d) c rests.rows rests.rows [] bs rests.stands root has all refl).0 in
       record {
         k = a.answered;
         at_least = omega arith;
@@ -98,7 +99,7 @@ module _ {D : Type 0} (reads : D → Image) (images : D → Image → Type 0) (b
   either_way c (suc k) bs root has all =
       let next = database_of a.tables in
       let one : records bs ≡ records rests.stands.bs ++ bytes ∷ [] = all ∙ ap (λ (l : List (List ℕ)). records rests.stands.bs ++ bytes ∷ l) (take_none k) in
-      let stands = (by_records (reads d) c rests.rows next (bytes ∷ []) bs rests.stands root has one (next, folds, refl)).0 in
+      let stands = (by_records (dev.reads d) c rests.rows next (bytes ∷ []) bs rests.stands root has one (next, folds, refl)).0 in
       record {
         k = a.answered + 1;
         at_least = omega arith;
@@ -106,29 +107,29 @@ module _ {D : Type 0} (reads : D → Image) (images : D → Image → Type 0) (b
         stands = subst (StandsFor c) (asking_rows state (seen_of a) shows ∙ ap (after_all (take (a.answered + 1) state.asked)) base_is) stands;
       }
 
-  pub prefix_has : (c : Image) → HasPrefix log.file rests.stands.r.first (records rests.stands.bs) log.buffered (reads d) c → HasCommits base state.asked a.answered c
+  pub prefix_has : (c : Image) → HasPrefix log.file rests.stands.r.first (records rests.stands.bs) log.buffered (dev.reads d) c → HasCommits base state.asked a.answered c
   prefix_has c prefix =
       let at = prefix.1 in
       let bs = at.1.0 in
-      either_way c at.0 bs (same_root rests.stands.r.file log.file (reads d) c rests.file prefix.0)
+      either_way c at.0 bs (same_root rests.stands.r.file log.file (dev.reads d) c rests.file prefix.0)
       (subst (λ (f : File). HasLog rests.stands.r.first bs (content f c)) rests.file at.1.2)
       (at.1.1 ∙ ap (λ (l : List (List ℕ)). records rests.stands.bs ++ take at.0 l) buffered)
 
 -- ---- after the flush
 
 -- at rest again, with the commit
-pub rests_again : {D : Type 0} (reads : D → Image) (images : D → Image → Type 0) (by_record : ByRecord) (d e : D) (log new : Log) (a b : Session) (state after : State)
-    (rests : Rests reads images d log a state) (bytes : List ℕ)
-    → log.buffered ≡ bytes ∷ [] → FoldsRecord rests.rows bytes (database_of a.tables) → SameBut log.file (reads d) (reads e)
-    → GoesOn rests.stands.r.first (with_batch rests.stands.bs log.buffered) new (reads e) → new.file ≡ log.file → new.buffered ≡ []
-    → Only (reads e) (images e) → b.stage ≡ stage.Idle → b.tables ≡ a.tables → Shows after b → Rests reads images e new b after
-rests_again reads images by_record d e log new a b state after rests bytes buffered folds same goes file none only idle tables shows =
+pub rests_again : {D : Type 0} (dev : Ghosts D) (by_record : ByRecord) (d e : D) (log new : Log) (a b : Session) (state after : State)
+    (rests : Rests dev d log a state) (bytes : List ℕ)
+    → log.buffered ≡ bytes ∷ [] → FoldsRecord rests.rows bytes (database_of a.tables) → OtherFilesStay log.file (dev.reads d) (dev.reads e)
+    → GoesOn rests.stands.r.first (with_batch rests.stands.bs log.buffered) new (dev.reads e) → new.file ≡ log.file → new.buffered ≡ []
+    → IsDurable dev e → b.stage ≡ stage.Idle → b.tables ≡ a.tables → Shows after b → Rests dev e new b after
+rests_again dev by_record d e log new a b state after rests bytes buffered folds same goes file none only idle tables shows =
     let bs : Batches = rests.stands.bs ++ (bytes ∷ []) ∷ [] in
-    let goes_on : GoesOn rests.stands.r.first bs new (reads e) = subst (λ (l : List (List ℕ)). GoesOn rests.stands.r.first (with_batch rests.stands.bs l) new (reads e)) buffered goes in
+    let goes_on : GoesOn rests.stands.r.first bs new (dev.reads e) = subst (λ (l : List (List ℕ)). GoesOn rests.stands.r.first (with_batch rests.stands.bs l) new (dev.reads e)) buffered goes in
     let file_is : new.file ≡ log_file rests.stands.r.file = file ∙ rests.file in
-    let log_is : HasLog rests.stands.r.first bs (content (log_file rests.stands.r.file) (reads e)) = subst (λ (f : File). HasLog rests.stands.r.first bs (content f (reads e)))
+    let log_is : HasLog rests.stands.r.first bs (content (log_file rests.stands.r.file) (dev.reads e)) = subst (λ (f : File). HasLog rests.stands.r.first bs (content f (dev.reads e)))
     file_is goes_on.log_is in
-    let by = by_record (reads d) (reads e) rests.rows (database_of a.tables) bytes rests.stands (same_root rests.stands.r.file log.file (reads d) (reads e) rests.file same) log_is folds in
+    let by = by_record (dev.reads d) (dev.reads e) rests.rows (database_of a.tables) bytes rests.stands (same_root rests.stands.r.file log.file (dev.reads d) (dev.reads e) rests.file same) log_is folds in
     let idle_shows : ShowsAs after (seen_of b) stage.Idle = subst (ShowsAs after (seen_of b)) idle shows in
     record {
       only = only;
@@ -136,7 +137,7 @@ rests_again reads images by_record d e log new a b state after rests bytes buffe
       rows_are = ap database_of (sym tables) ∙ idle_shows.shows.tables;
       stands = by.0;
       file = file_is ∙ ap (λ (r : Root). log_file r.file) (sym by.1);
-      goes_on = (subst (λ (q : Batches). GoesOn by.0.r.first q new (reads e)) (sym by.2) (subst (λ (r : Root). GoesOn r.first bs new (reads e)) (sym by.1) goes_on));
+      goes_on = (subst (λ (q : Batches). GoesOn by.0.r.first q new (dev.reads e)) (sym by.2) (subst (λ (r : Root). GoesOn r.first bs new (dev.reads e)) (sym by.1) goes_on));
       waits = subst (λ g. Waits (database_of a.tables) g new.buffered (database_of b.tables)) (sym idle) none;
     }
 
@@ -146,15 +147,15 @@ long_log : (n place : ℕ) (file : File) (c : Image) → file ≡ log_file n →
 long_log zero place file c is high long = inl (omega (arith, high, long, ap (λ (f : File). length (content f c)) is))
 long_log (suc n) place file c is high long = inr (omega (arith, high, long, ap (λ (f : File). length (content f c)) is))
 
-module _ {D : Type 0} (reads : D → Image) (images : D → Image → Type 0) (moment : D → ℕ) (since : D → ℕ → Image → Type 0) (strays : D → ℕ)
-    (earlier : (d : D) (s t : ℕ) (c : Image) → s ≤ t → since d t c → since d s c) (only_now : (d : D) (c : Image) → since d (moment d) c → images d c)
-    (by_records : ByRecords) (before : Image → Type 0) (start strays_then : ℕ) (base : Database)
-    (w : Parts D) (runs : Runs reads images moment since strays before start strays_then base w) (bounded : IsBounded w) (going : w.stop ≡ None)
-    (asked : w.session.stage ≡ stage.Asked) (later : start ≤ moment w.disk) where
+module _ {D : Type 0} (dev : Ghosts D)
+    (earlier : (d : D) (s t : ℕ) (c : Image) → s ≤ t → dev.since d t c → dev.since d s c) (only_now : (d : D) (c : Image) → dev.since d (dev.moment_of d) c → dev.images d c)
+    (by_records : ByRecords) {B : Type 0} (op : Opening B) (base : Database)
+    (w : Parts D) (runs : Runs dev op base w) (bounded : IsBounded w) (going : w.stop ≡ None)
+    (asked : w.session.stage ≡ stage.Asked) (later : op.start ≤ dev.moment_of w.disk) where
   abbrev pub now_state : State
-  now_state = (reached w.script.lines start base w.tape.items).state
+  now_state = (reached w.script.lines op.start base w.tape.items).state
 
-  pub at_rest : Rests reads images w.disk w.log w.session now_state
+  pub at_rest : Rests dev w.disk w.log w.session now_state
   at_rest = runs.rests going
 
   pub waits_asked : Waits at_rest.rows stage.Asked w.log.buffered (database_of w.session.tables)
@@ -163,20 +164,19 @@ module _ {D : Type 0} (reads : D → Image) (images : D → Image → Type 0) (m
   pub shows_asked : ShowsAs now_state (seen_of w.session) stage.Asked
   shows_asked = subst (ShowsAs now_state (seen_of w.session)) asked runs.at.shows
 
-  pub survives_flush : (e : D) → LeavesOnly moment since w.disk e (HasPrefix w.log.file at_rest.stands.r.first (records at_rest.stands.bs) w.log.buffered (reads w.disk))
-      → Survives moment since start before base now_state.asked w.tape.items e
-  survives_flush e leaves = survives_call images moment since earlier start before base now_state.asked w.tape.items w.disk e _ later runs.survives leaves
+  pub survives_flush : (e : D) → LeavesOnly dev w.disk e (IsFlushing at_rest.stands.r.first at_rest.stands.bs w.log (dev.reads w.disk))
+      → Survives dev op.start e (IsPrefixAt op.before base now_state.asked w.tape.items)
+  survives_flush e leaves = survives_call dev earlier op.start op.before base now_state.asked w.tape.items w.disk e _ later runs.survives leaves
       (λ c p. has_less base now_state.asked w.session.answered (answers w.tape.items) c (omega (arith, runs.at.answers_are))
-      (prefix_has reads images by_records w.disk w.log w.session now_state base at_rest shows_asked runs.at.on.base_is waits_asked.0 waits_asked.1 waits_asked.2 c p))
+      (prefix_has dev by_records w.disk w.log w.session now_state base at_rest shows_asked runs.at.on.base_is waits_asked.0 waits_asked.1 waits_asked.2 c p.records_are))
 
   -- the flush failed
-  pub fails_runs : (e : D) (log : Log) → moment w.disk ≤ moment e
-      → LeavesOnly moment since w.disk e (HasPrefix w.log.file at_rest.stands.r.first (records at_rest.stands.bs) w.log.buffered (reads w.disk))
-      → LeavesOnly moment since w.disk e (λ c. w.log.place < length (content w.log.file c))
-      → (w.log.place + (22 + length (frames w.log.buffered)) < 2 ^ 63 → strays e ≡ strays w.disk) → (v : Parts D) → v ≡ record w { disk = e; log = v.log; stop = Some stop.Fault }
-      → Runs reads images moment since strays before start strays_then base v
-  fails_runs e log on leaves long stray v is =
-      let made : Runs reads images moment since strays before start strays_then base (record w { disk = e; log = v.log; stop = Some stop.Fault }) = record {
+  pub fails_runs : (e : D) (log : Log) → dev.moment_of w.disk ≤ dev.moment_of e
+      → LeavesOnly dev w.disk e (IsFlushing at_rest.stands.r.first at_rest.stands.bs w.log (dev.reads w.disk))
+      → (w.log.place + (22 + length (frames w.log.buffered)) < 2 ^ 63 → dev.strays_of e ≡ dev.strays_of w.disk) → (v : Parts D) → v ≡ record w { disk = e; log = v.log; stop = Some stop.Fault }
+      → Runs dev op base v
+  fails_runs e log on leaves stray v is =
+      let made : Runs dev op base (record w { disk = e; log = v.log; stop = Some stop.Fault }) = record {
         at = record {
           legal = runs.at.legal;
           on = record { base_is = runs.at.on.base_is; own = runs.at.on.own; others = runs.at.on.others; later = omega (arith, runs.at.on.later, on) };
@@ -190,39 +190,39 @@ module _ {D : Type 0} (reads : D → Image) (images : D → Image → Type 0) (m
             (λ high. inr (
               (λ bad. absurd (cc bad)),
               λ c left.
-                  long_log at_rest.stands.r.file w.log.place w.log.file c at_rest.file (omega (arith, high, bounded.waiting_short)) (long.each c (earlier e (moment w.disk) (moment e) c on left)),
+                  long_log at_rest.stands.r.file w.log.place w.log.file c at_rest.file (omega (arith, high, bounded.waiting_short)) (leaves.each c (earlier e (dev.moment_of w.disk) (dev.moment_of e) c on left)).long,
             ))
             (λ low. inl (stray low ∙ same))
             (order (2 ^ 63) (w.log.place + (22 + length (frames w.log.buffered)))))
             (λ bad. absurd (bad.0 going))
             runs.stray;
       } in
-      subst (Runs reads images moment since strays before start strays_then base) (sym is) made
+      subst (Runs dev op base) (sym is) made
 
   -- the flush has ended, and the commit is answered
-  module _ (grow : StatesGrow) (e : D) (v : Parts D) (on : moment w.disk ≤ moment e)
-      (leaves : LeavesOnly moment since w.disk e (HasPrefix w.log.file at_rest.stands.r.first (records at_rest.stands.bs) w.log.buffered (reads w.disk)))
-      (flushed : SameBut w.log.file (reads w.disk) (reads e) × GoesOn at_rest.stands.r.first (with_batch at_rest.stands.bs w.log.buffered) v.log (reads e))
+  module _ (grow : StatesGrow) (e : D) (v : Parts D) (on : dev.moment_of w.disk ≤ dev.moment_of e)
+      (leaves : LeavesOnly dev w.disk e (IsFlushing at_rest.stands.r.first at_rest.stands.bs w.log (dev.reads w.disk)))
+      (flushed : OtherFilesStay w.log.file (dev.reads w.disk) (dev.reads e) × GoesOn at_rest.stands.r.first (with_batch at_rest.stands.bs w.log.buffered) v.log (dev.reads e))
       (file : v.log.file ≡ w.log.file) (none : v.log.buffered ≡ [])
-      (only : Only (reads e) (images e)) (same_strays : strays e ≡ strays w.disk) (by_record : ByRecord) (r : Reply) (answered_is : r ≡ reply.Answered (w.session.answered + 1))
+      (only : IsDurable dev e) (same_strays : dev.strays_of e ≡ dev.strays_of w.disk) (by_record : ByRecord) (r : Reply) (answered_is : r ≡ reply.Answered (w.session.answered + 1))
       (replies : Replies now_state act.Answer st.Commit r v.session) (turn : IsInTurn now_state 1 act.Answer) (idle : v.session.stage ≡ stage.Idle)
       (same : (v.session.tables ≡ w.session.tables) × (v.session.answered ≡ w.session.answered + 1))
-      (items : v.tape.items ≡ w.tape.items ++ (record { session = 1; statement = w.finished + 1; act = act.Answer; reply = r; moment = moment e }) ∷ [])
+      (items : v.tape.items ≡ w.tape.items ++ (record { session = 1; statement = w.finished + 1; act = act.Answer; reply = r; moment = dev.moment_of e }) ∷ [])
       (is : v ≡ record w { disk = e; log = v.log; session = v.session; tape = v.tape; finished = w.finished + 1 }) where
     abbrev answer : Entry
-    answer = record { session = 1; statement = w.finished + 1; act = act.Answer; reply = r; moment = moment e }
+    answer = record { session = 1; statement = w.finished + 1; act = act.Answer; reply = r; moment = dev.moment_of e }
 
     abbrev all : List Entry
     all = w.tape.items ++ answer ∷ []
 
     abbrev after_state : State
-    after_state = (reached w.script.lines start base all).state
+    after_state = (reached w.script.lines op.start base all).state
 
     commit : IsCommitAt w.script.lines w.finished
     commit = (bounded.asked asked).1
 
-    on_asked : IsOn base (reached w.script.lines start base w.tape.items) w.finished 1 (moment w.disk)
-    on_asked = subst (λ g. IsOn base (reached w.script.lines start base w.tape.items) w.finished (made_in g) (moment w.disk)) asked runs.at.on
+    on_asked : IsOn base (reached w.script.lines op.start base w.tape.items) w.finished 1 (dev.moment_of w.disk)
+    on_asked = subst (λ g. IsOn base (reached w.script.lines op.start base w.tape.items) w.finished (made_in g) (dev.moment_of w.disk)) asked runs.at.on
 
     as_commit : RepliesAs now_state act.Answer commit.0.statement r (seen_of v.session) v.session.stage
     as_commit = subst (λ s. RepliesAs now_state act.Answer s r (seen_of v.session) v.session.stage) (sym commit.2) replies
@@ -230,8 +230,8 @@ module _ {D : Type 0} (reads : D → Image) (images : D → Image → Type 0) (m
     moves : advanced commit.0.statement r (record { finished = w.finished; made = 1 }) ≡ record { finished = w.finished + 1; made = 0 }
     moves = ap (λ s. advanced s r (record { finished = w.finished; made = 1 })) commit.2 ∙ second r w.finished
 
-    adds : Adds w.script.lines start base w.tape.items answer commit.0.statement (w.finished + 1) 0
-    adds = act_adds grow w.script.lines bounded.taken start base w.tape.items w.finished 1 (moment w.disk) on_asked commit.0 commit.1 act.Answer r (moment e) (w.finished + 1) 0
+    adds : Adds w.script.lines op.start base w.tape.items answer commit.0.statement (w.finished + 1) 0
+    adds = act_adds grow w.script.lines bounded.taken op.start base w.tape.items w.finished 1 (dev.moment_of w.disk) on_asked commit.0 commit.1 act.Answer r (dev.moment_of e) (w.finished + 1) 0
         runs.at.legal (ap (λ s. slice_get (acts_of s) 1) commit.2) turn
         as_commit.allowed on moves
 
@@ -244,31 +244,31 @@ module _ {D : Type 0} (reads : D → Image) (images : D → Image → Type 0) (m
     one_more : answers all ≡ v.session.answered
     one_more = answers_more w.tape.items answer ∙ ap (λ q. answers w.tape.items + cond (is_answer q) 1 0) answered_is ∙ omega (arith, runs.at.answers_are, same.1)
 
-    again : Rests reads images e v.log v.session after_state
-    again = rests_again reads images by_record w.disk e w.log v.log w.session v.session now_state after_state at_rest waits_asked.0 waits_asked.1 waits_asked.2 flushed.0 flushed.1
+    again : Rests dev e v.log v.session after_state
+    again = rests_again dev by_record w.disk e w.log v.log w.session v.session now_state after_state at_rest waits_asked.0 waits_asked.1 waits_asked.2 flushed.0 flushed.1
         file none only idle same.0 shows_after
 
     asked_is : after_state.asked ≡ now_state.asked ++ asked_by r (transaction_of now_state 1)
     asked_is = ap (λ (s : State). s.asked) adds.state_is ∙ grows.asked
 
-    has : (c : Image) → since e (moment e) c → HasCommits base after_state.asked (answers all) c
+    has : (c : Image) → dev.since e (dev.moment_of e) c → HasCommits base after_state.asked (answers all) c
     has c left = subst (HasCommits base after_state.asked (answers all)) (sym (only c (only_now e c left)))
-        (rests_has reads images e v.log v.session after_state base (answers all) again shows_after adds.on.base_is (omega (arith, one_more)))
+        (rests_has dev e v.log v.session after_state base (answers all) again shows_after adds.on.base_is (omega (arith, one_more)))
 
-    made : Runs reads images moment since strays before start strays_then base (record w { disk = e; log = v.log; session = v.session; tape = v.tape; finished = w.finished + 1 })
+    made : Runs dev op base (record w { disk = e; log = v.log; session = v.session; tape = v.tape; finished = w.finished + 1 })
     made = record {
-      at = subst (λ l. IsAt w.script.lines start base l v.session (w.finished + 1) (moment e)) (sym items) (record {
+      at = subst (λ l. IsAt w.script.lines (at_start op.start base []) l v.session (w.finished + 1) (dev.moment_of e)) (sym items) (record {
         legal = adds.legal;
-        on = subst (λ g. IsOn base (reached w.script.lines start base all) (w.finished + 1) (made_in g) (moment e)) (sym idle) adds.on;
+        on = subst (λ g. IsOn base (reached w.script.lines op.start base all) (w.finished + 1) (made_in g) (dev.moment_of e)) (sym idle) adds.on;
         shows = shows_after;
         answers_are = one_more;
       });
-      survives = subst (λ l. Survives moment since start before base (reached w.script.lines start base l).state.asked l e) (sym items)
-          (survives_entry images moment since earlier start before base now_state.asked (asked_by r (transaction_of now_state 1)) after_state.asked w.tape.items answer e
+      survives = subst (λ l. Survives dev op.start e (IsPrefixAt op.before base (reached w.script.lines op.start base l).state.asked l)) (sym items)
+          (survives_entry dev earlier op.start op.before base now_state.asked (asked_by r (transaction_of now_state 1)) after_state.asked w.tape.items answer e
           (survives_flush e leaves) refl asked_is has);
-      rests = λ _. subst (λ l. Rests reads images e v.log v.session (reached w.script.lines start base l).state) (sym items) again;
+      rests = λ _. subst (λ l. Rests dev e v.log v.session (reached w.script.lines op.start base l).state) (sym items) again;
       stray = ⊎_elim (λ s. inl (same_strays ∙ s)) (λ bad. absurd (bad.0 going)) runs.stray;
     }
 
-    pub answers_runs : Runs reads images moment since strays before start strays_then base v
-    answers_runs = subst (Runs reads images moment since strays before start strays_then base) (sym is) made
+    pub answers_runs : Runs dev op base v
+    answers_runs = subst (Runs dev op base) (sym is) made

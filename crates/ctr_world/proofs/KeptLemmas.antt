@@ -1,36 +1,36 @@
 -- What a World keeps over its calls.
-use Rattle.std.proofs.Common.{◌≡◌, ◌⊎◌, inl, inr, ℕ, ◌≤◌, Bool, List, Option, Some, None, sym, ◌∙◌, ap, subst, arith}
+use Rattle.std.proofs.Common.{◌≡◌, ◌⊎◌, inl, inr, ℕ, ◌≤◌, Option, Some, None, sym, ◌∙◌, ap, subst, arith}
 use Rattle.std.specs.Prelude.{IsTrue}
-use Rattle.ctr_types.specs.declared.statement.Line.{Line}
-use Rattle.ctr_disk.specs.declared.disk.Image.{Image}
 use Rattle.ctr_disk.specs.declared.fault.Stop.{Stop}
 use Rattle.ctr_disk.specs.declared.fault.Stop.TheVariants as stop
-use Rattle.ctr_disk.specs.Crash.{Rose}
+use Rattle.ctr_disk.specs.Crash.{CountsFault}
 use Rattle.ctr_model.specs.Database.{Database}
 use Rattle.ctr_world.specs.declared.parts.Parts.{Parts}
+use Rattle.ctr_disk.specs.declared.disk.Disk.{Ghosts}
+use Rattle.ctr_world.specs.declared.opening.Opening.{Ghosts as Opening}
 use Rattle.ctr_world.specs.World.{Runs, IsBounded, Kept, NoneFull, StopsBy}
 
-pub rose_before : (a b c : ℕ) → a ≤ b → Rose b c → Rose a c
+pub rose_before : (a b c : ℕ) → a ≤ b → CountsFault b c → CountsFault a c
 rose_before a b c le rose = omega (arith, le, rose)
 
-stops_by : (s : Option Stop) (then old now : ℕ) → then ≤ old → (s ≡ None) ⊎ ((s ≡ Some stop.Fault) × Rose old now) → StopsBy s then now
-stops_by s then old now le (inl none) = subst (λ q. StopsBy q then now) (sym none) tt
-stops_by s then old now le (inr fault) = subst (λ q. StopsBy q then now) (sym fault.0) (rose_before then old now le fault.1)
+stops_by : (s : Option Stop) (then old now : ℕ) → then ≤ old → old ≡ then → ((s ≡ None) × (now ≡ old)) ⊎ ((s ≡ Some stop.Fault) × CountsFault old now) → StopsBy s then now
+stops_by s then old now le before (inl none) = subst (λ q. StopsBy q then now) (sym none.0) (none.1 ∙ before)
+stops_by s then old now le before (inr fault) = subst (λ q. StopsBy q then now) (sym fault.0) (rose_before then old now le fault.1)
 
-module _ {D : Type 0} (tells : Bool) (reads : D → Image) (images : D → Image → Type 0) (moment : D → ℕ) (since : D → ℕ → Image → Type 0) (faults strays : D → ℕ)
-    (image : Image) (before : Image → Type 0) (start faults_then strays_then : ℕ) (lines : List Line) (w v : Parts D)
-    (kept : Kept tells reads images moment since faults strays image before start faults_then strays_then lines w) where
-  pub kept_after : ((base : Database) → IsTrue tells → start ≤ moment w.disk → Runs reads images moment since strays before start strays_then base w
-      → Runs reads images moment since strays before start strays_then base v)
-      → (v.stop ≡ None → IsBounded v) → (NoneFull w.tape.items → NoneFull v.tape.items) → ((v.stop ≡ None) ⊎ ((v.stop ≡ Some stop.Fault) × Rose (faults w.disk) (faults v.disk)))
-      → faults w.disk ≤ faults v.disk → moment w.disk ≤ moment v.disk → v.script ≡ w.script
-      → Kept tells reads images moment since faults strays image before start faults_then strays_then lines v
-  kept_after runs bounded not_full stops faults_on on script = record {
+module _ {D : Type 0} (dev : Ghosts D)
+    {B : Type 0} (op : Opening B) (w v : Parts D)
+    (kept : Kept dev op w) where
+  pub kept_after : ((base : Database) → IsTrue dev.tells → op.start ≤ dev.moment_of w.disk → Runs dev op base w
+      → Runs dev op base v)
+      → (v.stop ≡ None → IsBounded v) → (NoneFull w.tape.items → NoneFull v.tape.items) → w.stop ≡ None → (((v.stop ≡ None) × (dev.faults_of v.disk ≡ dev.faults_of w.disk)) ⊎ ((v.stop ≡ Some stop.Fault) × CountsFault (dev.faults_of w.disk) (dev.faults_of v.disk)))
+      → dev.faults_of w.disk ≤ dev.faults_of v.disk → dev.moment_of w.disk ≤ dev.moment_of v.disk → v.script ≡ w.script
+      → Kept dev op v
+  kept_after runs bounded not_full going stops faults_on on script = record {
     runs = λ base told stands. runs base told kept.later (kept.runs base told stands);
     bounded = bounded;
     not_full = not_full kept.not_full;
     lines_are = ap (λ s. s.lines) script ∙ kept.lines_are;
     later = omega (arith, kept.later, on);
     faults_later = omega (arith, kept.faults_later, faults_on);
-    stops = stops_by v.stop faults_then (faults w.disk) (faults v.disk) kept.faults_later stops;
+    stops = stops_by v.stop op.faults (dev.faults_of w.disk) (dev.faults_of v.disk) kept.faults_later (subst (λ q. StopsBy q op.faults (dev.faults_of w.disk)) going kept.stops) stops;
   }

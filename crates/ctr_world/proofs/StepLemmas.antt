@@ -27,9 +27,10 @@ use Rattle.ctr_exec.specs.Session.{Seen, Shows, ShowsAs, Appends}
 use Rattle.ctr_world.specs.declared.turns.Acts.{Acts}
 use Rattle.ctr_world.specs.declared.turns.Acts.TheVariants as acts
 use Rattle.ctr_world.specs.Turn.{is_answering, Gathers, WaitsAfter}
-use Rattle.ctr_world.specs.World.{AreTaken, reached, IsOn, HasCommits, Survives, Waits, Rests}
+use Rattle.ctr_world.specs.World.{AreTaken, reached, IsOn, HasCommits, IsPrefixAt, Survives, Waits, Rests}
 use Rattle.ctr_world.proofs.RepliesLemmas.{not_answered, in_turn}
 use Rattle.ctr_world.proofs.TapeLemmas.{act_adds, answers_more}
+use Rattle.ctr_disk.specs.declared.disk.Disk.{Ghosts}
 use Rattle.ctr_world.proofs.CrashLemmas.{has_more, survives_entry}
 
 -- ---- what the session shows
@@ -43,14 +44,14 @@ shown_at_most state a stage.Asked h = omega (arith, h.shows.inside.amount_is)
 
 -- ---- the tape and the crash, over one act
 
-module _ {D : Type 0} (images : D → Image → Type 0) (moment : D → ℕ) (since : D → ℕ → Image → Type 0) (earlier : (d : D) (s t : ℕ) (c : Image) → s ≤ t → since d t c → since d s c)
+module _ {D : Type 0} (dev : Ghosts D) (earlier : (d : D) (s t : ℕ) (c : Image) → s ≤ t → dev.since d t c → dev.since d s c)
     (grow : StatesGrow) (lines : List Line) (all : AreTaken lines) (start : ℕ) (before : Image → Type 0) (base : Database) (d : D) where
   -- the tape so far, and what a crash leaves at each moment, and at the last one
   pub record Goes (es : List Entry) (finished made : ℕ) : Type 0 where
     pub legal : Legal lines (at_start start base []) es
-    pub on : IsOn base (reached lines start base es) finished made (moment d)
-    pub survives : Survives moment since start before base (reached lines start base es).state.asked es d
-    pub now_has : (c : Image) → since d (moment d) c → HasCommits base (reached lines start base es).state.asked (answers es) c
+    pub on : IsOn base (reached lines start base es) finished made (dev.moment_of d)
+    pub survives : Survives dev start d (IsPrefixAt before base (reached lines start base es).state.asked es)
+    pub now_has : (c : Image) → dev.since d (dev.moment_of d) c → HasCommits base (reached lines start base es).state.asked (answers es) c
 
   -- with one act more
   pub record GoesOnBy (es : List Entry) (e : Entry) (statement : Statement) (finished made : ℕ) : Type 0 where
@@ -61,24 +62,24 @@ module _ {D : Type 0} (images : D → Image → Type 0) (moment : D → ℕ) (si
   pub goes_act : (es : List Entry) (finished made finished' made' : ℕ) (l : Line) (a : Act) (r : Reply) → Goes es finished made → slice_get lines finished ≡ Some l
       → slice_get (acts_of l.statement) made ≡ Some a → is_answering a ≡ false
       → Allowed (reached lines start base es).state 1 a (Some l.statement) r → advanced l.statement r (record { finished = finished; made = made }) ≡ record { finished = finished'; made = made' }
-      → GoesOnBy es (record { session = 1; statement = finished + 1; act = a; reply = r; moment = moment d }) l.statement finished' made'
+      → GoesOnBy es (record { session = 1; statement = finished + 1; act = a; reply = r; moment = dev.moment_of d }) l.statement finished' made'
   goes_act es finished made finished' made' l a r goes there next no_answer allowed moves =
       let state = (reached lines start base es).state in
-      let e : Entry = record { session = 1; statement = finished + 1; act = a; reply = r; moment = moment d } in
-      let adds = act_adds grow lines all start base es finished made (moment d) goes.on l there a r (moment d) finished' made' goes.legal next (in_turn state 1 a no_answer)
+      let e : Entry = record { session = 1; statement = finished + 1; act = a; reply = r; moment = dev.moment_of d } in
+      let adds = act_adds grow lines all start base es finished made (dev.moment_of d) goes.on l there a r (dev.moment_of d) finished' made' goes.legal next (in_turn state 1 a no_answer)
       allowed (omega arith) moves in
       let grows = grow state 1 a (Some l.statement) r in
       let more : List (List Change) = asked_by r (transaction_of state 1) in
       let asked_is : (reached lines start base (es ++ e ∷ [])).state.asked ≡ state.asked ++ more = ap (λ (s : State). s.asked) adds.state_is ∙ grows.asked in
       let none : is_answer r ≡ false = not_answered state 1 a l.statement r no_answer allowed in
       let same : answers (es ++ e ∷ []) ≡ answers es = answers_more es e ∙ ap (λ (b : Bool). answers es + cond b 1 0) none ∙ omega arith in
-      let has = λ (c : Image) (left : since d (moment d) c). subst (λ (n : ℕ). HasCommits base (reached lines start base (es ++ e ∷ [])).state.asked n c) (sym same)
+      let has = λ (c : Image) (left : dev.since d (dev.moment_of d) c). subst (λ (n : ℕ). HasCommits base (reached lines start base (es ++ e ∷ [])).state.asked n c) (sym same)
       (has_more base state.asked more _ (answers es) c asked_is (goes.now_has c left)) in
       record {
         goes = record {
           legal = adds.legal;
           on = adds.on;
-          survives = survives_entry images moment since earlier start before base state.asked more _ es e d goes.survives refl asked_is has;
+          survives = survives_entry dev earlier start before base state.asked more _ es e d goes.survives refl asked_is has;
           now_has = has;
         };
         state_is = adds.state_is;
@@ -149,10 +150,10 @@ pub rows_same : (old new : State) (more : List (List Change)) (n m : ℕ) → ne
 rows_same old new more n m base asked same le =
     ap (λ (l : List (List Change)). after_all l old.base) (sym (take-append-le n old.asked more le) ∙ ap (take n) (sym asked)) ∙ (λ i. after_all (take (sym same i) new.asked) (sym base i))
 
-pub rests_after : {D : Type 0} (reads : D → Image) (images : D → Image → Type 0) (d : D) (old new : Log) (a b : Session) (s t : State) (more : List (List Change)) (x : Acts)
-    → Rests reads images d old a s → Shows s a → t.base ≡ s.base → t.asked ≡ s.asked ++ more
-    → b.answered ≡ a.answered → old.buffered ≡ [] → Gathers x a old new → WaitsAfter x b.stage → (b.stage ≡ stage.Asked → b.tables ≡ a.tables) → Rests reads images d new b t
-rests_after reads images d old new a b s t more x rests shows base asked answered none gathers waits same =
+pub rests_after : {D : Type 0} (dev : Ghosts D) (d : D) (old new : Log) (a b : Session) (s t : State) (more : List (List Change)) (x : Acts)
+    → Rests dev d old a s → Shows s a → t.base ≡ s.base → t.asked ≡ s.asked ++ more
+    → b.answered ≡ a.answered → old.buffered ≡ [] → Gathers x a old new → WaitsAfter x b.stage → (b.stage ≡ stage.Asked → b.tables ≡ a.tables) → Rests dev d new b t
+rests_after dev d old new a b s t more x rests shows base asked answered none gathers waits same =
     let f = follows s a old new rests.rows (database_of b.tables) b.stage none x gathers waits shows rests.rows_are (λ h. ap database_of (same h)) in
     record {
       only = rests.only;
@@ -160,6 +161,6 @@ rests_after reads images d old new a b s t more x rests shows base asked answere
       rows_are = rests.rows_are ∙ rows_same s t more a.answered b.answered base asked answered (shown_at_most s _ a.stage shows);
       stands = rests.stands;
       file = f.file ∙ rests.file;
-      goes_on = still_goes_on rests.stands.r.first rests.stands.bs old new (reads d) rests.goes_on f.file f.place f.first;
+      goes_on = still_goes_on rests.stands.r.first rests.stands.bs old new (dev.reads d) rests.goes_on f.file f.place f.first;
       waits = f.waits;
     }

@@ -23,7 +23,8 @@ use Rattle.ctr_world.specs.declared.turns.Acts.{Acts}
 use Rattle.ctr_world.specs.declared.turns.Acts.TheVariants as acts
 use Rattle.ctr_world.specs.declared.parts.Parts.{Parts}
 use Rattle.ctr_world.specs.Turn.{last_reply}
-use Rattle.ctr_world.specs.World.{AreTaken, reached, IsOn, NoneFull, Notes, entry_of}
+use Rattle.ctr_disk.specs.declared.disk.Disk.{Ghosts}
+use Rattle.ctr_world.specs.World.{AreTaken, reached, IsOn, NoneFull, Notes, next_entry}
 
 -- ---- lists
 
@@ -46,11 +47,11 @@ none_full_more [] e all not = (not, tt)
 none_full_more (d ∷ es) e all not = (all.0, none_full_more es e all.1 not)
 
 -- of the acts of a turn
-pub none_full_noted : {D : Type 0} (moment : D → ℕ) (w v : Parts D) (x : Acts) → IsNotFull (last_reply x) → Notes moment x w v → NoneFull w.tape.items → NoneFull v.tape.items
-none_full_noted moment w v (acts.One a r) not notes all = subst NoneFull (sym notes.0) (none_full_more w.tape.items (entry_of moment w a r) all not)
-none_full_noted moment w v (acts.Two r) not notes all =
-    let lock = entry_of moment w act.Lock reply.Granted in
-    subst NoneFull (sym notes.0) (none_full_more (w.tape.items ++ lock ∷ []) (entry_of moment w act.Write r) (none_full_more w.tape.items lock all tt) not)
+pub none_full_noted : {D : Type 0} (dev : Ghosts D) (w v : Parts D) (x : Acts) → IsNotFull (last_reply x) → Notes dev x w v → NoneFull w.tape.items → NoneFull v.tape.items
+none_full_noted dev w v (acts.One a r) not notes all = subst NoneFull (sym notes.0) (none_full_more w.tape.items (next_entry dev w a r) all not)
+none_full_noted dev w v (acts.Two r) not notes all =
+    let lock = next_entry dev w act.Lock reply.Granted in
+    subst NoneFull (sym notes.0) (none_full_more (w.tape.items ++ lock ∷ []) (next_entry dev w act.Write r) (none_full_more w.tape.items lock all tt) not)
 
 -- ---- statements of session 1
 

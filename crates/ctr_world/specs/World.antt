@@ -1,5 +1,5 @@
 -- What a World keeps: a legal tape that has led to what its session shows, and what a crash leaves.
-use Rattle.std.specs.Prelude.{◌≡◌, ◌≢◌, ◌⊎◌, ℕ, ◌+◌, ◌*◌, ◌-◌, ◌^◌, ◌<◌, ◌≤◌, Bool, IsTrue, List, [], ◌∷◌, ◌++◌, length, take, Option, Some, None, slice_get, vec_len, vec_capacity}
+use Rattle.std.specs.Prelude.{◌≡◌, ◌≢◌, ◌⊎◌, ℕ, ◌+◌, ◌*◌, ◌-◌, ◌^◌, ◌<◌, ◌≤◌, IsTrue, List, [], ◌∷◌, ◌++◌, length, take, Option, Some, None, slice_get, vec_len, vec_capacity}
 use Rattle.std.specs.List.{AllByRecursion}
 use Rattle.ctr_types.specs.declared.statement.Line.{Line}
 use Rattle.ctr_types.specs.declared.statement.Statement.TheVariants as st
@@ -15,7 +15,9 @@ use Rattle.ctr_types.specs.declared.tape.Entry.{Entry}
 use Rattle.ctr_disk.specs.declared.disk.Image.{Image}
 use Rattle.ctr_disk.specs.declared.fault.Stop.{Stop}
 use Rattle.ctr_disk.specs.declared.fault.Stop.TheVariants as stop
-use Rattle.ctr_disk.specs.Crash.{Only, Rose, LeavesOnly}
+use Rattle.ctr_disk.specs.Crash.{Within, CountsFault}
+use Rattle.ctr_disk.specs.Device.{IsDurable, OnlyReads}
+use Rattle.ctr_disk.specs.declared.disk.Disk.{Ghosts}
 use Rattle.ctr_model.specs.declared.database.Change.{Change}
 use Rattle.ctr_model.specs.declared.tape.Point.{Point}
 use Rattle.ctr_model.specs.declared.state.State.{State}
@@ -38,6 +40,7 @@ use Rattle.ctr_world.specs.declared.turns.Acts.{Acts}
 use Rattle.ctr_world.specs.declared.turns.Acts.TheVariants as acts
 use Rattle.ctr_world.specs.Turn.{IsTaken, passed_on}
 use Rattle.ctr_world.specs.declared.parts.Parts.{Parts}
+use Rattle.ctr_world.specs.declared.opening.Opening.{Ghosts as Opening}
 
 -- ---- the tape
 
@@ -67,11 +70,11 @@ pub record IsOn (base : Database) (p : Point) (finished made now : ℕ) : Type 0
   pub others : (s : ℕ) → s ≢ 1 → progress_of p s ≡ record { finished = 0; made = 0 }
   pub later : p.moment ≤ now
 
--- the tape is legal, and has led to what the session shows
-pub record IsAt (lines : List Line) (start : ℕ) (base : Database) (es : List Entry) (session : Session) (finished now : ℕ) : Type 0 where
-  pub legal : Legal lines (at_start start base []) es
-  pub on : IsOn base (reached lines start base es) finished (made_in session.stage) now
-  pub shows : Shows (reached lines start base es).state session
+-- from this point on the tape is legal, and has led to what the session shows
+pub record IsAt (lines : List Line) (from : Point) (es : List Entry) (session : Session) (finished now : ℕ) : Type 0 where
+  pub legal : Legal lines from es
+  pub on : IsOn from.state.base (final lines from es) finished (made_in session.stage) now
+  pub shows : Shows (final lines from es).state session
   pub answers_are : answers es ≡ session.answered
 
 -- ---- what a crash leaves
@@ -88,11 +91,14 @@ abbrev pub NoneBy : ℕ → List Entry → Type 0
 NoneBy t [] = Unit {0}
 NoneBy t (e ∷ es) = t < e.moment
 
--- A crash at a moment from the start to now leaves a prefix of the commit order with every commit
--- that was answered by then, or, before the first entry, what it might have left at the start.
-abbrev pub Survives : {D : Type 0} → (D → ℕ) → (D → ℕ → Image → Type 0) → ℕ → (Image → Type 0) → Database → List (List Change) → List Entry → D → Type 0
-Survives moment since start before base asked es disk =
-    (t : ℕ) (c : Image) → start ≤ t → t ≤ moment disk → since disk t c → HasCommits base asked (answered_by t es) c ⊎ (before c × NoneBy t es)
+-- what a crash at one moment leaves: a prefix of the commit order with every commit that was answered
+-- by then, or, before the first entry, what it might have left at the start
+abbrev pub IsPrefixAt : (Image → Type 0) → Database → List (List Change) → List Entry → ℕ → Image → Type 0
+IsPrefixAt before base asked es t c = HasCommits base asked (answered_by t es) c ⊎ (before c × NoneBy t es)
+
+-- a crash at a moment from the start to now leaves an image of which this holds at that moment
+abbrev pub Survives : {D : Type 0} → Ghosts D → ℕ → D → (ℕ → Image → Type 0) → Type 0
+Survives g start disk P = (t : ℕ) (c : Image) → start ≤ t → t ≤ g.moment_of disk → g.since disk t c → P t c
 
 -- the record of a commit that was asked for waits in the log, and makes the second database of the first
 abbrev pub Waits : Database → Stage → List (List ℕ) → Database → Type 0
@@ -102,29 +108,48 @@ Waits db stage.Writer buffered next = buffered ≡ []
 Waits db stage.Asked buffered next = (bytes : List ℕ) × (buffered ≡ bytes ∷ []) × FoldsRecord db bytes next
 
 -- nothing is pending, and the image stands for the rows of all commits that were answered
-pub record Rests {D : Type 0} (reads : D → Image) (images : D → Image → Type 0) (disk : D) (log : Log) (session : Session) (state : State) : Type 0 where
-  pub only : Only (reads disk) (images disk)
+pub record Rests {D : Type 0} (g : Ghosts D) (disk : D) (log : Log) (session : Session) (state : State) : Type 0 where
+  pub only : IsDurable g disk
   pub rows : Database
   pub rows_are : rows ≡ rows_at state session.answered
-  pub stands : StandsFor (reads disk) rows
+  pub stands : StandsFor (g.reads disk) rows
   pub file : log.file ≡ log_file stands.r.file
-  pub goes_on : GoesOn stands.r.first stands.bs log (reads disk)
+  pub goes_on : GoesOn stands.r.first stands.bs log (g.reads disk)
   pub waits : Waits rows session.stage log.buffered (database_of session.tables)
 
 -- a file of the log has at least 2^62 bytes
 abbrev pub HasLongLog : Image → Type 0
 HasLongLog image = (2 ^ 62 ≤ length image.log_a) ⊎ (2 ^ 62 ≤ length image.log_b)
 
+-- the count of strays is as it was, or a crash leaves a file of the log that is nearly as long as a file can be
+abbrev pub StraysOnlyLong : {D : Type 0} → Ghosts D → ℕ → D → Type 0
+StraysOnlyLong g strays disk = (g.strays_of disk ≡ strays) ⊎ ((c : Image) → g.since disk (g.moment_of disk) c → HasLongLog c)
+
+-- ---- what the World was opened on
+
+-- this disk and these lines are those that the type names
+pub record IsOpenedOn {D B : Type 0} (o : Opening B) (g : Ghosts D) (disk : D) (lines : List Line) : Type 0 where
+  pub image : o.image ≡ g.reads disk
+  pub before : Within (g.images disk) o.before
+  pub start : o.start ≡ g.moment_of disk
+  pub faults : o.faults ≡ g.faults_of disk
+  pub strays : o.strays ≡ g.strays_of disk
+  pub lines_are : o.lines ≡ lines
+
+-- this engine runs a script of these lines
+pub record CanRun (lines : List Line) : Type 0 where
+  pub taken : AreTaken lines
+  pub few : length lines < 2 ^ 32 - 1
+
 -- ---- what the World keeps
 
 -- of a database that the first image stands for
-pub record Runs {D : Type 0} (reads : D → Image) (images : D → Image → Type 0) (moment : D → ℕ) (since : D → ℕ → Image → Type 0) (strays : D → ℕ)
-    (before : Image → Type 0) (start strays_then : ℕ) (base : Database) (w : Parts D) : Type 0 where
-  pub at : IsAt w.script.lines start base w.tape.items w.session w.finished (moment w.disk)
-  pub survives : Survives moment since start before base (reached w.script.lines start base w.tape.items).state.asked w.tape.items w.disk
-  pub rests : w.stop ≡ None → Rests reads images w.disk w.log w.session (reached w.script.lines start base w.tape.items).state
+pub record Runs {D B : Type 0} (g : Ghosts D) (o : Opening B) (base : Database) (w : Parts D) : Type 0 where
+  pub at : IsAt w.script.lines (at_start o.start base []) w.tape.items w.session w.finished (g.moment_of w.disk)
+  pub survives : Survives g o.start w.disk (IsPrefixAt o.before base (reached w.script.lines o.start base w.tape.items).state.asked w.tape.items)
+  pub rests : w.stop ≡ None → Rests g w.disk w.log w.session (reached w.script.lines o.start base w.tape.items).state
   -- only a fault at a log that is nearly as long as a file can be counts as a stray
-  pub stray : (strays w.disk ≡ strays_then) ⊎ ((w.stop ≢ None) × ((c : Image) → since w.disk (moment w.disk) c → HasLongLog c))
+  pub stray : (g.strays_of w.disk ≡ o.strays) ⊎ ((w.stop ≢ None) × ((c : Image) → g.since w.disk (g.moment_of w.disk) c → HasLongLog c))
 
 -- a COMMIT stands there
 abbrev pub IsCommitAt : List Line → ℕ → Type 0
@@ -146,35 +171,33 @@ pub record IsBounded {D : Type 0} (w : Parts D) : Type 0 where
   pub waiting_short : length (frames w.log.buffered) < 2 ^ 60
   pub tape_room : vec_len w.tape + 2 * (length w.script.lines - w.finished) ≤ vec_capacity w.tape + made_in w.session.stage
 
--- a fault is the only cause of a stop, and the disk's count rose then
+-- a fault is the only cause of a stop, and was counted; a World that isn't stopped has met none
 abbrev pub StopsBy : Option Stop → ℕ → ℕ → Type 0
-StopsBy None before now = Unit {0}
-StopsBy (Some stop.Fault) before now = Rose before now
+StopsBy None before now = now ≡ before
+StopsBy (Some stop.Fault) before now = CountsFault before now
 StopsBy (Some (stop.Damaged file at want got)) before now = ⊥
 StopsBy (Some (stop.Worn lsn)) before now = ⊥
 
--- Since the World was opened on a disk that read this image at this moment, with these counts, and of
--- which a crash might have left what came before.
-pub record Kept {D : Type 0} (tells : Bool) (reads : D → Image) (images : D → Image → Type 0) (moment : D → ℕ) (since : D → ℕ → Image → Type 0) (faults strays : D → ℕ)
-    (image : Image) (before : Image → Type 0) (start faults_then strays_then : ℕ) (lines : List Line) (w : Parts D) : Type 0 where
-  pub runs : (base : Database) → IsTrue tells → StandsFor image base → Runs reads images moment since strays before start strays_then base w
+-- since the World was opened on the disk and the script that its type names
+pub record Kept {D B : Type 0} (g : Ghosts D) (o : Opening B) (w : Parts D) : Type 0 where
+  pub runs : (base : Database) → IsTrue g.tells → StandsFor o.image base → Runs g o base w
   pub bounded : w.stop ≡ None → IsBounded w
   pub not_full : NoneFull w.tape.items
-  pub lines_are : w.script.lines ≡ lines
-  pub later : start ≤ moment w.disk
-  pub faults_later : faults_then ≤ faults w.disk
-  pub stops : StopsBy w.stop faults_then (faults w.disk)
+  pub lines_are : w.script.lines ≡ o.lines
+  pub later : o.start ≤ g.moment_of w.disk
+  pub faults_later : o.faults ≤ g.faults_of w.disk
+  pub stops : StopsBy w.stop o.faults (g.faults_of w.disk)
 
 -- ---- a turn's entries
 
 -- the entry of session 1 for its next statement
-abbrev pub entry_of : {D : Type 0} → (D → ℕ) → Parts D → Act → Reply → Entry
-entry_of moment w a r = record { session = 1; statement = w.finished + 1; act = a; reply = r; moment = moment w.disk }
+abbrev pub next_entry : {D : Type 0} → Ghosts D → Parts D → Act → Reply → Entry
+next_entry g w a r = record { session = 1; statement = w.finished + 1; act = a; reply = r; moment = g.moment_of w.disk }
 
 -- the acts stand behind the tape, and the statement is finished or waits for its answer
-abbrev pub Notes : {D : Type 0} → (D → ℕ) → Acts → Parts D → Parts D → Type 0
-Notes moment (acts.One a r) w v = (v.tape.items ≡ w.tape.items ++ entry_of moment w a r ∷ []) × (v.finished ≡ (passed_on r w.finished).finished)
-Notes moment (acts.Two r) w v = (v.tape.items ≡ (w.tape.items ++ entry_of moment w act.Lock reply.Granted ∷ []) ++ entry_of moment w act.Write r ∷ []) × (v.finished ≡ w.finished + 1)
+abbrev pub Notes : {D : Type 0} → Ghosts D → Acts → Parts D → Parts D → Type 0
+Notes g (acts.One a r) w v = (v.tape.items ≡ w.tape.items ++ next_entry g w a r ∷ []) × (v.finished ≡ (passed_on r w.finished).finished)
+Notes g (acts.Two r) w v = (v.tape.items ≡ (w.tape.items ++ next_entry g w act.Lock reply.Granted ∷ []) ++ next_entry g w act.Write r ∷ []) × (v.finished ≡ w.finished + 1)
 
 -- how many turns of its session are left at most
 abbrev pub turns_left : {D : Type 0} → Parts D → ℕ
@@ -208,32 +231,30 @@ Moves actor.Flusher w = 0 < length w.log.buffered
 Moves actor.Cleaner w = ⊥
 
 -- how a turn ended
-abbrev pub Says : {D : Type 0} → Turn → Actor → Parts D → Parts D → Type 0
-Says turn.Went a old new = (new.stop ≡ None) × Moves a old × (turns_left new < turns_left old)
-Says turn.Idle a old new = (old.stop ≡ None) × NoneDue a old × (new ≡ old)
-Says turn.Short a old new = ⊥
-Says turn.Over a old new = (old.stop ≡ None) × NoneLeft a old × (new ≡ old)
-Says turn.Stopped a old new = (new.stop ≢ None) × (old.stop ≢ None → new ≡ old)
+abbrev pub EndsTurn : {D : Type 0} → Turn → Actor → Parts D → Parts D → Type 0
+EndsTurn turn.Went a old new = (new.stop ≡ None) × Moves a old × (turns_left new < turns_left old)
+EndsTurn turn.Idle a old new = (old.stop ≡ None) × NoneDue a old × (new ≡ old)
+EndsTurn turn.Short a old new = ⊥
+EndsTurn turn.Over a old new = (old.stop ≡ None) × NoneLeft a old × (new ≡ old)
+EndsTurn turn.Stopped a old new = (new.stop ≢ None) × (old.stop ≢ None → new ≡ old)
 
 -- ---- how a World ends
 
 -- of a database that the first image stands for: its tape is legal, and a crash at each moment leaves
 -- a prefix; where nothing stopped it, the tape is whole and a crash at the end leaves every commit
-pub record Ends {D : Type 0} (moment : D → ℕ) (since : D → ℕ → Image → Type 0) (strays : D → ℕ) (before : Image → Type 0) (start strays_then : ℕ) (lines : List Line)
-    (base : Database) (es : List Entry) (stop : Option Stop) (disk : D) : Type 0 where
-  pub legal : Legal lines (at_start start base []) es
-  pub later : (reached lines start base es).moment ≤ moment disk
-  pub survives : Survives moment since start before base (reached lines start base es).state.asked es disk
-  pub whole : stop ≡ None → IsWhole lines (reached lines start base es)
-  pub no_stuck : (reached lines start base es).state.stuck ≡ []
-  pub durable : stop ≡ None → (c : Image) → since disk (moment disk) c → HasCommits base (reached lines start base es).state.asked (answers es) c
-  pub stray : (strays disk ≡ strays_then) ⊎ ((c : Image) → since disk (moment disk) c → HasLongLog c)
+pub record Ends {D B : Type 0} (g : Ghosts D) (o : Opening B) (base : Database) (es : List Entry) (stop : Option Stop) (disk : D) : Type 0 where
+  pub legal : Legal o.lines (at_start o.start base []) es
+  pub later : (reached o.lines o.start base es).moment ≤ g.moment_of disk
+  pub survives : Survives g o.start disk (IsPrefixAt o.before base (reached o.lines o.start base es).state.asked es)
+  pub whole : stop ≡ None → IsWhole o.lines (reached o.lines o.start base es)
+  pub no_stuck : (reached o.lines o.start base es).state.stuck ≡ []
+  pub durable : stop ≡ None → (c : Image) → g.since disk (g.moment_of disk) c → HasCommits base (reached o.lines o.start base es).state.asked (answers es) c
+  pub stray : StraysOnlyLong g o.strays disk
 
--- the World wasn't opened: a crash leaves what it might have left, and a fault is told only where the count rose
-pub record RefusesWith {D : Type 0} (reads : D → Image) (images : D → Image → Type 0) (moment : D → ℕ) (since : D → ℕ → Image → Type 0) (faults strays : D → ℕ) (old : D)
-    (error : OpenError) (new : D) : Type 0 where
-  pub any_moment : LeavesOnly moment since old new (images old)
-  pub same : reads new ≡ reads old
-  pub fault : error ≡ Fault → Rose (faults old) (faults new)
-  pub faults_later : faults old ≤ faults new
-  pub stray : strays new ≡ strays old
+-- the World wasn't opened: nothing was written, and a fault is counted where it is told, and nowhere else
+pub record RefusesWith {D : Type 0} (g : Ghosts D) (old : D) (error : OpenError) (new : D) : Type 0 where
+  pub quiet : OnlyReads g old new
+  pub faults_later : g.faults_of old ≤ g.faults_of new
+  pub fault : error ≡ Fault → CountsFault (g.faults_of old) (g.faults_of new)
+  pub no_fault : error ≢ Fault → g.faults_of new ≡ g.faults_of old
+  pub stray : g.strays_of new ≡ g.strays_of old

@@ -1,13 +1,13 @@
 // The parts of a World, and the turns of its session.
 ghost use Rattle.std.specs.Prelude.{◌≡◌, ◌≢◌, ◌≤◌, ◌<◌, ◌+◌, ◌-◌, ◌*◌, ◌^◌, ◌⊎◌, IsTrue, [], ◌∷◌, ◌++◌, length, None, Some, vec_len, vec_capacity};
 ghost use Rattle.ctr_disk.specs.declared.fault.Stop.TheVariants.{Fault};
-ghost use Rattle.ctr_disk.specs.Crash.{Rose};
+ghost use Rattle.ctr_disk.specs.Crash.{CountsFault};
 ghost use Rattle.ctr_types.specs.declared.tape.Actor.TheVariants as who;
 ghost use Rattle.ctr_types.specs.declared.tape.Turn.TheVariants.{Went, Stopped};
 ghost use Rattle.ctr_model.specs.Database.{Database};
 ghost use Rattle.ctr_exec.specs.declared.session.Stage.TheVariants as stage;
 ghost use Rattle.ctr_world.specs.Turn.{WaitsAfter};
-ghost use Rattle.ctr_world.specs.World.{Runs, IsBounded, Kept, NoneFull, Notes, Says, entry_of, made_in, turns_left};
+ghost use Rattle.ctr_world.specs.World.{Runs, IsBounded, Kept, NoneFull, Notes, EndsTurn, next_entry, made_in, turns_left};
 
 use crate::opening::Opening;
 use crate::turns::{Acts, turn};
@@ -43,7 +43,7 @@ impl<D: Disk> Parts<D> {
     fn note(&mut self, act: Act, reply: Reply)
         requires room { vec_len self.old.tape < vec_capacity self.old.tape }
         requires small { self.old.finished < 2 ^ 64 - 1 }
-        ensures items { self.new.tape.items ≡ self.old.tape.items ++ entry_of D.moment_of self.old act reply ∷ [] }
+        ensures items { self.new.tape.items ≡ self.old.tape.items ++ next_entry D.Disk self.old act reply ∷ [] }
         ensures len { vec_len self.new.tape ≡ vec_len self.old.tape + 1 }
         ensures room { vec_capacity self.new.tape ≡ vec_capacity self.old.tape }
         ensures same { self.new ≡ record self.old { tape = self.new.tape } }
@@ -63,7 +63,7 @@ impl<D: Disk> Parts<D> {
         requires waits { WaitsAfter acts self.old.session.stage }
         requires room { vec_len self.old.tape + 2 ≤ vec_capacity self.old.tape }
         requires small { self.old.finished < 2 ^ 64 - 1 }
-        ensures notes { Notes D.moment_of acts self.old self.new }
+        ensures notes { Notes D.Disk acts self.old self.new }
         ensures at_most { vec_len self.new.tape + 2 * self.old.finished + made_in self.new.session.stage ≤ vec_len self.old.tape + 2 * self.new.finished + 2 * made_in self.new.session.stage }
         ensures ends { self.new.finished + made_in self.new.session.stage ≡ self.old.finished + 1 }
         ensures room { vec_capacity self.new.tape ≡ vec_capacity self.old.tape }
@@ -87,8 +87,8 @@ impl<D: Disk> Parts<D> {
         requires going { self.old.stop ≡ None }
         requires next { self.old.finished < length self.old.script.lines }
         requires turn { self.old.session.stage ≢ stage.Asked }
-        ensures runs { (base : Database) → Runs D.reads D.images D.moment_of D.since D.strays_of B.before B.start B.strays base self.old
-            → Runs D.reads D.images D.moment_of D.since D.strays_of B.before B.start B.strays base self.new }
+        ensures runs { (base : Database) → Runs D.Disk B.Opening base self.old
+            → Runs D.Disk B.Opening base self.new }
         ensures bounded { IsBounded self.new }
         ensures not_full { NoneFull self.old.tape.items → NoneFull self.new.tape.items }
         ensures fewer { turns_left self.new < turns_left self.old }
@@ -106,13 +106,13 @@ impl<D: Disk> Parts<D> {
         requires going { self.old.stop ≡ None }
         requires asked { self.old.session.stage ≡ stage.Asked }
         ensures runs { (base : Database) → IsTrue D.tells → B.start ≤ D.moment_of self.old.disk
-            → Runs D.reads D.images D.moment_of D.since D.strays_of B.before B.start B.strays base self.old
-            → Runs D.reads D.images D.moment_of D.since D.strays_of B.before B.start B.strays base self.new }
+            → Runs D.Disk B.Opening base self.old
+            → Runs D.Disk B.Opening base self.new }
         ensures bounded { self.new.stop ≡ None → IsBounded self.new }
         ensures not_full { NoneFull self.old.tape.items → NoneFull self.new.tape.items }
         ensures fewer { self.new.stop ≡ None → turns_left self.new < turns_left self.old }
         ensures answered { self.new.stop ≡ None → self.new.session.stage ≢ stage.Asked }
-        ensures stop { (self.new.stop ≡ None) ⊎ ((self.new.stop ≡ Some Fault) × Rose (D.faults_of self.old.disk) (D.faults_of self.new.disk)) }
+        ensures stop { ((self.new.stop ≡ None) × (D.faults_of self.new.disk ≡ D.faults_of self.old.disk)) ⊎ ((self.new.stop ≡ Some Fault) × CountsFault (D.faults_of self.old.disk) (D.faults_of self.new.disk)) }
         ensures faults { D.faults_of self.old.disk ≤ D.faults_of self.new.disk }
         ensures later { D.moment_of self.old.disk ≤ D.moment_of self.new.disk }
         ensures script { self.new.script ≡ self.old.script }
@@ -132,9 +132,9 @@ impl<D: Disk> Parts<D> {
     // A turn of session 1.
     fn serve<B: Opening>(&mut self, alloc: Global) -> Turn
         requires going { self.old.stop ≡ None }
-        requires kept { Kept D.tells D.reads D.images D.moment_of D.since D.faults_of D.strays_of B.image B.before B.start B.faults B.strays B.lines self.old }
-        ensures kept { Kept D.tells D.reads D.images D.moment_of D.since D.faults_of D.strays_of B.image B.before B.start B.faults B.strays B.lines self.new }
-        ensures says { Says result (who.Session 1) self.old self.new }
+        requires kept { Kept D.Disk B.Opening self.old }
+        ensures kept { Kept D.Disk B.Opening self.new }
+        ensures says { EndsTurn result (who.Session 1) self.old self.new }
     {
         if self.session.is_asked() {
             return self.flush::<B>();
@@ -150,8 +150,8 @@ impl<D: Disk> Parts<D> {
     fn flush<B: Opening>(&mut self) -> Turn
         requires going { self.old.stop ≡ None }
         requires asked { self.old.session.stage ≡ stage.Asked }
-        requires kept { Kept D.tells D.reads D.images D.moment_of D.since D.faults_of D.strays_of B.image B.before B.start B.faults B.strays B.lines self.old }
-        ensures kept { Kept D.tells D.reads D.images D.moment_of D.since D.faults_of D.strays_of B.image B.before B.start B.faults B.strays B.lines self.new }
+        requires kept { Kept D.Disk B.Opening self.old }
+        ensures kept { Kept D.Disk B.Opening self.new }
         ensures went { result ≡ Went → (self.new.stop ≡ None) × (turns_left self.new < turns_left self.old) }
         ensures stopped { result ≡ Stopped → self.new.stop ≢ None }
         ensures one_of { (result ≡ Went) ⊎ (result ≡ Stopped) }
@@ -166,9 +166,9 @@ impl<D: Disk> Parts<D> {
 
     /// A turn of an actor. After a stop it does nothing.
     pub fn step<B: Opening>(&mut self, alloc: Global, actor: Actor) -> Turn
-        requires kept { Kept D.tells D.reads D.images D.moment_of D.since D.faults_of D.strays_of B.image B.before B.start B.faults B.strays B.lines self.old }
-        ensures kept { Kept D.tells D.reads D.images D.moment_of D.since D.faults_of D.strays_of B.image B.before B.start B.faults B.strays B.lines self.new }
-        ensures says { Says result actor self.old self.new }
+        requires kept { Kept D.Disk B.Opening self.old }
+        ensures kept { Kept D.Disk B.Opening self.new }
+        ensures says { EndsTurn result actor self.old self.new }
     {
         if self.stop.is_some() {
             return Turn::Stopped;

@@ -1,12 +1,11 @@
 // The World: its type names what it was opened on, and keeps the tape legal and the disk's images in order.
 ghost use Rattle.std.specs.Prelude.{◌≡◌, ◌↔◌, ◌≤◌, ◌<◌, ◌-◌, ◌^◌, IsTrue, length, slice_get, IfOk, IfErr};
 ghost use Rattle.std.specs.Option.{option_map};
-ghost use Rattle.ctr_disk.specs.Crash.{Within};
 ghost use Rattle.ctr_model.specs.Database.{Database};
 ghost use Rattle.ctr_thin.specs.Thin.{StandsFor, Explains};
 ghost use Rattle.ctr_exec.specs.declared.session.Stage.TheVariants as stage;
 ghost use Rattle.ctr_world.specs.declared.parts.Parts.{Parts};
-ghost use Rattle.ctr_world.specs.World.{AreTaken, CanOpen, NoneFull, Says, Ends, StopsBy, RefusesWith};
+ghost use Rattle.ctr_world.specs.World.{IsOpenedOn, CanRun, CanOpen, NoneFull, EndsTurn, Ends, StopsBy, RefusesWith};
 
 use crate::opening::Opening;
 use crate::parts::Parts;
@@ -34,7 +33,7 @@ impl<D: Disk, B: Opening> Model for World<D, B> {
 
     ghost use Rattle.ctr_world.specs.World.{Kept};
 
-    ghost invariant = { λ w. Kept D.tells D.reads D.images D.moment_of D.since D.faults_of D.strays_of B.image B.before B.start B.faults B.strays B.lines w.parts };
+    ghost invariant = { λ w. Kept D.Disk B.Opening w.parts };
 }
 
 /// What a World leaves at its end.
@@ -51,17 +50,11 @@ pub struct Finished<D> {
 impl<D: Disk, B: Opening> World<D, B> {
     /// Opens the database of a disk for a script. A refusal gives the disk back.
     pub fn open(alloc: Global, disk: D, script: Script) -> Result<World<D, B>, (OpenError, D)>
-        requires image { B.image ≡ D.reads disk }
-        requires before { Within (D.images disk) B.before }
-        requires start { B.start ≡ D.moment_of disk }
-        requires faults { B.faults ≡ D.faults_of disk }
-        requires strays { B.strays ≡ D.strays_of disk }
-        requires lines { B.lines ≡ script.lines }
-        requires taken { AreTaken script.lines }
-        requires few { length script.lines < 2 ^ 32 - 1 }
+        requires named { IsOpenedOn B.Opening D.Disk disk script.lines }
+        requires runs { CanRun script.lines }
         ensures can_open { IsTrue D.tells → IfOk result (λ w. CanOpen (D.reads disk)) }
         ensures refused { IsTrue D.tells → IfErr result (λ e. Explains (D.reads disk) e.0) }
-        ensures stays { IfErr result (λ e. RefusesWith D.reads D.images D.moment_of D.since D.faults_of D.strays_of disk e.0 e.1) }
+        ensures stays { IfErr result (λ e. RefusesWith D.Disk disk e.0 e.1) }
     {
         let mut disk = disk;
         let opened = match open(alloc, &mut disk) {
@@ -131,14 +124,14 @@ impl<D: Disk, B: Opening> World<D, B> {
 
     /// A turn of an actor. After a stop it does nothing.
     pub fn step(&mut self, alloc: Global, actor: Actor) -> Turn
-        ensures says { Says result actor self.old self.new }
+        ensures says { EndsTurn result actor self.old self.new }
     {
         self.parts.step::<B>(alloc, actor)
     }
 
     /// Steps the session until its statements are finished, or the World stops.
     pub fn finish(self, alloc: Global) -> Finished<D>
-        ensures ends { (base : Database) → IsTrue D.tells → StandsFor B.image base → Ends D.moment_of D.since D.strays_of B.before B.start B.strays B.lines base
+        ensures ends { (base : Database) → IsTrue D.tells → StandsFor B.image base → Ends D.Disk B.Opening base
             result.tape.entries result.stop result.disk }
         ensures not_full { NoneFull result.tape.entries }
         ensures later { B.start ≤ D.moment_of result.disk }

@@ -10,14 +10,14 @@ returns-in_err-write-clause-any_moment g c =
     let d = g.D.Disk in
     let old = c.args.disk.now in
     let P : Image → Type 0 = Tears c.args.file c.args.at (length c.args.bytes.now) (d.images old) in
-    let first = starts d.moment_of d.since old P (d.images old) (g.met.D.Disk.only_now old) (λ i is. (i, is, torn_nothing _ _ _ i)) in
-    goes_on d.moment_of d.since old old c.write.new.self P (d.images c.write.new.self) first c.write.ensures.time c.write.ensures.crash
+    let first = starts d old P (d.images old) (g.met.D.Disk.only_now old) (λ i is. (i, is, torn_nothing _ _ _ i)) in
+    goes_on d old old c.write.new.self P (d.images c.write.new.self) first c.write.ensures.time c.write.ensures.crash
 
 pub returns-clause-any_moment : goal.returns-clause-any_moment
 returns-clause-any_moment g c =
     let d = g.D.Disk in
     let old = c.args.disk.now in
     let P : Image → Type 0 = Tears c.args.file c.args.at (length c.args.bytes.now) (d.images old) in
-    let first = starts d.moment_of d.since old P (d.images old) (g.met.D.Disk.only_now old) (λ i is. (i, is, torn_nothing _ _ _ i)) in
-    let written = goes_on d.moment_of d.since old old c.write.new.self P (d.images c.write.new.self) first c.write.ensures.time c.write.ensures.crash in
-    goes_on d.moment_of d.since old c.write.new.self c.sync.new.self P (d.images c.sync.new.self) written c.sync.ensures.time (λ i is. c.write.ensures.crash i (c.sync.ensures.crash i is))
+    let first = starts d old P (d.images old) (g.met.D.Disk.only_now old) (λ i is. (i, is, torn_nothing _ _ _ i)) in
+    let written = goes_on d old old c.write.new.self P (d.images c.write.new.self) first c.write.ensures.time c.write.ensures.crash in
+    goes_on d old c.write.new.self c.sync.new.self P (d.images c.sync.new.self) written c.sync.ensures.time (λ i is. c.write.ensures.crash i (c.sync.ensures.crash i is))

@@ -18,10 +18,10 @@ returns-clause-any_moment g c settled =
     let new = c.write_batch.new.disk in
     let empty = c.in_ok-empty_logs.ensures.made settled.told in
     let ext = fresh_extends _ (d.reads mid).log_a empty.log.0 refl empty.log.1 in
-    let crash = c.write_batch.ensures.any_moment 1 [] (first_checkpoint ∷ []) (settled_by d.tells d.reads d.images mid settled.told c.in_ok-empty_logs.ensures.durable) ext in
+    let crash = c.write_batch.ensures.any_moment 1 [] (first_checkpoint ∷ []) (settled_by d mid settled.told c.in_ok-empty_logs.ensures.durable) ext in
     let P : Image → Type 0 = SameRoot old in
-    joined d.moment_of d.since c.args.disk.now mid new P (c.empty_logs.ensures.any_moment settled)
-    (weaker d.moment_of d.since mid new (IsBeforeOrAfter LogA 1 [] (first_checkpoint ∷ []) (d.reads mid)) P crash (λ i step. log_step old (d.reads mid) i empty step))
+    joined d c.args.disk.now mid new P (c.empty_logs.ensures.any_moment settled)
+    (weaker d mid new (IsBeforeOrAfter LogA 1 [] (first_checkpoint ∷ []) (d.reads mid)) P crash (λ i step. log_step old (d.reads mid) i empty step))
 
 pub returns-clause-made : goal.returns-clause-made
 unfolding spelled

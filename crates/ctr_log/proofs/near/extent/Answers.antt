@@ -37,9 +37,9 @@ loop-gate-preserved g c =
     let gate = c.loop-gate.gate in
     let before = c.loop-gate.invariant in
     record {
-      quiet = reads_joined d.moment_of d.since d.reads d.images c.args.disk.now c.loop-gate.disk c.frames_len.new.disk before.quiet c.frames_len.ensures.quiet;
-      faults = omega (arith, before.faults, c.frames_len.ensures.cause.later);
-      strays = c.frames_len.ensures.stray ∙ before.strays;
+      quiet = reads_joined d c.args.disk.now c.loop-gate.disk c.frames_len.new.disk before.quiet c.frames_len.ensures.quiet;
+      faults = c.in_ok-len.ensures.counts.faults.fine ∙ before.faults;
+      strays = c.frames_len.ensures.counts.stray ∙ before.strays;
       ahead = λ first bs told size log.
           let low = log.low in
           let short = log.short in

@@ -4,4 +4,4 @@ use Rattle.ctr_print.specs.Prints.{PutsOn}
 use Rattle.ctr_print.proofs.form.put_each.Given as goal
 
 abbrev pub invariant-loop-item : goal.invariant-loop-item
-invariant-loop-item g l = PutsOn g.K.Sink.tells g.K.Sink.taken g.K.Sink.faults_of l.fn.sink l.fine (flat_map g.F.Form.text (take l.item-index l.items)) l.sink l.well
+invariant-loop-item g l = PutsOn g.K.Sink l.fn.sink l.fine (flat_map g.F.Form.text (take l.item-index l.items)) l.sink l.well

@@ -4,7 +4,7 @@ use Rattle.std.proofs.lemmas.Result.{err_from_is_err_and}
 use Rattle.ctr_disk.specs.declared.fault.Root.{Root}
 use Rattle.ctr_log.specs.Homes.{root_value, Answers}
 use Rattle.ctr_tables.specs.Tables.{database_of}
-use Rattle.ctr_thin.specs.Thin.{Makes, MakesSome, RefusesToOpen}
+use Rattle.ctr_thin.specs.Thin.{MakesDatabase, MakesSomeDatabase, RefusesToOpen}
 use Rattle.ctr_thin.proofs.OpenLemmas.{log_refused, records_refused, next_refused, was_opened, only_tables}
 use Rattle.ctr_thin.proofs.opening.read_database.Goals as goal
 
@@ -25,7 +25,7 @@ returns-in_err-tables-clause-refused g c told =
     let r = c.in-Some.root in
     let says = subst (λ (o : Option Root). Answers (root_value image.root) (Ok o)) c.in-Some.is (c.in_ok-root.ensures.answer told) in
     let e = c.in_err-tables.field-0.0 in
-    let refused = subst (λ (l : List (List ℕ)). RefusesToOpen (MakesSome l) e) c.as_slice.ensures c.in_err-tables.ensures.refused in
+    let refused = subst (λ (l : List (List ℕ)). RefusesToOpen (MakesSomeDatabase l) e) c.as_slice.ensures c.in_err-tables.ensures.refused in
     rw (p.1, p.2) (records_refused image (d.reads c.read_root.new.disk) c.in_ok-root.ensures.quiet.same r says c.in_ok-log.records (λ bs log. c.in_ok-log.ensures.only bs told log) e refused)
 
 pub returns-in_err-check_next-clause-refused : goal.returns-in_err-check_next-clause-refused
@@ -47,7 +47,7 @@ returns-clause-opened g c told =
     let r = c.in-Some.root in
     let says = subst (λ (o : Option Root). Answers (root_value image.root) (Ok o)) c.in-Some.is (c.in_ok-root.ensures.answer told) in
     let tables = c.in_ok-tables.tables in
-    let makes = subst (λ (l : List (List ℕ)). Makes l (database_of tables)) c.as_slice.ensures c.in_ok-tables.ensures.found in
+    let makes = subst (λ (l : List (List ℕ)). MakesDatabase l (database_of tables)) c.as_slice.ensures c.in_ok-tables.ensures.found in
     was_opened image (d.reads c.read_root.new.disk) c.in_ok-root.ensures.quiet.same r says c.in_ok-log.records (λ bs log. c.in_ok-log.ensures.only bs told log) (record { log = c.in_ok-log.log; tables = tables })
     (c.in_ok-log.ensures.found told) makes (subst (λ (n : ℕ). n < 2 ^ 62) c.next.ensures c.in_ok-check_next.ensures)
 
@@ -58,5 +58,5 @@ returns-clause-only g c db told =
     let r = c.in-Some.root in
     let says = subst (λ (o : Option Root). Answers (root_value image.root) (Ok o)) c.in-Some.is (c.in_ok-root.ensures.answer told) in
     let tables = c.in_ok-tables.tables in
-    let makes = subst (λ (l : List (List ℕ)). Makes l (database_of tables)) c.as_slice.ensures c.in_ok-tables.ensures.found in
+    let makes = subst (λ (l : List (List ℕ)). MakesDatabase l (database_of tables)) c.as_slice.ensures c.in_ok-tables.ensures.found in
     only_tables image (d.reads c.read_root.new.disk) c.in_ok-root.ensures.quiet.same r says c.in_ok-log.records (λ bs log. c.in_ok-log.ensures.only bs told log) c.fold_is_one.ensures (database_of tables) makes db

@@ -5,7 +5,7 @@ use Rattle.ctr_rec.specs.declared.records.Item.{Item}
 use Rattle.ctr_rec.specs.Records.{Fits}
 use Rattle.ctr_rec.specs.Fold.{Folds}
 use Rattle.ctr_tables.specs.Tables.{database_of}
-use Rattle.ctr_thin.specs.Thin.{AppliesSome, FoldsSome}
+use Rattle.ctr_thin.specs.Thin.{CanApply, CanApplyItems}
 use Rattle.ctr_thin.proofs.ReplayLemmas.{next_is, items_on, items_left, first_applies, refuses_more}
 use Rattle.ctr_thin.proofs.replay.apply_items.Goals as goal
 
@@ -19,7 +19,7 @@ returns-in_err-apply_item-clause-refused c =
     let so_far = database_of c.loop-item.tables in
     let rest = drop (i + 1) items in
     let here = next_is items i x c.item-item.is c.loop-item-test.true in
-    rw (p.1, p.2) (refuses_more (AppliesSome so_far x) (FoldsSome all items) c.in_err-apply_item.field-0.0 (λ f.
+    rw (p.1, p.2) (refuses_more (CanApply so_far x) (CanApplyItems all items) c.in_err-apply_item.field-0.0 (λ f.
     first_applies so_far x rest f.0 (subst (λ (l : List Item). Folds so_far l f.0) here (c.loop-item.invariant.left f.0 f.1))) c.in_err-apply_item.ensures.refused)
 
 pub loop-item-preserved : goal.loop-item-preserved

@@ -2,7 +2,7 @@ use Rattle.std.proofs.Common.{◌+◌, ℕ, List, drop, subst, sym}
 use Rattle.std.proofs.lemmas.Result.{err_from_is_err_and}
 use Rattle.ctr_rec.specs.Fold.{FoldsRecord, FoldsRecords}
 use Rattle.ctr_tables.specs.Tables.{database_of}
-use Rattle.ctr_thin.specs.Thin.{FoldsRecordSome, FoldsRecordsSome}
+use Rattle.ctr_thin.specs.Thin.{CanReplayRecord, CanReplay}
 use Rattle.ctr_thin.proofs.ReplayLemmas.{next_is, records_left, refuses_more}
 use Rattle.ctr_thin.proofs.replay.replay.Goals as goal
 
@@ -16,7 +16,7 @@ returns-in_err-apply_record-clause-refused c =
     let all = database_of c.args.tables.now in
     let so_far = database_of c.loop-text.tables in
     let here = next_is records i x c.text-item.is c.loop-text-test.true in
-    rw (p.1, p.2) (refuses_more (FoldsRecordSome so_far bytes) (FoldsRecordsSome all records) c.in_err-apply_record.field-0.0 (λ f.
+    rw (p.1, p.2) (refuses_more (CanReplayRecord so_far bytes) (CanReplay all records) c.in_err-apply_record.field-0.0 (λ f.
     let left = subst (λ (l : List (List ℕ)). FoldsRecords so_far l f.0) here (c.loop-text.invariant.left f.0 f.1) in
     (left.0, subst (λ (b : List ℕ). FoldsRecord so_far b left.0) (sym c.as_slice.ensures) left.1)) c.in_err-apply_record.ensures.refused)
 

@@ -1,6 +1,6 @@
 use Rattle.std.proofs.Common.{◌⊎◌, sym, subst}
 use Rattle.ctr_disk.specs.declared.disk.Image.{Image}
-use Rattle.ctr_disk.specs.Crash.{LeavesOnly}
+use Rattle.ctr_disk.specs.Device.{LeavesOnly}
 use Rattle.ctr_disk.proofs.Moments.{weaker}
 use Rattle.ctr_log.specs.Fresh.{IsNoneOrFresh}
 use Rattle.ctr_top.specs.Top.{IsNoneOrEmpty}
@@ -13,5 +13,5 @@ returns-clause-any_moment g c = λ told none.
     let old = c.args.disk in
     let P : Image → Type 0 = λ i. d.images old i ⊎ IsNoneOrFresh (d.reads old) i in
     let Q : Image → Type 0 = λ i. d.images old i ⊎ IsNoneOrEmpty i in
-    subst (λ e. LeavesOnly d.moment_of d.since old e Q) (sym c.without_tape.ensures.disk)
-    (weaker d.moment_of d.since old c.init-end.new.disk P Q (c.init-end.ensures.any_moment told none) (none_or_empty d.images old c.fresh_stands.ensures.stands (d.reads old)))
+    subst (λ e. LeavesOnly d old e Q) (sym c.without_tape.ensures.disk)
+    (weaker d old c.init-end.new.disk P Q (c.init-end.ensures.any_moment told none) (none_or_empty d.images old c.fresh_stands.ensures.stands (d.reads old)))

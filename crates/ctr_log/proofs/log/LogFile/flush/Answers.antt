@@ -1,11 +1,10 @@
 use Rattle.std.proofs.Common.{◌≡◌, ◌∙◌, ◌+◌, [], ℕ, List, length, take, drop, ap, subst, sym, refl, arith, length-drop, length-take}
 use Rattle.std.proofs.lemmas.List.{drop_all}
-use Rattle.ctr_disk.specs.Image.{content}
-use Rattle.ctr_log.specs.Settled.{SameBut}
+use Rattle.ctr_disk.specs.Image.{content, OtherFilesStay}
 use Rattle.ctr_log.specs.Logs.{Log, frames, unframed, GoesOn, Extends, with_batch}
 use Rattle.ctr_log.specs.LogFile.{log_of}
 use Rattle.ctr_log.proofs.LogLemmas.{length-unframed}
-use Rattle.ctr_log.proofs.FlushLemmas.{reopened, extends, goes_on, leaves_prefix, leaves_gate}
+use Rattle.ctr_log.proofs.FlushLemmas.{reopened, extends, goes_on, leaves}
 use Rattle.ctr_log.proofs.log.LogFile.flush.Goals as goal
 
 pub invariant_of-self : goal.invariant_of-self
@@ -31,15 +30,7 @@ returns-in_err-written-clause-any_moment g c first bs settled goes =
     let d = g.D.Disk in
     let a = c.self.inside in
     let old = d.reads c.args.disk.now in
-    leaves_prefix a c.self.invariant (omega arith) (omega arith) a.buffer.ok.0 first bs d.moment_of d.since c.args.disk.now c.write_batch-written.new.disk old c.args.self.now c.self.view_is goes c.deref.result.now
-    (c.deref.ensures.value ∙ c.seal.ensures.items) (c.write_batch-written.ensures.any_moment first bs (unframed a.count (drop 20 a.buffer.items)) settled)
-
-pub returns-in_err-written-clause-long : goal.returns-in_err-written-clause-long
-returns-in_err-written-clause-long g c first bs settled goes =
-    let d = g.D.Disk in
-    let a = c.self.inside in
-    let old = d.reads c.args.disk.now in
-    leaves_gate a c.self.invariant (omega arith) (omega arith) a.buffer.ok.0 first bs d.moment_of d.since c.args.disk.now c.write_batch-written.new.disk old c.args.self.now c.self.view_is goes c.deref.result.now
+    leaves a c.self.invariant (omega arith) (omega arith) a.buffer.ok.0 first bs d c.args.disk.now c.write_batch-written.new.disk old c.args.self.now c.self.view_is goes c.deref.result.now
     (c.deref.ensures.value ∙ c.seal.ensures.items) (c.write_batch-written.ensures.any_moment first bs (unframed a.count (drop 20 a.buffer.items)) settled)
 
 pub invariant_of-self-2 : goal.invariant_of-self-2
@@ -64,15 +55,7 @@ returns-clause-any_moment g c first bs settled goes =
     let d = g.D.Disk in
     let a = c.self.inside in
     let old = d.reads c.args.disk.now in
-    leaves_prefix a c.self.invariant (omega arith) (omega arith) a.buffer.ok.0 first bs d.moment_of d.since c.args.disk.now c.write_batch-written.new.disk old c.args.self.now c.self.view_is goes c.deref.result.now
-    (c.deref.ensures.value ∙ c.seal.ensures.items) (c.write_batch-written.ensures.any_moment first bs (unframed a.count (drop 20 a.buffer.items)) settled)
-
-pub returns-clause-long : goal.returns-clause-long
-returns-clause-long g c first bs settled goes =
-    let d = g.D.Disk in
-    let a = c.self.inside in
-    let old = d.reads c.args.disk.now in
-    leaves_gate a c.self.invariant (omega arith) (omega arith) a.buffer.ok.0 first bs d.moment_of d.since c.args.disk.now c.write_batch-written.new.disk old c.args.self.now c.self.view_is goes c.deref.result.now
+    leaves a c.self.invariant (omega arith) (omega arith) a.buffer.ok.0 first bs d c.args.disk.now c.write_batch-written.new.disk old c.args.self.now c.self.view_is goes c.deref.result.now
     (c.deref.ensures.value ∙ c.seal.ensures.items) (c.write_batch-written.ensures.any_moment first bs (unframed a.count (drop 20 a.buffer.items)) settled)
 
 pub returns-clause-flushed : goal.returns-clause-flushed
@@ -89,11 +72,16 @@ returns-clause-flushed g c first bs told goes =
     let ext = extends a keeps (omega arith) (omega arith) a.buffer.ok.0 first bs old goes_a in
     let after = c.in_ok-written.ensures.added first bs rs told (subst (λ (b : List ℕ). Extends first bs rs a.place b (content a.file old)) (sym body) ext) in
     let log : Log = log_of (record { file = a.file; place = a.place + (1 + c.len-len.result); first = a.first + a.count; count = 0; buffer = c.truncate-2.new.self }) in
-    let Q : Log → Type 0 = λ v. SameBut v.file old new × GoesOn first (with_batch bs v.buffered) log new in
+    let Q : Log → Type 0 = λ v. OtherFilesStay v.file old new × GoesOn first (with_batch bs v.buffered) log new in
     subst Q c.self.view_is (goes_on a keeps (omega arith) (omega arith) a.buffer.ok.0 first bs old new log goes_a after refl (omega (arith, c.len-len.ensures)) refl)
 
-pub returns-clause-next : goal.returns-clause-next
-returns-clause-next g c =
+pub returns-clause-emptied : goal.returns-clause-emptied
+returns-clause-emptied g c =
     let a = c.self.inside in
     let count_is : a.first + a.count ≡ (log_of a).first + length (log_of a).buffered = ap (λ (n : ℕ). a.first + n) (sym (length-unframed a.count (drop 20 a.buffer.items))) in
-    subst (λ (v : Log). a.first + a.count ≡ v.first + length v.buffered) c.self.view_is count_is
+    record {
+      file = ap (λ (v : Log). v.file) c.self.view_is;
+      none = refl;
+      next = subst (λ (v : Log). a.first + a.count ≡ v.first + length v.buffered) c.self.view_is count_is;
+      room = omega (arith, ap (λ (v : Log). v.room) c.self.view_is);
+    }

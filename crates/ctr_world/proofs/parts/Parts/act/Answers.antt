@@ -22,17 +22,17 @@ returns-clause-runs g c = λ base runs.
     let line = c.index-as_slice-self.result in
     let there : slice_get w.script.lines w.finished ≡ Some line =
     get_there w.script.lines w.finished line c.requires.next (c.index-as_slice-self.is ∙ ap (λ (l : List Line). get_or l w.finished line) c.as_slice.ensures) in
-    subst (Runs d.reads d.images d.moment_of d.since d.strays_of b.before b.start b.strays base) (sym n.same)
-    (turn_runs d.reads d.images d.moment_of d.since d.strays_of g.met.D.Disk.earlier g.met.D.Disk.only_now c.states_grow.ensures b.before b.start b.strays base w made runs
+    subst (Runs d b base) (sym n.same)
+    (turn_runs d g.met.D.Disk.earlier g.met.D.Disk.only_now c.states_grow.ensures b base w made runs
     c.requires.bounded c.requires.going c.requires.turn line there t.answered (λ is. (t.asked is).0)
-    c.turn-acts.result (t.turn _ runs.at.shows) t.gathers t.waits (notes_of d.moment_of w v log session c.turn-acts.result n.notes) refl)
+    c.turn-acts.result (t.turn _ runs.at.shows) t.gathers t.waits (notes_of d w v log session c.turn-acts.result n.notes) refl)
 
 pub returns-clause-not_full : goal.returns-clause-not_full
 returns-clause-not_full g c =
     let d = g.D.Disk in
     let w = c.args.self.now in
     let made : Parts g.row.D.Denot = record w { log = c.turn-acts.new.log; session = c.turn-acts.new.session } in
-    none_full_noted d.moment_of made c.note_acts.new.self c.turn-acts.result c.turn-acts.ensures.not_full c.note_acts.ensures.notes
+    none_full_noted d made c.note_acts.new.self c.turn-acts.result c.turn-acts.ensures.not_full c.note_acts.ensures.notes
 
 pub returns-clause-bounded : goal.returns-clause-bounded
 returns-clause-bounded g c =

@@ -6,13 +6,13 @@ returns-then-is_some-clause-kept g c =
     let d = g.D.Disk in
     let b = g.B.Opening in
     let h = c.harden.ensures in
-    kept_after d.tells d.reads d.images d.moment_of d.since d.faults_of d.strays_of b.image b.before b.start b.faults b.strays b.lines c.args.self.now c.harden.new.self
-    c.requires.kept h.runs h.bounded h.not_full h.stop h.faults h.later h.script
+    kept_after d b c.args.self.now c.harden.new.self
+    c.requires.kept h.runs h.bounded h.not_full c.requires.going h.stop h.faults h.later h.script
 
 pub returns-else-is_some-clause-kept : goal.returns-else-is_some-clause-kept
 returns-else-is_some-clause-kept g c =
     let d = g.D.Disk in
     let b = g.B.Opening in
     let h = c.harden.ensures in
-    kept_after d.tells d.reads d.images d.moment_of d.since d.faults_of d.strays_of b.image b.before b.start b.faults b.strays b.lines c.args.self.now c.harden.new.self
-    c.requires.kept h.runs h.bounded h.not_full h.stop h.faults h.later h.script
+    kept_after d b c.args.self.now c.harden.new.self
+    c.requires.kept h.runs h.bounded h.not_full c.requires.going h.stop h.faults h.later h.script

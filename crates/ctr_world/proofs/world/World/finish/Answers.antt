@@ -13,8 +13,8 @@ returns g c =
     let over = subst (λ (q : Parts g.row.D.Denot). q.stop ≡ None → q.finished ≡ length q.script.lines) (sym c.world.view_is)
     (says_end c.step.result c.loop.world c.step.new.self c.in_default.not-Went c.step.ensures.says) in
     record {
-      ends = λ base told stands. subst (λ es. Ends d.moment_of d.since d.strays_of b.before b.start b.strays b.lines base es w.stop w.disk) (sym c.from_vec.ensures)
-          (ended d.tells d.reads d.images d.moment_of d.since d.faults_of d.strays_of g.met.D.Disk.only_now b.image b.before b.start b.faults b.strays b.lines w k over base told stands);
+      ends = λ base told stands. subst (λ es. Ends d b base es w.stop w.disk) (sym c.from_vec.ensures)
+          (ended d g.met.D.Disk.only_now b w k over base told stands);
       not_full = subst NoneFull (sym c.from_vec.ensures) k.not_full;
       later = k.later;
       stops = k.stops;

@@ -11,16 +11,17 @@ invariant_of-result g c =
     let o = c.in-Ok.ensures in
     let t = c.in-Ok-with_capacity.ensures in
     let new = c.in-Ok-new.ensures in
+    let named = c.requires.named in
     record {
-      runs = λ base told stands. runs_new d.reads d.images d.moment_of d.since d.strays_of g.met.D.Disk.earlier b.before b.start b.strays base c.args.disk _ c.in-Ok.opened t.items
-          refl new refl (o.opened told) (o.only base told (subst (λ i. StandsFor i base) c.requires.image stands)) o.same o.durable o.any_moment c.requires.before
-          c.requires.start (o.stray ∙ sym c.requires.strays);
-      bounded = λ _. bounded_new _ c.in-Ok.opened.tables new c.requires.taken c.requires.few refl t.len (omega (arith, t.capacity, c.len.ensures)) o.next.0 o.next.1;
+      runs = λ base told stands. runs_new d g.met.D.Disk.earlier b base c.args.disk _ c.in-Ok.opened t.items
+          refl new refl (o.opened told) (o.only base told (subst (λ i. StandsFor i base) named.image stands)) o.quiet.same o.settled.now o.quiet.any_moment named.before
+          named.start (o.counts.stray ∙ sym named.strays);
+      bounded = λ _. bounded_new _ c.in-Ok.opened.tables new c.requires.runs.taken c.requires.runs.few refl t.len (omega (arith, t.capacity, c.len.ensures)) o.next.0 o.next.1;
       not_full = subst NoneFull (sym t.items) tt;
-      lines_are = sym c.requires.lines;
-      later = omega (arith, c.requires.start, o.later);
-      faults_later = omega (arith, c.requires.faults, o.faults);
-      stops = tt;
+      lines_are = sym named.lines_are;
+      later = omega (arith, named.start, o.settled.rises);
+      faults_later = omega (arith, named.faults, o.counts.faults.later);
+      stops = o.counts.faults.fine (λ is. absurd (cc is)) ∙ sym named.faults;
     }
 
 pub returns-clause-can_open : goal.returns-clause-can_open
