@@ -126,7 +126,7 @@ Shows state a = ShowsAs state (seen_of a) a.stage
 
 -- the reply is allowed, and the session shows the state that it leaves
 pub record RepliesAs (state : State) (a : Act) (statement : Statement) (reply : Reply) (new : Seen) (g : Stage) : Type 0 where
-  pub allowed : Allowed state 1 a (Some statement) reply
+  pub allowed : Allowed state 1 a statement reply
   pub shows : ShowsAs (next_state state 1 a (Some statement) reply) new g
 
 abbrev pub Replies : State → Act → Statement → Reply → Session → Type 0
@@ -134,12 +134,12 @@ Replies state a statement reply new = RepliesAs state a statement reply (seen_of
 
 -- a lock is granted, and the session shows the state that this leaves
 pub record Grants (state : State) (statement : Statement) (new : Session) : Type 0 where
-  pub allowed : Allowed state 1 act.Lock (Some statement) reply.Granted
+  pub allowed : Allowed state 1 act.Lock statement reply.Granted
   pub shows : Shows (next_state state 1 act.Lock (Some statement) reply.Granted) new
 
 -- a lock is granted, and its write has this reply
 pub record RepliesTwice (state : State) (statement : Statement) (answer : Reply) (new : Session) : Type 0 where
-  pub allowed : Allowed state 1 act.Lock (Some statement) reply.Granted
+  pub allowed : Allowed state 1 act.Lock statement reply.Granted
   pub write : Replies (next_state state 1 act.Lock (Some statement) reply.Granted) act.Write statement answer new
 
 -- its commit isn't asked for: its next act is one of a statement

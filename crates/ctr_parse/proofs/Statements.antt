@@ -6,7 +6,7 @@ use Rattle.ctr_types.specs.declared.value.Value.{Value}
 use Rattle.ctr_types.specs.declared.statement.Statement.{Statement}
 use Rattle.ctr_types.specs.declared.statement.Statement.TheVariants as st
 use Rattle.ctr_types.specs.declared.statement.Line.{Line}
-use Rattle.ctr_model.specs.Grammar.{first, Part, key, name, sign, session, open_paren, close_paren, literals, schema_parts, statement_parts, AllMatch, IsAmount, IsSchema, IsWithin, Takes}
+use Rattle.ctr_model.specs.Grammar.{first, Part, key, name, sign, session, open_paren, close_paren, literals, schema_parts, statement_parts, AllMatch, IsAmount, IsSchema, IsWithin, FormTakes}
 use Rattle.ctr_parse.specs.declared.error.ParseError.{ParseError}
 use Rattle.ctr_parse.specs.declared.error.ParseError.TheVariants as error
 use Rattle.ctr_parse.specs.Lines.{IsLineOf}
@@ -17,7 +17,7 @@ use Rattle.ctr_parse.proofs.Columns.{schema_is, schema_again}
 
 -- this statement stands at the tokens
 record IsStatement (ts : List (List ℕ)) (s : Statement) (rest : List (List ℕ)) : Type 0 where
-  takes : Takes first 1 s
+  takes : FormTakes first 1 s
   within : IsWithin s
   stand : (ps : List Part) → AllMatch first ps rest → AllMatch first (statement_parts s ++ ps) ts
 
@@ -190,7 +190,7 @@ statement_is ts s rest h =
 behind_key : (k : List ℕ) (ps : List Part) (ts : List (List ℕ)) → AllMatch first (key k ∷ ps) ts → (behind : List (List ℕ)) × (ts ≡ k ∷ behind) × AllMatch first ps behind
 behind_key k ps ts h = let f = first_stands (key k) ps ts h in (f.1, f.2 ∙ ap (λ t. t ∷ f.1) f.3, f.4)
 
-statement_again : (n : ℕ) (s : Statement) (ps : List Part) (ts : List (List ℕ)) → Takes first n s → IsWithin s → AllMatch first (statement_parts s ++ ps) ts → Again s ps (statement_at ts)
+statement_again : (n : ℕ) (s : Statement) (ps : List Part) (ts : List (List ℕ)) → FormTakes first n s → IsWithin s → AllMatch first (statement_parts s ++ ps) ts → Again s ps (statement_at ts)
 statement_again n st.Begin ps ts takes within h =
     let b = behind_key (codes "BEGIN") ps ts h in (b.0, ap statement_at b.1 ∙ begin_again b.0, b.2)
 statement_again n st.Commit ps ts takes within h =
@@ -219,7 +219,7 @@ statement_again n (st.Delete table at) ps ts takes within h = absurd takes
 
 -- ---- lines
 
-one_session : (n : ℕ) (s : Statement) → Takes first n s → n ≡ 1
+one_session : (n : ℕ) (s : Statement) → FormTakes first n s → n ≡ 1
 one_session n st.Begin h = h
 one_session n st.Commit h = h
 one_session n st.Rollback h = absurd h

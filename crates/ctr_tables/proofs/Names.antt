@@ -1,13 +1,13 @@
 -- What the tables stand for after something was written at a name.
 use Rattle.std.proofs.Common.{◌≡◌, ℕ, T, List, Option, Some, None, refl, sym, ◌∙◌, ap, subst}
 use Rattle.std.specs.Prelude.{IsSome}
-use Rattle.std.specs.Option.{option_and_then, option_map, option_map_or, unwrap_or}
+use Rattle.std.specs.Option.{option_and_then, option_map, unwrap_or}
 use Rattle.std.specs.Cmp.Lexicographic.{nat_list_cmp_total}
 use Rattle.std.specs.BTreeMap.{BTreeMap, IsOrdered, WritesThrough, get_by}
 use Rattle.std.specs.FinMap.Entries.{find, put, is_sorted}
 use Rattle.std.proofs.lemmas.Map.Lookups.{exact_bytes}
 use Rattle.ctr_model.specs.declared.database.Table.{Table}
-use Rattle.ctr_model.specs.Database.{Database, name_cmp, table_at, at_table}
+use Rattle.ctr_model.specs.Database.{Database, name_cmp, table_at, at_found, at_table}
 use Rattle.ctr_tables.specs.Stored.{HeldTable, table_of}
 use Rattle.ctr_tables.specs.Tables.{database_of}
 use Rattle.ctr_tables.proofs.Seen.{sorted_is, sorted_seen, at_key, seen_put, seen_room, put_found, lookup_is}
@@ -27,10 +27,10 @@ pub table_is : (a : Slots) (name : List ℕ) → IsOrdered name_cmp a → (v : O
 table_is a name o v is = at_key name_cmp show nat_list_cmp_total name a.entries o v is
 
 pub at_none : (db : Database) (name : List ℕ) (f : Table → Table) → table_at db name ≡ None → at_table name f db ≡ db
-at_none db name f none = ap (λ t. option_map_or (λ table. put name_cmp name (f table) db) t db) none
+at_none db name f none = ap (λ t. at_found name f t db) none
 
 pub at_some : (db : Database) (name : List ℕ) (f : Table → Table) (t : Table) → table_at db name ≡ Some t → at_table name f db ≡ put name_cmp name (f t) db
-at_some db name f t some = ap (λ u. option_map_or (λ table. put name_cmp name (f table) db) u db) some
+at_some db name f t some = ap (λ u. at_found name f u db) some
 
 is_there : {X : Type 0} (x : Option X) (v : X) → Some v ≡ x → IsSome x
 is_there x v is = subst IsSome is refl
