@@ -28,8 +28,9 @@ use Rattle.ctr_model.specs.Tape.{Allowed, IsInTurn}
 use Rattle.ctr_model.specs.Refusals.{table_of, first_of, when, key_of, row_of, bad_from, refusal_of, write_refusal}
 use Rattle.ctr_model.specs.Reply.{MayStandFor, changes_of, rows_read, granted, reply_to, next_state, reply_inside, reply_outside, next_outside, refused_or}
 use Rattle.ctr_bytes.specs.Fields.{spelled}
-use Rattle.ctr_rec.specs.declared.records.Item.{Item}
-use Rattle.ctr_rec.specs.Records.{item as spelling_of, Fits, begun as begun_record, spelling, IsSpelled}
+use Rattle.ctr_rec.specs.declared.item.Item.{Item}
+use Rattle.ctr_rec.specs.Items.{Fits}
+use Rattle.ctr_rec.specs.Encode.{item_bytes as spelling_of, begun_bytes as begun_record, record_bytes, IsSpelled}
 use Rattle.ctr_rec.specs.Fold.{Stands, StandAll, FoldsRecord}
 use Rattle.ctr_bytes.proofs.FieldLaws.{length-spelled}
 use Rattle.ctr_rec.proofs.FoldLaws.{row_is_meant}
@@ -38,7 +39,7 @@ use Rattle.ctr_exec.specs.declared.ready.ReadyRow.{ReadyRow}
 use Rattle.ctr_exec.specs.declared.ready.ReadyTable.{ReadyTable}
 use Rattle.ctr_exec.specs.declared.session.Stage.{Stage}
 use Rattle.ctr_exec.specs.declared.session.Stage.TheVariants as stage
-use Rattle.ctr_exec.specs.Session.{Seen, Gathers, ShowsAs, RepliesAs, ShowsStage, IsInside, IsReadyRow, IsReadyTable}
+use Rattle.ctr_exec.specs.Session.{Seen, HasGathered, ShowsAs, RepliesAs, ShowsStage, IsInside, IsReadyRow, IsReadyTable}
 use Rattle.ctr_exec.proofs.Alone.{IsAlone, reply_in, next_in, reply_out, next_out, own_refusal, refusal_is}
 
 shown : (s t : State) (a : Seen) (g : Stage) → s ≡ t → ShowsAs t a g → ShowsAs s a g
@@ -67,7 +68,7 @@ spell_more [] i = append-nil (spelling_of i)
 spell_more (j ∷ is) i = ap (λ bytes. spelling_of j ++ bytes) (spell_more is i) ∙ sym (append_assoc (spelling_of j) (flat_map spelling_of is) (spelling_of i))
 
 -- one change more
-pub gather : (db : Database) (own : List Change) (bytes : List ℕ) (count : ℕ) (i : Item) (c : Change) → Gathers db own bytes count → Stands (after own db) i c → Fits i → Gathers db (own ++ c ∷ []) (bytes ++ spelling_of i) (count + 1)
+pub gather : (db : Database) (own : List Change) (bytes : List ℕ) (count : ℕ) (i : Item) (c : Change) → HasGathered db own bytes count → Stands (after own db) i c → Fits i → HasGathered db (own ++ c ∷ []) (bytes ++ spelling_of i) (count + 1)
 gather db own bytes count i c g one fits = record {
   items = g.items ++ i ∷ [];
   stand = stand_more db g.items own i c g.stand one;
@@ -81,7 +82,7 @@ pub record IsOpen (state : State) (a : Seen) : Type 0 where
   pub me : Transaction
   pub inside : IsInside state a me a.answered
   pub asked : me.asked ≡ None
-  pub gathers : Gathers (rows_at state a.answered) me.own a.bytes a.count
+  pub gathers : HasGathered (rows_at state a.answered) me.own a.bytes a.count
 
 pub open_in : (state : State) (a : Seen) (g : Stage) → g ≢ stage.Idle → g ≢ stage.Asked → ShowsStage state a g → IsOpen state a
 open_in state a stage.Idle idle asked h = absurd (idle refl)
@@ -181,7 +182,7 @@ module _ (state : State) (a : Seen) where
     grants statement name of fine = inl (sym (replied act.Lock statement name reply.Granted of refl ∙ ap (λ w. refused_or w reply.Granted) fine))
 
     -- and then it is a writer
-    pub locks : (statement : Statement) (me2 : Transaction) → granted act.Lock statement me ≡ me2 → me2.snapshot ≡ me.snapshot → me2.own ≡ me.own → me2.writer ≡ true → me2.asked ≡ None → n ≡ a.answered → Gathers (rows_at state a.answered) me.own a.bytes a.count
+    pub locks : (statement : Statement) (me2 : Transaction) → granted act.Lock statement me ≡ me2 → me2.snapshot ≡ me.snapshot → me2.own ≡ me.own → me2.writer ≡ true → me2.asked ≡ None → n ≡ a.answered → HasGathered (rows_at state a.answered) me.own a.bytes a.count
         → ShowsAs (next_state state 1 act.Lock (Some statement) reply.Granted) a stage.Writer
     locks statement me2 is snapshot own_is writer asked amount gathers = shown _ (with_transaction 1 me2 state) a stage.Writer (next_in state act.Lock statement me reply.Granted h.sessions ∙ ap (λ t. with_transaction 1 t state) is) (record {
       stuck = shows.stuck;
@@ -191,7 +192,7 @@ module _ (state : State) (a : Seen) where
         inside = subst (IsInside (with_transaction 1 me2 state) a me2) amount (used me2 (with_transaction 1 me2 state) (ap (put nat_cmp 1 me2) h.sessions) refl refl snapshot own_is);
         writer = writer;
         asked = asked;
-        gathers = subst (λ cs. Gathers (rows_at state a.answered) cs a.bytes a.count) (sym own_is) gathers;
+        gathers = subst (λ cs. HasGathered (rows_at state a.answered) cs a.bytes a.count) (sym own_is) gathers;
       };
     })
 
@@ -203,7 +204,7 @@ module _ (state : State) (a : Seen) where
     }
 
     -- a write is done
-    pub writes : (statement : Statement) (c : Change) (i : Item) → write_refusal a.tables statement ≡ None → changes_of a.tables statement ≡ c ∷ [] → Stands a.tables i c → Fits i → me.writer ≡ true → me.asked ≡ None → n ≡ a.answered → Gathers (rows_at state a.answered) me.own a.bytes a.count
+    pub writes : (statement : Statement) (c : Change) (i : Item) → write_refusal a.tables statement ≡ None → changes_of a.tables statement ≡ c ∷ [] → Stands a.tables i c → Fits i → me.writer ≡ true → me.asked ≡ None → n ≡ a.answered → HasGathered (rows_at state a.answered) me.own a.bytes a.count
         → RepliesAs state act.Write statement reply.Done (record { tables = changed c a.tables; answered = a.answered; bytes = a.bytes ++ spelling_of i; count = a.count + 1 }) stage.Writer
     writes statement c i fine change stands fits writer asked amount gathers =
         let me2 : Transaction = record me { own = me.own ++ c ∷ [] } in
@@ -433,7 +434,7 @@ module _ (state : State) (a : Seen) where
   answer_in_turn shows = let h = shows.shows in ap (λ ss. option_and_then (λ (t : Transaction). t.asked) (find nat_cmp 1 ss)) h.inside.sessions ∙ h.asked ∙ ap (λ n. Some (n + 1)) (sym shows.answered)
 
   -- what the record says of the rows of the snapshot
-  pub record_folds : ShowsAs state a stage.Writer → (bytes : List ℕ) → ((is : List Item) → a.bytes ≡ begun_record is → a.count ≡ length is → bytes ≡ spelling is) → a.count < 2 ^ 32 → FoldsRecord (rows_at state a.answered) bytes a.tables
+  pub record_folds : ShowsAs state a stage.Writer → (bytes : List ℕ) → ((is : List Item) → a.bytes ≡ begun_record is → a.count ≡ length is → bytes ≡ record_bytes is) → a.count < 2 ^ 32 → FoldsRecord (rows_at state a.answered) bytes a.tables
   record_folds shows bytes ended few =
       let h = shows.shows in
       let g = h.gathers in

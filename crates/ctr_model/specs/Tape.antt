@@ -177,9 +177,9 @@ numbered before (l ∷ ls) =
     (l.session, length (statements_of l.session before) + 1) ∷ numbered (before ++ l ∷ []) ls
 
 -- the statement in front of these, but where it is the first of them
-abbrev pub joined : ℕ × ℕ → List (ℕ × ℕ) → List (ℕ × ℕ)
-joined x [] = x ∷ []
-joined x (y ∷ ys) = if x.0 == y.0 && x.1 == y.1 then y ∷ ys else x ∷ y ∷ ys
+abbrev pub with_statement : ℕ × ℕ → List (ℕ × ℕ) → List (ℕ × ℕ)
+with_statement x [] = x ∷ []
+with_statement x (y ∷ ys) = if x.0 == y.0 && x.1 == y.1 then y ∷ ys else x ∷ y ∷ ys
 
 -- The statements that the entries are of, in the order of the tape: one for all of its entries that
 -- stand together. Recovery's entries are of none.
@@ -187,7 +187,7 @@ abbrev pub statements_on : List Entry → List (ℕ × ℕ)
 statements_on [] = []
 statements_on (e ∷ es) =
     if is_release e.act then statements_on es else
-    joined (e.session, e.statement) (statements_on es)
+    with_statement (e.session, e.statement) (statements_on es)
 
 -- The tape of a serial run: the statements stand in the order of the script's lines, each one's
 -- entries together but for recovery's. The lines that come later have no entry yet.

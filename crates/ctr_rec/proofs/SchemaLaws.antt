@@ -9,9 +9,9 @@ use Rattle.std.specs.FinMap.Entries.{put, find, where_key, by_order}
 use Rattle.ctr_model.specs.declared.database.Table.{Table}
 use Rattle.ctr_model.specs.declared.database.Change.{Change}
 use Rattle.ctr_model.specs.Database.{Database, name_cmp, table_at, at_found, at_table, with_row, without_row, changed, after}
-use Rattle.ctr_rec.specs.declared.records.Item.{Item}
-use Rattle.ctr_rec.specs.declared.records.Item.TheVariants as item
-use Rattle.ctr_rec.specs.Records.{ColumnsFit, Fits}
+use Rattle.ctr_rec.specs.declared.item.Item.{Item}
+use Rattle.ctr_rec.specs.declared.item.Item.TheVariants as item
+use Rattle.ctr_rec.specs.Items.{ColumnsFit, Fits}
 use Rattle.ctr_rec.specs.Fold.{Stands, StandAll, FoldsRecord, FoldsRecords, HasSchemas}
 
 -- ---- maps whose values are all of a kind

@@ -6,7 +6,7 @@ ghost use Rattle.ctr_model.specs.Database.{name_cmp, table_at, at_table, with_ro
 ghost use Rattle.ctr_model.specs.Maps.{without};
 ghost use Rattle.ctr_model.specs.Refusals.{row_of};
 ghost use Rattle.ctr_model.specs.Reply.{rows_found};
-ghost use Rattle.ctr_tables.specs.Stored.{table_of, IsSchemaHeld};
+ghost use Rattle.ctr_tables.specs.Stored.{table_held, IsSchemaHeld};
 ghost use Rattle.ctr_tables.specs.Tables.{database_of, HasTableRoom, HasRowRoom};
 
 use crate::stored::Stored;
@@ -45,7 +45,7 @@ impl Tables {
     }
 
     fn table(&self, name: &Name) -> Option<&Stored>
-        ensures { option_map table_of (option_copied result) ≡ table_at (database_of self.now) name.now }
+        ensures { option_map table_held (option_copied result) ≡ table_at (database_of self.now) name.now }
     {
         match self.tables.get(name) {
             Some(slot) => slot.as_ref(),

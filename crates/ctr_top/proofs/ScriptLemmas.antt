@@ -10,7 +10,7 @@ use Rattle.ctr_types.specs.declared.statement.Statement.{Statement}
 use Rattle.ctr_types.specs.declared.statement.Statement.TheVariants as st
 use Rattle.ctr_types.specs.declared.statement.Line.{Line}
 use Rattle.ctr_model.specs.Grammar.{first, Part, AllMatch, FormTakes, IsWithin, IsKind, AreLines, ends, skips, goes_on, column_parts, schema_parts, kind_parts, statement_parts, close_paren, open_paren, sign, session, key, name, IsSchema}
-use Rattle.ctr_rec.specs.Records.{KindFits, ColumnFits, ColumnsFit}
+use Rattle.ctr_rec.specs.Items.{KindFits, ColumnFits, ColumnsFit}
 use Rattle.ctr_world.specs.Turn.{IsTaken}
 use Rattle.ctr_world.specs.World.{AreTaken}
 

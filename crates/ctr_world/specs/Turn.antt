@@ -10,7 +10,7 @@ use Rattle.ctr_model.specs.declared.state.State.{State}
 use Rattle.ctr_model.specs.declared.tape.Progress.{Progress}
 use Rattle.ctr_model.specs.Tape.{acts_of, advanced}
 use Rattle.ctr_log.specs.Logs.{Log}
-use Rattle.ctr_rec.specs.Records.{ColumnsFit}
+use Rattle.ctr_rec.specs.Items.{ColumnsFit}
 use Rattle.ctr_exec.specs.declared.session.Session.{Session}
 use Rattle.ctr_exec.specs.declared.session.Stage.{Stage}
 use Rattle.ctr_exec.specs.declared.session.Stage.TheVariants as stage

@@ -1,6 +1,6 @@
 // A session on a new database: each reply, and each refusal once. The bytes are made by hand.
 ghost use Rattle.std.specs.Prelude.{◌≤◌, IfOk, vec_capacity};
-ghost use Rattle.ctr_rec.specs.Records.{ColumnsFit};
+ghost use Rattle.ctr_rec.specs.Items.{ColumnsFit};
 ghost use Rattle.ctr_exec.specs.Session.{IsTurn, CanCommit};
 
 use super::{Session, Written};
