@@ -1,6 +1,6 @@
 -- Replies and next states where one session is alone, and what it sees is what it began with.
 use Rattle.std.proofs.Common.{◌≡◌, ◌+◌, ℕ, ℤ, zero, suc, Bool, true, false, cond, List, [], ◌∷◌, ◌++◌, take, drop, Option, Some, None, refl, sym, ◌∙◌, ap}
-use Rattle.std.specs.Option.{option_map, option_map_or, option_and_then}
+use Rattle.std.specs.Option.{option_map, option_and_then}
 use Rattle.std.specs.Ordering.{nat_cmp}
 use Rattle.std.specs.FinMap.Entries.{find}
 use Rattle.std.proofs.lemmas.List.{append_assoc}
@@ -15,24 +15,24 @@ use Rattle.ctr_model.specs.declared.state.Transaction.{Transaction}
 use Rattle.ctr_model.specs.Maps.{without}
 use Rattle.ctr_model.specs.Database.{table_at}
 use Rattle.ctr_model.specs.State.{view, has_name}
-use Rattle.ctr_model.specs.Refusals.{table_of, key_locked, refusal_of, table_refusals, presence_refusals, name_refusals, value_refusals, lock_refusals, key_refusals, first_of, busy_by, locked_by, first_session, is_busy, has_lock, changes_schema, schema_changed_by, row_changed_by, answered_since, last_with, is_touching, is_create_of}
-use Rattle.ctr_model.specs.Reply.{reply_to, reply_inside, reply_outside, next_state, next_inside, next_outside}
+use Rattle.ctr_model.specs.Refusals.{table_of, key_locked, refusal_of, table_refusals, presence_refusals, name_refusals, value_refusals, key_refusals, first_of, busy_by, locked_by, first_session, is_busy, has_lock, changes_schema, schema_changed_by, row_changed_by, answered_since, last_with, is_touching, is_create_of}
+use Rattle.ctr_model.specs.Reply.{reply_to, reply_from, reply_inside, reply_outside, next_state, next_from, next_inside, next_outside}
 use Rattle.std.specs.List.{list_any}
 
 -- ---- the session's transaction
 
 module _ (state : State) (a : Act) (statement : Statement) where
   pub reply_out : state.sessions ≡ [] → reply_to state 1 a (Some statement) ≡ reply_outside state a
-  reply_out none = ap (λ ss. option_map_or (λ me. reply_inside state 1 me a statement) (find nat_cmp 1 ss) (reply_outside state a)) none
+  reply_out none = ap (λ ss. reply_from state 1 (find nat_cmp 1 ss) a statement) none
 
-  pub next_out : (r : Reply) → state.sessions ≡ [] → next_state state 1 a (Some statement) r ≡ next_outside state 1 a r
-  next_out r none = ap (λ ss. option_map_or (λ me. next_inside state 1 me statement r) (find nat_cmp 1 ss) (next_outside state 1 a r)) none
+  pub next_out : (r : Reply) → state.sessions ≡ [] → next_state state 1 a (Some statement) r ≡ next_outside state 1 a (Some statement) r
+  next_out r none = ap (λ ss. next_from state 1 (find nat_cmp 1 ss) a (Some statement) r) none
 
   pub reply_in : (me : Transaction) → state.sessions ≡ (1, me) ∷ [] → reply_to state 1 a (Some statement) ≡ reply_inside state 1 me a statement
-  reply_in me one = ap (λ ss. option_map_or (λ t. reply_inside state 1 t a statement) (find nat_cmp 1 ss) (reply_outside state a)) one
+  reply_in me one = ap (λ ss. reply_from state 1 (find nat_cmp 1 ss) a statement) one
 
-  pub next_in : (me : Transaction) (r : Reply) → state.sessions ≡ (1, me) ∷ [] → next_state state 1 a (Some statement) r ≡ next_inside state 1 me statement r
-  next_in me r one = ap (λ ss. option_map_or (λ t. next_inside state 1 t statement r) (find nat_cmp 1 ss) (next_outside state 1 a r)) one
+  pub next_in : (me : Transaction) (r : Reply) → state.sessions ≡ (1, me) ∷ [] → next_state state 1 a (Some statement) r ≡ next_inside state 1 me a (Some statement) r
+  next_in me r one = ap (λ ss. next_from state 1 (find nat_cmp 1 ss) a (Some statement) r) one
 
 -- ---- refusals
 
@@ -77,11 +77,9 @@ module _ (state : State) (me : Transaction) (alone : IsAlone state me) where
   names statement name = λ i. option_map refusal.TableBusy (not_busy statement name i) ∷ option_map refusal.SchemaChanged (schema_stays name i) ∷ []
 
   -- no refusal comes from another
-  keys_none : (statement : Statement) (name : List ℕ) → first_of (key_refusals state 1 me statement name) ≡ None
-  keys_none statement name = elim (key_locked statement) as (λ k. first_of (option_map_or (lock_refusals state 1 me name) k []) ≡ None) [
-    | None ↦ refl
-    | Some key ↦ λ i. first_of (option_map refusal.RowLocked (not_locked name key i) ∷ option_map refusal.RowChanged (row_stays name key i) ∷ [])
-  ]
+  keys_none : (name : List ℕ) (key : Option ℤ) → first_of (key_refusals state 1 me name key) ≡ None
+  keys_none name None = refl
+  keys_none name (Some key) = λ i. first_of (option_map refusal.RowLocked (not_locked name key i) ∷ option_map refusal.RowChanged (row_stays name key i) ∷ [])
 
   behind : (xs ys : List (Option Refusal)) → first_of ys ≡ None → first_of (xs ++ ys) ≡ first_of xs
   behind [] ys none = none
@@ -94,13 +92,13 @@ module _ (state : State) (me : Transaction) (alone : IsAlone state me) where
   skipped (Some r ∷ xs) ys = refl
 
   -- what is left are the table and the values
-  pub refusal_is : (statement : Statement) (name : List ℕ) → table_of statement ≡ Some name → refusal_of state 1 me statement ≡ own_refusal statement (table_at (view state me) name)
-  refusal_is statement name of =
+  pub refusal_is : (x : Act) (statement : Statement) (name : List ℕ) → table_of statement ≡ Some name → refusal_of state 1 me x statement ≡ own_refusal statement (table_at (view state me) name)
+  refusal_is x statement name of =
       let t = table_at (view state me) name in
-      let keys = key_refusals state 1 me statement name in
+      let keys = key_refusals state 1 me name (key_locked x statement) in
       let values = value_refusals statement t in
-      ap (option_and_then (λ n. first_of (table_refusals state 1 me statement n (table_at (view state me) n)))) of
+      ap (option_and_then (λ n. first_of (table_refusals state 1 me x statement n))) of
       ∙ ap (λ ns. first_of (presence_refusals statement t ++ ns ++ values ++ keys)) (names statement name)
       ∙ skipped (presence_refusals statement t) (values ++ keys)
       ∙ ap first_of (sym (append_assoc (presence_refusals statement t) values keys))
-      ∙ behind (presence_refusals statement t ++ values) keys (keys_none statement name)
+      ∙ behind (presence_refusals statement t ++ values) keys (keys_none name (key_locked x statement))

@@ -26,10 +26,11 @@ use Rattle.ctr_model.specs.State.{begun, view, rows_at, with_transaction, withou
 use Rattle.ctr_model.specs.Maps.{without}
 use Rattle.ctr_model.specs.Tape.{Allowed, IsInTurn}
 use Rattle.ctr_model.specs.Refusals.{table_of, first_of, when, key_of, row_of, bad_from, refusal_of, write_refusal}
-use Rattle.ctr_model.specs.Reply.{MayStandFor, change_of, rows_read, with_lock, reply_to, next_state, reply_inside, reply_outside, next_outside, refused_or}
+use Rattle.ctr_model.specs.Reply.{MayStandFor, changes_of, rows_read, granted, reply_to, next_state, reply_inside, reply_outside, next_outside, refused_or}
 use Rattle.ctr_bytes.specs.Fields.{spelled}
-use Rattle.ctr_rec.specs.declared.records.Item.{Item}
-use Rattle.ctr_rec.specs.Records.{item as spelling_of, Fits, begun as begun_record, spelling, IsSpelled}
+use Rattle.ctr_rec.specs.declared.item.Item.{Item}
+use Rattle.ctr_rec.specs.Items.{Fits}
+use Rattle.ctr_rec.specs.Encode.{item_bytes as spelling_of, begun_bytes as begun_record, record_bytes, IsSpelled}
 use Rattle.ctr_rec.specs.Fold.{Stands, StandAll, FoldsRecord}
 use Rattle.ctr_bytes.proofs.FieldLaws.{length-spelled}
 use Rattle.ctr_rec.proofs.FoldLaws.{row_is_meant}
@@ -38,7 +39,7 @@ use Rattle.ctr_exec.specs.declared.ready.ReadyRow.{ReadyRow}
 use Rattle.ctr_exec.specs.declared.ready.ReadyTable.{ReadyTable}
 use Rattle.ctr_exec.specs.declared.session.Stage.{Stage}
 use Rattle.ctr_exec.specs.declared.session.Stage.TheVariants as stage
-use Rattle.ctr_exec.specs.Session.{Seen, Gathers, ShowsAs, RepliesAs, ShowsStage, IsInside, IsReadyRow, IsReadyTable}
+use Rattle.ctr_exec.specs.Session.{Seen, HasGathered, ShowsAs, RepliesAs, ShowsStage, IsInside, IsReadyRow, IsReadyTable}
 use Rattle.ctr_exec.proofs.Alone.{IsAlone, reply_in, next_in, reply_out, next_out, own_refusal, refusal_is}
 
 shown : (s t : State) (a : Seen) (g : Stage) → s ≡ t → ShowsAs t a g → ShowsAs s a g
@@ -67,7 +68,7 @@ spell_more [] i = append-nil (spelling_of i)
 spell_more (j ∷ is) i = ap (λ bytes. spelling_of j ++ bytes) (spell_more is i) ∙ sym (append_assoc (spelling_of j) (flat_map spelling_of is) (spelling_of i))
 
 -- one change more
-pub gather : (db : Database) (own : List Change) (bytes : List ℕ) (count : ℕ) (i : Item) (c : Change) → Gathers db own bytes count → Stands (after own db) i c → Fits i → Gathers db (own ++ c ∷ []) (bytes ++ spelling_of i) (count + 1)
+pub gather : (db : Database) (own : List Change) (bytes : List ℕ) (count : ℕ) (i : Item) (c : Change) → HasGathered db own bytes count → Stands (after own db) i c → Fits i → HasGathered db (own ++ c ∷ []) (bytes ++ spelling_of i) (count + 1)
 gather db own bytes count i c g one fits = record {
   items = g.items ++ i ∷ [];
   stand = stand_more db g.items own i c g.stand one;
@@ -81,7 +82,7 @@ pub record IsOpen (state : State) (a : Seen) : Type 0 where
   pub me : Transaction
   pub inside : IsInside state a me a.answered
   pub asked : me.asked ≡ None
-  pub gathers : Gathers (rows_at state a.answered) me.own a.bytes a.count
+  pub gathers : HasGathered (rows_at state a.answered) me.own a.bytes a.count
 
 pub open_in : (state : State) (a : Seen) (g : Stage) → g ≢ stage.Idle → g ≢ stage.Asked → ShowsStage state a g → IsOpen state a
 open_in state a stage.Idle idle asked h = absurd (idle refl)
@@ -117,7 +118,7 @@ module _ (state : State) (a : Seen) where
       }
 
   -- outside a transaction
-  pub refuses_out : (x : Act) (statement : Statement) (g : Stage) → ShowsAs state a g → g ≡ stage.Idle → reply_outside state x ≡ reply.Refused refusal.NoTransaction → next_outside state 1 x (reply.Refused refusal.NoTransaction) ≡ state
+  pub refuses_out : (x : Act) (statement : Statement) (g : Stage) → ShowsAs state a g → g ≡ stage.Idle → reply_outside state x ≡ reply.Refused refusal.NoTransaction → next_outside state 1 x (Some statement) (reply.Refused refusal.NoTransaction) ≡ state
       → RepliesAs state x statement (reply.Refused refusal.NoTransaction) a g
   refuses_out x statement g shows is none stays =
       let h = subst (ShowsStage state a) is shows.shows in
@@ -137,14 +138,14 @@ module _ (state : State) (a : Seen) where
     pub alone : IsAlone state me
     alone = record { stuck = shows.stuck; sessions = h.sessions; snapshot = h.snapshot ∙ sym shows.answered }
 
-    own : (statement : Statement) (name : List ℕ) → table_of statement ≡ Some name → refusal_of state 1 me statement ≡ own_refusal statement (table_at a.tables name)
-    own statement name of = refusal_is state me alone statement name of ∙ ap (λ db. own_refusal statement (table_at db name)) (sym h.tables)
+    own : (x : Act) (statement : Statement) (name : List ℕ) → table_of statement ≡ Some name → refusal_of state 1 me x statement ≡ own_refusal statement (table_at a.tables name)
+    own x statement name of = refusal_is state me alone x statement name of ∙ ap (λ db. own_refusal statement (table_at db name)) (sym h.tables)
 
-    replied : (x : Act) (statement : Statement) (name : List ℕ) (base : Reply) → table_of statement ≡ Some name → reply_inside state 1 me x statement ≡ refused_or (refusal_of state 1 me statement) base → reply_to state 1 x (Some statement) ≡ refused_or (own_refusal statement (table_at a.tables name)) base
-    replied x statement name base of is = reply_in state x statement me h.sessions ∙ is ∙ ap (λ why. refused_or why base) (own statement name of)
+    replied : (x : Act) (statement : Statement) (name : List ℕ) (base : Reply) → table_of statement ≡ Some name → reply_inside state 1 me x statement ≡ refused_or (refusal_of state 1 me x statement) base → reply_to state 1 x (Some statement) ≡ refused_or (own_refusal statement (table_at a.tables name)) base
+    replied x statement name base of is = reply_in state x statement me h.sessions ∙ is ∙ ap (λ why. refused_or why base) (own x statement name of)
 
     -- a Lock or a Read is refused
-    pub refuses : (x : Act) (statement : Statement) (name : List ℕ) (base : Reply) (why : Refusal) → table_of statement ≡ Some name → reply_inside state 1 me x statement ≡ refused_or (refusal_of state 1 me statement) base
+    pub refuses : (x : Act) (statement : Statement) (name : List ℕ) (base : Reply) (why : Refusal) → table_of statement ≡ Some name → reply_inside state 1 me x statement ≡ refused_or (refusal_of state 1 me x statement) base
         → own_refusal statement (table_at a.tables name) ≡ Some why → RepliesAs state x statement (reply.Refused why) a g
     refuses x statement name base why of is refused = record {
       allowed = inl (sym (replied x statement name base of is ∙ ap (λ w. refused_or w base) refused));
@@ -152,10 +153,10 @@ module _ (state : State) (a : Seen) where
     }
 
     -- memory is wanting
-    pub wants : (x : Act) (statement : Statement) (name : List ℕ) (base : Reply) → table_of statement ≡ Some name → reply_inside state 1 me x statement ≡ refused_or (refusal_of state 1 me statement) base
-        → own_refusal statement (table_at a.tables name) ≡ None → MayStandFor (Some statement) base (reply.Refused refusal.OutOfMemory) → RepliesAs state x statement (reply.Refused refusal.OutOfMemory) a g
+    pub wants : (x : Act) (statement : Statement) (name : List ℕ) (base : Reply) → table_of statement ≡ Some name → reply_inside state 1 me x statement ≡ refused_or (refusal_of state 1 me x statement) base
+        → own_refusal statement (table_at a.tables name) ≡ None → MayStandFor statement base (reply.Refused refusal.OutOfMemory) → RepliesAs state x statement (reply.Refused refusal.OutOfMemory) a g
     wants x statement name base of is fine may = record {
-      allowed = inr (subst (λ r. MayStandFor (Some statement) r (reply.Refused refusal.OutOfMemory)) (sym (replied x statement name base of is ∙ ap (λ w. refused_or w base) fine)) may);
+      allowed = inr (subst (λ r. MayStandFor statement r (reply.Refused refusal.OutOfMemory)) (sym (replied x statement name base of is ∙ ap (λ w. refused_or w base) fine)) may);
       shows = shown _ _ a g (next_in state x statement me (reply.Refused refusal.OutOfMemory) h.sessions) shows;
     }
 
@@ -171,17 +172,17 @@ module _ (state : State) (a : Seen) where
 
     -- a SELECT gives the rows that it sees
     pub reads : (name : List ℕ) (rows : List Row) → own_refusal (st.Select name None) (table_at a.tables name) ≡ None → rows ≡ rows_read a.tables (st.Select name None)
-        → Allowed state 1 act.Read (Some (st.Select name None)) (reply.Rows (record { rows = rows }))
+        → Allowed state 1 act.Read (st.Select name None) (reply.Rows (record { rows = rows }))
     reads name rows fine are = inl (ap (λ rs. reply.Rows (record { rows = rs })) (are ∙ ap (λ db. rows_read db (st.Select name None)) h.tables)
         ∙ sym (replied act.Read (st.Select name None) name (reply.Rows (record { rows = rows_read (view state me) (st.Select name None) })) refl refl
         ∙ ap (λ w. refused_or w (reply.Rows (record { rows = rows_read (view state me) (st.Select name None) }))) fine))
 
     -- a lock is granted
-    pub grants : (statement : Statement) (name : List ℕ) → table_of statement ≡ Some name → own_refusal statement (table_at a.tables name) ≡ None → Allowed state 1 act.Lock (Some statement) reply.Granted
+    pub grants : (statement : Statement) (name : List ℕ) → table_of statement ≡ Some name → own_refusal statement (table_at a.tables name) ≡ None → Allowed state 1 act.Lock statement reply.Granted
     grants statement name of fine = inl (sym (replied act.Lock statement name reply.Granted of refl ∙ ap (λ w. refused_or w reply.Granted) fine))
 
     -- and then it is a writer
-    pub locks : (statement : Statement) (me2 : Transaction) → with_lock statement me ≡ me2 → me2.snapshot ≡ me.snapshot → me2.own ≡ me.own → me2.writer ≡ true → me2.asked ≡ None → n ≡ a.answered → Gathers (rows_at state a.answered) me.own a.bytes a.count
+    pub locks : (statement : Statement) (me2 : Transaction) → granted act.Lock statement me ≡ me2 → me2.snapshot ≡ me.snapshot → me2.own ≡ me.own → me2.writer ≡ true → me2.asked ≡ None → n ≡ a.answered → HasGathered (rows_at state a.answered) me.own a.bytes a.count
         → ShowsAs (next_state state 1 act.Lock (Some statement) reply.Granted) a stage.Writer
     locks statement me2 is snapshot own_is writer asked amount gathers = shown _ (with_transaction 1 me2 state) a stage.Writer (next_in state act.Lock statement me reply.Granted h.sessions ∙ ap (λ t. with_transaction 1 t state) is) (record {
       stuck = shows.stuck;
@@ -191,7 +192,7 @@ module _ (state : State) (a : Seen) where
         inside = subst (IsInside (with_transaction 1 me2 state) a me2) amount (used me2 (with_transaction 1 me2 state) (ap (put nat_cmp 1 me2) h.sessions) refl refl snapshot own_is);
         writer = writer;
         asked = asked;
-        gathers = subst (λ cs. Gathers (rows_at state a.answered) cs a.bytes a.count) (sym own_is) gathers;
+        gathers = subst (λ cs. HasGathered (rows_at state a.answered) cs a.bytes a.count) (sym own_is) gathers;
       };
     })
 
@@ -203,12 +204,12 @@ module _ (state : State) (a : Seen) where
     }
 
     -- a write is done
-    pub writes : (statement : Statement) (c : Change) (i : Item) → write_refusal a.tables statement ≡ None → change_of a.tables statement ≡ c ∷ [] → Stands a.tables i c → Fits i → me.writer ≡ true → me.asked ≡ None → n ≡ a.answered → Gathers (rows_at state a.answered) me.own a.bytes a.count
+    pub writes : (statement : Statement) (c : Change) (i : Item) → write_refusal a.tables statement ≡ None → changes_of a.tables statement ≡ c ∷ [] → Stands a.tables i c → Fits i → me.writer ≡ true → me.asked ≡ None → n ≡ a.answered → HasGathered (rows_at state a.answered) me.own a.bytes a.count
         → RepliesAs state act.Write statement reply.Done (record { tables = changed c a.tables; answered = a.answered; bytes = a.bytes ++ spelling_of i; count = a.count + 1 }) stage.Writer
     writes statement c i fine change stands fits writer asked amount gathers =
         let me2 : Transaction = record me { own = me.own ++ c ∷ [] } in
         let state2 = with_transaction 1 me2 state in
-        let change_is : change_of (view state me) statement ≡ c ∷ [] = ap (λ db. change_of db statement) (sym h.tables) ∙ change in
+        let change_is : changes_of (view state me) statement ≡ c ∷ [] = ap (λ db. changes_of db statement) (sym h.tables) ∙ change in
         record {
           allowed = inl (sym (reply_in state act.Write statement me h.sessions ∙ ap (λ db. refused_or (write_refusal db statement) reply.Done) (sym h.tables) ∙ ap (λ w. refused_or w reply.Done) fine));
           shows = shown _ state2 _ stage.Writer (next_in state act.Write statement me reply.Done h.sessions ∙ ap (λ cs. with_transaction 1 (record me { own = me.own ++ cs }) state) change_is) (record {
@@ -353,20 +354,26 @@ insert_is_fine name values t x is good = ap (own_refusal (st.Insert name values)
 module _ (state : State) (a : Seen) (g : Stage) (shows : ShowsAs state a g) (idle : g ≢ stage.Idle) (asked : g ≢ stage.Asked) where
   -- the lock of a key
   pub lock_key : (name : List ℕ) (values : List Value) → own_refusal (st.Insert name values) (table_at a.tables name) ≡ None
-      → Allowed state 1 act.Lock (Some (st.Insert name values)) reply.Granted × ShowsAs (next_state state 1 act.Lock (Some (st.Insert name values)) reply.Granted) a stage.Writer
+      → Allowed state 1 act.Lock (st.Insert name values) reply.Granted × ShowsAs (next_state state 1 act.Lock (Some (st.Insert name values)) reply.Granted) a stage.Writer
   lock_key name values fine =
       let h = open_in state a g idle asked shows.shows in (
         grants state a g shows h.me a.answered h.inside (st.Insert name values) name refl fine,
-        locks state a g shows h.me a.answered h.inside (st.Insert name values) (with_lock (st.Insert name values) h.me) refl refl refl refl h.asked refl h.gathers,
+        locks state a g shows h.me a.answered h.inside (st.Insert name values) (granted act.Lock (st.Insert name values) h.me) refl refl refl refl h.asked refl h.gathers,
       )
+
+  -- memory is wanting for it
+  pub lock_key_wants : (name : List ℕ) (values : List Value) → own_refusal (st.Insert name values) (table_at a.tables name) ≡ None → RepliesAs state act.Lock (st.Insert name values) (reply.Refused refusal.OutOfMemory) a g
+  lock_key_wants name values fine =
+      let h = open_in state a g idle asked shows.shows in
+      wants state a g shows h.me a.answered h.inside act.Lock (st.Insert name values) name reply.Granted refl refl fine refl
 
   -- the lock of a name
   pub lock_name : (name : List ℕ) (schema : Schema) → own_refusal (st.Create name schema) (table_at a.tables name) ≡ None
-      → Allowed state 1 act.Lock (Some (st.Create name schema)) reply.Granted × ShowsAs (next_state state 1 act.Lock (Some (st.Create name schema)) reply.Granted) a stage.Writer
+      → Allowed state 1 act.Lock (st.Create name schema) reply.Granted × ShowsAs (next_state state 1 act.Lock (Some (st.Create name schema)) reply.Granted) a stage.Writer
   lock_name name schema fine =
       let h = open_in state a g idle asked shows.shows in (
         grants state a g shows h.me a.answered h.inside (st.Create name schema) name refl fine,
-        locks state a g shows h.me a.answered h.inside (st.Create name schema) (with_lock (st.Create name schema) h.me) refl refl refl refl h.asked refl h.gathers,
+        locks state a g shows h.me a.answered h.inside (st.Create name schema) (granted act.Lock (st.Create name schema) h.me) refl refl refl refl h.asked refl h.gathers,
       )
 
 module _ (state : State) (a : Seen) (shows : ShowsAs state a stage.Writer) where
@@ -427,7 +434,7 @@ module _ (state : State) (a : Seen) where
   answer_in_turn shows = let h = shows.shows in ap (λ ss. option_and_then (λ (t : Transaction). t.asked) (find nat_cmp 1 ss)) h.inside.sessions ∙ h.asked ∙ ap (λ n. Some (n + 1)) (sym shows.answered)
 
   -- what the record says of the rows of the snapshot
-  pub record_folds : ShowsAs state a stage.Writer → (bytes : List ℕ) → ((is : List Item) → a.bytes ≡ begun_record is → a.count ≡ length is → bytes ≡ spelling is) → a.count < 2 ^ 32 → FoldsRecord (rows_at state a.answered) bytes a.tables
+  pub record_folds : ShowsAs state a stage.Writer → (bytes : List ℕ) → ((is : List Item) → a.bytes ≡ begun_record is → a.count ≡ length is → bytes ≡ record_bytes is) → a.count < 2 ^ 32 → FoldsRecord (rows_at state a.answered) bytes a.tables
   record_folds shows bytes ended few =
       let h = shows.shows in
       let g = h.gathers in

@@ -17,9 +17,10 @@ use Rattle.ctr_model.specs.declared.state.State.{State}
 use Rattle.ctr_model.specs.Refusals.{key_of}
 use Rattle.ctr_model.specs.Reply.{next_state}
 use Rattle.ctr_model.specs.Tape.{Allowed}
-use Rattle.ctr_rec.specs.declared.records.Item.{Item}
-use Rattle.ctr_rec.specs.declared.records.Item.TheVariants as item
-use Rattle.ctr_rec.specs.Records.{Fits, begun}
+use Rattle.ctr_rec.specs.declared.item.Item.{Item}
+use Rattle.ctr_rec.specs.declared.item.Item.TheVariants as item
+use Rattle.ctr_rec.specs.Items.{Fits}
+use Rattle.ctr_rec.specs.Encode.{begun_bytes}
 use Rattle.ctr_rec.specs.Payload.{IsRow, payload_of}
 use Rattle.ctr_rec.specs.Fold.{StandAll}
 use Rattle.ctr_tables.specs.Stored.{IsSchemaHeld}
@@ -60,15 +61,16 @@ pub record Seen : Type 0 where
   pub bytes : List ℕ
   pub count : ℕ
 
+-- the same of a session
 abbrev pub seen_of : Session → Seen
 seen_of a = record { tables = database_of a.tables; answered = a.answered; bytes = a.record.items; count = a.count }
 
 -- The record so far: the items that stand for the changes, over the rows of the snapshot.
-pub record Gathers (db : Database) (own : List Change) (bytes : List ℕ) (count : ℕ) : Type 0 where
+pub record HasGathered (db : Database) (own : List Change) (bytes : List ℕ) (count : ℕ) : Type 0 where
   pub items : List Item
   pub stand : StandAll db items own
   pub fit : AllByRecursion Fits items
-  pub bytes_are : bytes ≡ begun items
+  pub bytes_are : bytes ≡ begun_bytes items
   pub count_is : count ≡ length items
 
 -- in no transaction: the tables are the rows of all commits that were answered
@@ -91,7 +93,7 @@ pub record IsReading (state : State) (a : Seen) : Type 0 where
   pub writer : me.writer ≡ false
   pub asked : me.asked ≡ None
   pub own : me.own ≡ []
-  pub gathers : Gathers (rows_at state a.answered) me.own a.bytes a.count
+  pub gathers : HasGathered (rows_at state a.answered) me.own a.bytes a.count
 
 -- in one that was granted a lock
 pub record IsWriting (state : State) (a : Seen) : Type 0 where
@@ -99,7 +101,7 @@ pub record IsWriting (state : State) (a : Seen) : Type 0 where
   pub inside : IsInside state a me a.answered
   pub writer : me.writer ≡ true
   pub asked : me.asked ≡ None
-  pub gathers : Gathers (rows_at state a.answered) me.own a.bytes a.count
+  pub gathers : HasGathered (rows_at state a.answered) me.own a.bytes a.count
 
 -- its commit is the last that was asked for, and isn't answered
 pub record IsAsking (state : State) (a : Seen) : Type 0 where
@@ -109,6 +111,7 @@ pub record IsAsking (state : State) (a : Seen) : Type 0 where
   pub front : List (List Change)
   pub last : state.asked ≡ front ++ me.own ∷ []
 
+-- by the stage that the session is in
 abbrev pub ShowsStage : State → Seen → Stage → Type 0
 ShowsStage state a stage.Idle = IsIdle state a
 ShowsStage state a stage.Reader = IsReading state a
@@ -121,25 +124,27 @@ pub record ShowsAs (state : State) (a : Seen) (g : Stage) : Type 0 where
   pub answered : state.answered ≡ a.answered
   pub shows : ShowsStage state a g
 
+-- the same of a session
 abbrev pub Shows : State → Session → Type 0
 Shows state a = ShowsAs state (seen_of a) a.stage
 
 -- the reply is allowed, and the session shows the state that it leaves
 pub record RepliesAs (state : State) (a : Act) (statement : Statement) (reply : Reply) (new : Seen) (g : Stage) : Type 0 where
-  pub allowed : Allowed state 1 a (Some statement) reply
+  pub allowed : Allowed state 1 a statement reply
   pub shows : ShowsAs (next_state state 1 a (Some statement) reply) new g
 
+-- the same of a session
 abbrev pub Replies : State → Act → Statement → Reply → Session → Type 0
 Replies state a statement reply new = RepliesAs state a statement reply (seen_of new) new.stage
 
 -- a lock is granted, and the session shows the state that this leaves
 pub record Grants (state : State) (statement : Statement) (new : Session) : Type 0 where
-  pub allowed : Allowed state 1 act.Lock (Some statement) reply.Granted
+  pub allowed : Allowed state 1 act.Lock statement reply.Granted
   pub shows : Shows (next_state state 1 act.Lock (Some statement) reply.Granted) new
 
 -- a lock is granted, and its write has this reply
 pub record RepliesTwice (state : State) (statement : Statement) (answer : Reply) (new : Session) : Type 0 where
-  pub allowed : Allowed state 1 act.Lock (Some statement) reply.Granted
+  pub allowed : Allowed state 1 act.Lock statement reply.Granted
   pub write : Replies (next_state state 1 act.Lock (Some statement) reply.Granted) act.Write statement answer new
 
 -- its commit isn't asked for: its next act is one of a statement
@@ -172,7 +177,7 @@ pub record HasItemRoom (n : ℕ) (a : Session) (log : Log) : Type 0 where
   pub flag : vec_len a.record + n + 1 ≤ vec_capacity a.record
   pub frame : 8 + (vec_len a.record + n + 1) ≤ log.room
 
--- in a transaction a record is begun, and a writer has room for its commit
+-- in a transaction a record is begun_bytes, and a writer has room for its commit
 pub record CanCommit (a : Session) (log : Log) : Type 0 where
   pub begun : a.stage ≢ stage.Idle → 5 ≤ vec_len a.record
   pub commit : a.stage ≡ stage.Writer → HasCommitRoom a log

@@ -3,7 +3,7 @@ ghost use Rattle.std.specs.Prelude.{◌≡◌, ◌<◌, ◌+◌, ◌^◌, ◌≤
 ghost use Rattle.std.specs.Int.{w64};
 ghost use Rattle.ctr_model.specs.Refusals.{bad_from, fits, key_of};
 ghost use Rattle.ctr_rec.specs.Payload.{AreOf, IsOf, IsRow, IsKeyed, payload_of};
-ghost use Rattle.ctr_rec.specs.Records.{ColumnsFit};
+ghost use Rattle.ctr_rec.specs.Items.{ColumnsFit};
 ghost use Rattle.ctr_tables.specs.Stored.{IsSchemaHeld};
 ghost use Rattle.ctr_exec.specs.Session.{IsReadyRow, IsReadyTable};
 

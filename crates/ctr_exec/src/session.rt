@@ -9,7 +9,8 @@ ghost use Rattle.ctr_types.specs.declared.value.Schema.{Schema};
 ghost use Rattle.ctr_model.specs.Database.{table_at};
 ghost use Rattle.ctr_model.specs.Tape.{IsInTurn};
 ghost use Rattle.ctr_log.specs.Logs.{Log};
-ghost use Rattle.ctr_rec.specs.Records.{item, Fits, ColumnsFit};
+ghost use Rattle.ctr_rec.specs.Items.{Fits, ColumnsFit};
+ghost use Rattle.ctr_rec.specs.Encode.{item_bytes};
 ghost use Rattle.ctr_tables.specs.Tables.{database_of, HasRowRoom, HasTableRoom};
 ghost use Rattle.ctr_tables.specs.Stored.{IsSchemaHeld};
 ghost use Rattle.ctr_exec.specs.declared.session.Stage.TheVariants as stage;
@@ -170,7 +171,7 @@ impl Session {
         requires room { CanCommit self.old log.old }
         ensures refused { (state : State) → Shows state self.old → IfErr result (λ why. Replies state act.Lock (st.Insert table.now values.now) (reply.Refused why) self.new) }
         ensures granted { (state : State) → Shows state self.old → IfOk result (λ r. Grants state (st.Insert table.now values.now) self.new) }
-        ensures ready { IfOk result (λ r. (t : Table) × (table_at (database_of self.new.tables) table.now ≡ Some t) × IsReadyRow t.schema.columns table.now values.now r × HasRowRoom table.now r.key self.new.tables × HasItemRoom (length (item r.item)) self.new log.new) }
+        ensures ready { IfOk result (λ r. (t : Table) × (table_at (database_of self.new.tables) table.now ≡ Some t) × IsReadyRow t.schema.columns table.now values.now r × HasRowRoom table.now r.key self.new.tables × HasItemRoom (length (item_bytes r.item)) self.new log.new) }
         ensures writer { IfOk result (λ r. self.new.stage ≡ stage.Writer) }
         ensures room { IfErr result (λ why. CanCommit self.new log.new) }
         ensures turn { IsTurn self.new }
@@ -178,7 +179,7 @@ impl Session {
         ensures count { self.new.count ≡ self.old.count }
         ensures answered { self.new.answered ≡ self.old.answered }
         ensures log { log.new ≡ record log.old { room = log.new.room } }
-        ensures small { IfOk result (λ r. length (item r.item) < 2 ^ 17) }
+        ensures small { IfOk result (λ r. length (item_bytes r.item) < 2 ^ 17) }
         ensures short { IsShort self.old → IsShort self.new }
         ensures not_full { IfErr result (λ why. IsNotFull (reply.Refused why)) }
     {
@@ -208,17 +209,17 @@ impl Session {
     fn write_row(&mut self, table: &Name, ready: ReadyRow) -> Reply
         requires fits { Fits ready.item }
         requires few { self.old.count < 2 ^ 32 - 1 }
-        requires record_room { vec_len self.old.record + length (item ready.item) ≤ vec_capacity self.old.record }
+        requires record_room { vec_len self.old.record + length (item_bytes ready.item) ≤ vec_capacity self.old.record }
         requires row_room { HasRowRoom table.now ready.key self.old.tables }
         ensures replies { (state : State) (values : List Value) (t : Table) → Shows state self.old → self.old.stage ≡ stage.Writer → table_at (database_of self.old.tables) table.now ≡ Some t → IsReadyRow t.schema.columns table.now values ready
             → Replies state act.Write (st.Insert table.now values) result self.new }
         ensures stage { self.new.stage ≡ self.old.stage }
         ensures record_room { vec_capacity self.old.record ≤ vec_capacity self.new.record }
-        ensures long { vec_len self.new.record ≤ vec_len self.old.record + length (item ready.item) }
+        ensures long { vec_len self.new.record ≤ vec_len self.old.record + length (item_bytes ready.item) }
         ensures begun { vec_len self.old.record ≤ vec_len self.new.record }
         ensures count { self.new.count ≤ self.old.count + 1 }
         ensures answered { self.new.answered ≡ self.old.answered }
-        ensures short { length (item ready.item) < 2 ^ 17 → IsShort self.old → IsShort self.new }
+        ensures short { length (item_bytes ready.item) < 2 ^ 17 → IsShort self.old → IsShort self.new }
         ensures not_full { IsNotFull result }
     {
         if self.tables.has_row(table, ready.key) {
@@ -272,7 +273,7 @@ impl Session {
         requires room { CanCommit self.old log.old }
         ensures refused { (state : State) → Shows state self.old → IfErr result (λ why. Replies state act.Lock (st.Create table.now schema.now) (reply.Refused why) self.new) }
         ensures granted { (state : State) → Shows state self.old → IfOk result (λ r. Grants state (st.Create table.now schema.now) self.new) }
-        ensures ready { IfOk result (λ r. (table_at (database_of self.new.tables) table.now ≡ None) × IsReadyTable table.now schema.now r × HasTableRoom table.now self.new.tables × HasItemRoom (length (item r.item)) self.new log.new) }
+        ensures ready { IfOk result (λ r. (table_at (database_of self.new.tables) table.now ≡ None) × IsReadyTable table.now schema.now r × HasTableRoom table.now self.new.tables × HasItemRoom (length (item_bytes r.item)) self.new log.new) }
         ensures writer { IfOk result (λ r. self.new.stage ≡ stage.Writer) }
         ensures room { IfErr result (λ why. CanCommit self.new log.new) }
         ensures turn { IsTurn self.new }
@@ -280,7 +281,7 @@ impl Session {
         ensures count { self.new.count ≡ self.old.count }
         ensures answered { self.new.answered ≡ self.old.answered }
         ensures log { log.new ≡ record log.old { room = log.new.room } }
-        ensures small { IfOk result (λ r. length (item r.item) < 2 ^ 17) }
+        ensures small { IfOk result (λ r. length (item_bytes r.item) < 2 ^ 17) }
         ensures short { IsShort self.old → IsShort self.new }
         ensures not_full { IfErr result (λ why. IsNotFull (reply.Refused why)) }
     {
@@ -311,17 +312,17 @@ impl Session {
         requires fits { Fits ready.item }
         requires held { IsSchemaHeld ready.schema }
         requires few { self.old.count < 2 ^ 32 - 1 }
-        requires record_room { vec_len self.old.record + length (item ready.item) ≤ vec_capacity self.old.record }
+        requires record_room { vec_len self.old.record + length (item_bytes ready.item) ≤ vec_capacity self.old.record }
         requires table_room { HasTableRoom table.now self.old.tables }
         ensures replies { (state : State) (schema : Schema) → Shows state self.old → self.old.stage ≡ stage.Writer → table_at (database_of self.old.tables) table.now ≡ None → IsReadyTable table.now schema ready
             → Replies state act.Write (st.Create table.now schema) result self.new }
         ensures stage { self.new.stage ≡ self.old.stage }
         ensures record_room { vec_capacity self.old.record ≤ vec_capacity self.new.record }
-        ensures long { vec_len self.new.record ≤ vec_len self.old.record + length (item ready.item) }
+        ensures long { vec_len self.new.record ≤ vec_len self.old.record + length (item_bytes ready.item) }
         ensures begun { vec_len self.old.record ≤ vec_len self.new.record }
         ensures count { self.new.count ≤ self.old.count + 1 }
         ensures answered { self.new.answered ≡ self.old.answered }
-        ensures short { length (item ready.item) < 2 ^ 17 → IsShort self.old → IsShort self.new }
+        ensures short { length (item_bytes ready.item) < 2 ^ 17 → IsShort self.old → IsShort self.new }
         ensures not_full { IsNotFull result }
     {
         push_item(&mut self.record, &ready.item);
@@ -389,12 +390,12 @@ impl Session {
     fn make_room(&mut self, log: &mut LogFile, change: &Item) -> Result<(), OutOfMemory>
         requires fits { Fits change.now }
         requires begun { 5 ≤ vec_len self.old.record }
-        ensures room { OnOk result (HasItemRoom (length (item change.now)) self.new log.new) }
+        ensures room { OnOk result (HasItemRoom (length (item_bytes change.now)) self.new log.new) }
         ensures same { SameSession self.old self.new }
         ensures record_room { vec_capacity self.old.record ≤ vec_capacity self.new.record }
         ensures log { log.new ≡ record log.old { room = log.new.room } }
         ensures log_room { log.old.room ≤ log.new.room }
-        ensures small { OnOk result (length (item change.now) < 2 ^ 17) }
+        ensures small { OnOk result (length (item_bytes change.now) < 2 ^ 17) }
     {
         let len = spelled_len(change) + 1;
         self.record.reserve(len)?;

@@ -4,7 +4,7 @@ use Rattle.std.proofs.lemmas.List.{map_push, nil_from_length}
 use Rattle.ctr_model.specs.Grammar.{IsBlank, IsToken, IsLongest, Lexes}
 use Rattle.ctr_lex.specs.declared.token.Token.{Token}
 use Rattle.ctr_lex.specs.Tokens.{texts_of, StandFrom, NoneBegins, LexesTo, IsBadAt}
-use Rattle.ctr_lex.specs.One.{IsOne}
+use Rattle.ctr_lex.specs.One.{IsLongestToken}
 use Rattle.ctr_lex.proofs.Lists.{All_take}
 use Rattle.ctr_lex.proofs.ByFirst.{no_empty_token}
 use Rattle.ctr_lex.proofs.Lexing.{Begins, LexesTo-push, LexesTo-blanks, LexesTo-all, LexesTo-none, LexesTo-one}
@@ -64,7 +64,7 @@ front_blanks line rest from ts n front below all is =
       few = omega (arith, front.few);
     }
 
-longest_of : (from : List ℕ) (n : ℕ) → IsOne from n → IsLongest (take n from) (drop n from)
+longest_of : (from : List ℕ) (n : ℕ) → IsLongestToken from n → IsLongest (take n from) (drop n from)
 longest_of from n one more after e some is =
     let regrouped : from ≡ (take n from ++ more) ++ after = sym (take-append-drop n from) ∙ ap (λ (l : List ℕ). take n from ++ l) e ∙ sym (append_assoc (take n from) more after) in
     let most = one.most (take n from ++ more) after regrouped is in
@@ -75,7 +75,7 @@ token_long from zero is = absurd (no_empty_token is)
 token_long from (suc n) is = omega arith
 
 -- a token is taken
-pub front_token : (line from after : List ℕ) (ts : List Token) (t : Token) (n : ℕ) → IsFront line ts from → IsOne from n → t.text.now ≡ take n from → t.at ≡ length line - length from → after ≡ drop n from → IsFront line (ts ++ t ∷ []) after
+pub front_token : (line from after : List ℕ) (ts : List Token) (t : Token) (n : ℕ) → IsFront line ts from → IsLongestToken from n → t.text.now ≡ take n from → t.at ≡ length line - length from → after ≡ drop n from → IsFront line (ts ++ t ∷ []) after
 front_token line from after ts t n front one text_is at_is is =
     let long : length t.text.now ≡ n = ap length text_is ∙ length-take-le n from one.within in
     let shorter : length after + n ≡ length from = omega (arith, ap length is, length-drop n from, one.within) in

@@ -6,7 +6,7 @@ use Rattle.std.specs.List.{AllByRecursion, flat_map}
 use Rattle.ctr_model.specs.Texts.{doubled}
 use Rattle.ctr_model.specs.Grammar.{IsPrintable, IsDigit, IsLetter, IsWordByte, IsSign, IsToken}
 use Rattle.ctr_lex.specs.Tokens.{NoneBegins}
-use Rattle.ctr_lex.specs.One.{IsOne}
+use Rattle.ctr_lex.specs.One.{IsLongestToken}
 use Rattle.ctr_lex.proofs.Lists.{All_take, All_most}
 use Rattle.ctr_lex.proofs.ByFirst.{Kind, word, numeral, minus, text, sign, kind_of, no_empty_token, is_token}
 use Rattle.ctr_lex.proofs.Texts.{behind, text_rest, text_closes, text_most, text_none}
@@ -19,7 +19,7 @@ begun c rest (d ∷ cs) after e is =
     let behind : rest ≡ cs ++ after = cc in
     (cs, ap (λ (x : ℕ). x ∷ cs) first, subst (λ (x : ℕ). Kind x cs) first (kind_of d cs is), behind)
 
-one_of : (c : ℕ) (rest : List ℕ) (n : ℕ) → n ≤ length rest → Kind c (take n rest) → ((cs after : List ℕ) → rest ≡ cs ++ after → Kind c cs → length cs ≤ n) → IsOne (c ∷ rest) (suc n)
+one_of : (c : ℕ) (rest : List ℕ) (n : ℕ) → n ≤ length rest → Kind c (take n rest) → ((cs after : List ℕ) → rest ≡ cs ++ after → Kind c cs → length cs ≤ n) → IsLongestToken (c ∷ rest) (suc n)
 one_of c rest n within kind most = record {
   within = omega arith;
   token = is_token c (take n rest) kind;
@@ -29,8 +29,8 @@ one_of c rest n within kind most = record {
       omega (arith, ap length b.1, fits);
 }
 
-made : (c : ℕ) (rest : List ℕ) (n : ℕ) → n ≤ length rest → Kind c (take n rest) → ((cs after : List ℕ) → rest ≡ cs ++ after → Kind c cs → length cs ≤ n) → IsOne (c ∷ rest) (1 + n)
-made c rest n within kind most = let same : suc n ≡ 1 + n = omega arith in subst (IsOne (c ∷ rest)) same (one_of c rest n within kind most)
+made : (c : ℕ) (rest : List ℕ) (n : ℕ) → n ≤ length rest → Kind c (take n rest) → ((cs after : List ℕ) → rest ≡ cs ++ after → Kind c cs → length cs ≤ n) → IsLongestToken (c ∷ rest) (1 + n)
+made c rest n within kind most = let same : suc n ≡ 1 + n = omega arith in subst (IsLongestToken (c ∷ rest)) same (one_of c rest n within kind most)
 
 none_begins : (c : ℕ) (rest : List ℕ) → ((cs after : List ℕ) → rest ≡ cs ++ after → Kind c cs → ⊥) → NoneBegins (c ∷ rest)
 none_begins c rest none t after e is = let b = begun c rest t after e is in none b.0 after b.3 b.2
@@ -44,7 +44,7 @@ word_most c rest cs after n letter stops e (minus first is) = grind arith
 word_most c rest cs after n letter stops e (text first inner is all) = grind arith
 word_most c rest cs after n letter stops e (sign first is) = grind arith
 
-pub word_one : (c : ℕ) (rest : List ℕ) (n : ℕ) → IsLetter c → n ≤ length rest → ((k : ℕ) → k < n → IsWordByte (get_or rest k 0)) → (n < length rest → IsWordByte (get_or rest n 0) → ⊥) → IsOne (c ∷ rest) (1 + n)
+pub word_one : (c : ℕ) (rest : List ℕ) (n : ℕ) → IsLetter c → n ≤ length rest → ((k : ℕ) → k < n → IsWordByte (get_or rest k 0)) → (n < length rest → IsWordByte (get_or rest n 0) → ⊥) → IsLongestToken (c ∷ rest) (1 + n)
 word_one c rest n letter within all stops = made c rest n within (word letter (All_take IsWordByte rest n within all)) (λ cs after e kind. word_most c rest cs after n letter stops e kind)
 
 -- ---- an integer
@@ -56,7 +56,7 @@ numeral_most c rest cs after n digit stops e (minus first is) = grind arith
 numeral_most c rest cs after n digit stops e (text first inner is all) = grind arith
 numeral_most c rest cs after n digit stops e (sign first is) = grind arith
 
-pub numeral_one : (c : ℕ) (rest : List ℕ) (n : ℕ) → IsDigit c → n ≤ length rest → ((k : ℕ) → k < n → IsDigit (get_or rest k 0)) → (n < length rest → IsDigit (get_or rest n 0) → ⊥) → IsOne (c ∷ rest) (1 + n)
+pub numeral_one : (c : ℕ) (rest : List ℕ) (n : ℕ) → IsDigit c → n ≤ length rest → ((k : ℕ) → k < n → IsDigit (get_or rest k 0)) → (n < length rest → IsDigit (get_or rest n 0) → ⊥) → IsLongestToken (c ∷ rest) (1 + n)
 numeral_one c rest n digit within all stops = made c rest n within (numeral digit (All_take IsDigit rest n within all)) (λ cs after e kind. numeral_most c rest cs after n digit stops e kind)
 
 -- what follows a - in a token is digits, of which there is one
@@ -67,7 +67,7 @@ after_minus c cs at (minus first is) = is
 after_minus c cs at (text first inner is all) = absurd (grind arith)
 after_minus c cs at (sign first is) = absurd (grind arith)
 
-pub minus_one : (c : ℕ) (rest : List ℕ) (n : ℕ) → c ≡ 45 → 0 < n → n ≤ length rest → ((k : ℕ) → k < n → IsDigit (get_or rest k 0)) → (n < length rest → IsDigit (get_or rest n 0) → ⊥) → IsOne (c ∷ rest) (1 + n)
+pub minus_one : (c : ℕ) (rest : List ℕ) (n : ℕ) → c ≡ 45 → 0 < n → n ≤ length rest → ((k : ℕ) → k < n → IsDigit (get_or rest k 0)) → (n < length rest → IsDigit (get_or rest n 0) → ⊥) → IsLongestToken (c ∷ rest) (1 + n)
 minus_one c rest n at more within all stops =
     let some : 0 < length (take n rest) = omega (arith, length-take-le n rest within) in
     made c rest n within (minus at (some, All_take IsDigit rest n within all)) (λ cs after e kind. All_most IsDigit rest cs after n e (after_minus c cs at kind).1 stops)
@@ -92,7 +92,7 @@ after_quote c cs at (sign first is) = absurd (grind arith)
 quote_first : (rest cs after inner : List ℕ) → rest ≡ cs ++ after → cs ≡ flat_map doubled inner ++ 39 ∷ [] → rest ≡ flat_map doubled inner ++ 39 ∷ after
 quote_first rest cs after inner e is = e ∙ ap (λ (l : List ℕ). l ++ after) is ∙ append_assoc (flat_map doubled inner) (39 ∷ []) after
 
-text_one : (c : ℕ) (rest : List ℕ) (n : ℕ) → c ≡ 39 → n ≤ length rest → text_rest false None rest ≡ Some (drop n rest) → IsOne (c ∷ rest) (1 + n)
+text_one : (c : ℕ) (rest : List ℕ) (n : ℕ) → c ≡ 39 → n ≤ length rest → text_rest false None rest ≡ Some (drop n rest) → IsLongestToken (c ∷ rest) (1 + n)
 text_one c rest n at within found =
     let closes = text_closes rest (drop n rest) found in
     let inner = closes.0 in
@@ -111,7 +111,7 @@ text_none_begins c rest at found =
     text_none rest w.0 after found (quote_first rest cs after w.0 e w.1) w.2)
 
 -- the answer for what stands behind a quote
-pub text_answer : (rest : List ℕ) (end : Option ℕ) → IfSome end (λ n. n ≤ length rest) → text_rest false None rest ≡ behind rest end → MatchOption end (NoneBegins (39 ∷ rest)) (λ n. IsOne (39 ∷ rest) (1 + n))
+pub text_answer : (rest : List ℕ) (end : Option ℕ) → IfSome end (λ n. n ≤ length rest) → text_rest false None rest ≡ behind rest end → MatchOption end (NoneBegins (39 ∷ rest)) (λ n. IsLongestToken (39 ∷ rest) (1 + n))
 text_answer rest None within found = text_none_begins 39 rest refl found
 text_answer rest (Some n) within found = text_one 39 rest n refl within found
 
@@ -124,7 +124,7 @@ after_sign c cs at (minus first is) = absurd (grind arith)
 after_sign c cs at (text first inner is all) = absurd (grind arith)
 after_sign c cs at (sign first is) = is
 
-pub sign_one : (c : ℕ) (rest : List ℕ) → IsSign c → IsOne (c ∷ rest) 1
+pub sign_one : (c : ℕ) (rest : List ℕ) → IsSign c → IsLongestToken (c ∷ rest) 1
 sign_one c rest at = one_of c rest 0 (omega arith) (sign at refl) (λ cs after e kind. omega (arith, ap length (after_sign c cs at kind)))
 
 no_kind : (c : ℕ) (cs : List ℕ) → (IsLetter c → ⊥) → (IsDigit c → ⊥) → (c ≡ 45 → ⊥) → (c ≡ 39 → ⊥) → (IsSign c → ⊥) → Kind c cs → ⊥

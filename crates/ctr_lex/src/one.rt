@@ -1,7 +1,7 @@
 // One token: the longest front of what follows that is a token.
 ghost use Rattle.std.specs.Prelude.{◌+◌, ◌∷◌, MatchOption};
 ghost use Rattle.ctr_lex.specs.Tokens.{NoneBegins};
-ghost use Rattle.ctr_lex.specs.One.{IsOne};
+ghost use Rattle.ctr_lex.specs.One.{IsLongestToken};
 
 use crate::bytes::{digits_len, is_digit, is_letter, is_printable, is_sign, word_len};
 
@@ -11,7 +11,7 @@ const QUOTE: u8 = b'\'';
 // no text ends. Where two quotes stand together and no quote follows that ends the text, it ends at
 // the first of the two.
 fn text_len(bytes: &[u8]) -> Option<usize>
-    ensures { MatchOption result (NoneBegins (39 ∷ bytes.now)) (λ n. IsOne (39 ∷ bytes.now) (1 + n)) }
+    ensures { MatchOption result (NoneBegins (39 ∷ bytes.now)) (λ n. IsLongestToken (39 ∷ bytes.now) (1 + n)) }
 {
     let mut closed = false;
     let mut end = None;
@@ -30,7 +30,7 @@ fn text_len(bytes: &[u8]) -> Option<usize>
 
 // The same of a first byte and what stands behind it.
 fn len_from(first: u8, rest: &[u8]) -> Option<usize>
-    ensures { MatchOption result (NoneBegins (first ∷ rest.now)) (λ n. IsOne (first ∷ rest.now) n) }
+    ensures { MatchOption result (NoneBegins (first ∷ rest.now)) (λ n. IsLongestToken (first ∷ rest.now) n) }
 {
     if is_letter(first) {
         return Some(1 + word_len(rest));
@@ -50,7 +50,7 @@ fn len_from(first: u8, rest: &[u8]) -> Option<usize>
 
 /// How long the longest token is that begins the bytes; none where none does.
 pub(crate) fn token_len(bytes: &[u8]) -> Option<usize>
-    ensures { MatchOption result (NoneBegins bytes.now) (λ n. IsOne bytes.now n) }
+    ensures { MatchOption result (NoneBegins bytes.now) (λ n. IsLongestToken bytes.now n) }
 {
     let (first, rest) = bytes.split_first()?;
     len_from(*first, rest)

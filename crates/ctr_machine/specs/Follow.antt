@@ -8,4 +8,6 @@ use Rattle.ctr_model.specs.Tape.{statement_of, progress_of}
 
 -- the statement that the session has finished next still has a number
 abbrev pub HasNumber : List Line → Point → Entry → Type 0
-HasNumber lines p e = (s : Statement) → statement_of lines e.session e.statement ≡ Some s → (progress_of p e.session).finished < 2 ^ 64 - 1
+HasNumber lines p e =
+    (s : Statement) → statement_of lines e.session e.statement ≡ Some s
+    → (progress_of p e.session).finished < 2 ^ 64 - 1

@@ -9,7 +9,7 @@ ghost use Rattle.ctr_machine.specs.Follow.{HasNumber};
 use crate::next::next_state;
 use crate::refusals::has_name;
 use crate::reply::reply_of;
-use ctr_model::{Point, Progress, State};
+use ctr_model::{CATALOG_ENTRIES, MOST_PAGES, Point, Progress, State};
 use ctr_types::{Act, Entry, Line, OutOfMemory, Plain, Refusal, Reply, Statement};
 use std::alloc::Global;
 
@@ -49,9 +49,9 @@ fn progress_of(point: &Point, session: u8) -> Progress
     }
 }
 
-// Whether the act is the one of this place of the statement.
-fn is_act_at(statement: &Statement, made: u64, act: &Act) -> bool
-    ensures { IsTrue result ↔ (slice_get (acts_of statement.now) made ≡ Some act.now) }
+// Whether the act is the one of this place of the statement, which is the same at every state.
+fn is_act_at(_state: &State, _session: u8, statement: &Statement, made: u64, act: &Act) -> bool
+    ensures { IsTrue result ↔ (slice_get (acts_of _state.now _session statement.now) made ≡ Some act.now) }
 {
     match (statement, made, act) {
         (Statement::Begin, 0, Act::Begin) => true,
@@ -89,7 +89,7 @@ fn is_in_turn(state: &State, session: u8, act: &Act) -> bool
 
 // Whether one of the three free replies stands for this one.
 fn may_stand_for(statement: &Statement, reply: &Reply, given: &Reply) -> bool
-    ensures { IsTrue result ↔ MayStandFor (Some statement.now) reply.now given.now }
+    ensures { IsTrue result ↔ MayStandFor statement.now reply.now given.now }
 {
     match reply {
         Reply::Began { .. } | Reply::Granted | Reply::Rows { .. } => is_refused(
@@ -97,13 +97,20 @@ fn may_stand_for(statement: &Statement, reply: &Reply, given: &Reply) -> bool
             Refusal::OutOfMemory,
         ),
         Reply::Done => match statement {
-            Statement::Create { .. } => is_refused(given, Refusal::CatalogFull { limit: 32 }),
+            Statement::Create { .. } => is_refused(
+                given,
+                Refusal::CatalogFull {
+                    limit: CATALOG_ENTRIES,
+                },
+            ),
             Statement::Insert { .. } | Statement::Update { .. } | Statement::Delete { .. } => {
-                is_refused(given, Refusal::Full { limit: 30000 })
+                is_refused(given, Refusal::Full { limit: MOST_PAGES })
             }
-            _ => false,
+            Statement::Begin | Statement::Commit | Statement::Rollback => false,
+            Statement::DropTable { .. } | Statement::Select { .. } => false,
         },
-        _ => false,
+        Reply::Asked { .. } | Reply::ReadOnly | Reply::Answered { .. } => false,
+        Reply::RolledBack | Reply::Released | Reply::Refused { .. } => false,
     }
 }
 
@@ -123,7 +130,7 @@ fn is_allowed(
     entry: &Entry,
 ) -> Result<bool, OutOfMemory>
     requires { state.now.answered < 2 ^ 64 - 1 }
-    ensures { IfOk result (λ yes. IsTrue yes ↔ Allowed state.now entry.now.session entry.now.act (Some statement.now) entry.now.reply) }
+    ensures { IfOk result (λ yes. IsTrue yes ↔ Allowed state.now entry.now.session entry.now.act statement.now entry.now.reply) }
 {
     let reply = reply_of(alloc, state, Some(statement), entry)?;
     Ok(entry.reply.same(&reply) || may_stand_for(statement, &reply, &entry.reply))
@@ -142,7 +149,13 @@ fn is_act_of(
     if entry.statement == 0 || entry.statement - 1 != progress.finished {
         return Ok(false);
     }
-    if !is_act_at(statement, progress.made, &entry.act) {
+    if !is_act_at(
+        &point.state,
+        entry.session,
+        statement,
+        progress.made,
+        &entry.act,
+    ) {
         return Ok(false);
     }
     if !is_in_turn(&point.state, entry.session, &entry.act) {
@@ -186,8 +199,8 @@ fn goes_on(reply: &Reply) -> bool
     !matches!(reply, Reply::Refused { .. } | Reply::ReadOnly)
 }
 
-fn has_two_acts(statement: &Statement) -> bool
-    ensures { length (acts_of statement.now) ≡ (if result then 2 else 1) }
+fn has_two_acts(_state: &State, _session: u8, statement: &Statement) -> bool
+    ensures { length (acts_of _state.now _session statement.now) ≡ (if result then 2 else 1) }
 {
     !matches!(
         statement,
@@ -196,11 +209,17 @@ fn has_two_acts(statement: &Statement) -> bool
 }
 
 // One act more, or the statement is finished.
-fn advanced(statement: &Statement, reply: &Reply, progress: Progress) -> Progress
+fn advanced(
+    state: &State,
+    session: u8,
+    statement: &Statement,
+    reply: &Reply,
+    progress: Progress,
+) -> Progress
     requires { progress.finished < 2 ^ 64 - 1 }
-    ensures { result ≡ advanced statement.now reply.now progress }
+    ensures { result ≡ advanced (acts_of state.now session statement.now) reply.now progress }
 {
-    if goes_on(reply) && progress.made == 0 && has_two_acts(statement) {
+    if goes_on(reply) && progress.made == 0 && has_two_acts(state, session, statement) {
         return Progress {
             finished: progress.finished,
             made: 1,
@@ -220,12 +239,18 @@ fn pass(alloc: Global, lines: &[Line], point: &mut Point, entry: &Entry) -> Resu
 {
     let statement = statement_of(lines, entry.session, entry.statement);
     let progress = progress_of(point, entry.session);
-    next_state(alloc, &mut point.state, statement, entry)?;
-    point.moment = entry.moment;
     if let Some(statement) = statement {
-        let next = advanced(statement, &entry.reply, progress);
+        let next = advanced(
+            &point.state,
+            entry.session,
+            statement,
+            &entry.reply,
+            progress,
+        );
         point.progress.put(entry.session, next)?;
     }
+    next_state(alloc, &mut point.state, statement, entry)?;
+    point.moment = entry.moment;
     Ok(())
 }
 

@@ -1,9 +1,9 @@
 // The state that a reply leaves: the machine's side of the definitions of the same names.
-ghost use Rattle.std.specs.Prelude.{◌≡◌, ◌<◌, ◌-◌, ◌^◌, ◌++◌, Some, IfOk, OnOk, option_and_then};
+ghost use Rattle.std.specs.Prelude.{◌≡◌, ◌<◌, ◌-◌, ◌^◌, Some, IfOk, OnOk, option_and_then};
 ghost use Rattle.std.specs.Option.{option_copied, option_map, option_to_list};
 ghost use Rattle.ctr_model.specs.Refusals.{updated};
-ghost use Rattle.ctr_model.specs.State.{transaction_of, view};
-ghost use Rattle.ctr_model.specs.Reply.{granted, with_lock, with_use, change_of, next_inside, next_outside, without_name, next_state};
+ghost use Rattle.ctr_model.specs.State.{transaction_of};
+ghost use Rattle.ctr_model.specs.Reply.{with_lock, with_use, on_table, granted, with_granted, with_read, changes_of, with_changes, next_inside, next_outside, released, without_name, next_state};
 
 use crate::refusals::{key_locked, key_of, table_of};
 use crate::reply::{columns_of, row_of};
@@ -12,18 +12,26 @@ use ctr_model::{Change, Key, KeyLock, Map, State, Table, Transaction};
 use ctr_types::{Act, Column, Entry, List, Name, OutOfMemory, Plain, Reply, Row, Set, Statement};
 use std::alloc::{AllocError, Global};
 
+fn with_use(alloc: Global, name: &Name, me: &Transaction) -> Result<Transaction, AllocError>
+    ensures { IfOk result (λ new. new ≡ with_use name.now me.now) }
+{
+    let mut new = me.copy(alloc)?;
+    new.uses.push(name.copy(alloc)?)?;
+    Ok(new)
+}
+
 // The transaction with a lock of a key and a use of its table, or with a name.
-fn granted(
+fn with_lock(
     alloc: Global,
-    statement: &Statement,
+    key: Option<Key>,
     name: &Name,
     me: &Transaction,
 ) -> Result<Transaction, AllocError>
-    ensures { IfOk result (λ new. new ≡ granted statement.now name.now me.now) }
+    ensures { IfOk result (λ new. new ≡ with_lock key name.now me.now) }
 {
     let mut new = me.copy(alloc)?;
     new.writer = true;
-    match key_locked(statement) {
+    match key {
         Some(key) => {
             new.locks.push(KeyLock {
                 table: name.copy(alloc)?,
@@ -36,37 +44,64 @@ fn granted(
     Ok(new)
 }
 
-fn with_lock(
+// The transaction with what an act of the statement was granted.
+fn granted(
     alloc: Global,
+    act: &Act,
     statement: &Statement,
     me: &Transaction,
 ) -> Result<Transaction, AllocError>
-    ensures { IfOk result (λ new. new ≡ with_lock statement.now me.now) }
+    ensures { IfOk result (λ new. new ≡ granted act.now statement.now me.now) }
 {
-    if let Some(name) = table_of(statement) {
-        return granted(alloc, statement, name, me);
+    match (act, table_of(statement)) {
+        (Act::Lock, Some(name)) => with_lock(alloc, key_locked(act, statement), name, me),
+        (Act::Lock, None) => me.copy(alloc),
+        (Act::Begin | Act::Read | Act::Write | Act::Ask, _) => me.copy(alloc),
+        (Act::Answer | Act::Rollback | Act::Release { .. }, _) => me.copy(alloc),
     }
-    let mut new = me.copy(alloc)?;
-    new.writer = true;
-    Ok(new)
 }
 
-fn with_use(
+fn with_granted(
     alloc: Global,
-    statement: &Statement,
+    act: &Act,
+    statement: Option<&Statement>,
     me: &Transaction,
 ) -> Result<Transaction, AllocError>
-    ensures { IfOk result (λ new. new ≡ with_use statement.now me.now) }
+    ensures { IfOk result (λ new. new ≡ with_granted act.now (option_copied statement.entry) me.now) }
 {
-    let mut new = me.copy(alloc)?;
-    let Some(name) = table_of(statement) else {
-        return Ok(new);
-    };
-    new.uses.push(name.copy(alloc)?)?;
-    Ok(new)
+    match statement {
+        Some(statement) => granted(alloc, act, statement, me),
+        None => me.copy(alloc),
+    }
 }
 
-// ---- the change of a Write that is done
+fn with_table_use(
+    alloc: Global,
+    table: Option<&Name>,
+    me: &Transaction,
+) -> Result<Transaction, AllocError>
+    ensures { IfOk result (λ new. new ≡ on_table with_use (option_copied table.entry) me.now) }
+{
+    match table {
+        Some(name) => with_use(alloc, name, me),
+        None => me.copy(alloc),
+    }
+}
+
+fn with_read(
+    alloc: Global,
+    statement: Option<&Statement>,
+    me: &Transaction,
+) -> Result<Transaction, AllocError>
+    ensures { IfOk result (λ new. new ≡ with_read (option_copied statement.entry) me.now) }
+{
+    match statement {
+        Some(statement) => with_table_use(alloc, table_of(statement), me),
+        None => me.copy(alloc),
+    }
+}
+
+// ---- the changes of a Write that is done
 
 fn put_of(alloc: Global, table: &Name, key: Key, row: Row) -> Result<Change, AllocError>
     ensures { IfOk result (λ made. made ≡ Change.Put table.now key row) }
@@ -112,7 +147,7 @@ fn change_of(
     sees: &Map<Name, Table>,
     statement: &Statement,
 ) -> Result<Option<Change>, AllocError>
-    ensures { IfOk result (λ made. option_to_list made ≡ change_of sees.now statement.now) }
+    ensures { IfOk result (λ made. option_to_list made ≡ changes_of sees.now statement.now) }
 {
     match statement {
         Statement::Create { table, schema } => Ok(Some(Change::Create {
@@ -147,19 +182,32 @@ fn change_of(
 
 fn with_change(
     alloc: Global,
-    state: &State,
+    sees: &Map<Name, Table>,
     statement: &Statement,
     me: &Transaction,
 ) -> Result<Transaction, AllocError>
-    ensures { IfOk result (λ new. new ≡ record me.now { own = me.now.own ++ change_of (view state.now me.now) statement.now }) }
+    ensures { IfOk result (λ new. new ≡ with_changes sees.now (Some statement.now) me.now) }
 {
-    let sees = state.view(alloc, me)?;
     let mut new = me.copy(alloc)?;
-    let Some(change) = change_of(alloc, &sees, statement)? else {
+    let Some(change) = change_of(alloc, sees, statement)? else {
         return Ok(new);
     };
     new.own.push(change)?;
     Ok(new)
+}
+
+fn with_changes(
+    alloc: Global,
+    sees: &Map<Name, Table>,
+    statement: Option<&Statement>,
+    me: &Transaction,
+) -> Result<Transaction, AllocError>
+    ensures { IfOk result (λ new. new ≡ with_changes sees.now (option_copied statement.entry) me.now) }
+{
+    match statement {
+        Some(statement) => with_change(alloc, sees, statement, me),
+        None => me.copy(alloc),
+    }
 }
 
 // ---- the next state
@@ -169,19 +217,23 @@ fn next_inside(
     state: &mut State,
     session: u8,
     me: &Transaction,
-    statement: &Statement,
-    reply: &Reply,
+    statement: Option<&Statement>,
+    entry: &Entry,
 ) -> Result<(), AllocError>
     requires { state.old.answered < 2 ^ 64 - 1 }
-    ensures { OnOk result (state.new ≡ next_inside state.old session me.now statement.now reply.now) }
+    ensures { OnOk result (state.new ≡ next_inside state.old session me.now entry.now.act (option_copied statement.entry) entry.now.reply) }
 {
-    match reply {
-        Reply::Granted => state
+    match &entry.reply {
+        Reply::Granted => {
+            let new = with_granted(alloc, &entry.act, statement, me)?;
+            state.sessions.put(session, new)
+        }
+        Reply::Rows { .. } => state
             .sessions
-            .put(session, with_lock(alloc, statement, me)?),
-        Reply::Rows { .. } => state.sessions.put(session, with_use(alloc, statement, me)?),
+            .put(session, with_read(alloc, statement, me)?),
         Reply::Done => {
-            let new = with_change(alloc, state, statement, me)?;
+            let sees = state.view(alloc, me)?;
+            let new = with_changes(alloc, &sees, statement, me)?;
             state.sessions.put(session, new)
         }
         Reply::Asked { k } => {
@@ -216,22 +268,35 @@ fn without_name(alloc: Global, name: &Name, names: &[Name]) -> Result<List<Name>
     Ok(left)
 }
 
+// Recovery no longer holds the name that the act releases.
+fn release(alloc: Global, state: &mut State, act: &Act) -> Result<(), AllocError>
+    ensures { OnOk result (state.new ≡ released act.now state.old) }
+{
+    match act {
+        Act::Release { name } => {
+            state.stuck = without_name(alloc, name, state.stuck.as_slice())?;
+            Ok(())
+        }
+        Act::Begin | Act::Read | Act::Lock | Act::Write => Ok(()),
+        Act::Ask | Act::Answer | Act::Rollback => Ok(()),
+    }
+}
+
 fn next_outside(
     alloc: Global,
     state: &mut State,
     session: u8,
-    act: &Act,
-    reply: &Reply,
+    _statement: Option<&Statement>,
+    entry: &Entry,
 ) -> Result<(), AllocError>
-    ensures { OnOk result (state.new ≡ next_outside state.old session act.now reply.now) }
+    ensures { OnOk result (state.new ≡ next_outside state.old session entry.now.act (option_copied _statement.entry) entry.now.reply) }
 {
-    match (reply, act) {
-        (Reply::Began { n }, _) => state.sessions.put(session, Transaction::begun(alloc, *n)),
-        (Reply::Released, Act::Release { name }) => {
-            state.stuck = without_name(alloc, name, state.stuck.as_slice())?;
-            Ok(())
-        }
-        _ => Ok(()),
+    match &entry.reply {
+        Reply::Began { n } => state.sessions.put(session, Transaction::begun(alloc, *n)),
+        Reply::Released => release(alloc, state, &entry.act),
+        Reply::Granted | Reply::Rows { .. } | Reply::Done | Reply::Asked { .. } => Ok(()),
+        Reply::ReadOnly | Reply::Answered { .. } | Reply::RolledBack => Ok(()),
+        Reply::Refused { .. } => Ok(()),
     }
 }
 
@@ -249,13 +314,18 @@ fn transaction_of(
     Ok(Some(me.copy(alloc)?))
 }
 
-fn next(alloc: Global, state: &mut State, of: &Statement, entry: &Entry) -> Result<(), AllocError>
+fn next(
+    alloc: Global,
+    state: &mut State,
+    statement: Option<&Statement>,
+    entry: &Entry,
+) -> Result<(), AllocError>
     requires { state.old.answered < 2 ^ 64 - 1 }
-    ensures { OnOk result (state.new ≡ next_state state.old entry.now.session entry.now.act (Some of.now) entry.now.reply) }
+    ensures { OnOk result (state.new ≡ next_state state.old entry.now.session entry.now.act (option_copied statement.entry) entry.now.reply) }
 {
     match transaction_of(alloc, state, entry.session)? {
-        Some(me) => next_inside(alloc, state, entry.session, &me, of, &entry.reply),
-        None => next_outside(alloc, state, entry.session, &entry.act, &entry.reply),
+        Some(me) => next_inside(alloc, state, entry.session, &me, statement, entry),
+        None => next_outside(alloc, state, entry.session, statement, entry),
     }
 }
 
@@ -270,6 +340,5 @@ pub fn next_state(
     requires { state.old.answered < 2 ^ 64 - 1 }
     ensures { OnOk result (state.new ≡ next_state state.old entry.now.session entry.now.act (option_copied statement.entry) entry.now.reply) }
 {
-    let begin = Statement::Begin;
-    Ok(next(alloc, state, statement.unwrap_or(&begin), entry)?)
+    Ok(next(alloc, state, statement, entry)?)
 }

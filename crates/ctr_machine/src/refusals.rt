@@ -5,10 +5,10 @@ ghost use Rattle.std.specs.Ordering.{nat_cmp};
 ghost use Rattle.std.specs.List.{list_any};
 ghost use Rattle.ctr_model.specs.Maps.{without};
 ghost use Rattle.ctr_model.specs.State.{has_name};
-ghost use Rattle.ctr_model.specs.Refusals.{table_of, key_of, key_locked, creates, changes_schema, others, is_busy, has_lock, first_session, busy_by, locked_by, is_schema_change, is_create_of, is_write_of, is_touching, answered_since, last_with, schema_changed_by, row_changed_by};
+ghost use Rattle.ctr_model.specs.Refusals.{table_of, key_of, key_written, key_locked, creates, changes_schema, others, is_busy, has_lock, first_session, busy_by, locked_by, is_schema_change, is_create_of, is_write_of, is_touching, answered_since, last_with, schema_changed_by, row_changed_by};
 
 use ctr_model::{Change, Key, State, Transaction};
-use ctr_types::{List, Name, Statement, Value};
+use ctr_types::{Act, List, Name, Statement, Value};
 
 // The table of a statement.
 pub fn table_of(statement: &Statement) -> Option<&Name>
@@ -36,9 +36,9 @@ pub fn key_of(values: &[Value]) -> i64
     }
 }
 
-// The key that a statement locks.
-pub fn key_locked(statement: &Statement) -> Option<Key>
-    ensures { result ≡ key_locked statement.now }
+// The key of the row that a statement writes.
+fn key_written(statement: &Statement) -> Option<Key>
+    ensures { result ≡ key_written statement.now }
 {
     match statement {
         Statement::Insert { values, .. } => Some(Key::new(key_of(values.as_slice()))),
@@ -48,6 +48,17 @@ pub fn key_locked(statement: &Statement) -> Option<Key>
         Statement::Create { .. } => None,
         Statement::DropTable { .. } => None,
         Statement::Select { .. } => None,
+    }
+}
+
+// The key that an act of a statement locks.
+pub fn key_locked(act: &Act, statement: &Statement) -> Option<Key>
+    ensures { result ≡ key_locked act.now statement.now }
+{
+    match act {
+        Act::Lock => key_written(statement),
+        Act::Begin | Act::Read | Act::Write | Act::Ask | Act::Answer | Act::Rollback => None,
+        Act::Release { .. } => None,
     }
 }
 

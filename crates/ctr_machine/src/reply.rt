@@ -1,9 +1,10 @@
-// The reply to an act and the state that it leaves: the machine's side of the definitions.
-ghost use Rattle.std.specs.Prelude.{◌≡◌, ◌<◌, ◌≤◌, ◌+◌, ◌^◌, Option, Some, length, map, ◌-◌, IfOk, OnOk, OnErr, unwrap_or};
-ghost use Rattle.std.specs.Option.{option_copied, option_map, option_map_or, option_to_list};
+// The reply to an act: the machine's side of the definitions of the same names.
+ghost use Rattle.std.specs.Prelude.{◌≡◌, ◌<◌, ◌+◌, ◌^◌, Some, [], ◌∷◌, length, map, ◌-◌, IfOk};
+ghost use Rattle.std.specs.Option.{option_copied, option_to_list};
 ghost use Rattle.ctr_model.specs.Database.{table_at};
-ghost use Rattle.ctr_model.specs.Refusals.{first_of, presence_refusals, name_refusals, value_refusals, lock_refusals, key_refusals, refusal_over, write_refusal, columns_of, row_of, update_refusal, updated};
-ghost use Rattle.ctr_model.specs.Reply.{rows_in, rows_read, refused_or, reply_inside, reply_outside, reply_to};
+ghost use Rattle.ctr_model.specs.State.{view};
+ghost use Rattle.ctr_model.specs.Refusals.{first_of, presence_refusals, name_refusals, value_refusals, key_refusals, refusal_of, write_refusal, columns_of, row_of, update_refusal, updated};
+ghost use Rattle.ctr_model.specs.Reply.{rows_in, rows_found, rows_read, refused_or, reply_inside, reply_outside, reply_to};
 
 use crate::refusals::{
     busy_by, creates, key_locked, key_of, locked_by, row_changed_by, schema_changed_by, table_of,
@@ -43,7 +44,7 @@ fn lock_refusal(
     name: &Name,
     key: Key,
 ) -> Option<Refusal>
-    ensures { result ≡ first_of (lock_refusals state.now session me.now name.now key) }
+    ensures { result ≡ first_of (key_refusals state.now session me.now name.now (Some key)) }
 {
     if let Some(by) = locked_by(state, session, name, key) {
         return Some(Refusal::RowLocked { by });
@@ -56,12 +57,12 @@ fn key_refusal(
     state: &State,
     session: u8,
     me: &Transaction,
-    statement: &Statement,
     name: &Name,
+    key: Option<Key>,
 ) -> Option<Refusal>
-    ensures { result ≡ first_of (key_refusals state.now session me.now statement.now name.now) }
+    ensures { result ≡ first_of (key_refusals state.now session me.now name.now key) }
 {
-    match key_locked(statement) {
+    match key {
         Some(key) => lock_refusal(state, session, me, name, key),
         None => None,
     }
@@ -87,21 +88,23 @@ fn value_refusal(statement: &Statement, table: Option<&Table>) -> Option<Refusal
     Some(Refusal::BadValue { at })
 }
 
-// Why a Lock or a Read is refused, where it is, over what the session sees.
-fn refusal_over(
+// Why a Lock or a Read is refused, where it is; the database is what the session sees.
+fn refusal_of(
     state: &State,
     session: u8,
     me: &Transaction,
+    act: &Act,
     statement: &Statement,
     sees: &Map<Name, Table>,
 ) -> Option<Refusal>
-    ensures { result ≡ refusal_over state.now session me.now statement.now sees.now }
+    requires { sees.now ≡ view state.now me.now }
+    ensures { result ≡ refusal_of state.now session me.now act.now statement.now }
 {
     let name = table_of(statement)?;
     let table = sees.get(name);
     let late = first(
         value_refusal(statement, table),
-        key_refusal(state, session, me, statement, name),
+        key_refusal(state, session, me, name, key_locked(act, statement)),
     );
     let held = first(name_refusal(state, session, me, statement, name), late);
     first(table_refusal(statement, table), held)
@@ -109,7 +112,7 @@ fn refusal_over(
 
 // The first cause of two.
 fn first(early: Option<Refusal>, late: Option<Refusal>) -> Option<Refusal>
-    ensures { result ≡ option_map_or Some early late }
+    ensures { result ≡ first_of (early ∷ late ∷ []) }
 {
     match early {
         Some(why) => Some(why),
@@ -217,6 +220,19 @@ fn rows_in(alloc: Global, at: &Option<KeyIs>, table: &Table) -> Result<List<Row>
     listed(alloc, table.rows.get(&Key::new(at.key)))
 }
 
+fn rows_found(
+    alloc: Global,
+    at: &Option<KeyIs>,
+    table: Option<&Table>,
+) -> Result<List<Row>, AllocError>
+    ensures { IfOk result (λ rows. rows ≡ rows_found at.now (option_copied table.entry)) }
+{
+    match table {
+        Some(table) => rows_in(alloc, at, table),
+        None => Ok(List::new(alloc)),
+    }
+}
+
 fn rows_read(
     alloc: Global,
     sees: &Map<Name, Table>,
@@ -224,12 +240,13 @@ fn rows_read(
 ) -> Result<List<Row>, AllocError>
     ensures { IfOk result (λ rows. rows ≡ rows_read sees.now statement.now) }
 {
-    let Statement::Select { table, at } = statement else {
-        return Ok(List::new(alloc));
-    };
-    match sees.get(table) {
-        Some(table) => rows_in(alloc, at, table),
-        None => Ok(List::new(alloc)),
+    match statement {
+        Statement::Select { table, at } => rows_found(alloc, at, sees.get(table)),
+        Statement::Begin | Statement::Commit | Statement::Rollback => Ok(List::new(alloc)),
+        Statement::Create { .. } | Statement::DropTable { .. } => Ok(List::new(alloc)),
+        Statement::Insert { .. } => Ok(List::new(alloc)),
+        Statement::Update { .. } => Ok(List::new(alloc)),
+        Statement::Delete { .. } => Ok(List::new(alloc)),
     }
 }
 
@@ -262,7 +279,7 @@ fn reply_inside(
         Act::Read => {
             let sees = state.view(alloc, me)?;
             let rows = rows_read(alloc, &sees, statement)?;
-            let why = refusal_over(state, session, me, statement, &sees);
+            let why = refusal_of(state, session, me, act, statement, &sees);
             Ok(refused_or(
                 why,
                 Reply::Rows {
@@ -272,7 +289,7 @@ fn reply_inside(
         }
         Act::Lock => {
             let sees = state.view(alloc, me)?;
-            let why = refusal_over(state, session, me, statement, &sees);
+            let why = refusal_of(state, session, me, act, statement, &sees);
             Ok(refused_or(why, Reply::Granted))
         }
         Act::Write => {
@@ -322,11 +339,10 @@ pub fn reply_to(
     requires { state.now.answered < 2 ^ 64 - 1 }
     ensures { IfOk result (λ reply. reply ≡ reply_to state.now session act.now (option_copied statement.entry)) }
 {
-    let begin = Statement::Begin;
-    let of = statement.unwrap_or(&begin);
-    match state.sessions.get(&session) {
-        Some(me) => Ok(reply_inside(alloc, state, session, me, act, of)?),
-        None => Ok(reply_outside(state, act)),
+    match (statement, state.sessions.get(&session)) {
+        (Some(of), Some(me)) => Ok(reply_inside(alloc, state, session, me, act, of)?),
+        (Some(_), None) => Ok(reply_outside(state, act)),
+        (None, _) => Ok(reply_outside(state, act)),
     }
 }
 

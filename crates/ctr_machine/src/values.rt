@@ -1,9 +1,11 @@
 // Which values and assignments suit a table, and what an update makes of a row.
 ghost use Rattle.std.specs.Prelude.{◌≡◌, ◌<◌, ◌+◌, ◌^◌, [], length, IfOk, OnOk};
-ghost use Rattle.std.specs.Option.{option_copied, option_map};
-ghost use Rattle.ctr_model.specs.Refusals.{fits, bad_from, is_first_column, kind_of, is_int_column, bad_right_side, is_bad_set, is_assigned, bad_set_behind, bad_where, bad_value, int_at, sum_of, set_of, new_value, new_values, updated};
+ghost use Rattle.std.specs.Option.{option_map};
+ghost use Rattle.ctr_model.specs.Refusals.{fits, bad_from, is_first_column, kind_of, is_int, suits, bad_right_side, is_bad_set, is_assigned, bad_set_after, bad_where, bad_value, number_in, sum_of, right_side, with_value, assigned, updated};
 
-use ctr_types::{Column, KeyIs, Kind, List, Name, Plain, Row, Set, SetTo, Statement, Value};
+use ctr_types::{
+    Column, KeyIs, Kind, List, Name, Plain, Row, Set, SetTo, Statement, Value, copy_all,
+};
 use std::alloc::{AllocError, Global};
 
 fn fits(kind: Kind, value: &Value) -> bool
@@ -55,12 +57,21 @@ fn kind_of(name: &Name, columns: &[Column]) -> Option<Kind>
     kind_of(name, rest)
 }
 
-fn is_int_column(name: &Name, columns: &[Column]) -> bool
-    ensures { result ≡ is_int_column name.now columns.now }
+fn is_int(kind: Option<Kind>) -> bool
+    ensures { result ≡ is_int kind }
 {
-    match kind_of(name, columns) {
+    match kind {
         Some(Kind::Int) => true,
         Some(Kind::Chars(_)) => false,
+        None => false,
+    }
+}
+
+fn suits(kind: Option<Kind>, value: &Value) -> bool
+    ensures { result ≡ suits kind value.now }
+{
+    match kind {
+        Some(kind) => fits(kind, value),
         None => false,
     }
 }
@@ -69,12 +80,9 @@ fn bad_right_side(columns: &[Column], column: &Name, to: &SetTo) -> bool
     ensures { result ≡ bad_right_side columns.now column.now to.now }
 {
     match to {
-        SetTo::Is(value) => match kind_of(column, columns) {
-            Some(kind) => !fits(kind, value),
-            None => true,
-        },
+        SetTo::Is(value) => !suits(kind_of(column, columns), value),
         SetTo::Sum(other, _) => {
-            !(is_int_column(column, columns) && is_int_column(other, columns))
+            !(is_int(kind_of(column, columns)) && is_int(kind_of(other, columns)))
         }
     }
 }
@@ -97,7 +105,7 @@ fn is_bad_set(columns: &[Column], before: &[Set], set: &Set) -> bool
 
 // The position of the first bad assignment.
 fn bad_set(columns: &[Column], sets: &[Set]) -> Option<u64>
-    ensures { result ≡ bad_set_behind columns.now [] sets.now }
+    ensures { result ≡ bad_set_after columns.now [] sets.now }
 {
     for i in 0..sets.len() {
         if is_bad_set(columns, &sets[..i], &sets[i]) {
@@ -141,8 +149,8 @@ pub fn bad_value(columns: &[Column], statement: &Statement) -> Option<u64>
 // ---- an update
 
 // A column's value in a row, as a number.
-fn int_at(name: &Name, columns: &[Column], values: &[Value]) -> i64
-    ensures { result ≡ int_at name.now columns.now values.now }
+fn number_in(name: &Name, columns: &[Column], values: &[Value]) -> i64
+    ensures { result ≡ number_in name.now columns.now values.now }
 {
     let (Some((column, columns)), Some((value, values))) = (
         columns.split_first(),
@@ -151,7 +159,7 @@ fn int_at(name: &Name, columns: &[Column], values: &[Value]) -> i64
         return 0;
     };
     if *name != column.name {
-        return int_at(name, columns, values);
+        return number_in(name, columns, values);
     }
     match value {
         Value::Int(number) => *number,
@@ -166,59 +174,67 @@ fn sum_of(a: i64, b: i64) -> Option<Value>
     Some(Value::Int(sum))
 }
 
-// The first assignment to a column.
-fn set_of<'a>(column: &Name, sets: &'a [Set]) -> Option<&'a SetTo>
-    ensures { option_copied result ≡ set_of column.now sets.now }
-{
-    let (first, rest) = sets.split_first()?;
-    if first.column == *column {
-        return Some(&first.to);
-    }
-    set_of(column, rest)
-}
-
-// The new value of a column, by the row as it was; none where a sum is out of range.
-fn new_value(
+// What a right side gives, by the row as it was; none where a sum is out of range.
+fn right_side(
     alloc: Global,
     columns: &[Column],
     old: &[Value],
-    value: &Value,
-    to: Option<&SetTo>,
+    to: &SetTo,
 ) -> Result<Option<Value>, AllocError>
-    ensures { IfOk result (λ new. new ≡ new_value columns.now old.now value.now (option_copied to.entry)) }
+    ensures { IfOk result (λ new. new ≡ right_side columns.now old.now to.now) }
 {
     match to {
-        None => Ok(Some(value.copy(alloc)?)),
-        Some(SetTo::Is(new)) => Ok(Some(new.copy(alloc)?)),
-        Some(SetTo::Sum(other, number)) => Ok(sum_of(int_at(other, columns, old), *number)),
+        SetTo::Is(value) => Ok(Some(value.copy(alloc)?)),
+        SetTo::Sum(other, number) => Ok(sum_of(number_in(other, columns, old), *number)),
     }
 }
 
-// The new values of the last columns of a row, by the row as it was.
-fn new_values(
+// The values, with this one in the column of the name.
+fn with_value(
     alloc: Global,
-    all: &[Column],
-    old: &[Value],
-    sets: &[Set],
+    name: &Name,
+    new: Value,
     columns: &[Column],
     values: &[Value],
-) -> Result<Option<Vec<Value>>, AllocError>
-    ensures { IfOk result (λ new. option_map (λ v. v.items) new ≡ new_values all.now old.now sets.now columns.now values.now) }
+) -> Result<Vec<Value>, AllocError>
+    ensures { IfOk result (λ made. made.items ≡ with_value name.now new columns.now values.now) }
 {
-    let (Some((column, columns)), Some((value, values))) = (
-        columns.split_first(),
-        values.split_first(),
-    ) else {
-        return Ok(Some(Vec::new(alloc)));
+    let Some((column, columns)) = columns.split_first() else {
+        return copy_all(alloc, values);
     };
-    let Some(first) = new_value(alloc, all, old, value, set_of(&column.name, sets))? else {
-        return Ok(None);
+    let Some((value, values)) = values.split_first() else {
+        return Ok(Vec::new(alloc));
     };
-    let Some(mut rest) = new_values(alloc, all, old, sets, columns, values)? else {
-        return Ok(None);
+    let (first, mut rest) = if column.name == *name {
+        (new, copy_all(alloc, values)?)
+    } else {
+        (
+            value.copy(alloc)?,
+            with_value(alloc, name, new, columns, values)?,
+        )
     };
     rest.insert(0, first)?;
-    Ok(Some(rest))
+    Ok(rest)
+}
+
+// The values with the assignments made, each by the row as it was before all of them.
+fn assigned(
+    alloc: Global,
+    columns: &[Column],
+    old: &[Value],
+    sets: &[Set],
+    values: &[Value],
+) -> Result<Option<Vec<Value>>, AllocError>
+    ensures { IfOk result (λ new. option_map (λ v. v.items) new ≡ assigned columns.now old.now sets.now values.now) }
+{
+    let Some((set, sets)) = sets.split_first() else {
+        return Ok(Some(copy_all(alloc, values)?));
+    };
+    let Some(new) = right_side(alloc, columns, old, &set.to)? else {
+        return Ok(None);
+    };
+    let values = with_value(alloc, &set.column, new, columns, values)?;
+    assigned(alloc, columns, old, sets, &values)
 }
 
 // The row that an update makes; none where a sum is out of range.
@@ -231,7 +247,7 @@ pub fn updated(
     ensures { IfOk result (λ new. new ≡ updated columns.now sets.now row.now) }
 {
     let old = row.values.as_slice();
-    let Some(values) = new_values(alloc, columns, old, sets, columns, old)? else {
+    let Some(values) = assigned(alloc, columns, old, sets, old)? else {
         return Ok(None);
     };
     Ok(Some(Row {

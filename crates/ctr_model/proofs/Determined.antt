@@ -1,6 +1,5 @@
 -- Replies are determined by the acts, but for the three that may stand for others.
 use Rattle.std.proofs.Common.{◌≡◌, inl, inr, ℕ, zero, suc, ◌+◌, true, false, List, [], ◌∷◌, Option, Some, None, refl, sym, ◌∙◌, ap, slice_get}
-use Rattle.std.specs.Option.{option_map_or}
 use Rattle.std.specs.Prelude.{unwrap_or}
 use Rattle.std.specs.Ordering.{nat_cmp}
 use Rattle.std.specs.FinMap.Entries.{put}
@@ -11,27 +10,30 @@ use Rattle.ctr_types.specs.declared.tape.Act.TheVariants as act
 use Rattle.ctr_types.specs.declared.tape.Reply.{Reply}
 use Rattle.ctr_types.specs.declared.tape.Reply.TheVariants as reply
 use Rattle.ctr_types.specs.declared.tape.Entry.{Entry}
-use Rattle.ctr_model.specs.Reply.{reply_to, next_state, MayStandFor}
-use Rattle.ctr_model.specs.Tape.{acts_of, advanced, progress_of, statement_of, passed, Comes, IsNextAct, IsActOf, Legal}
+use Rattle.ctr_model.specs.declared.state.State.{State}
+use Rattle.ctr_model.specs.Reply.{reply_to, next_state, IsWantOfRoom, MayStandFor}
+use Rattle.ctr_model.specs.Tape.{acts_of, advanced, progress_of, progressed, statement_of, passed, Comes, IsNextAct, IsActOf, Legal}
 use Rattle.ctr_model.specs.declared.tape.Progress.{Progress}
 use Rattle.ctr_model.specs.declared.tape.Point.{Point}
 use Rattle.ctr_model.specs.Laws.{SameActs, is_free, NoneFree, replies_of, RepliesAreDetermined}
 
 -- a free reply is one of the three
-free_given : (statement : Option Statement) (r given : Reply) → MayStandFor statement r given → is_free given ≡ true
+room_is_free : (statement : Statement) (given : Reply) → IsWantOfRoom statement given → is_free given ≡ true
+room_is_free st.Begin given is = absurd is
+room_is_free st.Commit given is = absurd is
+room_is_free st.Rollback given is = absurd is
+room_is_free (st.Create table schema) given is = ap is_free is
+room_is_free (st.DropTable table) given is = absurd is
+room_is_free (st.Insert table values) given is = ap is_free is
+room_is_free (st.Select table at) given is = absurd is
+room_is_free (st.Update table sets at) given is = ap is_free is
+room_is_free (st.Delete table at) given is = ap is_free is
+
+free_given : (statement : Statement) (r given : Reply) → MayStandFor statement r given → is_free given ≡ true
 free_given statement (reply.Began n) given is = ap is_free is
 free_given statement reply.Granted given is = ap is_free is
 free_given statement (reply.Rows rows) given is = ap is_free is
-free_given (Some (st.Create table schema)) reply.Done given is = ap is_free is
-free_given (Some (st.Insert table values)) reply.Done given is = ap is_free is
-free_given (Some (st.Update table sets at)) reply.Done given is = ap is_free is
-free_given (Some (st.Delete table at)) reply.Done given is = ap is_free is
-free_given (Some st.Begin) reply.Done given is = absurd is
-free_given (Some st.Commit) reply.Done given is = absurd is
-free_given (Some st.Rollback) reply.Done given is = absurd is
-free_given (Some (st.DropTable table)) reply.Done given is = absurd is
-free_given (Some (st.Select table at)) reply.Done given is = absurd is
-free_given None reply.Done given is = absurd is
+free_given statement reply.Done given is = room_is_free statement given is
 free_given statement (reply.Asked k) given is = absurd is
 free_given statement reply.ReadOnly given is = absurd is
 free_given statement (reply.Answered k) given is = absurd is
@@ -40,31 +42,31 @@ free_given statement reply.Released given is = absurd is
 free_given statement (reply.Refused why) given is = absurd is
 
 -- no statement's act is a release
-no_release : (statement : Statement) (n : ℕ) (name : List ℕ) → slice_get (acts_of statement) n ≡ Some (act.Release name) → ⊥
-no_release st.Begin zero name is = cc
-no_release st.Begin (suc n) name is = cc
-no_release st.Commit zero name is = cc
-no_release st.Commit (suc zero) name is = cc
-no_release st.Commit (suc (suc n)) name is = cc
-no_release st.Rollback zero name is = cc
-no_release st.Rollback (suc n) name is = cc
-no_release (st.Create table schema) zero name is = cc
-no_release (st.Create table schema) (suc zero) name is = cc
-no_release (st.Create table schema) (suc (suc n)) name is = cc
-no_release (st.DropTable table) zero name is = cc
-no_release (st.DropTable table) (suc zero) name is = cc
-no_release (st.DropTable table) (suc (suc n)) name is = cc
-no_release (st.Insert table values) zero name is = cc
-no_release (st.Insert table values) (suc zero) name is = cc
-no_release (st.Insert table values) (suc (suc n)) name is = cc
-no_release (st.Select table at) zero name is = cc
-no_release (st.Select table at) (suc n) name is = cc
-no_release (st.Update table sets at) zero name is = cc
-no_release (st.Update table sets at) (suc zero) name is = cc
-no_release (st.Update table sets at) (suc (suc n)) name is = cc
-no_release (st.Delete table at) zero name is = cc
-no_release (st.Delete table at) (suc zero) name is = cc
-no_release (st.Delete table at) (suc (suc n)) name is = cc
+no_release : (state : State) (s : ℕ) (statement : Statement) (n : ℕ) (name : List ℕ) → slice_get (acts_of state s statement) n ≡ Some (act.Release name) → ⊥
+no_release state s st.Begin zero name is = cc
+no_release state s st.Begin (suc n) name is = cc
+no_release state s st.Commit zero name is = cc
+no_release state s st.Commit (suc zero) name is = cc
+no_release state s st.Commit (suc (suc n)) name is = cc
+no_release state s st.Rollback zero name is = cc
+no_release state s st.Rollback (suc n) name is = cc
+no_release state s (st.Create table schema) zero name is = cc
+no_release state s (st.Create table schema) (suc zero) name is = cc
+no_release state s (st.Create table schema) (suc (suc n)) name is = cc
+no_release state s (st.DropTable table) zero name is = cc
+no_release state s (st.DropTable table) (suc zero) name is = cc
+no_release state s (st.DropTable table) (suc (suc n)) name is = cc
+no_release state s (st.Insert table values) zero name is = cc
+no_release state s (st.Insert table values) (suc zero) name is = cc
+no_release state s (st.Insert table values) (suc (suc n)) name is = cc
+no_release state s (st.Select table at) zero name is = cc
+no_release state s (st.Select table at) (suc n) name is = cc
+no_release state s (st.Update table sets at) zero name is = cc
+no_release state s (st.Update table sets at) (suc zero) name is = cc
+no_release state s (st.Update table sets at) (suc (suc n)) name is = cc
+no_release state s (st.Delete table at) zero name is = cc
+no_release state s (st.Delete table at) (suc zero) name is = cc
+no_release state s (st.Delete table at) (suc (suc n)) name is = cc
 
 -- two runs stand at the same place, whatever their moments
 record SamePlace (p q : Point) : Type 0 where
@@ -78,7 +80,7 @@ same_progress p q s t same is = λ i. progress_of (record { state = same.state i
 the_reply : (statement : Statement) (p : Point) (e : Entry) → is_free e.reply ≡ false → IsActOf statement p e → e.reply ≡ reply_to p.state e.session e.act (Some statement)
 the_reply statement p e free is = elim is.allowed [
   | inl same ↦ same
-  | inr stands ↦ absurd (cc (free, free_given (Some statement) (reply_to p.state e.session e.act (Some statement)) e.reply stands))
+  | inr stands ↦ absurd (cc (free, free_given statement (reply_to p.state e.session e.act (Some statement)) e.reply stands))
 ]
 
 -- two entries that come at one place have the same number and the same reply
@@ -101,20 +103,25 @@ module _ (lines : List Line) (p q : Point) (a b : Entry) (same : SamePlace p q) 
   same_answer free_a free_b x y = elim x.one_of [
     | inl one ↦ elim y.one_of [
       | inl other ↦ both_acts free_a free_b one other
-      | inr other ↦ absurd (no_release one.0 (progress_of p a.session).made other.name (one.2.next_act ∙ ap Some (acts ∙ other.act)))
+      | inr other ↦ absurd (no_release p.state a.session one.0 (progress_of p a.session).made other.name (one.2.next_act ∙ ap Some (acts ∙ other.act)))
     ]
     | inr one ↦ elim y.one_of [
-      | inl other ↦ absurd (no_release other.0 (progress_of q b.session).made one.name (other.2.next_act ∙ ap Some (sym acts ∙ one.act)))
+      | inl other ↦ absurd (no_release q.state b.session other.0 (progress_of q b.session).made one.name (other.2.next_act ∙ ap Some (sym acts ∙ one.act)))
       | inr other ↦ record { number = one.statement ∙ sym other.statement; answer = one.released ∙ sym other.released }
     ]
   ]
+
+  same_progressed : SameAnswer a b → (of : Option Statement) → progressed of p a ≡ progressed of q b
+  same_progressed same_ab None = same.progress
+  same_progressed same_ab (Some statement) =
+      λ i. put nat_cmp (session i) (advanced (acts_of (same.state i) (session i) statement) (same_ab.answer i) (same_progress p q a.session b.session same session i)) (same.progress i)
 
   same_place : SameAnswer a b → SamePlace (passed lines p a) (passed lines q b)
   same_place same_ab =
       let of : statement_of lines a.session a.statement ≡ statement_of lines b.session b.statement = λ i. statement_of lines (session i) (same_ab.number i) in
       record {
         state = λ i. next_state (same.state i) (session i) (acts i) (of i) (same_ab.answer i);
-        progress = λ i. option_map_or (λ s. put nat_cmp (session i) (advanced s (same_ab.answer i) (same_progress p q a.session b.session same session i)) (same.progress i)) (of i) (same.progress i);
+        progress = same_progressed same_ab (statement_of lines a.session a.statement) ∙ ap (λ o. progressed o q b) of;
       }
 
 determined : (lines : List Line) (p q : Point) (xs ys : List Entry) → SamePlace p q → Legal lines p xs → Legal lines q ys → SameActs xs ys → NoneFree xs → NoneFree ys → replies_of xs ≡ replies_of ys

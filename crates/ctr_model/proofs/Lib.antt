@@ -4,3 +4,4 @@ mod Determined
 mod Snapshots
 mod Rollbacks
 mod Sound
+mod Examples

@@ -1,12 +1,9 @@
 -- A rollback leaves no trace.
 use Rattle.std.proofs.Common.{◌≡◌, ℕ, ◌+◌, ◌==◌, Bool, false, cond, not, List, [], ◌∷◌, ◌++◌, take, Option, Some, None, refl, sym, ◌∙◌, ap, subst, append_assoc}
-use Rattle.std.specs.Prelude.{unwrap_or}
-use Rattle.std.specs.Option.{option_map_or}
 use Rattle.std.proofs.lemmas.List.{append-nil}
 use Rattle.std.proofs.lemmas.Cmp.{nat_eq_equiv}
 use Rattle.std.proofs.lemmas.Map.Views.{exact_unsigned_eq}
 use Rattle.ctr_types.specs.declared.statement.Statement.{Statement}
-use Rattle.ctr_types.specs.declared.statement.Statement.TheVariants as st
 use Rattle.ctr_types.specs.declared.statement.Line.{Line}
 use Rattle.ctr_types.specs.declared.tape.Act.{Act}
 use Rattle.ctr_types.specs.declared.tape.Act.TheVariants as act
@@ -19,7 +16,7 @@ use Rattle.ctr_model.specs.declared.state.Transaction.{Transaction}
 use Rattle.ctr_model.specs.declared.tape.Point.{Point}
 use Rattle.ctr_model.specs.Database.{after, after_all}
 use Rattle.ctr_model.specs.State.{transaction_of, with_transaction, without_transaction, rows_at, view, begun}
-use Rattle.ctr_model.specs.Reply.{with_lock, with_use, change_of, next_inside, next_outside, next_state}
+use Rattle.ctr_model.specs.Reply.{with_granted, with_read, with_changes, next_inside, next_outside, released, next_from, next_state}
 use Rattle.ctr_model.specs.Tape.{statement_of, passed, final}
 use Rattle.ctr_model.specs.Laws.{Grows, is_asked, asked_by, asked_by_others, entries_of_others, OthersOnly, AsksNothing, OnlyAskingChangesRows, UnaskedLeavesNoTrace, RollbacksLeaveNoTrace}
 use Rattle.ctr_model.proofs.Sessions.{known, find-without-same, find-put-alike, find-without-alike}
@@ -92,27 +89,27 @@ module _ (s : ℕ) (a b : State) (same : Alike s a b) where
   same_view me = λ i. after me.own (after_all (take me.snapshot (same.asked i)) (same.base i))
 
 module _ (s : ℕ) (a b : State) (same : Alike s a b) (t : ℕ) where
-  alike_inside : (me : Transaction) (of : Statement) (r : Reply) → Alike s (next_inside a t me of r) (next_inside b t me of r)
-  alike_inside me of (reply.Began n) = same
-  alike_inside me of reply.Granted = alike_with s a b same t (with_lock of me) _ refl
-  alike_inside me of (reply.Rows rows) = alike_with s a b same t (with_use of me) _ refl
-  alike_inside me of reply.Done = alike_with s a b same t _ _ (λ i. record me { own = me.own ++ change_of (same_view s a b same me i) of })
-  alike_inside me of (reply.Asked k) =
+  alike_inside : (me : Transaction) (x : Act) (of : Option Statement) (r : Reply) → Alike s (next_inside a t me x of r) (next_inside b t me x of r)
+  alike_inside me x of (reply.Began n) = same
+  alike_inside me x of reply.Granted = alike_with s a b same t (with_granted x of me) _ refl
+  alike_inside me x of (reply.Rows rows) = alike_with s a b same t (with_read of me) _ refl
+  alike_inside me x of reply.Done = alike_with s a b same t _ _ (λ i. with_changes (same_view s a b same me i) of me)
+  alike_inside me x of (reply.Asked k) =
       let longer : Alike s (record a { asked = a.asked ++ me.own ∷ [] }) (record b { asked = b.asked ++ me.own ∷ [] }) = record {
         base = same.base;
         asked = ap (λ (asked : List (List Change)). asked ++ me.own ∷ []) same.asked;
         others = same.others;
       } in
       alike_with s (record a { asked = a.asked ++ me.own ∷ [] }) (record b { asked = b.asked ++ me.own ∷ [] }) longer t (record me { asked = Some k }) _ refl
-  alike_inside me of reply.ReadOnly = alike_without s a b same t
-  alike_inside me of (reply.Answered k) =
+  alike_inside me x of reply.ReadOnly = alike_without s a b same t
+  alike_inside me x of (reply.Answered k) =
       let answered : Alike s (record a { answered = a.answered + 1 }) (record b { answered = b.answered + 1 }) = record { base = same.base; asked = same.asked; others = same.others } in
       alike_without s (record a { answered = a.answered + 1 }) (record b { answered = b.answered + 1 }) answered t
-  alike_inside me of reply.RolledBack = alike_without s a b same t
-  alike_inside me of reply.Released = same
-  alike_inside me of (reply.Refused why) = same
+  alike_inside me x of reply.RolledBack = alike_without s a b same t
+  alike_inside me x of reply.Released = same
+  alike_inside me x of (reply.Refused why) = same
 
-  alike_released : (x : Act) → Alike s (next_outside a t x reply.Released) (next_outside b t x reply.Released)
+  alike_released : (x : Act) → Alike s (released x a) (released x b)
   alike_released act.Begin = same
   alike_released act.Read = same
   alike_released act.Lock = same
@@ -122,27 +119,26 @@ module _ (s : ℕ) (a b : State) (same : Alike s a b) (t : ℕ) where
   alike_released act.Rollback = same
   alike_released (act.Release name) = record { base = same.base; asked = same.asked; others = same.others }
 
-  alike_outside : (x : Act) (r : Reply) → Alike s (next_outside a t x r) (next_outside b t x r)
-  alike_outside x (reply.Began n) = alike_with s a b same t (begun n) _ refl
-  alike_outside x reply.Granted = same
-  alike_outside x (reply.Rows rows) = same
-  alike_outside x reply.Done = same
-  alike_outside x (reply.Asked k) = same
-  alike_outside x reply.ReadOnly = same
-  alike_outside x (reply.Answered k) = same
-  alike_outside x reply.RolledBack = same
-  alike_outside x reply.Released = alike_released x
-  alike_outside x (reply.Refused why) = same
+  alike_outside : (x : Act) (of : Option Statement) (r : Reply) → Alike s (next_outside a t x of r) (next_outside b t x of r)
+  alike_outside x of (reply.Began n) = alike_with s a b same t (begun n) _ refl
+  alike_outside x of reply.Granted = same
+  alike_outside x of (reply.Rows rows) = same
+  alike_outside x of reply.Done = same
+  alike_outside x of (reply.Asked k) = same
+  alike_outside x of reply.ReadOnly = same
+  alike_outside x of (reply.Answered k) = same
+  alike_outside x of reply.RolledBack = same
+  alike_outside x of reply.Released = alike_released x
+  alike_outside x of (reply.Refused why) = same
 
   -- an entry of another session
-  alike_next : (t == s) ≡ false → (x : Act) (statement : Option Statement) (r : Reply) → Alike s (next_state a t x statement r) (next_state b t x statement r)
-  alike_next other x statement r =
-      let of = unwrap_or statement st.Begin in
+  alike_next : (t == s) ≡ false → (x : Act) (of : Option Statement) (r : Reply) → Alike s (next_state a t x of r) (next_state b t x of r)
+  alike_next other x of r =
       let found : transaction_of a t ≡ transaction_of b t = same.others t other in
-      subst (λ f. Alike s (next_state a t x statement r) (option_map_or (λ me. next_inside b t me of r) f (next_outside b t x r))) found
-      (elim (transaction_of a t) as (λ f. Alike s (option_map_or (λ me. next_inside a t me of r) f (next_outside a t x r)) (option_map_or (λ me. next_inside b t me of r) f (next_outside b t x r))) [
-        | Some me ↦ alike_inside me of r
-        | None ↦ alike_outside x r
+      subst (λ f. Alike s (next_state a t x of r) (next_from b t f x of r)) found
+      (elim (transaction_of a t) as (λ f. Alike s (next_from a t f x of r) (next_from b t f x of r)) [
+        | Some me ↦ alike_inside me x of r
+        | None ↦ alike_outside x of r
       ])
 
 -- an entry of the session, which one of the two states passes
@@ -186,10 +182,9 @@ unasked_leaves_no_trace lines p es s nothing =
 -- ---- the end of the transaction
 
 -- behind a rollback the session is in no transaction
-ended : (state : State) (s : ℕ) (a : Act) (statement : Option Statement) → transaction_of (next_state state s a statement reply.RolledBack) s ≡ None
-ended state s a statement =
-    let of = unwrap_or statement st.Begin in
-    elim (transaction_of state s) as (λ f. transaction_of state s ≡ f → transaction_of (option_map_or (λ me. next_inside state s me of reply.RolledBack) f (next_outside state s a reply.RolledBack)) s ≡ None) [
+ended : (state : State) (s : ℕ) (a : Act) (of : Option Statement) → transaction_of (next_state state s a of reply.RolledBack) s ≡ None
+ended state s a of =
+    elim (transaction_of state s) as (λ f. transaction_of state s ≡ f → transaction_of (next_from state s f a of reply.RolledBack) s ≡ None) [
       | Some me ↦ λ is. find-without-same s state.sessions
       | None ↦ λ is. is
     ] refl
@@ -198,15 +193,15 @@ kept : (lines : List Line) (p : Point) (es : List Entry) (s : ℕ) → OthersOnl
 kept lines p [] s others = refl
 kept lines p (e ∷ es) s others = kept lines (passed lines p e) es s others.1 ∙ others_stay p.state s e.session others.0 e.act (statement_of lines e.session e.statement) e.reply
 
-ended_over : (lines : List Line) (p : Point) (before : List Entry) (e : Entry) (behind : List Entry) (s : ℕ) → e.session ≡ s → e.reply ≡ reply.RolledBack → OthersOnly s behind
-    → transaction_of (final lines p (before ++ e ∷ behind)).state s ≡ None
-ended_over lines p [] e behind s mine back others =
+ended_over : (lines : List Line) (p : Point) (before : List Entry) (e : Entry) (later : List Entry) (s : ℕ) → e.session ≡ s → e.reply ≡ reply.RolledBack → OthersOnly s later
+    → transaction_of (final lines p (before ++ e ∷ later)).state s ≡ None
+ended_over lines p [] e later s mine back others =
     let of = statement_of lines e.session e.statement in
-    kept lines (passed lines p e) behind s others ∙ (λ i. transaction_of (next_state p.state (mine i) e.act of (back i)) s) ∙ ended p.state s e.act of
-ended_over lines p (f ∷ before) e behind s mine back others = ended_over lines (passed lines p f) before e behind s mine back others
+    kept lines (passed lines p e) later s others ∙ (λ i. transaction_of (next_state p.state (mine i) e.act of (back i)) s) ∙ ended p.state s e.act of
+ended_over lines p (f ∷ before) e later s mine back others = ended_over lines (passed lines p f) before e later s mine back others
 
 pub rollbacks_leave_no_trace : RollbacksLeaveNoTrace
 rollbacks_leave_no_trace lines p es s is = (
   unasked_leaves_no_trace lines p es s is.asks_nothing,
-  ap (λ es. transaction_of (final lines p es).state s) is.split ∙ ended_over lines p is.before is.rollback is.behind s is.session is.reply is.last,
+  ap (λ es. transaction_of (final lines p es).state s) is.split ∙ ended_over lines p is.before is.rollback is.later s is.session is.reply is.last,
 )

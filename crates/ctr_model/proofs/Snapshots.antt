@@ -1,10 +1,7 @@
 -- What a session sees stays while others act.
 use Rattle.std.proofs.Common.{◌≡◌, ℕ, ◌==◌, ◌≤◌, false, List, [], ◌∷◌, length, take, Option, Some, None, refl, sym, ◌∙◌, ap, arith, length-append}
-use Rattle.std.specs.Prelude.{unwrap_or}
-use Rattle.std.specs.Option.{option_map_or}
 use Rattle.std.proofs.lemmas.List.{append-nil, take-append-le}
 use Rattle.ctr_types.specs.declared.statement.Statement.{Statement}
-use Rattle.ctr_types.specs.declared.statement.Statement.TheVariants as st
 use Rattle.ctr_types.specs.declared.statement.Line.{Line}
 use Rattle.ctr_types.specs.declared.tape.Act.{Act}
 use Rattle.ctr_types.specs.declared.tape.Act.TheVariants as act
@@ -17,7 +14,7 @@ use Rattle.ctr_model.specs.declared.state.Transaction.{Transaction}
 use Rattle.ctr_model.specs.declared.tape.Point.{Point}
 use Rattle.ctr_model.specs.Database.{after, after_all}
 use Rattle.ctr_model.specs.State.{transaction_of, rows_at}
-use Rattle.ctr_model.specs.Reply.{next_inside, next_outside, next_state}
+use Rattle.ctr_model.specs.Reply.{next_inside, next_outside, released, next_from, next_state}
 use Rattle.ctr_model.specs.Tape.{statement_of, passed, final}
 use Rattle.ctr_model.specs.Laws.{asked_by, Grows, OthersOnly, SeesTheSame, SnapshotsStay}
 use Rattle.ctr_model.proofs.Sessions.{find-put-other, find-without-other}
@@ -25,19 +22,19 @@ use Rattle.ctr_model.proofs.Sessions.{find-put-other, find-without-other}
 -- ---- one step of another session
 
 module _ (state : State) (s t : ℕ) (other : (s == t) ≡ false) where
-  inside_stays : (me : Transaction) (statement : Statement) (r : Reply) → transaction_of (next_inside state t me statement r) s ≡ transaction_of state s
-  inside_stays me statement (reply.Began n) = refl
-  inside_stays me statement reply.Granted = find-put-other s t _ state.sessions other
-  inside_stays me statement (reply.Rows rows) = find-put-other s t _ state.sessions other
-  inside_stays me statement reply.Done = find-put-other s t _ state.sessions other
-  inside_stays me statement (reply.Asked k) = find-put-other s t _ state.sessions other
-  inside_stays me statement reply.ReadOnly = find-without-other s t state.sessions other
-  inside_stays me statement (reply.Answered k) = find-without-other s t state.sessions other
-  inside_stays me statement reply.RolledBack = find-without-other s t state.sessions other
-  inside_stays me statement reply.Released = refl
-  inside_stays me statement (reply.Refused why) = refl
+  inside_stays : (me : Transaction) (a : Act) (of : Option Statement) (r : Reply) → transaction_of (next_inside state t me a of r) s ≡ transaction_of state s
+  inside_stays me a of (reply.Began n) = refl
+  inside_stays me a of reply.Granted = find-put-other s t _ state.sessions other
+  inside_stays me a of (reply.Rows rows) = find-put-other s t _ state.sessions other
+  inside_stays me a of reply.Done = find-put-other s t _ state.sessions other
+  inside_stays me a of (reply.Asked k) = find-put-other s t _ state.sessions other
+  inside_stays me a of reply.ReadOnly = find-without-other s t state.sessions other
+  inside_stays me a of (reply.Answered k) = find-without-other s t state.sessions other
+  inside_stays me a of reply.RolledBack = find-without-other s t state.sessions other
+  inside_stays me a of reply.Released = refl
+  inside_stays me a of (reply.Refused why) = refl
 
-  released_stays : (a : Act) → transaction_of (next_outside state t a reply.Released) s ≡ transaction_of state s
+  released_stays : (a : Act) → transaction_of (released a state) s ≡ transaction_of state s
   released_stays act.Begin = refl
   released_stays act.Read = refl
   released_stays act.Lock = refl
@@ -47,72 +44,68 @@ module _ (state : State) (s t : ℕ) (other : (s == t) ≡ false) where
   released_stays act.Rollback = refl
   released_stays (act.Release name) = refl
 
-  outside_stays : (a : Act) (r : Reply) → transaction_of (next_outside state t a r) s ≡ transaction_of state s
-  outside_stays a (reply.Began n) = find-put-other s t _ state.sessions other
-  outside_stays a reply.Granted = refl
-  outside_stays a (reply.Rows rows) = refl
-  outside_stays a reply.Done = refl
-  outside_stays a (reply.Asked k) = refl
-  outside_stays a reply.ReadOnly = refl
-  outside_stays a (reply.Answered k) = refl
-  outside_stays a reply.RolledBack = refl
-  outside_stays a reply.Released = released_stays a
-  outside_stays a (reply.Refused why) = refl
+  outside_stays : (a : Act) (of : Option Statement) (r : Reply) → transaction_of (next_outside state t a of r) s ≡ transaction_of state s
+  outside_stays a of (reply.Began n) = find-put-other s t _ state.sessions other
+  outside_stays a of reply.Granted = refl
+  outside_stays a of (reply.Rows rows) = refl
+  outside_stays a of reply.Done = refl
+  outside_stays a of (reply.Asked k) = refl
+  outside_stays a of reply.ReadOnly = refl
+  outside_stays a of (reply.Answered k) = refl
+  outside_stays a of reply.RolledBack = refl
+  outside_stays a of reply.Released = released_stays a
+  outside_stays a of (reply.Refused why) = refl
 
-  pub others_stay : (a : Act) (statement : Option Statement) (r : Reply) → transaction_of (next_state state t a statement r) s ≡ transaction_of state s
-  others_stay a statement r =
-      let of = unwrap_or statement st.Begin in
-      elim (transaction_of state t) as (λ f. transaction_of (option_map_or (λ me. next_inside state t me of r) f (next_outside state t a r)) s ≡ transaction_of state s) [
-        | Some me ↦ inside_stays me of r
-        | None ↦ outside_stays a r
-      ]
+  pub others_stay : (a : Act) (of : Option Statement) (r : Reply) → transaction_of (next_state state t a of r) s ≡ transaction_of state s
+  others_stay a of r = elim (transaction_of state t) as (λ f. transaction_of (next_from state t f a of r) s ≡ transaction_of state s) [
+    | Some me ↦ inside_stays me a of r
+    | None ↦ outside_stays a of r
+  ]
 
 -- ---- what was asked stays
 
 same_asked : (old new : State) → new.base ≡ old.base → new.asked ≡ old.asked → Grows [] old new
 same_asked old new base asked = record { base = base; asked = asked ∙ sym (append-nil old.asked) }
 
-inside_grows : (state : State) (t : ℕ) (me : Transaction) (statement : Statement) (r : Reply) → Grows (asked_by r (Some me)) state (next_inside state t me statement r)
-inside_grows state t me statement (reply.Began n) = same_asked _ _ refl refl
-inside_grows state t me statement reply.Granted = same_asked _ _ refl refl
-inside_grows state t me statement (reply.Rows rows) = same_asked _ _ refl refl
-inside_grows state t me statement reply.Done = same_asked _ _ refl refl
-inside_grows state t me statement (reply.Asked k) = record { base = refl; asked = refl }
-inside_grows state t me statement reply.ReadOnly = same_asked _ _ refl refl
-inside_grows state t me statement (reply.Answered k) = same_asked _ _ refl refl
-inside_grows state t me statement reply.RolledBack = same_asked _ _ refl refl
-inside_grows state t me statement reply.Released = same_asked _ _ refl refl
-inside_grows state t me statement (reply.Refused why) = same_asked _ _ refl refl
+inside_grows : (state : State) (t : ℕ) (me : Transaction) (a : Act) (of : Option Statement) (r : Reply) → Grows (asked_by r (Some me)) state (next_inside state t me a of r)
+inside_grows state t me a of (reply.Began n) = same_asked _ _ refl refl
+inside_grows state t me a of reply.Granted = same_asked _ _ refl refl
+inside_grows state t me a of (reply.Rows rows) = same_asked _ _ refl refl
+inside_grows state t me a of reply.Done = same_asked _ _ refl refl
+inside_grows state t me a of (reply.Asked k) = record { base = refl; asked = refl }
+inside_grows state t me a of reply.ReadOnly = same_asked _ _ refl refl
+inside_grows state t me a of (reply.Answered k) = same_asked _ _ refl refl
+inside_grows state t me a of reply.RolledBack = same_asked _ _ refl refl
+inside_grows state t me a of reply.Released = same_asked _ _ refl refl
+inside_grows state t me a of (reply.Refused why) = same_asked _ _ refl refl
 
-released_grows : (state : State) (t : ℕ) (a : Act) → Grows [] state (next_outside state t a reply.Released)
-released_grows state t act.Begin = same_asked _ _ refl refl
-released_grows state t act.Read = same_asked _ _ refl refl
-released_grows state t act.Lock = same_asked _ _ refl refl
-released_grows state t act.Write = same_asked _ _ refl refl
-released_grows state t act.Ask = same_asked _ _ refl refl
-released_grows state t act.Answer = same_asked _ _ refl refl
-released_grows state t act.Rollback = same_asked _ _ refl refl
-released_grows state t (act.Release name) = same_asked _ _ refl refl
+released_grows : (state : State) (a : Act) → Grows [] state (released a state)
+released_grows state act.Begin = same_asked _ _ refl refl
+released_grows state act.Read = same_asked _ _ refl refl
+released_grows state act.Lock = same_asked _ _ refl refl
+released_grows state act.Write = same_asked _ _ refl refl
+released_grows state act.Ask = same_asked _ _ refl refl
+released_grows state act.Answer = same_asked _ _ refl refl
+released_grows state act.Rollback = same_asked _ _ refl refl
+released_grows state (act.Release name) = same_asked _ _ refl refl
 
-outside_grows : (state : State) (t : ℕ) (a : Act) (r : Reply) → Grows (asked_by r None) state (next_outside state t a r)
-outside_grows state t a (reply.Began n) = same_asked _ _ refl refl
-outside_grows state t a reply.Granted = same_asked _ _ refl refl
-outside_grows state t a (reply.Rows rows) = same_asked _ _ refl refl
-outside_grows state t a reply.Done = same_asked _ _ refl refl
-outside_grows state t a (reply.Asked k) = same_asked _ _ refl refl
-outside_grows state t a reply.ReadOnly = same_asked _ _ refl refl
-outside_grows state t a (reply.Answered k) = same_asked _ _ refl refl
-outside_grows state t a reply.RolledBack = same_asked _ _ refl refl
-outside_grows state t a reply.Released = released_grows state t a
-outside_grows state t a (reply.Refused why) = same_asked _ _ refl refl
+outside_grows : (state : State) (t : ℕ) (a : Act) (of : Option Statement) (r : Reply) → Grows (asked_by r None) state (next_outside state t a of r)
+outside_grows state t a of (reply.Began n) = same_asked _ _ refl refl
+outside_grows state t a of reply.Granted = same_asked _ _ refl refl
+outside_grows state t a of (reply.Rows rows) = same_asked _ _ refl refl
+outside_grows state t a of reply.Done = same_asked _ _ refl refl
+outside_grows state t a of (reply.Asked k) = same_asked _ _ refl refl
+outside_grows state t a of reply.ReadOnly = same_asked _ _ refl refl
+outside_grows state t a of (reply.Answered k) = same_asked _ _ refl refl
+outside_grows state t a of reply.RolledBack = same_asked _ _ refl refl
+outside_grows state t a of reply.Released = released_grows state a
+outside_grows state t a of (reply.Refused why) = same_asked _ _ refl refl
 
-pub next_grows : (state : State) (t : ℕ) (a : Act) (statement : Option Statement) (r : Reply) → Grows (asked_by r (transaction_of state t)) state (next_state state t a statement r)
-next_grows state t a statement r =
-    let of = unwrap_or statement st.Begin in
-    elim (transaction_of state t) as (λ f. Grows (asked_by r f) state (option_map_or (λ me. next_inside state t me of r) f (next_outside state t a r))) [
-      | Some me ↦ inside_grows state t me of r
-      | None ↦ outside_grows state t a r
-    ]
+pub next_grows : (state : State) (t : ℕ) (a : Act) (of : Option Statement) (r : Reply) → Grows (asked_by r (transaction_of state t)) state (next_state state t a of r)
+next_grows state t a of r = elim (transaction_of state t) as (λ f. Grows (asked_by r f) state (next_from state t f a of r)) [
+  | Some me ↦ inside_grows state t me a of r
+  | None ↦ outside_grows state t a of r
+]
 
 -- rows at a number that was asked stay
 rows_stay : (more : List (List Change)) (old new : State) (j : ℕ) → Grows more old new → j ≤ length old.asked → rows_at new j ≡ rows_at old j

@@ -1,7 +1,6 @@
 -- What holds of a state on each legal tape.
-use Rattle.std.proofs.Common.{◌≡◌, inl, inr, ℕ, ◌+◌, ◌==◌, ◌≤◌, Bool, true, false, List, [], ◌∷◌, ◌++◌, length, Option, Some, None, refl, sym, ◌∙◌, ap, subst, arith, length-append}
+use Rattle.std.proofs.Common.{◌≡◌, inl, inr, ℕ, ℤ, ◌+◌, ◌==◌, ◌≤◌, Bool, true, false, List, [], ◌∷◌, ◌++◌, length, Option, Some, None, refl, sym, ◌∙◌, ap, subst, arith, length-append}
 use Rattle.std.specs.Prelude.{unwrap_or, IfSome, option_and_then, if◌then◌else◌}
-use Rattle.std.specs.Option.{option_map_or}
 use Rattle.std.specs.Ordering.{nat_cmp}
 use Rattle.std.specs.FinMap.Entries.{put, find}
 use Rattle.std.proofs.lemmas.Map.Views.{exact_unsigned_eq}
@@ -18,9 +17,10 @@ use Rattle.ctr_model.specs.declared.state.State.{State}
 use Rattle.ctr_model.specs.declared.state.Transaction.{Transaction}
 use Rattle.ctr_model.specs.declared.tape.Point.{Point}
 use Rattle.ctr_model.specs.Maps.{without}
+use Rattle.ctr_model.specs.Database.{Database}
 use Rattle.ctr_model.specs.State.{transaction_of, view, begun}
 use Rattle.ctr_model.specs.Refusals.{refusal_of, write_refusal, table_of, key_locked}
-use Rattle.ctr_model.specs.Reply.{refused_or, reply_inside, reply_outside, reply_to, MayStandFor, granted, with_lock, with_use, next_inside, next_outside, next_state}
+use Rattle.ctr_model.specs.Reply.{refused_or, reply_inside, reply_outside, reply_from, reply_to, IsWantOfRoom, MayStandFor, with_lock, with_use, on_table, granted, with_granted, with_read, with_changes, next_inside, next_outside, released, next_from, next_state}
 use Rattle.ctr_model.specs.Tape.{statement_of, passed, final, Legal, Comes, IsInTurn, at_start}
 use Rattle.ctr_model.specs.Laws.{IsSound, LegalStatesAreSound}
 use Rattle.ctr_model.proofs.Sessions.{known, find-put-other, find-put-same, find-without-other, find-without-same}
@@ -43,8 +43,8 @@ ask_tells state false = tt
 
 inside_tells : (state : State) (s : ℕ) (me : Transaction) (a : Act) (statement : Statement) → Tells state a (reply_inside state s me a statement)
 inside_tells state s me act.Begin statement = tt
-inside_tells state s me act.Read statement = refused_tells state act.Read (refusal_of state s me statement) _ tt
-inside_tells state s me act.Lock statement = refused_tells state act.Lock (refusal_of state s me statement) reply.Granted tt
+inside_tells state s me act.Read statement = refused_tells state act.Read (refusal_of state s me act.Read statement) _ tt
+inside_tells state s me act.Lock statement = refused_tells state act.Lock (refusal_of state s me act.Lock statement) reply.Granted tt
 inside_tells state s me act.Write statement = refused_tells state act.Write (write_refusal (view state me) statement) reply.Done tt
 inside_tells state s me act.Ask statement = ask_tells state me.writer
 inside_tells state s me act.Answer statement = refl
@@ -61,27 +61,28 @@ outside_tells state act.Answer = tt
 outside_tells state act.Rollback = tt
 outside_tells state (act.Release name) = tt
 
-reply_tells : (state : State) (s : ℕ) (a : Act) (statement : Option Statement) → Tells state a (reply_to state s a statement)
-reply_tells state s a statement =
-    elim (transaction_of state s) as (λ f. Tells state a (option_map_or (λ me. reply_inside state s me a (unwrap_or statement st.Begin)) f (reply_outside state a))) [
-      | Some me ↦ inside_tells state s me a (unwrap_or statement st.Begin)
-      | None ↦ outside_tells state a
-    ]
+reply_tells : (state : State) (s : ℕ) (a : Act) (statement : Statement) → Tells state a (reply_to state s a (Some statement))
+reply_tells state s a statement = elim (transaction_of state s) as (λ f. Tells state a (reply_from state s f a statement)) [
+  | Some me ↦ inside_tells state s me a statement
+  | None ↦ outside_tells state a
+]
 
-free_tells : (state : State) (a : Act) (statement : Option Statement) (r given : Reply) → MayStandFor statement r given → Tells state a given
+room_tells : (state : State) (a : Act) (statement : Statement) (given : Reply) → IsWantOfRoom statement given → Tells state a given
+room_tells state a st.Begin given is = absurd is
+room_tells state a st.Commit given is = absurd is
+room_tells state a st.Rollback given is = absurd is
+room_tells state a (st.Create table schema) given is = subst (Tells state a) (sym is) tt
+room_tells state a (st.DropTable table) given is = absurd is
+room_tells state a (st.Insert table values) given is = subst (Tells state a) (sym is) tt
+room_tells state a (st.Select table at) given is = absurd is
+room_tells state a (st.Update table sets at) given is = subst (Tells state a) (sym is) tt
+room_tells state a (st.Delete table at) given is = subst (Tells state a) (sym is) tt
+
+free_tells : (state : State) (a : Act) (statement : Statement) (r given : Reply) → MayStandFor statement r given → Tells state a given
 free_tells state a statement (reply.Began n) given is = subst (Tells state a) (sym is) tt
 free_tells state a statement reply.Granted given is = subst (Tells state a) (sym is) tt
 free_tells state a statement (reply.Rows rows) given is = subst (Tells state a) (sym is) tt
-free_tells state a (Some (st.Create table schema)) reply.Done given is = subst (Tells state a) (sym is) tt
-free_tells state a (Some (st.Insert table values)) reply.Done given is = subst (Tells state a) (sym is) tt
-free_tells state a (Some (st.Update table sets at)) reply.Done given is = subst (Tells state a) (sym is) tt
-free_tells state a (Some (st.Delete table at)) reply.Done given is = subst (Tells state a) (sym is) tt
-free_tells state a (Some st.Begin) reply.Done given is = absurd is
-free_tells state a (Some st.Commit) reply.Done given is = absurd is
-free_tells state a (Some st.Rollback) reply.Done given is = absurd is
-free_tells state a (Some (st.DropTable table)) reply.Done given is = absurd is
-free_tells state a (Some (st.Select table at)) reply.Done given is = absurd is
-free_tells state a None reply.Done given is = absurd is
+free_tells state a statement reply.Done given is = room_tells state a statement given is
 free_tells state a statement (reply.Asked k) given is = absurd is
 free_tells state a statement reply.ReadOnly given is = absurd is
 free_tells state a statement (reply.Answered k) given is = absurd is
@@ -92,8 +93,8 @@ free_tells state a statement (reply.Refused why) given is = absurd is
 comes_tells : (lines : List Line) (p : Point) (e : Entry) → Comes lines p e → Tells p.state e.act e.reply
 comes_tells lines p e comes = elim comes.one_of [
   | inl next ↦ elim next.2.allowed [
-    | inl same ↦ subst (Tells p.state e.act) (sym same) (reply_tells p.state e.session e.act (Some next.0))
-    | inr stands ↦ free_tells p.state e.act (Some next.0) (reply_to p.state e.session e.act (Some next.0)) e.reply stands
+    | inl same ↦ subst (Tells p.state e.act) (sym same) (reply_tells p.state e.session e.act next.0)
+    | inr stands ↦ free_tells p.state e.act next.0 (reply_to p.state e.session e.act (Some next.0)) e.reply stands
   ]
   | inr release ↦ subst (Tells p.state e.act) (sym release.released) tt
 ]
@@ -127,40 +128,59 @@ module _ (P : Transaction → Type 0) (sessions : List (ℕ × Transaction)) (s 
 
 -- ---- one step
 
--- the number and the snapshot stay with a lock and a use
-locked_fits : (answered asked : ℕ) (statement : Statement) (me : Transaction) → Fits answered asked me → Fits answered asked (with_lock statement me)
-locked_fits answered asked statement me fits =
-    elim (table_of statement) as (λ o. Fits answered asked (option_map_or (λ name. granted statement name me) o (record me { writer = true }))) [
-      | None ↦ fits
-      | Some name ↦ elim (key_locked statement) as (λ k. Fits answered asked (option_map_or (λ key. record me { writer = true; locks = me.locks ++ record { table = name; key = key } ∷ []; uses = me.uses ++ name ∷ [] }) k (record me { writer = true; holds = me.holds ++ name ∷ [] }))) [
-        | None ↦ fits
-        | Some key ↦ fits
-      ]
-    ]
+-- the number and the snapshot stay with a lock, a use and a change
+module _ (answered asked : ℕ) (me : Transaction) (fits : Fits answered asked me) where
+  locked_fits : (key : Option ℤ) (table : Option (List ℕ)) → Fits answered asked (on_table (with_lock key) table me)
+  locked_fits key None = fits
+  locked_fits None (Some name) = fits
+  locked_fits (Some key) (Some name) = fits
 
-used_fits : (answered asked : ℕ) (statement : Statement) (me : Transaction) → Fits answered asked me → Fits answered asked (with_use statement me)
-used_fits answered asked statement me fits =
-    elim (table_of statement) as (λ o. Fits answered asked (option_map_or (λ name. record me { uses = me.uses ++ name ∷ [] }) o me)) [ None ↦ fits | Some name ↦ fits ]
+  granted_fits : (a : Act) (statement : Statement) → Fits answered asked (granted a statement me)
+  granted_fits act.Begin statement = fits
+  granted_fits act.Read statement = fits
+  granted_fits act.Lock statement = locked_fits (key_locked act.Lock statement) (table_of statement)
+  granted_fits act.Write statement = fits
+  granted_fits act.Ask statement = fits
+  granted_fits act.Answer statement = fits
+  granted_fits act.Rollback statement = fits
+  granted_fits (act.Release name) statement = fits
+
+  with_granted_fits : (a : Act) (of : Option Statement) → Fits answered asked (with_granted a of me)
+  with_granted_fits a None = fits
+  with_granted_fits a (Some statement) = granted_fits a statement
+
+  used_fits : (table : Option (List ℕ)) → Fits answered asked (on_table with_use table me)
+  used_fits None = fits
+  used_fits (Some name) = fits
+
+  with_read_fits : (of : Option Statement) → Fits answered asked (with_read of me)
+  with_read_fits None = fits
+  with_read_fits (Some statement) = used_fits (table_of statement)
+
+  with_changes_fits : (db : Database) (of : Option Statement) → Fits answered asked (with_changes db of me)
+  with_changes_fits db None = fits
+  with_changes_fits db (Some statement) = fits
 
 module _ (state : State) (s : ℕ) (a : Act) (sound : IsSound state) where
   fits_of : (me : Transaction) → transaction_of state s ≡ Some me → Fits state.answered (length state.asked) me
   fits_of me is = sound.each s me is
 
-  inside_sound : (me : Transaction) → transaction_of state s ≡ Some me → (statement : Statement) (r : Reply) → Tells state a r → IsInTurn state s a → IsSound (next_inside state s me statement r)
-  inside_sound me is statement (reply.Began n) tells turn = sound
-  inside_sound me is statement reply.Granted tells turn = record {
+  inside_sound : (me : Transaction) → transaction_of state s ≡ Some me → (of : Option Statement) (r : Reply) → Tells state a r → IsInTurn state s a → IsSound (next_inside state s me a of r)
+  inside_sound me is of (reply.Began n) tells turn = sound
+  inside_sound me is of reply.Granted tells turn = record {
     answered = sound.answered;
-    each = each_put (Fits state.answered (length state.asked)) state.sessions s sound.each (with_lock statement me) (locked_fits state.answered (length state.asked) statement me (fits_of me is));
+    each = each_put (Fits state.answered (length state.asked)) state.sessions s sound.each (with_granted a of me) (with_granted_fits state.answered (length state.asked) me (fits_of me is) a of);
   }
-  inside_sound me is statement (reply.Rows rows) tells turn = record {
+  inside_sound me is of (reply.Rows rows) tells turn = record {
     answered = sound.answered;
-    each = each_put (Fits state.answered (length state.asked)) state.sessions s sound.each (with_use statement me) (used_fits state.answered (length state.asked) statement me (fits_of me is));
+    each = each_put (Fits state.answered (length state.asked)) state.sessions s sound.each (with_read of me) (with_read_fits state.answered (length state.asked) me (fits_of me is) of);
   }
-  inside_sound me is statement reply.Done tells turn = record {
+  inside_sound me is of reply.Done tells turn = record {
     answered = sound.answered;
-    each = each_put (Fits state.answered (length state.asked)) state.sessions s sound.each _ (fits_of me is);
+    each = each_put (Fits state.answered (length state.asked)) state.sessions s sound.each (with_changes (view state me) of me)
+        (with_changes_fits state.answered (length state.asked) me (fits_of me is) (view state me) of);
   }
-  inside_sound me is statement (reply.Asked k) tells turn =
+  inside_sound me is of (reply.Asked k) tells turn =
       let longer : length (state.asked ++ me.own ∷ []) ≡ length state.asked + 1 = length-append state.asked (me.own ∷ []) in
       record {
         answered = omega (arith, sound.answered, longer);
@@ -168,8 +188,8 @@ module _ (state : State) (s : ℕ) (a : Act) (sound : IsSound state) where
             (λ t you found. fits_later you state.answered state.answered (length state.asked) (length (state.asked ++ me.own ∷ [])) (omega arith) (omega (arith, longer)) (sound.each t you found)) _
             ((fits_of me is).0, omega (arith, tells, longer));
       }
-  inside_sound me is statement reply.ReadOnly tells turn = record { answered = sound.answered; each = each_without (Fits state.answered (length state.asked)) state.sessions s sound.each }
-  inside_sound me is statement (reply.Answered k) tells turn =
+  inside_sound me is of reply.ReadOnly tells turn = record { answered = sound.answered; each = each_without (Fits state.answered (length state.asked)) state.sessions s sound.each }
+  inside_sound me is of (reply.Answered k) tells turn =
       let own : IsInTurn state s act.Answer = subst (IsInTurn state s) tells turn in
       let mine : me.asked ≡ Some (state.answered + 1) = ap (option_and_then (λ (t : Transaction). t.asked)) (sym is) ∙ own in
       let asked : state.answered + 1 ≤ length state.asked = subst (λ o. IfSome o (λ k. k ≤ length state.asked)) mine (fits_of me is).1 in
@@ -178,42 +198,40 @@ module _ (state : State) (s : ℕ) (a : Act) (sound : IsSound state) where
         each = each_without (Fits (state.answered + 1) (length state.asked)) state.sessions s
             (λ t you found. fits_later you state.answered (state.answered + 1) (length state.asked) (length state.asked) (omega arith) (omega arith) (sound.each t you found));
       }
-  inside_sound me is statement reply.RolledBack tells turn = record { answered = sound.answered; each = each_without (Fits state.answered (length state.asked)) state.sessions s sound.each }
-  inside_sound me is statement reply.Released tells turn = sound
-  inside_sound me is statement (reply.Refused why) tells turn = sound
+  inside_sound me is of reply.RolledBack tells turn = record { answered = sound.answered; each = each_without (Fits state.answered (length state.asked)) state.sessions s sound.each }
+  inside_sound me is of reply.Released tells turn = sound
+  inside_sound me is of (reply.Refused why) tells turn = sound
 
-released_sound : (state : State) (s : ℕ) (a : Act) → IsSound state → IsSound (next_outside state s a reply.Released)
-released_sound state s act.Begin sound = sound
-released_sound state s act.Read sound = sound
-released_sound state s act.Lock sound = sound
-released_sound state s act.Write sound = sound
-released_sound state s act.Ask sound = sound
-released_sound state s act.Answer sound = sound
-released_sound state s act.Rollback sound = sound
-released_sound state s (act.Release name) sound = record { answered = sound.answered; each = sound.each }
+released_sound : (state : State) (a : Act) → IsSound state → IsSound (released a state)
+released_sound state act.Begin sound = sound
+released_sound state act.Read sound = sound
+released_sound state act.Lock sound = sound
+released_sound state act.Write sound = sound
+released_sound state act.Ask sound = sound
+released_sound state act.Answer sound = sound
+released_sound state act.Rollback sound = sound
+released_sound state (act.Release name) sound = record { answered = sound.answered; each = sound.each }
 
-outside_sound : (state : State) (s : ℕ) (a : Act) (r : Reply) → IsSound state → Tells state a r → IsSound (next_outside state s a r)
-outside_sound state s a (reply.Began n) sound tells = record {
+outside_sound : (state : State) (s : ℕ) (a : Act) (of : Option Statement) (r : Reply) → IsSound state → Tells state a r → IsSound (next_outside state s a of r)
+outside_sound state s a of (reply.Began n) sound tells = record {
   answered = sound.answered;
   each = each_put (Fits state.answered (length state.asked)) state.sessions s sound.each (begun n) (omega (arith, tells), tt);
 }
-outside_sound state s a reply.Granted sound tells = sound
-outside_sound state s a (reply.Rows rows) sound tells = sound
-outside_sound state s a reply.Done sound tells = sound
-outside_sound state s a (reply.Asked k) sound tells = sound
-outside_sound state s a reply.ReadOnly sound tells = sound
-outside_sound state s a (reply.Answered k) sound tells = sound
-outside_sound state s a reply.RolledBack sound tells = sound
-outside_sound state s a reply.Released sound tells = released_sound state s a sound
-outside_sound state s a (reply.Refused why) sound tells = sound
+outside_sound state s a of reply.Granted sound tells = sound
+outside_sound state s a of (reply.Rows rows) sound tells = sound
+outside_sound state s a of reply.Done sound tells = sound
+outside_sound state s a of (reply.Asked k) sound tells = sound
+outside_sound state s a of reply.ReadOnly sound tells = sound
+outside_sound state s a of (reply.Answered k) sound tells = sound
+outside_sound state s a of reply.RolledBack sound tells = sound
+outside_sound state s a of reply.Released sound tells = released_sound state a sound
+outside_sound state s a of (reply.Refused why) sound tells = sound
 
-next_sound : (state : State) (s : ℕ) (a : Act) (statement : Option Statement) (r : Reply) → IsSound state → Tells state a r → IsInTurn state s a → IsSound (next_state state s a statement r)
-next_sound state s a statement r sound tells turn =
-    let of = unwrap_or statement st.Begin in
-    elim (transaction_of state s) as (λ f. transaction_of state s ≡ f → IsSound (option_map_or (λ me. next_inside state s me of r) f (next_outside state s a r))) [
-      | Some me ↦ λ is. inside_sound state s a sound me is of r tells turn
-      | None ↦ λ is. outside_sound state s a r sound tells
-    ] refl
+next_sound : (state : State) (s : ℕ) (a : Act) (of : Option Statement) (r : Reply) → IsSound state → Tells state a r → IsInTurn state s a → IsSound (next_state state s a of r)
+next_sound state s a of r sound tells turn = elim (transaction_of state s) as (λ f. transaction_of state s ≡ f → IsSound (next_from state s f a of r)) [
+  | Some me ↦ λ is. inside_sound state s a sound me is of r tells turn
+  | None ↦ λ is. outside_sound state s a of r sound tells
+] refl
 
 in_turn : (lines : List Line) (p : Point) (e : Entry) → Comes lines p e → IsInTurn p.state e.session e.act
 in_turn lines p e comes = elim comes.one_of [

@@ -1,9 +1,10 @@
 -- The grammar of scripts, as a relation between bytes and scripts.
 --
 -- A form says how much of the language is taken. The first form is the one that the engine takes
--- today. What depends on the form are keywords, statements, skipped lines, the ends of lines, and the
--- place of a refusal: `IsKeyword`, `Takes`, `IsSkipped`, `EndsLine` and `IsPlace` have a case for each
--- form. The whole form comes with a further case of each, and no rule below them changes.
+-- today. What depends on the form are keywords, statements, skipped lines, the ends of lines, and
+-- the place of a refusal: `IsKeyword`, `FormTakes`, `IsSkipped`, `EndsLine` and `IsPlace` have a
+-- case for each form. The whole form comes with a further case of each, and no rule below them
+-- changes.
 use Rattle.std.specs.Prelude.{◌≡◌, ◌≢◌, ◌⊎◌, ℕ, ◌+◌, ◌-◌, ◌<◌, ◌≤◌, ◌^◌, ℤ, pos, negsuc, false, List, [], ◌∷◌, ◌++◌, length, map, codes, Option, Some, None, ◌==◌, ◌&&◌, nat_le, if◌then◌else◌}
 use Rattle.std.specs.List.{AllByRecursion}
 use Rattle.std.specs.Str.Parse.{digits_value}
@@ -25,15 +26,19 @@ use Rattle.ctr_model.specs.Texts.{quoted}
 
 -- ---- bytes
 
+-- a space or a tab
 abbrev pub IsBlank : ℕ → Type 0
 IsBlank c = (c ≡ 32) ⊎ (c ≡ 9)
 
+-- printable ASCII
 abbrev pub IsPrintable : ℕ → Type 0
 IsPrintable c = (32 ≤ c) × (c ≤ 126)
 
+-- 0 to 9
 abbrev pub IsDigit : ℕ → Type 0
 IsDigit c = (48 ≤ c) × (c ≤ 57)
 
+-- A to Z
 abbrev pub IsCapital : ℕ → Type 0
 IsCapital c = (65 ≤ c) × (c ≤ 90)
 
@@ -41,12 +46,15 @@ IsCapital c = (65 ≤ c) × (c ≤ 90)
 abbrev pub IsLetter : ℕ → Type 0
 IsLetter c = IsCapital c ⊎ (((97 ≤ c) × (c ≤ 122)) ⊎ (c ≡ 95))
 
+-- a letter, a digit or _
 abbrev pub IsWordByte : ℕ → Type 0
 IsWordByte c = IsLetter c ⊎ IsDigit c
 
 -- > ; ( ) , = + *
 abbrev pub IsSign : ℕ → Type 0
-IsSign c = (c ≡ 62) ⊎ ((c ≡ 59) ⊎ ((c ≡ 40) ⊎ ((c ≡ 41) ⊎ ((c ≡ 44) ⊎ ((c ≡ 61) ⊎ ((c ≡ 43) ⊎ (c ≡ 42)))))))
+IsSign c =
+    (c ≡ 62) ⊎ ((c ≡ 59) ⊎ ((c ≡ 40) ⊎ ((c ≡ 41)
+    ⊎ ((c ≡ 44) ⊎ ((c ≡ 61) ⊎ ((c ≡ 43) ⊎ (c ≡ 42)))))))
 
 -- ---- tokens
 
@@ -59,10 +67,13 @@ IsWord (c ∷ cs) = IsLetter c × AllByRecursion IsWordByte cs
 abbrev pub IsNumeral : List ℕ → Type 0
 IsNumeral ds = (0 < length ds) × AllByRecursion IsDigit ds
 
--- digits that stand for a number, behind a - or not; -0 and leading zeros among them
+-- digits that stand for a number, after a - or not; -0 and leading zeros among them
 abbrev pub IsInteger : List ℕ → ℤ → Type 0
-IsInteger text (pos n) = (IsNumeral text × (digits_value 10 text ≡ n)) ⊎ ((ds : List ℕ) × (text ≡ 45 ∷ ds) × IsNumeral ds × (digits_value 10 ds ≡ n) × (n ≡ 0))
-IsInteger text (negsuc n) = (ds : List ℕ) × (text ≡ 45 ∷ ds) × IsNumeral ds × (digits_value 10 ds ≡ n + 1)
+IsInteger text (pos n) =
+    (IsNumeral text × (digits_value 10 text ≡ n))
+    ⊎ ((ds : List ℕ) × (text ≡ 45 ∷ ds) × IsNumeral ds × (digits_value 10 ds ≡ n) × (n ≡ 0))
+IsInteger text (negsuc n) =
+    (ds : List ℕ) × (text ≡ 45 ∷ ds) × IsNumeral ds × (digits_value 10 ds ≡ n + 1)
 
 -- it is a whole number of 64 bits
 abbrev pub IsWide : ℤ → Type 0
@@ -76,17 +87,20 @@ IsQuoted spelled text = (spelled ≡ quoted text) × AllByRecursion IsPrintable 
 -- a token: a word, an integer, a text or a sign
 abbrev pub IsToken : List ℕ → Type 0
 IsToken spelled =
-    IsWord spelled ⊎ (((z : ℤ) × IsInteger spelled z) ⊎ (((text : List ℕ) × IsQuoted spelled text) ⊎ ((c : ℕ) × IsSign c × (spelled ≡ c ∷ []))))
+    IsWord spelled ⊎ (((z : ℤ) × IsInteger spelled z)
+    ⊎ (((text : List ℕ) × IsQuoted spelled text) ⊎ ((c : ℕ) × IsSign c × (spelled ≡ c ∷ []))))
 
--- no longer front of what follows is a token too
+-- with no further bytes of what follows it is a token too
 abbrev pub IsLongest : List ℕ → List ℕ → Type 0
-IsLongest spelled rest = (more after : List ℕ) → rest ≡ more ++ after → 0 < length more → IsToken (spelled ++ more) → ⊥
+IsLongest spelled rest =
+    (more after : List ℕ) → rest ≡ more ++ after → 0 < length more → IsToken (spelled ++ more) → ⊥
 
--- the bytes are these tokens, with any blanks before each and behind the last
+-- the bytes are these tokens, with any blanks before each and after the last
 abbrev pub Lexes : List ℕ → List (List ℕ) → Type 0
 Lexes bytes [] = AllByRecursion IsBlank bytes
 Lexes bytes (t ∷ ts) =
-    (blanks rest : List ℕ) × (bytes ≡ blanks ++ t ++ rest) × AllByRecursion IsBlank blanks × IsToken t × IsLongest t rest × Lexes rest ts
+    (blanks rest : List ℕ) × (bytes ≡ blanks ++ t ++ rest) × AllByRecursion IsBlank blanks
+    × IsToken t × IsLongest t rest × Lexes rest ts
 
 -- ---- what a token must be
 
@@ -106,8 +120,11 @@ pub data Part : Type 0 where
 -- the keywords, in capitals
 abbrev pub keywords : List (List ℕ)
 keywords =
-    codes "CREATE" ∷ codes "TABLE" ∷ codes "DROP" ∷ codes "BEGIN" ∷ codes "COMMIT" ∷ codes "ROLLBACK" ∷ codes "INSERT" ∷ codes "INTO" ∷ codes "VALUES" ∷ codes "SELECT"
-    ∷ codes "FROM" ∷ codes "WHERE" ∷ codes "UPDATE" ∷ codes "SET" ∷ codes "DELETE" ∷ codes "INT" ∷ codes "TEXT" ∷ codes "PRIMARY" ∷ codes "KEY" ∷ []
+    codes "CREATE" ∷ codes "TABLE" ∷ codes "DROP" ∷ codes "BEGIN" ∷ codes "COMMIT"
+    ∷ codes "ROLLBACK" ∷ codes "INSERT" ∷ codes "INTO" ∷ codes "VALUES" ∷ codes "SELECT"
+    ∷ codes "FROM" ∷ codes "WHERE"
+    ∷ codes "UPDATE" ∷ codes "SET" ∷ codes "DELETE" ∷ codes "INT" ∷ codes "TEXT" ∷ codes "PRIMARY"
+    ∷ codes "KEY" ∷ []
 
 -- a small letter as a capital
 abbrev pub capital : ℕ → ℕ
@@ -130,6 +147,7 @@ Matches form (text t) spelled = IsQuoted spelled t
 Matches form (sign c) spelled = spelled ≡ c ∷ []
 Matches form (session s) spelled = spelled ≡ (48 + s) ∷ []
 
+-- as many tokens as places, each at its place
 abbrev pub AllMatch : Form → List Part → List (List ℕ) → Type 0
 AllMatch form [] [] = Unit {0}
 AllMatch form [] (t ∷ ts) = ⊥
@@ -138,48 +156,62 @@ AllMatch form (p ∷ ps) (t ∷ ts) = Matches form p t × AllMatch form ps ts
 
 -- ---- statements
 
+-- ,
 abbrev pub comma : Part
 comma = sign 44
 
+-- (
 abbrev pub open_paren : Part
 open_paren = sign 40
 
+-- )
 abbrev pub close_paren : Part
 close_paren = sign 41
 
+-- a value
 abbrev pub literal : Value → Part
 literal (value.Int n) = int n
 literal (value.Chars t) = text t
 
+-- values with commas between
 abbrev pub literals : List Value → List Part
 literals [] = []
 literals (v ∷ []) = literal v ∷ []
 literals (v ∷ w ∷ vs) = literal v ∷ comma ∷ literals (w ∷ vs)
 
+-- INT, or TEXT with its room in parentheses
 abbrev pub kind_parts : Kind → List Part
 kind_parts kind.Int = key (codes "INT") ∷ []
-kind_parts (kind.Chars most) = key (codes "TEXT") ∷ open_paren ∷ int (pos most) ∷ close_paren ∷ []
+kind_parts (kind.Chars most) =
+    key (codes "TEXT") ∷ open_paren ∷ int (pos most) ∷ close_paren ∷ []
 
--- the columns behind the first
+-- the columns after the first, each after a comma
 abbrev pub column_parts : List Column → List Part
 column_parts [] = []
 column_parts (c ∷ cs) = comma ∷ name c.name ∷ kind_parts c.kind ++ column_parts cs
 
+-- the first column, which is the key, and the others
 abbrev pub schema_parts : List Column → List Part
 schema_parts [] = []
-schema_parts (c ∷ cs) = name c.name ∷ key (codes "INT") ∷ key (codes "PRIMARY") ∷ key (codes "KEY") ∷ column_parts cs
+schema_parts (c ∷ cs) =
+    name c.name ∷ key (codes "INT") ∷ key (codes "PRIMARY") ∷ key (codes "KEY") ∷ column_parts cs
 
+-- WHERE, a column and its value
 abbrev pub where_parts : KeyIs → List Part
 where_parts at = key (codes "WHERE") ∷ name at.column ∷ sign 61 ∷ int at.key ∷ []
 
+-- the same, or nothing
 abbrev pub optional_where : Option KeyIs → List Part
 optional_where None = []
 optional_where (Some at) = where_parts at
 
+-- a column, and a value or the sum of a column and a number
 abbrev pub set_parts : List ℕ → SetTo → List Part
 set_parts column (to.Is v) = name column ∷ sign 61 ∷ literal v ∷ []
-set_parts column (to.Sum other n) = name column ∷ sign 61 ∷ name other ∷ sign 43 ∷ int n ∷ []
+set_parts column (to.Sum other n) =
+    name column ∷ sign 61 ∷ name other ∷ sign 43 ∷ int n ∷ []
 
+-- assignments with commas between
 abbrev pub sets_parts : List Set → List Part
 sets_parts [] = []
 sets_parts (s ∷ []) = set_parts s.column s.to
@@ -190,13 +222,21 @@ abbrev pub statement_parts : Statement → List Part
 statement_parts st.Begin = key (codes "BEGIN") ∷ []
 statement_parts st.Commit = key (codes "COMMIT") ∷ []
 statement_parts st.Rollback = key (codes "ROLLBACK") ∷ []
-statement_parts (st.Create table schema) = key (codes "CREATE") ∷ key (codes "TABLE") ∷ name table ∷ open_paren ∷ schema_parts schema.columns ++ close_paren ∷ []
+statement_parts (st.Create table schema) =
+    key (codes "CREATE") ∷ key (codes "TABLE") ∷ name table
+    ∷ open_paren ∷ schema_parts schema.columns ++ close_paren ∷ []
 statement_parts (st.DropTable table) = key (codes "DROP") ∷ key (codes "TABLE") ∷ name table ∷ []
-statement_parts (st.Insert table values) = key (codes "INSERT") ∷ key (codes "INTO") ∷ name table ∷ key (codes "VALUES") ∷ open_paren ∷ literals values ++ close_paren ∷ []
-statement_parts (st.Select table at) = key (codes "SELECT") ∷ sign 42 ∷ key (codes "FROM") ∷ name table ∷ optional_where at
-statement_parts (st.Update table sets at) = key (codes "UPDATE") ∷ name table ∷ key (codes "SET") ∷ sets_parts sets ++ where_parts at
-statement_parts (st.Delete table at) = key (codes "DELETE") ∷ key (codes "FROM") ∷ name table ∷ where_parts at
+statement_parts (st.Insert table values) =
+    key (codes "INSERT") ∷ key (codes "INTO") ∷ name table
+    ∷ key (codes "VALUES") ∷ open_paren ∷ literals values ++ close_paren ∷ []
+statement_parts (st.Select table at) =
+    key (codes "SELECT") ∷ sign 42 ∷ key (codes "FROM") ∷ name table ∷ optional_where at
+statement_parts (st.Update table sets at) =
+    key (codes "UPDATE") ∷ name table ∷ key (codes "SET") ∷ sets_parts sets ++ where_parts at
+statement_parts (st.Delete table at) =
+    key (codes "DELETE") ∷ key (codes "FROM") ∷ name table ∷ where_parts at
 
+-- 1 to 8 of them
 abbrev pub IsAmount : {X : Type 0} → List X → Type 0
 IsAmount xs = (1 ≤ length xs) × (length xs ≤ 8)
 
@@ -210,10 +250,12 @@ abbrev pub AreDistinct : List Column → Type 0
 AreDistinct [] = Unit {0}
 AreDistinct (c ∷ cs) = (has_name c.name (map (λ d. d.name) cs) ≡ false) × AreDistinct cs
 
+-- the first column is there, and is an INT
 abbrev pub first_is_int : List Column → Type 0
 first_is_int [] = ⊥
 first_is_int (c ∷ cs) = c.kind ≡ kind.Int
 
+-- the columns of a table
 pub record IsSchema (columns : List Column) : Type 0 where
   pub amount : IsAmount columns
   pub key : first_is_int columns
@@ -222,32 +264,38 @@ pub record IsSchema (columns : List Column) : Type 0 where
 
 -- what no token shows: 1 to 8 columns of different names, values and assignments
 abbrev pub IsWithin : Statement → Type 0
+IsWithin st.Begin = Unit {0}
+IsWithin st.Commit = Unit {0}
+IsWithin st.Rollback = Unit {0}
 IsWithin (st.Create table schema) = IsSchema schema.columns
+IsWithin (st.DropTable table) = Unit {0}
 IsWithin (st.Insert table values) = IsAmount values
+IsWithin (st.Select table at) = Unit {0}
 IsWithin (st.Update table sets at) = IsAmount sets
-IsWithin s = Unit {0}
+IsWithin (st.Delete table at) = Unit {0}
 
 -- The first form takes session 1, and BEGIN, COMMIT, CREATE, INSERT and SELECT without WHERE.
-abbrev pub Takes : Form → ℕ → Statement → Type 0
-Takes first s st.Begin = s ≡ 1
-Takes first s st.Commit = s ≡ 1
-Takes first s (st.Create table schema) = s ≡ 1
-Takes first s (st.Insert table values) = s ≡ 1
-Takes first s (st.Select table None) = s ≡ 1
-Takes first s (st.Select table (Some at)) = ⊥
-Takes first s st.Rollback = ⊥
-Takes first s (st.DropTable table) = ⊥
-Takes first s (st.Update table sets at) = ⊥
-Takes first s (st.Delete table at) = ⊥
+abbrev pub FormTakes : Form → ℕ → Statement → Type 0
+FormTakes first s st.Begin = s ≡ 1
+FormTakes first s st.Commit = s ≡ 1
+FormTakes first s (st.Create table schema) = s ≡ 1
+FormTakes first s (st.Insert table values) = s ≡ 1
+FormTakes first s (st.Select table None) = s ≡ 1
+FormTakes first s (st.Select table (Some at)) = ⊥
+FormTakes first s st.Rollback = ⊥
+FormTakes first s (st.DropTable table) = ⊥
+FormTakes first s (st.Update table sets at) = ⊥
+FormTakes first s (st.Delete table at) = ⊥
 
 -- ---- lines
 
+-- the session's number, >, the statement and ;
 abbrev pub line_parts : Line → List Part
 line_parts l = session l.session ∷ sign 62 ∷ statement_parts l.statement ++ sign 59 ∷ []
 
 -- the bytes of a line, without its end, are this statement
 pub record IsLine (form : Form) (bytes : List ℕ) (l : Line) : Type 0 where
-  pub takes : Takes form l.session l.statement
+  pub takes : FormTakes form l.session l.statement
   pub within : IsWithin l.statement
   pub tokens : List (List ℕ)
   pub lexes : Lexes bytes tokens
@@ -257,8 +305,8 @@ pub record IsLine (form : Form) (bytes : List ℕ) (l : Line) : Type 0 where
 abbrev pub IsSkipped : Form → List ℕ → Type 0
 IsSkipped first bytes = AllByRecursion IsBlank bytes
 
--- What ends a line, in front of the bytes behind it: in the first form LF, which stands behind each
--- line, the last too.
+-- What ends a line, before the bytes that follow: in the first form LF, which ends each line, the
+-- last too.
 abbrev pub EndsLine : Form → List ℕ → List ℕ → Type 0
 EndsLine first end behind = end ≡ 10 ∷ []
 
@@ -269,10 +317,12 @@ HasNoEnd line = AllByRecursion (λ c. c ≢ 10) line
 -- The bytes are these lines, with skipped lines between, and then this rest.
 pub data AreLines (form : Form) (rest : List ℕ) : List ℕ → List Line → Type 0 where
   ends : AreLines form rest rest []
-  skips : {bytes : List ℕ} {ls : List Line} (line end behind : List ℕ) → bytes ≡ line ++ end ++ behind → HasNoEnd line → EndsLine form end behind → IsSkipped form line → AreLines form rest behind ls
-      → AreLines form rest bytes ls
-  goes_on : {bytes : List ℕ} {ls : List Line} (line end behind : List ℕ) (l : Line) → bytes ≡ line ++ end ++ behind → HasNoEnd line → EndsLine form end behind → IsLine form line l → AreLines form rest behind ls
-      → AreLines form rest bytes (l ∷ ls)
+  skips : {bytes : List ℕ} {ls : List Line} (line end behind : List ℕ)
+      → bytes ≡ line ++ end ++ behind → HasNoEnd line → EndsLine form end behind
+      → IsSkipped form line → AreLines form rest behind ls → AreLines form rest bytes ls
+  goes_on : {bytes : List ℕ} {ls : List Line} (line end behind : List ℕ) (l : Line)
+      → bytes ≡ line ++ end ++ behind → HasNoEnd line → EndsLine form end behind
+      → IsLine form line l → AreLines form rest behind ls → AreLines form rest bytes (l ∷ ls)
 
 -- A script is lines to its end.
 abbrev pub IsScript : Form → List ℕ → List Line → Type 0
@@ -288,14 +338,16 @@ line_ends (c ∷ cs) = (if c == 10 then 1 else 0) + line_ends cs
 -- no line that is skipped or is a statement begins the bytes
 abbrev pub NoLine : Form → List ℕ → Type 0
 NoLine form bytes =
-    (line end behind : List ℕ) → bytes ≡ line ++ end ++ behind → HasNoEnd line → EndsLine form end behind → (IsSkipped form line ⊎ ((l : Line) × IsLine form line l)) → ⊥
+    (line end behind : List ℕ) → bytes ≡ line ++ end ++ behind → HasNoEnd line
+    → EndsLine form end behind → (IsSkipped form line ⊎ ((l : Line) × IsLine form line l)) → ⊥
 
 -- The place in the line, from 1, at which bytes are refused that no line begins: in the first form
 -- byte 1, wherever the line goes wrong.
 abbrev pub IsPlace : Form → List ℕ → ℕ → Type 0
 IsPlace first bytes at = at ≡ 1
 
--- Where a script is refused: at its first line that is none, which is told from 1, and a place in it.
+-- Where a script is refused: at its first line that is none, which is told from 1, and a place in
+-- it.
 pub record IsRefusedAt (form : Form) (bytes : List ℕ) (line at : ℕ) : Type 0 where
   pub front : List ℕ
   pub lines : List Line

@@ -10,13 +10,13 @@ abbrev pub without : {K X : Type 0} → (K → K → Ordering) → K → List (K
 without cmp key entries = where_key cmp (λ k. not (eq_by_cmp cmp key k)) entries
 
 -- The place of a key: the keys before it are smaller, and the one at it isn't.
-abbrev pub IsPlace : {K X : Type 0} → (K → K → Ordering) → K → List (K × X) → ℕ → Type 0
-IsPlace cmp key [] n = n ≡ 0
-IsPlace cmp key (e ∷ es) zero = ¬ (cmp key e.0 ≡ Greater)
-IsPlace cmp key (e ∷ es) (suc n) = (cmp key e.0 ≡ Greater) × IsPlace cmp key es n
+abbrev pub IsKeyPlace : {K X : Type 0} → (K → K → Ordering) → K → List (K × X) → ℕ → Type 0
+IsKeyPlace cmp key [] n = n ≡ 0
+IsKeyPlace cmp key (e ∷ es) zero = ¬ (cmp key e.0 ≡ Greater)
+IsKeyPlace cmp key (e ∷ es) (suc n) = (cmp key e.0 ≡ Greater) × IsKeyPlace cmp key es n
 
--- the key stands at the place
-abbrev pub IsTaken : {K X : Type 0} → (K → K → Ordering) → K → List (K × X) → ℕ → Type 0
-IsTaken cmp key [] n = ⊥
-IsTaken cmp key (e ∷ es) zero = cmp key e.0 ≡ Equal
-IsTaken cmp key (e ∷ es) (suc n) = IsTaken cmp key es n
+-- the entry at the place has the key
+abbrev pub HasKeyAt : {K X : Type 0} → (K → K → Ordering) → K → List (K × X) → ℕ → Type 0
+HasKeyAt cmp key [] n = ⊥
+HasKeyAt cmp key (e ∷ es) zero = cmp key e.0 ≡ Equal
+HasKeyAt cmp key (e ∷ es) (suc n) = HasKeyAt cmp key es n

@@ -13,6 +13,7 @@ pub use Rattle.ctr_model.specs.declared.state.State.{State}
 abbrev pub same_name : List ℕ → List ℕ → Bool
 same_name a b = pointwise nat_eq a b
 
+-- the name is one of these
 abbrev pub has_name : List ℕ → List (List ℕ) → Bool
 has_name name names = list_any (λ n. same_name n name) names
 
@@ -20,9 +21,11 @@ has_name name names = list_any (λ n. same_name n name) names
 abbrev pub transaction_of : State → ℕ → Option Transaction
 transaction_of state s = find nat_cmp s state.sessions
 
+-- the session is in this transaction
 abbrev pub with_transaction : ℕ → Transaction → State → State
 with_transaction s me state = record state { sessions = put nat_cmp s me state.sessions }
 
+-- the session is in none
 abbrev pub without_transaction : ℕ → State → State
 without_transaction s state = record state { sessions = without nat_cmp s state.sessions }
 
@@ -40,4 +43,12 @@ at_rest base stuck = record { base = base; asked = []; answered = 0; sessions = 
 
 -- a transaction as BEGIN makes it
 abbrev pub begun : ℕ → Transaction
-begun n = record { snapshot = n; own = []; writer = false; locks = []; uses = []; holds = []; asked = None }
+begun n = record {
+  snapshot = n;
+  own = [];
+  writer = false;
+  locks = [];
+  uses = [];
+  holds = [];
+  asked = None;
+}

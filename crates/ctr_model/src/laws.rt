@@ -18,23 +18,25 @@ pub fn snapshots_stay()
     ensures { SnapshotsStay }
 {}
 
-/// The base stays for good, and what was asked stays in front of what is asked later.
+/// The base stays for good, and what was asked stays before what is asked later.
 pub fn states_grow()
     ensures { StatesGrow }
 {}
 
 /// The rows at every number change by no reply but Asked: an entry with another reply leaves them as
-/// they were. And a session that asks for no commit leaves no trace, over any stretch of a tape in
-/// which others may act, ask and be answered.
+/// they were. And a session that asks for no commit in a stretch of a tape leaves no trace there, while
+/// others may act, ask and be answered: what was asked are the others' changes alone, and the rows at
+/// every number, and the others' transactions, are as their entries alone leave them. Which replies the
+/// others got is not spoken of: they may have been refused for the session's locks.
 pub fn only_asking_changes_rows()
     ensures entry { OnlyAskingChangesRows }
     ensures stretch { UnaskedLeavesNoTrace }
 {}
 
-/// A transaction that is rolled back leaves no trace, over any stretch of a tape up to its rollback or
-/// behind it, in which others may act, ask and be answered: what was asked are the others' changes
-/// alone, and the rows at every number, and the others' transactions, are as their entries alone leave
-/// them.
+/// A session that asks for no commit in a stretch of a tape, and whose last entry there is a rollback,
+/// leaves no trace there, in the same sense, and is in no transaction behind it. So a transaction that
+/// is rolled back leaves none, from its BEGIN to its ROLLBACK and for as long after it as the session
+/// does nothing more.
 pub fn rollbacks_leave_no_trace()
     ensures { RollbacksLeaveNoTrace }
 {}

@@ -6,6 +6,7 @@
 
 mod database;
 mod laws;
+mod limits;
 mod map;
 mod state;
 mod tape;
@@ -15,6 +16,7 @@ pub use laws::{
     legal_states_are_sound, only_asking_changes_rows, replies_are_determined,
     rollbacks_leave_no_trace, snapshots_stay, states_grow,
 };
+pub use limits::{CATALOG_ENTRIES, MOST_PAGES};
 pub use map::Map;
 pub use state::{KeyLock, State, Transaction};
 pub use tape::{Cause, Command, Point, Progress, Report, Survey};

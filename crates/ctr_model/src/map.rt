@@ -2,7 +2,7 @@
 ghost use Rattle.std.specs.Prelude.{◌≡◌, ◌<◌, ◌≤◌, ◌↔◌, List, [], ◌∷◌, ◌++◌, length, map, is_some, true, IsTrue, IfOk, OnOk, OnErr};
 ghost use Rattle.std.specs.Option.{option_copied};
 ghost use Rattle.std.specs.FinMap.Entries.{put, find};
-ghost use Rattle.ctr_model.specs.Maps.{without, IsPlace, IsTaken};
+ghost use Rattle.ctr_model.specs.Maps.{without, IsKeyPlace, HasKeyAt};
 
 use ctr_types::{Plain, copy_all, same_all};
 use std::alloc::{AllocError, Global};
@@ -105,8 +105,8 @@ struct Place {
 }
 
 fn place_of<K: Ord, V>(entries: &[(K, V)], key: &K) -> Place
-    ensures at { IsPlace K.cmp key.now entries.now result.at }
-    ensures taken { IsTrue result.taken ↔ IsTaken K.cmp key.now entries.now result.at }
+    ensures at { IsKeyPlace K.cmp key.now entries.now result.at }
+    ensures taken { IsTrue result.taken ↔ HasKeyAt K.cmp key.now entries.now result.at }
     ensures within { result.at ≤ length entries.now }
     ensures before_end { result.taken ≡ true → result.at < length entries.now }
 {

@@ -125,12 +125,12 @@ impl State {
     {
         let asked = self.asked.as_slice();
         let mut database = self.base.copy(alloc)?;
-        let front = if number < asked.len() as u64 {
+        let prefix = if number < asked.len() as u64 {
             &asked[..number as usize]
         } else {
             asked
         };
-        commit_all(alloc, &mut database, front)?;
+        commit_all(alloc, &mut database, prefix)?;
         Ok(database)
     }
 

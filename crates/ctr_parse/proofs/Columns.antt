@@ -9,7 +9,7 @@ use Rattle.ctr_types.specs.declared.value.Column.{Column}
 use Rattle.ctr_types.specs.declared.value.Kind.{Kind}
 use Rattle.ctr_types.specs.declared.value.Kind.TheVariants as kind
 use Rattle.ctr_model.specs.Grammar.{first, Part, key, name, int, sign, open_paren, close_paren, kind_parts, column_parts, schema_parts, Matches, AllMatch, IsKind, AreDistinct, IsSchema}
-use Rattle.ctr_parse.specs.Reading.{◌>>=◌, after, name_at, int_at, most_of, size_at, kind_at, column_at, separator_at, with_front, columns_at, key_at, are_distinct, schema_at}
+use Rattle.ctr_parse.specs.Reading.{◌>>=◌, after_token, name_at, int_at, most_of, size_at, kind_at, column_at, separator_at, with_front, columns_at, key_at, are_distinct, schema_at}
 use Rattle.ctr_parse.proofs.Spellings.{not_is, not_from}
 use Rattle.ctr_parse.proofs.Steps.{bound, chosen_is, passed, stands, key_stands, sign_stands, first_stands, after_is, key_again, sign_again, Again, name_at_is, name_again, int_at_is, int_again}
 use Rattle.ctr_parse.proofs.Values.{ends, goes_on, IsSeparated, separator_is, with_front_is}
@@ -36,10 +36,10 @@ size_parts n ps = open_paren ∷ int (pos n) ∷ close_paren ∷ ps
 size_is : (ts : List (List ℕ)) (n : ℕ) (rest : List (List ℕ)) → size_at ts ≡ Some (n, rest) → (1 ≤ n) × (n ≤ 64) × ((ps : List Part) → AllMatch first ps rest → AllMatch first (size_parts n ps) ts)
 unfolding size_at
 size_is ts n rest h =
-    let a = bound (after (codes "(") ts) (λ inner. int_at inner >>= (λ m. most_of m.0 >>= (λ k. after (codes ")") m.1 >>= (λ r. Some (k, r))))) (n, rest) h in
-    let b = bound (int_at a.0) (λ m. most_of m.0 >>= (λ k. after (codes ")") m.1 >>= (λ r. Some (k, r)))) (n, rest) a.2 in
-    let d = bound (most_of b.0.0) (λ k. after (codes ")") b.0.1 >>= (λ r. Some (k, r))) (n, rest) b.2 in
-    let e = bound (after (codes ")") b.0.1) (λ r. Some (d.0, r)) (n, rest) d.2 in
+    let a = bound (after_token (codes "(") ts) (λ inner. int_at inner >>= (λ m. most_of m.0 >>= (λ k. after_token (codes ")") m.1 >>= (λ r. Some (k, r))))) (n, rest) h in
+    let b = bound (int_at a.0) (λ m. most_of m.0 >>= (λ k. after_token (codes ")") m.1 >>= (λ r. Some (k, r)))) (n, rest) a.2 in
+    let d = bound (most_of b.0.0) (λ k. after_token (codes ")") b.0.1 >>= (λ r. Some (k, r))) (n, rest) b.2 in
+    let e = bound (after_token (codes ")") b.0.1) (λ r. Some (d.0, r)) (n, rest) d.2 in
     let f = some_pair_parts d.0 n e.0 rest e.2 in
     let m = most_is b.0.0 d.0 d.1 in
     let i = int_at_is a.0 b.0.0 b.0.1 b.1 in
@@ -77,10 +77,10 @@ of_text ts k behind n rest e s h =
 pub kind_is : (ts : List (List ℕ)) (k : Kind) (rest : List (List ℕ)) → kind_at ts ≡ Some (k, rest) → IsKind k × ((ps : List Part) → AllMatch first ps rest → AllMatch first (kind_parts k ++ ps) ts)
 unfolding kind_at
 kind_is ts k rest h =
-    let texts : Option (Kind × List (List ℕ)) = (after (codes "TEXT") ts >>= (λ r. size_at r >>= (λ n. Some (kind.Chars n.0, n.1)))) in
-    elim (chosen_is (after (codes "INT") ts) (λ r. Some (kind.Int, r)) texts (k, rest) h) [
+    let texts : Option (Kind × List (List ℕ)) = (after_token (codes "TEXT") ts >>= (λ r. size_at r >>= (λ n. Some (kind.Chars n.0, n.1)))) in
+    elim (chosen_is (after_token (codes "INT") ts) (λ r. Some (kind.Int, r)) texts (k, rest) h) [
       | inl a ↦ of_int ts k a.0 rest (after_is (codes "INT") ts a.0 a.1) a.2
-      | inr a ↦ (let b = bound (after (codes "TEXT") ts) (λ r. size_at r >>= (λ n. Some (kind.Chars n.0, n.1))) (k, rest) a.1 in
+      | inr a ↦ (let b = bound (after_token (codes "TEXT") ts) (λ r. size_at r >>= (λ n. Some (kind.Chars n.0, n.1))) (k, rest) a.1 in
           let d = bound (size_at b.0) (λ n. Some (kind.Chars n.0, n.1)) (k, rest) b.2 in
           of_text ts k b.0 d.0 rest (after_is (codes "TEXT") ts b.0 b.1) d.1 d.2)
     ]
@@ -192,10 +192,10 @@ key_column_parts n ps = name n ∷ key (codes "INT") ∷ key (codes "PRIMARY") �
 key_is : (ts : List (List ℕ)) (c : Column) (rest : List (List ℕ)) → key_at ts ≡ Some (c, rest) → (c.kind ≡ kind.Int) × ((ps : List Part) → AllMatch first ps rest → AllMatch first (key_column_parts c.name ps) ts)
 unfolding key_at
 key_is ts c rest h =
-    let a = bound (name_at ts) (λ n. after (codes "INT") n.1 >>= (λ r. after (codes "PRIMARY") r >>= (λ r. after (codes "KEY") r >>= (λ r. Some (record { name = n.0; kind = kind.Int }, r))))) (c, rest) h in
-    let b = bound (after (codes "INT") a.0.1) (λ r. after (codes "PRIMARY") r >>= (λ r. after (codes "KEY") r >>= (λ r. Some (record { name = a.0.0; kind = kind.Int }, r)))) (c, rest) a.2 in
-    let d = bound (after (codes "PRIMARY") b.0) (λ r. after (codes "KEY") r >>= (λ r. Some (record { name = a.0.0; kind = kind.Int }, r))) (c, rest) b.2 in
-    let e = bound (after (codes "KEY") d.0) (λ r. Some (record { name = a.0.0; kind = kind.Int }, r)) (c, rest) d.2 in
+    let a = bound (name_at ts) (λ n. after_token (codes "INT") n.1 >>= (λ r. after_token (codes "PRIMARY") r >>= (λ r. after_token (codes "KEY") r >>= (λ r. Some (record { name = n.0; kind = kind.Int }, r))))) (c, rest) h in
+    let b = bound (after_token (codes "INT") a.0.1) (λ r. after_token (codes "PRIMARY") r >>= (λ r. after_token (codes "KEY") r >>= (λ r. Some (record { name = a.0.0; kind = kind.Int }, r)))) (c, rest) a.2 in
+    let d = bound (after_token (codes "PRIMARY") b.0) (λ r. after_token (codes "KEY") r >>= (λ r. Some (record { name = a.0.0; kind = kind.Int }, r))) (c, rest) b.2 in
+    let e = bound (after_token (codes "KEY") d.0) (λ r. Some (record { name = a.0.0; kind = kind.Int }, r)) (c, rest) d.2 in
     let one : Column = record { name = a.0.0; kind = kind.Int } in
     let p = some_pair_parts one c e.0 rest e.2 in
     let n = name_at_is ts a.0.0 a.0.1 a.1 in

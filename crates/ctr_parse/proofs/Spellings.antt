@@ -10,7 +10,7 @@ use Rattle.std.proofs.lemmas.Slice.Eq.{slice_eq-Decides}
 use Rattle.ctr_model.specs.State.{same_name}
 use Rattle.ctr_model.specs.Texts.{doubled}
 use Rattle.ctr_model.specs.Grammar.{IsDigit, IsLetter, IsWordByte, IsPrintable, IsWord, IsNumeral, IsInteger, IsWide, IsQuoted, IsNameSpelled}
-use Rattle.ctr_parse.specs.Spelled.{is_between, is_digit, is_letter, is_word_byte, is_word, is_keyword, is_name, is_numeral, below_zero, negative_of, positive_of, int_of, with_bytes, unquoted, text_of}
+use Rattle.ctr_parse.specs.Spelled.{is_between, is_digit, is_letter, is_word_byte, is_word, is_keyword, is_name, is_numeral, below_zero, negative_of, positive_of, int_of, with_bytes, unquoted, text_spelled}
 use Rattle.ctr_parse.proofs.Numerals.{numeral_is, numeral_from}
 
 pub same_Decides : (a b : List ℕ) → Decides (same_name a b) (a ≡ b)
@@ -181,8 +181,8 @@ quote_is : (c : ℕ) (cs text : List ℕ) (b : Bool) → (c == 39) ≡ b → (if
 quote_is c cs text true e h = let r = rest_is false cs text h in subst (λ x. IsQuoted (x ∷ cs) text) (sym (eqb-true c 39 e)) (ap (λ l. 39 ∷ l) r.0, r.1)
 quote_is c cs text false e h = cc
 
-pub text_is : (t text : List ℕ) → text_of t ≡ Some text → IsQuoted t text
-unfolding text_of
+pub text_is : (t text : List ℕ) → text_spelled t ≡ Some text → IsQuoted t text
+unfolding text_spelled
 text_is [] text h = cc
 text_is (c ∷ cs) text h = quote_is c cs text (c == 39) refl h
 
@@ -194,9 +194,9 @@ inner_from : (text : List ℕ) → AllByRecursion IsPrintable text → unquoted 
 inner_from [] h = refl
 inner_from (c ∷ cs) h = more_inner c cs (c == 39) refl h.0 (inner_from cs h.1)
 
-pub text_from : (t text : List ℕ) → IsQuoted t text → text_of t ≡ Some text
-unfolding text_of
-text_from t text h = subst (λ u. text_of u ≡ Some text) (sym h.0) (inner_from text h.1)
+pub text_from : (t text : List ℕ) → IsQuoted t text → text_spelled t ≡ Some text
+unfolding text_spelled
+text_from t text h = subst (λ u. text_spelled u ≡ Some text) (sym h.0) (inner_from text h.1)
 
 -- a text is no number
 pub no_int : (t text : List ℕ) → IsQuoted t text → int_of t ≡ None

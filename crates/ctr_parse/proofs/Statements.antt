@@ -6,18 +6,18 @@ use Rattle.ctr_types.specs.declared.value.Value.{Value}
 use Rattle.ctr_types.specs.declared.statement.Statement.{Statement}
 use Rattle.ctr_types.specs.declared.statement.Statement.TheVariants as st
 use Rattle.ctr_types.specs.declared.statement.Line.{Line}
-use Rattle.ctr_model.specs.Grammar.{first, Part, key, name, sign, session, open_paren, close_paren, literals, schema_parts, statement_parts, AllMatch, IsAmount, IsSchema, IsWithin, Takes}
+use Rattle.ctr_model.specs.Grammar.{first, Part, key, name, sign, session, open_paren, close_paren, literals, schema_parts, statement_parts, AllMatch, IsAmount, IsSchema, IsWithin, FormTakes}
 use Rattle.ctr_parse.specs.declared.error.ParseError.{ParseError}
 use Rattle.ctr_parse.specs.declared.error.ParseError.TheVariants as error
 use Rattle.ctr_parse.specs.Lines.{IsLineOf}
-use Rattle.ctr_parse.specs.Reading.{◌>>=◌, chosen, Gives, after, name_at, values_at, schema_at, create_at, insert_at, select_at, statement_at, at_end, line_of}
+use Rattle.ctr_parse.specs.Reading.{◌>>=◌, or_else, Gives, after_token, name_at, values_at, schema_at, create_at, insert_at, select_at, statement_at, at_end, line_of}
 use Rattle.ctr_parse.proofs.Steps.{bound, chosen_is, stands, key_stands, sign_stands, first_stands, after_is, key_again, sign_again, Again, name_at_is, name_again}
 use Rattle.ctr_parse.proofs.Values.{values_are, values_again}
 use Rattle.ctr_parse.proofs.Columns.{schema_is, schema_again}
 
 -- this statement stands at the tokens
 record IsStatement (ts : List (List ℕ)) (s : Statement) (rest : List (List ℕ)) : Type 0 where
-  takes : Takes first 1 s
+  takes : FormTakes first 1 s
   within : IsWithin s
   stand : (ps : List Part) → AllMatch first ps rest → AllMatch first (statement_parts s ++ ps) ts
 
@@ -60,9 +60,9 @@ at_create ts n cs behind rest e is stand = record {
 create_is : (behind : List (List ℕ)) (s : Statement) (rest : List (List ℕ)) → create_at behind ≡ Some (s, rest) → IsBehind (codes "CREATE") behind s rest
 unfolding create_at
 create_is behind s rest h ts e =
-    let a = bound (after (codes "TABLE") behind) (λ r. name_at r >>= (λ n. after (codes "(") n.1 >>= (λ r. schema_at r >>= (λ cs. Some (st.Create n.0 (record { columns = cs.0 }), cs.1))))) (s, rest) h in
-    let b = bound (name_at a.0) (λ n. after (codes "(") n.1 >>= (λ r. schema_at r >>= (λ cs. Some (st.Create n.0 (record { columns = cs.0 }), cs.1)))) (s, rest) a.2 in
-    let d = bound (after (codes "(") b.0.1) (λ r. schema_at r >>= (λ cs. Some (st.Create b.0.0 (record { columns = cs.0 }), cs.1))) (s, rest) b.2 in
+    let a = bound (after_token (codes "TABLE") behind) (λ r. name_at r >>= (λ n. after_token (codes "(") n.1 >>= (λ r. schema_at r >>= (λ cs. Some (st.Create n.0 (record { columns = cs.0 }), cs.1))))) (s, rest) h in
+    let b = bound (name_at a.0) (λ n. after_token (codes "(") n.1 >>= (λ r. schema_at r >>= (λ cs. Some (st.Create n.0 (record { columns = cs.0 }), cs.1)))) (s, rest) a.2 in
+    let d = bound (after_token (codes "(") b.0.1) (λ r. schema_at r >>= (λ cs. Some (st.Create b.0.0 (record { columns = cs.0 }), cs.1))) (s, rest) b.2 in
     let f = bound (schema_at d.0) (λ cs. Some (st.Create b.0.0 (record { columns = cs.0 }), cs.1)) (s, rest) d.2 in
     let p = some_pair_parts (st.Create b.0.0 (record { columns = f.0.0 })) s f.0.1 rest f.2 in
     let n = name_at_is a.0 b.0.0 b.0.1 b.1 in
@@ -101,10 +101,10 @@ at_insert ts n vs behind rest e is stand = record {
 insert_is : (behind : List (List ℕ)) (s : Statement) (rest : List (List ℕ)) → insert_at behind ≡ Some (s, rest) → IsBehind (codes "INSERT") behind s rest
 unfolding insert_at
 insert_is behind s rest h ts e =
-    let a = bound (after (codes "INTO") behind) (λ r. name_at r >>= (λ n. after (codes "VALUES") n.1 >>= (λ r. after (codes "(") r >>= (λ r. values_at 8 r >>= (λ vs. Some (st.Insert n.0 vs.0, vs.1)))))) (s, rest) h in
-    let b = bound (name_at a.0) (λ n. after (codes "VALUES") n.1 >>= (λ r. after (codes "(") r >>= (λ r. values_at 8 r >>= (λ vs. Some (st.Insert n.0 vs.0, vs.1))))) (s, rest) a.2 in
-    let d = bound (after (codes "VALUES") b.0.1) (λ r. after (codes "(") r >>= (λ r. values_at 8 r >>= (λ vs. Some (st.Insert b.0.0 vs.0, vs.1)))) (s, rest) b.2 in
-    let f = bound (after (codes "(") d.0) (λ r. values_at 8 r >>= (λ vs. Some (st.Insert b.0.0 vs.0, vs.1))) (s, rest) d.2 in
+    let a = bound (after_token (codes "INTO") behind) (λ r. name_at r >>= (λ n. after_token (codes "VALUES") n.1 >>= (λ r. after_token (codes "(") r >>= (λ r. values_at 8 r >>= (λ vs. Some (st.Insert n.0 vs.0, vs.1)))))) (s, rest) h in
+    let b = bound (name_at a.0) (λ n. after_token (codes "VALUES") n.1 >>= (λ r. after_token (codes "(") r >>= (λ r. values_at 8 r >>= (λ vs. Some (st.Insert n.0 vs.0, vs.1))))) (s, rest) a.2 in
+    let d = bound (after_token (codes "VALUES") b.0.1) (λ r. after_token (codes "(") r >>= (λ r. values_at 8 r >>= (λ vs. Some (st.Insert b.0.0 vs.0, vs.1)))) (s, rest) b.2 in
+    let f = bound (after_token (codes "(") d.0) (λ r. values_at 8 r >>= (λ vs. Some (st.Insert b.0.0 vs.0, vs.1))) (s, rest) d.2 in
     let g = bound (values_at 8 f.0) (λ vs. Some (st.Insert b.0.0 vs.0, vs.1)) (s, rest) f.2 in
     let p = some_pair_parts (st.Insert b.0.0 g.0.0) s g.0.1 rest g.2 in
     let n = name_at_is a.0 b.0.0 b.0.1 b.1 in
@@ -141,8 +141,8 @@ at_select ts n behind rest e stand = record { takes = refl; within = tt; stand =
 select_is : (behind : List (List ℕ)) (s : Statement) (rest : List (List ℕ)) → select_at behind ≡ Some (s, rest) → IsBehind (codes "SELECT") behind s rest
 unfolding select_at
 select_is behind s rest h ts e =
-    let a = bound (after (codes "*") behind) (λ r. after (codes "FROM") r >>= (λ r. name_at r >>= (λ n. Some (st.Select n.0 None, n.1)))) (s, rest) h in
-    let b = bound (after (codes "FROM") a.0) (λ r. name_at r >>= (λ n. Some (st.Select n.0 None, n.1))) (s, rest) a.2 in
+    let a = bound (after_token (codes "*") behind) (λ r. after_token (codes "FROM") r >>= (λ r. name_at r >>= (λ n. Some (st.Select n.0 None, n.1)))) (s, rest) h in
+    let b = bound (after_token (codes "FROM") a.0) (λ r. name_at r >>= (λ n. Some (st.Select n.0 None, n.1))) (s, rest) a.2 in
     let d = bound (name_at b.0) (λ n. Some (st.Select n.0 None, n.1)) (s, rest) b.2 in
     let p = some_pair_parts (st.Select d.0.0 None) s d.0.1 rest d.2 in
     let n = name_at_is b.0 d.0.0 d.0.1 d.1 in
@@ -168,19 +168,19 @@ is_select behind = refl
 statement_is : (ts : List (List ℕ)) (s : Statement) (rest : List (List ℕ)) → statement_at ts ≡ Some (s, rest) → IsStatement ts s rest
 unfolding statement_at
 statement_is ts s rest h =
-    let o3 : Option (Statement × List (List ℕ)) = (after (codes "SELECT") ts >>= select_at) in
-    let o2 : Option (Statement × List (List ℕ)) = chosen (after (codes "INSERT") ts) insert_at o3 in
-    let o1 : Option (Statement × List (List ℕ)) = chosen (after (codes "CREATE") ts) create_at o2 in
-    let o0 : Option (Statement × List (List ℕ)) = chosen (after (codes "COMMIT") ts) (λ r. Some (st.Commit, r)) o1 in
-    elim (chosen_is (after (codes "BEGIN") ts) (λ r. Some (st.Begin, r)) o0 (s, rest) h) [
+    let o3 : Option (Statement × List (List ℕ)) = (after_token (codes "SELECT") ts >>= select_at) in
+    let o2 : Option (Statement × List (List ℕ)) = or_else (after_token (codes "INSERT") ts) insert_at o3 in
+    let o1 : Option (Statement × List (List ℕ)) = or_else (after_token (codes "CREATE") ts) create_at o2 in
+    let o0 : Option (Statement × List (List ℕ)) = or_else (after_token (codes "COMMIT") ts) (λ r. Some (st.Commit, r)) o1 in
+    elim (chosen_is (after_token (codes "BEGIN") ts) (λ r. Some (st.Begin, r)) o0 (s, rest) h) [
       | inl a ↦ begin_is a.0 s rest a.2 ts (after_is (codes "BEGIN") ts a.0 a.1)
-      | inr h0 ↦ elim (chosen_is (after (codes "COMMIT") ts) (λ r. Some (st.Commit, r)) o1 (s, rest) h0.1) [
+      | inr h0 ↦ elim (chosen_is (after_token (codes "COMMIT") ts) (λ r. Some (st.Commit, r)) o1 (s, rest) h0.1) [
         | inl a ↦ commit_is a.0 s rest a.2 ts (after_is (codes "COMMIT") ts a.0 a.1)
-        | inr h1 ↦ elim (chosen_is (after (codes "CREATE") ts) create_at o2 (s, rest) h1.1) [
+        | inr h1 ↦ elim (chosen_is (after_token (codes "CREATE") ts) create_at o2 (s, rest) h1.1) [
           | inl a ↦ create_is a.0 s rest a.2 ts (after_is (codes "CREATE") ts a.0 a.1)
-          | inr h2 ↦ elim (chosen_is (after (codes "INSERT") ts) insert_at o3 (s, rest) h2.1) [
+          | inr h2 ↦ elim (chosen_is (after_token (codes "INSERT") ts) insert_at o3 (s, rest) h2.1) [
             | inl a ↦ insert_is a.0 s rest a.2 ts (after_is (codes "INSERT") ts a.0 a.1)
-            | inr h3 ↦ (let b = bound (after (codes "SELECT") ts) select_at (s, rest) h3.1 in select_is b.0 s rest b.2 ts (after_is (codes "SELECT") ts b.0 b.1))
+            | inr h3 ↦ (let b = bound (after_token (codes "SELECT") ts) select_at (s, rest) h3.1 in select_is b.0 s rest b.2 ts (after_is (codes "SELECT") ts b.0 b.1))
           ]
         ]
       ]
@@ -190,7 +190,7 @@ statement_is ts s rest h =
 behind_key : (k : List ℕ) (ps : List Part) (ts : List (List ℕ)) → AllMatch first (key k ∷ ps) ts → (behind : List (List ℕ)) × (ts ≡ k ∷ behind) × AllMatch first ps behind
 behind_key k ps ts h = let f = first_stands (key k) ps ts h in (f.1, f.2 ∙ ap (λ t. t ∷ f.1) f.3, f.4)
 
-statement_again : (n : ℕ) (s : Statement) (ps : List Part) (ts : List (List ℕ)) → Takes first n s → IsWithin s → AllMatch first (statement_parts s ++ ps) ts → Again s ps (statement_at ts)
+statement_again : (n : ℕ) (s : Statement) (ps : List Part) (ts : List (List ℕ)) → FormTakes first n s → IsWithin s → AllMatch first (statement_parts s ++ ps) ts → Again s ps (statement_at ts)
 statement_again n st.Begin ps ts takes within h =
     let b = behind_key (codes "BEGIN") ps ts h in (b.0, ap statement_at b.1 ∙ begin_again b.0, b.2)
 statement_again n st.Commit ps ts takes within h =
@@ -219,7 +219,7 @@ statement_again n (st.Delete table at) ps ts takes within h = absurd takes
 
 -- ---- lines
 
-one_session : (n : ℕ) (s : Statement) → Takes first n s → n ≡ 1
+one_session : (n : ℕ) (s : Statement) → FormTakes first n s → n ≡ 1
 one_session n st.Begin h = h
 one_session n st.Commit h = h
 one_session n st.Rollback h = absurd h
@@ -238,10 +238,10 @@ at_end_is (t ∷ ts) s l h = cc
 pub line_is : (ts : List (List ℕ)) (l : Line) → line_of ts ≡ Some l → IsLineOf ts l
 unfolding line_of
 line_is ts l h =
-    let a = bound (after (codes "1") ts) (λ r. after (codes ">") r >>= (λ r. statement_at r >>= (λ s. after (codes ";") s.1 >>= (λ end. at_end end s.0)))) l h in
-    let b = bound (after (codes ">") a.0) (λ r. statement_at r >>= (λ s. after (codes ";") s.1 >>= (λ end. at_end end s.0))) l a.2 in
-    let d = bound (statement_at b.0) (λ s. after (codes ";") s.1 >>= (λ end. at_end end s.0)) l b.2 in
-    let e = bound (after (codes ";") d.0.1) (λ end. at_end end d.0.0) l d.2 in
+    let a = bound (after_token (codes "1") ts) (λ r. after_token (codes ">") r >>= (λ r. statement_at r >>= (λ s. after_token (codes ";") s.1 >>= (λ end. at_end end s.0)))) l h in
+    let b = bound (after_token (codes ">") a.0) (λ r. statement_at r >>= (λ s. after_token (codes ";") s.1 >>= (λ end. at_end end s.0))) l a.2 in
+    let d = bound (statement_at b.0) (λ s. after_token (codes ";") s.1 >>= (λ end. at_end end s.0)) l b.2 in
+    let e = bound (after_token (codes ";") d.0.1) (λ end. at_end end d.0.0) l d.2 in
     let f = at_end_is e.0 d.0.0 l e.2 in
     let is = statement_is b.0 d.0.0 d.0.1 d.1 in
     let end : d.0.1 ≡ codes ";" ∷ [] = after_is (codes ";") d.0.1 e.0 e.1 ∙ ap (λ us. codes ";" ∷ us) f.0 in
@@ -260,7 +260,7 @@ in_session : (n : ℕ) (s : Statement) (ts : List (List ℕ)) → n ≡ 1 → Al
     → AllMatch first (session 1 ∷ sign 62 ∷ (statement_parts s ++ sign 59 ∷ [])) ts
 in_session n s ts e h = subst (λ m. AllMatch first (session m ∷ sign 62 ∷ (statement_parts s ++ sign 59 ∷ [])) ts) e h
 
-by_steps : (ts r1 r2 r3 : List (List ℕ)) (s : Statement) → ts ≡ codes "1" ∷ r1 → after (codes ">") r1 ≡ Some r2 → statement_at r2 ≡ Some (s, r3) → after (codes ";") r3 ≡ Some [] → line_of ts ≡ Some (record { session = 1; statement = s })
+by_steps : (ts r1 r2 r3 : List (List ℕ)) (s : Statement) → ts ≡ codes "1" ∷ r1 → after_token (codes ">") r1 ≡ Some r2 → statement_at r2 ≡ Some (s, r3) → after_token (codes ";") r3 ≡ Some [] → line_of ts ≡ Some (record { session = 1; statement = s })
 unfolding line_of
 by_steps ts r1 r2 r3 s e a b d = rw (e, a, b, d) refl
 
@@ -272,7 +272,7 @@ line_again ts l is =
     let b = sign_again 62 (statement_parts s ++ sign 59 ∷ []) f.1 f.4 in
     let d = statement_again l.session s (sign 59 ∷ []) b.0 is.takes is.within b.2 in
     let e = sign_again 59 [] d.0 d.2 in
-    let end : after (codes ";") d.0 ≡ Some [] = e.1 ∙ ap (λ us. Some us) (nothing e.0 e.2) in
+    let end : after_token (codes ";") d.0 ≡ Some [] = e.1 ∙ ap (λ us. Some us) (nothing e.0 e.2) in
     by_steps ts f.1 b.0 d.0 s (f.2 ∙ ap (λ t. t ∷ f.1) f.3) b.1 d.1 end ∙ ap (λ n. Some (record { session = n; statement = s })) (sym one)
 
 -- ---- what parsing gives

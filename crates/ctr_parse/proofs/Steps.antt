@@ -4,8 +4,8 @@ use Rattle.std.specs.Prelude.{if◌then◌else◌}
 use Rattle.std.proofs.lemmas.Option.{some_pair_parts}
 use Rattle.ctr_model.specs.State.{same_name}
 use Rattle.ctr_model.specs.Grammar.{first, Part, key, name, int, text, sign, Matches, AllMatch, IsNameSpelled}
-use Rattle.ctr_parse.specs.Spelled.{is_name, int_of, text_of}
-use Rattle.ctr_parse.specs.Reading.{◌>>=◌, chosen, after, name_at, int_at, text_at}
+use Rattle.ctr_parse.specs.Spelled.{is_name, int_of, text_spelled}
+use Rattle.ctr_parse.specs.Reading.{◌>>=◌, or_else, after_token, name_at, int_at, text_at}
 use Rattle.ctr_parse.proofs.Spellings.{same_Decides, name_is, name_from, int_is, int_from, text_is, text_from}
 
 -- ---- steps
@@ -14,7 +14,7 @@ pub bound : {A B : Type 0} (o : Option A) (f : A → Option B) (y : B) → (o >>
 bound None f y h = cc
 bound (Some x) f y h = (x, refl, h)
 
-pub chosen_is : {A B : Type 0} (o : Option A) (f : A → Option B) (other : Option B) (y : B) → chosen o f other ≡ Some y
+pub chosen_is : {A B : Type 0} (o : Option A) (f : A → Option B) (other : Option B) (y : B) → or_else o f other ≡ Some y
     → ((x : A) × (o ≡ Some x) × (f x ≡ Some y)) ⊎ ((o ≡ None) × (other ≡ Some y))
 chosen_is None f other y h = inr (refl, h)
 chosen_is (Some x) f other y h = inl (x, refl, h)
@@ -42,11 +42,11 @@ first_stands p ps (t ∷ ts) h = (t, ts, refl, h.0, h.1)
 
 -- ---- one token
 
-pub after_is : (w : List ℕ) (ts rest : List (List ℕ)) → after w ts ≡ Some rest → ts ≡ w ∷ rest
+pub after_is : (w : List ℕ) (ts rest : List (List ℕ)) → after_token w ts ≡ Some rest → ts ≡ w ∷ rest
 after_is w [] rest h = cc
 after_is w (t ∷ ts) rest h = let p = passed (same_name t w) (Some ts) rest h in let e = (same_Decides t w).0 p.0 in cc
 
-pub after_same : (w : List ℕ) (rest : List (List ℕ)) → after w (w ∷ rest) ≡ Some rest
+pub after_same : (w : List ℕ) (rest : List (List ℕ)) → after_token w (w ∷ rest) ≡ Some rest
 after_same w rest = let e = (same_Decides w w).1 refl in rw e refl
 
 -- what stands at a place is read, and the rest stands at the rest
@@ -56,11 +56,11 @@ Again x ps read = (rest : List (List ℕ)) × (read ≡ Some (x, rest)) × AllMa
 abbrev pub AgainBehind : List Part → Option (List (List ℕ)) → Type 0
 AgainBehind ps read = (rest : List (List ℕ)) × (read ≡ Some rest) × AllMatch first ps rest
 
-pub key_again : (k : List ℕ) (ps : List Part) (ts : List (List ℕ)) → AllMatch first (key k ∷ ps) ts → AgainBehind ps (after k ts)
-key_again k ps ts h = let f = first_stands (key k) ps ts h in (f.1, ap (after k) (f.2 ∙ ap (λ t. t ∷ f.1) f.3) ∙ after_same k f.1, f.4)
+pub key_again : (k : List ℕ) (ps : List Part) (ts : List (List ℕ)) → AllMatch first (key k ∷ ps) ts → AgainBehind ps (after_token k ts)
+key_again k ps ts h = let f = first_stands (key k) ps ts h in (f.1, ap (after_token k) (f.2 ∙ ap (λ t. t ∷ f.1) f.3) ∙ after_same k f.1, f.4)
 
-pub sign_again : (c : ℕ) (ps : List Part) (ts : List (List ℕ)) → AllMatch first (sign c ∷ ps) ts → AgainBehind ps (after (c ∷ []) ts)
-sign_again c ps ts h = let f = first_stands (sign c) ps ts h in (f.1, ap (after (c ∷ [])) (f.2 ∙ ap (λ t. t ∷ f.1) f.3) ∙ after_same (c ∷ []) f.1, f.4)
+pub sign_again : (c : ℕ) (ps : List Part) (ts : List (List ℕ)) → AllMatch first (sign c ∷ ps) ts → AgainBehind ps (after_token (c ∷ []) ts)
+sign_again c ps ts h = let f = first_stands (sign c) ps ts h in (f.1, ap (after_token (c ∷ [])) (f.2 ∙ ap (λ t. t ∷ f.1) f.3) ∙ after_same (c ∷ []) f.1, f.4)
 
 pub name_at_is : (ts : List (List ℕ)) (n : List ℕ) (rest : List (List ℕ)) → name_at ts ≡ Some (n, rest) → (ts ≡ n ∷ rest) × IsNameSpelled n
 name_at_is [] n rest h = cc
@@ -93,7 +93,7 @@ int_again z ps ts h =
 pub text_at_is : (ts : List (List ℕ)) (x : List ℕ) (rest : List (List ℕ)) → text_at ts ≡ Some (x, rest) → (t : List ℕ) × (ts ≡ t ∷ rest) × Matches first (text x) t
 text_at_is [] x rest h = cc
 text_at_is (t ∷ ts) x rest h =
-    let b = bound (text_of t) (λ n. Some (n, ts)) (x, rest) h in
+    let b = bound (text_spelled t) (λ n. Some (n, ts)) (x, rest) h in
     let e = some_pair_parts b.0 x ts rest b.2 in
     (t, ap (λ us. t ∷ us) e.1, text_is t x (b.1 ∙ ap (λ n. Some n) e.0))
 

@@ -5,7 +5,7 @@ use Rattle.std.proofs.lemmas.Option.{some_pair_parts}
 use Rattle.ctr_types.specs.declared.value.Value.{Value}
 use Rattle.ctr_types.specs.declared.value.Value.TheVariants as value
 use Rattle.ctr_model.specs.Grammar.{first, Part, sign, text, literal, literals, comma, close_paren, Matches, AllMatch}
-use Rattle.ctr_parse.specs.Reading.{◌>>=◌, chosen, after, int_at, text_at, value_at, separator_at, with_front, values_at}
+use Rattle.ctr_parse.specs.Reading.{◌>>=◌, or_else, after_token, int_at, text_at, value_at, separator_at, with_front, values_at}
 use Rattle.ctr_parse.proofs.Spellings.{no_int}
 use Rattle.ctr_parse.proofs.Steps.{bound, chosen_is, stands, sign_stands, first_stands, after_is, Again, int_at_is, int_again, text_at_is, text_again}
 
@@ -38,7 +38,7 @@ pub value_again : (v : Value) (ps : List Part) (ts : List (List ℕ)) → AllMat
 unfolding value_at
 value_again (value.Int n) ps ts h =
     let i = int_again n ps ts h in
-    (i.0, ap (λ o. chosen o (λ n. Some (value.Int n.0, n.1)) (text_at ts >>= (λ t. Some (value.Chars t.0, t.1)))) i.1, i.2)
+    (i.0, ap (λ o. or_else o (λ n. Some (value.Int n.0, n.1)) (text_at ts >>= (λ t. Some (value.Chars t.0, t.1)))) i.1, i.2)
 value_again (value.Chars x) ps ts h =
     let f = first_stands (text x) ps ts h in
     let i = text_again x ps ts h in
@@ -63,10 +63,10 @@ IsSeparated ts false rest = ts ≡ codes ")" ∷ rest
 pub separator_is : (ts : List (List ℕ)) (more : Bool) (rest : List (List ℕ)) → separator_at ts ≡ Some (more, rest) → IsSeparated ts more rest
 unfolding separator_at
 separator_is ts more rest h =
-    let on : Option (Bool × List (List ℕ)) = (after (codes ",") ts >>= (λ r. Some (true, r))) in
-    elim (chosen_is (after (codes ")") ts) (λ r. Some (false, r)) on (more, rest) h) [
+    let on : Option (Bool × List (List ℕ)) = (after_token (codes ",") ts >>= (λ r. Some (true, r))) in
+    elim (chosen_is (after_token (codes ")") ts) (λ r. Some (false, r)) on (more, rest) h) [
       | inl a ↦ (let e = some_pair_parts false more a.0 rest a.2 in subst (λ b. IsSeparated ts b rest) e.0 (after_is (codes ")") ts a.0 a.1 ∙ ap (λ us. codes ")" ∷ us) e.1))
-      | inr a ↦ (let b = bound (after (codes ",") ts) (λ r. Some (true, r)) (more, rest) a.1 in let e = some_pair_parts true more b.0 rest b.2 in subst (λ b. IsSeparated ts b rest) e.0 (after_is (codes ",") ts b.0 b.1 ∙ ap (λ us. codes "," ∷ us) e.1))
+      | inr a ↦ (let b = bound (after_token (codes ",") ts) (λ r. Some (true, r)) (more, rest) a.1 in let e = some_pair_parts true more b.0 rest b.2 in subst (λ b. IsSeparated ts b rest) e.0 (after_is (codes ",") ts b.0 b.1 ∙ ap (λ us. codes "," ∷ us) e.1))
     ]
 
 pub with_front_is : {A : Type 0} (front : List A) (o : Option (List A × List (List ℕ))) (all : List A) (rest : List (List ℕ)) → with_front front o ≡ Some (all, rest)

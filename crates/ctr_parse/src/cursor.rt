@@ -1,7 +1,7 @@
 // A place between two tokens. Each function says what it read and what follows it.
 ghost use Rattle.std.specs.Prelude.{◌≡◌, ◌∷◌, [], MatchOption};
 ghost use Rattle.ctr_lex.specs.Tokens.{texts_of as texts};
-ghost use Rattle.ctr_parse.specs.Reading.{GivesSome, after as behind, separator_at};
+ghost use Rattle.ctr_parse.specs.Reading.{GivesSome, after_token, separator_at};
 
 use ctr_lex::Token;
 
@@ -15,7 +15,7 @@ pub fn next<'a>(tokens: &'a [Token<'a>]) -> Option<(&'a [u8], &'a [Token<'a>])>
 
 /// What follows a token of these bytes.
 pub fn after<'a>(tokens: &'a [Token<'a>], bytes: &[u8]) -> Option<&'a [Token<'a>]>
-    ensures { GivesSome (λ rest. texts rest.now) result (behind bytes.now (texts tokens.now)) }
+    ensures { GivesSome (λ rest. texts rest.now) result (after_token bytes.now (texts tokens.now)) }
 {
     let (first, rest) = next(tokens)?;
     if first == bytes { Some(rest) } else { None }

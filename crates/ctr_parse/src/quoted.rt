@@ -2,7 +2,7 @@
 ghost use Rattle.std.specs.Prelude.{◌≡◌, ◌∷◌, List, ℕ, false, None, IfOk, IfErr};
 ghost use Rattle.ctr_parse.specs.declared.error.ParseError.TheVariants.{Refused};
 ghost use Rattle.ctr_lex.specs.Tokens.{texts_of as texts};
-ghost use Rattle.ctr_parse.specs.Spelled.{with_bytes, unquoted as text_behind, text_of as text_spelled};
+ghost use Rattle.ctr_parse.specs.Spelled.{with_bytes, unquoted as text_behind, text_spelled};
 ghost use Rattle.ctr_parse.specs.Reading.{Gives, text_at};
 
 use crate::ParseError;
@@ -52,7 +52,7 @@ fn unquoted(alloc: Global, bytes: &[u8]) -> Result<Text, ParseError>
 }
 
 /// The text that a token spells: printable ASCII between quotes, each quote in it doubled.
-#[tactic(auto, unfolding(crate::specs::Spelled::text_of))]
+#[tactic(auto, unfolding(crate::specs::Spelled::text_spelled))]
 pub fn text_of(alloc: Global, token: &[u8]) -> Result<Text, ParseError>
     ensures { Gives (λ text. text) result (text_spelled token.now) }
 {

@@ -3,13 +3,13 @@ use Rattle.std.proofs.Common.{◌≡◌, ◌≢◌, ℕ, zero, suc, ◌+◌, ◌
 use Rattle.std.specs.Int.{w64, cast_signed}
 use Rattle.std.proofs.lemmas.Bool.{ltb-true, eqb-false}
 use Rattle.ctr_bytes.specs.Fields.{field}
-use Rattle.ctr_rec.specs.declared.records.Item.{Item}
-use Rattle.ctr_rec.specs.declared.records.Item.TheVariants.{Put, Remove, Create, Drop}
-use Rattle.ctr_rec.specs.declared.records.BadRecord.{BadRecord}
-use Rattle.ctr_rec.specs.declared.records.RecordError.{RecordError}
-use Rattle.ctr_rec.specs.declared.records.RecordError.TheVariants as errors
+use Rattle.ctr_rec.specs.declared.item.Item.{Item}
+use Rattle.ctr_rec.specs.declared.item.Item.TheVariants.{Put, Remove, Create, Drop}
+use Rattle.ctr_rec.specs.declared.decoding.BadRecord.{BadRecord}
+use Rattle.ctr_rec.specs.declared.decoding.RecordError.{RecordError}
+use Rattle.ctr_rec.specs.declared.decoding.RecordError.TheVariants as errors
 use Rattle.std.specs.Prelude.{IfErr}
-use Rattle.ctr_rec.specs.Records.{◌>>=◌, Gives, Refuses, short, wrong, with_front, bytes_at, number_at, byte_at, tag_at, name_at, kind_of, column_at, many, text_column_at, schema_at, key_at, payload_at, put_at, remove_at, create_at, body_at, least_body, item_at, next_item_at, all_of}
+use Rattle.ctr_rec.specs.Decode.{◌>>=◌, Decodes, IsNoRecord, short, wrong, with_earlier, decode_bytes, decode_number, decode_byte, decode_tag, decode_name, kind_numbered, decode_column, many, decode_text_column, decode_schema, decode_key, decode_payload, decode_put, decode_remove, decode_create, decode_body, least_body, decode_item, decode_next_item, decode_all}
 use Rattle.ctr_bytes.proofs.FieldLaws.{AreBytes}
 use Rattle.ctr_rec.proofs.RecordLaws.{tag_takes}
 use Rattle.ctr_rec.proofs.ItemLaws.{all_again}
@@ -30,35 +30,35 @@ fair_both : {A : Type 0} (b : Bool) (r s : Result A BadRecord) → Fair r → Fa
 fair_both true r s p q = p
 fair_both false r s p q = q
 
-bytes_fair : (n after whole : ℕ) (bytes : List ℕ) → Fair (bytes_at n after whole bytes)
+bytes_fair : (n after whole : ℕ) (bytes : List ℕ) → Fair (decode_bytes n after whole bytes)
 bytes_fair n after whole bytes = fair_if (ltb (length bytes) n) (short n after whole bytes) (Ok (take n bytes, drop n bytes)) (λ e same. omega (arith, ltb-true _ _ e, same)) 0
 
-number_fair : (n after whole : ℕ) (bytes : List ℕ) → Fair (number_at n after whole bytes)
-unfolding number_at
-number_fair n after whole bytes = fair_bind (bytes_at n after whole bytes) (λ b. Ok (field n 0 b.0, b.1)) (bytes_fair n after whole bytes) (λ b e. 0)
+number_fair : (n after whole : ℕ) (bytes : List ℕ) → Fair (decode_number n after whole bytes)
+unfolding decode_number
+number_fair n after whole bytes = fair_bind (decode_bytes n after whole bytes) (λ b. Ok (field n 0 b.0, b.1)) (bytes_fair n after whole bytes) (λ b e. 0)
 
-byte_fair : (low under high after whole : ℕ) (bytes : List ℕ) → low ≤ under → Fair (byte_at low under high after whole bytes)
-unfolding byte_at
+byte_fair : (low under high after whole : ℕ) (bytes : List ℕ) → low ≤ under → Fair (decode_byte low under high after whole bytes)
+unfolding decode_byte
 byte_fair low under high after whole bytes le =
-    fair_bind (number_at 1 after whole bytes) (λ b. cond (ltb b.0 low) (Err (wrong (whole - length bytes) under b.0)) (cond (ltb high b.0) (Err (wrong (whole - length bytes) high b.0)) (Ok (b.0, b.1)))) (number_fair 1 after whole bytes)
+    fair_bind (decode_number 1 after whole bytes) (λ b. cond (ltb b.0 low) (Err (wrong (whole - length bytes) under b.0)) (cond (ltb high b.0) (Err (wrong (whole - length bytes) high b.0)) (Ok (b.0, b.1)))) (number_fair 1 after whole bytes)
     (λ b e. fair_if (ltb b.0 low) (wrong (whole - length bytes) under b.0) (cond (ltb high b.0) (Err (wrong (whole - length bytes) high b.0)) (Ok (b.0, b.1))) (λ t same. omega (arith, ltb-true _ _ t, same, le))
     (fair_if (ltb high b.0) (wrong (whole - length bytes) high b.0) (Ok (b.0, b.1)) (λ t same. omega (arith, ltb-true _ _ t, same)) 0))
 
-tag_fair : (whole : ℕ) (bytes : List ℕ) → Fair (tag_at whole bytes)
-unfolding tag_at
-tag_fair whole bytes = fair_if (eqb (length bytes) 0) (wrong 0 32 0) (byte_at 32 32 32 5 whole bytes) (λ e same. omega (arith, same)) (byte_fair 32 32 32 5 whole bytes (omega arith))
+tag_fair : (whole : ℕ) (bytes : List ℕ) → Fair (decode_tag whole bytes)
+unfolding decode_tag
+tag_fair whole bytes = fair_if (eqb (length bytes) 0) (wrong 0 32 0) (decode_byte 32 32 32 5 whole bytes) (λ e same. omega (arith, same)) (byte_fair 32 32 32 5 whole bytes (omega arith))
 
-name_fair : (after whole : ℕ) (bytes : List ℕ) → Fair (name_at after whole bytes)
-unfolding name_at
+name_fair : (after whole : ℕ) (bytes : List ℕ) → Fair (decode_name after whole bytes)
+unfolding decode_name
 name_fair after whole bytes =
-    fair_bind (byte_at 1 1 16 (1 + after) whole bytes) (λ len. bytes_at len.0 after whole len.1) (byte_fair 1 1 16 (1 + after) whole bytes (omega arith)) (λ len e. bytes_fair len.0 after whole len.1)
+    fair_bind (decode_byte 1 1 16 (1 + after) whole bytes) (λ len. decode_bytes len.0 after whole len.1) (byte_fair 1 1 16 (1 + after) whole bytes (omega arith)) (λ len e. bytes_fair len.0 after whole len.1)
 
-column_fair : (most after whole : ℕ) (bytes : List ℕ) → Fair (column_at most after whole bytes)
-unfolding column_at
+column_fair : (most after whole : ℕ) (bytes : List ℕ) → Fair (decode_column most after whole bytes)
+unfolding decode_column
 column_fair most after whole bytes =
-    fair_bind (byte_at 1 1 16 (17 + after) whole bytes) (λ len. bytes_at 16 (1 + after) whole len.1 >>= λ room. byte_at 0 0 most after whole room.1 >>= λ k. Ok (record { name = take len.0 room.0; kind = kind_of k.0 }, k.1)) (byte_fair 1 1 16 (17 + after) whole bytes (omega arith))
-    (λ len e. fair_bind (bytes_at 16 (1 + after) whole len.1) (λ room. byte_at 0 0 most after whole room.1 >>= λ k. Ok (record { name = take len.0 room.0; kind = kind_of k.0 }, k.1)) (bytes_fair 16 (1 + after) whole len.1)
-    (λ room f. fair_bind (byte_at 0 0 most after whole room.1) (λ k. Ok (record { name = take len.0 room.0; kind = kind_of k.0 }, k.1)) (byte_fair 0 0 most after whole room.1 (omega arith)) (λ k g. 0)))
+    fair_bind (decode_byte 1 1 16 (17 + after) whole bytes) (λ len. decode_bytes 16 (1 + after) whole len.1 >>= λ room. decode_byte 0 0 most after whole room.1 >>= λ k. Ok (record { name = take len.0 room.0; kind = kind_numbered k.0 }, k.1)) (byte_fair 1 1 16 (17 + after) whole bytes (omega arith))
+    (λ len e. fair_bind (decode_bytes 16 (1 + after) whole len.1) (λ room. decode_byte 0 0 most after whole room.1 >>= λ k. Ok (record { name = take len.0 room.0; kind = kind_numbered k.0 }, k.1)) (bytes_fair 16 (1 + after) whole len.1)
+    (λ room f. fair_bind (decode_byte 0 0 most after whole room.1) (λ k. Ok (record { name = take len.0 room.0; kind = kind_numbered k.0 }, k.1)) (byte_fair 0 0 most after whole room.1 (omega arith)) (λ k g. 0)))
 
 many_fair : {A : Type 0} (one : ℕ → List ℕ → Result (A × List ℕ) BadRecord) → ((left : ℕ) (bytes : List ℕ) → Fair (one left bytes)) → (n : ℕ) (bytes : List ℕ) → Fair (many one n bytes)
 unfolding many
@@ -67,36 +67,36 @@ many_fair one law (suc n) bytes =
     fair_bind (one n bytes) (λ first. many one n first.1 >>= λ others. Ok (first.0 ∷ others.0, others.1)) (law n bytes)
     (λ first e. fair_bind (many one n first.1) (λ others. Ok (first.0 ∷ others.0, others.1)) (many_fair one law n first.1) (λ others f. 0))
 
-schema_fair : (after whole : ℕ) (bytes : List ℕ) → Fair (schema_at after whole bytes)
-unfolding schema_at
+schema_fair : (after whole : ℕ) (bytes : List ℕ) → Fair (decode_schema after whole bytes)
+unfolding decode_schema
 schema_fair after whole bytes =
-    fair_bind (byte_at 1 1 8 (18 + after) whole bytes) (λ n. column_at 0 (18 * (n.0 - 1) + after) whole n.1 >>= λ first. with_front (first.0 ∷ []) (many (text_column_at after whole) (n.0 - 1) first.1) >>= λ columns. Ok (record { columns = columns.0 }, columns.1)) (byte_fair 1 1 8 (18 + after) whole bytes (omega arith))
-    (λ n e. fair_bind (column_at 0 (18 * (n.0 - 1) + after) whole n.1) (λ first. with_front (first.0 ∷ []) (many (text_column_at after whole) (n.0 - 1) first.1) >>= λ columns. Ok (record { columns = columns.0 }, columns.1)) (column_fair 0 (18 * (n.0 - 1) + after) whole n.1)
-    (λ first f. fair_bind (with_front (first.0 ∷ []) (many (text_column_at after whole) (n.0 - 1) first.1)) (λ columns. Ok (record { columns = columns.0 }, columns.1))
-    (fair_bind (many (text_column_at after whole) (n.0 - 1) first.1) (λ others. Ok (first.0 ∷ others.0, others.1)) (many_fair (text_column_at after whole) (λ left. column_fair 64 (18 * left + after) whole) (n.0 - 1) first.1) (λ others g. 0)) (λ columns g. 0)))
+    fair_bind (decode_byte 1 1 8 (18 + after) whole bytes) (λ n. decode_column 0 (18 * (n.0 - 1) + after) whole n.1 >>= λ first. with_earlier (first.0 ∷ []) (many (decode_text_column after whole) (n.0 - 1) first.1) >>= λ columns. Ok (record { columns = columns.0 }, columns.1)) (byte_fair 1 1 8 (18 + after) whole bytes (omega arith))
+    (λ n e. fair_bind (decode_column 0 (18 * (n.0 - 1) + after) whole n.1) (λ first. with_earlier (first.0 ∷ []) (many (decode_text_column after whole) (n.0 - 1) first.1) >>= λ columns. Ok (record { columns = columns.0 }, columns.1)) (column_fair 0 (18 * (n.0 - 1) + after) whole n.1)
+    (λ first f. fair_bind (with_earlier (first.0 ∷ []) (many (decode_text_column after whole) (n.0 - 1) first.1)) (λ columns. Ok (record { columns = columns.0 }, columns.1))
+    (fair_bind (many (decode_text_column after whole) (n.0 - 1) first.1) (λ others. Ok (first.0 ∷ others.0, others.1)) (many_fair (decode_text_column after whole) (λ left. column_fair 64 (18 * left + after) whole) (n.0 - 1) first.1) (λ others g. 0)) (λ columns g. 0)))
 
-key_fair : (after whole : ℕ) (bytes : List ℕ) → Fair (key_at after whole bytes)
-unfolding key_at
-key_fair after whole bytes = fair_bind (bytes_at 8 after whole bytes) (λ b. Ok (cast_signed w64 (field 8 0 b.0), b.1)) (bytes_fair 8 after whole bytes) (λ b e. 0)
+key_fair : (after whole : ℕ) (bytes : List ℕ) → Fair (decode_key after whole bytes)
+unfolding decode_key
+key_fair after whole bytes = fair_bind (decode_bytes 8 after whole bytes) (λ b. Ok (cast_signed w64 (field 8 0 b.0), b.1)) (bytes_fair 8 after whole bytes) (λ b e. 0)
 
-payload_fair : (after whole : ℕ) (bytes : List ℕ) → Fair (payload_at after whole bytes)
-unfolding payload_at
-payload_fair after whole bytes = fair_bind (number_at 2 after whole bytes) (λ n. bytes_at n.0 after whole n.1) (number_fair 2 after whole bytes) (λ n e. bytes_fair n.0 after whole n.1)
+payload_fair : (after whole : ℕ) (bytes : List ℕ) → Fair (decode_payload after whole bytes)
+unfolding decode_payload
+payload_fair after whole bytes = fair_bind (decode_number 2 after whole bytes) (λ n. decode_bytes n.0 after whole n.1) (number_fair 2 after whole bytes) (λ n e. bytes_fair n.0 after whole n.1)
 
-body_fair : (number : ℕ) (t : List ℕ) (after whole : ℕ) (bytes : List ℕ) → Fair (body_at number t after whole bytes)
-unfolding body_at put_at remove_at create_at
+body_fair : (number : ℕ) (t : List ℕ) (after whole : ℕ) (bytes : List ℕ) → Fair (decode_body number t after whole bytes)
+unfolding decode_body decode_put decode_remove decode_create
 body_fair number t after whole bytes =
-    fair_both (eqb number 1) (put_at t after whole bytes) (cond (eqb number 2) (remove_at t after whole bytes) (cond (eqb number 3) (create_at t after whole bytes) (Ok (Drop t, bytes))))
-    (fair_bind (key_at (2 + after) whole bytes) (λ k. payload_at after whole k.1 >>= λ p. Ok (Put t k.0 p.0, p.1)) (key_fair (2 + after) whole bytes) (λ k e. fair_bind (payload_at after whole k.1) (λ p. Ok (Put t k.0 p.0, p.1)) (payload_fair after whole k.1) (λ p f. 0)))
-    (fair_both (eqb number 2) (remove_at t after whole bytes) (cond (eqb number 3) (create_at t after whole bytes) (Ok (Drop t, bytes)))
-    (fair_bind (key_at after whole bytes) (λ k. Ok (Remove t k.0, k.1)) (key_fair after whole bytes) (λ k e. 0))
-    (fair_both (eqb number 3) (create_at t after whole bytes) (Ok (Drop t, bytes)) (fair_bind (schema_at after whole bytes) (λ s. Ok (Create t s.0, s.1)) (schema_fair after whole bytes) (λ s e. 0)) 0))
+    fair_both (eqb number 1) (decode_put t after whole bytes) (cond (eqb number 2) (decode_remove t after whole bytes) (cond (eqb number 3) (decode_create t after whole bytes) (Ok (Drop t, bytes))))
+    (fair_bind (decode_key (2 + after) whole bytes) (λ k. decode_payload after whole k.1 >>= λ p. Ok (Put t k.0 p.0, p.1)) (key_fair (2 + after) whole bytes) (λ k e. fair_bind (decode_payload after whole k.1) (λ p. Ok (Put t k.0 p.0, p.1)) (payload_fair after whole k.1) (λ p f. 0)))
+    (fair_both (eqb number 2) (decode_remove t after whole bytes) (cond (eqb number 3) (decode_create t after whole bytes) (Ok (Drop t, bytes)))
+    (fair_bind (decode_key after whole bytes) (λ k. Ok (Remove t k.0, k.1)) (key_fair after whole bytes) (λ k e. 0))
+    (fair_both (eqb number 3) (decode_create t after whole bytes) (Ok (Drop t, bytes)) (fair_bind (decode_schema after whole bytes) (λ s. Ok (Create t s.0, s.1)) (schema_fair after whole bytes) (λ s e. 0)) 0))
 
-item_fair : (after whole : ℕ) (bytes : List ℕ) → Fair (item_at after whole bytes)
-unfolding item_at
+item_fair : (after whole : ℕ) (bytes : List ℕ) → Fair (decode_item after whole bytes)
+unfolding decode_item
 item_fair after whole bytes =
-    fair_bind (byte_at 1 4 4 (2 + after) whole bytes) (λ number. name_at (least_body number.0 + after) whole number.1 >>= λ t. body_at number.0 t.0 after whole t.1) (byte_fair 1 4 4 (2 + after) whole bytes (omega arith))
-    (λ number e. fair_bind (name_at (least_body number.0 + after) whole number.1) (λ t. body_at number.0 t.0 after whole t.1) (name_fair (least_body number.0 + after) whole number.1) (λ t f. body_fair number.0 t.0 after whole t.1))
+    fair_bind (decode_byte 1 4 4 (2 + after) whole bytes) (λ number. decode_name (least_body number.0 + after) whole number.1 >>= λ t. decode_body number.0 t.0 after whole t.1) (byte_fair 1 4 4 (2 + after) whole bytes (omega arith))
+    (λ number e. fair_bind (decode_name (least_body number.0 + after) whole number.1) (λ t. decode_body number.0 t.0 after whole t.1) (name_fair (least_body number.0 + after) whole number.1) (λ t f. body_fair number.0 t.0 after whole t.1))
 
 fair_else : {A : Type 0} (b : Bool) (x : A) (d : BadRecord) → (b ≡ false → d.want ≢ d.got) → Fair (cond b (Ok x) (Err d))
 fair_else true x d h = 0
@@ -105,15 +105,15 @@ fair_else false x d h = h refl
 fair_end : (whole left : ℕ) (is : List Item) → 0 < whole → Fair (cond (eqb left 0) (Ok is) (Err (wrong 0 (whole - left) whole)))
 fair_end whole left is some = fair_else (eqb left 0) is (wrong 0 (whole - left) whole) (λ t same. eqb-false left 0 t (omega (arith, same, some)))
 
-all_fair : (bytes : List ℕ) → AreBytes bytes → Fair (all_of (length bytes) bytes)
-unfolding all_of
+all_fair : (bytes : List ℕ) → AreBytes bytes → Fair (decode_all (length bytes) bytes)
+unfolding decode_all
 all_fair bytes fits =
     let whole = length bytes in
-    fair_bind (tag_at whole bytes) (λ tag. number_at 4 1 whole tag.1 >>= λ count. many (next_item_at whole) count.0 count.1 >>= λ items. byte_at 0 0 0 0 whole items.1 >>= λ flag. cond (eqb (length flag.1) 0) (Ok items.0) (Err (wrong 0 (whole - length flag.1) whole))) (tag_fair whole bytes)
+    fair_bind (decode_tag whole bytes) (λ tag. decode_number 4 1 whole tag.1 >>= λ count. many (decode_next_item whole) count.0 count.1 >>= λ items. decode_byte 0 0 0 0 whole items.1 >>= λ flag. cond (eqb (length flag.1) 0) (Ok items.0) (Err (wrong 0 (whole - length flag.1) whole))) (tag_fair whole bytes)
     (λ tag e. let some : 0 < whole = omega (arith, ap length (tag_takes whole bytes tag fits e).0.parts) in
-    fair_bind (number_at 4 1 whole tag.1) (λ count. many (next_item_at whole) count.0 count.1 >>= λ items. byte_at 0 0 0 0 whole items.1 >>= λ flag. cond (eqb (length flag.1) 0) (Ok items.0) (Err (wrong 0 (whole - length flag.1) whole))) (number_fair 4 1 whole tag.1)
-    (λ count f. fair_bind (many (next_item_at whole) count.0 count.1) (λ items. byte_at 0 0 0 0 whole items.1 >>= λ flag. cond (eqb (length flag.1) 0) (Ok items.0) (Err (wrong 0 (whole - length flag.1) whole))) (many_fair (next_item_at whole) (λ left. item_fair (3 * left + 1) whole) count.0 count.1)
-    (λ items g. fair_bind (byte_at 0 0 0 0 whole items.1) (λ flag. cond (eqb (length flag.1) 0) (Ok items.0) (Err (wrong 0 (whole - length flag.1) whole))) (byte_fair 0 0 0 0 whole items.1 (omega arith))
+    fair_bind (decode_number 4 1 whole tag.1) (λ count. many (decode_next_item whole) count.0 count.1 >>= λ items. decode_byte 0 0 0 0 whole items.1 >>= λ flag. cond (eqb (length flag.1) 0) (Ok items.0) (Err (wrong 0 (whole - length flag.1) whole))) (number_fair 4 1 whole tag.1)
+    (λ count f. fair_bind (many (decode_next_item whole) count.0 count.1) (λ items. decode_byte 0 0 0 0 whole items.1 >>= λ flag. cond (eqb (length flag.1) 0) (Ok items.0) (Err (wrong 0 (whole - length flag.1) whole))) (many_fair (decode_next_item whole) (λ left. item_fair (3 * left + 1) whole) count.0 count.1)
+    (λ items g. fair_bind (decode_byte 0 0 0 0 whole items.1) (λ flag. cond (eqb (length flag.1) 0) (Ok items.0) (Err (wrong 0 (whole - length flag.1) whole))) (byte_fair 0 0 0 0 whole items.1 (omega arith))
     (λ flag h. fair_end whole (length flag.1) items.0 some))))
 
 err_fair : {A : Type 0} (r : Result A BadRecord) (f : BadRecord) → r ≡ Err f → Fair r → f.want ≢ f.got
@@ -123,8 +123,8 @@ no_err : (is : List Item) (f : BadRecord) (r : Result (List Item) BadRecord) →
 no_err is f (Ok x) p q = absurd cc
 no_err is f (Err e) p q = absurd cc
 
-pub is_refused : (bytes : List ℕ) (r : Result (List Item) RecordError) → AreBytes bytes → Gives (λ x. x) r (all_of (length bytes) bytes) → IfErr r (Refuses bytes)
+pub is_refused : (bytes : List ℕ) (r : Result (List Item) RecordError) → AreBytes bytes → Decodes (λ x. x) r (decode_all (length bytes) bytes) → IfErr r (IsNoRecord bytes)
 is_refused bytes (Ok is) fits given = tt
 is_refused bytes (Err errors.OutOfMemory) fits given = tt
 is_refused bytes (Err (errors.Bad f)) fits given =
-    (err_fair (all_of (length bytes) bytes) f given (all_fair bytes fits), λ is are e. no_err is f (all_of (length bytes) bytes) (all_again (length bytes) is bytes are e) given)
+    (err_fair (decode_all (length bytes) bytes) f given (all_fair bytes fits), λ is are e. no_err is f (decode_all (length bytes) bytes) (all_again (length bytes) is bytes are e) given)

@@ -9,8 +9,8 @@ use Rattle.ctr_model.specs.declared.database.Change.{Change}
 use Rattle.ctr_model.specs.declared.database.Change.TheVariants as change
 use Rattle.ctr_model.specs.Database.{Database, table_at, changed, after}
 use Rattle.ctr_model.specs.Refusals.{key_of, columns_of}
-use Rattle.ctr_rec.specs.declared.records.Item.{Item}
-use Rattle.ctr_rec.specs.declared.records.Item.TheVariants as item
+use Rattle.ctr_rec.specs.declared.item.Item.{Item}
+use Rattle.ctr_rec.specs.declared.item.Item.TheVariants as item
 use Rattle.ctr_rec.specs.Payload.{IsRow, IsRowOf, payload_of}
 use Rattle.ctr_rec.specs.Fold.{HasTable, Stands, StandAll, Folds, FoldsRecord, FoldsRecords, Suits, SuitAll, item_of, items_of}
 use Rattle.ctr_rec.proofs.PayloadLaws.{one_row, row_written}

@@ -6,13 +6,13 @@ use Rattle.std.proofs.lemmas.List.{take-append-le, drop-append-le}
 use Rattle.ctr_types.specs.declared.value.Column.{Column}
 use Rattle.ctr_types.specs.declared.value.Schema.{Schema}
 use Rattle.ctr_bytes.specs.Fields.{field}
-use Rattle.ctr_rec.specs.declared.records.Item.{Item}
-use Rattle.ctr_rec.specs.declared.records.Item.TheVariants.{Put, Remove, Create, Drop}
-use Rattle.ctr_rec.specs.declared.records.BadRecord.{BadRecord}
-use Rattle.ctr_rec.specs.declared.records.RecordError.{RecordError}
-use Rattle.ctr_rec.specs.declared.records.RecordError.TheVariants as errors
+use Rattle.ctr_rec.specs.declared.item.Item.{Item}
+use Rattle.ctr_rec.specs.declared.item.Item.TheVariants.{Put, Remove, Create, Drop}
+use Rattle.ctr_rec.specs.declared.decoding.BadRecord.{BadRecord}
+use Rattle.ctr_rec.specs.declared.decoding.RecordError.{RecordError}
+use Rattle.ctr_rec.specs.declared.decoding.RecordError.TheVariants as errors
 use Rattle.std.specs.Prelude.{IfErr}
-use Rattle.ctr_rec.specs.Records.{◌>>=◌, Gives, IsLeast, short, wrong, with_front, bytes_at, number_at, byte_at, tag_at, name_at, kind_of, column_at, many, text_column_at, schema_at, key_at, payload_at, put_at, remove_at, create_at, body_at, least_body, item_at, next_item_at, all_of}
+use Rattle.ctr_rec.specs.Decode.{◌>>=◌, Decodes, IsLeast, short, wrong, with_earlier, decode_bytes, decode_number, decode_byte, decode_tag, decode_name, kind_numbered, decode_column, many, decode_text_column, decode_schema, decode_key, decode_payload, decode_put, decode_remove, decode_create, decode_body, least_body, decode_item, decode_next_item, decode_all}
 use Rattle.ctr_rec.proofs.RecordLaws.{bind_ok, guard_ok, ok_is}
 use Rattle.ctr_rec.proofs.ItemLaws.{all_again}
 
@@ -98,7 +98,7 @@ meets_if : {A : Type 0} (whole : ℕ) (more : List ℕ) (y : A × List ℕ) (b :
 meets_if whole more y true d x f g = f refl
 meets_if whole more y false d x f g = g refl
 
-bytes_read : (n after whole : ℕ) → Reads n after whole Any (bytes_at n after whole)
+bytes_read : (n after whole : ℕ) → Reads n after whole Any (decode_bytes n after whole)
 bytes_read n after whole = record {
   eats = λ bytes y e.
       let g = guard_ok (ltb (length bytes) n) (short n after whole bytes) (Ok (take n bytes, drop n bytes)) y e in
@@ -114,17 +114,17 @@ bytes_read n after whole = record {
       (λ t. let long : n ≤ length bytes = ltb-false _ _ t in sym same ∙ both_are (take n (bytes ++ more)) (take n bytes) (drop n (bytes ++ more)) (drop n bytes ++ more) (take-append-le n bytes more long) (drop-append-le n bytes more long));
 }
 
-number_reads : (n after whole : ℕ) → Reads n after whole Any (number_at n after whole)
-unfolding number_at
-number_reads n after whole = reads_as n after whole Any (bytes_at n after whole) (field n 0) (bytes_read n after whole)
+number_reads : (n after whole : ℕ) → Reads n after whole Any (decode_number n after whole)
+unfolding decode_number
+number_reads n after whole = reads_as n after whole Any (decode_bytes n after whole) (field n 0) (bytes_read n after whole)
 
-byte_reads : (low under high after whole : ℕ) → Reads 1 after whole (λ (x : ℕ). (low ≤ x) × (x ≤ high)) (byte_at low under high after whole)
-unfolding byte_at
+byte_reads : (low under high after whole : ℕ) → Reads 1 after whole (λ (x : ℕ). (low ≤ x) × (x ≤ high)) (decode_byte low under high after whole)
+unfolding decode_byte
 byte_reads low under high after whole =
     let number = number_reads 1 after whole in
     record {
       eats = λ bytes y e.
-          let b = bind_ok (number_at 1 after whole bytes) (λ b. cond (ltb b.0 low) (Err (wrong (whole - length bytes) under b.0)) (cond (ltb high b.0) (Err (wrong (whole - length bytes) high b.0)) (Ok (b.0, b.1)))) y e in
+          let b = bind_ok (decode_number 1 after whole bytes) (λ b. cond (ltb b.0 low) (Err (wrong (whole - length bytes) under b.0)) (cond (ltb high b.0) (Err (wrong (whole - length bytes) high b.0)) (Ok (b.0, b.1)))) y e in
           let g = guard_ok (ltb b.0.0 low) (wrong (whole - length bytes) under b.0.0) (cond (ltb high b.0.0) (Err (wrong (whole - length bytes) high b.0.0)) (Ok (b.0.0, b.0.1))) y b.2 in
           let h = guard_ok (ltb high b.0.0) (wrong (whole - length bytes) high b.0.0) (Ok (b.0.0, b.0.1)) y g.1 in
           let same : both b.0.0 b.0.1 ≡ y = ok_is (both b.0.0 b.0.1) y h.1 in
@@ -133,12 +133,12 @@ byte_reads low under high after whole =
           (omega (arith, one.0, ap (λ (p : ℕ × List ℕ). length p.1) same), (omega (arith, first, ltb-false _ _ g.0), omega (arith, first, ltb-false _ _ h.0)));
       meets = λ bytes more y e le.
           let all : List ℕ = bytes ++ more in
-          let b = bind_ok (number_at 1 after whole (bytes ++ more)) (λ b. cond (ltb b.0 low) (Err (wrong (whole - length (bytes ++ more)) under b.0)) (cond (ltb high b.0) (Err (wrong (whole - length (bytes ++ more)) high b.0)) (Ok (b.0, b.1)))) y e in
+          let b = bind_ok (decode_number 1 after whole (bytes ++ more)) (λ b. cond (ltb b.0 low) (Err (wrong (whole - length (bytes ++ more)) under b.0)) (cond (ltb high b.0) (Err (wrong (whole - length (bytes ++ more)) high b.0)) (Ok (b.0, b.1)))) y e in
           let g = guard_ok (ltb b.0.0 low) (wrong (whole - length (bytes ++ more)) under b.0.0) (cond (ltb high b.0.0) (Err (wrong (whole - length (bytes ++ more)) high b.0.0)) (Ok (b.0.0, b.0.1))) y b.2 in
           let h = guard_ok (ltb high b.0.0) (wrong (whole - length (bytes ++ more)) high b.0.0) (Ok (b.0.0, b.0.1)) y g.1 in
           let same : both b.0.0 b.0.1 ≡ y = ok_is (both b.0.0 b.0.1) y h.1 in
           let behind : length b.0.1 ≡ length y.1 = ap (λ (p : ℕ × List ℕ). length p.1) same in
-          meets_then whole more (number_at 1 after whole bytes) (λ b. cond (ltb b.0 low) (Err (wrong (whole - length bytes) under b.0)) (cond (ltb high b.0) (Err (wrong (whole - length bytes) high b.0)) (Ok (b.0, b.1)))) b.0 y (number.meets bytes more b.0 b.1 (omega arith)) (λ x is z.
+          meets_then whole more (decode_number 1 after whole bytes) (λ b. cond (ltb b.0 low) (Err (wrong (whole - length bytes) under b.0)) (cond (ltb high b.0) (Err (wrong (whole - length bytes) high b.0)) (Ok (b.0, b.1)))) b.0 y (number.meets bytes more b.0 b.1 (omega arith)) (λ x is z.
           let value : b.0.0 ≡ x.0 = ap (λ (p : ℕ × List ℕ). p.0) z in
           let above : ltb x.0 low ≡ false = ap (λ (k : ℕ). ltb k low) (sym value) ∙ g.0 in
           let below : ltb high x.0 ≡ false = ap (λ (k : ℕ). ltb high k) (sym value) ∙ h.0 in
@@ -148,19 +148,19 @@ byte_reads low under high after whole =
 
 -- ---- names and columns
 
-name_reads : (after whole : ℕ) → Reads 2 after whole Any (name_at after whole)
-unfolding name_at
+name_reads : (after whole : ℕ) → Reads 2 after whole Any (decode_name after whole)
+unfolding decode_name
 name_reads after whole =
-    reads_then 2 1 (1 + after) 1 after whole (λ (x : ℕ). (1 ≤ x) × (x ≤ 16)) Any (byte_at 1 1 16 (1 + after) whole) (λ n rest. bytes_at n after whole rest) (omega arith) (omega arith) (byte_reads 1 1 16 (1 + after) whole)
-    (λ n some. reads_less 1 n after whole Any (bytes_at n after whole) some.0 (bytes_read n after whole))
+    reads_then 2 1 (1 + after) 1 after whole (λ (x : ℕ). (1 ≤ x) × (x ≤ 16)) Any (decode_byte 1 1 16 (1 + after) whole) (λ n rest. decode_bytes n after whole rest) (omega arith) (omega arith) (byte_reads 1 1 16 (1 + after) whole)
+    (λ n some. reads_less 1 n after whole Any (decode_bytes n after whole) some.0 (bytes_read n after whole))
 
-column_reads : (most after whole : ℕ) → Reads 18 after whole Any (column_at most after whole)
-unfolding column_at
+column_reads : (most after whole : ℕ) → Reads 18 after whole Any (decode_column most after whole)
+unfolding decode_column
 column_reads most after whole =
-    reads_then 18 1 (17 + after) 17 after whole (λ (x : ℕ). (1 ≤ x) × (x ≤ 16)) Any (byte_at 1 1 16 (17 + after) whole)
-    (λ len rest. bytes_at 16 (1 + after) whole rest >>= λ room. byte_at 0 0 most after whole room.1 >>= λ k. Ok (record { name = take len room.0; kind = kind_of k.0 }, k.1)) (omega arith) (omega arith) (byte_reads 1 1 16 (17 + after) whole)
-    (λ len some. reads_then 17 16 (1 + after) 1 after whole Any Any (bytes_at 16 (1 + after) whole) (λ room rest. byte_at 0 0 most after whole rest >>= λ k. Ok (record { name = take len room; kind = kind_of k.0 }, k.1)) (omega arith) (omega arith) (bytes_read 16 (1 + after) whole)
-    (λ room any. reads_as 1 after whole (λ (x : ℕ). (0 ≤ x) × (x ≤ most)) (byte_at 0 0 most after whole) (λ (n : ℕ). let c : Column = record { name = take len room; kind = kind_of n } in c) (byte_reads 0 0 most after whole)))
+    reads_then 18 1 (17 + after) 17 after whole (λ (x : ℕ). (1 ≤ x) × (x ≤ 16)) Any (decode_byte 1 1 16 (17 + after) whole)
+    (λ len rest. decode_bytes 16 (1 + after) whole rest >>= λ room. decode_byte 0 0 most after whole room.1 >>= λ k. Ok (record { name = take len room.0; kind = kind_numbered k.0 }, k.1)) (omega arith) (omega arith) (byte_reads 1 1 16 (17 + after) whole)
+    (λ len some. reads_then 17 16 (1 + after) 1 after whole Any Any (decode_bytes 16 (1 + after) whole) (λ room rest. decode_byte 0 0 most after whole rest >>= λ k. Ok (record { name = take len room; kind = kind_numbered k.0 }, k.1)) (omega arith) (omega arith) (bytes_read 16 (1 + after) whole)
+    (λ room any. reads_as 1 after whole (λ (x : ℕ). (0 ≤ x) × (x ≤ most)) (decode_byte 0 0 most after whole) (λ (n : ℕ). let c : Column = record { name = take len room; kind = kind_numbered n } in c) (byte_reads 0 0 most after whole)))
 
 -- ---- many values, in a room that grows by the least of one
 
@@ -172,55 +172,55 @@ many_read {A = A} one k after whole room none step law (suc n) =
     reads_then (room (suc n)) k (room n + after) (room n) after whole Any Any (one n) (λ first rest. many one n rest >>= λ others. Ok (first ∷ others.0, others.1)) (omega (arith, step n)) (omega arith) (law n)
     (λ first any. reads_as (room n) after whole Any (many one n) (λ (others : List A). first ∷ others) (many_read one k after whole room none step law n))
 
-schema_reads : (after whole : ℕ) → Reads 19 after whole Any (schema_at after whole)
-unfolding schema_at
+schema_reads : (after whole : ℕ) → Reads 19 after whole Any (decode_schema after whole)
+unfolding decode_schema
 schema_reads after whole =
-    reads_then 19 1 (18 + after) 18 after whole (λ (x : ℕ). (1 ≤ x) × (x ≤ 8)) Any (byte_at 1 1 8 (18 + after) whole)
-    (λ n rest. column_at 0 (18 * (n - 1) + after) whole rest >>= λ first. with_front (first.0 ∷ []) (many (text_column_at after whole) (n - 1) first.1) >>= λ columns. Ok (record { columns = columns.0 }, columns.1)) (omega arith) (omega arith) (byte_reads 1 1 8 (18 + after) whole)
-    (λ n some. reads_then 18 18 (18 * (n - 1) + after) (18 * (n - 1)) after whole Any Any (column_at 0 (18 * (n - 1) + after) whole)
-    (λ first rest. with_front (first ∷ []) (many (text_column_at after whole) (n - 1) rest) >>= λ columns. Ok (record { columns = columns.0 }, columns.1)) (omega arith) (omega arith) (column_reads 0 (18 * (n - 1) + after) whole)
-    (λ first any. reads_as (18 * (n - 1)) after whole Any (λ rest. with_front (first ∷ []) (many (text_column_at after whole) (n - 1) rest)) (λ (cs : List Column). let s : Schema = record { columns = cs } in s)
-    (reads_as (18 * (n - 1)) after whole Any (many (text_column_at after whole) (n - 1)) (λ (cs : List Column). (first ∷ []) ++ cs)
-    (many_read (text_column_at after whole) 18 after whole (λ m. 18 * m) (omega arith) (λ m. omega arith) (λ left. column_reads 64 (18 * left + after) whole) (n - 1)))))
+    reads_then 19 1 (18 + after) 18 after whole (λ (x : ℕ). (1 ≤ x) × (x ≤ 8)) Any (decode_byte 1 1 8 (18 + after) whole)
+    (λ n rest. decode_column 0 (18 * (n - 1) + after) whole rest >>= λ first. with_earlier (first.0 ∷ []) (many (decode_text_column after whole) (n - 1) first.1) >>= λ columns. Ok (record { columns = columns.0 }, columns.1)) (omega arith) (omega arith) (byte_reads 1 1 8 (18 + after) whole)
+    (λ n some. reads_then 18 18 (18 * (n - 1) + after) (18 * (n - 1)) after whole Any Any (decode_column 0 (18 * (n - 1) + after) whole)
+    (λ first rest. with_earlier (first ∷ []) (many (decode_text_column after whole) (n - 1) rest) >>= λ columns. Ok (record { columns = columns.0 }, columns.1)) (omega arith) (omega arith) (column_reads 0 (18 * (n - 1) + after) whole)
+    (λ first any. reads_as (18 * (n - 1)) after whole Any (λ rest. with_earlier (first ∷ []) (many (decode_text_column after whole) (n - 1) rest)) (λ (cs : List Column). let s : Schema = record { columns = cs } in s)
+    (reads_as (18 * (n - 1)) after whole Any (many (decode_text_column after whole) (n - 1)) (λ (cs : List Column). (first ∷ []) ++ cs)
+    (many_read (decode_text_column after whole) 18 after whole (λ m. 18 * m) (omega arith) (λ m. omega arith) (λ left. column_reads 64 (18 * left + after) whole) (n - 1)))))
 
 -- ---- items
 
-key_reads : (after whole : ℕ) → Reads 8 after whole Any (key_at after whole)
-unfolding key_at
-key_reads after whole = reads_as 8 after whole Any (bytes_at 8 after whole) (λ b. cast_signed w64 (field 8 0 b)) (bytes_read 8 after whole)
+key_reads : (after whole : ℕ) → Reads 8 after whole Any (decode_key after whole)
+unfolding decode_key
+key_reads after whole = reads_as 8 after whole Any (decode_bytes 8 after whole) (λ b. cast_signed w64 (field 8 0 b)) (bytes_read 8 after whole)
 
-payload_reads : (after whole : ℕ) → Reads 2 after whole Any (payload_at after whole)
-unfolding payload_at
+payload_reads : (after whole : ℕ) → Reads 2 after whole Any (decode_payload after whole)
+unfolding decode_payload
 payload_reads after whole =
-    reads_then 2 2 after 0 after whole Any Any (number_at 2 after whole) (λ n rest. bytes_at n after whole rest) (omega arith) (omega arith) (number_reads 2 after whole) (λ n any. reads_less 0 n after whole Any (bytes_at n after whole) (omega arith) (bytes_read n after whole))
+    reads_then 2 2 after 0 after whole Any Any (decode_number 2 after whole) (λ n rest. decode_bytes n after whole rest) (omega arith) (omega arith) (number_reads 2 after whole) (λ n any. reads_less 0 n after whole Any (decode_bytes n after whole) (omega arith) (bytes_read n after whole))
 
-put_reads : (t : List ℕ) (after whole : ℕ) → Reads 10 after whole Any (put_at t after whole)
-unfolding put_at
+put_reads : (t : List ℕ) (after whole : ℕ) → Reads 10 after whole Any (decode_put t after whole)
+unfolding decode_put
 put_reads t after whole =
-    reads_then 10 8 (2 + after) 2 after whole Any Any (key_at (2 + after) whole) (λ k rest. payload_at after whole rest >>= λ p. Ok (Put t k p.0, p.1)) (omega arith) (omega arith) (key_reads (2 + after) whole)
-    (λ k any. reads_as 2 after whole Any (payload_at after whole) (λ (p : List ℕ). Put t k p) (payload_reads after whole))
+    reads_then 10 8 (2 + after) 2 after whole Any Any (decode_key (2 + after) whole) (λ k rest. decode_payload after whole rest >>= λ p. Ok (Put t k p.0, p.1)) (omega arith) (omega arith) (key_reads (2 + after) whole)
+    (λ k any. reads_as 2 after whole Any (decode_payload after whole) (λ (p : List ℕ). Put t k p) (payload_reads after whole))
 
-remove_reads : (t : List ℕ) (after whole : ℕ) → Reads 8 after whole Any (remove_at t after whole)
-unfolding remove_at
-remove_reads t after whole = reads_as 8 after whole Any (key_at after whole) (Remove t) (key_reads after whole)
+remove_reads : (t : List ℕ) (after whole : ℕ) → Reads 8 after whole Any (decode_remove t after whole)
+unfolding decode_remove
+remove_reads t after whole = reads_as 8 after whole Any (decode_key after whole) (Remove t) (key_reads after whole)
 
-create_reads : (t : List ℕ) (after whole : ℕ) → Reads 19 after whole Any (create_at t after whole)
-unfolding create_at
-create_reads t after whole = reads_as 19 after whole Any (schema_at after whole) (Create t) (schema_reads after whole)
+create_reads : (t : List ℕ) (after whole : ℕ) → Reads 19 after whole Any (decode_create t after whole)
+unfolding decode_create
+create_reads t after whole = reads_as 19 after whole Any (decode_schema after whole) (Create t) (schema_reads after whole)
 
-body_reads : (number : ℕ) (t : List ℕ) (after whole : ℕ) → Reads (least_body number) after whole Any (body_at number t after whole)
-unfolding body_at
+body_reads : (number : ℕ) (t : List ℕ) (after whole : ℕ) → Reads (least_body number) after whole Any (decode_body number t after whole)
+unfolding decode_body
 body_reads number t after whole =
     let last : Reads 0 after whole Any (λ bytes. Ok (Drop t, bytes)) = reads_none (Drop t) 0 after whole refl in
-    reads_if (eqb number 1) 10 (cond (eqb number 2) 8 (cond (eqb number 3) 19 0)) after whole Any (put_at t after whole) (λ bytes. cond (eqb number 2) (remove_at t after whole bytes) (cond (eqb number 3) (create_at t after whole bytes) (Ok (Drop t, bytes)))) (put_reads t after whole)
-    (reads_if (eqb number 2) 8 (cond (eqb number 3) 19 0) after whole Any (remove_at t after whole) (λ bytes. cond (eqb number 3) (create_at t after whole bytes) (Ok (Drop t, bytes))) (remove_reads t after whole)
-    (reads_if (eqb number 3) 19 0 after whole Any (create_at t after whole) (λ bytes. Ok (Drop t, bytes)) (create_reads t after whole) last))
+    reads_if (eqb number 1) 10 (cond (eqb number 2) 8 (cond (eqb number 3) 19 0)) after whole Any (decode_put t after whole) (λ bytes. cond (eqb number 2) (decode_remove t after whole bytes) (cond (eqb number 3) (decode_create t after whole bytes) (Ok (Drop t, bytes)))) (put_reads t after whole)
+    (reads_if (eqb number 2) 8 (cond (eqb number 3) 19 0) after whole Any (decode_remove t after whole) (λ bytes. cond (eqb number 3) (decode_create t after whole bytes) (Ok (Drop t, bytes))) (remove_reads t after whole)
+    (reads_if (eqb number 3) 19 0 after whole Any (decode_create t after whole) (λ bytes. Ok (Drop t, bytes)) (create_reads t after whole) last))
 
-item_reads : (after whole : ℕ) → Reads 3 after whole Any (item_at after whole)
-unfolding item_at
+item_reads : (after whole : ℕ) → Reads 3 after whole Any (decode_item after whole)
+unfolding decode_item
 item_reads after whole =
-    reads_then 3 1 (2 + after) 2 after whole (λ (x : ℕ). (1 ≤ x) × (x ≤ 4)) Any (byte_at 1 4 4 (2 + after) whole) (λ number rest. name_at (least_body number + after) whole rest >>= λ t. body_at number t.0 after whole t.1) (omega arith) (omega arith) (byte_reads 1 4 4 (2 + after) whole)
-    (λ number some. reads_then 2 2 (least_body number + after) (least_body number) after whole Any Any (name_at (least_body number + after) whole) (λ t rest. body_at number t after whole rest) (omega arith) (omega arith) (name_reads (least_body number + after) whole) (λ t any. body_reads number t after whole))
+    reads_then 3 1 (2 + after) 2 after whole (λ (x : ℕ). (1 ≤ x) × (x ≤ 4)) Any (decode_byte 1 4 4 (2 + after) whole) (λ number rest. decode_name (least_body number + after) whole rest >>= λ t. decode_body number t.0 after whole t.1) (omega arith) (omega arith) (byte_reads 1 4 4 (2 + after) whole)
+    (λ number some. reads_then 2 2 (least_body number + after) (least_body number) after whole Any Any (decode_name (least_body number + after) whole) (λ t rest. decode_body number t after whole rest) (omega arith) (omega arith) (name_reads (least_body number + after) whole) (λ t any. body_reads number t after whole))
 
 -- ---- a record
 
@@ -237,38 +237,38 @@ ends_if : {A : Type 0} (whole left : ℕ) (more : List ℕ) (b : Bool) (x : A) �
 ends_if whole left more true x = tt
 ends_if whole left more false x = omega arith
 
-tag_meets : (whole : ℕ) (bytes more : List ℕ) (y : ℕ × List ℕ) → 0 < length bytes → tag_at whole (bytes ++ more) ≡ Ok y → 5 ≤ length y.1 → Meets whole more y (tag_at whole bytes)
-unfolding tag_at
+tag_meets : (whole : ℕ) (bytes more : List ℕ) (y : ℕ × List ℕ) → 0 < length bytes → decode_tag whole (bytes ++ more) ≡ Ok y → 5 ≤ length y.1 → Meets whole more y (decode_tag whole bytes)
+unfolding decode_tag
 tag_meets whole bytes more y some e le =
-    let g = guard_ok (eqb (length (bytes ++ more)) 0) (wrong 0 32 0) (byte_at 32 32 32 5 whole (bytes ++ more)) y e in
+    let g = guard_ok (eqb (length (bytes ++ more)) 0) (wrong 0 32 0) (decode_byte 32 32 32 5 whole (bytes ++ more)) y e in
     let there : eqb (length bytes) 0 ≡ false = ne_eqb (length bytes) 0 (λ none. omega (arith, none)) in
     rw there ((byte_reads 32 32 32 5 whole).meets bytes more y g.1 le)
 
-pub all_ends : (whole : ℕ) (bytes more : List ℕ) (is : List Item) → 0 < length bytes → all_of whole (bytes ++ more) ≡ Ok is → Ends whole more (all_of whole bytes)
-unfolding all_of
+pub all_ends : (whole : ℕ) (bytes more : List ℕ) (is : List Item) → 0 < length bytes → decode_all whole (bytes ++ more) ≡ Ok is → Ends whole more (decode_all whole bytes)
+unfolding decode_all
 all_ends whole bytes more is some e =
-    let a = bind_ok (tag_at whole (bytes ++ more)) (λ tag. number_at 4 1 whole tag.1 >>= λ count. many (next_item_at whole) count.0 count.1 >>= λ items. byte_at 0 0 0 0 whole items.1 >>= λ flag. cond (eqb (length flag.1) 0) (Ok items.0) (Err (wrong 0 (whole - length flag.1) whole))) is e in
-    let b = bind_ok (number_at 4 1 whole a.0.1) (λ count. many (next_item_at whole) count.0 count.1 >>= λ items. byte_at 0 0 0 0 whole items.1 >>= λ flag. cond (eqb (length flag.1) 0) (Ok items.0) (Err (wrong 0 (whole - length flag.1) whole))) is a.2 in
-    let c = bind_ok (many (next_item_at whole) b.0.0 b.0.1) (λ items. byte_at 0 0 0 0 whole items.1 >>= λ flag. cond (eqb (length flag.1) 0) (Ok items.0) (Err (wrong 0 (whole - length flag.1) whole))) is b.2 in
-    let d = bind_ok (byte_at 0 0 0 0 whole c.0.1) (λ flag. cond (eqb (length flag.1) 0) (Ok c.0.0) (Err (wrong 0 (whole - length flag.1) whole))) is c.2 in
+    let a = bind_ok (decode_tag whole (bytes ++ more)) (λ tag. decode_number 4 1 whole tag.1 >>= λ count. many (decode_next_item whole) count.0 count.1 >>= λ items. decode_byte 0 0 0 0 whole items.1 >>= λ flag. cond (eqb (length flag.1) 0) (Ok items.0) (Err (wrong 0 (whole - length flag.1) whole))) is e in
+    let b = bind_ok (decode_number 4 1 whole a.0.1) (λ count. many (decode_next_item whole) count.0 count.1 >>= λ items. decode_byte 0 0 0 0 whole items.1 >>= λ flag. cond (eqb (length flag.1) 0) (Ok items.0) (Err (wrong 0 (whole - length flag.1) whole))) is a.2 in
+    let c = bind_ok (many (decode_next_item whole) b.0.0 b.0.1) (λ items. decode_byte 0 0 0 0 whole items.1 >>= λ flag. cond (eqb (length flag.1) 0) (Ok items.0) (Err (wrong 0 (whole - length flag.1) whole))) is b.2 in
+    let d = bind_ok (decode_byte 0 0 0 0 whole c.0.1) (λ flag. cond (eqb (length flag.1) 0) (Ok c.0.0) (Err (wrong 0 (whole - length flag.1) whole))) is c.2 in
     let number = number_reads 4 1 whole in
     let flag = byte_reads 0 0 0 0 whole in
-    let items = many_read (next_item_at whole) 3 1 whole (λ m. 3 * m) (omega arith) (λ m. omega arith) (λ left. item_reads (3 * left + 1) whole) in
+    let items = many_read (decode_next_item whole) 3 1 whole (λ m. 3 * m) (omega arith) (λ m. omega arith) (λ left. item_reads (3 * left + 1) whole) in
     let flag_long = (flag.eats c.0.1 d.0 d.1).0 in
     let items_long = ((items b.0.0).eats b.0.1 c.0 c.1).0 in
     let number_long = (number.eats a.0.1 b.0 b.1).0 in
-    ends_then whole more (tag_at whole bytes) (λ tag. number_at 4 1 whole tag.1 >>= λ count. many (next_item_at whole) count.0 count.1 >>= λ items. byte_at 0 0 0 0 whole items.1 >>= λ flag. cond (eqb (length flag.1) 0) (Ok items.0) (Err (wrong 0 (whole - length flag.1) whole))) a.0 (tag_meets whole bytes more a.0 some a.1 (omega (arith, flag_long, items_long, number_long)))
-    (λ w p. ends_then whole more (number_at 4 1 whole w.1) (λ count. many (next_item_at whole) count.0 count.1 >>= λ items. byte_at 0 0 0 0 whole items.1 >>= λ flag. cond (eqb (length flag.1) 0) (Ok items.0) (Err (wrong 0 (whole - length flag.1) whole))) b.0 (number.meets w.1 more b.0 (subst (λ (z : ℕ × List ℕ). number_at 4 1 whole z.1 ≡ Ok b.0) p b.1) (omega (arith, flag_long, items_long)))
-    (λ x q. ends_then whole more (many (next_item_at whole) x.0 x.1) (λ items. byte_at 0 0 0 0 whole items.1 >>= λ flag. cond (eqb (length flag.1) 0) (Ok items.0) (Err (wrong 0 (whole - length flag.1) whole))) c.0 ((items x.0).meets x.1 more c.0 (subst (λ (z : ℕ × List ℕ). many (next_item_at whole) z.0 z.1 ≡ Ok c.0) q c.1) (omega (arith, flag_long)))
-    (λ y r. ends_then whole more (byte_at 0 0 0 0 whole y.1) (λ flag. cond (eqb (length flag.1) 0) (Ok y.0) (Err (wrong 0 (whole - length flag.1) whole))) d.0 (flag.meets y.1 more d.0 (subst (λ (z : List Item × List ℕ). byte_at 0 0 0 0 whole z.1 ≡ Ok d.0) r d.1) (omega arith))
+    ends_then whole more (decode_tag whole bytes) (λ tag. decode_number 4 1 whole tag.1 >>= λ count. many (decode_next_item whole) count.0 count.1 >>= λ items. decode_byte 0 0 0 0 whole items.1 >>= λ flag. cond (eqb (length flag.1) 0) (Ok items.0) (Err (wrong 0 (whole - length flag.1) whole))) a.0 (tag_meets whole bytes more a.0 some a.1 (omega (arith, flag_long, items_long, number_long)))
+    (λ w p. ends_then whole more (decode_number 4 1 whole w.1) (λ count. many (decode_next_item whole) count.0 count.1 >>= λ items. decode_byte 0 0 0 0 whole items.1 >>= λ flag. cond (eqb (length flag.1) 0) (Ok items.0) (Err (wrong 0 (whole - length flag.1) whole))) b.0 (number.meets w.1 more b.0 (subst (λ (z : ℕ × List ℕ). decode_number 4 1 whole z.1 ≡ Ok b.0) p b.1) (omega (arith, flag_long, items_long)))
+    (λ x q. ends_then whole more (many (decode_next_item whole) x.0 x.1) (λ items. decode_byte 0 0 0 0 whole items.1 >>= λ flag. cond (eqb (length flag.1) 0) (Ok items.0) (Err (wrong 0 (whole - length flag.1) whole))) c.0 ((items x.0).meets x.1 more c.0 (subst (λ (z : ℕ × List ℕ). many (decode_next_item whole) z.0 z.1 ≡ Ok c.0) q c.1) (omega (arith, flag_long)))
+    (λ y r. ends_then whole more (decode_byte 0 0 0 0 whole y.1) (λ flag. cond (eqb (length flag.1) 0) (Ok y.0) (Err (wrong 0 (whole - length flag.1) whole))) d.0 (flag.meets y.1 more d.0 (subst (λ (z : List Item × List ℕ). decode_byte 0 0 0 0 whole z.1 ≡ Ok d.0) r d.1) (omega arith))
     (λ z s. ends_if whole (length z.1) more (eqb (length z.1) 0) y.0))))
 
 err_ends : {A : Type 0} (whole : ℕ) (more : List ℕ) (r : Result A BadRecord) (f : BadRecord) → r ≡ Err f → Ends whole more r → f.want ≤ whole + length more
 err_ends {A = A} whole more r f e ends = subst (λ (s : Result A BadRecord). Ends whole more s) e ends
 
-pub is_least : (bytes : List ℕ) (r : Result (List Item) RecordError) → Gives (λ x. x) r (all_of (length bytes) bytes) → IfErr r (IsLeast bytes)
+pub is_least : (bytes : List ℕ) (r : Result (List Item) RecordError) → Decodes (λ x. x) r (decode_all (length bytes) bytes) → IfErr r (IsLeast bytes)
 is_least bytes (Ok is) given = tt
 is_least bytes (Err errors.OutOfMemory) given = tt
 is_least bytes (Err (errors.Bad f)) given = λ more is some are spelled_so.
-    let ends = err_ends (length bytes) more (all_of (length bytes) bytes) f given (all_ends (length bytes) bytes more is some (all_again (length bytes) is (bytes ++ more) are spelled_so)) in
+    let ends = err_ends (length bytes) more (decode_all (length bytes) bytes) f given (all_ends (length bytes) bytes more is some (all_again (length bytes) is (bytes ++ more) are spelled_so)) in
     omega (arith, ends, length-append bytes more)

@@ -10,7 +10,7 @@ use Rattle.ctr_types.specs.declared.value.Value.{Value}
 use Rattle.ctr_types.specs.declared.value.Value.TheVariants as value
 use Rattle.ctr_rec.specs.declared.payload.PayloadError.{PayloadError}
 use Rattle.ctr_rec.specs.declared.payload.PayloadError.TheVariants as error
-use Rattle.ctr_rec.specs.Payload.{IsOf, AreOf, IsKeyed, IsRow, field_width, width, field_of, payload_of, IsField, IsPayload, IsRowOf, IsBadField, HasBadField, Refuses}
+use Rattle.ctr_rec.specs.Payload.{IsOf, AreOf, IsKeyed, IsRow, field_width, width, field_of, payload_of, IsField, IsPayload, IsRowOf, IsBadField, HasBadField, IsNoPayload}
 use Rattle.ctr_bytes.proofs.FieldLaws.{side}
 use Rattle.ctr_rec.proofs.PayloadLaws.{value_len, payload_wide, bad_none}
 
@@ -77,7 +77,7 @@ all_read cs bytes old new i at le p =
     )
 
 -- why it isn't read, by what follows from it
-pub refuses_by : (P Q : ℕ → ℕ → ℕ → Type 0) → ((place want got : ℕ) → P place want got → Q place want got) → (e : PayloadError) → Refuses P e → Refuses Q e
+pub refuses_by : (P Q : ℕ → ℕ → ℕ → Type 0) → ((place want got : ℕ) → P place want got → Q place want got) → (e : PayloadError) → IsNoPayload P e → IsNoPayload Q e
 refuses_by P Q f error.OutOfMemory h = tt
 refuses_by P Q f (error.Bad place want got) h = (f place want got h.0, h.1)
 
@@ -170,7 +170,7 @@ behind_row (c ∷ cs) (v ∷ vs) h = h.1.1
 pub row_len : (cs : List Column) (key : ℤ) (bytes : List ℕ) (vs : List Value) → IsRowOf cs key bytes vs → length bytes ≡ width (drop 1 cs)
 row_len cs key bytes vs h = payload_wide (drop 1 cs) (drop 1 vs) bytes (behind_row cs vs h.0) h.2
 
-pub only_memory : (cs : List Column) (key : ℤ) (bytes : List ℕ) (vs : List Value) (e : PayloadError) → IsRowOf cs key bytes vs → Refuses (HasBadField (drop 1 cs) 0 bytes) e → e ≡ error.OutOfMemory
+pub only_memory : (cs : List Column) (key : ℤ) (bytes : List ℕ) (vs : List Value) (e : PayloadError) → IsRowOf cs key bytes vs → IsNoPayload (HasBadField (drop 1 cs) 0 bytes) e → e ≡ error.OutOfMemory
 only_memory cs key bytes vs error.OutOfMemory h r = refl
 only_memory cs key bytes vs (error.Bad at want got) h r = absurd (bad_none (drop 1 cs) (drop 1 vs) 0 at want got bytes r.0 (behind_row cs vs h.0) h.2)
 

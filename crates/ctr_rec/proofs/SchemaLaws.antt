@@ -2,17 +2,16 @@
 use Rattle.std.proofs.Common.{◌≡◌, ℕ, Bool, true, false, cond, not, List, [], ◌∷◌, refl, sym, subst}
 use Rattle.std.specs.Prelude.{Option, Some, None}
 use Rattle.std.specs.List.{AllByRecursion}
-use Rattle.std.specs.Option.{option_map_or}
 use Rattle.std.specs.Ordering.{eq_by_cmp}
 use Rattle.std.specs.declared.cmp.Ordering.{Ordering}
 use Rattle.std.specs.declared.cmp.Ordering.TheVariants.{Less, Equal, Greater}
 use Rattle.std.specs.FinMap.Entries.{put, find, where_key, by_order}
 use Rattle.ctr_model.specs.declared.database.Table.{Table}
 use Rattle.ctr_model.specs.declared.database.Change.{Change}
-use Rattle.ctr_model.specs.Database.{Database, name_cmp, table_at, at_table, with_row, without_row, changed, after}
-use Rattle.ctr_rec.specs.declared.records.Item.{Item}
-use Rattle.ctr_rec.specs.declared.records.Item.TheVariants as item
-use Rattle.ctr_rec.specs.Records.{ColumnsFit, Fits}
+use Rattle.ctr_model.specs.Database.{Database, name_cmp, table_at, at_found, at_table, with_row, without_row, changed, after}
+use Rattle.ctr_rec.specs.declared.item.Item.{Item}
+use Rattle.ctr_rec.specs.declared.item.Item.TheVariants as item
+use Rattle.ctr_rec.specs.Items.{ColumnsFit, Fits}
 use Rattle.ctr_rec.specs.Fold.{Stands, StandAll, FoldsRecord, FoldsRecords, HasSchemas}
 
 -- ---- maps whose values are all of a kind
@@ -56,7 +55,7 @@ one_schema db t table h is = all_find name_cmp IsSound t table db h is
 table_keeps : (db : Database) (t : List ℕ) (f : Table → Table) → ((table : Table) → IsSound table → IsSound (f table)) → HasSchemas db → HasSchemas (at_table t f db)
 table_keeps db t f keeps h = either (table_at db t) refl
   where
-    either : (found : Option Table) → table_at db t ≡ found → HasSchemas (option_map_or (λ table. put name_cmp t (f table) db) found db)
+    either : (found : Option Table) → table_at db t ≡ found → HasSchemas (at_found t f found db)
     either None is = h
     either (Some table) is = all_put name_cmp IsSound t (f table) db h (keeps table (one_schema db t table h is))
 

@@ -1,3 +1,5 @@
 pub mod Fold
 pub mod Payload
-pub mod Records
+pub mod Items
+pub mod Encode
+pub mod Decode

@@ -1,4 +1,4 @@
--- The payload of a row: its values behind the key in order, each in the width of its column.
+-- The payload of a row: its values after the key in order, each in the width of its column.
 use Rattle.std.specs.Prelude.{◌≡◌, ◌⊎◌, ℕ, ℤ, ◌+◌, ◌-◌, ◌<◌, ◌≤◌, List, [], ◌∷◌, ◌++◌, length, take, drop, slice_index, replicate, FitsSigned}
 use Rattle.std.specs.Int.{w64, cast_unsigned}
 use Rattle.ctr_types.specs.declared.value.Column.{Column}
@@ -43,37 +43,44 @@ abbrev pub field_width : Kind → ℕ
 field_width kind.Int = 8
 field_width (kind.Chars most) = most + 1
 
+-- the bytes of these columns' fields
 abbrev pub width : List Column → ℕ
 width [] = 0
 width (c ∷ cs) = field_width c.kind + width cs
 
--- a number in two's complement; a text behind its length, with zeros behind it
+-- a number in two's complement; a text after its length, with zeros after it
 abbrev pub field_of : Kind → Value → List ℕ
 field_of kind.Int (value.Int n) = spelled 8 (cast_unsigned w64 n)
-field_of (kind.Chars most) (value.Chars text) = length text ∷ (text ++ replicate (most - length text) 0)
+field_of (kind.Chars most) (value.Chars text) =
+    length text ∷ (text ++ replicate (most - length text) 0)
 field_of kind.Int (value.Chars text) = []
 field_of (kind.Chars most) (value.Int n) = []
 
--- the fields of these columns, which are those behind the key, in order
+-- the fields of these columns, which are those after the key, in order
 abbrev pub payload_of : List Column → List Value → List ℕ
 payload_of [] vs = []
 payload_of (c ∷ cs) [] = []
 payload_of (c ∷ cs) (v ∷ vs) = field_of c.kind v ++ payload_of cs vs
 
--- ---- which bytes spell it: any may stand behind a text
+-- ---- which bytes spell it: any may follow a text
 
+-- the field of such a column with this value
 abbrev pub IsField : Kind → Value → List ℕ → Type 0
 IsField kind.Int (value.Int n) bytes = bytes ≡ spelled 8 (cast_unsigned w64 n)
-IsField (kind.Chars most) (value.Chars text) bytes = (padding : List ℕ) × (length padding ≡ most - length text) × (bytes ≡ length text ∷ (text ++ padding))
+IsField (kind.Chars most) (value.Chars text) bytes =
+    (padding : List ℕ) × (length padding ≡ most - length text)
+    × (bytes ≡ length text ∷ (text ++ padding))
 IsField kind.Int (value.Chars text) bytes = ⊥
 IsField (kind.Chars most) (value.Int n) bytes = ⊥
 
--- the fields of these values, one behind another
+-- the fields of these values, one after another
 abbrev pub IsPayload : List Column → List Value → List ℕ → Type 0
 IsPayload [] [] bytes = bytes ≡ []
 IsPayload [] (v ∷ vs) bytes = ⊥
 IsPayload (c ∷ cs) [] bytes = ⊥
-IsPayload (c ∷ cs) (v ∷ vs) bytes = (front : List ℕ) × (rest : List ℕ) × IsField c.kind v front × IsPayload cs vs rest × (bytes ≡ front ++ rest)
+IsPayload (c ∷ cs) (v ∷ vs) bytes =
+    (front : List ℕ) × (rest : List ℕ) × IsField c.kind v front × IsPayload cs vs rest
+    × (bytes ≡ front ++ rest)
 
 -- these are the values of a row of the key, and the payload is theirs
 abbrev pub IsRowOf : List Column → ℤ → List ℕ → List Value → Type 0
@@ -88,20 +95,23 @@ HasField k at bytes = (v : Value) × IsOf k v × IsField k v (take (field_width 
 -- the text's length is above the most
 abbrev pub IsBadField : Kind → ℕ → List ℕ → ℕ → ℕ → ℕ → Type 0
 IsBadField kind.Int at bytes place want got = ⊥
-IsBadField (kind.Chars most) at bytes place want got = (place ≡ at) × (want ≡ most) × (got ≡ slice_index bytes at) × (most < got)
+IsBadField (kind.Chars most) at bytes place want got =
+    (place ≡ at) × (want ≡ most) × (got ≡ slice_index bytes at) × (most < got)
 
 -- the first bad field of those from a place on
 abbrev pub HasBadField : List Column → ℕ → List ℕ → ℕ → ℕ → ℕ → Type 0
 HasBadField [] at bytes place want got = ⊥
 HasBadField (c ∷ cs) at bytes place want got =
-    IsBadField c.kind at bytes place want got ⊎ (HasField c.kind at bytes × HasBadField cs (at + field_width c.kind) bytes place want got)
+    IsBadField c.kind at bytes place want got
+    ⊎ (HasField c.kind at bytes × HasBadField cs (at + field_width c.kind) bytes place want got)
 
 -- The payload hasn't the width of the columns; or else its first bad field.
 abbrev pub IsBadPayload : List Column → List ℕ → ℕ → ℕ → ℕ → Type 0
 IsBadPayload cs bytes place want got =
-    ((place ≡ 0) × (want ≡ width cs) × (got ≡ length bytes) × (want ≡ got → ⊥)) ⊎ ((length bytes ≡ width cs) × HasBadField cs 0 bytes place want got)
+    ((place ≡ 0) × (want ≡ width cs) × (got ≡ length bytes) × (want ≡ got → ⊥))
+    ⊎ ((length bytes ≡ width cs) × HasBadField cs 0 bytes place want got)
 
 -- why it isn't read: memory ran out, or what is bad at a place of it
-abbrev pub Refuses : (ℕ → ℕ → ℕ → Type 0) → PayloadError → Type 0
-Refuses Bad error.OutOfMemory = Unit {0}
-Refuses Bad (error.Bad at want got) = Bad at want got × (want ≡ got → ⊥)
+abbrev pub IsNoPayload : (ℕ → ℕ → ℕ → Type 0) → PayloadError → Type 0
+IsNoPayload Bad error.OutOfMemory = Unit {0}
+IsNoPayload Bad (error.Bad at want got) = Bad at want got × (want ≡ got → ⊥)

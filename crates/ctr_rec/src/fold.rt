@@ -7,10 +7,10 @@ ghost use Rattle.ctr_model.specs.declared.database.Change.{Change};
 ghost use Rattle.ctr_model.specs.declared.database.Change.TheVariants as change;
 ghost use Rattle.ctr_model.specs.Database.{Database, table_at, changed};
 ghost use Rattle.ctr_model.specs.Refusals.{key_of};
-ghost use Rattle.ctr_rec.specs.declared.records.Item.{Item};
-ghost use Rattle.ctr_rec.specs.declared.records.Item.TheVariants as item;
+ghost use Rattle.ctr_rec.specs.declared.item.Item.{Item};
+ghost use Rattle.ctr_rec.specs.declared.item.Item.TheVariants as item;
 ghost use Rattle.ctr_rec.specs.Payload.{IsKeyed, IsRow, payload_of};
-ghost use Rattle.ctr_rec.specs.Records.{Fits, ColumnsFit};
+ghost use Rattle.ctr_rec.specs.Items.{Fits, ColumnsFit};
 ghost use Rattle.ctr_rec.specs.Fold.{Stands, StandAll, FoldsRecord, FoldsRecords, SuitAll, items_of, HasSchemas};
 
 /// Items stand for one list of changes at most.

@@ -6,7 +6,7 @@ ghost use Rattle.ctr_types.specs.declared.value.Value.{Value};
 ghost use Rattle.ctr_types.specs.declared.value.Value.TheVariants as value;
 ghost use Rattle.ctr_model.specs.Refusals.{key_of};
 ghost use Rattle.ctr_rec.specs.declared.payload.PayloadError.TheVariants.{OutOfMemory};
-ghost use Rattle.ctr_rec.specs.Payload.{IsOf, AreOf, IsKeyed, IsRow, field_width as width_of_field, width as width_of_all, field_of, payload_of, IsField, IsPayload, IsRowOf, IsBadField, HasBadField, IsBadPayload, Refuses};
+ghost use Rattle.ctr_rec.specs.Payload.{IsOf, AreOf, IsKeyed, IsRow, field_width as width_of_field, width as width_of_all, field_of, payload_of, IsField, IsPayload, IsRowOf, IsBadField, HasBadField, IsBadPayload, IsNoPayload};
 
 use ctr_bytes::{get_i64, put_i64};
 use ctr_types::{Column, Kind, List, Row, Schema, Text, Value};
@@ -135,7 +135,7 @@ pub fn encode_row(schema: &Schema, row: &Row, into: &mut [u8])
 fn text_at(alloc: Global, most: u8, at: usize, payload: &[u8]) -> Result<Text, PayloadError>
     requires { at + (most + 1) ≤ length payload.now }
     ensures found { IfOk result (λ text. IsOf (Chars most) (value.Chars text) × IsField (Chars most) (value.Chars text) (take (most + 1) (drop at payload.now))) }
-    ensures refused { IfErr result (Refuses (IsBadField (Chars most) at payload.now)) }
+    ensures refused { IfErr result (IsNoPayload (IsBadField (Chars most) at payload.now)) }
 {
     let len = payload[at];
     if len > most {
@@ -153,7 +153,7 @@ fn text_at(alloc: Global, most: u8, at: usize, payload: &[u8]) -> Result<Text, P
 fn value_at(alloc: Global, kind: Kind, at: usize, payload: &[u8]) -> Result<Value, PayloadError>
     requires { at + width_of_field kind ≤ length payload.now }
     ensures found { IfOk result (λ v. IsOf kind v × IsField kind v (take (width_of_field kind) (drop at payload.now))) }
-    ensures refused { IfErr result (Refuses (IsBadField kind at payload.now)) }
+    ensures refused { IfErr result (IsNoPayload (IsBadField kind at payload.now)) }
 {
     match kind {
         Kind::Int => Ok(Value::Int(get_i64(payload, at))),
@@ -170,7 +170,7 @@ fn read_values(
 ) -> Result<(), PayloadError>
     requires { length payload.now ≡ width_of_all columns.now }
     ensures found { OnOk result ((vs : List Value) × (values.new.items ≡ values.old.items ++ vs) × AreOf columns.now vs × IsPayload columns.now vs payload.now) }
-    ensures refused { IfErr result (Refuses (HasBadField columns.now 0 payload.now)) }
+    ensures refused { IfErr result (IsNoPayload (HasBadField columns.now 0 payload.now)) }
 {
     let mut at = 0;
     for i in 0..columns.len() {
@@ -196,7 +196,7 @@ pub fn decode_row(
     // The row whose payload it is is read, unless memory runs out.
     ensures only { (vs : List Value) → IsRowOf schema.now.columns key payload.now vs → MatchResult result (λ row. row.values ≡ vs) (λ e. e ≡ OutOfMemory) }
     // Other bytes are refused by what is bad in them.
-    ensures refused { IfErr result (Refuses (IsBadPayload (drop 1 schema.now.columns) payload.now)) }
+    ensures refused { IfErr result (IsNoPayload (IsBadPayload (drop 1 schema.now.columns) payload.now)) }
 {
     let columns = behind_key(schema.columns.as_slice());
     let want = fields_width(columns);

@@ -7,7 +7,7 @@ use Rattle.std.proofs.lemmas.List.{append_cancel_right}
 use Rattle.ctr_types.specs.declared.statement.Line.{Line}
 use Rattle.ctr_types.specs.declared.statement.Statement.{Statement}
 use Rattle.ctr_types.specs.declared.statement.Statement.TheVariants as st
-use Rattle.ctr_model.specs.Grammar.{first, Lexes, AllMatch, line_parts, Takes, HasNoEnd, EndsLine, IsSkipped, IsLine, AreLines, IsScript, ends, skips, goes_on, NoLine, IsRefusedAt, line_ends}
+use Rattle.ctr_model.specs.Grammar.{first, Lexes, AllMatch, line_parts, FormTakes, HasNoEnd, EndsLine, IsSkipped, IsLine, AreLines, IsScript, ends, skips, goes_on, NoLine, IsRefusedAt, line_ends}
 use Rattle.ctr_parse.specs.Lines.{IsLineOf}
 use Rattle.ctr_script.specs.Added.{IsAdded, Adds, IsNone}
 
@@ -144,7 +144,7 @@ refusals_are_one bytes line at other place a b =
 
 -- ---- sessions
 
-one_session : (n : ℕ) (s : Statement) → Takes first n s → n ≡ 1
+one_session : (n : ℕ) (s : Statement) → FormTakes first n s → n ≡ 1
 one_session n st.Begin h = h
 one_session n st.Commit h = h
 one_session n st.Rollback h = absurd h

@@ -29,12 +29,13 @@ pub record IsSchemaHeld (schema : Schema) : Type 0 where
   pub few : length schema.columns ≤ 8
 
 -- the table that it stands for
-abbrev pub table_of : HeldTable → Table
-table_of h = record { schema = h.schema; rows = seen (λ (r : Option Row). r) h.slots }
+abbrev pub table_held : HeldTable → Table
+table_held h = record { schema = h.schema; rows = seen (λ (r : Option Row). r) h.slots }
 
 -- a row of this key may be put without memory
 abbrev pub HasRoom : ℤ → HeldTable → Type 0
 HasRoom key h = IsTrue (is_some (find int_cmp key h.slots))
 
+-- what a table of the code shows
 abbrev pub held_table : Inside → HeldTable
 held_table a = record { schema = a.schema; slots = a.rows.entries }

@@ -3,7 +3,7 @@ use Rattle.std.specs.Prelude.{◌≡◌, ℕ, ℤ, IsTrue, is_some, List, Option
 use Rattle.std.specs.Option.{option_map}
 use Rattle.std.specs.FinMap.Entries.{find}
 use Rattle.ctr_model.specs.Database.{Database, name_cmp}
-use Rattle.ctr_tables.specs.Stored.{HeldTable, table_of, HasRoom, seen}
+use Rattle.ctr_tables.specs.Stored.{HeldTable, table_held, HasRoom, seen}
 
 -- names with a table or room for one, in order
 abbrev pub Held : Type 0
@@ -11,7 +11,7 @@ Held = List (List ℕ × Option HeldTable)
 
 -- the database that they stand for
 abbrev pub database_of : Held → Database
-database_of held = seen (option_map table_of) held
+database_of held = seen (option_map table_held) held
 
 -- a table of this name may be created without memory
 abbrev pub HasTableRoom : List ℕ → Held → Type 0

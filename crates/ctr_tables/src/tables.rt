@@ -1,12 +1,12 @@
 // The tables of a database by name. A name without a table has room for one.
 ghost use Rattle.std.specs.Prelude.{◌≡◌, [], IsSome, is_some, option_copied, OnOk, IfOk, IfSome};
-ghost use Rattle.std.specs.Option.{option_map, option_map_or};
+ghost use Rattle.std.specs.Option.{option_map};
 ghost use Rattle.std.specs.FinMap.Entries.{put};
 ghost use Rattle.ctr_model.specs.Database.{name_cmp, table_at, at_table, with_row, without_row};
 ghost use Rattle.ctr_model.specs.Maps.{without};
 ghost use Rattle.ctr_model.specs.Refusals.{row_of};
-ghost use Rattle.ctr_model.specs.Reply.{rows_in};
-ghost use Rattle.ctr_tables.specs.Stored.{table_of, IsSchemaHeld};
+ghost use Rattle.ctr_model.specs.Reply.{rows_found};
+ghost use Rattle.ctr_tables.specs.Stored.{table_held, IsSchemaHeld};
 ghost use Rattle.ctr_tables.specs.Tables.{database_of, HasTableRoom, HasRowRoom};
 
 use crate::stored::Stored;
@@ -45,7 +45,7 @@ impl Tables {
     }
 
     fn table(&self, name: &Name) -> Option<&Stored>
-        ensures { option_map table_of (option_copied result) ≡ table_at (database_of self.now) name.now }
+        ensures { option_map table_held (option_copied result) ≡ table_at (database_of self.now) name.now }
     {
         match self.tables.get(name) {
             Some(slot) => slot.as_ref(),
@@ -75,7 +75,7 @@ impl Tables {
 
     /// The rows of a table in the order of their keys, none where it isn't there.
     pub fn listing(&self, alloc: Global, name: &Name) -> Result<List<Row>, AllocError>
-        ensures { IfOk result (λ rows. rows ≡ option_map_or (rows_in None) (table_at (database_of self.now) name.now) []) }
+        ensures { IfOk result (λ rows. rows ≡ rows_found None (table_at (database_of self.now) name.now)) }
     {
         match self.table(name) {
             Some(table) => table.listing(alloc),

@@ -8,13 +8,13 @@ use Rattle.ctr_model.specs.declared.database.Table.{Table}
 use Rattle.ctr_model.specs.declared.database.Change.{Change}
 use Rattle.ctr_model.specs.declared.database.Change.TheVariants as change
 use Rattle.ctr_model.specs.Database.{Database, table_at, at_table, with_row, changed, after}
-use Rattle.ctr_rec.specs.declared.records.Item.{Item}
-use Rattle.ctr_rec.specs.declared.records.Item.TheVariants as item
-use Rattle.ctr_rec.specs.declared.records.RecordError.{RecordError}
-use Rattle.ctr_rec.specs.declared.records.RecordError.TheVariants as record_error
+use Rattle.ctr_rec.specs.declared.item.Item.{Item}
+use Rattle.ctr_rec.specs.declared.item.Item.TheVariants as item
+use Rattle.ctr_rec.specs.declared.decoding.RecordError.{RecordError}
+use Rattle.ctr_rec.specs.declared.decoding.RecordError.TheVariants as record_error
 use Rattle.ctr_rec.specs.declared.payload.PayloadError.{PayloadError}
 use Rattle.ctr_rec.specs.declared.payload.PayloadError.TheVariants as payload
-use Rattle.ctr_rec.specs.Payload.{IsRowOf, Refuses as RefusesPayload}
+use Rattle.ctr_rec.specs.Payload.{IsRowOf, IsNoPayload as RefusesPayload}
 use Rattle.ctr_rec.specs.Fold.{HasTable, StandAll, Folds, FoldsRecord, FoldsRecords}
 use Rattle.ctr_thin.specs.Opening.{of_payload}
 use Rattle.ctr_thin.specs.Thin.{Applies, CanApply, RefusesRecord}

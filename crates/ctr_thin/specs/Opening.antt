@@ -6,8 +6,8 @@ use Rattle.ctr_log.specs.declared.reading.ReadError.{ReadError}
 use Rattle.ctr_log.specs.declared.reading.ReadError.TheVariants as read
 use Rattle.ctr_rec.specs.declared.payload.PayloadError.{PayloadError}
 use Rattle.ctr_rec.specs.declared.payload.PayloadError.TheVariants as payload
-use Rattle.ctr_rec.specs.declared.records.RecordError.{RecordError}
-use Rattle.ctr_rec.specs.declared.records.RecordError.TheVariants as record_error
+use Rattle.ctr_rec.specs.declared.decoding.RecordError.{RecordError}
+use Rattle.ctr_rec.specs.declared.decoding.RecordError.TheVariants as record_error
 use Rattle.ctr_thin.specs.declared.opening.OpenError.{OpenError}
 use Rattle.ctr_thin.specs.declared.opening.OpenError.TheVariants.{Damaged, Fault, OutOfMemory}
 

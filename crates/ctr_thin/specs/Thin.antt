@@ -10,9 +10,9 @@ use Rattle.ctr_log.specs.Reading.{log_file}
 use Rattle.ctr_log.specs.Fresh.{first_checkpoint}
 use Rattle.ctr_model.specs.declared.database.Change.{Change}
 use Rattle.ctr_model.specs.Database.{Database, changed}
-use Rattle.ctr_rec.specs.declared.records.Item.{Item}
-use Rattle.ctr_rec.specs.declared.records.RecordError.{RecordError}
-use Rattle.ctr_rec.specs.declared.records.RecordError.TheVariants as record_error
+use Rattle.ctr_rec.specs.declared.item.Item.{Item}
+use Rattle.ctr_rec.specs.declared.decoding.RecordError.{RecordError}
+use Rattle.ctr_rec.specs.declared.decoding.RecordError.TheVariants as record_error
 use Rattle.ctr_rec.specs.Fold.{Stands, Folds, FoldsRecord, FoldsRecords}
 use Rattle.ctr_tables.specs.Tables.{database_of}
 use Rattle.ctr_thin.specs.declared.opening.Opened.{Opened}

@@ -3,9 +3,9 @@ ghost use Rattle.std.specs.Prelude.{◌≡◌, ◌≢◌, List, ℕ, Some, None,
 ghost use Rattle.std.specs.List.{AllByRecursion};
 ghost use Rattle.ctr_types.specs.Names.{IsName};
 ghost use Rattle.ctr_model.specs.Database.{table_at};
-ghost use Rattle.ctr_rec.specs.declared.records.Item.TheVariants as item_is;
-ghost use Rattle.ctr_rec.specs.declared.records.RecordError.TheVariants.{Bad};
-ghost use Rattle.ctr_rec.specs.Records.{Fits, ColumnsFit};
+ghost use Rattle.ctr_rec.specs.declared.item.Item.TheVariants as item_is;
+ghost use Rattle.ctr_rec.specs.declared.decoding.RecordError.TheVariants.{Bad};
+ghost use Rattle.ctr_rec.specs.Items.{Fits, ColumnsFit};
 ghost use Rattle.ctr_rec.specs.Fold.{Folds, FoldsRecord, FoldsRecords};
 ghost use Rattle.ctr_tables.specs.Tables.{database_of};
 ghost use Rattle.ctr_thin.specs.Opening.{of_payload};

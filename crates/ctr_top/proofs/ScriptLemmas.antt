@@ -9,8 +9,8 @@ use Rattle.ctr_types.specs.declared.value.Kind.TheVariants as kind
 use Rattle.ctr_types.specs.declared.statement.Statement.{Statement}
 use Rattle.ctr_types.specs.declared.statement.Statement.TheVariants as st
 use Rattle.ctr_types.specs.declared.statement.Line.{Line}
-use Rattle.ctr_model.specs.Grammar.{first, Part, AllMatch, Takes, IsWithin, IsKind, AreLines, ends, skips, goes_on, column_parts, schema_parts, kind_parts, statement_parts, close_paren, open_paren, sign, session, key, name, IsSchema}
-use Rattle.ctr_rec.specs.Records.{KindFits, ColumnFits, ColumnsFit}
+use Rattle.ctr_model.specs.Grammar.{first, Part, AllMatch, FormTakes, IsWithin, IsKind, AreLines, ends, skips, goes_on, column_parts, schema_parts, kind_parts, statement_parts, close_paren, open_paren, sign, session, key, name, IsSchema}
+use Rattle.ctr_rec.specs.Items.{KindFits, ColumnFits, ColumnsFit}
 use Rattle.ctr_world.specs.Turn.{IsTaken}
 use Rattle.ctr_world.specs.World.{AreTaken}
 
@@ -67,7 +67,7 @@ schema_fits [] is names = absurd is.key
 schema_fits (c ∷ cs) is names =
     ((names.0, subst (KindFits 0) (sym is.key) tt), columns_fit cs names.1 is.kinds.1, omega (arith, is.amount.1))
 
-taken : (s : ℕ) (statement : Statement) (ts : List (List ℕ)) → Takes first s statement → IsWithin statement → AllMatch first (session s ∷ sign 62 ∷ statement_parts statement ++ sign 59 ∷ []) ts → (s ≡ 1) × IsTaken statement
+taken : (s : ℕ) (statement : Statement) (ts : List (List ℕ)) → FormTakes first s statement → IsWithin statement → AllMatch first (session s ∷ sign 62 ∷ statement_parts statement ++ sign 59 ∷ []) ts → (s ≡ 1) × IsTaken statement
 taken s st.Begin ts takes within m = (takes, tt)
 taken s st.Commit ts takes within m = (takes, tt)
 taken s st.Rollback ts takes within m = absurd takes

@@ -227,12 +227,12 @@ module _ {D : Type 0} (dev : Ghosts D)
     as_commit : RepliesAs now_state act.Answer commit.0.statement r (seen_of v.session) v.session.stage
     as_commit = subst (λ s. RepliesAs now_state act.Answer s r (seen_of v.session) v.session.stage) (sym commit.2) replies
 
-    moves : advanced commit.0.statement r (record { finished = w.finished; made = 1 }) ≡ record { finished = w.finished + 1; made = 0 }
-    moves = ap (λ s. advanced s r (record { finished = w.finished; made = 1 })) commit.2 ∙ second r w.finished
+    moves : advanced (acts_of now_state 1 commit.0.statement) r (record { finished = w.finished; made = 1 }) ≡ record { finished = w.finished + 1; made = 0 }
+    moves = ap (λ s. advanced (acts_of now_state 1 s) r (record { finished = w.finished; made = 1 })) commit.2 ∙ second r w.finished
 
     adds : Adds w.script.lines op.start base w.tape.items answer commit.0.statement (w.finished + 1) 0
     adds = act_adds grow w.script.lines bounded.taken op.start base w.tape.items w.finished 1 (dev.moment_of w.disk) on_asked commit.0 commit.1 act.Answer r (dev.moment_of e) (w.finished + 1) 0
-        runs.at.legal (ap (λ s. slice_get (acts_of s) 1) commit.2) turn
+        runs.at.legal (ap (λ s. slice_get (acts_of now_state 1 s) 1) commit.2) turn
         as_commit.allowed on moves
 
     shows_after : Shows after_state v.session

@@ -141,14 +141,14 @@ module _ {D : Type 0} (dev : Ghosts D)
     kept_two r two gathers waits =
         let n = w.finished in
         let lock = goes_act dev earlier grow w.script.lines bounded.taken op.start op.before base w.disk w.tape.items n 0 n 1 l act.Lock reply.Granted goes there
-        (ap (λ (q : List Act). slice_get q 0) two.both) refl two.replies.allowed
-        (ap (λ (q : List Act). advanced_by (length q) reply.Granted n 0) two.both) in
+        (ap (λ (q : List Act). slice_get q 0) (two.both state)) refl two.replies.allowed
+        (ap (λ (q : List Act). advanced_by (length q) reply.Granted n 0) (two.both state)) in
         let mid = w.tape.items ++ next_entry dev w act.Lock reply.Granted ∷ [] in
         let between : State = (reached w.script.lines op.start base mid).state in
         let locked : State = next_state state 1 act.Lock (Some l.statement) reply.Granted in
         let write = goes_act dev earlier grow w.script.lines bounded.taken op.start op.before base w.disk mid n 1 (n + 1) 0 l act.Write r lock.goes there
-        (ap (λ (q : List Act). slice_get q 1) two.both) refl
-        (subst (λ (s : State). Allowed s 1 act.Write (Some l.statement) r) (sym lock.state_is) two.replies.write.allowed) (ap (λ (q : List Act). advanced_by (length q) r n 1) two.both ∙ second r n) in
+        (ap (λ (q : List Act). slice_get q 1) (two.both between)) refl
+        (subst (λ (s : State). Allowed s 1 act.Write l.statement r) (sym lock.state_is) two.replies.write.allowed) (ap (λ (q : List Act). advanced_by (length q) r n 1) (two.both between) ∙ second r n) in
         let all = mid ++ next_entry dev w act.Write r ∷ [] in
         let after : State = (reached w.script.lines op.start base all).state in
         let state_is : after ≡ next_state locked 1 act.Write (Some l.statement) r = write.state_is ∙ ap (λ (s : State). next_state s 1 act.Write (Some l.statement) r) lock.state_is in

@@ -60,8 +60,8 @@ module _ {D : Type 0} (dev : Ghosts D) (earlier : (d : D) (s t : ℕ) (c : Image
     pub answers_are : answers (es ++ e ∷ []) ≡ answers es
 
   pub goes_act : (es : List Entry) (finished made finished' made' : ℕ) (l : Line) (a : Act) (r : Reply) → Goes es finished made → slice_get lines finished ≡ Some l
-      → slice_get (acts_of l.statement) made ≡ Some a → is_answering a ≡ false
-      → Allowed (reached lines start base es).state 1 a (Some l.statement) r → advanced l.statement r (record { finished = finished; made = made }) ≡ record { finished = finished'; made = made' }
+      → slice_get (acts_of (reached lines start base es).state 1 l.statement) made ≡ Some a → is_answering a ≡ false
+      → Allowed (reached lines start base es).state 1 a l.statement r → advanced (acts_of (reached lines start base es).state 1 l.statement) r (record { finished = finished; made = made }) ≡ record { finished = finished'; made = made' }
       → GoesOnBy es (record { session = 1; statement = finished + 1; act = a; reply = r; moment = dev.moment_of d }) l.statement finished' made'
   goes_act es finished made finished' made' l a r goes there next no_answer allowed moves =
       let state = (reached lines start base es).state in

@@ -98,9 +98,9 @@ module _ (grow : StatesGrow) (lines : List Line) (all : AreTaken lines) (start :
   at_passed : reached lines start base (es ++ entry ∷ []) ≡ passed_by (Some l.statement) p entry
   at_passed = final_more lines (at_start start base []) es entry ∙ passes
 
-  pub act_adds : (finished' made' : ℕ) → Legal lines (at_start start base []) es → slice_get (acts_of l.statement) made ≡ Some a → IsInTurn p.state 1 a
-      → Allowed p.state 1 a (Some l.statement) r → now ≤ moment
-      → advanced l.statement r (record { finished = finished; made = made }) ≡ record { finished = finished'; made = made' }
+  pub act_adds : (finished' made' : ℕ) → Legal lines (at_start start base []) es → slice_get (acts_of p.state 1 l.statement) made ≡ Some a → IsInTurn p.state 1 a
+      → Allowed p.state 1 a l.statement r → now ≤ moment
+      → advanced (acts_of p.state 1 l.statement) r (record { finished = finished; made = made }) ≡ record { finished = finished'; made = made' }
       → Adds lines start base es entry l.statement finished' made'
   act_adds finished' made' legal next turn allowed later goes = record {
     legal = legal_more lines (at_start start base []) es entry legal (record {
@@ -110,7 +110,7 @@ module _ (grow : StatesGrow) (lines : List Line) (all : AreTaken lines) (start :
         statement_at lines finished l all there,
         record {
           number = ap (λ (q : Progress). q.finished + 1) (sym on.own);
-          next_act = ap (λ (q : Progress). slice_get (acts_of l.statement) q.made) on.own ∙ next;
+          next_act = ap (λ (q : Progress). slice_get (acts_of p.state 1 l.statement) q.made) on.own ∙ next;
           in_turn = turn;
           allowed = allowed;
         },
@@ -118,10 +118,10 @@ module _ (grow : StatesGrow) (lines : List Line) (all : AreTaken lines) (start :
     });
     on = subst (λ (q : Point). IsOn base q finished' made' moment) (sym at_passed) (record {
       base_is = (grow p.state 1 a (Some l.statement) r).base ∙ on.base_is;
-      own = ap (λ (o : Option Progress). unwrap_or o (record { finished = 0; made = 0 })) (find-put-same 1 (advanced l.statement r (progress_of p 1)) p.progress)
-          ∙ ap (advanced l.statement r) on.own ∙ goes;
+      own = ap (λ (o : Option Progress). unwrap_or o (record { finished = 0; made = 0 })) (find-put-same 1 (advanced (acts_of p.state 1 l.statement) r (progress_of p 1)) p.progress)
+          ∙ ap (advanced (acts_of p.state 1 l.statement) r) on.own ∙ goes;
       others = λ s other. ap (λ (o : Option Progress). unwrap_or o (record { finished = 0; made = 0 }))
-          (find-put-other s 1 (advanced l.statement r (progress_of p 1)) p.progress (not_one s other)) ∙ on.others s other;
+          (find-put-other s 1 (advanced (acts_of p.state 1 l.statement) r (progress_of p 1)) p.progress (not_one s other)) ∙ on.others s other;
       later = omega arith;
     });
     state_is = ap (λ (q : Point). q.state) at_passed;

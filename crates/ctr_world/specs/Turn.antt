@@ -10,7 +10,7 @@ use Rattle.ctr_model.specs.declared.state.State.{State}
 use Rattle.ctr_model.specs.declared.tape.Progress.{Progress}
 use Rattle.ctr_model.specs.Tape.{acts_of, advanced}
 use Rattle.ctr_log.specs.Logs.{Log}
-use Rattle.ctr_rec.specs.Records.{ColumnsFit}
+use Rattle.ctr_rec.specs.Items.{ColumnsFit}
 use Rattle.ctr_exec.specs.declared.session.Session.{Session}
 use Rattle.ctr_exec.specs.declared.session.Stage.{Stage}
 use Rattle.ctr_exec.specs.declared.session.Stage.TheVariants as stage
@@ -42,14 +42,14 @@ is_answering a = false
 
 -- one act of the statement, its first
 pub record IsOne (state : State) (statement : Statement) (a : Act) (answer : Reply) (new : Session) : Type 0 where
-  pub first_act : slice_get (acts_of statement) 0 ≡ Some a
+  pub first_act : slice_get (acts_of state 1 statement) 0 ≡ Some a
   pub no_answer : is_answering a ≡ false
   pub replies : Replies state a statement answer new
-  pub passes : (n : ℕ) → advanced statement answer (record { finished = n; made = 0 }) ≡ passed_on answer n
+  pub passes : (n : ℕ) → advanced (acts_of state 1 statement) answer (record { finished = n; made = 0 }) ≡ passed_on answer n
 
--- both acts of a statement that locks and writes
+-- both acts of a statement that locks and writes, which are the same at every state
 pub record IsTwo (state : State) (statement : Statement) (answer : Reply) (new : Session) : Type 0 where
-  pub both : acts_of statement ≡ act.Lock ∷ act.Write ∷ []
+  pub both : (at : State) → acts_of at 1 statement ≡ act.Lock ∷ act.Write ∷ []
   pub replies : RepliesTwice state statement answer new
 
 -- the replies are the model's, and the session shows the state that they leave

@@ -28,7 +28,7 @@ pub enum Acts {
 
 // A lock that is refused is the only act.
 fn of_written(written: Written) -> Acts
-    ensures turn { (state : State) (statement : Statement) (a : Session) → acts_of statement ≡ act.Lock ∷ act.Write ∷ [] → RepliesWritten state statement written a → TurnIs state statement result a }
+    ensures turn { (state : State) (statement : Statement) (a : Session) → ((at : State) → acts_of at 1 statement ≡ act.Lock ∷ act.Write ∷ []) → RepliesWritten state statement written a → TurnIs state statement result a }
     ensures gathers { (a : Session) (old new : Log) → new ≡ record old { room = new.room } → Gathers result a old new }
     ensures waits { (g : Stage) → g ≢ stage.Asked → WaitsAfter result g }
     ensures not_full { IsWrittenNotFull written → IsNotFull (last_reply result) }

@@ -2,7 +2,7 @@
 use Rattle.std.proofs.Common.{◌≡◌, ◌<◌, ◌∷◌, ◌+◌, ℕ, subst, rules}
 use Rattle.ctr_model.specs.Grammar.{IsLetter, IsDigit, IsSign}
 use Rattle.ctr_lex.specs.Tokens.{NoneBegins}
-use Rattle.ctr_lex.specs.One.{IsOne}
+use Rattle.ctr_lex.specs.One.{IsLongestToken}
 use Rattle.ctr_lex.proofs.Ones.{word_one, numeral_one, minus_one, minus_none, sign_one, nothing_begins}
 use Rattle.ctr_lex.proofs.one.len_from.Goals as goal
 
@@ -37,7 +37,7 @@ returns-in_err-text_len c =
 pub returns-then-first-eq-QUOTE : goal.returns-then-first-eq-QUOTE
 returns-then-first-eq-QUOTE c =
     let quote : 39 ≡ c.args.first = search rules in
-    subst (λ (d : ℕ). IsOne (d ∷ c.args.rest.now) (1 + c.in_ok-text_len.field-0)) quote c.in_ok-text_len.ensures
+    subst (λ (d : ℕ). IsLongestToken (d ∷ c.args.rest.now) (1 + c.in_ok-text_len.field-0)) quote c.in_ok-text_len.ensures
 
 pub returns-then-is_sign : goal.returns-then-is_sign
 returns-then-is_sign c =

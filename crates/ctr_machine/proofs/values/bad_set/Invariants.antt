@@ -1,7 +1,7 @@
 use Rattle.std.proofs.Common.{◌≡◌, [], take, drop}
-use Rattle.ctr_model.specs.Refusals.{bad_set_behind}
+use Rattle.ctr_model.specs.Refusals.{bad_set_after}
 use Rattle.ctr_machine.proofs.values.bad_set.Given as goal
 
 -- what is left, behind those that are passed, tells what all tell
 abbrev pub invariant-loop-i : goal.invariant-loop-i
-invariant-loop-i l = bad_set_behind l.columns (take l.i l.sets) (drop l.i l.sets) ≡ bad_set_behind l.columns [] l.sets
+invariant-loop-i l = bad_set_after l.columns (take l.i l.sets) (drop l.i l.sets) ≡ bad_set_after l.columns [] l.sets

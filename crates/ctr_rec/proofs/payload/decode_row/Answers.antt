@@ -2,7 +2,7 @@ use Rattle.std.proofs.Common.{◌≡◌, ◌∙◌, ◌++◌, ◌∷◌, [], ap,
 use Rattle.std.proofs.lemmas.Int.{to_z-of_z}
 use Rattle.std.proofs.lemmas.Result.{err_from_is_err_and}
 use Rattle.ctr_types.specs.declared.value.Value.TheVariants as value
-use Rattle.ctr_rec.specs.Payload.{AreOf, width, IsPayload, HasBadField, Refuses}
+use Rattle.ctr_rec.specs.Payload.{AreOf, width, IsPayload, HasBadField, IsNoPayload}
 use Rattle.ctr_rec.proofs.PayloadLaws.{one_row}
 use Rattle.ctr_rec.proofs.PayloadLoops.{row_len, only_memory, row_read}
 use Rattle.ctr_rec.proofs.payload.decode_row.Goals as goal
@@ -17,7 +17,7 @@ returns-in_err-read_values-clause-only c = λ vs row.
     let columns : c.behind_key-columns.result.now ≡ drop 1 c.args.schema.now.columns = c.behind_key-columns.ensures ∙ ap (drop 1) c.as_slice.ensures in
     let p = err_from_is_err_and c.from_residual-in_err-read_values.result c.from_residual-in_err-read_values.ensures.1 in
     let e = c.in_err-read_values.field-0.0 in
-    rw (p.1, p.2) (only_memory c.args.schema.now.columns c.args.key c.args.payload.now vs e row (subst (λ l. Refuses (HasBadField l 0 c.args.payload.now) e) columns c.in_err-read_values.ensures.refused))
+    rw (p.1, p.2) (only_memory c.args.schema.now.columns c.args.key c.args.payload.now vs e row (subst (λ l. IsNoPayload (HasBadField l 0 c.args.payload.now) e) columns c.in_err-read_values.ensures.refused))
 
 pub returns-clause-only : goal.returns-clause-only
 returns-clause-only c = λ vs row.

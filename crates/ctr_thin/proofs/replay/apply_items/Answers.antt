@@ -1,8 +1,8 @@
 use Rattle.std.proofs.Common.{◌+◌, List, drop, subst, sym}
 use Rattle.std.specs.List.{AllByRecursion}
 use Rattle.std.proofs.lemmas.Result.{err_from_is_err_and}
-use Rattle.ctr_rec.specs.declared.records.Item.{Item}
-use Rattle.ctr_rec.specs.Records.{Fits}
+use Rattle.ctr_rec.specs.declared.item.Item.{Item}
+use Rattle.ctr_rec.specs.Items.{Fits}
 use Rattle.ctr_rec.specs.Fold.{Folds}
 use Rattle.ctr_tables.specs.Tables.{database_of}
 use Rattle.ctr_thin.specs.Thin.{CanApply, CanApplyItems}

@@ -1,7 +1,7 @@
 use Rattle.std.proofs.Common.{drop}
 use Rattle.std.specs.List.{AllByRecursion}
 use Rattle.ctr_model.specs.Database.{Database}
-use Rattle.ctr_rec.specs.Records.{Fits}
+use Rattle.ctr_rec.specs.Items.{Fits}
 use Rattle.ctr_rec.specs.Fold.{Folds}
 use Rattle.ctr_tables.specs.Tables.{database_of}
 use Rattle.ctr_thin.proofs.replay.apply_items.Given as goal

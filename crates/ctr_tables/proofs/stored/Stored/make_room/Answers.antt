@@ -4,7 +4,7 @@ use Rattle.std.specs.Option.{option_and_then}
 use Rattle.std.specs.Cmp.{int_cmp_total}
 use Rattle.std.proofs.lemmas.Map.Lookups.{exact_signed}
 use Rattle.ctr_types.specs.declared.value.Row.{Row}
-use Rattle.ctr_tables.specs.Stored.{HeldTable, table_of, HasRoom}
+use Rattle.ctr_tables.specs.Stored.{HeldTable, table_held, HasRoom}
 use Rattle.ctr_tables.proofs.Seen.{lookup_is, none_of, sorted_is, seen_room}
 use Rattle.ctr_tables.proofs.stored.Stored.make_room.Goals as goal
 
@@ -20,4 +20,4 @@ returns-clause-same c =
     let rows = seen_room int_cmp (λ (r : Option Row). r) int_cmp_total exact_signed old c.insert.new.self.entries c.args.key None (sorted_is int_cmp (λ (r : Option Row). r) old c.self.invariant.0)
     (sorted_is int_cmp (λ (r : Option Row). r) c.insert.new.self.entries c.insert.ensures.ordered) c.in_ok-insert.ensures.updates.0 refl
     (ap (option_and_then (λ (r : Option Row). r)) (sym (lookup_is int_cmp (λ (r : Option Row). r) c.args.key old) ∙ absent)) in
-    ap (λ rs. record { schema = c.self.inside.schema; rows = rs }) rows ∙ ap table_of c.self.view_is
+    ap (λ rs. record { schema = c.self.inside.schema; rows = rs }) rows ∙ ap table_held c.self.view_is
