@@ -1,8 +1,7 @@
 // Device calls that a suite lists, and the writing of a root, over a disk in memory.
-use crate::calls::{counts_of, images_of, listing_of, moments_of};
 use crate::numbers::{hex_bytes, split_file, split_number, split_word};
 use crate::page::Page;
-use crate::run::disk_of;
+use crate::run::{disk_of, look_at};
 use crate::setup::{Ask, Ran, Setup};
 use ctr_disk::{Disk, File, MemDisk, Root};
 use ctr_log::{read_root, write_root};
@@ -113,17 +112,16 @@ fn make_calls(
 }
 
 fn ended(alloc: Global, disk: &MemDisk, page: &Page, ask: Ask) -> Result<Ran, AllocError> {
+    let text = page.bytes().to_vec(alloc)?;
+    let printing = page.bytes().to_vec(alloc)?;
+    let seen = look_at(alloc, disk, printing, ask)?;
     Ok(Ran {
         status: 0,
         tape: Tape {
             entries: List::new(alloc),
         },
-        text: page.bytes().to_vec(alloc)?,
-        printing: page.bytes().to_vec(alloc)?,
-        moments: moments_of(alloc, disk.calls())?,
-        images: images_of(alloc, disk, ask)?,
-        listing: listing_of(alloc, disk.calls(), ask),
-        counts: counts_of(disk),
+        text,
+        seen,
     })
 }
 

@@ -4,6 +4,7 @@
 //! output, which `rt ci` compares with the file `stdout`.
 #![tactic(auto)]
 
+mod alter;
 mod calls;
 mod databases;
 mod device;
@@ -18,6 +19,7 @@ mod script;
 mod setup;
 mod steps;
 mod sweep;
+mod words;
 
 use page::Page;
 use player::Player;

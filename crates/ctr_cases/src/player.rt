@@ -1,4 +1,5 @@
 // Plays the lines of a suite.
+use crate::alter::{altered, part, with_length};
 use crate::databases::Right;
 use crate::judge::{Found, Probe, found_in, led_from, script_of};
 use crate::numbers::{hex_bytes, name_of, number, numbers, split_file, split_number, split_word};
@@ -9,9 +10,10 @@ use crate::script::add_line;
 use crate::setup::{Ask, Counts, Ran, Setup, Work, run_words, set_file};
 use crate::steps::{Step, step_of};
 use crate::sweep::{NO_DATABASE, sweep_failures, sweep_stops};
-use ctr_disk::{Image, Root};
+use crate::words::{root_of, words_in};
+use ctr_disk::Image;
 use ctr_types::{OutOfMemory, Plain};
-use std::alloc::{AllocError, Global};
+use std::alloc::Global;
 use std::mem;
 
 /// The status of a run that finds a damaged database.
@@ -240,21 +242,37 @@ impl Player {
     }
 
     fn run(&mut self) -> Result<(), OutOfMemory> {
+        self.begin_last()?;
+        let ran = play(self.alloc, &self.last, Ask::Last)?;
+        self.take_run(&ran)
+    }
+
+    // The run that waited becomes the last one.
+    fn begin_last(&mut self) -> Result<(), OutOfMemory> {
         let next = Setup::new(self.alloc, Image::new(self.alloc));
         self.last = mem::replace(&mut self.next, next);
         self.last.image = self.image.copy(self.alloc)?;
-        let ran = play(self.alloc, &self.last, Ask::Last)?;
-        self.tell(&ran);
-        self.counts = ran.counts;
         self.before = self.right.copy(self.alloc)?;
+        Ok(())
+    }
+
+    fn take_run(&mut self, ran: &Ran) -> Result<(), OutOfMemory> {
+        self.tell(ran);
+        self.counts = ran.seen.counts;
         if self.judged {
-            self.judge(&ran)?;
+            self.judge(ran)?;
         }
-        for image in ran.images.iter() {
-            self.image = image.copy(self.alloc)?;
-        }
+        self.take_image(ran)?;
         if self.judged && ran.status != NO_DATABASE && ran.status != DAMAGED {
             self.narrow()?;
+        }
+        Ok(())
+    }
+
+    // Goes on with the image of a run.
+    fn take_image(&mut self, ran: &Ran) -> Result<(), OutOfMemory> {
+        if let Some(image) = ran.seen.images.first() {
+            self.image = image.copy(self.alloc)?;
         }
         Ok(())
     }
@@ -296,9 +314,9 @@ impl Player {
     // The text was put, or a front of it where the sink was to fail.
     fn is_printed(&self, ran: &Ran) -> bool {
         if self.last.sink_fails.is_empty() {
-            return ran.text.as_slice() == ran.printing.as_slice();
+            return ran.text.as_slice() == ran.seen.printing.as_slice();
         }
-        ran.printing.starts_with(&ran.text)
+        ran.seen.printing.starts_with(&ran.text)
     }
 
     fn judge_init(&mut self, ran: &Ran) -> Result<(), OutOfMemory> {
@@ -342,13 +360,10 @@ impl Player {
             return Ok(None);
         };
         let ran = play(self.alloc, &self.last, Ask::Stop(calls, digits))?;
-        for image in ran.images.iter() {
-            self.image = image.copy(self.alloc)?;
-        }
         self.right.least = 0;
         self.right.most = self.right.list.len();
         self.right.none = self.before.none;
-        Ok(Some(()))
+        self.take_image(&ran).map(Some)
     }
 
     fn put_found(&mut self) -> Result<(), OutOfMemory> {
@@ -371,7 +386,7 @@ impl Player {
 
     fn list_calls(&mut self) -> Result<(), OutOfMemory> {
         let ran = play(self.alloc, &self.last, Ask::Calls)?;
-        self.page.put(ran.listing.bytes());
+        self.page.put(ran.seen.listing.bytes());
         Ok(())
     }
 
@@ -403,8 +418,12 @@ impl Player {
     // The tokens of each line, or whether it is a script.
     fn put_each(&mut self, is_tokens: bool) -> Result<(), OutOfMemory> {
         let next = Setup::new(self.alloc, Image::new(self.alloc));
-        let Setup { script, .. } = mem::replace(&mut self.next, next);
-        let lines = script.strip_suffix(b"\n").unwrap_or(&script);
+        let setup = mem::replace(&mut self.next, next);
+        self.put_lines(is_tokens, &setup.script)
+    }
+
+    fn put_lines(&mut self, is_tokens: bool, script: &[u8]) -> Result<(), OutOfMemory> {
+        let lines = script.strip_suffix(b"\n").unwrap_or(script);
         for line in lines.split(|byte| *byte == b'\n') {
             if is_tokens {
                 put_tokens(self.alloc, &mut self.page, line)?;
@@ -426,61 +445,4 @@ impl Player {
         }
         Ok(Some(()))
     }
-}
-
-// The words of a line; one that isn't UTF-8 is left out.
-fn words_in(alloc: Global, rest: &[u8]) -> Result<Vec<String>, AllocError> {
-    let mut words = Vec::new(alloc);
-    for word in rest.split(|byte| *byte == b' ') {
-        if let Ok(text) = str::from_utf8(word) {
-            if !text.is_empty() {
-                words.push(String::from_str(alloc, text)?)?;
-            }
-        }
-    }
-    Ok(words)
-}
-
-// A stamp, the number of a file and a first LSN.
-fn root_of(alloc: Global, rest: &[u8]) -> Result<Option<Root>, AllocError> {
-    let Some(list) = numbers(alloc, rest)? else {
-        return Ok(None);
-    };
-    match (list.first(), list.get(1), list.get(2)) {
-        (Some(stamp), Some(file), Some(first)) => Ok(Some(Root {
-            stamp: *stamp,
-            format: 0,
-            file: (*file % 2) as u8,
-            first: *first,
-            pages: 0,
-        })),
-        _ => Ok(None),
-    }
-}
-
-// The bytes from a place to another, as far as there are any.
-fn part(bytes: &[u8], from: u64, to: u64) -> &[u8] {
-    let to = (bytes.len() as u64).min(to);
-    let from = to.min(from);
-    &bytes[from as usize..to as usize]
-}
-
-// The bytes with others from a place on; those past the end are added.
-fn altered(alloc: Global, bytes: &[u8], place: u64, with: &[u8]) -> Result<Vec<u8>, AllocError> {
-    let mut altered = Vec::new(alloc);
-    altered.extend_from_slice(part(bytes, 0, place))?;
-    altered.extend_from_slice(with)?;
-    let after = altered.len() as u64;
-    altered.extend_from_slice(part(bytes, after, u64::MAX))?;
-    Ok(altered)
-}
-
-// The first bytes, with zeros after the last where there are fewer.
-fn with_length(alloc: Global, bytes: &[u8], length: u64) -> Result<Vec<u8>, AllocError> {
-    let mut changed = Vec::new(alloc);
-    changed.extend_from_slice(part(bytes, 0, length))?;
-    for _ in changed.len() as u64..length {
-        changed.push(0)?;
-    }
-    Ok(changed)
 }

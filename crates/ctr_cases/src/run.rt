@@ -4,10 +4,10 @@ ghost use Rattle.std.specs.Prelude.{◌<◌};
 use crate::calls::{counts_of, images_of, listing_of, moments_of};
 use crate::device::{play_calls, play_root};
 use crate::printed::printing_of;
-use crate::setup::{Ask, Ran, Setup, Work};
+use crate::setup::{Ask, Ran, Seen, Setup, Work};
 use ctr_disk::{MemDisk, MemSink, MemSource};
 use ctr_model::Command;
-use ctr_top::run_serial;
+use ctr_top::{Ended, run_serial};
 use ctr_types::{List, Plain, Text};
 use std::alloc::{AllocError, Global};
 
@@ -44,12 +44,13 @@ pub fn disk_of(alloc: Global, setup: &Setup) -> Result<MemDisk, AllocError> {
     Ok(disk.counted(setup.faults, setup.strays))
 }
 
-// Runs a command. This is the one function that calls `run_serial`.
-fn play_command(alloc: Global, setup: &Setup, ask: Ask) -> Result<Ran, AllocError> {
-    let mut source = source_of(alloc, setup)?;
-    let mut sink = sink_of(alloc, setup)?;
-    let disk = disk_of(alloc, setup)?;
-    let ended = run_serial(alloc, &setup.words, disk, &mut source, &mut sink);
+// What a run's end shows.
+fn seen_of(
+    alloc: Global,
+    setup: &Setup,
+    ended: &Ended<MemDisk>,
+    ask: Ask,
+) -> Result<Seen, AllocError> {
     let command = if setup.is_command("init") {
         Command::Init
     } else {
@@ -63,19 +64,39 @@ fn play_command(alloc: Global, setup: &Setup, ask: Ask) -> Result<Ran, AllocErro
         &ended.tape,
         &ended.report,
     );
-    let counts = counts_of(&ended.disk);
-    let moments = moments_of(alloc, ended.disk.calls())?;
-    let images = images_of(alloc, &ended.disk, ask)?;
-    let listing = listing_of(alloc, ended.disk.calls(), ask);
+    look_at(alloc, &ended.disk, printing, ask)
+}
+
+/// What is asked of a disk.
+pub fn look_at(
+    alloc: Global,
+    disk: &MemDisk,
+    printing: Vec<u8>,
+    ask: Ask,
+) -> Result<Seen, AllocError> {
+    let moments = moments_of(alloc, disk.calls())?;
+    let images = images_of(alloc, disk, ask)?;
+    Ok(Seen {
+        printing,
+        moments,
+        images,
+        listing: listing_of(alloc, disk.calls(), ask),
+        counts: counts_of(disk),
+    })
+}
+
+// Runs a command. This is the one function that calls `run_serial`.
+fn play_command(alloc: Global, setup: &Setup, ask: Ask) -> Result<Ran, AllocError> {
+    let mut source = source_of(alloc, setup)?;
+    let mut sink = sink_of(alloc, setup)?;
+    let disk = disk_of(alloc, setup)?;
+    let ended = run_serial(alloc, &setup.words, disk, &mut source, &mut sink);
+    let seen = seen_of(alloc, setup, &ended, ask)?;
     Ok(Ran {
         status: ended.status,
         tape: ended.tape,
         text: sink.into_bytes(),
-        printing,
-        moments,
-        images,
-        listing,
-        counts,
+        seen,
     })
 }
 

@@ -68,6 +68,12 @@ pub struct Ran {
     pub tape: Tape,
     /// What was put.
     pub text: Vec<u8>,
+    pub seen: Seen,
+}
+
+/// What was asked of a run before its disk went.
+#[derive(Drop)]
+pub struct Seen {
     /// What is to be put by the tape, the status and the cause.
     pub printing: Vec<u8>,
     /// The clock after each call.

@@ -5,7 +5,6 @@ use crate::judge::{Found, Probe, answered_by, found_in, led_from, script_of};
 use crate::page::Page;
 use crate::run::play;
 use crate::setup::{Ask, Ran, Setup};
-use ctr_disk::Image;
 use ctr_types::OutOfMemory;
 use std::alloc::Global;
 use std::mem;
@@ -79,11 +78,31 @@ fn owed(setup: &Setup, ran: &Ran, right: &Right, calls: usize) -> usize {
     if ran.tape.entries.is_empty() {
         return right.least;
     }
-    if calls >= ran.moments.len() && ran.status == 0 {
+    if calls >= ran.seen.moments.len() && ran.status == 0 {
         return right.list.len().saturating_sub(1);
     }
-    let moment = clock(setup.moment, &ran.moments, calls);
+    let moment = clock(setup.moment, &ran.seen.moments, calls);
     answered_by(ran.tape.entries.as_slice(), moment)
+}
+
+// Judges each image of a run.
+fn tally_of(
+    alloc: Global,
+    setup: &Setup,
+    right: &Right,
+    was_none: bool,
+    ran: &Ran,
+    probe: &Probe,
+    tally: &mut Tally,
+) -> Result<(), OutOfMemory> {
+    for (number, image) in ran.seen.images.iter().enumerate() {
+        let calls = number / DIGITS as usize;
+        let least = owed(setup, ran, right, calls);
+        let may_lack = was_none && (calls < ran.seen.moments.len() || right.none);
+        let found = found_in(alloc, right, probe, image)?;
+        tally.count(found, least, may_lack);
+    }
+    Ok(())
 }
 
 /// Judges the images that a crash leaves after each number of calls of a run. The databases that are right are those
@@ -95,19 +114,13 @@ pub fn sweep_stops(
     was_none: bool,
     page: &mut Page,
 ) -> Result<(), OutOfMemory> {
-    let ran = play(alloc, setup, Ask::Each)?;
     let probe = Probe::new(alloc, right)?;
     let mut tally = Tally::new(alloc, right)?;
-    for (number, image) in ran.images.iter().enumerate() {
-        let calls = number / DIGITS as usize;
-        let least = owed(setup, &ran, right, calls);
-        let may_lack = was_none && (calls < ran.moments.len() || right.none);
-        let found = found_in(alloc, right, &probe, image)?;
-        tally.count(found, least, may_lack);
-    }
+    let ran = play(alloc, setup, Ask::Each)?;
+    let done = tally_of(alloc, setup, right, was_none, &ran, &probe, &mut tally);
     page.put(b"each stop: ");
     tally.put(alloc, page);
-    Ok(())
+    done
 }
 
 /// How a run ended whose call failed, as far as a line tells it.
@@ -135,6 +148,23 @@ fn put_failing(alloc: Global, page: &mut Page, first: u64, last: u64, failing: F
     page.put(b"\n");
 }
 
+// What is right after a run, if its text and its tape are.
+fn right_after(
+    alloc: Global,
+    before: &Right,
+    setup: &Setup,
+    ran: &Ran,
+) -> Result<Option<Right>, OutOfMemory> {
+    if ran.text.as_slice() != ran.seen.printing.as_slice() {
+        return Ok(None);
+    }
+    if setup.is_command("init") {
+        return Ok(Some(Right::empty(alloc, true)?));
+    }
+    let script = script_of(alloc, &setup.script)?;
+    led_from(alloc, before, &script, ran)
+}
+
 // How the run ends, and what its disk holds then.
 fn judge_failing(
     alloc: Global,
@@ -142,41 +172,36 @@ fn judge_failing(
     setup: &Setup,
     ran: &Ran,
 ) -> Result<Failing, OutOfMemory> {
-    let answered = answered_by(ran.tape.entries.as_slice(), u64::MAX);
-    let mut failing = Failing {
+    let failing = Failing {
         status: ran.status,
-        answered,
+        answered: answered_by(ran.tape.entries.as_slice(), u64::MAX),
         held: None,
         without: false,
     };
-    if ran.text.as_slice() != ran.printing.as_slice() {
-        return Ok(failing);
+    match right_after(alloc, before, setup, ran)? {
+        Some(right) => held_by(alloc, &right, before.none, ran, failing),
+        None => Ok(failing),
     }
-    let after = if setup.is_command("init") {
-        Some(Right::empty(alloc, true)?)
-    } else {
-        led_from(alloc, before, &script_of(alloc, &setup.script)?, ran)?
-    };
-    if let (Some(right), Some(image)) = (after, ran.images.first()) {
-        held_by(alloc, &right, before.none, image, &mut failing)?;
-    }
-    Ok(failing)
 }
 
 fn held_by(
     alloc: Global,
     right: &Right,
     was_none: bool,
-    image: &Image,
-    failing: &mut Failing,
-) -> Result<(), OutOfMemory> {
+    ran: &Ran,
+    failing: Failing,
+) -> Result<Failing, OutOfMemory> {
+    let Some(image) = ran.seen.images.first() else {
+        return Ok(failing);
+    };
+    let mut judged = failing;
     let probe = Probe::new(alloc, right)?;
     match found_in(alloc, right, &probe, image)? {
-        Found::Commits(number) if right.has(number) => failing.held = Some(number),
-        Found::Status(NO_DATABASE) => failing.without = was_none,
+        Found::Commits(number) if right.has(number) => judged.held = Some(number),
+        Found::Status(NO_DATABASE) => judged.without = was_none,
         _ => {}
     }
-    Ok(())
+    Ok(judged)
 }
 
 // A run once more, with one call that fails.
@@ -202,7 +227,7 @@ pub fn sweep_failures(
     before: &Right,
     page: &mut Page,
 ) -> Result<(), OutOfMemory> {
-    let calls = play(alloc, setup, Ask::Last)?.moments.len() as u64;
+    let calls = play(alloc, setup, Ask::Last)?.seen.moments.len() as u64;
     let mut first = 1u64;
     let mut last = None;
     for number in 1..=calls {

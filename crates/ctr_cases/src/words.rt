@@ -1,0 +1,34 @@
+// The words of a command, and of a root.
+use crate::numbers::numbers;
+use ctr_disk::Root;
+use std::alloc::{AllocError, Global};
+
+/// The words of a line; one that isn't UTF-8 is left out.
+pub fn words_in(alloc: Global, rest: &[u8]) -> Result<Vec<String>, AllocError> {
+    let mut words = Vec::new(alloc);
+    for word in rest.split(|byte| *byte == b' ') {
+        if let Ok(text) = str::from_utf8(word) {
+            if !text.is_empty() {
+                words.push(String::from_str(alloc, text)?)?;
+            }
+        }
+    }
+    Ok(words)
+}
+
+/// A stamp, the number of a file and a first LSN.
+pub fn root_of(alloc: Global, rest: &[u8]) -> Result<Option<Root>, AllocError> {
+    let Some(list) = numbers(alloc, rest)? else {
+        return Ok(None);
+    };
+    match (list.first(), list.get(1), list.get(2)) {
+        (Some(stamp), Some(file), Some(first)) => Ok(Some(Root {
+            stamp: *stamp,
+            format: 0,
+            file: (*file % 2) as u8,
+            first: *first,
+            pages: 0,
+        })),
+        _ => Ok(None),
+    }
+}
