@@ -16,13 +16,16 @@ abbrev pub Tears : File → ℕ → ℕ → (Image → Type 0) → Image → Typ
 Tears file at n images c = (d : Image) × images d × TornImage file at n d c
 
 -- Time goes on over a call: since an earlier moment a crash might have left what it might have left
--- before the call, or what it may leave now; and what it might have left before, it still might have.
-pub record Elapses (before now : ℕ) (past since : ℕ → Image → Type 0) (images : Image → Type 0) : Type 0 where
+-- before the call, or what it may leave now; and what it might have left before, it still might
+-- have.
+pub record Elapses (before now : ℕ) (past since : ℕ → Image → Type 0) (images : Image → Type 0)
+    : Type 0 where
   pub later : before ≤ now
   pub nothing_else : (t : ℕ) (c : Image) → t ≤ before → since t c → past t c ⊎ images c
   pub keeps : (t : ℕ) (c : Image) → t ≤ before → past t c → since t c
 
--- a failed call is counted: the count is one higher at least, or stands at the last value of its type
+-- a failed call is counted: the count is one higher at least, or stands at the last value of its
+-- type
 abbrev pub CountsFault : ℕ → ℕ → Type 0
 CountsFault before now = min (before + 1) (2 ^ 64 - 1) ≤ now
 

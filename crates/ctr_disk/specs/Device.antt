@@ -4,7 +4,8 @@ use Rattle.ctr_disk.specs.Image.{Image}
 use Rattle.ctr_disk.specs.Crash.{Only, Within, HasCause, HasFault}
 use Rattle.ctr_disk.specs.declared.disk.Disk.{Ghosts}
 
--- A crash at any moment from the old state to the new one, inside a call too, leaves an image with P.
+-- A crash at any moment from the old state to the new one, inside a call too, leaves an image with
+-- P.
 pub record LeavesOnly {D : Type 0} (g : Ghosts D) (old new : D) (P : Image → Type 0) : Type 0 where
   pub later : g.moment_of old ≤ g.moment_of new
   pub each : (c : Image) → g.since new (g.moment_of old) c → P c
@@ -26,8 +27,8 @@ pub record OnlyReads {D : Type 0} (g : Ghosts D) (old new : D) : Type 0 where
   pub now : Within (g.images new) (g.images old)
   pub any_moment : LeavesOnly g old new (g.images old)
 
--- Time went on over a call, after which a crash leaves what a read gives; and so it does at each moment
--- from the call's end on, as far as that is past.
+-- Time went on over a call, after which a crash leaves what a read gives; and so it does at each
+-- moment from the call's end on, as far as that is past.
 pub record IsDurableFrom {D : Type 0} (g : Ghosts D) (old new : D) : Type 0 where
   pub rises : g.moment_of old < g.moment_of new
   pub now : IsDurable g new

@@ -34,19 +34,23 @@ counted_calls d = d.counts.calls
 abbrev pub starved_calls : MemDisk → ℕ
 starved_calls d = d.counts.starved
 
+-- its clock
 abbrev pub moment_at : MemDisk → ℕ
 moment_at d = d.counts.moment
 
+-- how many calls have failed
 abbrev pub counted_faults : MemDisk → ℕ
 counted_faults d = d.counts.faults
 
+-- how many calls went past the last place
 abbrev pub counted_strays : MemDisk → ℕ
 counted_strays d = d.counts.strays
 
--- what a crash at this moment may leave, and what one at some moment from t on might have left
+-- what a crash at this moment may leave
 abbrev pub images_of : MemDisk → Image → Type 0
 images_of d = possible_after (first_image d) (recorded_calls d)
 
+-- what a crash at some moment from that one on might have left
 abbrev pub since_of : MemDisk → ℕ → Image → Type 0
 since_of d = possible_since (first_image d) (recorded_calls d)
 
@@ -88,25 +92,30 @@ ticks_by (Read file at n) = false
 ticks_by (Write file at bytes) = true
 ticks_by Sync = true
 
--- The call as it stands in the record where memory is not refused: it is refused past the last place
--- and at the last moment, and else fails where its number is in the list.
+-- The call as it stands in the record where memory is not refused: it is refused past the last
+-- place and at the last moment, and else fails where its number is in the list.
 abbrev pub recorded_as : Call → MemDisk → Recorded
 recorded_as call d = record {
   call = call;
-  outcome = outcome_of (strays_by call || (ticks_by call && nat_le (2 ^ 64 - 1) (moment_at d))) (list_any (λ n. n == raised (counted_calls d)) (failing_calls d));
+  outcome =
+      outcome_of (strays_by call || (ticks_by call && nat_le (2 ^ 64 - 1) (moment_at d))) (list_any (λ n. n == raised (counted_calls d)) (failing_calls d));
   moment = if ticks_by call then raised (moment_at d) else moment_at d;
 }
 
 -- either the call is recorded, and answered Ok exactly where it was carried out
-abbrev pub IsAnswered : {T E : Type 0} → Recorded → List Recorded → List Recorded → ℕ → ℕ → Result T E → Type 0
-IsAnswered entry old new starved_old starved_new result = (new ≡ old ++ entry ∷ []) × (starved_new ≡ starved_old) × (IsOk result ↔ (entry.outcome ≡ Done))
+abbrev pub IsAnswered : {T E : Type 0} → Recorded → List Recorded → List Recorded → ℕ → ℕ
+    → Result T E → Type 0
+IsAnswered entry old new starved_old starved_new result = (new ≡ old ++ entry ∷ [])
+    × (starved_new ≡ starved_old) × (IsOk result ↔ (entry.outcome ≡ Done))
 
 -- or memory was refused, and that is counted
 abbrev pub IsStarved : {T E : Type 0} → List Recorded → List Recorded → ℕ → ℕ → Result T E → Type 0
-IsStarved old new starved_old starved_new result = (new ≡ old) × (starved_new ≡ raised starved_old) × IsErr result
+IsStarved old new starved_old starved_new result = (new ≡ old) × (starved_new ≡ raised starved_old)
+    × IsErr result
 
 -- what a call does: it fails only at the bounds, where it is listed, and where memory is refused
-pub record DoesCall {T E : Type 0} (call : Call) (old new : MemDisk) (result : Result T E) : Type 0 where
+pub record DoesCall {T E : Type 0} (call : Call) (old new : MemDisk) (result : Result T E)
+    : Type 0 where
   pub counted : counted_calls new ≡ raised (counted_calls old)
   pub first : first_image new ≡ first_image old
   pub listed : failing_calls new ≡ failing_calls old

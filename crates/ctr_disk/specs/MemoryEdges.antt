@@ -9,6 +9,7 @@ use Rattle.ctr_disk.specs.declared.memory_edges.MemSink.{MemSink}
 abbrev pub is_listed : List ℕ → ℕ → Bool
 is_listed fails calls = list_any (λ n. n == raised calls) fails
 
+-- the bytes that a source has left
 abbrev pub bytes_left : MemSource → List ℕ
 bytes_left s = drop s.at s.bytes
 
@@ -20,9 +21,11 @@ most_taken s = s.most
 abbrev pub failing_takes : MemSource → List ℕ
 failing_takes s = s.fails
 
+-- how many calls it has counted
 abbrev pub counted_takes : MemSource → ℕ
 counted_takes s = s.calls
 
+-- how many of them have failed
 abbrev pub source_faults : MemSource → ℕ
 source_faults s = s.faults
 
@@ -40,6 +43,7 @@ pub record TakeCounts (old new : MemSource) : Type 0 where
   pub most_stays : most_taken new ≡ most_taken old
   pub fails_stay : failing_takes new ≡ failing_takes old
 
+-- the bytes that were put on a sink
 abbrev pub bytes_put : MemSink → List ℕ
 bytes_put s = s.bytes.items
 
@@ -51,9 +55,11 @@ most_put s = s.most
 abbrev pub failing_puts : MemSink → List ℕ
 failing_puts s = s.fails
 
+-- how many calls it has counted
 abbrev pub counted_puts : MemSink → ℕ
 counted_puts s = s.calls
 
+-- how many of them have failed
 abbrev pub sink_faults : MemSink → ℕ
 sink_faults s = s.faults
 
@@ -78,5 +84,6 @@ pub record PutCounts (old new : MemSink) : Type 0 where
 
 -- a call fails exactly where it is listed, or memory was refused and that is counted
 abbrev pub PutFails : {T E : Type 0} → MemSink → MemSink → Result T E → Type 0
-PutFails old new result = ((starved_puts new ≡ starved_puts old) × (is_err result ≡ is_listed (failing_puts old) (counted_puts old)))
+PutFails old new result = ((starved_puts new ≡ starved_puts old)
+    × (is_err result ≡ is_listed (failing_puts old) (counted_puts old)))
     ⊎ ((starved_puts new ≡ raised (starved_puts old)) × IsErr result)

@@ -17,11 +17,12 @@ reads_by_call (Size file) outcome i = i
 reads_by_call (Read file at n) outcome i = i
 reads_by_call Sync outcome i = i
 
+-- the same of a recorded call
 abbrev pub reads_by : Recorded → Image → Image
 reads_by r i = reads_by_call r.call r.outcome i
 
--- What a crash may leave after a call, where a read gave i before it: a write that may have happened
--- tears each image, and a sync that was carried out leaves what a read gives.
+-- What a crash may leave after a call, where a read gave i before it: a write that may have
+-- happened tears each image, and a sync that was carried out leaves what a read gives.
 abbrev pub images_by_call : Call → Outcome → Image → (Image → Type 0) → Image → Type 0
 images_by_call (Write file at bytes) Done i images = Tears file at (length bytes) images
 images_by_call (Write file at bytes) Failed i images = Tears file at (length bytes) images
@@ -32,6 +33,7 @@ images_by_call Sync Done i images = λ c. c ≡ i
 images_by_call Sync Failed i images = images
 images_by_call Sync Refused i images = images
 
+-- the same of a recorded call
 abbrev pub images_by : Recorded → Image → (Image → Type 0) → Image → Type 0
 images_by r i images = images_by_call r.call r.outcome i images
 
@@ -46,6 +48,7 @@ LeavesByCall Sync Done i d c = c ≡ i
 LeavesByCall Sync Failed i d c = c ≡ d
 LeavesByCall Sync Refused i d c = c ≡ d
 
+-- the same of a recorded call
 abbrev pub LeavesBy : Recorded → Image → Image → Image → Type 0
 LeavesBy r i d c = LeavesByCall r.call r.outcome i d c
 
@@ -63,12 +66,14 @@ images_after i images (r ∷ calls) = images_after (reads_by r i) (images_by r i
 -- images before it were possible at the moments below that one.
 abbrev pub images_since : Image → (Image → Type 0) → List Recorded → ℕ → Image → Type 0
 images_since i images [] t c = images c
-images_since i images (r ∷ calls) t c = ((t < r.moment) × images c) ⊎ images_since (reads_by r i) (images_by r i images) calls t c
+images_since i images (r ∷ calls) t c = ((t < r.moment) × images c)
+    ⊎ images_since (reads_by r i) (images_by r i images) calls t c
 
--- the same of a disk that holds one image at first
+-- what a crash may leave of a disk that held one image at first
 abbrev pub possible_after : Image → List Recorded → Image → Type 0
 possible_after first calls = images_after first (λ c. c ≡ first) calls
 
+-- what a crash at some moment from t on might have left of it
 abbrev pub possible_since : Image → List Recorded → ℕ → Image → Type 0
 possible_since first calls = images_since first (λ c. c ≡ first) calls
 
@@ -78,5 +83,6 @@ latest [] = 0
 latest (r ∷ calls) = max r.moment (latest calls)
 
 -- a call was added to the record, or memory was refused and the record stays
-abbrev pub IsRecorded : {T E : Type 0} → Result T E → Recorded → List Recorded → List Recorded → Type 0
+abbrev pub IsRecorded : {T E : Type 0} → Result T E → Recorded → List Recorded → List Recorded
+    → Type 0
 IsRecorded kept r old new = MatchResult kept (λ _. new ≡ old ++ r ∷ []) (λ _. new ≡ old)

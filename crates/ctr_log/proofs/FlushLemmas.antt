@@ -10,7 +10,7 @@ use Rattle.ctr_disk.proofs.Moments.{weaker}
 use Rattle.ctr_log.specs.declared.log.LogFile.TheInside.{Inside}
 use Rattle.ctr_bytes.specs.Fields.{spelled}
 use Rattle.ctr_log.specs.Logs.{Log, headed, sealed, frames, batches, records, GoesOn, Extends, IsBeforeOrAfter, IsAfter, HasPrefix, IsFlushing, with_batch, unframed, HasBatches}
-use Rattle.ctr_log.specs.LogFile.{log_of, IsSound}
+use Rattle.ctr_log.specs.LogFile.{log_of, IsWriter}
 use Rattle.ctr_bytes.proofs.FieldLaws.{length-spelled}
 use Rattle.ctr_log.proofs.LogLemmas.{length-push, length-unframed, length-batches-push, records-push}
 
@@ -55,7 +55,7 @@ gate_within file first bs rs place old c at (same, inl log) = omega (arith, ap l
 gate_within file first bs rs place old c at (same, inr log) =
     omega (arith, ap length log.bytes_are, length-append (batches first (bs ++ rs ∷ [])) (log.gate ∷ log.rest), length-batches-push first bs rs)
 
-module _ (a : Inside) (keeps : IsSound a) (some : 0 < a.count) (few : a.count < 2 ^ 32) (long : vec_len a.buffer ≡ length a.buffer.items) (first : ℕ) (bs : List (List (List ℕ))) where
+module _ (a : Inside) (keeps : IsWriter a) (some : 0 < a.count) (few : a.count < 2 ^ 32) (long : vec_len a.buffer ≡ length a.buffer.items) (first : ℕ) (bs : List (List (List ℕ))) where
   abbrev held : List ℕ
   held = drop 20 a.buffer.items
 

@@ -2,6 +2,7 @@ pub mod Moments
 pub mod Torn
 pub mod HomeLemmas
 pub mod RootLemmas
+pub mod DamageLemmas
 pub mod LogLemmas
 pub mod FlushLemmas
 pub mod ReadLemmas

@@ -8,3 +8,8 @@ use Rattle.ctr_disk.specs.declared.fault.StoreFault.TheVariants.{Fault, Damaged}
 abbrev pub IsDamageOf : File → StoreFault → Type 0
 IsDamageOf file Fault = ⊥
 IsDamageOf file (Damaged f at want got) = (f ≡ file) × (want ≢ got)
+
+-- where it is damage, what is wanted differs from what is there
+abbrev pub Differs : StoreFault → Type 0
+Differs Fault = Unit {0}
+Differs (Damaged f at want got) = want ≢ got

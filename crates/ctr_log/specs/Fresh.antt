@@ -6,7 +6,8 @@ use Rattle.ctr_bytes.specs.Fields.{spelled}
 use Rattle.ctr_log.specs.Homes.{root_block, root_value}
 use Rattle.ctr_log.specs.Logs.{Batches, HasLog}
 
--- the checkpoint of a database without transactions: tag 1, next xid 1, three empty lists, no overlay
+-- the checkpoint of a database without transactions: tag 1, next xid 1, three empty lists, no
+-- overlay
 abbrev pub first_checkpoint : List ℕ
 first_checkpoint = 1 ∷ (spelled 8 1 ++ spelled 8 0 ++ spelled 8 0 ++ spelled 8 0 ++ 0 ∷ [])
 

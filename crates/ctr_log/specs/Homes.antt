@@ -19,7 +19,8 @@ pub record Block : Type 0 where
 
 -- in the 63 bytes behind a gate: number u32, stamp u64, 25 bytes of body
 abbrev pub block_of : List ℕ → Block
-block_of bytes = record { number = field 4 0 bytes; stamp = field 8 4 bytes; body = take 25 (drop 12 bytes) }
+block_of bytes =
+    record { number = field 4 0 bytes; stamp = field 8 4 bytes; body = take 25 (drop 12 bytes) }
 
 -- where a home begins
 abbrev pub place : Home → ℕ
@@ -50,7 +51,8 @@ abbrev pub root_block : Root → Block
 root_block r = record {
   number = 0;
   stamp = r.stamp;
-  body = codes "CTRDB001" ++ spelled 4 r.format ++ spelled 1 r.file ++ spelled 8 r.first ++ spelled 4 r.pages;
+  body =
+      codes "CTRDB001" ++ spelled 4 r.format ++ spelled 1 r.file ++ spelled 8 r.first ++ spelled 4 r.pages;
 }
 
 -- a root without pages, whose checks hold
@@ -82,21 +84,22 @@ abbrev pub BlockSays : Block → Result Root StoreFault → Type 0
 BlockSays b (Ok r) = (b ≡ root_block r) × IsRoot r
 BlockSays b (Err e) = IsDamageOf RootFile e × ((r : Root) → b ≡ root_block r → IsRoot r → ⊥)
 
--- What a read of the root answers: none exactly where neither home is open, and damage exactly where
--- the block's value says no root whose checks hold. Then want and got differ.
+-- What a read of the root answers: none exactly where neither home is open, and damage exactly
+-- where the block's value says no root whose checks hold. Then want and got differ.
 abbrev pub Answers : Option Block → Result (Option Root) StoreFault → Type 0
 Answers value (Ok None) = value ≡ None
 Answers value (Ok (Some r)) = SaysRoot value r
 Answers value (Err Fault) = Unit {0}
-Answers value (Err (Damaged file at want got)) = IsDamageOf RootFile (Damaged file at want got) × (value ≢ None) × ((r : Root) → SaysRoot value r → ⊥)
+Answers value (Err (Damaged file at want got)) = IsDamageOf RootFile (Damaged file at want got)
+    × (value ≢ None) × ((r : Root) → SaysRoot value r → ⊥)
 
 -- the number is above the block's stamp, where there is one
 abbrev pub IsAbove : ℕ → Option Block → Type 0
 IsAbove stamp None = Unit {0}
 IsAbove stamp (Some b) = b.stamp < stamp
 
--- the home to write, by what the two hold: the closed one, the first where both are closed; else the
--- one with the smaller stamp, the second where both are equal
+-- the home to write, by what the two hold: the closed one, the first where both are closed; else
+-- the one with the smaller stamp, the second where both are equal
 abbrev pub home_chosen : Option Block → Option Block → Home
 home_chosen None b = First
 home_chosen (Some a) None = Second
@@ -118,7 +121,8 @@ other Second = First
 -- the other home holds what it held, and this one too or it is closed
 pub record IsHomeKept (home : Home) (old new : List ℕ) : Type 0 where
   pub beside : opened (home_in (other home) new) ≡ opened (home_in (other home) old)
-  pub here : (opened (home_in home new) ≡ None) ⊎ (opened (home_in home new) ≡ opened (home_in home old))
+  pub here : (opened (home_in home new) ≡ None)
+      ⊎ (opened (home_in home new) ≡ opened (home_in home old))
 
 -- the other home holds what it held, and this one holds the block
 pub record IsHomeMade (home : Home) (block : Block) (old new : List ℕ) : Type 0 where
@@ -131,7 +135,8 @@ KeepsHome home old new = OtherFilesStay RootFile old new × IsHomeKept home old.
 
 -- of an image, whose other files are as they were
 abbrev pub MakesHome : Home → Block → Image → Image → Type 0
-MakesHome home block old new = OtherFilesStay RootFile old new × IsHomeMade home block old.root new.root
+MakesHome home block old new = OtherFilesStay RootFile old new
+    × IsHomeMade home block old.root new.root
 
 -- while the gate is opened
 abbrev pub KeepsOrMakesHome : Home → Block → Image → Image → Type 0
@@ -139,7 +144,8 @@ KeepsOrMakesHome home block old new = KeepsHome home old new ⊎ MakesHome home 
 
 -- the image says the old value or this one, and the other files are as they were
 abbrev pub IsOldOrNewRoot : Image → Block → Image → Type 0
-IsOldOrNewRoot old block new = OtherFilesStay RootFile old new × ((root_value new.root ≡ root_value old.root) ⊎ (root_value new.root ≡ Some block))
+IsOldOrNewRoot old block new = OtherFilesStay RootFile old new
+    × ((root_value new.root ≡ root_value old.root) ⊎ (root_value new.root ≡ Some block))
 
 -- the image says this value, and the other files are as they were
 abbrev pub IsNewRoot : Image → Block → Image → Type 0

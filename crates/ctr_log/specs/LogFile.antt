@@ -14,7 +14,7 @@ log_of a = record {
 }
 
 -- a byte of room is left for the closed gate
-pub record IsSound (a : Inside) : Type 0 where
+pub record IsWriter (a : Inside) : Type 0 where
   pub head : 20 ≤ vec_len a.buffer
   pub spare : vec_len a.buffer < vec_capacity a.buffer
   pub frames_are : drop 20 a.buffer.items ≡ frames (unframed a.count (drop 20 a.buffer.items))

@@ -22,7 +22,8 @@ headed first count bytes = spelled 8 (length bytes) ++ spelled 8 first ++ spelle
 abbrev pub sealed : ℕ → ℕ → List ℕ → List ℕ
 sealed first count bytes = headed first count bytes ++ 0 ∷ []
 
--- a batch behind its gate: the length of its frames, its first LSN, the count of its records, the frames
+-- a batch behind its gate: the length of its frames, its first LSN, the count of its records, the
+-- frames
 abbrev pub batch : ℕ → List (List ℕ) → List ℕ
 batch first rs = headed first (length rs) (frames rs)
 
@@ -49,8 +50,8 @@ abbrev pub AreBatches : Batches → Type 0
 AreBatches [] = Unit {0}
 AreBatches (rs ∷ bs) = IsBatch rs × AreBatches bs
 
--- These batches stand in the file from its start, and behind them a closed gate that lies in the file.
--- What stands behind it is no part of the log.
+-- These batches stand in the file from its start, and behind them a closed gate that lies in the
+-- file. What stands behind it is no part of the log.
 pub record HasBatches (first : ℕ) (bs : Batches) (bytes : List ℕ) : Type 0 where
   pub gate : ℕ
   pub rest : List ℕ
@@ -70,10 +71,12 @@ HasRecords first rs bytes = (bs : Batches) × (records bs ≡ rs) × HasLog firs
 -- The records of n frames that stand one behind another.
 abbrev pub unframed : ℕ → List ℕ → List (List ℕ)
 unframed zero bytes = []
-unframed (suc n) bytes = take (field 8 0 bytes) (drop 8 bytes) ∷ unframed n (drop (8 + field 8 0 bytes) bytes)
+unframed (suc n) bytes =
+    take (field 8 0 bytes) (drop 8 bytes) ∷ unframed n (drop (8 + field 8 0 bytes) bytes)
 
--- What the writer of a log knows: its file, the place of the closed gate behind the log, the LSN of the
--- first record that isn't flushed, the records that aren't, and how many bytes of frames more fit.
+-- What the writer of a log knows: its file, the place of the closed gate behind the log, the LSN of
+-- the first record that isn't flushed, the records that aren't, and how many bytes of frames more
+-- fit.
 pub record Log : Type 0 where
   pub file : File
   pub place : ℕ
@@ -94,7 +97,8 @@ with_batch bs (r ∷ rs) = bs ++ (r ∷ rs) ∷ []
 
 -- the file has these records and a front of those, and the other files are as they were
 abbrev pub HasPrefix : File → ℕ → List (List ℕ) → List (List ℕ) → Image → Image → Type 0
-HasPrefix file first flushed more old new = OtherFilesStay file old new × ((k : ℕ) × HasRecords first (flushed ++ take k more) (content file new))
+HasPrefix file first flushed more old new = OtherFilesStay file old new
+    × ((k : ℕ) × HasRecords first (flushed ++ take k more) (content file new))
 
 -- While the records that wait are flushed behind this log a crash leaves the log with a prefix of
 -- them, and the place of the log's closed gate lies in the file.
@@ -111,7 +115,8 @@ pub record IsEmptied {T E : Type 0} (old new : Log) (result : Result T E) : Type
   pub room : OnOk result (old.room ≤ new.room)
 
 -- a batch that is to stand at the closed gate behind the log, with a closed gate behind it
-pub record Extends (first : ℕ) (bs : Batches) (rs : List (List ℕ)) (place : ℕ) (body bytes : List ℕ) : Type 0 where
+pub record Extends (first : ℕ) (bs : Batches) (rs : List (List ℕ)) (place : ℕ) (body bytes : List ℕ)
+    : Type 0 where
   pub log_is : HasBatches first bs bytes
   pub place_is : place ≡ length (batches first bs)
   pub body_is : body ≡ batch (first + length (records bs)) rs ++ 0 ∷ []
@@ -119,8 +124,10 @@ pub record Extends (first : ℕ) (bs : Batches) (rs : List (List ℕ)) (place : 
 
 -- the file has its old batches or one more, and the other files are as they were
 abbrev pub IsBeforeOrAfter : File → ℕ → Batches → List (List ℕ) → Image → Image → Type 0
-IsBeforeOrAfter file first bs rs old new = OtherFilesStay file old new × (HasBatches first bs (content file new) ⊎ HasBatches first (bs ++ rs ∷ []) (content file new))
+IsBeforeOrAfter file first bs rs old new = OtherFilesStay file old new
+    × (HasBatches first bs (content file new) ⊎ HasBatches first (bs ++ rs ∷ []) (content file new))
 
 -- the file has a batch more, and the other files are as they were
 abbrev pub IsAfter : File → ℕ → Batches → List (List ℕ) → Image → Image → Type 0
-IsAfter file first bs rs old new = OtherFilesStay file old new × HasBatches first (bs ++ rs ∷ []) (content file new)
+IsAfter file first bs rs old new = OtherFilesStay file old new
+    × HasBatches first (bs ++ rs ∷ []) (content file new)

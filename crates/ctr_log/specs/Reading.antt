@@ -3,10 +3,11 @@ use Rattle.std.specs.Prelude.{◌≡◌, ℕ, zero, suc, ◌+◌, ◌^◌, ◌�
 use Rattle.ctr_disk.specs.declared.disk.File.{File}
 use Rattle.ctr_disk.specs.declared.disk.File.TheVariants.{LogA, LogB}
 use Rattle.ctr_disk.specs.declared.disk.Image.{Image}
+use Rattle.ctr_disk.specs.declared.fault.Root.{Root}
 use Rattle.ctr_disk.specs.declared.fault.StoreFault.TheVariants.{Fault, Damaged}
 use Rattle.ctr_log.specs.declared.reading.ReadError.{ReadError}
 use Rattle.ctr_log.specs.declared.reading.ReadError.TheVariants.{Store, OutOfMemory}
-use Rattle.ctr_log.specs.Damage.{IsDamageOf}
+use Rattle.ctr_log.specs.Damage.{IsDamageOf, Differs}
 use Rattle.ctr_log.specs.Logs.{Batches, frame, frames, batch, batches, records, IsBatch, HasLog, Log, GoesOn}
 
 -- what was to be read isn't there, and damage of the file is told; or memory was refused
@@ -18,7 +19,13 @@ RefusesLog file P (Store e) = IsDamageOf file e × (P → ⊥)
 abbrev pub RefusesOrFails : File → Type 0 → ReadError → Type 0
 RefusesOrFails file P OutOfMemory = Unit {0}
 RefusesOrFails file P (Store Fault) = Unit {0}
-RefusesOrFails file P (Store (Damaged f at want got)) = IsDamageOf file (Damaged f at want got) × (P → ⊥)
+RefusesOrFails file P (Store (Damaged f at want got)) = IsDamageOf file (Damaged f at want got)
+    × (P → ⊥)
+
+-- where it is damage, what is wanted differs from what is there
+abbrev pub ReadDiffers : ReadError → Type 0
+ReadDiffers OutOfMemory = Unit {0}
+ReadDiffers (Store e) = Differs e
 
 -- the bytes begin with a frame
 abbrev pub BeginsWithFrame : List ℕ → Type 0
@@ -43,8 +50,10 @@ pub record BeginsWithBatch (next : ℕ) (bytes : List ℕ) : Type 0 where
   pub is_batch : IsBatch rs
   pub gate : 0 < length behind
 
--- such a batch was read: its records were added to a list, n is their count, and this stands behind it
-pub record ReadsBatch (next : ℕ) (bytes : List ℕ) (old new : List (List ℕ)) (behind : List ℕ) (n : ℕ) : Type 0 where
+-- such a batch was read: its records were added to a list, n is their count, and this stands
+-- behind it
+pub record ReadsBatch (next : ℕ) (bytes : List ℕ) (old new : List (List ℕ)) (behind : List ℕ)
+    (n : ℕ) : Type 0 where
   pub rs : List (List ℕ)
   pub bytes_are : bytes ≡ 1 ∷ (batch next rs ++ behind)
   pub is_batch : IsBatch rs
@@ -53,7 +62,8 @@ pub record ReadsBatch (next : ℕ) (bytes : List ℕ) (old new : List (List ℕ)
   pub count : n ≡ length rs
 
 -- a log was read: its records, the place of the closed gate behind it, and the next LSN
-pub record ReadsLog (first : ℕ) (bytes : List ℕ) (rs : List (List ℕ)) (place next : ℕ) : Type 0 where
+pub record ReadsLog (first : ℕ) (bytes : List ℕ) (rs : List (List ℕ)) (place next : ℕ)
+    : Type 0 where
   pub bs : Batches
   pub log_is : HasLog first bs bytes
   pub records_are : rs ≡ records bs
@@ -87,9 +97,15 @@ pub record IsEmptyAt (file : File) (place next : ℕ) (log : Log) : Type 0 where
   pub none : log.buffered ≡ []
 
 -- a writer that goes on behind the log of a file, with nothing to flush, and the log's records
-pub record OpensLog (first : ℕ) (file : File) (image : Image) (log : Log) (rs : List (List ℕ)) : Type 0 where
+pub record OpensLog (first : ℕ) (file : File) (image : Image) (log : Log) (rs : List (List ℕ))
+    : Type 0 where
   pub bs : Batches
   pub records_are : rs ≡ records bs
   pub file_is : log.file ≡ file
   pub goes_on : GoesOn first bs log image
   pub none : log.buffered ≡ []
+
+-- the root names a file that is one of the log, and a number that its first record can have
+pub record NamesLog (r : Root) : Type 0 where
+  pub file : r.file ≤ 1
+  pub first : r.first ≤ 2 ^ 63

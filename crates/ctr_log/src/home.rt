@@ -1,9 +1,9 @@
 // The root in its two homes: at every moment of a writing a crash leaves the old or the new value.
-ghost use Rattle.std.specs.Prelude.{◌≡◌, ◌≤◌, ◌<◌, ◌+◌, ◌↔◌, IsTrue, IsSome, length, Err, IfOk, OnOk, OnErr, MatchResult, IsErrOf, option_map};
+ghost use Rattle.std.specs.Prelude.{◌≡◌, ◌≤◌, ◌<◌, ◌+◌, ◌↔◌, IsTrue, IsSome, length, Err, IfOk, IfErr, OnOk, OnErr, MatchResult, IsErrOf, option_map};
 ghost use Rattle.ctr_disk.specs.declared.fault.StoreFault.TheVariants.{Fault};
 ghost use Rattle.ctr_disk.specs.declared.disk.File.TheVariants.{Root as RootFile};
 ghost use Rattle.ctr_disk.specs.Device.{LeavesOnly, IsDurable, IsSettled, OnlyReads, Counts, CountsAs};
-ghost use Rattle.ctr_log.specs.Damage.{IsDamageOf};
+ghost use Rattle.ctr_log.specs.Damage.{IsDamageOf, Differs};
 ghost use Rattle.ctr_log.specs.Homes.{place, block_of, home_in, opened, root_value, root_block, Passes, BlockSays, Answers, IsAbove, chosen_in, IsShut, KeepsHome, MakesHome, KeepsOrMakesHome, IsOldOrNewRoot, IsNewRoot};
 
 use crate::damage::{at_least, at_most, same};
@@ -33,8 +33,10 @@ impl Home {
 }
 
 /// Reads the value of the root, where a home is open.
+#[tactic(auto, using(crate::proofs::DamageLemmas::damage_differs))]
 pub fn read_root<D: Disk>(disk: &mut D) -> Result<Option<Root>, StoreFault>
     ensures answer { IsTrue D.tells → Answers (root_value (D.reads disk.old).root) result }
+    ensures differs { IfErr result Differs }
     ensures quiet { OnlyReads D.Disk disk.old disk.new }
     ensures counts { CountsAs D.Disk Fault disk.old disk.new result }
 {

@@ -7,7 +7,7 @@ ghost use Rattle.ctr_disk.specs.Crash.{Only, HasCause, HasFault, StraysOnlyPast}
 ghost use Rattle.ctr_disk.specs.Device.{LeavesOnly, IsDurable, IsSettled, OnlyReads, CountsAs};
 ghost use Rattle.ctr_bytes.specs.Fields.{spelled};
 ghost use Rattle.ctr_log.specs.declared.reading.ReadError.TheVariants.{Store, OutOfMemory as NoMemory};
-ghost use Rattle.ctr_log.specs.Reading.{RefusesOrFails, HasSome, OpensLog, IsEmptyAt, log_file};
+ghost use Rattle.ctr_log.specs.Reading.{RefusesOrFails, ReadDiffers, HasSome, OpensLog, IsEmptyAt, NamesLog, log_file};
 ghost use Rattle.ctr_log.specs.Logs.{Batches, headed, sealed, frame, frames, records, HasLog, GoesOn, Extends, IsBeforeOrAfter, IsAfter, IsFlushing, IsEmptied, with_batch};
 
 use crate::near::find_log;
@@ -43,11 +43,11 @@ impl Model for LogFile {
 
     ghost Value = { Log };
 
-    ghost use Rattle.ctr_log.specs.LogFile.{log_of, IsSound};
+    ghost use Rattle.ctr_log.specs.LogFile.{log_of, IsWriter};
 
     ghost view = { log_of };
 
-    ghost invariant = { IsSound };
+    ghost invariant = { IsWriter };
 }
 
 impl LogFile {
@@ -142,11 +142,11 @@ pub fn read_all<D: Disk>(
     disk: &mut D,
     root: &Root,
 ) -> Result<(LogFile, List<Text>), ReadError>
-    requires file { root.now.file ≤ 1 }
-    requires first { root.now.first ≤ 2 ^ 63 }
+    requires names { NamesLog root.now }
     ensures found { IsTrue D.tells → IfOk result (λ r. OpensLog root.now.first (log_file root.now.file) (D.reads disk.old) r.0 r.1) }
     ensures only { (bs : Batches) → IsTrue D.tells → HasLog root.now.first bs (content (log_file root.now.file) (D.reads disk.old)) → IfOk result (λ r. r.1 ≡ records bs) }
     ensures refused { IsTrue D.tells → IfErr result (RefusesOrFails (log_file root.now.file) (HasSome root.now.first (content (log_file root.now.file) (D.reads disk.old)))) }
+    ensures differs { IfErr result ReadDiffers }
     ensures none { IfOk result (λ r. r.0.buffered ≡ []) }
     ensures quiet { OnlyReads D.Disk disk.old disk.new }
     ensures counts { CountsAs D.Disk (Store Fault) disk.old disk.new result }

@@ -4,6 +4,7 @@ use Rattle.std.specs.Fmt.{decimal, signed_decimal}
 pub use Rattle.ctr_print.specs.declared.piece.Piece.{Piece}
 use Rattle.ctr_print.specs.declared.piece.Piece.TheVariants as piece
 
+-- the bytes of a piece: those that it is, or the digits of its number
 abbrev pub piece_text : Piece → List ℕ
 piece_text (piece.Bytes bytes) = bytes.now
 piece_text (piece.Number n) = decimal n

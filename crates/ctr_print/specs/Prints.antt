@@ -5,11 +5,13 @@ use Rattle.ctr_disk.specs.declared.edges.Sink.{Ghosts}
 
 -- a prefix of the text was put, and nothing else
 abbrev pub IsFrontPut : List ℕ → List ℕ → List ℕ → Type 0
-IsFrontPut old text new = (front : List ℕ) × (rest : List ℕ) × (text ≡ front ++ rest) × (new ≡ old ++ front)
+IsFrontPut old text new = (front : List ℕ) × (rest : List ℕ) × (text ≡ front ++ rest)
+    × (new ≡ old ++ front)
 
 -- all of the text was put, or where that failed a prefix of it
 abbrev pub Printed : {E : Type 0} → List ℕ → List ℕ → List ℕ → Result (Unit {0}) E → Type 0
-Printed old text new result = MatchResult result (λ _. new ≡ old ++ text) (λ _. IsFrontPut old text new)
+Printed old text new result =
+    MatchResult result (λ _. new ≡ old ++ text) (λ _. IsFrontPut old text new)
 
 -- What a sink has taken before and after a text was put on it. `fine` says whether all was well so
 -- far, and `done` whether it still is.

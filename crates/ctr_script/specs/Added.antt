@@ -15,7 +15,8 @@ Adds line old new = (added : List Line) × IsAdded line added × (new ≡ old ++
 
 -- the bytes begin with a line of n bytes, and its end
 abbrev pub IsFirstLine : List ℕ → ℕ → Type 0
-IsFirstLine bytes n = (n < length bytes) × HasNoEnd (take n bytes) × (bytes ≡ take n bytes ++ 10 ∷ drop (n + 1) bytes)
+IsFirstLine bytes n = (n < length bytes) × HasNoEnd (take n bytes)
+    × (bytes ≡ take n bytes ++ 10 ∷ drop (n + 1) bytes)
 
 -- the line is neither skipped nor a statement
 abbrev pub IsNone : List ℕ → Type 0

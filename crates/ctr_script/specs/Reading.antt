@@ -56,10 +56,12 @@ pub record IsShortScript (bytes : List ℕ) (lines : List Line) : Type 0 where
   pub script : IsScript first bytes lines
   pub short : length bytes ≤ most_bytes
 
--- The bytes decide the answer, unless the source fails or memory runs out: a script is read, what is
--- refused is refused at its place, and what is too long is so whatever it holds.
+-- The bytes decide the answer, unless the source fails or memory runs out: a script is read, what
+-- is refused is refused at its place, and what is too long is so whatever it holds.
 pub record IsDecided (bytes : List ℕ) (result : Result Script ScriptError) : Type 0 where
-  pub script : (ls : List Line) → IsShortScript bytes ls → MatchResult result (λ s. s.lines ≡ ls) IsHindrance
+  pub script : (ls : List Line) → IsShortScript bytes ls
+      → MatchResult result (λ s. s.lines ≡ ls) IsHindrance
   pub refused : (line at : ℕ) → IsShortRefused bytes line at
       → MatchResult result (λ _. ⊥) (λ e. (e ≡ error.Refused line at) ⊎ IsHindrance e)
-  pub too_long : most_bytes < length bytes → MatchResult result (λ _. ⊥) (λ e. (e ≡ error.TooLong) ⊎ IsHindrance e)
+  pub too_long : most_bytes < length bytes
+      → MatchResult result (λ _. ⊥) (λ e. (e ≡ error.TooLong) ⊎ IsHindrance e)

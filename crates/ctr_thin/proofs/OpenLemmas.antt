@@ -6,13 +6,15 @@ use Rattle.ctr_bytes.proofs.FieldLaws.{field_at, length-spelled}
 use Rattle.ctr_disk.specs.declared.disk.Image.{Image}
 use Rattle.ctr_disk.specs.declared.disk.File.{File}
 use Rattle.ctr_disk.specs.declared.fault.Root.{Root}
+use Rattle.ctr_disk.specs.declared.fault.StoreFault.{StoreFault}
 use Rattle.ctr_disk.specs.declared.fault.StoreFault.TheVariants as store
 use Rattle.ctr_disk.specs.Image.{content}
 use Rattle.ctr_log.specs.declared.reading.ReadError.{ReadError}
 use Rattle.ctr_log.specs.declared.reading.ReadError.TheVariants as read
+use Rattle.ctr_log.specs.Damage.{Differs}
 use Rattle.ctr_log.specs.Homes.{Block, root_block, root_value, IsRoot, SaysRoot}
 use Rattle.ctr_log.specs.Logs.{Batches, records, HasLog, Log, GoesOn}
-use Rattle.ctr_log.specs.Reading.{log_file, HasSome, RefusesOrFails, OpensLog}
+use Rattle.ctr_log.specs.Reading.{log_file, HasSome, RefusesOrFails, ReadDiffers, OpensLog}
 use Rattle.ctr_log.specs.Fresh.{first_checkpoint}
 use Rattle.ctr_model.specs.Database.{Database}
 use Rattle.ctr_rec.specs.Fold.{FoldsRecords}
@@ -20,8 +22,8 @@ use Rattle.ctr_tables.specs.Tables.{database_of}
 use Rattle.ctr_thin.specs.declared.opening.Opened.{Opened}
 use Rattle.ctr_thin.specs.declared.opening.OpenError.{OpenError}
 use Rattle.ctr_thin.specs.declared.opening.OpenError.TheVariants as open_error
-use Rattle.ctr_thin.specs.Opening.{of_read}
-use Rattle.ctr_thin.specs.Thin.{StandsFor, MakesDatabase, MakesSomeDatabase, RefusesToOpen, Opens, Explains}
+use Rattle.ctr_thin.specs.Opening.{of_read, of_store}
+use Rattle.ctr_thin.specs.Thin.{StandsFor, MakesDatabase, MakesSomeDatabase, RefusesToOpen, Opens, Explains, OpenDiffers}
 use Rattle.ctr_thin.proofs.ReplayLemmas.{OneFold}
 
 -- ---- a block says one root at most
@@ -128,3 +130,22 @@ module _ (image mid : Image) (same : mid ≡ image) (r : Root) (says : SaysRoot 
       goes_on = subst (λ (i : Image). GoesOn r.first opens.bs o.log i) same opens.goes_on;
       none = opens.none;
     }
+
+-- ---- damage is told by numbers that differ
+
+pub store_differs : (e : StoreFault) → Differs e → OpenDiffers (of_store e)
+store_differs store.Fault is = tt
+store_differs (store.Damaged f at want got) is = is
+
+pub log_differs : (e : ReadError) → ReadDiffers e → OpenDiffers (of_read e)
+log_differs read.OutOfMemory is = tt
+log_differs (read.Store e) is = store_differs e is
+
+pub records_differ : (P : Type 0) (e : OpenError) → RefusesToOpen P e → OpenDiffers e
+records_differ P open_error.OutOfMemory is = tt
+records_differ P (open_error.Damaged f at want got) is = is.0
+records_differ P open_error.NoDatabase is = tt
+records_differ P open_error.Fault is = tt
+
+pub next_differs : (file : File) (next : ℕ) → 2 ^ 62 ≤ next → OpenDiffers (open_error.Damaged file 0 (2 ^ 62 - 1) next)
+next_differs file next high same = omega (arith, high, same)

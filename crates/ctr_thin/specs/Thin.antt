@@ -1,8 +1,9 @@
 -- Which database an image stands for in the thin form: the records of the log that its root names,
 -- from the checkpoint of an empty engine on, make it.
-use Rattle.std.specs.Prelude.{◌≡◌, ◌≢◌, ℕ, ◌+◌, ◌^◌, ◌<◌, List, [], ◌∷◌, length, None, Result, Ok, Err}
+use Rattle.std.specs.Prelude.{◌≡◌, ◌≢◌, ℕ, ◌+◌, ◌^◌, ◌<◌, IsTrue, List, [], ◌∷◌, length, None, Result, Ok, Err, IfErr}
 use Rattle.ctr_disk.specs.declared.disk.Image.{Image}
 use Rattle.ctr_disk.specs.declared.fault.Root.{Root}
+use Rattle.ctr_disk.specs.declared.disk.Disk.{Ghosts}
 use Rattle.ctr_disk.specs.Image.{content}
 use Rattle.ctr_log.specs.Homes.{root_value, SaysRoot}
 use Rattle.ctr_log.specs.Logs.{Batches, records, HasLog, GoesOn}
@@ -21,9 +22,9 @@ use Rattle.ctr_thin.specs.declared.opening.OpenError.TheVariants.{NoDatabase, Da
 
 -- ---- what an image stands for
 
--- The root's value says a root whose checks hold, and the file that it names has a log of batches from
--- its first LSN on. The first record is the checkpoint of an empty engine, and the others make the
--- database from nothing.
+-- The root's value says a root whose checks hold, and the file that it names has a log of batches
+-- from its first LSN on. The first record is the checkpoint of an empty engine, and the others make
+-- the database from nothing.
 pub record StandsFor (image : Image) (db : Database) : Type 0 where
   pub r : Root
   pub bs : Batches
@@ -74,7 +75,8 @@ CanReplay old rs = (new : Database) × FoldsRecords old rs new
 
 -- ---- what opening finds
 
--- the records of a log that makes the database: the checkpoint of an empty engine, and those that fold
+-- the records of a log that makes the database: the checkpoint of an empty engine, and those that
+-- fold
 abbrev pub MakesDatabase : List (List ℕ) → Database → Type 0
 MakesDatabase all db = (rs : List (List ℕ)) × (all ≡ first_checkpoint ∷ rs) × FoldsRecords [] rs db
 
@@ -89,8 +91,8 @@ RefusesToOpen P (Damaged file at want got) = (want ≢ got) × (P → ⊥)
 RefusesToOpen P NoDatabase = ⊥
 RefusesToOpen P Fault = ⊥
 
--- the tables are those of the database that the image stands for, and the log's writer goes on behind
--- the log with nothing to flush
+-- the tables are those of the database that the image stands for, and the log's writer goes on
+-- behind the log with nothing to flush
 pub record Opens (image : Image) (o : Opened) : Type 0 where
   pub stands : StandsFor image (database_of o.tables)
   pub low : IsLow stands.r stands.bs
@@ -105,9 +107,17 @@ StandsForNone image = (db : Database) (s : StandsFor image db) → IsLow s.r s.b
 -- why nothing was opened: there is no root, or the image stands for no database that can be opened
 abbrev pub Explains : Image → OpenError → Type 0
 Explains image NoDatabase = root_value image.root ≡ None
-Explains image (Damaged file at want got) = (want ≢ got) × (root_value image.root ≢ None) × StandsForNone image
+Explains image (Damaged file at want got) = (want ≢ got) × (root_value image.root ≢ None)
+    × StandsForNone image
 Explains image Fault = Unit {0}
 Explains image OutOfMemory = Unit {0}
+
+-- where it is damage, what is wanted differs from what is there
+abbrev pub OpenDiffers : OpenError → Type 0
+OpenDiffers NoDatabase = Unit {0}
+OpenDiffers (Damaged file at want got) = want ≢ got
+OpenDiffers Fault = Unit {0}
+OpenDiffers OutOfMemory = Unit {0}
 
 -- no database is there, or that couldn't be found out
 abbrev pub FindsNone : Result Opened OpenError → Type 0
@@ -116,3 +126,10 @@ FindsNone (Err NoDatabase) = Unit {0}
 FindsNone (Err (Damaged file at want got)) = ⊥
 FindsNone (Err Fault) = Unit {0}
 FindsNone (Err OutOfMemory) = Unit {0}
+
+-- why nothing was opened; what is said of content holds where the disk tells it
+pub record IsExplained {D : Type 0} (g : Ghosts D) (disk : D) (result : Result Opened OpenError)
+    : Type 0 where
+  pub differs : IfErr result OpenDiffers
+  pub told : IsTrue g.tells → IfErr result (Explains (g.reads disk))
+  pub no_database : IsTrue g.tells → root_value (g.reads disk).root ≡ None → FindsNone result

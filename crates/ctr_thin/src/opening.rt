@@ -1,14 +1,14 @@
 // Opening a database: the root, the log that it names, and the tables that its records make.
 ghost use Rattle.std.specs.Prelude.{◌≡◌, ◌≢◌, ◌↔◌, ◌≤◌, ◌<◌, ◌-◌, ◌^◌, IsTrue, ℕ, [], None, Err, IfOk, IfErr, OnOk, MatchResult};
 ghost use Rattle.ctr_disk.specs.Device.{OnlyReads, CountsAs, IsDurableFrom};
-ghost use Rattle.ctr_log.specs.Homes.{root_value, IsRoot};
+ghost use Rattle.ctr_log.specs.Homes.{IsRoot};
 ghost use Rattle.ctr_log.specs.Fresh.{first_checkpoint};
 ghost use Rattle.ctr_log.specs.Reading.{log_file};
 ghost use Rattle.ctr_model.specs.Database.{Database};
 ghost use Rattle.ctr_tables.specs.Tables.{database_of};
 ghost use Rattle.ctr_thin.specs.declared.opening.OpenError.TheVariants.{Damaged, Fault};
 ghost use Rattle.ctr_thin.specs.Opening.{of_record};
-ghost use Rattle.ctr_thin.specs.Thin.{StandsFor, Opens, Explains, FindsNone, MakesDatabase, MakesSomeDatabase, RefusesToOpen};
+ghost use Rattle.ctr_thin.specs.Thin.{StandsFor, Opens, Explains, OpenDiffers, IsExplained, MakesDatabase, MakesSomeDatabase, RefusesToOpen};
 
 use crate::replay::replay;
 use ctr_disk::{Disk, Failed, File, Root, StoreFault};
@@ -98,7 +98,7 @@ impl From<ReadError> for OpenError {
 
 // A root that was read passes. On a disk that doesn't tell what it holds this isn't known.
 fn check_root(root: &Root) -> Result<(), OpenError>
-    ensures { MatchResult result (λ _. (root.now.file ≤ 1) × (root.now.first ≤ 2 ^ 63)) (λ e. (e ≢ Fault) × (IsRoot root.now → ⊥)) }
+    ensures { MatchResult result (λ _. (root.now.file ≤ 1) × (root.now.first ≤ 2 ^ 63)) (λ e. (e ≢ Fault) × OpenDiffers e × (IsRoot root.now → ⊥)) }
 {
     if root.file > 1 {
         return Err(OpenError::Damaged {
@@ -200,6 +200,7 @@ fn read_database<D: Disk>(alloc: Global, disk: &mut D) -> Result<Opened, OpenErr
     ensures opened { IsTrue D.tells → IfOk result (Opens (D.reads disk.old)) }
     ensures only { (db : Database) → IsTrue D.tells → StandsFor (D.reads disk.old) db → IfOk result (λ o. database_of o.tables ≡ db) }
     ensures refused { IsTrue D.tells → IfErr result (Explains (D.reads disk.old)) }
+    ensures differs { IfErr result OpenDiffers }
     ensures next { IfOk result (λ o. (o.log.first < 2 ^ 62) × (o.log.buffered ≡ [])) }
     ensures quiet { OnlyReads D.Disk disk.old disk.new }
     ensures counts { CountsAs D.Disk Fault disk.old disk.new result }
@@ -225,8 +226,7 @@ pub fn open<D: Disk>(alloc: Global, disk: &mut D) -> Result<Opened, OpenError>
     // The log's writer has nothing to flush, and numbers are left for further records.
     ensures next { IfOk result (λ o. (o.log.first < 2 ^ 62) × (o.log.buffered ≡ [])) }
     // There is no root, or the image stands for no database that can be opened.
-    ensures refused { IsTrue D.tells → IfErr result (Explains (D.reads disk.old)) }
-    ensures no_database { IsTrue D.tells → root_value (D.reads disk.old).root ≡ None → FindsNone result }
+    ensures refused { IsExplained D.Disk disk.old result }
     ensures quiet { OnlyReads D.Disk disk.old disk.new }
     // What was pending is durable, from the moment of the call's end on.
     ensures settled { OnOk result (IsDurableFrom D.Disk disk.old disk.new) }

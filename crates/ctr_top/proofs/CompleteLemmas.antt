@@ -38,7 +38,7 @@ module _ {D S : Type 0} (law : NoScriptIsRefused) (g : Ghosts D) (old : D) (s : 
   each (inl a) = inl a
   each (inr (inl a)) = absurd (not_both law o.cause (s.left source) ls script (h.no_script source_told a))
   each (inr (inr (inl a))) = absurd (cc (h.no_database told a, can_open.1.0.root.0))
-  each (inr (inr (inr (inl a)))) = absurd ((h.damaged told a).1.1 can_open.0 can_open.1.0 can_open.1.1)
+  each (inr (inr (inr (inl a)))) = absurd ((h.damaged told a).1 can_open.0 can_open.1.0 can_open.1.1)
   each (inr (inr (inr (inr (inl a))))) = absurd (no_disk (h.disk_fault a))
   each (inr (inr (inr (inr (inr (inl a)))))) = absurd (no_source (h.read_fault a))
   each (inr (inr (inr (inr (inr (inr a)))))) = inr (a, (leaves.nothing (inl (inr (inr (inr (inr a)))))).tape)

@@ -20,7 +20,7 @@ use Rattle.ctr_model.specs.Texts.{answers}
 use Rattle.ctr_thin.specs.declared.opening.OpenError.{OpenError}
 use Rattle.ctr_thin.specs.declared.opening.OpenError.TheVariants as open_error
 use Rattle.ctr_log.specs.Fresh.{IsFresh, IsNoneOrFresh, fresh_root, fresh_log}
-use Rattle.ctr_thin.specs.Thin.{Explains, StandsBy}
+use Rattle.ctr_thin.specs.Thin.{Explains, OpenDiffers, StandsBy}
 use Rattle.ctr_world.specs.declared.opening.Opening.{Ghosts as Opening}
 use Rattle.ctr_world.specs.World.{CanOpen, reached, HasCommits, IsPrefixAt, Survives, Ends, StopsBy, IsOpenedOn}
 use Rattle.ctr_script.specs.declared.error.ScriptError.{ScriptError}
@@ -35,38 +35,42 @@ told_as P {status} {was} {why} {told} status_is why_is p = subst (λ q. P status
 
 module _ {D : Type 0} (g : Ghosts D) (old : D) (o : Outcome D) where
   -- the cause of a database that wasn't opened
-  pub open_causes : (error : OpenError) → TellsOpening error o.status o.cause → (IsTrue g.tells → Explains (g.reads old) error) → (error ≡ open_error.Fault → CountsFault (g.faults_of old) (g.faults_of o.disk)) → LinesCauses g old o
-  open_causes open_error.NoDatabase h explains fault = record {
+  pub open_causes : (error : OpenError) → TellsOpening error o.status o.cause → OpenDiffers error → (IsTrue g.tells → Explains (g.reads old) error) → (error ≡ open_error.Fault → CountsFault (g.faults_of old) (g.faults_of o.disk)) → LinesCauses g old o
+  open_causes open_error.NoDatabase h differs explains fault = record {
     is = inr (inl h.0);
     fine = λ told is. absurd (omega (arith, h.0, is));
     no_database = λ told is. explains told;
+    damage = λ is. absurd (omega (arith, h.0, is));
     damaged = λ told is. absurd (omega (arith, h.0, is));
     disk_fault = λ is. absurd (omega (arith, h.0, is));
     calm = λ is. absurd (omega (arith, h.0, is));
     plain = λ not. h.1;
   }
-  open_causes (open_error.Damaged file at want got) h explains fault = record {
+  open_causes (open_error.Damaged file at want got) h differs explains fault = record {
     is = inr (inr (inl h.0));
     fine = λ told is. absurd (omega (arith, h.0, is));
     no_database = λ told is. absurd (omega (arith, h.0, is));
-    damaged = λ told is. let e = explains told in (subst DamageDiffers (sym h.1) e.0, (e.1, e.2));
+    damage = λ is. subst DamageDiffers (sym h.1) differs;
+    damaged = λ told is. let e = explains told in (e.1, e.2);
     disk_fault = λ is. absurd (omega (arith, h.0, is));
     calm = λ is. absurd (omega (arith, h.0, is));
     plain = λ not. absurd (not h.0);
   }
-  open_causes open_error.Fault h explains fault = record {
+  open_causes open_error.Fault h differs explains fault = record {
     is = inr (inr (inr (inl h.0)));
     fine = λ told is. absurd (omega (arith, h.0, is));
     no_database = λ told is. absurd (omega (arith, h.0, is));
+    damage = λ is. absurd (omega (arith, h.0, is));
     damaged = λ told is. absurd (omega (arith, h.0, is));
     disk_fault = λ is. fault refl;
     calm = λ is. absurd (omega (arith, h.0, is));
     plain = λ not. h.1;
   }
-  open_causes open_error.OutOfMemory h explains fault = record {
+  open_causes open_error.OutOfMemory h differs explains fault = record {
     is = inr (inr (inr (inr h.0)));
     fine = λ told is. absurd (omega (arith, h.0, is));
     no_database = λ told is. absurd (omega (arith, h.0, is));
+    damage = λ is. absurd (omega (arith, h.0, is));
     damaged = λ told is. absurd (omega (arith, h.0, is));
     disk_fault = λ is. absurd (omega (arith, h.0, is));
     calm = λ is. absurd (omega (arith, h.0, is));
@@ -79,6 +83,7 @@ module _ {D : Type 0} (g : Ghosts D) (old : D) (o : Outcome D) where
     is = inl h.0;
     fine = λ told is. can_open told;
     no_database = λ told is. absurd (omega (arith, h.0, is));
+    damage = λ is. absurd (omega (arith, h.0, is));
     damaged = λ told is. absurd (omega (arith, h.0, is));
     disk_fault = λ is. absurd (omega (arith, h.0, is));
     calm = λ is. same;
@@ -88,6 +93,7 @@ module _ {D : Type 0} (g : Ghosts D) (old : D) (o : Outcome D) where
     is = inr (inr (inr (inl h.0)));
     fine = λ told is. absurd (omega (arith, h.0, is));
     no_database = λ told is. absurd (omega (arith, h.0, is));
+    damage = λ is. absurd (omega (arith, h.0, is));
     damaged = λ told is. absurd (omega (arith, h.0, is));
     disk_fault = λ is. counts;
     calm = λ is. absurd (omega (arith, h.0, is));
@@ -221,6 +227,7 @@ module _ {D S : Type 0} (g : Ghosts D) (old : D) (s : Source S) (source new : S)
         fine = h.fine;
         no_script = λ t is. absurd (not.0 is);
         no_database = h.no_database;
+        damage = h.damage;
         damaged = h.damaged;
         disk_fault = h.disk_fault;
         read_fault = λ is. absurd (not.1 is);
@@ -255,6 +262,7 @@ module _ {D S : Type 0} (g : Ghosts D) (old : D) (s : Source S) (source new : S)
         fine = λ t is. absurd (not_zero error o.status o.cause h is);
         no_script = no_script_of error h reason;
         no_database = λ t is. absurd (not_three is);
+        damage = λ is. absurd (not_four is);
         damaged = λ t is. absurd (not_four is);
         disk_fault = λ is. absurd (not_five is);
         read_fault = read_fault_of error h counts;

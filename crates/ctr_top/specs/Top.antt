@@ -42,8 +42,8 @@ abbrev pub work_status : ℕ → ℕ
 work_status status = if status == 7 then 0 else status
 
 -- how the work of a command ended
-abbrev pub outcome_of : {D : Type 0} → Ended D → Outcome D
-outcome_of e = record { status = work_status e.status; cause = e.cause; tape = e.tape; disk = e.disk }
+abbrev pub work_of : {D : Type 0} → Ended D → Outcome D
+work_of e = record { status = work_status e.status; cause = e.cause; tape = e.tape; disk = e.disk }
 
 -- every statement is finished, recovery holds no name, and a crash at the end leaves every commit
 pub record IsComplete {D : Type 0} (g : Ghosts D) (start : ℕ) (base : Database) (lines : List Line) (es : List Entry) (disk : D)
@@ -53,10 +53,12 @@ pub record IsComplete {D : Type 0} (g : Ghosts D) (start : ℕ) (base : Database
   pub durable : (c : Image) → g.since disk (g.moment_of disk) c
       → HasCommits base (reached lines start base es).state.asked (answers es) c
 
--- A run over this database: its tape is legal, its moments lie from the start to the end, and a crash at
--- any moment leaves a prefix of the commit order with every commit answered by then, or, before the
--- first entry, what it might have left as the call began. At status 0 the run is complete.
-pub record Ran {D : Type 0} (g : Ghosts D) (old : D) (base : Database) (lines : List Line) (o : Outcome D) : Type 0 where
+-- A run over this database: its tape is legal, its moments lie from the start to the end, and a
+-- crash at any moment leaves a prefix of the commit order with every commit answered by then, or,
+-- before the first entry, what it might have left as the call began. At status 0 the run is
+-- complete.
+pub record Ran {D : Type 0} (g : Ghosts D) (old : D) (base : Database) (lines : List Line)
+    (o : Outcome D) : Type 0 where
   pub legal : Legal lines (at_start (g.moment_of old) base []) o.tape.entries
   pub later : (reached lines (g.moment_of old) base o.tape.entries).moment ≤ g.moment_of o.disk
   pub survives : Survives g (g.moment_of old) o.disk
@@ -74,9 +76,11 @@ pub record RanScript {D S : Type 0} (g : Ghosts D) (old : D) (base : Database) (
 -- with these statuses nothing was run: there is no script, no database that can be opened, or no
 -- memory to begin
 abbrev pub IsRefusedStatus : ℕ → Type 0
-IsRefusedStatus status = (status ≡ 1) ⊎ ((status ≡ 3) ⊎ ((status ≡ 4) ⊎ ((status ≡ 6) ⊎ (status ≡ 8))))
+IsRefusedStatus status = (status ≡ 1)
+    ⊎ ((status ≡ 3) ⊎ ((status ≡ 4) ⊎ ((status ≡ 6) ⊎ (status ≡ 8))))
 
--- nothing is run: by the status, or, whatever the status, where no database is there that can be opened
+-- nothing is run: by the status, or, whatever the status, where no database is there that can be
+-- opened
 abbrev pub RunsNothing : {D : Type 0} → Ghosts D → D → ℕ → Type 0
 RunsNothing g old status = IsRefusedStatus status ⊎ (IsTrue g.tells × (CanOpen (g.reads old) → ⊥))
 
@@ -87,14 +91,15 @@ pub record RanNothing {D : Type 0} (g : Ghosts D) (old : D) (o : Outcome D) : Ty
   pub left : OnlyReads g old o.disk
   pub stray : g.strays_of o.disk ≡ g.strays_of old
 
--- Where nothing is run, nothing is left behind; and the count of strays rises only where a file of the
--- log is nearly as long as a file can be.
+-- Where nothing is run, nothing is left behind; and the count of strays rises only where a file of
+-- the log is nearly as long as a file can be.
 pub record RunLeaves {D : Type 0} (g : Ghosts D) (old : D) (o : Outcome D) : Type 0 where
   pub nothing : RunsNothing g old o.status → RanNothing g old o
   pub stray : IsTrue g.tells → StraysOnlyLong g (g.strays_of old) o.disk
 
 -- the clock doesn't go back, no count of faults falls, and at most 16,777,217 bytes are taken
-pub record GoesForward {D S : Type 0} (g : Ghosts D) (s : Source S) (old new : D) (source source_new : S) : Type 0 where
+pub record GoesForward {D S : Type 0} (g : Ghosts D) (s : Source S) (old new : D)
+    (source source_new : S) : Type 0 where
   pub later : g.moment_of old ≤ g.moment_of new
   pub disk_faults : g.faults_of old ≤ g.faults_of new
   pub source_faults : s.faults_of source ≤ s.faults_of source_new
@@ -105,7 +110,8 @@ pub record GoesForward {D S : Type 0} (g : Ghosts D) (s : Source S) (old new : D
 -- why a database wasn't opened
 abbrev pub TellsOpening : OpenError → ℕ → Cause → Type 0
 TellsOpening open_error.NoDatabase status why = (status ≡ 3) × (why ≡ cause.Plain)
-TellsOpening (open_error.Damaged file at want got) status why = (status ≡ 4) × (why ≡ cause.Damaged file at want got)
+TellsOpening (open_error.Damaged file at want got) status why = (status ≡ 4)
+    × (why ≡ cause.Damaged file at want got)
 TellsOpening open_error.Fault status why = (status ≡ 5) × (why ≡ cause.Plain)
 TellsOpening open_error.OutOfMemory status why = (status ≡ 8) × (why ≡ cause.Plain)
 
@@ -120,7 +126,8 @@ TellsReading script_error.OutOfMemory status why = (status ≡ 8) × (why ≡ ca
 abbrev pub TellsStop : Option Stop → ℕ → Cause → Type 0
 TellsStop None status why = (status ≡ 0) × (why ≡ cause.Plain)
 TellsStop (Some stop.Fault) status why = (status ≡ 5) × (why ≡ cause.Plain)
-TellsStop (Some (stop.Damaged file at want got)) status why = (status ≡ 4) × (why ≡ cause.Damaged file at want got)
+TellsStop (Some (stop.Damaged file at want got)) status why = (status ≡ 4)
+    × (why ≡ cause.Damaged file at want got)
 TellsStop (Some (stop.Worn lsn)) status why = (status ≡ 10) × (why ≡ cause.Worn lsn)
 
 -- how a database was made
@@ -151,7 +158,9 @@ IsBroken image = (root_value image.root ≢ None) × StandsForNone image
 
 -- the status is one of those of a run
 abbrev pub IsRunStatus : ℕ → Type 0
-IsRunStatus status = (status ≡ 0) ⊎ ((status ≡ 1) ⊎ ((status ≡ 3) ⊎ ((status ≡ 4) ⊎ ((status ≡ 5) ⊎ ((status ≡ 6) ⊎ (status ≡ 8))))))
+IsRunStatus status = (status ≡ 0)
+    ⊎ ((status ≡ 1)
+    ⊎ ((status ≡ 3) ⊎ ((status ≡ 4) ⊎ ((status ≡ 5) ⊎ ((status ≡ 6) ⊎ (status ≡ 8))))))
 
 -- The cause of each status of a script that was read. What is said of content holds where the disk
 -- tells it.
@@ -159,27 +168,33 @@ pub record LinesCauses {D : Type 0} (g : Ghosts D) (old : D) (o : Outcome D) : T
   pub is : (o.status ≡ 0) ⊎ ((o.status ≡ 3) ⊎ ((o.status ≡ 4) ⊎ ((o.status ≡ 5) ⊎ (o.status ≡ 8))))
   pub fine : IsTrue g.tells → o.status ≡ 0 → CanOpen (g.reads old)
   pub no_database : IsTrue g.tells → o.status ≡ 3 → root_value (g.reads old).root ≡ None
-  pub damaged : IsTrue g.tells → o.status ≡ 4 → DamageDiffers o.cause × IsBroken (g.reads old)
+  pub damage : o.status ≡ 4 → DamageDiffers o.cause
+  pub damaged : IsTrue g.tells → o.status ≡ 4 → IsBroken (g.reads old)
   pub disk_fault : o.status ≡ 5 → CountsFault (g.faults_of old) (g.faults_of o.disk)
   pub calm : o.status ≡ 0 → g.faults_of o.disk ≡ g.faults_of old
   pub plain : o.status ≢ 4 → o.cause ≡ cause.Plain
 
 -- The cause of each status of a run. What is said of content holds where disk and source tell it.
-pub record RunCauses {D S : Type 0} (g : Ghosts D) (old : D) (s : Source S) (source source_new : S) (o : Outcome D) : Type 0 where
+pub record RunCauses {D S : Type 0} (g : Ghosts D) (old : D) (s : Source S)
+    (source source_new : S) (o : Outcome D) : Type 0 where
   pub is : IsRunStatus o.status
   pub fine : IsTrue g.tells → o.status ≡ 0 → CanOpen (g.reads old)
   pub no_script : IsTrue s.tells → o.status ≡ 1 → NoScript o.cause (s.left source)
   pub no_database : IsTrue g.tells → o.status ≡ 3 → root_value (g.reads old).root ≡ None
-  pub damaged : IsTrue g.tells → o.status ≡ 4 → DamageDiffers o.cause × IsBroken (g.reads old)
+  pub damage : o.status ≡ 4 → DamageDiffers o.cause
+  pub damaged : IsTrue g.tells → o.status ≡ 4 → IsBroken (g.reads old)
   pub disk_fault : o.status ≡ 5 → CountsFault (g.faults_of old) (g.faults_of o.disk)
   pub read_fault : o.status ≡ 6 → CountsFault (s.faults_of source) (s.faults_of source_new)
   -- work that came to its end has met no fault
-  pub calm : o.status ≡ 0 → (g.faults_of o.disk ≡ g.faults_of old) × (s.faults_of source_new ≡ s.faults_of source)
+  pub calm : o.status ≡ 0
+      → (g.faults_of o.disk ≡ g.faults_of old) × (s.faults_of source_new ≡ s.faults_of source)
   -- only a script that is none and damage have a cause of their own
   pub plain : o.status ≢ 1 → o.status ≢ 4 → o.cause ≡ cause.Plain
   -- the script is read before the disk is touched
   pub reads_first : IsTrue s.tells
-      → (o.status ≡ 1) ⊎ ((o.status ≡ 6) ⊎ ((o.status ≡ 8) ⊎ ((lines : List Line) × IsScript first (s.left source) lines)))
+      → (o.status ≡ 1)
+      ⊎ ((o.status ≡ 6)
+      ⊎ ((o.status ≡ 8) ⊎ ((lines : List Line) × IsScript first (s.left source) lines)))
   pub refused : IsTrue s.tells → (line at : ℕ) → IsShortRefused (s.left source) line at
       → ((o.status ≡ 1) × (o.cause ≡ cause.Script line at)) ⊎ ((o.status ≡ 6) ⊎ (o.status ≡ 8))
   pub too_long : IsTrue s.tells → most_bytes < length (s.left source)
@@ -209,7 +224,8 @@ pub record MakeCauses {D : Type 0} (g : Ghosts D) (old : D) (o : Outcome D) : Ty
 pub record Makes {D : Type 0} (g : Ghosts D) (old : D) (o : Outcome D) : Type 0 where
   pub any_moment : IsTrue g.tells → root_value (g.reads old).root ≡ None
       → LeavesOnly g old o.disk (λ c. g.images old c ⊎ IsNoneOrEmpty c)
-  pub made : IsTrue g.tells → o.status ≡ 0 → (c : Image) → g.since o.disk (g.moment_of o.disk) c → IsEmptyDatabase c
+  pub made : IsTrue g.tells → o.status ≡ 0 → (c : Image) → g.since o.disk (g.moment_of o.disk) c
+      → IsEmptyDatabase c
   pub untouched : IsTrue g.tells → IsSome (root_value (g.reads old).root) → OnlyReads g old o.disk
   pub causes : MakeCauses g old o
   pub tape : o.tape.entries ≡ []
@@ -218,12 +234,14 @@ pub record Makes {D : Type 0} (g : Ghosts D) (old : D) (o : Outcome D) : Type 0 
 -- ---- the text
 
 -- the transcript, and the last line of the work's status
-abbrev pub text_of : {D : Type 0} → Command → Ended D → List ℕ
-text_of command e = transcript e.tape.entries ++ last_line command (work_status e.status) e.cause e.tape.entries e.report
+abbrev pub printed_text : {D : Type 0} → Command → Ended D → List ℕ
+printed_text command e =
+    transcript e.tape.entries ++ last_line command (work_status e.status) e.cause e.tape.entries e.report
 
 -- the text was put, or where the sink failed a prefix of it; status 7 comes where it failed, and 0
 -- where it didn't
-pub record PutsText {K : Type 0} (g : Sink K) (old : K) (text : List ℕ) (new : K) (status : ℕ) : Type 0 where
+pub record PutsText {K : Type 0} (g : Sink K) (old : K) (text : List ℕ) (new : K) (status : ℕ)
+    : Type 0 where
   pub done : Bool
   pub put : PutsOn g old true text new done
   pub fine : status ≡ 0 → done ≡ true
@@ -231,7 +249,8 @@ pub record PutsText {K : Type 0} (g : Sink K) (old : K) (text : List ℕ) (new :
 
 -- commits answered and acts refused, as the tape has them, and nothing undone
 abbrev pub report_of : List Entry → Report
-report_of es = record { commits = answers es; refused = refusals es; undo_turns = 0; rows = 0; sum = pos 0 }
+report_of es =
+    record { commits = answers es; refused = refusals es; undo_turns = 0; rows = 0; sum = pos 0 }
 
 -- the report counts what the tape has, and no reply is a refusal for want of room in the files
 pub record IsReported (es : List Entry) (report : Report) : Type 0 where
@@ -248,7 +267,8 @@ pub record Faults : Type 0 where
 
 -- their counts
 abbrev pub faults_of : {D S K : Type 0} → Ghosts D → Source S → Sink K → D → S → K → Faults
-faults_of g s k disk source sink = record { disk = g.faults_of disk; source = s.faults_of source; sink = k.faults_of sink }
+faults_of g s k disk source sink =
+    record { disk = g.faults_of disk; source = s.faults_of source; sink = k.faults_of sink }
 
 -- no call failed: no count of faults rose, nor stood at its last value
 pub record NoneFailed (before now : Faults) : Type 0 where

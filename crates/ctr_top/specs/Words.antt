@@ -9,7 +9,9 @@ IsFolder word = (rest : List ℕ) → word ≡ 45 ∷ rest → ⊥
 
 -- a command and a folder, and nothing else
 abbrev pub IsCommand : List (List ℕ) → Command → Type 0
-IsCommand words command.Init = (folder : List ℕ) × (words ≡ codes "init" ∷ folder ∷ []) × IsFolder folder
-IsCommand words command.Run = (folder : List ℕ) × (words ≡ codes "run" ∷ folder ∷ []) × IsFolder folder
+IsCommand words command.Init = (folder : List ℕ) × (words ≡ codes "init" ∷ folder ∷ [])
+    × IsFolder folder
+IsCommand words command.Run = (folder : List ℕ) × (words ≡ codes "run" ∷ folder ∷ [])
+    × IsFolder folder
 IsCommand words (command.Load sessions statements) = ⊥
 IsCommand words (command.Survey start) = ⊥

@@ -10,7 +10,7 @@ ghost use Rattle.ctr_script.specs.Reading.{IsShortScript};
 ghost use Rattle.ctr_thin.specs.Thin.{StandsFor};
 ghost use Rattle.ctr_world.specs.World.{CanOpen};
 ghost use Rattle.ctr_top.specs.Words.{IsCommand};
-ghost use Rattle.ctr_top.specs.Top.{RanScript, RunCauses, RunLeaves, Makes, GoesForward, PutsText, NoneFailed, IsReported, text_of, work_status, outcome_of, report_of, faults_of};
+ghost use Rattle.ctr_top.specs.Top.{RanScript, RunCauses, RunLeaves, Makes, GoesForward, PutsText, NoneFailed, IsReported, printed_text, work_status, work_of, report_of, faults_of};
 
 use crate::making::make;
 use crate::outcome::Outcome;
@@ -47,7 +47,7 @@ fn status_after(status: u8, fine: bool) -> u8
 fn ending<D, K: Sink>(sink: &mut K, command: &Command, outcome: Outcome<D>) -> Ended<D>
     requires { outcome.status ≢ 7 }
     ensures printed { PutsText K.Sink sink.old (transcript outcome.tape.entries ++ last_line command.now outcome.status outcome.cause outcome.tape.entries (report_of outcome.tape.entries)) sink.new result.status }
-    ensures outcome { outcome_of result ≡ outcome }
+    ensures outcome { work_of result ≡ outcome }
     ensures report { result.report ≡ report_of outcome.tape.entries }
 {
     let report = Report {
@@ -90,7 +90,7 @@ pub fn run_serial<D: Disk, S: Source, K: Sink>(
 ) -> Ended<D>
     // The text of the tape, the status and the cause was put, or a prefix of it where the sink failed.
     ensures printed { (command : Command) → (IsCommand (map string_bytes words.now) command) ⊎ (result.status ≡ 2)
-        → PutsText K.Sink sink.old (text_of command result) sink.new result.status }
+        → PutsText K.Sink sink.old (printed_text command result) sink.new result.status }
     ensures tape { IsReported result.tape.entries result.report }
     // Status 2 comes exactly for words that are no command, and nothing else is touched then.
     ensures usage { (result.status ≡ 2) ↔ ((command : Command) → IsCommand (map string_bytes words.now) command → ⊥) }
@@ -99,15 +99,15 @@ pub fn run_serial<D: Disk, S: Source, K: Sink>(
     // A run's tape is legal over the database that the disk holds, and a crash at any moment from the
     // call's start to its end leaves a prefix of the commit order with every commit answered by then.
     ensures ran { IsCommand (map string_bytes words.now) Run → (base : Database) → IsTrue D.tells → StandsFor (D.reads disk) base
-        → RanScript D.Disk disk base S.Source source.old (outcome_of result) }
-    ensures run_causes { IsCommand (map string_bytes words.now) Run → RunCauses D.Disk disk S.Source source.old source.new (outcome_of result) }
-    ensures run_leaves { IsCommand (map string_bytes words.now) Run → RunLeaves D.Disk disk (outcome_of result) }
+        → RanScript D.Disk disk base S.Source source.old (work_of result) }
+    ensures run_causes { IsCommand (map string_bytes words.now) Run → RunCauses D.Disk disk S.Source source.old source.new (work_of result) }
+    ensures run_leaves { IsCommand (map string_bytes words.now) Run → RunLeaves D.Disk disk (work_of result) }
     // Where nothing fails a script runs to its end, or memory was refused before its first entry.
     ensures complete { IsCommand (map string_bytes words.now) Run → IsTrue D.tells → IsTrue S.tells
         → (lines : List Line) → IsShortScript (S.left source.old) lines → CanOpen (D.reads disk)
         → NoneFailed (faults_of D.Disk S.Source K.Sink disk source.old sink.old) (faults_of D.Disk S.Source K.Sink result.disk source.new sink.new)
         → (result.status ≡ 0) ⊎ ((result.status ≡ 8) × (result.tape.entries ≡ [])) }
-    ensures init { IsCommand (map string_bytes words.now) Init → Makes D.Disk disk (outcome_of result) }
+    ensures init { IsCommand (map string_bytes words.now) Init → Makes D.Disk disk (work_of result) }
     // A command that ends with 0 has met no fault.
     ensures calm { result.status ≡ 0
         → faults_of D.Disk S.Source K.Sink result.disk source.new sink.new ≡ faults_of D.Disk S.Source K.Sink disk source.old sink.old }

@@ -31,7 +31,8 @@ IsTaken (st.DropTable table) = ⊥
 IsTaken (st.Update table sets at) = ⊥
 IsTaken (st.Delete table at) = ⊥
 
--- A commit that was asked for waits for its answer; after any other reply the statement is finished.
+-- A commit that was asked for waits for its answer; after any other reply the statement is
+-- finished.
 abbrev pub passed_on : Reply → ℕ → Progress
 passed_on (reply.Asked k) n = record { finished = n; made = 1 }
 passed_on r n = record { finished = n + 1; made = 0 }
@@ -41,14 +42,17 @@ is_answering act.Answer = true
 is_answering a = false
 
 -- one act of the statement, its first
-pub record IsOne (state : State) (statement : Statement) (a : Act) (answer : Reply) (new : Session) : Type 0 where
+pub record IsOne (state : State) (statement : Statement) (a : Act) (answer : Reply) (new : Session)
+    : Type 0 where
   pub first_act : slice_get (acts_of state 1 statement) 0 ≡ Some a
   pub no_answer : is_answering a ≡ false
   pub replies : Replies state a statement answer new
-  pub passes : (n : ℕ) → advanced (acts_of state 1 statement) answer (record { finished = n; made = 0 }) ≡ passed_on answer n
+  pub passes : (n : ℕ)
+      → advanced (acts_of state 1 statement) answer (record { finished = n; made = 0 }) ≡ passed_on answer n
 
 -- both acts of a statement that locks and writes, which are the same at every state
-pub record IsTwo (state : State) (statement : Statement) (answer : Reply) (new : Session) : Type 0 where
+pub record IsTwo (state : State) (statement : Statement) (answer : Reply) (new : Session)
+    : Type 0 where
   pub both : (at : State) → acts_of at 1 statement ≡ act.Lock ∷ act.Write ∷ []
   pub replies : RepliesTwice state statement answer new
 

@@ -71,7 +71,8 @@ pub record IsOn (base : Database) (p : Point) (finished made now : ℕ) : Type 0
   pub later : p.moment ≤ now
 
 -- from this point on the tape is legal, and has led to what the session shows
-pub record IsAt (lines : List Line) (from : Point) (es : List Entry) (session : Session) (finished now : ℕ) : Type 0 where
+pub record IsAt (lines : List Line) (from : Point) (es : List Entry) (session : Session)
+    (finished now : ℕ) : Type 0 where
   pub legal : Legal lines from es
   pub on : IsOn from.state.base (final lines from es) finished (made_in session.stage) now
   pub shows : Shows (final lines from es).state session
@@ -79,8 +80,10 @@ pub record IsAt (lines : List Line) (from : Point) (es : List Entry) (session : 
 
 -- ---- what a crash leaves
 
--- the image stands for the base with the first k of the transactions that asked, of this many at least
-pub record HasCommits (base : Database) (asked : List (List Change)) (least : ℕ) (image : Image) : Type 0 where
+-- the image stands for the base with the first k of the transactions that asked, of this many at
+-- least
+pub record HasCommits (base : Database) (asked : List (List Change)) (least : ℕ) (image : Image)
+    : Type 0 where
   pub k : ℕ
   pub at_least : least ≤ k
   pub at_most : k ≤ length asked
@@ -91,24 +94,30 @@ abbrev pub NoneBy : ℕ → List Entry → Type 0
 NoneBy t [] = Unit {0}
 NoneBy t (e ∷ es) = t < e.moment
 
--- what a crash at one moment leaves: a prefix of the commit order with every commit that was answered
--- by then, or, before the first entry, what it might have left at the start
-abbrev pub IsPrefixAt : (Image → Type 0) → Database → List (List Change) → List Entry → ℕ → Image → Type 0
-IsPrefixAt before base asked es t c = HasCommits base asked (answered_by t es) c ⊎ (before c × NoneBy t es)
+-- what a crash at one moment leaves: a prefix of the commit order with every commit that was
+-- answered by then, or, before the first entry, what it might have left at the start
+abbrev pub IsPrefixAt : (Image → Type 0) → Database → List (List Change) → List Entry → ℕ → Image
+    → Type 0
+IsPrefixAt before base asked es t c = HasCommits base asked (answered_by t es) c
+    ⊎ (before c × NoneBy t es)
 
 -- a crash at a moment from the start to now leaves an image of which this holds at that moment
 abbrev pub Survives : {D : Type 0} → Ghosts D → ℕ → D → (ℕ → Image → Type 0) → Type 0
-Survives g start disk P = (t : ℕ) (c : Image) → start ≤ t → t ≤ g.moment_of disk → g.since disk t c → P t c
+Survives g start disk P = (t : ℕ) (c : Image) → start ≤ t → t ≤ g.moment_of disk → g.since disk t c
+    → P t c
 
--- the record of a commit that was asked for waits in the log, and makes the second database of the first
+-- the record of a commit that was asked for waits in the log, and makes the second database of the
+-- first
 abbrev pub Waits : Database → Stage → List (List ℕ) → Database → Type 0
 Waits db stage.Idle buffered next = buffered ≡ []
 Waits db stage.Reader buffered next = buffered ≡ []
 Waits db stage.Writer buffered next = buffered ≡ []
-Waits db stage.Asked buffered next = (bytes : List ℕ) × (buffered ≡ bytes ∷ []) × FoldsRecord db bytes next
+Waits db stage.Asked buffered next = (bytes : List ℕ) × (buffered ≡ bytes ∷ [])
+    × FoldsRecord db bytes next
 
 -- nothing is pending, and the image stands for the rows of all commits that were answered
-pub record Rests {D : Type 0} (g : Ghosts D) (disk : D) (log : Log) (session : Session) (state : State) : Type 0 where
+pub record Rests {D : Type 0} (g : Ghosts D) (disk : D) (log : Log) (session : Session)
+    (state : State) : Type 0 where
   pub only : IsDurable g disk
   pub rows : Database
   pub rows_are : rows ≡ rows_at state session.answered
@@ -121,14 +130,17 @@ pub record Rests {D : Type 0} (g : Ghosts D) (disk : D) (log : Log) (session : S
 abbrev pub HasLongLog : Image → Type 0
 HasLongLog image = (2 ^ 62 ≤ length image.log_a) ⊎ (2 ^ 62 ≤ length image.log_b)
 
--- the count of strays is as it was, or a crash leaves a file of the log that is nearly as long as a file can be
+-- the count of strays is as it was, or a crash leaves a file of the log that is nearly as long as
+-- a file can be
 abbrev pub StraysOnlyLong : {D : Type 0} → Ghosts D → ℕ → D → Type 0
-StraysOnlyLong g strays disk = (g.strays_of disk ≡ strays) ⊎ ((c : Image) → g.since disk (g.moment_of disk) c → HasLongLog c)
+StraysOnlyLong g strays disk = (g.strays_of disk ≡ strays)
+    ⊎ ((c : Image) → g.since disk (g.moment_of disk) c → HasLongLog c)
 
 -- ---- what the World was opened on
 
 -- this disk and these lines are those that the type names
-pub record IsOpenedOn {D B : Type 0} (o : Opening B) (g : Ghosts D) (disk : D) (lines : List Line) : Type 0 where
+pub record IsOpenedOn {D B : Type 0} (o : Opening B) (g : Ghosts D) (disk : D) (lines : List Line)
+    : Type 0 where
   pub image : o.image ≡ g.reads disk
   pub before : Within (g.images disk) o.before
   pub start : o.start ≡ g.moment_of disk
@@ -144,12 +156,15 @@ pub record CanRun (lines : List Line) : Type 0 where
 -- ---- what the World keeps
 
 -- of a database that the first image stands for
-pub record Runs {D B : Type 0} (g : Ghosts D) (o : Opening B) (base : Database) (w : Parts D) : Type 0 where
+pub record Runs {D B : Type 0} (g : Ghosts D) (o : Opening B) (base : Database) (w : Parts D)
+    : Type 0 where
   pub at : IsAt w.script.lines (at_start o.start base []) w.tape.items w.session w.finished (g.moment_of w.disk)
   pub survives : Survives g o.start w.disk (IsPrefixAt o.before base (reached w.script.lines o.start base w.tape.items).state.asked w.tape.items)
-  pub rests : w.stop ≡ None → Rests g w.disk w.log w.session (reached w.script.lines o.start base w.tape.items).state
+  pub rests : w.stop ≡ None
+      → Rests g w.disk w.log w.session (reached w.script.lines o.start base w.tape.items).state
   -- only a fault at a log that is nearly as long as a file can be counts as a stray
-  pub stray : (g.strays_of w.disk ≡ o.strays) ⊎ ((w.stop ≢ None) × ((c : Image) → g.since w.disk (g.moment_of w.disk) c → HasLongLog c))
+  pub stray : (g.strays_of w.disk ≡ o.strays)
+      ⊎ ((w.stop ≢ None) × ((c : Image) → g.since w.disk (g.moment_of w.disk) c → HasLongLog c))
 
 -- a COMMIT stands there
 abbrev pub IsCommitAt : List Line → ℕ → Type 0
@@ -160,7 +175,8 @@ pub record IsBounded {D : Type 0} (w : Parts D) : Type 0 where
   pub taken : AreTaken w.script.lines
   pub few : length w.script.lines < 2 ^ 32 - 1
   pub reached_at_most : w.finished ≤ length w.script.lines
-  pub asked : w.session.stage ≡ stage.Asked → (w.finished < length w.script.lines) × IsCommitAt w.script.lines w.finished
+  pub asked : w.session.stage ≡ stage.Asked
+      → (w.finished < length w.script.lines) × IsCommitAt w.script.lines w.finished
   pub answered : w.session.answered ≤ w.finished
   pub count : w.session.count ≤ w.finished
   pub record_room : 6 ≤ vec_capacity w.session.record
@@ -192,12 +208,20 @@ pub record Kept {D B : Type 0} (g : Ghosts D) (o : Opening B) (w : Parts D) : Ty
 
 -- the entry of session 1 for its next statement
 abbrev pub next_entry : {D : Type 0} → Ghosts D → Parts D → Act → Reply → Entry
-next_entry g w a r = record { session = 1; statement = w.finished + 1; act = a; reply = r; moment = g.moment_of w.disk }
+next_entry g w a r = record {
+  session = 1;
+  statement = w.finished + 1;
+  act = a;
+  reply = r;
+  moment = g.moment_of w.disk;
+}
 
 -- the acts stand behind the tape, and the statement is finished or waits for its answer
 abbrev pub Notes : {D : Type 0} → Ghosts D → Acts → Parts D → Parts D → Type 0
-Notes g (acts.One a r) w v = (v.tape.items ≡ w.tape.items ++ next_entry g w a r ∷ []) × (v.finished ≡ (passed_on r w.finished).finished)
-Notes g (acts.Two r) w v = (v.tape.items ≡ (w.tape.items ++ next_entry g w act.Lock reply.Granted ∷ []) ++ next_entry g w act.Write r ∷ []) × (v.finished ≡ w.finished + 1)
+Notes g (acts.One a r) w v = (v.tape.items ≡ w.tape.items ++ next_entry g w a r ∷ [])
+    × (v.finished ≡ (passed_on r w.finished).finished)
+Notes g (acts.Two r) w v =
+    (v.tape.items ≡ (w.tape.items ++ next_entry g w act.Lock reply.Granted ∷ []) ++ next_entry g w act.Write r ∷ []) × (v.finished ≡ w.finished + 1)
 
 -- how many turns of its session are left at most
 abbrev pub turns_left : {D : Type 0} → Parts D → ℕ
@@ -209,7 +233,8 @@ CanOpen image = (base : Database) × ((s : StandsFor image base) × IsLow s.r s.
 
 -- ---- how a turn ends
 
--- nothing is left to do for a session or for undo; this World has statements of session 1 alone, and nothing to undo
+-- nothing is left to do for a session or for undo; this World has statements of session 1 alone,
+-- and nothing to undo
 abbrev pub NoneLeft : {D : Type 0} → Actor → Parts D → Type 0
 NoneLeft (actor.Session s) w = s ≡ 1 → w.finished ≡ length w.script.lines
 NoneLeft actor.Undo w = Unit {0}
@@ -240,19 +265,24 @@ EndsTurn turn.Stopped a old new = (new.stop ≢ None) × (old.stop ≢ None → 
 
 -- ---- how a World ends
 
--- of a database that the first image stands for: its tape is legal, and a crash at each moment leaves
--- a prefix; where nothing stopped it, the tape is whole and a crash at the end leaves every commit
-pub record Ends {D B : Type 0} (g : Ghosts D) (o : Opening B) (base : Database) (es : List Entry) (stop : Option Stop) (disk : D) : Type 0 where
+-- of a database that the first image stands for: its tape is legal, and a crash at each moment
+-- leaves a prefix; where nothing stopped it, the tape is whole and a crash at the end leaves every
+-- commit
+pub record Ends {D B : Type 0} (g : Ghosts D) (o : Opening B) (base : Database) (es : List Entry)
+    (stop : Option Stop) (disk : D) : Type 0 where
   pub legal : Legal o.lines (at_start o.start base []) es
   pub later : (reached o.lines o.start base es).moment ≤ g.moment_of disk
   pub survives : Survives g o.start disk (IsPrefixAt o.before base (reached o.lines o.start base es).state.asked es)
   pub whole : stop ≡ None → IsWhole o.lines (reached o.lines o.start base es)
   pub no_stuck : (reached o.lines o.start base es).state.stuck ≡ []
-  pub durable : stop ≡ None → (c : Image) → g.since disk (g.moment_of disk) c → HasCommits base (reached o.lines o.start base es).state.asked (answers es) c
+  pub durable : stop ≡ None → (c : Image) → g.since disk (g.moment_of disk) c
+      → HasCommits base (reached o.lines o.start base es).state.asked (answers es) c
   pub stray : StraysOnlyLong g o.strays disk
 
--- the World wasn't opened: nothing was written, and a fault is counted where it is told, and nowhere else
-pub record RefusesWith {D : Type 0} (g : Ghosts D) (old : D) (error : OpenError) (new : D) : Type 0 where
+-- the World wasn't opened: nothing was written, and a fault is counted where it is told, and
+-- nowhere else
+pub record RefusesWith {D : Type 0} (g : Ghosts D) (old : D) (error : OpenError) (new : D)
+    : Type 0 where
   pub quiet : OnlyReads g old new
   pub faults_later : g.faults_of old ≤ g.faults_of new
   pub fault : error ≡ Fault → CountsFault (g.faults_of old) (g.faults_of new)

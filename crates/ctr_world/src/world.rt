@@ -2,7 +2,7 @@
 ghost use Rattle.std.specs.Prelude.{◌≡◌, ◌↔◌, ◌≤◌, ◌<◌, ◌-◌, ◌^◌, IsTrue, length, slice_get, IfOk, IfErr};
 ghost use Rattle.std.specs.Option.{option_map};
 ghost use Rattle.ctr_model.specs.Database.{Database};
-ghost use Rattle.ctr_thin.specs.Thin.{StandsFor, Explains};
+ghost use Rattle.ctr_thin.specs.Thin.{StandsFor, Explains, OpenDiffers};
 ghost use Rattle.ctr_exec.specs.declared.session.Stage.TheVariants as stage;
 ghost use Rattle.ctr_world.specs.declared.parts.Parts.{Parts};
 ghost use Rattle.ctr_world.specs.World.{IsOpenedOn, CanRun, CanOpen, NoneFull, EndsTurn, Ends, StopsBy, RefusesWith};
@@ -54,6 +54,7 @@ impl<D: Disk, B: Opening> World<D, B> {
         requires runs { CanRun script.lines }
         ensures can_open { IsTrue D.tells → IfOk result (λ w. CanOpen (D.reads disk)) }
         ensures refused { IsTrue D.tells → IfErr result (λ e. Explains (D.reads disk) e.0) }
+        ensures differs { IfErr result (λ e. OpenDiffers e.0) }
         ensures stays { IfErr result (λ e. RefusesWith D.Disk disk e.0 e.1) }
     {
         let mut disk = disk;

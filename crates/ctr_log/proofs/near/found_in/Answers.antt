@@ -1,9 +1,10 @@
 use Rattle.std.proofs.Common.{◌≡◌, ◌∙◌, ◌++◌, ℕ, List, take, drop, ap, sym, arith, take-append-drop}
-use Rattle.std.proofs.lemmas.Result.{IfOk-weaker}
+use Rattle.std.proofs.lemmas.Result.{IfOk-weaker, IfErr-weaker}
 use Rattle.ctr_disk.specs.Image.{content}
 use Rattle.ctr_log.specs.Logs.{records}
-use Rattle.ctr_log.specs.Reading.{ReadsLog}
+use Rattle.ctr_log.specs.Reading.{ReadsLog, HasSome, RefusesLog, ReadDiffers}
 use Rattle.ctr_log.specs.declared.reading.Found.{Found}
+use Rattle.ctr_log.proofs.DamageLemmas.{read_differs}
 use Rattle.ctr_log.proofs.NearLemmas.{reads_more, one_log}
 use Rattle.ctr_log.proofs.near.found_in.Goals as goal
 
@@ -26,3 +27,8 @@ returns-clause-only g c bs told front log =
     let split : all ≡ c.deref.result.now ++ drop n all = sym (ap (λ (l : List ℕ). l ++ drop n all) read ∙ take-append-drop n all) in
     IfOk-weaker c.read_log.result (λ f. ReadsLog first c.deref.result.now f.records f.place f.next) (λ f. f.records ≡ records bs)
     (λ (f : Found) is. is.records_are ∙ one_log first bs is.bs c.deref.result.now (drop n all) all split log is.log_is front.1 c.requires.low (omega arith)) c.read_log.ensures.found
+
+pub returns-clause-differs : goal.returns-clause-differs
+returns-clause-differs g c =
+    let P = HasSome c.args.first c.deref.result.now in
+    IfErr-weaker c.read_log.result (RefusesLog c.args.file P) ReadDiffers (read_differs c.args.file P) c.read_log.ensures.refused

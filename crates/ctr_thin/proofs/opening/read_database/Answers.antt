@@ -5,7 +5,7 @@ use Rattle.ctr_disk.specs.declared.fault.Root.{Root}
 use Rattle.ctr_log.specs.Homes.{root_value, Answers}
 use Rattle.ctr_tables.specs.Tables.{database_of}
 use Rattle.ctr_thin.specs.Thin.{MakesDatabase, MakesSomeDatabase, RefusesToOpen}
-use Rattle.ctr_thin.proofs.OpenLemmas.{log_refused, records_refused, next_refused, was_opened, only_tables}
+use Rattle.ctr_thin.proofs.OpenLemmas.{log_refused, records_refused, next_refused, was_opened, only_tables, store_differs, log_differs, records_differ, next_differs}
 use Rattle.ctr_thin.proofs.opening.read_database.Goals as goal
 
 pub returns-in_err-log-clause-refused : goal.returns-in_err-log-clause-refused
@@ -60,3 +60,24 @@ returns-clause-only g c db told =
     let tables = c.in_ok-tables.tables in
     let makes = subst (λ (l : List (List ℕ)). MakesDatabase l (database_of tables)) c.as_slice.ensures c.in_ok-tables.ensures.found in
     only_tables image (d.reads c.read_root.new.disk) c.in_ok-root.ensures.quiet.same r says c.in_ok-log.records (λ bs log. c.in_ok-log.ensures.only bs told log) c.fold_is_one.ensures (database_of tables) makes db
+
+pub returns-in_err-root-clause-differs : goal.returns-in_err-root-clause-differs
+returns-in_err-root-clause-differs g c =
+    let p = err_from_is_err_and c.from_residual.result c.from_residual.ensures.1 in
+    rw (p.1, p.2) (store_differs c.in_err-root.field-0.0 c.in_err-root.ensures.differs)
+
+pub returns-in_err-log-clause-differs : goal.returns-in_err-log-clause-differs
+returns-in_err-log-clause-differs g c =
+    let p = err_from_is_err_and c.from_residual-in_err-log.result c.from_residual-in_err-log.ensures.1 in
+    rw (p.1, p.2) (log_differs c.in_err-log.field-0.0 c.in_err-log.ensures.differs)
+
+pub returns-in_err-tables-clause-differs : goal.returns-in_err-tables-clause-differs
+returns-in_err-tables-clause-differs g c =
+    let p = err_from_is_err_and c.from_residual-in_err-tables.result c.from_residual-in_err-tables.ensures.1 in
+    rw (p.1, p.2) (records_differ _ c.in_err-tables.field-0.0 c.in_err-tables.ensures.refused)
+
+pub returns-in_err-check_next-clause-differs : goal.returns-in_err-check_next-clause-differs
+returns-in_err-check_next-clause-differs g c =
+    let p = err_from_is_err_and c.from_residual-in_err-check_next.result c.from_residual-in_err-check_next.ensures.1 in
+    let fails = c.in_err-check_next.ensures in
+    rw (p.1, p.2, fails.1) (next_differs c.named_file-file.result c.next.result fails.0)

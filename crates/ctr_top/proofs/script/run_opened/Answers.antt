@@ -20,7 +20,7 @@ returns-in-Err-clause-causes g c =
     let d = g.D.Disk in
     let t = c.without_tape.ensures in
     let old = c.args.disk in
-    open_causes d old c.without_tape.result c.in-Err.error (told_as (TellsOpening c.in-Err.error) t.status t.cause c.why_not_opened-status.ensures) c.in-Err.ensures.refused
+    open_causes d old c.without_tape.result c.in-Err.error (told_as (TellsOpening c.in-Err.error) t.status t.cause c.why_not_opened-status.ensures) c.in-Err.ensures.differs c.in-Err.ensures.refused
     (λ is. subst (λ e. CountsFault (d.faults_of old) (d.faults_of e)) (sym t.disk) (c.in-Err.ensures.stays.fault is))
 
 pub returns-clause-ran : goal.returns-clause-ran
