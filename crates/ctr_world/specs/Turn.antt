@@ -37,6 +37,7 @@ abbrev pub passed_on : Reply → ℕ → Progress
 passed_on (reply.Asked k) n = record { finished = n; made = 1 }
 passed_on r n = record { finished = n + 1; made = 0 }
 
+-- the act is the answer of a commit
 abbrev pub is_answering : Act → Bool
 is_answering act.Answer = true
 is_answering a = false
