@@ -45,7 +45,7 @@ pub(crate) fn is_sign(byte: u8) -> bool
         || byte == b'*'
 }
 
-/// How many blanks stand in front.
+/// How many blanks the bytes begin with.
 pub(crate) fn blanks_len(bytes: &[u8]) -> usize
     ensures within { result ≤ length bytes.now }
     ensures all { (k : ℕ) → k < result → IsBlank (slice_index bytes.now k) }
@@ -59,7 +59,7 @@ pub(crate) fn blanks_len(bytes: &[u8]) -> usize
     bytes.len()
 }
 
-/// How many letters, digits and _ stand in front.
+/// How many letters, digits and _ they begin with.
 pub(crate) fn word_len(bytes: &[u8]) -> usize
     ensures within { result ≤ length bytes.now }
     ensures all { (k : ℕ) → k < result → IsWordByte (slice_index bytes.now k) }
@@ -73,7 +73,7 @@ pub(crate) fn word_len(bytes: &[u8]) -> usize
     bytes.len()
 }
 
-/// How many digits stand in front.
+/// How many digits they begin with.
 pub(crate) fn digits_len(bytes: &[u8]) -> usize
     ensures within { result ≤ length bytes.now }
     ensures all { (k : ℕ) → k < result → IsDigit (slice_index bytes.now k) }

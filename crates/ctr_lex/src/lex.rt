@@ -16,7 +16,7 @@ pub fn tokens(alloc: Global, line: &[u8]) -> Result<Tokens<'_>, OutOfMemory>
     ensures found { IfOk result (λ ts. MatchOption ts.bad (Lexes line.now (texts_of ts.items)) (λ i. IsBadAt line.now (texts_of ts.items) i)) }
     // What lexes the line is found, so nothing lexes a line with a bad byte.
     ensures only { IfOk result (λ ts. (us : List (List ℕ)) → Lexes line.now us → (ts.bad ≡ None) × (texts_of ts.items ≡ us)) }
-    // The bad byte is found, with the tokens in front of it.
+    // The bad byte is found, with the tokens before it.
     ensures only_bad { IfOk result (λ ts. (us : List (List ℕ)) (i : ℕ) → IsBadAt line.now us i → (ts.bad ≡ Some i) × (texts_of ts.items ≡ us)) }
     // Where each token stands.
     ensures places { IfOk result (λ ts. StandFrom 0 line.now ts.items) }

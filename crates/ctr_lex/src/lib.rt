@@ -1,6 +1,6 @@
 //! The tokens of a line of a script: words, integers, texts and signs, with blanks between.
 //!
-//! A token is the longest front of what follows that is one, so a line is taken apart in one way
+//! A token is the longest prefix of what follows that is one, so a line is taken apart in one way
 //! only.
 #![tactic(auto)]
 

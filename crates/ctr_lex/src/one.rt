@@ -1,4 +1,4 @@
-// One token: the longest front of what follows that is a token.
+// One token: the longest prefix of what follows that is a token.
 ghost use Rattle.std.specs.Prelude.{◌+◌, ◌∷◌, MatchOption};
 ghost use Rattle.ctr_lex.specs.Tokens.{NoneBegins};
 ghost use Rattle.ctr_lex.specs.One.{IsLongestToken};
@@ -28,7 +28,7 @@ fn text_len(bytes: &[u8]) -> Option<usize>
     end
 }
 
-// The same of a first byte and what stands behind it.
+// The same of a first byte and what follows it.
 fn len_from(first: u8, rest: &[u8]) -> Option<usize>
     ensures { MatchOption result (NoneBegins (first ∷ rest.now)) (λ n. IsLongestToken (first ∷ rest.now) n) }
 {

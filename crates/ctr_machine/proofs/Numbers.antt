@@ -1,5 +1,5 @@
 -- Numbers that a tape makes rise.
-use Rattle.std.proofs.Common.{◌≡◌, ◌⊎◌, ℕ, ◌+◌, ◌-◌, ◌<◌, ◌≤◌, ◌^◌, List, Option, Some, None, refl, sym, ◌∙◌, ap, arith, inl, inr}
+use Rattle.std.proofs.Common.{◌≡◌, ℕ, ◌+◌, ◌-◌, ◌<◌, ◌≤◌, ◌^◌, List, Option, Some, None, refl, sym, ◌∙◌, ap, arith, inl, inr}
 use Rattle.ctr_types.specs.declared.statement.Statement.{Statement}
 use Rattle.ctr_types.specs.declared.statement.Line.{Line}
 use Rattle.ctr_types.specs.declared.tape.Act.{Act}
@@ -12,7 +12,7 @@ use Rattle.ctr_model.specs.declared.state.Transaction.{Transaction}
 use Rattle.ctr_model.specs.declared.tape.Point.{Point}
 use Rattle.ctr_model.specs.State.{transaction_of}
 use Rattle.ctr_model.specs.Reply.{next_inside, next_outside, released, next_from, next_state}
-use Rattle.ctr_model.specs.Tape.{statement_of, passed, Comes}
+use Rattle.ctr_model.specs.Tape.{statement_of, Comes}
 use Rattle.ctr_machine.specs.Follow.{HasNumber}
 
 inside : (state : State) (s : ℕ) (me : Transaction) (a : Act) (of : Option Statement) (r : Reply) → (next_inside state s me a of r).answered ≤ state.answered + 1

@@ -231,7 +231,7 @@ fn advanced(
     }
 }
 
-// Goes on to the point behind an entry.
+// Goes on to the point after an entry.
 fn pass(alloc: Global, lines: &[Line], point: &mut Point, entry: &Entry) -> Result<(), OutOfMemory>
     requires answered { point.old.state.answered < 2 ^ 64 - 1 }
     requires finished { HasNumber lines.now point.old entry.now }
@@ -263,7 +263,7 @@ fn number_of(entry: &Entry) -> u64
 }
 
 /// Whether the entries are a legal tape of the script's lines from this point on, and goes on to
-/// the point behind them. Where it answers no or memory is refused, the point is of no more use.
+/// the point after them. Where it answers no or memory is refused, the point is of no more use.
 pub fn is_legal(
     alloc: Global,
     lines: &[Line],

@@ -1,8 +1,7 @@
 -- Definitions at small examples, which the checker computes.
-use Rattle.std.proofs.Common.{◌≡◌, ℕ, ℤ, pos, List, [], ◌∷◌, Some, None, refl, codes}
+use Rattle.std.proofs.Common.{◌≡◌, ℕ, pos, List, [], ◌∷◌, Some, refl, codes}
 use Rattle.ctr_types.specs.declared.statement.Statement.TheVariants as st
 use Rattle.ctr_types.specs.declared.statement.Line.{Line}
-use Rattle.ctr_types.specs.declared.statement.Set.{Set}
 use Rattle.ctr_types.specs.declared.statement.SetTo.TheVariants as to
 use Rattle.ctr_types.specs.declared.value.Column.{Column}
 use Rattle.ctr_types.specs.declared.value.Kind.TheVariants as kind
@@ -11,7 +10,7 @@ use Rattle.ctr_types.specs.declared.tape.Act.{Act}
 use Rattle.ctr_types.specs.declared.tape.Act.TheVariants as act
 use Rattle.ctr_types.specs.declared.tape.Reply.TheVariants as reply
 use Rattle.ctr_types.specs.declared.tape.Entry.{Entry}
-use Rattle.ctr_model.specs.Tape.{numbered, statements_on, IsSerial}
+use Rattle.ctr_model.specs.Tape.{statements_on, IsSerial}
 use Rattle.ctr_model.specs.Refusals.{assigned}
 
 abbrev entry : ℕ → ℕ → Act → Entry

@@ -22,7 +22,7 @@ use Rattle.ctr_model.specs.State.{transaction_of, view, begun}
 use Rattle.ctr_model.specs.Refusals.{refusal_of, write_refusal, table_of, key_locked}
 use Rattle.ctr_model.specs.Reply.{refused_or, reply_inside, reply_outside, reply_from, reply_to, IsWantOfRoom, MayStandFor, with_lock, with_use, on_table, granted, with_granted, with_read, with_changes, next_inside, next_outside, released, next_from, next_state}
 use Rattle.ctr_model.specs.Tape.{statement_of, passed, final, Legal, Comes, IsInTurn, at_start}
-use Rattle.ctr_model.specs.Laws.{IsSound, LegalStatesAreSound}
+use Rattle.ctr_model.specs.Laws.{IsSoundState, LegalStatesAreSound}
 use Rattle.ctr_model.proofs.Sessions.{known, find-put-other, find-put-same, find-without-other, find-without-same}
 
 -- ---- what a reply tells of the state and the act
@@ -161,11 +161,11 @@ module _ (answered asked : ℕ) (me : Transaction) (fits : Fits answered asked m
   with_changes_fits db None = fits
   with_changes_fits db (Some statement) = fits
 
-module _ (state : State) (s : ℕ) (a : Act) (sound : IsSound state) where
+module _ (state : State) (s : ℕ) (a : Act) (sound : IsSoundState state) where
   fits_of : (me : Transaction) → transaction_of state s ≡ Some me → Fits state.answered (length state.asked) me
   fits_of me is = sound.each s me is
 
-  inside_sound : (me : Transaction) → transaction_of state s ≡ Some me → (of : Option Statement) (r : Reply) → Tells state a r → IsInTurn state s a → IsSound (next_inside state s me a of r)
+  inside_sound : (me : Transaction) → transaction_of state s ≡ Some me → (of : Option Statement) (r : Reply) → Tells state a r → IsInTurn state s a → IsSoundState (next_inside state s me a of r)
   inside_sound me is of (reply.Began n) tells turn = sound
   inside_sound me is of reply.Granted tells turn = record {
     answered = sound.answered;
@@ -202,7 +202,7 @@ module _ (state : State) (s : ℕ) (a : Act) (sound : IsSound state) where
   inside_sound me is of reply.Released tells turn = sound
   inside_sound me is of (reply.Refused why) tells turn = sound
 
-released_sound : (state : State) (a : Act) → IsSound state → IsSound (released a state)
+released_sound : (state : State) (a : Act) → IsSoundState state → IsSoundState (released a state)
 released_sound state act.Begin sound = sound
 released_sound state act.Read sound = sound
 released_sound state act.Lock sound = sound
@@ -212,7 +212,7 @@ released_sound state act.Answer sound = sound
 released_sound state act.Rollback sound = sound
 released_sound state (act.Release name) sound = record { answered = sound.answered; each = sound.each }
 
-outside_sound : (state : State) (s : ℕ) (a : Act) (of : Option Statement) (r : Reply) → IsSound state → Tells state a r → IsSound (next_outside state s a of r)
+outside_sound : (state : State) (s : ℕ) (a : Act) (of : Option Statement) (r : Reply) → IsSoundState state → Tells state a r → IsSoundState (next_outside state s a of r)
 outside_sound state s a of (reply.Began n) sound tells = record {
   answered = sound.answered;
   each = each_put (Fits state.answered (length state.asked)) state.sessions s sound.each (begun n) (omega (arith, tells), tt);
@@ -227,8 +227,8 @@ outside_sound state s a of reply.RolledBack sound tells = sound
 outside_sound state s a of reply.Released sound tells = released_sound state a sound
 outside_sound state s a of (reply.Refused why) sound tells = sound
 
-next_sound : (state : State) (s : ℕ) (a : Act) (of : Option Statement) (r : Reply) → IsSound state → Tells state a r → IsInTurn state s a → IsSound (next_state state s a of r)
-next_sound state s a of r sound tells turn = elim (transaction_of state s) as (λ f. transaction_of state s ≡ f → IsSound (next_from state s f a of r)) [
+next_sound : (state : State) (s : ℕ) (a : Act) (of : Option Statement) (r : Reply) → IsSoundState state → Tells state a r → IsInTurn state s a → IsSoundState (next_state state s a of r)
+next_sound state s a of r sound tells turn = elim (transaction_of state s) as (λ f. transaction_of state s ≡ f → IsSoundState (next_from state s f a of r)) [
   | Some me ↦ λ is. inside_sound state s a sound me is of r tells turn
   | None ↦ λ is. outside_sound state s a of r sound tells
 ] refl
@@ -241,7 +241,7 @@ in_turn lines p e comes = elim comes.one_of [
 
 -- ---- a tape
 
-sound_on : (lines : List Line) (p : Point) (es : List Entry) → IsSound p.state → Legal lines p es → IsSound (final lines p es).state
+sound_on : (lines : List Line) (p : Point) (es : List Entry) → IsSoundState p.state → Legal lines p es → IsSoundState (final lines p es).state
 sound_on lines p [] sound legal = sound
 sound_on lines p (e ∷ es) sound legal =
     sound_on lines (passed lines p e) es (next_sound p.state e.session e.act (statement_of lines e.session e.statement) e.reply sound (comes_tells lines p e legal.0) (in_turn lines p e legal.0)) legal.1

@@ -53,17 +53,17 @@ OthersOnly s es = AllByRecursion (λ e. (s == e.session) ≡ false) es
 
 -- What holds of a state on each legal tape: commits are answered after they were asked, and each
 -- transaction's snapshot is of commits that were answered.
-pub record IsSound (state : State) : Type 0 where
+pub record IsSoundState (state : State) : Type 0 where
   pub answered : state.answered ≤ length state.asked
   pub each : (s : ℕ) (me : Transaction) → transaction_of state s ≡ Some me
       → (me.snapshot ≤ state.answered) × IfSome me.asked (λ k. k ≤ length state.asked)
 
--- it holds behind every legal tape from a start
+-- it holds after every legal tape from a start
 abbrev pub LegalStatesAreSound : Type 0
 LegalStatesAreSound =
     (lines : List Line) (moment : ℕ) (base : Database) (stuck : List (List ℕ)) (es : List Entry)
     → Legal lines (at_start moment base stuck) es
-    → IsSound (final lines (at_start moment base stuck) es).state
+    → IsSoundState (final lines (at_start moment base stuck) es).state
 
 -- what a session sees is the same in both states
 pub record SeesTheSame (s : ℕ) (me : Transaction) (old new : State) : Type 0 where
@@ -74,7 +74,7 @@ pub record SeesTheSame (s : ℕ) (me : Transaction) (old new : State) : Type 0 w
 -- While other sessions act, ask and are answered, what a session sees stays.
 abbrev pub SnapshotsStay : Type 0
 SnapshotsStay =
-    (lines : List Line) (p : Point) (es : List Entry) (s : ℕ) (me : Transaction) → IsSound p.state
+    (lines : List Line) (p : Point) (es : List Entry) (s : ℕ) (me : Transaction) → IsSoundState p.state
     → transaction_of p.state s ≡ Some me → OthersOnly s es
     → SeesTheSame s me p.state (final lines p es).state
 

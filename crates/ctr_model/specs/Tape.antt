@@ -1,6 +1,6 @@
 -- Which tapes are legal: each reply is allowed at its point, and each session's acts are those of
 -- its statements in order. And which are serial.
-use Rattle.std.specs.Prelude.{◌≡◌, ◌⊎◌, zero, suc, ℕ, ◌+◌, ◌==◌, ◌≤◌, nat_le, Bool, true, false, ◌&&◌, not, IsTrue, List, [], ◌∷◌, ◌++◌, length, map, Option, Some, None, slice_get, if◌then◌else◌, option_and_then, unwrap_or}
+use Rattle.std.specs.Prelude.{◌≡◌, ◌⊎◌, zero, suc, ℕ, ◌+◌, ◌==◌, ◌≤◌, nat_le, Bool, true, false, ◌&&◌, IsTrue, List, [], ◌∷◌, ◌++◌, length, map, Option, Some, None, slice_get, if◌then◌else◌, option_and_then, unwrap_or}
 use Rattle.std.specs.List.{filter}
 use Rattle.std.specs.Ordering.{nat_cmp}
 use Rattle.std.specs.FinMap.Entries.{put, find}
@@ -176,7 +176,7 @@ numbered before [] = []
 numbered before (l ∷ ls) =
     (l.session, length (statements_of l.session before) + 1) ∷ numbered (before ++ l ∷ []) ls
 
--- the statement in front of these, but where it is the first of them
+-- this statement and then these, told once where it is the first of them already
 abbrev pub with_statement : ℕ × ℕ → List (ℕ × ℕ) → List (ℕ × ℕ)
 with_statement x [] = x ∷ []
 with_statement x (y ∷ ys) = if x.0 == y.0 && x.1 == y.1 then y ∷ ys else x ∷ y ∷ ys

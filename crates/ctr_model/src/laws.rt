@@ -34,7 +34,7 @@ pub fn only_asking_changes_rows()
 {}
 
 /// A session that asks for no commit in a stretch of a tape, and whose last entry there is a rollback,
-/// leaves no trace there, in the same sense, and is in no transaction behind it. So a transaction that
+/// leaves no trace there, in the same sense, and is in no transaction after it. So a transaction that
 /// is rolled back leaves none, from its BEGIN to its ROLLBACK and for as long after it as the session
 /// does nothing more.
 pub fn rollbacks_leave_no_trace()

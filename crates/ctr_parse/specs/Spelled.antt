@@ -67,7 +67,7 @@ abbrev pub with_bytes : List ℕ → Option (List ℕ) → Option (List ℕ)
 with_bytes front None = None
 with_bytes front (Some text) = Some (front ++ text)
 
--- The text that bytes behind a quote spell. Behind a second quote, which is closed, they may end;
+-- The text that bytes after a quote spell. After a second quote, which is closed, they may end;
 -- or a third one follows, and the two stand for one.
 abbrev pub unquoted : Bool → List ℕ → Option (List ℕ)
 unquoted false [] = None

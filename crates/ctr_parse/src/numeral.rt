@@ -7,7 +7,7 @@ ghost use Rattle.ctr_parse.specs.Reading.{GivesSome, int_at};
 use crate::cursor::next;
 use ctr_lex::Token;
 
-// The number that digits behind a sign spell. A + is none.
+// The number that digits after a sign spell. A + is none.
 fn parsed(text: &str) -> Option<i64>
     requires { slice_index text.now 0 ≢ 43 }
     ensures { result ≡ number_of text.now }
@@ -15,7 +15,7 @@ fn parsed(text: &str) -> Option<i64>
     text.parse::<i64>().ok()
 }
 
-/// The number that a token spells: digits, behind a - or not, that stand for a number of 64 bits.
+/// The number that a token spells: digits, after a - or not, that stand for a number of 64 bits.
 #[tactic(auto, unfolding(crate::specs::Spelled::int_of))]
 pub fn int_of(token: &[u8]) -> Option<i64>
     ensures { result ≡ number_of token.now }

@@ -11,7 +11,7 @@ use ctr_lex::Token;
 use ctr_types::Text;
 use std::alloc::Global;
 
-// Goes on behind one more byte, and says whether it closes the text.
+// Goes on after one more byte, and says whether it closes the text.
 #[tactic(auto, using(crate::proofs::Lists::with_bytes_push))]
 fn go_on(byte: u8, closed: bool, text: &mut Text) -> Result<bool, ParseError>
     ensures found { IfOk result (λ now. (cs : List ℕ)
@@ -35,7 +35,7 @@ fn go_on(byte: u8, closed: bool, text: &mut Text) -> Result<bool, ParseError>
     Ok(false)
 }
 
-// The text whose spelling goes on with these bytes behind its first quote.
+// The text whose spelling goes on with these bytes after its first quote.
 fn unquoted(alloc: Global, bytes: &[u8]) -> Result<Text, ParseError>
     ensures { Gives (λ text. text) result (text_behind false bytes.now) }
 {

@@ -68,7 +68,7 @@ fn key<'a>(alloc: Global, tokens: &'a [Token<'a>]) -> Result<(Column, &'a [Token
     ))
 }
 
-// Fewer columns than so many, behind those that were read, and the ) behind them.
+// Fewer columns than so many, after those that were read, and the ) after them.
 fn columns_from<'a>(
     alloc: Global,
     most: u8,
@@ -108,7 +108,7 @@ fn are_distinct(columns: &[Column]) -> bool
     true
 }
 
-/// The columns of a table, and the ) behind them.
+/// The columns of a table, and the ) after them.
 #[tactic(auto, unfolding(crate::specs::Reading::schema_at))]
 pub fn schema<'a>(
     alloc: Global,

@@ -12,7 +12,7 @@ use ctr_lex::Token;
 use ctr_types::Statement;
 use std::alloc::Global;
 
-// What stands behind CREATE.
+// What follows CREATE.
 #[tactic(auto, unfolding(crate::specs::Reading::create_at))]
 fn create<'a>(
     alloc: Global,
@@ -27,7 +27,7 @@ fn create<'a>(
     Ok((Statement::Create { table, schema }, rest))
 }
 
-// What stands behind INSERT.
+// What follows INSERT.
 #[tactic(auto, unfolding(crate::specs::Reading::insert_at))]
 fn insert<'a>(
     alloc: Global,
@@ -43,7 +43,7 @@ fn insert<'a>(
     Ok((Statement::Insert { table, values }, rest))
 }
 
-// What stands behind SELECT.
+// What follows SELECT.
 #[tactic(auto, unfolding(crate::specs::Reading::select_at))]
 fn select<'a>(
     alloc: Global,

@@ -26,7 +26,7 @@ pub fn value<'a>(
     Ok((Value::Chars(chars), rest))
 }
 
-// So many values at most, behind those that were read.
+// So many values at most, after those that were read.
 fn values_from<'a>(
     alloc: Global,
     most: u8,
@@ -48,7 +48,7 @@ fn values_from<'a>(
     values_from(alloc, most - 1, values, rest)
 }
 
-/// 1 to 8 values with commas between, and the ) behind them.
+/// 1 to 8 values with commas between, and the ) after them.
 pub fn values<'a>(
     alloc: Global,
     tokens: &'a [Token<'a>],

@@ -1,4 +1,4 @@
-// The payload of a row: its values behind the key, each in the width of its column.
+// The payload of a row: its values after the key, each in the width of its column.
 ghost use Rattle.std.specs.Prelude.{◌≡◌, ◌≤◌, ◌<◌, ◌+◌, ◌-◌, ℕ, ℤ, replicate, List, ◌∷◌, ◌++◌, length, take, drop, IfOk, OnOk, IfErr, MatchResult};
 ghost use Rattle.ctr_types.specs.declared.value.Kind.TheVariants.{Chars};
 ghost use Rattle.ctr_types.specs.declared.value.Column.{Column};
@@ -37,7 +37,7 @@ impl<T: Drop> From<AllocFailed<T>> for PayloadError {
     }
 }
 
-// The columns or values behind the first.
+// The columns or values after the first.
 fn behind_key<T>(items: &[T]) -> &[T]
     ensures { result.now ≡ drop 1 items.now }
 {
@@ -181,7 +181,7 @@ fn read_values(
     Ok(())
 }
 
-/// Reads the row of a key from its payload, which may be any bytes. What stands behind a text in its
+/// Reads the row of a key from its payload, which may be any bytes. What follows a text in its
 /// room is not looked at.
 pub fn decode_row(
     alloc: Global,

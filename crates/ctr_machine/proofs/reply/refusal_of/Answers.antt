@@ -1,4 +1,4 @@
-use Rattle.std.proofs.Common.{◌≡◌, ◌++◌, sym, ◌∙◌, ap, option_and_then}
+use Rattle.std.proofs.Common.{◌++◌, ◌∙◌, ap, option_and_then}
 use Rattle.std.specs.Option.{option_copied}
 use Rattle.ctr_model.specs.Database.{table_at}
 use Rattle.ctr_model.specs.Refusals.{key_locked, first_of, presence_refusals, name_refusals, value_refusals, key_refusals, table_refusals}

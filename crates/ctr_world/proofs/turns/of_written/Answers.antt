@@ -1,4 +1,4 @@
-use Rattle.std.proofs.Common.{◌≡◌, List, refl, ap, subst, slice_get}
+use Rattle.std.proofs.Common.{List, refl, ap, subst, slice_get}
 use Rattle.ctr_types.specs.declared.tape.Act.{Act}
 use Rattle.ctr_exec.specs.Session.{RepliesWritten}
 use Rattle.ctr_world.proofs.turns.of_written.Goals as goal
