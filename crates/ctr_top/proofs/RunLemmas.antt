@@ -19,8 +19,11 @@ use Rattle.ctr_model.specs.Tape.{Legal, at_start, IsWhole}
 use Rattle.ctr_model.specs.Texts.{answers}
 use Rattle.ctr_thin.specs.declared.opening.OpenError.{OpenError}
 use Rattle.ctr_thin.specs.declared.opening.OpenError.TheVariants as open_error
+use Rattle.ctr_disk.specs.Image.{OtherFilesStay}
+use Rattle.ctr_log.specs.Homes.{root_value, SaysRoot}
+use Rattle.ctr_log.specs.Reading.{log_file}
 use Rattle.ctr_log.specs.Fresh.{IsFresh, IsNoneOrFresh, fresh_root, fresh_log}
-use Rattle.ctr_thin.specs.Thin.{Explains, OpenDiffers, StandsBy}
+use Rattle.ctr_thin.specs.Thin.{Explains, OpenDiffers, StandsBy, StandsFor}
 use Rattle.ctr_world.specs.declared.opening.Opening.{Ghosts as Opening}
 use Rattle.ctr_world.specs.World.{CanOpen, reached, HasCommits, IsPrefixAt, Survives, Ends, StopsBy, IsOpenedOn}
 use Rattle.ctr_script.specs.declared.error.ScriptError.{ScriptError}
@@ -134,13 +137,14 @@ no_refusal (Some (stop.Worn lsn)) before now status why h stops = absurd stops
 
 module _ {D : Type 0} (g : Ghosts D) (earlier : (d : D) (s t : ℕ) (c : Image) → s ≤ t → g.since d t c → g.since d s c) (old : D) (base : Database) (lines : List Line) where
   -- nothing was run
-  pub ran_none : (o : Outcome D) → o.tape.entries ≡ [] → o.status ≢ 0 → OnlyReads g old o.disk → Ran g old base lines o
-  ran_none o none not quiet =
+  pub ran_none : StandsFor (g.reads old) base → (o : Outcome D) → o.tape.entries ≡ [] → o.status ≢ 0 → OnlyReads g old o.disk → Ran g old base lines o
+  ran_none stands o none not quiet =
       let leaves = quiet.any_moment in
       let empty : Ran g old base lines (record o { tape = record { entries = [] } }) = record {
         legal = tt;
         later = leaves.later;
         survives = λ t c le_start le left. inr (leaves.each c (earlier o.disk (g.moment_of old) t c le_start left), tt);
+        log_alone = record { root = stands.r; says = stands.root; alone = λ t c le_start le left. inr (leaves.each c (earlier o.disk (g.moment_of old) t c le_start left)) };
         complete = λ is. absurd (not is);
       } in
       subst (λ l. Ran g old base lines (record o { tape = record { entries = l } })) (sym none) empty
@@ -152,10 +156,19 @@ module _ {D : Type 0} (g : Ghosts D) (earlier : (d : D) (s t : ℕ) (c : Image) 
       let start : ℕ = g.moment_of old in
       let move : (P : ℕ → List Line → Type 0) → P op.start op.lines → P start lines = λ P p. subst (λ n. P n lines) named.start (subst (λ l. P op.start l) named.lines_are p) in
       let survives = move (λ n l. Survives g n o.disk (IsPrefixAt op.before base (reached l n base es).state.asked es)) ends.survives in
+      let alone = ends.log_alone in
       record {
         legal = move (λ n l. Legal l (at_start n base []) es) ends.legal;
         later = move (λ n l. (reached l n base es).moment ≤ g.moment_of o.disk) ends.later;
         survives = λ t c le_start le left. ⊎_elim (λ h. inl h) (λ h. inr (before c h.0, h.1)) (survives t c le_start le left);
+        log_alone = record {
+          root = alone.root;
+          says = subst (λ i. SaysRoot (root_value i.root) alone.root) named.image alone.says;
+          alone = λ t c le_start le left. ⊎_elim
+              (λ h. inl (subst (λ i. OtherFilesStay (log_file alone.root.file) i c) named.image h))
+              (λ h. inr (before c h))
+              (alone.alone t c (omega (arith, named.start, le_start)) le left);
+        };
         complete = λ is. record {
           whole = move (λ n l. IsWhole l (reached l n base es)) (ends.whole (fine is));
           no_stuck = move (λ n l. (reached l n base es).state.stuck ≡ []) ends.no_stuck;

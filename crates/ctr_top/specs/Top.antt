@@ -31,7 +31,7 @@ use Rattle.ctr_thin.specs.declared.opening.OpenError.{OpenError}
 use Rattle.ctr_thin.specs.declared.opening.OpenError.TheVariants as open_error
 use Rattle.ctr_thin.specs.Thin.{StandsFor, StandsForNone}
 use Rattle.ctr_exec.specs.Session.{IsNotFull}
-use Rattle.ctr_world.specs.World.{CanOpen, reached, HasCommits, IsPrefixAt, Survives, StraysOnlyLong}
+use Rattle.ctr_world.specs.World.{CanOpen, reached, HasCommits, IsPrefixAt, Survives, OnlyLogChanges, StraysOnlyLong}
 use Rattle.ctr_top.specs.declared.outcome.Outcome.{Outcome}
 use Rattle.ctr_top.specs.declared.run.Ended.{Ended}
 
@@ -55,20 +55,23 @@ pub record IsComplete {D : Type 0} (g : Ghosts D) (start : ℕ) (base : Database
 
 -- A run over this database: its tape is legal, its moments lie from the start to the end, and a
 -- crash at any moment leaves a prefix of the commit order with every commit answered by then, or,
--- before the first entry, what it might have left as the call began. At status 0 the run is
--- complete.
+-- before the first entry, what it might have left as the call began. Of the files the log that the
+-- root names changes alone. At status 0 the run is complete.
 pub record Ran {D : Type 0} (g : Ghosts D) (old : D) (base : Database) (lines : List Line)
     (o : Outcome D) : Type 0 where
   pub legal : Legal lines (at_start (g.moment_of old) base []) o.tape.entries
   pub later : (reached lines (g.moment_of old) base o.tape.entries).moment ≤ g.moment_of o.disk
   pub survives : Survives g (g.moment_of old) o.disk
       (IsPrefixAt (g.images old) base (reached lines (g.moment_of old) base o.tape.entries).state.asked o.tape.entries)
+  pub log_alone : OnlyLogChanges g (g.moment_of old) (g.images old) (g.reads old) o.disk
   pub complete : o.status ≡ 0 → IsComplete g (g.moment_of old) base lines o.tape.entries o.disk
 
 -- its lines are the script that the source held; where it held none, the tape is empty
 pub record RanScript {D S : Type 0} (g : Ghosts D) (old : D) (base : Database) (s : Source S) (source : S) (o : Outcome D)
     : Type 0 where
   pub lines : List Line
+  -- also where the source doesn't tell, they are the script of some bytes
+  pub of_bytes : (bytes : List ℕ) × IsScript first bytes lines
   pub script : IsTrue s.tells → IsScript first (s.left source) lines ⊎ (o.tape.entries ≡ [])
   pub script_at_end : IsTrue s.tells → o.status ≡ 0 → IsScript first (s.left source) lines
   pub ran : Ran g old base lines o

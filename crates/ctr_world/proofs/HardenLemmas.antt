@@ -29,11 +29,12 @@ use Rattle.ctr_exec.specs.declared.session.Stage.TheVariants as stage
 use Rattle.ctr_exec.specs.Session.{Seen, seen_of, Shows, ShowsAs, Replies, RepliesAs}
 use Rattle.ctr_disk.specs.declared.fault.Stop.TheVariants as stop
 use Rattle.ctr_world.specs.declared.parts.Parts.{Parts}
-use Rattle.ctr_world.specs.World.{reached, IsOn, IsAt, HasCommits, IsPrefixAt, Survives, Waits, Rests, HasLongLog, Runs, IsBounded, IsCommitAt, made_in}
+use Rattle.ctr_world.specs.World.{OnlyLogChanges, reached, IsOn, IsAt, HasCommits, IsPrefixAt, Survives, Waits, Rests, HasLongLog, Runs, IsBounded, IsCommitAt, made_in}
 use Rattle.ctr_world.proofs.CrashLemmas.{order, has_less, survives_call, survives_entry}
 use Rattle.ctr_world.proofs.TapeLemmas.{Adds, act_adds, answers_more}
 use Rattle.ctr_disk.specs.declared.disk.Disk.{Ghosts}
 use Rattle.ctr_world.specs.declared.opening.Opening.{Ghosts as Opening}
+use Rattle.ctr_world.proofs.AloneLemmas.{others_twice}
 use Rattle.ctr_world.proofs.RunLemmas.{rests_has, second}
 
 -- ---- what a commit that is asked for will leave
@@ -170,12 +171,29 @@ module _ {D : Type 0} (dev : Ghosts D)
       (λ c p. has_less base now_state.asked w.session.answered (answers w.tape.items) c (omega (arith, runs.at.answers_are))
       (prefix_has dev by_records w.disk w.log w.session now_state base at_rest shows_asked runs.at.on.base_is waits_asked.0 waits_asked.1 waits_asked.2 c p.records_are))
 
+  -- the file of the log that the first image's root names
+  abbrev the_file : File
+  the_file = log_file runs.log_alone.root.file
+
+  others_after : (c : Image) → OtherFilesStay w.log.file (dev.reads w.disk) c → OtherFilesStay the_file op.image c
+  others_after c stay = others_twice the_file op.image (dev.reads w.disk) c (runs.others going) (subst (λ f. OtherFilesStay f (dev.reads w.disk) c) runs.log_is stay)
+
+  abbrev alone_after : (e : D) → LeavesOnly dev w.disk e (IsFlushing at_rest.stands.r.first at_rest.stands.bs w.log (dev.reads w.disk)) → OnlyLogChanges dev op.start op.before op.image e
+  alone_after e leaves = record {
+    root = runs.log_alone.root;
+    says = runs.log_alone.says;
+    alone = λ t c start_le le left. ⊎_elim
+        (λ was. ⊎_elim (λ h. runs.log_alone.alone t c start_le was h) (λ p. inl (others_after c p.records_are.0)) (leaves.before t c was left))
+        (λ after. inl (others_after c (leaves.each c (earlier e (dev.moment_of w.disk) t c (omega (arith, after)) left)).records_are.0))
+        (order t (dev.moment_of w.disk));
+  }
+
   -- the flush failed
   pub fails_runs : (e : D) (log : Log) → dev.moment_of w.disk ≤ dev.moment_of e
       → LeavesOnly dev w.disk e (IsFlushing at_rest.stands.r.first at_rest.stands.bs w.log (dev.reads w.disk))
       → (w.log.place + (22 + length (frames w.log.buffered)) < 2 ^ 63 → dev.strays_of e ≡ dev.strays_of w.disk) → (v : Parts D) → v ≡ record w { disk = e; log = v.log; stop = Some stop.Fault }
-      → Runs dev op base v
-  fails_runs e log on leaves stray v is =
+      → v.log.file ≡ w.log.file → Runs dev op base v
+  fails_runs e log on leaves stray v is file =
       let made : Runs dev op base (record w { disk = e; log = v.log; stop = Some stop.Fault }) = record {
         at = record {
           legal = runs.at.legal;
@@ -185,6 +203,9 @@ module _ {D : Type 0} (dev : Ghosts D)
         };
         survives = survives_flush e leaves;
         rests = λ bad. absurd (cc bad);
+        log_alone = alone_after e leaves;
+        log_is = file ∙ runs.log_is;
+        others = λ bad. absurd (cc bad);
         stray = ⊎_elim
             (λ same. ⊎_elim
             (λ high. inr (
@@ -267,6 +288,9 @@ module _ {D : Type 0} (dev : Ghosts D)
           (survives_entry dev earlier op.start op.before base now_state.asked (asked_by r (transaction_of now_state 1)) after_state.asked w.tape.items answer e
           (survives_flush e leaves) refl asked_is has);
       rests = λ _. subst (λ l. Rests dev e v.log v.session (reached w.script.lines op.start base l).state) (sym items) again;
+      log_alone = alone_after e leaves;
+      log_is = file ∙ runs.log_is;
+      others = λ _. others_after (dev.reads e) flushed.0;
       stray = ⊎_elim (λ s. inl (same_strays ∙ s)) (λ bad. absurd (bad.0 going)) runs.stray;
     }
 

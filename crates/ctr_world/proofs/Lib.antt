@@ -1,3 +1,4 @@
+pub mod AloneLemmas
 mod TurnLemmas
 mod RepliesLemmas
 mod TapeLemmas

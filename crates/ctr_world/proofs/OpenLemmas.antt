@@ -28,6 +28,10 @@ use Rattle.ctr_world.proofs.TapeLemmas.{statements_one}
 use Rattle.ctr_world.proofs.HardenLemmas.{take_none}
 use Rattle.ctr_disk.specs.declared.disk.Disk.{Ghosts}
 use Rattle.ctr_world.specs.declared.opening.Opening.{Ghosts as Opening}
+use Rattle.ctr_disk.specs.Image.{OtherFilesStay}
+use Rattle.ctr_log.specs.Homes.{root_value, SaysRoot}
+use Rattle.ctr_log.specs.Reading.{log_file}
+use Rattle.ctr_world.proofs.AloneLemmas.{others_same}
 use Rattle.ctr_world.proofs.RunLemmas.{rests_has}
 
 -- ---- just opened
@@ -56,9 +60,9 @@ module _ {D : Type 0} (dev : Ghosts D)
 
   pub runs_new : (base : Database) (d : D) (w : Parts D) (o : Opened) → w.tape.items ≡ [] → w.finished ≡ 0 → IsNew o.tables w.session → o.log ≡ w.log → Opens (dev.reads d) o
       → database_of o.tables ≡ base → dev.reads w.disk ≡ dev.reads d → IsDurable dev w.disk
-      → LeavesOnly dev d w.disk (dev.images d) → ((c : Image) → dev.images d c → op.before c) → op.start ≡ dev.moment_of d → dev.strays_of w.disk ≡ op.strays
+      → LeavesOnly dev d w.disk (dev.images d) → ((c : Image) → dev.images d c → op.before c) → op.start ≡ dev.moment_of d → dev.strays_of w.disk ≡ op.strays → op.image ≡ dev.reads d
       → Runs dev op base w
-  runs_new base d w o empty none_finished new log opens is same only leaves within at_first no_stray =
+  runs_new base d w o empty none_finished new log opens is same only leaves within at_first no_stray image_is =
       let opened : Opens (dev.reads w.disk) o = subst (λ i. Opens i o) (sym same) opens in
       let shows = shows_new o.tables w.session new base is in
       let nil : NewBy base w [] = record {
@@ -84,6 +88,13 @@ module _ {D : Type 0} (dev : Ghosts D)
         at = subst (λ n. IsAt w.script.lines (at_start op.start base []) w.tape.items w.session n (dev.moment_of w.disk)) (sym none_finished) k.at;
         survives = k.survives;
         rests = λ _. k.rests;
+        log_alone = record {
+          root = opens.stands.r;
+          says = subst (λ i. SaysRoot (root_value i.root) opens.stands.r) (sym image_is) opens.stands.root;
+          alone = λ t c le_start le left. inr (within c (leaves.each c (earlier w.disk (dev.moment_of d) t c (omega (arith, at_first, le_start)) left)));
+        };
+        log_is = ap (λ (l : Log). l.file) (sym log) ∙ opens.file;
+        others = λ _. subst (λ i. OtherFilesStay (log_file opens.stands.r.file) op.image i) (image_is ∙ sym same) (others_same (log_file opens.stands.r.file) op.image);
         stray = inl no_stray;
       }
 
@@ -168,4 +179,5 @@ module _ {D : Type 0} (dev : Ghosts D)
             subst (HasCommits base state.asked (answers w.tape.items)) (sym (rests.only c (only_now w.disk c left)))
             (rests_has dev w.disk w.log w.session state base (answers w.tape.items) rests at.shows at.on.base_is (omega (arith, at.answers_are)));
         stray = ⊎_elim (λ s. inl s) (λ s. inr s.1) runs.stray;
+        log_alone = runs.log_alone;
       }

@@ -30,6 +30,7 @@ use Rattle.ctr_world.specs.Turn.{TurnIs, Gathers, WaitsAfter, passed_on}
 use Rattle.ctr_world.specs.World.{reached, made_in, IsOn, IsAt, HasCommits, IsPrefixAt, Survives, Rests, Runs, IsBounded, next_entry, Notes}
 use Rattle.ctr_disk.specs.declared.disk.Disk.{Ghosts}
 use Rattle.ctr_world.specs.declared.opening.Opening.{Ghosts as Opening}
+use Rattle.ctr_world.proofs.AloneLemmas.{gathers_file}
 use Rattle.ctr_world.proofs.StepLemmas.{shown_at_most, Goes, goes_act, rests_after}
 
 never : (b : Bool) (x y : Progress) → cond (b && false) x y ≡ y
@@ -167,14 +168,17 @@ module _ {D : Type 0} (dev : Ghosts D)
               (ap (λ (s : State). s.asked) state_is ∙ then.asked ∙ ap (λ (q : List (List Change)). q ++ more) (first.asked ∙ append-nil state.asked)) answered none gathers waits tables;
         }
 
-    assembled : (f : ℕ) (items : List Entry) → KeptBy w v items f → v.tape.items ≡ items → v.finished ≡ f → v ≡ record w { log = v.log; session = v.session; tape = v.tape; finished = v.finished }
+    assembled : (f : ℕ) (items : List Entry) → KeptBy w v items f → v.log.file ≡ w.log.file → v.tape.items ≡ items → v.finished ≡ f → v ≡ record w { log = v.log; session = v.session; tape = v.tape; finished = v.finished }
         → Runs dev op base v
-    assembled f items kept items_are finished same =
+    assembled f items kept file items_are finished same =
         let k = subst (KeptBy w v v.tape.items) (sym finished) (subst (λ (q : List Entry). KeptBy w v q f) (sym items_are) kept) in
         let made : Runs dev op base (record w { log = v.log; session = v.session; tape = v.tape; finished = v.finished }) = record {
           at = k.at;
           survives = k.survives;
           rests = λ _. k.rests;
+          log_alone = runs.log_alone;
+          log_is = file ∙ runs.log_is;
+          others = λ _. runs.others going;
           stray = runs.stray;
         } in
         subst (Runs dev op base) (sym same) made
@@ -183,9 +187,9 @@ module _ {D : Type 0} (dev : Ghosts D)
     pub turn_runs : (x : Acts) → TurnIs state l.statement x v.session → Gathers x w.session w.log v.log → WaitsAfter x v.session.stage → Notes dev x w v
         → v ≡ record w { log = v.log; session = v.session; tape = v.tape; finished = v.finished }
         → Runs dev op base v
-    turn_runs (acts.One a r) is gathers waits notes same = assembled (passed_on r w.finished).finished (w.tape.items ++ next_entry dev w a r ∷ []) (kept_one a r is gathers waits) notes.0 notes.1 same
+    turn_runs (acts.One a r) is gathers waits notes same = assembled (passed_on r w.finished).finished (w.tape.items ++ next_entry dev w a r ∷ []) (kept_one a r is gathers waits) (gathers_file (acts.One a r) w.session w.log v.log gathers) notes.0 notes.1 same
     turn_runs (acts.Two r) is gathers waits notes same = assembled (w.finished + 1)
-        ((w.tape.items ++ next_entry dev w act.Lock reply.Granted ∷ []) ++ next_entry dev w act.Write r ∷ []) (kept_two r is gathers waits) notes.0 notes.1 same
+        ((w.tape.items ++ next_entry dev w act.Lock reply.Granted ∷ []) ++ next_entry dev w act.Write r ∷ []) (kept_two r is gathers waits) (gathers_file (acts.Two r) w.session w.log v.log gathers) notes.0 notes.1 same
 
 -- the acts stand behind the tape, whatever the session and the log have become
 pub notes_of : {D : Type 0} (dev : Ghosts D) (w v : Parts D) (log : Log) (session : Session) (x : Acts) → Notes dev x (record w { log = log; session = session }) v

@@ -25,6 +25,9 @@ use Rattle.ctr_model.specs.Database.{Database, after_all}
 use Rattle.ctr_model.specs.State.{rows_at}
 use Rattle.ctr_model.specs.Tape.{progress_of, final, Legal, at_start, answered_by, IsWhole}
 use Rattle.ctr_model.specs.Texts.{answers}
+use Rattle.ctr_disk.specs.declared.fault.Root.{Root}
+use Rattle.ctr_disk.specs.Image.{OtherFilesStay}
+use Rattle.ctr_log.specs.Homes.{root_value, SaysRoot}
 use Rattle.ctr_log.specs.Logs.{Log, GoesOn, frames}
 use Rattle.ctr_log.specs.Reading.{log_file}
 use Rattle.ctr_rec.specs.Fold.{FoldsRecord}
@@ -136,6 +139,15 @@ abbrev pub StraysOnlyLong : {D : Type 0} → Ghosts D → ℕ → D → Type 0
 StraysOnlyLong g strays disk = (g.strays_of disk ≡ strays)
     ⊎ ((c : Image) → g.since disk (g.moment_of disk) c → HasLongLog c)
 
+-- The root of the first image names a file of the log. A crash at a moment from the start to now
+-- leaves an image that differs from the first one in that file alone, or what it might have left at
+-- the start.
+pub record OnlyLogChanges {D : Type 0} (g : Ghosts D) (start : ℕ) (before : Image → Type 0)
+    (image : Image) (disk : D) : Type 0 where
+  pub root : Root
+  pub says : SaysRoot (root_value image.root) root
+  pub alone : Survives g start disk (λ t c. OtherFilesStay (log_file root.file) image c ⊎ before c)
+
 -- ---- what the World was opened on
 
 -- this disk and these lines are those that the type names
@@ -162,6 +174,10 @@ pub record Runs {D B : Type 0} (g : Ghosts D) (o : Opening B) (base : Database) 
   pub survives : Survives g o.start w.disk (IsPrefixAt o.before base (reached w.script.lines o.start base w.tape.items).state.asked w.tape.items)
   pub rests : w.stop ≡ None
       → Rests g w.disk w.log w.session (reached w.script.lines o.start base w.tape.items).state
+  pub log_alone : OnlyLogChanges g o.start o.before o.image w.disk
+  -- the writer's file is the one that the root names, and a read finds the others as they were
+  pub log_is : w.log.file ≡ log_file log_alone.root.file
+  pub others : w.stop ≡ None → OtherFilesStay (log_file log_alone.root.file) o.image (g.reads w.disk)
   -- only a fault at a log that is nearly as long as a file can be counts as a stray
   pub stray : (g.strays_of w.disk ≡ o.strays)
       ⊎ ((w.stop ≢ None) × ((c : Image) → g.since w.disk (g.moment_of w.disk) c → HasLongLog c))
@@ -278,6 +294,7 @@ pub record Ends {D B : Type 0} (g : Ghosts D) (o : Opening B) (base : Database) 
   pub durable : stop ≡ None → (c : Image) → g.since disk (g.moment_of disk) c
       → HasCommits base (reached o.lines o.start base es).state.asked (answers es) c
   pub stray : StraysOnlyLong g o.strays disk
+  pub log_alone : OnlyLogChanges g o.start o.before o.image disk
 
 -- the World wasn't opened: nothing was written, and a fault is counted where it is told, and
 -- nowhere else

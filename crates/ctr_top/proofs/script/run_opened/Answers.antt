@@ -13,7 +13,7 @@ returns-in-Err-clause-ran g c = λ base told stands.
     let t = c.without_tape.ensures in
     let old = c.args.disk in
     let not = not_fine c.in-Err.error _ _ c.why_not_opened-status.ensures in
-    ran_none d g.met.D.Disk.earlier old base c.args.script.lines c.without_tape.result t.tape (λ is. not (sym t.status ∙ is)) (subst (OnlyReads d old) (sym t.disk) c.in-Err.ensures.stays.quiet)
+    ran_none d g.met.D.Disk.earlier old base c.args.script.lines stands c.without_tape.result t.tape (λ is. not (sym t.status ∙ is)) (subst (OnlyReads d old) (sym t.disk) c.in-Err.ensures.stays.quiet)
 
 pub returns-in-Err-clause-causes : goal.returns-in-Err-clause-causes
 returns-in-Err-clause-causes g c =

@@ -1,5 +1,6 @@
 use Rattle.std.proofs.Common.{◌≡◌, ◌∙◌, inl, inr, [], sym, subst, ap, arith}
 use Rattle.ctr_disk.specs.Device.{OnlyReads}
+use Rattle.ctr_model.specs.Grammar.{ends}
 use Rattle.ctr_top.specs.Top.{TellsReading}
 use Rattle.ctr_top.proofs.ScriptLemmas.{lines_taken, lines_at_most}
 use Rattle.ctr_top.proofs.RunLemmas.{ran_none, lines_causes, read_causes, not_zero, told_as, only_reads_same}
@@ -13,6 +14,7 @@ run_opened-requires-clause-runs g c =
 pub returns-in-Ok-clause-ran : goal.returns-in-Ok-clause-ran
 returns-in-Ok-clause-ran g c = λ base told stands. record {
   lines = c.in-Ok.script.lines;
+  of_bytes = let s = c.in-Ok.ensures.is_script in (s.0, s.1.script);
   script = λ t. inl (c.in-Ok.ensures.read t).script;
   script_at_end = λ t is. (c.in-Ok.ensures.read t).script;
   ran = c.run_opened.ensures.ran base told stands;
@@ -32,9 +34,10 @@ returns-in-Err-clause-ran g c = λ base told stands.
     let not = not_zero c.in-Err.error _ _ c.why_not_read-status.ensures in
     record {
       lines = [];
+      of_bytes = ([], ends);
       script = λ _. inr t.tape;
       script_at_end = λ _ is. absurd (not (sym t.status ∙ is));
-      ran = ran_none d g.met.D.Disk.earlier c.args.disk base [] c.without_tape.result t.tape (λ is. not (sym t.status ∙ is))
+      ran = ran_none d g.met.D.Disk.earlier c.args.disk base [] stands c.without_tape.result t.tape (λ is. not (sym t.status ∙ is))
           (subst (OnlyReads d c.args.disk) (sym t.disk) (only_reads_same d c.args.disk (g.met.D.Disk.only_now c.args.disk)));
     }
 

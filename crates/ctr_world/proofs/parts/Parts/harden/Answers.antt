@@ -17,7 +17,7 @@ returns-in_default-clause-runs g c = λ base told later runs.
     fails_runs d g.met.D.Disk.earlier g.met.D.Disk.only_now c.goes_on_by_records.ensures b base w runs
     c.requires.bounded c.requires.going c.requires.asked later
     c.flush.new.disk c.flush.new.self c.flush.ensures.later (c.flush.ensures.any_moment rests.stands.r.first rests.stands.bs settled rests.goes_on)
-    c.flush.ensures.stray.below _ refl
+    c.flush.ensures.stray.below _ refl c.flush.ensures.emptied.file
 
 pub returns-in_default-clause-bounded : goal.returns-in_default-clause-bounded
 returns-in_default-clause-bounded g c = λ bad. absurd (cc bad)

@@ -15,7 +15,7 @@ invariant_of-result g c =
     record {
       runs = λ base told stands. runs_new d g.met.D.Disk.earlier b base c.args.disk _ c.in-Ok.opened t.items
           refl new refl (o.opened told) (o.only base told (subst (λ i. StandsFor i base) named.image stands)) o.quiet.same o.settled.now o.quiet.any_moment named.before
-          named.start (o.counts.stray ∙ sym named.strays);
+          named.start (o.counts.stray ∙ sym named.strays) named.image;
       bounded = λ _. bounded_new _ c.in-Ok.opened.tables new c.requires.runs.taken c.requires.runs.few refl t.len (omega (arith, t.capacity, c.len.ensures)) o.next.0 o.next.1;
       not_full = subst NoneFull (sym t.items) tt;
       lines_are = sym named.lines_are;
