@@ -59,8 +59,8 @@ fn seen_of(
     let printing = printing_of(
         alloc,
         &command,
-        ended.status,
-        &ended.cause,
+        ended.ending.status(),
+        &ended.ending.cause(),
         &ended.tape,
         &ended.report,
     );
@@ -93,7 +93,7 @@ fn play_command(alloc: Global, setup: &Setup, ask: Ask) -> Result<Ran, AllocErro
     let ended = run_serial(alloc, &setup.words, disk, &mut source, &mut sink);
     let seen = seen_of(alloc, setup, &ended, ask)?;
     Ok(Ran {
-        status: ended.status,
+        status: ended.ending.status(),
         tape: ended.tape,
         text: sink.into_bytes(),
         seen,

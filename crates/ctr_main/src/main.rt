@@ -4,6 +4,7 @@
 ghost use Rattle.std.specs.Prelude.{◌≡◌, ◌∷◌, List, String, IfOk};
 ghost use Rattle.std.specs.String.{string_bytes};
 ghost use Rattle.std.specs.Process.{exit_status};
+ghost use Rattle.ctr_top.specs.Endings.{status_of};
 
 mod file_disk;
 mod folder;
@@ -45,9 +46,9 @@ fn folder_of(alloc: Global, words: &[String]) -> Result<String, AllocError>
 
 // The status with which the program ends is that of the command.
 fn exit_code<D>(ended: &Ended<D>) -> ExitCode
-    ensures { exit_status result ≡ ended.now.status }
+    ensures { exit_status result ≡ status_of ended.now.ending }
 {
-    ExitCode::from(ended.status)
+    ExitCode::from(ended.ending.status())
 }
 
 fn main(rt: HostRuntime) -> ExitCode {

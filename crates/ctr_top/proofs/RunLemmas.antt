@@ -1,5 +1,5 @@
 -- What a run leaves, and the cause of each status.
-use Rattle.std.proofs.Common.{◌≡◌, ◌≢◌, ◌⊎◌, inl, inr, ⊎_elim, ℕ, ◌≤◌, List, [], Option, Some, None, refl, sym, ◌∙◌, subst, arith}
+use Rattle.std.proofs.Common.{◌≡◌, ◌≢◌, ◌⊎◌, inl, inr, ⊎_elim, ℕ, ◌≤◌, List, [], Option, Some, None, refl, sym, ap, subst, arith}
 use Rattle.std.specs.Prelude.{IsTrue, Ok, Err}
 use Rattle.ctr_types.specs.declared.statement.Line.{Line}
 use Rattle.ctr_types.specs.declared.statement.Script.{Script}
@@ -12,8 +12,6 @@ use Rattle.ctr_disk.specs.declared.fault.Stop.TheVariants as stop
 use Rattle.ctr_disk.specs.Crash.{CountsFault}
 use Rattle.ctr_disk.specs.Device.{OnlyReads}
 use Rattle.ctr_disk.proofs.Moments.{starts}
-use Rattle.ctr_model.specs.declared.tape.Cause.{Cause}
-use Rattle.ctr_model.specs.declared.tape.Cause.TheVariants as cause
 use Rattle.ctr_model.specs.Database.{Database}
 use Rattle.ctr_model.specs.Tape.{Legal, at_start, IsWhole}
 use Rattle.ctr_model.specs.Texts.{answers}
@@ -30,114 +28,77 @@ use Rattle.ctr_script.specs.declared.error.ScriptError.{ScriptError}
 use Rattle.ctr_script.specs.declared.error.ScriptError.TheVariants as script_error
 use Rattle.ctr_script.specs.Reading.{HasReason, IsHindrance, IsShortScript, IsDecided}
 use Rattle.ctr_top.specs.declared.outcome.Outcome.{Outcome}
-use Rattle.ctr_top.specs.Top.{Ran, LinesCauses, RunCauses, TellsOpening, TellsReading, TellsStop, IsRunStatus, IsRefusedStatus, NoScript, DamageDiffers, IsNoneOrEmpty}
+use Rattle.ctr_top.specs.declared.ending.Ending.{Ending}
+use Rattle.ctr_top.specs.declared.ending.Ending.TheVariants as ending
+use Rattle.ctr_top.specs.Endings.{opened_as, read_as, stopped_as}
+use Rattle.ctr_top.specs.Top.{Ran, LinesCauses, RunCauses, DiskWhy, SourceWhy, IsRead, IsRefused, IsHindered, IsByScript, WantsScript, IsNoneOrEmpty}
 
--- the status and the cause that were told are those of the outcome
-pub told_as : (P : ℕ → Cause → Type 0) {status was : ℕ} {why told : Cause} → status ≡ was → why ≡ told → P was told → P status why
-told_as P {status} {was} {why} {told} status_is why_is p = subst (λ q. P status q) (sym why_is) (subst (λ n. P n told) (sym status_is) p)
+-- ---- why a database wasn't opened, and how a World ended
+
+module _ {D : Type 0} (g : Ghosts D) (old new : D) where
+  open_why : (error : OpenError) → OpenDiffers error → (IsTrue g.tells → Explains (g.reads old) error) → (error ≡ open_error.Fault → CountsFault (g.faults_of old) (g.faults_of new)) → DiskWhy g old new (opened_as error)
+  open_why open_error.NoDatabase differs explains fault = explains
+  open_why (open_error.Damaged file at want got) differs explains fault = (differs, λ told. let e = explains told in (e.1, e.2))
+  open_why open_error.Fault differs explains fault = fault refl
+  open_why open_error.OutOfMemory differs explains fault = tt
+
+  end_why : (s : Option Stop) → StopsBy s (g.faults_of old) (g.faults_of new) → (IsTrue g.tells → CanOpen (g.reads old)) → DiskWhy g old new (stopped_as s)
+  end_why None same can_open = (can_open, same)
+  end_why (Some stop.Fault) counts can_open = counts
+  end_why (Some (stop.Damaged file at want got)) stops can_open = absurd stops
+  end_why (Some (stop.Worn lsn)) stops can_open = absurd stops
+
+opened_well : (error : OpenError) → IsRead (opened_as error)
+opened_well open_error.NoDatabase = tt
+opened_well (open_error.Damaged file at want got) = tt
+opened_well open_error.Fault = tt
+opened_well open_error.OutOfMemory = tt
+
+stopped_well : (s : Option Stop) → IsRead (stopped_as s)
+stopped_well None = tt
+stopped_well (Some stop.Fault) = tt
+stopped_well (Some (stop.Damaged file at want got)) = tt
+stopped_well (Some (stop.Worn lsn)) = tt
 
 module _ {D : Type 0} (g : Ghosts D) (old : D) (o : Outcome D) where
   -- the cause of a database that wasn't opened
-  pub open_causes : (error : OpenError) → TellsOpening error o.status o.cause → OpenDiffers error → (IsTrue g.tells → Explains (g.reads old) error) → (error ≡ open_error.Fault → CountsFault (g.faults_of old) (g.faults_of o.disk)) → LinesCauses g old o
-  open_causes open_error.NoDatabase h differs explains fault = record {
-    is = inr (inl h.0);
-    fine = λ told is. absurd (omega (arith, h.0, is));
-    no_database = λ told is. explains told;
-    damage = λ is. absurd (omega (arith, h.0, is));
-    damaged = λ told is. absurd (omega (arith, h.0, is));
-    disk_fault = λ is. absurd (omega (arith, h.0, is));
-    calm = λ is. absurd (omega (arith, h.0, is));
-    plain = λ not. h.1;
-  }
-  open_causes (open_error.Damaged file at want got) h differs explains fault = record {
-    is = inr (inr (inl h.0));
-    fine = λ told is. absurd (omega (arith, h.0, is));
-    no_database = λ told is. absurd (omega (arith, h.0, is));
-    damage = λ is. subst DamageDiffers (sym h.1) differs;
-    damaged = λ told is. let e = explains told in (e.1, e.2);
-    disk_fault = λ is. absurd (omega (arith, h.0, is));
-    calm = λ is. absurd (omega (arith, h.0, is));
-    plain = λ not. absurd (not h.0);
-  }
-  open_causes open_error.Fault h differs explains fault = record {
-    is = inr (inr (inr (inl h.0)));
-    fine = λ told is. absurd (omega (arith, h.0, is));
-    no_database = λ told is. absurd (omega (arith, h.0, is));
-    damage = λ is. absurd (omega (arith, h.0, is));
-    damaged = λ told is. absurd (omega (arith, h.0, is));
-    disk_fault = λ is. fault refl;
-    calm = λ is. absurd (omega (arith, h.0, is));
-    plain = λ not. h.1;
-  }
-  open_causes open_error.OutOfMemory h differs explains fault = record {
-    is = inr (inr (inr (inr h.0)));
-    fine = λ told is. absurd (omega (arith, h.0, is));
-    no_database = λ told is. absurd (omega (arith, h.0, is));
-    damage = λ is. absurd (omega (arith, h.0, is));
-    damaged = λ told is. absurd (omega (arith, h.0, is));
-    disk_fault = λ is. absurd (omega (arith, h.0, is));
-    calm = λ is. absurd (omega (arith, h.0, is));
-    plain = λ not. h.1;
+  pub open_causes : (error : OpenError) → o.ending ≡ opened_as error → OpenDiffers error → (IsTrue g.tells → Explains (g.reads old) error) → (error ≡ open_error.Fault → CountsFault (g.faults_of old) (g.faults_of o.disk)) → LinesCauses g old o
+  open_causes error is differs explains fault = record {
+    by_disk = subst (DiskWhy g old o.disk) (sym is) (open_why g old o.disk error differs explains fault);
+    is_read = subst IsRead (sym is) (opened_well error);
   }
 
   -- the cause of a World's end
-  pub end_causes : (s : Option Stop) → TellsStop s o.status o.cause → StopsBy s (g.faults_of old) (g.faults_of o.disk) → (IsTrue g.tells → CanOpen (g.reads old)) → LinesCauses g old o
-  end_causes None h same can_open = record {
-    is = inl h.0;
-    fine = λ told is. can_open told;
-    no_database = λ told is. absurd (omega (arith, h.0, is));
-    damage = λ is. absurd (omega (arith, h.0, is));
-    damaged = λ told is. absurd (omega (arith, h.0, is));
-    disk_fault = λ is. absurd (omega (arith, h.0, is));
-    calm = λ is. same;
-    plain = λ not. h.1;
+  pub end_causes : (s : Option Stop) → o.ending ≡ stopped_as s → StopsBy s (g.faults_of old) (g.faults_of o.disk) → (IsTrue g.tells → CanOpen (g.reads old)) → LinesCauses g old o
+  end_causes s is stops can_open = record {
+    by_disk = subst (DiskWhy g old o.disk) (sym is) (end_why g old o.disk s stops can_open);
+    is_read = subst IsRead (sym is) (stopped_well s);
   }
-  end_causes (Some stop.Fault) h counts can_open = record {
-    is = inr (inr (inr (inl h.0)));
-    fine = λ told is. absurd (omega (arith, h.0, is));
-    no_database = λ told is. absurd (omega (arith, h.0, is));
-    damage = λ is. absurd (omega (arith, h.0, is));
-    damaged = λ told is. absurd (omega (arith, h.0, is));
-    disk_fault = λ is. counts;
-    calm = λ is. absurd (omega (arith, h.0, is));
-    plain = λ not. h.1;
-  }
-  end_causes (Some (stop.Damaged file at want got)) h stops can_open = absurd stops
-  end_causes (Some (stop.Worn lsn)) h stops can_open = absurd stops
 
--- nothing was opened, so the status isn't 0
-pub not_fine : (error : OpenError) (status : ℕ) (why : Cause) → TellsOpening error status why → status ≢ 0
-not_fine open_error.NoDatabase status why h is = absurd (omega (arith, h.0, is))
-not_fine (open_error.Damaged file at want got) status why h is = absurd (omega (arith, h.0, is))
-not_fine open_error.Fault status why h is = absurd (omega (arith, h.0, is))
-not_fine open_error.OutOfMemory status why h is = absurd (omega (arith, h.0, is))
+-- nothing was opened, so nothing was finished
+pub not_fine : (error : OpenError) → opened_as error ≢ ending.Finished
+not_fine open_error.NoDatabase is = absurd (cc is)
+not_fine (open_error.Damaged file at want got) is = absurd (cc is)
+not_fine open_error.Fault is = absurd (cc is)
+not_fine open_error.OutOfMemory is = absurd (cc is)
 
--- a World that ended with 0 wasn't stopped
-pub not_stopped : (s : Option Stop) (status : ℕ) (why : Cause) → TellsStop s status why → status ≡ 0 → s ≡ None
-not_stopped None status why h is = refl
-not_stopped (Some stop.Fault) status why h is = absurd (omega (arith, h.0, is))
-not_stopped (Some (stop.Damaged file at want got)) status why h is = absurd (omega (arith, h.0, is))
-not_stopped (Some (stop.Worn lsn)) status why h is = absurd (omega (arith, h.0, is))
+-- a World that came to its end wasn't stopped
+pub not_stopped : (s : Option Stop) → stopped_as s ≡ ending.Finished → s ≡ None
+not_stopped None is = refl
+not_stopped (Some stop.Fault) is = absurd (cc is)
+not_stopped (Some (stop.Damaged file at want got)) is = absurd (cc is)
+not_stopped (Some (stop.Worn lsn)) is = absurd (cc is)
 
 -- a World that ended refuses nothing
-refused_none : (status k : ℕ) → status ≡ k → k ≢ 1 → k ≢ 3 → k ≢ 4 → k ≢ 6 → k ≢ 8 → IsRefusedStatus status → ⊥
-refused_none status k at a b c d e (inl is) = a (sym at ∙ is)
-refused_none status k at a b c d e (inr (inl is)) = b (sym at ∙ is)
-refused_none status k at a b c d e (inr (inr (inl is))) = c (sym at ∙ is)
-refused_none status k at a b c d e (inr (inr (inr (inl is)))) = d (sym at ∙ is)
-refused_none status k at a b c d e (inr (inr (inr (inr is)))) = e (sym at ∙ is)
-
-pub no_refusal : (s : Option Stop) (before now status : ℕ) (why : Cause) → TellsStop s status why → StopsBy s before now → IsRefusedStatus status → ⊥
-no_refusal None before now status why h stops =
-    refused_none status 0 h.0 (λ is. omega (arith, is)) (λ is. omega (arith, is)) (λ is. omega (arith, is)) (λ is. omega (arith, is)) (λ is. omega (arith, is))
-no_refusal (Some stop.Fault) before now status why h stops =
-    refused_none status 5 h.0 (λ is. omega (arith, is)) (λ is. omega (arith, is)) (λ is. omega (arith, is)) (λ is. omega (arith, is)) (λ is. omega (arith, is))
-no_refusal (Some (stop.Damaged file at want got)) before now status why h stops = absurd stops
-no_refusal (Some (stop.Worn lsn)) before now status why h stops = absurd stops
+pub no_refusal : (s : Option Stop) (before now : ℕ) → StopsBy s before now → IsRefused (stopped_as s) → ⊥
+no_refusal None before now stops is = absurd is
+no_refusal (Some stop.Fault) before now stops is = absurd is
+no_refusal (Some (stop.Damaged file at want got)) before now stops is = absurd stops
+no_refusal (Some (stop.Worn lsn)) before now stops is = absurd stops
 
 module _ {D : Type 0} (g : Ghosts D) (earlier : (d : D) (s t : ℕ) (c : Image) → s ≤ t → g.since d t c → g.since d s c) (old : D) (base : Database) (lines : List Line) where
   -- nothing was run
-  pub ran_none : StandsFor (g.reads old) base → (o : Outcome D) → o.tape.entries ≡ [] → o.status ≢ 0 → OnlyReads g old o.disk → Ran g old base lines o
+  pub ran_none : StandsFor (g.reads old) base → (o : Outcome D) → o.tape.entries ≡ [] → o.ending ≢ ending.Finished → OnlyReads g old o.disk → Ran g old base lines o
   ran_none stands o none not quiet =
       let leaves = quiet.any_moment in
       let empty : Ran g old base lines (record o { tape = record { entries = [] } }) = record {
@@ -150,7 +111,7 @@ module _ {D : Type 0} (g : Ghosts D) (earlier : (d : D) (s t : ℕ) (c : Image) 
       subst (λ l. Ran g old base lines (record o { tape = record { entries = l } })) (sym none) empty
 
   -- a World has ended
-  pub ran_ends : {B : Type 0} (op : Opening B) → IsOpenedOn op g old lines → ((c : Image) → op.before c → g.images old c) → (o : Outcome D) (s : Option Stop) → (o.status ≡ 0 → s ≡ None) → Ends g op base o.tape.entries s o.disk → Ran g old base lines o
+  pub ran_ends : {B : Type 0} (op : Opening B) → IsOpenedOn op g old lines → ((c : Image) → op.before c → g.images old c) → (o : Outcome D) (s : Option Stop) → (o.ending ≡ ending.Finished → s ≡ None) → Ends g op base o.tape.entries s o.disk → Ran g old base lines o
   ran_ends op named before o s fine ends =
       let es : List Entry = o.tape.entries in
       let start : ℕ = g.moment_of old in
@@ -178,113 +139,76 @@ module _ {D : Type 0} (g : Ghosts D) (earlier : (d : D) (s t : ℕ) (c : Image) 
 
 -- ---- scripts that were read, and those that weren't
 
--- the status of a script that was read
-run_status : (status : ℕ) → (status ≡ 0) ⊎ ((status ≡ 3) ⊎ ((status ≡ 4) ⊎ ((status ≡ 5) ⊎ (status ≡ 8)))) → IsRunStatus status
-run_status status (inl a) = inl a
-run_status status (inr (inl a)) = inr (inr (inl a))
-run_status status (inr (inr (inl a))) = inr (inr (inr (inl a)))
-run_status status (inr (inr (inr (inl a)))) = inr (inr (inr (inr (inl a))))
-run_status status (inr (inr (inr (inr a)))) = inr (inr (inr (inr (inr (inr a)))))
-
-not_read : (status : ℕ) → (status ≡ 0) ⊎ ((status ≡ 3) ⊎ ((status ≡ 4) ⊎ ((status ≡ 5) ⊎ (status ≡ 8)))) → (status ≢ 1) × (status ≢ 6)
-not_read status (inl a) = ((λ is. absurd (omega (arith, a, is))), (λ is. absurd (omega (arith, a, is))))
-not_read status (inr (inl a)) = ((λ is. absurd (omega (arith, a, is))), (λ is. absurd (omega (arith, a, is))))
-not_read status (inr (inr (inl a))) = ((λ is. absurd (omega (arith, a, is))), (λ is. absurd (omega (arith, a, is))))
-not_read status (inr (inr (inr (inl a)))) = ((λ is. absurd (omega (arith, a, is))), (λ is. absurd (omega (arith, a, is))))
-not_read status (inr (inr (inr (inr a)))) = ((λ is. absurd (omega (arith, a, is))), (λ is. absurd (omega (arith, a, is))))
+-- the script wasn't read, so nothing was finished
+pub not_read_fine : (error : ScriptError) → read_as error ≢ ending.Finished
+not_read_fine (script_error.Refused line at) is = absurd (cc is)
+not_read_fine script_error.TooLong is = absurd (cc is)
+not_read_fine script_error.ReadFault is = absurd (cc is)
+not_read_fine script_error.OutOfMemory is = absurd (cc is)
 
 -- the error is this one, or one that may come in place of any
-refused_as : (error : ScriptError) (status : ℕ) (why : Cause) (line at : ℕ) → TellsReading error status why → (error ≡ script_error.Refused line at) ⊎ IsHindrance error → ((status ≡ 1) × (why ≡ cause.Script line at)) ⊎ ((status ≡ 6) ⊎ (status ≡ 8))
-refused_as error status why line at h (inl is) = inl (subst (λ e. TellsReading e status why) is h)
-refused_as error status why line at h (inr (inl is)) = inr (inl (subst (λ e. TellsReading e status why) is h).0)
-refused_as error status why line at h (inr (inr is)) = inr (inr (subst (λ e. TellsReading e status why) is h).0)
+as_ending : (error wanted : ScriptError) → (error ≡ wanted) ⊎ IsHindrance error → (read_as error ≡ read_as wanted) ⊎ IsHindered (read_as error)
+as_ending error wanted (inl is) = inl (ap read_as is)
+as_ending error wanted (inr (inl is)) = inr (inl (ap read_as is))
+as_ending error wanted (inr (inr is)) = inr (inr (ap read_as is))
 
-long_as : (error : ScriptError) (status : ℕ) (why : Cause) → TellsReading error status why → (error ≡ script_error.TooLong) ⊎ IsHindrance error → ((status ≡ 1) × (why ≡ cause.Plain)) ⊎ ((status ≡ 6) ⊎ (status ≡ 8))
-long_as error status why h (inl is) = inl (subst (λ e. TellsReading e status why) is h)
-long_as error status why h (inr (inl is)) = inr (inl (subst (λ e. TellsReading e status why) is h).0)
-long_as error status why h (inr (inr is)) = inr (inr (subst (λ e. TellsReading e status why) is h).0)
+wants_none : (bytes : List ℕ) (error : ScriptError) → WantsScript bytes (read_as error)
+wants_none bytes (script_error.Refused line at) = inl (λ is. is)
+wants_none bytes script_error.TooLong = inl (λ is. is)
+wants_none bytes script_error.ReadFault = inl (λ is. is)
+wants_none bytes script_error.OutOfMemory = inr (inl refl)
 
--- which status it is
-pub one_of : (error : ScriptError) (status : ℕ) (why : Cause) → TellsReading error status why → (status ≡ 1) ⊎ ((status ≡ 6) ⊎ (status ≡ 8))
-one_of (script_error.Refused line at) status why h = inl h.0
-one_of script_error.TooLong status why h = inl h.0
-one_of script_error.ReadFault status why h = inr (inl h.0)
-one_of script_error.OutOfMemory status why h = inr (inr h.0)
+disk_why_read : {D : Type 0} (g : Ghosts D) (old new : D) (error : ScriptError) → DiskWhy g old new (read_as error)
+disk_why_read g old new (script_error.Refused line at) = tt
+disk_why_read g old new script_error.TooLong = tt
+disk_why_read g old new script_error.ReadFault = tt
+disk_why_read g old new script_error.OutOfMemory = tt
 
-is_status : (status : ℕ) → (status ≡ 1) ⊎ ((status ≡ 6) ⊎ (status ≡ 8)) → IsRunStatus status
-is_status status (inl a) = inr (inl a)
-is_status status (inr (inl a)) = inr (inr (inr (inr (inr (inl a)))))
-is_status status (inr (inr a)) = inr (inr (inr (inr (inr (inr a)))))
+module _ {S : Type 0} (s : Source S) (source new : S) where
+  source_why_read : (error : ScriptError) → HasReason s source error → (error ≡ script_error.ReadFault → CountsFault (s.faults_of source) (s.faults_of new)) → SourceWhy s source new (read_as error)
+  source_why_read (script_error.Refused line at) reason counts = reason
+  source_why_read script_error.TooLong reason counts = reason
+  source_why_read script_error.ReadFault reason counts = counts refl
+  source_why_read script_error.OutOfMemory reason counts = tt
 
-none_else : (status k : ℕ) → (status ≡ 1) ⊎ ((status ≡ 6) ⊎ (status ≡ 8)) → k ≢ 1 → k ≢ 6 → k ≢ 8 → status ≢ k
-none_else status k (inl a) x y z is = absurd (x (sym is ∙ a))
-none_else status k (inr (inl a)) x y z is = absurd (y (sym is ∙ a))
-none_else status k (inr (inr a)) x y z is = absurd (z (sym is ∙ a))
-
-pub not_zero : (error : ScriptError) (status : ℕ) (why : Cause) → TellsReading error status why → status ≢ 0
-not_zero error status why h = none_else status 0 (one_of error status why h) (λ is. absurd (omega (arith, is))) (λ is. absurd (omega (arith, is))) (λ is. absurd (omega (arith, is)))
-
-plain_of : (error : ScriptError) (status : ℕ) (why : Cause) → TellsReading error status why → status ≢ 1 → why ≡ cause.Plain
-plain_of (script_error.Refused line at) status why h not = absurd (not h.0)
-plain_of script_error.TooLong status why h not = h.1
-plain_of script_error.ReadFault status why h not = h.1
-plain_of script_error.OutOfMemory status why h not = h.1
+  source_why : (e : Ending) → IsRead e → s.faults_of new ≡ s.faults_of source → SourceWhy s source new e
+  source_why ending.Finished read same = same
+  source_why (ending.Refused line at) read same = absurd read
+  source_why ending.TooLong read same = absurd read
+  source_why ending.Usage read same = tt
+  source_why ending.NoDatabase read same = tt
+  source_why (ending.Damaged file at want got) read same = tt
+  source_why ending.DiskFault read same = tt
+  source_why ending.ReadFault read same = absurd read
+  source_why ending.WriteFault read same = tt
+  source_why ending.OutOfMemory read same = tt
+  source_why ending.Exists read same = tt
+  source_why (ending.Worn number) read same = tt
 
 module _ {D S : Type 0} (g : Ghosts D) (old : D) (s : Source S) (source new : S) (o : Outcome D) where
   -- a script that was read
   pub lines_causes : (script : Script) → LinesCauses g old o → (IsTrue s.tells → IsShortScript (s.left source) script.lines) → (IsTrue s.tells → IsDecided (s.left source) (Ok script)) → s.faults_of new ≡ s.faults_of source → RunCauses g old s source new o
-  lines_causes script h read decided same =
-      let not = not_read o.status h.is in
-      record {
-        is = run_status o.status h.is;
-        fine = h.fine;
-        no_script = λ t is. absurd (not.0 is);
-        no_database = h.no_database;
-        damage = h.damage;
-        damaged = h.damaged;
-        disk_fault = h.disk_fault;
-        read_fault = λ is. absurd (not.1 is);
-        calm = λ is. (h.calm is, same);
-        plain = λ _ not_four. h.plain not_four;
-        reads_first = λ t. inr (inr (inr (script.lines, (read t).script)));
-        refused = λ t line at is. absurd ((decided t).refused line at is);
-        too_long = λ t is. absurd ((decided t).too_long is);
-      }
-
-  no_script_of : (error : ScriptError) → TellsReading error o.status o.cause → HasReason s source error → IsTrue s.tells → o.status ≡ 1 → NoScript o.cause (s.left source)
-  no_script_of (script_error.Refused line at) h reason t is = subst (λ w. NoScript w (s.left source)) (sym h.1) (reason t)
-  no_script_of script_error.TooLong h reason t is = subst (λ w. NoScript w (s.left source)) (sym h.1) (reason t)
-  no_script_of script_error.ReadFault h reason t is = absurd (omega (arith, h.0, is))
-  no_script_of script_error.OutOfMemory h reason t is = absurd (omega (arith, h.0, is))
-
-  read_fault_of : (error : ScriptError) → TellsReading error o.status o.cause → (error ≡ script_error.ReadFault → CountsFault (s.faults_of source) (s.faults_of new)) → o.status ≡ 6 → CountsFault (s.faults_of source) (s.faults_of new)
-  read_fault_of (script_error.Refused line at) h counts is = absurd (omega (arith, h.0, is))
-  read_fault_of script_error.TooLong h counts is = absurd (omega (arith, h.0, is))
-  read_fault_of script_error.ReadFault h counts is = counts refl
-  read_fault_of script_error.OutOfMemory h counts is = absurd (omega (arith, h.0, is))
+  lines_causes script h read decided same = record {
+    by_disk = h.by_disk;
+    by_source = source_why s source new o.ending h.is_read same;
+    by_script = λ t. record {
+      wants = inr (inr (script.lines, (read t).script));
+      refused = λ line at is. absurd ((decided t).refused line at is);
+      too_long = λ is. absurd ((decided t).too_long is);
+    };
+  }
 
   -- a script that wasn't
-  pub read_causes : (error : ScriptError) → TellsReading error o.status o.cause → HasReason s source error → (error ≡ script_error.ReadFault → CountsFault (s.faults_of source) (s.faults_of new)) → (IsTrue s.tells → IsDecided (s.left source) (Err error)) → RunCauses g old s source new o
-  read_causes error h reason counts decided =
-      let of = one_of error o.status o.cause h in
-      let not_three : o.status ≢ 3 = none_else o.status 3 of (λ is. absurd (omega (arith, is))) (λ is. absurd (omega (arith, is))) (λ is. absurd (omega (arith, is))) in
-      let not_four : o.status ≢ 4 = none_else o.status 4 of (λ is. absurd (omega (arith, is))) (λ is. absurd (omega (arith, is))) (λ is. absurd (omega (arith, is))) in
-      let not_five : o.status ≢ 5 = none_else o.status 5 of (λ is. absurd (omega (arith, is))) (λ is. absurd (omega (arith, is))) (λ is. absurd (omega (arith, is))) in
-      record {
-        is = is_status o.status of;
-        fine = λ t is. absurd (not_zero error o.status o.cause h is);
-        no_script = no_script_of error h reason;
-        no_database = λ t is. absurd (not_three is);
-        damage = λ is. absurd (not_four is);
-        damaged = λ t is. absurd (not_four is);
-        disk_fault = λ is. absurd (not_five is);
-        read_fault = read_fault_of error h counts;
-        calm = λ is. absurd (not_zero error o.status o.cause h is);
-        plain = λ not_one _. plain_of error o.status o.cause h not_one;
-        reads_first = λ t. ⊎_elim (λ a. inl a) (λ b. ⊎_elim (λ a. inr (inl a)) (λ a. inr (inr (inl a))) b) of;
-        refused = λ t line at is. refused_as error o.status o.cause line at h ((decided t).refused line at is);
-        too_long = λ t is. long_as error o.status o.cause h ((decided t).too_long is);
-      }
+  pub read_causes : (error : ScriptError) → o.ending ≡ read_as error → HasReason s source error → (error ≡ script_error.ReadFault → CountsFault (s.faults_of source) (s.faults_of new)) → (IsTrue s.tells → IsDecided (s.left source) (Err error)) → RunCauses g old s source new o
+  read_causes error is reason counts decided = record {
+    by_disk = subst (DiskWhy g old o.disk) (sym is) (disk_why_read g old o.disk error);
+    by_source = subst (SourceWhy s source new) (sym is) (source_why_read s source new error reason counts);
+    by_script = λ t. subst (IsByScript (s.left source)) (sym is) (record {
+      wants = wants_none (s.left source) error;
+      refused = λ line at r. as_ending error (script_error.Refused line at) ((decided t).refused line at r);
+      too_long = λ long. as_ending error script_error.TooLong ((decided t).too_long long);
+    });
+  }
 
 -- ---- init
 

@@ -1,10 +1,12 @@
 //! The commands, from words and bytes to a database and a transcript.
 #![tactic(auto)]
 
+mod ending;
 mod making;
 mod outcome;
 mod run;
 mod script;
 mod words;
 
+pub use ending::Ending;
 pub use run::{Ended, run_serial};

@@ -1,30 +1,27 @@
-// How a command ended, before its text is put.
+// What the work of a command leaves, before its text is put.
 ghost use Rattle.std.specs.Prelude.{◌≡◌, []};
 
-use ctr_model::Cause;
+use crate::ending::Ending;
 use ctr_types::{List, Tape};
 use std::alloc::Global;
 
-/// How a command ended.
+/// What the work of a command leaves.
 #[derive(Drop)]
 pub struct Outcome<D> {
-    pub status: u8,
-    pub cause: Cause,
+    pub ending: Ending,
     pub tape: Tape,
     pub disk: D,
 }
 
 impl<D> Outcome<D> {
     /// A command that has no entries.
-    pub fn without_tape(alloc: Global, status: u8, cause: Cause, disk: D) -> Outcome<D>
-        ensures status { result.status ≡ status }
-        ensures cause { result.cause ≡ cause }
+    pub fn without_tape(alloc: Global, ending: Ending, disk: D) -> Outcome<D>
+        ensures ending { result.ending ≡ ending }
         ensures tape { result.tape.entries ≡ [] }
         ensures disk { result.disk ≡ disk }
     {
         Outcome {
-            status,
-            cause,
+            ending,
             tape: Tape {
                 entries: List::new(alloc),
             },

@@ -6,13 +6,12 @@ ghost use Rattle.ctr_model.specs.Database.{Database};
 ghost use Rattle.ctr_thin.specs.Thin.{StandsFor};
 ghost use Rattle.ctr_exec.specs.Session.{IsNotFull};
 ghost use Rattle.ctr_world.specs.World.{IsOpenedOn, CanRun};
-ghost use Rattle.ctr_top.specs.Top.{Ran, RanScript, RunCauses, LinesCauses, TellsOpening, TellsReading, TellsStop, RunLeaves, GoesForward};
+ghost use Rattle.ctr_top.specs.Top.{Ran, RanScript, RunCauses, LinesCauses, RunLeaves, GoesForward};
 
+use crate::ending::{not_opened, not_read, stopped};
 use crate::outcome::Outcome;
-use ctr_disk::{Disk, Source, Stop};
-use ctr_model::Cause;
-use ctr_script::{ScriptError, read_script};
-use ctr_thin::OpenError;
+use ctr_disk::{Disk, Source};
+use ctr_script::read_script;
 use ctr_types::{Actor, Script, Turn};
 use ctr_world::{Opening, World};
 use std::alloc::Global;
@@ -39,58 +38,6 @@ fn run_lines<D: Disk, B: Opening>(alloc: Global, world: &mut World<D, B>) {
     }
 }
 
-// Why a database wasn't opened.
-fn why_not_opened(error: OpenError) -> (u8, Cause)
-    ensures { TellsOpening error result.0 result.1 }
-{
-    match error {
-        OpenError::NoDatabase => (3, Cause::Plain),
-        OpenError::Damaged {
-            file,
-            at,
-            want,
-            got,
-        } => (
-            4,
-            Cause::Damaged {
-                file,
-                at,
-                want,
-                got,
-            },
-        ),
-        OpenError::Fault => (5, Cause::Plain),
-        OpenError::OutOfMemory => (8, Cause::Plain),
-    }
-}
-
-// How a World ended.
-fn why_stopped(stop: Option<Stop>) -> (u8, Cause)
-    ensures { TellsStop stop result.0 result.1 }
-{
-    match stop {
-        None => (0, Cause::Plain),
-        Some(Stop::Fault) => (5, Cause::Plain),
-        Some(
-            Stop::Damaged {
-                file,
-                at,
-                want,
-                got,
-            },
-        ) => (
-            4,
-            Cause::Damaged {
-                file,
-                at,
-                want,
-                got,
-            },
-        ),
-        Some(Stop::Worn { lsn }) => (10, Cause::Worn { number: lsn }),
-    }
-}
-
 // Opens the database of the disk and runs a script over it.
 fn run_opened<D: Disk, B: Opening>(alloc: Global, disk: D, script: Script) -> Outcome<D>
     requires named { IsOpenedOn B.Opening D.Disk disk script.lines }
@@ -106,30 +53,15 @@ fn run_opened<D: Disk, B: Opening>(alloc: Global, disk: D, script: Script) -> Ou
     let mut world = match World::<D, B>::open(alloc, disk, script) {
         Ok(world) => world,
         Err((error, disk)) => {
-            let (status, cause) = why_not_opened(error);
-            return Outcome::without_tape(alloc, status, cause, disk);
+            return Outcome::without_tape(alloc, not_opened(error), disk);
         }
     };
     run_lines(alloc, &mut world);
     let finished = world.finish(alloc);
-    let (status, cause) = why_stopped(finished.stop);
     Outcome {
-        status,
-        cause,
+        ending: stopped(finished.stop),
         tape: finished.tape,
         disk: finished.disk,
-    }
-}
-
-// Why there is no script.
-fn why_not_read(error: ScriptError) -> (u8, Cause)
-    ensures { TellsReading error result.0 result.1 }
-{
-    match error {
-        ScriptError::Refused { line, at } => (1, Cause::Script { line, at }),
-        ScriptError::TooLong => (1, Cause::Plain),
-        ScriptError::ReadFault => (6, Cause::Plain),
-        ScriptError::OutOfMemory => (8, Cause::Plain),
     }
 }
 
@@ -144,9 +76,6 @@ pub fn run_script<D: Disk, S: Source>(alloc: Global, disk: D, source: &mut S) ->
 {
     match read_script(alloc, source) {
         Ok(script) => run_opened::<D, Brand>(alloc, disk, script),
-        Err(error) => {
-            let (status, cause) = why_not_read(error);
-            Outcome::without_tape(alloc, status, cause, disk)
-        }
+        Err(error) => Outcome::without_tape(alloc, not_read(error), disk),
     }
 }

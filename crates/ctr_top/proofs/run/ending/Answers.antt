@@ -2,6 +2,7 @@ use Rattle.std.proofs.Common.{◌≡◌, ◌++◌, pos, ap}
 use Rattle.ctr_model.specs.declared.tape.Report.{Report}
 use Rattle.ctr_model.specs.Texts.{transcript, last_line}
 use Rattle.ctr_print.proofs.Joins.{both, put_as}
+use Rattle.ctr_top.specs.Endings.{status_of, cause_of}
 use Rattle.ctr_top.specs.Top.{report_of}
 use Rattle.ctr_top.proofs.run.ending.Goals as goal
 
@@ -11,10 +12,11 @@ returns-clause-printed g c =
     let es = o.tape.entries in
     let made : Report = record { commits = c.count_answers.result; refused = c.count_refusals.result; undo_turns = 0; rows = 0; sum = pos 0 } in
     let is : made ≡ report_of es = λ i. record { commits = c.count_answers.ensures i; refused = c.count_refusals.ensures i; undo_turns = 0; rows = 0; sum = pos 0 } in
-    let text : transcript es ++ last_line c.args.command.now o.status o.cause es made ≡ transcript es ++ last_line c.args.command.now o.status o.cause es (report_of es) = ap (λ (r : Report). transcript es ++ last_line c.args.command.now o.status o.cause es r) is in
+    let text : transcript es ++ last_line c.args.command.now c.status-status.result c.cause-cause.result es made ≡ transcript es ++ last_line c.args.command.now (status_of o.ending) (cause_of o.ending) es (report_of es) =
+        λ i. transcript es ++ last_line c.args.command.now (c.status-status.ensures i) (c.cause-cause.ensures i) es (is i) in
     record {
       done = c.put_last_line-fine.result;
       put = put_as text (both c.put_transcript-fine.ensures c.put_last_line-fine.ensures);
-      fine = c.status_after.ensures.fine;
-      failed = c.status_after.ensures.failed;
+      fine = c.after_put.ensures.fine;
+      failed = c.after_put.ensures.failed;
     }

@@ -1,7 +1,9 @@
 use Rattle.std.proofs.Common.{◌≢◌, ◌≡◌, ◌∙◌, ⊎_elim, inl, inr, refl, sym, ap, subst}
 use Rattle.ctr_disk.specs.Crash.{CountsFault}
 use Rattle.ctr_model.specs.declared.tape.Command.TheVariants.{Init, Run}
-use Rattle.ctr_top.specs.Top.{RanScript, RunCauses, RunLeaves, work_status}
+use Rattle.ctr_top.specs.declared.ending.Ending.TheVariants as ending
+use Rattle.ctr_top.specs.Endings.{work}
+use Rattle.ctr_top.specs.Top.{RanScript, RunCauses, RunLeaves, DiskWhy, SourceWhy}
 use Rattle.ctr_top.proofs.CompleteLemmas.{complete_of, work_is}
 use Rattle.ctr_top.proofs.run.run_serial.Goals as goal
 
@@ -33,10 +35,10 @@ returns-clause-complete g c = λ is told source_told ls script can_open none.
     let d = g.D.Disk in
     let r = c.run_script-outcome in
     let e = c.ending-2 in
-    let not : e.result.status ≢ 7 = λ seven. none.no_sink (e.ensures.printed.put.cause refl (e.ensures.printed.failed seven)) in
-    let status : e.result.status ≡ r.result.status = sym (work_is e.result.status not) ∙ ap (λ o. o.status) e.ensures.outcome in
+    let not : e.result.ending ≢ ending.WriteFault = λ is_fault. none.no_sink (e.ensures.printed.put.cause refl (e.ensures.printed.failed is_fault)) in
+    let same : e.result.ending ≡ r.result.ending = sym (work_is e.result.ending not) ∙ ap (λ o. o.ending) e.ensures.outcome in
     let no_disk : CountsFault (d.faults_of c.args.disk) (d.faults_of r.result.disk) → ⊥ = λ rose. none.no_disk (subst (λ o. CountsFault (d.faults_of c.args.disk) (d.faults_of o.disk)) (sym e.ensures.outcome) rose) in
-    ⊎_elim (λ fine. inl (status ∙ fine)) (λ memory. inr (status ∙ memory.0, ap (λ o. o.tape.entries) e.ensures.outcome ∙ memory.1))
+    ⊎_elim (λ fine. inl (same ∙ fine)) (λ memory. inr (same ∙ memory.0, ap (λ o. o.tape.entries) e.ensures.outcome ∙ memory.1))
     (complete_of c.no_script_is_refused.ensures d c.args.disk g.S.Source c.args.source.now r.new.source r.result r.ensures.causes r.ensures.leaves told source_told ls script can_open no_disk none.no_source)
 
 pub returns-clause-calm : goal.returns-clause-calm
@@ -44,8 +46,9 @@ returns-clause-calm g c = λ is.
     let d = g.D.Disk in
     let r = c.run_script-outcome in
     let e = c.ending-2 in
-    let ended : r.result.status ≡ 0 = sym (ap (λ o. o.status) e.ensures.outcome) ∙ ap work_status is in
-    let same = r.ensures.causes.calm ended in
-    let disk = ap (λ o. d.faults_of o.disk) e.ensures.outcome ∙ same.0 in
+    let ended : r.result.ending ≡ ending.Finished = sym (ap (λ o. o.ending) e.ensures.outcome) ∙ ap work is in
+    let from_disk = subst (DiskWhy d c.args.disk r.result.disk) ended r.ensures.causes.by_disk in
+    let from_source = subst (SourceWhy g.S.Source c.args.source.now r.new.source) ended r.ensures.causes.by_source in
+    let disk = ap (λ o. d.faults_of o.disk) e.ensures.outcome ∙ from_disk.1 in
     let sink = e.ensures.printed.put.calm (e.ensures.printed.fine is) in
-    λ i. record { disk = disk i; source = same.1 i; sink = sink i }
+    λ i. record { disk = disk i; source = from_source i; sink = sink i }

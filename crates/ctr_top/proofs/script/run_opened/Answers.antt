@@ -3,8 +3,8 @@ use Rattle.ctr_disk.specs.Device.{OnlyReads}
 use Rattle.ctr_disk.specs.Crash.{CountsFault}
 use Rattle.ctr_thin.specs.Thin.{StandsFor}
 use Rattle.ctr_world.specs.World.{StopsBy, StraysOnlyLong}
-use Rattle.ctr_top.specs.Top.{TellsOpening}
-use Rattle.ctr_top.proofs.RunLemmas.{open_causes, end_causes, ran_none, ran_ends, not_fine, not_stopped, no_refusal, told_as}
+use Rattle.ctr_top.specs.Top.{IsRefused}
+use Rattle.ctr_top.proofs.RunLemmas.{open_causes, end_causes, ran_none, ran_ends, not_fine, not_stopped, no_refusal}
 use Rattle.ctr_top.proofs.script.run_opened.Goals as goal
 
 pub returns-in-Err-clause-ran : goal.returns-in-Err-clause-ran
@@ -12,15 +12,15 @@ returns-in-Err-clause-ran g c = λ base told stands.
     let d = g.D.Disk in
     let t = c.without_tape.ensures in
     let old = c.args.disk in
-    let not = not_fine c.in-Err.error _ _ c.why_not_opened-status.ensures in
-    ran_none d g.met.D.Disk.earlier old base c.args.script.lines stands c.without_tape.result t.tape (λ is. not (sym t.status ∙ is)) (subst (OnlyReads d old) (sym t.disk) c.in-Err.ensures.stays.quiet)
+    let ended = t.ending ∙ c.not_opened.ensures in
+    ran_none d g.met.D.Disk.earlier old base c.args.script.lines stands c.without_tape.result t.tape (λ is. not_fine c.in-Err.error (sym ended ∙ is)) (subst (OnlyReads d old) (sym t.disk) c.in-Err.ensures.stays.quiet)
 
 pub returns-in-Err-clause-causes : goal.returns-in-Err-clause-causes
 returns-in-Err-clause-causes g c =
     let d = g.D.Disk in
     let t = c.without_tape.ensures in
     let old = c.args.disk in
-    open_causes d old c.without_tape.result c.in-Err.error (told_as (TellsOpening c.in-Err.error) t.status t.cause c.why_not_opened-status.ensures) c.in-Err.ensures.differs c.in-Err.ensures.refused
+    open_causes d old c.without_tape.result c.in-Err.error (t.ending ∙ c.not_opened.ensures) c.in-Err.ensures.differs c.in-Err.ensures.refused
     (λ is. subst (λ e. CountsFault (d.faults_of old) (d.faults_of e)) (sym t.disk) (c.in-Err.ensures.stays.fault is))
 
 pub returns-clause-ran : goal.returns-clause-ran
@@ -29,7 +29,7 @@ returns-clause-ran g c = λ base told stands.
     let b = g.B.Opening in
     let f = c.finish-finished in
     let named = c.requires.named in
-    ran_ends d g.met.D.Disk.earlier c.args.disk base c.args.script.lines b named c.requires.before _ f.result.stop (not_stopped f.result.stop _ _ c.why_stopped-status.ensures)
+    ran_ends d g.met.D.Disk.earlier c.args.disk base c.args.script.lines b named c.requires.before _ f.result.stop (λ is. not_stopped f.result.stop (sym c.stopped.ensures ∙ is))
     (f.ensures.ends base told (subst (λ i. StandsFor i base) (sym named.image) stands))
 
 pub returns-clause-causes : goal.returns-clause-causes
@@ -37,7 +37,7 @@ returns-clause-causes g c =
     let d = g.D.Disk in
     let f = c.finish-finished in
     let counts = subst (λ n. StopsBy f.result.stop n (d.faults_of f.result.disk)) c.requires.named.faults f.ensures.stops in
-    end_causes d c.args.disk _ f.result.stop c.why_stopped-status.ensures counts c.in-Ok.ensures.can_open
+    end_causes d c.args.disk _ f.result.stop c.stopped.ensures counts c.in-Ok.ensures.can_open
 
 pub returns-clause-leaves : goal.returns-clause-leaves
 returns-clause-leaves g c =
@@ -46,7 +46,7 @@ returns-clause-leaves g c =
     let f = c.finish-finished in
     let named = c.requires.named in
     record {
-      nothing = λ is. absurd (⊎_elim (no_refusal f.result.stop b.faults (d.faults_of f.result.disk) _ _ c.why_stopped-status.ensures f.ensures.stops) (λ shut. shut.1 (c.in-Ok.ensures.can_open shut.0)) is);
+      nothing = λ is. absurd (⊎_elim (λ refused. no_refusal f.result.stop b.faults (d.faults_of f.result.disk) f.ensures.stops (subst IsRefused c.stopped.ensures refused)) (λ shut. shut.1 (c.in-Ok.ensures.can_open shut.0)) is);
       stray = λ told.
           let can = c.in-Ok.ensures.can_open told in
           let ends = f.ensures.ends can.0 told (subst (λ i. StandsFor i can.0) (sym named.image) can.1.0) in

@@ -1,9 +1,9 @@
-use Rattle.std.proofs.Common.{◌≡◌, ◌∙◌, inl, inr, [], sym, subst, ap, arith}
+use Rattle.std.proofs.Common.{◌≡◌, ◌≢◌, ◌∙◌, inl, inr, [], sym, subst, ap, arith}
 use Rattle.ctr_disk.specs.Device.{OnlyReads}
 use Rattle.ctr_model.specs.Grammar.{ends}
-use Rattle.ctr_top.specs.Top.{TellsReading}
+use Rattle.ctr_top.specs.declared.ending.Ending.TheVariants as ending
 use Rattle.ctr_top.proofs.ScriptLemmas.{lines_taken, lines_at_most}
-use Rattle.ctr_top.proofs.RunLemmas.{ran_none, lines_causes, read_causes, not_zero, told_as, only_reads_same}
+use Rattle.ctr_top.proofs.RunLemmas.{ran_none, lines_causes, read_causes, not_read_fine, only_reads_same}
 use Rattle.ctr_top.proofs.script.run_script.Goals as goal
 
 pub run_opened-requires-clause-runs : goal.run_opened-requires-clause-runs
@@ -31,13 +31,13 @@ pub returns-in-Err-clause-ran : goal.returns-in-Err-clause-ran
 returns-in-Err-clause-ran g c = λ base told stands.
     let d = g.D.Disk in
     let t = c.without_tape.ensures in
-    let not = not_zero c.in-Err.error _ _ c.why_not_read-status.ensures in
+    let not : c.without_tape.result.ending ≢ ending.Finished = λ is. not_read_fine c.in-Err.error (sym (t.ending ∙ c.not_read.ensures) ∙ is) in
     record {
       lines = [];
       of_bytes = ([], ends);
       script = λ _. inr t.tape;
-      script_at_end = λ _ is. absurd (not (sym t.status ∙ is));
-      ran = ran_none d g.met.D.Disk.earlier c.args.disk base [] stands c.without_tape.result t.tape (λ is. not (sym t.status ∙ is))
+      script_at_end = λ _ is. absurd (not is);
+      ran = ran_none d g.met.D.Disk.earlier c.args.disk base [] stands c.without_tape.result t.tape not
           (subst (OnlyReads d c.args.disk) (sym t.disk) (only_reads_same d c.args.disk (g.met.D.Disk.only_now c.args.disk)));
     }
 
@@ -47,7 +47,7 @@ returns-in-Err-clause-causes g c =
     let s = g.S.Source in
     let t = c.without_tape.ensures in
     let e = c.in-Err.ensures in
-    read_causes d c.args.disk s c.args.source.now c.read_script.new.source c.without_tape.result c.in-Err.error (told_as (TellsReading c.in-Err.error) t.status t.cause c.why_not_read-status.ensures)
+    read_causes d c.args.disk s c.args.source.now c.read_script.new.source c.without_tape.result c.in-Err.error (t.ending ∙ c.not_read.ensures)
     e.reason (λ is. e.faults.failed (cc is)) e.only
 
 pub returns-in-Err-clause-leaves : goal.returns-in-Err-clause-leaves

@@ -1,0 +1,89 @@
+-- How a command ends: one table from the ending to its status and to what its last line tells.
+use Rattle.std.specs.Prelude.{ℕ, Option, Some, None, Result, Ok, Err}
+use Rattle.ctr_disk.specs.declared.fault.Stop.{Stop}
+use Rattle.ctr_disk.specs.declared.fault.Stop.TheVariants as stop
+use Rattle.ctr_disk.specs.declared.fault.StoreFault.{StoreFault}
+use Rattle.ctr_log.specs.declared.making.Making.{Making}
+use Rattle.ctr_log.specs.declared.making.Making.TheVariants as making
+use Rattle.ctr_model.specs.declared.tape.Cause.{Cause}
+use Rattle.ctr_model.specs.declared.tape.Cause.TheVariants as cause
+use Rattle.ctr_script.specs.declared.error.ScriptError.{ScriptError}
+use Rattle.ctr_script.specs.declared.error.ScriptError.TheVariants as script_error
+use Rattle.ctr_thin.specs.declared.opening.OpenError.{OpenError}
+use Rattle.ctr_thin.specs.declared.opening.OpenError.TheVariants as open_error
+use Rattle.ctr_top.specs.declared.ending.Ending.{Ending}
+use Rattle.ctr_top.specs.declared.ending.Ending.TheVariants as ending
+
+-- the status of each ending
+abbrev pub status_of : Ending → ℕ
+status_of ending.Finished = 0
+status_of (ending.Refused line at) = 1
+status_of ending.TooLong = 1
+status_of ending.Usage = 2
+status_of ending.NoDatabase = 3
+status_of (ending.Damaged file at want got) = 4
+status_of ending.DiskFault = 5
+status_of ending.ReadFault = 6
+status_of ending.WriteFault = 7
+status_of ending.OutOfMemory = 8
+status_of ending.Exists = 9
+status_of (ending.Worn number) = 10
+
+-- what the last line tells beside the status
+abbrev pub cause_of : Ending → Cause
+cause_of ending.Finished = cause.Plain
+cause_of (ending.Refused line at) = cause.Script line at
+cause_of ending.TooLong = cause.Plain
+cause_of ending.Usage = cause.Plain
+cause_of ending.NoDatabase = cause.Plain
+cause_of (ending.Damaged file at want got) = cause.Damaged file at want got
+cause_of ending.DiskFault = cause.Plain
+cause_of ending.ReadFault = cause.Plain
+cause_of ending.WriteFault = cause.Plain
+cause_of ending.OutOfMemory = cause.Plain
+cause_of ending.Exists = cause.Plain
+cause_of (ending.Worn number) = cause.Worn number
+
+-- the ending of the work alone: one whose text couldn't be put came to its end
+abbrev pub work : Ending → Ending
+work ending.Finished = ending.Finished
+work (ending.Refused line at) = ending.Refused line at
+work ending.TooLong = ending.TooLong
+work ending.Usage = ending.Usage
+work ending.NoDatabase = ending.NoDatabase
+work (ending.Damaged file at want got) = ending.Damaged file at want got
+work ending.DiskFault = ending.DiskFault
+work ending.ReadFault = ending.ReadFault
+work ending.WriteFault = ending.Finished
+work ending.OutOfMemory = ending.OutOfMemory
+work ending.Exists = ending.Exists
+work (ending.Worn number) = ending.Worn number
+
+-- ---- by what it ends
+
+-- the database wasn't opened
+abbrev pub opened_as : OpenError → Ending
+opened_as open_error.NoDatabase = ending.NoDatabase
+opened_as (open_error.Damaged file at want got) = ending.Damaged file at want got
+opened_as open_error.Fault = ending.DiskFault
+opened_as open_error.OutOfMemory = ending.OutOfMemory
+
+-- the script wasn't read
+abbrev pub read_as : ScriptError → Ending
+read_as (script_error.Refused line at) = ending.Refused line at
+read_as script_error.TooLong = ending.TooLong
+read_as script_error.ReadFault = ending.ReadFault
+read_as script_error.OutOfMemory = ending.OutOfMemory
+
+-- a World has ended, or was stopped
+abbrev pub stopped_as : Option Stop → Ending
+stopped_as None = ending.Finished
+stopped_as (Some stop.Fault) = ending.DiskFault
+stopped_as (Some (stop.Damaged file at want got)) = ending.Damaged file at want got
+stopped_as (Some (stop.Worn lsn)) = ending.Worn lsn
+
+-- a database was made, or wasn't
+abbrev pub made_as : Result Making StoreFault → Ending
+made_as (Ok making.Made) = ending.Finished
+made_as (Ok making.Exists) = ending.Exists
+made_as (Err error) = ending.DiskFault

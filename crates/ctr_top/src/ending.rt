@@ -1,0 +1,160 @@
+// How a command ends, with its status and its cause.
+ghost use Rattle.std.specs.Prelude.{◌≡◌};
+ghost use Rattle.ctr_top.specs.Endings.{status_of, cause_of, opened_as, read_as, stopped_as, made_as};
+
+use ctr_disk::{File, Stop, StoreFault};
+use ctr_log::Making;
+use ctr_model::Cause;
+use ctr_script::ScriptError;
+use ctr_thin::OpenError;
+
+/// How a command ends.
+#[derive(Clone, Copy, Debug, PartialEq, Eq)]
+pub enum Ending {
+    /// The work came to its end, and its text was put.
+    Finished,
+    /// The bytes are no script: the first place, line and byte from 1, at which they are none.
+    Refused {
+        line: u64,
+        at: u64,
+    },
+    /// The script has too many bytes.
+    TooLong,
+    /// The words are no command.
+    Usage,
+    NoDatabase,
+    /// The byte of the file at which a check failed, what it wants and what is there.
+    Damaged {
+        file: File,
+        at: u64,
+        want: u128,
+        got: u128,
+    },
+    DiskFault,
+    ReadFault,
+    /// The work came to its end, and its text couldn't be put.
+    WriteFault,
+    /// Memory was refused before the first statement.
+    OutOfMemory,
+    /// `init` finds a database.
+    Exists,
+    /// A number is too near the end of its type to go on.
+    Worn {
+        number: u64,
+    },
+}
+
+impl Ending {
+    /// The exit status.
+    pub fn status(&self) -> u8
+        ensures { result ≡ status_of self.now }
+    {
+        match self {
+            Ending::Finished => 0,
+            Ending::Refused { .. } | Ending::TooLong => 1,
+            Ending::Usage => 2,
+            Ending::NoDatabase => 3,
+            Ending::Damaged { .. } => 4,
+            Ending::DiskFault => 5,
+            Ending::ReadFault => 6,
+            Ending::WriteFault => 7,
+            Ending::OutOfMemory => 8,
+            Ending::Exists => 9,
+            Ending::Worn { .. } => 10,
+        }
+    }
+
+    /// What the last line tells beside the status.
+    pub fn cause(&self) -> Cause
+        ensures { result ≡ cause_of self.now }
+    {
+        match self {
+            Ending::Refused { line, at } => Cause::Script {
+                line: *line,
+                at: *at,
+            },
+            Ending::Damaged {
+                file,
+                at,
+                want,
+                got,
+            } => Cause::Damaged {
+                file: *file,
+                at: *at,
+                want: *want,
+                got: *got,
+            },
+            Ending::Worn { number } => Cause::Worn { number: *number },
+            _ => Cause::Plain,
+        }
+    }
+}
+
+/// The ending of a run whose database wasn't opened.
+pub fn not_opened(error: OpenError) -> Ending
+    ensures { result ≡ opened_as error }
+{
+    match error {
+        OpenError::NoDatabase => Ending::NoDatabase,
+        OpenError::Damaged {
+            file,
+            at,
+            want,
+            got,
+        } => Ending::Damaged {
+            file,
+            at,
+            want,
+            got,
+        },
+        OpenError::Fault => Ending::DiskFault,
+        OpenError::OutOfMemory => Ending::OutOfMemory,
+    }
+}
+
+/// The ending of a run whose script wasn't read.
+pub fn not_read(error: ScriptError) -> Ending
+    ensures { result ≡ read_as error }
+{
+    match error {
+        ScriptError::Refused { line, at } => Ending::Refused { line, at },
+        ScriptError::TooLong => Ending::TooLong,
+        ScriptError::ReadFault => Ending::ReadFault,
+        ScriptError::OutOfMemory => Ending::OutOfMemory,
+    }
+}
+
+/// The ending of a run whose World has ended.
+pub fn stopped(stop: Option<Stop>) -> Ending
+    ensures { result ≡ stopped_as stop }
+{
+    match stop {
+        None => Ending::Finished,
+        Some(Stop::Fault) => Ending::DiskFault,
+        Some(
+            Stop::Damaged {
+                file,
+                at,
+                want,
+                got,
+            },
+        ) => Ending::Damaged {
+            file,
+            at,
+            want,
+            got,
+        },
+        Some(Stop::Worn { lsn }) => Ending::Worn { number: lsn },
+    }
+}
+
+/// The ending of a making.
+pub fn made(end: Result<Making, StoreFault>) -> Ending
+    ensures { result ≡ made_as end }
+{
+    match end {
+        Ok(Making::Made) => Ending::Finished,
+        Ok(Making::Exists) => Ending::Exists,
+        Err(_) => Ending::DiskFault,
+    }
+}
