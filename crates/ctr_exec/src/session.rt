@@ -17,7 +17,6 @@ ghost use Rattle.ctr_exec.specs.declared.session.Stage.TheVariants as stage;
 ghost use Rattle.ctr_exec.specs.Session.{Shows, Replies, Grants, RepliesWritten, IsNew, IsTurn, IsReadyRow, IsReadyTable, IsShort, CanCommit, HasItemRoom, AskedIn, StageAsked, NotAsked, IsNotFull, IsWrittenNotFull, SameSession};
 ghost use Rattle.ctr_model.specs.declared.state.State.{State};
 
-
 use crate::ready::{ReadyRow, ReadyTable, first_bad, ready_row, ready_table};
 use ctr_log::LogFile;
 use ctr_rec::{Item, begin, end, push_item, spelled_len};

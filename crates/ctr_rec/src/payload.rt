@@ -12,7 +12,6 @@ use ctr_bytes::{get_i64, put_i64};
 use ctr_types::{Column, Kind, List, Row, Schema, Text, Value};
 use std::alloc::{AllocError, AllocFailed, Global};
 
-
 /// Why a payload isn't read.
 #[derive(Clone, Copy, Debug, PartialEq, Eq)]
 pub enum PayloadError {

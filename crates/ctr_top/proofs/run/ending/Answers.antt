@@ -13,7 +13,7 @@ returns-clause-printed g c =
     let made : Report = record { commits = c.count_answers.result; refused = c.count_refusals.result; undo_turns = 0; rows = 0; sum = pos 0 } in
     let is : made ≡ report_of es = λ i. record { commits = c.count_answers.ensures i; refused = c.count_refusals.ensures i; undo_turns = 0; rows = 0; sum = pos 0 } in
     let text : transcript es ++ last_line c.args.command.now c.status-status.result c.cause-cause.result es made ≡ transcript es ++ last_line c.args.command.now (status_of o.ending) (cause_of o.ending) es (report_of es) =
-        λ i. transcript es ++ last_line c.args.command.now (c.status-status.ensures i) (c.cause-cause.ensures i) es (is i) in
+    λ i. transcript es ++ last_line c.args.command.now (c.status-status.ensures i) (c.cause-cause.ensures i) es (is i) in
     record {
       done = c.put_last_line-fine.result;
       put = put_as text (both c.put_transcript-fine.ensures c.put_last_line-fine.ensures);
