@@ -11,9 +11,6 @@ use crate::item::{COLUMN_LEN, COMMIT_TAG, COUNT_AT, CREATE, DROP, NO_OVERLAY, PU
 use ctr_bytes::{put_i64, put_u16, put_u32};
 use ctr_types::{Column, Kind, Name, Schema, Text};
 
-#[cfg(test)]
-mod tests;
-
 /// What is written for items spells them.
 pub fn written()
     ensures { (is : List Item) → IsSpelled is (record_bytes is) }
