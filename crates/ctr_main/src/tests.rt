@@ -178,13 +178,16 @@ fn million(alloc: Global) -> Result<Vec<u8>, AllocError> {
 // Puts all bytes, piece by piece as the sink takes them.
 fn put_all<W: Write>(sink: &mut WriteSink<W>, bytes: &[u8]) -> bool {
     let mut rest = bytes;
-    while !rest.is_empty() {
+    for _ in 0..1_000_000u32 {
+        if rest.is_empty() {
+            return true;
+        }
         match sink.put(rest) {
             Ok(n) if n > 0 && n <= rest.len() => rest = &rest[n..],
             _ => return false,
         }
     }
-    true
+    false
 }
 
 // Takes all bytes there are.
