@@ -3,9 +3,9 @@ use crate::numbers::{hex_bytes, split_file, split_number, split_word};
 use crate::page::Page;
 use crate::run::{disk_of, look_at};
 use crate::setup::{Ask, Ran, Setup};
-use ctr_disk::{Disk, File, MemDisk, Root};
+use ctr_disk::{Disk, MemDisk, Root};
 use ctr_log::{read_root, write_root};
-use ctr_types::{List, Tape};
+use ctr_types::{File, List, Tape};
 use std::alloc::{AllocError, Global};
 
 /// The most bytes that a listed call reads.

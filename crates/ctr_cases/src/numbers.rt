@@ -1,5 +1,5 @@
 // Words, numbers and files of a line.
-use ctr_disk::File;
+use ctr_types::File;
 use std::alloc::{AllocError, Global};
 
 /// The first word of a line, and what stands after the blank.

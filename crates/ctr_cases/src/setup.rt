@@ -1,7 +1,7 @@
 // What a run begins with, and what it leaves: plain data. A disk lives inside a run alone.
 use crate::page::Page;
-use ctr_disk::{File, Image, Root};
-use ctr_types::{Plain, Tape, Text};
+use ctr_disk::{Image, Root};
+use ctr_types::{File, Plain, Tape, Text};
 use std::alloc::{AllocError, Global};
 
 /// What is done.

@@ -3,8 +3,8 @@ use Rattle.std.proofs.Common.{◌≡◌, ℕ, zero, suc, ◌+◌, ◌-◌, ◌<�
 use Rattle.std.proofs.lemmas.List.{append-nil, drop_all, drop_more, take_more, length-replicate}
 use Rattle.std.proofs.Math.Seq.{set-append_seam}
 use Rattle.ctr_disk.specs.Image.{Image, content, with_content, written, Torn, TornImage}
-use Rattle.ctr_disk.specs.declared.disk.File.{File}
-use Rattle.ctr_disk.specs.declared.disk.File.TheVariants.{Root, LogA, LogB, Pages}
+use Rattle.ctr_types.specs.declared.file.File.{File}
+use Rattle.ctr_types.specs.declared.file.File.TheVariants.{Root, LogA, LogB, Pages}
 
 -- one byte more is written
 pub put-more : (p w now : List ℕ) (at i : ℕ) → now ≡ take at p ++ take i w ++ drop (at + i) p → i < length w → at + length w ≤ length p

@@ -12,7 +12,7 @@ use Rattle.ctr_disk.specs.Memory.{IsAnswered, IsStarved}
 use Rattle.ctr_disk.specs.Replay.{reads_by, reads_by_call, images_by, images_by_call, LeavesBy, LeavesByCall, reads_after, images_after, images_since, possible_after, possible_since, latest, IsRecorded}
 use Rattle.ctr_disk.specs.ReplayLaws.{among_of}
 use Rattle.ctr_disk.specs.TornLaws.{torn_whole, torn_nothing}
-use Rattle.ctr_disk.specs.declared.disk.File.{File}
+use Rattle.ctr_types.specs.declared.file.File.{File}
 use Rattle.ctr_disk.specs.declared.record.Call.{Call}
 use Rattle.ctr_disk.specs.declared.record.Call.TheVariants.{Size, Read, Write, Sync}
 use Rattle.ctr_disk.specs.declared.record.Outcome.{Outcome}

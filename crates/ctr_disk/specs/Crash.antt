@@ -1,7 +1,7 @@
 -- What a crash may leave at one moment and over a call, and what the counts of a device do.
 use Rattle.std.specs.Prelude.{◌≡◌, ◌≢◌, ◌⊎◌, ℕ, ◌+◌, ◌-◌, ◌^◌, ◌≤◌, ◌<◌, min, Result, Err, OnOk, OnErr, IsErr}
 use Rattle.ctr_disk.specs.Image.{Image, TornImage}
-use Rattle.ctr_disk.specs.declared.disk.File.{File}
+use Rattle.ctr_types.specs.declared.file.File.{File}
 
 -- a crash leaves this image and no other
 abbrev pub Only : Image → (Image → Type 0) → Type 0

@@ -4,8 +4,8 @@ use Rattle.std.proofs.lemmas.List.{take_all, take_min, take-append-le, length-re
 use Rattle.std.proofs.Math.Seq.{take-nil}
 use Rattle.std.proofs.lemmas.Slice.{drop-append-drop}
 use Rattle.ctr_disk.specs.Image.{Image, written, write_of, Torn, TornImage}
-use Rattle.ctr_disk.specs.declared.disk.File.{File}
-use Rattle.ctr_disk.specs.declared.disk.File.TheVariants.{Root, LogA, LogB, Pages}
+use Rattle.ctr_types.specs.declared.file.File.{File}
+use Rattle.ctr_types.specs.declared.file.File.TheVariants.{Root, LogA, LogB, Pages}
 
 -- nothing of it may have happened
 torn_none : (at n : ℕ) (o : List ℕ) → Torn at n o o

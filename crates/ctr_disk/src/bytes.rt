@@ -2,7 +2,8 @@
 ghost use Rattle.std.specs.Prelude.{◌≡◌, ◌≤◌, ◌<◌, ◌+◌, ◌-◌, ◌^◌, ◌++◌, nat_le, min, length, take, drop, replicate, IfOk, OnOk, OnErr};
 ghost use Rattle.ctr_disk.specs.Image.{section, written, write_of, Torn, TornImage};
 
-use crate::{File, Image};
+use crate::Image;
+use ctr_types::File;
 use std::alloc::{AllocError, Global};
 
 /// Whether a place plus a length isn't below 2^63.

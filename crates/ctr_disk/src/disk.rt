@@ -4,16 +4,7 @@ ghost use Rattle.ctr_disk.specs.declared.disk.Image.{Image};
 ghost use Rattle.ctr_disk.specs.Image.{content, section, write_of, TornImage};
 ghost use Rattle.ctr_disk.specs.Crash.{Only, Within, Tears, Elapses, HasCause, HasStray, Ticks};
 
-use ctr_types::Text;
-
-/// The files of a database.
-#[derive(Clone, Copy, Debug, PartialEq, Eq)]
-pub enum File {
-    Root,
-    LogA,
-    LogB,
-    Pages,
-}
+use ctr_types::{File, Text};
 
 /// A device has failed. Its count of faults has risen, or stands at the last value of its type.
 #[derive(Clone, Copy, Debug, PartialEq, Eq)]

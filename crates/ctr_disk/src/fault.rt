@@ -2,7 +2,8 @@
 ghost use Rattle.std.specs.Prelude.{◌≡◌};
 ghost use Rattle.ctr_disk.specs.declared.fault.StoreFault.TheVariants.{Fault};
 
-use crate::{Failed, File};
+use crate::Failed;
+use ctr_types::File;
 
 /// The number of a writing of the root, from 1.
 pub type Stamp = u64;

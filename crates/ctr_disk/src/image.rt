@@ -2,8 +2,8 @@
 ghost use Rattle.std.specs.Prelude.{◌≡◌, [], IfOk, IsTrue, ◌↔◌};
 ghost use Rattle.ctr_disk.specs.Image.{content, with_content};
 
-use crate::{File, Image};
-use ctr_types::{Plain, Text};
+use crate::Image;
+use ctr_types::{File, Plain, Text};
 use std::alloc::{AllocError, Global};
 use std::mem;
 

@@ -14,7 +14,7 @@ mod memory_edges;
 mod record;
 mod through;
 
-pub use disk::{Disk, Failed, File, Image};
+pub use disk::{Disk, Failed, Image};
 pub use edges::{Sink, Source};
 pub use fault::{Root, Stamp, Stop, StoreFault};
 pub use memory::MemDisk;

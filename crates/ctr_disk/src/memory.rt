@@ -5,8 +5,8 @@ ghost use Rattle.ctr_disk.specs.Replay.{reads_after, latest};
 use crate::bytes::{fill, is_past_last};
 use crate::counts::Counts;
 use crate::record::{Replay, carry_out, keep};
-use crate::{Call, Disk, Failed, File, Image, Outcome, Recorded};
-use ctr_types::{List, Plain};
+use crate::{Call, Disk, Failed, Image, Outcome, Recorded};
+use ctr_types::{File, List, Plain};
 use std::alloc::{AllocError, Global};
 
 /// A disk in memory, which tells what it holds.

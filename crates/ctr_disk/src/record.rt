@@ -3,9 +3,9 @@ ghost use Rattle.std.specs.Prelude.{◌≡◌, MatchResult, OnOk};
 ghost use Rattle.ctr_disk.specs.Replay.{IsRecorded, reads_by, LeavesBy};
 ghost use Rattle.ctr_disk.specs.declared.record.Call.TheVariants.{Write};
 
+use crate::Image;
 use crate::bytes::{overwrite_file, tear_file};
-use crate::{File, Image};
-use ctr_types::{Plain, Text};
+use ctr_types::{File, Plain, Text};
 use std::alloc::{AllocError, Global};
 
 /// A call of a disk.

@@ -4,7 +4,8 @@ ghost use Rattle.ctr_disk.specs.Image.{write_of, TornImage};
 ghost use Rattle.ctr_disk.specs.Crash.{Tears, HasCause, HasStray, Ticks};
 ghost use Rattle.ctr_disk.specs.Device.{LeavesOnly, IsDurable};
 
-use crate::{Disk, Failed, File};
+use crate::{Disk, Failed};
+use ctr_types::File;
 
 /// Writes bytes at a place of a file and syncs.
 ///

@@ -4,7 +4,7 @@ use Rattle.std.proofs.lemmas.Bool.{cases_eq, cases_lt}
 use Rattle.std.proofs.lemmas.Bool.Decides.{nat_tests}
 use Rattle.std.proofs.lemmas.List.{take_at, drop_at, drop_more, drop-drop, length-take-le, take-append-le, take-take, get_or_at}
 use Rattle.ctr_disk.specs.declared.disk.Image.{Image}
-use Rattle.ctr_disk.specs.declared.disk.File.TheVariants.{Root}
+use Rattle.ctr_types.specs.declared.file.File.TheVariants.{Root}
 use Rattle.ctr_disk.specs.Image.{section, written, write_of, Torn, TornImage}
 use Rattle.ctr_log.specs.declared.home.Home.{Home}
 use Rattle.ctr_log.specs.declared.home.Home.TheVariants.{First, Second}

@@ -1,7 +1,7 @@
 -- What the steps of making a database leave.
 use Rattle.std.proofs.Common.{◌≡◌, inl, inr, ℕ, List, [], ◌∷◌, ◌++◌, drop, refl, sym, ◌∙◌, ap, subst, arith, None}
 use Rattle.ctr_disk.specs.declared.disk.Image.{Image}
-use Rattle.ctr_disk.specs.declared.disk.File.TheVariants.{LogA, LogB}
+use Rattle.ctr_types.specs.declared.file.File.TheVariants.{LogA, LogB}
 use Rattle.ctr_disk.specs.Image.{write_of, TornImage}
 use Rattle.ctr_log.specs.Homes.{root_block, root_value, IsAbove, IsOldOrNewRoot, IsNewRoot}
 use Rattle.ctr_log.specs.Logs.{batch, HasLog, Extends, IsBeforeOrAfter, IsAfter}

@@ -2,7 +2,7 @@
 use Rattle.std.proofs.Common.{ℕ, ◌∙◌, subst, sym}
 use Rattle.std.specs.Prelude.{IsTrue}
 use Rattle.ctr_disk.specs.declared.disk.Image.{Image}
-use Rattle.ctr_disk.specs.declared.disk.File.{File}
+use Rattle.ctr_types.specs.declared.file.File.{File}
 use Rattle.ctr_disk.specs.declared.disk.Disk.{Ghosts}
 use Rattle.ctr_disk.specs.Image.{TornImage}
 use Rattle.ctr_disk.specs.Crash.{Elapses, Within, Tears}

@@ -2,7 +2,7 @@
 use Rattle.std.proofs.Common.{◌≡◌, ℕ, ◌+◌, ◌^◌, ◌≤◌, ◌<◌, List, [], ◌∷◌, ◌++◌, length, take, drop, get_or, refl, sym, ◌∙◌, ap, subst, arith, length-append, length-drop, take-append-drop, append_assoc, Some}
 use Rattle.std.specs.Prelude.{codes, Result, Err}
 use Rattle.std.proofs.lemmas.List.{append-nil, take_at, drop_at, take_all, length-take-le}
-use Rattle.ctr_disk.specs.declared.disk.File.TheVariants.{Root as RootFile}
+use Rattle.ctr_types.specs.declared.file.File.TheVariants.{Root as RootFile}
 use Rattle.ctr_disk.specs.declared.fault.Root.{Root}
 use Rattle.ctr_disk.specs.declared.fault.StoreFault.{StoreFault}
 use Rattle.ctr_bytes.specs.Fields.{spelled, field, with_field}

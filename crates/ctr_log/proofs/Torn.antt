@@ -3,8 +3,8 @@ use Rattle.std.proofs.Common.{◌≡◌, ℕ, ◌+◌, ◌<◌, List, [], ◌∷
 use Rattle.std.proofs.lemmas.List.{append-nil, take_at, drop_at, drop_all, drop_more, drop-drop}
 use Rattle.ctr_disk.specs.declared.disk.Image.{Image}
 use Rattle.ctr_disk.specs.Image.{with_content, written, Torn, OtherFilesStay}
-use Rattle.ctr_disk.specs.declared.disk.File.{File}
-use Rattle.ctr_disk.specs.declared.disk.File.TheVariants.{Root, LogA, LogB, Pages}
+use Rattle.ctr_types.specs.declared.file.File.{File}
+use Rattle.ctr_types.specs.declared.file.File.TheVariants.{Root, LogA, LogB, Pages}
 
 -- the other files stay over several calls
 pub same_but : (f : File) (a b c : Image) → OtherFilesStay f a b → OtherFilesStay f b c → OtherFilesStay f a c

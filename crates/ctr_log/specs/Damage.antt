@@ -1,6 +1,6 @@
 -- Where a check failed, what it wants and what is there.
 use Rattle.std.specs.Prelude.{◌≡◌, ◌≢◌}
-use Rattle.ctr_disk.specs.declared.disk.File.{File}
+use Rattle.ctr_types.specs.declared.file.File.{File}
 use Rattle.ctr_disk.specs.declared.fault.StoreFault.{StoreFault}
 use Rattle.ctr_disk.specs.declared.fault.StoreFault.TheVariants.{Fault, Damaged}
 

@@ -1,7 +1,7 @@
 -- The root block in its two homes of 64 bytes, at 0 and at 64 of the file Root.
 use Rattle.std.specs.Prelude.{◌≡◌, ◌≢◌, ◌⊎◌, ◌≤◌, ◌<◌, ◌+◌, ◌^◌, ◌==◌, ◌&&◌, nat_lt, if◌then◌else◌, ℕ, List, [], ◌∷◌, ◌++◌, length, take, drop, codes, slice_index, Option, Some, None, Result, Ok, Err}
 use Rattle.ctr_disk.specs.declared.disk.Image.{Image}
-use Rattle.ctr_disk.specs.declared.disk.File.TheVariants.{Root as RootFile}
+use Rattle.ctr_types.specs.declared.file.File.TheVariants.{Root as RootFile}
 use Rattle.ctr_disk.specs.declared.fault.Root.{Root}
 use Rattle.ctr_disk.specs.declared.fault.StoreFault.{StoreFault}
 use Rattle.ctr_disk.specs.declared.fault.StoreFault.TheVariants.{Fault, Damaged}

@@ -1,7 +1,7 @@
 -- A file of the log: batches of records, each behind a gate, up to the first closed gate.
 use Rattle.std.specs.Prelude.{◌≡◌, ◌≢◌, ◌⊎◌, ℕ, zero, suc, ◌+◌, ◌^◌, ◌<◌, List, [], ◌∷◌, ◌++◌, length, take, drop, Result, OnOk, ◌≤◌}
 use Rattle.ctr_disk.specs.declared.disk.Image.{Image}
-use Rattle.ctr_disk.specs.declared.disk.File.{File}
+use Rattle.ctr_types.specs.declared.file.File.{File}
 use Rattle.ctr_disk.specs.Image.{content, OtherFilesStay}
 use Rattle.ctr_bytes.specs.Fields.{spelled, field}
 

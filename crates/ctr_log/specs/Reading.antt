@@ -1,7 +1,7 @@
 -- What reading a file of the log finds.
 use Rattle.std.specs.Prelude.{◌≡◌, ℕ, zero, suc, ◌+◌, ◌^◌, ◌≤◌, ◌<◌, List, [], ◌∷◌, ◌++◌, length}
-use Rattle.ctr_disk.specs.declared.disk.File.{File}
-use Rattle.ctr_disk.specs.declared.disk.File.TheVariants.{LogA, LogB}
+use Rattle.ctr_types.specs.declared.file.File.{File}
+use Rattle.ctr_types.specs.declared.file.File.TheVariants.{LogA, LogB}
 use Rattle.ctr_disk.specs.declared.disk.Image.{Image}
 use Rattle.ctr_disk.specs.declared.fault.Root.{Root}
 use Rattle.ctr_disk.specs.declared.fault.StoreFault.TheVariants.{Fault, Damaged}

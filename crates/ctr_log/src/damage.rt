@@ -2,7 +2,8 @@
 ghost use Rattle.std.specs.Prelude.{◌≡◌, ◌≢◌, ◌≤◌, ◌<◌, MatchResult};
 ghost use Rattle.ctr_disk.specs.declared.fault.StoreFault.TheVariants.{Damaged};
 
-use ctr_disk::{File, StoreFault};
+use ctr_disk::StoreFault;
+use ctr_types::File;
 
 /// The number is the one that is wanted.
 pub fn same(file: File, at: u64, want: u64, got: u64) -> Result<(), StoreFault>

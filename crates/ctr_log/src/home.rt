@@ -1,14 +1,15 @@
 // The root in its two homes: at every moment of a writing a crash leaves the old or the new value.
 ghost use Rattle.std.specs.Prelude.{◌≡◌, ◌≤◌, ◌<◌, ◌+◌, ◌↔◌, IsTrue, IsSome, length, Err, IfOk, IfErr, OnOk, OnErr, MatchResult, IsErrOf, option_map};
 ghost use Rattle.ctr_disk.specs.declared.fault.StoreFault.TheVariants.{Fault};
-ghost use Rattle.ctr_disk.specs.declared.disk.File.TheVariants.{Root as RootFile};
+ghost use Rattle.ctr_types.specs.declared.file.File.TheVariants.{Root as RootFile};
 ghost use Rattle.ctr_disk.specs.Device.{LeavesOnly, IsDurable, IsSettled, OnlyReads, Counts, CountsAs};
 ghost use Rattle.ctr_log.specs.Damage.{IsDamageOf, Differs};
 ghost use Rattle.ctr_log.specs.Homes.{place, block_of, home_in, opened, root_value, root_block, Passes, BlockSays, Answers, IsAbove, chosen_in, IsShut, KeepsHome, MakesHome, KeepsOrMakesHome, IsOldOrNewRoot, IsNewRoot};
 
 use crate::damage::{at_least, at_most, same};
 use ctr_bytes::{get_u8, get_u32, get_u64, put_u8, put_u32, put_u64};
-use ctr_disk::{Disk, Failed, File, Root, Stamp, StoreFault, write_through};
+use ctr_disk::{Disk, Failed, Root, Stamp, StoreFault, write_through};
+use ctr_types::File;
 
 /// The bytes `CTRDB001` as a number in 8 bytes.
 const MAGIC: u64 = 0x3130_3042_4452_5443;

@@ -1,6 +1,6 @@
 // A file of the log and its writer: a batch is flushed whole or not at all.
 ghost use Rattle.std.specs.Prelude.{◌≡◌, ◌≤◌, ◌<◌, ◌+◌, ◌-◌, ◌^◌, IsTrue, ℕ, List, [], ◌∷◌, ◌++◌, length, take, drop, vec_len, vec_capacity, ◌⊎◌, Err, IfOk, IfErr, OnOk, OnErr};
-ghost use Rattle.ctr_disk.specs.declared.disk.File.TheVariants.{LogA};
+ghost use Rattle.ctr_types.specs.declared.file.File.TheVariants.{LogA};
 ghost use Rattle.ctr_disk.specs.declared.fault.StoreFault.TheVariants.{Fault};
 ghost use Rattle.ctr_disk.specs.Image.{content, OtherFilesStay};
 ghost use Rattle.ctr_disk.specs.Crash.{Only, HasCause, HasFault, StraysOnlyPast};
@@ -13,8 +13,8 @@ ghost use Rattle.ctr_log.specs.Logs.{Batches, headed, sealed, frame, frames, rec
 use crate::near::find_log;
 use crate::reading::ReadError;
 use ctr_bytes::{put_u32, put_u64};
-use ctr_disk::{Disk, Failed, File, Root, StoreFault, write_through};
-use ctr_types::{List, OutOfMemory, Text};
+use ctr_disk::{Disk, Failed, Root, StoreFault, write_through};
+use ctr_types::{File, List, OutOfMemory, Text};
 use std::alloc::{AllocError, Global};
 use std::marker::Model;
 

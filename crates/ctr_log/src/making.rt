@@ -9,7 +9,8 @@ ghost use Rattle.ctr_log.specs.Fresh.{IsFresh, IsNoneOrFresh, IsReady, AreEmptie
 
 use crate::home::{is_open, write_root};
 use crate::log::write_batch;
-use ctr_disk::{Disk, Failed, File, Root, StoreFault};
+use ctr_disk::{Disk, Failed, Root, StoreFault};
+use ctr_types::File;
 
 /// How the making of a database ended.
 #[derive(Clone, Copy, Debug, PartialEq, Eq)]

@@ -11,7 +11,8 @@ ghost use Rattle.ctr_log.specs.Reading.{IsFront, HasShortLog, RefusesOrFails, Re
 use crate::log::Lsn;
 use crate::reading::{Found, ReadError, read_log};
 use ctr_bytes::get_u64;
-use ctr_disk::{Disk, Failed, File, StoreFault};
+use ctr_disk::{Disk, Failed, StoreFault};
+use ctr_types::File;
 use std::alloc::Global;
 
 // From here on gates aren't looked at, and the file is read whole.

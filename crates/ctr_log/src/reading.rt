@@ -9,8 +9,8 @@ ghost use Rattle.ctr_log.specs.Reading.{RefusesLog, BeginsWithFrame, AreFrames, 
 use crate::damage::{at_least, at_most, same};
 use crate::log::Lsn;
 use ctr_bytes::{get_u32, get_u64};
-use ctr_disk::{Failed, File, StoreFault};
-use ctr_types::{List, Text};
+use ctr_disk::{Failed, StoreFault};
+use ctr_types::{File, List, Text};
 use std::alloc::{AllocError, AllocFailed, Global};
 
 /// Reading ended before the log's end was found.

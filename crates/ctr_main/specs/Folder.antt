@@ -1,7 +1,7 @@
 -- What a folder keeps of its files: which may hold what didn't reach the disk.
 use Rattle.std.specs.Prelude.{◌≡◌, Bool, true, false, Option, None, Some}
-use Rattle.ctr_disk.specs.declared.disk.File.{File}
-use Rattle.ctr_disk.specs.declared.disk.File.TheVariants.{Root, LogA, LogB, Pages}
+use Rattle.ctr_types.specs.declared.file.File.{File}
+use Rattle.ctr_types.specs.declared.file.File.TheVariants.{Root, LogA, LogB, Pages}
 use Rattle.ctr_main.specs.declared.folder.Folder.{Folder}
 use Rattle.ctr_main.specs.declared.marked.Marked.{Marked}
 

@@ -3,7 +3,8 @@ ghost use Rattle.std.specs.Prelude.{[], false};
 ghost use Rattle.ctr_disk.specs.Silent.{never_told};
 
 use crate::folder::Folder;
-use ctr_disk::{Disk, Failed, File as Which};
+use ctr_disk::{Disk, Failed};
+use ctr_types::File as Which;
 use std::alloc::Global;
 use std::fs::File;
 use std::rt::Files;

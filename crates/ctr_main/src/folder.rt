@@ -3,7 +3,8 @@ ghost use Rattle.std.specs.Prelude.{◌≡◌, true, false, OnOk, OnErr};
 ghost use Rattle.ctr_main.specs.Folder.{is_unsynced, IsUnsynced, KeepsInMind, IsSynced, SyncsNames};
 
 use crate::marked::Marked;
-use ctr_disk::{Failed, File as Which};
+use ctr_disk::Failed;
+use ctr_types::File as Which;
 use std::alloc::Global;
 use std::fs::{self, File, OpenOptions};
 use std::io::ErrorKind;

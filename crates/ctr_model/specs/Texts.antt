@@ -12,8 +12,8 @@ use Rattle.ctr_types.specs.declared.tape.Reply.TheVariants as reply
 use Rattle.ctr_types.specs.declared.tape.Refusal.{Refusal}
 use Rattle.ctr_types.specs.declared.tape.Refusal.TheVariants as refusal
 use Rattle.ctr_types.specs.declared.tape.Entry.{Entry}
-use Rattle.ctr_disk.specs.declared.disk.File.{File}
-use Rattle.ctr_disk.specs.declared.disk.File.TheVariants as file
+use Rattle.ctr_types.specs.declared.file.File.{File}
+use Rattle.ctr_types.specs.declared.file.File.TheVariants as file
 use Rattle.ctr_model.specs.declared.tape.Cause.{Cause}
 use Rattle.ctr_model.specs.declared.tape.Cause.TheVariants as cause
 use Rattle.ctr_model.specs.declared.tape.Report.{Report}

@@ -1,6 +1,6 @@
 // Where a tape has led, and what a run reports at its end.
 use crate::{Map, State};
-use ctr_disk::File;
+use ctr_types::File;
 
 /// How far a session is in its statements.
 #[derive(Clone, Copy, Debug, PartialEq, Eq)]

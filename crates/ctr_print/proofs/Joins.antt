@@ -1,51 +1,91 @@
--- Two puts are one.
-use Rattle.std.proofs.Common.{◌≡◌, ◌≤◌, Bool, true, false, List, ℕ, [], ◌++◌, refl, sym, ◌∙◌, ap, subst, append_assoc, arith}
-use Rattle.std.proofs.lemmas.List.{append-nil}
+-- Two texts printed are one, and what a printer's own calls leave.
+use Rattle.std.proofs.Common.{◌≡◌, Bool, true, false, List, ℕ, [], ◌++◌, take, drop, refl, sym, ◌∙◌, ap, subst, append_assoc}
+use Rattle.std.proofs.lemmas.List.{append-nil, take-append-drop}
 use Rattle.ctr_disk.specs.Crash.{CountsFault}
 use Rattle.ctr_disk.specs.declared.edges.Sink.{Ghosts}
-use Rattle.ctr_print.specs.Prints.{Prints, PutsOn}
+use Rattle.ctr_print.specs.declared.printer.Printer.{Printer}
+use Rattle.ctr_print.specs.Prints.{IsPart, IsAt, Adds, Sends, PutsOn}
+
+-- the same text, spelled otherwise
+pub put_as : {K : Type 0} {g : Ghosts K} {old new : Printer K} {x y : List ℕ} → x ≡ y → Adds g x old new → Adds g y old new
+put_as {K} {g} {old} {new} is p = subst (λ (t : List ℕ). Adds g t old new) is p
+
+pub both : {K : Type 0} {g : Ghosts K} {old mid new : Printer K} {x y : List ℕ} → Adds g x old mid → Adds g y mid new → Adds g (x ++ y) old new
+both {K} {g} {old} {mid} {new} {x} {y} p q = record {
+  same_reference = q.same_reference ∙ p.same_reference;
+  adds = λ start before at. subst (λ (t : List ℕ). IsAt g start t new) (append_assoc before x y) (q.adds start (before ++ x) (p.adds start before at));
+}
+
+-- nothing is printed
+pub nothing_put : {K : Type 0} {g : Ghosts K} {p : Printer K} → Adds g [] p p
+nothing_put {K} {g} {p} = record {
+  same_reference = refl;
+  adds = λ start before at. subst (λ (t : List ℕ). IsAt g start t p) (sym (append-nil before)) at;
+}
+
+-- ---- a printer's own calls
 
 known : {A : Type 0} (b : Bool) → (b ≡ true → A) → (b ≡ false → A) → A
 known true at_true at_false = at_true refl
 known false at_true at_false = at_false refl
 
-pub prints_both : {old mid new x y : List ℕ} {a b c : Bool} → Prints old a x mid b → Prints mid b y new c → Prints old a (x ++ y) new c
-prints_both {old} {mid} {new} {x} {y} {a} {b} {c} p q = record {
-  whole = λ d. q.whole d ∙ ap (λ (l : List ℕ). l ++ y) (p.whole (q.kept d)) ∙ append_assoc old x y;
-  kept = λ d. p.kept (q.kept d);
-  front = known b
-      (λ fine. (x ++ q.front.0, q.front.1, ap (λ (l : List ℕ). x ++ l) q.front.2 ∙ sym (append_assoc x q.front.0 q.front.1), q.front.3 ∙ ap (λ (l : List ℕ). l ++ q.front.0) (p.whole fine) ∙ append_assoc old x q.front.0))
-      (λ broke. (p.front.0, p.front.1 ++ y, ap (λ (l : List ℕ). l ++ y) p.front.2 ∙ append_assoc p.front.0 p.front.1 y, q.stays broke ∙ p.front.3));
-  stays = λ f. known b (λ t. absurd (cc (f, p.kept t))) (λ n. q.stays n ∙ p.stays f);
+-- what waits is sent, and more behind it
+pub sent : {K : Type 0} {g : Ghosts K} {old new : Printer K} {more bytes : List ℕ} → Sends g old.sink.now old.fine bytes new.sink.now new.fine → bytes ≡ old.waiting.items ++ more
+    → new.waiting.items ≡ [] → new.sink.ghost_name ≡ old.sink.ghost_name → Adds g more old new
+sent {K} {g} {old} {new} {more} {bytes} s is none same = record {
+  same_reference = same;
+  adds = λ start text at. known old.fine
+      (λ fine. let p = s.puts fine in record {
+        told = λ t. let part = at.told t in
+            let all : text ++ more ≡ part.sent ++ bytes = ap (λ (l : List ℕ). l ++ more) (part.text_is ∙ ap (λ (l : List ℕ). part.sent ++ l) (part.waits fine)) ∙ append_assoc part.sent old.waiting.items more ∙ ap (λ (l : List ℕ). part.sent ++ l) (sym is) in
+            known new.fine
+            (λ done. record {
+              sent = part.sent ++ bytes;
+              rest = [];
+              text_is = all ∙ sym (append-nil (part.sent ++ bytes));
+              taken = p.whole t done ∙ ap (λ (l : List ℕ). l ++ bytes) part.taken ∙ append_assoc (g.taken start) part.sent bytes;
+              waits = λ _. sym none;
+            })
+            (λ failed. let front = p.front t in record {
+              sent = part.sent ++ front.0;
+              rest = front.1;
+              text_is = all ∙ ap (λ (l : List ℕ). part.sent ++ l) front.2 ∙ sym (append_assoc part.sent front.0 front.1);
+              taken = front.3 ∙ ap (λ (l : List ℕ). l ++ front.0) part.taken ∙ append_assoc (g.taken start) part.sent front.0;
+              waits = λ done. absurd (cc (done, failed));
+            });
+        calm = λ done. p.calm done ∙ at.calm fine;
+        cause = λ failed. subst (λ n. CountsFault n (g.faults_of new.sink.now)) (at.calm fine) (p.cause failed);
+      })
+      (λ broke. let stays = s.stays broke in record {
+        told = λ t. let part = at.told t in record {
+          sent = part.sent;
+          rest = part.rest ++ more;
+          text_is = ap (λ (l : List ℕ). l ++ more) part.text_is ∙ append_assoc part.sent part.rest more;
+          taken = ap g.taken stays.1 ∙ part.taken;
+          waits = λ done. absurd (cc (done, stays.0));
+        };
+        calm = λ done. absurd (cc (done, stays.0));
+        cause = λ _. subst (λ s. CountsFault (g.faults_of start) (g.faults_of s)) (sym stays.1) (at.cause broke);
+      });
 }
 
-rose_then : (a b c : ℕ) → CountsFault a b → b ≤ c → CountsFault a c
-rose_then a b c rose le = omega arith
+-- what waits is sent, and that was all
+pub finished : {K : Type 0} {g : Ghosts K} {start now : K} {text : List ℕ} {p : Printer K} {done : Bool} → Sends g p.sink.now p.fine p.waiting.items now done → IsAt g start text p
+    → PutsOn g start text now done
+finished {K} {g} {start} {now} {text} {p} {done} s at =
+    let end : Printer K = record p { sink = record p.sink { now = now }; waiting = record { items = [] }; fine = done } in
+    let adds : Adds g [] p end = sent s (sym (append-nil p.waiting.items)) refl refl in
+    let ended : IsAt g start text end = subst (λ (t : List ℕ). IsAt g start t end) (append-nil text) (adds.adds start text at) in
+    record {
+      whole = λ told fine. let part = ended.told told in
+          part.taken ∙ ap (λ (l : List ℕ). g.taken start ++ l) (sym (part.text_is ∙ ap (λ (l : List ℕ). part.sent ++ l) (part.waits fine) ∙ append-nil part.sent));
+      front = λ told. let part = ended.told told in (part.sent, part.rest, part.text_is, part.taken);
+      calm = ended.calm;
+      cause = ended.cause;
+    }
 
-then_rose : (a b c : ℕ) → a ≤ b → CountsFault b c → CountsFault a c
-then_rose a b c le rose = omega arith
-
-pub both : {S : Type 0} {g : Ghosts S} {old mid new : S} {x y : List ℕ} {a b c : Bool} → PutsOn g old a x mid b → PutsOn g mid b y new c → PutsOn g old a (x ++ y) new c
-both {S} {g} {old} {mid} {new} {x} {y} {a} {b} {c} p q = record {
-  told = λ t. prints_both (p.told t) (q.told t);
-  kept = λ d. p.kept (q.kept d);
-  stays = λ f. known b (λ t. absurd (cc (f, p.kept t))) (λ n. q.stays n ∙ p.stays f);
-  later = omega (arith, p.later, q.later);
-  cause = λ f d. known b (λ t. then_rose (g.faults_of old) (g.faults_of mid) (g.faults_of new) p.later (q.cause t d)) (λ n. rose_then (g.faults_of old) (g.faults_of mid) (g.faults_of new) (p.cause f n) q.later);
-  calm = λ d. q.calm d ∙ p.calm (q.kept d);
-}
-
--- the same text, spelled otherwise
-pub put_as : {S : Type 0} {g : Ghosts S} {old new : S} {x y : List ℕ} {a b : Bool} → x ≡ y → PutsOn g old a x new b → PutsOn g old a y new b
-put_as {S} {g} {old} {new} {x} {y} {a} {b} is p = subst (λ (t : List ℕ). PutsOn g old a t new b) is p
-
--- nothing is put
-pub nothing_put : {S : Type 0} {g : Ghosts S} {s : S} {a : Bool} → PutsOn g s a [] s a
-nothing_put {S} {g} {s} {a} = record {
-  told = λ t. record { whole = λ d. search append-nil; kept = λ d. d; front = ([], [], refl, search append-nil); stays = λ f. refl };
-  kept = λ d. d;
-  stays = λ f. refl;
-  later = omega arith;
-  cause = λ f d. absurd (cc (f, d));
-  calm = λ d. refl;
-}
+-- the bytes are taken apart, the front is kept behind what waits, that is put, and the rest is printed
+pub in_two : {K : Type 0} {g : Ghosts K} {old kept put new : Printer K} (n : ℕ) {front rest bytes : List ℕ} → front ≡ take n bytes → rest ≡ drop n bytes
+    → Adds g front old kept → Adds g [] kept put → Adds g rest put new → Adds g bytes old new
+in_two {K} {g} {old} {kept} {put} {new} n {front} {rest} {bytes} front_is rest_is keeps puts adds =
+    put_as (ap (λ (l : List ℕ). l ++ rest) front_is ∙ ap (λ (l : List ℕ). take n bytes ++ l) rest_is ∙ take-append-drop n bytes) (both keeps (both puts adds))

@@ -1,37 +1,50 @@
 -- What printing a text leaves on a sink.
-use Rattle.std.specs.Prelude.{◌≡◌, ◌≤◌, ℕ, Bool, true, false, IsTrue, Result, MatchResult, List, ◌++◌}
+use Rattle.std.specs.Prelude.{◌≡◌, ℕ, Bool, true, false, IsTrue, Result, MatchResult, List, ◌++◌}
 use Rattle.ctr_disk.specs.Crash.{CountsFault}
 use Rattle.ctr_disk.specs.declared.edges.Sink.{Ghosts}
+use Rattle.ctr_print.specs.declared.printer.Printer.{Printer}
 
 -- a prefix of the text was put, and nothing else
-abbrev pub IsFrontPut : List ℕ → List ℕ → List ℕ → Type 0
-IsFrontPut old text new = (front : List ℕ) × (rest : List ℕ) × (text ≡ front ++ rest)
+abbrev pub IsPrefixPut : List ℕ → List ℕ → List ℕ → Type 0
+IsPrefixPut old text new = (front : List ℕ) × (rest : List ℕ) × (text ≡ front ++ rest)
     × (new ≡ old ++ front)
 
 -- all of the text was put, or where that failed a prefix of it
 abbrev pub Printed : {E : Type 0} → List ℕ → List ℕ → List ℕ → Result (Unit {0}) E → Type 0
 Printed old text new result =
-    MatchResult result (λ _. new ≡ old ++ text) (λ _. IsFrontPut old text new)
+    MatchResult result (λ _. new ≡ old ++ text) (λ _. IsPrefixPut old text new)
 
--- What a sink has taken before and after a text was put on it. `fine` says whether all was well so
--- far, and `done` whether it still is.
-pub record Prints (old : List ℕ) (fine : Bool) (text new : List ℕ) (done : Bool) : Type 0 where
-  -- where all is well, the whole text was put
-  pub whole : done ≡ true → new ≡ old ++ text
-  -- and all was well before
-  pub kept : done ≡ true → fine ≡ true
-  pub front : IsFrontPut old text new
-  -- where it wasn't, nothing was put
-  pub stays : fine ≡ false → new ≡ old
+-- A part of the text was put, and where all is well the rest waits.
+pub record IsPart (old text new waiting : List ℕ) (fine : Bool) : Type 0 where
+  pub sent : List ℕ
+  pub rest : List ℕ
+  pub text_is : text ≡ sent ++ rest
+  pub taken : new ≡ old ++ sent
+  pub waits : fine ≡ true → rest ≡ waiting
 
--- The same of a sink, with the cause where it is no longer well: a put failed, and was counted.
-pub record PutsOn {S : Type 0} (g : Ghosts S) (old : S) (fine : Bool) (text : List ℕ) (new : S) (done : Bool)
+-- The printer was begun on this sink, and this text is what it has printed since. Where it is no longer
+-- well a put has failed, and was counted.
+pub record IsAt {K : Type 0} (g : Ghosts K) (start : K) (text : List ℕ) (p : Printer K) : Type 0 where
+  pub told : IsTrue g.tells → IsPart (g.taken start) text (g.taken p.sink.now) p.waiting.items p.fine
+  pub calm : p.fine ≡ true → g.faults_of p.sink.now ≡ g.faults_of start
+  pub cause : p.fine ≡ false → CountsFault (g.faults_of start) (g.faults_of p.sink.now)
+
+-- the text is printed behind what was, on the same sink
+pub record Adds {K : Type 0} (g : Ghosts K) (text : List ℕ) (old new : Printer K) : Type 0 where
+  pub same_reference : new.sink.ghost_name ≡ old.sink.ghost_name
+  pub adds : (start : K) (before : List ℕ) → IsAt g start before old → IsAt g start (before ++ text) new
+
+-- What a sink has taken before and after a text was printed on it: all of it where that is done, else a
+-- prefix, and a put has failed and was counted.
+pub record PutsOn {K : Type 0} (g : Ghosts K) (old : K) (text : List ℕ) (new : K) (done : Bool)
     : Type 0 where
-  pub told : IsTrue g.tells → Prints (g.taken old) fine text (g.taken new) done
-  pub kept : done ≡ true → fine ≡ true
-  -- after a failed put the sink isn't called again
-  pub stays : fine ≡ false → new ≡ old
-  pub later : g.faults_of old ≤ g.faults_of new
-  pub cause : fine ≡ true → done ≡ false → CountsFault (g.faults_of old) (g.faults_of new)
-  -- where all is well, no put has failed
+  pub whole : IsTrue g.tells → done ≡ true → g.taken new ≡ g.taken old ++ text
+  pub front : IsTrue g.tells → IsPrefixPut (g.taken old) text (g.taken new)
   pub calm : done ≡ true → g.faults_of new ≡ g.faults_of old
+  pub cause : done ≡ false → CountsFault (g.faults_of old) (g.faults_of new)
+
+-- The same, unless all was no longer well before: then nothing is put.
+pub record Sends {K : Type 0} (g : Ghosts K) (old : K) (fine : Bool) (bytes : List ℕ) (new : K) (done : Bool)
+    : Type 0 where
+  pub puts : fine ≡ true → PutsOn g old bytes new done
+  pub stays : fine ≡ false → (done ≡ false) × (new ≡ old)

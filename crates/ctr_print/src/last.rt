@@ -1,22 +1,21 @@
 // The last line of a run on a sink.
 ghost use Rattle.std.specs.Prelude.{◌≡◌};
 ghost use Rattle.ctr_model.specs.Texts.{success_line, file_text, script_line, damage_line, worn_line, last_line, report_line, end_line, load_line};
-ghost use Rattle.ctr_print.specs.Prints.{PutsOn};
+ghost use Rattle.ctr_print.specs.Prints.{Adds};
 
 use crate::count::{count_answers, count_refusals};
 use crate::piece::Piece;
 use crate::pieces::put_pieces;
-use crate::put::put_on;
-use ctr_disk::{File, Sink};
+use crate::printer::Printer;
+use ctr_disk::Sink;
 use ctr_model::{Cause, Command, Report, Survey};
-use ctr_types::Tape;
+use ctr_types::{File, Tape};
 
-fn put_end<K: Sink>(sink: &mut K, fine: bool, tape: &Tape, report: &Report) -> bool
-    ensures { PutsOn K.Sink sink.old fine (end_line tape.now.entries report.now) sink.new result }
+fn put_end<K: Sink>(out: &mut Printer<K>, tape: &Tape, report: &Report)
+    ensures { Adds K.Sink (end_line tape.now.entries report.now) out.old out.new }
 {
     put_pieces(
-        sink,
-        fine,
+        out,
         &[
             Piece::Bytes(b"end: commits "),
             Piece::Number(count_answers(tape)),
@@ -30,18 +29,16 @@ fn put_end<K: Sink>(sink: &mut K, fine: bool, tape: &Tape, report: &Report) -> b
 }
 
 fn put_load<K: Sink>(
-    sink: &mut K,
-    fine: bool,
+    out: &mut Printer<K>,
     sessions: u64,
     statements: u64,
     tape: &Tape,
     report: &Report,
-) -> bool
-    ensures { PutsOn K.Sink sink.old fine (load_line sessions statements tape.now.entries report.now) sink.new result }
+)
+    ensures { Adds K.Sink (load_line sessions statements tape.now.entries report.now) out.old out.new }
 {
     put_pieces(
-        sink,
-        fine,
+        out,
         &[
             Piece::Bytes(b"load: sessions "),
             Piece::Number(sessions),
@@ -60,12 +57,11 @@ fn put_load<K: Sink>(
     )
 }
 
-fn put_report<K: Sink>(sink: &mut K, fine: bool, survey: &Survey) -> bool
-    ensures { PutsOn K.Sink sink.old fine (report_line survey.now) sink.new result }
+fn put_report<K: Sink>(out: &mut Printer<K>, survey: &Survey)
+    ensures { Adds K.Sink (report_line survey.now) out.old out.new }
 {
     put_pieces(
-        sink,
-        fine,
+        out,
         &[
             Piece::Bytes(b"report: tables "),
             Piece::Number(survey.tables),
@@ -82,35 +78,28 @@ fn put_report<K: Sink>(sink: &mut K, fine: bool, survey: &Survey) -> bool
     )
 }
 
-fn put_success<K: Sink>(
-    sink: &mut K,
-    fine: bool,
-    command: &Command,
-    tape: &Tape,
-    report: &Report,
-) -> bool
-    ensures { PutsOn K.Sink sink.old fine (success_line command.now tape.now.entries report.now) sink.new result }
+fn put_success<K: Sink>(out: &mut Printer<K>, command: &Command, tape: &Tape, report: &Report)
+    ensures { Adds K.Sink (success_line command.now tape.now.entries report.now) out.old out.new }
 {
     match command {
-        Command::Init => put_on(sink, fine, b"init: done\n"),
-        Command::Run => put_end(sink, fine, tape, report),
+        Command::Init => out.put(b"init: done\n"),
+        Command::Run => put_end(out, tape, report),
         Command::Load {
             sessions,
             statements,
-        } => put_load(sink, fine, *sessions, *statements, tape, report),
-        Command::Survey { start } => put_report(sink, fine, start),
+        } => put_load(out, *sessions, *statements, tape, report),
+        Command::Survey { start } => put_report(out, start),
     }
 }
 
-fn put_script<K: Sink>(sink: &mut K, fine: bool, cause: &Cause) -> bool
-    ensures { PutsOn K.Sink sink.old fine (script_line cause.now) sink.new result }
+fn put_script<K: Sink>(out: &mut Printer<K>, cause: &Cause)
+    ensures { Adds K.Sink (script_line cause.now) out.old out.new }
 {
     let Cause::Script { line, at } = cause else {
-        return put_on(sink, fine, b"ctr: script too long\n");
+        return out.put(b"ctr: script too long\n");
     };
     put_pieces(
-        sink,
-        fine,
+        out,
         &[
             Piece::Bytes(b"ctr: script refused at line "),
             Piece::Number(*line),
@@ -132,8 +121,8 @@ fn name_of(file: File) -> &'static [u8]
     }
 }
 
-fn put_damage<K: Sink>(sink: &mut K, fine: bool, cause: &Cause) -> bool
-    ensures { PutsOn K.Sink sink.old fine (damage_line cause.now) sink.new result }
+fn put_damage<K: Sink>(out: &mut Printer<K>, cause: &Cause)
+    ensures { Adds K.Sink (damage_line cause.now) out.old out.new }
 {
     let Cause::Damaged {
         file,
@@ -142,11 +131,10 @@ fn put_damage<K: Sink>(sink: &mut K, fine: bool, cause: &Cause) -> bool
         got,
     } = cause
     else {
-        return fine;
+        return;
     };
     put_pieces(
-        sink,
-        fine,
+        out,
         &[
             Piece::Bytes(b"ctr: damaged "),
             Piece::Bytes(name_of(*file)),
@@ -161,15 +149,14 @@ fn put_damage<K: Sink>(sink: &mut K, fine: bool, cause: &Cause) -> bool
     )
 }
 
-fn put_worn<K: Sink>(sink: &mut K, fine: bool, cause: &Cause) -> bool
-    ensures { PutsOn K.Sink sink.old fine (worn_line cause.now) sink.new result }
+fn put_worn<K: Sink>(out: &mut Printer<K>, cause: &Cause)
+    ensures { Adds K.Sink (worn_line cause.now) out.old out.new }
 {
     let Cause::Worn { number } = cause else {
-        return fine;
+        return;
     };
     put_pieces(
-        sink,
-        fine,
+        out,
         &[
             Piece::Bytes(b"ctr: worn at "),
             Piece::Number(*number),
@@ -180,27 +167,26 @@ fn put_worn<K: Sink>(sink: &mut K, fine: bool, cause: &Cause) -> bool
 
 /// Puts the last line of a run that ends with this status. Status 7, a sink that failed, has none.
 pub fn put_last_line<K: Sink>(
-    sink: &mut K,
-    fine: bool,
+    out: &mut Printer<K>,
     command: &Command,
     status: u8,
     cause: &Cause,
     tape: &Tape,
     report: &Report,
-) -> bool
-    ensures { PutsOn K.Sink sink.old fine (last_line command.now status cause.now tape.now.entries report.now) sink.new result }
+)
+    ensures { Adds K.Sink (last_line command.now status cause.now tape.now.entries report.now) out.old out.new }
 {
     match status {
-        0 => put_success(sink, fine, command, tape, report),
-        1 => put_script(sink, fine, cause),
-        2 => put_on(sink, fine, b"ctr: usage\n"),
-        3 => put_on(sink, fine, b"ctr: no database\n"),
-        4 => put_damage(sink, fine, cause),
-        5 => put_on(sink, fine, b"ctr: disk fault\n"),
-        6 => put_on(sink, fine, b"ctr: read fault\n"),
-        8 => put_on(sink, fine, b"ctr: out of memory\n"),
-        9 => put_on(sink, fine, b"ctr: database exists\n"),
-        10 => put_worn(sink, fine, cause),
-        _ => fine,
+        0 => put_success(out, command, tape, report),
+        1 => put_script(out, cause),
+        2 => out.put(b"ctr: usage\n"),
+        3 => out.put(b"ctr: no database\n"),
+        4 => put_damage(out, cause),
+        5 => out.put(b"ctr: disk fault\n"),
+        6 => out.put(b"ctr: read fault\n"),
+        8 => out.put(b"ctr: out of memory\n"),
+        9 => out.put(b"ctr: database exists\n"),
+        10 => put_worn(out, cause),
+        _ => {}
     }
 }

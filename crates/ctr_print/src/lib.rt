@@ -1,7 +1,7 @@
 //! Texts on a sink: rows, the transcript of a tape, and the last line of a run.
 //!
-//! Nothing here takes memory. Each function takes the sink and whether all was well so far, and says
-//! whether it still is. After a put that failed nothing more is put.
+//! Nothing here takes memory. A `Printer` gathers what is printed into pieces for its sink; after a put
+//! that failed nothing more is put.
 #![tactic(auto)]
 
 mod count;
@@ -10,7 +10,7 @@ mod last;
 mod line;
 mod piece;
 mod pieces;
-mod put;
+mod printer;
 mod refusal;
 mod value;
 
@@ -18,6 +18,6 @@ pub use count::{count_answers, count_refusals};
 pub use last::put_last_line;
 pub use line::{put_entry, put_transcript};
 pub use pieces::put_number;
-pub use put::{put_all, put_on};
+pub use printer::Printer;
 pub use refusal::put_refusal;
 pub use value::{put_quoted, put_row, put_row_line, put_value, put_values};

@@ -1,25 +1,24 @@
 // The transcript of a tape on a sink.
 ghost use Rattle.std.specs.Prelude.{[], ◌++◌, codes};
 ghost use Rattle.ctr_model.specs.Texts.{entry_head, entry_line, entry_text, reply_text, release_line, refusal_text, row_line, transcript};
-ghost use Rattle.ctr_print.specs.Prints.{PutsOn};
+ghost use Rattle.ctr_print.specs.Prints.{Adds};
 ghost use Rattle.ctr_print.specs.Pieces.{joined};
 
 use crate::form::{Form, put_each};
 use crate::piece::Piece;
 use crate::pieces::put_pieces;
-use crate::put::put_on;
+use crate::printer::Printer;
 use crate::refusal::put_refusal;
 use crate::value::put_row_line;
 use ctr_disk::Sink;
 use ctr_types::{Act, Entry, Refusal, Reply, Row, Rows, Tape};
 
 // Who was answered.
-fn put_head<K: Sink>(sink: &mut K, fine: bool, entry: &Entry) -> bool
-    ensures { PutsOn K.Sink sink.old fine (entry_head entry.now) sink.new result }
+fn put_head<K: Sink>(out: &mut Printer<K>, entry: &Entry)
+    ensures { Adds K.Sink (entry_head entry.now) out.old out.new }
 {
     put_pieces(
-        sink,
-        fine,
+        out,
         &[
             Piece::Number(u64::from(entry.session)),
             Piece::Bytes(b"."),
@@ -30,21 +29,21 @@ fn put_head<K: Sink>(sink: &mut K, fine: bool, entry: &Entry) -> bool
 }
 
 // A line of an entry.
-fn put_line<K: Sink>(sink: &mut K, fine: bool, entry: &Entry, pieces: &[Piece]) -> bool
-    ensures { PutsOn K.Sink sink.old fine (entry_line entry.now (joined [] pieces.now)) sink.new result }
+fn put_line<K: Sink>(out: &mut Printer<K>, entry: &Entry, pieces: &[Piece])
+    ensures { Adds K.Sink (entry_line entry.now (joined [] pieces.now)) out.old out.new }
 {
-    let fine = put_head(sink, fine, entry);
-    let fine = put_pieces(sink, fine, pieces);
-    put_on(sink, fine, b"\n")
+    put_head(out, entry);
+    put_pieces(out, pieces);
+    out.put(b"\n");
 }
 
-fn put_refused<K: Sink>(sink: &mut K, fine: bool, entry: &Entry, refusal: Refusal) -> bool
-    ensures { PutsOn K.Sink sink.old fine (entry_line entry.now (codes "refused " ++ refusal_text refusal)) sink.new result }
+fn put_refused<K: Sink>(out: &mut Printer<K>, entry: &Entry, refusal: Refusal)
+    ensures { Adds K.Sink (entry_line entry.now (codes "refused " ++ refusal_text refusal)) out.old out.new }
 {
-    let fine = put_head(sink, fine, entry);
-    let fine = put_on(sink, fine, b"refused ");
-    let fine = put_refusal(sink, fine, refusal);
-    put_on(sink, fine, b"\n")
+    put_head(out, entry);
+    out.put(b"refused ");
+    put_refusal(out, refusal);
+    out.put(b"\n");
 }
 
 struct RowLine;
@@ -52,35 +51,29 @@ struct RowLine;
 impl Form<Row> for RowLine {
     ghost text = { row_line };
 
-    fn put<K: Sink>(sink: &mut K, fine: bool, row: &Row) -> bool {
-        put_row_line(sink, fine, row)
+    fn put<K: Sink>(out: &mut Printer<K>, row: &Row) {
+        put_row_line(out, row);
     }
 }
 
-fn put_rows<K: Sink>(sink: &mut K, fine: bool, entry: &Entry, rows: &Rows) -> bool
-    ensures { PutsOn K.Sink sink.old fine (reply_text entry.now (Reply.Rows rows.now)) sink.new result }
+fn put_rows<K: Sink>(out: &mut Printer<K>, entry: &Entry, rows: &Rows)
+    ensures { Adds K.Sink (reply_text entry.now (Reply.Rows rows.now)) out.old out.new }
 {
     let rows = rows.rows.as_slice();
     let count = rows.len() as u64;
-    let fine = put_line(
-        sink,
-        fine,
-        entry,
-        &[Piece::Bytes(b"rows "), Piece::Number(count)],
-    );
-    put_each::<RowLine, Row, K>(sink, fine, rows)
+    put_line(out, entry, &[Piece::Bytes(b"rows "), Piece::Number(count)]);
+    put_each::<RowLine, Row, K>(out, rows);
 }
 
 // That recovery gave the name of a table free.
-fn put_release<K: Sink>(sink: &mut K, fine: bool, act: &Act) -> bool
-    ensures { PutsOn K.Sink sink.old fine (release_line act.now) sink.new result }
+fn put_release<K: Sink>(out: &mut Printer<K>, act: &Act)
+    ensures { Adds K.Sink (release_line act.now) out.old out.new }
 {
     let Act::Release { name } = act else {
-        return fine;
+        return;
     };
     put_pieces(
-        sink,
-        fine,
+        out,
         &[
             Piece::Bytes(b"recovery: released "),
             Piece::Bytes(name.as_slice()),
@@ -90,30 +83,28 @@ fn put_release<K: Sink>(sink: &mut K, fine: bool, act: &Act) -> bool
 }
 
 /// Puts what the transcript shows of an entry.
-pub fn put_entry<K: Sink>(sink: &mut K, fine: bool, entry: &Entry) -> bool
-    ensures { PutsOn K.Sink sink.old fine (entry_text entry.now) sink.new result }
+pub fn put_entry<K: Sink>(out: &mut Printer<K>, entry: &Entry)
+    ensures { Adds K.Sink (entry_text entry.now) out.old out.new }
 {
     match &entry.reply {
         Reply::Began { n } => put_line(
-            sink,
-            fine,
+            out,
             entry,
             &[Piece::Bytes(b"begin at "), Piece::Number(*n)],
         ),
-        Reply::Granted => fine,
-        Reply::Rows { rows } => put_rows(sink, fine, entry, rows),
-        Reply::Done => put_line(sink, fine, entry, &[Piece::Bytes(b"done")]),
-        Reply::Asked { .. } => fine,
-        Reply::ReadOnly => put_line(sink, fine, entry, &[Piece::Bytes(b"commit none")]),
+        Reply::Granted => {}
+        Reply::Rows { rows } => put_rows(out, entry, rows),
+        Reply::Done => put_line(out, entry, &[Piece::Bytes(b"done")]),
+        Reply::Asked { .. } => {}
+        Reply::ReadOnly => put_line(out, entry, &[Piece::Bytes(b"commit none")]),
         Reply::Answered { k } => put_line(
-            sink,
-            fine,
+            out,
             entry,
             &[Piece::Bytes(b"commit "), Piece::Number(*k)],
         ),
-        Reply::RolledBack => put_line(sink, fine, entry, &[Piece::Bytes(b"rolled back")]),
-        Reply::Released => put_release(sink, fine, &entry.act),
-        Reply::Refused { refusal } => put_refused(sink, fine, entry, *refusal),
+        Reply::RolledBack => put_line(out, entry, &[Piece::Bytes(b"rolled back")]),
+        Reply::Released => put_release(out, &entry.act),
+        Reply::Refused { refusal } => put_refused(out, entry, *refusal),
     }
 }
 
@@ -122,14 +113,14 @@ struct Shown;
 impl Form<Entry> for Shown {
     ghost text = { entry_text };
 
-    fn put<K: Sink>(sink: &mut K, fine: bool, entry: &Entry) -> bool {
-        put_entry(sink, fine, entry)
+    fn put<K: Sink>(out: &mut Printer<K>, entry: &Entry) {
+        put_entry(out, entry);
     }
 }
 
 /// Puts the transcript: the entries in the order of the tape.
-pub fn put_transcript<K: Sink>(sink: &mut K, fine: bool, tape: &Tape) -> bool
-    ensures { PutsOn K.Sink sink.old fine (transcript tape.now.entries) sink.new result }
+pub fn put_transcript<K: Sink>(out: &mut Printer<K>, tape: &Tape)
+    ensures { Adds K.Sink (transcript tape.now.entries) out.old out.new }
 {
-    put_each::<Shown, Entry, K>(sink, fine, tape.entries.as_slice())
+    put_each::<Shown, Entry, K>(out, tape.entries.as_slice());
 }

@@ -2,50 +2,50 @@
 ghost use Rattle.std.specs.Prelude.{◌++◌, codes};
 ghost use Rattle.std.specs.Fmt.{decimal};
 ghost use Rattle.ctr_model.specs.Texts.{refusal_text, holder_text};
-ghost use Rattle.ctr_print.specs.Prints.{PutsOn};
+ghost use Rattle.ctr_print.specs.Prints.{Adds};
 
 use crate::piece::Piece;
 use crate::pieces::put_pieces;
-use crate::put::put_on;
+use crate::printer::Printer;
 use ctr_disk::Sink;
 use ctr_types::Refusal;
 
 /// Puts why an act was refused.
-pub fn put_refusal<K: Sink>(sink: &mut K, fine: bool, refusal: Refusal) -> bool
-    ensures { PutsOn K.Sink sink.old fine (refusal_text refusal) sink.new result }
+pub fn put_refusal<K: Sink>(out: &mut Printer<K>, refusal: Refusal)
+    ensures { Adds K.Sink (refusal_text refusal) out.old out.new }
 {
     match refusal {
-        Refusal::NoTransaction => put_on(sink, fine, b"NoTransaction"),
-        Refusal::InTransaction => put_on(sink, fine, b"InTransaction"),
-        Refusal::NoTable => put_on(sink, fine, b"NoTable"),
-        Refusal::TableExists => put_on(sink, fine, b"TableExists"),
-        Refusal::TableBusy { by } => put_busy(sink, fine, by),
+        Refusal::NoTransaction => out.put(b"NoTransaction"),
+        Refusal::InTransaction => out.put(b"InTransaction"),
+        Refusal::NoTable => out.put(b"NoTable"),
+        Refusal::TableExists => out.put(b"TableExists"),
+        Refusal::TableBusy { by } => put_busy(out, by),
         Refusal::SchemaChanged { commit } => {
-            put_reason(sink, fine, b"SchemaChanged by commit ", commit)
+            put_reason(out, b"SchemaChanged by commit ", commit)
         }
-        Refusal::BadValue { at } => put_reason(sink, fine, b"BadValue ", at),
-        Refusal::RowLocked { by } => put_reason(sink, fine, b"RowLocked by ", u64::from(by)),
-        Refusal::RowChanged { commit } => put_reason(sink, fine, b"RowChanged by commit ", commit),
-        Refusal::OutOfMemory => put_on(sink, fine, b"OutOfMemory"),
-        Refusal::Duplicate => put_on(sink, fine, b"Duplicate"),
-        Refusal::NotFound => put_on(sink, fine, b"NotFound"),
-        Refusal::OutOfRange => put_on(sink, fine, b"OutOfRange"),
-        Refusal::CatalogFull { limit } => put_reason(sink, fine, b"CatalogFull ", u64::from(limit)),
-        Refusal::Full { limit } => put_reason(sink, fine, b"Full ", u64::from(limit)),
+        Refusal::BadValue { at } => put_reason(out, b"BadValue ", at),
+        Refusal::RowLocked { by } => put_reason(out, b"RowLocked by ", u64::from(by)),
+        Refusal::RowChanged { commit } => put_reason(out, b"RowChanged by commit ", commit),
+        Refusal::OutOfMemory => out.put(b"OutOfMemory"),
+        Refusal::Duplicate => out.put(b"Duplicate"),
+        Refusal::NotFound => out.put(b"NotFound"),
+        Refusal::OutOfRange => out.put(b"OutOfRange"),
+        Refusal::CatalogFull { limit } => put_reason(out, b"CatalogFull ", u64::from(limit)),
+        Refusal::Full { limit } => put_reason(out, b"Full ", u64::from(limit)),
     }
 }
 
-fn put_reason<K: Sink>(sink: &mut K, fine: bool, words: &[u8], number: u64) -> bool
-    ensures { PutsOn K.Sink sink.old fine (words.now ++ decimal number) sink.new result }
+fn put_reason<K: Sink>(out: &mut Printer<K>, words: &[u8], number: u64)
+    ensures { Adds K.Sink (words.now ++ decimal number) out.old out.new }
 {
-    put_pieces(sink, fine, &[Piece::Bytes(words), Piece::Number(number)])
+    put_pieces(out, &[Piece::Bytes(words), Piece::Number(number)]);
 }
 
-fn put_busy<K: Sink>(sink: &mut K, fine: bool, by: u8) -> bool
-    ensures { PutsOn K.Sink sink.old fine (codes "TableBusy by " ++ holder_text by) sink.new result }
+fn put_busy<K: Sink>(out: &mut Printer<K>, by: u8)
+    ensures { Adds K.Sink (codes "TableBusy by " ++ holder_text by) out.old out.new }
 {
     if by == 0 {
-        return put_on(sink, fine, b"TableBusy by recovery");
+        return out.put(b"TableBusy by recovery");
     }
-    put_reason(sink, fine, b"TableBusy by ", u64::from(by))
+    put_reason(out, b"TableBusy by ", u64::from(by));
 }

@@ -1,11 +1,11 @@
 // Values and rows on a sink.
 ghost use Rattle.std.specs.Prelude.{List, ℕ, ◌++◌, codes};
 ghost use Rattle.ctr_model.specs.Texts.{doubled, quoted, value_text, values_text, row_text, row_line};
-ghost use Rattle.ctr_print.specs.Prints.{PutsOn};
+ghost use Rattle.ctr_print.specs.Prints.{Adds};
 
 use crate::form::{Form, put_each};
 use crate::pieces::put_number;
-use crate::put::put_on;
+use crate::printer::Printer;
 use ctr_disk::Sink;
 use ctr_types::{Row, Value};
 
@@ -15,30 +15,31 @@ struct Doubled;
 impl Form<u8> for Doubled {
     ghost text = { doubled };
 
-    fn put<K: Sink>(sink: &mut K, fine: bool, byte: &u8) -> bool {
+    fn put<K: Sink>(out: &mut Printer<K>, byte: &u8) {
         if *byte == b'\'' {
-            return put_on(sink, fine, b"''");
+            out.put(b"''");
+        } else {
+            out.put(&[*byte]);
         }
-        put_on(sink, fine, &[*byte])
     }
 }
 
 /// Puts a text between quotes, each quote in it doubled.
-pub fn put_quoted<K: Sink>(sink: &mut K, fine: bool, text: &[u8]) -> bool
-    ensures { PutsOn K.Sink sink.old fine (quoted text.now) sink.new result }
+pub fn put_quoted<K: Sink>(out: &mut Printer<K>, text: &[u8])
+    ensures { Adds K.Sink (quoted text.now) out.old out.new }
 {
-    let fine = put_on(sink, fine, b"'");
-    let fine = put_each::<Doubled, u8, K>(sink, fine, text);
-    put_on(sink, fine, b"'")
+    out.put(b"'");
+    put_each::<Doubled, u8, K>(out, text);
+    out.put(b"'");
 }
 
 /// Puts a value: a number in decimal, or a text between quotes.
-pub fn put_value<K: Sink>(sink: &mut K, fine: bool, value: &Value) -> bool
-    ensures { PutsOn K.Sink sink.old fine (value_text value.now) sink.new result }
+pub fn put_value<K: Sink>(out: &mut Printer<K>, value: &Value)
+    ensures { Adds K.Sink (value_text value.now) out.old out.new }
 {
     match value {
-        Value::Int(n) => put_number(sink, fine, *n),
-        Value::Chars(text) => put_quoted(sink, fine, text.as_slice()),
+        Value::Int(n) => put_number(out, *n),
+        Value::Chars(text) => put_quoted(out, text.as_slice()),
     }
 }
 
@@ -48,37 +49,37 @@ struct Following;
 impl Form<Value> for Following {
     ghost text = { λ value. codes ", " ++ value_text value };
 
-    fn put<K: Sink>(sink: &mut K, fine: bool, value: &Value) -> bool {
-        let fine = put_on(sink, fine, b", ");
-        put_value(sink, fine, value)
+    fn put<K: Sink>(out: &mut Printer<K>, value: &Value) {
+        out.put(b", ");
+        put_value(out, value);
     }
 }
 
 /// Puts values with a comma and a blank between.
-pub fn put_values<K: Sink>(sink: &mut K, fine: bool, values: &[Value]) -> bool
-    ensures { PutsOn K.Sink sink.old fine (values_text values.now) sink.new result }
+pub fn put_values<K: Sink>(out: &mut Printer<K>, values: &[Value])
+    ensures { Adds K.Sink (values_text values.now) out.old out.new }
 {
     let Some((first, others)) = values.split_first() else {
-        return fine;
+        return;
     };
-    let fine = put_value(sink, fine, first);
-    put_each::<Following, Value, K>(sink, fine, others)
+    put_value(out, first);
+    put_each::<Following, Value, K>(out, others);
 }
 
 /// Puts a row: its values between brackets.
-pub fn put_row<K: Sink>(sink: &mut K, fine: bool, row: &Row) -> bool
-    ensures { PutsOn K.Sink sink.old fine (row_text row.now) sink.new result }
+pub fn put_row<K: Sink>(out: &mut Printer<K>, row: &Row)
+    ensures { Adds K.Sink (row_text row.now) out.old out.new }
 {
-    let fine = put_on(sink, fine, b"(");
-    let fine = put_values(sink, fine, row.values.as_slice());
-    put_on(sink, fine, b")")
+    out.put(b"(");
+    put_values(out, row.values.as_slice());
+    out.put(b")");
 }
 
 /// Puts a row on a line of its own, behind two blanks.
-pub fn put_row_line<K: Sink>(sink: &mut K, fine: bool, row: &Row) -> bool
-    ensures { PutsOn K.Sink sink.old fine (row_line row.now) sink.new result }
+pub fn put_row_line<K: Sink>(out: &mut Printer<K>, row: &Row)
+    ensures { Adds K.Sink (row_line row.now) out.old out.new }
 {
-    let fine = put_on(sink, fine, b"  ");
-    let fine = put_row(sink, fine, row);
-    put_on(sink, fine, b"\n")
+    out.put(b"  ");
+    put_row(out, row);
+    out.put(b"\n");
 }

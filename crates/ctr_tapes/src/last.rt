@@ -3,10 +3,10 @@ use crate::entry::{must_be_empty, read_number, read_small};
 use crate::page::Page;
 use crate::trouble::Trouble;
 use crate::words::{signed, split_word, wide};
-use ctr_disk::{File, MemSink, Sink};
+use ctr_disk::{MemSink, Sink};
 use ctr_model::{Cause, Command, Report, Survey};
-use ctr_print::{put_last_line, put_transcript};
-use ctr_types::{List, Tape};
+use ctr_print::{Printer, put_last_line, put_transcript};
+use ctr_types::{File, List, Tape};
 use std::alloc::Global;
 
 /// The report of a run that tells undo's turns alone.
@@ -89,7 +89,9 @@ fn read_cause(words: &[u8]) -> Result<Cause, Trouble> {
 
 // The last line of a run that came to its end.
 fn put_success(page: &mut Page, command: &Command, tape: &Tape, report: &Report) {
-    put_last_line(page, true, command, 0, &Cause::Plain, tape, report);
+    let mut out = Printer::new(page);
+    put_last_line(&mut out, command, 0, &Cause::Plain, tape, report);
+    let _ = out.finish();
 }
 
 // `1 3 97 -5`: sessions, statements, rows, sum.
@@ -140,23 +142,26 @@ pub fn put_end(page: &mut Page, line: &[u8], tape: &Tape) -> Result<(), Trouble>
     }
     let status = read_small(word)?;
     let cause = read_cause(rest)?;
-    put_last_line(page, true, &Command::Run, status, &cause, tape, &report);
+    let mut out = Printer::new(page);
+    put_last_line(&mut out, &Command::Run, status, &cause, tape, &report);
+    let _ = out.finish();
     Ok(())
 }
 
 // Whether a put fails as it is listed, and what was put is then a front of the whole.
 fn leaves_front(alloc: Global, fails: List<u64>, tape: &Tape, whole: &[u8]) -> bool {
     let mut sink = MemSink::in_pieces(alloc, fails, 3);
-    let fine = put_transcript(&mut sink, true, tape);
-    let fine = put_last_line(
-        &mut sink,
-        fine,
+    let mut out = Printer::new(&mut sink);
+    put_transcript(&mut out, tape);
+    put_last_line(
+        &mut out,
         &Command::Run,
         0,
         &Cause::Plain,
         tape,
         &report_of(0),
     );
+    let fine = out.finish();
     !fine && sink.faults() == 1 && whole.starts_with(sink.bytes())
 }
 

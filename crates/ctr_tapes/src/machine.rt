@@ -4,7 +4,6 @@ use crate::page::Page;
 use crate::run::{go_on, reply_at, statement_of};
 use crate::trouble::Trouble;
 use ctr_model::{Change, Map, State, Table, Transaction};
-use ctr_print::{put_number, put_refusal, put_row, put_row_line};
 use ctr_types::{Act, Entry, Kind, Line, List, Name, Plain, Reply, Schema};
 use std::alloc::Global;
 
@@ -42,7 +41,7 @@ pub fn put_tables(page: &mut Page, tables: &[(Name, Table)]) {
         put_schema(page, &table.schema);
         page.add(b"\n");
         for (_, row) in table.rows.entries() {
-            put_row_line(page, true, row);
+            page.add_row_line(row);
         }
     }
 }
@@ -54,7 +53,7 @@ fn put_change(page: &mut Page, change: &Change) {
         Change::Put { table, key, row } => {
             put_key(page, " put ", table, *key);
             page.add(b" ");
-            put_row(page, true, row);
+            page.add_row(row);
         }
         Change::Remove { table, key } => put_key(page, " remove ", table, *key),
         Change::Create { table, schema } => {
@@ -74,7 +73,7 @@ fn put_key(page: &mut Page, words: &str, table: &Name, key: i64) {
     page.add(words.as_bytes());
     page.add(table.as_slice());
     page.add(b" ");
-    put_number(page, true, key);
+    page.add_signed(key);
 }
 
 fn put_changes(page: &mut Page, words: &str, changes: &[Change]) {
@@ -143,7 +142,7 @@ fn put_reply(page: &mut Page, reply: &Reply) {
             page.add(b"rows");
             for row in rows.rows.as_slice() {
                 page.add(b" ");
-                put_row(page, true, row);
+                page.add_row(row);
             }
         }
         Reply::Done => page.add(b"done"),
@@ -154,7 +153,7 @@ fn put_reply(page: &mut Page, reply: &Reply) {
         Reply::Released => page.add(b"released"),
         Reply::Refused { refusal } => {
             page.add(b"refused ");
-            put_refusal(page, true, *refusal);
+            page.add_refusal(*refusal);
         }
     }
 }

@@ -2,7 +2,8 @@
 ghost use Rattle.std.specs.Prelude.{◌≡◌, [], true};
 
 use ctr_disk::{Failed, Sink};
-use ctr_print::put_number;
+use ctr_print::{Printer, put_number, put_refusal, put_row, put_row_line};
+use ctr_types::{Refusal, Row};
 use std::alloc::Global;
 
 /// A sink in memory. It takes all that is put, and fails only where memory is refused. It keeps
@@ -40,7 +41,33 @@ impl Page {
     /// A number behind some words.
     pub fn add_number(&mut self, words: &str, number: u64) {
         self.add(words.as_bytes());
-        put_number(self, true, number);
+        let mut out = Printer::new(self);
+        put_number(&mut out, number);
+        let _ = out.finish();
+    }
+
+    pub fn add_signed(&mut self, number: i64) {
+        let mut out = Printer::new(self);
+        put_number(&mut out, number);
+        let _ = out.finish();
+    }
+
+    pub fn add_row(&mut self, row: &Row) {
+        let mut out = Printer::new(self);
+        put_row(&mut out, row);
+        let _ = out.finish();
+    }
+
+    pub fn add_row_line(&mut self, row: &Row) {
+        let mut out = Printer::new(self);
+        put_row_line(&mut out, row);
+        let _ = out.finish();
+    }
+
+    pub fn add_refusal(&mut self, refusal: Refusal) {
+        let mut out = Printer::new(self);
+        put_refusal(&mut out, refusal);
+        let _ = out.finish();
     }
 
     /// Takes over what another page has.

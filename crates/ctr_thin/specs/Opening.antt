@@ -1,5 +1,5 @@
 -- How errors below are told by opening.
-use Rattle.ctr_disk.specs.declared.disk.File.{File}
+use Rattle.ctr_types.specs.declared.file.File.{File}
 use Rattle.ctr_disk.specs.declared.fault.StoreFault.{StoreFault}
 use Rattle.ctr_disk.specs.declared.fault.StoreFault.TheVariants as store
 use Rattle.ctr_log.specs.declared.reading.ReadError.{ReadError}

@@ -11,11 +11,11 @@ ghost use Rattle.ctr_thin.specs.Opening.{of_record};
 ghost use Rattle.ctr_thin.specs.Thin.{StandsFor, Opens, Explains, OpenDiffers, IsExplained, MakesDatabase, MakesSomeDatabase, RefusesToOpen};
 
 use crate::replay::replay;
-use ctr_disk::{Disk, Failed, File, Root, StoreFault};
+use ctr_disk::{Disk, Failed, Root, StoreFault};
 use ctr_log::{LogFile, Lsn, ReadError, read_all, read_root};
 use ctr_rec::{RecordError, fold_is_one};
 use ctr_tables::Tables;
-use ctr_types::Text;
+use ctr_types::{File, Text};
 use std::alloc::Global;
 
 /// The first number that no record of a database that can be opened has: 2^62.

@@ -244,7 +244,7 @@ printed_text command e =
 pub record PutsText {K : Type 0} (g : Sink K) (old : K) (text : List ℕ) (new : K) (e : Ending)
     : Type 0 where
   pub done : Bool
-  pub put : PutsOn g old true text new done
+  pub put : PutsOn g old text new done
   pub fine : e ≡ ending.Finished → done ≡ true
   pub failed : e ≡ ending.WriteFault → done ≡ false
 

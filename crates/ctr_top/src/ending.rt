@@ -2,11 +2,12 @@
 ghost use Rattle.std.specs.Prelude.{◌≡◌};
 ghost use Rattle.ctr_top.specs.Endings.{status_of, cause_of, opened_as, read_as, stopped_as, made_as};
 
-use ctr_disk::{File, Stop, StoreFault};
+use ctr_disk::{Stop, StoreFault};
 use ctr_log::Making;
 use ctr_model::Cause;
 use ctr_script::ScriptError;
 use ctr_thin::OpenError;
+use ctr_types::File;
 
 /// How a command ends.
 #[derive(Clone, Copy, Debug, PartialEq, Eq)]

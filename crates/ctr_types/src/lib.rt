@@ -4,6 +4,7 @@
 //! them is a type of this crate, which contracts see as a list.
 #![tactic(auto)]
 
+mod file;
 mod list;
 mod memory;
 mod name;
@@ -13,6 +14,7 @@ mod tape;
 mod text;
 mod value;
 
+pub use file::File;
 pub use list::List;
 pub use memory::OutOfMemory;
 pub use name::Name;

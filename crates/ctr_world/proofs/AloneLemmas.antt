@@ -2,8 +2,8 @@
 use Rattle.std.proofs.Common.{◌≡◌, refl, ◌∙◌, ap}
 use Rattle.ctr_types.specs.declared.tape.Reply.TheVariants as reply
 use Rattle.ctr_disk.specs.declared.disk.Image.{Image}
-use Rattle.ctr_disk.specs.declared.disk.File.{File}
-use Rattle.ctr_disk.specs.declared.disk.File.TheVariants.{Root, LogA, LogB, Pages}
+use Rattle.ctr_types.specs.declared.file.File.{File}
+use Rattle.ctr_types.specs.declared.file.File.TheVariants.{Root, LogA, LogB, Pages}
 use Rattle.ctr_disk.specs.Image.{with_content, OtherFilesStay}
 use Rattle.ctr_log.specs.Logs.{Log}
 use Rattle.ctr_exec.specs.declared.session.Session.{Session}

@@ -1,6 +1,6 @@
 use Rattle.std.proofs.Common.{◌∙◌, ◌∷◌, [], ◌<◌, ℕ, length, get_or, ap, subst}
 use Rattle.ctr_disk.specs.declared.disk.Image.{Image}
-use Rattle.ctr_disk.specs.declared.disk.File.TheVariants.{Root}
+use Rattle.ctr_types.specs.declared.file.File.TheVariants.{Root}
 use Rattle.ctr_disk.specs.Image.{TornImage, write_of}
 use Rattle.ctr_log.specs.Homes.{place, KeepsHome, IsShut}
 use Rattle.ctr_disk.proofs.Moments.{on_ok}

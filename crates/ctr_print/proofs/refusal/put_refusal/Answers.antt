@@ -7,7 +7,10 @@ pub returns-in-RowChanged : goal.returns-in-RowChanged
 returns-in-RowChanged g c = rw c.in-RowChanged.is c.put_reason-in-RowChanged.ensures
 
 pub returns-in-OutOfMemory : goal.returns-in-OutOfMemory
-returns-in-OutOfMemory g c = rw c.in-OutOfMemory.is c.put_on-in-OutOfMemory.ensures
+returns-in-OutOfMemory g c = rw c.in-OutOfMemory.is c.put-in-OutOfMemory.ensures
 
 pub returns-in-Duplicate : goal.returns-in-Duplicate
-returns-in-Duplicate g c = rw c.in-Duplicate.is c.put_on-in-Duplicate.ensures
+returns-in-Duplicate g c = rw c.in-Duplicate.is c.put-in-Duplicate.ensures
+
+pub returns-in-SchemaChanged : goal.returns-in-SchemaChanged
+returns-in-SchemaChanged g c = rw c.in-SchemaChanged.is c.put_reason.ensures

@@ -2,4 +2,4 @@ use Rattle.ctr_print.proofs.Joins.{both}
 use Rattle.ctr_print.proofs.value.put_row_line.Goals as goal
 
 pub returns : goal.returns
-returns g c = both (both c.put_on-fine.ensures c.put_row-fine.ensures) c.put_on.ensures
+returns g c = both (both c.put.ensures c.put_row.ensures) c.put-2.ensures

@@ -35,7 +35,7 @@ returns-clause-complete g c = λ is told source_told ls script can_open none.
     let d = g.D.Disk in
     let r = c.run_script-outcome in
     let e = c.ending-2 in
-    let not : e.result.ending ≢ ending.WriteFault = λ is_fault. none.no_sink (e.ensures.printed.put.cause refl (e.ensures.printed.failed is_fault)) in
+    let not : e.result.ending ≢ ending.WriteFault = λ is_fault. none.no_sink (e.ensures.printed.put.cause (e.ensures.printed.failed is_fault)) in
     let same : e.result.ending ≡ r.result.ending = sym (work_is e.result.ending not) ∙ ap (λ o. o.ending) e.ensures.outcome in
     let no_disk : CountsFault (d.faults_of c.args.disk) (d.faults_of r.result.disk) → ⊥ = λ rose. none.no_disk (subst (λ o. CountsFault (d.faults_of c.args.disk) (d.faults_of o.disk)) (sym e.ensures.outcome) rose) in
     ⊎_elim (λ fine. inl (same ∙ fine)) (λ memory. inr (same ∙ memory.0, ap (λ o. o.tape.entries) e.ensures.outcome ∙ memory.1))

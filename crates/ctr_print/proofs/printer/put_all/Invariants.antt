@@ -1,5 +1,5 @@
 use Rattle.std.proofs.Common.{◌≡◌, ◌++◌, List, ℕ, length, IsTrue}
-use Rattle.ctr_print.proofs.put.put_all.Given as goal
+use Rattle.ctr_print.proofs.printer.put_all.Given as goal
 
 -- what was put and what is left are all of it
 abbrev pub invariant-loop-rest : goal.invariant-loop-rest
