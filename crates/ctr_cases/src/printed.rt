@@ -1,7 +1,7 @@
 // What a run has to print, by its tape, status and cause.
-use ctr_disk::MemSink;
+use ctr_io::MemSink;
 use ctr_model::{Cause, Command, Report};
-use ctr_print::{Printer, put_last_line, put_transcript};
+use ctr_print::put_run;
 use ctr_types::{List, Tape};
 use std::alloc::Global;
 
@@ -19,9 +19,6 @@ pub fn printing_of(
 ) -> Vec<u8> {
     let mut sink = MemSink::new(alloc, List::new(alloc));
     let work = if status == WRITE_FAULT { 0 } else { status };
-    let mut out = Printer::new(&mut sink);
-    put_transcript(&mut out, tape);
-    put_last_line(&mut out, command, work, cause, tape, report);
-    let _ = out.finish();
+    let _ = put_run(&mut sink, command, work, cause, tape, report);
     sink.into_bytes()
 }

@@ -1,6 +1,6 @@
 // What the readers say of single lines and records.
 use crate::page::Page;
-use ctr_disk::MemSource;
+use ctr_io::MemSource;
 use ctr_lex::tokens;
 use ctr_rec::{RecordError, decode};
 use ctr_script::{ScriptError, read_script};

@@ -7,7 +7,8 @@ use Rattle.std.proofs.Math.Dec.{leb}
 use Rattle.std.specs.Prelude.{Result, Ok, Err, is_ok, IsOk, IsErr, IfOk, OnOk, MatchResult, nat_le}
 use Rattle.ctr_disk.specs.Image.{Image, write_of, TornImage}
 use Rattle.ctr_disk.specs.Crash.{Only, Within, Tears, Elapses, HasStray}
-use Rattle.ctr_disk.specs.Counting.{raised, outcome_of}
+use Rattle.ctr_types.specs.Faults.{raised}
+use Rattle.ctr_disk.specs.Counting.{outcome_of}
 use Rattle.ctr_disk.specs.Memory.{IsAnswered, IsStarved}
 use Rattle.ctr_disk.specs.Replay.{reads_by, reads_by_call, images_by, images_by_call, LeavesBy, LeavesByCall, reads_after, images_after, images_since, possible_after, possible_since, latest, IsRecorded}
 use Rattle.ctr_disk.specs.ReplayLaws.{among_of}

@@ -1,5 +1,6 @@
 -- What a crash may leave at one moment and over a call, and what the counts of a device do.
-use Rattle.std.specs.Prelude.{◌≡◌, ◌≢◌, ◌⊎◌, ℕ, ◌+◌, ◌-◌, ◌^◌, ◌≤◌, ◌<◌, min, Result, Err, OnOk, OnErr, IsErr}
+use Rattle.std.specs.Prelude.{◌≡◌, ◌⊎◌, ℕ, ◌-◌, ◌^◌, ◌≤◌, ◌<◌, Result, OnOk, OnErr, IsErr}
+use Rattle.ctr_types.specs.Faults.{CountsFault}
 use Rattle.ctr_disk.specs.Image.{Image, TornImage}
 use Rattle.ctr_types.specs.declared.file.File.{File}
 
@@ -23,25 +24,6 @@ pub record Elapses (before now : ℕ) (past since : ℕ → Image → Type 0) (i
   pub later : before ≤ now
   pub nothing_else : (t : ℕ) (c : Image) → t ≤ before → since t c → past t c ⊎ images c
   pub keeps : (t : ℕ) (c : Image) → t ≤ before → past t c → since t c
-
--- a failed call is counted: the count is one higher at least, or stands at the last value of its
--- type
-abbrev pub CountsFault : ℕ → ℕ → Type 0
-CountsFault before now = min (before + 1) (2 ^ 64 - 1) ≤ now
-
--- A count of failed calls never falls. A call that failed is counted, and one that was answered Ok
--- leaves the count as it was.
-pub record HasCause {T E : Type 0} (before now : ℕ) (result : Result T E) : Type 0 where
-  pub later : before ≤ now
-  pub failed : OnErr result (CountsFault before now)
-  pub fine : OnOk result (now ≡ before)
-
--- The same of a call that has other errors too: this error alone says that the device failed, and
--- after any other answer the count is as it was.
-pub record HasFault {T E : Type 0} (fault : E) (before now : ℕ) (result : Result T E) : Type 0 where
-  pub later : before ≤ now
-  pub failed : result ≡ Err fault → CountsFault before now
-  pub fine : result ≢ Err fault → now ≡ before
 
 -- A call whose range ends at this place: from 2 ^ 63 on it fails and the count of strays rises,
 -- and below that the count stays. It never falls.

@@ -1,7 +1,8 @@
 -- What a caller says of a disk over its calls. The ghosts of the disk come in one bundle.
 use Rattle.std.specs.Prelude.{◌≡◌, ◌⊎◌, ℕ, ◌≤◌, ◌<◌, IsTrue, Result}
 use Rattle.ctr_disk.specs.Image.{Image}
-use Rattle.ctr_disk.specs.Crash.{Only, Within, HasCause, HasFault}
+use Rattle.ctr_types.specs.Faults.{HasCause, HasFault}
+use Rattle.ctr_disk.specs.Crash.{Only, Within}
 use Rattle.ctr_disk.specs.declared.disk.Disk.{Ghosts}
 
 -- A crash at any moment from the old state to the new one, inside a call too, leaves an image with

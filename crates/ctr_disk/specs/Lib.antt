@@ -1,11 +1,9 @@
 pub mod Image
 pub mod Crash
 pub mod Device
-pub mod Outside
 pub mod Replay
 pub mod TornLaws
 pub mod ReplayLaws
 pub mod Counting
 pub mod Memory
-pub mod MemoryEdges
 pub mod Silent

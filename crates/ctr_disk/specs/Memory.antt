@@ -2,7 +2,8 @@
 use Rattle.std.specs.Prelude.{◌≡◌, ◌==◌, ◌&&◌, ◌||◌, ◌⊎◌, ◌↔◌, ℕ, ◌+◌, ◌-◌, ◌^◌, nat_le, Bool, true, false, if◌then◌else◌, List, [], ◌∷◌, ◌++◌, length, Result, IsOk, IsErr}
 use Rattle.std.specs.List.{list_any}
 use Rattle.ctr_disk.specs.Image.{Image}
-use Rattle.ctr_disk.specs.Counting.{raised, outcome_of}
+use Rattle.ctr_types.specs.Faults.{raised}
+use Rattle.ctr_disk.specs.Counting.{outcome_of}
 use Rattle.ctr_disk.specs.Replay.{possible_after, possible_since}
 use Rattle.ctr_disk.specs.declared.record.Call.{Call}
 use Rattle.ctr_disk.specs.declared.record.Call.TheVariants.{Size, Read, Write, Sync}

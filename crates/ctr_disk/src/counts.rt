@@ -1,8 +1,8 @@
 // What a disk in memory counts.
 ghost use Rattle.std.specs.Prelude.{◌≡◌, ◌≤◌, ◌==◌, ◌&&◌, ◌||◌, ◌-◌, ◌^◌, if◌then◌else◌, nat_le, is_ok, IfOk, IsOk};
 ghost use Rattle.std.specs.List.{list_any};
-ghost use Rattle.ctr_disk.specs.Crash.{HasCause};
-ghost use Rattle.ctr_disk.specs.Counting.{raised, outcome_of};
+ghost use Rattle.ctr_types.specs.Faults.{HasCause, raised};
+ghost use Rattle.ctr_disk.specs.Counting.{outcome_of};
 ghost use Rattle.ctr_disk.specs.declared.record.Outcome.TheVariants.{Done};
 
 use crate::{Failed, Outcome};

@@ -2,7 +2,8 @@
 ghost use Rattle.std.specs.Prelude.{◌≡◌, ◌≤◌, ◌<◌, ◌+◌, Bool, IsTrue, List, ℕ, length, IfOk, OnOk};
 ghost use Rattle.ctr_disk.specs.declared.disk.Image.{Image};
 ghost use Rattle.ctr_disk.specs.Image.{content, section, write_of, TornImage};
-ghost use Rattle.ctr_disk.specs.Crash.{Only, Within, Tears, Elapses, HasCause, HasStray, Ticks};
+ghost use Rattle.ctr_types.specs.Faults.{HasCause};
+ghost use Rattle.ctr_disk.specs.Crash.{Only, Within, Tears, Elapses, HasStray, Ticks};
 
 use ctr_types::{File, Text};
 

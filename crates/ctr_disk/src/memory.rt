@@ -151,7 +151,8 @@ impl MemDisk {
 impl Disk for MemDisk {
     ghost use Rattle.std.specs.Prelude.{◌≡◌, ◌+◌, true, length, IfOk, OnOk};
     ghost use Rattle.ctr_disk.specs.Image.{content, section, write_of, TornImage};
-    ghost use Rattle.ctr_disk.specs.Crash.{Only, Within, Tears, Elapses, HasCause, HasStray, Ticks};
+    ghost use Rattle.ctr_types.specs.Faults.{HasCause};
+    ghost use Rattle.ctr_disk.specs.Crash.{Only, Within, Tears, Elapses, HasStray, Ticks};
     ghost use Rattle.ctr_disk.specs.Memory.{DoesCall, image_read, images_of, since_of, moment_at, counted_faults, counted_strays};
     ghost use Rattle.ctr_disk.specs.declared.record.Call.TheVariants.{Size, Read, Write, Sync};
     ghost use Rattle.ctr_disk.specs.ReplayLaws.{counts_now_of, only_now_of, earlier_of, among_of};

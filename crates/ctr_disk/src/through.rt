@@ -1,7 +1,8 @@
 // A write that is synced before it returns.
 ghost use Rattle.std.specs.Prelude.{◌≡◌, ◌≤◌, ◌<◌, ◌+◌, IsTrue, length, OnOk};
 ghost use Rattle.ctr_disk.specs.Image.{write_of, TornImage};
-ghost use Rattle.ctr_disk.specs.Crash.{Tears, HasCause, HasStray, Ticks};
+ghost use Rattle.ctr_types.specs.Faults.{HasCause};
+ghost use Rattle.ctr_disk.specs.Crash.{Tears, HasStray, Ticks};
 ghost use Rattle.ctr_disk.specs.Device.{LeavesOnly, IsDurable};
 
 use crate::{Disk, Failed};

@@ -3,7 +3,8 @@ ghost use Rattle.std.specs.Prelude.{◌≡◌, ◌≤◌, ◌<◌, ◌+◌, ◌-
 ghost use Rattle.ctr_types.specs.declared.file.File.TheVariants.{LogA};
 ghost use Rattle.ctr_disk.specs.declared.fault.StoreFault.TheVariants.{Fault};
 ghost use Rattle.ctr_disk.specs.Image.{content, OtherFilesStay};
-ghost use Rattle.ctr_disk.specs.Crash.{Only, HasCause, HasFault, StraysOnlyPast};
+ghost use Rattle.ctr_types.specs.Faults.{HasCause, HasFault};
+ghost use Rattle.ctr_disk.specs.Crash.{Only, StraysOnlyPast};
 ghost use Rattle.ctr_disk.specs.Device.{LeavesOnly, IsDurable, IsSettled, OnlyReads, CountsAs};
 ghost use Rattle.ctr_bytes.specs.Fields.{spelled};
 ghost use Rattle.ctr_log.specs.declared.reading.ReadError.TheVariants.{Store, OutOfMemory as NoMemory};

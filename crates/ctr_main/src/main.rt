@@ -6,20 +6,13 @@ ghost use Rattle.std.specs.String.{string_bytes};
 ghost use Rattle.std.specs.Process.{exit_status};
 ghost use Rattle.ctr_top.specs.Endings.{status_of};
 
-mod file_disk;
-mod folder;
-mod marked;
-mod streams;
-#[cfg(test)]
-mod tests;
-
+use ctr_file::FileDisk;
+use ctr_io::{ReadSource, WriteSink};
 use ctr_top::Ended;
-use file_disk::FileDisk;
 use std::alloc::{AllocError, Global};
 use std::env;
 use std::io::{self, ErrorKind};
 use std::process::ExitCode;
-use streams::{ReadSource, WriteSink};
 
 /// The status of a faulty command line.
 const USAGE: u8 = 2;

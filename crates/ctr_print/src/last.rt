@@ -1,18 +1,18 @@
 // The last line of a run on a sink.
 ghost use Rattle.std.specs.Prelude.{◌≡◌};
 ghost use Rattle.ctr_model.specs.Texts.{success_line, file_text, script_line, damage_line, worn_line, last_line, report_line, end_line, load_line};
-ghost use Rattle.ctr_print.specs.Prints.{Adds};
+ghost use Rattle.ctr_print.specs.Prints.{PrintsMore};
 
 use crate::count::{count_answers, count_refusals};
 use crate::piece::Piece;
 use crate::pieces::put_pieces;
 use crate::printer::Printer;
-use ctr_disk::Sink;
+use ctr_io::Sink;
 use ctr_model::{Cause, Command, Report, Survey};
 use ctr_types::{File, Tape};
 
 fn put_end<K: Sink>(out: &mut Printer<K>, tape: &Tape, report: &Report)
-    ensures { Adds K.Sink (end_line tape.now.entries report.now) out.old out.new }
+    ensures { PrintsMore K.Sink (end_line tape.now.entries report.now) out.old out.new }
 {
     put_pieces(
         out,
@@ -35,7 +35,7 @@ fn put_load<K: Sink>(
     tape: &Tape,
     report: &Report,
 )
-    ensures { Adds K.Sink (load_line sessions statements tape.now.entries report.now) out.old out.new }
+    ensures { PrintsMore K.Sink (load_line sessions statements tape.now.entries report.now) out.old out.new }
 {
     put_pieces(
         out,
@@ -58,7 +58,7 @@ fn put_load<K: Sink>(
 }
 
 fn put_report<K: Sink>(out: &mut Printer<K>, survey: &Survey)
-    ensures { Adds K.Sink (report_line survey.now) out.old out.new }
+    ensures { PrintsMore K.Sink (report_line survey.now) out.old out.new }
 {
     put_pieces(
         out,
@@ -79,7 +79,7 @@ fn put_report<K: Sink>(out: &mut Printer<K>, survey: &Survey)
 }
 
 fn put_success<K: Sink>(out: &mut Printer<K>, command: &Command, tape: &Tape, report: &Report)
-    ensures { Adds K.Sink (success_line command.now tape.now.entries report.now) out.old out.new }
+    ensures { PrintsMore K.Sink (success_line command.now tape.now.entries report.now) out.old out.new }
 {
     match command {
         Command::Init => out.put(b"init: done\n"),
@@ -93,7 +93,7 @@ fn put_success<K: Sink>(out: &mut Printer<K>, command: &Command, tape: &Tape, re
 }
 
 fn put_script<K: Sink>(out: &mut Printer<K>, cause: &Cause)
-    ensures { Adds K.Sink (script_line cause.now) out.old out.new }
+    ensures { PrintsMore K.Sink (script_line cause.now) out.old out.new }
 {
     let Cause::Script { line, at } = cause else {
         return out.put(b"ctr: script too long\n");
@@ -122,7 +122,7 @@ fn name_of(file: File) -> &'static [u8]
 }
 
 fn put_damage<K: Sink>(out: &mut Printer<K>, cause: &Cause)
-    ensures { Adds K.Sink (damage_line cause.now) out.old out.new }
+    ensures { PrintsMore K.Sink (damage_line cause.now) out.old out.new }
 {
     let Cause::Damaged {
         file,
@@ -150,7 +150,7 @@ fn put_damage<K: Sink>(out: &mut Printer<K>, cause: &Cause)
 }
 
 fn put_worn<K: Sink>(out: &mut Printer<K>, cause: &Cause)
-    ensures { Adds K.Sink (worn_line cause.now) out.old out.new }
+    ensures { PrintsMore K.Sink (worn_line cause.now) out.old out.new }
 {
     let Cause::Worn { number } = cause else {
         return;
@@ -174,7 +174,7 @@ pub fn put_last_line<K: Sink>(
     tape: &Tape,
     report: &Report,
 )
-    ensures { Adds K.Sink (last_line command.now status cause.now tape.now.entries report.now) out.old out.new }
+    ensures { PrintsMore K.Sink (last_line command.now status cause.now tape.now.entries report.now) out.old out.new }
 {
     match status {
         0 => put_success(out, command, tape, report),

@@ -13,11 +13,12 @@ mod pieces;
 mod printer;
 mod refusal;
 mod value;
+mod whole;
 
 pub use count::{count_answers, count_refusals};
 pub use last::put_last_line;
-pub use line::{put_entry, put_transcript};
 pub use pieces::put_number;
 pub use printer::Printer;
 pub use refusal::put_refusal;
 pub use value::{put_quoted, put_row, put_row_line, put_value, put_values};
+pub use whole::put_run;

@@ -1,7 +1,7 @@
 // The transcript of a tape on a sink.
 ghost use Rattle.std.specs.Prelude.{[], ◌++◌, codes};
 ghost use Rattle.ctr_model.specs.Texts.{entry_head, entry_line, entry_text, reply_text, release_line, refusal_text, row_line, transcript};
-ghost use Rattle.ctr_print.specs.Prints.{Adds};
+ghost use Rattle.ctr_print.specs.Prints.{PrintsMore};
 ghost use Rattle.ctr_print.specs.Pieces.{joined};
 
 use crate::form::{Form, put_each};
@@ -10,12 +10,12 @@ use crate::pieces::put_pieces;
 use crate::printer::Printer;
 use crate::refusal::put_refusal;
 use crate::value::put_row_line;
-use ctr_disk::Sink;
+use ctr_io::Sink;
 use ctr_types::{Act, Entry, Refusal, Reply, Row, Rows, Tape};
 
 // Who was answered.
 fn put_head<K: Sink>(out: &mut Printer<K>, entry: &Entry)
-    ensures { Adds K.Sink (entry_head entry.now) out.old out.new }
+    ensures { PrintsMore K.Sink (entry_head entry.now) out.old out.new }
 {
     put_pieces(
         out,
@@ -30,7 +30,7 @@ fn put_head<K: Sink>(out: &mut Printer<K>, entry: &Entry)
 
 // A line of an entry.
 fn put_line<K: Sink>(out: &mut Printer<K>, entry: &Entry, pieces: &[Piece])
-    ensures { Adds K.Sink (entry_line entry.now (joined [] pieces.now)) out.old out.new }
+    ensures { PrintsMore K.Sink (entry_line entry.now (joined [] pieces.now)) out.old out.new }
 {
     put_head(out, entry);
     put_pieces(out, pieces);
@@ -38,7 +38,7 @@ fn put_line<K: Sink>(out: &mut Printer<K>, entry: &Entry, pieces: &[Piece])
 }
 
 fn put_refused<K: Sink>(out: &mut Printer<K>, entry: &Entry, refusal: Refusal)
-    ensures { Adds K.Sink (entry_line entry.now (codes "refused " ++ refusal_text refusal)) out.old out.new }
+    ensures { PrintsMore K.Sink (entry_line entry.now (codes "refused " ++ refusal_text refusal)) out.old out.new }
 {
     put_head(out, entry);
     out.put(b"refused ");
@@ -57,7 +57,7 @@ impl Form<Row> for RowLine {
 }
 
 fn put_rows<K: Sink>(out: &mut Printer<K>, entry: &Entry, rows: &Rows)
-    ensures { Adds K.Sink (reply_text entry.now (Reply.Rows rows.now)) out.old out.new }
+    ensures { PrintsMore K.Sink (reply_text entry.now (Reply.Rows rows.now)) out.old out.new }
 {
     let rows = rows.rows.as_slice();
     let count = rows.len() as u64;
@@ -67,7 +67,7 @@ fn put_rows<K: Sink>(out: &mut Printer<K>, entry: &Entry, rows: &Rows)
 
 // That recovery gave the name of a table free.
 fn put_release<K: Sink>(out: &mut Printer<K>, act: &Act)
-    ensures { Adds K.Sink (release_line act.now) out.old out.new }
+    ensures { PrintsMore K.Sink (release_line act.now) out.old out.new }
 {
     let Act::Release { name } = act else {
         return;
@@ -84,7 +84,7 @@ fn put_release<K: Sink>(out: &mut Printer<K>, act: &Act)
 
 /// Puts what the transcript shows of an entry.
 pub fn put_entry<K: Sink>(out: &mut Printer<K>, entry: &Entry)
-    ensures { Adds K.Sink (entry_text entry.now) out.old out.new }
+    ensures { PrintsMore K.Sink (entry_text entry.now) out.old out.new }
 {
     match &entry.reply {
         Reply::Began { n } => put_line(
@@ -120,7 +120,7 @@ impl Form<Entry> for Shown {
 
 /// Puts the transcript: the entries in the order of the tape.
 pub fn put_transcript<K: Sink>(out: &mut Printer<K>, tape: &Tape)
-    ensures { Adds K.Sink (transcript tape.now.entries) out.old out.new }
+    ensures { PrintsMore K.Sink (transcript tape.now.entries) out.old out.new }
 {
     put_each::<Shown, Entry, K>(out, tape.entries.as_slice());
 }

@@ -1,11 +1,11 @@
 //! Texts on their way to a sink.
 ghost use Rattle.std.specs.Prelude.{◌≡◌, ◌≤◌, ◌+◌, ℕ, List, [], IsTrue, length};
 ghost use Rattle.arrayvec.specs.ArrayVec.{array_vec_len};
-ghost use Rattle.ctr_disk.specs.Crash.{HasCause};
-ghost use Rattle.ctr_print.specs.Prints.{Printed, IsAt, Adds, Sends, PutsOn};
+ghost use Rattle.ctr_types.specs.Faults.{HasCause};
+ghost use Rattle.ctr_print.specs.Prints.{Printed, HasPrinted, PrintsMore, Sends, PutsOn};
 
 use arrayvec::ArrayVec;
-use ctr_disk::{Failed, Sink};
+use ctr_io::{Failed, Sink};
 
 /// So many bytes are gathered.
 const PIECE: usize = 8192;
@@ -44,7 +44,7 @@ impl<'a, K: Sink> Printer<'a, K> {
     /// A printer on this sink, which has printed nothing.
     pub fn new(sink: &'a mut K) -> Printer<'a, K>
         ensures same_reference { result.sink.ghost_name ≡ sink.entry.ghost_name }
-        ensures begun { IsAt K.Sink sink.old [] result }
+        ensures begun { HasPrinted K.Sink sink.old [] result }
     {
         Printer {
             sink,
@@ -56,7 +56,7 @@ impl<'a, K: Sink> Printer<'a, K> {
     // Keeps the bytes behind what waits.
     fn gather(&mut self, bytes: &[u8])
         requires room { array_vec_len self.old.waiting + length bytes.now ≤ 8192 }
-        ensures adds { Adds K.Sink bytes.now self.old self.new }
+        ensures adds { PrintsMore K.Sink bytes.now self.old self.new }
     {
         let Ok(()) = self.waiting.try_extend_from_slice(bytes) else {
             unreachable!()
@@ -65,7 +65,7 @@ impl<'a, K: Sink> Printer<'a, K> {
 
     // Puts what waits.
     fn flush(&mut self)
-        ensures adds { Adds K.Sink [] self.old self.new }
+        ensures adds { PrintsMore K.Sink [] self.old self.new }
         ensures none { self.new.waiting.items ≡ [] }
     {
         self.fine = send(self.sink, self.fine, self.waiting.as_slice());
@@ -75,14 +75,14 @@ impl<'a, K: Sink> Printer<'a, K> {
     // Puts the bytes, before which nothing waits.
     fn pass(&mut self, bytes: &[u8])
         requires none { self.old.waiting.items ≡ [] }
-        ensures adds { Adds K.Sink bytes.now self.old self.new }
+        ensures adds { PrintsMore K.Sink bytes.now self.old self.new }
     {
         self.fine = send(self.sink, self.fine, bytes);
     }
 
     /// Prints the bytes.
     pub fn put(&mut self, bytes: &[u8])
-        ensures { Adds K.Sink bytes.now self.old self.new }
+        ensures { PrintsMore K.Sink bytes.now self.old self.new }
     {
         let room = PIECE - self.waiting.len();
         if bytes.len() < room {
@@ -100,7 +100,7 @@ impl<'a, K: Sink> Printer<'a, K> {
 
     /// Puts what waits, and says whether all that was printed was put.
     pub fn finish(self) -> bool
-        ensures { (start : K) (text : List ℕ) → IsAt K.Sink start text self.entry → PutsOn K.Sink start text self.exit.0.now result }
+        ensures { (start : K) (text : List ℕ) → HasPrinted K.Sink start text self.entry → PutsOn K.Sink start text self.exit.0.now result }
     {
         let Printer {
             sink,

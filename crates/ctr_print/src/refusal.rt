@@ -2,17 +2,17 @@
 ghost use Rattle.std.specs.Prelude.{◌++◌, codes};
 ghost use Rattle.std.specs.Fmt.{decimal};
 ghost use Rattle.ctr_model.specs.Texts.{refusal_text, holder_text};
-ghost use Rattle.ctr_print.specs.Prints.{Adds};
+ghost use Rattle.ctr_print.specs.Prints.{PrintsMore};
 
 use crate::piece::Piece;
 use crate::pieces::put_pieces;
 use crate::printer::Printer;
-use ctr_disk::Sink;
+use ctr_io::Sink;
 use ctr_types::Refusal;
 
 /// Puts why an act was refused.
 pub fn put_refusal<K: Sink>(out: &mut Printer<K>, refusal: Refusal)
-    ensures { Adds K.Sink (refusal_text refusal) out.old out.new }
+    ensures { PrintsMore K.Sink (refusal_text refusal) out.old out.new }
 {
     match refusal {
         Refusal::NoTransaction => out.put(b"NoTransaction"),
@@ -36,13 +36,13 @@ pub fn put_refusal<K: Sink>(out: &mut Printer<K>, refusal: Refusal)
 }
 
 fn put_reason<K: Sink>(out: &mut Printer<K>, words: &[u8], number: u64)
-    ensures { Adds K.Sink (words.now ++ decimal number) out.old out.new }
+    ensures { PrintsMore K.Sink (words.now ++ decimal number) out.old out.new }
 {
     put_pieces(out, &[Piece::Bytes(words), Piece::Number(number)]);
 }
 
 fn put_busy<K: Sink>(out: &mut Printer<K>, by: u8)
-    ensures { Adds K.Sink (codes "TableBusy by " ++ holder_text by) out.old out.new }
+    ensures { PrintsMore K.Sink (codes "TableBusy by " ++ holder_text by) out.old out.new }
 {
     if by == 0 {
         return out.put(b"TableBusy by recovery");

@@ -1,12 +1,12 @@
 // Values and rows on a sink.
 ghost use Rattle.std.specs.Prelude.{List, ℕ, ◌++◌, codes};
 ghost use Rattle.ctr_model.specs.Texts.{doubled, quoted, value_text, values_text, row_text, row_line};
-ghost use Rattle.ctr_print.specs.Prints.{Adds};
+ghost use Rattle.ctr_print.specs.Prints.{PrintsMore};
 
 use crate::form::{Form, put_each};
 use crate::pieces::put_number;
 use crate::printer::Printer;
-use ctr_disk::Sink;
+use ctr_io::Sink;
 use ctr_types::{Row, Value};
 
 // A byte of a text between quotes.
@@ -26,7 +26,7 @@ impl Form<u8> for Doubled {
 
 /// Puts a text between quotes, each quote in it doubled.
 pub fn put_quoted<K: Sink>(out: &mut Printer<K>, text: &[u8])
-    ensures { Adds K.Sink (quoted text.now) out.old out.new }
+    ensures { PrintsMore K.Sink (quoted text.now) out.old out.new }
 {
     out.put(b"'");
     put_each::<Doubled, u8, K>(out, text);
@@ -35,7 +35,7 @@ pub fn put_quoted<K: Sink>(out: &mut Printer<K>, text: &[u8])
 
 /// Puts a value: a number in decimal, or a text between quotes.
 pub fn put_value<K: Sink>(out: &mut Printer<K>, value: &Value)
-    ensures { Adds K.Sink (value_text value.now) out.old out.new }
+    ensures { PrintsMore K.Sink (value_text value.now) out.old out.new }
 {
     match value {
         Value::Int(n) => put_number(out, *n),
@@ -57,7 +57,7 @@ impl Form<Value> for Following {
 
 /// Puts values with a comma and a blank between.
 pub fn put_values<K: Sink>(out: &mut Printer<K>, values: &[Value])
-    ensures { Adds K.Sink (values_text values.now) out.old out.new }
+    ensures { PrintsMore K.Sink (values_text values.now) out.old out.new }
 {
     let Some((first, others)) = values.split_first() else {
         return;
@@ -68,7 +68,7 @@ pub fn put_values<K: Sink>(out: &mut Printer<K>, values: &[Value])
 
 /// Puts a row: its values between brackets.
 pub fn put_row<K: Sink>(out: &mut Printer<K>, row: &Row)
-    ensures { Adds K.Sink (row_text row.now) out.old out.new }
+    ensures { PrintsMore K.Sink (row_text row.now) out.old out.new }
 {
     out.put(b"(");
     put_values(out, row.values.as_slice());
@@ -77,7 +77,7 @@ pub fn put_row<K: Sink>(out: &mut Printer<K>, row: &Row)
 
 /// Puts a row on a line of its own, behind two blanks.
 pub fn put_row_line<K: Sink>(out: &mut Printer<K>, row: &Row)
-    ensures { Adds K.Sink (row_line row.now) out.old out.new }
+    ensures { PrintsMore K.Sink (row_line row.now) out.old out.new }
 {
     out.put(b"  ");
     put_row(out, row);

@@ -2,7 +2,7 @@
 use Rattle.std.specs.Prelude.{◌≡◌, ◌⊎◌, ℕ, ◌<◌, ◌≤◌, IsTrue, List, length, Result, MatchResult}
 use Rattle.ctr_types.specs.declared.statement.Line.{Line}
 use Rattle.ctr_types.specs.declared.statement.Script.{Script}
-use Rattle.ctr_disk.specs.declared.edges.Source.{Ghosts}
+use Rattle.ctr_io.specs.declared.edges.Source.{Ghosts}
 use Rattle.ctr_model.specs.Grammar.{first, NoLine, IsScript, IsRefusedAt, most_bytes}
 use Rattle.ctr_script.specs.declared.error.ScriptError.{ScriptError}
 use Rattle.ctr_script.specs.declared.error.ScriptError.TheVariants as error

@@ -1,12 +1,12 @@
 // The bytes of a source.
 ghost use Rattle.std.specs.Prelude.{◌≡◌, ◌+◌, ◌<◌, ◌≤◌, ◌++◌, ◌↔◌, [], IsTrue, length, vec_len, IfOk, IfErr, OnErr};
 ghost use Rattle.ctr_model.specs.Grammar.{most_bytes};
-ghost use Rattle.ctr_disk.specs.Crash.{HasFault};
+ghost use Rattle.ctr_types.specs.Faults.{HasFault};
 ghost use Rattle.ctr_script.specs.declared.error.ScriptError.TheVariants.{ReadFault};
 ghost use Rattle.ctr_script.specs.Reading.{StopsPiece, StopsReading};
 
 use crate::ScriptError;
-use ctr_disk::Source;
+use ctr_io::Source;
 use std::alloc::{AllocError, Global};
 
 /// The most bytes that a script has.

@@ -1,7 +1,7 @@
 // Why a script isn't read.
 ghost use Rattle.std.specs.Prelude.{◌≡◌};
 
-use ctr_disk::Failed;
+use ctr_io::Failed;
 use std::alloc::{AllocError, AllocFailed};
 
 /// Why there is no script.

@@ -3,7 +3,7 @@ ghost use Rattle.std.specs.Prelude.{◌≡◌, ◌⊎◌, ◌+◌, ◌<◌, ◌�
 ghost use Rattle.std.specs.List.{AllByRecursion};
 ghost use Rattle.ctr_types.specs.declared.statement.Line.{Line};
 ghost use Rattle.ctr_model.specs.Grammar.{first, HasNoEnd, IsScript};
-ghost use Rattle.ctr_disk.specs.Crash.{HasFault};
+ghost use Rattle.ctr_types.specs.Faults.{HasFault};
 ghost use Rattle.ctr_script.specs.declared.error.ScriptError.TheVariants.{Refused, ReadFault};
 ghost use Rattle.ctr_script.specs.Added.{Adds, IsFirstLine};
 ghost use Rattle.ctr_script.specs.Reading.{StopsAt, IsRefusal, IsShortScript, HasReason, IsDecided};
@@ -12,7 +12,7 @@ use crate::ScriptError;
 use crate::bytes::read_bytes;
 use crate::laws::{no_script_is_refused, one_refusal, one_script};
 use crate::line::add_line;
-use ctr_disk::Source;
+use ctr_io::Source;
 use ctr_parse::ParseError;
 use ctr_types::{Line, List, Script};
 use std::alloc::Global;

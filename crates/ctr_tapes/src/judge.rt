@@ -1,7 +1,7 @@
 // What the steps of a suite gave, beside what they were to give.
 use crate::page::Page;
 use crate::trouble::Trouble;
-use ctr_disk::Sink;
+use ctr_io::Sink;
 use std::alloc::Global;
 use std::mem;
 

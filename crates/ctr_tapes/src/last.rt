@@ -3,9 +3,9 @@ use crate::entry::{must_be_empty, read_number, read_small};
 use crate::page::Page;
 use crate::trouble::Trouble;
 use crate::words::{signed, split_word, wide};
-use ctr_disk::{MemSink, Sink};
+use ctr_io::{MemSink, Sink};
 use ctr_model::{Cause, Command, Report, Survey};
-use ctr_print::{Printer, put_last_line, put_transcript};
+use ctr_print::{Printer, put_last_line, put_run};
 use ctr_types::{File, List, Tape};
 use std::alloc::Global;
 
@@ -151,17 +151,14 @@ pub fn put_end(page: &mut Page, line: &[u8], tape: &Tape) -> Result<(), Trouble>
 // Whether a put fails as it is listed, and what was put is then a front of the whole.
 fn leaves_front(alloc: Global, fails: List<u64>, tape: &Tape, whole: &[u8]) -> bool {
     let mut sink = MemSink::in_pieces(alloc, fails, 3);
-    let mut out = Printer::new(&mut sink);
-    put_transcript(&mut out, tape);
-    put_last_line(
-        &mut out,
+    let fine = put_run(
+        &mut sink,
         &Command::Run,
         0,
         &Cause::Plain,
         tape,
         &report_of(0),
     );
-    let fine = out.finish();
     !fine && sink.faults() == 1 && whole.starts_with(sink.bytes())
 }
 

@@ -1,7 +1,7 @@
 // What is printed, in memory.
 ghost use Rattle.std.specs.Prelude.{◌≡◌, [], true};
 
-use ctr_disk::{Failed, Sink};
+use ctr_io::{Failed, Sink};
 use ctr_print::{Printer, put_number, put_refusal, put_row, put_row_line};
 use ctr_types::{Refusal, Row};
 use std::alloc::Global;

@@ -4,7 +4,7 @@ ghost use Rattle.ctr_model.specs.Texts.{transcript, end_line};
 
 use crate::page::Page;
 use ctr_model::{Cause, Command, Report};
-use ctr_print::{Printer, put_last_line, put_transcript};
+use ctr_print::put_run;
 use ctr_types::{OutOfMemory, Tape};
 use std::alloc::Global;
 
@@ -13,10 +13,7 @@ pub fn shown(alloc: Global, tape: &Tape, report: &Report) -> Result<Vec<u8>, Out
     ensures { IfOk result (λ bytes. bytes.items ≡ transcript tape.now.entries ++ end_line tape.now.entries report.now) }
 {
     let mut page = Page::new(alloc);
-    let mut out = Printer::new(&mut page);
-    put_transcript(&mut out, tape);
-    put_last_line(&mut out, &Command::Run, 0, &Cause::Plain, tape, report);
-    if !out.finish() {
+    if !put_run(&mut page, &Command::Run, 0, &Cause::Plain, tape, report) {
         return Err(OutOfMemory);
     }
     Ok(page.into_bytes())

@@ -1,6 +1,6 @@
 -- What the root and the log that it names say of the image.
 use Rattle.std.proofs.Common.{◌≡◌, ◌≢◌, ◌+◌, ◌<◌, ◌≤◌, ◌^◌, ◌-◌, ℕ, List, [], ◌∷◌, ◌++◌, length, sym, ◌∙◌, ap, subst, arith, Option, Some, None, append_assoc, length-append}
-use Rattle.std.specs.Prelude.{codes}
+use Rattle.std.specs.Prelude.{codes, Ok}
 use Rattle.ctr_bytes.specs.Fields.{spelled, field}
 use Rattle.ctr_bytes.proofs.FieldLaws.{field_at, length-spelled}
 use Rattle.ctr_disk.specs.declared.disk.Image.{Image}
@@ -12,7 +12,7 @@ use Rattle.ctr_disk.specs.Image.{content}
 use Rattle.ctr_log.specs.declared.reading.ReadError.{ReadError}
 use Rattle.ctr_log.specs.declared.reading.ReadError.TheVariants as read
 use Rattle.ctr_log.specs.Damage.{Differs}
-use Rattle.ctr_log.specs.Homes.{Block, root_block, root_value, IsRoot, SaysRoot}
+use Rattle.ctr_log.specs.Homes.{Block, root_block, root_value, IsRoot, SaysRoot, Answers}
 use Rattle.ctr_log.specs.Logs.{Batches, records, HasLog, Log, GoesOn}
 use Rattle.ctr_log.specs.Reading.{log_file, HasSome, RefusesOrFails, ReadDiffers, OpensLog}
 use Rattle.ctr_log.specs.Fresh.{first_checkpoint}
@@ -68,7 +68,21 @@ one_root value a b sa sb =
 
 -- ---- the image, where its root is known; it reads so later too
 
-module _ (image mid : Image) (same : mid ≡ image) (r : Root) (says : SaysRoot (root_value image.root) r) where
+-- the first image's root is known, and the second is the same image, later
+pub record FoundRoot (image mid : Image) (r : Root) : Type 0 where
+  pub same : mid ≡ image
+  pub says : SaysRoot (root_value image.root) r
+
+pub found : {image mid : Image} {root : Option Root} {r : Root} → root ≡ Some r → Answers (root_value image.root) (Ok root) → mid ≡ image → FoundRoot image mid r
+found {image} {mid} {root} {r} is answers same = record { same = same; says = subst (λ (o : Option Root). Answers (root_value image.root) (Ok o)) is answers }
+
+module _ {image mid : Image} {r : Root} (root_is : FoundRoot image mid r) where
+  abbrev same : mid ≡ image
+  same = root_is.same
+
+  abbrev says : SaysRoot (root_value image.root) r
+  says = root_is.says
+
   not_none : root_value image.root ≢ None
   not_none none = let both : Some (root_block r) ≡ None = sym says.0 ∙ none in cc
 
@@ -84,7 +98,7 @@ module _ (image mid : Image) (same : mid ≡ image) (r : Root) (says : SaysRoot 
   log_refused (read.Store (store.Damaged f at want got)) refused = (refused.0.1, not_none, λ db s low. refused.1 (s.bs, log_of_image db s))
 
   -- records of the log, where they were read
-  module _ (rs : List (List ℕ)) (only : (bs : Batches) → HasLog r.first bs (content (log_file r.file) mid) → rs ≡ records bs) where
+  module _ {rs : List (List ℕ)} (only : (bs : Batches) → HasLog r.first bs (content (log_file r.file) mid) → rs ≡ records bs) where
     records_of_image : (db : Database) (s : StandsFor image db) → rs ≡ first_checkpoint ∷ s.rs
     records_of_image db s = only s.bs (log_of_image db s) ∙ s.begins
 
@@ -100,7 +114,7 @@ module _ (image mid : Image) (same : mid ≡ image) (r : Root) (says : SaysRoot 
         let rests : makes.0 ≡ s.rs = cc in
         one [] s.rs made db (subst (λ (l : List (List ℕ)). FoldsRecords [] l made) rests makes.2) s.folds
 
-    module _ (log : Log) (opens : OpensLog r.first (log_file r.file) mid log rs) where
+    module _ {log : Log} (opens : OpensLog r.first (log_file r.file) mid log rs) where
       next_is_of : log.first + length log.buffered ≡ r.first + length rs
       next_is_of = omega (arith, opens.goes_on.first_is, ap length opens.none, ap length opens.records_are)
 
@@ -125,7 +139,7 @@ module _ (image mid : Image) (same : mid ≡ image) (r : Root) (says : SaysRoot 
         begins = sym opens.records_are ∙ makes.1;
         folds = makes.2;
       };
-      low = omega (arith, low, next_is_of o.log opens, ap length opens.records_are);
+      low = omega (arith, low, next_is_of opens, ap length opens.records_are);
       file = opens.file_is;
       goes_on = subst (λ (i : Image). GoesOn r.first opens.bs o.log i) same opens.goes_on;
       none = opens.none;

@@ -3,8 +3,8 @@ use Rattle.std.proofs.Common.{◌≡◌, ◌≢◌, ◌⊎◌, inl, inr, ⊎_eli
 use Rattle.std.specs.Prelude.{IsTrue}
 use Rattle.ctr_types.specs.declared.statement.Line.{Line}
 use Rattle.ctr_disk.specs.declared.disk.Disk.{Ghosts}
-use Rattle.ctr_disk.specs.declared.edges.Source.{Ghosts as Source}
-use Rattle.ctr_disk.specs.Crash.{CountsFault}
+use Rattle.ctr_io.specs.declared.edges.Source.{Ghosts as Source}
+use Rattle.ctr_types.specs.Faults.{CountsFault}
 use Rattle.ctr_model.specs.Grammar.{first, IsScript, IsRefusedAt}
 use Rattle.ctr_script.specs.Reading.{IsShortScript}
 use Rattle.ctr_world.specs.World.{CanOpen}

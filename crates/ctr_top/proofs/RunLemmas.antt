@@ -6,10 +6,10 @@ use Rattle.ctr_types.specs.declared.statement.Script.{Script}
 use Rattle.ctr_types.specs.declared.tape.Entry.{Entry}
 use Rattle.ctr_disk.specs.declared.disk.Image.{Image}
 use Rattle.ctr_disk.specs.declared.disk.Disk.{Ghosts}
-use Rattle.ctr_disk.specs.declared.edges.Source.{Ghosts as Source}
+use Rattle.ctr_io.specs.declared.edges.Source.{Ghosts as Source}
 use Rattle.ctr_disk.specs.declared.fault.Stop.{Stop}
 use Rattle.ctr_disk.specs.declared.fault.Stop.TheVariants as stop
-use Rattle.ctr_disk.specs.Crash.{CountsFault}
+use Rattle.ctr_types.specs.Faults.{CountsFault}
 use Rattle.ctr_disk.specs.Device.{OnlyReads}
 use Rattle.ctr_disk.proofs.Moments.{starts}
 use Rattle.ctr_model.specs.Database.{Database}

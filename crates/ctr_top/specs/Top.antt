@@ -5,9 +5,9 @@ use Rattle.ctr_types.specs.declared.statement.Line.{Line}
 use Rattle.ctr_types.specs.declared.tape.Entry.{Entry}
 use Rattle.ctr_disk.specs.declared.disk.Image.{Image}
 use Rattle.ctr_disk.specs.declared.disk.Disk.{Ghosts}
-use Rattle.ctr_disk.specs.declared.edges.Source.{Ghosts as Source}
-use Rattle.ctr_disk.specs.declared.edges.Sink.{Ghosts as Sink}
-use Rattle.ctr_disk.specs.Crash.{CountsFault}
+use Rattle.ctr_io.specs.declared.edges.Source.{Ghosts as Source}
+use Rattle.ctr_io.specs.declared.edges.Sink.{Ghosts as Sink}
+use Rattle.ctr_types.specs.Faults.{CountsFault}
 use Rattle.ctr_disk.specs.Device.{LeavesOnly, OnlyReads}
 use Rattle.ctr_model.specs.declared.tape.Command.{Command}
 use Rattle.ctr_model.specs.declared.tape.Report.{Report}

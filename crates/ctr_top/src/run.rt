@@ -19,9 +19,10 @@ use crate::making::make;
 use crate::outcome::Outcome;
 use crate::script::run_script;
 use crate::words::command;
-use ctr_disk::{Disk, Sink, Source};
+use ctr_disk::Disk;
+use ctr_io::{Sink, Source};
 use ctr_model::{Command, Report};
-use ctr_print::{Printer, count_answers, count_refusals, put_last_line, put_transcript};
+use ctr_print::{count_answers, count_refusals, put_run};
 use ctr_script::no_script_is_refused;
 use ctr_types::Tape;
 use std::alloc::Global;
@@ -63,12 +64,9 @@ fn ending<D, K: Sink>(sink: &mut K, command: &Command, outcome: Outcome<D>) -> E
         sum: 0,
     };
     let Outcome { ending, tape, disk } = outcome;
-    let mut out = Printer::new(sink);
-    put_transcript(&mut out, &tape);
     let status = ending.status();
     let cause = ending.cause();
-    put_last_line(&mut out, command, status, &cause, &tape, &report);
-    let fine = out.finish();
+    let fine = put_run(sink, command, status, &cause, &tape, &report);
     Ended {
         ending: after_put(ending, fine),
         tape,

@@ -10,7 +10,8 @@ ghost use Rattle.ctr_top.specs.Top.{Ran, RanScript, RunCauses, LinesCauses, RunL
 
 use crate::ending::{not_opened, not_read, stopped};
 use crate::outcome::Outcome;
-use ctr_disk::{Disk, Source};
+use ctr_disk::Disk;
+use ctr_io::Source;
 use ctr_script::read_script;
 use ctr_types::{Actor, Script, Turn};
 use ctr_world::{Opening, World};

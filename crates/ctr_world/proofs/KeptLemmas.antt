@@ -3,7 +3,7 @@ use Rattle.std.proofs.Common.{◌≡◌, ◌⊎◌, inl, inr, ℕ, ◌≤◌, Op
 use Rattle.std.specs.Prelude.{IsTrue}
 use Rattle.ctr_disk.specs.declared.fault.Stop.{Stop}
 use Rattle.ctr_disk.specs.declared.fault.Stop.TheVariants as stop
-use Rattle.ctr_disk.specs.Crash.{CountsFault}
+use Rattle.ctr_types.specs.Faults.{CountsFault}
 use Rattle.ctr_model.specs.Database.{Database}
 use Rattle.ctr_world.specs.declared.parts.Parts.{Parts}
 use Rattle.ctr_disk.specs.declared.disk.Disk.{Ghosts}

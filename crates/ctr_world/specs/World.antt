@@ -15,7 +15,8 @@ use Rattle.ctr_types.specs.declared.tape.Entry.{Entry}
 use Rattle.ctr_disk.specs.declared.disk.Image.{Image}
 use Rattle.ctr_disk.specs.declared.fault.Stop.{Stop}
 use Rattle.ctr_disk.specs.declared.fault.Stop.TheVariants as stop
-use Rattle.ctr_disk.specs.Crash.{Within, CountsFault}
+use Rattle.ctr_types.specs.Faults.{CountsFault}
+use Rattle.ctr_disk.specs.Crash.{Within}
 use Rattle.ctr_disk.specs.Device.{IsDurable, OnlyReads}
 use Rattle.ctr_disk.specs.declared.disk.Disk.{Ghosts}
 use Rattle.ctr_model.specs.declared.database.Change.{Change}

@@ -1,7 +1,7 @@
 // The parts of a World, and the turns of its session.
 ghost use Rattle.std.specs.Prelude.{◌≡◌, ◌≢◌, ◌≤◌, ◌<◌, ◌+◌, ◌-◌, ◌*◌, ◌^◌, ◌⊎◌, IsTrue, [], ◌∷◌, ◌++◌, length, None, Some, vec_len, vec_capacity};
 ghost use Rattle.ctr_disk.specs.declared.fault.Stop.TheVariants.{Fault};
-ghost use Rattle.ctr_disk.specs.Crash.{CountsFault};
+ghost use Rattle.ctr_types.specs.Faults.{CountsFault};
 ghost use Rattle.ctr_types.specs.declared.tape.Actor.TheVariants as who;
 ghost use Rattle.ctr_types.specs.declared.tape.Turn.TheVariants.{Went, Stopped};
 ghost use Rattle.ctr_model.specs.Database.{Database};
@@ -157,6 +157,15 @@ impl<D: Disk> Parts<D> {
         ensures one_of { (result ≡ Went) ⊎ (result ≡ Stopped) }
     {
         self.harden::<B>();
+        self.went()
+    }
+
+    // How a turn that did something ended.
+    fn went(&self) -> Turn
+        ensures went { result ≡ Went → self.now.stop ≡ None }
+        ensures stopped { result ≡ Stopped → self.now.stop ≢ None }
+        ensures one_of { (result ≡ Went) ⊎ (result ≡ Stopped) }
+    {
         if self.stop.is_some() {
             Turn::Stopped
         } else {

@@ -1,65 +1,41 @@
-use Rattle.std.proofs.Common.{◌<◌, ◌^◌, List, ℕ, subst, Option}
-use Rattle.std.specs.Prelude.{Ok}
+use Rattle.std.proofs.Common.{◌<◌, ◌^◌, List, ℕ, subst}
 use Rattle.std.proofs.lemmas.Result.{err_from_is_err_and}
-use Rattle.ctr_disk.specs.declared.fault.Root.{Root}
-use Rattle.ctr_log.specs.Homes.{root_value, Answers}
 use Rattle.ctr_tables.specs.Tables.{database_of}
 use Rattle.ctr_thin.specs.Thin.{MakesDatabase, MakesSomeDatabase, RefusesToOpen}
-use Rattle.ctr_thin.proofs.OpenLemmas.{log_refused, records_refused, next_refused, was_opened, only_tables, store_differs, log_differs, records_differ, next_differs}
+use Rattle.ctr_thin.proofs.OpenLemmas.{found, log_refused, records_refused, next_refused, was_opened, only_tables, store_differs, log_differs, records_differ, next_differs}
 use Rattle.ctr_thin.proofs.opening.read_database.Goals as goal
 
 pub returns-in_err-log-clause-refused : goal.returns-in_err-log-clause-refused
 returns-in_err-log-clause-refused g c told =
-    let d = g.D.Disk in
     let p = err_from_is_err_and c.from_residual-in_err-log.result c.from_residual-in_err-log.ensures.1 in
-    let image = d.reads c.args.disk.now in
-    let r = c.in-Some.root in
-    let says = subst (λ (o : Option Root). Answers (root_value image.root) (Ok o)) c.in-Some.is (c.in_ok-root.ensures.answer told) in
-    rw (p.1, p.2) (log_refused image (d.reads c.read_root.new.disk) c.in_ok-root.ensures.quiet.same r says c.in_err-log.field-0.0 (c.in_err-log.ensures.refused told))
+    rw (p.1, p.2) (log_refused (found c.in-Some.is (c.in_ok-root.ensures.answer told) c.in_ok-root.ensures.quiet.same) c.in_err-log.field-0.0 (c.in_err-log.ensures.refused told))
 
 pub returns-in_err-tables-clause-refused : goal.returns-in_err-tables-clause-refused
 returns-in_err-tables-clause-refused g c told =
-    let d = g.D.Disk in
     let p = err_from_is_err_and c.from_residual-in_err-tables.result c.from_residual-in_err-tables.ensures.1 in
-    let image = d.reads c.args.disk.now in
-    let r = c.in-Some.root in
-    let says = subst (λ (o : Option Root). Answers (root_value image.root) (Ok o)) c.in-Some.is (c.in_ok-root.ensures.answer told) in
     let e = c.in_err-tables.field-0.0 in
-    let refused = subst (λ (l : List (List ℕ)). RefusesToOpen (MakesSomeDatabase l) e) c.as_slice.ensures c.in_err-tables.ensures.refused in
-    rw (p.1, p.2) (records_refused image (d.reads c.read_root.new.disk) c.in_ok-root.ensures.quiet.same r says c.in_ok-log.records (λ bs log. c.in_ok-log.ensures.only bs told log) e refused)
+    rw (p.1, p.2) (records_refused (found c.in-Some.is (c.in_ok-root.ensures.answer told) c.in_ok-root.ensures.quiet.same) (λ bs log. c.in_ok-log.ensures.only bs told log) e
+    (subst (λ (l : List (List ℕ)). RefusesToOpen (MakesSomeDatabase l) e) c.as_slice.ensures c.in_err-tables.ensures.refused))
 
 pub returns-in_err-check_next-clause-refused : goal.returns-in_err-check_next-clause-refused
 returns-in_err-check_next-clause-refused g c told =
-    let d = g.D.Disk in
     let p = err_from_is_err_and c.from_residual-in_err-check_next.result c.from_residual-in_err-check_next.ensures.1 in
-    let image = d.reads c.args.disk.now in
-    let r = c.in-Some.root in
-    let says = subst (λ (o : Option Root). Answers (root_value image.root) (Ok o)) c.in-Some.is (c.in_ok-root.ensures.answer told) in
     let fails = c.in_err-check_next.ensures in
-    rw (p.1, p.2, fails.1)
-    (next_refused image (d.reads c.read_root.new.disk) c.in_ok-root.ensures.quiet.same r says c.in_ok-log.records (λ bs log. c.in_ok-log.ensures.only bs told log) c.in_ok-log.log
-    (c.in_ok-log.ensures.found told) c.named_file-file.result c.next.result c.next.ensures fails.0)
+    rw (p.1, p.2, fails.1) (next_refused (found c.in-Some.is (c.in_ok-root.ensures.answer told) c.in_ok-root.ensures.quiet.same) (λ bs log. c.in_ok-log.ensures.only bs told log) (c.in_ok-log.ensures.found told)
+    c.named_file-file.result c.next.result c.next.ensures fails.0)
 
 pub returns-clause-opened : goal.returns-clause-opened
 returns-clause-opened g c told =
-    let d = g.D.Disk in
-    let image = d.reads c.args.disk.now in
-    let r = c.in-Some.root in
-    let says = subst (λ (o : Option Root). Answers (root_value image.root) (Ok o)) c.in-Some.is (c.in_ok-root.ensures.answer told) in
     let tables = c.in_ok-tables.tables in
-    let makes = subst (λ (l : List (List ℕ)). MakesDatabase l (database_of tables)) c.as_slice.ensures c.in_ok-tables.ensures.found in
-    was_opened image (d.reads c.read_root.new.disk) c.in_ok-root.ensures.quiet.same r says c.in_ok-log.records (λ bs log. c.in_ok-log.ensures.only bs told log) (record { log = c.in_ok-log.log; tables = tables })
-    (c.in_ok-log.ensures.found told) makes (subst (λ (n : ℕ). n < 2 ^ 62) c.next.ensures c.in_ok-check_next.ensures)
+    was_opened (found c.in-Some.is (c.in_ok-root.ensures.answer told) c.in_ok-root.ensures.quiet.same) (λ bs log. c.in_ok-log.ensures.only bs told log) (record { log = c.in_ok-log.log; tables = tables }) (c.in_ok-log.ensures.found told)
+    (subst (λ (l : List (List ℕ)). MakesDatabase l (database_of tables)) c.as_slice.ensures c.in_ok-tables.ensures.found)
+    (subst (λ (n : ℕ). n < 2 ^ 62) c.next.ensures c.in_ok-check_next.ensures)
 
 pub returns-clause-only : goal.returns-clause-only
 returns-clause-only g c db told =
-    let d = g.D.Disk in
-    let image = d.reads c.args.disk.now in
-    let r = c.in-Some.root in
-    let says = subst (λ (o : Option Root). Answers (root_value image.root) (Ok o)) c.in-Some.is (c.in_ok-root.ensures.answer told) in
-    let tables = c.in_ok-tables.tables in
-    let makes = subst (λ (l : List (List ℕ)). MakesDatabase l (database_of tables)) c.as_slice.ensures c.in_ok-tables.ensures.found in
-    only_tables image (d.reads c.read_root.new.disk) c.in_ok-root.ensures.quiet.same r says c.in_ok-log.records (λ bs log. c.in_ok-log.ensures.only bs told log) c.fold_is_one.ensures (database_of tables) makes db
+    let made = database_of c.in_ok-tables.tables in
+    only_tables (found c.in-Some.is (c.in_ok-root.ensures.answer told) c.in_ok-root.ensures.quiet.same) (λ bs log. c.in_ok-log.ensures.only bs told log) c.fold_is_one.ensures made
+    (subst (λ (l : List (List ℕ)). MakesDatabase l made) c.as_slice.ensures c.in_ok-tables.ensures.found) db
 
 pub returns-in_err-root-clause-differs : goal.returns-in_err-root-clause-differs
 returns-in_err-root-clause-differs g c =

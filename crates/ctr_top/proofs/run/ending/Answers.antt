@@ -1,8 +1,7 @@
-use Rattle.std.proofs.Common.{◌≡◌, ◌++◌, [], pos, ap, subst}
+use Rattle.std.proofs.Common.{◌≡◌, ◌++◌, pos, ap, subst}
 use Rattle.ctr_model.specs.declared.tape.Report.{Report}
 use Rattle.ctr_model.specs.Texts.{transcript, last_line}
-use Rattle.ctr_print.proofs.Joins.{both}
-use Rattle.ctr_print.specs.Prints.{IsAt}
+use Rattle.ctr_print.specs.Prints.{PutsOn}
 use Rattle.ctr_top.specs.Endings.{status_of, cause_of}
 use Rattle.ctr_top.specs.Top.{report_of}
 use Rattle.ctr_top.proofs.run.ending.Goals as goal
@@ -16,9 +15,8 @@ returns-clause-printed g c =
     let text : transcript es ++ last_line c.args.command.now c.status-status.result c.cause-cause.result es made ≡ transcript es ++ last_line c.args.command.now (status_of o.ending) (cause_of o.ending) es (report_of es) =
     λ i. transcript es ++ last_line c.args.command.now (c.status-status.ensures i) (c.cause-cause.ensures i) es (is i) in
     record {
-      done = c.finish-fine.result;
-      put = c.finish-fine.ensures _ _ (subst (λ t. IsAt g.K.Sink c.args.sink.now t c.put_last_line.new.out) text
-          ((both c.put_transcript.ensures c.put_last_line.ensures).adds c.args.sink.now [] c.new-out.ensures.begun));
+      done = c.put_run-fine.result;
+      put = subst (λ t. PutsOn g.K.Sink c.args.sink.now t c.put_run-fine.new.sink c.put_run-fine.result) text c.put_run-fine.ensures;
       fine = c.after_put.ensures.fine;
       failed = c.after_put.ensures.failed;
     }

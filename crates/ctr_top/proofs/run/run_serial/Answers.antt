@@ -1,5 +1,5 @@
 use Rattle.std.proofs.Common.{◌≢◌, ◌≡◌, ◌∙◌, ⊎_elim, inl, inr, refl, sym, ap, subst}
-use Rattle.ctr_disk.specs.Crash.{CountsFault}
+use Rattle.ctr_types.specs.Faults.{CountsFault}
 use Rattle.ctr_model.specs.declared.tape.Command.TheVariants.{Init, Run}
 use Rattle.ctr_top.specs.declared.ending.Ending.TheVariants as ending
 use Rattle.ctr_top.specs.Endings.{work}

@@ -1,6 +1,6 @@
 use Rattle.std.proofs.Common.{◌∙◌, ⊎_elim, sym, subst}
 use Rattle.ctr_disk.specs.Device.{OnlyReads}
-use Rattle.ctr_disk.specs.Crash.{CountsFault}
+use Rattle.ctr_types.specs.Faults.{CountsFault}
 use Rattle.ctr_thin.specs.Thin.{StandsFor}
 use Rattle.ctr_world.specs.World.{StopsBy, StraysOnlyLong}
 use Rattle.ctr_top.specs.Top.{IsRefused}

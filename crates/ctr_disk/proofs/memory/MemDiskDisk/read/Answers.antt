@@ -3,7 +3,8 @@ use Rattle.ctr_disk.specs.declared.record.Call.TheVariants.{Read}
 use Rattle.std.specs.Prelude.{Result, Ok, Err, is_ok, nat_le}
 use Rattle.ctr_disk.specs.declared.disk.Failed.{Failed}
 use Rattle.std.specs.List.{list_any}
-use Rattle.ctr_disk.specs.Counting.{raised, outcome_of}
+use Rattle.ctr_types.specs.Faults.{raised}
+use Rattle.ctr_disk.specs.Counting.{outcome_of}
 use Rattle.ctr_disk.specs.declared.record.Recorded.{Recorded}
 use Rattle.ctr_disk.proofs.Kept.{goes_kept, replayed_kept, timely_kept, within_kept, elapses_kept, stray_kept}
 use Rattle.ctr_disk.proofs.memory.MemDiskDisk.read.Goals as goal

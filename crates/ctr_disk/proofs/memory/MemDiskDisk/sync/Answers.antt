@@ -2,7 +2,8 @@ use Rattle.std.proofs.Common.{◌==◌, ◌||◌, ◌&&◌, ◌-◌, ◌^◌, �
 use Rattle.ctr_disk.specs.declared.record.Call.TheVariants.{Sync}
 use Rattle.std.specs.Prelude.{is_ok, nat_le}
 use Rattle.std.specs.List.{list_any}
-use Rattle.ctr_disk.specs.Counting.{raised, outcome_of}
+use Rattle.ctr_types.specs.Faults.{raised}
+use Rattle.ctr_disk.specs.Counting.{outcome_of}
 use Rattle.ctr_disk.specs.declared.record.Recorded.{Recorded}
 use Rattle.ctr_disk.proofs.Kept.{goes_kept, replayed_kept, timely_kept, within_kept, elapses_kept, tick_cases, durable_sync}
 use Rattle.ctr_disk.proofs.memory.MemDiskDisk.sync.Goals as goal

@@ -1,7 +1,7 @@
 //! A source that reads and a sink that writes, which tell nothing of the bytes.
 ghost use Rattle.std.specs.Prelude.{◌≤◌, ◌<◌, [], false, length, IfOk};
 
-use ctr_disk::{Failed, Sink, Source};
+use crate::{Failed, Sink, Source};
 use std::io::{ErrorKind, Read, Write};
 
 /// The bytes of a reader.
@@ -12,6 +12,7 @@ pub struct ReadSource<R: Read> {
 }
 
 impl<R: Read> ReadSource<R> {
+    /// The source of a reader, of which no call has failed.
     pub fn new(reader: R) -> Self {
         ReadSource { reader, faults: 0 }
     }
@@ -59,6 +60,7 @@ pub struct WriteSink<W: Write> {
 }
 
 impl<W: Write> WriteSink<W> {
+    /// The sink of a writer, of which no call has failed.
     pub fn new(writer: W) -> Self {
         WriteSink { writer, faults: 0 }
     }

@@ -1,6 +1,6 @@
 use Rattle.std.proofs.Common.{◌==◌, ◌∙◌, List, ℕ, inl, refl, sym, ap}
 use Rattle.std.specs.List.{list_any}
-use Rattle.ctr_disk.proofs.memory_edges.MemSinkSink.put.Goals as goal
+use Rattle.ctr_io.proofs.memory.MemSinkSink.put.Goals as goal
 
 pub returns-then-contains-clause-fails : goal.returns-then-contains-clause-fails
 returns-then-contains-clause-fails c = inl (

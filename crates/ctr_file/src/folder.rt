@@ -1,6 +1,6 @@
-//! Four files in a folder, opened as they are needed.
-ghost use Rattle.std.specs.Prelude.{◌≡◌, true, false, OnOk, OnErr};
-ghost use Rattle.ctr_main.specs.Folder.{is_unsynced, IsUnsynced, KeepsInMind, IsSynced, SyncsNames};
+//! Four files in a folder, opened as they are needed, and locked while they are.
+ghost use Rattle.std.specs.Prelude.{◌≡◌, true, false, IsSome, OnOk, OnErr};
+ghost use Rattle.ctr_file.specs.Folder.{is_unsynced, IsUnsynced, KeepsInMind, IsSynced, SyncsNames};
 
 use crate::marked::Marked;
 use ctr_disk::Failed;
@@ -23,7 +23,6 @@ pub struct Folder<R: Files<File = File>> {
     rt: R,
     alloc: Global,
     path: String,
-    is_there: bool,
     are_names_unsynced: bool,
     has_lost: bool,
     root: Slot,
@@ -38,7 +37,6 @@ impl<R: Files<File = File> + Drop> Drop for Folder<R> {
             rt: _,
             alloc: _,
             path: _,
-            is_there: _,
             are_names_unsynced: _,
             has_lost: _,
             root: _,
@@ -100,6 +98,12 @@ fn open_file<R: Files<File = File>>(
     }
 }
 
+// Locks an open file for this program, as long as it is open. Another one that has it locked is no cause
+// to wait.
+fn lock(file: &File) -> Result<(), Failed> {
+    file.try_lock().map_err(|_| Failed)
+}
+
 // Syncs the names in a folder.
 fn sync_names<R: Files<File = File>>(rt: &R, path: &str) -> Result<(), Failed> {
     match File::open(rt, path) {
@@ -149,7 +153,6 @@ impl<R: Files<File = File> + Drop> Folder<R> {
             rt,
             alloc,
             path,
-            is_there: false,
             are_names_unsynced: true,
             has_lost: false,
             root: None,
@@ -169,7 +172,8 @@ impl<R: Files<File = File> + Drop> Folder<R> {
     }
 
     fn set_file(&mut self, file: Which, opened: File)
-        ensures { KeepsInMind self.old self.new }
+        ensures kept { KeepsInMind self.old self.new }
+        ensures locked { IsSome self.old.root → IsSome self.new.root }
     {
         let slot = Some(Marked::new(opened));
         match file {
@@ -180,16 +184,36 @@ impl<R: Files<File = File> + Drop> Folder<R> {
         }
     }
 
-    // Opens the file, unless it is open.
-    fn open(&mut self, file: Which) -> Result<(), Failed>
-        ensures { KeepsInMind self.old self.new }
+    // Opens the root, unless it is open, and locks it for this program. No other file is opened before:
+    // a second program on the folder neither reads nor changes anything.
+    fn open_root(&mut self) -> Result<(), Failed>
+        ensures kept { KeepsInMind self.old self.new }
+        ensures open { OnOk result (IsSome self.new.root) }
     {
-        if self.slot(file).is_some() {
+        if self.root.is_some() {
             return Ok(());
         }
-        if !self.is_there {
-            make_folder(&self.rt, self.path.as_str())?;
-            self.is_there = true;
+        make_folder(&self.rt, self.path.as_str())?;
+        let opened = open_file(
+            &self.rt,
+            self.alloc,
+            self.path.as_str(),
+            name_of(Which::Root),
+        )?;
+        lock(&opened)?;
+        self.are_names_unsynced = true;
+        self.root = Some(Marked::new(opened));
+        Ok(())
+    }
+
+    // Opens the file, unless it is open, behind the root.
+    fn open(&mut self, file: Which) -> Result<(), Failed>
+        ensures kept { KeepsInMind self.old self.new }
+        ensures locked { OnOk result (IsSome self.new.root) }
+    {
+        self.open_root()?;
+        if self.slot(file).is_some() {
+            return Ok(());
         }
         let opened = open_file(&self.rt, self.alloc, self.path.as_str(), name_of(file))?;
         self.are_names_unsynced = true;

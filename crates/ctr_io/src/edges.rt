@@ -1,9 +1,12 @@
 // Where bytes come from and go to.
 ghost use Rattle.std.specs.Prelude.{◌≡◌, ◌≤◌, ◌<◌, ◌↔◌, Bool, IsTrue, List, ℕ, [], length, IfOk, OnErr};
-ghost use Rattle.ctr_disk.specs.Crash.{HasCause};
-ghost use Rattle.ctr_disk.specs.Outside.{TakesNext, PutsNext};
+ghost use Rattle.ctr_types.specs.Faults.{HasCause};
+ghost use Rattle.ctr_io.specs.Outside.{TakesNext, PutsNext};
 
-use crate::Failed;
+/// A call of a source or a sink has failed. Its count of faults has risen, or stands at the last value of
+/// its type.
+#[derive(Clone, Copy, Debug, PartialEq, Eq)]
+pub struct Failed;
 
 /// Bytes that come in order and end.
 pub trait Source {

@@ -1,9 +1,9 @@
 -- What a source and a sink in memory show.
 use Rattle.std.specs.Prelude.{◌≡◌, ◌==◌, ◌⊎◌, ℕ, Bool, List, [], drop, Result, is_err, IsErr}
 use Rattle.std.specs.List.{list_any}
-use Rattle.ctr_disk.specs.Counting.{raised}
-use Rattle.ctr_disk.specs.declared.memory_edges.MemSource.{MemSource}
-use Rattle.ctr_disk.specs.declared.memory_edges.MemSink.{MemSink}
+use Rattle.ctr_types.specs.Faults.{raised}
+use Rattle.ctr_io.specs.declared.memory.MemSource.{MemSource}
+use Rattle.ctr_io.specs.declared.memory.MemSink.{MemSink}
 
 -- the call after so many is in the list of those that fail
 abbrev pub is_listed : List ℕ → ℕ → Bool

@@ -21,7 +21,7 @@ pub struct MemSource {
 
 impl MemSource {
     ghost use Rattle.std.specs.Prelude.{◌-◌, ◌^◌};
-    ghost use Rattle.ctr_disk.specs.MemoryEdges.{SourceStarts};
+    ghost use Rattle.ctr_io.specs.Memory.{SourceStarts};
 
     /// A source of these bytes. The calls of `take` whose numbers, from 1, are in the list fail.
     pub fn new(bytes: Text, fails: List<u64>) -> Self
@@ -48,9 +48,9 @@ impl MemSource {
 
 impl Source for MemSource {
     ghost use Rattle.std.specs.Prelude.{◌≡◌, ◌↔◌, [], min, true, is_err, IfOk, OnErr};
-    ghost use Rattle.ctr_disk.specs.Crash.{HasCause};
-    ghost use Rattle.ctr_disk.specs.Outside.{TakesNext};
-    ghost use Rattle.ctr_disk.specs.MemoryEdges.{bytes_left, most_taken, failing_takes, counted_takes, source_faults, is_listed, TakeCounts};
+    ghost use Rattle.ctr_types.specs.Faults.{HasCause};
+    ghost use Rattle.ctr_io.specs.Outside.{TakesNext};
+    ghost use Rattle.ctr_io.specs.Memory.{bytes_left, most_taken, failing_takes, counted_takes, source_faults, is_listed, TakeCounts};
 
     ghost tells = { true };
 
@@ -102,7 +102,7 @@ pub struct MemSink {
 
 impl MemSink {
     ghost use Rattle.std.specs.Prelude.{◌≡◌, ◌-◌, ◌^◌};
-    ghost use Rattle.ctr_disk.specs.MemoryEdges.{SinkStarts, bytes_put, starved_puts};
+    ghost use Rattle.ctr_io.specs.Memory.{SinkStarts, bytes_put, starved_puts};
 
     /// An empty sink. The calls of `put` whose numbers, from 1, are in the list fail, and those to
     /// which memory is refused. It takes no memory.
@@ -159,9 +159,9 @@ impl MemSink {
 
 impl Sink for MemSink {
     ghost use Rattle.std.specs.Prelude.{◌≡◌, min, true, IfOk, OnErr};
-    ghost use Rattle.ctr_disk.specs.Crash.{HasCause};
-    ghost use Rattle.ctr_disk.specs.Outside.{PutsNext};
-    ghost use Rattle.ctr_disk.specs.MemoryEdges.{bytes_put, most_put, sink_faults, PutCounts, PutFails};
+    ghost use Rattle.ctr_types.specs.Faults.{HasCause};
+    ghost use Rattle.ctr_io.specs.Outside.{PutsNext};
+    ghost use Rattle.ctr_io.specs.Memory.{bytes_put, most_put, sink_faults, PutCounts, PutFails};
 
     ghost tells = { true };
 

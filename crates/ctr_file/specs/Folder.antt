@@ -2,8 +2,8 @@
 use Rattle.std.specs.Prelude.{◌≡◌, Bool, true, false, Option, None, Some}
 use Rattle.ctr_types.specs.declared.file.File.{File}
 use Rattle.ctr_types.specs.declared.file.File.TheVariants.{Root, LogA, LogB, Pages}
-use Rattle.ctr_main.specs.declared.folder.Folder.{Folder}
-use Rattle.ctr_main.specs.declared.marked.Marked.{Marked}
+use Rattle.ctr_file.specs.declared.folder.Folder.{Folder}
+use Rattle.ctr_file.specs.declared.marked.Marked.{Marked}
 
 -- The next sync has to reach a file that is marked, and one that isn't open yet: what an earlier program
 -- wrote may not have reached the disk.

@@ -1,0 +1,10 @@
+//! A disk of four real files in a folder, which tells nothing of what they hold.
+#![tactic(auto)]
+
+mod file_disk;
+mod folder;
+mod marked;
+#[cfg(test)]
+mod tests;
+
+pub use file_disk::FileDisk;

@@ -1,0 +1,14 @@
+//! Where bytes come from and go to: a source and a sink, in memory and over real streams.
+//!
+//! `ReadSource` and `WriteSink` tell nothing of the bytes: what a real stream holds isn't known.
+#![tactic(auto)]
+
+mod edges;
+mod memory;
+mod streams;
+#[cfg(test)]
+mod tests;
+
+pub use edges::{Failed, Sink, Source};
+pub use memory::{MemSink, MemSource};
+pub use streams::{ReadSource, WriteSink};
