@@ -4,7 +4,7 @@ use crate::page::Page;
 use crate::run::{disk_of, look_at};
 use crate::setup::{Ask, Ran, Setup};
 use ctr_disk::{Disk, MemDisk, Root};
-use ctr_log::{read_root, write_root};
+use ctr_home::{read_thin_root, write_root};
 use ctr_types::{File, List, Tape};
 use std::alloc::{AllocError, Global};
 
@@ -135,7 +135,7 @@ pub fn play_calls(alloc: Global, setup: &Setup, ask: Ask) -> Result<Ran, AllocEr
 
 // Writes a root whose stamp is above that of the root that is there.
 fn write_above(disk: &mut MemDisk, page: &mut Page, root: &Root) {
-    match read_root(disk) {
+    match read_thin_root(disk) {
         Ok(Some(old)) if old.stamp < root.stamp => {
             if write_root(disk, root).is_err() {
                 put_failed(page);

@@ -1,4 +1,5 @@
 pub mod Moments
-mod Sections
+pub mod Sections
 mod Kept
 mod InPlace
+pub mod Torn

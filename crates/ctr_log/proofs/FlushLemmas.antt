@@ -11,6 +11,8 @@ use Rattle.ctr_log.specs.declared.log.LogFile.TheInside.{Inside}
 use Rattle.ctr_bytes.specs.Fields.{spelled}
 use Rattle.ctr_log.specs.Logs.{Log, headed, sealed, frames, batches, records, GoesOn, Extends, IsBeforeOrAfter, IsAfter, HasPrefix, IsFlushing, with_batch, unframed, HasBatches}
 use Rattle.ctr_log.specs.LogFile.{log_of, IsWriter}
+use Rattle.ctr_log.specs.Kept.{WritesBehind, HasFront, GoesOnWith}
+use Rattle.ctr_log.proofs.KeptLaws.{kept_leaves, kept_goes_on, front_same}
 use Rattle.ctr_bytes.proofs.FieldLaws.{length-spelled}
 use Rattle.ctr_log.proofs.LogLemmas.{length-push, length-unframed, length-batches-push, records-push}
 
@@ -81,6 +83,11 @@ module _ (a : Inside) (keeps : IsWriter a) (some : 0 < a.count) (few : a.count <
     goes_a : GoesOn first bs (log_of a) image
     goes_a = subst (λ (v : Log). GoesOn first bs v image) (sym log_is) goes
 
+    pub wrote_behind : LeavesOnly g old new (IsBeforeOrAfter log.file first bs log.buffered image)
+    wrote_behind =
+        let crash = wrote (subst (λ (b : List ℕ). Extends first bs rs a.place b (content a.file image)) (sym body_is) (extends image goes_a)) in
+        subst (λ (v : Log). LeavesOnly g old new (IsBeforeOrAfter v.file first bs v.buffered image)) log_is crash
+
     pub leaves : LeavesOnly g old new (IsFlushing first bs log image)
     leaves =
         let crash = wrote (subst (λ (b : List ℕ). Extends first bs rs a.place b (content a.file image)) (sym body_is) (extends image goes_a)) in
@@ -103,3 +110,27 @@ module _ (a : Inside) (keeps : IsWriter a) (some : 0 < a.count) (few : a.count <
           first_is = omega (arith, number, first_was, count_is, ap length (records-push bs rs), length-append (records bs) rs);
         }),
       )
+
+-- the same of the log of an image, in one generation or in two
+module _ (a : Inside) (keeps : IsWriter a) (long : vec_len a.buffer ≡ length a.buffer.items) (small : vec_len a.buffer < 2 ^ 64) (log : Log) (log_is : log_of a ≡ log) (named oldest : ℕ) (image : Image) (writes : WritesBehind named oldest log image) where
+  waiting : length log.buffered ≡ a.count
+  waiting = sym (ap (λ (v : Log). length v.buffered) log_is) ∙ length-unframed a.count (drop 20 a.buffer.items)
+
+  short : length (frames log.buffered) < 2 ^ 64
+  short = omega (arith, ap (λ (v : Log). length (frames v.buffered)) log_is, ap length keeps.frames_are, length-drop 20 a.buffer.items, long, small)
+
+  low : log.first + length log.buffered < 2 ^ 64
+  low = omega (arith, keeps.next, waiting, ap (λ (v : Log). v.first) log_is)
+
+  module _ {D : Type 0} (g : Ghosts D) (old new : D) where
+    -- where no call was made
+    pub none_leaves : g.reads old ≡ image → LeavesOnly g old new (λ c. c ≡ image) → a.count ≡ 0 → LeavesOnly g old new (HasFront log.file named oldest log.buffered image)
+    none_leaves is same none = weaker g old new (λ c. c ≡ image) (HasFront log.file named oldest log.buffered image) same (λ c e. subst (HasFront log.file named oldest log.buffered image) (sym e) (front_same named oldest log image log.buffered log.older writes.by))
+
+    -- where a batch was written
+    pub all_leaves : ((first : ℕ) (bs : List (List (List ℕ))) → GoesOn first bs log image → LeavesOnly g old new (IsBeforeOrAfter log.file first bs log.buffered image)) → LeavesOnly g old new (HasFront log.file named oldest log.buffered image)
+    all_leaves wrote = kept_leaves g old new named oldest log image log.buffered short low log.older writes.by wrote
+
+  pub all_goes_on : (next : Log) (c : Image) → next.file ≡ log.file → next.older ≡ log.older
+      → ((first : ℕ) (bs : List (List (List ℕ))) → GoesOn first bs log image → OtherFilesStay log.file image c × GoesOn first (with_batch bs log.buffered) next c) → GoesOnWith log.file named oldest log.buffered next image c
+  all_goes_on next c file older wrote = kept_goes_on named oldest log next image c log.buffered short low writes.numbered file wrote log.older older writes.by

@@ -3,7 +3,9 @@ use Rattle.std.proofs.Common.{◌≡◌, inl, inr, ℕ, List, [], ◌∷◌, ◌
 use Rattle.ctr_disk.specs.declared.disk.Image.{Image}
 use Rattle.ctr_types.specs.declared.file.File.TheVariants.{LogA, LogB}
 use Rattle.ctr_disk.specs.Image.{write_of, TornImage}
-use Rattle.ctr_log.specs.Homes.{root_block, root_value, IsAbove, IsOldOrNewRoot, IsNewRoot}
+use Rattle.ctr_home.specs.declared.block.Block.TheVariants.{Root as RootBlock}
+use Rattle.ctr_home.specs.Roots.{root_block, root_value}
+use Rattle.ctr_home.specs.Writing.{IsAbove, IsOldOrNewValue, IsNewValue}
 use Rattle.ctr_log.specs.Logs.{batch, HasLog, Extends, IsBeforeOrAfter, IsAfter}
 use Rattle.ctr_log.specs.Fresh.{first_checkpoint, fresh_log, fresh_root, IsClosed, IsFresh, IsNoneOrFresh, IsReady, AreEmptied, SameRoot}
 
@@ -58,14 +60,14 @@ module _ (old : Image) (none : root_value old.root ≡ None) where
     pub root_above : IsAbove 1 (root_value mid.root)
     root_above = subst (IsAbove 1) (sym (ap root_value ready.root ∙ none)) tt
 
-    pub root_made : (c : Image) → IsNewRoot mid (root_block fresh_root) c → IsFresh old c
+    pub root_made : (c : Image) → IsNewValue RootBlock (root_block fresh_root) mid c → IsFresh old c
     root_made c new = record {
       root = new.1;
-      log = subst (HasLog 1 fresh_log) (sym (ap (λ i. i.log_a) new.0)) ready.log;
-      other_log = subst IsClosed (sym (ap (λ i. i.log_b) new.0)) ready.other_log;
-      pages = ap (λ i. i.pages) new.0 ∙ ready.pages;
+      log = subst (HasLog 1 fresh_log) (sym (ap (λ i. i.log_a) new.0.files)) ready.log;
+      other_log = subst IsClosed (sym (ap (λ i. i.log_b) new.0.files)) ready.other_log;
+      pages = ap (λ i. i.pages) new.0.files ∙ ready.pages;
     }
 
-    pub root_step : (c : Image) → IsOldOrNewRoot mid (root_block fresh_root) c → IsNoneOrFresh old c
+    pub root_step : (c : Image) → IsOldOrNewValue RootBlock (root_block fresh_root) mid c → IsNoneOrFresh old c
     root_step c (same, inl was) = inl (was ∙ ap root_value ready.root ∙ none)
     root_step c (same, inr new) = inr (root_made c (same, new))

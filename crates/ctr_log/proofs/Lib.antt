@@ -1,10 +1,8 @@
-pub mod Moments
-pub mod Torn
-pub mod HomeLemmas
-pub mod RootLemmas
 pub mod DamageLemmas
 pub mod LogLemmas
 pub mod FlushLemmas
 pub mod ReadLemmas
 pub mod NearLemmas
 pub mod InitLemmas
+pub mod KeptLaws
+pub mod StartLemmas

@@ -4,13 +4,12 @@ use Rattle.std.proofs.lemmas.Bool.{cases_eq}
 use Rattle.std.proofs.lemmas.List.{append-nil, take_at, drop_at, drop-drop, drop-append-le}
 use Rattle.ctr_disk.specs.declared.disk.Image.{Image}
 use Rattle.ctr_types.specs.declared.file.File.{File}
-use Rattle.ctr_types.specs.declared.file.File.TheVariants.{Root, LogA, LogB, Pages}
 use Rattle.ctr_disk.specs.Image.{content, write_of, written, Torn, TornImage, OtherFilesStay}
 use Rattle.ctr_bytes.specs.Fields.{spelled, field}
 use Rattle.ctr_log.specs.Logs.{frame, frames, batch, batches, records, IsBatch, AreBatches, unframed, Extends, IsBeforeOrAfter, IsAfter, HasBatches}
 use Rattle.ctr_bytes.proofs.FieldLaws.{length-spelled, field_at}
 use Rattle.ctr_disk.specs.TornLaws.{torn_whole}
-use Rattle.ctr_log.proofs.Torn.{torn_behind, torn_byte, written_behind, written_byte, same_but}
+use Rattle.ctr_disk.proofs.Torn.{torn_behind, torn_byte, written_behind, written_byte, same_but, content_written}
 
 pub length-frame : (r : List ℕ) → length (frame r) ≡ 8 + length r
 length-frame r = omega (arith, length-append (spelled 8 (length r)) r, length-spelled 8 (length r))
@@ -155,13 +154,6 @@ module _ (first : ℕ) (rs : List (List ℕ)) (more : List ℕ) (fits : length (
       let is : here ≡ l8 ++ f8 ++ c4 ++ (frames rs ++ more) = simp append_assoc in
       ap (λ (l : List ℕ). drop 20 l) is
       ∙ drop_at (l8 ++ f8 ++ c4) (frames rs ++ more) 20 (omega (arith, head_long, length-append (l8 ++ f8) c4, length-spelled 4 (length rs)))
-
--- contents of one file
-pub content_written : (f : File) (at : ℕ) (bytes : List ℕ) (i : Image) → content f (write_of f at bytes i) ≡ written at bytes (content f i)
-content_written Root at bytes i = refl
-content_written LogA at bytes i = refl
-content_written LogB at bytes i = refl
-content_written Pages at bytes i = refl
 
 -- a batch more in a log
 module _ (file : File) (first : ℕ) (bs : List (List (List ℕ))) (rs : List (List ℕ)) (place : ℕ) (body : List ℕ) (old : Image) (ext : Extends first bs rs place body (content file old)) where

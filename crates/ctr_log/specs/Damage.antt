@@ -3,6 +3,7 @@ use Rattle.std.specs.Prelude.{◌≡◌, ◌≢◌}
 use Rattle.ctr_types.specs.declared.file.File.{File}
 use Rattle.ctr_disk.specs.declared.fault.StoreFault.{StoreFault}
 use Rattle.ctr_disk.specs.declared.fault.StoreFault.TheVariants.{Fault, Damaged}
+use Rattle.ctr_home.specs.Checks.{TellsApart}
 
 -- it is damage of this file, and what is wanted differs from what is there
 abbrev pub IsDamageOf : File → StoreFault → Type 0
@@ -11,5 +12,4 @@ IsDamageOf file (Damaged f at want got) = (f ≡ file) × (want ≢ got)
 
 -- where it is damage, what is wanted differs from what is there
 abbrev pub Differs : StoreFault → Type 0
-Differs Fault = Unit {0}
-Differs (Damaged f at want got) = want ≢ got
+Differs e = TellsApart e

@@ -4,3 +4,4 @@ pub mod Logs
 pub mod LogFile
 pub mod Reading
 pub mod Fresh
+pub mod Kept

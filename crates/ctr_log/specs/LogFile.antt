@@ -7,6 +7,7 @@ use Rattle.ctr_log.specs.Logs.{Log, frames, unframed}
 abbrev pub log_of : Inside → Log
 log_of a = record {
   file = a.file;
+  older = a.older;
   place = a.place;
   first = a.first;
   buffered = unframed a.count (drop 20 a.buffer.items);

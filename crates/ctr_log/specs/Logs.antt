@@ -1,5 +1,5 @@
 -- A file of the log: batches of records, each behind a gate, up to the first closed gate.
-use Rattle.std.specs.Prelude.{◌≡◌, ◌≢◌, ◌⊎◌, ℕ, zero, suc, ◌+◌, ◌^◌, ◌<◌, List, [], ◌∷◌, ◌++◌, length, take, drop, Result, OnOk, ◌≤◌}
+use Rattle.std.specs.Prelude.{◌≡◌, ◌≢◌, ◌⊎◌, ℕ, zero, suc, Bool, ◌+◌, ◌^◌, ◌<◌, List, [], ◌∷◌, ◌++◌, length, take, drop, Result, OnOk, ◌≤◌}
 use Rattle.ctr_disk.specs.declared.disk.Image.{Image}
 use Rattle.ctr_types.specs.declared.file.File.{File}
 use Rattle.ctr_disk.specs.Image.{content, OtherFilesStay}
@@ -74,11 +74,12 @@ unframed zero bytes = []
 unframed (suc n) bytes =
     take (field 8 0 bytes) (drop 8 bytes) ∷ unframed n (drop (8 + field 8 0 bytes) bytes)
 
--- What the writer of a log knows: its file, the place of the closed gate behind the log, the LSN of
--- the first record that isn't flushed, the records that aren't, and how many bytes of frames more
--- fit.
+-- What the writer of a log knows: its file, whether the other file has an older generation that is
+-- kept, the place of the closed gate behind the log, the LSN of the first record that isn't flushed,
+-- the records that aren't, and how many bytes of frames more fit.
 pub record Log : Type 0 where
   pub file : File
+  pub older : Bool
   pub place : ℕ
   pub first : ℕ
   pub buffered : List (List ℕ)
@@ -110,6 +111,7 @@ pub record IsFlushing (first : ℕ) (bs : Batches) (log : Log) (old new : Image)
 -- the records that waited, and there is no less room.
 pub record IsEmptied {T E : Type 0} (old new : Log) (result : Result T E) : Type 0 where
   pub file : new.file ≡ old.file
+  pub older : new.older ≡ old.older
   pub none : OnOk result (new.buffered ≡ [])
   pub next : OnOk result (new.first ≡ old.first + length old.buffered)
   pub room : OnOk result (old.room ≤ new.room)

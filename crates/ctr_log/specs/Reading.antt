@@ -1,5 +1,5 @@
 -- What reading a file of the log finds.
-use Rattle.std.specs.Prelude.{◌≡◌, ℕ, zero, suc, ◌+◌, ◌^◌, ◌≤◌, ◌<◌, List, [], ◌∷◌, ◌++◌, length}
+use Rattle.std.specs.Prelude.{◌≡◌, ℕ, zero, suc, Bool, ◌+◌, ◌^◌, ◌≤◌, ◌<◌, List, [], ◌∷◌, ◌++◌, length}
 use Rattle.ctr_types.specs.declared.file.File.{File}
 use Rattle.ctr_types.specs.declared.file.File.TheVariants.{LogA, LogB}
 use Rattle.ctr_disk.specs.declared.disk.Image.{Image}
@@ -90,8 +90,9 @@ log_file zero = LogA
 log_file (suc n) = LogB
 
 -- a writer with nothing to flush, at this place
-pub record IsEmptyAt (file : File) (place next : ℕ) (log : Log) : Type 0 where
+pub record IsEmptyAt (file : File) (older : Bool) (place next : ℕ) (log : Log) : Type 0 where
   pub file_is : log.file ≡ file
+  pub older_is : log.older ≡ older
   pub place_is : log.place ≡ place
   pub next_is : log.first ≡ next
   pub none : log.buffered ≡ []

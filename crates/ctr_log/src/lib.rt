@@ -2,13 +2,11 @@
 #![tactic(auto)]
 
 mod damage;
-mod home;
 mod log;
 mod making;
 mod near;
 mod reading;
 
-pub use home::{is_open, read_root, write_root};
-pub use log::{LogFile, Lsn, read_all};
+pub use log::{LogFile, Lsn, read_named};
 pub use making::{Making, init};
 pub use reading::ReadError;

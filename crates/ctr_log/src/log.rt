@@ -1,15 +1,16 @@
 // A file of the log and its writer: a batch is flushed whole or not at all.
-ghost use Rattle.std.specs.Prelude.{◌≡◌, ◌≤◌, ◌<◌, ◌+◌, ◌-◌, ◌^◌, IsTrue, ℕ, List, [], ◌∷◌, ◌++◌, length, take, drop, vec_len, vec_capacity, ◌⊎◌, Err, IfOk, IfErr, OnOk, OnErr};
+ghost use Rattle.std.specs.Prelude.{◌≡◌, ◌≢◌, ◌≤◌, ◌<◌, ◌↔◌, false, slice_index, ◌+◌, ◌-◌, ◌^◌, IsTrue, ℕ, List, [], ◌∷◌, ◌++◌, length, take, drop, vec_len, vec_capacity, ◌⊎◌, Err, IfOk, IfErr, OnOk, OnErr};
 ghost use Rattle.ctr_types.specs.declared.file.File.TheVariants.{LogA};
 ghost use Rattle.ctr_disk.specs.declared.fault.StoreFault.TheVariants.{Fault};
 ghost use Rattle.ctr_disk.specs.Image.{content, OtherFilesStay};
 ghost use Rattle.ctr_types.specs.Faults.{HasCause, HasFault};
 ghost use Rattle.ctr_disk.specs.Crash.{Only, StraysOnlyPast};
-ghost use Rattle.ctr_disk.specs.Device.{LeavesOnly, IsDurable, IsSettled, OnlyReads, CountsAs};
+ghost use Rattle.ctr_disk.specs.Device.{LeavesOnly, IsDurable, IsSettled, OnlyReads, Counts, CountsAs};
 ghost use Rattle.ctr_bytes.specs.Fields.{spelled};
 ghost use Rattle.ctr_log.specs.declared.reading.ReadError.TheVariants.{Store, OutOfMemory as NoMemory};
 ghost use Rattle.ctr_log.specs.Reading.{RefusesOrFails, ReadDiffers, HasSome, OpensLog, IsEmptyAt, NamesLog, log_file};
-ghost use Rattle.ctr_log.specs.Logs.{Batches, headed, sealed, frame, frames, records, HasLog, GoesOn, Extends, IsBeforeOrAfter, IsAfter, IsFlushing, IsEmptied, with_batch};
+ghost use Rattle.ctr_log.specs.Logs.{Batches, headed, sealed, frame, frames, records, HasLog, HasBatches, GoesOn, Extends, IsBeforeOrAfter, IsAfter, IsFlushing, IsEmptied, with_batch};
+ghost use Rattle.ctr_log.specs.Kept.{next_file, StaysDropped, CanStart, IsStarted, WritesBehind, HasFront, GoesOnWith};
 
 use crate::near::find_log;
 use crate::reading::ReadError;
@@ -30,6 +31,8 @@ const HEAD: usize = 20;
 #[derive(Debug, Drop)]
 pub struct LogFile {
     file: File,
+    // whether the other file has an older generation that is kept
+    older: bool,
     // of the closed gate behind the log
     place: u64,
     // of the first record that isn't flushed
@@ -53,15 +56,22 @@ impl Model for LogFile {
 
 impl LogFile {
     // The writer behind a log whose closed gate stands at a place.
-    fn behind(alloc: Global, file: File, place: u64, next: Lsn) -> Result<LogFile, AllocError>
+    fn behind(
+        alloc: Global,
+        file: File,
+        older: bool,
+        place: u64,
+        next: Lsn,
+    ) -> Result<LogFile, AllocError>
         requires place { place < 2 ^ 63 }
         requires next { next < 2 ^ 64 }
-        ensures { IfOk result (λ log. IsEmptyAt file place next log) }
+        ensures { IfOk result (λ log. IsEmptyAt file older place next log) }
     {
         let mut buffer = Vec::with_capacity(alloc, HEAD + 1)?;
         put_bytes(&mut buffer, &[0; HEAD]);
         Ok(LogFile {
             file,
+            older,
             place,
             first: next,
             count: 0,
@@ -74,6 +84,13 @@ impl LogFile {
         ensures { result ≡ self.now.first + length self.now.buffered }
     {
         self.first + self.count as u64
+    }
+
+    /// From here on the older generation isn't kept: the root names the newer one.
+    pub fn forget_older(&mut self)
+        ensures { self.new ≡ record self.old { older = false } }
+    {
+        self.older = false;
     }
 
     /// Takes room for frames of so many bytes: a record's length, and 8 for each record.
@@ -111,6 +128,11 @@ impl LogFile {
             → LeavesOnly D.Disk disk.old disk.new (IsFlushing first bs self.old (D.reads disk.old)) }
         ensures flushed { (first : ℕ) (bs : Batches) → IsTrue D.tells → GoesOn first bs self.old (D.reads disk.old)
             → OnOk result (OtherFilesStay self.old.file (D.reads disk.old) (D.reads disk.new) × GoesOn first (with_batch bs self.old.buffered) self.new (D.reads disk.new)) }
+        // The log of an image, in one generation or in two, has a front of the records behind it.
+        ensures kept_any_moment { (named oldest : ℕ) → IsSettled D.Disk disk.old → WritesBehind named oldest self.old (D.reads disk.old)
+            → LeavesOnly D.Disk disk.old disk.new (HasFront self.old.file named oldest self.old.buffered (D.reads disk.old)) }
+        ensures kept { (named oldest : ℕ) → IsTrue D.tells → WritesBehind named oldest self.old (D.reads disk.old)
+            → OnOk result (GoesOnWith self.old.file named oldest self.old.buffered self.new (D.reads disk.old) (D.reads disk.new)) }
         ensures emptied { IsEmptied self.old self.new result }
         ensures durable { IsDurable D.Disk disk.old → OnOk result (IsDurable D.Disk disk.new) }
         ensures refused { OnErr result (result ≡ Err Fault) }
@@ -133,12 +155,80 @@ impl LogFile {
         self.buffer.truncate(HEAD);
         Ok(())
     }
+
+    /// Begins a generation in the other file with this record, for which room was taken. A crash at
+    /// any moment leaves the log of before, or that with the record. It takes no memory.
+    pub fn start_generation<D: Disk>(
+        &mut self,
+        disk: &mut D,
+        first: &[u8],
+    ) -> Result<(), StoreFault>
+        requires { CanStart (length first.now) self.old }
+        ensures any_moment { (named oldest : ℕ) → IsSettled D.Disk disk.old → WritesBehind named oldest self.old (D.reads disk.old)
+            → LeavesOnly D.Disk disk.old disk.new (HasFront (next_file self.old.file) named oldest (first.now ∷ []) (D.reads disk.old)) }
+        ensures begun { (named oldest : ℕ) → IsTrue D.tells → WritesBehind named oldest self.old (D.reads disk.old)
+            → OnOk result (GoesOnWith (next_file self.old.file) named oldest (first.now ∷ []) self.new (D.reads disk.old) (D.reads disk.new)) }
+        ensures writer { OnOk result (IsStarted self.old self.new) }
+        ensures durable { IsDurable D.Disk disk.old → OnOk result (IsDurable D.Disk disk.new) }
+        ensures refused { OnErr result (result ≡ Err Fault) }
+        ensures counts { CountsAs D.Disk Fault disk.old disk.new result }
+    {
+        let file = next_file(self.file);
+        shut_first(disk, file)?;
+        put_frame(&mut self.buffer, first);
+        seal(&mut self.buffer, self.first, 1);
+        let len = self.buffer.len();
+        let written = write_batch(disk, file, 0, &self.buffer);
+        self.buffer.truncate(HEAD);
+        written?;
+        self.file = file;
+        self.older = true;
+        self.place = len as u64;
+        self.first += 1;
+        Ok(())
+    }
 }
 
-/// Reads the log that the root names, and answers its writer and its records. Where the disk tells
-/// what it holds, these are the records of the file's log and no others, and damage is told exactly
-/// where no log stands in the file.
-pub fn read_all<D: Disk>(
+// The file for a generation behind one in this file.
+fn next_file(file: File) -> File
+    ensures { result ≡ next_file file }
+{
+    match file {
+        File::LogA => File::LogB,
+        _ => File::LogA,
+    }
+}
+
+// Closes the first gate of a file, where that is open or the file is empty.
+fn shut_first<D: Disk>(disk: &mut D, file: File) -> Result<(), Failed>
+    ensures any_moment { IsSettled D.Disk disk.old → LeavesOnly D.Disk disk.old disk.new (StaysDropped file (D.reads disk.old)) }
+    ensures shut { (next : ℕ) → IsTrue D.tells → OnOk result (StaysDropped file (D.reads disk.old) (D.reads disk.new) × HasBatches next [] (content file (D.reads disk.new))) }
+    ensures durable { IsDurable D.Disk disk.old → OnOk result (IsDurable D.Disk disk.new) }
+    ensures counts { Counts D.Disk disk.old disk.new result }
+{
+    if is_first_shut(disk, file)? {
+        return Ok(());
+    }
+    write_through(disk, file, 0, &[0])
+}
+
+fn is_first_shut<D: Disk>(disk: &mut D, file: File) -> Result<bool, Failed>
+    ensures told { IsTrue D.tells → IfOk result (λ b. IsTrue b ↔ ((0 < length (content file (D.reads disk.old))) × (slice_index (content file (D.reads disk.old)) 0 ≢ 1))) }
+    ensures quiet { OnlyReads D.Disk disk.old disk.new }
+    ensures counts { Counts D.Disk disk.old disk.new result }
+{
+    if disk.size(file)? == 0 {
+        return Ok(false);
+    }
+    let mut gate = [0];
+    disk.read(file, 0, &mut gate)?;
+    Ok(gate[0] != 1)
+}
+
+/// Reads the one generation that the root of a database without pages names, and answers its writer
+/// and its records. Where the disk tells what it holds, these are the records of the file's log and
+/// no others, and damage is told exactly where no log stands in the file.
+pub fn read_named<D: Disk>(
     alloc: Global,
     disk: &mut D,
     root: &Root,
@@ -152,14 +242,20 @@ pub fn read_all<D: Disk>(
     ensures quiet { OnlyReads D.Disk disk.old disk.new }
     ensures counts { CountsAs D.Disk (Store Fault) disk.old disk.new result }
 {
-    let file = if root.file == 0 {
+    let file = named_file(root);
+    let found = find_log(alloc, disk, file, root.first)?;
+    let log = LogFile::behind(alloc, file, false, found.place, found.next)?;
+    Ok((log, found.records))
+}
+
+fn named_file(root: &Root) -> File
+    ensures { result ≡ log_file root.now.file }
+{
+    if root.file == 0 {
         File::LogA
     } else {
         File::LogB
-    };
-    let found = find_log(alloc, disk, file, root.first)?;
-    let log = LogFile::behind(alloc, file, found.place, found.next)?;
-    Ok((log, found.records))
+    }
 }
 
 fn put_frame(buffer: &mut Vec<u8>, bytes: &[u8])

@@ -7,9 +7,9 @@ ghost use Rattle.ctr_log.specs.declared.making.Making.TheVariants.{Made, Exists}
 ghost use Rattle.ctr_log.specs.Homes.{root_value};
 ghost use Rattle.ctr_log.specs.Fresh.{IsFresh, IsNoneOrFresh, IsReady, AreEmptied, SameRoot};
 
-use crate::home::{is_open, write_root};
 use crate::log::write_batch;
 use ctr_disk::{Disk, Failed, Root, StoreFault};
+use ctr_home::{Block, is_open, write_root};
 use ctr_types::File;
 
 /// How the making of a database ended.
@@ -40,7 +40,7 @@ pub fn init<D: Disk>(disk: &mut D) -> Result<Making, StoreFault>
     ensures counts { CountsAs D.Disk Fault disk.old disk.new result }
 {
     disk.sync()?;
-    if is_open(disk)? {
+    if is_open(disk, Block::Root)? {
         return Ok(Making::Exists);
     }
     make(disk)?;

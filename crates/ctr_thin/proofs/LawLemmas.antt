@@ -92,7 +92,7 @@ stands_fresh old new fresh =
       r = fresh_root;
       bs = fresh_log;
       rs = [];
-      root = (fresh.root, record { format = refl; file = omega arith; first_low = omega arith; first_high = omega arith; pages = refl; stamp = omega arith });
+      root = (fresh.root, record { format = refl; file = omega arith; first_low = omega arith; first_high = omega arith; pages_low = omega arith; pages_high = omega arith; stamp = omega arith });
       log = fresh.log;
       begins = refl;
       folds = refl;

@@ -12,7 +12,9 @@ use Rattle.ctr_disk.specs.Image.{content}
 use Rattle.ctr_log.specs.declared.reading.ReadError.{ReadError}
 use Rattle.ctr_log.specs.declared.reading.ReadError.TheVariants as read
 use Rattle.ctr_log.specs.Damage.{Differs}
-use Rattle.ctr_log.specs.Homes.{Block, root_block, root_value, IsRoot, SaysRoot, Answers}
+use Rattle.ctr_log.specs.Homes.{BlockValue, root_block, root_value, IsRoot, SaysRoot}
+use Rattle.ctr_home.specs.declared.root.Form.TheVariants.{Thin}
+use Rattle.ctr_home.specs.Roots.{ReadsRoot}
 use Rattle.ctr_log.specs.Logs.{Batches, records, HasLog, Log, GoesOn}
 use Rattle.ctr_log.specs.Reading.{log_file, HasSome, RefusesOrFails, ReadDiffers, OpensLog}
 use Rattle.ctr_log.specs.Fresh.{first_checkpoint}
@@ -52,15 +54,15 @@ module _ (r : Root) (root : IsRoot r) where
 
 same_blocks : (a b : Root) → IsRoot a → IsRoot b → root_block a ≡ root_block b → a ≡ b
 same_blocks a b ra rb same =
-    let body : (root_block a).body ≡ (root_block b).body = ap (λ (x : Block). x.body) same in
-    let stamp : a.stamp ≡ b.stamp = ap (λ (x : Block). x.stamp) same in
+    let body : (root_block a).body ≡ (root_block b).body = ap (λ (x : BlockValue). x.body) same in
+    let stamp : a.stamp ≡ b.stamp = ap (λ (x : BlockValue). x.stamp) same in
     let format : a.format ≡ b.format = ra.format ∙ sym rb.format in
     let file : a.file ≡ b.file = sym (file_of a ra) ∙ ap (field 1 12) body ∙ file_of b rb in
     let first : a.first ≡ b.first = sym (first_of_root a ra) ∙ ap (field 8 13) body ∙ first_of_root b rb in
-    let pages : a.pages ≡ b.pages = ra.pages ∙ sym rb.pages in
+    let pages : a.pages ≡ b.pages = omega (arith, ra.pages_high, rb.pages_high) in
     λ i. record { stamp = stamp i; format = format i; file = file i; first = first i; pages = pages i }
 
-pub one_root : (value : Option Block) (a b : Root) → SaysRoot value a → SaysRoot value b → a ≡ b
+pub one_root : (value : Option BlockValue) (a b : Root) → SaysRoot value a → SaysRoot value b → a ≡ b
 one_root value a b sa sb =
     let blocks : Some (root_block a) ≡ Some (root_block b) = sym sa.0 ∙ sb.0 in
     let same : root_block a ≡ root_block b = cc in
@@ -73,8 +75,8 @@ pub record FoundRoot (image mid : Image) (r : Root) : Type 0 where
   pub same : mid ≡ image
   pub says : SaysRoot (root_value image.root) r
 
-pub found : {image mid : Image} {root : Option Root} {r : Root} → root ≡ Some r → Answers (root_value image.root) (Ok root) → mid ≡ image → FoundRoot image mid r
-found {image} {mid} {root} {r} is answers same = record { same = same; says = subst (λ (o : Option Root). Answers (root_value image.root) (Ok o)) is answers }
+pub found : {image mid : Image} {root : Option Root} {r : Root} → root ≡ Some r → ReadsRoot Thin image (Ok root) → mid ≡ image → FoundRoot image mid r
+found {image} {mid} {root} {r} is answers same = record { same = same; says = subst (λ (o : Option Root). ReadsRoot Thin image (Ok o)) is answers }
 
 module _ {image mid : Image} {r : Root} (root_is : FoundRoot image mid r) where
   abbrev same : mid ≡ image

@@ -12,7 +12,8 @@ ghost use Rattle.ctr_thin.specs.Thin.{StandsFor, Opens, Explains, OpenDiffers, I
 
 use crate::replay::replay;
 use ctr_disk::{Disk, Failed, Root, StoreFault};
-use ctr_log::{LogFile, Lsn, ReadError, read_all, read_root};
+use ctr_home::read_thin_root;
+use ctr_log::{LogFile, Lsn, ReadError, read_named};
 use ctr_rec::{RecordError, fold_is_one};
 use ctr_tables::Tables;
 use ctr_types::{File, Text};
@@ -206,11 +207,11 @@ fn read_database<D: Disk>(alloc: Global, disk: &mut D) -> Result<Opened, OpenErr
     ensures counts { CountsAs D.Disk Fault disk.old disk.new result }
 {
     fold_is_one();
-    let Some(root) = read_root(disk)? else {
+    let Some(root) = read_thin_root(disk)? else {
         return Err(OpenError::NoDatabase);
     };
     check_root(&root)?;
-    let (log, records) = read_all(alloc, disk, &root)?;
+    let (log, records) = read_named(alloc, disk, &root)?;
     let file = named_file(&root);
     let tables = load(alloc, file, records.as_slice())?;
     check_next(file, log.next())?;

@@ -3,7 +3,7 @@ use Rattle.ctr_disk.specs.declared.disk.Image.{Image}
 use Rattle.ctr_disk.specs.Crash.{Within}
 use Rattle.ctr_log.specs.Fresh.{SameRoot, AreEmptied}
 use Rattle.ctr_disk.proofs.Moments.{joined, on_ok}
-use Rattle.ctr_log.proofs.Moments.{one_call}
+use Rattle.ctr_disk.proofs.Moments.{one_call}
 use Rattle.ctr_log.proofs.InitLemmas.{same_root, same_root_by_log_a, same_root_by_log_b, emptied}
 use Rattle.ctr_log.proofs.making.empty_logs.Goals as goal
 

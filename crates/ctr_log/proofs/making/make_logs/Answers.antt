@@ -5,7 +5,7 @@ use Rattle.ctr_bytes.specs.Fields.{spelled}
 use Rattle.ctr_log.specs.Logs.{IsBeforeOrAfter}
 use Rattle.ctr_log.specs.Fresh.{SameRoot, IsReady, first_checkpoint}
 use Rattle.ctr_disk.proofs.Moments.{weaker, joined, on_ok}
-use Rattle.ctr_log.proofs.Moments.{settled_by}
+use Rattle.ctr_disk.proofs.Moments.{settled_by}
 use Rattle.ctr_log.proofs.InitLemmas.{fresh_extends, log_step, log_ready}
 use Rattle.ctr_log.proofs.making.make_logs.Goals as goal
 

@@ -1,6 +1,6 @@
 use Rattle.std.proofs.Common.{◌≡◌, ◌∙◌, ⊎_elim, ◌+◌, ℕ, ap, subst, arith}
 use Rattle.ctr_disk.specs.Image.{content}
-use Rattle.ctr_log.proofs.Moments.{reads_joined}
+use Rattle.ctr_disk.proofs.Moments.{reads_joined}
 use Rattle.ctr_log.proofs.NearLemmas.{LogFrom, next_gate}
 use Rattle.ctr_log.proofs.near.extent.Goals as goal
 

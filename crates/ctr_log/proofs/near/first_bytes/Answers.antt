@@ -1,7 +1,7 @@
 use Rattle.std.proofs.Common.{◌≡◌, ◌∙◌, length, drop, take, ℕ, ap, arith}
 use Rattle.std.proofs.lemmas.List.{take_at}
 use Rattle.ctr_disk.specs.Image.{content}
-use Rattle.ctr_log.proofs.HomeLemmas.{section_within}
+use Rattle.ctr_disk.proofs.Sections.{section_within}
 use Rattle.ctr_log.proofs.near.first_bytes.Goals as goal
 
 pub returns-clause-told : goal.returns-clause-told

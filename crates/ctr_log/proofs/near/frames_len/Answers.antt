@@ -3,7 +3,7 @@ use Rattle.std.proofs.lemmas.List.{length-take-le}
 use Rattle.ctr_disk.specs.Image.{content}
 use Rattle.ctr_bytes.specs.Fields.{field}
 use Rattle.ctr_bytes.proofs.FieldLaws.{field-drop, field-append}
-use Rattle.ctr_log.proofs.HomeLemmas.{section_within}
+use Rattle.ctr_disk.proofs.Sections.{section_within}
 use Rattle.ctr_log.proofs.near.frames_len.Goals as goal
 
 pub returns-clause-open_gate : goal.returns-clause-open_gate

@@ -4,7 +4,8 @@ use Rattle.ctr_disk.specs.Image.{content, OtherFilesStay}
 use Rattle.ctr_log.specs.Logs.{Log, frames, unframed, GoesOn, Extends, with_batch}
 use Rattle.ctr_log.specs.LogFile.{log_of}
 use Rattle.ctr_log.proofs.LogLemmas.{length-unframed}
-use Rattle.ctr_log.proofs.FlushLemmas.{reopened, extends, goes_on, leaves}
+use Rattle.ctr_log.proofs.FlushLemmas.{reopened, extends, goes_on, leaves, wrote_behind, none_leaves, all_leaves, all_goes_on}
+use Rattle.ctr_disk.proofs.Moments.{starts}
 use Rattle.ctr_log.proofs.log.LogFile.flush.Goals as goal
 
 pub invariant_of-self : goal.invariant_of-self
@@ -71,7 +72,7 @@ returns-clause-flushed g c first bs told goes =
     let goes_a = subst (λ (v : Log). GoesOn first bs v old) (sym c.self.view_is) goes in
     let ext = extends a keeps (omega arith) (omega arith) a.buffer.ok.0 first bs old goes_a in
     let after = c.in_ok-written.ensures.added first bs rs told (subst (λ (b : List ℕ). Extends first bs rs a.place b (content a.file old)) (sym body) ext) in
-    let log : Log = log_of (record { file = a.file; place = a.place + (1 + c.len-len.result); first = a.first + a.count; count = 0; buffer = c.truncate-2.new.self }) in
+    let log : Log = log_of (record { file = a.file; older = a.older; place = a.place + (1 + c.len-len.result); first = a.first + a.count; count = 0; buffer = c.truncate-2.new.self }) in
     let Q : Log → Type 0 = λ v. OtherFilesStay v.file old new × GoesOn first (with_batch bs v.buffered) log new in
     subst Q c.self.view_is (goes_on a keeps (omega arith) (omega arith) a.buffer.ok.0 first bs old new log goes_a after refl (omega (arith, c.len-len.ensures)) refl)
 
@@ -81,7 +82,41 @@ returns-clause-emptied g c =
     let count_is : a.first + a.count ≡ (log_of a).first + length (log_of a).buffered = ap (λ (n : ℕ). a.first + n) (sym (length-unframed a.count (drop 20 a.buffer.items))) in
     record {
       file = ap (λ (v : Log). v.file) c.self.view_is;
+      older = ap (λ (v : Log). v.older) c.self.view_is;
       none = refl;
       next = subst (λ (v : Log). a.first + a.count ≡ v.first + length v.buffered) c.self.view_is count_is;
       room = omega (arith, ap (λ (v : Log). v.room) c.self.view_is);
     }
+
+pub returns-then-self-eq0-clause-kept_any_moment : goal.returns-then-self-eq0-clause-kept_any_moment
+returns-then-self-eq0-clause-kept_any_moment g c named oldest settled writes =
+    let d = g.D.Disk in
+    let a = c.self.inside in
+    let old = c.args.disk.now in
+    let still = starts d old (λ i. i ≡ d.reads old) (d.images old) (g.met.D.Disk.only_now old) settled.only in
+    none_leaves a c.self.invariant a.buffer.ok.0 (omega arith) c.args.self.now c.self.view_is named oldest (d.reads old) writes d old old refl still (omega arith)
+
+pub returns-in_err-written-clause-kept_any_moment : goal.returns-in_err-written-clause-kept_any_moment
+returns-in_err-written-clause-kept_any_moment g c named oldest settled writes =
+    let d = g.D.Disk in
+    let a = c.self.inside in
+    let old = c.args.disk.now in
+    all_leaves a c.self.invariant a.buffer.ok.0 (omega arith) c.args.self.now c.self.view_is named oldest (d.reads old) writes d old c.write_batch-written.new.disk (λ first bs goes.
+    wrote_behind a c.self.invariant (omega arith) (omega arith) a.buffer.ok.0 first bs d old c.write_batch-written.new.disk (d.reads old) c.args.self.now c.self.view_is goes c.deref.result.now (c.deref.ensures.value ∙ c.seal.ensures.items)
+    (c.write_batch-written.ensures.any_moment first bs (unframed a.count (drop 20 a.buffer.items)) settled))
+
+pub returns-clause-kept_any_moment : goal.returns-clause-kept_any_moment
+returns-clause-kept_any_moment g c named oldest settled writes =
+    let d = g.D.Disk in
+    let a = c.self.inside in
+    let old = c.args.disk.now in
+    all_leaves a c.self.invariant a.buffer.ok.0 (omega arith) c.args.self.now c.self.view_is named oldest (d.reads old) writes d old c.write_batch-written.new.disk (λ first bs goes.
+    wrote_behind a c.self.invariant (omega arith) (omega arith) a.buffer.ok.0 first bs d old c.write_batch-written.new.disk (d.reads old) c.args.self.now c.self.view_is goes c.deref.result.now (c.deref.ensures.value ∙ c.seal.ensures.items)
+    (c.write_batch-written.ensures.any_moment first bs (unframed a.count (drop 20 a.buffer.items)) settled))
+
+pub returns-clause-kept : goal.returns-clause-kept
+returns-clause-kept g c named oldest told writes =
+    let a = c.self.inside in
+    let old = g.D.Disk.reads c.args.disk.now in
+    all_goes_on a c.self.invariant a.buffer.ok.0 (omega arith) c.args.self.now c.self.view_is named oldest old writes _ (g.D.Disk.reads c.write_batch-written.new.disk) (ap (λ (v : Log). v.file) c.self.view_is) (ap (λ (v : Log). v.older) c.self.view_is) (λ first bs goes.
+    returns-clause-flushed g c first bs told goes)

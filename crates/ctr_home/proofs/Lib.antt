@@ -1,0 +1,5 @@
+pub mod CheckLemmas
+pub mod HomeLemmas
+pub mod ReadLemmas
+pub mod RootLemmas
+pub mod WriteLemmas

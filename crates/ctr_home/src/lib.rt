@@ -1,0 +1,15 @@
+//! Blocks in two homes, pages and the root: at every moment of a writing a crash leaves the old or
+//! the new value. No call takes memory.
+#![tactic(auto)]
+
+mod block;
+mod checks;
+mod reading;
+mod root;
+mod writing;
+
+pub use block::{Block, Home};
+pub use checks::{Check, judge};
+pub use reading::{is_open, read_home, read_page};
+pub use root::{Form, read_root, read_thin_root, write_root};
+pub use writing::write_home;

@@ -1,0 +1,187 @@
+// The root: which file has the oldest generation of the log that is kept, and how many pages count.
+ghost use Rattle.std.specs.Prelude.{◌≡◌, ◌≤◌, IsTrue, Err, IfErr, OnOk, OnErr};
+ghost use Rattle.ctr_types.specs.declared.file.File.TheVariants.{Root as RootFile};
+ghost use Rattle.ctr_disk.specs.declared.fault.StoreFault.TheVariants.{Fault};
+ghost use Rattle.ctr_disk.specs.Device.{LeavesOnly, IsDurable, IsSettled, OnlyReads, CountsAs};
+ghost use Rattle.ctr_home.specs.declared.block.Block.TheVariants.{Root as RootBlock};
+ghost use Rattle.ctr_home.specs.declared.root.Form.TheVariants.{Thin, Paged};
+ghost use Rattle.ctr_home.specs.Blocks.{value_of};
+ghost use Rattle.ctr_home.specs.Checks.{TellsApart, bounded, check_of, judged};
+ghost use Rattle.ctr_home.specs.Roots.{ReadsRoot, SaysOrRefuses, root_body, root_block, root_checks, format_of, least_pages, most_pages};
+ghost use Rattle.ctr_home.specs.Writing.{IsAbove, IsOldOrNewValue, IsNewValue};
+
+use crate::block::{Block, Home};
+use crate::checks::{Check, judge};
+use crate::reading::{find_home, read_body, read_number};
+use crate::writing::write_home;
+use ctr_bytes::{get_u8, get_u32, get_u64, put_u8, put_u32, put_u64};
+use ctr_disk::{Disk, Root, Stamp, StoreFault};
+use ctr_types::File;
+
+/// The bytes `CTRDB001` as a number in 8 bytes.
+const MAGIC: u64 = 0x3130_3042_4452_5443;
+
+/// A form of the files.
+#[derive(Clone, Copy, Debug, PartialEq, Eq)]
+pub enum Form {
+    /// Without pages: each commit is one record of the log.
+    Thin,
+    /// On pages.
+    Paged,
+}
+
+impl Form {
+    fn format(self) -> u32
+        ensures { result ≡ format_of self }
+    {
+        match self {
+            Form::Thin => 0,
+            Form::Paged => 1,
+        }
+    }
+
+    fn least_pages(self) -> u64
+        ensures { result ≡ least_pages self }
+    {
+        match self {
+            Form::Thin => 0,
+            Form::Paged => 64,
+        }
+    }
+
+    fn most_pages(self) -> u64
+        ensures { result ≡ most_pages self }
+    {
+        match self {
+            Form::Thin => 0,
+            Form::Paged => 30_000,
+        }
+    }
+}
+
+/// Reads the root of a database on pages, where a home of it is open.
+pub fn read_root<D: Disk>(disk: &mut D) -> Result<Option<Root>, StoreFault>
+    ensures answer { IsTrue D.tells → ReadsRoot Paged (D.reads disk.old) result }
+    ensures differs { IfErr result TellsApart }
+    ensures quiet { OnlyReads D.Disk disk.old disk.new }
+    ensures counts { CountsAs D.Disk Fault disk.old disk.new result }
+{
+    read_root_of(disk, Form::Paged)
+}
+
+/// Reads the root of a database without pages, where a home of it is open.
+pub fn read_thin_root<D: Disk>(disk: &mut D) -> Result<Option<Root>, StoreFault>
+    ensures answer { IsTrue D.tells → ReadsRoot Thin (D.reads disk.old) result }
+    ensures differs { IfErr result TellsApart }
+    ensures quiet { OnlyReads D.Disk disk.old disk.new }
+    ensures counts { CountsAs D.Disk Fault disk.old disk.new result }
+{
+    read_root_of(disk, Form::Thin)
+}
+
+fn read_root_of<D: Disk>(disk: &mut D, form: Form) -> Result<Option<Root>, StoreFault>
+    ensures answer { IsTrue D.tells → ReadsRoot form (D.reads disk.old) result }
+    ensures differs { IfErr result TellsApart }
+    ensures quiet { OnlyReads D.Disk disk.old disk.new }
+    ensures counts { CountsAs D.Disk Fault disk.old disk.new result }
+{
+    let Some((home, stamp)) = find_home(disk, Block::Root)? else {
+        return Ok(None);
+    };
+    let number = read_number(disk, Block::Root, home)?;
+    let mut body = [0; 25];
+    read_body(disk, Block::Root, home, &mut body)?;
+    let root = root_of(form, Block::Root.at(home), number, stamp, &body)?;
+    Ok(Some(root))
+}
+
+// The root that a value says, whose home begins at a place, where its checks pass.
+fn root_of(
+    form: Form,
+    home: u64,
+    number: u32,
+    stamp: Stamp,
+    body: &[u8; 25],
+) -> Result<Root, StoreFault>
+    requires { home ≤ 64 }
+    ensures answer { SaysOrRefuses form home (record { number = number; stamp = stamp; body = body.now }) result }
+    ensures differs { IfErr result TellsApart }
+{
+    check_root(form, home, number, stamp, body)?;
+    Ok(Root {
+        stamp,
+        format: get_u32(body, 8),
+        file: get_u8(body, 12),
+        first: get_u64(body, 13),
+        pages: get_u32(body, 21),
+    })
+}
+
+// The checks in their order.
+fn check_root(
+    form: Form,
+    home: u64,
+    number: u32,
+    stamp: Stamp,
+    body: &[u8; 25],
+) -> Result<(), StoreFault>
+    requires { home ≤ 64 }
+    ensures row { result ≡ judged RootFile (root_checks form home (record { number = number; stamp = stamp; body = body.now })) }
+    ensures differs { IfErr result TellsApart }
+{
+    let first = get_u64(body, 13);
+    let pages = get_u32(body, 21) as u64;
+    let checks = [
+        check(home + 1, 0, number as u64),
+        check(home + 13, MAGIC, get_u64(body, 0)),
+        check(home + 21, form.format() as u64, get_u32(body, 8) as u64),
+        inside(home + 25, 0, 1, get_u8(body, 12) as u64),
+        inside(home + 26, 1, 1 << 63, first),
+        inside(home + 34, form.least_pages(), form.most_pages(), pages),
+        inside(home + 5, 0, first.saturating_add(pages), stamp),
+    ];
+    judge(File::Root, &checks)
+}
+
+fn check(at: u64, want: u64, got: u64) -> Check
+    ensures { result ≡ check_of at want got }
+{
+    Check { at, want, got }
+}
+
+// The number at a place is in these bounds.
+fn inside(at: u64, least: u64, most: u64, got: u64) -> Check
+    ensures { result ≡ check_of at (bounded least most got) got }
+{
+    Check {
+        at,
+        want: got.min(most).max(least),
+        got,
+    }
+}
+
+/// Writes the root, with a stamp above that of its value. A crash at any moment leaves the old or
+/// the new value.
+pub fn write_root<D: Disk>(disk: &mut D, root: &Root) -> Result<(), StoreFault>
+    requires { IsTrue D.tells → IsAbove root.now.stamp (value_of RootBlock (D.reads disk.old)) }
+    ensures any_moment { IsSettled D.Disk disk.old → LeavesOnly D.Disk disk.old disk.new (IsOldOrNewValue RootBlock (root_block root.now) (D.reads disk.old)) }
+    ensures written { IsTrue D.tells → OnOk result (IsNewValue RootBlock (root_block root.now) (D.reads disk.old) (D.reads disk.new)) }
+    ensures durable { OnOk result (IsDurable D.Disk disk.new) }
+    ensures refused { OnErr result (result ≡ Err Fault) }
+    ensures counts { CountsAs D.Disk Fault disk.old disk.new result }
+{
+    let body = spell_root(root);
+    write_home(disk, Block::Root, root.stamp, &body)
+}
+
+fn spell_root(root: &Root) -> [u8; 25]
+    ensures { result ≡ root_body root.now }
+{
+    let mut body = [0; 25];
+    put_u64(&mut body, 0, MAGIC);
+    put_u32(&mut body, 8, root.format);
+    put_u8(&mut body, 12, root.file);
+    put_u64(&mut body, 13, root.first);
+    put_u32(&mut body, 21, root.pages);
+    body
+}

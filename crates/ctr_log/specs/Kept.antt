@@ -1,0 +1,135 @@
+-- The log of an image: the generation that its root names, and behind it the one in the other file
+-- where that goes on from it.
+use Rattle.std.specs.Prelude.{◌≡◌, ◌≢◌, ◌⊎◌, ◌==◌, ◌&&◌, ◌≤◌, ◌<◌, ◌+◌, ◌-◌, ◌^◌, if◌then◌else◌, ℕ, zero, suc, Bool, true, false, List, [], ◌∷◌, ◌++◌, length, take, drop, slice_index}
+use Rattle.ctr_types.specs.declared.file.File.{File}
+use Rattle.ctr_types.specs.declared.file.File.TheVariants.{LogA, LogB}
+use Rattle.ctr_disk.specs.declared.disk.Image.{Image}
+use Rattle.ctr_disk.specs.Image.{content, OtherFilesStay}
+use Rattle.ctr_bytes.specs.Fields.{field}
+use Rattle.ctr_log.specs.Logs.{Batches, frames, records, unframed, HasLog, Log, GoesOn}
+use Rattle.ctr_log.specs.Reading.{log_file}
+
+-- The records in bytes, of n open batches at most and up to the first closed gate. A place past the
+-- end counts as a closed gate.
+abbrev pub logged : ℕ → List ℕ → List (List ℕ)
+logged zero bytes = []
+logged (suc n) bytes =
+    if slice_index bytes 0 == 1 then unframed (field 4 17 bytes) (take (field 8 1 bytes) (drop 21 bytes)) ++ logged n (drop (21 + field 8 1 bytes) bytes) else []
+
+-- the records of a file: there are no more batches than bytes
+abbrev pub log_in : List ℕ → List (List ℕ)
+log_in bytes = logged (length bytes) bytes
+
+-- the first batch is open, and this is its first number
+abbrev pub begins_at : ℕ → List ℕ → Bool
+begins_at next bytes = slice_index bytes 0 == 1 && field 8 9 bytes == next
+
+-- the records of the named file, whose first has this number, and those of the other file where they
+-- go on from them
+abbrev pub kept_in : ℕ → List ℕ → List ℕ → List (List ℕ)
+kept_in first named other =
+    if begins_at (first + length (log_in named)) other then log_in named ++ log_in other else log_in named
+
+-- the file that a root's byte doesn't name
+abbrev pub other_file : ℕ → File
+other_file zero = LogB
+other_file (suc n) = LogA
+
+-- the log of an image whose root names this file and this first number
+abbrev pub kept_log : ℕ → ℕ → Image → List (List ℕ)
+kept_log file first image = kept_in first (content (log_file file) image) (content (other_file file) image)
+
+-- a generation that is no more kept: its first gate isn't open, or its first number is below the
+-- root's
+abbrev pub IsDropped : ℕ → List ℕ → Type 0
+IsDropped first bytes = (slice_index bytes 0 ≢ 1) ⊎ (field 8 9 bytes < first)
+
+-- the frames of each batch are as many as 8 bytes can tell
+abbrev pub AreShort : Batches → Type 0
+AreShort [] = Unit {0}
+AreShort (rs ∷ bs) = (length (frames rs) < 2 ^ 64) × AreShort bs
+
+-- one generation is kept
+pub record HoldsOne (file first : ℕ) (bs : Batches) (image : Image) : Type 0 where
+  pub named : HasLog first bs (content (log_file file) image)
+  pub short : AreShort bs
+  pub low : first + length (records bs) < 2 ^ 64
+  pub dropped : IsDropped first (content (other_file file) image)
+
+-- two generations are kept
+pub record HoldsTwo (file first : ℕ) (bs cs : Batches) (image : Image) : Type 0 where
+  pub named : HasLog first bs (content (log_file file) image)
+  pub short : AreShort bs
+  pub newer : HasLog (first + length (records bs)) cs (content (other_file file) image)
+  pub newer_short : AreShort cs
+  pub low : first + length (records bs) + length (records cs) < 2 ^ 64
+
+-- an image whose root names this file and this number holds a log of these records, whole
+abbrev pub HoldsLog : ℕ → ℕ → List (List ℕ) → Image → Type 0
+HoldsLog file first rs image = ((bs : Batches) × (records bs ≡ rs) × HoldsOne file first bs image)
+    ⊎ ((bs : Batches) × (cs : Batches) × (records bs ++ records cs ≡ rs) × HoldsTwo file first bs cs image)
+
+-- the writer goes on behind the one generation that is kept
+pub record WritesOne (file first : ℕ) (log : Log) (image : Image) : Type 0 where
+  pub bs : Batches
+  pub file_is : log.file ≡ log_file file
+  pub goes_on : GoesOn first bs log image
+  pub holds : HoldsOne file first bs image
+
+-- the writer goes on behind the newer one of two
+pub record WritesTwo (file first : ℕ) (log : Log) (image : Image) : Type 0 where
+  pub bs : Batches
+  pub cs : Batches
+  pub file_is : log.file ≡ other_file file
+  pub goes_on : GoesOn (first + length (records bs)) cs log image
+  pub holds : HoldsTwo file first bs cs image
+
+-- by whether an older generation is kept
+abbrev pub WritesBy : Bool → ℕ → ℕ → Log → Image → Type 0
+WritesBy false file first log image = WritesOne file first log image
+WritesBy true file first log image = WritesTwo file first log image
+
+-- the writer goes on behind the log of an image
+pub record WritesBehind (file first : ℕ) (log : Log) (image : Image) : Type 0 where
+  pub numbered : 1 ≤ first
+  pub by : WritesBy log.older file first log image
+
+-- an image holds the log of an older one with a front of these records behind it; and but for one
+-- file, the others are as they were
+pub record HasFront (changed : File) (file first : ℕ) (rs : List (List ℕ)) (old new : Image)
+    : Type 0 where
+  pub others : OtherFilesStay changed old new
+  pub count : ℕ
+  pub holds : HoldsLog file first (kept_log file first old ++ take count rs) new
+
+-- after a call the writer goes on behind the log of before with all these records
+pub record GoesOnWith (changed : File) (file first : ℕ) (rs : List (List ℕ)) (log : Log) (old new : Image)
+    : Type 0 where
+  pub others : OtherFilesStay changed old new
+  pub log_is : kept_log file first new ≡ kept_log file first old ++ rs
+  pub writes : WritesBehind file first log new
+
+-- what the start of a generation wants of the writer, for a first record of so many bytes: nothing
+-- waits, one generation is kept, and room and a number are left
+pub record CanStart (bytes : ℕ) (log : Log) : Type 0 where
+  pub empty : log.buffered ≡ []
+  pub one : log.older ≡ false
+  pub room : 8 + bytes ≤ log.room
+  pub number : log.first < 2 ^ 63 - 1
+  pub small : bytes < 2 ^ 62
+
+-- how the start of a generation leaves the writer
+pub record IsStarted (old new : Log) : Type 0 where
+  pub older : new.older ≡ true
+  pub next : new.first ≡ old.first + 1
+  pub empty : new.buffered ≡ []
+
+-- the file that a generation behind one in this file goes to
+abbrev pub next_file : File → File
+next_file LogA = LogB
+next_file f = LogA
+
+-- but for one file the others are as they were, and a generation in it that was no more kept isn't
+abbrev pub StaysDropped : File → Image → Image → Type 0
+StaysDropped file old new = OtherFilesStay file old new
+    × ((first : ℕ) → 1 ≤ first → IsDropped first (content file old) → IsDropped first (content file new))
