@@ -28,7 +28,7 @@ sees s f x = is_committed f && (nat_lt x s.next && not (has x s.listed))
 -- the transaction is the session's own
 abbrev pub is_own : Option ℕ → ℕ → Bool
 is_own None x = false
-is_own (Some me) x = me == x
+is_own (Some me) x = x == me
 
 -- a session sees its own transaction, and what its snapshot sees
 abbrev pub sees_or_own : SnapshotTaken → Option ℕ → Fate → ℕ → Bool

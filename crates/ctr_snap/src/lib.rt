@@ -5,8 +5,8 @@
 mod low;
 mod snapshot;
 
-pub use low::low_mark;
-pub use snapshot::Snapshot;
+pub use low::{least_of, low_mark};
+pub use snapshot::{Snapshot, has};
 
 #[cfg(test)]
 mod tests;

@@ -16,7 +16,8 @@ pub fn low_mark(next: Xid, unanswered: &[Xid], live: &[Option<Snapshot>; 8]) -> 
     least_named(least_of(next, unanswered), live)
 }
 
-pub(crate) fn least_of(mark: Xid, xids: &[Xid]) -> Xid
+/// The least of a number and these.
+pub fn least_of(mark: Xid, xids: &[Xid]) -> Xid
     ensures { result ≡ least mark xids.now }
 {
     let Some((first, rest)) = xids.split_first() else {

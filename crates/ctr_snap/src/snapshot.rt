@@ -42,6 +42,13 @@ impl Snapshot {
         is_own(me, xid) || (fate == Fate::Committed && xid < self.next && !has(xid, &self.listed))
     }
 
+    /// The same snapshot again.
+    pub fn copy(&self, alloc: Global) -> Result<Snapshot, OutOfMemory>
+        ensures { IfOk result (λ s. s ≡ self.now) }
+    {
+        Snapshot::take(alloc, self.next, &self.listed)
+    }
+
     /// The least of a number and those that the snapshot names: its next, and its list.
     pub fn lower(&self, mark: Xid) -> Xid
         ensures { result ≡ least mark (named self.now) }
@@ -54,12 +61,13 @@ fn is_own(me: Option<Xid>, xid: Xid) -> bool
     ensures { result ≡ is_own me xid }
 {
     match me {
-        Some(own) => own == xid,
+        Some(own) => xid == own,
         None => false,
     }
 }
 
-fn has(xid: Xid, xids: &[Xid]) -> bool
+/// Whether a transaction is one of these.
+pub fn has(xid: Xid, xids: &[Xid]) -> bool
     ensures { result ≡ has xid xids.now }
 {
     let Some((first, rest)) = xids.split_first() else {

@@ -1,0 +1,4 @@
+pub mod Numbered
+pub mod Slots
+pub mod Tables
+pub mod Named
