@@ -1,5 +1,5 @@
 // Plays the lines of a suite.
-use crate::steps::{do_step, sight_of, step_of, wanted};
+use crate::steps::{do_step, rows_of, sight_of, step_of, wanted};
 use crate::words::{number, split_word};
 use ctr_rows::Engine;
 use std::alloc::Global;
@@ -35,7 +35,7 @@ impl Player {
         let _ = self.page.extend_from_slice(text);
     }
 
-    fn looks(&mut self, rest: &[u8]) -> Option<bool> {
+    fn looks(&self, rest: &[u8]) -> Option<bool> {
         let (session, rest) = split_word(rest);
         let (table, rest) = split_word(rest);
         let (key, value) = split_word(rest);
@@ -43,6 +43,15 @@ impl Player {
         let engine = self.engine.as_ref()?;
         let sight = sight_of(self.alloc, engine, s, table, key)?;
         Some(sight == wanted(value)?)
+    }
+
+    fn counts(&self, rest: &[u8]) -> Option<bool> {
+        let (session, rest) = split_word(rest);
+        let (table, count) = split_word(rest);
+        let s = u8::try_from(number(session)?).ok()?;
+        let engine = self.engine.as_ref()?;
+        let rows = rows_of(self.alloc, engine, s, table)?;
+        Some(rows == number(count)?)
     }
 
     fn does(&mut self, word: &[u8], rest: &[u8]) -> Option<()> {
@@ -71,6 +80,13 @@ impl Player {
         if word == b"sees".as_slice() {
             self.seen = self.seen.saturating_add(1);
             if self.looks(rest) != Some(true) {
+                self.told(line);
+            }
+            return;
+        }
+        if word == b"lists".as_slice() {
+            self.seen = self.seen.saturating_add(1);
+            if self.counts(rest) != Some(true) {
                 self.told(line);
             }
             return;

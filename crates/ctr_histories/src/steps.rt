@@ -126,6 +126,14 @@ pub fn sight_of(alloc: Global, engine: &Engine, s: u8, table: &[u8], key: &[u8])
     }
 }
 
+/// How many rows a session sees in the table of a name.
+pub fn rows_of(alloc: Global, engine: &Engine, s: u8, table: &[u8]) -> Option<u64> {
+    let name = name_of(alloc, table)?;
+    let id = table_of(engine, s, &name)?;
+    let rows = engine.listing(alloc, s, id).ok()?;
+    Some(rows.len() as u64)
+}
+
 /// What is wanted, as it is written down.
 pub fn wanted(word: &[u8]) -> Option<Sight> {
     if word == b"gone".as_slice() {

@@ -2,3 +2,4 @@ pub mod Numbered
 pub mod Slots
 pub mod Tables
 pub mod Named
+pub mod Seen

@@ -1,5 +1,5 @@
 -- How chains are kept in memory: the newest version last, with room for more, and by key.
-use Rattle.std.specs.Prelude.{◌≡◌, ℕ, ◌-◌, ◌<◌, false, T, List, map, reverse, Option, Some, vec_len, vec_capacity}
+use Rattle.std.specs.Prelude.{◌≡◌, ℕ, ◌-◌, ◌<◌, false, T, List, [], ◌∷◌, map, reverse, Option, Some, None, vec_len, vec_capacity}
 use Rattle.std.specs.Global.{Vec}
 use Rattle.std.specs.declared.cmp.Ordering.{Ordering}
 use Rattle.std.specs.Ordering.{is_eq}
@@ -25,6 +25,11 @@ entry_chain e = (e.0, e.1.chain)
 -- the chains by key; one that is empty is room for a first version
 abbrev pub chains_of : {K V : Type 0} → List (K × KeptChain V) → List (K × List (ℕ × Option V))
 chains_of es = map entry_chain es
+
+-- a value that is there, as a list
+abbrev pub value_list : {V : Type 0} → Option V → List V
+value_list None = []
+value_list (Some v) = v ∷ []
 
 -- the key has room for one version more
 pub record HasRoomFor {K V : Type 0} (cmp : K → K → Ordering) (key : K)

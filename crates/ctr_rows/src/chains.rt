@@ -1,16 +1,16 @@
 // Chains by key.
-ghost use Rattle.std.specs.Prelude.{◌≡◌, [], OnOk, option_copied};
+ghost use Rattle.std.specs.Prelude.{◌≡◌, [], ◌++◌, map, IfOk, OnOk, option_copied};
 ghost use Rattle.ctr_versions.specs.Chains.{value_seen, newest};
 ghost use Rattle.ctr_versions.specs.Changes.{write, revert, cut, without_tombstone};
-ghost use Rattle.ctr_versions.specs.Listing.{chain_at};
+ghost use Rattle.ctr_versions.specs.Listing.{chain_at, entries_seen};
 ghost use Rattle.ctr_versions.specs.Xids.{number_of, below_mark};
 ghost use Rattle.ctr_versions.specs.Engine.{session_sees};
-ghost use Rattle.ctr_rows.specs.Kept.{chains_of, HasRoomFor, ChainSet};
+ghost use Rattle.ctr_rows.specs.Kept.{chains_of, value_list, HasRoomFor, ChainSet};
 
 use crate::chain::Chain;
 use crate::session::Session;
 use crate::transactions::Transactions;
-use ctr_types::{OutOfMemory, Xid};
+use ctr_types::{List, OutOfMemory, Plain, Xid};
 use std::alloc::Global;
 use std::collections::BTreeMap;
 use std::marker::Model;
@@ -70,6 +70,24 @@ impl<K: Ord, V> Chains<K, V> {
             Some(chain) => chain.seen(xids, session),
             None => None,
         }
+    }
+
+    /// The values that the session sees, in the order of their keys.
+    pub fn listing(
+        &self,
+        alloc: Global,
+        xids: &Transactions,
+        session: &Session,
+    ) -> Result<List<V>, OutOfMemory>
+    where
+        V: Plain,
+        ensures { IfOk result (λ values. values ≡ map (λ e. e.1) (entries_seen (session_sees xids.now session.now) (chains_of self.now))) }
+    {
+        let mut values = List::new(alloc);
+        for chain in self.chains.values() {
+            push_seen(alloc, &mut values, chain, xids, session)?;
+        }
+        Ok(values)
     }
 
     /// The number of the newest committed version of a key.
@@ -143,4 +161,21 @@ impl<K: Ord, V> Chains<K, V> {
     {
         self.chains.remove(key);
     }
+}
+
+// A value behind the others, where the session sees one in the chain.
+fn push_seen<V: Plain>(
+    alloc: Global,
+    values: &mut List<V>,
+    chain: &Chain<V>,
+    xids: &Transactions,
+    session: &Session,
+) -> Result<(), OutOfMemory>
+    ensures { OnOk result (values.new ≡ values.old ++ value_list (value_seen (session_sees xids.now session.now) chain.now.chain)) }
+{
+    let Some(value) = chain.seen(xids, session) else {
+        return Ok(());
+    };
+    values.push(value.copy(alloc)?)?;
+    Ok(())
 }

@@ -1,12 +1,13 @@
 // The engine: each call leaves what its step says, and keeps that the engine shows the model's state.
-ghost use Rattle.std.specs.Prelude.{◌≡◌, ◌<◌, ◌^◌, ℕ, true, false, length, [], Some, None, List, ◌-◌, IfOk, OnOk, OnErr, IfSome, option_copied};
+ghost use Rattle.std.specs.Prelude.{◌≡◌, ◌<◌, ◌^◌, ℕ, true, false, length, [], Some, None, List, ◌-◌, IfOk, OnOk, OnErr, IfSome, map, option_copied};
 ghost use Rattle.std.specs.Ordering.{nat_cmp};
 ghost use Rattle.std.specs.FinMap.Entries.{find};
 ghost use Rattle.ctr_model.specs.State.{at_rest};
 ghost use Rattle.ctr_versions.specs.Chains.{value_seen, newest};
 ghost use Rattle.ctr_versions.specs.Changes.{write, revert, cut, without_tombstone};
 ghost use Rattle.ctr_versions.specs.Xids.{number_of, below_mark};
-ghost use Rattle.ctr_versions.specs.Versions.{names_at, rows_of};
+ghost use Rattle.ctr_versions.specs.Listing.{entries_seen};
+ghost use Rattle.ctr_versions.specs.Versions.{names_at, slots_of, rows_of};
 ghost use Rattle.ctr_versions.specs.Engine.{ShowsState};
 ghost use Rattle.ctr_versions.specs.Steps.{engine_begun, engine_asked, engine_ended, engine_answered, engine_rolled_back};
 ghost use Rattle.ctr_versions.specs.Laws.{me_of, IsOpenWriter, SetsRow, SetsName, BeginKeeps, DrawKeeps, RowKeeps, NameKeeps, AskKeeps, AnswerKeeps, EndKeeps, RollbackKeeps, CleaningKeeps, RevertKeeps, RoomKeeps, NameRevertKeeps, DeadKeeps, sees_of, mark_of, sessions_named};
@@ -19,7 +20,7 @@ use crate::store::{Made, Store};
 use crate::transactions::Transactions;
 use ctr_model::{Key, Map};
 use ctr_snap::{Snapshot, has, least_of};
-use ctr_types::{Name, OutOfMemory, Row, Schema, Xid};
+use ctr_types::{List, Name, OutOfMemory, Row, Schema, Xid};
 use std::alloc::Global;
 use std::marker::Model;
 
@@ -306,6 +307,16 @@ impl Engine {
         match self.sessions.get(&s) {
             Some(session) => self.store.row(id, key, &self.xids, session),
             None => None,
+        }
+    }
+
+    /// The rows that a session sees in a table, in the order of their keys.
+    pub fn listing(&self, alloc: Global, s: u8, id: u64) -> Result<List<Row>, OutOfMemory>
+        ensures { IfOk result (λ rows. rows ≡ map (λ e. e.1) (entries_seen (sees_of s (engine_of self.now)) (slots_of (engine_of self.now).versions id))) }
+    {
+        match self.sessions.get(&s) {
+            Some(session) => self.store.listing(alloc, id, &self.xids, session),
+            None => Ok(List::new(alloc)),
         }
     }
 

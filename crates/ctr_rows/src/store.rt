@@ -1,7 +1,8 @@
 // Tables by name and rows by table and key, each with its chain.
-ghost use Rattle.std.specs.Prelude.{◌≡◌, ℕ, ◌+◌, ◌-◌, ◌<◌, ◌^◌, [], Some, None, is_some, true, IfSome, OnOk, option_copied};
+ghost use Rattle.std.specs.Prelude.{◌≡◌, ℕ, ◌+◌, ◌-◌, ◌<◌, ◌^◌, [], Some, None, is_some, true, IfSome, IfOk, OnOk, map, option_copied};
 ghost use Rattle.ctr_versions.specs.Chains.{value_seen, newest};
 ghost use Rattle.ctr_versions.specs.Changes.{write, revert, cut, without_tombstone};
+ghost use Rattle.ctr_versions.specs.Listing.{entries_seen};
 ghost use Rattle.ctr_versions.specs.Xids.{number_of, below_mark};
 ghost use Rattle.ctr_versions.specs.Versions.{names_at, slots_of, rows_of, RowsSet, NamesSet, IsUnmadeTable};
 ghost use Rattle.ctr_versions.specs.Engine.{session_sees};
@@ -13,7 +14,7 @@ use crate::chains::Chains;
 use crate::session::Session;
 use crate::transactions::Transactions;
 use ctr_model::Key;
-use ctr_types::{Name, OutOfMemory, Row, Schema, Xid};
+use ctr_types::{List, Name, OutOfMemory, Row, Schema, Xid};
 use std::alloc::Global;
 use std::collections::BTreeMap;
 use std::marker::Model;
@@ -92,6 +93,22 @@ impl Store {
         match self.tables.get(&id) {
             Some(rows) => rows.seen(&key, xids, session),
             None => None,
+        }
+    }
+
+    /// The rows of a table that the session sees, in the order of their keys.
+    pub fn listing(
+        &self,
+        alloc: Global,
+        id: u64,
+        xids: &Transactions,
+        session: &Session,
+    ) -> Result<List<Row>, OutOfMemory>
+        ensures { IfOk result (λ rows. rows ≡ map (λ e. e.1) (entries_seen (session_sees xids.now session.now) (slots_of (versions_of self.now) id))) }
+    {
+        match self.tables.get(&id) {
+            Some(rows) => rows.listing(alloc, xids, session),
+            None => Ok(List::new(alloc)),
         }
     }
 
