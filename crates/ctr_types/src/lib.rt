@@ -13,6 +13,7 @@ mod statement;
 mod tape;
 mod text;
 mod value;
+mod xid;
 
 pub use file::File;
 pub use list::List;
@@ -23,3 +24,4 @@ pub use statement::{KeyIs, Line, Script, Set, SetTo, Statement};
 pub use tape::{Act, Actor, Entry, Refusal, Reply, Tape, Turn};
 pub use text::Text;
 pub use value::{Column, Kind, Row, Rows, Schema, Value};
+pub use xid::{Fate, Xid};

@@ -1,0 +1,25 @@
+// Words and numbers of a line.
+
+/// The first word of a line, and what stands behind the blank.
+pub fn split_word(line: &[u8]) -> (&[u8], &[u8]) {
+    match line.iter().position(|byte| *byte == b' ') {
+        Some(at) => (&line[..at], &line[at + 1..]),
+        None => (line, &line[line.len()..]),
+    }
+}
+
+/// The whole number that a word is, if it is one: digits.
+pub fn number(word: &[u8]) -> Option<u64> {
+    if word.is_empty() {
+        return None;
+    }
+    let mut number = 0u64;
+    for byte in word {
+        if !byte.is_ascii_digit() {
+            return None;
+        }
+        let step = (*byte - b'0') as u64;
+        number = number.checked_mul(10)?.checked_add(step)?;
+    }
+    Some(number)
+}

@@ -1,0 +1,13 @@
+use Rattle.std.proofs.Common.{rules, ◌≡◌}
+use Rattle.ctr_versions.specs.Engine.{EngineHeld}
+use Rattle.ctr_rows.specs.Running.{engine_of}
+use Rattle.ctr_versions.specs.Steps.{engine_rolled_back}
+use Rattle.ctr_versions.specs.Laws.{me_of}
+use Rattle.ctr_versions.proofs.Kept.{rollback_left}
+use Rattle.ctr_rows.proofs.engine.Engine.roll_back.Goals as goal
+
+pub returns-clause-keeps : goal.returns-clause-keeps
+returns-clause-keeps c =
+    let new : EngineHeld = engine_of (record { xids = c.abort.new.self; store = c.self.inside.store; sessions = c.remove.new.self; answered = c.self.inside.answered }) in
+    let leaves : new ≡ engine_rolled_back c.args.s (me_of c.args.s (engine_of c.args.self.now)) (engine_of c.args.self.now) = search rules in
+    rollback_left c.args.s (engine_of c.args.self.now) new c.requires leaves

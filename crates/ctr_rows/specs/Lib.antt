@@ -1,0 +1,4 @@
+pub mod Kept
+pub mod Numbered
+pub mod Stored
+pub mod Running

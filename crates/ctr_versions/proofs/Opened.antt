@@ -1,0 +1,128 @@
+-- Versions as they stand at open, with nothing asked yet: the base is what they show.
+use Rattle.std.proofs.Common.{◌≡◌, ◌⊎◌, ⊎_elim, inl, inr, ℕ, zero, suc, ℤ, true, false, cond, List, [], ◌∷◌, length, Option, Some, None, refl, sym, ◌∙◌, ap, subst, arith}
+use Rattle.std.specs.Prelude.{unwrap_or, is_some, T}
+use Rattle.std.specs.Option.{option_or, option_map}
+use Rattle.std.specs.Ordering.{nat_cmp, int_cmp}
+use Rattle.std.specs.Cmp.{int_cmp_total}
+use Rattle.std.specs.Cmp.Lexicographic.{nat_list_cmp_total}
+use Rattle.std.specs.FinMap.Entries.{find, is_sorted}
+use Rattle.std.proofs.lemmas.Bool.{false≢true, le-leb}
+use Rattle.ctr_model.specs.declared.database.Table.{Table}
+use Rattle.ctr_model.specs.Database.{Database, name_cmp, table_at}
+use Rattle.ctr_model.specs.Refusals.{row_of}
+use Rattle.ctr_versions.specs.Chains.{Numbers, value_seen, is_by, by, newest, above, newest_since, Behind, value_at_number, ShowsKey}
+use Rattle.ctr_versions.specs.Keys.{schema_named}
+use Rattle.ctr_versions.specs.Xids.{Xids, place_from, has_committed, number_of, AreSound}
+use Rattle.ctr_versions.specs.Engine.{AreDrawn, ShowsState}
+use Rattle.ctr_model.specs.State.{at_rest}
+use Rattle.ctr_versions.specs.Listing.{entries_seen}
+use Rattle.ctr_versions.specs.Versions.{Made, Versions, names_at, slots_of, rows_of, schemas, table_seen, database_seen, IsTableAt, IsTableSince, IsFrom, VersionsStand, IsOrdered}
+use Rattle.ctr_versions.proofs.Chains.{not_above}
+use Rattle.ctr_versions.proofs.Versions.{seen-map, sorted-map, find-map}
+use Rattle.ctr_versions.proofs.Listing.{find-shown, is_sorted-shown}
+use Rattle.ctr_versions.proofs.Asked.{seen_tests}
+use Rattle.ctr_versions.proofs.Engine.{none_since}
+
+-- each number that is committed was so before
+abbrev pub IsOpened : Numbers → Type 0
+IsOpened number = (x : ℕ) → (number x ≡ None) ⊎ (number x ≡ Some 0)
+
+pub opened_numbers : (xids : Xids) → xids.commits ≡ [] → IsOpened (number_of xids)
+opened_numbers xids none x = elim (has_committed xids x) as (λ b. (cond b (Some (place_from 1 x xids.commits)) None ≡ None) ⊎ (cond b (Some (place_from 1 x xids.commits)) None ≡ Some 0)) [
+  | true ↦ inr (ap (λ cs. Some (place_from 1 x cs)) none)
+  | false ↦ inl refl
+]
+
+module _ (number : Numbers) (opened : IsOpened number) where
+  same_by : (j x : ℕ) → by number j x ≡ by number 0 x
+  same_by j x = ⊎_elim (λ none. ap (is_by j) none ∙ sym (ap (is_by 0) none)) (λ old. ap (is_by j) old ∙ le-leb 0 j (omega arith) ∙ sym (ap (is_by 0) old ∙ le-leb 0 0 (omega arith))) (opened x)
+
+  none_newest : {V : Type 0} (chain : List (ℕ × Option V)) → (newest number chain ≡ None) ⊎ (newest number chain ≡ Some 0)
+  none_newest [] = inl refl
+  none_newest (v ∷ vs) = ⊎_elim
+      (λ none. ⊎_elim (λ e. inl (ap (λ o. option_or o (newest number vs)) none ∙ e)) (λ e. inr (ap (λ o. option_or o (newest number vs)) none ∙ e)) (none_newest vs))
+      (λ old. inr (ap (λ o. option_or o (newest number vs)) old))
+      (opened v.0)
+
+  none_since_open : {V : Type 0} (n : ℕ) (chain : List (ℕ × Option V)) → newest_since number n chain ≡ None
+  none_since_open n chain = ⊎_elim (λ e. ap (above n) e) (λ e. ap (above n) e ∙ not_above 0 n (omega arith)) (none_newest chain)
+
+  first_value : {X : Type 0} (v : Option X) (j : ℕ) → v ≡ value_at_number v [] j
+  first_value v zero = refl
+  first_value v (suc j) = refl
+
+  opened_shows : {X : Type 0} (at since : ℕ → Type 0) (base : Option X) (chain : List (ℕ × Option X)) → Behind number chain → ((j : ℕ) → at j → value_seen (by number 0) chain ≡ base) → ShowsKey at since number base [] chain
+  opened_shows {X} at since base chain behind is = record {
+    rows = λ j here. seen_tests (by number 0) (by number j) chain (same_by j) ∙ is j here ∙ first_value base j;
+    changes = λ n here. none_since_open n chain ∙ none_since X n;
+    behind = behind;
+  }
+
+  module _ (versions : Versions) (sorted : T (is_sorted name_cmp versions.names)) (slots_sorted : (id : ℕ) → T (is_sorted int_cmp (slots_of versions id)))
+      (names_behind : (name : List ℕ) → Behind number (schemas (names_at versions name))) (rows_behind : (id : ℕ) (key : ℤ) → Behind number (rows_of versions id key)) where
+    abbrev pub opened_base : Database
+    opened_base = database_seen (by number 0) versions
+
+    table_is : (name : List ℕ) → table_at opened_base name ≡ option_map (table_seen (by number 0) versions) (value_seen (by number 0) (names_at versions name))
+    table_is name = find-map (table_seen (by number 0) versions) name (entries_seen (by number 0) versions.names) ∙ ap (option_map (table_seen (by number 0) versions)) (find-shown name_cmp nat_list_cmp_total (by number 0) name versions.names sorted)
+
+    schema_is : (name : List ℕ) → value_seen (by number 0) (schemas (names_at versions name)) ≡ schema_named opened_base name
+    schema_is name =
+        seen-map (λ (m : Made). m.schema) (by number 0) (names_at versions name)
+        ∙ elim (value_seen (by number 0) (names_at versions name)) as (λ o. option_map (λ (m : Made). m.schema) o ≡ option_map (λ (t : Table). t.schema) (option_map (table_seen (by number 0) versions) o)) [ Some m ↦ refl | None ↦ refl ]
+        ∙ sym (ap (λ (o : Option Table). option_map (λ (t : Table). t.schema) o) (table_is name))
+
+    row_is : (name : List ℕ) (made : Made) (key : ℤ) → value_seen (by number 0) (names_at versions name) ≡ Some made → value_seen (by number 0) (rows_of versions made.id key) ≡ row_of (table_at opened_base name) key
+    row_is name made key at =
+        sym (find-shown int_cmp int_cmp_total (by number 0) key (slots_of versions made.id) (slots_sorted made.id))
+        ∙ sym (ap (λ o. row_of o key) (table_is name ∙ ap (option_map (table_seen (by number 0) versions)) at))
+
+    -- the versions stand for what they show
+    pub opened_stands : VersionsStand 0 number opened_base [] versions
+    opened_stands = record {
+      sorted = sorted;
+      slots_sorted = slots_sorted;
+      tables = λ name. opened_shows (IsFrom 0) (IsFrom 0) (schema_named opened_base name) (schemas (names_at versions name)) (names_behind name) (λ j here. schema_is name);
+      rows = λ name made key. opened_shows (IsTableAt 0 number versions name made) (IsTableSince 0 number versions name made) (row_of (table_at opened_base name) key) (rows_of versions made.id key) (rows_behind made.id key)
+          (λ j here. row_is name made key (sym (seen_tests (by number 0) (by number j) (names_at versions name) (same_by j)) ∙ here.1));
+    }
+
+    pub opened_ordered : IsOrdered opened_base
+    opened_ordered = record {
+      names = sorted-map (table_seen (by number 0) versions) (entries_seen (by number 0) versions.names) (is_sorted-shown name_cmp (by number 0) versions.names sorted);
+      rows = λ name t at. rows_ordered name t (value_seen (by number 0) (names_at versions name)) (sym (table_is name) ∙ at);
+    }
+      where
+        rows_ordered : (name : List ℕ) (t : Table) (o : Option Made) → option_map (table_seen (by number 0) versions) o ≡ Some t → T (is_sorted int_cmp t.rows)
+        rows_ordered name t None e = absurd (false≢true (ap is_some e))
+        rows_ordered name t (Some made) e = subst (λ (u : Table). T (is_sorted int_cmp u.rows)) (ap (λ (o : Option Table). unwrap_or o t) e) (is_sorted-shown int_cmp (by number 0) (slots_of versions made.id) (slots_sorted made.id))
+
+-- ---- the invariant at open
+
+none_found : {X : Type 0} (s : ℕ) (x : X) → find nat_cmp s [] ≡ Some x → ⊥
+none_found s x e = false≢true (ap is_some e)
+
+-- Nobody is in a transaction yet, and what stands open in the tables of transactions is no session's.
+pub opened_state : (xids : Xids) (versions : Versions) (stuck : List (List ℕ)) → AreSound xids → xids.commits ≡ [] → T (is_sorted name_cmp versions.names) → ((id : ℕ) → T (is_sorted int_cmp (slots_of versions id)))
+    → ((name : List ℕ) → Behind (number_of xids) (schemas (names_at versions name))) → ((id : ℕ) (key : ℤ) → Behind (number_of xids) (rows_of versions id key)) → AreDrawn xids.next versions
+    → ShowsState 0 (record { xids = xids; versions = versions; sessions = []; answered = 0 }) (at_rest (database_seen (by (number_of xids) 0) versions) stuck)
+opened_state xids versions stuck sound none sorted slots_sorted names_behind rows_behind drawn = record {
+  sound = sound;
+  counted = ap (λ cs. length cs) none;
+  same_answered = refl;
+  answered = omega arith;
+  lowest = omega arith;
+  stands = opened_stands (number_of xids) (opened_numbers xids none) versions sorted slots_sorted names_behind rows_behind;
+  drawn = drawn;
+  inside = λ s t e. absurd (none_found s t e);
+  below = λ s a e. absurd (none_found s a e);
+  apart = λ s r a b at_a at_b positive same. absurd (none_found s a at_a);
+}
+
+abbrev pub fresh_xids : Xids
+fresh_xids = record { next = 1; live = []; aborted = []; commits = [] }
+
+-- with nothing in it
+pub empty_state : (stuck : List (List ℕ)) → ShowsState 0 (record { xids = fresh_xids; versions = record { names = []; slots = [] }; sessions = []; answered = 0 }) (at_rest [] stuck)
+empty_state stuck = opened_state fresh_xids (record { names = []; slots = [] }) stuck
+    (record { first = omega arith; gone = tt; live = tt; apart = λ x here. absurd (false≢true here); commits = tt; once = tt }) refl tt (λ id. tt) (λ name. tt) (λ id key. tt) (record { names = λ name. tt; rows = λ id key. tt })

@@ -1,0 +1,9 @@
+pub mod Chains
+pub mod Changes
+pub mod Keys
+pub mod Listing
+pub mod Versions
+pub mod Xids
+pub mod Engine
+pub mod Steps
+pub mod Laws

@@ -1,0 +1,19 @@
+// What an engine shows. A call does nothing: what it ensures is the law.
+ghost use Rattle.ctr_versions.specs.Laws.{SessionsSeeTheirViews, RowsStandAtEachNumber, NewerSchemasAreChanged, NewerRowsAreChanged};
+
+/// What a session sees in the versions is the view that the model gives it.
+pub fn sessions_see_their_views()
+    ensures { SessionsSeeTheirViews }
+{}
+
+/// The versions have the rows of the model at each commit number from the low one on.
+pub fn rows_stand_at_each_number()
+    ensures { RowsStandAtEachNumber }
+{}
+
+/// The newest committed version is newer than a snapshot exactly where the model says that the table, or
+/// the row, was changed since, and it is of the same commit.
+pub fn first_committer_wins()
+    ensures schemas { NewerSchemasAreChanged }
+    ensures rows { NewerRowsAreChanged }
+{}
