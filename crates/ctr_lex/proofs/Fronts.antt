@@ -1,9 +1,10 @@
 -- What the loop over a line's tokens keeps.
-use Rattle.std.proofs.Common.{◌≡◌, ℕ, zero, suc, ◌+◌, ◌-◌, ◌<◌, ◌≤◌, List, [], ◌∷◌, ◌++◌, length, get_or, take, drop, refl, sym, ap, ◌∙◌, subst, append_assoc, arith, length-append, length-drop, take-append-drop, length-take-le, get_or-drop, drop-drop, add-zero}
+use Rattle.std.proofs.Common.{◌≡◌, ◌⊎◌, inl, inr, ℕ, zero, suc, ◌+◌, ◌-◌, ◌<◌, ◌≤◌, List, [], ◌∷◌, ◌++◌, length, get_or, take, drop, refl, sym, ap, ◌∙◌, subst, append_assoc, arith, length-append, length-drop, take-append-drop, length-take-le, get_or-drop, drop-drop, add-zero}
 use Rattle.std.proofs.lemmas.List.{map_push, nil_from_length}
 use Rattle.ctr_model.specs.Grammar.{IsBlank, IsToken, IsLongest, Lexes}
 use Rattle.ctr_lex.specs.declared.token.Token.{Token}
-use Rattle.ctr_lex.specs.Tokens.{texts_of, StandFrom, NoneBegins, LexesTo, IsBadAt}
+use Rattle.ctr_model.specs.Places.{NoneBegins, LexesTo, IsBadAt, IsTokenAt}
+use Rattle.ctr_lex.specs.Tokens.{texts_of, StandFrom, AreAt}
 use Rattle.ctr_lex.specs.One.{IsLongestToken}
 use Rattle.ctr_lex.proofs.Lists.{All_take}
 use Rattle.ctr_lex.proofs.ByFirst.{no_empty_token}
@@ -34,6 +35,31 @@ pub record IsFront (line : List ℕ) (ts : List Token) (rest : List ℕ) : Type 
   pub lexes : LexesTo rest line (texts_of ts)
   pub places : StandUpTo 0 line ts (length line - length rest)
   pub few : length ts + length rest ≤ length line
+  pub at : AreAt line ts
+
+-- where a token more stands last, the one in question is it or stood there before
+last_or_before : (ts front after : List Token) (t u : Token) → ts ++ u ∷ [] ≡ front ++ t ∷ after
+    → ((ts ≡ front) × (u ≡ t)) ⊎ ((others : List Token) × (ts ≡ front ++ t ∷ others))
+last_or_before [] [] after t u e = inl (refl, cc)
+last_or_before [] (x ∷ front) after t u e = let more : [] ≡ front ++ t ∷ after = cc in absurd (omega (arith, ap length more, length-append front (t ∷ after)))
+last_or_before (x ∷ ts) [] after t u e = let first : x ≡ t = cc in inr (ts, ap (λ y. y ∷ ts) first)
+last_or_before (x ∷ ts) (y ∷ front) after t u e =
+    let first : x ≡ y = cc in
+    let more : ts ++ u ∷ [] ≡ front ++ t ∷ after = cc in
+    elim (last_or_before ts front after t u more) [
+      | inl w ↦ inl (ap (λ l. x ∷ l) w.0 ∙ ap (λ z. z ∷ front) first, w.1)
+      | inr w ↦ inr (w.0, ap (λ l. x ∷ l) w.1 ∙ ap (λ z. z ∷ (front ++ t ∷ w.0)) first)
+    ]
+
+at_push : (line : List ℕ) (ts : List Token) (u : Token) → AreAt line ts → IsTokenAt line (texts_of ts) u.text.now u.at → AreAt line (ts ++ u ∷ [])
+at_push line ts u at one front after t e =
+    elim (last_or_before ts front after t u e) [
+      | inl w ↦ subst (λ l. IsTokenAt line (texts_of l) t.text.now t.at) w.0 (subst (λ x. IsTokenAt line (texts_of ts) x.text.now x.at) w.1 one)
+      | inr w ↦ at front w.0 t w.1
+    ]
+
+at_none : (line : List ℕ) → AreAt line []
+at_none line front after t e = absurd (omega (arith, ap length e, length-append front (t ∷ after)))
 
 pub front_none : (line : List ℕ) → IsFront line [] line
 front_none line =
@@ -44,6 +70,7 @@ front_none line =
       lexes = ([], refl, tt);
       places = omega arith;
       few = omega arith;
+      at = at_none line;
     }
 
 -- a further drop is a drop of the line
@@ -62,6 +89,7 @@ front_blanks line rest from ts n front below all is =
       lexes = LexesTo-blanks rest line (take n rest) from (texts_of ts) front.lexes (sym (take-append-drop n rest) ∙ ap (λ (l : List ℕ). take n rest ++ l) (sym is)) (All_take IsBlank rest n below all);
       places = StandUpTo-later 0 line ts (length line - length rest) (length line - length from) (omega (arith, front.within)) front.places;
       few = omega (arith, front.few);
+      at = front.at;
     }
 
 longest_of : (from : List ℕ) (n : ℕ) → IsLongestToken from n → IsLongest (take n from) (drop n from)
@@ -70,9 +98,23 @@ longest_of from n one more after e some is =
     let most = one.most (take n from ++ more) after regrouped is in
     omega (arith, most, some, length-append (take n from) more, length-take-le n from one.within)
 
-token_long : (from : List ℕ) (n : ℕ) → IsToken (take n from) → 0 < n
+pub token_long : (from : List ℕ) (n : ℕ) → IsToken (take n from) → 0 < n
 token_long from zero is = absurd (no_empty_token is)
 token_long from (suc n) is = omega arith
+
+-- the token that is taken stands there
+token_at : (line from after : List ℕ) (ts : List Token) (t : Token) (n : ℕ) → IsFront line ts from → IsLongestToken from n → t.text.now ≡ take n from → t.at ≡ length line - length from → after ≡ drop n from → IsTokenAt line (texts_of ts) t.text.now t.at
+token_at line from after ts t n front one text_is at_is is =
+    let there : from ≡ drop t.at line = front.split ∙ ap (λ (k : ℕ). drop k line) (sym at_is) in
+    let some : 0 < n = token_long from n one.token in
+    record {
+      inside = omega (arith, front.within, one.within);
+      before = subst (λ l. LexesTo l line (texts_of ts)) there front.lexes;
+      token = subst IsToken (sym text_is) one.token;
+      after = after;
+      split = sym there ∙ sym (take-append-drop n from) ∙ ap (λ (l : List ℕ). take n from ++ l) (sym is) ∙ ap (λ (l : List ℕ). l ++ after) (sym text_is);
+      longest = subst (λ t. IsLongest t after) (sym text_is) (subst (IsLongest (take n from)) (sym is) (longest_of from n one));
+    }
 
 -- a token is taken
 pub front_token : (line from after : List ℕ) (ts : List Token) (t : Token) (n : ℕ) → IsFront line ts from → IsLongestToken from n → t.text.now ≡ take n from → t.at ≡ length line - length from → after ≡ drop n from → IsFront line (ts ++ t ∷ []) after
@@ -90,7 +132,11 @@ front_token line from after ts t n front one text_is at_is is =
       lexes = subst (LexesTo after line) texts lexed;
       places = subst (StandUpTo 0 line (ts ++ t ∷ [])) end (StandUpTo-push 0 line ts t (length line - length from) (omega (arith, at_is)) (omega (arith, front.within)) there front.places);
       few = omega (arith, front.few, length-append ts (t ∷ []));
+      at = at_push line ts t front.at (token_at line from after ts t n front one text_is at_is is);
     }
+
+pub front_at : (line rest : List ℕ) (ts : List Token) → IsFront line ts rest → AreAt line ts
+front_at line rest ts front = front.at
 
 -- nothing is left
 pub front_all : (line : List ℕ) (ts : List Token) → IsFront line ts [] → Lexes line (texts_of ts)
@@ -115,7 +161,7 @@ front_bad line from ts front some no_blank none =
       none_begins = subst NoneBegins front.split none;
     }
 
-bad_begins : (line : List ℕ) (ts : List (List ℕ)) (at : ℕ) → IsBadAt line ts at → Begins (drop at line)
+pub bad_begins : (line : List ℕ) (ts : List (List ℕ)) (at : ℕ) → IsBadAt line ts at → Begins (drop at line)
 bad_begins line ts at bad =
     let first : get_or (drop at line) 0 0 ≡ get_or line at 0 = get_or-drop at line 0 0 ∙ ap (λ (k : ℕ). get_or line k 0) (add-zero at) in
     begins_at (drop at line) (omega (arith, bad.inside, length-drop at line)) (λ blank. bad.no_blank (subst IsBlank first blank))

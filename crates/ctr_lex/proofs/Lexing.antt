@@ -3,7 +3,7 @@ use Rattle.std.proofs.Common.{◌≡◌, ℕ, ◌<◌, ◌≤◌, List, [], ◌�
 use Rattle.std.proofs.lemmas.Bool.{cases_lt}
 use Rattle.std.specs.List.{AllByRecursion}
 use Rattle.ctr_model.specs.Grammar.{IsBlank, IsToken, IsLongest, Lexes}
-use Rattle.ctr_lex.specs.Tokens.{NoneBegins, LexesTo}
+use Rattle.ctr_model.specs.Places.{NoneBegins, LexesTo}
 use Rattle.ctr_lex.proofs.Lists.{split_front, All_append}
 use Rattle.ctr_lex.proofs.ByFirst.{kind_of, no_empty_token, no_blank_first}
 
@@ -16,13 +16,13 @@ pub token_begins : (t after : List ℕ) → IsToken t → Begins (t ++ after)
 token_begins [] after is = absurd (no_empty_token is)
 token_begins (c ∷ cs) after is = no_blank_first c cs (kind_of c cs is)
 
-not_all_blank : (blanks after : List ℕ) → Begins after → AllByRecursion IsBlank (blanks ++ after) → ⊥
+pub not_all_blank : (blanks after : List ℕ) → Begins after → AllByRecursion IsBlank (blanks ++ after) → ⊥
 not_all_blank [] [] begins all = begins
 not_all_blank [] (c ∷ after) begins all = begins all.0
 not_all_blank (x ∷ blanks) after begins all = not_all_blank blanks after begins all.1
 
 -- blanks end at the first byte that is none
-one_front : (p q a b : List ℕ) → p ++ a ≡ q ++ b → AllByRecursion IsBlank p → AllByRecursion IsBlank q → Begins a → Begins b → a ≡ b
+pub one_front : (p q a b : List ℕ) → p ++ a ≡ q ++ b → AllByRecursion IsBlank p → AllByRecursion IsBlank q → Begins a → Begins b → a ≡ b
 one_front [] [] a b e all_p all_q begins_a begins_b = e
 one_front [] (y ∷ q) [] b e all_p all_q begins_a begins_b = absurd begins_a
 one_front [] (y ∷ q) (c ∷ a) b e all_p all_q begins_a begins_b = let first : y ≡ c = cc in absurd (begins_a (subst IsBlank first all_q.0))
@@ -47,13 +47,13 @@ one_longest t u a b e is_t is_u longest_t longest_u =
     (cases_lt (length t) (length u))
 
 -- behind blanks, the longest token is the same one
-first_token : (p q t u a b : List ℕ) → (p ++ t) ++ a ≡ (q ++ u) ++ b → AllByRecursion IsBlank p → AllByRecursion IsBlank q → IsToken t → IsToken u → IsLongest t a → IsLongest u b → (t ≡ u) × (a ≡ b)
+pub first_token : (p q t u a b : List ℕ) → (p ++ t) ++ a ≡ (q ++ u) ++ b → AllByRecursion IsBlank p → AllByRecursion IsBlank q → IsToken t → IsToken u → IsLongest t a → IsLongest u b → (t ≡ u) × (a ≡ b)
 first_token p q t u a b e all_p all_q is_t is_u longest_t longest_u =
     let regrouped : p ++ (t ++ a) ≡ q ++ (u ++ b) = sym (append_assoc p t a) ∙ e ∙ append_assoc q u b in
     let same = one_front p q (t ++ a) (u ++ b) regrouped all_p all_q (token_begins t a is_t) (token_begins u b is_u) in
     one_longest t u a b same is_t is_u longest_t longest_u
 
-token_or_blanks : (bytes p t after : List ℕ) → bytes ≡ (p ++ t) ++ after → IsToken t → AllByRecursion IsBlank bytes → ⊥
+pub token_or_blanks : (bytes p t after : List ℕ) → bytes ≡ (p ++ t) ++ after → IsToken t → AllByRecursion IsBlank bytes → ⊥
 token_or_blanks bytes p t after e is all = not_all_blank p (t ++ after) (token_begins t after is) (subst (AllByRecursion IsBlank) (e ∙ append_assoc p t after) all)
 
 -- two lists of tokens that lex one line are equal

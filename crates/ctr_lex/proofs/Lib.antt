@@ -4,3 +4,5 @@ pub mod Texts
 pub mod Ones
 pub mod Lexing
 pub mod Fronts
+pub mod Standing
+pub mod Total

@@ -5,7 +5,7 @@ use Rattle.std.specs.Prelude.{Option, IfSome, MatchOption}
 use Rattle.std.specs.List.{AllByRecursion, flat_map}
 use Rattle.ctr_model.specs.Texts.{doubled}
 use Rattle.ctr_model.specs.Grammar.{IsPrintable, IsDigit, IsLetter, IsWordByte, IsSign, IsToken}
-use Rattle.ctr_lex.specs.Tokens.{NoneBegins}
+use Rattle.ctr_model.specs.Places.{NoneBegins}
 use Rattle.ctr_lex.specs.One.{IsLongestToken}
 use Rattle.ctr_lex.proofs.Lists.{All_take, All_most}
 use Rattle.ctr_lex.proofs.ByFirst.{Kind, word, numeral, minus, text, sign, kind_of, no_empty_token, is_token}

@@ -1,8 +1,8 @@
 -- What the tokens of a line are.
-use Rattle.std.specs.Prelude.{◌≡◌, ℕ, ◌+◌, ◌<◌, ◌≤◌, List, [], ◌∷◌, ◌++◌, length, map, take, drop, slice_index}
-use Rattle.std.specs.List.{AllByRecursion}
+use Rattle.std.specs.Prelude.{◌≡◌, ◌⊎◌, ℕ, ◌+◌, ◌≤◌, List, [], ◌∷◌, ◌++◌, length, map, take, drop, Option, MatchOption}
 use Rattle.ctr_lex.specs.declared.token.Token.{Token}
-use Rattle.ctr_model.specs.Grammar.{IsBlank, IsToken, IsLongest}
+use Rattle.ctr_model.specs.Grammar.{Lexes}
+use Rattle.ctr_model.specs.Places.{IsBadAt, IsTokenAt}
 
 -- the tokens' bytes, in order
 abbrev pub texts_of : List Token → List (List ℕ)
@@ -17,21 +17,22 @@ StandFrom from line (t ∷ ts) =
     × (t.text.now ≡ take (length t.text.now) (drop t.at line))
     × StandFrom (t.at + length t.text.now) line ts
 
--- the bytes begin with no token
-abbrev pub NoneBegins : List ℕ → Type 0
-NoneBegins bytes = (t after : List ℕ) → bytes ≡ t ++ after → IsToken t → ⊥
+-- each token stands at its place, behind those before it
+abbrev pub AreAt : List ℕ → List Token → Type 0
+AreAt line tokens =
+    (front after : List Token) (t : Token) → tokens ≡ front ++ t ∷ after
+    → IsTokenAt line (texts_of front) t.text.now t.at
 
--- The bytes are these tokens, each the longest, with any blanks before each and after the last, and
--- then rest.
-abbrev pub LexesTo : List ℕ → List ℕ → List (List ℕ) → Type 0
-LexesTo rest bytes [] = (blanks : List ℕ) × (bytes ≡ blanks ++ rest) × AllByRecursion IsBlank blanks
-LexesTo rest bytes (t ∷ ts) =
-    (blanks after : List ℕ) × (bytes ≡ blanks ++ t ++ after) × AllByRecursion IsBlank blanks
-    × IsToken t × IsLongest t after × LexesTo rest after ts
+-- two places behind these tokens are one, or one of the two tokens there stands before the other
+abbrev pub IsOrdered : List (List ℕ) → List ℕ → ℕ → List (List ℕ) → List ℕ → ℕ → Type 0
+IsOrdered ts t i us u j =
+    (i ≡ j) ⊎ (((more : List (List ℕ)) × (us ≡ ts ++ t ∷ more))
+    ⊎ ((more : List (List ℕ)) × (ts ≡ us ++ u ∷ more)))
 
--- after these tokens stands a byte, no blank, at which no token begins
-pub record IsBadAt (line : List ℕ) (tokens : List (List ℕ)) (at : ℕ) : Type 0 where
-  pub inside : at < length line
-  pub before : LexesTo (drop at line) line tokens
-  pub no_blank : IsBlank (slice_index line at) → ⊥
-  pub none_begins : NoneBegins (drop at line)
+-- the line is taken apart: it is these tokens, or they stand before its first byte at which none
+-- begins; and each stands at its place
+abbrev pub IsTaken : List ℕ → Type 0
+IsTaken line =
+    (tokens : List Token) × (bad : Option ℕ)
+    × MatchOption bad (Lexes line (texts_of tokens)) (λ i. IsBadAt line (texts_of tokens) i)
+    × AreAt line tokens

@@ -46,7 +46,7 @@ pub(crate) fn is_sign(byte: u8) -> bool
 }
 
 /// How many blanks the bytes begin with.
-pub(crate) fn blanks_len(bytes: &[u8]) -> usize
+pub fn blanks_len(bytes: &[u8]) -> usize
     ensures within { result ≤ length bytes.now }
     ensures all { (k : ℕ) → k < result → IsBlank (slice_index bytes.now k) }
     ensures stops { result < length bytes.now → IsBlank (slice_index bytes.now result) → ⊥ }

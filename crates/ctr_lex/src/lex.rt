@@ -1,7 +1,8 @@
 // The tokens of a line.
 ghost use Rattle.std.specs.Prelude.{◌≡◌, ◌≤◌, List, ℕ, None, Some, length, IfOk, MatchOption};
 ghost use Rattle.ctr_model.specs.Grammar.{Lexes};
-ghost use Rattle.ctr_lex.specs.Tokens.{texts_of, StandFrom, IsBadAt};
+ghost use Rattle.ctr_model.specs.Places.{IsBadAt};
+ghost use Rattle.ctr_lex.specs.Tokens.{texts_of, StandFrom, AreAt};
 
 use crate::bytes::blanks_len;
 use crate::one::token_len;
@@ -20,6 +21,8 @@ pub fn tokens(alloc: Global, line: &[u8]) -> Result<Tokens<'_>, OutOfMemory>
     ensures only_bad { IfOk result (λ ts. (us : List (List ℕ)) (i : ℕ) → IsBadAt line.now us i → (ts.bad ≡ Some i) × (texts_of ts.items ≡ us)) }
     // Where each token stands.
     ensures places { IfOk result (λ ts. StandFrom 0 line.now ts.items) }
+    // Each of them is the token that stands there, behind those before it.
+    ensures at { IfOk result (λ ts. AreAt line.now ts.items) }
     ensures few { IfOk result (λ ts. length ts.items ≤ length line.now) }
 {
     let mut items = List::new(alloc);

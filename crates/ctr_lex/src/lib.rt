@@ -10,6 +10,7 @@ mod lex;
 mod one;
 mod token;
 
-pub use laws::one_lexing;
+pub use bytes::blanks_len;
+pub use laws::{each_line_is_taken, one_bad_byte, one_lexing, tokens_stand};
 pub use lex::tokens;
 pub use token::{Token, Tokens};

@@ -1,6 +1,6 @@
 // One token: the longest prefix of what follows that is a token.
 ghost use Rattle.std.specs.Prelude.{◌+◌, ◌∷◌, MatchOption};
-ghost use Rattle.ctr_lex.specs.Tokens.{NoneBegins};
+ghost use Rattle.ctr_model.specs.Places.{NoneBegins};
 ghost use Rattle.ctr_lex.specs.One.{IsLongestToken};
 
 use crate::bytes::{digits_len, is_digit, is_letter, is_printable, is_sign, word_len};

@@ -7,3 +7,6 @@ pub mod Tape
 pub mod Texts
 pub mod Laws
 pub mod Grammar
+pub mod Language
+pub mod Places
+pub mod Lines

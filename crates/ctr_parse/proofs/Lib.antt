@@ -1,4 +1,13 @@
 pub mod Lists
+pub mod Trees
+pub mod Meanings
+pub mod Read
+pub mod ReadColumns
+pub mod ReadStatements
+pub mod Again
+pub mod Lives
+pub mod PlaceLemmas
+pub mod OnePlace
 pub mod Numerals
 pub mod Quotes
 pub mod Spellings

@@ -3,6 +3,7 @@
 
 mod cursor;
 mod error;
+pub mod language;
 mod line;
 mod numeral;
 mod quoted;

@@ -3,16 +3,21 @@ ghost use Rattle.std.specs.Prelude.{◌≡◌};
 
 use ctr_io::Failed;
 use std::alloc::{AllocError, AllocFailed};
+use thiserror::Error;
 
 /// Why there is no script.
-#[derive(Clone, Copy, Debug, PartialEq, Eq)]
+#[derive(Clone, Copy, Debug, PartialEq, Eq, Error)]
 pub enum ScriptError {
-    /// The first line that is none, and a byte of it, both from 1. Today the byte is 1.
+    /// The first line that is none, and a byte of it, both from 1. In the first form the byte is 1.
+    #[error("line {line}: no statement at byte {at}")]
     Refused { line: u64, at: u64 },
     /// The source has more than 16,777,216 bytes.
+    #[error("a script of more than 16777216 bytes")]
     TooLong,
     /// A call of the source has failed.
+    #[error("a read that failed")]
     ReadFault,
+    #[error("out of memory")]
     OutOfMemory,
 }
 

@@ -5,6 +5,7 @@
 
 mod bytes;
 mod error;
+pub mod language;
 mod laws;
 mod line;
 mod script;

@@ -11,7 +11,7 @@ use ctr_types::{Line, List};
 use std::alloc::Global;
 
 // Blanks alone.
-fn is_skipped(line: &[u8]) -> bool
+pub(crate) fn is_skipped(line: &[u8]) -> bool
     ensures { IsTrue result ↔ IsSkipped first line.now }
 {
     line.iter().all(|byte| *byte == b' ' || *byte == b'\t')

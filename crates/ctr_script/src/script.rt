@@ -18,7 +18,7 @@ use ctr_types::{Line, List, Script};
 use std::alloc::Global;
 
 // The bytes in front of the first line end.
-fn line_len(bytes: &[u8]) -> Option<usize>
+pub(crate) fn line_len(bytes: &[u8]) -> Option<usize>
     ensures none { IfNone result (HasNoEnd bytes.now) }
     ensures some { IfSome result (IsFirstLine bytes.now) }
 {

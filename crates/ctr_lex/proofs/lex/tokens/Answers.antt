@@ -1,6 +1,7 @@
 -- The line is gone over, or a byte is found at which no token begins.
 use Rattle.std.proofs.Common.{◌≡◌, ◌<◌, ◌-◌, length, Some, rules, refl, ap}
-use Rattle.ctr_lex.specs.Tokens.{texts_of, NoneBegins, IsBadAt}
+use Rattle.ctr_model.specs.Places.{NoneBegins, IsBadAt}
+use Rattle.ctr_lex.specs.Tokens.{texts_of}
 use Rattle.ctr_lex.proofs.Lexing.{lexes_one}
 use Rattle.ctr_lex.proofs.Fronts.{IsFront, front_blanks, front_token, front_end, front_places, front_bad, behind_blanks, bad_none, bad_one}
 use Rattle.ctr_lex.proofs.lex.tokens.Goals as goal

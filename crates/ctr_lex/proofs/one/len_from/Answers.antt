@@ -1,7 +1,7 @@
 -- Each kind of token by its first byte.
 use Rattle.std.proofs.Common.{◌≡◌, ◌<◌, ◌∷◌, ◌+◌, ℕ, subst, rules}
 use Rattle.ctr_model.specs.Grammar.{IsLetter, IsDigit, IsSign}
-use Rattle.ctr_lex.specs.Tokens.{NoneBegins}
+use Rattle.ctr_model.specs.Places.{NoneBegins}
 use Rattle.ctr_lex.specs.One.{IsLongestToken}
 use Rattle.ctr_lex.proofs.Ones.{word_one, numeral_one, minus_one, minus_none, sign_one, nothing_begins}
 use Rattle.ctr_lex.proofs.one.len_from.Goals as goal

@@ -1,0 +1,22 @@
+//! Plays a suite of cases from standard input: bytes of scripts and of statements alone, and what
+//! they say or where they are refused. Three lines are a case: `script` or `statement` and the bytes,
+//! with escapes; and behind `=` what is read, spelled in one way, or the place of the refusal.
+#![tactic(auto)]
+
+mod bytes;
+mod player;
+mod told;
+
+use player::Player;
+use std::io::{self, Read, Write};
+
+fn main(rt: HostRuntime) -> io::Result<()> {
+    let mut suite = Vec::new(rt.alloc());
+    let _ = rt.stdin().read_to_end(&mut suite)?;
+    let mut player = Player::new(rt.alloc());
+    for line in suite.split(|byte| *byte == b'\n') {
+        player.take_line(line);
+    }
+    let page = player.finished();
+    io::writer(&rt).write_all(&page)
+}

@@ -1,0 +1,14 @@
+//! The whole language: statements alone, and lines of a script, with the place of each refusal.
+mod clause;
+mod columns;
+mod cursor;
+mod laws;
+mod parse;
+mod refusal;
+mod statement;
+mod stop;
+mod word;
+
+pub use laws::{one_line, one_statement};
+pub use parse::{parse_line, parse_statement};
+pub use refusal::ParseRefusal;
