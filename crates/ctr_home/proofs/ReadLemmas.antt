@@ -9,7 +9,7 @@ use Rattle.ctr_home.specs.declared.block.Block.{Block}
 use Rattle.ctr_home.specs.declared.block.Block.TheVariants.{Root as RootBlock}
 use Rattle.ctr_home.specs.declared.block.Home.{Home}
 use Rattle.ctr_home.specs.declared.root.Form.{Form}
-use Rattle.ctr_home.specs.Blocks.{BlockValue, file_of, number_of, home_place, held_at, stamp_in, value_of, value_place}
+use Rattle.ctr_home.specs.Blocks.{BlockValue, file_of, block_number, home_place, held_at, stamp_in, value_of, value_place}
 use Rattle.ctr_home.specs.Checks.{check_of, judged}
 use Rattle.ctr_home.specs.Reading.{FindsHome, IsMisnumbered, ReadsBlock}
 use Rattle.ctr_home.specs.Roots.{ReadsRoot, SaysOrRefuses}
@@ -34,12 +34,12 @@ module _ (b : Block) (image : Image) (found : Option (Home × ℕ)) (home : Home
 
   -- the number that was read isn't the block's
   pub misnumbered : (number : ℕ) (e : StoreFault) → ((v : BlockValue) → held_at b home (content (file_of b) image) ≡ Some v → number ≡ v.number)
-      → Err e ≡ judged (file_of b) (check_of (home_place b home + 1) (number_of b) number ∷ []) → IsMisnumbered b image e
+      → Err e ≡ judged (file_of b) (check_of (home_place b home + 1) (block_number b) number ∷ []) → IsMisnumbered b image e
   misnumbered number e read row = (
     held.0,
     value_is held.0 held.1,
-    sym (row ∙ ap (λ (n : ℕ). judged (file_of b) (check_of (home_place b home + 1) (number_of b) n ∷ [])) (read held.0 held.1)
-        ∙ ap (λ (k : ℕ). judged (file_of b) (check_of (k + 1) (number_of b) held.0.number ∷ [])) place_is),
+    sym (row ∙ ap (λ (n : ℕ). judged (file_of b) (check_of (home_place b home + 1) (block_number b) n ∷ [])) (read held.0 held.1)
+        ∙ ap (λ (k : ℕ). judged (file_of b) (check_of (k + 1) (block_number b) held.0.number ∷ [])) place_is),
   )
 
 pub reads_none : (b : Block) (image : Image) (into : List ℕ) (e : StoreFault) → IsMisnumbered b image e → ReadsBlock b image into (Err e)

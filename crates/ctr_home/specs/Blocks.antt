@@ -16,9 +16,9 @@ file_of (Page p) = Pages
 file_of Root = RootFile
 
 -- the number that stands in each home of it
-abbrev pub number_of : Block → ℕ
-number_of (Page p) = p
-number_of Root = 0
+abbrev pub block_number : Block → ℕ
+block_number (Page p) = p
+block_number Root = 0
 
 -- how many bytes its body has
 abbrev pub body_len : Block → ℕ

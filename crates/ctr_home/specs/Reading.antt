@@ -6,12 +6,12 @@ use Rattle.ctr_disk.specs.declared.fault.StoreFault.TheVariants.{Fault, Damaged}
 use Rattle.ctr_home.specs.declared.block.Block.{Block}
 use Rattle.ctr_home.specs.declared.block.Home.{Home}
 use Rattle.ctr_home.specs.declared.checks.Check.{Check}
-use Rattle.ctr_home.specs.Blocks.{BlockValue, file_of, number_of, body_len, home_place, held_at, stamp_in, value_in, value_of, value_place_in, value_place, zero_bytes}
+use Rattle.ctr_home.specs.Blocks.{BlockValue, file_of, block_number, body_len, home_place, held_at, stamp_in, value_in, value_of, value_place_in, value_place, zero_bytes}
 use Rattle.ctr_home.specs.Checks.{check_of, judged}
 
 -- the number in an open home of a block is the block's
 abbrev pub number_check : Block → ℕ → BlockValue → Check
-number_check b home v = check_of (home + 1) (number_of b) v.number
+number_check b home v = check_of (home + 1) (block_number b) v.number
 
 -- its value is in an open home that has another number, and the damage tells where
 abbrev pub IsMisnumbered : Block → Image → StoreFault → Type 0
@@ -23,7 +23,7 @@ IsMisnumbered b image e = (v : BlockValue) × (value_of b image ≡ Some v)
 abbrev pub ReadsBlock : Block → Image → List ℕ → Result (Option ℕ) StoreFault → Type 0
 ReadsBlock b image into (Ok None) = (value_of b image ≡ None) × (into ≡ zero_bytes (body_len b))
 ReadsBlock b image into (Ok (Some stamp)) =
-    value_of b image ≡ Some (record { number = number_of b; stamp = stamp; body = into })
+    value_of b image ≡ Some (record { number = block_number b; stamp = stamp; body = into })
 ReadsBlock b image into (Err Fault) = Unit {0}
 ReadsBlock b image into (Err (Damaged file at want got)) = IsMisnumbered b image (Damaged file at want got)
 

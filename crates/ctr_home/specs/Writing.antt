@@ -5,11 +5,11 @@ use Rattle.ctr_disk.specs.Image.{content, OtherFilesStay}
 use Rattle.ctr_home.specs.declared.block.Block.{Block}
 use Rattle.ctr_home.specs.declared.block.Home.{Home}
 use Rattle.ctr_home.specs.declared.block.Home.TheVariants.{First, Second}
-use Rattle.ctr_home.specs.Blocks.{BlockValue, file_of, number_of, home_place, held_at, stamp_in, value_of}
+use Rattle.ctr_home.specs.Blocks.{BlockValue, file_of, block_number, home_place, held_at, stamp_in, value_of}
 
 -- the value with this stamp and body
 abbrev pub with_body : Block → ℕ → List ℕ → BlockValue
-with_body b stamp body = record { number = number_of b; stamp = stamp; body = body }
+with_body b stamp body = record { number = block_number b; stamp = stamp; body = body }
 
 -- the stamp is above the value's, where there is one
 abbrev pub IsAbove : ℕ → Option BlockValue → Type 0

@@ -1,6 +1,6 @@
 // Where a block stands.
 ghost use Rattle.std.specs.Prelude.{◌≡◌, ◌+◌, ◌^◌, ◌≤◌, ◌<◌};
-ghost use Rattle.ctr_home.specs.Blocks.{file_of, number_of, body_len, home_len, home_place};
+ghost use Rattle.ctr_home.specs.Blocks.{file_of, block_number, body_len, home_len, home_place};
 
 use ctr_types::File;
 
@@ -31,7 +31,7 @@ impl Block {
 
     /// The number that stands in each home of it.
     pub fn number(self) -> u32
-        ensures { result ≡ number_of self }
+        ensures { result ≡ block_number self }
     {
         match self {
             Block::Page(page) => page,

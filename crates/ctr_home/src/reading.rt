@@ -5,7 +5,7 @@ ghost use Rattle.ctr_disk.specs.Image.{content};
 ghost use Rattle.ctr_disk.specs.Device.{OnlyReads, Counts, CountsAs};
 ghost use Rattle.ctr_home.specs.declared.block.Block.TheVariants.{Page};
 ghost use Rattle.ctr_bytes.specs.Fields.{field};
-ghost use Rattle.ctr_home.specs.Blocks.{BlockValue, file_of, number_of, body_len, home_place, held_at, stamp_in, value_of, page_at_home, zero_bytes};
+ghost use Rattle.ctr_home.specs.Blocks.{BlockValue, file_of, block_number, body_len, home_place, held_at, stamp_in, value_of, page_at_home, zero_bytes};
 ghost use Rattle.ctr_home.specs.Checks.{TellsApart, check_of, judged};
 ghost use Rattle.ctr_home.specs.Reading.{ReadsBlock, IsMisnumbered, IsFaultOr, FindsHome};
 
@@ -39,7 +39,7 @@ pub fn read_home<D: Disk>(
 
 // The number in a home is the block's.
 fn check_number(block: Block, home: Home, number: u32) -> Result<(), StoreFault>
-    ensures row { result ≡ judged (file_of block) (check_of (home_place block home + 1) (number_of block) number ∷ []) }
+    ensures row { result ≡ judged (file_of block) (check_of (home_place block home + 1) (block_number block) number ∷ []) }
     ensures differs { IfErr result TellsApart }
 {
     let check = Check {

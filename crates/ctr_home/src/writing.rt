@@ -4,7 +4,7 @@ ghost use Rattle.ctr_disk.specs.declared.fault.StoreFault.TheVariants.{Fault};
 ghost use Rattle.ctr_disk.specs.Image.{content};
 ghost use Rattle.ctr_disk.specs.Device.{LeavesOnly, IsDurable, IsSettled, OnlyReads, Counts, CountsAs};
 ghost use Rattle.ctr_bytes.specs.Fields.{spelled};
-ghost use Rattle.ctr_home.specs.Blocks.{BlockValue, file_of, number_of, body_len, home_len, first_place, home_place, value_behind, value_of};
+ghost use Rattle.ctr_home.specs.Blocks.{BlockValue, file_of, block_number, body_len, home_len, first_place, home_place, value_behind, value_of};
 ghost use Rattle.ctr_home.specs.Writing.{IsAbove, chosen_in, IsShut, KeepsHome, MakesHome, KeepsOrMakesHome, IsOldOrNewValue, IsNewValue, with_body};
 
 use crate::block::{Block, Home};

@@ -7,7 +7,7 @@ use Rattle.ctr_model.specs.Texts.{doubled}
 use Rattle.ctr_model.specs.Grammar.{IsBlank, IsDigit, IsCapital, IsLetter, IsWordByte, IsSign}
 use Rattle.ctr_model.specs.Places.{NoneBegins}
 use Rattle.ctr_lex.specs.declared.token.Token.{Token}
-use Rattle.ctr_lex.specs.Tokens.{IsTaken}
+use Rattle.ctr_lex.specs.Tokens.{IsTakenApart}
 use Rattle.ctr_lex.specs.One.{IsLongestToken}
 use Rattle.ctr_lex.proofs.Texts.{text_rest, text_closes}
 use Rattle.ctr_lex.proofs.Ones.{word_one, numeral_one, minus_one, minus_none, text_answer, sign_one, nothing_begins}
@@ -138,7 +138,7 @@ token_by [] some = absurd (omega arith)
 token_by (c ∷ cs) some = one_at c cs
 
 further : (line from : List ℕ) (ts : List Token) → IsFront line ts from → (IsBlank (get_or from 0 0) → ⊥) → 0 < length from
-    → ((after : List ℕ) (us : List Token) → length after < length from → IsFront line us after → IsTaken line) → One from → IsTaken line
+    → ((after : List ℕ) (us : List Token) → length after < length from → IsFront line us after → IsTakenApart line) → One from → IsTakenApart line
 unfolding made
 further line from ts front no_blank some again (inl one) =
     let n = one.0 in
@@ -149,11 +149,11 @@ further line from ts front no_blank some again (inr none) =
     (ts, Some (length line - length from), front_bad line from ts front some no_blank none, front.at)
 
 end_or : (line from : List ℕ) (ts : List Token) → IsFront line ts from → (0 < length from → IsBlank (get_or from 0 0) → ⊥)
-    → ((after : List ℕ) (us : List Token) → length after < length from → IsFront line us after → IsTaken line) → (0 < length from) ⊎ (length from ≤ 0) → IsTaken line
+    → ((after : List ℕ) (us : List Token) → length after < length from → IsFront line us after → IsTakenApart line) → (0 < length from) ⊎ (length from ≤ 0) → IsTakenApart line
 end_or line from ts front no_blank again (inl some) = further line from ts front (no_blank some) some again (token_by from some)
 end_or line from ts front no_blank again (inr none) = (ts, None, front_end line from ts front (omega arith), front.at)
 
-goes : (fuel : ℕ) (line rest : List ℕ) (ts : List Token) → length rest < fuel → IsFront line ts rest → IsTaken line
+goes : (fuel : ℕ) (line rest : List ℕ) (ts : List Token) → length rest < fuel → IsFront line ts rest → IsTakenApart line
 goes zero line rest ts short front = absurd (omega arith)
 goes (suc fuel) line rest ts short front =
     let blanks = run IsBlank blank_or rest in
@@ -163,5 +163,5 @@ goes (suc fuel) line rest ts short front =
     (behind_blanks rest from blanks.len blanks.within refl blanks.stops)
     (λ after us less next. goes fuel line after us (omega (arith, less, shorter, short)) next) (cases_lt 0 (length from))
 
-pub each_taken : (line : List ℕ) → IsTaken line
+pub each_taken : (line : List ℕ) → IsTakenApart line
 each_taken line = goes (suc (length line)) line line [] (omega arith) (front_none line)

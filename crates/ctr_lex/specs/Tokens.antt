@@ -24,15 +24,15 @@ AreAt line tokens =
     → IsTokenAt line (texts_of front) t.text.now t.at
 
 -- two places behind these tokens are one, or one of the two tokens there stands before the other
-abbrev pub IsOrdered : List (List ℕ) → List ℕ → ℕ → List (List ℕ) → List ℕ → ℕ → Type 0
-IsOrdered ts t i us u j =
+abbrev pub StandInOrder : List (List ℕ) → List ℕ → ℕ → List (List ℕ) → List ℕ → ℕ → Type 0
+StandInOrder ts t i us u j =
     (i ≡ j) ⊎ (((more : List (List ℕ)) × (us ≡ ts ++ t ∷ more))
     ⊎ ((more : List (List ℕ)) × (ts ≡ us ++ u ∷ more)))
 
 -- the line is taken apart: it is these tokens, or they stand before its first byte at which none
 -- begins; and each stands at its place
-abbrev pub IsTaken : List ℕ → Type 0
-IsTaken line =
+abbrev pub IsTakenApart : List ℕ → Type 0
+IsTakenApart line =
     (tokens : List Token) × (bad : Option ℕ)
     × MatchOption bad (Lexes line (texts_of tokens)) (λ i. IsBadAt line (texts_of tokens) i)
     × AreAt line tokens

@@ -2,7 +2,7 @@
 ghost use Rattle.std.specs.Prelude.{◌≡◌, ◌∷◌, ◌++◌, ℕ, List};
 ghost use Rattle.ctr_model.specs.Grammar.{Lexes};
 ghost use Rattle.ctr_model.specs.Places.{IsBadAt, IsTokenAt};
-ghost use Rattle.ctr_lex.specs.Tokens.{IsOrdered, IsTaken};
+ghost use Rattle.ctr_lex.specs.Tokens.{StandInOrder, IsTakenApart};
 
 /// Two lists of tokens that lex one line are equal.
 pub fn one_lexing()
@@ -22,10 +22,10 @@ pub fn tokens_stand()
     ensures before_bad { (line : List ℕ) (ts us : List (List ℕ)) (t : List ℕ) (i j : ℕ) → IsTokenAt line ts t i → IsBadAt line us j
         → (more : List (List ℕ)) × (us ≡ ts ++ t ∷ more) }
     ensures ordered { (line : List ℕ) (ts us : List (List ℕ)) (t u : List ℕ) (i j : ℕ) → IsTokenAt line ts t i → IsTokenAt line us u j
-        → IsOrdered ts t i us u j }
+        → StandInOrder ts t i us u j }
 {}
 
 /// Each line is taken apart.
 pub fn each_line_is_taken()
-    ensures { (line : List ℕ) → IsTaken line }
+    ensures { (line : List ℕ) → IsTakenApart line }
 {}

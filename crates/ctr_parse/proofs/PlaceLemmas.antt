@@ -3,7 +3,7 @@ use Rattle.std.proofs.Common.{◌≡◌, ◌⊎◌, inl, inr, ℕ, ◌+◌, ◌<
 use Rattle.ctr_types.specs.declared.statement.Line.{Line}
 use Rattle.ctr_types.specs.declared.statement.Statement.{Statement}
 use Rattle.ctr_lex.specs.declared.token.Token.{Token}
-use Rattle.ctr_lex.specs.Tokens.{texts_of, AreAt, IsTaken}
+use Rattle.ctr_lex.specs.Tokens.{texts_of, AreAt, IsTakenApart}
 use Rattle.ctr_model.specs.Grammar.{Lexes}
 use Rattle.ctr_model.specs.Places.{IsBadAt, Says, SomeBegins, GoesWrongAt, wrong_token, no_token, too_short}
 use Rattle.ctr_model.specs.Language.{SpellsStatement, SpellsLine}
@@ -110,5 +110,5 @@ ends tree Spells d line ts bad at found (wrong i) e = inr (i + 1, wrong_goes tre
 ends tree Spells d line ts bad at found missing e = inr (end_of bad (length line) + 1, missing_goes tree Spells d line ts bad found e)
 
 -- bytes say something or go wrong
-pub says_or_not : {X : Type 0} (tree : Tree Line) (Spells : List (List ℕ) → X → Type 0) → Decides tree Spells → (line : List ℕ) → IsTaken line → ((x : X) × Says Spells line x) ⊎ ((at : ℕ) × GoesWrongAt Spells line at)
+pub says_or_not : {X : Type 0} (tree : Tree Line) (Spells : List (List ℕ) → X → Type 0) → Decides tree Spells → (line : List ℕ) → IsTakenApart line → ((x : X) × Says Spells line x) ⊎ ((at : ℕ) × GoesWrongAt Spells line at)
 says_or_not tree Spells d line (ts, bad, found, at) = ends tree Spells d line ts bad at found (outcome tree ts) refl
