@@ -1,10 +1,10 @@
 -- The grammar of scripts, as a relation between bytes and scripts.
 --
 -- A form says how much of the language is taken. The first form is the one that the engine takes
--- today. What depends on the form are keywords, statements, skipped lines, the ends of lines, and
--- the place of a refusal: `IsKeyword`, `FormTakes`, `IsSkipped`, `EndsLine` and `IsPlace` have a
--- case for each form. The whole form comes with a further case of each, and no rule below them
--- changes.
+-- today. What depends on it are keywords, statements, skipped lines, the ends of lines, and the
+-- place of a refusal: `IsKeyword`, `FormTakes`, `IsSkipped`, `EndsLine` and `IsPlace`, with the
+-- definitions that cite them. The whole language is a second form over the tokens, places of
+-- statements and conditions that are defined here: Language.antt, Places.antt and Lines.antt.
 use Rattle.std.specs.Prelude.{◌≡◌, ◌≢◌, ◌⊎◌, ℕ, ◌+◌, ◌-◌, ◌<◌, ◌≤◌, ◌^◌, ℤ, pos, negsuc, false, List, [], ◌∷◌, ◌++◌, length, map, codes, Option, Some, None, ◌==◌, ◌&&◌, nat_le, if◌then◌else◌}
 use Rattle.std.specs.List.{AllByRecursion}
 use Rattle.std.specs.Str.Parse.{digits_value}
