@@ -8,8 +8,8 @@ ghost use Rattle.ctr_versions.specs.Changes.{write, revert, cut, without_tombsto
 ghost use Rattle.ctr_versions.specs.Xids.{number_of, below_mark};
 ghost use Rattle.ctr_versions.specs.Listing.{entries_seen};
 ghost use Rattle.ctr_versions.specs.Versions.{names_at, slots_of, rows_of};
-ghost use Rattle.ctr_versions.specs.Engine.{ShowsState};
-ghost use Rattle.ctr_versions.specs.Steps.{engine_begun, engine_asked, engine_ended, engine_answered, engine_rolled_back};
+ghost use Rattle.ctr_versions.specs.Engine.{SessionHeld, ShowsState};
+ghost use Rattle.ctr_versions.specs.Steps.{engine_begun, engine_drawn, engine_asked, engine_ended, engine_answered, engine_rolled_back};
 ghost use Rattle.ctr_versions.specs.Laws.{me_of, IsOpenWriter, SetsRow, SetsName, BeginKeeps, DrawKeeps, RowKeeps, NameKeeps, AskKeeps, AnswerKeeps, EndKeeps, RollbackKeeps, CleaningKeeps, RevertKeeps, RoomKeeps, NameRevertKeeps, DeadKeeps, sees_of, mark_of, sessions_named};
 ghost use Rattle.ctr_snap.specs.Seeing.{has, least};
 ghost use Rattle.ctr_rows.specs.Stored.{HasVersionRoom, HasNameRoom};
@@ -60,6 +60,7 @@ impl Engine {
     pub fn begin(&mut self, alloc: Global, s: u8) -> Result<(), OutOfMemory>
         ensures leaves { OnOk result (engine_of self.new ≡ engine_begun s (engine_of self.old)) }
         ensures keeps { OnOk result (BeginKeeps s (engine_of self.old) (engine_of self.new)) }
+        ensures store { self.new.store ≡ self.old.store }
         ensures err { OnErr result (self.new ≡ self.old) }
     {
         let listed = self.xids.unanswered(alloc, self.answered)?;
@@ -76,7 +77,9 @@ impl Engine {
     /// Draws the number of a session's transaction, at its first lock. Where memory is refused a number may
     /// be spent, which no session has.
     pub fn draw(&mut self, alloc: Global, s: u8) -> Result<Xid, OutOfMemory>
+        ensures leaves { OnOk result ((session : SessionHeld) → find nat_cmp s self.old.sessions ≡ Some session → engine_of self.new ≡ engine_drawn s session (engine_of self.old)) }
         ensures keeps { OnOk result (DrawKeeps s (engine_of self.old) (engine_of self.new)) }
+        ensures store { self.new.store ≡ self.old.store }
         ensures value { IfOk result (λ x. x ≡ self.old.xids.next) }
         ensures refused { OnErr result (RoomKeeps (engine_of self.old) (engine_of self.new)) }
     {
@@ -103,6 +106,7 @@ impl Engine {
     /// Takes room for one version more of a key in a table.
     pub fn make_row_room(&mut self, alloc: Global, id: u64, key: Key) -> Result<(), OutOfMemory>
         requires { id < self.old.store.next }
+        ensures leaves { SetsRow (engine_of self.old) (engine_of self.new) id key (rows_of (engine_of self.old).versions id key) }
         ensures room { OnOk result (HasVersionRoom id key self.new.store) }
         ensures keeps { RoomKeeps (engine_of self.old) (engine_of self.new) }
     {
@@ -112,6 +116,7 @@ impl Engine {
 
     /// Takes room for one version more of a name, and for the rows of a table.
     pub fn make_table_room(&mut self, alloc: Global, name: Name) -> Result<(), OutOfMemory>
+        ensures leaves { SetsName (engine_of self.old) (engine_of self.new) name (names_at (engine_of self.old).versions name) }
         ensures room { OnOk result (HasNameRoom name self.new.store) }
         ensures keeps { RoomKeeps (engine_of self.old) (engine_of self.new) }
     {
@@ -158,6 +163,7 @@ impl Engine {
         requires { IsOpenWriter s (engine_of self.old) }
         ensures leaves { engine_of self.new ≡ engine_asked (me_of s (engine_of self.old)) (engine_of self.old) }
         ensures keeps { AskKeeps s (engine_of self.old) (engine_of self.new) }
+        ensures store { self.new.store ≡ self.old.store }
     {
         let me = self.me(s);
         self.xids.ask(me);
@@ -169,6 +175,7 @@ impl Engine {
         requires { self.old.answered < length self.old.xids.commits }
         ensures leaves { engine_of self.new ≡ engine_answered s (engine_of self.old) }
         ensures keeps { AnswerKeeps s (engine_of self.old) (engine_of self.new) }
+        ensures store { self.new.store ≡ self.old.store }
     {
         let _asked = self.xids.commits().len();
         self.sessions.remove(&s);
@@ -179,6 +186,7 @@ impl Engine {
     pub fn end(&mut self, s: u8)
         ensures leaves { engine_of self.new ≡ engine_ended s (engine_of self.old) }
         ensures keeps { EndKeeps s (engine_of self.old) (engine_of self.new) }
+        ensures store { self.new.store ≡ self.old.store }
     {
         self.sessions.remove(&s);
     }
@@ -188,6 +196,7 @@ impl Engine {
         requires { IsOpenWriter s (engine_of self.old) }
         ensures leaves { engine_of self.new ≡ engine_rolled_back s (me_of s (engine_of self.old)) (engine_of self.old) }
         ensures keeps { RollbackKeeps s (engine_of self.old) (engine_of self.new) }
+        ensures store { self.new.store ≡ self.old.store }
     {
         let me = self.me(s);
         self.xids.abort(me);
