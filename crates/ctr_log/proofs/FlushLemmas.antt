@@ -132,5 +132,5 @@ module _ (a : Inside) (keeps : IsWriter a) (long : vec_len a.buffer ≡ length a
     all_leaves wrote = kept_leaves g old new named oldest log image log.buffered short low log.older writes.by wrote
 
   pub all_goes_on : (next : Log) (c : Image) → next.file ≡ log.file → next.older ≡ log.older
-      → ((first : ℕ) (bs : List (List (List ℕ))) → GoesOn first bs log image → OtherFilesStay log.file image c × GoesOn first (with_batch bs log.buffered) next c) → GoesOnWith log.file named oldest log.buffered next image c
+      → ((first : ℕ) (bs : List (List (List ℕ))) → GoesOn first bs log image → OtherFilesStay log.file image c × GoesOn first (with_batch bs log.buffered) next c) → GoesOnWith named oldest log.buffered next image c
   all_goes_on next c file older wrote = kept_goes_on named oldest log next image c log.buffered short low writes.numbered file wrote log.older older writes.by

@@ -305,7 +305,7 @@ with_short bs (r ∷ rs) each short = short-push bs (r ∷ rs) each short
 -- and where the writer goes on
 module _ (named oldest : ℕ) (log next : Log) (image c : Image) (rs : List (List ℕ)) (short : length (frames rs) < 2 ^ 64) (low : log.first + length rs < 2 ^ 64) (numbered : 1 ≤ oldest) (file_is : next.file ≡ log.file)
     (wrote : (first : ℕ) (bs : Batches) → GoesOn first bs log image → OtherFilesStay log.file image c × GoesOn first (with_batch bs rs) next c) where
-  pub kept_goes_on : (o : Bool) → next.older ≡ o → WritesBy o named oldest log image → GoesOnWith log.file named oldest rs next image c
+  pub kept_goes_on : (o : Bool) → next.older ≡ o → WritesBy o named oldest log image → GoesOnWith named oldest rs next image c
   kept_goes_on false older w =
       let step = wrote oldest w.bs w.goes_on in
       let all = with_batch w.bs rs in
@@ -320,7 +320,7 @@ module _ (named oldest : ℕ) (log next : Log) (image c : Image) (rs : List (Lis
         dropped = subst (IsDropped oldest) (sym (other_stays named image c same)) w.holds.dropped;
       } in
       record {
-        others = step.0;
+        others = subst (λ (f : File). OtherFilesStay f image c) (sym file_is) step.0;
         log_is = kept_one named oldest c all holds ∙ with_records w.bs rs ∙ ap (λ (l : List (List ℕ)). l ++ rs) (sym (kept_one named oldest image w.bs w.holds));
         writes = record { numbered = numbered; by = subst (λ (o : Bool). WritesBy o named oldest next c) (sym older) (record { bs = all; file_is = here; goes_on = step.1; holds = holds }) };
       }
@@ -340,7 +340,7 @@ module _ (named oldest : ℕ) (log next : Log) (image c : Image) (rs : List (Lis
         low = omega (arith, low, first_is, count);
       } in
       record {
-        others = step.0;
+        others = subst (λ (f : File). OtherFilesStay f image c) (sym file_is) step.0;
         log_is = kept_two named oldest c w.bs all holds ∙ ap (λ (l : List (List ℕ)). records w.bs ++ l) (with_records w.cs rs) ∙ sym (append_assoc (records w.bs) (records w.cs) rs)
             ∙ ap (λ (l : List (List ℕ)). l ++ rs) (sym (kept_two named oldest image w.bs w.cs w.holds));
         writes = record { numbered = numbered; by = subst (λ (o : Bool). WritesBy o named oldest next c) (sym older) (record { bs = w.bs; cs = all; file_is = here; goes_on = step.1; holds = holds }) };

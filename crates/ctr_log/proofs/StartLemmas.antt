@@ -114,12 +114,12 @@ module _ (a : Inside) (keeps : IsWriter a) (log : Log) (view : log_of a ≡ log)
 
         -- and where the writer goes on
         pub begun : (c : Image) (next : Log) → IsAfter file number [] (r ∷ []) (g.reads mid) c → next.older ≡ true → next.file ≡ file → next.first ≡ a.first + 1 → next.place ≡ 29 + length r
-            → GoesOnWith (next_file log.file) named oldest (r ∷ []) next image c
+            → GoesOnWith named oldest (r ∷ []) next image c
         begun c next after older here first place =
             let after_there = subst (λ (f : File). IsAfter f number [] (r ∷ []) (g.reads mid) c) is after in
             let holds = begun_holds named oldest one.bs r image writes.numbered one.holds short low (g.reads mid) stays_there c after_there in
             record {
-              others = subst (λ (f : File). OtherFilesStay f image c) (sym named_is) (same_but (other_file named) image (g.reads mid) c stays_there.0 after_there.0);
+              others = subst (λ (f : File). OtherFilesStay f image c) (sym (here ∙ is)) (same_but (other_file named) image (g.reads mid) c stays_there.0 after_there.0);
               log_is = kept_two named oldest c one.bs ((r ∷ []) ∷ []) holds ∙ sym (begun_log named oldest one.bs r image writes.numbered one.holds short low (g.reads mid) stays_there);
               writes = record {
                 numbered = writes.numbered;

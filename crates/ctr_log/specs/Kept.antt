@@ -102,10 +102,11 @@ pub record HasFront (changed : File) (file first : ℕ) (rs : List (List ℕ)) (
   pub count : ℕ
   pub holds : HoldsLog file first (kept_log file first old ++ take count rs) new
 
--- after a call the writer goes on behind the log of before with all these records
-pub record GoesOnWith (changed : File) (file first : ℕ) (rs : List (List ℕ)) (log : Log) (old new : Image)
+-- after a call the writer goes on behind the log of before with all these records, which stand in its
+-- file, and the other files are as they were
+pub record GoesOnWith (file first : ℕ) (rs : List (List ℕ)) (log : Log) (old new : Image)
     : Type 0 where
-  pub others : OtherFilesStay changed old new
+  pub others : OtherFilesStay log.file old new
   pub log_is : kept_log file first new ≡ kept_log file first old ++ rs
   pub writes : WritesBehind file first log new
 

@@ -132,7 +132,7 @@ impl LogFile {
         ensures kept_any_moment { (named oldest : ℕ) → IsSettled D.Disk disk.old → WritesBehind named oldest self.old (D.reads disk.old)
             → LeavesOnly D.Disk disk.old disk.new (HasFront self.old.file named oldest self.old.buffered (D.reads disk.old)) }
         ensures kept { (named oldest : ℕ) → IsTrue D.tells → WritesBehind named oldest self.old (D.reads disk.old)
-            → OnOk result (GoesOnWith self.old.file named oldest self.old.buffered self.new (D.reads disk.old) (D.reads disk.new)) }
+            → OnOk result (GoesOnWith named oldest self.old.buffered self.new (D.reads disk.old) (D.reads disk.new)) }
         ensures emptied { IsEmptied self.old self.new result }
         ensures durable { IsDurable D.Disk disk.old → OnOk result (IsDurable D.Disk disk.new) }
         ensures refused { OnErr result (result ≡ Err Fault) }
@@ -167,7 +167,7 @@ impl LogFile {
         ensures any_moment { (named oldest : ℕ) → IsSettled D.Disk disk.old → WritesBehind named oldest self.old (D.reads disk.old)
             → LeavesOnly D.Disk disk.old disk.new (HasFront (next_file self.old.file) named oldest (first.now ∷ []) (D.reads disk.old)) }
         ensures begun { (named oldest : ℕ) → IsTrue D.tells → WritesBehind named oldest self.old (D.reads disk.old)
-            → OnOk result (GoesOnWith (next_file self.old.file) named oldest (first.now ∷ []) self.new (D.reads disk.old) (D.reads disk.new)) }
+            → OnOk result (GoesOnWith named oldest (first.now ∷ []) self.new (D.reads disk.old) (D.reads disk.new)) }
         ensures writer { OnOk result (IsStarted self.old self.new) }
         ensures durable { IsDurable D.Disk disk.old → OnOk result (IsDurable D.Disk disk.new) }
         ensures refused { OnErr result (result ≡ Err Fault) }
