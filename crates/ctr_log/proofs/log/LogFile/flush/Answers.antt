@@ -1,11 +1,15 @@
 use Rattle.std.proofs.Common.{◌≡◌, ◌∙◌, ◌+◌, [], ℕ, List, length, take, drop, ap, subst, sym, refl, arith, length-drop, length-take}
 use Rattle.std.proofs.lemmas.List.{drop_all}
 use Rattle.ctr_disk.specs.Image.{content, OtherFilesStay}
-use Rattle.ctr_log.specs.Logs.{Log, frames, unframed, GoesOn, Extends, with_batch}
+use Rattle.ctr_disk.specs.Device.{LeavesOnly, IsSettled}
+use Rattle.ctr_log.specs.Logs.{Batches, Log, frames, unframed, GoesOn, Extends, IsFlushing, with_batch}
+use Rattle.ctr_log.specs.Kept.{WritesBehind, HasFront}
 use Rattle.ctr_log.specs.LogFile.{log_of}
 use Rattle.ctr_log.proofs.LogLemmas.{length-unframed}
 use Rattle.ctr_log.proofs.FlushLemmas.{reopened, extends, goes_on, leaves, wrote_behind, none_leaves, all_leaves, all_goes_on}
 use Rattle.ctr_disk.proofs.Moments.{starts}
+use Rattle.ctr_log.proofs.log.LogFile.flush.Given.{Over}
+use Rattle.ctr_log.proofs.log.LogFile.flush.Goals.{After-write_batch-written}
 use Rattle.ctr_log.proofs.log.LogFile.flush.Goals as goal
 
 pub invariant_of-self : goal.invariant_of-self
@@ -26,14 +30,6 @@ invariant_of-self g c =
       next = keeps.next;
     }
 
-pub returns-in_err-written-clause-any_moment : goal.returns-in_err-written-clause-any_moment
-returns-in_err-written-clause-any_moment g c first bs settled goes =
-    let d = g.D.Disk in
-    let a = c.self.inside in
-    let old = d.reads c.args.disk.now in
-    leaves a c.self.invariant (omega arith) (omega arith) a.buffer.ok.0 first bs d c.args.disk.now c.write_batch-written.new.disk old c.args.self.now c.self.view_is goes c.deref.result.now
-    (c.deref.ensures.value ∙ c.seal.ensures.items) (c.write_batch-written.ensures.any_moment first bs (unframed a.count (drop 20 a.buffer.items)) settled)
-
 pub invariant_of-self-2 : goal.invariant_of-self-2
 invariant_of-self-2 g c =
     let a = c.self.inside in
@@ -50,14 +46,6 @@ invariant_of-self-2 g c =
       place = omega arith;
       next = omega arith;
     }
-
-pub returns-clause-any_moment : goal.returns-clause-any_moment
-returns-clause-any_moment g c first bs settled goes =
-    let d = g.D.Disk in
-    let a = c.self.inside in
-    let old = d.reads c.args.disk.now in
-    leaves a c.self.invariant (omega arith) (omega arith) a.buffer.ok.0 first bs d c.args.disk.now c.write_batch-written.new.disk old c.args.self.now c.self.view_is goes c.deref.result.now
-    (c.deref.ensures.value ∙ c.seal.ensures.items) (c.write_batch-written.ensures.any_moment first bs (unframed a.count (drop 20 a.buffer.items)) settled)
 
 pub returns-clause-flushed : goal.returns-clause-flushed
 returns-clause-flushed g c first bs told goes =
@@ -96,27 +84,41 @@ returns-then-self-eq0-clause-kept_any_moment g c named oldest settled writes =
     let still = starts d old (λ i. i ≡ d.reads old) (d.images old) (g.met.D.Disk.only_now old) settled.only in
     none_leaves a c.self.invariant a.buffer.ok.0 (omega arith) c.args.self.now c.self.view_is named oldest (d.reads old) writes d old old refl still (omega arith)
 
-pub returns-in_err-written-clause-kept_any_moment : goal.returns-in_err-written-clause-kept_any_moment
-returns-in_err-written-clause-kept_any_moment g c named oldest settled writes =
-    let d = g.D.Disk in
-    let a = c.self.inside in
-    let old = c.args.disk.now in
-    all_leaves a c.self.invariant a.buffer.ok.0 (omega arith) c.args.self.now c.self.view_is named oldest (d.reads old) writes d old c.write_batch-written.new.disk (λ first bs goes.
-    wrote_behind a c.self.invariant (omega arith) (omega arith) a.buffer.ok.0 first bs d old c.write_batch-written.new.disk (d.reads old) c.args.self.now c.self.view_is goes c.deref.result.now (c.deref.ensures.value ∙ c.seal.ensures.items)
-    (c.write_batch-written.ensures.any_moment first bs (unframed a.count (drop 20 a.buffer.items)) settled))
-
-pub returns-clause-kept_any_moment : goal.returns-clause-kept_any_moment
-returns-clause-kept_any_moment g c named oldest settled writes =
-    let d = g.D.Disk in
-    let a = c.self.inside in
-    let old = c.args.disk.now in
-    all_leaves a c.self.invariant a.buffer.ok.0 (omega arith) c.args.self.now c.self.view_is named oldest (d.reads old) writes d old c.write_batch-written.new.disk (λ first bs goes.
-    wrote_behind a c.self.invariant (omega arith) (omega arith) a.buffer.ok.0 first bs d old c.write_batch-written.new.disk (d.reads old) c.args.self.now c.self.view_is goes c.deref.result.now (c.deref.ensures.value ∙ c.seal.ensures.items)
-    (c.write_batch-written.ensures.any_moment first bs (unframed a.count (drop 20 a.buffer.items)) settled))
-
 pub returns-clause-kept : goal.returns-clause-kept
 returns-clause-kept g c named oldest told writes =
     let a = c.self.inside in
     let old = g.D.Disk.reads c.args.disk.now in
     all_goes_on a c.self.invariant a.buffer.ok.0 (omega arith) c.args.self.now c.self.view_is named oldest old writes _ (g.D.Disk.reads c.write_batch-written.new.disk) (ap (λ (v : Log). v.file) c.self.view_is) (ap (λ (v : Log). v.older) c.self.view_is) (λ first bs goes.
     returns-clause-flushed g c first bs told goes)
+
+-- at the end of the write, whether it failed or not
+any_moment : (g : Over) (c : After-write_batch-written g) (first : ℕ) (bs : Batches) → IsSettled g.D.Disk c.args.disk.now → GoesOn first bs c.args.self.now (g.D.Disk.reads c.args.disk.now)
+    → LeavesOnly g.D.Disk c.args.disk.now c.write_batch-written.new.disk (IsFlushing first bs c.args.self.now (g.D.Disk.reads c.args.disk.now))
+any_moment g c first bs settled goes =
+    let d = g.D.Disk in
+    let a = c.self.inside in
+    leaves a c.self.invariant (omega arith) (omega arith) a.buffer.ok.0 first bs d c.args.disk.now c.write_batch-written.new.disk (d.reads c.args.disk.now) c.args.self.now c.self.view_is goes c.deref.result.now
+    (c.deref.ensures.value ∙ c.seal.ensures.items) (c.write_batch-written.ensures.any_moment first bs (unframed a.count (drop 20 a.buffer.items)) settled)
+
+pub returns-in_err-written-clause-any_moment : goal.returns-in_err-written-clause-any_moment
+returns-in_err-written-clause-any_moment g c = any_moment g (goal.at.returns-in_err-written-clause-any_moment g c).After-write_batch-written
+
+pub returns-clause-any_moment : goal.returns-clause-any_moment
+returns-clause-any_moment g c = any_moment g (goal.at.returns-clause-any_moment g c).After-write_batch-written
+
+-- the same of the log in one generation or two
+kept_any_moment : (g : Over) (c : After-write_batch-written g) (named oldest : ℕ) → IsSettled g.D.Disk c.args.disk.now → WritesBehind named oldest c.args.self.now (g.D.Disk.reads c.args.disk.now)
+    → LeavesOnly g.D.Disk c.args.disk.now c.write_batch-written.new.disk (HasFront c.args.self.now.file named oldest c.args.self.now.buffered (g.D.Disk.reads c.args.disk.now))
+kept_any_moment g c named oldest settled writes =
+    let d = g.D.Disk in
+    let a = c.self.inside in
+    let old = c.args.disk.now in
+    all_leaves a c.self.invariant a.buffer.ok.0 (omega arith) c.args.self.now c.self.view_is named oldest (d.reads old) writes d old c.write_batch-written.new.disk (λ first bs goes.
+    wrote_behind a c.self.invariant (omega arith) (omega arith) a.buffer.ok.0 first bs d old c.write_batch-written.new.disk (d.reads old) c.args.self.now c.self.view_is goes c.deref.result.now (c.deref.ensures.value ∙ c.seal.ensures.items)
+    (c.write_batch-written.ensures.any_moment first bs (unframed a.count (drop 20 a.buffer.items)) settled))
+
+pub returns-in_err-written-clause-kept_any_moment : goal.returns-in_err-written-clause-kept_any_moment
+returns-in_err-written-clause-kept_any_moment g c = kept_any_moment g (goal.at.returns-in_err-written-clause-kept_any_moment g c).After-write_batch-written
+
+pub returns-clause-kept_any_moment : goal.returns-clause-kept_any_moment
+returns-clause-kept_any_moment g c = kept_any_moment g (goal.at.returns-clause-kept_any_moment g c).After-write_batch-written
