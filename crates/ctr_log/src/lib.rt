@@ -8,5 +8,5 @@ mod near;
 mod reading;
 
 pub use log::{LogFile, Lsn, read_named};
-pub use making::{Making, init};
+pub use making::{Making, init, is_first_checkpoint};
 pub use reading::ReadError;

@@ -5,7 +5,7 @@ ghost use Rattle.ctr_disk.specs.declared.fault.StoreFault.TheVariants.{Fault};
 ghost use Rattle.ctr_disk.specs.Device.{LeavesOnly, IsDurable, IsSettled, OnlyReads, Counts, CountsAs};
 ghost use Rattle.ctr_log.specs.declared.making.Making.TheVariants.{Made, Exists};
 ghost use Rattle.ctr_log.specs.Homes.{root_value};
-ghost use Rattle.ctr_log.specs.Fresh.{IsFresh, IsNoneOrFresh, IsReady, AreEmptied, SameRoot};
+ghost use Rattle.ctr_log.specs.Fresh.{first_checkpoint, IsFresh, IsNoneOrFresh, IsReady, AreEmptied, SameRoot};
 
 use crate::log::write_batch;
 use ctr_disk::{Disk, Failed, Root, StoreFault};
@@ -26,6 +26,14 @@ const FRESH: [u8; 63] = [
     42, 0, 0, 0, 0, 0, 0, 0, 1, 0, 0, 0, 0, 0, 0, 0, 1, 0, 0, 0, 34, 0, 0, 0, 0, 0, 0, 0, 1, 1, 0,
     0, 0, 0, 0, 0, 0, 0, 0, 0, 0, 0, 0, 0, 0, 0, 0, 0, 0, 0, 0, 0, 0, 0, 0, 0, 0, 0, 0, 0, 0, 0, 0,
 ];
+
+/// Whether a record is the checkpoint of nothing, with which the log of a new database begins.
+pub fn is_first_checkpoint(bytes: &[u8]) -> bool
+    ensures { IsTrue result ↔ (bytes.now ≡ first_checkpoint) }
+{
+    // It stands behind the batch's head and the record's length.
+    bytes == &FRESH[28..62]
+}
 
 /// Makes the empty database where no root home is open. From its first sync on a crash at any
 /// moment leaves no open root home, or the database.

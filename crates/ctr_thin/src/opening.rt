@@ -1,8 +1,7 @@
 // Opening a database: the root, the log that it names, and the tables that its records make.
-ghost use Rattle.std.specs.Prelude.{◌≡◌, ◌≢◌, ◌↔◌, ◌≤◌, ◌<◌, ◌-◌, ◌^◌, IsTrue, ℕ, [], None, Err, IfOk, IfErr, OnOk, MatchResult};
+ghost use Rattle.std.specs.Prelude.{◌≡◌, ◌≢◌, ◌≤◌, ◌<◌, ◌-◌, ◌^◌, IsTrue, ℕ, [], None, Err, IfOk, IfErr, OnOk, MatchResult};
 ghost use Rattle.ctr_disk.specs.Device.{OnlyReads, CountsAs, IsDurableFrom};
 ghost use Rattle.ctr_log.specs.Homes.{IsRoot};
-ghost use Rattle.ctr_log.specs.Fresh.{first_checkpoint};
 ghost use Rattle.ctr_log.specs.Reading.{log_file};
 ghost use Rattle.ctr_model.specs.Database.{Database};
 ghost use Rattle.ctr_tables.specs.Tables.{database_of};
@@ -13,7 +12,7 @@ ghost use Rattle.ctr_thin.specs.Thin.{StandsFor, Opens, Explains, OpenDiffers, I
 use crate::replay::replay;
 use ctr_disk::{Disk, Failed, Root, StoreFault};
 use ctr_home::read_thin_root;
-use ctr_log::{LogFile, Lsn, ReadError, read_named};
+use ctr_log::{LogFile, Lsn, ReadError, is_first_checkpoint, read_named};
 use ctr_rec::{RecordError, fold_is_one};
 use ctr_tables::Tables;
 use ctr_types::{File, Text};
@@ -21,12 +20,6 @@ use std::alloc::Global;
 
 /// The first number that no record of a database that can be opened has: 2^62.
 const LSN_END: Lsn = 1 << 62;
-
-/// The checkpoint of an engine without tables: its tag, the next transaction, 1, and three empty lists.
-const CHECKPOINT: [u8; 34] = [
-    1, 1, 0, 0, 0, 0, 0, 0, 0, 0, 0, 0, 0, 0, 0, 0, 0, 0, 0, 0, 0, 0, 0, 0, 0, 0, 0, 0, 0, 0, 0, 0,
-    0, 0,
-];
 
 /// A database that was opened: the writer of its log, and its tables.
 #[derive(Drop)]
@@ -157,12 +150,6 @@ fn bad_record(file: File, error: RecordError) -> OpenError
     }
 }
 
-fn is_checkpoint(bytes: &[u8]) -> bool
-    ensures { IsTrue result ↔ (bytes.now ≡ first_checkpoint) }
-{
-    bytes == CHECKPOINT.as_slice()
-}
-
 // The tables that a log's records make.
 fn load(alloc: Global, file: File, records: &[Text]) -> Result<Tables, OpenError>
     ensures found { IfOk result (λ t. MakesDatabase records.now (database_of t)) }
@@ -171,7 +158,7 @@ fn load(alloc: Global, file: File, records: &[Text]) -> Result<Tables, OpenError
     let Some((first, others)) = records.split_first() else {
         return Err(no_checkpoint(file));
     };
-    if !is_checkpoint(first.as_slice()) {
+    if !is_first_checkpoint(first.as_slice()) {
         return Err(no_checkpoint(file));
     }
     let mut tables = Tables::new(alloc);
