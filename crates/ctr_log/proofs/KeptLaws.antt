@@ -64,7 +64,7 @@ log_in_is first bs bytes has short low =
     ap (logged (length bytes)) has.bytes_are ∙ logged_is (length bytes) first bs has.gate has.rest has.closed has.each short low (omega (arith, few, size))
 
 -- a log begins at its first number
-begins : (first : ℕ) (bs : Batches) (bytes : List ℕ) → HasLog first bs bytes → AreShort bs → first < 2 ^ 64 → (get_or bytes 0 0 ≡ 1) × (field 8 9 bytes ≡ first)
+pub begins : (first : ℕ) (bs : Batches) (bytes : List ℕ) → HasLog first bs bytes → AreShort bs → first < 2 ^ 64 → (get_or bytes 0 0 ≡ 1) × (field 8 9 bytes ≡ first)
 begins first bs bytes log short low = by_batches bs log.some log.batches_are.each log.batches_are.bytes_are short
   where
     by_batches : (bs : Batches) → 0 < length bs → AreBatches bs → bytes ≡ batches first bs ++ log.batches_are.gate ∷ log.batches_are.rest → AreShort bs → (get_or bytes 0 0 ≡ 1) × (field 8 9 bytes ≡ first)

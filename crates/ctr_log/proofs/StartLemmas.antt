@@ -41,7 +41,7 @@ module _ (file : File) (old c : Image) where
 pub stays_same : (file : File) (old c : Image) → OtherFilesStay file old old → c ≡ old → StaysDropped file old c
 stays_same file old c same is = subst (StaysDropped file old) (sym is) (same, λ first one dropped. dropped)
 
-next_other : (n : ℕ) → next_file (log_file n) ≡ other_file n
+pub next_other : (n : ℕ) → next_file (log_file n) ≡ other_file n
 next_other zero = refl
 next_other (suc n) = refl
 

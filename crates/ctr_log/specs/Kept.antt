@@ -5,9 +5,13 @@ use Rattle.ctr_types.specs.declared.file.File.{File}
 use Rattle.ctr_types.specs.declared.file.File.TheVariants.{LogA, LogB}
 use Rattle.ctr_disk.specs.declared.disk.Image.{Image}
 use Rattle.ctr_disk.specs.Image.{content, OtherFilesStay}
+use Rattle.ctr_disk.specs.declared.fault.Root.{Root}
+use Rattle.ctr_disk.specs.declared.fault.StoreFault.TheVariants.{Fault, Damaged}
 use Rattle.ctr_bytes.specs.Fields.{field}
 use Rattle.ctr_log.specs.Logs.{Batches, frames, records, unframed, HasLog, Log, GoesOn}
-use Rattle.ctr_log.specs.Reading.{log_file}
+use Rattle.ctr_log.specs.declared.reading.ReadError.{ReadError}
+use Rattle.ctr_log.specs.declared.reading.ReadError.TheVariants.{Store, OutOfMemory}
+use Rattle.ctr_log.specs.Reading.{log_file, HasSome, NamesLog}
 
 -- The records in bytes, of n open batches at most and up to the first closed gate. A place past the
 -- end counts as a closed gate.
@@ -134,3 +138,32 @@ next_file f = LogA
 abbrev pub StaysDropped : File → Image → Image → Type 0
 StaysDropped file old new = OtherFilesStay file old new
     × ((first : ℕ) → 1 ≤ first → IsDropped first (content file old) → IsDropped first (content file new))
+
+-- the root names a file of the log, and a number that its first record can have
+pub record NamesKept (r : Root) : Type 0 where
+  pub names : NamesLog r
+  pub numbered : 1 ≤ r.first
+
+-- an image holds some log
+abbrev pub HoldsSome : ℕ → ℕ → Image → Type 0
+HoldsSome file first image = (rs : List (List ℕ)) × HoldsLog file first rs image
+
+-- a log stands in an image: the named file's, and the other file's where that begins at the next number
+pub record StandsLog (file first : ℕ) (image : Image) : Type 0 where
+  pub bs : Batches
+  pub named : HasLog first bs (content (log_file file) image)
+  pub newer : begins_at (first + length (records bs)) (content (other_file file) image) ≡ true
+      → HasSome (first + length (records bs)) (content (other_file file) image)
+
+-- what was to be read isn't there, and damage is told; or the disk failed, or memory was refused
+abbrev pub RefusesKept : Type 0 → ReadError → Type 0
+RefusesKept P OutOfMemory = Unit {0}
+RefusesKept P (Store Fault) = Unit {0}
+RefusesKept P (Store (Damaged file at want got)) = (want ≢ got) × (P → ⊥)
+
+-- the log of an image was read: its records, and a writer behind the last of them
+pub record OpensKept (file first : ℕ) (image : Image) (log : Log) (rs : List (List ℕ)) : Type 0 where
+  pub records_are : rs ≡ kept_log file first image
+  pub stands : StandsLog file first image
+  pub next_is : log.first ≡ first + length rs
+  pub goes_on : (oldest : ℕ) × (bs : Batches) × GoesOn oldest bs log image

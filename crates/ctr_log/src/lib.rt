@@ -7,6 +7,6 @@ mod making;
 mod near;
 mod reading;
 
-pub use log::{LogFile, Lsn, read_named};
+pub use log::{LogFile, Lsn, read_all, read_named};
 pub use making::{Making, init};
 pub use reading::ReadError;
