@@ -1,5 +1,5 @@
 -- What reading two generations finds is the log of the image.
-use Rattle.std.proofs.Common.{◌≡◌, inl, inr, ℕ, zero, suc, ◌+◌, ◌^◌, ◌<◌, ◌≤◌, ◌==◌, Bool, true, false, if◌then◌else◌, List, [], ◌∷◌, ◌++◌, length, drop, get_or, refl, sym, ◌∙◌, ap, subst, arith, length-append}
+use Rattle.std.proofs.Common.{◌≡◌, ◌⊎◌, inl, inr, ℕ, zero, suc, ◌+◌, ◌^◌, ◌<◌, ◌≤◌, ◌==◌, Bool, true, false, if◌then◌else◌, List, [], ◌∷◌, ◌++◌, length, drop, get_or, refl, sym, ◌∙◌, ap, subst, arith, length-append}
 use Rattle.std.proofs.lemmas.Bool.{false≢true}
 use Rattle.std.proofs.lemmas.Bool.Decides.{nat_tests}
 use Rattle.std.proofs.lemmas.List.{get_or-drop}
@@ -14,7 +14,7 @@ use Rattle.ctr_log.specs.declared.reading.ReadError.{ReadError}
 use Rattle.ctr_log.specs.declared.reading.ReadError.TheVariants.{Store, OutOfMemory}
 use Rattle.ctr_log.specs.Logs.{Batches, batch, batches, records, HasLog, Log, GoesOn}
 use Rattle.ctr_log.specs.Reading.{log_file, ReadsLog, HasSome, IsEmptyAt, RefusesOrFails}
-use Rattle.ctr_log.specs.Kept.{NamesKept, log_in, begins_at, kept_log, other_file, next_file, IsDropped, AreShort, RefusesKept, HoldsTwo, HoldsLog, HoldsSome, StandsLog, OpensKept, WritesBy, WritesBehind}
+use Rattle.ctr_log.specs.Kept.{NamesKept, log_in, begins_at, kept_log, other_file, next_file, IsDropped, AreShort, RefusesKept, HoldsTwo, HoldsLog, StandsLog, OpensKept, WritesBy, WritesBehind}
 use Rattle.ctr_log.proofs.LogLemmas.{length-batch}
 use Rattle.ctr_log.proofs.KeptLaws.{log_in_is, begins}
 use Rattle.ctr_log.proofs.StartLemmas.{next_other}
@@ -53,19 +53,28 @@ pub begins_test : (next : ℕ) (bytes : List ℕ) → get_or bytes 0 0 ≡ 1 →
 begins_test next bytes open_ = grind (arith, nat_tests)
 
 -- a log that an image holds stands in it
-holds_stands : (file first : ℕ) (image : Image) → HoldsSome file first image → StandsLog file first image
-holds_stands file first image (rs, inl one) = record {
+holds_stands : (file first : ℕ) (image : Image) (rs : List (List ℕ)) → HoldsLog file first rs image → StandsLog file first image
+holds_stands file first image rs (inl one) = record {
   bs = one.0;
   named = one.2.named;
   newer = λ there. absurd (not_dropped first (first + length (records one.0)) (content (other_file file) image) (omega arith) there one.2.dropped);
 }
-holds_stands file first image (rs, inr two) = record { bs = two.0; named = two.3.named; newer = λ there. (two.1, two.3.newer) }
+holds_stands file first image rs (inr two) = record { bs = two.0; named = two.3.named; newer = λ there. (two.1, two.3.newer) }
 
 -- damage of one of the files is damage of the log
-kept_refused : (file : File) (P Q : Type 0) (e : ReadError) → (Q → P) → RefusesOrFails file P e → RefusesKept Q e
-kept_refused file P Q OutOfMemory part refused = tt
-kept_refused file P Q (Store Fault) part refused = tt
-kept_refused file P Q (Store (Damaged f at want got)) part refused = (refused.0.1, λ q. refused.1 (part q))
+pub kept_refused : {file first : ℕ} {image : Image} {g : File} {P : Type 0} → (g ≡ log_file file) ⊎ (g ≡ other_file file) → (StandsLog file first image → P) → (e : ReadError) → RefusesOrFails g P e → RefusesKept file first image e
+kept_refused is part OutOfMemory refused = tt
+kept_refused is part (Store Fault) refused = tt
+kept_refused {file} {first} {image} is part (Store (Damaged f at want got)) refused = record {
+  differs = refused.0.1;
+  file_is = subst (λ (k : File). (k ≡ log_file file) ⊎ (k ≡ other_file file)) (sym refused.0.0) is;
+  stands = λ stands. refused.1 (part stands);
+  holds = λ rs holds. refused.1 (part (holds_stands file first image rs holds));
+}
+
+-- damage of the named one
+pub older_refused : (file first : ℕ) (image : Image) (g : File) → g ≡ log_file file → (e : ReadError) → RefusesOrFails g (HasSome first (content g image)) e → RefusesKept file first image e
+older_refused file first image g is e refused = kept_refused (inl is) (λ (stands : StandsLog file first image). (stands.bs, subst (λ (k : File). HasLog first stands.bs (content k image)) (sym is) stands.named)) e refused
 
 -- the named file was read, whose image is that later too
 pub record WasRead (r : Root) (image mid : Image) (f h : File) (rs : List (List ℕ)) (place next : ℕ) : Type 0 where
@@ -82,7 +91,7 @@ pub was_read : {r : Root} {image mid : Image} {f h : File} {rs : List (List ℕ)
 was_read names named other same found only low = record { names = names; named_is = named; other_is = other; same = same; found = found; only = only; low_place = low }
 
 -- and the other file's first batch was looked at
-module _ {r : Root} {image mid : Image} {f h : File} {rs : List (List ℕ)} {place next : ℕ} (w : WasRead r image mid f h rs place next) (low : next ≤ 2 ^ 63) {b : Bool} (test : next ≤ 2 ^ 63 → b ≡ begins_at next (content h mid)) where
+module _ {r : Root} {image mid : Image} {f h : File} {rs : List (List ℕ)} {place next : ℕ} (w : WasRead r image mid f h rs place next) (low : next < 2 ^ 64) {b : Bool} (test : b ≡ begins_at next (content h mid)) where
   abbrev named : List ℕ
   named = content (log_file r.file) image
 
@@ -102,7 +111,7 @@ module _ {r : Root} {image mid : Image} {f h : File} {rs : List (List ℕ)} {pla
   behind_bytes i is = ap (content h) is ∙ ap (λ (k : File). content k image) behind_is
 
   tells : begins_at next other ≡ b
-  tells = sym (test low ∙ ap (begins_at next) (behind_bytes mid w.same))
+  tells = sym (test ∙ ap (begins_at next) (behind_bytes mid w.same))
 
   number_is : r.first + length (records read.bs) ≡ next
   number_is = sym read.next_is
@@ -174,14 +183,11 @@ module _ {r : Root} {image mid : Image} {f h : File} {rs : List (List ℕ)} {pla
         let is = same_next stands.bs stands.named in
         subst (λ (l : List ℕ). HasSome next l) (sym bytes_are) (subst (λ (n : ℕ). HasSome n other) is (stands.newer (ap (λ (n : ℕ). begins_at n other) is ∙ tells ∙ there)))
 
-    pub newer_refused : (e : ReadError) → RefusesOrFails h (HasSome next (content h late)) e → RefusesKept (StandsLog r.file r.first image) e
-    newer_refused e refused = kept_refused h (HasSome next (content h late)) (StandsLog r.file r.first image) e newer_stands refused
-
-    pub newer_spared : (e : ReadError) → RefusesOrFails h (HasSome next (content h late)) e → RefusesKept (HoldsSome r.file r.first image) e
-    newer_spared e refused = kept_refused h (HasSome next (content h late)) (HoldsSome r.file r.first image) e (λ holds. newer_stands (holds_stands r.file r.first image holds)) refused
+    pub newer_refused : (e : ReadError) → RefusesOrFails h (HasSome next (content h late)) e → RefusesKept r.file r.first image e
+    newer_refused e refused = kept_refused (inr behind_is) newer_stands e refused
 
     -- and was read
-    module _ {qs : List (List ℕ)} {place2 next2 : ℕ} (found : ReadsLog next (content h late) qs place2 next2) (low_place2 : place2 < 2 ^ 63) (low2 : next2 ≤ 2 ^ 63) {log : Log} (at : IsEmptyAt h true place2 next2 log) where
+    module _ {qs : List (List ℕ)} {place2 next2 : ℕ} (found : ReadsLog next (content h late) qs place2 next2) (low_place2 : place2 < 2 ^ 63) (low2 : next2 < 2 ^ 64) {log : Log} (at : IsEmptyAt h true place2 next2 log) where
       newer : ReadsLog next other qs place2 next2
       newer = subst (λ (l : List ℕ). ReadsLog next l qs place2 next2) bytes_are found
 

@@ -144,25 +144,30 @@ pub record NamesKept (r : Root) : Type 0 where
   pub names : NamesLog r
   pub numbered : 1 ≤ r.first
 
--- an image holds some log
-abbrev pub HoldsSome : ℕ → ℕ → Image → Type 0
-HoldsSome file first image = (rs : List (List ℕ)) × HoldsLog file first rs image
-
--- a log stands in an image: the named file's, and the other file's where that begins at the next number
+-- a log stands in an image: the named file's, and the other file's where that begins at the next
+-- number
 pub record StandsLog (file first : ℕ) (image : Image) : Type 0 where
   pub bs : Batches
   pub named : HasLog first bs (content (log_file file) image)
   pub newer : begins_at (first + length (records bs)) (content (other_file file) image) ≡ true
       → HasSome (first + length (records bs)) (content (other_file file) image)
 
--- what was to be read isn't there, and damage is told; or the disk failed, or memory was refused
-abbrev pub RefusesKept : Type 0 → ReadError → Type 0
-RefusesKept P OutOfMemory = Unit {0}
-RefusesKept P (Store Fault) = Unit {0}
-RefusesKept P (Store (Damaged file at want got)) = (want ≢ got) × (P → ⊥)
+-- damage of one of the two files was found, and no log stands in the image; so it holds none
+pub record LacksLog (file first : ℕ) (image : Image) (f : File) (want got : ℕ) : Type 0 where
+  pub differs : want ≢ got
+  pub file_is : (f ≡ log_file file) ⊎ (f ≡ other_file file)
+  pub stands : StandsLog file first image → ⊥
+  pub holds : (rs : List (List ℕ)) → HoldsLog file first rs image → ⊥
+
+-- that is told; or the disk failed, or memory was refused
+abbrev pub RefusesKept : ℕ → ℕ → Image → ReadError → Type 0
+RefusesKept file first image OutOfMemory = Unit {0}
+RefusesKept file first image (Store Fault) = Unit {0}
+RefusesKept file first image (Store (Damaged f at want got)) = LacksLog file first image f want got
 
 -- the log of an image was read: its records, and a writer behind the last of them
-pub record OpensKept (file first : ℕ) (image : Image) (log : Log) (rs : List (List ℕ)) : Type 0 where
+pub record OpensKept (file first : ℕ) (image : Image) (log : Log) (rs : List (List ℕ))
+    : Type 0 where
   pub records_are : rs ≡ kept_log file first image
   pub stands : StandsLog file first image
   pub next_is : log.first ≡ first + length rs

@@ -10,7 +10,7 @@ ghost use Rattle.ctr_bytes.specs.Fields.{spelled};
 ghost use Rattle.ctr_log.specs.declared.reading.ReadError.TheVariants.{Store, OutOfMemory as NoMemory};
 ghost use Rattle.ctr_log.specs.Reading.{RefusesOrFails, ReadDiffers, HasSome, OpensLog, IsEmptyAt, NamesLog, log_file};
 ghost use Rattle.ctr_log.specs.Logs.{Batches, headed, sealed, frame, frames, records, HasLog, HasBatches, GoesOn, Extends, IsBeforeOrAfter, IsAfter, IsFlushing, IsEmptied, with_batch};
-ghost use Rattle.ctr_log.specs.Kept.{next_file, begins_at, NamesKept, HoldsLog, HoldsSome, StandsLog, RefusesKept, OpensKept, StaysDropped, CanStart, IsStarted, WritesBehind, HasFront, GoesOnWith};
+ghost use Rattle.ctr_log.specs.Kept.{next_file, begins_at, NamesKept, HoldsLog, RefusesKept, OpensKept, StaysDropped, CanStart, IsStarted, WritesBehind, HasFront, GoesOnWith};
 
 use crate::near::find_log;
 use crate::reading::ReadError;
@@ -248,21 +248,18 @@ pub fn read_named<D: Disk>(
     Ok((log, found.records))
 }
 
-/// Reads the log that is kept, the older generation first, and answers its writer and its records,
-/// as long as the next number is at most 2^63. Where the disk tells what it holds, damage is told
-/// exactly where no log stands in the image.
+/// Reads the log that is kept, the older generation first, and answers its writer and its records.
+/// Where the disk tells what it holds, damage is told exactly where no log stands in the image.
 pub fn read_all<D: Disk>(
     alloc: Global,
     disk: &mut D,
     root: &Root,
 ) -> Result<(LogFile, List<Text>), ReadError>
     requires names { NamesKept root.now }
-    ensures found { IsTrue D.tells → IfOk result (λ r. r.0.first ≤ 2 ^ 63 → OpensKept root.now.file root.now.first (D.reads disk.old) r.0 r.1) }
+    ensures found { IsTrue D.tells → IfOk result (λ r. OpensKept root.now.file root.now.first (D.reads disk.old) r.0 r.1) }
     ensures goes_on { (rs : List (List ℕ)) → IsTrue D.tells → HoldsLog root.now.file root.now.first rs (D.reads disk.old)
-        → IfOk result (λ r. r.0.first ≤ 2 ^ 63 → WritesBehind root.now.file root.now.first r.0 (D.reads disk.old)) }
-    ensures refused { IsTrue D.tells → IfErr result (RefusesKept (StandsLog root.now.file root.now.first (D.reads disk.old))) }
-    // Damage isn't told of an image that the calls of a writer leave.
-    ensures spared { IsTrue D.tells → IfErr result (RefusesKept (HoldsSome root.now.file root.now.first (D.reads disk.old))) }
+        → IfOk result (λ r. WritesBehind root.now.file root.now.first r.0 (D.reads disk.old)) }
+    ensures refused { IsTrue D.tells → IfErr result (RefusesKept root.now.file root.now.first (D.reads disk.old)) }
     ensures differs { IfErr result ReadDiffers }
     ensures none { IfOk result (λ r. r.0.buffered ≡ []) }
     ensures quiet { OnlyReads D.Disk disk.old disk.new }
@@ -293,16 +290,15 @@ fn joined(first: List<Text>, second: List<Text>) -> Result<List<Text>, ReadError
     Ok(all)
 }
 
-// Whether a generation that begins at this number, at most 2^63, stands in a file.
+// Whether the first batch of a file is open and has this first number.
 fn begins_at<D: Disk>(disk: &mut D, file: File, next: Lsn) -> Result<bool, Failed>
-    ensures told { IsTrue D.tells → next ≤ 2 ^ 63 → IfOk result (λ b. b ≡ begins_at next (content file (D.reads disk.old))) }
-    ensures low { IfOk result (λ b. IsTrue b → next ≤ 2 ^ 63) }
+    ensures told { IsTrue D.tells → IfOk result (λ b. b ≡ begins_at next (content file (D.reads disk.old))) }
     ensures quiet { OnlyReads D.Disk disk.old disk.new }
     ensures counts { Counts D.Disk disk.old disk.new result }
 {
     let mut head = [0; 17];
     disk.read(file, 0, &mut head)?;
-    if next > 1 << 63 || head[0] != 1 {
+    if head[0] != 1 {
         return Ok(false);
     }
     Ok(get_u64(&head, 9) == next)

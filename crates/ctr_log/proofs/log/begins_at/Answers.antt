@@ -5,7 +5,7 @@ use Rattle.ctr_log.proofs.KeptReading.{first_read, begins_test}
 use Rattle.ctr_log.proofs.log.begins_at.Goals as goal
 
 pub returns-clause-told : goal.returns-clause-told
-returns-clause-told g c told low =
+returns-clause-told g c told =
     let bytes = content c.args.file (g.D.Disk.reads c.args.disk.now) in
     let read = c.in_ok-read.ensures.told told in
     let gate : get_or bytes 0 0 ≡ 1 = sym (ap (λ l. get_or l 0 0) read) ∙ c.if-head-ne1.false in
