@@ -311,7 +311,7 @@ impl Player {
         Ok(())
     }
 
-    // The text was put, or a front of it where the sink was to fail.
+    // The text was put, or a prefix of it where the sink was to fail.
     fn is_printed(&self, ran: &Ran) -> bool {
         if self.last.sink_fails.is_empty() {
             return ran.text.as_slice() == ran.seen.printing.as_slice();

@@ -11,7 +11,7 @@ use Rattle.ctr_log.specs.declared.log.LogFile.TheInside.{Inside}
 use Rattle.ctr_bytes.specs.Fields.{spelled}
 use Rattle.ctr_log.specs.Logs.{Log, headed, sealed, frames, batches, records, GoesOn, Extends, IsBeforeOrAfter, IsAfter, HasPrefix, IsFlushing, with_batch, unframed, HasBatches}
 use Rattle.ctr_log.specs.LogFile.{log_of, IsWriter}
-use Rattle.ctr_log.specs.Kept.{WritesBehind, HasFront, GoesOnWith}
+use Rattle.ctr_log.specs.Kept.{WritesBehind, KeepsPrefix, GoesOnWith}
 use Rattle.ctr_log.proofs.KeptLaws.{kept_leaves, kept_goes_on, front_same}
 use Rattle.ctr_bytes.proofs.FieldLaws.{length-spelled}
 use Rattle.ctr_log.proofs.LogLemmas.{length-push, length-unframed, length-batches-push, records-push}
@@ -124,11 +124,11 @@ module _ (a : Inside) (keeps : IsWriter a) (long : vec_len a.buffer ≡ length a
 
   module _ {D : Type 0} (g : Ghosts D) (old new : D) where
     -- where no call was made
-    pub none_leaves : g.reads old ≡ image → LeavesOnly g old new (λ c. c ≡ image) → a.count ≡ 0 → LeavesOnly g old new (HasFront log.file named oldest log.buffered image)
-    none_leaves is same none = weaker g old new (λ c. c ≡ image) (HasFront log.file named oldest log.buffered image) same (λ c e. subst (HasFront log.file named oldest log.buffered image) (sym e) (front_same named oldest log image log.buffered log.older writes.by))
+    pub none_leaves : g.reads old ≡ image → LeavesOnly g old new (λ c. c ≡ image) → a.count ≡ 0 → LeavesOnly g old new (KeepsPrefix log.file named oldest log.buffered image)
+    none_leaves is same none = weaker g old new (λ c. c ≡ image) (KeepsPrefix log.file named oldest log.buffered image) same (λ c e. subst (KeepsPrefix log.file named oldest log.buffered image) (sym e) (front_same named oldest log image log.buffered log.older writes.by))
 
     -- where a batch was written
-    pub all_leaves : ((first : ℕ) (bs : List (List (List ℕ))) → GoesOn first bs log image → LeavesOnly g old new (IsBeforeOrAfter log.file first bs log.buffered image)) → LeavesOnly g old new (HasFront log.file named oldest log.buffered image)
+    pub all_leaves : ((first : ℕ) (bs : List (List (List ℕ))) → GoesOn first bs log image → LeavesOnly g old new (IsBeforeOrAfter log.file first bs log.buffered image)) → LeavesOnly g old new (KeepsPrefix log.file named oldest log.buffered image)
     all_leaves wrote = kept_leaves g old new named oldest log image log.buffered short low log.older writes.by wrote
 
   pub all_goes_on : (next : Log) (c : Image) → next.file ≡ log.file → next.older ≡ log.older

@@ -14,7 +14,7 @@ use Rattle.ctr_bytes.specs.Fields.{field}
 use Rattle.ctr_bytes.proofs.FieldLaws.{field-drop}
 use Rattle.ctr_log.specs.Logs.{Batches, frames, batch, batches, records, AreBatches, HasBatches, HasLog, Log, GoesOn, unframed, IsBeforeOrAfter, IsAfter, with_batch}
 use Rattle.ctr_log.specs.Reading.{log_file}
-use Rattle.ctr_log.specs.Kept.{logged, log_in, kept_in, kept_log, other_file, IsDropped, AreShort, HoldsOne, HoldsTwo, HoldsLog, WritesBy, HasFront, GoesOnWith, StaysDropped}
+use Rattle.ctr_log.specs.Kept.{logged, log_in, kept_in, kept_log, other_file, IsDropped, AreShort, HoldsOne, HoldsTwo, HoldsLog, WritesBy, KeepsPrefix, GoesOnWith, StaysDropped}
 use Rattle.ctr_log.proofs.LogLemmas.{length-push, records-push, unframed-frames, batch_length, batch_first, batch_count, batch_frames}
 
 picks : {A : Type 0} (a b : ℕ) (x y : A) → a ≡ b → (if a == b then x else y) ≡ x
@@ -64,7 +64,7 @@ log_in_is first bs bytes has short low =
     ap (logged (length bytes)) has.bytes_are ∙ logged_is (length bytes) first bs has.gate has.rest has.closed has.each short low (omega (arith, few, size))
 
 -- a log begins at its first number
-begins : (first : ℕ) (bs : Batches) (bytes : List ℕ) → HasLog first bs bytes → AreShort bs → first < 2 ^ 64 → (get_or bytes 0 0 ≡ 1) × (field 8 9 bytes ≡ first)
+pub begins : (first : ℕ) (bs : Batches) (bytes : List ℕ) → HasLog first bs bytes → AreShort bs → first < 2 ^ 64 → (get_or bytes 0 0 ≡ 1) × (field 8 9 bytes ≡ first)
 begins first bs bytes log short low = by_batches bs log.some log.batches_are.each log.batches_are.bytes_are short
   where
     by_batches : (bs : Batches) → 0 < length bs → AreBatches bs → bytes ≡ batches first bs ++ log.batches_are.gate ∷ log.batches_are.rest → AreShort bs → (get_or bytes 0 0 ≡ 1) × (field 8 9 bytes ≡ first)
@@ -146,7 +146,7 @@ module _ (file first : ℕ) (bs : Batches) (rs : List (List ℕ)) (old : Image) 
   pub one_log : kept_log file first old ++ rs ≡ records (bs ++ rs ∷ [])
   one_log = ap (λ (l : List (List ℕ)). l ++ rs) (kept_one file first old bs holds) ∙ sym (records-push bs rs)
 
-  pub one_front : (c : Image) → IsBeforeOrAfter (log_file file) first bs rs old c → HasFront (log_file file) file first rs old c
+  pub one_front : (c : Image) → IsBeforeOrAfter (log_file file) first bs rs old c → KeepsPrefix (log_file file) file first rs old c
   one_front c (same, inl before) = record {
     others = same;
     count = 0;
@@ -181,7 +181,7 @@ module _ (file first : ℕ) (bs cs : Batches) (rs : List (List ℕ)) (old : Imag
       ap (λ (l : List (List ℕ)). l ++ rs) (kept_two file first old bs cs holds) ∙ append_assoc (records bs) (records cs) rs
       ∙ ap (λ (l : List (List ℕ)). records bs ++ l) (sym (records-push cs rs))
 
-  pub two_front : (c : Image) → IsBeforeOrAfter (other_file file) next cs rs old c → HasFront (other_file file) file first rs old c
+  pub two_front : (c : Image) → IsBeforeOrAfter (other_file file) next cs rs old c → KeepsPrefix (other_file file) file first rs old c
   two_front c (same, inl before) = record {
     others = same;
     count = 0;
@@ -216,7 +216,7 @@ module _ (file first : ℕ) (bs : Batches) (r : List ℕ) (old : Image) (numbere
     dropped = stays.1 first numbered holds.dropped;
   }
 
-  pub shut_front : (c : Image) → StaysDropped (other_file file) old c → HasFront (other_file file) file first (r ∷ []) old c
+  pub shut_front : (c : Image) → StaysDropped (other_file file) old c → KeepsPrefix (other_file file) file first (r ∷ []) old c
   shut_front c stays = record {
     others = stays.0;
     count = 0;
@@ -240,7 +240,7 @@ module _ (file first : ℕ) (bs : Batches) (r : List ℕ) (old : Image) (numbere
     pub begun_log : kept_log file first old ++ r ∷ [] ≡ records bs ++ records ((r ∷ []) ∷ [])
     begun_log = ap (λ (l : List (List ℕ)). l ++ r ∷ []) (kept_one file first old bs holds)
 
-    pub begun_front : (c : Image) → IsBeforeOrAfter (other_file file) number [] (r ∷ []) mid c → HasFront (other_file file) file first (r ∷ []) old c
+    pub begun_front : (c : Image) → IsBeforeOrAfter (other_file file) number [] (r ∷ []) mid c → KeepsPrefix (other_file file) file first (r ∷ []) old c
     begun_front c (same, inl before) = record {
       others = same_but (other_file file) old mid c stays.0 same;
       count = 0;
@@ -265,23 +265,23 @@ module _ (file first : ℕ) (bs : Batches) (r : List ℕ) (old : Image) (numbere
 
 module _ {D : Type 0} (g : Ghosts D) (old new : D) (named oldest : ℕ) (log : Log) (image : Image) (rs : List (List ℕ)) (short : length (frames rs) < 2 ^ 64) (low : log.first + length rs < 2 ^ 64) where
   abbrev Front : Image → Type 0
-  Front = HasFront log.file named oldest rs image
+  Front = KeepsPrefix log.file named oldest rs image
 
   pub kept_leaves : (o : Bool) → WritesBy o named oldest log image → ((first : ℕ) (bs : Batches) → GoesOn first bs log image → LeavesOnly g old new (IsBeforeOrAfter log.file first bs rs image)) → LeavesOnly g old new Front
   kept_leaves false w wrote =
       let first_is = w.goes_on.first_is in
       weaker g old new (IsBeforeOrAfter log.file oldest w.bs rs image) Front (wrote oldest w.bs w.goes_on) (λ c step.
-      subst (λ (f : File). HasFront f named oldest rs image c) (sym w.file_is)
+      subst (λ (f : File). KeepsPrefix f named oldest rs image c) (sym w.file_is)
       (one_front named oldest w.bs rs image w.holds short (omega (arith, low, first_is)) c (subst (λ (f : File). IsBeforeOrAfter f oldest w.bs rs image c) w.file_is step)))
   kept_leaves true w wrote =
       let first_is = w.goes_on.first_is in
       let next = oldest + length (records w.bs) in
       weaker g old new (IsBeforeOrAfter log.file next w.cs rs image) Front (wrote next w.cs w.goes_on) (λ c step.
-      subst (λ (f : File). HasFront f named oldest rs image c) (sym w.file_is)
+      subst (λ (f : File). KeepsPrefix f named oldest rs image c) (sym w.file_is)
       (two_front named oldest w.bs w.cs rs image w.holds short (omega (arith, low, first_is)) c (subst (λ (f : File). IsBeforeOrAfter f next w.cs rs image c) w.file_is step)))
 
 -- an image holds the log that the writer goes on behind
-pub front_same : (named oldest : ℕ) (log : Log) (image : Image) (rs : List (List ℕ)) (o : Bool) → WritesBy o named oldest log image → HasFront log.file named oldest rs image image
+pub front_same : (named oldest : ℕ) (log : Log) (image : Image) (rs : List (List ℕ)) (o : Bool) → WritesBy o named oldest log image → KeepsPrefix log.file named oldest rs image image
 front_same named oldest log image rs false w = record {
   others = (torn_nothing log.file 0 0 image).others;
   count = 0;

@@ -6,3 +6,4 @@ pub mod NearLemmas
 pub mod InitLemmas
 pub mod KeptLaws
 pub mod StartLemmas
+mod KeptReading

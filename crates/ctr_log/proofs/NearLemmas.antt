@@ -1,6 +1,6 @@
 -- A log in a front of a file is the file's log: it ends at the first closed gate, so what stands behind
 -- that doesn't matter.
-use Rattle.std.proofs.Common.{◌≡◌, ◌≢◌, ◌⊎◌, inl, inr, ℕ, ◌+◌, ◌^◌, ◌≤◌, ◌<◌, List, [], ◌∷◌, ◌++◌, length, drop, get_or, refl, sym, ◌∙◌, ap, arith, length-append, length-drop, append_assoc, Option, Some, None}
+use Rattle.std.proofs.Common.{◌*◌, ◌≡◌, ◌≢◌, ◌⊎◌, inl, inr, ℕ, ◌+◌, ◌^◌, ◌≤◌, ◌<◌, List, [], ◌∷◌, ◌++◌, length, drop, get_or, refl, sym, ◌∙◌, ap, arith, length-append, length-drop, append_assoc, Option, Some, None}
 use Rattle.std.proofs.lemmas.List.{get_or-drop, drop-drop}
 use Rattle.ctr_bytes.specs.Fields.{field}
 use Rattle.ctr_bytes.proofs.FieldLaws.{field-drop}
@@ -33,7 +33,7 @@ reads_more first front more bytes rs place next is read = record {
 }
 
 -- batches up to a closed gate stand in bytes in one way
-one_split : (next : ℕ) (bs cs : Batches) (g h : ℕ) (x y bytes : List ℕ) → bytes ≡ batches next bs ++ g ∷ x → bytes ≡ batches next cs ++ h ∷ y → g ≢ 1 → h ≢ 1 → AreBatches bs → AreBatches cs → length bytes < 2 ^ 64 → next + length (batches next cs) < 2 ^ 64
+one_split : (next : ℕ) (bs cs : Batches) (g h : ℕ) (x y bytes : List ℕ) → bytes ≡ batches next bs ++ g ∷ x → bytes ≡ batches next cs ++ h ∷ y → g ≢ 1 → h ≢ 1 → AreBatches bs → AreBatches cs → length bytes < 2 ^ 64 → 8 * next + length (batches next cs) < 2 ^ 67
     → bs ≡ cs
 one_split next [] [] g h x y bytes a b shut closed each all few low = refl
 one_split next [] (r ∷ cs) g h x y bytes a b shut closed each all few low = absurd (shut (ap (λ (l : List ℕ). get_or l 0 0) (sym a ∙ b)))
@@ -52,7 +52,7 @@ one_split next (q ∷ bs) (r ∷ cs) g h x y bytes a b shut closed each all few 
     ap (λ (l : List (List ℕ)). l ∷ bs) same.0 ∙ ap (λ (l : Batches). r ∷ l) rest
 
 -- a file's log is the one that stands in a front of it
-pub one_log : (first : ℕ) (bs cs : Batches) (front more bytes : List ℕ) → bytes ≡ front ++ more → HasLog first bs bytes → HasLog first cs front → length bytes < 2 ^ 64 → first ≤ 2 ^ 63 → length front < 2 ^ 63 → records cs ≡ records bs
+pub one_log : (first : ℕ) (bs cs : Batches) (front more bytes : List ℕ) → bytes ≡ front ++ more → HasLog first bs bytes → HasLog first cs front → length bytes < 2 ^ 64 → first ≤ 2 ^ 63 + 2 ^ 60 → length front < 2 ^ 63 → records cs ≡ records bs
 one_log first bs cs front more bytes is log near few low short =
     let far = log_more first cs front more bytes is near in
     let l = log.batches_are in

@@ -1,5 +1,5 @@
 -- What stands in bytes that are read.
-use Rattle.std.proofs.Common.{◌≡◌, ◌≢◌, ℕ, ◌+◌, ◌-◌, ◌^◌, ◌≤◌, ◌<◌, List, [], ◌∷◌, ◌++◌, length, take, drop, get_or, refl, sym, ◌∙◌, ap, subst, arith, length-append, length-take, length-drop, take-append-drop, append_assoc}
+use Rattle.std.proofs.Common.{◌*◌, ◌≡◌, ◌≢◌, ℕ, ◌+◌, ◌-◌, ◌^◌, ◌≤◌, ◌<◌, List, [], ◌∷◌, ◌++◌, length, take, drop, get_or, refl, sym, ◌∙◌, ap, subst, arith, length-append, length-take, length-drop, take-append-drop, append_assoc}
 use Rattle.std.proofs.lemmas.List.{append-nil, take_at, drop_at, drop_more, drop-drop, length-take-le}
 use Rattle.ctr_types.specs.declared.file.File.{File}
 use Rattle.ctr_disk.specs.declared.fault.StoreFault.{StoreFault}
@@ -300,11 +300,11 @@ pub refuses_more : (file : File) (P Q : Type 0) (e : ReadError) → (Q → P) �
 refuses_more file P Q OutOfMemory part refused = tt
 refuses_more file P Q (Store e) part refused = (refused.0, λ q. refused.1 (part q))
 
-pub length-frames-le : (rs : List (List ℕ)) → length rs ≤ length (frames rs)
+pub length-frames-le : (rs : List (List ℕ)) → 8 * length rs ≤ length (frames rs)
 length-frames-le [] = omega arith
 length-frames-le (r ∷ rs) = let rest = length-frames-le rs in omega (arith, length-append (frame r) (frames rs), length-frame r)
 
-pub length-records-le : (first : ℕ) (bs : List (List (List ℕ))) → length (records bs) ≤ length (batches first bs)
+pub length-records-le : (first : ℕ) (bs : List (List (List ℕ))) → 8 * length (records bs) ≤ length (batches first bs)
 length-records-le first [] = omega arith
 length-records-le first (rs ∷ bs) =
     let rest = length-records-le (first + length rs) bs in

@@ -14,7 +14,7 @@ use Rattle.ctr_log.specs.declared.log.LogFile.TheInside.{Inside}
 use Rattle.ctr_log.specs.Logs.{Log, frame, frames, batch, records, sealed, unframed, HasBatches, HasLog, Extends, IsBeforeOrAfter, IsAfter}
 use Rattle.ctr_log.specs.LogFile.{log_of, IsWriter}
 use Rattle.ctr_log.specs.Reading.{log_file}
-use Rattle.ctr_log.specs.Kept.{other_file, next_file, IsDropped, WritesOne, WritesBy, WritesBehind, HasFront, GoesOnWith, StaysDropped, CanStart}
+use Rattle.ctr_log.specs.Kept.{other_file, next_file, IsDropped, WritesOne, WritesBy, WritesBehind, KeepsPrefix, GoesOnWith, StaysDropped, CanStart}
 use Rattle.ctr_log.proofs.LogLemmas.{length-unframed, length-frame, length-batch}
 use Rattle.ctr_log.proofs.KeptLaws.{shut_front, begun_front, begun_holds, begun_log, kept_two}
 
@@ -41,7 +41,7 @@ module _ (file : File) (old c : Image) where
 pub stays_same : (file : File) (old c : Image) → OtherFilesStay file old old → c ≡ old → StaysDropped file old c
 stays_same file old c same is = subst (StaysDropped file old) (sym is) (same, λ first one dropped. dropped)
 
-next_other : (n : ℕ) → next_file (log_file n) ≡ other_file n
+pub next_other : (n : ℕ) → next_file (log_file n) ≡ other_file n
 next_other zero = refl
 next_other (suc n) = refl
 
@@ -93,10 +93,10 @@ module _ (a : Inside) (keeps : IsWriter a) (log : Log) (view : log_of a ≡ log)
     -- what a crash leaves
     module _ {D : Type 0} (g : Ghosts D) (old mid new : D) (image_is : g.reads old ≡ image) (file : File) (is : file ≡ other_file named) where
       abbrev Front : Image → Type 0
-      Front = HasFront (next_file log.file) named oldest (r ∷ []) image
+      Front = KeepsPrefix (next_file log.file) named oldest (r ∷ []) image
 
-      front_of : (c : Image) → HasFront (other_file named) named oldest (r ∷ []) image c → Front c
-      front_of c front = subst (λ (f : File). HasFront f named oldest (r ∷ []) image c) (sym named_is) front
+      front_of : (c : Image) → KeepsPrefix (other_file named) named oldest (r ∷ []) image c → Front c
+      front_of c front = subst (λ (f : File). KeepsPrefix f named oldest (r ∷ []) image c) (sym named_is) front
 
       pub shut_leaves : LeavesOnly g old mid (StaysDropped file (g.reads old)) → LeavesOnly g old mid Front
       shut_leaves leaves =

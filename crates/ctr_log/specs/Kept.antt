@@ -5,9 +5,13 @@ use Rattle.ctr_types.specs.declared.file.File.{File}
 use Rattle.ctr_types.specs.declared.file.File.TheVariants.{LogA, LogB}
 use Rattle.ctr_disk.specs.declared.disk.Image.{Image}
 use Rattle.ctr_disk.specs.Image.{content, OtherFilesStay}
+use Rattle.ctr_disk.specs.declared.fault.Root.{Root}
+use Rattle.ctr_disk.specs.declared.fault.StoreFault.TheVariants.{Fault, Damaged}
 use Rattle.ctr_bytes.specs.Fields.{field}
 use Rattle.ctr_log.specs.Logs.{Batches, frames, records, unframed, HasLog, Log, GoesOn}
-use Rattle.ctr_log.specs.Reading.{log_file}
+use Rattle.ctr_log.specs.declared.reading.ReadError.{ReadError}
+use Rattle.ctr_log.specs.declared.reading.ReadError.TheVariants.{Store, OutOfMemory}
+use Rattle.ctr_log.specs.Reading.{log_file, HasSome, NamesLog}
 
 -- The records in bytes, of n open batches at most and up to the first closed gate. A place past the
 -- end counts as a closed gate.
@@ -94,9 +98,9 @@ pub record WritesBehind (file first : ℕ) (log : Log) (image : Image) : Type 0 
   pub numbered : 1 ≤ first
   pub by : WritesBy log.older file first log image
 
--- an image holds the log of an older one with a front of these records behind it; and but for one
+-- an image holds the log of an older one with a prefix of these records behind it; and but for one
 -- file, the others are as they were
-pub record HasFront (changed : File) (file first : ℕ) (rs : List (List ℕ)) (old new : Image)
+pub record KeepsPrefix (changed : File) (file first : ℕ) (rs : List (List ℕ)) (old new : Image)
     : Type 0 where
   pub others : OtherFilesStay changed old new
   pub count : ℕ
@@ -134,3 +138,37 @@ next_file f = LogA
 abbrev pub StaysDropped : File → Image → Image → Type 0
 StaysDropped file old new = OtherFilesStay file old new
     × ((first : ℕ) → 1 ≤ first → IsDropped first (content file old) → IsDropped first (content file new))
+
+-- the root names a file of the log, and a number that its first record can have
+pub record NamesKept (r : Root) : Type 0 where
+  pub names : NamesLog r
+  pub numbered : 1 ≤ r.first
+
+-- a log stands in an image: the named file's, and the other file's where that begins at the next
+-- number
+pub record StandsLog (file first : ℕ) (image : Image) : Type 0 where
+  pub bs : Batches
+  pub named : HasLog first bs (content (log_file file) image)
+  pub newer : begins_at (first + length (records bs)) (content (other_file file) image) ≡ true
+      → HasSome (first + length (records bs)) (content (other_file file) image)
+
+-- damage of one of the two files was found, and no log stands in the image; so it holds none
+pub record LacksLog (file first : ℕ) (image : Image) (f : File) (want got : ℕ) : Type 0 where
+  pub differs : want ≢ got
+  pub file_is : (f ≡ log_file file) ⊎ (f ≡ other_file file)
+  pub stands : StandsLog file first image → ⊥
+  pub holds : (rs : List (List ℕ)) → HoldsLog file first rs image → ⊥
+
+-- that is told; or the disk failed, or memory was refused
+abbrev pub RefusesKept : ℕ → ℕ → Image → ReadError → Type 0
+RefusesKept file first image OutOfMemory = Unit {0}
+RefusesKept file first image (Store Fault) = Unit {0}
+RefusesKept file first image (Store (Damaged f at want got)) = LacksLog file first image f want got
+
+-- the log of an image was read: its records, and a writer behind the last of them
+pub record OpensKept (file first : ℕ) (image : Image) (log : Log) (rs : List (List ℕ))
+    : Type 0 where
+  pub records_are : rs ≡ kept_log file first image
+  pub stands : StandsLog file first image
+  pub next_is : log.first ≡ first + length rs
+  pub goes_on : (oldest : ℕ) × (bs : Batches) × GoesOn oldest bs log image

@@ -96,7 +96,7 @@ abbrev pub with_batch : Batches → List (List ℕ) → Batches
 with_batch bs [] = bs
 with_batch bs (r ∷ rs) = bs ++ (r ∷ rs) ∷ []
 
--- the file has these records and a front of those, and the other files are as they were
+-- the file has these records and a prefix of those, and the other files are as they were
 abbrev pub HasPrefix : File → ℕ → List (List ℕ) → List (List ℕ) → Image → Image → Type 0
 HasPrefix file first flushed more old new = OtherFilesStay file old new
     × ((k : ℕ) × HasRecords first (flushed ++ take k more) (content file new))

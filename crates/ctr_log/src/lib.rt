@@ -7,6 +7,6 @@ mod making;
 mod near;
 mod reading;
 
-pub use log::{LogFile, Lsn, read_named};
+pub use log::{LogFile, Lsn, read_all, read_named};
 pub use making::{Making, init, is_first_checkpoint};
 pub use reading::ReadError;

@@ -10,11 +10,11 @@ ghost use Rattle.ctr_bytes.specs.Fields.{spelled};
 ghost use Rattle.ctr_log.specs.declared.reading.ReadError.TheVariants.{Store, OutOfMemory as NoMemory};
 ghost use Rattle.ctr_log.specs.Reading.{RefusesOrFails, ReadDiffers, HasSome, OpensLog, IsEmptyAt, NamesLog, log_file};
 ghost use Rattle.ctr_log.specs.Logs.{Batches, headed, sealed, frame, frames, records, HasLog, HasBatches, GoesOn, Extends, IsBeforeOrAfter, IsAfter, IsFlushing, IsEmptied, with_batch};
-ghost use Rattle.ctr_log.specs.Kept.{next_file, StaysDropped, CanStart, IsStarted, WritesBehind, HasFront, GoesOnWith};
+ghost use Rattle.ctr_log.specs.Kept.{next_file, begins_at, NamesKept, HoldsLog, RefusesKept, OpensKept, StaysDropped, CanStart, IsStarted, WritesBehind, KeepsPrefix, GoesOnWith};
 
 use crate::near::find_log;
 use crate::reading::ReadError;
-use ctr_bytes::{put_u32, put_u64};
+use ctr_bytes::{get_u64, put_u32, put_u64};
 use ctr_disk::{Disk, Failed, Root, StoreFault, write_through};
 use ctr_types::{File, List, OutOfMemory, Text};
 use std::alloc::{AllocError, Global};
@@ -122,15 +122,15 @@ impl LogFile {
     }
 
     /// Writes the records that aren't flushed as one batch behind the log. A crash at any moment
-    /// leaves the log with a front of them, and after Ok with all. It takes no memory.
+    /// leaves the log with a prefix of them, and after Ok with all. It takes no memory.
     pub fn flush<D: Disk>(&mut self, disk: &mut D) -> Result<(), StoreFault>
         ensures any_moment { (first : ℕ) (bs : Batches) → IsSettled D.Disk disk.old → GoesOn first bs self.old (D.reads disk.old)
             → LeavesOnly D.Disk disk.old disk.new (IsFlushing first bs self.old (D.reads disk.old)) }
         ensures flushed { (first : ℕ) (bs : Batches) → IsTrue D.tells → GoesOn first bs self.old (D.reads disk.old)
             → OnOk result (OtherFilesStay self.old.file (D.reads disk.old) (D.reads disk.new) × GoesOn first (with_batch bs self.old.buffered) self.new (D.reads disk.new)) }
-        // The log of an image, in one generation or in two, has a front of the records behind it.
+        // The log of an image, in one generation or in two, has a prefix of the records behind it.
         ensures kept_any_moment { (named oldest : ℕ) → IsSettled D.Disk disk.old → WritesBehind named oldest self.old (D.reads disk.old)
-            → LeavesOnly D.Disk disk.old disk.new (HasFront self.old.file named oldest self.old.buffered (D.reads disk.old)) }
+            → LeavesOnly D.Disk disk.old disk.new (KeepsPrefix self.old.file named oldest self.old.buffered (D.reads disk.old)) }
         ensures kept { (named oldest : ℕ) → IsTrue D.tells → WritesBehind named oldest self.old (D.reads disk.old)
             → OnOk result (GoesOnWith named oldest self.old.buffered self.new (D.reads disk.old) (D.reads disk.new)) }
         ensures emptied { IsEmptied self.old self.new result }
@@ -165,7 +165,7 @@ impl LogFile {
     ) -> Result<(), StoreFault>
         requires { CanStart (length first.now) self.old }
         ensures any_moment { (named oldest : ℕ) → IsSettled D.Disk disk.old → WritesBehind named oldest self.old (D.reads disk.old)
-            → LeavesOnly D.Disk disk.old disk.new (HasFront (next_file self.old.file) named oldest (first.now ∷ []) (D.reads disk.old)) }
+            → LeavesOnly D.Disk disk.old disk.new (KeepsPrefix (next_file self.old.file) named oldest (first.now ∷ []) (D.reads disk.old)) }
         ensures begun { (named oldest : ℕ) → IsTrue D.tells → WritesBehind named oldest self.old (D.reads disk.old)
             → OnOk result (GoesOnWith named oldest (first.now ∷ []) self.new (D.reads disk.old) (D.reads disk.new)) }
         ensures writer { OnOk result (IsStarted self.old self.new) }
@@ -246,6 +246,62 @@ pub fn read_named<D: Disk>(
     let found = find_log(alloc, disk, file, root.first)?;
     let log = LogFile::behind(alloc, file, false, found.place, found.next)?;
     Ok((log, found.records))
+}
+
+/// Reads the log that is kept, the older generation first, and answers its writer and its records.
+/// Where the disk tells what it holds, damage is told exactly where no log stands in the image.
+pub fn read_all<D: Disk>(
+    alloc: Global,
+    disk: &mut D,
+    root: &Root,
+) -> Result<(LogFile, List<Text>), ReadError>
+    requires names { NamesKept root.now }
+    ensures found { IsTrue D.tells → IfOk result (λ r. OpensKept root.now.file root.now.first (D.reads disk.old) r.0 r.1) }
+    ensures goes_on { (rs : List (List ℕ)) → IsTrue D.tells → HoldsLog root.now.file root.now.first rs (D.reads disk.old)
+        → IfOk result (λ r. WritesBehind root.now.file root.now.first r.0 (D.reads disk.old)) }
+    ensures refused { IsTrue D.tells → IfErr result (RefusesKept root.now.file root.now.first (D.reads disk.old)) }
+    ensures differs { IfErr result ReadDiffers }
+    ensures none { IfOk result (λ r. r.0.buffered ≡ []) }
+    ensures quiet { OnlyReads D.Disk disk.old disk.new }
+    ensures counts { CountsAs D.Disk (Store Fault) disk.old disk.new result }
+{
+    let named = named_file(root);
+    let older = find_log(alloc, disk, named, root.first)?;
+    let other = next_file(named);
+    if !begins_at(disk, other, older.next)? {
+        let log = LogFile::behind(alloc, named, false, older.place, older.next)?;
+        return Ok((log, older.records));
+    }
+    let newer = find_log(alloc, disk, other, older.next)?;
+    let records = joined(older.records, newer.records)?;
+    let log = LogFile::behind(alloc, other, true, newer.place, newer.next)?;
+    Ok((log, records))
+}
+
+// One list behind another.
+fn joined(first: List<Text>, second: List<Text>) -> Result<List<Text>, ReadError>
+    ensures ok { IfOk result (λ l. l ≡ first ++ second) }
+    ensures err { IfErr result (λ e. e ≡ NoMemory) }
+{
+    let mut all = first;
+    for record in second.into_vec() {
+        all.push(record)?;
+    }
+    Ok(all)
+}
+
+// Whether the first batch of a file is open and has this first number.
+fn begins_at<D: Disk>(disk: &mut D, file: File, next: Lsn) -> Result<bool, Failed>
+    ensures told { IsTrue D.tells → IfOk result (λ b. b ≡ begins_at next (content file (D.reads disk.old))) }
+    ensures quiet { OnlyReads D.Disk disk.old disk.new }
+    ensures counts { Counts D.Disk disk.old disk.new result }
+{
+    let mut head = [0; 17];
+    disk.read(file, 0, &mut head)?;
+    if head[0] != 1 {
+        return Ok(false);
+    }
+    Ok(get_u64(&head, 9) == next)
 }
 
 fn named_file(root: &Root) -> File

@@ -26,12 +26,13 @@ pub fn find_log<D: Disk>(
     file: File,
     first: Lsn,
 ) -> Result<Found, ReadError>
-    requires low { first ≤ 2 ^ 63 }
+    requires low { first ≤ 2 ^ 63 + 2 ^ 60 }
     ensures found { IsTrue D.tells → IfOk result (λ f. ReadsLog first (content file (D.reads disk.old)) f.records f.place f.next) }
     ensures only { (bs : Batches) → IsTrue D.tells → HasLog first bs (content file (D.reads disk.old)) → IfOk result (λ f. f.records ≡ records bs) }
     ensures refused { IsTrue D.tells → IfErr result (RefusesOrFails file (HasSome first (content file (D.reads disk.old)))) }
     ensures differs { IfErr result ReadDiffers }
     ensures place { IfOk result (λ f. f.place < 2 ^ 63) }
+    ensures few { IfOk result (λ f. f.next ≤ first + 2 ^ 60) }
     ensures quiet { OnlyReads D.Disk disk.old disk.new }
     ensures counts { CountsAs D.Disk (Store Fault) disk.old disk.new result }
 {
@@ -90,12 +91,13 @@ fn found_in<D: Disk>(
     n: u64,
     first: Lsn,
 ) -> Result<Found, ReadError>
-    requires low { first ≤ 2 ^ 63 }
+    requires low { first ≤ 2 ^ 63 + 2 ^ 60 }
     ensures found { IsTrue D.tells → IsFront n (content file (D.reads disk.old)) → IfOk result (λ f. ReadsLog first (content file (D.reads disk.old)) f.records f.place f.next) }
     ensures only { (bs : Batches) → IsTrue D.tells → IsFront n (content file (D.reads disk.old)) → HasLog first bs (content file (D.reads disk.old)) → IfOk result (λ f. f.records ≡ records bs) }
     ensures refused { IsTrue D.tells → n ≡ length (content file (D.reads disk.old)) → IfErr result (RefusesOrFails file (HasSome first (content file (D.reads disk.old)))) }
     ensures differs { IfErr result ReadDiffers }
     ensures place { IfOk result (λ f. f.place < 2 ^ 63) }
+    ensures few { IfOk result (λ f. f.next ≤ first + 2 ^ 60) }
     ensures quiet { OnlyReads D.Disk disk.old disk.new }
     ensures counts { CountsAs D.Disk (Store Fault) disk.old disk.new result }
 {

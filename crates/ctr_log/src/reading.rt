@@ -152,9 +152,10 @@ pub struct Found {
 /// Reads the bytes of a log's file, whose records are numbered from `first`.
 pub fn read_log(alloc: Global, file: File, bytes: &[u8], first: Lsn) -> Result<Found, ReadError>
     requires fits { length bytes.now < 2 ^ 63 }
-    requires low { first ≤ 2 ^ 63 }
+    requires low { first ≤ 2 ^ 63 + 2 ^ 60 }
     ensures found { IfOk result (λ f. ReadsLog first bytes.now f.records f.place f.next) }
     ensures only { (bs : Batches) → HasLog first bs bytes.now → IfOk result (λ f. f.records ≡ records bs) }
+    ensures few { IfOk result (λ f. f.next ≤ first + 2 ^ 60) }
     ensures refused { IfErr result (RefusesLog file (HasSome first bytes.now)) }
 {
     let gate = if bytes.is_empty() { 0 } else { bytes[0] };
@@ -165,9 +166,10 @@ pub fn read_log(alloc: Global, file: File, bytes: &[u8], first: Lsn) -> Result<F
 fn read_batches(alloc: Global, file: File, bytes: &[u8], first: Lsn) -> Result<Found, ReadError>
     requires open { slice_index bytes.now 0 ≡ 1 }
     requires fits { length bytes.now < 2 ^ 63 }
-    requires low { first ≤ 2 ^ 63 }
+    requires low { first ≤ 2 ^ 63 + 2 ^ 60 }
     ensures found { IfOk result (λ f. ReadsLog first bytes.now f.records f.place f.next) }
     ensures only { (bs : Batches) → HasLog first bs bytes.now → IfOk result (λ f. f.records ≡ records bs) }
+    ensures few { IfOk result (λ f. f.next ≤ first + 2 ^ 60) }
     ensures refused { IfErr result (RefusesLog file (HasSome first bytes.now)) }
 {
     let mut records = List::new(alloc);

@@ -148,7 +148,7 @@ pub fn put_end(page: &mut Page, line: &[u8], tape: &Tape) -> Result<(), Trouble>
     Ok(())
 }
 
-// Whether a put fails as it is listed, and what was put is then a front of the whole.
+// Whether a put fails as it is listed, and what was put is then a prefix of the whole.
 fn leaves_front(alloc: Global, fails: List<u64>, tape: &Tape, whole: &[u8]) -> bool {
     let mut sink = MemSink::in_pieces(alloc, fails, 3);
     let fine = put_run(
@@ -163,7 +163,7 @@ fn leaves_front(alloc: Global, fails: List<u64>, tape: &Tape, whole: &[u8]) -> b
 }
 
 /// Lets each of the first puts fail in turn, of up to 3 bytes each, and counts those behind which a
-/// front of the whole stands.
+/// prefix of the whole stands.
 pub fn count_fronts(alloc: Global, puts: u64, tape: &Tape, whole: &[u8]) -> Result<u64, Trouble> {
     let mut fronts = 0u64;
     for number in 0..puts {

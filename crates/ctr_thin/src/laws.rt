@@ -33,7 +33,7 @@ pub fn goes_on_by_record()
 {}
 
 /// More records behind those of the log, in whatever batches, that make the next database of this one. A
-/// crash while they are flushed leaves a front of them.
+/// crash while they are flushed leaves a prefix of them.
 pub fn goes_on_by_records()
     ensures { (old new : Image) (db next : Database) (more : List (List ℕ)) (bs : Batches) (s : StandsFor old db) → new.root ≡ old.root
         → HasLog s.r.first bs (content (log_file s.r.file) new) → records bs ≡ records s.bs ++ more → FoldsRecords db more next → StandsBy new next s.r bs }

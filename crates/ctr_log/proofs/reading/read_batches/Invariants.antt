@@ -1,4 +1,4 @@
-use Rattle.std.proofs.Common.{◌+◌, ◌<◌, ◌≤◌, ℕ, List, length}
+use Rattle.std.proofs.Common.{◌+◌, ◌*◌, ◌<◌, ◌≤◌, ℕ, List, length}
 use Rattle.ctr_log.specs.Logs.{records, HasLog}
 use Rattle.ctr_log.proofs.ReadLemmas.{Done, LeftOf}
 use Rattle.ctr_log.proofs.reading.read_batches.Given as goal
@@ -10,7 +10,7 @@ invariant-loop-rest l = record {
   left : (bs : List (List (List ℕ))) → HasLog l.first bs l.bytes → LeftOf l.next l.rest (records bs) l.records;
   some : 0 < length l.rest;
   short : length l.rest ≤ length l.bytes;
-  few : l.next + length l.rest ≤ l.first + length l.bytes;
+  few : 8 * l.next + length l.rest ≤ 8 * l.first + length l.bytes;
 }
 
 abbrev pub decreases-loop-rest : goal.decreases-loop-rest

@@ -3,7 +3,7 @@ use Rattle.std.proofs.lemmas.List.{drop_all}
 use Rattle.ctr_disk.specs.Image.{content, OtherFilesStay}
 use Rattle.ctr_disk.specs.Device.{LeavesOnly, IsSettled}
 use Rattle.ctr_log.specs.Logs.{Batches, Log, frames, unframed, GoesOn, Extends, IsFlushing, with_batch}
-use Rattle.ctr_log.specs.Kept.{WritesBehind, HasFront}
+use Rattle.ctr_log.specs.Kept.{WritesBehind, KeepsPrefix}
 use Rattle.ctr_log.specs.LogFile.{log_of}
 use Rattle.ctr_log.proofs.LogLemmas.{length-unframed}
 use Rattle.ctr_log.proofs.FlushLemmas.{reopened, extends, goes_on, leaves, wrote_behind, none_leaves, all_leaves, all_goes_on}
@@ -108,7 +108,7 @@ returns-clause-any_moment g c = any_moment g (goal.at.returns-clause-any_moment 
 
 -- the same of the log in one generation or two
 kept_any_moment : (g : Over) (c : After-write_batch-written g) (named oldest : ℕ) → IsSettled g.D.Disk c.args.disk.now → WritesBehind named oldest c.args.self.now (g.D.Disk.reads c.args.disk.now)
-    → LeavesOnly g.D.Disk c.args.disk.now c.write_batch-written.new.disk (HasFront c.args.self.now.file named oldest c.args.self.now.buffered (g.D.Disk.reads c.args.disk.now))
+    → LeavesOnly g.D.Disk c.args.disk.now c.write_batch-written.new.disk (KeepsPrefix c.args.self.now.file named oldest c.args.self.now.buffered (g.D.Disk.reads c.args.disk.now))
 kept_any_moment g c named oldest settled writes =
     let d = g.D.Disk in
     let a = c.self.inside in

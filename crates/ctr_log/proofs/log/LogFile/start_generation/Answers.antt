@@ -5,7 +5,7 @@ use Rattle.ctr_disk.specs.Image.{content}
 use Rattle.ctr_disk.specs.Device.{LeavesOnly, IsSettled}
 use Rattle.ctr_types.specs.Faults.{CountsFault}
 use Rattle.ctr_log.specs.Logs.{frames, unframed}
-use Rattle.ctr_log.specs.Kept.{next_file, WritesBehind, HasFront}
+use Rattle.ctr_log.specs.Kept.{next_file, WritesBehind, KeepsPrefix}
 use Rattle.ctr_log.proofs.StartLemmas.{none_waits, only_head, file_is, starts_with, number, shut_leaves, begun_leaves, begun}
 use Rattle.ctr_disk.proofs.Moments.{settled_by}
 use Rattle.ctr_log.proofs.log.LogFile.start_generation.Given.{Over}
@@ -23,7 +23,7 @@ returns-in_err-shut_first-clause-any_moment g c named oldest settled writes =
 
 -- at the end of the write, whether it failed or not
 any_moment : (g : Over) (c : After-write_batch-written g) (named oldest : ℕ) → IsSettled g.D.Disk c.args.disk.now → WritesBehind named oldest c.args.self.now (g.D.Disk.reads c.args.disk.now)
-    → LeavesOnly g.D.Disk c.args.disk.now c.write_batch-written.new.disk (HasFront (next_file c.args.self.now.file) named oldest (c.args.first.now ∷ []) (g.D.Disk.reads c.args.disk.now))
+    → LeavesOnly g.D.Disk c.args.disk.now c.write_batch-written.new.disk (KeepsPrefix (next_file c.args.self.now.file) named oldest (c.args.first.now ∷ []) (g.D.Disk.reads c.args.disk.now))
 any_moment g c named oldest settled writes =
     let a = c.self.inside in
     let d = g.D.Disk in

@@ -1,0 +1,236 @@
+-- What reading two generations finds is the log of the image.
+use Rattle.std.proofs.Common.{◌≡◌, ◌⊎◌, inl, inr, ℕ, zero, suc, ◌+◌, ◌^◌, ◌<◌, ◌≤◌, ◌==◌, Bool, true, false, if◌then◌else◌, List, [], ◌∷◌, ◌++◌, length, drop, get_or, refl, sym, ◌∙◌, ap, subst, arith, length-append}
+use Rattle.std.proofs.lemmas.Bool.{false≢true}
+use Rattle.std.proofs.lemmas.Bool.Decides.{nat_tests}
+use Rattle.std.proofs.lemmas.List.{get_or-drop}
+use Rattle.ctr_types.specs.declared.file.File.{File}
+use Rattle.ctr_disk.specs.declared.disk.Image.{Image}
+use Rattle.ctr_disk.specs.Image.{content, section}
+use Rattle.ctr_disk.specs.declared.fault.Root.{Root}
+use Rattle.ctr_disk.specs.declared.fault.StoreFault.TheVariants.{Fault, Damaged}
+use Rattle.ctr_bytes.specs.Fields.{field}
+use Rattle.ctr_bytes.proofs.FieldLaws.{field-drop}
+use Rattle.ctr_log.specs.declared.reading.ReadError.{ReadError}
+use Rattle.ctr_log.specs.declared.reading.ReadError.TheVariants.{Store, OutOfMemory}
+use Rattle.ctr_log.specs.Logs.{Batches, batch, batches, records, HasLog, Log, GoesOn}
+use Rattle.ctr_log.specs.Reading.{log_file, ReadsLog, HasSome, IsEmptyAt, RefusesOrFails}
+use Rattle.ctr_log.specs.Kept.{NamesKept, log_in, begins_at, kept_log, other_file, next_file, IsDropped, AreShort, RefusesKept, HoldsTwo, HoldsLog, StandsLog, OpensKept, WritesBy, WritesBehind}
+use Rattle.ctr_log.proofs.LogLemmas.{length-batch}
+use Rattle.ctr_log.proofs.KeptLaws.{log_in_is, begins}
+use Rattle.ctr_log.proofs.StartLemmas.{next_other}
+
+-- what a read gives, of a part
+section-drop : (from at n : ℕ) (bytes : List ℕ) → section at n (drop from bytes) ≡ section (from + at) n bytes
+section-drop from at zero bytes = refl
+section-drop from at (suc n) bytes =
+    ap (λ (x : ℕ). x ∷ section (at + 1) n (drop from bytes)) (get_or-drop from bytes at 0)
+    ∙ ap (λ (l : List ℕ). get_or bytes (from + at) 0 ∷ l) (section-drop from (at + 1) n bytes ∙ ap (λ (k : ℕ). section k n bytes) (omega arith))
+
+-- a number where a read gives it, past the end too
+number_read : (bytes : List ℕ) → field 8 0 (section 0 8 bytes) ≡ field 8 0 bytes
+unfolding field
+number_read bytes = refl
+
+pub first_read : (bytes : List ℕ) → field 8 9 (section 0 17 bytes) ≡ field 8 9 bytes
+first_read bytes =
+    sym (field-drop 8 0 9 (section 0 17 bytes)) ∙ ap (λ (l : List ℕ). field 8 0 l) (sym (section-drop 9 0 8 bytes)) ∙ number_read (drop 9 bytes) ∙ field-drop 8 0 9 bytes
+
+shorts : (first : ℕ) (bs : Batches) → length (batches first bs) < 2 ^ 63 → AreShort bs
+shorts first [] low = tt
+shorts first (rs ∷ bs) low =
+    let total = length-append (batch first rs) (batches (first + length rs) bs) in
+    (omega (arith, low, total, length-batch first rs), shorts (first + length rs) bs (omega (arith, low, total)))
+
+-- a generation that begins at a number not below the oldest isn't dropped
+not_dropped : (first next : ℕ) (bytes : List ℕ) → first ≤ next → begins_at next bytes ≡ true → IsDropped first bytes → ⊥
+not_dropped first next bytes le there (inl shut) = grind (arith, nat_tests)
+not_dropped first next bytes le there (inr below) = grind (arith, nat_tests)
+
+begins_there : (next : ℕ) (bytes : List ℕ) → get_or bytes 0 0 ≡ 1 → field 8 9 bytes ≡ next → begins_at next bytes ≡ true
+begins_there next bytes open_ number = grind (arith, nat_tests)
+
+pub begins_test : (next : ℕ) (bytes : List ℕ) → get_or bytes 0 0 ≡ 1 → begins_at next bytes ≡ (field 8 9 bytes == next)
+begins_test next bytes open_ = grind (arith, nat_tests)
+
+-- a log that an image holds stands in it
+holds_stands : (file first : ℕ) (image : Image) (rs : List (List ℕ)) → HoldsLog file first rs image → StandsLog file first image
+holds_stands file first image rs (inl one) = record {
+  bs = one.0;
+  named = one.2.named;
+  newer = λ there. absurd (not_dropped first (first + length (records one.0)) (content (other_file file) image) (omega arith) there one.2.dropped);
+}
+holds_stands file first image rs (inr two) = record { bs = two.0; named = two.3.named; newer = λ there. (two.1, two.3.newer) }
+
+-- damage of one of the files is damage of the log
+pub kept_refused : {file first : ℕ} {image : Image} {g : File} {P : Type 0} → (g ≡ log_file file) ⊎ (g ≡ other_file file) → (StandsLog file first image → P) → (e : ReadError) → RefusesOrFails g P e → RefusesKept file first image e
+kept_refused is part OutOfMemory refused = tt
+kept_refused is part (Store Fault) refused = tt
+kept_refused {file} {first} {image} is part (Store (Damaged f at want got)) refused = record {
+  differs = refused.0.1;
+  file_is = subst (λ (k : File). (k ≡ log_file file) ⊎ (k ≡ other_file file)) (sym refused.0.0) is;
+  stands = λ stands. refused.1 (part stands);
+  holds = λ rs holds. refused.1 (part (holds_stands file first image rs holds));
+}
+
+-- damage of the named one
+pub older_refused : (file first : ℕ) (image : Image) (g : File) → g ≡ log_file file → (e : ReadError) → RefusesOrFails g (HasSome first (content g image)) e → RefusesKept file first image e
+older_refused file first image g is e refused = kept_refused (inl is) (λ (stands : StandsLog file first image). (stands.bs, subst (λ (k : File). HasLog first stands.bs (content k image)) (sym is) stands.named)) e refused
+
+-- the named file was read, whose image is that later too
+pub record WasRead (r : Root) (image mid : Image) (f h : File) (rs : List (List ℕ)) (place next : ℕ) : Type 0 where
+  pub names : NamesKept r
+  pub named_is : f ≡ log_file r.file
+  pub other_is : h ≡ next_file f
+  pub same : mid ≡ image
+  pub found : ReadsLog r.first (content f image) rs place next
+  pub only : (bs : Batches) → HasLog r.first bs (content f image) → rs ≡ records bs
+  pub low_place : place < 2 ^ 63
+
+pub was_read : {r : Root} {image mid : Image} {f h : File} {rs : List (List ℕ)} {place next : ℕ} → NamesKept r → f ≡ log_file r.file → h ≡ next_file f → mid ≡ image → ReadsLog r.first (content f image) rs place next
+    → ((bs : Batches) → HasLog r.first bs (content f image) → rs ≡ records bs) → place < 2 ^ 63 → WasRead r image mid f h rs place next
+was_read names named other same found only low = record { names = names; named_is = named; other_is = other; same = same; found = found; only = only; low_place = low }
+
+-- and the other file's first batch was looked at
+module _ {r : Root} {image mid : Image} {f h : File} {rs : List (List ℕ)} {place next : ℕ} (w : WasRead r image mid f h rs place next) (low : next < 2 ^ 64) {b : Bool} (test : b ≡ begins_at next (content h mid)) where
+  abbrev named : List ℕ
+  named = content (log_file r.file) image
+
+  abbrev other : List ℕ
+  other = content (other_file r.file) image
+
+  read : ReadsLog r.first named rs place next
+  read = subst (λ (k : File). ReadsLog r.first (content k image) rs place next) w.named_is w.found
+
+  only : (bs : Batches) → HasLog r.first bs named → rs ≡ records bs
+  only bs log = w.only bs (subst (λ (k : File). HasLog r.first bs (content k image)) (sym w.named_is) log)
+
+  behind_is : h ≡ other_file r.file
+  behind_is = w.other_is ∙ ap next_file w.named_is ∙ next_other r.file
+
+  behind_bytes : (i : Image) → i ≡ image → content h i ≡ other
+  behind_bytes i is = ap (content h) is ∙ ap (λ (k : File). content k image) behind_is
+
+  tells : begins_at next other ≡ b
+  tells = sym (test ∙ ap (begins_at next) (behind_bytes mid w.same))
+
+  number_is : r.first + length (records read.bs) ≡ next
+  number_is = sym read.next_is
+
+  read_short : AreShort read.bs
+  read_short = shorts r.first read.bs (omega (arith, read.place_is, w.low_place))
+
+  named_read : log_in named ≡ rs
+  named_read = log_in_is r.first read.bs named read.log_is.batches_are read_short (omega (arith, number_is, low)) ∙ sym read.records_are
+
+  next_read : r.first + length (log_in named) ≡ next
+  next_read = omega (arith, ap length named_read, ap length read.records_are, read.next_is)
+
+  kept_by : kept_log r.file r.first image ≡ (if b then rs ++ log_in other else rs)
+  kept_by =
+      ap (λ (n : ℕ). if begins_at n other then log_in named ++ log_in other else log_in named) next_read ∙ ap (λ (t : Bool). if t then log_in named ++ log_in other else log_in named) tells
+      ∙ ap (λ (l : List (List ℕ)). if b then l ++ log_in other else l) named_read
+
+  -- a log that stands has the batches that were read
+  same_next : (bs : Batches) → HasLog r.first bs named → r.first + length (records bs) ≡ next
+  same_next bs log = omega (arith, ap length (only bs log), ap length read.records_are, read.next_is)
+
+  begins_two : (bs cs : Batches) → HoldsTwo r.file r.first bs cs image → begins_at next other ≡ true
+  begins_two bs cs holds =
+      let is = same_next bs holds.named in
+      let head = begins next cs other (subst (λ (n : ℕ). HasLog n cs other) is holds.newer) holds.newer_short (omega (arith, low)) in
+      begins_there next other head.0 head.1
+
+  -- the one generation was read
+  module _ (alone : b ≡ false) {log : Log} (at : IsEmptyAt f false place next log) where
+    goes_one : GoesOn r.first read.bs log image
+    goes_one = record {
+      log_is = subst (λ (k : File). HasLog r.first read.bs (content k image)) (sym (at.file_is ∙ w.named_is)) read.log_is;
+      place = at.place_is ∙ read.place_is;
+      first_is = at.next_is ∙ read.next_is;
+    }
+
+    pub opens_one : OpensKept r.file r.first image log rs
+    opens_one = record {
+      records_are = sym (kept_by ∙ ap (λ (t : Bool). if t then rs ++ log_in other else rs) alone);
+      stands = record {
+        bs = read.bs;
+        named = read.log_is;
+        newer = λ there. absurd (false≢true (sym (ap (λ (n : ℕ). begins_at n other) number_is ∙ tells ∙ alone) ∙ there));
+      };
+      next_is = omega (arith, at.next_is, number_is, ap length read.records_are);
+      goes_on = (r.first, read.bs, goes_one);
+    }
+
+    pub writes_one : (all : List (List ℕ)) → HoldsLog r.file r.first all image → WritesBehind r.file r.first log image
+    writes_one all (inr two) = absurd (false≢true (sym (tells ∙ alone) ∙ begins_two two.0 two.1 two.3))
+    writes_one all (inl one) = record {
+      numbered = w.names.numbered;
+      by = subst (λ (o : Bool). WritesBy o r.file r.first log image) (sym at.older_is) (record {
+        bs = read.bs;
+        file_is = at.file_is ∙ w.named_is;
+        goes_on = goes_one;
+        holds = record { named = read.log_is; short = read_short; low = omega (arith, number_is, low); dropped = one.2.dropped };
+      });
+    }
+
+  -- the newer one goes on from it
+  module _ (there : b ≡ true) {late : Image} (late_is : late ≡ mid) where
+    bytes_are : content h late ≡ other
+    bytes_are = behind_bytes late (late_is ∙ w.same)
+
+    newer_stands : StandsLog r.file r.first image → HasSome next (content h late)
+    newer_stands stands =
+        let is = same_next stands.bs stands.named in
+        subst (λ (l : List ℕ). HasSome next l) (sym bytes_are) (subst (λ (n : ℕ). HasSome n other) is (stands.newer (ap (λ (n : ℕ). begins_at n other) is ∙ tells ∙ there)))
+
+    pub newer_refused : (e : ReadError) → RefusesOrFails h (HasSome next (content h late)) e → RefusesKept r.file r.first image e
+    newer_refused e refused = kept_refused (inr behind_is) newer_stands e refused
+
+    -- and was read
+    module _ {qs : List (List ℕ)} {place2 next2 : ℕ} (found : ReadsLog next (content h late) qs place2 next2) (low_place2 : place2 < 2 ^ 63) (low2 : next2 < 2 ^ 64) {log : Log} (at : IsEmptyAt h true place2 next2 log) where
+      newer : ReadsLog next other qs place2 next2
+      newer = subst (λ (l : List ℕ). ReadsLog next l qs place2 next2) bytes_are found
+
+      newer_short : AreShort newer.bs
+      newer_short = shorts next newer.bs (omega (arith, newer.place_is, low_place2))
+
+      other_read : log_in other ≡ qs
+      other_read = log_in_is next newer.bs other newer.log_is.batches_are newer_short (omega (arith, newer.next_is, low2)) ∙ sym newer.records_are
+
+      goes_two : GoesOn next newer.bs log image
+      goes_two = record {
+        log_is = subst (λ (k : File). HasLog next newer.bs (content k image)) (sym (at.file_is ∙ behind_is)) newer.log_is;
+        place = at.place_is ∙ newer.place_is;
+        first_is = at.next_is ∙ newer.next_is;
+      }
+
+      pub opens_two : {all : List (List ℕ)} → all ≡ rs ++ qs → OpensKept r.file r.first image log all
+      opens_two {all} all_is = record {
+        records_are = all_is ∙ ap (λ (l : List (List ℕ)). rs ++ l) (sym other_read) ∙ sym (kept_by ∙ ap (λ (t : Bool). if t then rs ++ log_in other else rs) there);
+        stands = record {
+          bs = read.bs;
+          named = read.log_is;
+          newer = λ _. subst (λ (n : ℕ). HasSome n other) (sym number_is) (newer.bs, newer.log_is);
+        };
+        next_is = omega (arith, at.next_is, newer.next_is, number_is, ap length read.records_are, ap length newer.records_are, ap length all_is, length-append rs qs);
+        goes_on = (next, newer.bs, goes_two);
+      }
+
+      pub writes_two : (all : List (List ℕ)) → HoldsLog r.file r.first all image → WritesBehind r.file r.first log image
+      writes_two all (inl one) = absurd (not_dropped r.first next other (omega (arith, number_is)) (tells ∙ there) one.2.dropped)
+      writes_two all (inr two) = record {
+        numbered = w.names.numbered;
+        by = subst (λ (o : Bool). WritesBy o r.file r.first log image) (sym at.older_is) (record {
+          bs = read.bs;
+          cs = newer.bs;
+          file_is = at.file_is ∙ behind_is;
+          goes_on = subst (λ (n : ℕ). GoesOn n newer.bs log image) (sym number_is) goes_two;
+          holds = record {
+            named = read.log_is;
+            short = read_short;
+            newer = subst (λ (n : ℕ). HasLog n newer.bs other) (sym number_is) newer.log_is;
+            newer_short = newer_short;
+            low = omega (arith, newer.next_is, number_is, low2);
+          };
+        });
+      }
