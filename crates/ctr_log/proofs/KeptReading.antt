@@ -14,7 +14,7 @@ use Rattle.ctr_log.specs.declared.reading.ReadError.{ReadError}
 use Rattle.ctr_log.specs.declared.reading.ReadError.TheVariants.{Store, OutOfMemory}
 use Rattle.ctr_log.specs.Logs.{Batches, batch, batches, records, HasLog, Log, GoesOn}
 use Rattle.ctr_log.specs.Reading.{log_file, ReadsLog, HasSome, IsEmptyAt, RefusesOrFails}
-use Rattle.ctr_log.specs.Kept.{NamesKept, log_in, begins_at, kept_log, other_file, next_file, IsDropped, AreShort, RefusesKept, HoldsTwo, HoldsLog, StandsLog, OpensKept, WritesBy, WritesBehind}
+use Rattle.ctr_log.specs.Kept.{NamesKept, log_in, begins_at, kept_log, other_file, next_file, IsDropped, AreShort, RefusesKept, HoldsTwo, HoldsLog, StandsLog, OpensKept, WritesBy, WritesBehind, writer_file}
 use Rattle.ctr_log.proofs.LogLemmas.{length-batch}
 use Rattle.ctr_log.proofs.KeptLaws.{log_in_is, begins}
 use Rattle.ctr_log.proofs.StartLemmas.{next_other}
@@ -125,9 +125,12 @@ module _ {r : Root} {image mid : Image} {f h : File} {rs : List (List ℕ)} {pla
   next_read : r.first + length (log_in named) ≡ next
   next_read = omega (arith, ap length named_read, ap length read.records_are, read.next_is)
 
+  looked : begins_at (r.first + length (log_in named)) other ≡ b
+  looked = ap (λ (n : ℕ). begins_at n other) next_read ∙ tells
+
   kept_by : kept_log r.file r.first image ≡ (if b then rs ++ log_in other else rs)
   kept_by =
-      ap (λ (n : ℕ). if begins_at n other then log_in named ++ log_in other else log_in named) next_read ∙ ap (λ (t : Bool). if t then log_in named ++ log_in other else log_in named) tells
+      ap (λ (t : Bool). if t then log_in named ++ log_in other else log_in named) looked
       ∙ ap (λ (l : List (List ℕ)). if b then l ++ log_in other else l) named_read
 
   -- a log that stands has the batches that were read
@@ -157,6 +160,8 @@ module _ {r : Root} {image mid : Image} {f h : File} {rs : List (List ℕ)} {pla
         named = read.log_is;
         newer = λ there. absurd (false≢true (sym (ap (λ (n : ℕ). begins_at n other) number_is ∙ tells ∙ alone) ∙ there));
       };
+      older_is = at.older_is ∙ sym (looked ∙ alone);
+      file_is = at.file_is ∙ w.named_is ∙ ap (λ (o : Bool). writer_file o r.file) (sym at.older_is);
       next_is = omega (arith, at.next_is, number_is, ap length read.records_are);
       goes_on = (r.first, read.bs, goes_one);
     }
@@ -212,6 +217,8 @@ module _ {r : Root} {image mid : Image} {f h : File} {rs : List (List ℕ)} {pla
           named = read.log_is;
           newer = λ _. subst (λ (n : ℕ). HasSome n other) (sym number_is) (newer.bs, newer.log_is);
         };
+        older_is = at.older_is ∙ sym (looked ∙ there);
+        file_is = at.file_is ∙ behind_is ∙ ap (λ (o : Bool). writer_file o r.file) (sym at.older_is);
         next_is = omega (arith, at.next_is, newer.next_is, number_is, ap length read.records_are, ap length newer.records_are, ap length all_is, length-append rs qs);
         goes_on = (next, newer.bs, goes_two);
       }

@@ -165,10 +165,23 @@ RefusesKept file first image OutOfMemory = Unit {0}
 RefusesKept file first image (Store Fault) = Unit {0}
 RefusesKept file first image (Store (Damaged f at want got)) = LacksLog file first image f want got
 
--- the log of an image was read: its records, and a writer behind the last of them
+-- the other file begins at the number behind the named file's records
+abbrev pub has_newer : ℕ → List ℕ → List ℕ → Bool
+has_newer first named other = begins_at (first + length (log_in named)) other
+
+-- the file of a writer, by whether an older generation is kept
+abbrev pub writer_file : Bool → ℕ → File
+writer_file false file = log_file file
+writer_file true file = other_file file
+
+-- the log of an image was read: its records, and a writer behind the last of them, which is in the
+-- other file where that begins at the next number
 pub record OpensKept (file first : ℕ) (image : Image) (log : Log) (rs : List (List ℕ))
     : Type 0 where
   pub records_are : rs ≡ kept_log file first image
   pub stands : StandsLog file first image
+  pub older_is : log.older
+      ≡ has_newer first (content (log_file file) image) (content (other_file file) image)
+  pub file_is : log.file ≡ writer_file log.older file
   pub next_is : log.first ≡ first + length rs
   pub goes_on : (oldest : ℕ) × (bs : Batches) × GoesOn oldest bs log image

@@ -70,6 +70,11 @@ pub record ReadsLog (first : ℕ) (bytes : List ℕ) (rs : List (List ℕ)) (pla
   pub place_is : place ≡ length (batches first bs)
   pub next_is : next ≡ first + length (records bs)
 
+-- the place behind a log that was read is one of a file, whose records are 2^60 at most
+pub record FitsFile (first place next : ℕ) : Type 0 where
+  pub place_low : place < 2 ^ 63
+  pub few : next ≤ first + 2 ^ 60
+
 -- some log stands in the bytes
 abbrev pub HasSome : ℕ → List ℕ → Type 0
 HasSome first bytes = (bs : Batches) × HasLog first bs bytes

@@ -10,3 +10,6 @@ mod reading;
 pub use log::{LogFile, Lsn, read_all, read_named};
 pub use making::{Making, init, is_first_checkpoint};
 pub use reading::ReadError;
+
+#[cfg(test)]
+mod tests;

@@ -6,7 +6,7 @@ ghost use Rattle.ctr_disk.specs.Device.{OnlyReads, Counts, CountsAs};
 ghost use Rattle.ctr_bytes.specs.Fields.{field};
 ghost use Rattle.ctr_log.specs.declared.reading.ReadError.TheVariants.{Store, OutOfMemory as NoMemory};
 ghost use Rattle.ctr_log.specs.Logs.{Batches, batches, records, HasLog};
-ghost use Rattle.ctr_log.specs.Reading.{IsFront, HasShortLog, RefusesOrFails, ReadDiffers, HasSome, ReadsLog};
+ghost use Rattle.ctr_log.specs.Reading.{IsFront, HasShortLog, RefusesOrFails, ReadDiffers, HasSome, ReadsLog, FitsFile};
 
 use crate::log::Lsn;
 use crate::reading::{Found, ReadError, read_log};
@@ -31,8 +31,7 @@ pub fn find_log<D: Disk>(
     ensures only { (bs : Batches) → IsTrue D.tells → HasLog first bs (content file (D.reads disk.old)) → IfOk result (λ f. f.records ≡ records bs) }
     ensures refused { IsTrue D.tells → IfErr result (RefusesOrFails file (HasSome first (content file (D.reads disk.old)))) }
     ensures differs { IfErr result ReadDiffers }
-    ensures place { IfOk result (λ f. f.place < 2 ^ 63) }
-    ensures few { IfOk result (λ f. f.next ≤ first + 2 ^ 60) }
+    ensures low { IfOk result (λ f. FitsFile first f.place f.next) }
     ensures quiet { OnlyReads D.Disk disk.old disk.new }
     ensures counts { CountsAs D.Disk (Store Fault) disk.old disk.new result }
 {
@@ -96,8 +95,7 @@ fn found_in<D: Disk>(
     ensures only { (bs : Batches) → IsTrue D.tells → IsFront n (content file (D.reads disk.old)) → HasLog first bs (content file (D.reads disk.old)) → IfOk result (λ f. f.records ≡ records bs) }
     ensures refused { IsTrue D.tells → n ≡ length (content file (D.reads disk.old)) → IfErr result (RefusesOrFails file (HasSome first (content file (D.reads disk.old)))) }
     ensures differs { IfErr result ReadDiffers }
-    ensures place { IfOk result (λ f. f.place < 2 ^ 63) }
-    ensures few { IfOk result (λ f. f.next ≤ first + 2 ^ 60) }
+    ensures low { IfOk result (λ f. FitsFile first f.place f.next) }
     ensures quiet { OnlyReads D.Disk disk.old disk.new }
     ensures counts { CountsAs D.Disk (Store Fault) disk.old disk.new result }
 {

@@ -11,27 +11,27 @@ returns-in_err-older-clause-refused g c told =
 pub returns-then-not-branch-clause-found : goal.returns-then-not-branch-clause-found
 returns-then-not-branch-clause-found g c told =
     let shut : c.in_ok-begins_at.field-0 ≡ false = grind arith in
-    opens_one (was_read c.requires.names c.named_file-named.ensures c.next_file-other.ensures c.in_ok-older.ensures.quiet.same (c.in_ok-older.ensures.found told) (λ bs. c.in_ok-older.ensures.only bs told) c.in_ok-older.ensures.place) (omega (arith, c.requires.names.names.first, c.in_ok-older.ensures.few)) (c.in_ok-begins_at.ensures.told told) shut c.in_ok-log.ensures
+    opens_one (was_read c.requires.names c.named_file-named.ensures c.next_file-other.ensures c.in_ok-older.ensures.quiet.same (c.in_ok-older.ensures.found told) (λ bs. c.in_ok-older.ensures.only bs told) c.in_ok-older.ensures.low.place_low) (omega (arith, c.requires.names.names.first, c.in_ok-older.ensures.low.few)) (c.in_ok-begins_at.ensures.told told) shut c.in_ok-log.ensures
 
 pub returns-then-not-branch-clause-goes_on : goal.returns-then-not-branch-clause-goes_on
 returns-then-not-branch-clause-goes_on g c rs told holds =
     let alone : c.in_ok-begins_at.field-0 ≡ false = grind arith in
-    writes_one (was_read c.requires.names c.named_file-named.ensures c.next_file-other.ensures c.in_ok-older.ensures.quiet.same (c.in_ok-older.ensures.found told) (λ bs. c.in_ok-older.ensures.only bs told) c.in_ok-older.ensures.place) (omega (arith, c.requires.names.names.first, c.in_ok-older.ensures.few)) (c.in_ok-begins_at.ensures.told told) alone c.in_ok-log.ensures rs holds
+    writes_one (was_read c.requires.names c.named_file-named.ensures c.next_file-other.ensures c.in_ok-older.ensures.quiet.same (c.in_ok-older.ensures.found told) (λ bs. c.in_ok-older.ensures.only bs told) c.in_ok-older.ensures.low.place_low) (omega (arith, c.requires.names.names.first, c.in_ok-older.ensures.low.few)) (c.in_ok-begins_at.ensures.told told) alone c.in_ok-log.ensures rs holds
 
 pub returns-in_err-newer-clause-refused : goal.returns-in_err-newer-clause-refused
 returns-in_err-newer-clause-refused g c told =
     let p = err_from_is_err_and c.from_residual-in_err-newer.result c.from_residual-in_err-newer.ensures.1 in
     let open_ : c.in_ok-begins_at.field-0 ≡ true = grind arith in
-    rw (p.1, p.2) (newer_refused (was_read c.requires.names c.named_file-named.ensures c.next_file-other.ensures c.in_ok-older.ensures.quiet.same (c.in_ok-older.ensures.found told) (λ bs. c.in_ok-older.ensures.only bs told) c.in_ok-older.ensures.place) (omega (arith, c.requires.names.names.first, c.in_ok-older.ensures.few)) (c.in_ok-begins_at.ensures.told told) open_ c.in_ok-begins_at.ensures.quiet.same c.in_err-newer.field-0.0 (c.in_err-newer.ensures.refused told))
+    rw (p.1, p.2) (newer_refused (was_read c.requires.names c.named_file-named.ensures c.next_file-other.ensures c.in_ok-older.ensures.quiet.same (c.in_ok-older.ensures.found told) (λ bs. c.in_ok-older.ensures.only bs told) c.in_ok-older.ensures.low.place_low) (omega (arith, c.requires.names.names.first, c.in_ok-older.ensures.low.few)) (c.in_ok-begins_at.ensures.told told) open_ c.in_ok-begins_at.ensures.quiet.same c.in_err-newer.field-0.0 (c.in_err-newer.ensures.refused told))
 
 pub returns-clause-found : goal.returns-clause-found
 returns-clause-found g c told =
     let there : c.in_ok-begins_at.field-0 ≡ true = grind arith in
-    opens_two (was_read c.requires.names c.named_file-named.ensures c.next_file-other.ensures c.in_ok-older.ensures.quiet.same (c.in_ok-older.ensures.found told) (λ bs. c.in_ok-older.ensures.only bs told) c.in_ok-older.ensures.place) (omega (arith, c.requires.names.names.first, c.in_ok-older.ensures.few)) (c.in_ok-begins_at.ensures.told told) there c.in_ok-begins_at.ensures.quiet.same (c.in_ok-newer.ensures.found told) c.in_ok-newer.ensures.place
-    (omega (arith, c.requires.names.names.first, c.in_ok-older.ensures.few, c.in_ok-newer.ensures.few)) c.in_ok-log-2.ensures c.in_ok-records.ensures.ok
+    opens_two (was_read c.requires.names c.named_file-named.ensures c.next_file-other.ensures c.in_ok-older.ensures.quiet.same (c.in_ok-older.ensures.found told) (λ bs. c.in_ok-older.ensures.only bs told) c.in_ok-older.ensures.low.place_low) (omega (arith, c.requires.names.names.first, c.in_ok-older.ensures.low.few)) (c.in_ok-begins_at.ensures.told told) there c.in_ok-begins_at.ensures.quiet.same (c.in_ok-newer.ensures.found told) c.in_ok-newer.ensures.low.place_low
+    (omega (arith, c.requires.names.names.first, c.in_ok-older.ensures.low.few, c.in_ok-newer.ensures.low.few)) c.in_ok-log-2.ensures c.in_ok-records.ensures.ok
 
 pub returns-clause-goes_on : goal.returns-clause-goes_on
 returns-clause-goes_on g c rs told holds =
     let there : c.in_ok-begins_at.field-0 ≡ true = grind arith in
-    writes_two (was_read c.requires.names c.named_file-named.ensures c.next_file-other.ensures c.in_ok-older.ensures.quiet.same (c.in_ok-older.ensures.found told) (λ bs. c.in_ok-older.ensures.only bs told) c.in_ok-older.ensures.place) (omega (arith, c.requires.names.names.first, c.in_ok-older.ensures.few)) (c.in_ok-begins_at.ensures.told told) there c.in_ok-begins_at.ensures.quiet.same (c.in_ok-newer.ensures.found told) c.in_ok-newer.ensures.place
-    (omega (arith, c.requires.names.names.first, c.in_ok-older.ensures.few, c.in_ok-newer.ensures.few)) c.in_ok-log-2.ensures rs holds
+    writes_two (was_read c.requires.names c.named_file-named.ensures c.next_file-other.ensures c.in_ok-older.ensures.quiet.same (c.in_ok-older.ensures.found told) (λ bs. c.in_ok-older.ensures.only bs told) c.in_ok-older.ensures.low.place_low) (omega (arith, c.requires.names.names.first, c.in_ok-older.ensures.low.few)) (c.in_ok-begins_at.ensures.told told) there c.in_ok-begins_at.ensures.quiet.same (c.in_ok-newer.ensures.found told) c.in_ok-newer.ensures.low.place_low
+    (omega (arith, c.requires.names.names.first, c.in_ok-older.ensures.low.few, c.in_ok-newer.ensures.low.few)) c.in_ok-log-2.ensures rs holds
