@@ -1,4 +1,4 @@
-// Pages and the root: each check, each moment of a writing, each call failing.
+// Pages and the root: bytes by hand, each check, each moment of a writing, each call failing.
 ghost use Rattle.std.specs.Prelude.{[], false};
 ghost use Rattle.ctr_disk.specs.Silent.{never_told};
 ghost use Rattle.ctr_disk.specs.Memory.{moment_at, counted_faults, counted_strays};
@@ -131,6 +131,29 @@ fn look(disk: &mut Still, counted: u32, page: u32) -> Result<Seen, StoreFault> {
     let stamp = read_page(disk, counted, page, &mut into)?;
     let filled = into == body_of(into[4095]);
     Ok(Seen(stamp, if filled { into[4095] } else { 0xff }))
+}
+
+// 16 bytes at a place of four pages after one was written: gate, number, stamp, three of the body.
+fn bytes_of(alloc: Global, page: u32, at: u64) -> Result<[u8; 16], Fail> {
+    let mut disk = disk_of(alloc, &[], &lay(alloc, &[ZEROS; 8])?, 0)?;
+    write_home(
+        &mut disk,
+        Block::Page(page),
+        0x0102_0304_0506_0708,
+        &body_of(0x50),
+    )?;
+    let mut bytes = [9; 16];
+    disk.read(File::Pages, at, &mut bytes)?;
+    Ok(bytes)
+}
+
+#[test]
+fn the_bytes_of_a_page(rt: HostRuntime) -> Result<(), Fail> {
+    let first = [1, 0, 0, 0, 0, 8, 7, 6, 5, 4, 3, 2, 1, 0xee, 0x50, 0x50];
+    let fourth = [1, 3, 0, 0, 0, 8, 7, 6, 5, 4, 3, 2, 1, 0xee, 0x50, 0x50];
+    assert!(rt; bytes_of(rt.alloc(), 0, 0)? == first);
+    assert!(rt; bytes_of(rt.alloc(), 3, 24_768)? == fourth);
+    Ok(())
 }
 
 // A file of three pages, and of two.
