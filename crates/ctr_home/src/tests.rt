@@ -313,7 +313,7 @@ fn each_check_of_a_root(rt: HostRuntime) -> Result<(), Fail> {
     Ok(())
 }
 
-// What is read of a disk of three pages: the root by its stamp, if it is the one with that, and the pages.
+// What is read of three pages: the root by its stamp, if it is the one with that, and the pages.
 fn state_of(disk: &mut Still) -> Result<[Seen; 4], StoreFault> {
     let root = match read_root(disk)? {
         Some(root) => Seen(root.stamp, if root == root_of(root.stamp) { 0 } else { 1 }),
@@ -346,7 +346,7 @@ fn steps_of(alloc: Global, calls: &[Recorded]) -> Result<Vec<Step>, AllocError> 
     Ok(steps)
 }
 
-// A block with its homes, the end of their file, its value, the home to write, whether that is closed before.
+// A block: its homes, the end of their file, its value, the home to write, if that is shut first.
 struct Writing(Block, Laid, Laid, usize, Seen, u64, bool);
 
 const PAGE: Block = Block::Page(1);
@@ -368,7 +368,7 @@ const WRITINGS: [Writing; 13] = [
     Writing(Block::Root, HOME_5, HOME_5, 128, Seen(9, 0), 0, true),
 ];
 
-// How many images are looked at: each piece of a write, and the last one where the one before it is lost.
+// Images looked at: each piece of a write, and the last one where the one before it is lost.
 const DIGITS: u64 = 9;
 
 impl Writing {
@@ -400,7 +400,7 @@ impl Writing {
         [Seen(7, 0), before, value, behind]
     }
 
-    // A gate that is open or past the end is closed, then all is written but the gate, then that is opened.
+    // A gate that is open or past the end is closed, all is written but the gate, that is opened.
     fn steps(&self) -> [Step; 6] {
         let at = self.5;
         let rest = match self.0 {
@@ -426,7 +426,7 @@ impl Writing {
         Ok(state == self.state(new) || !whole && state == self.state(self.4))
     }
 
-    // Whether each image of a crash after so many calls says the new value, or the old one where it isn't whole.
+    // Whether each image after so many calls says the new value, or the old one if it isn't whole.
     fn leaves(&self, alloc: Global, disk: &Still, count: usize, whole: bool) -> Result<bool, Fail> {
         for digits in 0..DIGITS {
             if !self.is_left(alloc, disk.image_left(count, digits)?, whole)? {
