@@ -153,6 +153,8 @@ fn the_bytes_of_a_page(rt: HostRuntime) -> Result<(), Fail> {
     let fourth = [1, 3, 0, 0, 0, 8, 7, 6, 5, 4, 3, 2, 1, 0xee, 0x50, 0x50];
     assert!(rt; bytes_of(rt.alloc(), 0, 0)? == first);
     assert!(rt; bytes_of(rt.alloc(), 3, 24_768)? == fourth);
+    // Behind the body there are zeros.
+    assert!(rt; bytes_of(rt.alloc(), 3, 28_880)? == [0; 16]);
     Ok(())
 }
 
