@@ -6,6 +6,8 @@ mod block;
 mod checks;
 mod reading;
 mod root;
+#[cfg(test)]
+mod tests;
 mod writing;
 
 pub use block::{Block, Home};
