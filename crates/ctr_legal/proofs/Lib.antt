@@ -1,0 +1,5 @@
+pub mod Cover
+pub mod Keep
+pub mod Telling
+pub mod Ready
+pub mod Reached

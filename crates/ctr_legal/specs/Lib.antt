@@ -1,0 +1,4 @@
+pub mod Cover
+pub mod Kept
+pub mod Ready
+pub mod Laws

@@ -1,0 +1,13 @@
+// What legal tapes keep. A call does nothing: what it ensures is the law.
+ghost use Rattle.ctr_legal.specs.Laws.{LegalTapesAreReached, LegalTapesGrow};
+
+/// Wherever a legal tape leads, changes lie under locks, locks of two sessions are apart, names in use
+/// are steady, and each session is ready for its next act.
+pub fn legal_tapes_are_reached()
+    ensures { LegalTapesAreReached }
+{}
+
+/// A legal tape with an entry more that may come behind it is legal, and leads where that entry does.
+pub fn legal_tapes_grow()
+    ensures { LegalTapesGrow }
+{}

@@ -1,0 +1,5 @@
+pub mod Alike
+pub mod Own
+pub mod Answers
+pub mod Writes
+pub mod Steps

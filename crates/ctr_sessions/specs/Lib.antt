@@ -1,0 +1,4 @@
+pub mod Sessions
+pub mod Answers
+pub mod Laws
+pub mod Steps
