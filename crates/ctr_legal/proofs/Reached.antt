@@ -1,6 +1,6 @@
 -- Wherever a legal tape leads, the state keeps what it is to keep and each session is ready.
-use Rattle.std.proofs.Common.{◌≡◌, ⊎_elim, ℕ, suc, ◌+◌, ◌==◌, Bool, true, false, cond, List, [], ◌∷◌, ◌++◌, length, Option, Some, None, refl, sym, ◌∙◌, ap, subst, arith}
-use Rattle.std.specs.Prelude.{unwrap_or, is_some, nat_le, ◌&&◌, slice_get}
+use Rattle.std.proofs.Common.{◌≡◌, ⊎_elim, inl, ℕ, zero, suc, ◌+◌, ◌<◌, ◌==◌, Bool, true, false, cond, List, [], ◌∷◌, ◌++◌, length, Option, Some, None, refl, sym, ◌∙◌, ap, subst, arith}
+use Rattle.std.specs.Prelude.{unwrap_or, is_some, nat_le, ◌&&◌, slice_get, option_and_then}
 use Rattle.std.proofs.lemmas.Bool.{false≢true, true≢false, eqb-true, and_parts}
 use Rattle.ctr_types.specs.declared.statement.Statement.{Statement}
 use Rattle.ctr_types.specs.declared.statement.Line.{Line}
@@ -14,11 +14,12 @@ use Rattle.ctr_model.specs.declared.tape.Point.{Point}
 use Rattle.ctr_model.specs.declared.tape.Progress.{Progress}
 use Rattle.ctr_model.specs.Database.{Database, table_at, after}
 use Rattle.ctr_model.specs.State.{rows_at, transaction_of, at_rest}
-use Rattle.ctr_model.specs.Reply.{without_name, next_from, next_state}
+use Rattle.ctr_model.specs.Reply.{without_name, reply_from, next_from, next_state}
 use Rattle.ctr_model.specs.Tape.{acts_of, statement_of, progress_of, goes_on, advanced, Comes, IsActOf, IsRelease, passed_by, passed, final, Legal, at_start}
 use Rattle.ctr_model.proofs.Sessions.{known, find-put-other, find-put-same}
 use Rattle.ctr_versions.proofs.Keys.{some_is}
 use Rattle.ctr_legal.specs.Kept.{IsKept}
+use Rattle.ctr_legal.specs.Laws.{WaitingAreAnswered}
 use Rattle.ctr_legal.specs.Ready.{MayWrite, IsUnasked, IsReady, IsNext, IsReached}
 use Rattle.ctr_legal.proofs.Ready.{ComesTo, comes_to, acts_same, next_act, first_ready, ask_goes_on, answer_next}
 use Rattle.ctr_legal.proofs.Keep.{clash}
@@ -222,3 +223,41 @@ final_push lines p (x ∷ es) e = final_push lines (passed lines p x) es e
 pub legal_push : (lines : List Line) (p : Point) (es : List Entry) (e : Entry) → Legal lines p es → Comes lines (final lines p es) e → Legal lines p (es ++ e ∷ [])
 legal_push lines p [] e legal comes = (comes, tt)
 legal_push lines p (x ∷ es) e legal comes = (legal.0, legal_push lines (passed lines p x) es e legal.1 comes)
+
+-- ---- commits that wait
+
+got_at : {X : Type 0} (xs : List X) (j : ℕ) → j < length xs → (x : X) × (slice_get xs j ≡ Some x)
+got_at [] j lt = absurd (none_below j lt)
+  where
+    none_below : (j : ℕ) → j < 0 → ⊥
+    none_below j lt = omega (arith, lt)
+got_at (x ∷ xs) zero lt = (x, refl)
+got_at (x ∷ xs) (suc j) lt = got_at xs j (omega (arith, lt))
+
+pub waiting_answered : WaitingAreAnswered
+waiting_answered lines p moment reached later waiting =
+    let own = got_at p.state.asked p.state.answered waiting in
+    let first = reached.kept.pending p.state.answered own.0 (omega arith) own.1 in
+    let s = first.0 in
+    let me = first.1.me in
+    let next = reached.waiting s me (p.state.answered + 1) first.1.there first.1.asked in (
+      s,
+      record {
+        me = me;
+        there = first.1.there;
+        asked = first.1.asked;
+        comes = record {
+          later = later;
+          one_of = inl (
+            next.0,
+            next.1.given,
+            record {
+              number = refl;
+              next_act = next.1.next_act;
+              in_turn = ap (option_and_then (λ (t : Transaction). t.asked)) first.1.there ∙ first.1.asked;
+              allowed = inl (sym (ap (λ o. reply_from p.state s o act.Answer next.0) first.1.there));
+            },
+          );
+        };
+      },
+    )

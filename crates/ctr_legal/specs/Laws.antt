@@ -1,10 +1,14 @@
 -- What every legal tape keeps.
-use Rattle.std.specs.Prelude.{◌≡◌, ℕ, List, [], ◌∷◌, ◌++◌}
+use Rattle.std.specs.Prelude.{◌≡◌, ℕ, ◌+◌, ◌<◌, ◌≤◌, List, [], ◌∷◌, ◌++◌, length, Some}
 use Rattle.ctr_types.specs.declared.statement.Line.{Line}
 use Rattle.ctr_types.specs.declared.tape.Entry.{Entry}
+use Rattle.ctr_types.specs.declared.tape.Act.TheVariants as act
+use Rattle.ctr_types.specs.declared.tape.Reply.TheVariants as reply
+use Rattle.ctr_model.specs.declared.state.Transaction.{Transaction}
 use Rattle.ctr_model.specs.Database.{Database}
 use Rattle.ctr_model.specs.declared.tape.Point.{Point}
-use Rattle.ctr_model.specs.Tape.{Comes, passed, final, Legal, at_start}
+use Rattle.ctr_model.specs.State.{transaction_of}
+use Rattle.ctr_model.specs.Tape.{progress_of, Comes, passed, final, Legal, at_start}
 use Rattle.ctr_legal.specs.Ready.{IsReached}
 
 -- Whoever acts and in whatever order, recovery among them: from the start of a run each legal tape
@@ -21,3 +25,27 @@ LegalTapesGrow = (lines : List Line) (start : Point) (tape : List Entry) (e : En
     → Legal lines start tape → Comes lines (final lines start tape) e
     → Legal lines start (tape ++ e ∷ [])
     × (final lines start (tape ++ e ∷ []) ≡ passed lines (final lines start tape) e)
+
+-- the entry by which a session's commit is answered at this moment
+abbrev pub answer_entry : Point → ℕ → ℕ → Entry
+answer_entry p s moment = record {
+  session = s;
+  statement = (progress_of p s).finished + 1;
+  act = act.Answer;
+  reply = reply.Answered (p.state.answered + 1);
+  moment = moment;
+}
+
+-- the session asked for the commit that is answered next, and its entry may come now
+pub record IsAnsweredNext (lines : List Line) (p : Point) (moment s : ℕ) : Type 0 where
+  pub me : Transaction
+  pub there : transaction_of p.state s ≡ Some me
+  pub asked : me.asked ≡ Some (p.state.answered + 1)
+  pub comes : Comes lines p (answer_entry p s moment)
+
+-- Where commits wait for their answer, the one that was asked first is a session's, and whoever
+-- made it durable may answer it: so all that wait are answered in their order.
+abbrev pub WaitingAreAnswered : Type 0
+WaitingAreAnswered = (lines : List Line) (p : Point) (moment : ℕ) → IsReached lines p
+    → p.moment ≤ moment → p.state.answered < length p.state.asked
+    → (s : ℕ) × IsAnsweredNext lines p moment s

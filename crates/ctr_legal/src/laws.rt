@@ -1,5 +1,5 @@
 // What legal tapes keep. A call does nothing: what it ensures is the law.
-ghost use Rattle.ctr_legal.specs.Laws.{LegalTapesAreReached, LegalTapesGrow};
+ghost use Rattle.ctr_legal.specs.Laws.{LegalTapesAreReached, LegalTapesGrow, WaitingAreAnswered};
 
 /// Wherever a legal tape leads, changes lie under locks, locks of two sessions are apart, names in use
 /// are steady, and each session is ready for its next act.
@@ -10,4 +10,10 @@ pub fn legal_tapes_are_reached()
 /// A legal tape with an entry more that may come behind it is legal, and leads where that entry does.
 pub fn legal_tapes_grow()
     ensures { LegalTapesGrow }
+{}
+
+/// Where commits were asked for and aren't answered, the first of them is a session's, and its answer is an
+/// entry that may come: a flush answers all that it made durable, in their order.
+pub fn waiting_are_answered()
+    ensures { WaitingAreAnswered }
 {}

@@ -21,7 +21,7 @@ use Rattle.ctr_model.specs.Refusals.{others, first_session, is_busy, is_lock_of,
 use Rattle.ctr_model.specs.Reply.{with_use, with_lock}
 use Rattle.ctr_model.proofs.Sessions.{known, find-put-other, find-put-same, find-without-other, find-without-same}
 use Rattle.ctr_locks.specs.Held.{TableHeld, table_held, is_locked, has_key, has_use, has_hold, keeps_off, first_held, SameTable, LocksKey, Uses, Holds, OfTable, IsEntered, SameEntered, HasKeyRoom, HasNameRoom, HasKeyRoomOf, HasNameRoomOf}
-use Rattle.ctr_locks.specs.Shows.{HasSame, IsSame, ShowsLocks, AnswersTheModel, LocksStay, EnterShows, GrantShows, ReleaseShows, OtherChangesShow}
+use Rattle.ctr_locks.specs.Shows.{HasSame, IsSame, ShowsLocks, AnswersTheModel, LocksStay, EnterShows, GrantShows, ReleaseShows, OtherChangesShow, TransactionsShow}
 use Rattle.ctr_locks.proofs.Maps.{both, found, in_order, Written, updated, through}
 
 abbrev pub Tables : Type 0
@@ -294,6 +294,9 @@ module _ (m : BTreeMap ℕ Tables) (view : List (ℕ × Tables)) (view_is : m.en
 
     pub taken_released : o ≡ None → ReleaseShows s view new.entries
     taken_released is = released view new.entries s (in_order nat_cmp new.entries ordered) (replaced.here ∙ is) others_kept
+
+pub by_transactions : TransactionsShow
+by_transactions sessions state other shows in_order same = record { sorted = shows.sorted; in_order = in_order; each = λ s. subst (IsSame (find nat_cmp s sessions)) (sym (same s)) (shows.each s) }
 
 pub other_changes : OtherChangesShow
 other_changes sessions state s t u shows at locks uses holds = shown sessions sessions s shows.sorted state (with_transaction s u state) shows (is_sorted-put nat_cmp nat_cmp_total s u state.sessions shows.in_order) (λ r two. refl) (λ r two. find-put-other r s u state.sessions two)

@@ -70,6 +70,12 @@ abbrev pub ReleaseShows : ℕ → List (ℕ × List (List ℕ × TableHeld))
 ReleaseShows s old new = (state : State) → ShowsLocks old state
     → ShowsLocks new (without_transaction s state)
 
+-- What the locks show goes by the transactions of sessions alone.
+abbrev pub TransactionsShow : Type 0
+TransactionsShow = (sessions : List (ℕ × List (List ℕ × TableHeld))) (state other : State)
+    → ShowsLocks sessions state → T (is_sorted nat_cmp other.sessions)
+    → ((s : ℕ) → transaction_of other s ≡ transaction_of state s) → ShowsLocks sessions other
+
 -- A transaction that changes in something else, in a state whose other sessions are the same, has
 -- the locks that it had.
 abbrev pub OtherChangesShow : Type 0

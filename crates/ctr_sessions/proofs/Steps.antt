@@ -263,9 +263,9 @@ rollback_shows low old new state s me session is_old here writer is_engine is_si
     })
 
 pub room_shows : RoomShows
-room_shows low old new state is_old sessions is_since same shows = record {
+room_shows low old new state is_old sessions same_since same shows = record {
   shows = shows;
-  since = subst (λ es. AreSince es state.sessions) (sym is_since) is_old.since;
+  since = λ s. same_since s ∙ is_old.since s;
   drawn = subst (λ es. AreDrawnFor state.sessions es) (sym sessions) is_old.drawn;
   tables = same_tables old.engine.versions new.engine.versions same is_old.tables;
   ordered = is_old.ordered;

@@ -2,7 +2,7 @@
 -- both then show the model's next state.
 use Rattle.std.specs.Prelude.{◌≡◌, ℕ, ◌+◌, ◌<◌, ℤ, Bool, true, false, List, [], ◌∷◌, ◌++◌, length, Option, Some}
 use Rattle.std.specs.Ordering.{nat_cmp}
-use Rattle.std.specs.FinMap.Entries.{put}
+use Rattle.std.specs.FinMap.Entries.{put, find}
 use Rattle.ctr_types.specs.declared.value.Row.{Row}
 use Rattle.ctr_model.specs.declared.database.Change.{Change}
 use Rattle.ctr_model.specs.Maps.{without}
@@ -98,10 +98,12 @@ RollbackShows = (low : ℕ) (old new : Begun) (state : State) (s : ℕ) (me : Tr
     → me.writer ≡ true → new.engine ≡ engine_rolled_back s session.me old.engine
     → new.since ≡ without nat_cmp s old.since → ShowsBegun low new (without_transaction s state)
 
--- Room is taken: no session moves, each name has its chain, and the state is the one of before.
+-- Room is taken, or a start that memory was refused to is taken back: no session moves, each name has
+-- its chain, and the state is the one of before.
 abbrev pub RoomShows : Type 0
 RoomShows = (low : ℕ) (old new : Begun) (state : State) → ShowsBegun low old state
-    → new.engine.sessions ≡ old.engine.sessions → new.since ≡ old.since
+    → new.engine.sessions ≡ old.engine.sessions
+    → ((s : ℕ) → find nat_cmp s new.since ≡ find nat_cmp s old.since)
     → ((name : List ℕ)
     → names_at new.engine.versions name ≡ names_at old.engine.versions name)
     → ShowsState low new.engine state → ShowsBegun low new state
