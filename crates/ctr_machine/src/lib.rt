@@ -8,7 +8,6 @@ mod follow;
 mod next;
 mod refusals;
 mod reply;
-mod values;
 
 pub use follow::is_legal;
 pub use next::next_state;

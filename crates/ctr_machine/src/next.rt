@@ -5,10 +5,9 @@ ghost use Rattle.ctr_model.specs.Refusals.{updated};
 ghost use Rattle.ctr_model.specs.State.{transaction_of};
 ghost use Rattle.ctr_model.specs.Reply.{with_lock, with_use, on_table, granted, with_granted, with_read, changes_of, with_changes, next_inside, next_outside, released, without_name, next_state};
 
-use crate::refusals::{key_locked, key_of, table_of};
 use crate::reply::{columns_of, row_of};
-use crate::values::updated;
 use ctr_model::{Change, Key, KeyLock, Map, State, Table, Transaction};
+use ctr_statement::{key_locked, key_of, table_of, updated};
 use ctr_types::{Act, Column, Entry, List, Name, OutOfMemory, Plain, Reply, Row, Set, Statement};
 use std::alloc::{AllocError, Global};
 

@@ -1,83 +1,14 @@
 // Why an act is refused: the machine's side of the definitions of the same names.
-ghost use Rattle.std.specs.Prelude.{◌≡◌, ◌<◌, ◌+◌, ◌^◌, length, option_and_then};
-ghost use Rattle.std.specs.Option.{option_copied};
+ghost use Rattle.std.specs.Prelude.{◌≡◌, ◌<◌, ◌+◌, ◌^◌, length};
 ghost use Rattle.std.specs.Ordering.{nat_cmp};
 ghost use Rattle.std.specs.List.{list_any};
 ghost use Rattle.ctr_model.specs.Maps.{without};
 ghost use Rattle.ctr_model.specs.State.{has_name};
-ghost use Rattle.ctr_model.specs.Refusals.{table_of, key_of, key_written, key_locked, creates, changes_schema, others, is_busy, has_lock, first_session, busy_by, locked_by, is_schema_change, is_create_of, is_write_of, is_touching, answered_since, last_with, schema_changed_by, row_changed_by};
+ghost use Rattle.ctr_model.specs.Refusals.{others, is_busy, has_lock, first_session, busy_by, locked_by, is_schema_change, is_create_of, is_write_of, is_touching, answered_since, last_with, schema_changed_by, row_changed_by};
 
 use ctr_model::{Change, Key, State, Transaction};
-use ctr_types::{Act, List, Name, Statement, Value};
-
-// The table of a statement.
-pub fn table_of(statement: &Statement) -> Option<&Name>
-    ensures { option_copied result ≡ table_of statement.now }
-{
-    match statement {
-        Statement::Begin | Statement::Commit | Statement::Rollback => None,
-        Statement::Create { table, .. } => Some(table),
-        Statement::DropTable { table } => Some(table),
-        Statement::Insert { table, .. } => Some(table),
-        Statement::Select { table, .. } => Some(table),
-        Statement::Update { table, .. } => Some(table),
-        Statement::Delete { table, .. } => Some(table),
-    }
-}
-
-// The key of a new row.
-pub fn key_of(values: &[Value]) -> i64
-    ensures { result ≡ key_of values.now }
-{
-    match values.first() {
-        Some(Value::Int(number)) => *number,
-        Some(Value::Chars(_)) => 0,
-        None => 0,
-    }
-}
-
-// The key of the row that a statement writes.
-fn key_written(statement: &Statement) -> Option<Key>
-    ensures { result ≡ key_written statement.now }
-{
-    match statement {
-        Statement::Insert { values, .. } => Some(Key::new(key_of(values.as_slice()))),
-        Statement::Update { at, .. } => Some(Key::new(at.key)),
-        Statement::Delete { at, .. } => Some(Key::new(at.key)),
-        Statement::Begin | Statement::Commit | Statement::Rollback => None,
-        Statement::Create { .. } => None,
-        Statement::DropTable { .. } => None,
-        Statement::Select { .. } => None,
-    }
-}
-
-// The key that an act of a statement locks.
-pub fn key_locked(act: &Act, statement: &Statement) -> Option<Key>
-    ensures { result ≡ key_locked act.now statement.now }
-{
-    match act {
-        Act::Lock => key_written(statement),
-        Act::Begin | Act::Read | Act::Write | Act::Ask | Act::Answer | Act::Rollback => None,
-        Act::Release { .. } => None,
-    }
-}
-
-pub fn creates(statement: &Statement) -> bool
-    ensures { result ≡ creates statement.now }
-{
-    matches!(statement, Statement::Create { .. })
-}
-
-pub fn changes_schema(statement: &Statement) -> bool
-    ensures { result ≡ changes_schema statement.now }
-{
-    matches!(
-        statement,
-        Statement::Create { .. } | Statement::DropTable { .. }
-    )
-}
-
-// ---- what others have done
+use ctr_statement::changes_schema;
+use ctr_types::{List, Name, Statement};
 
 pub fn has_name(name: &Name, names: &[Name]) -> bool
     ensures { result ≡ has_name name.now names.now }

@@ -6,11 +6,9 @@ ghost use Rattle.ctr_model.specs.State.{view};
 ghost use Rattle.ctr_model.specs.Refusals.{first_of, presence_refusals, name_refusals, value_refusals, key_refusals, refusal_of, write_refusal, columns_of, row_of, update_refusal, updated};
 ghost use Rattle.ctr_model.specs.Reply.{rows_in, rows_found, rows_read, refused_or, reply_inside, reply_outside, reply_to};
 
-use crate::refusals::{
-    busy_by, creates, key_locked, key_of, locked_by, row_changed_by, schema_changed_by, table_of,
-};
-use crate::values::{bad_value, updated};
+use crate::refusals::{busy_by, locked_by, row_changed_by, schema_changed_by};
 use ctr_model::{Key, Map, State, Table, Transaction};
+use ctr_statement::{bad_value, creates, key_locked, key_of, table_of, updated};
 use ctr_types::{
     Act, Column, Entry, KeyIs, List, Name, OutOfMemory, Plain, Refusal, Reply, Row, Rows, Set,
     Statement,

@@ -1,4 +1,3 @@
-use Rattle.std.proofs.Common.{◌<◌, ◌^◌, true}
 use Rattle.ctr_machine.proofs.Numbers.{comes-number}
 use Rattle.ctr_machine.proofs.follow.+is_legal.Goals as goal
 

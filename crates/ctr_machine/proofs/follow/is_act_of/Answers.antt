@@ -1,4 +1,4 @@
-use Rattle.std.proofs.Common.{◌≡◌, ◌+◌, ◌-◌, ℕ, arith, sym, ◌∙◌, ap}
+use Rattle.std.proofs.Common.{◌≡◌, ◌+◌, arith, ◌∙◌, ap}
 use Rattle.ctr_model.specs.Tape.{progress_of}
 use Rattle.ctr_model.specs.declared.tape.Progress.{Progress}
 use Rattle.ctr_machine.proofs.Answers.{if_ok_iff}

@@ -1,6 +1,6 @@
 use Rattle.std.proofs.Common.{◌≡◌, [], take, drop}
 use Rattle.ctr_model.specs.Refusals.{bad_set_after}
-use Rattle.ctr_machine.proofs.values.bad_set.Given as goal
+use Rattle.ctr_statement.proofs.values.bad_set.Given as goal
 
 -- what is left, behind those that are passed, tells what all tell
 abbrev pub invariant-loop-i : goal.invariant-loop-i

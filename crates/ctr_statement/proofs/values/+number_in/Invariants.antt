@@ -1,5 +1,5 @@
 use Rattle.std.proofs.Common.{length}
-use Rattle.ctr_machine.proofs.values.+number_in.Given as goal
+use Rattle.ctr_statement.proofs.values.+number_in.Given as goal
 
 abbrev pub decreases-number_in : goal.decreases-number_in
 decreases-number_in l = length l.columns.now

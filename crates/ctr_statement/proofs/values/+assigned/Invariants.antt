@@ -1,5 +1,5 @@
 use Rattle.std.proofs.Common.{length}
-use Rattle.ctr_machine.proofs.values.+assigned.Given as goal
+use Rattle.ctr_statement.proofs.values.+assigned.Given as goal
 
 abbrev pub decreases-assigned : goal.decreases-assigned
 decreases-assigned l = length l.sets.now

@@ -1,5 +1,5 @@
 use Rattle.std.proofs.Common.{length}
-use Rattle.ctr_machine.proofs.values.+kind_of.Given as goal
+use Rattle.ctr_statement.proofs.values.+kind_of.Given as goal
 
 abbrev pub decreases-kind_of : goal.decreases-kind_of
 decreases-kind_of l = length l.columns.now

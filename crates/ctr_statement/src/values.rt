@@ -1,4 +1,4 @@
-// Which values and assignments suit a table, and what an update makes of a row.
+// Which values and assignments suit a table, and what an update makes of a row: the definitions of the same names.
 ghost use Rattle.std.specs.Prelude.{◌≡◌, ◌<◌, ◌+◌, ◌^◌, [], length, IfOk, OnOk};
 ghost use Rattle.std.specs.Option.{option_map};
 ghost use Rattle.ctr_model.specs.Refusals.{fits, bad_from, is_first_column, kind_of, is_int, suits, bad_right_side, is_bad_set, is_assigned, bad_set_after, bad_where, bad_value, number_in, sum_of, right_side, with_value, assigned, updated};
@@ -125,7 +125,8 @@ fn bad_where(columns: &[Column], at: &KeyIs) -> Option<u64>
     }
 }
 
-// The position of the first bad value or assignment of a statement, or 0 for a bad WHERE.
+/// The position, from 1, of the first bad value or assignment of a statement on a table with these columns, or 0
+/// for a WHERE on another column than the first.
 pub fn bad_value(columns: &[Column], statement: &Statement) -> Option<u64>
     ensures { result ≡ bad_value columns.now statement.now }
 {
@@ -237,7 +238,7 @@ fn assigned(
     assigned(alloc, columns, old, sets, &values)
 }
 
-// The row that an update makes; none where a sum is out of range.
+/// The row that an update makes of a row; none where a sum isn't a whole number of 64 bits.
 pub fn updated(
     alloc: Global,
     columns: &[Column],

@@ -1,5 +1,5 @@
 use Rattle.std.proofs.Common.{length}
-use Rattle.ctr_machine.proofs.values.+bad_from.Given as goal
+use Rattle.ctr_statement.proofs.values.+bad_from.Given as goal
 
 abbrev pub decreases-bad_from : goal.decreases-bad_from
 decreases-bad_from l = length l.values.now
