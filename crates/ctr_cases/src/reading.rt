@@ -9,7 +9,7 @@ use std::alloc::Global;
 
 /// The tokens of a line, each after the place at which it begins, from 0; and the place at which none begins.
 pub fn put_tokens(alloc: Global, page: &mut Page, line: &[u8]) -> Result<(), OutOfMemory> {
-    let found = tokens(alloc, line)?;
+    let found = tokens(alloc, line, usize::MAX)?;
     for token in found.as_slice() {
         page.put_number(alloc, "", token.at as u64);
         page.put(b":");

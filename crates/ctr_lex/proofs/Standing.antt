@@ -1,11 +1,13 @@
 -- Which tokens of a line stand before others.
-use Rattle.std.proofs.Common.{◌≡◌, ◌⊎◌, ℕ, List, [], ◌∷◌, ◌++◌, ◌<◌, length, drop, length-drop, arith, refl, sym, ap, ◌∙◌, subst, inl, inr, append_assoc, append-nil}
+use Rattle.std.proofs.Common.{◌≡◌, ◌⊎◌, ℕ, List, [], ◌∷◌, ◌++◌, ◌<◌, length, take, drop, length-drop, arith, refl, sym, ap, ◌∙◌, subst, inl, inr, append_assoc, append-nil}
+use Rattle.std.proofs.lemmas.List.{length-map, take_all, take-append-le}
 use Rattle.std.specs.List.{AllByRecursion}
+use Rattle.ctr_lex.specs.declared.token.Token.{Token}
 use Rattle.ctr_model.specs.Grammar.{IsBlank, IsToken, IsLongest, Lexes}
 use Rattle.ctr_model.specs.Places.{NoneBegins, LexesTo, IsBadAt, IsTokenAt}
-use Rattle.ctr_lex.specs.Tokens.{StandInOrder}
+use Rattle.ctr_lex.specs.Tokens.{texts_of, StandInOrder}
 use Rattle.ctr_lex.proofs.Lexing.{Begins, token_begins, one_front, first_token, token_or_blanks}
-use Rattle.ctr_lex.proofs.Fronts.{bad_begins}
+use Rattle.ctr_lex.proofs.Fronts.{IsFront, bad_begins}
 
 -- the tokens that stand first are the same
 pub heads : (p q t u a b line : List ℕ) → line ≡ (p ++ t) ++ a → line ≡ (q ++ u) ++ b → AllByRecursion IsBlank p → AllByRecursion IsBlank q → IsToken t → IsToken u → IsLongest t a → IsLongest u b → (t ≡ u) × (a ≡ b)
@@ -76,3 +78,33 @@ tokens_ordered line ts us t u i j a b =
       | inl e ↦ inl (one_drop i j line a.inside b.inside (a.split ∙ e ∙ sym b.split))
       | inr other ↦ inr other
     ]
+
+-- ---- the first tokens
+
+-- where reading stops behind some tokens, those in front of any rest are the first of them
+begins_with : (q rest line : List ℕ) (ts us : List (List ℕ)) → LexesTo rest line ts → LexesTo q line us → Stops q → (more : List (List ℕ)) × (us ≡ ts ++ more)
+begins_with q rest line [] us w l stop = (us, refl)
+begins_with q rest line (s ∷ ts) [] w l stop = absurd (no_token_here q w.0 s w.1 line w.2 w.3 w.4 l.0 l.1 l.2 stop)
+begins_with q rest line (s ∷ ts) (u ∷ us) w l stop =
+    let same = heads w.0 l.0 s u w.1 l.1 line w.2 l.2 w.3 l.3 w.4 l.4 w.5 l.5 in
+    let more = begins_with q rest w.1 ts us w.6 (subst (λ (x : List ℕ). LexesTo q x us) (sym same.1) l.6) stop in
+    (more.0, ap (λ x. x ∷ us) (sym same.0) ∙ ap (λ xs. s ∷ xs) more.1)
+
+first_of : (n : ℕ) (ts us more : List (List ℕ)) → us ≡ ts ++ more → length ts ≡ n → ts ≡ take n us
+first_of n ts us more e long = sym (ap (take n) e ∙ take-append-le n ts more (omega (arith, long)) ∙ take_all n ts (omega (arith, long)))
+
+-- so many tokens that stand in front of a rest are the first of the line
+pub first_lexed : (line rest : List ℕ) (ts : List Token) (us : List (List ℕ)) (n : ℕ) → IsFront line ts rest → length ts ≡ n → Lexes line us → texts_of ts ≡ take n us
+first_lexed line rest ts us n front long lexes =
+    let more = begins_with [] rest line (texts_of ts) us front.lexes (to_end line us lexes) (inl refl) in
+    first_of n (texts_of ts) us more.0 more.1 (length-map ts (λ (t : Token). t.text.now) ∙ long)
+
+-- or the first before its bad byte
+pub first_before_bad : (line rest : List ℕ) (ts : List Token) (us : List (List ℕ)) (i n : ℕ) → IsFront line ts rest → length ts ≡ n → IsBadAt line us i → texts_of ts ≡ take n us
+first_before_bad line rest ts us i n front long bad =
+    let more = begins_with (drop i line) rest line (texts_of ts) us front.lexes bad.before (inr (bad_begins line us i bad, bad.none_begins)) in
+    first_of n (texts_of ts) us more.0 more.1 (length-map ts (λ (t : Token). t.text.now) ∙ long)
+
+-- all tokens, where they are fewer than so many, are the first so many
+pub first_all : (n : ℕ) (ts : List Token) (us : List (List ℕ)) → length ts < n → texts_of ts ≡ us → texts_of ts ≡ take n us
+first_all n ts us few e = e ∙ sym (take_all n us (omega (arith, few, ap length e, length-map ts (λ (t : Token). t.text.now))))

@@ -10,8 +10,10 @@ pub struct Token<'a> {
     pub at: usize,
 }
 
-/// The tokens of a line, in order, up to the first byte at which none begins. Where `bad` is none,
-/// the line is these tokens with blanks between; else that byte's index, from 0.
+/// The first tokens of a line, in order, as many as were asked for at most. Where they are fewer, they
+/// are all: where `bad` is none, the line is these tokens with blanks between; else it is the index,
+/// from 0, of the first byte at which none begins. Where they are so many, `bad` is none, and nothing
+/// is told of what follows.
 #[derive(Debug, Drop)]
 pub struct Tokens<'a> {
     pub items: List<Token<'a>>,

@@ -6,6 +6,7 @@ pub mod ReadColumns
 pub mod ReadStatements
 pub mod Again
 pub mod Lives
+pub mod Lengths
 pub mod PlaceLemmas
 pub mod OnePlace
 pub mod Numerals

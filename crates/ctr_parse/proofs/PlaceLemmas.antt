@@ -1,5 +1,6 @@
 -- Where reading stops is the place at which the bytes go wrong.
-use Rattle.std.proofs.Common.{◌≡◌, ◌⊎◌, inl, inr, ℕ, ◌+◌, ◌<◌, ◌^◌, List, [], ◌∷◌, ◌++◌, length, Option, Some, None, Err, MatchOption, refl, sym, ap, ◌∙◌, subst, arith, append_assoc, append-nil}
+use Rattle.std.proofs.Common.{◌≡◌, ◌⊎◌, inl, inr, ℕ, ◌+◌, ◌<◌, ◌≤◌, ◌^◌, List, [], ◌∷◌, ◌++◌, length, Option, Some, None, Err, MatchOption, refl, sym, ap, ◌∙◌, subst, arith, append_assoc, append-nil, length-append}
+use Rattle.std.proofs.lemmas.List.{length-map}
 use Rattle.ctr_types.specs.declared.statement.Line.{Line}
 use Rattle.ctr_types.specs.declared.statement.Statement.{Statement}
 use Rattle.ctr_lex.specs.declared.token.Token.{Token}
@@ -16,18 +17,21 @@ use Rattle.ctr_parse.proofs.Trees.{runs, Living, read_is, missing_is, wrong_is}
 use Rattle.ctr_parse.proofs.ReadStatements.{alone_was, line_was}
 use Rattle.ctr_parse.proofs.Again.{alone_goes, line_goes}
 use Rattle.ctr_parse.proofs.Lives.{alone_lives, line_lives}
+use Rattle.ctr_parse.proofs.Lengths.{few_alone, few_line}
 
--- a tree reads what is spelled, and nothing else
+-- a tree reads what is spelled, and nothing else; and this has no more tokens than a line
 pub record Decides {X : Type 0} (tree : Tree Line) (Spells : List (List ℕ) → X → Type 0) : Type 0 where
   pub lives : Living tree
   pub sound : (ts : List (List ℕ)) (l : Line) → runs tree ts ≡ Some l → (x : X) × Spells ts x
   pub complete : (ts : List (List ℕ)) (x : X) → Spells ts x → (l : Line) × (runs tree ts ≡ Some l)
+  pub few : (ts : List (List ℕ)) (x : X) → Spells ts x → length ts ≤ 57
 
 pub alone_decides : Decides alone SpellsStatement
 alone_decides = record {
   lives = alone_lives;
   sound = λ ts l e. (l.statement, (alone_was ts l e).0);
   complete = λ ts s is. (record { session = 1; statement = s }, alone_goes ts s is);
+  few = few_alone;
 }
 
 pub line_decides : Decides whole_line SpellsLine
@@ -35,6 +39,7 @@ line_decides = record {
   lives = line_lives;
   sound = λ ts l e. (l, line_was ts l e);
   complete = λ ts l is. (l, line_goes ts l is);
+  few = few_line;
 }
 
 none_some : {A : Type 0} (o : Option A) (a : A) → o ≡ None → o ≡ Some a → ⊥
@@ -78,12 +83,27 @@ read_says line ts s lexes e = (texts_of ts, lexes, (alone_was (texts_of ts) (rec
 pub line_says : (line : List ℕ) (ts : List Token) (l : Line) → Lexes line (texts_of ts) → outcome whole_line ts ≡ read l → Says SpellsLine line l
 line_says line ts l lexes e = (texts_of ts, lexes, line_was (texts_of ts) l (read_is whole_line ts l e))
 
+-- ---- one token more than a line has
+
+-- what is read has no more tokens than a line
+pub few_read : {X : Type 0} (tree : Tree Line) (Spells : List (List ℕ) → X → Type 0) → Decides tree Spells → (ts : List Token) (l : Line) → outcome tree ts ≡ read l → length ts < 58
+few_read tree Spells d ts l e =
+    let s = d.sound (texts_of ts) l (read_is tree ts l e) in
+    omega (arith, d.few (texts_of ts) s.0 s.1, length-map ts (λ (t : Token). t.text.now))
+
+-- so has what more tokens are missing behind
+few_missing : {X : Type 0} (tree : Tree Line) (Spells : List (List ℕ) → X → Type 0) → Decides tree Spells → (ts : List Token) → outcome tree ts ≡ missing → length ts < 58
+few_missing tree Spells d ts e =
+    let m = (missing_is tree ts d.lives e).1 in
+    let s = d.sound (texts_of ts ++ m.0) m.1 m.2 in
+    omega (arith, d.few (texts_of ts ++ m.0) s.0 s.1, length-append (texts_of ts) m.0, length-map ts (λ (t : Token). t.text.now))
+
 -- where reading stops, the bytes go wrong
 pub stopped : {X Y : Type 0} (tree : Tree Line) (Spells : List (List ℕ) → X → Type 0) → Decides tree Spells → (line : List ℕ) (ts : List Token) (bad : Option ℕ) → AreAt line ts
-    → MatchOption bad (Lexes line (texts_of ts)) (λ i. IsBadAt line (texts_of ts) i) → (go : Y → Outcome Line) (s : Stop) → Follows go (Err s) (outcome tree ts) → IsParsed {X = X} Spells line (Err (refusal_at s bad (length line)))
+    → (length ts < 58 → MatchOption bad (Lexes line (texts_of ts)) (λ i. IsBadAt line (texts_of ts) i)) → (go : Y → Outcome Line) (s : Stop) → Follows go (Err s) (outcome tree ts) → IsParsed {X = X} Spells line (Err (refusal_at s bad (length line)))
 stopped tree Spells d line ts bad at found go stop.OutOfMemory e = tt
 stopped tree Spells d line ts bad at found go (stop.Wrong i) e = wrong_goes tree Spells d line ts i at e
-stopped tree Spells d line ts bad at found go stop.Missing e = missing_goes tree Spells d line ts bad found e
+stopped tree Spells d line ts bad at found go stop.Missing e = missing_goes tree Spells d line ts bad (found (few_missing tree Spells d ts e)) e
 
 -- where it stops is inside the line
 pub near : {X Y : Type 0} (tree : Tree Line) (Spells : List (List ℕ) → X → Type 0) → Decides tree Spells → (line : List ℕ) (ts : List Token) → AreAt line ts → length line < 2 ^ 63

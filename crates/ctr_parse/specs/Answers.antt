@@ -31,3 +31,7 @@ abbrev pub refusal_at : Stop → Option ℕ → ℕ → ParseRefusal
 refusal_at stop.OutOfMemory bad length = refusal.OutOfMemory
 refusal_at (stop.Wrong i) bad length = refusal.ParseError (i + 1)
 refusal_at stop.Missing bad length = refusal.ParseError (end_of bad length + 1)
+
+-- the most tokens that a line has
+abbrev pub most_tokens : ℕ
+most_tokens = 57

@@ -9,6 +9,6 @@ mod statement;
 mod stop;
 mod word;
 
-pub use laws::{one_line, one_statement};
-pub use parse::{parse_line, parse_statement};
+pub use laws::{few_tokens, one_line, one_statement};
+pub use parse::{MOST_TOKENS, parse_line, parse_statement};
 pub use refusal::ParseRefusal;

@@ -1,13 +1,16 @@
 -- Scripts line by line: a line more, one script, one refusal.
-use Rattle.std.proofs.Common.{◌≡◌, ◌≢◌, ◌⊎◌, ℕ, ◌+◌, List, [], ◌∷◌, ◌++◌, length, take, drop, refl, sym, ap, ◌∙◌, subst, inl, inr, arith, append_assoc, append-nil, length-append, zero-add, false, Some, None}
+use Rattle.std.proofs.Common.{◌≡◌, ◌≢◌, ◌⊎◌, ℕ, ◌+◌, ◌<◌, ◌≤◌, List, [], ◌∷◌, ◌++◌, length, take, drop, refl, sym, ap, ◌∙◌, subst, inl, inr, arith, append_assoc, append-nil, length-append, zero-add, false, Option, Some, None, MatchOption}
 use Rattle.std.specs.Prelude.{◌==◌}
 use Rattle.std.specs.List.{AllByRecursion}
 use Rattle.std.proofs.lemmas.Bool.Decides.{nat_tests}
-use Rattle.std.proofs.lemmas.List.{append_cancel_right}
+use Rattle.std.proofs.lemmas.List.{append_cancel_right, take_all, length-map}
 use Rattle.ctr_types.specs.declared.statement.Line.{Line}
 use Rattle.ctr_types.specs.declared.statement.Statement.{Statement}
 use Rattle.ctr_types.specs.declared.statement.Statement.TheVariants as st
 use Rattle.ctr_model.specs.Grammar.{first, Lexes, AllMatch, line_parts, FormTakes, HasNoEnd, EndsLine, IsSkipped, IsLine, AreLines, IsScript, ends, skips, goes_on, NoLine, IsRefusedAt, line_ends}
+use Rattle.ctr_model.specs.Places.{IsBadAt}
+use Rattle.ctr_lex.specs.declared.token.Token.{Token}
+use Rattle.ctr_lex.specs.Tokens.{texts_of}
 use Rattle.ctr_parse.specs.Lines.{IsLineOf}
 use Rattle.ctr_script.specs.Added.{IsAdded, Adds, IsNone}
 
@@ -67,6 +70,9 @@ OneLexing = (line : List ℕ) (a b : List (List ℕ)) → Lexes line a → Lexes
 
 abbrev pub OneLine : Type 0
 OneLine = (texts : List (List ℕ)) (l m : Line) → IsLineOf texts l → IsLineOf texts m → l ≡ m
+
+abbrev pub FewTokens : Type 0
+FewTokens = (texts : List (List ℕ)) (l : Line) → IsLineOf texts l → length texts ≤ 57
 
 pub line_of : (line : List ℕ) (l : Line) (is : IsLine first line l) → IsLineOf is.tokens l
 line_of line l is = record { takes = is.takes; within = is.within; match = is.match }
@@ -220,6 +226,20 @@ pub none_of : (line : List ℕ) → (IsSkipped first line → ⊥) → ((l : Lin
 none_of line skip line_is (inl s) = skip s
 none_of line skip line_is (inr s) = line_is s.0 s.1
 
--- what the tokens aren't, the line isn't
-pub no_line_of_tokens : (line : List ℕ) (texts : List (List ℕ)) → ((us : List (List ℕ)) → Lexes line us → texts ≡ us) → ((l : Line) → IsLineOf texts l → ⊥) → (l : Line) → IsLine first line l → ⊥
-no_line_of_tokens line texts only none l is = none l (subst (λ ts. IsLineOf ts l) (sym (only is.tokens is.lexes)) (line_of line l is))
+-- where no bad byte stands behind them, fewer tokens than one more than a line has lex it
+few_lex : (line : List ℕ) (ts : List Token) (bad : Option ℕ) → bad ≡ None → (length ts < 58 → MatchOption bad (Lexes line (texts_of ts)) (λ i. IsBadAt line (texts_of ts) i)) → length (texts_of ts) ≤ 57 → Lexes line (texts_of ts)
+few_lex line ts bad none found few =
+    subst (λ o. MatchOption o (Lexes line (texts_of ts)) (λ i. IsBadAt line (texts_of ts) i)) none (found (omega (arith, few, length-map ts (λ (t : Token). t.text.now))))
+
+-- what the first tokens are, the line is
+pub line_of_tokens : (line : List ℕ) (ts slice : List Token) (bad : Option ℕ) (l : Line) → FewTokens → slice ≡ ts → bad ≡ None → (length ts < 58 → MatchOption bad (Lexes line (texts_of ts)) (λ i. IsBadAt line (texts_of ts) i))
+    → IsLineOf (texts_of slice) l → IsLine first line l
+line_of_tokens line ts slice bad l few same none found of_slice =
+    let is : IsLineOf (texts_of ts) l = subst (λ us. IsLineOf (texts_of us) l) same of_slice in
+    record { takes = is.takes; within = is.within; tokens = texts_of ts; lexes = few_lex line ts bad none found (few (texts_of ts) l is); match = is.match }
+
+-- what the first tokens aren't, the line isn't
+pub no_line_of_tokens : (line : List ℕ) (texts : List (List ℕ)) → FewTokens → ((us : List (List ℕ)) → Lexes line us → texts ≡ take 58 us) → ((l : Line) → IsLineOf texts l → ⊥) → (l : Line) → IsLine first line l → ⊥
+no_line_of_tokens line texts few only none l is =
+    let all : take 58 is.tokens ≡ is.tokens = take_all 58 is.tokens (omega (arith, few is.tokens l (line_of line l is))) in
+    none l (subst (λ ts. IsLineOf ts l) (sym (only is.tokens is.lexes ∙ all)) (line_of line l is))

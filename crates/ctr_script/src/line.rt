@@ -6,6 +6,7 @@ ghost use Rattle.ctr_parse.specs.declared.error.ParseError.TheVariants.{Refused}
 ghost use Rattle.ctr_script.specs.Added.{Adds, IsNone};
 
 use ctr_lex::tokens;
+use ctr_parse::language::{MOST_TOKENS, few_tokens};
 use ctr_parse::{ParseError, parse_line};
 use ctr_types::{Line, List};
 use std::alloc::Global;
@@ -22,7 +23,8 @@ fn statement_of(alloc: Global, line: &[u8]) -> Result<Line, ParseError>
     ensures found { IfOk result (λ l. IsLine first line.now l) }
     ensures refused { IfErr result (λ e. e ≡ Refused → (l : Line) → IsLine first line.now l → ⊥) }
 {
-    let Ok(tokens) = tokens(alloc, line) else {
+    few_tokens();
+    let Ok(tokens) = tokens(alloc, line, MOST_TOKENS + 1) else {
         return Err(ParseError::OutOfMemory);
     };
     if tokens.bad.is_some() {

@@ -1,5 +1,5 @@
 // Entries of a tape as text: `1.2 lock granted @2`, session and statement, act, reply, moment.
-use crate::sql::{read_name, read_statement};
+use crate::spelled::{behind, read_name, read_statement};
 use crate::trouble::Trouble;
 use crate::words::{last_word, number, split_at_byte, split_word};
 use ctr_types::{Act, Entry, List, Refusal, Reply, Row, Rows, Statement};
@@ -174,9 +174,7 @@ fn row_length(words: &[u8]) -> usize {
 
 // `(1, 'a')`
 fn read_row(alloc: Global, words: &[u8]) -> Result<Row, Trouble> {
-    let mut text = Vec::new(alloc);
-    text.extend_from_slice(b"INSERT INTO t VALUES ")?;
-    text.extend_from_slice(words)?;
+    let text = behind(alloc, "INSERT INTO t VALUES ", words)?;
     match read_statement(alloc, &text)? {
         Statement::Insert { values, .. } => Ok(Row { values }),
         _ => Err(Trouble::Spelling),

@@ -12,7 +12,7 @@ mod page;
 mod player;
 mod printed;
 mod run;
-mod sql;
+mod spelled;
 mod steps;
 mod trouble;
 mod words;

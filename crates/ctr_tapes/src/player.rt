@@ -7,7 +7,7 @@ use crate::machine::{put_replies, put_state, put_tables};
 use crate::page::Page;
 use crate::printed::shown;
 use crate::run::{Run, add, play_act, play_statement, release, statement_of};
-use crate::sql::{read_name, read_statement};
+use crate::spelled::{behind, read_name, read_statement};
 use crate::steps::{Step, has_words, step_of};
 use crate::trouble::Trouble;
 use crate::words::split_word;
@@ -30,14 +30,6 @@ pub struct Player {
     run: Run,
     /// Whether the run stands on the database. It does from the first entry on.
     begun: bool,
-}
-
-// A text with words before it.
-fn behind(alloc: Global, words: &str, rest: &[u8]) -> Result<Vec<u8>, Trouble> {
-    let mut text = Vec::new(alloc);
-    text.extend_from_slice(words.as_bytes())?;
-    text.extend_from_slice(rest)?;
-    Ok(text)
 }
 
 impl Player {

@@ -2,6 +2,7 @@
 ghost use Rattle.std.specs.Prelude.{◌≡◌};
 ghost use Rattle.ctr_tapes.specs.declared.trouble.Trouble.TheVariants.{OutOfMemory};
 
+use ctr_parse::language::ParseRefusal;
 use std::alloc::{AllocError, AllocFailed};
 
 /// Why a step can't be done.
@@ -51,5 +52,14 @@ impl<T: Drop> From<AllocFailed<T>> for Trouble {
 impl From<ctr_types::OutOfMemory> for Trouble {
     fn from(_: ctr_types::OutOfMemory) -> Trouble {
         Trouble::OutOfMemory
+    }
+}
+
+impl From<ParseRefusal> for Trouble {
+    fn from(refusal: ParseRefusal) -> Trouble {
+        match refusal {
+            ParseRefusal::OutOfMemory => Trouble::OutOfMemory,
+            ParseRefusal::ParseError { at: _ } => Trouble::Spelling,
+        }
     }
 }

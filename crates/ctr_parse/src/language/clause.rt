@@ -1,5 +1,5 @@
 // Parts of statements: WHERE, values and assignments.
-ghost use Rattle.std.specs.Prelude.{◌≡◌, ◌∷◌, ◌++◌, [], Bool, List, Option, Some, None, MatchOption, codes};
+ghost use Rattle.std.specs.Prelude.{◌≡◌, ◌∷◌, ◌++◌, [], Bool, List, Option, Some, None, IfOk, MatchOption, codes};
 ghost use Rattle.ctr_types.specs.declared.statement.Line.{Line};
 ghost use Rattle.ctr_types.specs.declared.statement.KeyIs.{KeyIs};
 ghost use Rattle.ctr_types.specs.declared.statement.Set.{Set};
@@ -13,7 +13,7 @@ use crate::language::word::{Right, comma_or_end, comma_or_where, literal_in, rig
 use crate::word::is_spelled;
 use ctr_lex::Token;
 use ctr_types::{KeyIs, List, Set, SetTo, Value};
-use std::alloc::Global;
+use std::alloc::{AllocError, Global};
 
 /// Behind WHERE: a column and its value.
 #[tactic(auto, unfolding(crate::specs::Trees::key_is_then))]
@@ -185,6 +185,20 @@ fn sets_from<'a>(
     sets_from(alloc, most - 1, sets, rest)
 }
 
+// Room for as many assignments as commas stand here, and one more. A list that grows by itself takes
+// room for eight at its fifth.
+fn room_for_sets(alloc: Global, tokens: &[Token<'_>]) -> Result<List<Set>, AllocError>
+    ensures { IfOk result (λ sets. sets ≡ []) }
+{
+    let mut room = 1;
+    for token in tokens {
+        if room < 8 && token.text == b",".as_slice() {
+            room += 1;
+        }
+    }
+    Ok(List::from_vec(Vec::with_capacity(alloc, room)?))
+}
+
 /// 1 to 8 assignments with commas between, and WHERE.
 pub fn sets<'a>(
     alloc: Global,
@@ -192,5 +206,5 @@ pub fn sets<'a>(
 ) -> Result<(List<Set>, &'a [Token<'a>]), Stop>
     ensures { (k : List Set → Tree Line) → Follows (λ x. outcome (k x.0) x.1.now) result (outcome (sets_then 7 [] k) tokens.now) }
 {
-    sets_from(alloc, 7, List::new(alloc), tokens)
+    sets_from(alloc, 7, room_for_sets(alloc, tokens)?, tokens)
 }

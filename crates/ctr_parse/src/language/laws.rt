@@ -1,9 +1,11 @@
 // What holds of the definitions, beside the program.
-ghost use Rattle.std.specs.Prelude.{◌≡◌, ◌⊎◌, ℕ, List};
+ghost use Rattle.std.specs.Prelude.{◌≡◌, ◌⊎◌, ◌≤◌, ℕ, List, length};
 ghost use Rattle.ctr_types.specs.declared.statement.Line.{Line};
 ghost use Rattle.ctr_types.specs.declared.statement.Statement.{Statement};
 ghost use Rattle.ctr_model.specs.Language.{SpellsStatement, SpellsLine};
 ghost use Rattle.ctr_model.specs.Places.{Says, GoesWrongAt};
+ghost use Rattle.ctr_parse.specs.Answers.{most_tokens};
+ghost use Rattle.ctr_parse.specs.Lines.{IsLineOf};
 
 use ctr_lex::{each_line_is_taken, one_bad_byte, one_lexing, tokens_stand};
 
@@ -32,3 +34,9 @@ pub fn one_line()
     one_bad_byte();
     tokens_stand();
 }
+
+/// No line has more than 57 tokens, also in the first form.
+pub fn few_tokens()
+    ensures whole { (tokens : List (List ℕ)) (l : Line) → SpellsLine tokens l → length tokens ≤ most_tokens }
+    ensures first_form { (tokens : List (List ℕ)) (l : Line) → IsLineOf tokens l → length tokens ≤ most_tokens }
+{}

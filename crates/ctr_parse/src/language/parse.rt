@@ -10,10 +10,14 @@ use ctr_lex::tokens;
 use ctr_types::{Line, Statement};
 use std::alloc::Global;
 
+/// The most tokens that a line has: those of an UPDATE of eight sums. Of one more, a token is wrong,
+/// so nothing behind them is read.
+pub const MOST_TOKENS: usize = 57;
+
 fn statement_of(alloc: Global, bytes: &[u8]) -> Result<Statement, ParseRefusal>
     ensures { IsParsed SpellsStatement bytes.now result }
 {
-    let Ok(tokens) = tokens(alloc, bytes) else {
+    let Ok(tokens) = tokens(alloc, bytes, MOST_TOKENS + 1) else {
         return Err(ParseRefusal::OutOfMemory);
     };
     match alone(alloc, tokens.as_slice()) {
@@ -39,7 +43,7 @@ pub fn parse_statement(alloc: Global, text: &str) -> Result<Statement, ParseRefu
 fn line_of(alloc: Global, bytes: &[u8]) -> Result<Line, ParseRefusal>
     ensures { IsParsed SpellsLine bytes.now result }
 {
-    let Ok(tokens) = tokens(alloc, bytes) else {
+    let Ok(tokens) = tokens(alloc, bytes, MOST_TOKENS + 1) else {
         return Err(ParseRefusal::OutOfMemory);
     };
     match line(alloc, tokens.as_slice()) {

@@ -1,9 +1,10 @@
-use Rattle.std.proofs.Common.{length}
+use Rattle.std.proofs.Common.{◌≤◌, length}
 use Rattle.ctr_lex.proofs.Fronts.{IsFront}
 use Rattle.ctr_lex.proofs.lex.tokens.Given as goal
 
-abbrev pub invariant-loop-from : goal.invariant-loop-from
-invariant-loop-from l = IsFront l.line l.items l.rest
+-- the tokens up to what is left are taken, and no more than so many
+abbrev pub invariant-loop-rest : goal.invariant-loop-rest
+invariant-loop-rest l = IsFront l.line l.items l.rest × (length l.items ≤ l.most)
 
-abbrev pub decreases-loop-from : goal.decreases-loop-from
-decreases-loop-from l = length l.rest
+abbrev pub decreases-loop-rest : goal.decreases-loop-rest
+decreases-loop-rest l = length l.rest
