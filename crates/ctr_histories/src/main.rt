@@ -2,6 +2,7 @@
 //! something else than was written down by hand.
 #![tactic(auto)]
 
+mod loads;
 mod player;
 mod steps;
 mod words;

@@ -1,13 +1,15 @@
 // Plays the lines of a suite.
+use crate::loads::{do_load, load_of};
 use crate::steps::{do_step, rows_of, sight_of, step_of, wanted};
 use crate::words::{number, split_word};
-use ctr_rows::Engine;
+use ctr_rows::{Engine, Loader};
 use std::alloc::Global;
 
 /// Where a suite stands.
 #[derive(Drop)]
 pub struct Player {
     alloc: Global,
+    loader: Option<Loader>,
     engine: Option<Engine>,
     cases: u64,
     seen: u64,
@@ -19,6 +21,7 @@ impl Player {
     pub fn new(alloc: Global) -> Player {
         Player {
             alloc,
+            loader: None,
             engine: None,
             cases: 0,
             seen: 0,
@@ -54,7 +57,20 @@ impl Player {
         Some(rows == number(count)?)
     }
 
+    // The engine is opened over what was loaded.
+    fn opens(&mut self) -> Option<()> {
+        let loader = self.loader.take()?;
+        self.engine = Some(loader.open(self.alloc));
+        Some(())
+    }
+
     fn does(&mut self, word: &[u8], rest: &[u8]) -> Option<()> {
+        if word == b"open".as_slice() {
+            return self.opens();
+        }
+        if let Some(load) = load_of(word) {
+            return do_load(self.alloc, self.loader.as_mut()?, load, rest);
+        }
         let engine = self.engine.as_mut()?;
         do_step(self.alloc, engine, step_of(word)?, rest)
     }
@@ -74,7 +90,14 @@ impl Player {
         }
         if word == b"case".as_slice() {
             self.cases = self.cases.saturating_add(1);
+            self.loader = None;
             self.engine = Engine::new(self.alloc).ok();
+            return;
+        }
+        if word == b"loading".as_slice() {
+            self.cases = self.cases.saturating_add(1);
+            self.loader = Loader::new(self.alloc).ok();
+            self.engine = None;
             return;
         }
         if word == b"sees".as_slice() {

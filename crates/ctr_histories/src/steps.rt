@@ -69,7 +69,7 @@ pub fn name_of(alloc: Global, word: &[u8]) -> Option<Name> {
     Name::new(Text::from_vec(bytes))
 }
 
-fn key_of(word: &[u8]) -> Option<Key> {
+pub fn key_of(word: &[u8]) -> Option<Key> {
     let key = number(word)?;
     if key < 1_000_000 {
         return Some(Key::new(key as i64));
@@ -82,7 +82,7 @@ fn table_of(engine: &Engine, s: u8, name: &Name) -> Option<u64> {
     Some(made.id)
 }
 
-fn row_of(alloc: Global, key: Key, value: i64) -> Option<Row> {
+pub fn row_of(alloc: Global, key: Key, value: i64) -> Option<Row> {
     let mut values = List::new(alloc);
     values.push(Value::Int(key.number())).ok()?;
     values.push(Value::Int(value)).ok()?;

@@ -5,9 +5,9 @@ use Rattle.std.proofs.lemmas.Bool.{false≢true, cases_eq}
 use Rattle.std.proofs.lemmas.List.{length_push}
 use Rattle.std.proofs.lemmas.Map.{update_here, update_apart}
 use Rattle.ctr_snap.specs.Seeing.{has}
-use Rattle.ctr_versions.specs.Xids.{Xids, minus, number_of, drawn, asked, aborted, AreSound}
+use Rattle.ctr_versions.specs.Xids.{Xids, minus, number_of, drawn, asked, aborted, settled, AreSound}
 use Rattle.ctr_versions.proofs.Chains.{with_number}
-use Rattle.ctr_versions.proofs.Xids.{drawn_numbers, drawn_sound, asked_numbers, asked_sound, aborted_numbers, aborted_sound, live_below}
+use Rattle.ctr_versions.proofs.Xids.{drawn_numbers, drawn_sound, asked_numbers, asked_sound, settled_numbers, settled_sound, aborted_numbers, aborted_sound, live_below}
 use Rattle.ctr_rows.specs.Numbered.{number_at, xids_kept, AreNumbered}
 use Rattle.ctr_rows.specs.declared.transactions.Transactions.TheInside.{Inside}
 
@@ -70,19 +70,30 @@ module _ (a b : Inside) (inv : AreNumbered a) where
     fewer_live : length b.live.items + 1 ≤ length a.live.items
     fewer_live = subst (λ xs. length xs + 1 ≤ length a.live.items) (sym live) (fewer x a.live.items is_live)
 
+    -- the same numbers but for one, which has this now
+    numbers_set : (k : ℕ) (y : ℕ) → number_at (slice_set a.numbers.items x (Some k)) y ≡ with_number (number_of (xids_kept a)) x k y
+    numbers_set k y = ⊎_elim
+        (λ here. ap (number_at (slice_set a.numbers.items x (Some k))) here ∙ number_here a.numbers.items x (Some k) (in_place a inv x is_live)
+        ∙ sym (ap (with_number (number_of (xids_kept a)) x k) here ∙ update_here (number_of (xids_kept a)) x (Some k)))
+        (λ apart. number_apart a.numbers.items x y (Some k) apart ∙ inv.numbers y ∙ sym (update_apart (number_of (xids_kept a)) x (Some k) y apart))
+        (cases_eq y x)
+
     pub asked_kept : b.numbers.items ≡ slice_set a.numbers.items x (Some (length a.commits.items + 1)) → xids_kept b ≡ asked x (xids_kept a)
         → vec_len b.commits ≡ vec_len a.commits + 1 → vec_capacity b.commits ≡ vec_capacity a.commits → vec_len b.aborted ≡ vec_len a.aborted → vec_capacity b.aborted ≡ vec_capacity a.aborted → AreNumbered b
     asked_kept numbers is one same kept spare = record {
       sound = subst AreSound (sym is) (asked_sound (xids_kept a) inv.sound x is_live);
-      numbers = λ y. ap (λ ks. number_at ks y) numbers
-          ∙ ⊎_elim
-          (λ here. ap (number_at (slice_set a.numbers.items x (Some (length a.commits.items + 1)))) here ∙ number_here a.numbers.items x (Some (length a.commits.items + 1)) (in_place a inv x is_live)
-          ∙ sym (ap (with_number (number_of (xids_kept a)) x (length a.commits.items + 1)) here ∙ update_here (number_of (xids_kept a)) x (Some (length a.commits.items + 1))))
-          (λ apart. number_apart a.numbers.items x y (Some (length a.commits.items + 1)) apart ∙ inv.numbers y ∙ sym (update_apart (number_of (xids_kept a)) x (Some (length a.commits.items + 1)) y apart))
-          (cases_eq y x)
-          ∙ sym (asked_numbers (xids_kept a) inv.sound x is_live y) ∙ ap (λ (xs : Xids). number_of xs y) (sym is);
+      numbers = λ y. ap (λ ks. number_at ks y) numbers ∙ numbers_set (length a.commits.items + 1) y ∙ sym (asked_numbers (xids_kept a) inv.sound x is_live y) ∙ ap (λ (xs : Xids). number_of xs y) (sym is);
       asks = omega (arith, one, same, fewer_live, inv.asks);
       aborts = omega (arith, kept, spare, fewer_live, inv.aborts);
+    }
+
+    pub settled_kept : b.numbers.items ≡ slice_set a.numbers.items x (Some 0) → xids_kept b ≡ settled x (xids_kept a)
+        → vec_len b.commits ≡ vec_len a.commits → vec_capacity b.commits ≡ vec_capacity a.commits → vec_len b.aborted ≡ vec_len a.aborted → vec_capacity b.aborted ≡ vec_capacity a.aborted → AreNumbered b
+    settled_kept numbers is same kept few spare = record {
+      sound = subst AreSound (sym is) (settled_sound (xids_kept a) inv.sound x is_live);
+      numbers = λ y. ap (λ ks. number_at ks y) numbers ∙ numbers_set 0 y ∙ sym (settled_numbers (xids_kept a) inv.sound x is_live y) ∙ ap (λ (xs : Xids). number_of xs y) (sym is);
+      asks = omega (arith, same, kept, fewer_live, inv.asks);
+      aborts = omega (arith, few, spare, fewer_live, inv.aborts);
     }
 
     pub aborted_kept : b.numbers.items ≡ a.numbers.items → xids_kept b ≡ aborted x (xids_kept a)

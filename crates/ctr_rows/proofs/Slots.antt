@@ -13,7 +13,7 @@ use Rattle.std.specs.BTreeMap.{BTreeMap, is_at, get_by, IsOrdered, UpdatesBy, Wr
 use Rattle.std.specs.FinMap.Entries.{find, is_sorted, below_all}
 use Rattle.ctr_versions.specs.Listing.{chain_at}
 use Rattle.ctr_versions.proofs.Versions.{both}
-use Rattle.ctr_rows.specs.Kept.{KeptChain, chains_of, HasRoomFor, ChainSet}
+use Rattle.ctr_rows.specs.Kept.{KeptChain, chains_of, HasRoomFor, KeysStay, ChainSet}
 
 pub there_is : {X : Type 0} (x : Option X) (v : X) → Some v ≡ x → IsSome x
 there_is x v is = subst IsSome is refl
@@ -59,6 +59,13 @@ module _ {K V : Type 0} (R : K → K → Ordering) where
     others = λ k apart. found_chain new k (get_by (R k) old) (sym (updates.2 k apart)) ∙ sym (found_chain old k (get_by (R k) old) refl);
     sorted = sorted_chains new.entries ordered;
   }
+
+  -- the other keys were left alone
+  pub others_updated : (held : List (K × KeptChain V)) (old new : BTreeMap K (KeptChain V)) (key : K) (w : Option (KeptChain V)) → old.entries ≡ held → UpdatesBy R (R key) old new w → KeysStay R key held new.entries
+  others_updated held old new key w view_is updates k apart = sym (lookup_is k new.entries) ∙ updates.2 k apart ∙ lookup_is k old.entries ∙ ap (find R k) view_is
+
+  pub others_through : (held : List (K × KeptChain V)) (old new : BTreeMap K (KeptChain V)) (key : K) (v w : KeptChain V) → old.entries ≡ held → Some v ≡ get_by (R key) old → WritesThrough R (R key) old w new → KeysStay R key held new.entries
+  others_through held old new key v w view_is found writes = others_updated held old new key (Some w) view_is (writes.3 (there_is _ v found))
 
   module _ (held : List (K × KeptChain V)) (old new : BTreeMap K (KeptChain V)) (view_is : old.entries ≡ held) (ordered : IsOrdered R old) (key : K) where
     private_set : (chain : List (ℕ × Option V)) → ChainSet R (chains_of old.entries) (chains_of new.entries) key chain → ChainSet R (chains_of held) (chains_of new.entries) key chain

@@ -14,10 +14,10 @@ use Rattle.ctr_types.specs.declared.value.Row.{Row}
 use Rattle.ctr_versions.specs.Listing.{chain_at}
 use Rattle.ctr_versions.specs.Versions.{Versions, slots_of, rows_of, is_slot, RowsSet}
 use Rattle.ctr_versions.proofs.Keys.{known}
-use Rattle.ctr_rows.specs.Kept.{KeptChain, chains_of, ChainSet, HasRoomFor}
-use Rattle.ctr_rows.specs.Stored.{HeldStore, held_store, versions_of, table_chains, IsStored, HasVersionRoom}
+use Rattle.ctr_rows.specs.Kept.{KeptChain, chains_of, ChainSet, HasRoomFor, KeysStay}
+use Rattle.ctr_rows.specs.Stored.{HeldStore, held_store, versions_of, table_chains, IsStored, HasVersionRoom, RoomsStay}
 use Rattle.ctr_rows.specs.declared.store.Store.TheInside.{Inside}
-use Rattle.ctr_rows.proofs.Slots.{there_is}
+use Rattle.ctr_rows.proofs.Slots.{there_is, some_is}
 
 abbrev pub Rows : Type 0
 Rows = List (ℤ × KeptChain Row)
@@ -97,6 +97,27 @@ module _ (h : HeldStore) (a : Inside) (view_is : held_store a ≡ h) (inv : IsSt
           ∙ sym (ap (λ j. rows_of old_versions j k) (eqb-true i id same) ∙ ap (chain_at int_cmp k) old_here))
           (λ apart_. ap (chain_at int_cmp k) (new_apart i apart_));
     }
+
+    -- the room of other rows is as it was
+    rooms_held : KeysStay int_cmp key v w → RoomsStay id key (held_store a) (held_store b)
+    rooms_held others i k apart room = known (i == id)
+        (λ same. let one = eqb-true i id same in
+        let rows_are : room.rows ≡ v = some_is room.rows v (sym room.there ∙ ap (λ j. find nat_cmp j a.tables.entries) one ∙ sym (looked_up id a.tables.entries) ∙ sym there) in
+        record {
+          made = room.made;
+          rows = w;
+          there = ap (λ j. find nat_cmp j new.entries) one ∙ sym (looked_up id new.entries) ∙ (writes.3 (there_is _ v there)).1;
+          room = record { kept = room.room.kept; there = others k (flipped key k (sym (ap (λ b. b && int_eq k key) same) ∙ apart)) ∙ ap (find int_cmp k) (sym rows_are) ∙ room.room.there; room = room.room.room };
+        })
+        (λ two. record {
+          made = room.made;
+          rows = room.rows;
+          there = sym (looked_up i new.entries) ∙ (writes.3 (there_is _ v there)).2 i (id_apart id i two) ∙ looked_up i a.tables.entries ∙ room.there;
+          room = room.room;
+        })
+
+    pub rooms_through : KeysStay int_cmp key v w → RoomsStay id key h (held_store b)
+    rooms_through others = subst (λ (g : HeldStore). RoomsStay id key g (held_store b)) view_is (rooms_held others)
 
     through : (f : List (ℕ × Option Row) → List (ℕ × Option Row)) → ChainSet int_cmp (chains_of v) (chains_of w) key (f (chain_at int_cmp key (chains_of v))) → RowsSet old_versions new_versions id key (f (rows_of old_versions id key))
     through f set = subst (RowsSet old_versions new_versions id key) (ap (λ s. f (chain_at int_cmp key s)) (sym old_here)) (rows_written (f (chain_at int_cmp key (chains_of v))) set)

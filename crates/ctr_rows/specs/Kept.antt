@@ -38,6 +38,11 @@ pub record HasRoomFor {K V : Type 0} (cmp : K → K → Ordering) (key : K)
   pub there : find cmp key es ≡ Some kept
   pub room : 0 < kept.room
 
+-- the other keys have the chains that they had, with their room
+abbrev pub KeysStay : {K V : Type 0} → (K → K → Ordering) → K → List (K × KeptChain V)
+    → List (K × KeptChain V) → Type 0
+KeysStay {K} cmp key old new = (k : K) → is_eq (cmp key k) ≡ false → find cmp k new ≡ find cmp k old
+
 -- the chains are in order and the old ones, but for the one of a key
 pub record ChainSet {K V : Type 0} (cmp : K → K → Ordering)
     (old new : List (K × List (ℕ × Option V))) (key : K) (chain : List (ℕ × Option V))

@@ -2,3 +2,4 @@ pub mod Kept
 pub mod Numbered
 pub mod Stored
 pub mod Running
+pub mod Loading

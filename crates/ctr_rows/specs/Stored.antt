@@ -1,12 +1,12 @@
 -- The tables that are kept in memory, and the versions that they stand for.
-use Rattle.std.specs.Prelude.{◌≡◌, ℕ, ◌<◌, ◌≤◌, ℤ, T, List, [], map, Option, Some, IfSome, is_some, true}
+use Rattle.std.specs.Prelude.{◌≡◌, ℕ, ◌<◌, ◌≤◌, ℤ, T, List, [], map, Option, Some, IfSome, is_some, true, false}
 use Rattle.std.specs.List.{AllByRecursion}
 use Rattle.std.specs.Ordering.{nat_cmp, int_cmp}
 use Rattle.std.specs.BTreeMap.{IsOrdered}
 use Rattle.std.specs.FinMap.Entries.{find, is_sorted}
 use Rattle.ctr_types.specs.declared.value.Row.{Row}
 use Rattle.ctr_model.specs.Database.{name_cmp}
-use Rattle.ctr_versions.specs.Versions.{Made, Versions, names_at, slots_of, rows_of}
+use Rattle.ctr_versions.specs.Versions.{Made, Versions, names_at, slots_of, rows_of, is_slot}
 use Rattle.ctr_rows.specs.Kept.{KeptChain, chains_of, HasRoomFor}
 use Rattle.ctr_rows.specs.declared.store.Store.TheInside.{Inside}
 
@@ -34,6 +34,11 @@ pub record HasVersionRoom (id : ℕ) (key : ℤ) (h : HeldStore) : Type 0 where
   pub rows : List (ℤ × KeptChain Row)
   pub there : find nat_cmp id h.tables ≡ Some rows
   pub room : HasRoomFor int_cmp key rows
+
+-- the room of other rows stays
+abbrev pub RoomsStay : ℕ → ℤ → HeldStore → HeldStore → Type 0
+RoomsStay id key old new = (i : ℕ) (k : ℤ) → is_slot id key i k ≡ false → HasVersionRoom i k old
+    → HasVersionRoom i k new
 
 -- the name has room for one version more, and there is a place for the rows of the next table
 pub record HasNameRoom (name : List ℕ) (h : HeldStore) : Type 0 where

@@ -5,7 +5,7 @@ ghost use Rattle.ctr_versions.specs.Changes.{write, revert, cut, without_tombsto
 ghost use Rattle.ctr_versions.specs.Listing.{chain_at, entries_seen};
 ghost use Rattle.ctr_versions.specs.Xids.{number_of, below_mark};
 ghost use Rattle.ctr_versions.specs.Engine.{session_sees};
-ghost use Rattle.ctr_rows.specs.Kept.{chains_of, value_list, HasRoomFor, ChainSet};
+ghost use Rattle.ctr_rows.specs.Kept.{chains_of, value_list, HasRoomFor, KeysStay, ChainSet};
 
 use crate::chain::Chain;
 use crate::session::Session;
@@ -51,6 +51,7 @@ impl<K: Ord, V> Chains<K, V> {
         V: Drop,
         ensures same { ChainSet K.cmp (chains_of self.old) (chains_of self.new) key (chain_at K.cmp key (chains_of self.old)) }
         ensures room { OnOk result (HasRoomFor K.cmp key self.new) }
+        ensures others { KeysStay K.cmp key self.old self.new }
     {
         if let Some(chain) = self.chains.get_mut(&key) {
             chain.make_room()?;
@@ -105,7 +106,8 @@ impl<K: Ord, V> Chains<K, V> {
     where
         V: Drop,
         requires { HasRoomFor K.cmp key.now self.old }
-        ensures { ChainSet K.cmp (chains_of self.old) (chains_of self.new) key.now (write (number_of xids.now) xid value (chain_at K.cmp key.now (chains_of self.old))) }
+        ensures set { ChainSet K.cmp (chains_of self.old) (chains_of self.new) key.now (write (number_of xids.now) xid value (chain_at K.cmp key.now (chains_of self.old))) }
+        ensures others { KeysStay K.cmp key.now self.old self.new }
     {
         let Some(chain) = self.chains.get_mut(key) else {
             return;

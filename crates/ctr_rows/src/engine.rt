@@ -12,7 +12,7 @@ ghost use Rattle.ctr_versions.specs.Engine.{SessionHeld, ShowsState};
 ghost use Rattle.ctr_versions.specs.Steps.{engine_begun, engine_drawn, engine_asked, engine_ended, engine_answered, engine_rolled_back};
 ghost use Rattle.ctr_versions.specs.Laws.{me_of, IsOpenWriter, SetsRow, SetsName, BeginKeeps, DrawKeeps, RowKeeps, NameKeeps, AskKeeps, AnswerKeeps, EndKeeps, RollbackKeeps, CleaningKeeps, RevertKeeps, RoomKeeps, NameRevertKeeps, DeadKeeps, sees_of, mark_of, sessions_named};
 ghost use Rattle.ctr_snap.specs.Seeing.{has, least};
-ghost use Rattle.ctr_rows.specs.Stored.{HasVersionRoom, HasNameRoom};
+ghost use Rattle.ctr_rows.specs.Stored.{versions_of, HasVersionRoom, RoomsStay, HasNameRoom};
 ghost use Rattle.ctr_rows.specs.Running.{engine_of};
 
 use crate::session::Session;
@@ -54,6 +54,18 @@ impl Engine {
             sessions: Map::new(alloc),
             answered: 0,
         })
+    }
+
+    /// Over these versions, with nobody in a transaction and nothing answered.
+    pub(crate) fn over(alloc: Global, xids: Transactions, store: Store) -> Engine
+        ensures { engine_of result ≡ record { xids = xids; versions = versions_of store; sessions = []; answered = 0 } }
+    {
+        Engine {
+            xids,
+            store,
+            sessions: Map::new(alloc),
+            answered: 0,
+        }
     }
 
     /// A session begins a transaction: its snapshot is of the commits that are answered.
@@ -108,6 +120,7 @@ impl Engine {
         requires { id < self.old.store.next }
         ensures leaves { SetsRow (engine_of self.old) (engine_of self.new) id key (rows_of (engine_of self.old).versions id key) }
         ensures room { OnOk result (HasVersionRoom id key self.new.store) }
+        ensures rooms { RoomsStay id key self.old.store self.new.store }
         ensures keeps { RoomKeeps (engine_of self.old) (engine_of self.new) }
     {
         self.store.make_row_room(alloc, id, key)?;
@@ -130,6 +143,7 @@ impl Engine {
         requires room { HasVersionRoom id key self.old.store }
         ensures leaves { SetsRow (engine_of self.old) (engine_of self.new) id key (write (number_of self.old.xids) (me_of s (engine_of self.old)) value (rows_of (engine_of self.old).versions id key)) }
         ensures keeps { RowKeeps s id key value (engine_of self.old) (engine_of self.new) }
+        ensures rooms { RoomsStay id key self.old.store self.new.store }
     {
         let me = self.me(s);
         self.store.write_row(id, key, &self.xids, me, value);

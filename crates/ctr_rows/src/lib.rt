@@ -4,6 +4,7 @@
 mod chain;
 mod chains;
 mod engine;
+mod loader;
 mod session;
 mod store;
 mod transactions;
@@ -11,6 +12,7 @@ mod transactions;
 pub use chain::{Chain, Version};
 pub use chains::Chains;
 pub use engine::Engine;
+pub use loader::Loader;
 pub use session::Session;
 pub use store::{Made, Store};
 pub use transactions::Transactions;

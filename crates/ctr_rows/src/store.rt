@@ -8,7 +8,7 @@ ghost use Rattle.ctr_versions.specs.Versions.{names_at, slots_of, rows_of, RowsS
 ghost use Rattle.ctr_versions.specs.Engine.{session_sees};
 ghost use Rattle.std.specs.Ordering.{nat_cmp};
 ghost use Rattle.std.specs.FinMap.Entries.{find};
-ghost use Rattle.ctr_rows.specs.Stored.{versions_of, HasVersionRoom, HasNameRoom};
+ghost use Rattle.ctr_rows.specs.Stored.{versions_of, HasVersionRoom, RoomsStay, HasNameRoom};
 
 use crate::chains::Chains;
 use crate::session::Session;
@@ -133,6 +133,7 @@ impl Store {
     )
         requires { HasVersionRoom id key self.old }
         ensures set { RowsSet (versions_of self.old) (versions_of self.new) id key (write (number_of xids.now) xid value (rows_of (versions_of self.old) id key)) }
+        ensures rooms { RoomsStay id key self.old self.new }
         ensures next { self.new.next ≡ self.old.next }
     {
         let Some(rows) = self.tables.get_mut(&id) else {
@@ -185,11 +186,20 @@ impl Store {
         rows.forget(&key);
     }
 
+    /// A name goes with all its versions.
+    pub fn forget_name(&mut self, name: &Name)
+        ensures set { NamesSet (versions_of self.old) (versions_of self.new) name.now [] }
+        ensures next { self.new.next ≡ self.old.next }
+    {
+        self.names.forget(name);
+    }
+
     /// Takes room for one version more of a key in a table that was made.
     pub fn make_row_room(&mut self, alloc: Global, id: u64, key: Key) -> Result<(), OutOfMemory>
         requires { id < self.old.next }
         ensures same { RowsSet (versions_of self.old) (versions_of self.new) id key (rows_of (versions_of self.old) id key) }
         ensures room { OnOk result (HasVersionRoom id key self.new) }
+        ensures rooms { RoomsStay id key self.old self.new }
         ensures next { self.new.next ≡ self.old.next }
     {
         let Some(rows) = self.tables.get_mut(&id) else {

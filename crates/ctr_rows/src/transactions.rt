@@ -1,7 +1,7 @@
 // The numbers of transactions, how each stands, and their commit numbers.
 ghost use Rattle.std.specs.Prelude.{◌≡◌, ◌<◌, ◌≤◌, true, vec_capacity, length, drop, [], IfOk, OnOk, OnErr};
 ghost use Rattle.ctr_snap.specs.Seeing.{has};
-ghost use Rattle.ctr_versions.specs.Xids.{number_of, fate_of, minus, drawn, asked, aborted, unanswered, below_mark};
+ghost use Rattle.ctr_versions.specs.Xids.{number_of, fate_of, minus, drawn, asked, aborted, settled, unanswered, below_mark};
 ghost use Rattle.ctr_rows.specs.Numbered.{number_at};
 
 use ctr_snap::has;
@@ -9,8 +9,8 @@ use ctr_types::{Fate, OutOfMemory, Xid};
 use std::alloc::Global;
 use std::marker::Model;
 
-/// The transactions of a run. Each look-up takes the same time, whatever was drawn; at most eight are
-/// open at a time.
+/// The transactions of a run. A number is looked up in the same time, whatever was drawn; how one stands
+/// that isn't committed, in time that grows with those that are open.
 #[derive(Debug, Drop)]
 pub struct Transactions {
     // the commit number of each that was drawn, by its number; 0 is never drawn
@@ -133,6 +133,15 @@ impl Transactions {
     {
         take_out(&mut self.live, xid);
         self.aborted.push_reserved(xid);
+    }
+
+    /// An open one counts as committed before the run. It takes no memory.
+    pub fn settle(&mut self, xid: Xid)
+        requires { has xid self.old.live ≡ true }
+        ensures { self.new ≡ settled xid self.old }
+    {
+        self.numbers[xid as usize] = Some(0);
+        take_out(&mut self.live, xid);
     }
 
     /// Those that are open, or asked and aren't answered, where so many commits are answered.

@@ -148,6 +148,10 @@ freed_alone number low old is_old y none ((x, None) ∷ vs) all = ap (λ b. cond
 -- ---- what stands in a chain was there before
 
 module _ {V : Type 0} (P : ℕ × Option V → Type 0) where
+  pub write_all : (number : Numbers) (x : ℕ) (v : Option V) (chain : List (ℕ × Option V)) → P (x, v) → AllByRecursion P chain → AllByRecursion P (write number x v chain)
+  write_all number x v [] here all = (here, tt)
+  write_all number x v (h ∷ rest) here all = elim (is_some (number h.0)) as (λ b. AllByRecursion P (cond b ((x, v) ∷ h ∷ rest) ((x, v) ∷ rest))) [ true ↦ (here, all) | false ↦ (here, all.1) ]
+
   pub revert_all : (number : Numbers) (chain : List (ℕ × Option V)) → AllByRecursion P chain → AllByRecursion P (revert number chain)
   revert_all number [] all = tt
   revert_all number (h ∷ rest) all = elim (is_some (number h.0)) as (λ b. AllByRecursion P (cond b (h ∷ rest) rest)) [ true ↦ all | false ↦ all.1 ]

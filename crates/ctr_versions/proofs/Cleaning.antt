@@ -1,28 +1,27 @@
 -- The steps of the cleaner, and those that make or drop a table, keep the invariant.
 use Rattle.std.proofs.Common.{◌≡◌, ℕ, ◌≤◌, ◌<◌, ◌==◌, ℤ, Bool, true, false, cond, List, [], ◌∷◌, ◌++◌, Option, Some, None, sym, ◌∙◌, ap, subst}
-use Rattle.std.specs.Prelude.{is_some, nat_lt}
+use Rattle.std.specs.Prelude.{nat_lt}
 use Rattle.std.specs.List.{AllByRecursion}
 use Rattle.std.specs.Ordering.{nat_cmp}
-use Rattle.std.specs.FinMap.Entries.{find}
+use Rattle.std.specs.FinMap.Entries.{find, put}
 use Rattle.std.proofs.lemmas.Bool.{ne_eqb, ltb-true, and_parts}
 use Rattle.ctr_types.specs.declared.value.Row.{Row}
 use Rattle.ctr_model.specs.declared.state.State.{State}
 use Rattle.ctr_model.specs.declared.state.Transaction.{Transaction}
-use Rattle.ctr_model.specs.Database.{name_cmp}
 use Rattle.ctr_model.specs.State.{with_transaction}
-use Rattle.ctr_versions.specs.Chains.{Numbers, value_seen, by, written_by, Behind}
+use Rattle.ctr_versions.specs.Chains.{value_seen, by, written_by, Behind}
 use Rattle.ctr_versions.specs.Xids.{below_mark, Xids, place_from, has_committed, number_of, IsSnapshotOf}
 use Rattle.ctr_snap.specs.Seeing.{SnapshotTaken, AreFrom, named}
 use Rattle.ctr_versions.specs.Changes.{write, revert, cut, without_tombstone, IsOld}
-use Rattle.ctr_versions.specs.Listing.{chain_at}
 use Rattle.ctr_versions.specs.Versions.{name_written, Made, Versions, names_at, rows_of, VersionsStand, RowsSet, NamesSet}
-use Rattle.ctr_versions.specs.Engine.{SessionHeld, EngineHeld, IsDrawn, IsCalm, ShowsSession, ShowsState}
+use Rattle.ctr_versions.specs.Engine.{SessionHeld, EngineHeld, IsBy, AreBy, IsDrawn, IsSeenIfOld, IsCalm, ShowsSession, ShowsState}
 use Rattle.ctr_versions.proofs.Xids.{low_number}
-use Rattle.ctr_versions.proofs.Changes.{cut_written, freed_written, revert_others, cut_alone, freed_alone, revert_all, cut_all, freed_all}
+use Rattle.ctr_versions.proofs.Changes.{write_all, cut_written, freed_written, revert_others, cut_alone, freed_alone, revert_all, cut_all, freed_all}
 use Rattle.ctr_versions.proofs.Engine.{raised_stands}
-use Rattle.ctr_versions.proofs.Written.{slot, set_wrote, revert_stands, cut_stands, freed_stands}
-use Rattle.ctr_versions.proofs.Catalog.{one_name, same_rows, names_stand, names_wrote, names_others}
-use Rattle.ctr_versions.proofs.Steps.{inside_same, not_mine, open_none}
+use Rattle.ctr_versions.proofs.By.{rows_by, names_by}
+use Rattle.ctr_versions.proofs.Written.{set_wrote, revert_stands, cut_stands, freed_stands}
+use Rattle.ctr_versions.proofs.Catalog.{names_stand, names_wrote, names_others}
+use Rattle.ctr_versions.proofs.Steps.{set_versions, same_session, inside_same, not_mine, not_old, open_none}
 
 -- ---- the low mark
 
@@ -49,7 +48,7 @@ raise_step low higher engine state le lowest each shows = record {
   lowest = lowest;
   stands = raised_stands low higher (number_of engine.xids) state engine.versions le shows.stands;
   drawn = shows.drawn;
-  inside = λ s t at. let old = shows.inside s t at in (old.0, old.1, record { snapshot = old.2.snapshot; from = each s t at; to = old.2.to; wrote = old.2.wrote; live = old.2.live; asked = old.2.asked });
+  inside = λ s t at. let old = shows.inside s t at in (old.0, old.1, record { snapshot = old.2.snapshot; old = old.2.old; from = each s t at; to = old.2.to; wrote = old.2.wrote; live = old.2.live; asked = old.2.asked });
   below = shows.below;
   apart = shows.apart;
 }
@@ -57,51 +56,33 @@ raise_step low higher engine state le lowest each shows = record {
 -- ---- the cleaner
 
 module _ (low : ℕ) (engine : EngineHeld) (state : State) (shows : ShowsState low engine state) (new : Versions) (id : ℕ) (key : ℤ) where
-  -- a chain gives way to one that shows the same, to the sessions too
-  pub clean_step : (chain : List (ℕ × Option Row)) → RowsSet engine.versions new id key chain → VersionsStand low (number_of engine.xids) state.base state.asked new → AllByRecursion (IsDrawn engine.xids.next) chain
+  -- a chain gives way to one that shows the same, to the sessions too, and has no version that wasn't there
+  pub clean_step : (chain : List (ℕ × Option Row)) → RowsSet engine.versions new id key chain → VersionsStand low (number_of engine.xids) state.base state.asked new → ((P : ℕ → Type 0) → AllByRecursion (IsBy P) (rows_of engine.versions id key) → AllByRecursion (IsBy P) chain)
       → ((s : ℕ) (session : SessionHeld) → find nat_cmp s engine.sessions ≡ Some session → number_of engine.xids session.me ≡ None → written_by session.me chain ≡ written_by session.me (rows_of engine.versions id key))
       → ((s : ℕ) (session : SessionHeld) → find nat_cmp s engine.sessions ≡ Some session → number_of engine.xids session.me ≡ None → AllByRecursion (λ (v : ℕ × Option Row). v.0 ≡ session.me) (rows_of engine.versions id key) → rows_of engine.versions id key ≡ chain)
       → ShowsState low (record engine { versions = new }) state
-  clean_step chain set stands all same alone = record {
-    sound = shows.sound;
-    counted = shows.counted;
-    same_answered = shows.same_answered;
-    answered = shows.answered;
-    lowest = shows.lowest;
-    stands = stands;
-    drawn = record {
-      names = λ name. subst (λ ns. AllByRecursion (IsDrawn engine.xids.next) (chain_at name_cmp name ns)) (sym set.names) (shows.drawn.names name);
-      rows = λ i k. slot low (number_of engine.xids) state engine.versions new id key chain set (λ c. AllByRecursion (IsDrawn engine.xids.next) c) i k (λ one two. all) (λ other. shows.drawn.rows i k);
-    };
-    inside = λ s t at. let old = shows.inside s t at in (
-      old.0,
-      old.1,
-      record {
-        snapshot = old.2.snapshot;
-        from = old.2.from;
-        to = old.2.to;
-        wrote = λ quiet. let wrote = old.2.wrote quiet in
-            set_wrote low (number_of engine.xids) state engine.versions new id key chain set old.0.me t.snapshot t.own wrote (same s old.0 old.1 wrote.is_open)
-            (λ name made is one. alone s old.0 old.1 wrote.is_open (subst (λ i. AllByRecursion (λ (v : ℕ × Option Row). v.0 ≡ old.0.me) (rows_of engine.versions i key)) one ((wrote.created name made key is).0)));
-        live = old.2.live;
-        asked = old.2.asked;
-      },
-    );
-    below = shows.below;
-    apart = shows.apart;
-  }
+  clean_step chain set stands fewer same alone =
+      let kept : (P : ℕ → Type 0) → AreBy P engine.versions → AreBy P new = λ P are. rows_by P engine.versions new id key chain set (fewer P (are.rows id key)) are in
+      set_versions low engine state shows new state.sessions stands (kept (IsDrawn engine.xids.next) shows.drawn)
+      (λ s t at. let old = shows.inside s t at in (
+        old.0,
+        old.1,
+        same_session low state.answered engine.xids engine.versions new old.0 t (kept (IsSeenIfOld engine.xids old.0.snapshot) old.2.old)
+            (λ calm wrote. set_wrote low (number_of engine.xids) state engine.versions new id key chain set old.0.me t.snapshot t.own wrote (same s old.0 old.1 wrote.is_open)
+            (λ name made is one. alone s old.0 old.1 wrote.is_open (subst (λ i. AllByRecursion (λ (v : ℕ × Option Row). v.0 ≡ old.0.me) (rows_of engine.versions i key)) one ((wrote.created name made key is).0)))) old.2,
+      ))
 
   -- what stands behind a version that everyone sees is cut off
   pub cut_step : (passes : ℕ → Bool) → IsOld (number_of engine.xids) low passes → RowsSet engine.versions new id key (cut passes (rows_of engine.versions id key)) → ShowsState low (record engine { versions = new }) state
   cut_step passes is_old set = clean_step (cut passes (rows_of engine.versions id key)) set (cut_stands low (number_of engine.xids) state engine.versions new id key shows.stands passes is_old set)
-      (cut_all (IsDrawn engine.xids.next) passes (rows_of engine.versions id key) (shows.drawn.rows id key))
+      (λ P all. cut_all (IsBy P) passes (rows_of engine.versions id key) all)
       (λ s session at none. cut_written (number_of engine.xids) low passes is_old session.me (rows_of engine.versions id key))
       (λ s session at none all. sym (cut_alone (number_of engine.xids) low passes is_old session.me none (rows_of engine.versions id key) all))
 
   -- a tombstone that everyone sees is taken away
   pub free_step : (passes : ℕ → Bool) → IsOld (number_of engine.xids) low passes → RowsSet engine.versions new id key (without_tombstone passes (rows_of engine.versions id key)) → ShowsState low (record engine { versions = new }) state
   free_step passes is_old set = clean_step (without_tombstone passes (rows_of engine.versions id key)) set (freed_stands low (number_of engine.xids) state engine.versions new id key shows.stands passes is_old set)
-      (freed_all (IsDrawn engine.xids.next) passes (rows_of engine.versions id key) (shows.drawn.rows id key))
+      (λ P all. freed_all (IsBy P) passes (rows_of engine.versions id key) all)
       (λ s session at none. freed_written (number_of engine.xids) low passes is_old session.me none (rows_of engine.versions id key))
       (λ s session at none all. sym (freed_alone (number_of engine.xids) low passes is_old session.me none (rows_of engine.versions id key) all))
 
@@ -114,7 +95,7 @@ module _ (low : ℕ) (engine : EngineHeld) (state : State) (shows : ShowsState l
       let unwritten : (s : ℕ) (session : SessionHeld) → find nat_cmp s engine.sessions ≡ Some session → written_by session.me (rows_of engine.versions id key) ≡ None
       = λ s session at. ap (written_by session.me) is ∙ ap (λ b. cond b (Some h.1) None) (ne_eqb session.me h.0 (free s session at)) in
       clean_step (revert number (rows_of engine.versions id key)) set (revert_stands low number state engine.versions new id key shows.stands set)
-      (revert_all (IsDrawn engine.xids.next) number (rows_of engine.versions id key) (shows.drawn.rows id key))
+      (λ P all. revert_all (IsBy P) number (rows_of engine.versions id key) all)
       (λ s session at none. revert_others number session.me (rows_of engine.versions id key) none behind (unwritten s session at) ∙ sym (unwritten s session at))
       (λ s session at none all. absurd (free s session at (sym ((subst (λ c. AllByRecursion (λ (v : ℕ × Option Row). v.0 ≡ session.me) c) is all).0))))
 
@@ -122,10 +103,6 @@ module _ (low : ℕ) (engine : EngineHeld) (state : State) (shows : ShowsState l
 
 module _ (low : ℕ) (engine : EngineHeld) (state : State) (s : ℕ) (session : SessionHeld) (t : Transaction) (shows : ShowsState low engine state) (at_s : find nat_cmp s engine.sessions ≡ Some session)
     (theirs : ShowsSession low state.answered engine.xids engine.versions session t) (unasked : t.asked ≡ None) (positive : 0 < session.me) where
-  write_all : (P : ℕ × Option Made → Type 0) (number : Numbers) (x : ℕ) (v : Option Made) (chain : List (ℕ × Option Made)) → P (x, v) → AllByRecursion P chain → AllByRecursion P (write number x v chain)
-  write_all P number x v [] here all = (here, tt)
-  write_all P number x v (h ∷ rest) here all = elim (is_some (number h.0)) as (λ b. AllByRecursion P (cond b ((x, v) ∷ h ∷ rest) ((x, v) ∷ rest))) [ true ↦ (here, all) | false ↦ (here, all.1) ]
-
   -- v is the table that is made, or none where it is dropped; nobody else has made or dropped one of the name
   pub name_step : (new : Versions) (name : List ℕ) (v : Option Made) → NamesSet engine.versions new name (write (number_of engine.xids) session.me v (names_at engine.versions name))
       → ((made : Made) (key : ℤ) → v ≡ Some made → rows_of engine.versions made.id key ≡ []) → ((made : Made) (j : ℕ) → v ≡ Some made → value_seen (by (number_of engine.xids) j) (names_at engine.versions name) ≡ Some made → ⊥)
@@ -134,35 +111,23 @@ module _ (low : ℕ) (engine : EngineHeld) (state : State) (s : ℕ) (session : 
   name_step new name v set empty unseen free =
       let number = number_of engine.xids in
       let none = open_none low engine state s session t shows at_s theirs unasked positive in
-      let mine : ShowsSession low state.answered engine.xids new session (record t { own = t.own ++ name_written name v ∷ [] }) = record {
+      let chain = write number session.me v (names_at engine.versions name) in
+      let written : Transaction = record t { own = t.own ++ name_written name v ∷ [] } in
+      let kept : (P : ℕ → Type 0) → P session.me → AreBy P engine.versions → AreBy P new = λ P here are. names_by P engine.versions new name chain set (write_all (IsBy P) number session.me v (names_at engine.versions name) here (are.names name)) are in
+      let seen : (snapshot : SnapshotTaken) → AreBy (IsSeenIfOld engine.xids snapshot) engine.versions → AreBy (IsSeenIfOld engine.xids snapshot) new
+      = λ snapshot all. kept (IsSeenIfOld engine.xids snapshot) (not_old low engine state s session t shows at_s theirs unasked positive snapshot) all in
+      let mine : ShowsSession low state.answered engine.xids new session written = record {
         snapshot = theirs.snapshot;
+        old = seen session.snapshot theirs.old;
         from = theirs.from;
         to = theirs.to;
         wrote = λ unasked. names_wrote low number state engine.versions new name session.me v none set t.snapshot t.own (theirs.wrote unasked) empty unseen;
         live = theirs.live;
         asked = theirs.asked;
       } in
-      record {
-        sound = shows.sound;
-        counted = shows.counted;
-        same_answered = shows.same_answered;
-        answered = shows.answered;
-        lowest = shows.lowest;
-        stands = names_stand low number state engine.versions new name session.me v none set shows.stands;
-        drawn = record {
-          names = λ other. one_name low number state engine.versions new name session.me v none set (λ m c. AllByRecursion (IsDrawn engine.xids.next) c) other
-              (write_all (IsDrawn engine.xids.next) number session.me v (names_at engine.versions name) (positive, shows.below s session at_s) (shows.drawn.names name)) (λ is. shows.drawn.names other);
-          rows = λ i k. subst (λ c. AllByRecursion (IsDrawn engine.xids.next) c) (sym (same_rows low number state engine.versions new name session.me v none set i k)) (shows.drawn.rows i k);
-        };
-        inside = inside_same low low state.answered state.answered engine.xids engine.xids engine.versions new state.sessions engine.sessions s shows.inside
-            (λ r u b apart at_r at_b other. record {
-              snapshot = other.snapshot;
-              from = other.from;
-              to = other.to;
-              wrote = λ quiet. names_others low number state engine.versions new name session.me v none set b.me u.snapshot u.own (not_mine low engine state s session t shows at_s theirs unasked positive r b apart at_b) (free r u b apart at_r at_b quiet) (other.wrote quiet);
-              live = other.live;
-              asked = other.asked;
-            }) (record t { own = t.own ++ name_written name v ∷ [] }) session at_s mine;
-        below = shows.below;
-        apart = shows.apart;
-      }
+      set_versions low engine state shows new (put nat_cmp s written state.sessions) (names_stand low number state engine.versions new name session.me v none set shows.stands)
+      (kept (IsDrawn engine.xids.next) (positive, shows.below s session at_s) shows.drawn)
+      (inside_same low low state.answered state.answered engine.xids engine.xids engine.versions new state.sessions engine.sessions s shows.inside
+      (λ r u b apart at_r at_b other. same_session low state.answered engine.xids engine.versions new b u (seen b.snapshot other.old)
+      (λ calm wrote. names_others low number state engine.versions new name session.me v none set b.me u.snapshot u.own (not_mine low engine state s session t shows at_s theirs unasked positive r b apart at_b) (free r u b apart at_r at_b calm) wrote) other)
+      written session at_s mine)

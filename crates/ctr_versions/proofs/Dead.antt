@@ -19,11 +19,13 @@ use Rattle.ctr_versions.specs.Listing.{chain_at}
 use Rattle.ctr_versions.specs.Changes.{revert, cut, without_tombstone, IsOld}
 use Rattle.ctr_versions.specs.Versions.{Made, Versions, names_at, rows_of, schemas, IsTableAt, IsTableSince, VersionsStand, ByX, Wrote, NamesSet, RowsSet}
 use Rattle.ctr_versions.specs.Xids.{number_of}
-use Rattle.ctr_versions.specs.Engine.{IsCalm, SessionHeld, EngineHeld, IsDrawn, ShowsState}
+use Rattle.ctr_versions.specs.Engine.{IsCalm, SessionHeld, EngineHeld, IsBy, AreBy, IsDrawn, IsSeenIfOld, ShowsState}
 use Rattle.ctr_versions.proofs.Versions.{behind_schemas}
 use Rattle.ctr_versions.proofs.Keys.{known, same_text}
 use Rattle.ctr_versions.proofs.Chains.{narrowed}
 use Rattle.ctr_versions.proofs.Changes.{seen_old, revert_shows, cut_seen, cut_shows, freed_shows, cut_written, freed_written, revert_others, revert_all, cut_all, freed_all}
+use Rattle.ctr_versions.proofs.By.{names_by}
+use Rattle.ctr_versions.proofs.Steps.{set_versions, same_session}
 use Rattle.ctr_versions.proofs.Written.{slot, same_names}
 
 -- ---- the chain of a name gives way to one that shows the same
@@ -169,51 +171,33 @@ module _ (low : ℕ) (engine : EngineHeld) (state : State) (shows : ShowsState l
   abbrev names : List (ℕ × Option Made)
   names = names_at engine.versions name
 
-  pub kept_step : (chain : List (ℕ × Option Made)) → NamesSet engine.versions new name chain → VersionsStand low number state.base state.asked new → AllByRecursion (IsDrawn engine.xids.next) chain → ((j : ℕ) → low ≤ j → value_seen (by number j) chain ≡ value_seen (by number j) names)
+  pub kept_step : (chain : List (ℕ × Option Made)) → NamesSet engine.versions new name chain → VersionsStand low number state.base state.asked new → ((P : ℕ → Type 0) → AllByRecursion (IsBy P) names → AllByRecursion (IsBy P) chain) → ((j : ℕ) → low ≤ j → value_seen (by number j) chain ≡ value_seen (by number j) names)
       → ((s : ℕ) (t : Transaction) (session : SessionHeld) → find nat_cmp s state.sessions ≡ Some t → find nat_cmp s engine.sessions ≡ Some session → IsCalm session t → number session.me ≡ None → written_by session.me chain ≡ written_by session.me names)
       → ((made : Made) (j : ℕ) → value_seen (by number j) chain ≡ Some made → value_seen (by number j) names ≡ Some made) → ShowsState low (record engine { versions = new }) state
-  kept_step chain set stands all same heads fewer = record {
-    sound = shows.sound;
-    counted = shows.counted;
-    same_answered = shows.same_answered;
-    answered = shows.answered;
-    lowest = shows.lowest;
-    stands = stands;
-    drawn = record {
-      names = λ other. kept_name low number state engine.versions new name chain set (λ m c. AllByRecursion (IsDrawn engine.xids.next) c) other all (λ is. shows.drawn.names other);
-      rows = λ i k. subst (λ c. AllByRecursion (IsDrawn engine.xids.next) c) (sym (kept_rows low number state engine.versions new name chain set i k)) (shows.drawn.rows i k);
-    };
-    inside = λ s t at. let old = shows.inside s t at in (
-      old.0,
-      old.1,
-      record {
-        snapshot = old.2.snapshot;
-        from = old.2.from;
-        to = old.2.to;
-        wrote = λ quiet. let wrote = old.2.wrote quiet in
-            let head = heads s t old.0 at old.1 quiet wrote.is_open in
+  kept_step chain set stands none_new same heads fewer =
+      let kept : (P : ℕ → Type 0) → AreBy P engine.versions → AreBy P new = λ P are. names_by P engine.versions new name chain set (none_new P (are.names name)) are in
+      set_versions low engine state shows new state.sessions stands (kept (IsDrawn engine.xids.next) shows.drawn)
+      (λ s t at. let old = shows.inside s t at in (
+        old.0,
+        old.1,
+        same_session low state.answered engine.xids engine.versions new old.0 t (kept (IsSeenIfOld engine.xids old.0.snapshot) old.2.old)
+            (λ calm wrote. let head = heads s t old.0 at old.1 calm wrote.is_open in
             kept_wrote low number state engine.versions new name chain set same old.0.me t.snapshot t.own old.2.from
-            (written_schemas old.0.me chain ∙ ap (λ w. option_map (λ (o : Option Made). option_map (λ (m : Made). m.schema) o) w) head ∙ sym (written_schemas old.0.me names)) head fewer wrote;
-        live = old.2.live;
-        asked = old.2.asked;
-      },
-    );
-    below = shows.below;
-    apart = shows.apart;
-  }
+            (written_schemas old.0.me chain ∙ ap (λ w. option_map (λ (o : Option Made). option_map (λ (m : Made). m.schema) o) w) head ∙ sym (written_schemas old.0.me names)) head fewer wrote) old.2,
+      ))
 
   pub name_cut_step : (passes : ℕ → Bool) → IsOld number low passes → NamesSet engine.versions new name (cut passes names) → ShowsState low (record engine { versions = new }) state
-  name_cut_step passes is_old set = kept_step (cut passes names) set (names_cut low number state engine.versions new name shows.stands passes is_old set) (cut_all (IsDrawn engine.xids.next) passes names (shows.drawn.names name))
+  name_cut_step passes is_old set = kept_step (cut passes names) set (names_cut low number state engine.versions new name shows.stands passes is_old set) (λ P all. cut_all (IsBy P) passes names all)
       (λ j le. cut_seen number low passes is_old j le names) (λ s t session at_t at calm none. cut_written number low passes is_old session.me names) (λ made j is. cut_fewer (by number j) passes names made is)
 
   pub name_free_step : (passes : ℕ → Bool) → IsOld number low passes → NamesSet engine.versions new name (without_tombstone passes names) → ShowsState low (record engine { versions = new }) state
   name_free_step passes is_old set = kept_step (without_tombstone passes names) set (names_freed low number state engine.versions new name shows.stands passes is_old (λ j le. freed_seen number low passes is_old j le names) set)
-      (freed_all (IsDrawn engine.xids.next) passes names (shows.drawn.names name))
+      (λ P all. freed_all (IsBy P) passes names all)
       (λ j le. freed_seen number low passes is_old j le names) (λ s t session at_t at calm none. freed_written number low passes is_old session.me none names) (λ made j is. freed_fewer (by number j) passes names made is)
 
   -- a head of a transaction that isn't committed and is no session's, as recovery undoes it
   pub name_revert_step : ((s : ℕ) (t : Transaction) (session : SessionHeld) → find nat_cmp s state.sessions ≡ Some t → find nat_cmp s engine.sessions ≡ Some session → IsCalm session t → number session.me ≡ None → written_by session.me names ≡ None) → NamesSet engine.versions new name (revert number names) → ShowsState low (record engine { versions = new }) state
-  name_revert_step free set = kept_step (revert number names) set (names_reverted low number state engine.versions new name shows.stands set) (revert_all (IsDrawn engine.xids.next) number names (shows.drawn.names name))
+  name_revert_step free set = kept_step (revert number names) set (names_reverted low number state engine.versions new name shows.stands set) (λ P all. revert_all (IsBy P) number names all)
       (λ j le. revert_seen number j names)
       (λ s t session at_t at calm none. revert_others number session.me names none (behind_schemas number names (shows.stands.tables name).behind) (free s t session at_t at calm none) ∙ sym (free s t session at_t at calm none))
       (λ made j is. sym (revert_seen number j names) ∙ is)
@@ -226,5 +210,5 @@ alone_none y (h ∷ rest) none all = absurd (true≢false (sym (ap (λ b. is_som
 pub dead_step : (low : ℕ) (engine : EngineHeld) (state : State) (shows : ShowsState low engine state) (new : Versions) (id : ℕ) (key : ℤ) → RowsSet engine.versions new id key []
     → ((name : List ℕ) (made : Made) (j : ℕ) → made.id ≡ id → low ≤ j → value_seen (by (number_of engine.xids) j) (names_at engine.versions name) ≡ Some made → ⊥)
     → ((s : ℕ) (session : SessionHeld) → find nat_cmp s engine.sessions ≡ Some session → number_of engine.xids session.me ≡ None → written_by session.me (rows_of engine.versions id key) ≡ None) → ShowsState low (record engine { versions = new }) state
-dead_step low engine state shows new id key set dead unwritten = clean_step low engine state shows new id key [] set (dead_stands low (number_of engine.xids) state engine.versions new id key set shows.stands dead) tt
+dead_step low engine state shows new id key set dead unwritten = clean_step low engine state shows new id key [] set (dead_stands low (number_of engine.xids) state engine.versions new id key set shows.stands dead) (λ P all. tt)
     (λ s session at none. sym (unwritten s session at none)) (λ s session at none all. alone_none session.me (rows_of engine.versions id key) (unwritten s session at none) all)

@@ -1,9 +1,9 @@
 -- What the invariant gives, and what keeps it.
 use Rattle.std.proofs.Common.{◌≡◌, ℕ, zero, suc, ◌≤◌, ◌<◌, ◌==◌, cond, List, [], ◌∷◌, Option, Some, None, refl, sym, ◌∙◌, ap, subst, arith}
-use Rattle.std.specs.Prelude.{is_some, ◌||◌}
+use Rattle.std.specs.Prelude.{is_some, unwrap_or, ◌||◌}
 use Rattle.std.specs.Option.{option_or, option_map}
 use Rattle.std.specs.List.{AllByRecursion}
-use Rattle.std.proofs.lemmas.Bool.{false≢true, ne_eqb, le-leb}
+use Rattle.std.proofs.lemmas.Bool.{false≢true, ne_eqb, le-leb, and_from}
 use Rattle.ctr_types.specs.declared.value.Row.{Row}
 use Rattle.ctr_types.specs.declared.value.Schema.{Schema}
 use Rattle.ctr_model.specs.declared.database.Change.{Change}
@@ -12,22 +12,42 @@ use Rattle.ctr_model.specs.declared.state.Transaction.{Transaction}
 use Rattle.ctr_model.specs.Database.{table_at}
 use Rattle.ctr_model.specs.State.{rows_at, view}
 use Rattle.ctr_model.specs.Refusals.{row_of}
-use Rattle.ctr_versions.specs.Chains.{Numbers, is_by, by, above, value_at_number, changed_since, written_by, ShowsKey}
+use Rattle.ctr_versions.specs.Chains.{Numbers, value_seen, is_by, by, by_or_own, above, value_at_number, changed_since, written_by, ShowsKey}
 use Rattle.ctr_versions.specs.Keys.{schema_writes, row_writes, schema_named}
-use Rattle.ctr_versions.specs.Xids.{number_of}
+use Rattle.ctr_snap.specs.Seeing.{sees}
+use Rattle.ctr_versions.specs.Xids.{Xids, fate_of, has_committed, number_of, is_before, IsSnapshotOf}
 use Rattle.ctr_versions.specs.Versions.{Made, Versions, names_at, rows_of, schemas, database_seen, IsTableAt, IsTableSince, IsFrom, VersionsStand, Wrote, IsOrdered}
-use Rattle.ctr_versions.specs.Engine.{SessionHeld, EngineHeld, session_sees, IsDrawn, AreDrawn, IsCalm, ShowsSession, ShowsState}
-use Rattle.ctr_versions.proofs.Chains.{narrowed, not_above}
+use Rattle.ctr_versions.specs.Engine.{SessionHeld, EngineHeld, session_sees, IsBy, AreBy, IsDrawn, IsSeenIfOld, IsCalm, ShowsSession, ShowsState}
+use Rattle.ctr_versions.proofs.Chains.{narrowed, not_above, seen_alike}
+use Rattle.ctr_versions.proofs.By.{all_mapped_by}
+use Rattle.ctr_versions.proofs.Xids.{sees_is, number_committed}
 use Rattle.ctr_versions.proofs.Versions.{world_shows, view_shown}
 
 -- ---- reading
+
+-- a session's own test is that of its number and its own, on those by which versions are
+module _ (xids : Xids) (session : SessionHeld) (n : ℕ) (is : IsSnapshotOf xids session.snapshot n) where
+  sees_alike : (x : ℕ) (o : Option ℕ) → number_of xids x ≡ o → IsSeenIfOld xids session.snapshot x → sees session.snapshot (fate_of xids x) x ≡ by (number_of xids) n x
+  sees_alike x None at old = is.sees_by x (λ e. false≢true (ap is_some (sym at ∙ e)))
+  sees_alike x (Some zero) at old =
+      sees_is xids session.snapshot x ∙ and_from (has_committed xids x) (is_before session.snapshot x) (number_committed xids x 0 at) (old at)
+      ∙ sym (ap (is_by n) at ∙ le-leb 0 n (omega arith))
+  sees_alike x (Some (suc k)) at old = is.sees_by x (λ e. later k (ap (λ o. unwrap_or o 0) (sym at ∙ e)))
+    where
+      later : (k : ℕ) → suc k ≡ 0 → ⊥
+      later k same = omega (arith, same)
+
+  session_alike : {V : Type 0} (chain : List (ℕ × Option V)) → AllByRecursion (IsBy (IsSeenIfOld xids session.snapshot)) chain → value_seen (session_sees xids session) chain ≡ value_seen (by_or_own (number_of xids) n session.me) chain
+  session_alike chain old = seen_alike (by_or_own (number_of xids) n session.me) (session_sees xids session) chain
+      (all_mapped_by (IsSeenIfOld xids session.snapshot) (λ x. session_sees xids session x ≡ by_or_own (number_of xids) n session.me x) (λ x before. ap (λ b. (x == session.me) || b) (sees_alike x (number_of xids x) refl before)) chain old)
 
 -- a session's own test shows its view
 pub session_shows : (low : ℕ) (engine : EngineHeld) (state : State) (session : SessionHeld) (t : Transaction) → IsOrdered state.base → ShowsState low engine state
     → ShowsSession low state.answered engine.xids engine.versions session t → IsCalm session t → database_seen (session_sees engine.xids session) engine.versions ≡ view state t
 session_shows low engine state session t ordered shows mine unasked =
-    (λ i. database_seen (λ x. (x == session.me) || mine.snapshot.sees_by x i) engine.versions)
-    ∙ view_shown low (number_of engine.xids) state engine.versions ordered shows.stands session.me t.snapshot t.own mine.from (mine.wrote unasked)
+    view_shown low (number_of engine.xids) state engine.versions ordered shows.stands session.me t.snapshot t.own mine.from (mine.wrote unasked) (session_sees engine.xids session)
+    (λ name. session_alike engine.xids session t.snapshot mine.snapshot (names_at engine.versions name) (mine.old.names name))
+    (λ id key. session_alike engine.xids session t.snapshot mine.snapshot (rows_of engine.versions id key) (mine.old.rows id key))
 
 -- what recovery or a report reads: the rows of all that asked, or of those that are answered
 pub engine_shows : (low : ℕ) (engine : EngineHeld) (state : State) (j : ℕ) → IsOrdered state.base → ShowsState low engine state → low ≤ j → database_seen (by (number_of engine.xids) j) engine.versions ≡ rows_at state j
@@ -59,16 +79,16 @@ raised_stands low higher number state versions le stands = record {
 
 -- ---- a transaction that has written nothing
 
-undrawn : {V : Type 0} (next x : ℕ) (chain : List (ℕ × Option V)) → ((0 < x) → (x < next) → ⊥) → AllByRecursion (IsDrawn next) chain → written_by x chain ≡ None
+undrawn : {V : Type 0} (next x : ℕ) (chain : List (ℕ × Option V)) → ((0 < x) → (x < next) → ⊥) → AllByRecursion (IsBy (IsDrawn next)) chain → written_by x chain ≡ None
 undrawn next x [] out all = refl
 undrawn next x (v ∷ vs) out all = ap (λ b. cond b (Some v.1) None) (ne_eqb x v.0 (λ same. out (subst (λ z. 0 < z) (sym same) all.0.0) (subst (λ z. z < next) (sym same) all.0.1)))
 
-undrawn_schemas : (next x : ℕ) (chain : List (ℕ × Option Made)) → ((0 < x) → (x < next) → ⊥) → AllByRecursion (IsDrawn next) chain → written_by x (schemas chain) ≡ None
+undrawn_schemas : (next x : ℕ) (chain : List (ℕ × Option Made)) → ((0 < x) → (x < next) → ⊥) → AllByRecursion (IsBy (IsDrawn next)) chain → written_by x (schemas chain) ≡ None
 undrawn_schemas next x [] out all = refl
 undrawn_schemas next x (v ∷ vs) out all = ap (λ b. cond b (Some (option_map (λ (m : Made). m.schema) v.1)) None) (ne_eqb x v.0 (λ same. out (subst (λ z. 0 < z) (sym same) all.0.0) (subst (λ z. z < next) (sym same) all.0.1)))
 
 -- one that has no number, or the next
-pub nothing_wrote : (number : Numbers) (versions : Versions) (next x n : ℕ) → number x ≡ None → ((0 < x) → (x < next) → ⊥) → AreDrawn next versions → Wrote number versions x n []
+pub nothing_wrote : (number : Numbers) (versions : Versions) (next x n : ℕ) → number x ≡ None → ((0 < x) → (x < next) → ⊥) → AreBy (IsDrawn next) versions → Wrote number versions x n []
 nothing_wrote number versions next x n none out all = record {
   is_open = none;
   tables = λ name. undrawn_schemas next x (names_at versions name) out (all.names name);

@@ -67,7 +67,7 @@ schema_in_table name table f db keeps =
           (λ no_. ap (λ b. option_map (λ (t : Table). t.schema) (cond b (Some (f t)) (table_at db name))) no_)
     ] refl
 
-schema_step : (name : List ℕ) (c : Change) (db : Database) → schema_named (changed c db) name ≡ unwrap_or (schema_change name c) (schema_named db name)
+pub schema_step : (name : List ℕ) (c : Change) (db : Database) → schema_named (changed c db) name ≡ unwrap_or (schema_change name c) (schema_named db name)
 schema_step name (change.Put table k row) db = schema_in_table name table (with_row k row) db (λ t. refl)
 schema_step name (change.Remove table k) db = schema_in_table name table (without_row k) db (λ t. refl)
 schema_step name (change.Create table schema) db =
@@ -130,7 +130,7 @@ remove_row key k t v is =
     ∙ ap (λ o. cond (not (int_eq k key)) o None) is
     ∙ elim (int_eq k key) as (λ b. cond (not b) v None ≡ cond b None v) [ true ↦ refl | false ↦ refl ]
 
-row_step : (name : List ℕ) (key : ℤ) (c : Change) (db : Database) (v : Option Row) → HasRow db name key v → HasRow (changed c db) name key (unwrap_or (row_change name key c) v)
+pub row_step : (name : List ℕ) (key : ℤ) (c : Change) (db : Database) (v : Option Row) → HasRow db name key v → HasRow (changed c db) name key (unwrap_or (row_change name key c) v)
 row_step name key (change.Put table k row) db v has = row_in_table name table key (with_row k row) db v _ has
     (λ yes_ t is. one_row (same_name table name) (int_eq k key) v (Some row) _ yes_ (put_row key k row t v is)) (λ no_. other_row (same_name table name) (int_eq k key) v (Some row) no_)
 row_step name key (change.Remove table k) db v has = row_in_table name table key (without_row k) db v _ has

@@ -7,6 +7,7 @@ pub mod Asked
 pub mod Conflicts
 pub mod Changes
 pub mod Written
+pub mod By
 pub mod Catalog
 pub mod Engine
 pub mod Steps
@@ -16,4 +17,7 @@ pub mod Opened
 pub mod Dead
 pub mod Reading
 pub mod Marks
+pub mod Loading
+pub mod Forgetting
+pub mod Heads
 pub mod Kept

@@ -1,25 +1,21 @@
 -- Versions as they stand at open, with nothing asked yet: the base is what they show.
-use Rattle.std.proofs.Common.{◌≡◌, ◌⊎◌, ⊎_elim, inl, inr, ℕ, zero, suc, ℤ, true, false, cond, List, [], ◌∷◌, length, Option, Some, None, refl, sym, ◌∙◌, ap, subst, arith}
-use Rattle.std.specs.Prelude.{unwrap_or, is_some, T}
-use Rattle.std.specs.Option.{option_or, option_map}
+use Rattle.std.proofs.Common.{◌≡◌, ◌⊎◌, ⊎_elim, inl, inr, ℕ, zero, suc, ℤ, true, false, cond, List, [], ◌∷◌, length, Option, Some, None, refl, sym, ◌∙◌, ap, arith}
+use Rattle.std.specs.Prelude.{is_some, T}
+use Rattle.std.specs.Option.{option_or}
 use Rattle.std.specs.Ordering.{nat_cmp, int_cmp}
-use Rattle.std.specs.Cmp.{int_cmp_total}
-use Rattle.std.specs.Cmp.Lexicographic.{nat_list_cmp_total}
 use Rattle.std.specs.FinMap.Entries.{find, is_sorted}
 use Rattle.std.proofs.lemmas.Bool.{false≢true, le-leb}
-use Rattle.ctr_model.specs.declared.database.Table.{Table}
 use Rattle.ctr_model.specs.Database.{Database, name_cmp, table_at}
 use Rattle.ctr_model.specs.Refusals.{row_of}
 use Rattle.ctr_versions.specs.Chains.{Numbers, value_seen, is_by, by, newest, above, newest_since, Behind, value_at_number, ShowsKey}
 use Rattle.ctr_versions.specs.Keys.{schema_named}
 use Rattle.ctr_versions.specs.Xids.{Xids, place_from, has_committed, number_of, AreSound}
-use Rattle.ctr_versions.specs.Engine.{AreDrawn, ShowsState}
+use Rattle.ctr_versions.specs.Engine.{AreBy, IsDrawn, ShowsState}
 use Rattle.ctr_model.specs.State.{at_rest}
-use Rattle.ctr_versions.specs.Listing.{entries_seen}
-use Rattle.ctr_versions.specs.Versions.{Made, Versions, names_at, slots_of, rows_of, schemas, table_seen, database_seen, IsTableAt, IsTableSince, IsFrom, VersionsStand, IsOrdered}
+use Rattle.ctr_versions.specs.Versions.{Made, Versions, names_at, slots_of, rows_of, schemas, database_seen, IsTableAt, IsTableSince, IsFrom, VersionsStand}
 use Rattle.ctr_versions.proofs.Chains.{not_above}
-use Rattle.ctr_versions.proofs.Versions.{seen-map, sorted-map, find-map}
-use Rattle.ctr_versions.proofs.Listing.{find-shown, is_sorted-shown}
+use Rattle.ctr_versions.proofs.Versions.{seen-map}
+use Rattle.ctr_versions.proofs.Reading.{schema_read, key_read}
 use Rattle.ctr_versions.proofs.Asked.{seen_tests}
 use Rattle.ctr_versions.proofs.Engine.{none_since}
 
@@ -63,39 +59,15 @@ module _ (number : Numbers) (opened : IsOpened number) where
     abbrev pub opened_base : Database
     opened_base = database_seen (by number 0) versions
 
-    table_is : (name : List ℕ) → table_at opened_base name ≡ option_map (table_seen (by number 0) versions) (value_seen (by number 0) (names_at versions name))
-    table_is name = find-map (table_seen (by number 0) versions) name (entries_seen (by number 0) versions.names) ∙ ap (option_map (table_seen (by number 0) versions)) (find-shown name_cmp nat_list_cmp_total (by number 0) name versions.names sorted)
-
-    schema_is : (name : List ℕ) → value_seen (by number 0) (schemas (names_at versions name)) ≡ schema_named opened_base name
-    schema_is name =
-        seen-map (λ (m : Made). m.schema) (by number 0) (names_at versions name)
-        ∙ elim (value_seen (by number 0) (names_at versions name)) as (λ o. option_map (λ (m : Made). m.schema) o ≡ option_map (λ (t : Table). t.schema) (option_map (table_seen (by number 0) versions) o)) [ Some m ↦ refl | None ↦ refl ]
-        ∙ sym (ap (λ (o : Option Table). option_map (λ (t : Table). t.schema) o) (table_is name))
-
-    row_is : (name : List ℕ) (made : Made) (key : ℤ) → value_seen (by number 0) (names_at versions name) ≡ Some made → value_seen (by number 0) (rows_of versions made.id key) ≡ row_of (table_at opened_base name) key
-    row_is name made key at =
-        sym (find-shown int_cmp int_cmp_total (by number 0) key (slots_of versions made.id) (slots_sorted made.id))
-        ∙ sym (ap (λ o. row_of o key) (table_is name ∙ ap (option_map (table_seen (by number 0) versions)) at))
-
     -- the versions stand for what they show
     pub opened_stands : VersionsStand 0 number opened_base [] versions
     opened_stands = record {
       sorted = sorted;
       slots_sorted = slots_sorted;
-      tables = λ name. opened_shows (IsFrom 0) (IsFrom 0) (schema_named opened_base name) (schemas (names_at versions name)) (names_behind name) (λ j here. schema_is name);
+      tables = λ name. opened_shows (IsFrom 0) (IsFrom 0) (schema_named opened_base name) (schemas (names_at versions name)) (names_behind name) (λ j here. seen-map (λ (m : Made). m.schema) (by number 0) (names_at versions name) ∙ schema_read (by number 0) versions name sorted);
       rows = λ name made key. opened_shows (IsTableAt 0 number versions name made) (IsTableSince 0 number versions name made) (row_of (table_at opened_base name) key) (rows_of versions made.id key) (rows_behind made.id key)
-          (λ j here. row_is name made key (sym (seen_tests (by number 0) (by number j) (names_at versions name) (same_by j)) ∙ here.1));
+          (λ j here. key_read (by number 0) versions name made key sorted (slots_sorted made.id) (sym (seen_tests (by number 0) (by number j) (names_at versions name) (same_by j)) ∙ here.1));
     }
-
-    pub opened_ordered : IsOrdered opened_base
-    opened_ordered = record {
-      names = sorted-map (table_seen (by number 0) versions) (entries_seen (by number 0) versions.names) (is_sorted-shown name_cmp (by number 0) versions.names sorted);
-      rows = λ name t at. rows_ordered name t (value_seen (by number 0) (names_at versions name)) (sym (table_is name) ∙ at);
-    }
-      where
-        rows_ordered : (name : List ℕ) (t : Table) (o : Option Made) → option_map (table_seen (by number 0) versions) o ≡ Some t → T (is_sorted int_cmp t.rows)
-        rows_ordered name t None e = absurd (false≢true (ap is_some e))
-        rows_ordered name t (Some made) e = subst (λ (u : Table). T (is_sorted int_cmp u.rows)) (ap (λ (o : Option Table). unwrap_or o t) e) (is_sorted-shown int_cmp (by number 0) (slots_of versions made.id) (slots_sorted made.id))
 
 -- ---- the invariant at open
 
@@ -104,7 +76,7 @@ none_found s x e = false≢true (ap is_some e)
 
 -- Nobody is in a transaction yet, and what stands open in the tables of transactions is no session's.
 pub opened_state : (xids : Xids) (versions : Versions) (stuck : List (List ℕ)) → AreSound xids → xids.commits ≡ [] → T (is_sorted name_cmp versions.names) → ((id : ℕ) → T (is_sorted int_cmp (slots_of versions id)))
-    → ((name : List ℕ) → Behind (number_of xids) (schemas (names_at versions name))) → ((id : ℕ) (key : ℤ) → Behind (number_of xids) (rows_of versions id key)) → AreDrawn xids.next versions
+    → ((name : List ℕ) → Behind (number_of xids) (schemas (names_at versions name))) → ((id : ℕ) (key : ℤ) → Behind (number_of xids) (rows_of versions id key)) → AreBy (IsDrawn xids.next) versions
     → ShowsState 0 (record { xids = xids; versions = versions; sessions = []; answered = 0 }) (at_rest (database_seen (by (number_of xids) 0) versions) stuck)
 opened_state xids versions stuck sound none sorted slots_sorted names_behind rows_behind drawn = record {
   sound = sound;

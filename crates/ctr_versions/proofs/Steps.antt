@@ -2,7 +2,6 @@
 use Rattle.std.proofs.Common.{◌≡◌, ℕ, ◌+◌, ◌≤◌, ◌<◌, ◌==◌, ℤ, true, false, cond, not, List, [], ◌∷◌, ◌++◌, length, Option, Some, None, refl, sym, ◌∙◌, ap, subst, arith}
 use Rattle.std.specs.Prelude.{unwrap_or, is_some, ◌&&◌, nat_lt}
 use Rattle.std.specs.Option.{option_map}
-use Rattle.std.specs.List.{AllByRecursion}
 use Rattle.std.specs.Ordering.{nat_cmp}
 use Rattle.std.specs.FinMap.Entries.{find, put}
 use Rattle.std.proofs.lemmas.Bool.{false≢true, true≢false, eq-eqb, eqb-true, le-ltb, or_left}
@@ -13,22 +12,21 @@ use Rattle.ctr_model.specs.declared.state.Transaction.{Transaction}
 use Rattle.ctr_model.specs.Maps.{without}
 use Rattle.ctr_model.specs.State.{with_transaction, without_transaction, begun}
 use Rattle.ctr_model.proofs.Sessions.{known, find-put-other, find-put-same, find-without-other, find-without-same}
-use Rattle.ctr_versions.specs.Chains.{Numbers, written_by}
+use Rattle.ctr_versions.specs.Chains.{written_by}
 use Rattle.ctr_versions.specs.Keys.{row_written}
-use Rattle.ctr_versions.specs.Xids.{IsSnapshotOf, Xids, place_from, number_of, taken, drawn, asked, aborted}
-use Rattle.ctr_snap.specs.Seeing.{has}
+use Rattle.ctr_versions.specs.Xids.{IsSnapshotOf, Xids, place_from, number_of, taken, drawn, asked, aborted, AreSound}
+use Rattle.ctr_snap.specs.Seeing.{SnapshotTaken, has}
 use Rattle.ctr_versions.specs.Changes.{write}
-use Rattle.ctr_versions.specs.Versions.{Made, Versions, names_at, rows_of, schemas, Wrote, RowsSet, IsTableOf}
-use Rattle.ctr_versions.specs.Engine.{SessionHeld, EngineHeld, IsDrawn, AreDrawn, ShowsSession, Inside, AreBelow, AreApart, ShowsState}
+use Rattle.ctr_versions.specs.Versions.{Made, Versions, names_at, rows_of, schemas, VersionsStand, Wrote, RowsSet, IsTableOf}
+use Rattle.ctr_versions.specs.Engine.{SessionHeld, EngineHeld, IsBy, AreBy, IsDrawn, IsSeenIfOld, IsCalm, ShowsSession, Inside, AreBelow, AreApart, ShowsState}
 use Rattle.ctr_versions.specs.Steps.{IsFreeKey, AreUntouched, engine_begun, engine_drawn}
-use Rattle.ctr_versions.proofs.Xids.{not_before, has_here, has-append, has-minus-other, taken_is_of, drawn_numbers, drawn_snapshots, drawn_sound, live_none, asked_numbers, asked_snapshots, asked_sound, aborted_numbers, aborted_snapshots, aborted_sound}
+use Rattle.ctr_versions.proofs.Xids.{not_before, has_here, has-append, has-minus-other, taken_is_of, taken_old, drawn_numbers, drawn_snapshots, drawn_sound, live_none, asked_numbers, asked_old, asked_snapshots, asked_sound, aborted_numbers, aborted_snapshots, aborted_sound}
 use Rattle.ctr_versions.proofs.Engine.{renumbered_stands, renumbered_wrote, nothing_wrote}
 use Rattle.ctr_versions.proofs.Asked.{longer, asked_stands, asked_wrote}
-use Rattle.ctr_versions.proofs.Written.{slot, set_wrote, write_stands, write_wrote}
-use Rattle.ctr_versions.proofs.Changes.{write_others}
+use Rattle.ctr_versions.proofs.By.{by_every, by_mapped, rows_by}
+use Rattle.ctr_versions.proofs.Written.{set_wrote, write_stands, write_wrote}
+use Rattle.ctr_versions.proofs.Changes.{write_others, write_all}
 use Rattle.ctr_versions.proofs.Chains.{with_number}
-use Rattle.ctr_versions.specs.Listing.{chain_at}
-use Rattle.ctr_model.specs.Database.{name_cmp}
 use Rattle.std.proofs.lemmas.Map.{update_here, update_apart}
 
 -- ---- one session of many
@@ -100,6 +98,75 @@ apart_without s sessions apart p q a b at_p at_q positive same =
     (λ two. sym (find-without-other r s sessions two) ∙ at) in
     apart p q a b (other p a at_p) (other q b at_q) positive same
 
+-- ---- what the others keep
+
+module _ (low : ℕ) (engine : EngineHeld) (state : State) (shows : ShowsState low engine state) where
+  -- the versions are others, and so may a transaction be
+  pub set_versions : (new : Versions) (transactions : List (ℕ × Transaction)) → VersionsStand low (number_of engine.xids) state.base state.asked new → AreBy (IsDrawn engine.xids.next) new → Inside low state.answered engine.xids new transactions engine.sessions
+      → ShowsState low (record engine { versions = new }) (record state { sessions = transactions })
+  set_versions new transactions stands drawn inside = record {
+    sound = shows.sound;
+    counted = shows.counted;
+    same_answered = shows.same_answered;
+    answered = shows.answered;
+    lowest = shows.lowest;
+    stands = stands;
+    drawn = drawn;
+    inside = inside;
+    below = shows.below;
+    apart = shows.apart;
+  }
+
+  -- the numbers of transactions are others, where each has the commit number that it had, and so are the sessions
+  pub set_xids : (xids : Xids) (sessions : List (ℕ × SessionHeld)) (transactions : List (ℕ × Transaction)) → AreSound xids → xids.commits ≡ engine.xids.commits → ((x : ℕ) → number_of xids x ≡ number_of engine.xids x) → engine.xids.next ≤ xids.next
+      → Inside low state.answered xids engine.versions transactions sessions → AreBelow xids.next sessions → AreApart sessions → ShowsState low (record engine { xids = xids; sessions = sessions }) (record state { sessions = transactions })
+  set_xids xids sessions transactions sound commits numbers le inside below apart = record {
+    sound = sound;
+    counted = ap length commits ∙ shows.counted;
+    same_answered = shows.same_answered;
+    answered = shows.answered;
+    lowest = shows.lowest;
+    stands = renumbered_stands low (number_of engine.xids) (number_of xids) state engine.versions numbers shows.stands;
+    drawn = by_mapped (IsDrawn engine.xids.next) (IsDrawn xids.next) (λ x d. (d.0, later x d.1)) engine.versions shows.drawn;
+    inside = inside;
+    below = below;
+    apart = apart;
+  }
+    where
+      later : (x : ℕ) → x < engine.xids.next → x < xids.next
+      later x lt = omega (arith, lt, le)
+
+  -- the sessions are others
+  pub set_sessions : (sessions : List (ℕ × SessionHeld)) (transactions : List (ℕ × Transaction)) → Inside low state.answered engine.xids engine.versions transactions sessions → AreBelow engine.xids.next sessions → AreApart sessions
+      → ShowsState low (record engine { sessions = sessions }) (record state { sessions = transactions })
+  set_sessions sessions transactions inside below apart = set_xids engine.xids sessions transactions shows.sound refl (λ x. refl) (omega arith) inside below apart
+
+-- a session shows its transaction where each has the commit number that it had, and those that are open stay so but for one
+pub renumbered_session : (low a : ℕ) (xids xids' : Xids) (versions : Versions) (session : SessionHeld) (t : Transaction) → ((x : ℕ) → number_of xids' x ≡ number_of xids x) → IsSnapshotOf xids' session.snapshot t.snapshot → (has session.me xids.live ≡ true → has session.me xids'.live ≡ true)
+    → ShowsSession low a xids versions session t → ShowsSession low a xids' versions session t
+renumbered_session low a xids xids' versions session t numbers snapshot live theirs = record {
+  snapshot = snapshot;
+  old = by_mapped (IsSeenIfOld xids session.snapshot) (IsSeenIfOld xids' session.snapshot) (λ x seen is. seen (sym (numbers x) ∙ is)) versions theirs.old;
+  from = theirs.from;
+  to = theirs.to;
+  wrote = λ calm. renumbered_wrote (number_of xids) (number_of xids') versions session.me t.snapshot t.own numbers (theirs.wrote calm);
+  live = λ unasked lt. live (theirs.live unasked lt);
+  asked = λ k e. numbers session.me ∙ theirs.asked k e;
+}
+
+-- a session shows its transaction over other versions, where it wrote the same
+pub same_session : (low a : ℕ) (xids : Xids) (old new : Versions) (session : SessionHeld) (t : Transaction) → AreBy (IsSeenIfOld xids session.snapshot) new → (IsCalm session t → Wrote (number_of xids) old session.me t.snapshot t.own → Wrote (number_of xids) new session.me t.snapshot t.own)
+    → ShowsSession low a xids old session t → ShowsSession low a xids new session t
+same_session low a xids old new session t seen wrote theirs = record {
+  snapshot = theirs.snapshot;
+  old = seen;
+  from = theirs.from;
+  to = theirs.to;
+  wrote = λ calm. wrote calm (theirs.wrote calm);
+  live = theirs.live;
+  asked = theirs.asked;
+}
+
 -- ---- BEGIN
 
 none_positive : (0 < 0) → ⊥
@@ -110,33 +177,22 @@ begin_step low engine state s shows =
     let session : SessionHeld = record { me = 0; snapshot = taken engine.xids engine.answered; undoing = false } in
     let mine : ShowsSession low state.answered engine.xids engine.versions session (begun state.answered) = record {
       snapshot = subst (λ n. IsSnapshotOf engine.xids (taken engine.xids engine.answered) n) shows.same_answered (taken_is_of engine.xids engine.answered shows.sound);
+      old = by_every (IsSeenIfOld engine.xids (taken engine.xids engine.answered)) (taken_old engine.xids engine.answered) engine.versions;
       from = shows.lowest;
       to = omega arith;
       wrote = λ unasked. nothing_wrote (number_of engine.xids) engine.versions engine.xids.next 0 state.answered refl (λ lt bound. none_positive lt) shows.drawn;
       live = λ unasked lt. absurd (none_positive lt);
       asked = λ k e. absurd (false≢true (ap is_some e));
     } in
-    record {
-      sound = shows.sound;
-      counted = shows.counted;
-      same_answered = shows.same_answered;
-      answered = shows.answered;
-      lowest = shows.lowest;
-      stands = shows.stands;
-      drawn = shows.drawn;
-      inside = inside_put low low state.answered state.answered engine.xids engine.xids engine.versions engine.versions state.sessions engine.sessions s shows.inside (λ r t b apart at at_b theirs. theirs) (begun state.answered) session mine;
-      below = below_put s session engine.xids.next engine.sessions shows.sound.first shows.below;
-      apart = apart_put s session engine.sessions (λ r b two at lt same. none_positive lt) shows.apart;
-    }
+    set_sessions low engine state shows (put nat_cmp s session engine.sessions) (put nat_cmp s (begun state.answered) state.sessions)
+    (inside_put low low state.answered state.answered engine.xids engine.xids engine.versions engine.versions state.sessions engine.sessions s shows.inside (λ r t b apart at at_b theirs. theirs) (begun state.answered) session mine)
+    (below_put s session engine.xids.next engine.sessions shows.sound.first shows.below)
+    (apart_put s session engine.sessions (λ r b two at lt same. none_positive lt) shows.apart)
 
 -- ---- a number is drawn at the first lock
 
-drawn_later : (next : ℕ) {X : Type 0} (chain : List (ℕ × Option X)) → AllByRecursion (IsDrawn next) chain → AllByRecursion (IsDrawn (next + 1)) chain
-drawn_later next [] all = tt
-drawn_later next (v ∷ vs) all = ((all.0.0, later v.0 all.0.1), drawn_later next vs all.1)
-  where
-    later : (x : ℕ) → x < next → x < next + 1
-    later x lt = omega (arith, lt)
+still_live : (xids : Xids) (me : ℕ) → has me xids.live ≡ true → has me (xids.live ++ xids.next ∷ []) ≡ true
+still_live xids me is = has-append me xids.live (xids.next ∷ []) ∙ or_left (has me xids.live) (has me (xids.next ∷ [])) is
 
 -- t is what the grant makes of the transaction
 pub draw_step : (low : ℕ) (engine : EngineHeld) (state : State) (s : ℕ) (session : SessionHeld) (t : Transaction) → ShowsState low engine state → ShowsSession low state.answered engine.xids engine.versions session t → t.asked ≡ None → t.own ≡ []
@@ -144,38 +200,23 @@ pub draw_step : (low : ℕ) (engine : EngineHeld) (state : State) (s : ℕ) (ses
 draw_step low engine state s session t shows theirs unasked unwritten =
     let xids = engine.xids in
     let new : SessionHeld = record session { me = xids.next } in
-    let all : AreDrawn (xids.next + 1) engine.versions = record { names = λ name. drawn_later xids.next (names_at engine.versions name) (shows.drawn.names name); rows = λ id key. drawn_later xids.next (rows_of engine.versions id key) (shows.drawn.rows id key) } in
     let later : (x : ℕ) → x < xids.next → x < xids.next + 1 = λ x lt. omega (arith, lt) in
     let never : (0 < xids.next) → (xids.next < xids.next) → ⊥ = λ positive lt. omega (arith, lt) in
     let none : number_of (drawn xids) xids.next ≡ None = drawn_numbers xids xids.next ∙ next_none xids in
     let mine : ShowsSession low state.answered (drawn xids) engine.versions new t = record {
       snapshot = drawn_snapshots xids session.snapshot t.snapshot theirs.snapshot;
+      old = by_mapped (IsSeenIfOld xids session.snapshot) (IsSeenIfOld (drawn xids) session.snapshot) (λ x seen is. seen (sym (drawn_numbers xids x) ∙ is)) engine.versions theirs.old;
       from = theirs.from;
       to = theirs.to;
       wrote = λ unasked. subst (λ own. Wrote (number_of (drawn xids)) engine.versions xids.next t.snapshot own) (sym unwritten) (nothing_wrote (number_of (drawn xids)) engine.versions xids.next xids.next t.snapshot none never shows.drawn);
       live = λ unasked lt. has_here xids.next xids.live;
       asked = λ k e. absurd (false≢true (ap is_some (sym unasked ∙ e)));
     } in
-    record {
-      sound = drawn_sound xids shows.sound;
-      counted = shows.counted;
-      same_answered = shows.same_answered;
-      answered = shows.answered;
-      lowest = shows.lowest;
-      stands = renumbered_stands low (number_of xids) (number_of (drawn xids)) state engine.versions (drawn_numbers xids) shows.stands;
-      drawn = all;
-      inside = inside_put low low state.answered state.answered xids (drawn xids) engine.versions engine.versions state.sessions engine.sessions s shows.inside
-          (λ r u b apart at at_b other. record {
-            snapshot = drawn_snapshots xids b.snapshot u.snapshot other.snapshot;
-            from = other.from;
-            to = other.to;
-            wrote = λ unasked. renumbered_wrote (number_of xids) (number_of (drawn xids)) engine.versions b.me u.snapshot u.own (drawn_numbers xids) (other.wrote unasked);
-            live = λ unasked lt. has-append b.me xids.live (xids.next ∷ []) ∙ or_left (has b.me xids.live) (has b.me (xids.next ∷ [])) (other.live unasked lt);
-            asked = λ k e. drawn_numbers xids b.me ∙ other.asked k e;
-          }) t new mine;
-      below = below_put s new (xids.next + 1) engine.sessions (omega arith) (λ r b at. later b.me (shows.below r b at));
-      apart = apart_put s new engine.sessions (λ r b two at lt same. beyond b.me xids.next same (shows.below r b at)) shows.apart;
-    }
+    set_xids low engine state shows (drawn xids) (put nat_cmp s new engine.sessions) (put nat_cmp s t state.sessions) (drawn_sound xids shows.sound) refl (drawn_numbers xids) (omega arith)
+    (inside_put low low state.answered state.answered xids (drawn xids) engine.versions engine.versions state.sessions engine.sessions s shows.inside
+    (λ r u b apart at at_b other. renumbered_session low state.answered xids (drawn xids) engine.versions b u (drawn_numbers xids) (drawn_snapshots xids b.snapshot u.snapshot other.snapshot) (still_live xids b.me) other) t new mine)
+    (below_put s new (xids.next + 1) engine.sessions (omega arith) (λ r b at. later b.me (shows.below r b at)))
+    (apart_put s new engine.sessions (λ r b two at lt same. beyond b.me xids.next same (shows.below r b at)) shows.apart)
   where
     next_none : (xids : Xids) → number_of xids xids.next ≡ None
     next_none xids =
@@ -186,10 +227,6 @@ draw_step low engine state s session t shows theirs unasked unwritten =
     beyond y next same lt = omega (arith, same, lt)
 
 -- ---- a row is written
-
-write_drawn : (next x : ℕ) (number : Numbers) (v : Option Row) (chain : List (ℕ × Option Row)) → 0 < x → x < next → AllByRecursion (IsDrawn next) chain → AllByRecursion (IsDrawn next) (write number x v chain)
-write_drawn next x number v [] positive lt all = ((positive, lt), tt)
-write_drawn next x number v (h ∷ rest) positive lt all = elim (is_some (number h.0)) as (λ b. AllByRecursion (IsDrawn next) (cond b ((x, v) ∷ h ∷ rest) ((x, v) ∷ rest))) [ true ↦ ((positive, lt), all) | false ↦ ((positive, lt), all.1) ]
 
 module _ (low : ℕ) (engine : EngineHeld) (state : State) (s : ℕ) (session : SessionHeld) (t : Transaction) (shows : ShowsState low engine state) (at_s : find nat_cmp s engine.sessions ≡ Some session)
     (theirs : ShowsSession low state.answered engine.xids engine.versions session t) (unasked : t.asked ≡ None) (positive : 0 < session.me) where
@@ -202,6 +239,10 @@ module _ (low : ℕ) (engine : EngineHeld) (state : State) (s : ℕ) (session : 
   pub open_none : number_of engine.xids session.me ≡ None
   open_none = live_none engine.xids shows.sound session.me is_live
 
+  -- what is by an open one was not committed before
+  pub not_old : (snapshot : SnapshotTaken) → IsSeenIfOld engine.xids snapshot session.me
+  not_old snapshot old = absurd (false≢true (ap is_some (sym open_none ∙ old)))
+
   pub write_step : (new : Versions) (table : List ℕ) (id : ℕ) (key : ℤ) (v : Option Row) → RowsSet engine.versions new id key (write (number_of engine.xids) session.me v (rows_of engine.versions id key))
       → IsTableOf (number_of engine.xids) engine.versions session.me t.snapshot table id → IsFreeKey engine state.sessions s id key
       → ShowsState low (record engine { versions = new }) (with_transaction s (record t { own = t.own ++ row_written table key v ∷ [] }) state)
@@ -209,39 +250,25 @@ module _ (low : ℕ) (engine : EngineHeld) (state : State) (s : ℕ) (session : 
       let number = number_of engine.xids in
       let old = engine.versions in
       let chain = write number session.me v (rows_of old id key) in
-      let mine : ShowsSession low state.answered engine.xids new session (record t { own = t.own ++ row_written table key v ∷ [] }) = record {
+      let written : Transaction = record t { own = t.own ++ row_written table key v ∷ [] } in
+      let seen : (snapshot : SnapshotTaken) → AreBy (IsSeenIfOld engine.xids snapshot) old → AreBy (IsSeenIfOld engine.xids snapshot) new
+      = λ snapshot all. rows_by (IsSeenIfOld engine.xids snapshot) old new id key chain set (write_all (IsBy (IsSeenIfOld engine.xids snapshot)) number session.me v (rows_of old id key) (not_old snapshot) (all.rows id key)) all in
+      let mine : ShowsSession low state.answered engine.xids new session written = record {
         snapshot = theirs.snapshot;
+        old = seen session.snapshot theirs.old;
         from = theirs.from;
         to = theirs.to;
         wrote = λ unasked. write_wrote low number state old new table id key session.me t.snapshot v t.own set on (theirs.wrote unasked);
         live = theirs.live;
         asked = theirs.asked;
       } in
-      record {
-        sound = shows.sound;
-        counted = shows.counted;
-        same_answered = shows.same_answered;
-        answered = shows.answered;
-        lowest = shows.lowest;
-        stands = write_stands low number state old new id key shows.stands session.me v open_none set;
-        drawn = record {
-          names = λ name. subst (λ ns. AllByRecursion (IsDrawn engine.xids.next) (chain_at name_cmp name ns)) (sym set.names) (shows.drawn.names name);
-          rows = λ i k. slot low number state old new id key chain set (λ c. AllByRecursion (IsDrawn engine.xids.next) c) i k
-              (λ one two. write_drawn engine.xids.next session.me number v (rows_of old id key) positive (shows.below s session at_s) (shows.drawn.rows id key)) (λ other. shows.drawn.rows i k);
-        };
-        inside = inside_same low low state.answered state.answered engine.xids engine.xids old new state.sessions engine.sessions s shows.inside
-            (λ r u b apart at_r at_b other. record {
-              snapshot = other.snapshot;
-              from = other.from;
-              to = other.to;
-              wrote = λ unasked. let f = free r u b apart at_r at_b unasked in
-                  set_wrote low number state old new id key chain set b.me u.snapshot u.own (other.wrote unasked) (write_others number session.me b.me v (rows_of old id key) (not_mine r b apart at_b) ∙ sym f.0) (λ name made is one. absurd (f.1 name made is one));
-              live = other.live;
-              asked = other.asked;
-            }) (record t { own = t.own ++ row_written table key v ∷ [] }) session at_s mine;
-        below = shows.below;
-        apart = shows.apart;
-      }
+      set_versions low engine state shows new (put nat_cmp s written state.sessions) (write_stands low number state old new id key shows.stands session.me v open_none set)
+      (rows_by (IsDrawn engine.xids.next) old new id key chain set (write_all (IsBy (IsDrawn engine.xids.next)) number session.me v (rows_of old id key) (positive, shows.below s session at_s) (shows.drawn.rows id key)) shows.drawn)
+      (inside_same low low state.answered state.answered engine.xids engine.xids old new state.sessions engine.sessions s shows.inside
+      (λ r u b apart at_r at_b other. same_session low state.answered engine.xids old new b u (seen b.snapshot other.old)
+      (λ calm wrote. let f = free r u b apart at_r at_b calm in
+      set_wrote low number state old new id key chain set b.me u.snapshot u.own wrote (write_others number session.me b.me v (rows_of old id key) (not_mine r b apart at_b) ∙ sym f.0) (λ name made is one. absurd (f.1 name made is one))) other)
+      written session at_s mine)
 
   -- ---- COMMIT is asked
 
@@ -257,8 +284,11 @@ module _ (low : ℕ) (engine : EngineHeld) (state : State) (s : ℕ) (session : 
       let numbers : (y : ℕ) → number_of (asked session.me xids) y ≡ with_number number session.me (length state.asked + 1) y
       = λ y. asked_numbers xids shows.sound session.me is_live y ∙ ap (λ n. with_number number session.me (n + 1) y) shows.counted in
       let within : (n : ℕ) → n ≤ state.answered → n ≤ length xids.commits = λ n le. subst (λ m. n ≤ m) (sym shows.counted) (omega (arith, le, shows.answered)) in
+      let seen : (snapshot : SnapshotTaken) → AreBy (IsSeenIfOld xids snapshot) engine.versions → AreBy (IsSeenIfOld (asked session.me xids) snapshot) engine.versions
+      = λ snapshot all. by_mapped (IsSeenIfOld xids snapshot) (IsSeenIfOld (asked session.me xids) snapshot) (λ x before is. before (asked_old xids shows.sound session.me is_live x is)) engine.versions all in
       let mine : ShowsSession low state.answered (asked session.me xids) engine.versions session (record t { asked = Some (length state.asked + 1) }) = record {
         snapshot = asked_snapshots xids shows.sound session.me is_live session.snapshot t.snapshot (within t.snapshot theirs.to) theirs.snapshot;
+        old = seen session.snapshot theirs.old;
         from = theirs.from;
         to = theirs.to;
         wrote = λ no. absurd (true≢false (ap is_some no.0));
@@ -277,6 +307,7 @@ module _ (low : ℕ) (engine : EngineHeld) (state : State) (s : ℕ) (session : 
         inside = inside_same low low state.answered state.answered xids (asked session.me xids) engine.versions engine.versions state.sessions engine.sessions s shows.inside
             (λ r u b apart at_r at_b other. record {
               snapshot = asked_snapshots xids shows.sound session.me is_live b.snapshot u.snapshot (within u.snapshot other.to) other.snapshot;
+              old = seen b.snapshot other.old;
               from = other.from;
               to = other.to;
               wrote = λ quiet. renumbered_wrote (with_number number session.me (length state.asked + 1)) (number_of (asked session.me xids)) engine.versions b.me u.snapshot u.own numbers
@@ -295,26 +326,11 @@ module _ (low : ℕ) (engine : EngineHeld) (state : State) (s : ℕ) (session : 
   rollback_step =
       let xids = engine.xids in
       let numbers = aborted_numbers xids shows.sound session.me is_live in
-      record {
-        sound = aborted_sound xids shows.sound session.me is_live;
-        counted = shows.counted;
-        same_answered = shows.same_answered;
-        answered = shows.answered;
-        lowest = shows.lowest;
-        stands = renumbered_stands low (number_of xids) (number_of (aborted session.me xids)) state engine.versions numbers shows.stands;
-        drawn = shows.drawn;
-        inside = inside_without low low state.answered state.answered xids (aborted session.me xids) engine.versions engine.versions state.sessions engine.sessions s shows.inside
-            (λ r u b apart at_r at_b other. record {
-              snapshot = aborted_snapshots xids shows.sound session.me is_live b.snapshot u.snapshot other.snapshot;
-              from = other.from;
-              to = other.to;
-              wrote = λ quiet. renumbered_wrote (number_of xids) (number_of (aborted session.me xids)) engine.versions b.me u.snapshot u.own numbers (other.wrote quiet);
-              live = λ quiet lt. has-minus-other session.me b.me xids.live (not_mine r b apart at_b) ∙ other.live quiet lt;
-              asked = λ k e. numbers b.me ∙ other.asked k e;
-            });
-        below = below_without s xids.next engine.sessions shows.below;
-        apart = apart_without s engine.sessions shows.apart;
-      }
+      set_xids low engine state shows (aborted session.me xids) (without nat_cmp s engine.sessions) (without nat_cmp s state.sessions) (aborted_sound xids shows.sound session.me is_live) refl numbers (omega arith)
+      (inside_without low low state.answered state.answered xids (aborted session.me xids) engine.versions engine.versions state.sessions engine.sessions s shows.inside
+      (λ r u b apart at_r at_b other. renumbered_session low state.answered xids (aborted session.me xids) engine.versions b u numbers (aborted_snapshots xids shows.sound session.me is_live b.snapshot u.snapshot other.snapshot)
+      (λ is. has-minus-other session.me b.me xids.live (not_mine r b apart at_b) ∙ is) other))
+      (below_without s xids.next engine.sessions shows.below) (apart_without s engine.sessions shows.apart)
 
 -- ---- the end of a transaction that is answered, or wrote nothing
 
@@ -329,7 +345,7 @@ answer_step low engine state s shows more = record {
   stands = shows.stands;
   drawn = shows.drawn;
   inside = inside_without low low state.answered (state.answered + 1) engine.xids engine.xids engine.versions engine.versions state.sessions engine.sessions s shows.inside
-      (λ r u b apart at_r at_b other. record { snapshot = other.snapshot; from = other.from; to = later u.snapshot other.to; wrote = other.wrote; live = other.live; asked = other.asked });
+      (λ r u b apart at_r at_b other. record { snapshot = other.snapshot; old = other.old; from = other.from; to = later u.snapshot other.to; wrote = other.wrote; live = other.live; asked = other.asked });
   below = below_without s engine.xids.next engine.sessions shows.below;
   apart = apart_without s engine.sessions shows.apart;
 }
@@ -338,49 +354,33 @@ answer_step low engine state s shows more = record {
     later n le = omega (arith, le)
 
 pub end_step : (low : ℕ) (engine : EngineHeld) (state : State) (s : ℕ) → ShowsState low engine state → ShowsState low (record engine { sessions = without nat_cmp s engine.sessions }) (without_transaction s state)
-end_step low engine state s shows = record {
-  sound = shows.sound;
-  counted = shows.counted;
-  same_answered = shows.same_answered;
-  answered = shows.answered;
-  lowest = shows.lowest;
-  stands = shows.stands;
-  drawn = shows.drawn;
-  inside = inside_without low low state.answered state.answered engine.xids engine.xids engine.versions engine.versions state.sessions engine.sessions s shows.inside (λ r u b apart at_r at_b other. other);
-  below = below_without s engine.xids.next engine.sessions shows.below;
-  apart = apart_without s engine.sessions shows.apart;
-}
+end_step low engine state s shows = set_sessions low engine state shows (without nat_cmp s engine.sessions) (without nat_cmp s state.sessions)
+    (inside_without low low state.answered state.answered engine.xids engine.xids engine.versions engine.versions state.sessions engine.sessions s shows.inside (λ r u b apart at_r at_b other. other))
+    (below_without s engine.xids.next engine.sessions shows.below) (apart_without s engine.sessions shows.apart)
 
 -- ---- a rollback of several steps begins: nothing more is said of what the session sees
 
 pub undo_step : (low : ℕ) (engine : EngineHeld) (state : State) (s : ℕ) (session : SessionHeld) → ShowsState low engine state → find nat_cmp s engine.sessions ≡ Some session
     → ShowsState low (record engine { sessions = put nat_cmp s (record session { undoing = true }) engine.sessions }) state
-undo_step low engine state s session shows at_s = record {
-  sound = shows.sound;
-  counted = shows.counted;
-  same_answered = shows.same_answered;
-  answered = shows.answered;
-  lowest = shows.lowest;
-  stands = shows.stands;
-  drawn = shows.drawn;
-  inside = λ r t at. let old = shows.inside r t at in known (r == s)
-      (λ one. let same : old.0 ≡ session = some_is old.0 session (sym old.1 ∙ ap (λ q. find nat_cmp q engine.sessions) (eqb-true r s one) ∙ at_s) in
-      let theirs = subst (λ (b : SessionHeld). ShowsSession low state.answered engine.xids engine.versions b t) same old.2 in (
-        new,
-        ap (λ q. find nat_cmp q (put nat_cmp s new engine.sessions)) (eqb-true r s one) ∙ find-put-same s new engine.sessions,
-        record {
-          snapshot = theirs.snapshot;
-          from = theirs.from;
-          to = theirs.to;
-          wrote = λ calm. absurd (true≢false calm.1);
-          live = theirs.live;
-          asked = theirs.asked;
-        },
-      ))
-      (λ two. (old.0, find-put-other r s new engine.sessions two ∙ old.1, old.2));
-  below = below_put s new engine.xids.next engine.sessions (shows.below s session at_s) shows.below;
-  apart = apart_put s new engine.sessions (λ r b two at positive same. false≢true (sym two ∙ eq-eqb r s (sym (shows.apart s r session b at_s at positive (sym same))))) shows.apart;
-}
+undo_step low engine state s session shows at_s = set_sessions low engine state shows (put nat_cmp s new engine.sessions) state.sessions
+    (λ r t at. let old = shows.inside r t at in known (r == s)
+    (λ one. let same : old.0 ≡ session = some_is old.0 session (sym old.1 ∙ ap (λ q. find nat_cmp q engine.sessions) (eqb-true r s one) ∙ at_s) in
+    let theirs = subst (λ (b : SessionHeld). ShowsSession low state.answered engine.xids engine.versions b t) same old.2 in (
+      new,
+      ap (λ q. find nat_cmp q (put nat_cmp s new engine.sessions)) (eqb-true r s one) ∙ find-put-same s new engine.sessions,
+      record {
+        snapshot = theirs.snapshot;
+        old = theirs.old;
+        from = theirs.from;
+        to = theirs.to;
+        wrote = λ calm. absurd (true≢false calm.1);
+        live = theirs.live;
+        asked = theirs.asked;
+      },
+    ))
+    (λ two. (old.0, find-put-other r s new engine.sessions two ∙ old.1, old.2)))
+    (below_put s new engine.xids.next engine.sessions (shows.below s session at_s) shows.below)
+    (apart_put s new engine.sessions (λ r b two at positive same. false≢true (sym two ∙ eq-eqb r s (sym (shows.apart s r session b at_s at positive (sym same))))) shows.apart)
   where
     new : SessionHeld
     new = record session { undoing = true }
@@ -390,32 +390,17 @@ undo_step low engine state s session shows at_s = record {
 pub spent_step : (low : ℕ) (engine : EngineHeld) (state : State) → ShowsState low engine state → ShowsState low (record engine { xids = aborted engine.xids.next (drawn engine.xids) }) state
 spent_step low engine state shows =
     let xids = engine.xids in
+    let new = aborted xids.next (drawn xids) in
     let sound = drawn_sound xids shows.sound in
     let here = has_here xids.next xids.live in
-    let numbers : (y : ℕ) → number_of (aborted xids.next (drawn xids)) y ≡ number_of xids y = λ y. aborted_numbers (drawn xids) sound xids.next here y ∙ drawn_numbers xids y in
+    let numbers : (y : ℕ) → number_of new y ≡ number_of xids y = λ y. aborted_numbers (drawn xids) sound xids.next here y ∙ drawn_numbers xids y in
     let later : (x : ℕ) → x < xids.next → x < xids.next + 1 = λ x lt. omega (arith, lt) in
     let apart : (x : ℕ) → x < xids.next → x ≡ xids.next → ⊥ = λ x lt same. omega (arith, lt, same) in
-    record {
-      sound = aborted_sound (drawn xids) sound xids.next here;
-      counted = shows.counted;
-      same_answered = shows.same_answered;
-      answered = shows.answered;
-      lowest = shows.lowest;
-      stands = renumbered_stands low (number_of xids) (number_of (aborted xids.next (drawn xids))) state engine.versions numbers shows.stands;
-      drawn = record { names = λ name. drawn_later xids.next (names_at engine.versions name) (shows.drawn.names name); rows = λ id key. drawn_later xids.next (rows_of engine.versions id key) (shows.drawn.rows id key) };
-      inside = λ s t at. let old = shows.inside s t at in (
-        old.0,
-        old.1,
-        record {
-          snapshot = aborted_snapshots (drawn xids) sound xids.next here old.0.snapshot t.snapshot (drawn_snapshots xids old.0.snapshot t.snapshot old.2.snapshot);
-          from = old.2.from;
-          to = old.2.to;
-          wrote = λ quiet. renumbered_wrote (number_of xids) (number_of (aborted xids.next (drawn xids))) engine.versions old.0.me t.snapshot t.own numbers (old.2.wrote quiet);
-          live = λ unasked lt. has-minus-other xids.next old.0.me (xids.live ++ xids.next ∷ []) (apart old.0.me (shows.below s old.0 old.1))
-              ∙ has-append old.0.me xids.live (xids.next ∷ []) ∙ or_left (has old.0.me xids.live) (has old.0.me (xids.next ∷ [])) (old.2.live unasked lt);
-          asked = λ k e. numbers old.0.me ∙ old.2.asked k e;
-        },
-      );
-      below = λ r b at. later b.me (shows.below r b at);
-      apart = shows.apart;
-    }
+    set_xids low engine state shows new engine.sessions state.sessions (aborted_sound (drawn xids) sound xids.next here) refl numbers (omega arith)
+    (λ s t at. let old = shows.inside s t at in (
+      old.0,
+      old.1,
+      renumbered_session low state.answered xids new engine.versions old.0 t numbers (aborted_snapshots (drawn xids) sound xids.next here old.0.snapshot t.snapshot (drawn_snapshots xids old.0.snapshot t.snapshot old.2.snapshot))
+          (λ is. has-minus-other xids.next old.0.me (xids.live ++ xids.next ∷ []) (apart old.0.me (shows.below s old.0 old.1)) ∙ still_live xids old.0.me is) old.2,
+    ))
+    (λ r b at. later b.me (shows.below r b at)) shows.apart

@@ -173,9 +173,10 @@ module _ (low : ℕ) (number : Numbers) (state : State) (versions : Versions) (o
         own_alone number n me (rows_of versions made.id key) created.0
         ∙ sym (ap (λ w. unwrap_or w (value_at_number (row_of (table_at state.base name) key) (row_writes name key state.asked) n)) created.1)
 
-    -- an open transaction sees its view
-    pub view_shown : database_seen (by_or_own number n me) versions ≡ after own (rows_at state n)
-    view_shown = shows_database (by_or_own number n me) versions (after own (rows_at state n)) stands.sorted stands.slots_sorted (ordered_after own (rows_at state n) (ordered_after_all (take n state.asked) state.base ordered))
-        own_schema
-        (λ name made t key is at. own_row name made key (written_by me (names_at versions name)) refl is
+    -- an open transaction sees its view, by any test that agrees with its own on the chains
+    pub view_shown : (sees : ℕ → Bool) → ((name : List ℕ) → value_seen sees (names_at versions name) ≡ value_seen (by_or_own number n me) (names_at versions name))
+        → ((id : ℕ) (key : ℤ) → value_seen sees (rows_of versions id key) ≡ value_seen (by_or_own number n me) (rows_of versions id key)) → database_seen sees versions ≡ after own (rows_at state n)
+    view_shown sees names rows = shows_database sees versions (after own (rows_at state n)) stands.sorted stands.slots_sorted (ordered_after own (rows_at state n) (ordered_after_all (take n state.asked) state.base ordered))
+        (λ name. ap (option_map (λ (m : Made). m.schema)) (names name) ∙ own_schema name)
+        (λ name made t key is at. rows made.id key ∙ own_row name made key (written_by me (names_at versions name)) refl (sym (names name) ∙ is)
         ∙ sym (row_after name key own (rows_at state n) (value_at_number (row_of (table_at state.base name) key) (row_writes name key state.asked) n) (row_at_number state name key n) t at))

@@ -112,7 +112,7 @@ same_itself name = nat_list_eq_equiv.refl name
 pub int_itself : (key : ℤ) → int_eq key key ≡ true
 int_itself key = int_eq_equiv.refl key
 
-row_hit : (table name : List ℕ) (key k : ℤ) (v : Option Row) → name ≡ table → k ≡ key → row_change name k (row_written table key v) ≡ Some v
+pub row_hit : (table name : List ℕ) (key k : ℤ) (v : Option Row) → name ≡ table → k ≡ key → row_change name k (row_written table key v) ≡ Some v
 row_hit table name key k v one two =
     row_test table name key k v ∙ ap (λ b. cond b (Some v) None) ((λ i. same_name table (one i) && int_eq key (two i)) ∙ and_from (same_name table table) (int_eq key key) (same_itself table) (int_itself key))
 
@@ -122,7 +122,7 @@ row_miss table name key k v apart =
     (λ is. let parts = and_parts (same_name table name) (int_eq key k) is in absurd (apart (sym (same_text table name parts.0)) (sym ((signed_Decides key k).0 parts.1))))
     (λ is. ap (λ b. cond b (Some v) None) is)
 
-not_slot : (id i : ℕ) (key k : ℤ) → is_slot id key i k ≡ false → i ≡ id → k ≡ key → ⊥
+pub not_slot : (id i : ℕ) (key k : ℤ) → is_slot id key i k ≡ false → i ≡ id → k ≡ key → ⊥
 not_slot id i key k is one two = false≢true (sym is ∙ and_from (i == id) (int_eq k key) (eq-eqb i id one) (ap (λ k. int_eq k key) two ∙ int_itself key))
 
 module _ (low : ℕ) (number : Numbers) (state : State) (old new : Versions) (table : List ℕ) (id : ℕ) (key : ℤ) (x n : ℕ) (v : Option Row) (own : List Change) (set : RowsSet old new id key (write number x v (rows_of old id key))) (on : IsTableOf number old x n table id) (wrote : Wrote number old x n own) where

@@ -1,12 +1,12 @@
 -- The laws of snapshots.
 use Rattle.std.proofs.Common.{◌≡◌, ⊎_elim, ℕ, zero, suc, ◌+◌, ◌≤◌, ◌<◌, ◌==◌, Bool, true, false, cond, not, List, [], ◌∷◌, ◌++◌, drop, length, Some, None, refl, sym, ◌∙◌, ap, subst, arith}
-use Rattle.std.specs.Prelude.{◌&&◌, ◌||◌, nat_le, nat_lt, is_some}
+use Rattle.std.specs.Prelude.{◌&&◌, ◌||◌, nat_le, nat_lt, is_some, unwrap_or}
 use Rattle.std.specs.List.{AllByRecursion}
 use Rattle.std.proofs.lemmas.Bool.{eqb-true, eq-eqb, ne_eqb, le-leb, lt-leb, lt-ltb, le-ltb, ltb-true, leb-true, false≢true, and_parts, and_from, cases_eq, cases_lt, or_parts, or_left, or_right, or_cases, or_from, false_from_ne_true}
 use Rattle.std.proofs.lemmas.Map.{update_here, update_apart}
 use Rattle.ctr_types.specs.declared.xid.Fate.TheVariants as fate
 use Rattle.ctr_versions.specs.Chains.{is_by, by}
-use Rattle.ctr_versions.specs.Xids.{fate_of, Xids, minus, place_from, has_committed, number_of, IsSnapshotOf, taken, drawn, asked, aborted, IsOnce, AreSound}
+use Rattle.ctr_versions.specs.Xids.{fate_of, Xids, minus, place_from, has_committed, number_of, IsSnapshotOf, taken, drawn, asked, aborted, settled, forgotten, is_before, IsOnce, AreSound}
 use Rattle.ctr_snap.specs.Seeing.{is_committed, has, SnapshotTaken, sees, AreFrom, named}
 use Rattle.ctr_versions.proofs.Chains.{with_number}
 
@@ -76,6 +76,12 @@ place_push k x (y ∷ ys) none =
     let parts = or_parts (x == y) (has x ys) none in
     ap (λ b. cond b k (place_from (k + 1) x (ys ++ x ∷ []))) parts.0 ∙ place_push (k + 1) x ys parts.1 ∙ omega arith
 
+place_none : (k x : ℕ) (xs : List ℕ) → has x xs ≡ false → place_from k x xs ≡ 0
+place_none k x [] none = refl
+place_none k x (y ∷ ys) none =
+    let parts = or_parts (x == y) (has x ys) none in
+    ap (λ b. cond b k (place_from (k + 1) x ys)) parts.0 ∙ place_none (k + 1) x ys parts.1
+
 place_other : (k x y : ℕ) (xs : List ℕ) → (y ≡ x → ⊥) → place_from k y (xs ++ x ∷ []) ≡ place_from k y xs
 place_other k x y [] apart = ap (λ b. cond b k 0) (ne_eqb y x apart)
 place_other k x y (z ∷ zs) apart = ap (λ p. cond (y == z) k p) (place_other (k + 1) x y zs apart)
@@ -119,7 +125,7 @@ pub taken_is_of : (xids : Xids) (answered : ℕ) → AreSound xids → IsSnapsho
 taken_is_of xids answered sound = record {
   drawn = omega arith;
   still_open = λ x here. ap (λ b. nat_lt x xids.next && not b) (has-append x xids.live (drop answered xids.commits) ∙ or_left (has x xids.live) (has x (drop answered xids.commits)) here) ∙ and_none (nat_lt x xids.next);
-  sees_by = λ x.
+  sees_by = λ x fresh.
       sees_is xids (taken xids answered) x
       ∙ ap (λ b. has_committed xids x && (nat_lt x xids.next && not b)) (has-append x xids.live (drop answered xids.commits))
       ∙ five (nat_lt 0 x) (nat_lt x xids.next) (has x xids.live) (has x (drop answered xids.commits)) (has x xids.aborted)
@@ -131,10 +137,33 @@ taken_is_of xids answered sound = record {
 
 -- a snapshot stands for its number while who is committed stays
 steady_sees : (xids other : Xids) (s : SnapshotTaken) (n : ℕ) → ((y : ℕ) → has_committed other y ≡ has_committed xids y) → ((y : ℕ) → number_of other y ≡ number_of xids y)
-    → IsSnapshotOf xids s n → (x : ℕ) → sees s (fate_of other x) x ≡ by (number_of other) n x
-steady_sees xids other s n same numbers is x =
-    sees_is other s x ∙ ap (λ b. b && (nat_lt x s.next && not (has x s.listed))) (same x) ∙ sym (sees_is xids s x)
-    ∙ is.sees_by x ∙ ap (is_by n) (sym (numbers x))
+    → IsSnapshotOf xids s n → (x : ℕ) → (number_of other x ≡ Some 0 → ⊥) → sees s (fate_of other x) x ≡ by (number_of other) n x
+steady_sees xids other s n same numbers is x fresh =
+    sees_is other s x ∙ ap (λ b. b && is_before s x) (same x) ∙ sym (sees_is xids s x)
+    ∙ is.sees_by x (λ old. fresh (numbers x ∙ old)) ∙ ap (is_by n) (sym (numbers x))
+
+-- one that has a number is committed
+pub number_committed : (xids : Xids) (x k : ℕ) → number_of xids x ≡ Some k → has_committed xids x ≡ true
+number_committed xids x k is = committed (has_committed xids x) (place_from 1 x xids.commits) is
+  where
+    committed : (b : Bool) (p : ℕ) → cond b (Some p) None ≡ Some k → b ≡ true
+    committed true p e = refl
+    committed false p e = absurd (false≢true (ap is_some e))
+
+-- one that was committed before the run is seen by the snapshot that BEGIN takes
+pub taken_old : (xids : Xids) (answered x : ℕ) → number_of xids x ≡ Some 0 → is_before (taken xids answered) x ≡ true
+taken_old xids answered x is =
+    let committed = number_committed xids x 0 is in
+    let drawn_ = and_parts (nat_lt x xids.next) (not (has x xids.live) && not (has x xids.aborted)) ((and_parts (nat_lt 0 x) (nat_lt x xids.next && (not (has x xids.live) && not (has x xids.aborted))) committed).1) in
+    let unlisted = and_parts (not (has x xids.live)) (not (has x xids.aborted)) drawn_.1 in
+    let place : place_from 1 x xids.commits ≡ 0 = ap (λ o. unwrap_or o 0) (sym (ap (λ b. cond b (Some (place_from 1 x xids.commits)) None) committed) ∙ is) in
+    let unasked : has x xids.commits ≡ false = untrue (has x xids.commits) (sym (early_place 0 0 x xids.commits (omega arith)) ∙ ap (λ p. nat_le p 0) place ∙ le-leb 0 0 (omega arith)) in
+    and_from (nat_lt x xids.next) (not (has x (xids.live ++ drop answered xids.commits))) drawn_.0
+    (ap not (has-append x xids.live (drop answered xids.commits) ∙ or_from (has x xids.live) (has x (drop answered xids.commits)) (untrue (has x xids.live) unlisted.0) (none_left x answered xids.commits unasked)))
+  where
+    untrue : (b : Bool) → not b ≡ true → b ≡ false
+    untrue true e = absurd (false≢true e)
+    untrue false e = refl
 
 -- ---- a number is drawn
 
@@ -214,6 +243,16 @@ module _ (xids : Xids) (sound : AreSound xids) (x : ℕ) (is_live : has x xids.l
       (λ apart. (λ i. cond (asked_others y apart i) (Some (place_other 1 x y xids.commits apart i)) None) ∙ sym (update_apart (number_of xids) x (Some (length xids.commits + 1)) y apart))
       (cases_eq y x)
 
+  -- it wasn't committed before the run
+  pub asked_old : (y : ℕ) → number_of (asked x xids) y ≡ Some 0 → number_of xids y ≡ Some 0
+  asked_old y is = ⊎_elim
+      (λ same. absurd (never (length xids.commits) (ap (λ o. unwrap_or o 0) (sym (ap (with_number (number_of xids) x (length xids.commits + 1)) same ∙ update_here (number_of xids) x (Some (length xids.commits + 1))) ∙ sym (asked_numbers y) ∙ is))))
+      (λ apart. sym (update_apart (number_of xids) x (Some (length xids.commits + 1)) y apart) ∙ sym (asked_numbers y) ∙ is)
+      (cases_eq y x)
+    where
+      never : (n : ℕ) → n + 1 ≡ 0 → ⊥
+      never n same = omega (arith, same)
+
   still_listed : (s : SnapshotTaken) (n : ℕ) → IsSnapshotOf xids s n → (y : ℕ) → has y (minus x xids.live) ≡ true → (nat_lt y s.next && not (has y s.listed)) ≡ false
   still_listed s n is y here = is.still_open y ((has_minus x y xids.live here).1)
 
@@ -222,14 +261,32 @@ module _ (xids : Xids) (sound : AreSound xids) (x : ℕ) (is_live : has x xids.l
   asked_snapshots s n le is = record {
     drawn = is.drawn;
     still_open = still_listed s n is;
-    sees_by = λ y. ⊎_elim
+    sees_by = λ y fresh. ⊎_elim
         (λ same. sees_is (asked x xids) s y ∙ ap (λ z. has_committed (asked x xids) z && (nat_lt z s.next && not (has z s.listed))) same
         ∙ ap (λ b. has_committed (asked x xids) x && b) (is.still_open x is_live) ∙ and_none (has_committed (asked x xids) x)
         ∙ sym (ap (is_by n) (asked_numbers y ∙ ap (with_number (number_of xids) x (length xids.commits + 1)) same ∙ update_here (number_of xids) x (Some (length xids.commits + 1))) ∙ lt-leb (length xids.commits + 1) n (omega (arith, le))))
         (λ apart. sees_is (asked x xids) s y ∙ ap (λ b. b && (nat_lt y s.next && not (has y s.listed))) (asked_others y apart) ∙ sym (sees_is xids s y)
-        ∙ is.sees_by y ∙ ap (is_by n) (sym (asked_numbers y ∙ update_apart (number_of xids) x (Some (length xids.commits + 1)) y apart)))
+        ∙ is.sees_by y (λ old. fresh (asked_numbers y ∙ update_apart (number_of xids) x (Some (length xids.commits + 1)) y apart ∙ old)) ∙ ap (is_by n) (sym (asked_numbers y ∙ update_apart (number_of xids) x (Some (length xids.commits + 1)) y apart)))
         (cases_eq y x);
   }
+
+  -- ---- an open one counts as committed before
+
+  settled_committed : has_committed (settled x xids) x ≡ true
+  settled_committed =
+      let bounds = live_bounds xids.live sound.live is_live in
+      and_from _ _ (lt-ltb 0 x bounds.0) (and_from _ _ (lt-ltb x xids.next bounds.1) (and_from _ _ (ap not (has-minus-same x xids.live)) (ap not ((sound.apart x is_live).1))))
+
+  settled_others : (y : ℕ) → (y ≡ x → ⊥) → has_committed (settled x xids) y ≡ has_committed xids y
+  settled_others y apart = ap (λ b. nat_lt 0 y && (nat_lt y xids.next && (not b && not (has y xids.aborted)))) (has-minus-other x y xids.live apart)
+
+  pub settled_numbers : (y : ℕ) → number_of (settled x xids) y ≡ with_number (number_of xids) x 0 y
+  settled_numbers y = ⊎_elim
+      (λ same. ap (number_of (settled x xids)) same ∙ ap (λ b. cond b (Some (place_from 1 x xids.commits)) None) settled_committed
+      ∙ ap Some (place_none 1 x xids.commits ((sound.apart x is_live).0))
+      ∙ sym (ap (with_number (number_of xids) x 0) same ∙ update_here (number_of xids) x (Some 0)))
+      (λ apart. ap (λ b. cond b (Some (place_from 1 y xids.commits)) None) (settled_others y apart) ∙ sym (update_apart (number_of xids) x (Some 0) y apart))
+      (cases_eq y x)
 
   -- ---- abort
 
@@ -267,19 +324,19 @@ above_mark mark x (y ∷ ys) lt all = or_from (x == y) (has x ys) (ne_eqb x y (�
 
 -- what is committed and below the mark has a number that the snapshot sees
 pub low_number : (xids : Xids) (s : SnapshotTaken) (n mark x k : ℕ) → IsSnapshotOf xids s n → AreFrom mark (named s) → number_of xids x ≡ Some k → x < mark → k ≤ n
-low_number xids s n mark x k is low number lt = leb-true k n (ap (is_by n) (sym number) ∙ sym (is.sees_by x) ∙ seen_below)
+low_number xids s n mark x zero is low number lt = omega arith
+low_number xids s n mark x (suc k) is low number lt = leb-true (suc k) n (ap (is_by n) (sym number) ∙ sym (is.sees_by x fresh) ∙ seen_below)
   where
-    committed : (b : Bool) (p : ℕ) → cond b (Some p) None ≡ Some k → b ≡ true
-    committed true p e = refl
-    committed false p e = absurd (false≢true (ap is_some e))
-
-    parts : has_committed xids x ≡ true
-    parts = committed (has_committed xids x) (place_from 1 x xids.commits) number
+    fresh : number_of xids x ≡ Some 0 → ⊥
+    fresh old = later k (ap (λ o. unwrap_or o 0) (sym number ∙ old))
+      where
+        later : (k : ℕ) → suc k ≡ 0 → ⊥
+        later k same = omega (arith, same)
 
     seen_below : sees s (fate_of xids x) x ≡ true
     seen_below =
         sees_is xids s x
-        ∙ and_from (has_committed xids x) (nat_lt x s.next && not (has x s.listed)) parts
+        ∙ and_from (has_committed xids x) (nat_lt x s.next && not (has x s.listed)) (number_committed xids x (suc k) number)
         (and_from (nat_lt x s.next) (not (has x s.listed)) (lt-ltb x s.next (omega (arith, lt, low.0))) (ap not (above_mark mark x s.listed lt low.1)))
 
 -- ---- soundness is kept
@@ -325,10 +382,10 @@ not_has next xs below = false_from_ne_true (has next xs) (λ here. beyond next (
 pub drawn_sound : (xids : Xids) → AreSound xids → AreSound (drawn xids)
 drawn_sound xids sound = record {
   first = omega arith;
-  gone = all_mapped {P = λ x. x < xids.next} {Q = λ x. x < xids.next + 1} xids.aborted (λ x lt. omega (arith, lt)) sound.gone;
+  gone = all_mapped {P = λ x. (0 < x) × (x < xids.next)} {Q = λ x. (0 < x) × (x < xids.next + 1)} xids.aborted (λ x p. (p.0, later x p.1)) sound.gone;
   live = all_push (λ x. (0 < x) × (x < xids.next + 1)) xids.next xids.live (all_mapped {P = λ x. (0 < x) × (x < xids.next)} {Q = λ x. (0 < x) × (x < xids.next + 1)} xids.live (λ x p. (p.0, later x p.1)) sound.live) (sound.first, omega arith);
   apart = λ x here. ⊎_elim
-      (λ same. (ap (λ z. has z xids.commits) same ∙ not_has xids.next xids.commits (all_mapped {P = λ x. has_committed xids x ≡ true} {Q = λ x. x < xids.next} xids.commits (committed_below xids) sound.commits), ap (λ z. has z xids.aborted) same ∙ not_has xids.next xids.aborted sound.gone))
+      (λ same. (ap (λ z. has z xids.commits) same ∙ not_has xids.next xids.commits (all_mapped {P = λ x. has_committed xids x ≡ true} {Q = λ x. x < xids.next} xids.commits (committed_below xids) sound.commits), ap (λ z. has z xids.aborted) same ∙ not_has xids.next xids.aborted (all_mapped {P = λ x. (0 < x) × (x < xids.next)} {Q = λ x. x < xids.next} xids.aborted (λ x p. p.1) sound.gone)))
       (λ other. sound.apart x (sym (has_there xids.next x xids.live other) ∙ here))
       (cases_eq x xids.next);
   commits = all_mapped {P = λ x. has_committed xids x ≡ true} {Q = λ x. has_committed (drawn xids) x ≡ true} xids.commits (λ x is. drawn_committed xids x ∙ is) sound.commits;
@@ -354,12 +411,85 @@ asked_sound xids sound x is_live = record {
 pub aborted_sound : (xids : Xids) (sound : AreSound xids) (x : ℕ) → has x xids.live ≡ true → AreSound (aborted x xids)
 aborted_sound xids sound x is_live = record {
   first = sound.first;
-  gone = all_push (λ x. x < xids.next) x xids.aborted sound.gone ((all_has (λ x. (0 < x) × (x < xids.next)) x xids.live sound.live is_live).1);
+  gone = all_push (λ x. (0 < x) × (x < xids.next)) x xids.aborted sound.gone (all_has (λ x. (0 < x) × (x < xids.next)) x xids.live sound.live is_live);
   live = all_minus (λ x. (0 < x) × (x < xids.next)) x xids.live sound.live;
   apart = λ y here. let left = has_minus x y xids.live here in let before = sound.apart y left.1 in (before.0, has_there x y xids.aborted left.0 ∙ before.1);
   commits = all_mapped {P = λ c. has_committed xids c ≡ true} {Q = λ c. has_committed (aborted x xids) c ≡ true} xids.commits (λ c is. aborted_committed xids sound x is_live c ∙ is) sound.commits;
   once = sound.once;
 }
+
+pub settled_sound : (xids : Xids) (sound : AreSound xids) (x : ℕ) → has x xids.live ≡ true → AreSound (settled x xids)
+settled_sound xids sound x is_live = record {
+  first = sound.first;
+  gone = sound.gone;
+  live = all_minus (λ x. (0 < x) × (x < xids.next)) x xids.live sound.live;
+  apart = λ y here. sound.apart y ((has_minus x y xids.live here).1);
+  commits = all_members {P = λ c. has_committed xids c ≡ true} {Q = λ c. has_committed (settled x xids) c ≡ true} xids.commits
+      (λ c here is. settled_others xids sound x is_live c (λ same. false≢true (sym ((sound.apart x is_live).0) ∙ ap (λ z. has z xids.commits) (sym same) ∙ here)) ∙ is) sound.commits;
+  once = sound.once;
+}
+
+-- ---- one that was rolled back is forgotten
+
+module _ (xids : Xids) (sound : AreSound xids) (x : ℕ) (is_aborted : has x xids.aborted ≡ true) where
+  pub aborted_bounds : (0 < x) × (x < xids.next)
+  aborted_bounds = all_has (λ x. (0 < x) × (x < xids.next)) x xids.aborted sound.gone is_aborted
+
+  not_live : has x xids.live ≡ false
+  not_live = false_from_ne_true (has x xids.live) (λ here. false≢true (sym ((sound.apart x here).1) ∙ is_aborted))
+
+  pub aborted_none : number_of xids x ≡ None
+  aborted_none = ap (λ b. cond b (Some (place_from 1 x xids.commits)) None) (ap (λ b. nat_lt 0 x && (nat_lt x xids.next && (not (has x xids.live) && not b))) is_aborted ∙ all_false (nat_lt 0 x) (nat_lt x xids.next) (not (has x xids.live)))
+    where
+      all_false : (a b c : Bool) → (a && (b && (c && not true))) ≡ false
+      all_false true true true = refl
+      all_false true true false = refl
+      all_false true false c = refl
+      all_false false b c = refl
+
+  not_asked : has x xids.commits ≡ false
+  not_asked = false_from_ne_true (has x xids.commits) (λ here. false≢true (ap is_some (sym aborted_none ∙ ap (λ b. cond b (Some (place_from 1 x xids.commits)) None) (all_has (λ c. has_committed xids c ≡ true) x xids.commits sound.commits here))))
+
+  forgotten_committed : has_committed (forgotten x xids) x ≡ true
+  forgotten_committed =
+      let bounds = aborted_bounds in
+      and_from _ _ (lt-ltb 0 x bounds.0) (and_from _ _ (lt-ltb x xids.next bounds.1) (and_from _ _ (ap not not_live) (ap not (has-minus-same x xids.aborted))))
+
+  pub forgotten_others : (y : ℕ) → (y ≡ x → ⊥) → has_committed (forgotten x xids) y ≡ has_committed xids y
+  forgotten_others y apart = ap (λ b. nat_lt 0 y && (nat_lt y xids.next && (not (has y xids.live) && not b))) (has-minus-other x y xids.aborted apart)
+
+  pub forgotten_here : number_of (forgotten x xids) x ≡ Some 0
+  forgotten_here = ap (λ b. cond b (Some (place_from 1 x xids.commits)) None) forgotten_committed ∙ ap Some (place_none 1 x xids.commits not_asked)
+
+  pub forgotten_apart : (y : ℕ) → (y ≡ x → ⊥) → number_of (forgotten x xids) y ≡ number_of xids y
+  forgotten_apart y apart = ap (λ b. cond b (Some (place_from 1 y xids.commits)) None) (forgotten_others y apart)
+
+  pub forgotten_numbers : (y : ℕ) → number_of (forgotten x xids) y ≡ with_number (number_of xids) x 0 y
+  forgotten_numbers y = ⊎_elim
+      (λ same. ap (number_of (forgotten x xids)) same ∙ forgotten_here ∙ sym (ap (with_number (number_of xids) x 0) same ∙ update_here (number_of xids) x (Some 0)))
+      (λ apart. forgotten_apart y apart ∙ sym (update_apart (number_of xids) x (Some 0) y apart))
+      (cases_eq y x)
+
+  pub forgotten_snapshots : (s : SnapshotTaken) (n : ℕ) → IsSnapshotOf xids s n → IsSnapshotOf (forgotten x xids) s n
+  forgotten_snapshots s n is = record {
+    drawn = is.drawn;
+    still_open = is.still_open;
+    sees_by = λ y fresh.
+        let apart : y ≡ x → ⊥ = λ same. fresh (ap (number_of (forgotten x xids)) same ∙ forgotten_here) in
+        sees_is (forgotten x xids) s y ∙ ap (λ b. b && is_before s y) (forgotten_others y apart) ∙ sym (sees_is xids s y)
+        ∙ is.sees_by y (λ old. fresh (forgotten_apart y apart ∙ old)) ∙ ap (is_by n) (sym (forgotten_apart y apart));
+  }
+
+  pub forgotten_sound : AreSound (forgotten x xids)
+  forgotten_sound = record {
+    first = sound.first;
+    gone = all_minus (λ x. (0 < x) × (x < xids.next)) x xids.aborted sound.gone;
+    live = sound.live;
+    apart = λ y here. let before = sound.apart y here in (before.0, has-minus-other x y xids.aborted (λ same. false≢true (sym not_live ∙ ap (λ z. has z xids.live) (sym same) ∙ here)) ∙ before.1);
+    commits = all_members {P = λ c. has_committed xids c ≡ true} {Q = λ c. has_committed (forgotten x xids) c ≡ true} xids.commits
+        (λ c here is. forgotten_others c (λ same. false≢true (sym not_asked ∙ ap (λ z. has z xids.commits) (sym same) ∙ here)) ∙ is) sound.commits;
+    once = sound.once;
+  }
 
 pub live_below : (xids : Xids) → AreSound xids → (x : ℕ) → has x xids.live ≡ true → x < xids.next
 live_below xids sound x is_live = (all_has (λ x. (0 < x) × (x < xids.next)) x xids.live sound.live is_live).1

@@ -6,7 +6,7 @@ use Rattle.std.specs.FinMap.Entries.{find}
 use Rattle.ctr_model.specs.declared.state.State.{State}
 use Rattle.ctr_model.specs.declared.state.Transaction.{Transaction}
 use Rattle.ctr_snap.specs.Seeing.{SnapshotTaken, has, sees_or_own}
-use Rattle.ctr_versions.specs.Xids.{Xids, fate_of, number_of, IsSnapshotOf, AreSound}
+use Rattle.ctr_versions.specs.Xids.{Xids, fate_of, number_of, is_before, IsSnapshotOf, AreSound}
 use Rattle.ctr_versions.specs.Versions.{Versions, names_at, rows_of, VersionsStand, Wrote}
 
 -- A session in a transaction: its number, 0 where none is drawn yet, its snapshot, and whether it
@@ -28,25 +28,34 @@ pub record EngineHeld : Type 0 where
 abbrev pub session_sees : Xids → SessionHeld → ℕ → Bool
 session_sees xids session x = sees_or_own session.snapshot (Some session.me) (fate_of xids x) x
 
--- the version's number was drawn
-abbrev pub IsDrawn : {V : Type 0} → ℕ → ℕ × Option V → Type 0
-IsDrawn next v = (0 < v.0) × (v.0 < next)
+-- the version is by a transaction of which this holds
+abbrev pub IsBy : {V : Type 0} → (ℕ → Type 0) → ℕ × Option V → Type 0
+IsBy P v = P v.0
 
--- every version's was
-pub record AreDrawn (next : ℕ) (versions : Versions) : Type 0 where
-  pub names : (name : List ℕ) → AllByRecursion (IsDrawn next) (names_at versions name)
-  pub rows : (id : ℕ) (key : ℤ) → AllByRecursion (IsDrawn next) (rows_of versions id key)
+-- every version is
+pub record AreBy (P : ℕ → Type 0) (versions : Versions) : Type 0 where
+  pub names : (name : List ℕ) → AllByRecursion (IsBy P) (names_at versions name)
+  pub rows : (id : ℕ) (key : ℤ) → AllByRecursion (IsBy P) (rows_of versions id key)
+
+-- the number was drawn
+abbrev pub IsDrawn : ℕ → ℕ → Type 0
+IsDrawn next x = (0 < x) × (x < next)
+
+-- where it was committed before the run, it is seen by the snapshot
+abbrev pub IsSeenIfOld : Xids → SnapshotTaken → ℕ → Type 0
+IsSeenIfOld xids snapshot x = number_of xids x ≡ Some 0 → is_before snapshot x ≡ true
 
 -- it hasn't asked for its commit, and isn't within its rollback
 abbrev pub IsCalm : SessionHeld → Transaction → Type 0
 IsCalm session t = (t.asked ≡ None) × (session.undoing ≡ false)
 
--- The session shows the transaction: its snapshot stands for the transaction's number, and what it
--- wrote is the transaction's own changes. One that has asked has its commit number, and no more is
+-- The session shows the transaction: its snapshot stands for the transaction's number, and sees what
+-- stands of those that were committed before the run; what it wrote is the transaction's own changes. One that has asked has its commit number, and no more is
 -- said of what it sees.
 pub record ShowsSession (low answered : ℕ) (xids : Xids) (versions : Versions)
     (session : SessionHeld) (t : Transaction) : Type 0 where
   pub snapshot : IsSnapshotOf xids session.snapshot t.snapshot
+  pub old : AreBy (IsSeenIfOld xids session.snapshot) versions
   pub from : low ≤ t.snapshot
   pub to : t.snapshot ≤ answered
   pub wrote : IsCalm session t → Wrote (number_of xids) versions session.me t.snapshot t.own
@@ -82,7 +91,7 @@ pub record ShowsState (low : ℕ) (engine : EngineHeld) (state : State) : Type 0
   pub answered : state.answered ≤ length state.asked
   pub lowest : low ≤ state.answered
   pub stands : VersionsStand low (number_of engine.xids) state.base state.asked engine.versions
-  pub drawn : AreDrawn engine.xids.next engine.versions
+  pub drawn : AreBy (IsDrawn engine.xids.next) engine.versions
   pub inside : Inside low state.answered engine.xids engine.versions state.sessions engine.sessions
   pub below : AreBelow engine.xids.next engine.sessions
   pub apart : AreApart engine.sessions

@@ -121,7 +121,8 @@ RollbackKeeps s old new =
     → ShowsState low old state → transaction_of state s ≡ Some t → t.asked ≡ None
     → ShowsState low new (next_inside state s t act.Rollback statement reply.RolledBack)
 
--- Room is taken, for a key or a name: what is shown stays.
+-- What is shown stays: room is taken, or a number is spent that no session has, or a transaction is
+-- forgotten.
 abbrev pub RoomKeeps : EngineHeld → EngineHeld → Type 0
 RoomKeeps old new = (low : ℕ) (state : State) → ShowsState low old state → ShowsState low new state
 
@@ -186,6 +187,13 @@ pub record SetsName (old new : EngineHeld) (name : List ℕ) (chain : List (ℕ 
   pub set : NamesSet old.versions new.versions name chain
 
 -- ---- what is shown
+
+-- A lock, a use or a hold is granted to a transaction that draws no number with it: nothing in the
+-- engine changes, and it shows the state with the transaction as it was granted.
+abbrev pub GrantsAreShown : Type 0
+GrantsAreShown = (low : ℕ) (engine : EngineHeld) (state : State) (s : ℕ) (t u : Transaction)
+    → ShowsState low engine state → transaction_of state s ≡ Some t → IsGranted t u
+    → ShowsState low engine (with_transaction s u state)
 
 -- Whatever state the engine shows, a session that hasn't asked for its commit sees its view.
 abbrev pub SessionsSeeTheirViews : Type 0

@@ -7,3 +7,5 @@ pub mod Xids
 pub mod Engine
 pub mod Steps
 pub mod Laws
+pub mod Loading
+pub mod Heads

@@ -6,7 +6,7 @@ use Rattle.ctr_model.specs.declared.state.Transaction.{Transaction}
 use Rattle.ctr_model.specs.Maps.{without}
 use Rattle.ctr_versions.specs.Chains.{written_by}
 use Rattle.ctr_versions.specs.Keys.{schema_change, row_change, left_by}
-use Rattle.ctr_versions.specs.Xids.{taken, drawn, asked, aborted}
+use Rattle.ctr_versions.specs.Xids.{taken, drawn, asked, aborted, forgotten}
 use Rattle.ctr_versions.specs.Versions.{Made, names_at, rows_of}
 use Rattle.ctr_versions.specs.Engine.{SessionHeld, EngineHeld, IsCalm}
 
@@ -49,6 +49,10 @@ engine_rolled_back s me engine = record engine {
   xids = aborted me engine.xids;
   sessions = without nat_cmp s engine.sessions;
 }
+
+-- one that was rolled back is forgotten
+abbrev pub engine_forgotten : ℕ → EngineHeld → EngineHeld
+engine_forgotten x engine = record engine { xids = forgotten x engine.xids }
 
 -- ---- what the locks owe
 

@@ -6,8 +6,8 @@ use Rattle.ctr_types.specs.declared.xid.Fate.TheVariants as fate
 use Rattle.ctr_snap.specs.Seeing.{SnapshotTaken, has, sees}
 use Rattle.ctr_versions.specs.Chains.{by}
 
--- Numbers are drawn in order, from 1 on. Those that are open; those that were rolled back, which
--- stay so; and those that asked for their commit, in the order in which they asked.
+-- Numbers are drawn in order, from 1 on. Those that are open; those that were rolled back and aren't
+-- forgotten; and those that asked for their commit, in the order in which they asked.
 pub record Xids : Type 0 where
   pub next : ℕ
   pub live : List ℕ
@@ -40,13 +40,20 @@ fate_of xids x =
 abbrev pub number_of : Xids → ℕ → Option ℕ
 number_of xids x = if has_committed xids x then Some (place_from 1 x xids.commits) else None
 
+-- it was drawn before the snapshot, which doesn't list it
+abbrev pub is_before : SnapshotTaken → ℕ → Bool
+is_before snapshot x = nat_lt x snapshot.next && not (has x snapshot.listed)
+
 -- A snapshot stands for a number: it sees those that are committed with a number of at most n.
--- Those that are still open it lists, or they were drawn after it, so it won't see them.
+-- Those that are still open it lists, or they were drawn after it, so it won't see them. Nothing is
+-- said here of those that were committed before the run: one that was rolled back and is forgotten
+-- counts among them.
 pub record IsSnapshotOf (xids : Xids) (snapshot : SnapshotTaken) (n : ℕ) : Type 0 where
   pub drawn : snapshot.next ≤ xids.next
   pub still_open : (x : ℕ) → has x xids.live ≡ true
-      → (nat_lt x snapshot.next && not (has x snapshot.listed)) ≡ false
-  pub sees_by : (x : ℕ) → sees snapshot (fate_of xids x) x ≡ by (number_of xids) n x
+      → is_before snapshot x ≡ false
+  pub sees_by : (x : ℕ) → (number_of xids x ≡ Some 0 → ⊥)
+      → sees snapshot (fate_of xids x) x ≡ by (number_of xids) n x
 
 -- those that are open, or asked and aren't answered
 abbrev pub unanswered : Xids → ℕ → List ℕ
@@ -70,6 +77,14 @@ asked x xids = record xids { live = minus x xids.live; commits = xids.commits ++
 abbrev pub aborted : ℕ → Xids → Xids
 aborted x xids = record xids { live = minus x xids.live; aborted = xids.aborted ++ x ∷ [] }
 
+-- One that was rolled back is forgotten: it counts as committed before the run.
+abbrev pub forgotten : ℕ → Xids → Xids
+forgotten x xids = record xids { aborted = minus x xids.aborted }
+
+-- an open one counts as committed before the run
+abbrev pub settled : ℕ → Xids → Xids
+settled x xids = record xids { live = minus x xids.live }
+
 -- each stands once in the list
 abbrev pub IsOnce : List ℕ → Type 0
 IsOnce [] = Unit {0}
@@ -79,7 +94,7 @@ IsOnce (x ∷ xs) = (has x xs ≡ false) × IsOnce xs
 -- is in two of the lists.
 pub record AreSound (xids : Xids) : Type 0 where
   pub first : 0 < xids.next
-  pub gone : AllByRecursion (λ x. x < xids.next) xids.aborted
+  pub gone : AllByRecursion (λ x. (0 < x) × (x < xids.next)) xids.aborted
   pub live : AllByRecursion (λ x. (0 < x) × (x < xids.next)) xids.live
   pub apart : (x : ℕ) → has x xids.live ≡ true
       → (has x xids.commits ≡ false) × (has x xids.aborted ≡ false)

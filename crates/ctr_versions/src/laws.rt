@@ -1,5 +1,5 @@
 // What an engine shows. A call does nothing: what it ensures is the law.
-ghost use Rattle.ctr_versions.specs.Laws.{SessionsSeeTheirViews, RowsStandAtEachNumber, NewerSchemasAreChanged, NewerRowsAreChanged};
+ghost use Rattle.ctr_versions.specs.Laws.{SessionsSeeTheirViews, RowsStandAtEachNumber, NewerSchemasAreChanged, NewerRowsAreChanged, GrantsAreShown};
 
 /// What a session sees in the versions is the view that the model gives it.
 pub fn sessions_see_their_views()
@@ -9,6 +9,11 @@ pub fn sessions_see_their_views()
 /// The versions have the rows of the model at each commit number from the low one on.
 pub fn rows_stand_at_each_number()
     ensures { RowsStandAtEachNumber }
+{}
+
+/// What is granted to a transaction that draws no number with it changes nothing in the engine.
+pub fn grants_are_shown()
+    ensures { GrantsAreShown }
 {}
 
 /// The newest committed version is newer than a snapshot exactly where the model says that the table, or

@@ -5,4 +5,6 @@
 
 mod laws;
 
-pub use laws::{first_committer_wins, rows_stand_at_each_number, sessions_see_their_views};
+pub use laws::{
+    first_committer_wins, grants_are_shown, rows_stand_at_each_number, sessions_see_their_views,
+};

@@ -1,4 +1,4 @@
-use Rattle.std.proofs.Common.{◌≡◌, ◌++◌, map, sym, ap, ◌∙◌}
+use Rattle.std.proofs.Common.{◌++◌, sym, ap, ◌∙◌}
 use Rattle.std.proofs.lemmas.List.{append-nil}
 use Rattle.ctr_versions.specs.Engine.{session_sees}
 use Rattle.ctr_rows.proofs.Seen.{values_seen, listed}

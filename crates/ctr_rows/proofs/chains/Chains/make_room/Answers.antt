@@ -1,6 +1,6 @@
 use Rattle.std.proofs.Common.{Some, None, refl, ◌∙◌, ap, subst}
 use Rattle.std.specs.BTreeMap.{BTreeMap, UpdatesBy}
-use Rattle.ctr_rows.proofs.Slots.{set_kept, set_through, set_updated, room_found, there_is}
+use Rattle.ctr_rows.proofs.Slots.{set_kept, set_through, set_updated, others_updated, others_through, room_found, there_is}
 use Rattle.ctr_rows.proofs.chains.Chains.make_room.Goals as goal
 
 pub returns-in-Some-clause-same : goal.returns-in-Some-clause-same
@@ -21,3 +21,13 @@ returns-in_err-insert-clause-same g c = set_kept g.K.Ord.cmp c.args.self.now c.s
 pub returns-clause-same : goal.returns-clause-same
 returns-clause-same g c = set_updated g.K.Ord.cmp c.args.self.now c.self.inside.chains c.insert.new.self c.self.view_is c.self.invariant c.args.key (λ vs. vs) None (Some c.make_room-2.new.self) c.in_default.ensures.value
     (subst (λ m. UpdatesBy g.K.Ord.cmp (g.K.Ord.cmp c.args.key) m c.insert.new.self (Some c.make_room-2.new.self)) c.get_mut.follows.holds-at-none c.in_ok-insert.ensures.updates) c.insert.ensures.ordered (c.make_room-2.ensures.same ∙ c.new-chain.ensures)
+
+pub returns-in-Some-clause-others : goal.returns-in-Some-clause-others
+returns-in-Some-clause-others g c = others_through g.K.Ord.cmp c.args.self.now c.self.inside.chains (c.get_mut.follows.lender c.make_room.new.self) c.args.key c.in-Some.chain.now c.make_room.new.self c.self.view_is c.in-Some.ensures.value (c.get_mut.follows.holds c.make_room.new.self)
+
+pub returns-in_err-make_room-clause-others : goal.returns-in_err-make_room-clause-others
+returns-in_err-make_room-clause-others g c = others_through g.K.Ord.cmp c.args.self.now c.self.inside.chains (c.get_mut.follows.lender c.make_room.new.self) c.args.key c.in-Some.chain.now c.make_room.new.self c.self.view_is c.in-Some.ensures.value (c.get_mut.follows.holds c.make_room.new.self)
+
+pub returns-clause-others : goal.returns-clause-others
+returns-clause-others g c = others_updated g.K.Ord.cmp c.args.self.now c.self.inside.chains c.insert.new.self c.args.key (Some c.make_room-2.new.self) c.self.view_is
+    (subst (λ m. UpdatesBy g.K.Ord.cmp (g.K.Ord.cmp c.args.key) m c.insert.new.self (Some c.make_room-2.new.self)) c.get_mut.follows.holds-at-none c.in_ok-insert.ensures.updates)

@@ -12,11 +12,11 @@ use Rattle.ctr_rows.proofs.store.Store.create.Goals as goal
 pub invariant_of-self : goal.invariant_of-self
 invariant_of-self c =
     let below = λ (other : List ℕ). further c.self.inside.next (names_at (versions_of (held_store c.self.inside)) other) (c.self.invariant.below other) in
-    stored_names c.args.self.now c.self.inside c.self.view_is c.self.invariant c.write.new.self (c.self.inside.next + 1) c.args.name.now (write (number_of c.args.xids.now) c.args.xid (Some (record { id = c.self.inside.next; schema = c.args.schema }))) c.write.ensures (omega arith) (all_next c.self.inside c.self.invariant (subst (λ (h : HeldStore). is_some (find nat_cmp h.next h.tables) ≡ true) (sym c.self.view_is) c.requires.room.rows))
+    stored_names c.args.self.now c.self.inside c.self.view_is c.self.invariant c.write.new.self (c.self.inside.next + 1) c.args.name.now (write (number_of c.args.xids.now) c.args.xid (Some (record { id = c.self.inside.next; schema = c.args.schema }))) c.write.ensures.set (omega arith) (all_next c.self.inside c.self.invariant (subst (λ (h : HeldStore). is_some (find nat_cmp h.next h.tables) ≡ true) (sym c.self.view_is) c.requires.room.rows))
     (write_below (c.self.inside.next + 1) (number_of c.args.xids.now) c.args.xid (Some (record { id = c.self.inside.next; schema = c.args.schema })) (names_at (versions_of (held_store c.self.inside)) c.args.name.now) (omega arith) (below c.args.name.now)) below
 
 pub returns-clause-set : goal.returns-clause-set
-returns-clause-set c = names_through c.args.self.now c.self.inside c.self.view_is c.self.invariant c.write.new.self (c.self.inside.next + 1) c.args.name.now (write (number_of c.args.xids.now) c.args.xid (Some (record { id = c.self.inside.next; schema = c.args.schema }))) c.write.ensures
+returns-clause-set c = names_through c.args.self.now c.self.inside c.self.view_is c.self.invariant c.write.new.self (c.self.inside.next + 1) c.args.name.now (write (number_of c.args.xids.now) c.args.xid (Some (record { id = c.self.inside.next; schema = c.args.schema }))) c.write.ensures.set
 
 pub returns-clause-unmade : goal.returns-clause-unmade
 returns-clause-unmade c = next_unmade c.args.self.now c.self.inside c.self.view_is c.self.invariant

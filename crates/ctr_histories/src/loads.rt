@@ -1,0 +1,59 @@
+// The changes of a database that is loaded before the engine is opened over it. Each gives nothing where
+// the line can't be read.
+use crate::steps::{key_of, name_of, row_of};
+use crate::words::split_word;
+use ctr_rows::Loader;
+use ctr_types::{List, Schema};
+use std::alloc::Global;
+
+/// What a line loads.
+#[derive(Clone, Copy, PartialEq, Eq)]
+pub enum Load {
+    Table,
+    NoTable,
+    Row,
+    NoRow,
+}
+
+const LOADS: &[(&str, Load)] = &[
+    ("load_table", Load::Table),
+    ("unload_table", Load::NoTable),
+    ("load_row", Load::Row),
+    ("unload_row", Load::NoRow),
+];
+
+/// What a line's first word loads.
+pub fn load_of(word: &[u8]) -> Option<Load> {
+    for (text, load) in LOADS {
+        if word == text.as_bytes() {
+            return Some(*load);
+        }
+    }
+    None
+}
+
+/// Loads a change.
+pub fn do_load(alloc: Global, loader: &mut Loader, load: Load, rest: &[u8]) -> Option<()> {
+    let (table, rest) = split_word(rest);
+    let name = name_of(alloc, table)?;
+    match load {
+        Load::Table => {
+            let columns = List::new(alloc);
+            loader.create(alloc, &name, Schema { columns }).ok()
+        }
+        Load::NoTable => {
+            loader.drop_table(&name);
+            Some(())
+        }
+        Load::Row => {
+            let (key, value) = split_word(rest);
+            let key = key_of(key)?;
+            let row = row_of(alloc, key, key_of(value)?.number())?;
+            loader.put_row(alloc, &name, key, row).ok()
+        }
+        Load::NoRow => {
+            loader.remove_row(&name, key_of(rest)?);
+            Some(())
+        }
+    }
+}
