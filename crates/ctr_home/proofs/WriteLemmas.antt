@@ -13,7 +13,7 @@ use Rattle.ctr_home.specs.declared.block.Block.{Block}
 use Rattle.ctr_home.specs.declared.block.Block.TheVariants.{Page, Root}
 use Rattle.ctr_home.specs.declared.block.Home.{Home}
 use Rattle.ctr_home.specs.declared.block.Home.TheVariants.{First, Second}
-use Rattle.ctr_home.specs.Blocks.{BlockValue, file_of, home_len, home_place, value_behind, home_bytes, opens_to, held_at, stamp_in, greater, value_in, value_of}
+use Rattle.ctr_home.specs.Blocks.{BlockValue, file_of, home_len, home_place, value_behind, behind_gate, home_bytes, opens_to, held_at, stamp_in, greater, value_in, value_of}
 use Rattle.ctr_home.specs.Writing.{IsAbove, home_chosen, chosen_in, IsShut, other, OthersStay, KeepsHome, MakesHome, KeepsOrMakesHome, IsOldOrNewValue, IsNewValue}
 use Rattle.ctr_home.proofs.HomeLemmas.{room, opened_shut, opened_whole, home_split, held_short}
 
@@ -318,8 +318,8 @@ module _ (b : Block) (home : Home) (old : Image) where
       beside_mid c torn = beside_torn mid c at 1 b home in_gate_mid fits_mid torn ∙ mid_keeps.beside
 
       -- the gate, torn
-      pub gate_by_torn : (c : Image) → TornImage file at 1 mid c → KeepsOrMakesHome b home (value_behind b behind) old c
-      gate_by_torn c torn =
+      pub gate_by_torn : behind ≡ behind_gate b (value_behind b behind) → (c : Image) → TornImage file at 1 mid c → KeepsOrMakesHome b home (value_behind b behind) old c
+      gate_by_torn spelled_is c torn =
           let t = subst (λ (o : List ℕ). Torn at 1 o (content file c)) mid_split torn.torn in
           let byte = torn_byte front (behind ++ drop (length behind) tail) shut_gate at (content file c) front_long t in
           let home_is = home_with (content file c) byte.0 byte.1 in
@@ -328,6 +328,7 @@ module _ (b : Block) (home : Home) (old : Image) where
               others = others_mid c torn;
               beside = beside_mid c torn;
               here = ap (opens_to b) (home_is ∙ ap (λ (x : ℕ). x ∷ behind) one) ∙ opened_whole b behind whole;
+              whole = home_is ∙ ap (λ (x : ℕ). x ∷ behind) one ∙ ap (λ (l : List ℕ). 1 ∷ l) spelled_is;
             })
             | inr closed ↦ inl (record {
               others = others_mid c torn;
@@ -337,8 +338,8 @@ module _ (b : Block) (home : Home) (old : Image) where
           ]
 
       -- and written
-      pub gate_by_write : (new : Image) → new ≡ write_of file at (1 ∷ []) mid → MakesHome b home (value_behind b behind) old new
-      gate_by_write new is =
+      pub gate_by_write : behind ≡ behind_gate b (value_behind b behind) → (new : Image) → new ≡ write_of file at (1 ∷ []) mid → MakesHome b home (value_behind b behind) old new
+      gate_by_write spelled_is new is =
           let torn = subst (λ (c : Image). TornImage file at 1 mid c) (sym is) (torn_whole file at (1 ∷ []) mid) in
           let new_is : content file new ≡ front ++ 1 ∷ (behind ++ drop (length behind) tail) =
           ap (content file) is ∙ content_written file at (1 ∷ []) mid ∙ ap (λ (l : List ℕ). written at (1 ∷ []) l) mid_split
@@ -347,6 +348,7 @@ module _ (b : Block) (home : Home) (old : Image) where
             others = others_mid new torn;
             beside = beside_mid new torn;
             here = ap (opens_to b) (home_with (content file new) 1 new_is) ∙ opened_whole b behind whole;
+            whole = home_with (content file new) 1 new_is ∙ ap (λ (l : List ℕ). 1 ∷ l) spelled_is;
           }
 
 -- ---- the writing of a home, seen as the value
@@ -370,6 +372,7 @@ module _ (b : Block) (home : Home) (old : Image) (value : BlockValue) (is : home
     later_makes above c makes = (
       others_then b old mid c kept.others makes.others,
       made_value b (content (file_of b) old) (content (file_of b) c) home value is above (makes.beside ∙ kept.beside) makes.here,
+      (home, makes.whole),
     )
 
     pub later_either : IsAbove value.stamp (value_of b old) → (c : Image) → KeepsOrMakesHome b home value mid c → IsOldOrNewValue b value old c

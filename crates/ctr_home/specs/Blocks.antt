@@ -1,10 +1,10 @@
 -- A block of a file in two homes: a page, or the root.
-use Rattle.std.specs.Prelude.{◌+◌, ◌*◌, ◌==◌, ◌&&◌, nat_lt, if◌then◌else◌, ℕ, List, [], ◌∷◌, length, take, drop, replicate, Option, Some, None}
+use Rattle.std.specs.Prelude.{◌+◌, ◌-◌, ◌*◌, ◌==◌, ◌&&◌, nat_lt, if◌then◌else◌, ℕ, List, [], ◌∷◌, ◌++◌, length, take, drop, replicate, Option, Some, None}
 use Rattle.ctr_disk.specs.declared.disk.Image.{Image}
 use Rattle.ctr_types.specs.declared.file.File.{File}
 use Rattle.ctr_types.specs.declared.file.File.TheVariants.{Root as RootFile, Pages}
 use Rattle.ctr_disk.specs.Image.{content}
-use Rattle.ctr_bytes.specs.Fields.{field}
+use Rattle.ctr_bytes.specs.Fields.{field, spelled}
 use Rattle.ctr_home.specs.declared.block.Block.{Block}
 use Rattle.ctr_home.specs.declared.block.Block.TheVariants.{Page, Root}
 use Rattle.ctr_home.specs.declared.block.Home.{Home}
@@ -54,6 +54,15 @@ value_behind b bytes = record {
   body = take (body_len b) (drop 12 bytes);
 }
 
+-- that many zeros
+unfoldable pub zero_bytes : ℕ → List ℕ
+zero_bytes n = replicate n 0
+
+-- how a value stands behind a gate: number, stamp, body, and zeros to the end of the home
+abbrev pub behind_gate : Block → BlockValue → List ℕ
+behind_gate b v =
+    spelled 4 v.number ++ spelled 8 v.stamp ++ v.body ++ zero_bytes (home_len b - (13 + body_len b))
+
 -- the bytes of a home, as many as the file has of them
 abbrev pub home_bytes : Block → Home → List ℕ → List ℕ
 home_bytes b home bytes = take (home_len b) (drop (home_place b home) bytes)
@@ -102,10 +111,6 @@ value_place_in b bytes =
 -- the same of an image
 abbrev pub value_place : Block → Image → ℕ
 value_place b image = value_place_in b (content (file_of b) image)
-
--- that many zeros
-unfoldable pub zero_bytes : ℕ → List ℕ
-zero_bytes n = replicate n 0
 
 -- the LSN and the bytes of a page
 pub record PageValue : Type 0 where

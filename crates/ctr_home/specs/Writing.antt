@@ -1,11 +1,11 @@
 -- What the writing of a block leaves.
-use Rattle.std.specs.Prelude.{◌≡◌, ◌≢◌, ◌⊎◌, ◌≤◌, ◌<◌, nat_lt, if◌then◌else◌, ℕ, List, length, slice_index, Option, Some, None}
+use Rattle.std.specs.Prelude.{◌≡◌, ◌≢◌, ◌⊎◌, ◌≤◌, ◌<◌, nat_lt, if◌then◌else◌, ℕ, List, ◌∷◌, length, slice_index, Option, Some, None}
 use Rattle.ctr_disk.specs.declared.disk.Image.{Image}
 use Rattle.ctr_disk.specs.Image.{content, OtherFilesStay}
 use Rattle.ctr_home.specs.declared.block.Block.{Block}
 use Rattle.ctr_home.specs.declared.block.Home.{Home}
 use Rattle.ctr_home.specs.declared.block.Home.TheVariants.{First, Second}
-use Rattle.ctr_home.specs.Blocks.{BlockValue, file_of, block_number, home_place, held_at, stamp_in, value_of}
+use Rattle.ctr_home.specs.Blocks.{BlockValue, file_of, block_number, home_place, home_bytes, held_at, stamp_in, value_of, behind_gate}
 
 -- the value with this stamp and body
 abbrev pub with_body : Block → ℕ → List ℕ → BlockValue
@@ -51,12 +51,14 @@ pub record KeepsHome (b : Block) (home : Home) (old new : Image) : Type 0 where
   pub here : (held_at b home (content (file_of b) new) ≡ None)
       ⊎ (held_at b home (content (file_of b) new) ≡ held_at b home (content (file_of b) old))
 
--- all else stays; the other home holds what it held, and this one holds the value
+-- all else stays; the other home holds what it held, and this one holds the value, with zeros behind
+-- its body
 pub record MakesHome (b : Block) (home : Home) (value : BlockValue) (old new : Image) : Type 0 where
   pub others : OthersStay b old new
   pub beside :
       held_at b (other home) (content (file_of b) new) ≡ held_at b (other home) (content (file_of b) old)
   pub here : held_at b home (content (file_of b) new) ≡ Some value
+  pub whole : home_bytes b home (content (file_of b) new) ≡ 1 ∷ behind_gate b value
 
 -- while the gate is opened
 abbrev pub KeepsOrMakesHome : Block → Home → BlockValue → Image → Image → Type 0
@@ -67,6 +69,8 @@ abbrev pub IsOldOrNewValue : Block → BlockValue → Image → Image → Type 0
 IsOldOrNewValue b value old new = OthersStay b old new
     × ((value_of b new ≡ value_of b old) ⊎ (value_of b new ≡ Some value))
 
--- the block has this value, and all else is as it was
+-- the block has this value, which stands in one of its homes with zeros behind it, and all else is as
+-- it was
 abbrev pub IsNewValue : Block → BlockValue → Image → Image → Type 0
 IsNewValue b value old new = OthersStay b old new × (value_of b new ≡ Some value)
+    × ((home : Home) × (home_bytes b home (content (file_of b) new) ≡ 1 ∷ behind_gate b value))

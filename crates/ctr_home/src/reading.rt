@@ -73,7 +73,8 @@ pub fn read_page<D: Disk>(
     Ok(stamp.unwrap_or(0))
 }
 
-fn clear(into: &mut [u8])
+/// Fills the bytes with zeros.
+pub fn clear(into: &mut [u8])
     ensures { into.new ≡ zero_bytes (length into.old) }
 {
     into.fill(0);

@@ -4,11 +4,11 @@ ghost use Rattle.ctr_disk.specs.declared.fault.StoreFault.TheVariants.{Fault};
 ghost use Rattle.ctr_disk.specs.Image.{content};
 ghost use Rattle.ctr_disk.specs.Device.{LeavesOnly, IsDurable, IsSettled, OnlyReads, Counts, CountsAs};
 ghost use Rattle.ctr_bytes.specs.Fields.{spelled};
-ghost use Rattle.ctr_home.specs.Blocks.{BlockValue, file_of, block_number, body_len, home_len, first_place, home_place, value_behind, value_of};
+ghost use Rattle.ctr_home.specs.Blocks.{BlockValue, file_of, block_number, body_len, home_len, first_place, home_place, value_behind, behind_gate, value_of};
 ghost use Rattle.ctr_home.specs.Writing.{IsAbove, chosen_in, IsShut, KeepsHome, MakesHome, KeepsOrMakesHome, IsOldOrNewValue, IsNewValue, with_body};
 
 use crate::block::{Block, Home};
-use crate::reading::open_stamp;
+use crate::reading::{clear, open_stamp};
 use ctr_bytes::{put_u32, put_u64};
 use ctr_disk::{Disk, Failed, Stamp, StoreFault, write_through};
 
@@ -106,13 +106,15 @@ fn put_home<D: Disk>(
 /// How many bytes a home has behind its gate at most: those of a page's.
 const MOST_BEHIND: usize = 4127;
 
-// The bytes behind the gate of a home, whose last ones stay.
+// The bytes behind the gate of a home.
 fn spell(block: Block, stamp: Stamp, body: &[u8], behind: &mut [u8])
     requires body { length body.now ≡ body_len block }
     requires behind { length behind.old + 1 ≡ home_len block }
     ensures value { value_behind block behind.new ≡ with_body block stamp body.now }
+    ensures whole { behind.new ≡ behind_gate block (with_body block stamp body.now) }
     ensures long { length behind.new + 1 ≡ home_len block }
 {
+    clear(behind);
     put_u32(behind, 0, block.number());
     put_u64(behind, 4, stamp);
     behind[12..12 + body.len()].copy_from_slice(body);

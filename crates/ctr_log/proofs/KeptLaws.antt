@@ -17,10 +17,10 @@ use Rattle.ctr_log.specs.Reading.{log_file}
 use Rattle.ctr_log.specs.Kept.{logged, log_in, kept_in, kept_log, other_file, IsDropped, AreShort, HoldsOne, HoldsTwo, HoldsLog, WritesBy, KeepsPrefix, GoesOnWith, StaysDropped}
 use Rattle.ctr_log.proofs.LogLemmas.{length-push, records-push, unframed-frames, batch_length, batch_first, batch_count, batch_frames}
 
-picks : {A : Type 0} (a b : ℕ) (x y : A) → a ≡ b → (if a == b then x else y) ≡ x
+pub picks : {A : Type 0} (a b : ℕ) (x y : A) → a ≡ b → (if a == b then x else y) ≡ x
 picks a b x y is = ⊎_elim (λ w. ap (λ (t : Bool). if t then x else y) w.0) (λ w. absurd (w.1 is)) (eqb_tells a b)
 
-passes : {A : Type 0} (a b : ℕ) (x y : A) → a ≢ b → (if a == b then x else y) ≡ y
+pub passes : {A : Type 0} (a b : ℕ) (x y : A) → a ≢ b → (if a == b then x else y) ≡ y
 passes a b x y isnt = ⊎_elim (λ w. absurd (isnt w.1)) (λ w. ap (λ (t : Bool). if t then x else y) w.0) (eqb_tells a b)
 
 -- a field behind an open gate

@@ -1,8 +1,8 @@
 -- What reading two generations finds is the log of the image.
-use Rattle.std.proofs.Common.{◌≡◌, ◌⊎◌, inl, inr, ℕ, zero, suc, ◌+◌, ◌^◌, ◌<◌, ◌≤◌, ◌==◌, Bool, true, false, if◌then◌else◌, List, [], ◌∷◌, ◌++◌, length, drop, get_or, refl, sym, ◌∙◌, ap, subst, arith, length-append}
+use Rattle.std.proofs.Common.{◌≡◌, ◌⊎◌, inl, inr, ℕ, zero, suc, ◌+◌, ◌^◌, ◌<◌, ◌≤◌, ◌==◌, Bool, true, false, if◌then◌else◌, List, [], ◌∷◌, ◌++◌, length, drop, get_or, refl, sym, ◌∙◌, ap, subst, arith, length-append, append_assoc}
 use Rattle.std.proofs.lemmas.Bool.{false≢true}
 use Rattle.std.proofs.lemmas.Bool.Decides.{nat_tests}
-use Rattle.std.proofs.lemmas.List.{get_or-drop}
+use Rattle.std.proofs.lemmas.List.{get_or-drop, append-nil}
 use Rattle.ctr_types.specs.declared.file.File.{File}
 use Rattle.ctr_disk.specs.declared.disk.Image.{Image}
 use Rattle.ctr_disk.specs.Image.{content, section}
@@ -14,10 +14,15 @@ use Rattle.ctr_log.specs.declared.reading.ReadError.{ReadError}
 use Rattle.ctr_log.specs.declared.reading.ReadError.TheVariants.{Store, OutOfMemory}
 use Rattle.ctr_log.specs.Logs.{Batches, batch, batches, records, HasLog, Log, GoesOn}
 use Rattle.ctr_log.specs.Reading.{log_file, ReadsLog, HasSome, IsEmptyAt, RefusesOrFails}
-use Rattle.ctr_log.specs.Kept.{NamesKept, log_in, begins_at, kept_log, other_file, next_file, IsDropped, AreShort, RefusesKept, HoldsTwo, HoldsLog, StandsLog, OpensKept, WritesBy, WritesBehind, writer_file}
+use Rattle.ctr_log.specs.Kept.{NamesKept, log_in, begins_at, kept_log, other_file, next_file, IsDropped, AreShort, RefusesKept, HoldsTwo, HoldsLog, StandsLog, OpensKept, WritesBy, WritesBehind, writer_file, has_newer}
+use Rattle.ctr_log.specs.Visits.{file_visits, kept_visits, GivesPart, StopsAt, OnRead}
+use Rattle.ctr_log.specs.declared.visitor.Visit.{Visit}
+use Rattle.ctr_log.specs.declared.visitor.VisitError.{VisitError}
+use Rattle.ctr_log.specs.declared.visitor.VisitError.TheVariants.{Read, Refused}
 use Rattle.ctr_log.proofs.LogLemmas.{length-batch}
 use Rattle.ctr_log.proofs.KeptLaws.{log_in_is, begins}
 use Rattle.ctr_log.proofs.StartLemmas.{next_other}
+use Rattle.ctr_log.proofs.VisitLemmas.{stops_more, stops_behind, part_given}
 
 -- what a read gives, of a part
 section-drop : (from at n : ℕ) (bytes : List ℕ) → section at n (drop from bytes) ≡ section (from + at) n bytes
@@ -76,6 +81,28 @@ kept_refused {file} {first} {image} is part (Store (Damaged f at want got)) refu
 pub older_refused : (file first : ℕ) (image : Image) (g : File) → g ≡ log_file file → (e : ReadError) → RefusesOrFails g (HasSome first (content g image)) e → RefusesKept file first image e
 older_refused file first image g is e refused = kept_refused (inl is) (λ (stands : StandsLog file first image). (stands.bs, subst (λ (k : File). HasLog first stands.bs (content k image)) (sym is) stands.named)) e refused
 
+by_newer : (b : Bool) (x y : List Visit) → (more : List Visit) × ((if b then x ++ y else x) ≡ x ++ more)
+by_newer true x y = (y, refl)
+by_newer false x y = ([], sym (append-nil x))
+
+-- the visits of the log begin with those of the named file
+module _ (file first : ℕ) (image : Image) (f : File) (is : f ≡ log_file file) where
+  named_first : (more : List Visit) × (kept_visits file first image ≡ file_visits f first (content f image) ++ more)
+  named_first =
+      let k = by_newer (has_newer first (content (log_file file) image) (content (other_file file) image)) (file_visits (log_file file) first (content (log_file file) image)) (file_visits (other_file file) (first + length (log_in (content (log_file file) image))) (content (other_file file) image)) in
+      (k.0, k.1 ∙ ap (λ (g : File). file_visits g first (content g image) ++ k.0) (sym is))
+
+  module _ (old new : List Visit) where
+    pub stops_older : {E : Type 0} (refuses : List Visit → Visit → E → Type 0) (e : VisitError E) → StopsAt refuses old new (file_visits f first (content f image)) e → StopsAt refuses old new (kept_visits file first image) e
+    stops_older refuses e stops = stops_more refuses old new (file_visits f first (content f image)) named_first.0 (kept_visits file first image) named_first.1 e stops
+
+    pub part_older : new ≡ old ++ file_visits f first (content f image) → GivesPart old new (kept_visits file first image)
+    part_older seen = part_given (file_visits f first (content f image)) named_first.0 seen named_first.1
+
+pub older_refused_by : {E : Type 0} (file first : ℕ) (image : Image) (g : File) → g ≡ log_file file → (e : VisitError E) → OnRead (RefusesOrFails g (HasSome first (content g image))) e → OnRead (RefusesKept file first image) e
+older_refused_by file first image g is (Read e) refused = older_refused file first image g is e refused
+older_refused_by file first image g is (Refused r) refused = tt
+
 -- the named file was read, whose image is that later too
 pub record WasRead (r : Root) (image mid : Image) (f h : File) (rs : List (List ℕ)) (place next : ℕ) : Type 0 where
   pub names : NamesKept r
@@ -83,11 +110,11 @@ pub record WasRead (r : Root) (image mid : Image) (f h : File) (rs : List (List 
   pub other_is : h ≡ next_file f
   pub same : mid ≡ image
   pub found : ReadsLog r.first (content f image) rs place next
-  pub only : (bs : Batches) → HasLog r.first bs (content f image) → rs ≡ records bs
+  pub only : (bs : Batches) → HasLog r.first bs (content f image) → next ≡ r.first + length (records bs)
   pub low_place : place < 2 ^ 63
 
 pub was_read : {r : Root} {image mid : Image} {f h : File} {rs : List (List ℕ)} {place next : ℕ} → NamesKept r → f ≡ log_file r.file → h ≡ next_file f → mid ≡ image → ReadsLog r.first (content f image) rs place next
-    → ((bs : Batches) → HasLog r.first bs (content f image) → rs ≡ records bs) → place < 2 ^ 63 → WasRead r image mid f h rs place next
+    → ((bs : Batches) → HasLog r.first bs (content f image) → next ≡ r.first + length (records bs)) → place < 2 ^ 63 → WasRead r image mid f h rs place next
 was_read names named other same found only low = record { names = names; named_is = named; other_is = other; same = same; found = found; only = only; low_place = low }
 
 -- and the other file's first batch was looked at
@@ -101,7 +128,7 @@ module _ {r : Root} {image mid : Image} {f h : File} {rs : List (List ℕ)} {pla
   read : ReadsLog r.first named rs place next
   read = subst (λ (k : File). ReadsLog r.first (content k image) rs place next) w.named_is w.found
 
-  only : (bs : Batches) → HasLog r.first bs named → rs ≡ records bs
+  only : (bs : Batches) → HasLog r.first bs named → next ≡ r.first + length (records bs)
   only bs log = w.only bs (subst (λ (k : File). HasLog r.first bs (content k image)) (sym w.named_is) log)
 
   behind_is : h ≡ other_file r.file
@@ -133,9 +160,15 @@ module _ {r : Root} {image mid : Image} {f h : File} {rs : List (List ℕ)} {pla
       ap (λ (t : Bool). if t then log_in named ++ log_in other else log_in named) looked
       ∙ ap (λ (l : List (List ℕ)). if b then l ++ log_in other else l) named_read
 
+  -- the visits are those of the named file, and those of the other where it was found to go on
+  visits_by : kept_visits r.file r.first image ≡ (if b then file_visits (log_file r.file) r.first named ++ file_visits (other_file r.file) next other else file_visits (log_file r.file) r.first named)
+  visits_by =
+      ap (λ (t : Bool). if t then file_visits (log_file r.file) r.first named ++ file_visits (other_file r.file) (r.first + length (log_in named)) other else file_visits (log_file r.file) r.first named) looked
+      ∙ ap (λ (n : ℕ). if b then file_visits (log_file r.file) r.first named ++ file_visits (other_file r.file) n other else file_visits (log_file r.file) r.first named) next_read
+
   -- a log that stands has the batches that were read
   same_next : (bs : Batches) → HasLog r.first bs named → r.first + length (records bs) ≡ next
-  same_next bs log = omega (arith, ap length (only bs log), ap length read.records_are, read.next_is)
+  same_next bs log = sym (only bs log)
 
   begins_two : (bs cs : Batches) → HoldsTwo r.file r.first bs cs image → begins_at next other ≡ true
   begins_two bs cs holds =
@@ -152,9 +185,11 @@ module _ {r : Root} {image mid : Image} {f h : File} {rs : List (List ℕ)} {pla
       first_is = at.next_is ∙ read.next_is;
     }
 
-    pub opens_one : OpensKept r.file r.first image log rs
+    kept_one : kept_log r.file r.first image ≡ rs
+    kept_one = kept_by ∙ ap (λ (t : Bool). if t then rs ++ log_in other else rs) alone
+
+    pub opens_one : OpensKept r.file r.first image log
     opens_one = record {
-      records_are = sym (kept_by ∙ ap (λ (t : Bool). if t then rs ++ log_in other else rs) alone);
       stands = record {
         bs = read.bs;
         named = read.log_is;
@@ -162,9 +197,14 @@ module _ {r : Root} {image mid : Image} {f h : File} {rs : List (List ℕ)} {pla
       };
       older_is = at.older_is ∙ sym (looked ∙ alone);
       file_is = at.file_is ∙ w.named_is ∙ ap (λ (o : Bool). writer_file o r.file) (sym at.older_is);
-      next_is = omega (arith, at.next_is, number_is, ap length read.records_are);
+      next_is = omega (arith, at.next_is, number_is, ap length read.records_are, ap length kept_one);
       goes_on = (r.first, read.bs, goes_one);
     }
+
+    pub visited_one : (old new : List Visit) → new ≡ old ++ file_visits f r.first (content f image) → new ≡ old ++ kept_visits r.file r.first image
+    visited_one old new seen =
+        seen ∙ ap (λ (k : File). old ++ file_visits k r.first (content k image)) w.named_is
+        ∙ ap (λ (l : List Visit). old ++ l) (sym (visits_by ∙ ap (λ (t : Bool). if t then file_visits (log_file r.file) r.first named ++ file_visits (other_file r.file) next other else file_visits (log_file r.file) r.first named) alone))
 
     pub writes_one : (all : List (List ℕ)) → HoldsLog r.file r.first all image → WritesBehind r.file r.first log image
     writes_one all (inr two) = absurd (false≢true (sym (tells ∙ alone) ∙ begins_two two.0 two.1 two.3))
@@ -191,6 +231,27 @@ module _ {r : Root} {image mid : Image} {f h : File} {rs : List (List ℕ)} {pla
     pub newer_refused : (e : ReadError) → RefusesOrFails h (HasSome next (content h late)) e → RefusesKept r.file r.first image e
     newer_refused e refused = kept_refused (inr behind_is) newer_stands e refused
 
+    pub newer_refused_by : {E : Type 0} (e : VisitError E) → OnRead (RefusesOrFails h (HasSome next (content h late))) e → OnRead (RefusesKept r.file r.first image) e
+    newer_refused_by (Read e) refused = newer_refused e refused
+    newer_refused_by (Refused own) refused = tt
+
+    visits_two : kept_visits r.file r.first image ≡ file_visits f r.first (content f image) ++ file_visits h next (content h late)
+    visits_two =
+        visits_by ∙ ap (λ (t : Bool). if t then file_visits (log_file r.file) r.first named ++ file_visits (other_file r.file) next other else file_visits (log_file r.file) r.first named) there
+        ∙ ap (λ (k : File). file_visits k r.first (content k image) ++ file_visits (other_file r.file) next other) (sym w.named_is)
+        ∙ ap (λ (k : File). file_visits f r.first (content f image) ++ file_visits k next other) (sym behind_is)
+        ∙ ap (λ (l : List ℕ). file_visits f r.first (content f image) ++ file_visits h next l) (sym bytes_are)
+
+    module _ (old mid_seen new : List Visit) (seen : mid_seen ≡ old ++ file_visits f r.first (content f image)) where
+      pub stops_newer : {E : Type 0} (refuses : List Visit → Visit → E → Type 0) (e : VisitError E) → StopsAt refuses mid_seen new (file_visits h next (content h late)) e → StopsAt refuses old new (kept_visits r.file r.first image) e
+      stops_newer refuses e stops = stops_behind refuses old mid_seen new (file_visits f r.first (content f image)) (file_visits h next (content h late)) (kept_visits r.file r.first image) seen visits_two e stops
+
+      pub visited_two : new ≡ mid_seen ++ file_visits h next (content h late) → new ≡ old ++ kept_visits r.file r.first image
+      visited_two given =
+          given ∙ ap (λ (l : List Visit). l ++ file_visits h next (content h late)) seen
+          ∙ append_assoc old (file_visits f r.first (content f image)) (file_visits h next (content h late))
+          ∙ ap (λ (l : List Visit). old ++ l) (sym visits_two)
+
     -- and was read
     module _ {qs : List (List ℕ)} {place2 next2 : ℕ} (found : ReadsLog next (content h late) qs place2 next2) (low_place2 : place2 < 2 ^ 63) (low2 : next2 < 2 ^ 64) {log : Log} (at : IsEmptyAt h true place2 next2 log) where
       newer : ReadsLog next other qs place2 next2
@@ -209,9 +270,11 @@ module _ {r : Root} {image mid : Image} {f h : File} {rs : List (List ℕ)} {pla
         first_is = at.next_is ∙ newer.next_is;
       }
 
-      pub opens_two : {all : List (List ℕ)} → all ≡ rs ++ qs → OpensKept r.file r.first image log all
-      opens_two {all} all_is = record {
-        records_are = all_is ∙ ap (λ (l : List (List ℕ)). rs ++ l) (sym other_read) ∙ sym (kept_by ∙ ap (λ (t : Bool). if t then rs ++ log_in other else rs) there);
+      kept_two : kept_log r.file r.first image ≡ rs ++ qs
+      kept_two = kept_by ∙ ap (λ (t : Bool). if t then rs ++ log_in other else rs) there ∙ ap (λ (l : List (List ℕ)). rs ++ l) other_read
+
+      pub opens_two : OpensKept r.file r.first image log
+      opens_two = record {
         stands = record {
           bs = read.bs;
           named = read.log_is;
@@ -219,7 +282,7 @@ module _ {r : Root} {image mid : Image} {f h : File} {rs : List (List ℕ)} {pla
         };
         older_is = at.older_is ∙ sym (looked ∙ there);
         file_is = at.file_is ∙ behind_is ∙ ap (λ (o : Bool). writer_file o r.file) (sym at.older_is);
-        next_is = omega (arith, at.next_is, newer.next_is, number_is, ap length read.records_are, ap length newer.records_are, ap length all_is, length-append rs qs);
+        next_is = omega (arith, at.next_is, newer.next_is, number_is, ap length read.records_are, ap length newer.records_are, ap length kept_two, length-append rs qs);
         goes_on = (next, newer.bs, goes_two);
       }
 

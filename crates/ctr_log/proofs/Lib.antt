@@ -2,6 +2,9 @@ pub mod DamageLemmas
 pub mod LogLemmas
 pub mod FlushLemmas
 pub mod ReadLemmas
+pub mod BatchLemmas
+pub mod VisitLemmas
+pub mod VisitLaws
 pub mod NearLemmas
 pub mod InitLemmas
 pub mod KeptLaws

@@ -1,6 +1,6 @@
 -- What stands in bytes that are read.
 use Rattle.std.proofs.Common.{◌*◌, ◌≡◌, ◌≢◌, ℕ, ◌+◌, ◌-◌, ◌^◌, ◌≤◌, ◌<◌, List, [], ◌∷◌, ◌++◌, length, take, drop, get_or, refl, sym, ◌∙◌, ap, subst, arith, length-append, length-take, length-drop, take-append-drop, append_assoc}
-use Rattle.std.proofs.lemmas.List.{append-nil, take_at, drop_at, drop_more, drop-drop, length-take-le}
+use Rattle.std.proofs.lemmas.List.{append-nil, take_at, take-take, drop_at, drop_more, drop-drop, drop-take, length-take-le}
 use Rattle.ctr_types.specs.declared.file.File.{File}
 use Rattle.ctr_disk.specs.declared.fault.StoreFault.{StoreFault}
 use Rattle.ctr_disk.specs.declared.fault.StoreFault.TheVariants.{Damaged}
@@ -108,16 +108,34 @@ module _ (next : ℕ) (rs : List (List ℕ)) (behind bytes : List ℕ) (is : byt
   pub front_long : length bytes ≡ 21 + field 8 1 bytes + length behind
   front_long = omega (arith, bytes_long, front_length)
 
+-- the fields in the first 21 of the bytes spell their numbers
+abbrev pub HeadSpelled : List ℕ → Type 0
+HeadSpelled bytes = (n at : ℕ) → at + n ≤ 21 → 21 ≤ length bytes → spelled n (field n at bytes) ≡ take n (drop at bytes)
+
+pub spelled_all : (bytes : List ℕ) → AreBytes bytes → HeadSpelled bytes
+spelled_all bytes below n at fits long = spelled_field n at bytes (omega (arith, fits, long)) below
+
+-- where these were read
+pub spelled_head : (rest head : List ℕ) → (21 ≤ length rest → head ≡ take 21 rest) → AreBytes head → HeadSpelled rest
+spelled_head rest head is below n at fits long =
+    let head_is = is long in
+    let head_long : length head ≡ 21 = ap length head_is ∙ length-take-le 21 rest long in
+    let whole : rest ≡ head ++ drop 21 rest = sym (ap (λ (l : List ℕ). l ++ drop 21 rest) head_is ∙ take-append-drop 21 rest) in
+    let same : field n at rest ≡ field n at head = ap (field n at) whole ∙ field-append n at head (drop 21 rest) (omega (arith, fits, head_long)) in
+    let front : take n (drop at head) ≡ take n (drop at rest) =
+    sym (drop-take at n head) ∙ ap (λ (l : List ℕ). drop at (take (at + n) l)) head_is ∙ ap (drop at) (take-take (at + n) 21 rest fits) ∙ drop-take at n rest in
+    ap (spelled n) same ∙ spelled_field n at head (omega (arith, fits, head_long)) below ∙ front
+
 -- bytes whose fields are those of a batch begin with it
-pub batch_at : (next : ℕ) (rs : List (List ℕ)) (bytes : List ℕ) → AreBytes bytes → get_or bytes 0 0 ≡ 1 → 21 + field 8 1 bytes ≤ length bytes → field 8 9 bytes ≡ next → take (field 8 1 bytes) (drop 21 bytes) ≡ frames rs
+pub batch_at : (next : ℕ) (rs : List (List ℕ)) (bytes : List ℕ) → HeadSpelled bytes → get_or bytes 0 0 ≡ 1 → 21 + field 8 1 bytes ≤ length bytes → field 8 9 bytes ≡ next → take (field 8 1 bytes) (drop 21 bytes) ≡ frames rs
     → field 4 17 bytes ≡ length rs → bytes ≡ 1 ∷ (batch next rs ++ drop (21 + field 8 1 bytes) bytes)
-batch_at next rs bytes below one fits first_is frames_are count_is =
+batch_at next rs bytes spells one fits first_is frames_are count_is =
     let n = field 8 1 bytes in
     let t = drop 1 bytes in
     let len : n ≡ length (frames rs) = sym (length-take-le n (drop 21 bytes) (omega (arith, length-drop 21 bytes))) ∙ ap length frames_are in
-    let a : take 8 t ≡ spelled 8 (length (frames rs)) = sym (spelled_field 8 1 bytes (omega arith) below) ∙ ap (spelled 8) len in
-    let b : take 8 (drop 9 bytes) ≡ spelled 8 next = sym (spelled_field 8 9 bytes (omega arith) below) ∙ ap (spelled 8) first_is in
-    let c : take 4 (drop 17 bytes) ≡ spelled 4 (length rs) = sym (spelled_field 4 17 bytes (omega arith) below) ∙ ap (spelled 4) count_is in
+    let a : take 8 t ≡ spelled 8 (length (frames rs)) = sym (spells 8 1 (omega arith) (omega arith)) ∙ ap (spelled 8) len in
+    let b : take 8 (drop 9 bytes) ≡ spelled 8 next = sym (spells 8 9 (omega arith) (omega arith)) ∙ ap (spelled 8) first_is in
+    let c : take 4 (drop 17 bytes) ≡ spelled 4 (length rs) = sym (spells 4 17 (omega arith) (omega arith)) ∙ ap (spelled 4) count_is in
     let head : take (20 + n) t ≡ batch next rs =
     sym (side 1 20 n bytes) ∙ ap (λ (l : List ℕ). l ++ take n (drop 21 bytes)) (sym (side 1 16 4 bytes)) ∙ ap (λ (l : List ℕ). l ++ take 4 (drop 17 bytes) ++ take n (drop 21 bytes)) (sym (side 1 8 8 bytes))
     ∙ ap (λ (l : List ℕ). l ++ take 8 (drop 9 bytes) ++ take 4 (drop 17 bytes) ++ take n (drop 21 bytes)) a
@@ -169,9 +187,9 @@ module _ (next : ℕ) (rest head : List ℕ) (is : 21 ≤ length rest → head �
 
 -- the checks of a batch hold, so it was read
 module _ (next len count : ℕ) (rest head part behind : List ℕ) (old new : List (List ℕ)) (frames_read : ReadsFrames part old new count) where
-  pub batch_read : (21 ≤ length rest → head ≡ take 21 rest) → AreBytes rest → get_or rest 0 0 ≡ 1 → len ≡ field 8 1 head → len ≤ length rest - 22 → field 8 9 head ≡ next → field 4 17 head ≡ count → field 4 17 head < 2 ^ 32 → 1 ≤ count
+  pub batch_read : (21 ≤ length rest → head ≡ take 21 rest) → HeadSpelled rest → get_or rest 0 0 ≡ 1 → len ≡ field 8 1 head → len ≤ length rest - 22 → field 8 9 head ≡ next → field 4 17 head ≡ count → field 4 17 head < 2 ^ 32 → 1 ≤ count
       → part ≡ take len (drop 21 rest) → behind ≡ drop len (drop 21 rest) → ReadsBatch next rest old new behind count
-  batch_read is below one len_is room first_is count_is small some part_is behind_is =
+  batch_read is spells one len_is room first_is count_is small some part_is behind_is =
       let rs = frames_read.rs in
       let rs_count = frames_read.count in
       let rs_long : 8 ≤ length (frames rs) = some_frames rs (omega arith) in
@@ -181,7 +199,7 @@ module _ (next len count : ℕ) (rest head part behind : List ℕ) (old new : Li
       let field_first : field 8 9 rest ≡ next = sym (head_field 8 9 rest head (omega arith) (omega arith) is) ∙ first_is in
       let field_count : field 4 17 rest ≡ length rs = sym (head_field 4 17 rest head (omega arith) (omega arith) is) ∙ count_is ∙ rs_count in
       let frames_are : take (field 8 1 rest) (drop 21 rest) ≡ frames rs = ap (λ (n : ℕ). take n (drop 21 rest)) field_len ∙ sym part_is ∙ frames_read.bytes_are in
-      let whole = batch_at next rs rest below one (omega arith) field_first frames_are field_count in
+      let whole = batch_at next rs rest spells one (omega arith) field_first frames_are field_count in
       let behind_same : drop (21 + field 8 1 rest) rest ≡ behind = ap (λ (n : ℕ). drop (21 + n) rest) field_len ∙ sym (drop-drop len 21 rest) ∙ sym behind_is in
       record {
         rs = rs;

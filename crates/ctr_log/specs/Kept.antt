@@ -174,14 +174,12 @@ abbrev pub writer_file : Bool → ℕ → File
 writer_file false file = log_file file
 writer_file true file = other_file file
 
--- the log of an image was read: its records, and a writer behind the last of them, which is in the
--- other file where that begins at the next number
-pub record OpensKept (file first : ℕ) (image : Image) (log : Log) (rs : List (List ℕ))
-    : Type 0 where
-  pub records_are : rs ≡ kept_log file first image
+-- the log of an image was read, and a writer goes on behind its last record, which is in the other
+-- file where that begins at the next number
+pub record OpensKept (file first : ℕ) (image : Image) (log : Log) : Type 0 where
   pub stands : StandsLog file first image
   pub older_is : log.older
       ≡ has_newer first (content (log_file file) image) (content (other_file file) image)
   pub file_is : log.file ≡ writer_file log.older file
-  pub next_is : log.first ≡ first + length rs
+  pub next_is : log.first ≡ first + length (kept_log file first image)
   pub goes_on : (oldest : ℕ) × (bs : Batches) × GoesOn oldest bs log image

@@ -5,3 +5,5 @@ pub mod LogFile
 pub mod Reading
 pub mod Fresh
 pub mod Kept
+pub mod Batch
+pub mod Visits

@@ -35,6 +35,10 @@ BeginsWithFrame bytes = (r : List ℕ) × (more : List ℕ) × (bytes ≡ frame 
 abbrev pub AreFrames : List ℕ → Type 0
 AreFrames bytes = (rs : List (List ℕ)) × (bytes ≡ frames rs)
 
+-- the bytes are frames of so many records
+abbrev pub HasFrames : List ℕ → ℕ → Type 0
+HasFrames bytes n = (rs : List (List ℕ)) × (bytes ≡ frames rs) × (n ≡ length rs)
+
 -- the bytes are frames of records, which were added to a list; n is their count
 pub record ReadsFrames (bytes : List ℕ) (old new : List (List ℕ)) (n : ℕ) : Type 0 where
   pub rs : List (List ℕ)

@@ -1,15 +1,24 @@
 //! What every crash leaves whole: the root in its two homes, the log, and a new database.
 #![tactic(auto)]
 
+mod batches;
 mod damage;
+mod gathered;
+mod kept;
+mod laws;
 mod log;
 mod making;
 mod near;
 mod reading;
+mod visitor;
 
-pub use log::{LogFile, Lsn, read_all, read_named};
+pub use gathered::Gathered;
+pub use kept::{read_all, read_named};
+pub use laws::visits_are_the_log;
+pub use log::{LogFile, Lsn};
 pub use making::{Making, init, is_first_checkpoint};
 pub use reading::ReadError;
+pub use visitor::{Visit, VisitError, Visitor};
 
 #[cfg(test)]
 mod tests;

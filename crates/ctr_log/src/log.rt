@@ -7,16 +7,13 @@ ghost use Rattle.ctr_types.specs.Faults.{HasCause, HasFault};
 ghost use Rattle.ctr_disk.specs.Crash.{Only, StraysOnlyPast};
 ghost use Rattle.ctr_disk.specs.Device.{LeavesOnly, IsDurable, IsSettled, OnlyReads, Counts, CountsAs};
 ghost use Rattle.ctr_bytes.specs.Fields.{spelled};
-ghost use Rattle.ctr_log.specs.declared.reading.ReadError.TheVariants.{Store, OutOfMemory as NoMemory};
-ghost use Rattle.ctr_log.specs.Reading.{RefusesOrFails, ReadDiffers, HasSome, OpensLog, IsEmptyAt, NamesLog, log_file};
+ghost use Rattle.ctr_log.specs.Reading.{IsEmptyAt};
 ghost use Rattle.ctr_log.specs.Logs.{Batches, headed, sealed, frame, frames, records, HasLog, HasBatches, GoesOn, Extends, IsBeforeOrAfter, IsAfter, IsFlushing, IsEmptied, with_batch};
-ghost use Rattle.ctr_log.specs.Kept.{next_file, begins_at, NamesKept, HoldsLog, RefusesKept, OpensKept, StaysDropped, CanStart, IsStarted, WritesBehind, KeepsPrefix, GoesOnWith};
+ghost use Rattle.ctr_log.specs.Kept.{next_file, StaysDropped, CanStart, IsStarted, WritesBehind, KeepsPrefix, GoesOnWith};
 
-use crate::near::find_log;
-use crate::reading::ReadError;
-use ctr_bytes::{get_u64, put_u32, put_u64};
-use ctr_disk::{Disk, Failed, Root, StoreFault, write_through};
-use ctr_types::{File, List, OutOfMemory, Text};
+use ctr_bytes::{put_u32, put_u64};
+use ctr_disk::{Disk, Failed, StoreFault, write_through};
+use ctr_types::{File, OutOfMemory};
 use std::alloc::{AllocError, Global};
 use std::marker::Model;
 
@@ -55,8 +52,8 @@ impl Model for LogFile {
 }
 
 impl LogFile {
-    // The writer behind a log whose closed gate stands at a place.
-    fn behind(
+    /// The writer behind a log whose closed gate stands at a place.
+    pub(crate) fn behind(
         alloc: Global,
         file: File,
         older: bool,
@@ -189,8 +186,8 @@ impl LogFile {
     }
 }
 
-// The file for a generation behind one in this file.
-fn next_file(file: File) -> File
+/// The file for a generation behind one in this file.
+pub(crate) fn next_file(file: File) -> File
     ensures { result ≡ next_file file }
 {
     match file {
@@ -223,95 +220,6 @@ fn is_first_shut<D: Disk>(disk: &mut D, file: File) -> Result<bool, Failed>
     let mut gate = [0];
     disk.read(file, 0, &mut gate)?;
     Ok(gate[0] != 1)
-}
-
-/// Reads the one generation that the root of a database without pages names, and answers its writer
-/// and its records. Where the disk tells what it holds, these are the records of the file's log and
-/// no others, and damage is told exactly where no log stands in the file.
-pub fn read_named<D: Disk>(
-    alloc: Global,
-    disk: &mut D,
-    root: &Root,
-) -> Result<(LogFile, List<Text>), ReadError>
-    requires names { NamesLog root.now }
-    ensures found { IsTrue D.tells → IfOk result (λ r. OpensLog root.now.first (log_file root.now.file) (D.reads disk.old) r.0 r.1) }
-    ensures only { (bs : Batches) → IsTrue D.tells → HasLog root.now.first bs (content (log_file root.now.file) (D.reads disk.old)) → IfOk result (λ r. r.1 ≡ records bs) }
-    ensures refused { IsTrue D.tells → IfErr result (RefusesOrFails (log_file root.now.file) (HasSome root.now.first (content (log_file root.now.file) (D.reads disk.old)))) }
-    ensures differs { IfErr result ReadDiffers }
-    ensures none { IfOk result (λ r. r.0.buffered ≡ []) }
-    ensures quiet { OnlyReads D.Disk disk.old disk.new }
-    ensures counts { CountsAs D.Disk (Store Fault) disk.old disk.new result }
-{
-    let file = named_file(root);
-    let found = find_log(alloc, disk, file, root.first)?;
-    let log = LogFile::behind(alloc, file, false, found.place, found.next)?;
-    Ok((log, found.records))
-}
-
-/// Reads the log that is kept, the older generation first, and answers its writer and its records.
-/// Where the disk tells what it holds, damage is told exactly where no log stands in the image.
-pub fn read_all<D: Disk>(
-    alloc: Global,
-    disk: &mut D,
-    root: &Root,
-) -> Result<(LogFile, List<Text>), ReadError>
-    requires names { NamesKept root.now }
-    ensures found { IsTrue D.tells → IfOk result (λ r. OpensKept root.now.file root.now.first (D.reads disk.old) r.0 r.1) }
-    ensures goes_on { (rs : List (List ℕ)) → IsTrue D.tells → HoldsLog root.now.file root.now.first rs (D.reads disk.old)
-        → IfOk result (λ r. WritesBehind root.now.file root.now.first r.0 (D.reads disk.old)) }
-    ensures refused { IsTrue D.tells → IfErr result (RefusesKept root.now.file root.now.first (D.reads disk.old)) }
-    ensures differs { IfErr result ReadDiffers }
-    ensures none { IfOk result (λ r. r.0.buffered ≡ []) }
-    ensures quiet { OnlyReads D.Disk disk.old disk.new }
-    ensures counts { CountsAs D.Disk (Store Fault) disk.old disk.new result }
-{
-    let named = named_file(root);
-    let older = find_log(alloc, disk, named, root.first)?;
-    let other = next_file(named);
-    if !begins_at(disk, other, older.next)? {
-        let log = LogFile::behind(alloc, named, false, older.place, older.next)?;
-        return Ok((log, older.records));
-    }
-    let newer = find_log(alloc, disk, other, older.next)?;
-    let records = joined(older.records, newer.records)?;
-    let log = LogFile::behind(alloc, other, true, newer.place, newer.next)?;
-    Ok((log, records))
-}
-
-// One list behind another.
-fn joined(first: List<Text>, second: List<Text>) -> Result<List<Text>, ReadError>
-    ensures ok { IfOk result (λ l. l ≡ first ++ second) }
-    ensures err { IfErr result (λ e. e ≡ NoMemory) }
-{
-    let mut all = first;
-    for record in second.into_vec() {
-        all.push(record)?;
-    }
-    Ok(all)
-}
-
-// Whether the first batch of a file is open and has this first number.
-fn begins_at<D: Disk>(disk: &mut D, file: File, next: Lsn) -> Result<bool, Failed>
-    ensures told { IsTrue D.tells → IfOk result (λ b. b ≡ begins_at next (content file (D.reads disk.old))) }
-    ensures quiet { OnlyReads D.Disk disk.old disk.new }
-    ensures counts { Counts D.Disk disk.old disk.new result }
-{
-    let mut head = [0; 17];
-    disk.read(file, 0, &mut head)?;
-    if head[0] != 1 {
-        return Ok(false);
-    }
-    Ok(get_u64(&head, 9) == next)
-}
-
-fn named_file(root: &Root) -> File
-    ensures { result ≡ log_file root.now.file }
-{
-    if root.file == 0 {
-        File::LogA
-    } else {
-        File::LogB
-    }
 }
 
 fn put_frame(buffer: &mut Vec<u8>, bytes: &[u8])

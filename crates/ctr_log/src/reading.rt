@@ -10,7 +10,7 @@ use crate::damage::{at_least, at_most, same};
 use crate::log::Lsn;
 use ctr_bytes::{get_u32, get_u64};
 use ctr_disk::{Failed, StoreFault};
-use ctr_types::{File, List, Text};
+use ctr_types::{File, List, OutOfMemory, Text};
 use std::alloc::{AllocError, AllocFailed, Global};
 
 /// Reading ended before the log's end was found.
@@ -46,6 +46,16 @@ impl From<AllocError> for ReadError {
     }
 }
 
+impl From<OutOfMemory> for ReadError {
+    ghost use Rattle.ctr_log.specs.declared.reading.ReadError.TheVariants.{OutOfMemory};
+
+    ghost from_gives = { λ _ e. e ≡ OutOfMemory };
+
+    fn from(_: OutOfMemory) -> ReadError {
+        ReadError::OutOfMemory
+    }
+}
+
 impl<T: Drop> From<AllocFailed<T>> for ReadError {
     ghost use Rattle.ctr_log.specs.declared.reading.ReadError.TheVariants.{OutOfMemory};
 
@@ -56,8 +66,8 @@ impl<T: Drop> From<AllocFailed<T>> for ReadError {
     }
 }
 
-// The first frame's record, and what stands behind it.
-fn next_frame(file: File, rest: &[u8], at: u64) -> Result<(&[u8], &[u8]), StoreFault>
+/// The first frame's record, and what stands behind it.
+pub fn next_frame(file: File, rest: &[u8], at: u64) -> Result<(&[u8], &[u8]), StoreFault>
     ensures { MatchResult result (λ p. rest.now ≡ frame p.0.now ++ p.1.now) (λ e. IsDamageOf file e × (BeginsWithFrame rest.now → ⊥)) }
 {
     let len = rest.len() as u64;

@@ -1,9 +1,89 @@
-// Two generations, byte by byte, and what is read of them.
-use crate::{ReadError, read_all};
-use ctr_disk::{Image, MemDisk, Root, StoreFault};
+// Two generations, byte by byte: what is read of them, and each moment of their making.
+ghost use Rattle.std.specs.Prelude.{[], false};
+ghost use Rattle.ctr_disk.specs.Silent.{never_told};
+ghost use Rattle.ctr_log.specs.Kept.{NamesKept};
+ghost use Rattle.ctr_disk.specs.Memory.{moment_at, counted_faults, counted_strays};
+
+use crate::{Gathered, ReadError, read_all};
+use ctr_disk::{Call, Disk, Failed, Image, MemDisk, Recorded, Root, StoreFault};
+use ctr_home::{read_root, write_root};
 use ctr_types::{File, List, Text};
-use std::alloc::Global;
+use std::alloc::{AllocError, Global};
 use std::test::Fail;
+
+// A disk in memory that doesn't tell what it holds: a call on it wants nothing of that.
+#[derive(Drop)]
+struct Still {
+    disk: MemDisk,
+}
+
+impl Disk for Still {
+    ghost tells = { false };
+
+    ghost reads = { λ _. record { root = []; log_a = []; log_b = []; pages = [] } };
+
+    ghost images = { λ _ _. ⊥ };
+
+    ghost since = { λ _ _ _. ⊥ };
+
+    ghost moment_of = { λ d. moment_at d.disk };
+
+    ghost faults_of = { λ d. counted_faults d.disk };
+
+    ghost strays_of = { λ d. counted_strays d.disk };
+
+    ghost counts_now = { λ d t c le is. is };
+
+    ghost only_now = { λ d c is. is };
+
+    ghost earlier = { λ d s t c le is. is };
+
+    ghost among = { λ d told. never_told told };
+
+    fn moment(&self) -> u64 {
+        self.disk.moment()
+    }
+
+    fn faults(&self) -> u64 {
+        self.disk.faults()
+    }
+
+    fn strays(&self) -> u64 {
+        self.disk.strays()
+    }
+
+    fn size(&mut self, file: File) -> Result<u64, Failed> {
+        self.disk.size(file)
+    }
+
+    fn read(&mut self, file: File, at: u64, into: &mut [u8]) -> Result<(), Failed> {
+        self.disk.read(file, at, into)
+    }
+
+    fn write(&mut self, file: File, at: u64, bytes: &[u8]) -> Result<(), Failed> {
+        self.disk.write(file, at, bytes)
+    }
+
+    fn sync(&mut self) -> Result<(), Failed> {
+        self.disk.sync()
+    }
+}
+
+// What is asked of it once the calls are made, of which no proof wants anything.
+impl Still {
+    fn calls(&self) -> &[Recorded] {
+        self.disk.calls()
+    }
+
+    fn image_left(&self, count: usize, digits: u64) -> Result<Image, AllocError> {
+        self.disk.image_after(count, digits)
+    }
+}
+
+fn disk_with(alloc: Global, image: Image) -> Result<Still, AllocError> {
+    let disk = MemDisk::new(alloc, image, List::new(alloc))?;
+    Ok(Still { disk })
+}
 
 // A batch of the one record "a" or "b", behind its gate, with a closed gate behind it.
 const OLDER: [u8; 31] = [
@@ -20,50 +100,209 @@ fn newer(gate: u8, first: u8, count: u8) -> [u8; 31] {
     bytes
 }
 
+// The root that names LogA from the first record on.
+const ROOT: Root = Root {
+    stamp: 1,
+    format: 1,
+    file: 0,
+    first: 1,
+    pages: 0,
+};
+
+// A disk of these logs.
+fn disk_of(alloc: Global, log: &[u8], other: &[u8]) -> Result<Still, AllocError> {
+    let mut image = Image::new(alloc);
+    image.log_a = Text::from_slice(alloc, log)?;
+    image.log_b = Text::from_slice(alloc, other)?;
+    disk_with(alloc, image)
+}
+
+// A record that was given, of one byte: its number, file, place and that byte.
+#[derive(Clone, Copy, PartialEq, Eq)]
+struct Given(u64, File, u64, u8);
+
+const NONE: Given = Given(0, File::Root, 0, 0);
+
+const FIRST: Given = Given(1, File::LogA, 29, b'a');
+
+const SECOND: Given = Given(2, File::LogB, 29, b'b');
+
+// The next number, and the first two records that were given.
+type Kept = (u64, [Given; 2]);
+
+fn given_at(gathered: &Gathered, index: usize) -> Given {
+    let visits = gathered.visits();
+    if index >= visits.len() {
+        return NONE;
+    }
+    let visit = &visits[index];
+    let byte = visit.bytes.as_slice().first().copied().unwrap_or(0);
+    Given(visit.lsn, visit.file, visit.at, byte)
+}
+
+fn kept(alloc: Global, disk: &mut Still, root: &Root) -> Result<Kept, ReadError>
+    requires { NamesKept root.now }
+{
+    let mut gathered = Gathered::new(alloc);
+    let log = read_all(alloc, disk, root, &mut gathered)?;
+    Ok((log.next(), [given_at(&gathered, 0), given_at(&gathered, 1)]))
+}
+
 // What is read where LogA has the older batch and LogB these bytes.
-fn read(alloc: Global, other: &[u8]) -> Result<(u64, usize, u8), ReadError> {
-    let image = Image {
-        root: Text::new(alloc),
-        log_a: Text::from_slice(alloc, &OLDER)?,
-        log_b: Text::from_slice(alloc, other)?,
-        pages: Text::new(alloc),
-    };
-    let mut disk = MemDisk::new(alloc, image, List::new(alloc))?;
-    let root = Root {
-        stamp: 1,
-        format: 1,
-        file: 0,
-        first: 1,
-        pages: 0,
-    };
-    let (log, records) = read_all(alloc, &mut disk, &root)?;
-    let records = records.as_slice();
-    let last = records.last().and_then(|r| r.as_slice().first());
-    Ok((log.next(), records.len(), last.map_or(0, |b| *b)))
+fn read(alloc: Global, other: &[u8]) -> Result<Kept, ReadError> {
+    let mut disk = disk_of(alloc, &OLDER, other)?;
+    kept(alloc, &mut disk, &ROOT)
+}
+
+const ONE: Result<Kept, ReadError> = Ok((2, [FIRST, NONE]));
+
+const BOTH: Result<Kept, ReadError> = Ok((3, [FIRST, SECOND]));
+
+fn damaged(at: u64, want: u128, got: u128) -> Result<Kept, ReadError> {
+    Err(ReadError::Store(StoreFault::Damaged {
+        file: File::LogB,
+        at,
+        want,
+        got,
+    }))
 }
 
 #[test]
 fn a_generation_that_goes_on_is_read(rt: HostRuntime) -> Result<(), Fail> {
     let alloc = rt.alloc();
-    assert!(rt; read(alloc, &newer(1, 2, 1)) == Ok((3, 2, b'b')));
-    assert!(rt; read(alloc, &newer(0, 2, 1)) == Ok((2, 1, b'a')));
-    assert!(rt; read(alloc, &newer(2, 2, 1)) == Ok((2, 1, b'a')));
-    assert!(rt; read(alloc, &newer(1, 3, 1)) == Ok((2, 1, b'a')));
-    assert!(rt; read(alloc, &newer(1, 1, 1)) == Ok((2, 1, b'a')));
-    assert!(rt; read(alloc, &[]) == Ok((2, 1, b'a')));
-    let torn = ReadError::Store(StoreFault::Damaged {
-        file: File::LogB,
-        at: 17,
-        want: 1,
-        got: 2,
-    });
-    assert!(rt; read(alloc, &newer(1, 2, 2)) == Err(torn));
-    let short = ReadError::Store(StoreFault::Damaged {
-        file: File::LogB,
-        at: 1,
-        want: 0,
-        got: 9,
-    });
-    assert!(rt; read(alloc, &newer(1, 2, 1)[..17]) == Err(short));
+    assert!(rt; read(alloc, &newer(1, 2, 1)) == BOTH);
+    assert!(rt; read(alloc, &newer(0, 2, 1)) == ONE);
+    assert!(rt; read(alloc, &newer(2, 2, 1)) == ONE);
+    assert!(rt; read(alloc, &newer(1, 3, 1)) == ONE);
+    assert!(rt; read(alloc, &newer(1, 1, 1)) == ONE);
+    assert!(rt; read(alloc, &[]) == ONE);
+    assert!(rt; read(alloc, &newer(1, 2, 2)) == damaged(17, 1, 2));
+    assert!(rt; read(alloc, &newer(1, 2, 1)[..17]) == damaged(1, 0, 9));
+    Ok(())
+}
+
+// How many bytes the calls read.
+fn bytes_read(calls: &[Recorded]) -> u64 {
+    let mut all = 0u64;
+    for recorded in calls {
+        if let Call::Read { len, .. } = recorded.call {
+            all = all.saturating_add(len);
+        }
+    }
+    all
+}
+
+// What stands behind the log isn't read: of the one batch its gate, its head and its frames, the head
+// behind it, and the other file's head.
+#[test]
+fn the_log_alone_is_read(rt: HostRuntime) -> Result<(), Fail> {
+    let alloc = rt.alloc();
+    let mut log = OLDER.to_vec(alloc)?;
+    log.extend_from_slice(&[7; 1000])?;
+    let mut disk = disk_of(alloc, &log, &[])?;
+    assert!(rt; kept(alloc, &mut disk, &ROOT) == ONE);
+    assert!(rt; bytes_read(disk.calls()) == 1 + 21 + 9 + 21 + 17);
+    Ok(())
+}
+
+// Begins a second generation with the record "b" behind the one that is read.
+fn start(alloc: Global, disk: &mut Still) -> Result<(), Fail> {
+    let mut log = read_all(alloc, disk, &ROOT, &mut Gathered::new(alloc))?;
+    log.forget_older();
+    log.reserve(9)?;
+    if log.next() < 9 {
+        log.start_generation(disk, b"b")?;
+    }
+    Ok(())
+}
+
+fn kept_in(alloc: Global, image: Image) -> Result<Result<Kept, ReadError>, AllocError> {
+    let mut disk = disk_with(alloc, image)?;
+    Ok(kept(alloc, &mut disk, &ROOT))
+}
+
+// Whether each image after so many calls has both records, or the first alone if it isn't whole.
+fn starts(alloc: Global, disk: &Still, count: usize, whole: bool) -> Result<bool, AllocError> {
+    for digits in 0..64 {
+        let kept = kept_in(alloc, disk.image_left(count, digits)?)?;
+        if kept != BOTH && (whole || kept != ONE) {
+            return Ok(false);
+        }
+    }
+    Ok(true)
+}
+
+// Whether each moment of the start of a generation leaves the log of before or the new one, where the
+// other file has these bytes, and the last moment the new one.
+fn starts_well(alloc: Global, other: &[u8]) -> Result<bool, Fail> {
+    let mut disk = disk_of(alloc, &OLDER, other)?;
+    start(alloc, &mut disk)?;
+    let calls = disk.calls().len();
+    for count in 0..calls {
+        if !starts(alloc, &disk, count, false)? {
+            return Ok(false);
+        }
+    }
+    Ok(starts(alloc, &disk, calls, true)?)
+}
+
+// The first batch of the other file isn't there, is closed, is open with another number, whole or torn.
+#[test]
+fn each_moment_of_a_generation_that_begins(rt: HostRuntime) -> Result<(), Fail> {
+    let alloc = rt.alloc();
+    assert!(rt; starts_well(alloc, &[])?);
+    assert!(rt; starts_well(alloc, &newer(0, 2, 1))?);
+    assert!(rt; starts_well(alloc, &newer(7, 2, 1))?);
+    assert!(rt; starts_well(alloc, &newer(1, 3, 1))?);
+    assert!(rt; starts_well(alloc, &newer(1, 1, 2))?);
+    assert!(rt; starts_well(alloc, &newer(1, 1, 1)[..9])?);
+    Ok(())
+}
+
+fn root_named(stamp: u64, file: u8, first: u64) -> Root {
+    Root {
+        stamp,
+        format: 1,
+        file,
+        first,
+        pages: 64,
+    }
+}
+
+// The log of an image by the root that it has.
+fn kept_by_root(alloc: Global, image: Image) -> Result<Option<Kept>, Fail> {
+    let mut disk = disk_with(alloc, image)?;
+    let Some(root) = read_root(&mut disk)? else {
+        return Ok(None);
+    };
+    if root.file > 1 || root.first == 0 || root.first > 1 << 63 {
+        return Ok(None);
+    }
+    Ok(Some(kept(alloc, &mut disk, &root)?))
+}
+
+// Whether each image after so many calls has the newer record alone, or both if it isn't whole.
+fn drops(alloc: Global, disk: &Still, count: usize, whole: bool) -> Result<bool, Fail> {
+    for digits in 0..64 {
+        let kept = kept_by_root(alloc, disk.image_left(count, digits)?)?;
+        if kept != Some((3, [SECOND, NONE])) && (whole || kept != BOTH.ok()) {
+            return Ok(false);
+        }
+    }
+    Ok(true)
+}
+
+#[test]
+fn each_moment_of_the_older_generation_dropped(rt: HostRuntime) -> Result<(), Fail> {
+    let alloc = rt.alloc();
+    let mut disk = disk_of(alloc, &OLDER, &newer(1, 2, 1))?;
+    write_root(&mut disk, &root_named(1, 0, 1))?;
+    let first = disk.calls().len();
+    write_root(&mut disk, &root_named(2, 1, 2))?;
+    let calls = disk.calls().len();
+    for count in first..calls {
+        assert!(rt; drops(alloc, &disk, count, false)?);
+    }
+    assert!(rt; drops(alloc, &disk, calls, true)?);
     Ok(())
 }

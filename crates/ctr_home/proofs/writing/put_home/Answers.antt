@@ -1,4 +1,4 @@
-use Rattle.std.proofs.Common.{◌≡◌, ◌∙◌, ◌∷◌, [], ◌+◌, ℕ, List, length, ap, subst, inl}
+use Rattle.std.proofs.Common.{◌≡◌, ◌∙◌, ◌∷◌, [], ◌+◌, ℕ, List, length, ap, subst, sym, inl}
 use Rattle.ctr_disk.specs.declared.disk.Image.{Image}
 use Rattle.ctr_types.specs.declared.file.File.{File}
 use Rattle.ctr_disk.specs.declared.disk.Disk.{Ghosts}
@@ -7,7 +7,7 @@ use Rattle.ctr_disk.specs.Crash.{Tears}
 use Rattle.ctr_disk.specs.Device.{LeavesOnly, IsDurable}
 use Rattle.ctr_home.specs.declared.block.Block.{Block}
 use Rattle.ctr_home.specs.declared.block.Home.{Home}
-use Rattle.ctr_home.specs.Blocks.{BlockValue, file_of, home_len, home_place, value_behind}
+use Rattle.ctr_home.specs.Blocks.{BlockValue, file_of, home_len, home_place, value_behind, behind_gate}
 use Rattle.ctr_home.specs.Writing.{MakesHome, KeepsOrMakesHome, IsShut}
 use Rattle.ctr_disk.proofs.Moments.{joined, on_ok, torn_from}
 use Rattle.ctr_home.proofs.WriteLemmas.{body_by_torn, gate_by_torn, gate_by_write}
@@ -47,7 +47,7 @@ returns-clause-any_moment g c settled shut =
     body_first d b home (value_behind b behind) c.args.disk.now mid behind settled.only shut c.spell.ensures.long c.file.result c.at.result c.file.ensures c.at.ensures.place c.write_through.ensures.any_moment in
     let second =
     torn_from d mid c.write_through-2.new.disk c.file-2.result c.at-2.result 1 (P (value_behind b behind)) c.in_ok-write_through.ensures.durable c.write_through-2.ensures.any_moment (λ i t.
-    gate_by_torn b home old shut behind c.spell.ensures.long (d.reads mid) is_mid i
+    gate_by_torn b home old shut behind c.spell.ensures.long (d.reads mid) is_mid (c.spell.ensures.whole ∙ ap (behind_gate b) (sym c.spell.ensures.value)) i
     (subst (λ (f : File). TornImage f (home_place b home) 1 (d.reads mid) i) c.file-2.ensures (subst (λ (k : ℕ). TornImage c.file-2.result k 1 (d.reads mid) i) c.at-2.ensures.place t))) in
     subst (λ (v : BlockValue). LeavesOnly d c.args.disk.now c.write_through-2.new.disk (P v)) c.spell.ensures.value
     (joined d c.args.disk.now mid c.write_through-2.new.disk (P (value_behind b behind)) first second)
@@ -63,5 +63,5 @@ returns-clause-made g c told shut =
     let behind = c.spell.new.behind in
     let is_mid = in_middle b home old mid behind c.file.result c.at.result c.file.ensures c.at.ensures.place (c.in_ok-write_through.ensures.told told) in
     on_ok c.write_through-2.result _ _ (λ (is : new ≡ write_of c.file-2.result c.at-2.result (1 ∷ []) mid).
-    subst (λ (v : BlockValue). MakesHome b home v old new) c.spell.ensures.value (gate_by_write b home old shut behind c.spell.ensures.long mid is_mid new (
+    subst (λ (v : BlockValue). MakesHome b home v old new) c.spell.ensures.value (gate_by_write b home old shut behind c.spell.ensures.long mid is_mid (c.spell.ensures.whole ∙ ap (behind_gate b) (sym c.spell.ensures.value)) new (
     is ∙ ap (λ (k : ℕ). write_of c.file-2.result k (1 ∷ []) mid) c.at-2.ensures.place ∙ ap (λ (f : File). write_of f (home_place b home) (1 ∷ []) mid) c.file-2.ensures))) (c.write_through-2.ensures.told told)

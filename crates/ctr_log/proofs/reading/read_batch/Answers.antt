@@ -2,7 +2,7 @@ use Rattle.std.proofs.Common.{◌≡◌, ◌∙◌, ◌<◌, ◌+◌, ◌^◌, �
 use Rattle.std.proofs.lemmas.Result.{err_from_is_err_and}
 use Rattle.ctr_bytes.specs.Fields.{field}
 use Rattle.ctr_log.specs.Reading.{AreFrames, BeginsWithBatch}
-use Rattle.ctr_log.proofs.ReadLemmas.{damage_is, refuses_more, begins_room, begins_first, begins_count, begins_frames, begins_records, batch_read}
+use Rattle.ctr_log.proofs.ReadLemmas.{damage_is, refuses_more, begins_room, begins_first, begins_count, begins_frames, begins_records, batch_read, spelled_all}
 use Rattle.ctr_log.proofs.reading.read_batch.Goals as goal
 
 pub returns-in_err-at_most-clause-refused : goal.returns-in_err-at_most-clause-refused
@@ -80,5 +80,5 @@ returns-clause-found c =
     let most = c.saturating_sub.ensures in
     let at_most = c.in_ok-at_most.ensures in
     let low : c.get_u32.result < 2 ^ 32 = c.get_u32.type_inv in
-    batch_read c.args.next c.get_u64-len.result c.in_ok-count.count rest head part behind c.args.records.now c.read_frames.new.records c.in_ok-count.ensures.found c.head_of-head.ensures (λ k. (c.type_inv.rest k).fits) c.requires.open
+    batch_read c.args.next c.get_u64-len.result c.in_ok-count.count rest head part behind c.args.records.now c.read_frames.new.records c.in_ok-count.ensures.found c.head_of-head.ensures (spelled_all rest (λ k. (c.type_inv.rest k).fits)) c.requires.open
     c.get_u64-len.ensures.got (omega (arith, most, at_most)) (sym c.get_u64.ensures.got ∙ c.in_ok-same.ensures) (sym c.get_u32.ensures.got ∙ c.in_ok-same-2.ensures) (omega (arith, low, c.get_u32.ensures.got)) c.in_ok-at_least.ensures c.split_frames.ensures.front c.split_frames.ensures.back

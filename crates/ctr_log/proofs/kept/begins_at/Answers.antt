@@ -2,7 +2,7 @@ use Rattle.std.proofs.Common.{◌≡◌, ◌∙◌, ◌==◌, sym, ap, get_or, �
 use Rattle.ctr_disk.specs.Image.{content}
 use Rattle.ctr_bytes.specs.Fields.{field}
 use Rattle.ctr_log.proofs.KeptReading.{first_read, begins_test}
-use Rattle.ctr_log.proofs.log.begins_at.Goals as goal
+use Rattle.ctr_log.proofs.kept.begins_at.Goals as goal
 
 pub returns-clause-told : goal.returns-clause-told
 returns-clause-told g c told =

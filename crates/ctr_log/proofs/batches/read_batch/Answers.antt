@@ -1,0 +1,66 @@
+use Rattle.std.proofs.Common.{◌≡◌, ◌∙◌, ◌+◌, ◌^◌, ◌<◌, length, drop, ap, sym, refl, arith}
+use Rattle.std.proofs.lemmas.Result.{err_from_is_err_and}
+use Rattle.ctr_disk.specs.declared.disk.Image.{Image}
+use Rattle.ctr_disk.specs.Image.{content, section}
+use Rattle.ctr_bytes.proofs.FieldLaws.{field_fits}
+use Rattle.ctr_log.specs.Batch.{OpensBatch}
+use Rattle.ctr_log.proofs.BatchLemmas.{refuses_store, refuses_undamaged, gate_read, head_lacks, frames_lack, count_lacks, batch_found, frames_low}
+use Rattle.ctr_log.proofs.batches.read_batch.Goals as goal
+
+pub returns-then-head-ne1-clause-found : goal.returns-then-head-ne1-clause-found
+returns-then-head-ne1-clause-found g c told size =
+    let bytes = content c.args.file (g.D.Disk.reads c.args.disk.now) in
+    λ e. c.if-head-ne1.true (gate_read c.args.size c.args.gate c.args.next bytes c.read.new.into (c.in_ok-read.ensures.told told) size (omega (arith, size)) (omega arith) ∙ e)
+
+pub returns-in_err-len-clause-refused : goal.returns-in_err-len-clause-refused
+returns-in_err-len-clause-refused g c told size =
+    let bytes = content c.args.file (g.D.Disk.reads c.args.disk.now) in
+    let p = err_from_is_err_and c.from_residual-in_err-len.result c.from_residual-in_err-len.ensures.1 in
+    let fails = c.in_err-len.ensures.fits in
+    rw (p.1, p.2) (refuses_store c.args.file (OpensBatch c.args.next (drop c.args.gate bytes)) c.in_err-len.field-0.0 fails.0
+    (head_lacks c.args.size c.args.gate c.args.next bytes c.read.new.into (c.in_ok-read.ensures.told told) size (omega (arith, size)) (omega arith) c.if-head-ne1.false fails.1))
+
+pub returns-in_err-frames-clause-refused : goal.returns-in_err-frames-clause-refused
+returns-in_err-frames-clause-refused g c told size =
+    let bytes = content c.args.file (g.D.Disk.reads c.args.disk.now) in
+    let p = err_from_is_err_and c.from_residual-in_err-frames.result c.from_residual-in_err-frames.ensures.1 in
+    rw (p.1, p.2) (refuses_undamaged c.args.file (OpensBatch c.args.next (drop c.args.gate bytes)) c.in_err-frames.field-0.0 c.in_err-frames.ensures.not_damaged)
+
+pub returns-in_err-count-clause-refused : goal.returns-in_err-count-clause-refused
+returns-in_err-count-clause-refused g c told size =
+    let bytes = content c.args.file (g.D.Disk.reads c.args.disk.now) in
+    let p = err_from_is_err_and c.from_residual-in_err-count.result c.from_residual-in_err-count.ensures.1 in
+    let fails = c.in_err-count.ensures in
+    let part : c.deref.result.now ≡ section (c.args.gate + 21) c.in_ok-len.len bytes =
+    c.deref.ensures.value ∙ c.in_ok-frames.ensures.told told ∙ ap (λ (i : Image). section (c.args.gate + 21) c.in_ok-len.len (content c.args.file i)) c.in_ok-read.ensures.same.0 in
+    rw (p.1, p.2) (refuses_store c.args.file (OpensBatch c.args.next (drop c.args.gate bytes)) c.in_err-count.field-0.0 fails.0
+    (frames_lack c.args.size c.args.gate c.args.next bytes c.read.new.into (c.in_ok-read.ensures.told told) size (omega (arith, size)) (omega arith) c.if-head-ne1.false c.in_ok-len.len c.deref.result.now c.in_ok-len.ensures.fits.0
+    c.in_ok-len.ensures.fits.1 part fails.1))
+
+pub returns-in_err-check_count-clause-refused : goal.returns-in_err-check_count-clause-refused
+returns-in_err-check_count-clause-refused g c told size =
+    let bytes = content c.args.file (g.D.Disk.reads c.args.disk.now) in
+    let p = err_from_is_err_and c.from_residual-in_err-check_count.result c.from_residual-in_err-check_count.ensures.1 in
+    let fails = c.in_err-check_count.ensures in
+    let part : c.deref.result.now ≡ section (c.args.gate + 21) c.in_ok-len.len bytes =
+    c.deref.ensures.value ∙ c.in_ok-frames.ensures.told told ∙ ap (λ (i : Image). section (c.args.gate + 21) c.in_ok-len.len (content c.args.file i)) c.in_ok-read.ensures.same.0 in
+    let few : length c.deref.result.now < 2 ^ 64 = omega (arith, ap length c.deref.ensures.value, c.in_ok-frames.ensures.long.0, c.in_ok-frames.ensures.long.1) in
+    rw (p.1, p.2) (refuses_store c.args.file (OpensBatch c.args.next (drop c.args.gate bytes)) c.in_err-check_count.field-0.0 fails.0
+    (count_lacks c.args.size c.args.gate c.args.next bytes c.read.new.into (c.in_ok-read.ensures.told told) size (omega (arith, size)) (omega arith) c.if-head-ne1.false c.in_ok-len.len c.deref.result.now c.in_ok-len.ensures.fits.0
+    c.in_ok-len.ensures.fits.1 part c.in_ok-count.count c.in_ok-count.ensures few fails.1))
+
+pub returns-clause-found : goal.returns-clause-found
+returns-clause-found g c told size =
+    let bytes = content c.args.file (g.D.Disk.reads c.args.disk.now) in
+    let part : c.deref.result.now ≡ section (c.args.gate + 21) c.in_ok-len.len bytes =
+    c.deref.ensures.value ∙ c.in_ok-frames.ensures.told told ∙ ap (λ (i : Image). section (c.args.gate + 21) c.in_ok-len.len (content c.args.file i)) c.in_ok-read.ensures.same.0 in
+    let few : length c.deref.result.now < 2 ^ 64 = omega (arith, ap length c.deref.ensures.value, c.in_ok-frames.ensures.long.0, c.in_ok-frames.ensures.long.1) in
+    let counts = c.in_ok-check_count.ensures in
+    batch_found c.args.size c.args.gate c.args.next bytes c.read.new.into (c.in_ok-read.ensures.told told) size (omega (arith, size)) (omega arith) c.if-head-ne1.false c.in_ok-len.len c.deref.result.now c.in_ok-len.ensures.fits.0
+    c.in_ok-len.ensures.fits.1 part c.in_ok-count.count c.in_ok-count.ensures few c.in_ok-len.ensures.bytes (field_fits 4 17 c.read.new.into c.in_ok-len.ensures.bytes) counts (record { frames = c.in_ok-frames.frames; count = c.in_ok-count.count }) (sym c.deref.ensures.value) refl
+
+pub returns-clause-small : goal.returns-clause-small
+returns-clause-small g c =
+    let has = c.in_ok-count.ensures in
+    let long = c.in_ok-frames.ensures.long in
+    (frames_low (length c.in_ok-frames.frames.items) c.in_ok-len.len long.0 long.1, (has.0, sym c.deref.ensures.value ∙ has.1, has.2))

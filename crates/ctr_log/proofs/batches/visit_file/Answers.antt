@@ -1,0 +1,175 @@
+use Rattle.std.proofs.Common.{◌≡◌, ◌∙◌, ◌+◌, ◌++◌, [], ◌^◌, ◌<◌, ℕ, List, length, drop, get_or, ap, subst, sym, refl, arith, append_assoc}
+use Rattle.std.proofs.lemmas.List.{append-nil}
+use Rattle.std.proofs.lemmas.Result.{err_from_is_err_and}
+use Rattle.ctr_disk.specs.Image.{content}
+use Rattle.ctr_disk.specs.declared.fault.StoreFault.TheVariants.{Fault}
+use Rattle.ctr_log.specs.declared.reading.ReadError.TheVariants.{Store}
+use Rattle.ctr_disk.proofs.Moments.{reads_joined}
+use Rattle.ctr_log.specs.Reading.{HasSome, HasFrames, RefusesOrFails}
+use Rattle.ctr_log.specs.Batch.{FindsBatch, OpensBatch, IsRead, IsWholeBatch}
+use Rattle.ctr_log.specs.Visits.{frame_visits, file_visits, RefusesOne}
+use Rattle.ctr_log.specs.declared.visitor.Visit.{Visit}
+use Rattle.ctr_log.proofs.ReadLemmas.{first_gate}
+use Rattle.ctr_log.proofs.VisitLemmas.{part_none, part_given, ok_isnt}
+use Rattle.ctr_log.proofs.BatchLemmas.{so_far_start, so_far_more, so_far_all, so_far_end, so_far_only, so_far_opens, fails_more, no_batch, refused_there, few_more, low_more, place_low, next_low}
+use Rattle.ctr_log.proofs.batches.visit_file.Goals as goal
+
+pub returns-in_err-size-clause-visits : goal.returns-in_err-size-clause-visits
+returns-in_err-size-clause-visits g c told = let p = err_from_is_err_and c.from_residual.result c.from_residual.ensures.1 in rw (p.1, p.2) part_none
+
+pub returns-in_err-size-clause-refused : goal.returns-in_err-size-clause-refused
+returns-in_err-size-clause-refused g c told =
+    let p = err_from_is_err_and c.from_residual.result c.from_residual.ensures.1 in
+    let bytes = content c.args.file (g.D.Disk.reads c.args.disk.now) in
+    rw (p.1, p.2) (fails_more c.args.file (get_or bytes 0 0 ≡ 1) (HasSome c.args.first bytes) (λ h. first_gate c.args.first h.0 bytes h.1) c.in_err-size.field-0.0 (c.in_err-size.ensures.refused told))
+
+pub returns-in_err-batch-clause-visits : goal.returns-in_err-batch-clause-visits
+returns-in_err-batch-clause-visits g c told =
+    let p = err_from_is_err_and c.from_residual-in_err-batch.result c.from_residual-in_err-batch.ensures.1 in
+    let bytes = content c.args.file (g.D.Disk.reads c.args.disk.now) in
+    let t = c.loop-gate.invariant.told told in
+    rw (p.1, p.2) (part_given {all = file_visits c.args.file c.args.first bytes} t.0 _ t.2 t.1.visits_are)
+
+pub returns-in_err-batch-clause-refused : goal.returns-in_err-batch-clause-refused
+returns-in_err-batch-clause-refused g c told =
+    let p = err_from_is_err_and c.from_residual-in_err-batch.result c.from_residual-in_err-batch.ensures.1 in
+    let bytes = content c.args.file (g.D.Disk.reads c.args.disk.now) in
+    let here = content c.args.file (g.D.Disk.reads c.loop-gate.disk) in
+    let same : here ≡ bytes = ap (content c.args.file) c.loop-gate.invariant.quiet.same in
+    let size = c.loop-gate.invariant.size told in
+    let t = c.loop-gate.invariant.told told in
+    rw (p.1, p.2) (fails_more c.args.file (OpensBatch c.loop-gate.next (drop c.loop-gate.gate bytes)) (HasSome c.args.first bytes) (so_far_opens c.args.file c.args.first bytes c.loop-gate.gate c.loop-gate.next t.0 t.1) c.in_err-batch.field-0.0
+    (subst (λ (l : List ℕ). RefusesOrFails c.args.file (OpensBatch c.loop-gate.next (drop c.loop-gate.gate l)) c.in_err-batch.field-0.0) same (c.in_err-batch.ensures.refused told (size ∙ sym (ap length same)))))
+
+pub returns-in_default-clause-visits : goal.returns-in_default-clause-visits
+returns-in_default-clause-visits g c told =
+    let bytes = content c.args.file (g.D.Disk.reads c.args.disk.now) in
+    let here = content c.args.file (g.D.Disk.reads c.loop-gate.disk) in
+    let same : here ≡ bytes = ap (content c.args.file) c.loop-gate.invariant.quiet.same in
+    let size = c.loop-gate.invariant.size told in
+    let t = c.loop-gate.invariant.told told in
+    let gate = c.loop-gate.gate in
+    let next = c.loop-gate.next in
+    let finds : FindsBatch next (drop gate bytes) c.in_ok-batch.field-0 = subst (λ (l : List ℕ). FindsBatch next (drop gate l) c.in_ok-batch.field-0) same (c.in_ok-batch.ensures.found told (size ∙ sym (ap length same))) in
+    let shut = no_batch next (drop gate bytes) c.in_ok-batch.field-0 (λ b is. c.in_default.not-Some b is) finds in
+    t.2 ∙ ap (λ (l : List Visit). g.V.Visitor.seen c.args.visitor.now ++ l) (sym (so_far_all c.args.file c.args.first bytes gate next t.0 t.1 shut))
+
+pub returns-in_default-clause-found : goal.returns-in_default-clause-found
+returns-in_default-clause-found g c told =
+    let bytes = content c.args.file (g.D.Disk.reads c.args.disk.now) in
+    let here = content c.args.file (g.D.Disk.reads c.loop-gate.disk) in
+    let same : here ≡ bytes = ap (content c.args.file) c.loop-gate.invariant.quiet.same in
+    let size = c.loop-gate.invariant.size told in
+    let t = c.loop-gate.invariant.told told in
+    let gate = c.loop-gate.gate in
+    let next = c.loop-gate.next in
+    let finds : FindsBatch next (drop gate bytes) c.in_ok-batch.field-0 = subst (λ (l : List ℕ). FindsBatch next (drop gate l) c.in_ok-batch.field-0) same (c.in_ok-batch.ensures.found told (size ∙ sym (ap length same))) in
+    let shut = no_batch next (drop gate bytes) c.in_ok-batch.field-0 (λ b is. c.in_default.not-Some b is) finds in
+    so_far_end c.args.file c.args.first bytes gate next t.0 t.1 shut (c.loop-gate.invariant.opened told)
+
+pub returns-in_default-clause-only : goal.returns-in_default-clause-only
+returns-in_default-clause-only g c bs told log =
+    let bytes = content c.args.file (g.D.Disk.reads c.args.disk.now) in
+    let here = content c.args.file (g.D.Disk.reads c.loop-gate.disk) in
+    let same : here ≡ bytes = ap (content c.args.file) c.loop-gate.invariant.quiet.same in
+    let size = c.loop-gate.invariant.size told in
+    let t = c.loop-gate.invariant.told told in
+    let gate = c.loop-gate.gate in
+    let next = c.loop-gate.next in
+    let finds : FindsBatch next (drop gate bytes) c.in_ok-batch.field-0 = subst (λ (l : List ℕ). FindsBatch next (drop gate l) c.in_ok-batch.field-0) same (c.in_ok-batch.ensures.found told (size ∙ sym (ap length same))) in
+    let shut = no_batch next (drop gate bytes) c.in_ok-batch.field-0 (λ b is. c.in_default.not-Some b is) finds in
+    so_far_only c.args.file c.args.first bytes gate next t.0 t.1 shut bs log
+
+pub returns-in-Err-clause-visits : goal.returns-in-Err-clause-visits
+returns-in-Err-clause-visits g c told =
+    let bytes = content c.args.file (g.D.Disk.reads c.args.disk.now) in
+    let here = content c.args.file (g.D.Disk.reads c.loop-gate.disk) in
+    let same : here ≡ bytes = ap (content c.args.file) c.loop-gate.invariant.quiet.same in
+    let size = c.loop-gate.invariant.size told in
+    let t = c.loop-gate.invariant.told told in
+    let gate = c.loop-gate.gate in
+    let next = c.loop-gate.next in
+    let finds : FindsBatch next (drop gate bytes) c.in_ok-batch.field-0 = subst (λ (l : List ℕ). FindsBatch next (drop gate l) c.in_ok-batch.field-0) same (c.in_ok-batch.ensures.found told (size ∙ sym (ap length same))) in
+    let few : length bytes < 2 ^ 64 = omega (arith, size) in
+    let b = c.in-Some.batch in
+    let read : IsRead next (drop gate bytes) b = subst (FindsBatch next (drop gate bytes)) c.in-Some.is finds in
+    let front = c.deref.ensures.value in
+    let more = so_far_more c.args.file c.args.first bytes gate next t.0 t.1 b read few (omega arith) (gate + (21 + length b.frames.items)) (next + b.count) refl refl in
+    let one = subst (λ (l : List ℕ). RefusesOne g.V.Visitor.refuses (g.V.Visitor.seen c.loop-gate.visitor) (g.V.Visitor.seen c.give.new.visitor) (frame_visits c.args.file next (gate + 21) b.count l) c.in-Err.error) front c.in-Err.ensures in
+    refused_there g.V.Visitor.refuses (g.V.Visitor.seen c.args.visitor.now) (g.V.Visitor.seen c.loop-gate.visitor) (g.V.Visitor.seen c.give.new.visitor) t.0 (frame_visits c.args.file next (gate + 21) b.count b.frames.items) _ _ c.in-Err.error t.2 more.visits_are one
+
+pub returns-clause-visits : goal.returns-clause-visits
+returns-clause-visits g c told =
+    let bytes = content c.args.file (g.D.Disk.reads c.args.disk.now) in
+    let t = c.loop-gate.invariant.told told in
+    part_given {all = file_visits c.args.file c.args.first bytes} t.0 _ t.2 t.1.visits_are
+
+pub loop-gate-preserved : goal.loop-gate-preserved
+loop-gate-preserved g c =
+    let d = g.D.Disk in
+    let seen = g.V.Visitor.seen in
+    let before = c.loop-gate.invariant in
+    let gate = c.loop-gate.gate in
+    let next = c.loop-gate.next in
+    let b = c.in-Some.batch in
+    let small = subst IsWholeBatch c.in-Some.is c.in_ok-batch.ensures.small in
+    let long : c.len.result ≡ length b.frames.items = c.len.ensures ∙ sym c.deref.ensures.len ∙ ap length c.deref.ensures.value in
+    record {
+      quiet = reads_joined d c.args.disk.now c.loop-gate.disk c.read_batch.new.disk before.quiet c.read_batch.ensures.quiet;
+      faults = c.in_ok-batch.ensures.counts.faults.fine (ok_isnt c.in_ok-batch.field-0 (Store Fault)) ∙ before.faults;
+      strays = c.in_ok-batch.ensures.counts.stray ∙ before.strays;
+      few = few_more c.args.first gate next c.len.result b.count b.frames.items long small.1 before.few;
+      low = low_more gate c.len.result (length b.frames.items) long small.0 c.loop-gate-test.true;
+      size = before.size;
+      opened = before.opened;
+      told = λ told.
+          let bytes = content c.args.file (d.reads c.args.disk.now) in
+          let here = content c.args.file (d.reads c.loop-gate.disk) in
+          let same : here ≡ bytes = ap (content c.args.file) before.quiet.same in
+          let size = before.size told in
+          let t = before.told told in
+          let finds : FindsBatch next (drop gate bytes) c.in_ok-batch.field-0 = subst (λ (l : List ℕ). FindsBatch next (drop gate l) c.in_ok-batch.field-0) same (c.in_ok-batch.ensures.found told (size ∙ sym (ap length same))) in
+          let few : length bytes < 2 ^ 64 = omega (arith, size) in
+          let read : IsRead next (drop gate bytes) b = subst (FindsBatch next (drop gate bytes)) c.in-Some.is finds in
+          let more = frame_visits c.args.file next (gate + 21) b.count b.frames.items in (
+            t.0 ++ more,
+            so_far_more c.args.file c.args.first bytes gate next t.0 t.1 b read few (omega arith) (gate + (21 + c.len.result)) (next + b.count) (ap (λ (n : ℕ). gate + (21 + n)) long) refl,
+            c.in_default-give.ensures ∙ ap (λ (l : List ℕ). seen c.loop-gate.visitor ++ frame_visits c.args.file next (gate + 21) b.count l) c.deref.ensures.value ∙ ap (λ (l : List Visit). l ++ more) t.2
+                ∙ append_assoc (seen c.args.visitor.now) t.0 more,
+          );
+    }
+
+pub loop-gate-init : goal.loop-gate-init
+loop-gate-init g c =
+    let bytes = content c.args.file (g.D.Disk.reads c.args.disk.now) in
+    record {
+      quiet = c.open_len.ensures.quiet;
+      faults = c.in_ok-size.ensures.counts.faults.fine (ok_isnt c.in_ok-size.size (Store Fault));
+      strays = c.in_ok-size.ensures.counts.stray;
+      few = omega arith;
+      low = omega arith;
+      size = λ told. (c.in_ok-size.ensures.told told).0;
+      opened = λ told. (c.in_ok-size.ensures.told told).1;
+      told = λ told. ([], so_far_start c.args.file c.args.first bytes (c.in_ok-size.ensures.told told).1, sym (append-nil (g.V.Visitor.seen c.args.visitor.now)));
+    }
+
+pub give-requires-clause-counted : goal.give-requires-clause-counted
+give-requires-clause-counted g c =
+    let b = c.in-Some.batch in
+    let small = subst IsWholeBatch c.in-Some.is c.in_ok-batch.ensures.small in
+    subst (λ (l : List ℕ). HasFrames l b.count) (sym c.deref.ensures.value) small.1
+
+pub give-requires-clause-place : goal.give-requires-clause-place
+give-requires-clause-place g c =
+    let small = subst IsWholeBatch c.in-Some.is c.in_ok-batch.ensures.small in
+    place_low c.loop-gate.gate (length c.deref.result.now) (length c.in-Some.batch.frames.items) (ap length c.deref.ensures.value) small.0 c.loop-gate-test.true
+
+pub give-requires-clause-number : goal.give-requires-clause-number
+give-requires-clause-number g c =
+    let small = subst IsWholeBatch c.in-Some.is c.in_ok-batch.ensures.small in
+    next_low c.args.first c.loop-gate.gate c.loop-gate.next c.in-Some.batch.count c.in-Some.batch.frames.items c.requires.low c.loop-gate-test.true small.0 small.1 c.loop-gate.invariant.few
+
+pub overflow_add-next : goal.overflow_add-next
+overflow_add-next g c =
+    let small = subst IsWholeBatch c.in-Some.is c.in_ok-batch.ensures.small in
+    record { fits = next_low c.args.first c.loop-gate.gate c.loop-gate.next c.in-Some.batch.count c.in-Some.batch.frames.items c.requires.low c.loop-gate-test.true small.0 small.1 c.loop-gate.invariant.few }

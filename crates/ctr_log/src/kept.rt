@@ -1,0 +1,137 @@
+// Reads the log that is kept: the generation that the root names, and behind it the one in the other
+// file where that goes on from it.
+ghost use Rattle.std.specs.Prelude.{◌≡◌, ◌+◌, IsTrue, ℕ, List, [], ◌++◌, length, Result, IfOk, IfErr, OnOk, Err};
+ghost use Rattle.ctr_disk.specs.declared.fault.StoreFault.TheVariants.{Fault};
+ghost use Rattle.ctr_disk.specs.Image.{content};
+ghost use Rattle.ctr_disk.specs.Device.{OnlyReads, Counts, CountsAs};
+ghost use Rattle.ctr_log.specs.declared.reading.ReadError.TheVariants.{Store};
+ghost use Rattle.ctr_log.specs.declared.visitor.VisitError.{VisitError};
+ghost use Rattle.ctr_log.specs.declared.visitor.VisitError.TheVariants.{Read};
+ghost use Rattle.ctr_log.specs.Logs.{Batches, records, HasLog};
+ghost use Rattle.ctr_log.specs.Reading.{RefusesOrFails, ReadDiffers, HasSome, OpensLog, NamesLog, log_file};
+ghost use Rattle.ctr_log.specs.Kept.{begins_at, NamesKept, HoldsLog, RefusesKept, OpensKept, WritesBehind};
+ghost use Rattle.ctr_log.specs.Visits.{kept_visits, Visits, StopsAt, OnRead, EndsEarly, IsToldBy};
+
+use crate::batches::visit_file;
+use crate::log::{LogFile, Lsn, next_file};
+use crate::near::find_log;
+use crate::reading::ReadError;
+use crate::visitor::{VisitError, Visitor};
+use ctr_bytes::get_u64;
+use ctr_disk::{Disk, Failed, Root, StoreFault};
+use ctr_types::{File, List, OutOfMemory, Text};
+use std::alloc::Global;
+
+/// Reads the one generation that the root of a database without pages names, and answers its writer
+/// and its records. Where the disk tells what it holds, these are the records of the file's log and
+/// no others, and damage is told exactly where no log stands in the file.
+pub fn read_named<D: Disk>(
+    alloc: Global,
+    disk: &mut D,
+    root: &Root,
+) -> Result<(LogFile, List<Text>), ReadError>
+    requires names { NamesLog root.now }
+    ensures found { IsTrue D.tells → IfOk result (λ r. OpensLog root.now.first (log_file root.now.file) (D.reads disk.old) r.0 r.1) }
+    ensures only { (bs : Batches) → IsTrue D.tells → HasLog root.now.first bs (content (log_file root.now.file) (D.reads disk.old)) → IfOk result (λ r. r.1 ≡ records bs) }
+    ensures refused { IsTrue D.tells → IfErr result (RefusesOrFails (log_file root.now.file) (HasSome root.now.first (content (log_file root.now.file) (D.reads disk.old)))) }
+    ensures differs { IfErr result ReadDiffers }
+    ensures none { IfOk result (λ r. r.0.buffered ≡ []) }
+    ensures quiet { OnlyReads D.Disk disk.old disk.new }
+    ensures counts { CountsAs D.Disk (Store Fault) disk.old disk.new result }
+{
+    let file = named_file(root);
+    let found = find_log(alloc, disk, file, root.first)?;
+    let log = LogFile::behind(alloc, file, false, found.place, found.next)?;
+    Ok((log, found.records))
+}
+
+/// Gives the records of the log that is kept to a visitor, one after another, the older generation
+/// first, and answers the writer behind the last of them. It holds no more than a batch, and takes time
+/// linear in the log. Where the disk tells what it holds, damage is told exactly where no log stands in
+/// the image.
+pub fn read_all<D: Disk, V: Visitor>(
+    alloc: Global,
+    disk: &mut D,
+    root: &Root,
+    visitor: &mut V,
+) -> Result<LogFile, V::E>
+    requires names { NamesKept root.now }
+    ensures found { IsTrue D.tells → IfOk result (OpensKept root.now.file root.now.first (D.reads disk.old)) }
+    ensures goes_on { (rs : List (List ℕ)) → IsTrue D.tells → HoldsLog root.now.file root.now.first rs (D.reads disk.old)
+        → IfOk result (λ log. WritesBehind root.now.file root.now.first log (D.reads disk.old)) }
+    // The visitor has been given the records of the image's log and no others.
+    ensures visited { IsTrue D.tells → OnOk result (V.seen visitor.new ≡ V.seen visitor.old ++ kept_visits root.now.file root.now.first (D.reads disk.old)) }
+    // The cause is damage, a fault of the disk, want of memory, or a record that the visitor refused.
+    ensures refused { IfErr result (λ e. (cause : VisitError V.E) × IsToldBy V.E.From-1.from_gives V.E.From-2.from_gives cause e
+        × (let ended : Result ℕ (VisitError V.E) = Err cause in CountsAs D.Disk (Read (Store Fault)) disk.old disk.new ended) × EndsEarly V.refuses cause
+        × (IsTrue D.tells → OnRead (RefusesKept root.now.file root.now.first (D.reads disk.old)) cause)
+        × (IsTrue D.tells → StopsAt V.refuses (V.seen visitor.old) (V.seen visitor.new) (kept_visits root.now.file root.now.first (D.reads disk.old)) cause)) }
+    ensures none { IfOk result (λ log. log.buffered ≡ []) }
+    ensures quiet { OnlyReads D.Disk disk.old disk.new }
+    ensures counts { OnOk result (D.faults_of disk.new ≡ D.faults_of disk.old) × (D.strays_of disk.new ≡ D.strays_of disk.old) }
+{
+    match read_kept(alloc, disk, root, visitor) {
+        Ok(log) => Ok(log),
+        Err(VisitError::Read(ReadError::Store(fault))) => {
+            Err(<V::E as From<StoreFault>>::from(fault))
+        }
+        Err(VisitError::Read(ReadError::OutOfMemory)) => {
+            Err(<V::E as From<OutOfMemory>>::from(OutOfMemory))
+        }
+        Err(VisitError::Refused(error)) => Err(error),
+    }
+}
+
+// The same, and how it ended early.
+fn read_kept<D: Disk, V: Visitor>(
+    alloc: Global,
+    disk: &mut D,
+    root: &Root,
+    visitor: &mut V,
+) -> Result<LogFile, VisitError<V::E>>
+    requires names { NamesKept root.now }
+    ensures found { IsTrue D.tells → IfOk result (OpensKept root.now.file root.now.first (D.reads disk.old)) }
+    ensures goes_on { (rs : List (List ℕ)) → IsTrue D.tells → HoldsLog root.now.file root.now.first rs (D.reads disk.old)
+        → IfOk result (λ log. WritesBehind root.now.file root.now.first log (D.reads disk.old)) }
+    ensures visits { IsTrue D.tells → Visits V.refuses (V.seen visitor.old) (V.seen visitor.new) (kept_visits root.now.file root.now.first (D.reads disk.old)) result }
+    ensures refused { IsTrue D.tells → IfErr result (OnRead (RefusesKept root.now.file root.now.first (D.reads disk.old))) }
+    ensures early { IfErr result (EndsEarly V.refuses) }
+    ensures none { IfOk result (λ log. log.buffered ≡ []) }
+    ensures quiet { OnlyReads D.Disk disk.old disk.new }
+    ensures counts { CountsAs D.Disk (Read (Store Fault)) disk.old disk.new result }
+{
+    let named = named_file(root);
+    let older = visit_file(alloc, disk, named, root.first, visitor)?;
+    let other = next_file(named);
+    if !begins_at(disk, other, older.next)? {
+        let log = LogFile::behind(alloc, named, false, older.place, older.next)?;
+        return Ok(log);
+    }
+    let newer = visit_file(alloc, disk, other, older.next, visitor)?;
+    let log = LogFile::behind(alloc, other, true, newer.place, newer.next)?;
+    Ok(log)
+}
+
+// Whether the first batch of a file is open and has this first number.
+fn begins_at<D: Disk>(disk: &mut D, file: File, next: Lsn) -> Result<bool, Failed>
+    ensures told { IsTrue D.tells → IfOk result (λ b. b ≡ begins_at next (content file (D.reads disk.old))) }
+    ensures quiet { OnlyReads D.Disk disk.old disk.new }
+    ensures counts { Counts D.Disk disk.old disk.new result }
+{
+    let mut head = [0; 17];
+    disk.read(file, 0, &mut head)?;
+    if head[0] != 1 {
+        return Ok(false);
+    }
+    Ok(get_u64(&head, 9) == next)
+}
+
+fn named_file(root: &Root) -> File
+    ensures { result ≡ log_file root.now.file }
+{
+    if root.file == 0 {
+        File::LogA
+    } else {
+        File::LogB
+    }
+}
