@@ -25,6 +25,7 @@ use Rattle.ctr_sessions.specs.Answers.{Seat, seat_sees, made_seen, with_rows, ro
 use Rattle.ctr_sessions.specs.Laws.{SaysLocks, IsSeat}
 use Rattle.ctr_versions.proofs.Asked.{own_head}
 use Rattle.ctr_versions.proofs.Chains.{own_seen}
+use Rattle.ctr_versions.proofs.Engine.{session_alike}
 use Rattle.ctr_versions.proofs.Versions.{behind_schemas}
 use Rattle.ctr_versions.proofs.Conflicts.{schema_conflict, row_conflict}
 use Rattle.ctr_versions.proofs.Locks.{since_steady}
@@ -89,7 +90,7 @@ module _ (low : ℕ) (state : State) (s : ℕ) (me : Transaction) (seat : Seat) 
   pub shared_seen : (name : List ℕ) (made : Made) → written_by seat.session.me (names name) ≡ None → made_seen seat name ≡ Some made → value_seen (by number me.snapshot) (names name) ≡ Some made
   shared_seen name made unwritten is =
       sym (own_seen number me.snapshot seat.session.me (names name) None wrote.is_open (behind_schemas number (names name) (is_seat.shows.shows.stands.tables name).behind) unwritten)
-      ∙ (λ i. value_seen (λ x. (x == seat.session.me) || sym (mine.snapshot.sees_by x) i) (names name)) ∙ is
+      ∙ sym (session_alike engine.xids seat.session me.snapshot mine.snapshot (names name) (mine.old.names name)) ∙ is
 
   -- what it has written itself under a name is what it sees there
   pub own_made : (name : List ℕ) (made : Made) (w : Option Made) → made_seen seat name ≡ Some made → written_by seat.session.me (names name) ≡ Some w → written_by seat.session.me (names name) ≡ Some (Some made)

@@ -25,7 +25,7 @@ use Rattle.ctr_sessions.specs.Steps.{BeginShows, LockLeaves, LockShows, ReadShow
 use Rattle.ctr_versions.proofs.Keys.{same_text, some_is}
 use Rattle.ctr_versions.proofs.Chains.{seen_alike}
 use Rattle.ctr_versions.proofs.Versions.{behind_schemas}
-use Rattle.ctr_versions.proofs.Reading.{session_moved, grant_step}
+use Rattle.ctr_versions.proofs.Reading.{session_moved, grants_shown}
 use Rattle.ctr_versions.proofs.Steps.{begin_step, draw_step, ask_step, rollback_step, answer_step, end_step}
 use Rattle.ctr_legal.proofs.Keep.{denied}
 
@@ -106,7 +106,7 @@ lock_shows low old new state s me t session is_old here grant writer unwritten l
     let mine = is_old.drawn s me session here.there here.held in
     elim (me.writer) as (λ b. me.writer ≡ b → LockLeaves b s session old.engine new.engine → ShowsBegun low new (with_transaction s t state)) [
       | true ↦ λ was. λ left. with_parts low new (with_transaction s t state) old.engine old.since left is_since (record {
-        shows = grant_step low old.engine state s session me t is_old.shows here.held here.shown grant.snapshot grant.own grant.asked;
+        shows = grants_shown low old.engine state s me t is_old.shows here.there grant;
         since = since_same old.since state.sessions s is_old.since me t here.there grant.snapshot;
         drawn = drawn_same state.sessions old.engine.sessions s is_old.drawn t session here.held (record { writer = λ is. mine.writer was; reader = λ is. absurd (true≢false (sym writer ∙ is)) });
         tables = is_old.tables;
@@ -123,7 +123,7 @@ lock_shows low old new state s me t session is_old here grant writer unwritten l
 
 pub read_shows : ReadShows
 read_shows low db state s me t session is_old here grant writer = record {
-  shows = grant_step low db.engine state s session me t is_old.shows here.held here.shown grant.snapshot grant.own grant.asked;
+  shows = grants_shown low db.engine state s me t is_old.shows here.there grant;
   since = since_same db.since state.sessions s is_old.since me t here.there grant.snapshot;
   drawn = drawn_writer state.sessions db.engine.sessions s is_old.drawn me t here.there writer;
   tables = is_old.tables;

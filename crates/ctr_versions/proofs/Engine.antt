@@ -37,7 +37,7 @@ module _ (xids : Xids) (session : SessionHeld) (n : ℕ) (is : IsSnapshotOf xids
       later : (k : ℕ) → suc k ≡ 0 → ⊥
       later k same = omega (arith, same)
 
-  session_alike : {V : Type 0} (chain : List (ℕ × Option V)) → AllByRecursion (IsBy (IsSeenIfOld xids session.snapshot)) chain → value_seen (session_sees xids session) chain ≡ value_seen (by_or_own (number_of xids) n session.me) chain
+  pub session_alike : {V : Type 0} (chain : List (ℕ × Option V)) → AllByRecursion (IsBy (IsSeenIfOld xids session.snapshot)) chain → value_seen (session_sees xids session) chain ≡ value_seen (by_or_own (number_of xids) n session.me) chain
   session_alike chain old = seen_alike (by_or_own (number_of xids) n session.me) (session_sees xids session) chain
       (all_mapped_by (IsSeenIfOld xids session.snapshot) (λ x. session_sees xids session x ≡ by_or_own (number_of xids) n session.me x) (λ x before. ap (λ b. (x == session.me) || b) (sees_alike x (number_of xids x) refl before)) chain old)
 
