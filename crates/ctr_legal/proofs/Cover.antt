@@ -58,7 +58,7 @@ covered_write t table key v locked used covered = record {
 
 -- ---- a session that nobody keeps from a name or a key
 
-not_first : (test : Transaction → Bool) (es : List (ℕ × Transaction)) (r : ℕ) (u : Transaction) → first_session test es ≡ None → find nat_cmp r es ≡ Some u → test u ≡ false
+pub not_first : (test : Transaction → Bool) (es : List (ℕ × Transaction)) (r : ℕ) (u : Transaction) → first_session test es ≡ None → find nat_cmp r es ≡ Some u → test u ≡ false
 not_first test [] r u none at = absurd (false≢true (ap is_some at))
 not_first test (e ∷ es) r u none at = known (test e.1)
     (λ passes. absurd (true≢false (ap is_some (sym (ap (λ b. cond b (Some e.0) (first_session test es)) passes) ∙ none))))

@@ -1,6 +1,6 @@
 -- What an engine answers at a Lock or a Read is what the model says.
 use Rattle.std.proofs.Common.{◌≡◌, ℕ, ◌+◌, ◌==◌, ℤ, Bool, false, cond, not, List, ◌++◌, Option, Some, None, refl, sym, ◌∙◌, ap}
-use Rattle.std.specs.Prelude.{is_some, is_none, ◌&&◌, ◌||◌, option_and_then}
+use Rattle.std.specs.Prelude.{is_some, is_none, ◌&&◌, option_and_then}
 use Rattle.std.specs.Option.{option_map}
 use Rattle.std.proofs.lemmas.Bool.{false≢true, true≢false, eq-eqb, or_left}
 use Rattle.ctr_types.specs.declared.statement.Statement.{Statement}

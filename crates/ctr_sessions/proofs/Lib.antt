@@ -3,3 +3,4 @@ pub mod Own
 pub mod Answers
 pub mod Writes
 pub mod Steps
+pub mod Cleaning

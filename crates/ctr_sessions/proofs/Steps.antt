@@ -85,6 +85,26 @@ module _ (transactions : List (ℕ × Transaction)) (sessions : List (ℕ × Ses
       (λ one. absurd (false≢true (ap is_some (sym (ap (λ r. find nat_cmp r (without nat_cmp s transactions)) (eqb-true q s one) ∙ find-without-same s transactions) ∙ at))))
       (λ two. are q u b (sym (find-without-other q s transactions two) ∙ at) (sym (find-without-other q s sessions two) ∙ at_b))
 
+-- each session has a transaction
+abbrev AreOnly : List (ℕ × Transaction) → List (ℕ × SessionHeld) → Type 0
+AreOnly transactions sessions = (s : ℕ) (session : SessionHeld) → find nat_cmp s sessions ≡ Some session → is_some (find nat_cmp s transactions) ≡ true
+
+module _ (transactions : List (ℕ × Transaction)) (sessions : List (ℕ × SessionHeld)) (s : ℕ) (are : AreOnly transactions sessions) where
+  only_same : (t : Transaction) → AreOnly (put nat_cmp s t transactions) sessions
+  only_same t q b at = known (q == s)
+      (λ one. ap (λ r. is_some (find nat_cmp r (put nat_cmp s t transactions))) (eqb-true q s one) ∙ ap is_some (find-put-same s t transactions))
+      (λ two. ap is_some (find-put-other q s t transactions two) ∙ are q b at)
+
+  only_put : (t : Transaction) (session : SessionHeld) → AreOnly (put nat_cmp s t transactions) (put nat_cmp s session sessions)
+  only_put t session q b at = known (q == s)
+      (λ one. ap (λ r. is_some (find nat_cmp r (put nat_cmp s t transactions))) (eqb-true q s one) ∙ ap is_some (find-put-same s t transactions))
+      (λ two. ap is_some (find-put-other q s t transactions two) ∙ are q b (sym (find-put-other q s session sessions two) ∙ at))
+
+  only_without : AreOnly (without nat_cmp s transactions) (without nat_cmp s sessions)
+  only_without q b at = known (q == s)
+      (λ one. absurd (false≢true (ap is_some (sym (ap (λ r. find nat_cmp r (without nat_cmp s sessions)) (eqb-true q s one) ∙ find-without-same s sessions) ∙ at))))
+      (λ two. ap is_some (find-without-other q s transactions two) ∙ are q b (sym (find-without-other q s sessions two) ∙ at))
+
 -- ---- begin, lock, read
 
 -- the engine and the numbers are known by equations
@@ -97,6 +117,7 @@ begin_shows low old new state s is_old is_engine is_since =
       shows = begin_step low old.engine state s is_old.shows;
       since = since_put old.since state.sessions s is_old.since (begun state.answered);
       drawn = drawn_put state.sessions old.engine.sessions s is_old.drawn (begun state.answered) (record { me = 0; snapshot = taken old.engine.xids old.engine.answered; undoing = false }) (record { writer = λ is. absurd (false≢true is); reader = λ is. refl });
+      only = only_put state.sessions old.engine.sessions s is_old.only (begun state.answered) (record { me = 0; snapshot = taken old.engine.xids old.engine.answered; undoing = false });
       tables = is_old.tables;
       ordered = is_old.ordered;
     })
@@ -109,6 +130,7 @@ lock_shows low old new state s me t session is_old here grant writer unwritten l
         shows = grants_shown low old.engine state s me t is_old.shows here.there grant;
         since = since_same old.since state.sessions s is_old.since me t here.there grant.snapshot;
         drawn = drawn_same state.sessions old.engine.sessions s is_old.drawn t session here.held (record { writer = λ is. mine.writer was; reader = λ is. absurd (true≢false (sym writer ∙ is)) });
+        only = only_same state.sessions old.engine.sessions s is_old.only t;
         tables = is_old.tables;
         ordered = is_old.ordered;
       })
@@ -116,6 +138,7 @@ lock_shows low old new state s me t session is_old here grant writer unwritten l
         shows = draw_step low old.engine state s session t is_old.shows (session_moved low state.answered old.engine.xids old.engine.versions session me t grant.snapshot grant.own grant.asked here.shown) (grant.asked ∙ here.unasked) (grant.own ∙ unwritten was);
         since = since_same old.since state.sessions s is_old.since me t here.there grant.snapshot;
         drawn = drawn_put state.sessions old.engine.sessions s is_old.drawn t (record session { me = old.engine.xids.next }) (record { writer = λ is. is_old.shows.sound.first; reader = λ is. absurd (true≢false (sym writer ∙ is)) });
+        only = only_put state.sessions old.engine.sessions s is_old.only t (record session { me = old.engine.xids.next });
         tables = is_old.tables;
         ordered = is_old.ordered;
       })
@@ -126,6 +149,7 @@ read_shows low db state s me t session is_old here grant writer = record {
   shows = grants_shown low db.engine state s me t is_old.shows here.there grant;
   since = since_same db.since state.sessions s is_old.since me t here.there grant.snapshot;
   drawn = drawn_writer state.sessions db.engine.sessions s is_old.drawn me t here.there writer;
+  only = only_same state.sessions db.engine.sessions s is_old.only t;
   tables = is_old.tables;
   ordered = is_old.ordered;
 }
@@ -144,6 +168,7 @@ module _ (low : ℕ) (old new : Begun) (state : State) (s : ℕ) (me t : Transac
     shows = shows;
     since = subst (λ es. AreSince es (put nat_cmp s t state.sessions)) (sym is_since) (since_same old.since state.sessions s is_old.since me t at snapshot);
     drawn = subst (λ es. AreDrawnFor (put nat_cmp s t state.sessions) es) (sym sessions) (drawn_writer state.sessions old.engine.sessions s is_old.drawn me t at writer);
+    only = subst (λ es. AreOnly (put nat_cmp s t state.sessions) es) (sym sessions) (only_same state.sessions old.engine.sessions s is_old.only t);
     tables = tables;
     ordered = is_old.ordered;
   }
@@ -227,6 +252,7 @@ ask_shows low old new state s me session is_old here writer untouched is_engine 
       shows = ask_step low old.engine state s session me is_old.shows here.held here.shown here.unasked (mine.writer writer) here.calm untouched;
       since = since_same old.since state.sessions s is_old.since me t here.there refl;
       drawn = drawn_writer state.sessions old.engine.sessions s is_old.drawn me t here.there refl;
+      only = only_same state.sessions old.engine.sessions s is_old.only t;
       tables = is_old.tables;
       ordered = is_old.ordered;
     })
@@ -237,6 +263,7 @@ answer_shows low old new state s is_old waiting is_engine is_since =
       shows = answer_step low old.engine state s is_old.shows waiting;
       since = since_without old.since state.sessions s is_old.since;
       drawn = drawn_without state.sessions old.engine.sessions s is_old.drawn;
+      only = only_without state.sessions old.engine.sessions s is_old.only;
       tables = is_old.tables;
       ordered = is_old.ordered;
     })
@@ -247,6 +274,7 @@ end_shows low old new state s is_old is_engine is_since =
       shows = end_step low old.engine state s is_old.shows;
       since = since_without old.since state.sessions s is_old.since;
       drawn = drawn_without state.sessions old.engine.sessions s is_old.drawn;
+      only = only_without state.sessions old.engine.sessions s is_old.only;
       tables = is_old.tables;
       ordered = is_old.ordered;
     })
@@ -258,6 +286,7 @@ rollback_shows low old new state s me session is_old here writer is_engine is_si
       shows = rollback_step low old.engine state s session me is_old.shows here.held here.shown here.unasked (mine.writer writer);
       since = since_without old.since state.sessions s is_old.since;
       drawn = drawn_without state.sessions old.engine.sessions s is_old.drawn;
+      only = only_without state.sessions old.engine.sessions s is_old.only;
       tables = is_old.tables;
       ordered = is_old.ordered;
     })
@@ -267,6 +296,7 @@ room_shows low old new state is_old sessions same_since same shows = record {
   shows = shows;
   since = λ s. same_since s ∙ is_old.since s;
   drawn = subst (λ es. AreDrawnFor state.sessions es) (sym sessions) is_old.drawn;
+  only = subst (λ es. AreOnly state.sessions es) (sym sessions) is_old.only;
   tables = same_tables old.engine.versions new.engine.versions same is_old.tables;
   ordered = is_old.ordered;
 }

@@ -2,3 +2,4 @@ pub mod Sessions
 pub mod Answers
 pub mod Laws
 pub mod Steps
+pub mod Cleaning

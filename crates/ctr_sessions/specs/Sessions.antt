@@ -1,5 +1,5 @@
 -- Versions with the sessions over them: what they show of a state of the model beside its rows.
-use Rattle.std.specs.Prelude.{◌≡◌, ℕ, ◌<◌, Bool, true, false, List, Some, None}
+use Rattle.std.specs.Prelude.{is_some, ◌≡◌, ℕ, ◌<◌, Bool, true, false, List, Some, None}
 use Rattle.std.specs.Option.{option_map}
 use Rattle.std.specs.Ordering.{nat_cmp}
 use Rattle.std.specs.FinMap.Entries.{find}
@@ -34,6 +34,8 @@ pub record ShowsBegun (low : ℕ) (db : Begun) (state : State) : Type 0 where
       ≡ option_map (λ (t : Transaction). t.snapshot) (transaction_of state s)
   pub drawn : (s : ℕ) (t : Transaction) (session : SessionHeld) → transaction_of state s ≡ Some t
       → find nat_cmp s db.engine.sessions ≡ Some session → IsDrawnFor session t
+  pub only : (s : ℕ) (session : SessionHeld) → find nat_cmp s db.engine.sessions ≡ Some session
+      → is_some (transaction_of state s) ≡ true
   pub tables : HaveOwnTables db.engine.versions
   pub ordered : IsOrdered state.base
 

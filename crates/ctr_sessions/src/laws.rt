@@ -1,6 +1,7 @@
 // What an engine answers. A call does nothing: what it ensures is the law.
 ghost use Rattle.ctr_sessions.specs.Laws.{RefusalsAreTheModels, RowsAreTheViews, WritesAreRefusedAlike, WritesAreOneChange, LocksKeepKeys, HoldsKeepNames, ChangedTablesAreAlone};
 ghost use Rattle.ctr_sessions.specs.Steps.{BeginShows, LockShows, ReadShows, RowShows, NameShows, RoomShows, AskShows, AnswerShows, EndShows, RollbackShows};
+ghost use Rattle.ctr_sessions.specs.Cleaning.{FreeRowsAreNobodys, FreeNamesAreNobodys};
 
 /// A Lock and a Read are refused exactly where the model refuses them, for the same cause, by what the
 /// session sees, the newest committed versions, and the locks.
@@ -48,4 +49,11 @@ pub fn ends_show()
     ensures answer { AnswerShows }
     ensures end { EndShows }
     ensures rollback { RollbackShows }
+{}
+
+/// What no session has locked or holds has no version of a session that is at work, so that the cleaner may
+/// take its open head away.
+pub fn what_is_free_is_nobodys()
+    ensures rows { FreeRowsAreNobodys }
+    ensures names { FreeNamesAreNobodys }
 {}
