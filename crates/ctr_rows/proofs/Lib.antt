@@ -4,3 +4,5 @@ pub mod Tables
 pub mod Named
 pub mod Seen
 pub mod Loaded
+pub mod Counts
+pub mod Runs

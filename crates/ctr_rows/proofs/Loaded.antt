@@ -1,5 +1,5 @@
 -- What a loader keeps, and the database that it shows, after each change.
-use Rattle.std.proofs.Common.{◌≡◌, ℕ, ℤ, List, [], Option, Some, None, refl, sym, ◌∙◌, ap, subst}
+use Rattle.std.proofs.Common.{◌≡◌, ℕ, ℤ, List, [], Option, Some, None, refl, sym, ◌∙◌, ap, subst, arith}
 use Rattle.std.specs.Prelude.{is_some, unwrap_or, Result, Ok, Err, OnErr}
 use Rattle.std.specs.Option.{option_map}
 use Rattle.std.proofs.lemmas.Bool.{false≢true}
@@ -13,11 +13,12 @@ use Rattle.ctr_versions.specs.Keys.{row_written, schema_named}
 use Rattle.ctr_versions.specs.Xids.{Xids, number_of, settled}
 use Rattle.ctr_versions.specs.Versions.{Made, Versions, names_at, rows_of, name_written, RowsSet, NamesSet, IsUnmadeTable}
 use Rattle.ctr_versions.specs.Engine.{session_sees, ShowsState}
-use Rattle.ctr_versions.specs.Loading.{loader, loading_xids, is_loader}
+use Rattle.ctr_versions.specs.Loading.{loader, loading_xids, opened_xids, is_loader}
 use Rattle.ctr_versions.proofs.Changes.{write_seen}
 use Rattle.ctr_versions.proofs.Reading.{schema_read}
-use Rattle.ctr_versions.proofs.Loading.{single_write, row_kept, row_room_kept, row_loads, row_room_loads, name_kept, name_room_kept, name_loads, name_room_loads, absent_loads, loader_sees, loading_opens}
+use Rattle.ctr_versions.proofs.Loading.{single_write, row_kept, row_room_kept, row_loads, row_room_loads, name_kept, name_room_kept, name_loads, name_room_loads, absent_loads, loader_sees, loading_opens, opened_sound, opened_heads, single_behind}
 use Rattle.ctr_rows.specs.Stored.{HeldStore, versions_of}
+use Rattle.ctr_rows.specs.Running.{Runs}
 use Rattle.ctr_rows.specs.Loading.{loaded_database, IsLoading}
 use Rattle.ctr_rows.specs.declared.loader.Loader.TheInside.{Inside}
 
@@ -92,6 +93,15 @@ module _ (a : Inside) (inv : IsLoading a) where
 
   pub opens : (xids : Xids) → xids ≡ settled loader a.xids → (stuck : List (List ℕ)) → ShowsState 0 (record { xids = xids; versions = versions_of a.store; sessions = []; answered = 0 }) (at_rest (loaded_database a) stuck)
   opens xids is stuck = subst (λ (x : Xids). ShowsState 0 (record { xids = x; versions = versions_of a.store; sessions = []; answered = 0 }) (at_rest (loaded_database a) stuck)) (sym (is ∙ ap (settled loader) inv.xids)) (loading_opens (versions_of a.store) inv.are stuck)
+
+  pub opened_runs : (xids : Xids) → xids ≡ settled loader a.xids → Runs xids a.store 0 []
+  opened_runs xids is = subst (λ (x : Xids). Runs x a.store 0 []) (sym (is ∙ ap (settled loader) inv.xids)) (record {
+    sound = opened_sound;
+    asked = omega arith;
+    only = record { names = λ name. single_behind (number_of opened_xids) (names_at old name) (inv.are.names name); rows = λ id key. single_behind (number_of opened_xids) (rows_of old id key) (inv.are.rows id key) };
+    counted = λ x none lt. opened_heads old inv.are x none;
+    room = λ x here. absurd (false≢true here);
+  })
 
   -- ---- a table
 

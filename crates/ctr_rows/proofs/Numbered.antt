@@ -5,9 +5,9 @@ use Rattle.std.proofs.lemmas.Bool.{false≢true, cases_eq}
 use Rattle.std.proofs.lemmas.List.{length_push}
 use Rattle.std.proofs.lemmas.Map.{update_here, update_apart}
 use Rattle.ctr_snap.specs.Seeing.{has}
-use Rattle.ctr_versions.specs.Xids.{Xids, minus, number_of, drawn, asked, aborted, settled, AreSound}
+use Rattle.ctr_versions.specs.Xids.{Xids, minus, number_of, drawn, asked, aborted, settled, forgotten, AreSound}
 use Rattle.ctr_versions.proofs.Chains.{with_number}
-use Rattle.ctr_versions.proofs.Xids.{drawn_numbers, drawn_sound, asked_numbers, asked_sound, settled_numbers, settled_sound, aborted_numbers, aborted_sound, live_below}
+use Rattle.ctr_versions.proofs.Xids.{drawn_numbers, drawn_sound, asked_numbers, asked_sound, settled_numbers, settled_sound, aborted_numbers, aborted_sound, aborted_bounds, forgotten_numbers, forgotten_sound, live_below}
 use Rattle.ctr_rows.specs.Numbered.{number_at, xids_kept, AreNumbered}
 use Rattle.ctr_rows.specs.declared.transactions.Transactions.TheInside.{Inside}
 
@@ -66,23 +66,39 @@ module _ (a b : Inside) (inv : AreNumbered a) where
     aborts = aborts;
   }
 
+  -- the same numbers but for one, which has this now
+  numbers_set : (x : ℕ) → x < length a.numbers.items → (k : ℕ) (y : ℕ) → number_at (slice_set a.numbers.items x (Some k)) y ≡ with_number (number_of (xids_kept a)) x k y
+  numbers_set x lt k y = ⊎_elim
+      (λ here. ap (number_at (slice_set a.numbers.items x (Some k))) here ∙ number_here a.numbers.items x (Some k) lt
+      ∙ sym (ap (with_number (number_of (xids_kept a)) x k) here ∙ update_here (number_of (xids_kept a)) x (Some k)))
+      (λ apart. number_apart a.numbers.items x y (Some k) apart ∙ inv.numbers y ∙ sym (update_apart (number_of (xids_kept a)) x (Some k) y apart))
+      (cases_eq y x)
+
+  -- one that was rolled back is forgotten
+  module _ (x : ℕ) (is_aborted : has x a.aborted.items ≡ true) where
+    pub aborted_place : x < length a.numbers.items
+    aborted_place = (aborted_bounds (xids_kept a) inv.sound x is_aborted).1
+
+    pub forgotten_kept : b.aborted.items ≡ minus x a.aborted.items → b.numbers.items ≡ slice_set a.numbers.items x (Some 0) → xids_kept b ≡ forgotten x (xids_kept a)
+        → b.live.items ≡ a.live.items → vec_len b.commits ≡ vec_len a.commits → vec_capacity b.commits ≡ vec_capacity a.commits → vec_capacity b.aborted ≡ vec_capacity a.aborted → AreNumbered b
+    forgotten_kept fewer_ numbers is live same kept spare =
+        let shorter : length b.aborted.items ≤ length a.aborted.items = subst (λ xs. length xs ≤ length a.aborted.items) (sym fewer_) (fewer_at_most x a.aborted.items) in
+        record {
+          sound = subst AreSound (sym is) (forgotten_sound (xids_kept a) inv.sound x is_aborted);
+          numbers = λ y. ap (λ ks. number_at ks y) numbers ∙ numbers_set x aborted_place 0 y ∙ sym (forgotten_numbers (xids_kept a) inv.sound x is_aborted y) ∙ ap (λ (xs : Xids). number_of xs y) (sym is);
+          asks = subst (λ xs. vec_len b.commits + length xs ≤ vec_capacity b.commits) (sym live) (omega (arith, same, kept, inv.asks));
+          aborts = subst (λ xs. vec_len b.aborted + length xs ≤ vec_capacity b.aborted) (sym live) (omega (arith, spare, shorter, b.aborted.ok.0, a.aborted.ok.0, inv.aborts));
+        }
+
   module _ (x : ℕ) (is_live : has x a.live.items ≡ true) (live : b.live.items ≡ minus x a.live.items) where
     fewer_live : length b.live.items + 1 ≤ length a.live.items
     fewer_live = subst (λ xs. length xs + 1 ≤ length a.live.items) (sym live) (fewer x a.live.items is_live)
-
-    -- the same numbers but for one, which has this now
-    numbers_set : (k : ℕ) (y : ℕ) → number_at (slice_set a.numbers.items x (Some k)) y ≡ with_number (number_of (xids_kept a)) x k y
-    numbers_set k y = ⊎_elim
-        (λ here. ap (number_at (slice_set a.numbers.items x (Some k))) here ∙ number_here a.numbers.items x (Some k) (in_place a inv x is_live)
-        ∙ sym (ap (with_number (number_of (xids_kept a)) x k) here ∙ update_here (number_of (xids_kept a)) x (Some k)))
-        (λ apart. number_apart a.numbers.items x y (Some k) apart ∙ inv.numbers y ∙ sym (update_apart (number_of (xids_kept a)) x (Some k) y apart))
-        (cases_eq y x)
 
     pub asked_kept : b.numbers.items ≡ slice_set a.numbers.items x (Some (length a.commits.items + 1)) → xids_kept b ≡ asked x (xids_kept a)
         → vec_len b.commits ≡ vec_len a.commits + 1 → vec_capacity b.commits ≡ vec_capacity a.commits → vec_len b.aborted ≡ vec_len a.aborted → vec_capacity b.aborted ≡ vec_capacity a.aborted → AreNumbered b
     asked_kept numbers is one same kept spare = record {
       sound = subst AreSound (sym is) (asked_sound (xids_kept a) inv.sound x is_live);
-      numbers = λ y. ap (λ ks. number_at ks y) numbers ∙ numbers_set (length a.commits.items + 1) y ∙ sym (asked_numbers (xids_kept a) inv.sound x is_live y) ∙ ap (λ (xs : Xids). number_of xs y) (sym is);
+      numbers = λ y. ap (λ ks. number_at ks y) numbers ∙ numbers_set x (in_place a inv x is_live) (length a.commits.items + 1) y ∙ sym (asked_numbers (xids_kept a) inv.sound x is_live y) ∙ ap (λ (xs : Xids). number_of xs y) (sym is);
       asks = omega (arith, one, same, fewer_live, inv.asks);
       aborts = omega (arith, kept, spare, fewer_live, inv.aborts);
     }
@@ -91,7 +107,7 @@ module _ (a b : Inside) (inv : AreNumbered a) where
         → vec_len b.commits ≡ vec_len a.commits → vec_capacity b.commits ≡ vec_capacity a.commits → vec_len b.aborted ≡ vec_len a.aborted → vec_capacity b.aborted ≡ vec_capacity a.aborted → AreNumbered b
     settled_kept numbers is same kept few spare = record {
       sound = subst AreSound (sym is) (settled_sound (xids_kept a) inv.sound x is_live);
-      numbers = λ y. ap (λ ks. number_at ks y) numbers ∙ numbers_set 0 y ∙ sym (settled_numbers (xids_kept a) inv.sound x is_live y) ∙ ap (λ (xs : Xids). number_of xs y) (sym is);
+      numbers = λ y. ap (λ ks. number_at ks y) numbers ∙ numbers_set x (in_place a inv x is_live) 0 y ∙ sym (settled_numbers (xids_kept a) inv.sound x is_live y) ∙ ap (λ (xs : Xids). number_of xs y) (sym is);
       asks = omega (arith, same, kept, fewer_live, inv.asks);
       aborts = omega (arith, few, spare, fewer_live, inv.aborts);
     }

@@ -34,7 +34,7 @@ find_table id [] = refl
 find_table id (e ∷ es) = ap (λ r. cond (is_eq (nat_cmp id e.0)) (Some (chains_of e.1)) r) (find_table id es)
     ∙ elim (is_eq (nat_cmp id e.0)) as (λ b. cond b (Some (chains_of e.1)) (option_map (λ (r : Rows). chains_of r) (find nat_cmp id es)) ≡ option_map (λ (r : Rows). chains_of r) (cond b (Some e.1) (find nat_cmp id es))) [ true ↦ refl | false ↦ refl ]
 
-pub looked_up : (id : ℕ) (es : List (ℕ × Rows)) → lookup (is_at (nat_cmp id)) es ≡ find nat_cmp id es
+pub looked_up : {X : Type 0} (id : ℕ) (es : List (ℕ × X)) → lookup (is_at (nat_cmp id)) es ≡ find nat_cmp id es
 looked_up id [] = refl
 looked_up id (e ∷ es) = ap (λ r. cond (is_at (nat_cmp id) e.0) (Some e.1) r) (looked_up id es)
 

@@ -1,17 +1,21 @@
 -- What an engine in memory is, of the versions and transactions that laws speak of.
-use Rattle.std.specs.Prelude.{ℕ, ◌≤◌, List, length}
-use Rattle.ctr_versions.specs.Xids.{Xids}
+use Rattle.std.specs.Prelude.{◌≡◌, ℕ, ◌≤◌, true, List, length, None}
+use Rattle.ctr_snap.specs.Seeing.{has}
+use Rattle.ctr_versions.specs.Xids.{Xids, number_of, AreSound}
 use Rattle.ctr_versions.specs.Engine.{SessionHeld, EngineHeld}
+use Rattle.ctr_versions.specs.Heads.{IsCountOf, OnlyHeadsAreOpen}
 use Rattle.ctr_rows.specs.Stored.{HeldStore, versions_of}
+use Rattle.ctr_rows.specs.Counted.{Counts, count_of, HasCount}
 use Rattle.ctr_rows.specs.declared.engine.Engine.TheInside.{Inside}
 
--- the transactions, what is stored, the sessions in a transaction, and how many commits are
--- answered
+-- the transactions, what is stored, the sessions in a transaction, how many commits are answered,
+-- and the counts of heads
 pub record HeldEngine : Type 0 where
   pub xids : Xids
   pub store : HeldStore
   pub sessions : List (ℕ × SessionHeld)
   pub answered : ℕ
+  pub heads : Counts
 
 -- the same of what the code has
 abbrev pub held_engine : Inside → HeldEngine
@@ -20,6 +24,7 @@ held_engine a = record {
   store = a.store;
   sessions = a.sessions;
   answered = a.answered;
+  heads = a.heads;
 }
 
 -- what it has of its database
@@ -31,6 +36,15 @@ engine_of h = record {
   answered = h.answered;
 }
 
--- what is answered was asked
+-- What is answered was asked; only heads are by those that aren't committed, each of which has its
+-- count, and those that are open room for it.
+pub record Runs (xids : Xids) (store : HeldStore) (answered : ℕ) (heads : Counts) : Type 0 where
+  pub sound : AreSound xids
+  pub asked : answered ≤ length xids.commits
+  pub only : OnlyHeadsAreOpen (number_of xids) (versions_of store)
+  pub counted : (x : ℕ) → number_of xids x ≡ None → IsCountOf x (count_of x heads) (versions_of store)
+  pub room : (x : ℕ) → has x xids.live ≡ true → HasCount x heads
+
+-- an engine is so
 abbrev pub IsRunning : Inside → Type 0
-IsRunning a = a.answered ≤ length a.xids.commits
+IsRunning a = Runs a.xids a.store a.answered a.heads

@@ -2,6 +2,7 @@
 ghost use Rattle.std.specs.Prelude.{◌≡◌, ◌<◌, ◌≤◌, true, length, drop, [], reverse, if◌then◌else◌, OnOk, option_copied};
 ghost use Rattle.ctr_versions.specs.Chains.{value_seen, newest};
 ghost use Rattle.ctr_versions.specs.Changes.{write, revert, cut, without_tombstone};
+ghost use Rattle.ctr_versions.specs.Heads.{open_head};
 ghost use Rattle.ctr_versions.specs.Xids.{number_of, below_mark};
 ghost use Rattle.ctr_versions.specs.Engine.{session_sees};
 
@@ -112,6 +113,19 @@ impl<V> Chain<V> {
             return true;
         };
         newest.value.is_none() && xids.is_below(newest.xid, mark)
+    }
+
+    /// The transaction of the head, where that one isn't committed.
+    pub fn open_head(&self, xids: &Transactions) -> Option<Xid>
+        ensures { result ≡ open_head (number_of xids.now) self.now.chain }
+    {
+        let Some((head, _)) = self.versions.split_last() else {
+            return None;
+        };
+        if xids.number(head.xid).is_some() {
+            return None;
+        }
+        Some(head.xid)
     }
 
     /// The number of the newest committed version. Only the head may be one that isn't committed, so this

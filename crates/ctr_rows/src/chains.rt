@@ -2,6 +2,7 @@
 ghost use Rattle.std.specs.Prelude.{◌≡◌, [], ◌++◌, map, IfOk, OnOk, option_copied};
 ghost use Rattle.ctr_versions.specs.Chains.{value_seen, newest};
 ghost use Rattle.ctr_versions.specs.Changes.{write, revert, cut, without_tombstone};
+ghost use Rattle.ctr_versions.specs.Heads.{open_head};
 ghost use Rattle.ctr_versions.specs.Listing.{chain_at, entries_seen};
 ghost use Rattle.ctr_versions.specs.Xids.{number_of, below_mark};
 ghost use Rattle.ctr_versions.specs.Engine.{session_sees};
@@ -97,6 +98,16 @@ impl<K: Ord, V> Chains<K, V> {
     {
         match self.chains.get(key) {
             Some(chain) => chain.newest(xids),
+            None => None,
+        }
+    }
+
+    /// The transaction of a key's head, where that one isn't committed.
+    pub fn open_head(&self, key: &K, xids: &Transactions) -> Option<Xid>
+        ensures { result ≡ open_head (number_of xids.now) (chain_at K.cmp key.now (chains_of self.now)) }
+    {
+        match self.chains.get(key) {
+            Some(chain) => chain.open_head(xids),
             None => None,
         }
     }

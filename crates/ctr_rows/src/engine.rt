@@ -1,5 +1,5 @@
 // The engine: each call leaves what its step says, and keeps that the engine shows the model's state.
-ghost use Rattle.std.specs.Prelude.{◌≡◌, ◌<◌, ◌^◌, ℕ, true, false, length, [], Some, None, List, ◌-◌, IfOk, OnOk, OnErr, IfSome, map, option_copied};
+ghost use Rattle.std.specs.Prelude.{◌≡◌, ◌==◌, ◌&&◌, if◌then◌else◌, ◌<◌, ◌^◌, ℕ, true, false, length, [], Some, None, List, ◌-◌, IfOk, OnOk, OnErr, IfSome, map, option_copied};
 ghost use Rattle.std.specs.Ordering.{nat_cmp};
 ghost use Rattle.std.specs.FinMap.Entries.{find};
 ghost use Rattle.ctr_model.specs.State.{at_rest};
@@ -9,12 +9,15 @@ ghost use Rattle.ctr_versions.specs.Xids.{number_of, below_mark};
 ghost use Rattle.ctr_versions.specs.Listing.{entries_seen};
 ghost use Rattle.ctr_versions.specs.Versions.{names_at, slots_of, rows_of};
 ghost use Rattle.ctr_versions.specs.Engine.{SessionHeld, ShowsState};
-ghost use Rattle.ctr_versions.specs.Steps.{engine_begun, engine_drawn, engine_asked, engine_ended, engine_answered, engine_rolled_back};
+ghost use Rattle.ctr_versions.specs.Steps.{engine_begun, engine_drawn, engine_asked, engine_ended, engine_answered, engine_rolled_back, engine_forgotten};
+ghost use Rattle.ctr_versions.specs.Heads.{IsCountOf};
 ghost use Rattle.ctr_versions.specs.Laws.{me_of, IsOpenWriter, SetsRow, SetsName, BeginKeeps, DrawKeeps, RowKeeps, NameKeeps, AskKeeps, AnswerKeeps, EndKeeps, RollbackKeeps, CleaningKeeps, RevertKeeps, RoomKeeps, NameRevertKeeps, DeadKeeps, sees_of, mark_of, sessions_named};
 ghost use Rattle.ctr_snap.specs.Seeing.{has, least};
 ghost use Rattle.ctr_rows.specs.Stored.{versions_of, HasVersionRoom, RoomsStay, HasNameRoom};
-ghost use Rattle.ctr_rows.specs.Running.{engine_of};
+ghost use Rattle.ctr_rows.specs.Running.{engine_of, Runs};
+ghost use Rattle.ctr_rows.specs.Counted.{count_of};
 
+use crate::heads::Heads;
 use crate::session::Session;
 use crate::store::{Made, Store};
 use crate::transactions::Transactions;
@@ -31,6 +34,7 @@ pub struct Engine {
     store: Store,
     sessions: Map<u8, Session>,
     answered: u64,
+    heads: Heads,
 }
 
 impl Model for Engine {
@@ -53,11 +57,13 @@ impl Engine {
             store: Store::new(alloc),
             sessions: Map::new(alloc),
             answered: 0,
+            heads: Heads::new(alloc),
         })
     }
 
     /// Over these versions, with nobody in a transaction and nothing answered.
     pub(crate) fn over(alloc: Global, xids: Transactions, store: Store) -> Engine
+        requires { Runs xids store 0 [] }
         ensures { engine_of result ≡ record { xids = xids; versions = versions_of store; sessions = []; answered = 0 } }
     {
         Engine {
@@ -65,6 +71,7 @@ impl Engine {
             store,
             sessions: Map::new(alloc),
             answered: 0,
+            heads: Heads::new(alloc),
         }
     }
 
@@ -100,6 +107,7 @@ impl Engine {
         };
         let undoing = session.undoing;
         let snapshot = session.snapshot.copy(alloc)?;
+        self.heads.make_room(self.xids.next())?;
         let me = self.xids.draw()?;
         let drawn = Session {
             me,
@@ -146,7 +154,9 @@ impl Engine {
         ensures rooms { RoomsStay id key self.old.store self.new.store }
     {
         let me = self.me(s);
+        let over = self.store.row_head(id, key, &self.xids);
         self.store.write_row(id, key, &self.xids, me, value);
+        self.heads.moved(over, Some(me));
     }
 
     /// Makes a table, new, and gives its number. It takes no memory.
@@ -158,7 +168,10 @@ impl Engine {
         ensures keeps { NameKeeps s name.now (Some (record { id = result; schema = schema })) (engine_of self.old) (engine_of self.new) }
     {
         let me = self.me(s);
-        self.store.create(name, &self.xids, me, schema)
+        let over = self.store.name_head(name, &self.xids);
+        let id = self.store.create(name, &self.xids, me, schema);
+        self.heads.moved(over, Some(me));
+        id
     }
 
     /// Drops the table of a name. It takes no memory.
@@ -169,7 +182,9 @@ impl Engine {
         ensures keeps { NameKeeps s name.now None (engine_of self.old) (engine_of self.new) }
     {
         let me = self.me(s);
+        let over = self.store.name_head(name, &self.xids);
         self.store.drop_table(name, &self.xids, me);
+        self.heads.moved(over, Some(me));
     }
 
     /// Asks for the commit of a session's transaction. It takes no memory.
@@ -181,6 +196,7 @@ impl Engine {
     {
         let me = self.me(s);
         self.xids.ask(me);
+        self.heads.remove(me);
     }
 
     /// The commit that was asked for first, and isn't answered, is: it is the session's. It takes no
@@ -223,7 +239,9 @@ impl Engine {
         ensures leaves { SetsRow (engine_of self.old) (engine_of self.new) id key (revert (number_of self.old.xids) (rows_of (engine_of self.old).versions id key)) }
         ensures keeps { RevertKeeps id key (engine_of self.old) (engine_of self.new) }
     {
+        let over = self.store.row_head(id, key, &self.xids);
         self.store.revert_row(id, key, &self.xids);
+        self.heads.moved(over, None);
     }
 
     /// What stands behind a key's newest version below the low mark goes.
@@ -250,7 +268,9 @@ impl Engine {
         ensures leaves { SetsName (engine_of self.old) (engine_of self.new) name.now (revert (number_of self.old.xids) (names_at (engine_of self.old).versions name.now)) }
         ensures keeps { NameRevertKeeps name.now (engine_of self.old) (engine_of self.new) }
     {
+        let over = self.store.name_head(name, &self.xids);
         self.store.revert_name(name, &self.xids);
+        self.heads.moved(over, None);
     }
 
     /// A row of a dead table goes with all its versions. The caller sees that no name is that table for
@@ -259,7 +279,9 @@ impl Engine {
         ensures leaves { SetsRow (engine_of self.old) (engine_of self.new) id key [] }
         ensures keeps { DeadKeeps id key (engine_of self.old) (engine_of self.new) }
     {
+        let over = self.store.row_head(id, key, &self.xids);
         self.store.forget_row(id, key);
+        self.heads.moved(over, None);
     }
 
     /// What stands behind a name's newest version below the low mark goes.
@@ -278,6 +300,34 @@ impl Engine {
     {
         let mark = self.mark();
         self.store.free_name(name, &self.xids, mark);
+    }
+
+    /// How many heads of rows and of names are by a transaction that is open, or was rolled back and isn't
+    /// forgotten. A count that has come to 2^64 - 1 stands still.
+    pub fn heads(&self, xid: Xid) -> u64
+        ensures value { result ≡ count_of xid self.now.heads }
+        ensures count { number_of self.now.xids xid ≡ None → IsCountOf xid result (engine_of self.now).versions }
+    {
+        self.heads.of(xid)
+    }
+
+    /// Forgets a transaction that was rolled back, exactly where it has no head: it counts as committed from
+    /// then on, which nobody sees. It takes no memory.
+    pub fn forget(&mut self, xid: Xid) -> bool
+        ensures exactly { result ≡ (has xid self.old.xids.aborted && count_of xid self.old.heads == 0) }
+        ensures leaves { engine_of self.new ≡ (if result then engine_forgotten xid (engine_of self.old) else engine_of self.old) }
+        ensures keeps { RoomKeeps (engine_of self.old) (engine_of self.new) }
+        ensures store { self.new.store ≡ self.old.store }
+    {
+        if !has(xid, self.xids.aborted()) {
+            return false;
+        }
+        if self.heads.of(xid) != 0 {
+            return false;
+        }
+        self.xids.forget(xid);
+        self.heads.remove(xid);
+        true
     }
 
     /// Whether a session is in a transaction that has drawn its number, and hasn't asked for its commit.

@@ -4,6 +4,7 @@
 mod chain;
 mod chains;
 mod engine;
+mod heads;
 mod loader;
 mod session;
 mod store;

@@ -2,6 +2,7 @@
 ghost use Rattle.std.specs.Prelude.{◌≡◌, ℕ, ◌+◌, ◌-◌, ◌<◌, ◌^◌, [], Some, None, is_some, true, IfSome, IfOk, OnOk, map, option_copied};
 ghost use Rattle.ctr_versions.specs.Chains.{value_seen, newest};
 ghost use Rattle.ctr_versions.specs.Changes.{write, revert, cut, without_tombstone};
+ghost use Rattle.ctr_versions.specs.Heads.{open_head};
 ghost use Rattle.ctr_versions.specs.Listing.{entries_seen};
 ghost use Rattle.ctr_versions.specs.Xids.{number_of, below_mark};
 ghost use Rattle.ctr_versions.specs.Versions.{names_at, slots_of, rows_of, RowsSet, NamesSet, IsUnmadeTable};
@@ -120,6 +121,23 @@ impl Store {
             Some(rows) => rows.newest(&key, xids),
             None => None,
         }
+    }
+
+    /// The transaction of a row's head, where that one isn't committed.
+    pub fn row_head(&self, id: u64, key: Key, xids: &Transactions) -> Option<Xid>
+        ensures { result ≡ open_head (number_of xids.now) (rows_of (versions_of self.now) id key) }
+    {
+        match self.tables.get(&id) {
+            Some(rows) => rows.open_head(&key, xids),
+            None => None,
+        }
+    }
+
+    /// The transaction of a name's head, where that one isn't committed.
+    pub fn name_head(&self, name: &Name, xids: &Transactions) -> Option<Xid>
+        ensures { result ≡ open_head (number_of xids.now) (names_at (versions_of self.now) name.now) }
+    {
+        self.names.open_head(name, xids)
     }
 
     /// Writes a row or a tombstone. It takes no memory.

@@ -1,7 +1,7 @@
 // The numbers of transactions, how each stands, and their commit numbers.
 ghost use Rattle.std.specs.Prelude.{◌≡◌, ◌<◌, ◌≤◌, true, vec_capacity, length, drop, [], IfOk, OnOk, OnErr};
 ghost use Rattle.ctr_snap.specs.Seeing.{has};
-ghost use Rattle.ctr_versions.specs.Xids.{number_of, fate_of, minus, drawn, asked, aborted, settled, unanswered, below_mark};
+ghost use Rattle.ctr_versions.specs.Xids.{number_of, fate_of, minus, drawn, asked, aborted, settled, forgotten, unanswered, below_mark};
 ghost use Rattle.ctr_rows.specs.Numbered.{number_at};
 
 use ctr_snap::has;
@@ -59,6 +59,13 @@ impl Transactions {
         ensures { result.now ≡ self.now.live }
     {
         &self.live
+    }
+
+    /// Those that were rolled back and aren't forgotten.
+    pub fn aborted(&self) -> &[Xid]
+        ensures { result.now ≡ self.now.aborted }
+    {
+        &self.aborted
     }
 
     /// Those that asked for their commit, in the order in which they asked.
@@ -133,6 +140,15 @@ impl Transactions {
     {
         take_out(&mut self.live, xid);
         self.aborted.push_reserved(xid);
+    }
+
+    /// One that was rolled back is forgotten: it counts as committed before the run. It takes no memory.
+    pub fn forget(&mut self, xid: Xid)
+        requires { has xid self.old.aborted ≡ true }
+        ensures { self.new ≡ forgotten xid self.old }
+    {
+        self.numbers[xid as usize] = Some(0);
+        take_out(&mut self.aborted, xid);
     }
 
     /// An open one counts as committed before the run. It takes no memory.

@@ -20,6 +20,7 @@ use Rattle.ctr_versions.specs.Listing.{chain_at}
 use Rattle.ctr_versions.specs.Xids.{number_of, has_committed, AreSound}
 use Rattle.ctr_versions.specs.Versions.{Made, Versions, names_at, slots_of, rows_of, schemas, table_seen, database_seen, name_written, IsOrdered, is_slot, RowsSet, NamesSet}
 use Rattle.ctr_versions.specs.Engine.{session_sees, IsBy, IsDrawn, ShowsState}
+use Rattle.ctr_versions.specs.Heads.{has_head, HeadsAre}
 use Rattle.ctr_versions.specs.Loading.{loader, loading_xids, opened_xids, loading_session, is_loader, loaded, IsSingle, AreLoaded}
 use Rattle.ctr_versions.proofs.Keys.{known, same_text, some_is, schema_step, row_step}
 use Rattle.ctr_versions.proofs.Xids.{not_before, committed_fate}
@@ -36,7 +37,7 @@ single_write v (h ∷ rest) single =
     let open_ : number_of loading_xids h.0 ≡ None = ap (number_of loading_xids) single.0 in
     subst (λ o. IsSingle (cond (is_some o) ((loader, v) ∷ h ∷ rest) ((loader, v) ∷ rest))) (sym open_) (refl, single.1)
 
-single_behind : {V : Type 0} (number : Numbers) (chain : List (ℕ × Option V)) → IsSingle chain → Behind number chain
+pub single_behind : {V : Type 0} (number : Numbers) (chain : List (ℕ × Option V)) → IsSingle chain → Behind number chain
 single_behind number [] single = tt
 single_behind {V} number (v ∷ vs) single = subst (λ (c : List (ℕ × Option V)). Behind number (v ∷ c)) (sym single.1) tt
 
@@ -204,12 +205,26 @@ opened_test (suc (suc x)) =
     further : (x : ℕ) → suc (suc x) ≡ 1 → ⊥
     further x same = omega (arith, same)
 
+pub opened_sound : AreSound opened_xids
+opened_sound = record { first = omega arith; gone = tt; live = tt; apart = λ x here. absurd (false≢true here); commits = tt; once = tt }
+
+single_headless : {V : Type 0} (x : ℕ) → number_of opened_xids x ≡ None → (chain : List (ℕ × Option V)) → IsSingle chain → has_head x chain ≡ false
+single_headless x none [] single = refl
+single_headless x none (v ∷ vs) single = ne_eqb x v.0 (λ same. false≢true (ap is_some (sym none ∙ ap (number_of opened_xids) (same ∙ single.0))))
+
+-- nobody has a head who isn't committed
+pub opened_heads : (versions : Versions) → AreLoaded versions → (x : ℕ) → number_of opened_xids x ≡ None → HeadsAre x 0 versions
+opened_heads versions are x none = record {
+  rows = [];
+  names = [];
+  rows_are = record { once = tt; each = λ k. sym (single_headless x none (rows_of versions k.0 k.1) (are.rows k.0 k.1)) };
+  names_are = record { once = tt; each = λ name. sym (single_headless x none (names_at versions name) (are.names name)) };
+  sum = refl;
+}
+
 -- it shows the state at rest of what was loaded
 pub loading_opens : (versions : Versions) → AreLoaded versions → (stuck : List (List ℕ)) → ShowsState 0 (record { xids = opened_xids; versions = versions; sessions = []; answered = 0 }) (at_rest (loaded versions) stuck)
 loading_opens versions are stuck =
     subst (λ (test : ℕ → Bool). ShowsState 0 (record { xids = opened_xids; versions = versions; sessions = []; answered = 0 }) (at_rest (database_seen test versions) stuck)) (λ i x. opened_test x i)
-    (opened_state opened_xids versions stuck sound refl are.sorted are.slots_sorted (λ name. single_schemas (number_of opened_xids) (names_at versions name) (are.names name)) (λ id key. single_behind (number_of opened_xids) (rows_of versions id key) (are.rows id key))
+    (opened_state opened_xids versions stuck opened_sound refl are.sorted are.slots_sorted (λ name. single_schemas (number_of opened_xids) (names_at versions name) (are.names name)) (λ id key. single_behind (number_of opened_xids) (rows_of versions id key) (are.rows id key))
     (record { names = λ name. single_drawn (names_at versions name) (are.names name); rows = λ id key. single_drawn (rows_of versions id key) (are.rows id key) }))
-  where
-    sound : AreSound opened_xids
-    sound = record { first = omega arith; gone = tt; live = tt; apart = λ x here. absurd (false≢true here); commits = tt; once = tt }

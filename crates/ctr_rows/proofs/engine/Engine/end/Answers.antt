@@ -7,6 +7,6 @@ use Rattle.ctr_rows.proofs.engine.Engine.end.Goals as goal
 
 pub returns-clause-keeps : goal.returns-clause-keeps
 returns-clause-keeps c =
-    let new : EngineHeld = engine_of (record { xids = c.self.inside.xids; store = c.self.inside.store; sessions = c.remove.new.self; answered = c.self.inside.answered }) in
+    let new : EngineHeld = engine_of (record { xids = c.self.inside.xids; store = c.self.inside.store; sessions = c.remove.new.self; answered = c.self.inside.answered; heads = c.self.inside.heads }) in
     let leaves : new ≡ engine_ended c.args.s (engine_of c.args.self.now) = search rules in
     end_left c.args.s (engine_of c.args.self.now) new leaves

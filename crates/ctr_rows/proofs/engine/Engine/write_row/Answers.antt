@@ -1,16 +1,31 @@
-use Rattle.std.proofs.Common.{rules}
+use Rattle.std.proofs.Common.{rules, ◌≡◌, ◌∙◌, ap, sym}
 use Rattle.ctr_versions.specs.Engine.{EngineHeld}
-use Rattle.ctr_rows.specs.Running.{engine_of}
+use Rattle.ctr_rows.specs.Running.{engine_of, HeldEngine}
 use Rattle.ctr_versions.specs.Laws.{SetsRow, me_of}
 use Rattle.ctr_versions.specs.Changes.{write}
 use Rattle.ctr_versions.specs.Xids.{number_of}
 use Rattle.ctr_versions.specs.Versions.{rows_of}
 use Rattle.ctr_versions.proofs.Kept.{row_keeps}
+use Rattle.ctr_rows.specs.Stored.{versions_of}
+use Rattle.ctr_rows.proofs.Runs.{me_open}
+use Rattle.ctr_versions.proofs.Xids.{live_none}
+use Rattle.ctr_versions.specs.Heads.{count_moved}
+use Rattle.ctr_rows.specs.Counted.{count_of}
+use Rattle.ctr_versions.proofs.Heads.{write_head, write_behind}
+use Rattle.ctr_rows.proofs.Runs.{runs_row}
 use Rattle.ctr_rows.proofs.engine.Engine.write_row.Goals as goal
 
 pub returns-clause-keeps : goal.returns-clause-keeps
 returns-clause-keeps c =
     let old = (engine_of c.args.self.now) in
-    let new : EngineHeld = engine_of (record { xids = c.self.inside.xids; store = c.write_row.new.self; sessions = c.self.inside.sessions; answered = c.self.inside.answered }) in
+    let new : EngineHeld = engine_of (record { xids = c.self.inside.xids; store = c.write_row.new.self; sessions = c.self.inside.sessions; answered = c.self.inside.answered; heads = c.moved.new.self }) in
     let leaves : SetsRow old new c.args.id c.args.key (write (number_of c.args.self.now.xids) (me_of c.args.s old) c.args.value (rows_of old.versions c.args.id c.args.key)) = search rules in
     row_keeps c.args.s old c.requires.writer c.args.id c.args.key c.args.value new leaves
+
+pub invariant_of-self : goal.invariant_of-self
+invariant_of-self c =
+    let me_is : c.me-me.result ≡ me_of c.args.s (engine_of c.args.self.now) = search rules in
+    let is_live = me_open c.args.self.now c.self.inside.xids c.args.s c.me-me.result (ap (λ (h : HeldEngine). h.xids) c.self.view_is) me_is c.requires.writer in
+    let none = live_none c.self.inside.xids c.self.invariant.sound c.me-me.result is_live in
+    runs_row c.self.inside.xids c.self.inside.store c.self.inside.answered c.self.inside.heads c.self.invariant c.write_row.new.self c.moved.new.self c.moved.ensures.kept c.args.id c.args.key (write (number_of c.self.inside.xids) c.me-me.result c.args.value (rows_of (versions_of c.self.inside.store) c.args.id c.args.key)) c.write_row.ensures.set (write_behind (number_of c.self.inside.xids) c.me-me.result c.args.value (rows_of (versions_of c.self.inside.store) c.args.id c.args.key) (c.self.invariant.only.rows c.args.id c.args.key))
+    (λ x. c.moved.ensures.counts x ∙ (λ i. count_moved (c.row_head-over.ensures i) (sym (write_head (number_of c.self.inside.xids) c.me-me.result c.args.value (rows_of (versions_of c.self.inside.store) c.args.id c.args.key) none) i) x (count_of x c.self.inside.heads)))
