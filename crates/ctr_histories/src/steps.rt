@@ -24,6 +24,9 @@ pub enum Step {
     RevertName,
     CutName,
     FreeName,
+    Heads,
+    Forget,
+    Keep,
 }
 
 const STEPS: &[(&str, Step)] = &[
@@ -43,6 +46,9 @@ const STEPS: &[(&str, Step)] = &[
     ("revert_name", Step::RevertName),
     ("cut_name", Step::CutName),
     ("free_name", Step::FreeName),
+    ("heads", Step::Heads),
+    ("forget", Step::Forget),
+    ("keep", Step::Keep),
 ];
 
 /// The step of a line's first word.
@@ -235,12 +241,25 @@ fn session_step(alloc: Global, engine: &mut Engine, step: Step, s: u8, rest: &[u
     }
 }
 
+// A transaction has so many heads; it is forgotten, or is not to be.
+fn count(engine: &mut Engine, step: Step, rest: &[u8]) -> Option<()> {
+    let (xid, heads) = split_word(rest);
+    let xid = number(xid)?;
+    let done = match step {
+        Step::Heads => engine.heads(xid) == number(heads)?,
+        Step::Forget => engine.forget(xid),
+        _ => !engine.forget(xid),
+    };
+    if done { Some(()) } else { None }
+}
+
 /// Does a step of a session, or of the cleaner by what a session sees.
 pub fn do_step(alloc: Global, engine: &mut Engine, step: Step, rest: &[u8]) -> Option<()> {
     match step {
         Step::RevertName | Step::CutName | Step::FreeName => {
             clean_name(alloc, engine, step, rest)
         }
+        Step::Heads | Step::Forget | Step::Keep => count(engine, step, rest),
         _ => {
             let (session, words) = split_word(rest);
             let s = u8::try_from(number(session)?).ok()?;

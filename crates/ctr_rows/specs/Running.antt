@@ -42,7 +42,8 @@ pub record Runs (xids : Xids) (store : HeldStore) (answered : ℕ) (heads : Coun
   pub sound : AreSound xids
   pub asked : answered ≤ length xids.commits
   pub only : OnlyHeadsAreOpen (number_of xids) (versions_of store)
-  pub counted : (x : ℕ) → number_of xids x ≡ None → IsCountOf x (count_of x heads) (versions_of store)
+  pub counted : (x : ℕ) → number_of xids x ≡ None
+      → IsCountOf x (count_of x heads) (versions_of store)
   pub room : (x : ℕ) → has x xids.live ≡ true → HasCount x heads
 
 -- an engine is so

@@ -49,9 +49,9 @@ IsSeenIfOld xids snapshot x = number_of xids x ≡ Some 0 → is_before snapshot
 abbrev pub IsCalm : SessionHeld → Transaction → Type 0
 IsCalm session t = (t.asked ≡ None) × (session.undoing ≡ false)
 
--- The session shows the transaction: its snapshot stands for the transaction's number, and sees what
--- stands of those that were committed before the run; what it wrote is the transaction's own changes. One that has asked has its commit number, and no more is
--- said of what it sees.
+-- The session shows the transaction: its snapshot stands for the transaction's number, and sees
+-- what stands of those that were committed before the run; what it wrote is the transaction's own
+-- changes. One that has asked has its commit number, and no more is said of what it sees.
 pub record ShowsSession (low answered : ℕ) (xids : Xids) (versions : Versions)
     (session : SessionHeld) (t : Transaction) : Type 0 where
   pub snapshot : IsSnapshotOf xids session.snapshot t.snapshot

@@ -1,5 +1,5 @@
--- How many heads of chains are by a transaction. One that was rolled back may be forgotten once it has
--- none, since only a head is by one that isn't committed.
+-- How many heads of chains are by a transaction. Since only a head is by one that isn't committed,
+-- one that was rolled back may be forgotten once it has none.
 use Rattle.std.specs.Prelude.{◌≡◌, ℕ, ◌+◌, ◌-◌, ◌^◌, ◌<◌, ◌==◌, nat_lt, ℤ, Bool, true, false, List, [], ◌∷◌, length, Option, Some, None, is_some, if◌then◌else◌}
 use Rattle.std.specs.List.{list_any}
 use Rattle.ctr_types.specs.declared.value.Row.{Row}

@@ -6,8 +6,8 @@ use Rattle.ctr_types.specs.declared.xid.Fate.TheVariants as fate
 use Rattle.ctr_snap.specs.Seeing.{SnapshotTaken, has, sees}
 use Rattle.ctr_versions.specs.Chains.{by}
 
--- Numbers are drawn in order, from 1 on. Those that are open; those that were rolled back and aren't
--- forgotten; and those that asked for their commit, in the order in which they asked.
+-- Numbers are drawn in order, from 1 on. Those that are open; those that were rolled back and
+-- aren't forgotten; and those that asked for their commit, in the order in which they asked.
 pub record Xids : Type 0 where
   pub next : ℕ
   pub live : List ℕ
