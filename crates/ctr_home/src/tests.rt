@@ -3,7 +3,9 @@ ghost use Rattle.std.specs.Prelude.{[], false};
 ghost use Rattle.ctr_disk.specs.Silent.{never_told};
 ghost use Rattle.ctr_disk.specs.Memory.{moment_at, counted_faults, counted_strays};
 
-use crate::{Block, read_page, read_root, write_home, write_root};
+use crate::{
+    Block, is_open, read_home, read_page, read_root, read_thin_root, write_home, write_root,
+};
 use ctr_disk::{Call, Disk, Failed, Image, MemDisk, Recorded, Root, Stamp, StoreFault};
 use ctr_types::{File, List, Plain, Text};
 use std::alloc::{AllocError, Global};
@@ -133,18 +135,22 @@ fn look(disk: &mut Still, counted: u32, page: u32) -> Result<Seen, StoreFault> {
     Ok(Seen(stamp, if filled { into[4095] } else { 0xff }))
 }
 
-// 16 bytes at a place of four pages after one was written: gate, number, stamp, three of the body.
-fn bytes_of(alloc: Global, page: u32, at: u64) -> Result<[u8; 16], Fail> {
-    let mut disk = disk_of(alloc, &[], &lay(alloc, &[ZEROS; 8])?, 0)?;
-    write_home(
-        &mut disk,
-        Block::Page(page),
-        0x0102_0304_0506_0708,
-        &body_of(0x50),
-    )?;
+fn write_page(disk: &mut Still, page: u32) -> Result<(), StoreFault> {
+    let stamp = 0x0102_0304_0506_0708;
+    write_home(disk, Block::Page(page), stamp, &body_of(0x50))
+}
+
+fn bytes_at(disk: &mut Still, at: u64) -> Result<[u8; 16], Failed> {
     let mut bytes = [9; 16];
     disk.read(File::Pages, at, &mut bytes)?;
     Ok(bytes)
+}
+
+// 16 bytes at a place of four pages after one was written: gate, number, stamp, three of the body.
+fn bytes_of(alloc: Global, page: u32, at: u64) -> Result<[u8; 16], Fail> {
+    let mut disk = disk_of(alloc, &[], &lay(alloc, &[ZEROS; 8])?, 0)?;
+    write_page(&mut disk, page)?;
+    Ok(bytes_at(&mut disk, at)?)
 }
 
 #[test]
@@ -240,6 +246,14 @@ fn root_of(stamp: Stamp) -> Root {
     }
 }
 
+const ROOT_10: Root = Root {
+    stamp: 10,
+    format: 1,
+    file: 1,
+    first: 1541,
+    pages: 320,
+};
+
 // The homes of those with stamp 7 and 9.
 const HOME_7: [u8; 64] = [
     1, 0, 0, 0, 0, 7, 0, 0, 0, 0, 0, 0, 0, b'C', b'T', b'R', b'D', b'B', b'0', b'0', b'1', 1, 0, 0,
@@ -312,6 +326,87 @@ fn each_check_of_a_root(rt: HostRuntime) -> Result<(), Fail> {
         let home = altered(HOME_7, row.0, row.1);
         assert!(rt; is_told(rt.alloc(), home, row)?);
     }
+    Ok(())
+}
+
+fn root_bytes(disk: &mut Still, at: u64) -> Result<[u8; 64], Failed> {
+    let mut bytes = [9; 64];
+    disk.read(File::Root, at, &mut bytes)?;
+    Ok(bytes)
+}
+
+// A root is written over homes in which other bytes stand: behind its body there are zeros.
+#[test]
+fn the_bytes_of_a_root(rt: HostRuntime) -> Result<(), Fail> {
+    let mut disk = disk_of(rt.alloc(), &[7; 128], &[], 0)?;
+    write_root(&mut disk, &root_of(7))?;
+    assert!(rt; root_bytes(&mut disk, 0)? == HOME_7);
+    write_root(&mut disk, &root_of(9))?;
+    assert!(rt; root_bytes(&mut disk, 64)? == HOME_9);
+    Ok(())
+}
+
+// Each number at its least, and at its most.
+const LEAST: Root = Root {
+    stamp: 65,
+    format: 1,
+    file: 0,
+    first: 1,
+    pages: 64,
+};
+
+const MOST: Root = Root {
+    stamp: 0x8000_0000_0000_7530,
+    format: 1,
+    file: 1,
+    first: 0x8000_0000_0000_0000,
+    pages: 30_000,
+};
+
+#[test]
+fn a_root_at_its_bounds(rt: HostRuntime) -> Result<(), Fail> {
+    let mut disk = disk_of(rt.alloc(), &[], &[], 0)?;
+    write_root(&mut disk, &LEAST)?;
+    assert!(rt; read_root(&mut disk) == Ok(Some(LEAST)));
+    write_root(&mut disk, &MOST)?;
+    assert!(rt; read_root(&mut disk) == Ok(Some(MOST)));
+    Ok(())
+}
+
+const THIN: Root = Root {
+    stamp: 1,
+    format: 0,
+    file: 0,
+    first: 1,
+    pages: 0,
+};
+
+// A root of each form is read by its own call.
+#[test]
+fn a_thin_root(rt: HostRuntime) -> Result<(), Fail> {
+    let mut disk = disk_of(rt.alloc(), &[], &[], 0)?;
+    assert!(rt; read_thin_root(&mut disk) == Ok(None));
+    write_root(&mut disk, &THIN)?;
+    assert!(rt; read_thin_root(&mut disk) == Ok(Some(THIN)));
+    assert!(rt; read_root(&mut disk).map_err(told) == Err((File::Root, 21, 1, 0)));
+    write_root(&mut disk, &root_of(7))?;
+    assert!(rt; read_thin_root(&mut disk).map_err(told) == Err((File::Root, 85, 0, 1)));
+    Ok(())
+}
+
+// The stamp and the byte behind the first of page 1 whose first home is this one, and if one is open.
+fn block_in(alloc: Global, home: Laid) -> Result<(Option<Stamp>, u8, bool), Fail> {
+    let pages = lay(alloc, &[ZEROS, ZEROS, home, ZEROS])?;
+    let mut disk = disk_of(alloc, &[], &pages, 0)?;
+    let mut into = [9; 4096];
+    let stamp = read_home(&mut disk, Block::Page(1), &mut into)?;
+    Ok((stamp, into[1], is_open(&mut disk, Block::Page(1))?))
+}
+
+#[test]
+fn a_block_by_itself(rt: HostRuntime) -> Result<(), Fail> {
+    assert!(rt; block_in(rt.alloc(), HOME_5)? == (Some(5), 0x50, true));
+    assert!(rt; block_in(rt.alloc(), SHUT_8)? == (None, 0, false));
     Ok(())
 }
 
@@ -415,7 +510,7 @@ impl Writing {
     fn make(&self, disk: &mut Still) -> Result<(), StoreFault> {
         match self.0 {
             Block::Page(_) => write_home(disk, self.0, 9, &body_of(0x90)),
-            Block::Root => write_root(disk, &root_of(10)),
+            Block::Root => write_root(disk, &ROOT_10),
         }
     }
 

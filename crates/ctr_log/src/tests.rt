@@ -181,6 +181,49 @@ fn a_generation_that_goes_on_is_read(rt: HostRuntime) -> Result<(), Fail> {
     Ok(())
 }
 
+// The newer batch with these bytes of its head and of its frame's length altered: a place, and a byte.
+fn altered(places: &[(usize, u8)]) -> [u8; 31] {
+    let mut bytes = newer(1, 2, 1);
+    for (at, byte) in places {
+        if *at < 31 {
+            bytes[*at] = *byte;
+        }
+    }
+    bytes
+}
+
+// Each row of a batch: length, first number, a frame too long for it, a frame's length cut off, the
+// count, no frame.
+#[test]
+fn each_check_of_a_batch(rt: HostRuntime) -> Result<(), Fail> {
+    let alloc = rt.alloc();
+    assert!(rt; read(alloc, &altered(&[(1, 10)])) == damaged(1, 9, 10));
+    assert!(rt; read(alloc, &altered(&[(21, 2)])) == damaged(21, 1, 2));
+    assert!(rt; read(alloc, &altered(&[(1, 5)])) == damaged(21, 8, 5));
+    assert!(rt; read(alloc, &altered(&[(17, 0)])) == damaged(17, 1, 0));
+    assert!(rt; read(alloc, &altered(&[(1, 0), (17, 0)])) == damaged(17, 1, 0));
+    Ok(())
+}
+
+// A second batch behind the first has the next number; and the named file's first gate is open.
+#[test]
+fn the_next_number_and_the_first_gate(rt: HostRuntime) -> Result<(), Fail> {
+    let alloc = rt.alloc();
+    let mut log = newer(1, 2, 1).to_vec(alloc)?;
+    log.truncate(30);
+    log.extend_from_slice(&newer(1, 9, 1))?;
+    assert!(rt; read(alloc, &log) == damaged(39, 3, 9));
+    let mut disk = disk_of(alloc, &altered(&[(0, 3)]), &[])?;
+    let shut = ReadError::Store(StoreFault::Damaged {
+        file: File::LogA,
+        at: 0,
+        want: 1,
+        got: 3,
+    });
+    assert!(rt; kept(alloc, &mut disk, &ROOT) == Err(shut));
+    Ok(())
+}
+
 // How many bytes the calls read.
 fn bytes_read(calls: &[Recorded]) -> u64 {
     let mut all = 0u64;
