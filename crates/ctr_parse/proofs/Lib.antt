@@ -1,14 +1,5 @@
 pub mod Lists
-pub mod Trees
-pub mod Meanings
-pub mod Read
-pub mod ReadColumns
-pub mod ReadStatements
-pub mod Again
-pub mod Lives
 pub mod Lengths
-pub mod PlaceLemmas
-pub mod OnePlace
 pub mod Numerals
 pub mod Quotes
 pub mod Spellings

@@ -1,6 +1,3 @@
 pub mod Lines
 pub mod Reading
 pub mod Spelled
-pub mod Trees
-pub mod Answers
-pub mod Refusals

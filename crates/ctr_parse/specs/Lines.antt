@@ -8,3 +8,7 @@ pub record IsLineOf (texts : List (List ℕ)) (l : Line) : Type 0 where
   pub takes : FormTakes first l.session l.statement
   pub within : IsWithin l.statement
   pub match : AllMatch first (line_parts l) texts
+
+-- the most tokens that a line has
+abbrev pub most_tokens : ℕ
+most_tokens = 57

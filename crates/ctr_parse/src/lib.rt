@@ -3,8 +3,8 @@
 
 mod cursor;
 mod error;
-pub mod language;
 mod line;
+mod longest;
 mod numeral;
 mod quoted;
 mod schema;
@@ -14,3 +14,7 @@ mod word;
 
 pub use error::ParseError;
 pub use line::{one_line, parse_line};
+pub use longest::{MOST_TOKENS, few_tokens};
+pub use numeral::int_of;
+pub use quoted::text_of;
+pub use word::{is_name, is_spelled};

@@ -76,8 +76,8 @@ fn capital(byte: u8) -> u8
     }
 }
 
-// Whether the word is the keyword, in any case.
-pub(crate) fn is_spelled(keyword: &[u8], word: &[u8]) -> bool
+/// Whether the word is the keyword, in any case.
+pub fn is_spelled(keyword: &[u8], word: &[u8]) -> bool
     ensures { result ≡ same_name keyword.now (map capital_of word.now) }
 {
     if keyword.len() != word.len() {

@@ -1,5 +1,2 @@
 pub mod Scripts
-pub mod LineLemmas
-pub mod OneScript
-pub mod AllScripts
 pub mod Refusals

@@ -6,13 +6,12 @@ ghost use Rattle.ctr_parse.specs.declared.error.ParseError.TheVariants.{Refused}
 ghost use Rattle.ctr_script.specs.Added.{Adds, IsNone};
 
 use ctr_lex::tokens;
-use ctr_parse::language::{MOST_TOKENS, few_tokens};
-use ctr_parse::{ParseError, parse_line};
+use ctr_parse::{MOST_TOKENS, ParseError, few_tokens, parse_line};
 use ctr_types::{Line, List};
 use std::alloc::Global;
 
-// Blanks alone.
-pub(crate) fn is_skipped(line: &[u8]) -> bool
+/// Whether a line is of blanks alone.
+pub fn is_skipped(line: &[u8]) -> bool
     ensures { IsTrue result ↔ IsSkipped first line.now }
 {
     line.iter().all(|byte| *byte == b' ' || *byte == b'\t')

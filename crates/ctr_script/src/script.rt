@@ -17,8 +17,8 @@ use ctr_parse::ParseError;
 use ctr_types::{Line, List, Script};
 use std::alloc::Global;
 
-// The bytes in front of the first line end.
-pub(crate) fn line_len(bytes: &[u8]) -> Option<usize>
+/// The bytes in front of the first line end.
+pub fn line_len(bytes: &[u8]) -> Option<usize>
     ensures none { IfNone result (HasNoEnd bytes.now) }
     ensures some { IfSome result (IsFirstLine bytes.now) }
 {

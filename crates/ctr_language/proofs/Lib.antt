@@ -1,0 +1,12 @@
+pub mod Trees
+pub mod Meanings
+pub mod Read
+pub mod ReadColumns
+pub mod ReadStatements
+pub mod Again
+pub mod Lives
+pub mod PlaceLemmas
+pub mod OnePlace
+pub mod LineLemmas
+pub mod OneScript
+pub mod AllScripts

@@ -1,0 +1,4 @@
+pub mod Trees
+pub mod Answers
+pub mod Refusals
+pub mod Written
