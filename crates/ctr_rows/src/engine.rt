@@ -1,5 +1,5 @@
 // The engine: each call leaves what its step says, and keeps that the engine shows the model's state.
-ghost use Rattle.std.specs.Prelude.{◌≡◌, ◌==◌, ◌&&◌, if◌then◌else◌, ◌<◌, ◌^◌, ℕ, true, false, length, [], Some, None, List, ◌-◌, IfOk, OnOk, OnErr, IfSome, map, option_copied};
+ghost use Rattle.std.specs.Prelude.{◌≡◌, ◌==◌, ◌&&◌, not, nat_lt, if◌then◌else◌, ◌<◌, ◌^◌, ℕ, true, false, length, [], Some, None, List, ◌-◌, IfOk, OnOk, OnErr, IfSome, map, option_copied};
 ghost use Rattle.std.specs.Ordering.{nat_cmp};
 ghost use Rattle.std.specs.FinMap.Entries.{find};
 ghost use Rattle.ctr_model.specs.State.{at_rest};
@@ -10,7 +10,7 @@ ghost use Rattle.ctr_versions.specs.Listing.{entries_seen};
 ghost use Rattle.ctr_versions.specs.Versions.{names_at, slots_of, rows_of};
 ghost use Rattle.ctr_versions.specs.Engine.{SessionHeld, ShowsState};
 ghost use Rattle.ctr_versions.specs.Steps.{engine_begun, engine_drawn, engine_asked, engine_ended, engine_answered, engine_rolled_back, engine_forgotten};
-ghost use Rattle.ctr_versions.specs.Heads.{IsCountOf};
+ghost use Rattle.ctr_versions.specs.Heads.{IsCountOf, open_head};
 ghost use Rattle.ctr_versions.specs.Laws.{me_of, IsOpenWriter, SetsRow, SetsName, BeginKeeps, DrawKeeps, RowKeeps, NameKeeps, AskKeeps, AnswerKeeps, EndKeeps, RollbackKeeps, CleaningKeeps, RevertKeeps, RoomKeeps, NameRevertKeeps, DeadKeeps, sees_of, mark_of, sessions_named};
 ghost use Rattle.ctr_snap.specs.Seeing.{has, least};
 ghost use Rattle.ctr_rows.specs.Stored.{versions_of, HasVersionRoom, RoomsStay, HasNameRoom};
@@ -332,7 +332,8 @@ impl Engine {
 
     /// Whether a session is in a transaction that has drawn its number, and hasn't asked for its commit.
     pub fn is_writer(&self, s: u8) -> bool
-        ensures { result ≡ true → IsOpenWriter s (engine_of self.now) }
+        ensures is { result ≡ true → IsOpenWriter s (engine_of self.now) }
+        ensures only { IsOpenWriter s (engine_of self.now) → result ≡ true }
     {
         match self.sessions.get(&s) {
             Some(session) => self.is_open(session),
@@ -341,11 +342,23 @@ impl Engine {
     }
 
     fn is_open(&self, session: &Session) -> bool
-        ensures positive { result ≡ true → 0 < session.now.me }
-        ensures live { result ≡ true → has session.now.me self.now.xids.live ≡ true }
-        ensures calm { result ≡ true → session.now.undoing ≡ false }
+        ensures { result ≡ (nat_lt 0 session.now.me && (has session.now.me self.now.xids.live && not session.now.undoing)) }
     {
         0 < session.me && has(session.me, self.xids.live()) && !session.undoing
+    }
+
+    /// How many commits are answered.
+    pub fn answered(&self) -> u64
+        ensures { result ≡ self.now.answered }
+    {
+        self.answered
+    }
+
+    /// How many commits were asked for.
+    pub fn asked(&self) -> u64
+        ensures { result ≡ length self.now.xids.commits }
+    {
+        self.xids.commits().len() as u64
     }
 
     /// Whether a commit was asked for that isn't answered.
@@ -393,6 +406,20 @@ impl Engine {
         }
     }
 
+    /// The transaction of a name's head, where that one isn't committed.
+    pub fn name_head(&self, name: &Name) -> Option<Xid>
+        ensures { result ≡ open_head (number_of self.now.xids) (names_at (engine_of self.now).versions name.now) }
+    {
+        self.store.name_head(name, &self.xids)
+    }
+
+    /// The transaction of a row's head, where that one isn't committed.
+    pub fn row_head(&self, id: u64, key: Key) -> Option<Xid>
+        ensures { result ≡ open_head (number_of self.now.xids) (rows_of (engine_of self.now).versions id key) }
+    {
+        self.store.row_head(id, key, &self.xids)
+    }
+
     /// The number of the newest committed version of a name: where it is above a session's snapshot, the
     /// table was made or dropped since.
     pub fn newest_name(&self, name: &Name) -> Option<u64>
@@ -419,7 +446,8 @@ impl Engine {
         least_named(mark, self.sessions.entries())
     }
 
-    fn me(&self, s: u8) -> Xid
+    /// The number that a session's transaction has drawn; 0 where it has none.
+    pub fn me(&self, s: u8) -> Xid
         ensures { result ≡ me_of s (engine_of self.now) }
     {
         match self.sessions.get(&s) {
