@@ -9,8 +9,8 @@ use Rattle.std.proofs.lemmas.Bool.{false≢true, eqb-true, eq-eqb}
 use Rattle.ctr_versions.specs.Heads.{count_up, count_down, is_of, moved_by, count_moved}
 use Rattle.ctr_versions.proofs.Keys.{known}
 use Rattle.ctr_rows.specs.Counted.{Counts, count_of, HasCount, CountSet}
-use Rattle.ctr_rows.proofs.Slots.{there_is}
-use Rattle.ctr_rows.proofs.Tables.{looked_up, id_apart}
+use Rattle.ctr_chains.proofs.Slots.{there_is}
+use Rattle.ctr_chains.proofs.Tables.{looked_up, id_apart}
 
 abbrev pub CountMap : Type 0
 CountMap = BTreeMap ℕ ℕ

@@ -1,8 +1,4 @@
-pub mod Numbered
-pub mod Slots
-pub mod Tables
-pub mod Named
-pub mod Seen
+pub mod Blind
 pub mod Loaded
 pub mod Counts
 pub mod Runs

@@ -17,7 +17,7 @@ use Rattle.ctr_versions.specs.Loading.{loader, loading_xids, opened_xids, is_loa
 use Rattle.ctr_versions.proofs.Changes.{write_seen}
 use Rattle.ctr_versions.proofs.Reading.{schema_read}
 use Rattle.ctr_versions.proofs.Loading.{single_write, row_kept, row_room_kept, row_loads, row_room_loads, name_kept, name_room_kept, name_loads, name_room_loads, absent_loads, loader_sees, loading_opens, opened_sound, opened_heads, single_behind}
-use Rattle.ctr_rows.specs.Stored.{HeldStore, versions_of}
+use Rattle.ctr_chains.specs.Stored.{HeldStore, versions_of}
 use Rattle.ctr_rows.specs.Running.{Runs}
 use Rattle.ctr_rows.specs.Loading.{loaded_database, IsLoading}
 use Rattle.ctr_rows.specs.declared.loader.Loader.TheInside.{Inside}

@@ -15,7 +15,7 @@ use Rattle.ctr_versions.specs.Heads.{open_head, HeadsAre, count_end, IsCountOf, 
 use Rattle.ctr_versions.proofs.Chains.{with_number}
 use Rattle.ctr_versions.proofs.Xids.{has_there, has_minus, drawn_numbers, drawn_sound, asked_numbers, asked_sound, aborted_numbers, aborted_sound, aborted_none, forgotten_numbers, forgotten_sound}
 use Rattle.ctr_versions.proofs.Heads.{row_counted, name_counted, same_count, empty_counted, open_rows, open_names, open_still, headless_by}
-use Rattle.ctr_rows.specs.Stored.{HeldStore, versions_of}
+use Rattle.ctr_chains.specs.Stored.{HeldStore, versions_of}
 use Rattle.ctr_rows.specs.Counted.{Counts, count_of, HasCount}
 use Rattle.ctr_versions.specs.Engine.{EngineHeld, AreBy}
 use Rattle.ctr_versions.specs.Laws.{me_found, me_of, IsOpenWriter}

@@ -2,7 +2,7 @@
 use Rattle.std.specs.Prelude.{◌≡◌}
 use Rattle.ctr_model.specs.Database.{Database}
 use Rattle.ctr_versions.specs.Loading.{loading_xids, loading_session, loaded, AreLoaded}
-use Rattle.ctr_rows.specs.Stored.{versions_of}
+use Rattle.ctr_chains.specs.Stored.{versions_of}
 use Rattle.ctr_rows.specs.declared.loader.Loader.TheInside.{Inside}
 
 -- the database that was loaded

@@ -4,7 +4,7 @@ use Rattle.ctr_snap.specs.Seeing.{has}
 use Rattle.ctr_versions.specs.Xids.{Xids, number_of, AreSound}
 use Rattle.ctr_versions.specs.Engine.{SessionHeld, EngineHeld}
 use Rattle.ctr_versions.specs.Heads.{IsCountOf, OnlyHeadsAreOpen}
-use Rattle.ctr_rows.specs.Stored.{HeldStore, versions_of}
+use Rattle.ctr_chains.specs.Stored.{HeldStore, versions_of}
 use Rattle.ctr_rows.specs.Counted.{Counts, count_of, HasCount}
 use Rattle.ctr_rows.specs.declared.engine.Engine.TheInside.{Inside}
 

@@ -13,14 +13,12 @@ ghost use Rattle.ctr_versions.specs.Steps.{engine_begun, engine_drawn, engine_as
 ghost use Rattle.ctr_versions.specs.Heads.{IsCountOf, open_head};
 ghost use Rattle.ctr_versions.specs.Laws.{me_of, IsOpenWriter, SetsRow, SetsName, BeginKeeps, DrawKeeps, RowKeeps, NameKeeps, AskKeeps, AnswerKeeps, EndKeeps, RollbackKeeps, CleaningKeeps, RevertKeeps, RoomKeeps, NameRevertKeeps, DeadKeeps, sees_of, mark_of, sessions_named};
 ghost use Rattle.ctr_snap.specs.Seeing.{has, least};
-ghost use Rattle.ctr_rows.specs.Stored.{versions_of, HasVersionRoom, RoomsStay, HasNameRoom};
+ghost use Rattle.ctr_chains.specs.Stored.{versions_of, HasVersionRoom, RoomsStay, HasNameRoom};
 ghost use Rattle.ctr_rows.specs.Running.{engine_of, Runs};
 ghost use Rattle.ctr_rows.specs.Counted.{count_of};
 
 use crate::heads::Heads;
-use crate::session::Session;
-use crate::store::{Made, Store};
-use crate::transactions::Transactions;
+use ctr_chains::{Made, Session, Store, Transactions};
 use ctr_model::{Key, Map};
 use ctr_snap::{Snapshot, has, least_of};
 use ctr_types::{List, Name, OutOfMemory, Row, Schema, Xid};

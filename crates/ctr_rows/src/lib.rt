@@ -1,19 +1,9 @@
-//! Tables and rows in memory, each with its chain of versions.
+//! The engine of versions in memory, and a database that is loaded, to open it over.
 #![tactic(auto)]
 
-mod chain;
-mod chains;
 mod engine;
 mod heads;
 mod loader;
-mod session;
-mod store;
-mod transactions;
 
-pub use chain::{Chain, Version};
-pub use chains::Chains;
 pub use engine::Engine;
 pub use loader::Loader;
-pub use session::Session;
-pub use store::{Made, Store};
-pub use transactions::Transactions;

@@ -8,13 +8,11 @@ ghost use Rattle.ctr_versions.specs.Chains.{value_seen};
 ghost use Rattle.ctr_versions.specs.Keys.{schema_named};
 ghost use Rattle.ctr_versions.specs.Versions.{names_at};
 ghost use Rattle.ctr_versions.specs.Engine.{session_sees, ShowsState};
-ghost use Rattle.ctr_rows.specs.Stored.{versions_of};
+ghost use Rattle.ctr_chains.specs.Stored.{versions_of};
 ghost use Rattle.ctr_rows.specs.Running.{engine_of};
 
 use crate::engine::Engine;
-use crate::session::Session;
-use crate::store::Store;
-use crate::transactions::Transactions;
+use ctr_chains::{Session, Store, Transactions};
 use ctr_model::Key;
 use ctr_snap::Snapshot;
 use ctr_types::{Name, OutOfMemory, Plain, Row, Schema, Xid};

@@ -1,7 +1,7 @@
 use Rattle.std.proofs.Common.{Option, ap, subst, rules, Some, ◌≡◌, ◌∙◌, sym}
 use Rattle.ctr_versions.specs.Engine.{EngineHeld}
 use Rattle.ctr_rows.specs.Running.{HeldEngine, engine_of}
-use Rattle.ctr_rows.specs.Stored.{versions_of}
+use Rattle.ctr_chains.specs.Stored.{versions_of}
 use Rattle.ctr_versions.specs.Versions.{Made, IsUnmadeTable, names_at}
 use Rattle.std.specs.Prelude.{unwrap_or}
 use Rattle.ctr_versions.specs.Laws.{SetsName, me_of}

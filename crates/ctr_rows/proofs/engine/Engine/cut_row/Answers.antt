@@ -6,7 +6,7 @@ use Rattle.ctr_versions.specs.Changes.{cut}
 use Rattle.ctr_versions.specs.Xids.{below_mark, number_of}
 use Rattle.ctr_versions.specs.Versions.{rows_of}
 use Rattle.ctr_versions.proofs.Kept.{cut_keeps}
-use Rattle.ctr_rows.specs.Stored.{versions_of}
+use Rattle.ctr_chains.specs.Stored.{versions_of}
 use Rattle.ctr_rows.proofs.Runs.{runs_same_row}
 use Rattle.ctr_versions.proofs.Heads.{cut_head, cut_behind}
 use Rattle.ctr_rows.proofs.engine.Engine.cut_row.Goals as goal

@@ -7,7 +7,7 @@ use Rattle.ctr_versions.specs.Changes.{write}
 use Rattle.ctr_versions.specs.Xids.{number_of}
 use Rattle.ctr_versions.specs.Versions.{names_at}
 use Rattle.ctr_versions.proofs.Kept.{name_keeps}
-use Rattle.ctr_rows.specs.Stored.{versions_of}
+use Rattle.ctr_chains.specs.Stored.{versions_of}
 use Rattle.ctr_rows.proofs.Runs.{me_open}
 use Rattle.ctr_versions.proofs.Xids.{live_none}
 use Rattle.ctr_versions.specs.Heads.{count_moved}

@@ -4,7 +4,7 @@ use Rattle.ctr_snap.specs.Seeing.{has}
 use Rattle.ctr_versions.specs.Engine.{EngineHeld}
 use Rattle.ctr_versions.specs.Steps.{engine_forgotten}
 use Rattle.ctr_versions.proofs.Forgetting.{forget_left}
-use Rattle.ctr_rows.specs.Stored.{versions_of}
+use Rattle.ctr_chains.specs.Stored.{versions_of}
 use Rattle.ctr_rows.specs.Counted.{count_of}
 use Rattle.ctr_rows.specs.Running.{Runs, HeldEngine, engine_of}
 use Rattle.ctr_rows.proofs.Runs.{runs_forgotten, unused_by}

@@ -6,7 +6,7 @@ use Rattle.ctr_versions.specs.Changes.{without_tombstone}
 use Rattle.ctr_versions.specs.Xids.{below_mark, number_of}
 use Rattle.ctr_versions.specs.Versions.{names_at}
 use Rattle.ctr_versions.proofs.Kept.{name_free_keeps}
-use Rattle.ctr_rows.specs.Stored.{versions_of}
+use Rattle.ctr_chains.specs.Stored.{versions_of}
 use Rattle.ctr_versions.proofs.Cleaning.{below_number}
 use Rattle.ctr_rows.proofs.Runs.{runs_same_name}
 use Rattle.ctr_versions.proofs.Heads.{freed_head, freed_behind}

@@ -3,9 +3,9 @@ use Rattle.std.specs.Prelude.{IfOk}
 use Rattle.ctr_versions.specs.Listing.{entries_seen}
 use Rattle.ctr_versions.specs.Versions.{slots_of}
 use Rattle.ctr_versions.specs.Laws.{sees_found, sees_of}
-use Rattle.ctr_rows.specs.Stored.{versions_of}
+use Rattle.ctr_chains.specs.Stored.{versions_of}
 use Rattle.ctr_rows.specs.Running.{HeldEngine, held_engine, engine_of}
-use Rattle.ctr_rows.proofs.Seen.{unlisted}
+use Rattle.ctr_rows.proofs.Blind.{unlisted}
 use Rattle.ctr_rows.proofs.engine.Engine.listing.Goals as goal
 
 pub returns-in-Some : goal.returns-in-Some

@@ -2,7 +2,7 @@ use Rattle.std.proofs.Common.{rules, refl}
 use Rattle.ctr_rows.specs.Running.{engine_of}
 use Rattle.ctr_versions.proofs.Kept.{row_room_keeps}
 use Rattle.ctr_versions.specs.Versions.{rows_of}
-use Rattle.ctr_rows.specs.Stored.{versions_of}
+use Rattle.ctr_chains.specs.Stored.{versions_of}
 use Rattle.ctr_rows.proofs.Runs.{runs_same_row}
 use Rattle.ctr_rows.proofs.engine.Engine.make_row_room.Goals as goal
 

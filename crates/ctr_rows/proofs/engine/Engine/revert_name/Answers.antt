@@ -6,7 +6,7 @@ use Rattle.ctr_versions.specs.Changes.{revert}
 use Rattle.ctr_versions.specs.Xids.{number_of}
 use Rattle.ctr_versions.specs.Versions.{names_at}
 use Rattle.ctr_versions.proofs.Kept.{name_revert_keeps}
-use Rattle.ctr_rows.specs.Stored.{versions_of}
+use Rattle.ctr_chains.specs.Stored.{versions_of}
 use Rattle.ctr_versions.specs.Heads.{count_moved}
 use Rattle.ctr_rows.specs.Counted.{count_of}
 use Rattle.ctr_rows.proofs.Runs.{runs_name}

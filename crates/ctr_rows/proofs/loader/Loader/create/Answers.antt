@@ -1,7 +1,7 @@
 use Rattle.std.proofs.Common.{◌≡◌, Some, ◌∙◌, ap, subst, rules, List, ℕ}
 use Rattle.ctr_model.specs.Database.{changed}
 use Rattle.ctr_versions.specs.Versions.{names_at, name_written, NamesSet}
-use Rattle.ctr_rows.specs.Stored.{versions_of}
+use Rattle.ctr_chains.specs.Stored.{versions_of}
 use Rattle.ctr_rows.proofs.Loaded.{on_err, name_room_holds, name_room_same, created_holds, created_loads}
 use Rattle.ctr_rows.proofs.loader.Loader.create.Goals as goal
 

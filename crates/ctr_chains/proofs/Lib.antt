@@ -1,0 +1,5 @@
+pub mod Numbered
+pub mod Slots
+pub mod Tables
+pub mod Named
+pub mod Seen

@@ -1,0 +1,14 @@
+use Rattle.std.proofs.Common.{refl}
+use Rattle.ctr_versions.specs.Changes.{revert}
+use Rattle.ctr_versions.specs.Xids.{number_of}
+use Rattle.ctr_chains.proofs.Tables.{rows_none, rows_through, stored_through}
+use Rattle.ctr_chains.proofs.store.Store.revert_row.Goals as goal
+
+pub returns-in_default-clause-set : goal.returns-in_default-clause-set
+returns-in_default-clause-set c = rows_none c.args.self.now c.self.inside c.self.view_is c.self.invariant c.get_mut.follows.lender-at-none c.args.id c.args.key (revert (number_of c.args.xids.now)) refl c.get_mut.follows.holds-at-none c.in_default.ensures.value
+
+pub invariant_of-self-2 : goal.invariant_of-self-2
+invariant_of-self-2 c = stored_through c.args.self.now c.self.inside c.self.view_is c.self.invariant (c.get_mut.follows.lender c.revert.new.self) c.args.id c.args.key c.in-Some.rows.now c.revert.new.self c.in-Some.ensures.value (c.get_mut.follows.holds c.revert.new.self) (revert (number_of c.args.xids.now)) refl c.revert.ensures
+
+pub returns-clause-set : goal.returns-clause-set
+returns-clause-set c = rows_through c.args.self.now c.self.inside c.self.view_is c.self.invariant (c.get_mut.follows.lender c.revert.new.self) c.args.id c.args.key c.in-Some.rows.now c.revert.new.self c.in-Some.ensures.value (c.get_mut.follows.holds c.revert.new.self) (revert (number_of c.args.xids.now)) c.revert.ensures

@@ -1,0 +1,3 @@
+pub mod Kept
+pub mod Numbered
+pub mod Stored

@@ -1,0 +1,60 @@
+-- The tables that are kept in memory, and the versions that they stand for.
+use Rattle.std.specs.Prelude.{◌≡◌, ℕ, ◌<◌, ◌≤◌, ℤ, T, List, [], map, Option, Some, IfSome, is_some, true, false}
+use Rattle.std.specs.List.{AllByRecursion}
+use Rattle.std.specs.Ordering.{nat_cmp, int_cmp}
+use Rattle.std.specs.BTreeMap.{IsOrdered}
+use Rattle.std.specs.FinMap.Entries.{find, is_sorted}
+use Rattle.ctr_types.specs.declared.value.Row.{Row}
+use Rattle.ctr_model.specs.Database.{name_cmp}
+use Rattle.ctr_versions.specs.Versions.{Made, Versions, names_at, slots_of, rows_of, is_slot}
+use Rattle.ctr_chains.specs.Kept.{KeptChain, chains_of, HasRoomFor}
+use Rattle.ctr_chains.specs.declared.store.Store.TheInside.{Inside}
+
+-- chains of tables by name, chains of rows by table and key, and the next table's number
+pub record HeldStore : Type 0 where
+  pub names : List (List ℕ × KeptChain Made)
+  pub tables : List (ℕ × List (ℤ × KeptChain Row))
+  pub next : ℕ
+
+-- the same of what the code has
+abbrev pub held_store : Inside → HeldStore
+held_store a = record { names = a.names; tables = a.tables.entries; next = a.next }
+
+-- the chains of a table's rows
+abbrev pub table_chains : ℕ × List (ℤ × KeptChain Row) → ℕ × List (ℤ × List (ℕ × Option Row))
+table_chains e = (e.0, chains_of e.1)
+
+-- the versions that they stand for
+abbrev pub versions_of : HeldStore → Versions
+versions_of h = record { names = chains_of h.names; slots = map table_chains h.tables }
+
+-- the table was made, and has room for one version more of a key
+pub record HasVersionRoom (id : ℕ) (key : ℤ) (h : HeldStore) : Type 0 where
+  pub made : id < h.next
+  pub rows : List (ℤ × KeptChain Row)
+  pub there : find nat_cmp id h.tables ≡ Some rows
+  pub room : HasRoomFor int_cmp key rows
+
+-- the room of other rows stays
+abbrev pub RoomsStay : ℕ → ℤ → HeldStore → HeldStore → Type 0
+RoomsStay id key old new = (i : ℕ) (k : ℤ) → is_slot id key i k ≡ false → HasVersionRoom i k old
+    → HasVersionRoom i k new
+
+-- the name has room for one version more, and there is a place for the rows of the next table
+pub record HasNameRoom (name : List ℕ) (h : HeldStore) : Type 0 where
+  pub named : HasRoomFor name_cmp name h.names
+  pub rows : is_some (find nat_cmp h.next h.tables) ≡ true
+
+-- the table's number is below the next
+abbrev pub IsMadeBelow : ℕ → ℕ × Option Made → Type 0
+IsMadeBelow next v = IfSome v.1 (λ made. made.id < next)
+
+-- Keys are in order, and tables have numbers below the next.
+pub record IsStored (a : Inside) : Type 0 where
+  pub tables : IsOrdered nat_cmp a.tables
+  pub names_sorted : T (is_sorted name_cmp (chains_of a.names))
+  pub sorted : (id : ℕ) → T (is_sorted int_cmp (slots_of (versions_of (held_store a)) id))
+  pub all : (id : ℕ) → id < a.next → is_some (find nat_cmp id a.tables.entries) ≡ true
+  pub unmade : (id : ℕ) (key : ℤ) → a.next ≤ id → rows_of (versions_of (held_store a)) id key ≡ []
+  pub below : (name : List ℕ)
+      → AllByRecursion (IsMadeBelow a.next) (names_at (versions_of (held_store a)) name)
