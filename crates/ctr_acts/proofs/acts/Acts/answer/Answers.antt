@@ -1,0 +1,21 @@
+use Rattle.std.proofs.Common.{refl, sym, ◌∙◌, ◌<◌, length, ap, subst}
+use Rattle.ctr_types.specs.declared.statement.Statement.TheVariants as st
+use Rattle.ctr_types.specs.declared.tape.Act.TheVariants as act
+use Rattle.ctr_types.specs.declared.tape.Reply.TheVariants as reply
+use Rattle.ctr_versions.specs.Engine.{EngineHeld}
+use Rattle.ctr_acts.specs.Acts.{ActsHeld, ActKeeps}
+use Rattle.ctr_acts.proofs.Ending.{answered}
+use Rattle.ctr_acts.proofs.Replying.{answers}
+use Rattle.ctr_acts.proofs.acts.Acts.answer.Goals as goal
+
+pub answer-requires : goal.answer-requires
+answer-requires c = subst (λ (h : ActsHeld). h.engine.answered < length h.engine.xids.commits) (sym c.self.view_is) c.requires
+
+pub returns : goal.returns
+returns c =
+    let old : ActsHeld = record { engine = c.self.inside.engine; locks = c.self.inside.locks; since = c.self.inside.since; stuck = c.self.inside.stuck } in
+    let new : ActsHeld = record { engine = c.answer.new.self; locks = c.release_all.new.self; since = c.remove.new.self; stuck = c.self.inside.stuck } in
+    subst (λ o. ActKeeps c.args.s act.Answer st.Commit o new (reply.Answered c.answered.result)) c.self.view_is
+    (answers c.args.s old new c.answered.result (c.answered.ensures ∙ ap (λ (e : EngineHeld). e.answered) c.answer.ensures.leaves)
+    (answered c.args.s old new c.remove.ensures c.release_all.ensures refl c.ends_show.ensures.answer c.answer.ensures.leaves
+    (subst (λ (h : ActsHeld). h.engine.answered < length h.engine.xids.commits) (sym c.self.view_is) c.requires)))

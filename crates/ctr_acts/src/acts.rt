@@ -1,0 +1,174 @@
+// Sessions at work: each act with its reply.
+ghost use Rattle.std.specs.Prelude.{◌≡◌, ◌+◌, ◌<◌, length, [], OnOk, OnErr};
+ghost use Rattle.ctr_types.specs.declared.statement.Statement.TheVariants as st;
+ghost use Rattle.ctr_types.specs.declared.tape.Act.TheVariants as act;
+ghost use Rattle.ctr_types.specs.declared.tape.Reply.TheVariants as reply;
+ghost use Rattle.ctr_versions.specs.Laws.{IsOpenWriter};
+ghost use Rattle.ctr_rows.specs.Running.{engine_of};
+ghost use Rattle.ctr_acts.specs.Acts.{ActKeeps, Starts, ActsStay, Leaves, RollsBack, IsMarked, Asks};
+
+use ctr_locks::{Locks, locks_are_the_models};
+use ctr_model::Map;
+use ctr_rows::Engine;
+use ctr_sessions::{ends_show, locks_and_reads_show, locks_keep_others_off, writes_show};
+use ctr_types::{List, Name, OutOfMemory, Refusal, Reply};
+use std::alloc::Global;
+use std::marker::Model;
+
+/// Up to eight sessions over an engine of versions, with their locks.
+#[derive(Drop)]
+pub struct Acts {
+    engine: Engine,
+    locks: Locks,
+    since: Map<u8, u64>,
+    stuck: List<Name>,
+}
+
+impl Model for Acts {
+    ghost use Rattle.ctr_acts.specs.Acts.{ActsHeld};
+
+    ghost Value = { ActsHeld };
+
+    ghost view = { λ a. record { engine = a.engine; locks = a.locks; since = a.since; stuck = a.stuck } };
+}
+
+// A refusal as a reply.
+fn refused(refusal: Refusal) -> Reply
+    ensures { result ≡ reply.Refused refusal }
+{
+    Reply::Refused { refusal }
+}
+
+impl Acts {
+    /// Over an engine that no session is at work on. Recovery holds the names `stuck`.
+    pub fn over(alloc: Global, engine: Engine, stuck: List<Name>) -> Acts
+        ensures { result ≡ record { engine = engine; locks = []; since = []; stuck = stuck } }
+    {
+        Acts {
+            engine,
+            locks: Locks::new(alloc),
+            since: Map::new(alloc),
+            stuck,
+        }
+    }
+
+    /// BEGIN.
+    pub fn begin(&mut self, alloc: Global, s: u8) -> Reply
+        ensures { ActKeeps s act.Begin st.Begin self.old self.new result }
+    {
+        if self.since.get(&s).is_some() {
+            return refused(Refusal::InTransaction);
+        }
+        let n = self.engine.answered();
+        match self.start(alloc, s, n) {
+            Ok(()) => Reply::Began { n },
+            Err(_) => refused(Refusal::OutOfMemory),
+        }
+    }
+
+    // Begins a transaction with a snapshot of what is answered. Where memory is refused, what was begun is
+    // taken back.
+    fn start(&mut self, alloc: Global, s: u8, n: u64) -> Result<(), OutOfMemory>
+        requires { n ≡ self.old.engine.answered }
+        ensures starts { OnOk result (Starts s n self.old self.new) }
+        ensures stays { OnErr result (ActsStay s self.old self.new) }
+    {
+        locks_and_reads_show();
+        writes_show();
+        locks_are_the_models();
+        self.since.put(s, n)?;
+        let Ok(()) = self.locks.enter(alloc, s) else {
+            self.since.remove(&s);
+            return Err(OutOfMemory);
+        };
+        let Ok(()) = self.engine.begin(alloc, s) else {
+            self.since.remove(&s);
+            self.locks.release_all(s);
+            return Err(OutOfMemory);
+        };
+        Ok(())
+    }
+
+    /// COMMIT's first act: a writer asks for its commit, which takes the next number; another ends. It takes
+    /// no memory.
+    pub fn ask(&mut self, s: u8) -> Reply
+        ensures { ActKeeps s act.Ask st.Commit self.old self.new result }
+    {
+        if self.since.get(&s).is_none() {
+            return refused(Refusal::NoTransaction);
+        }
+        if self.engine.is_writer(s) {
+            self.commit(s);
+            return Reply::Asked {
+                k: self.engine.asked(),
+            };
+        }
+        self.end(s);
+        Reply::ReadOnly
+    }
+
+    /// ROLLBACK: one mark, whatever was written. It takes no memory.
+    pub fn roll_back(&mut self, s: u8) -> Reply
+        ensures keeps { ActKeeps s act.Rollback st.Rollback self.old self.new result }
+        ensures mark { result ≡ reply.RolledBack → IsOpenWriter s (engine_of self.old.engine) → IsMarked s self.old self.new }
+    {
+        if self.since.get(&s).is_none() {
+            return refused(Refusal::NoTransaction);
+        }
+        if self.engine.is_writer(s) {
+            self.undo(s);
+            return Reply::RolledBack;
+        }
+        self.end(s);
+        Reply::RolledBack
+    }
+
+    /// COMMIT's second act: of the commits that aren't answered the first is, which is the session's. It takes no
+    /// memory.
+    pub fn answer(&mut self, s: u8) -> Reply
+        requires { self.old.engine.answered < length self.old.engine.xids.commits }
+        ensures { ActKeeps s act.Answer st.Commit self.old self.new result }
+    {
+        ends_show();
+        self.engine.answer(s);
+        self.since.remove(&s);
+        self.locks.release_all(s);
+        Reply::Answered {
+            k: self.engine.answered(),
+        }
+    }
+
+    // A transaction that wrote nothing ends.
+    fn end(&mut self, s: u8)
+        ensures { Leaves s self.old self.new }
+    {
+        ends_show();
+        self.engine.end(s);
+        self.since.remove(&s);
+        self.locks.release_all(s);
+    }
+
+    // A transaction is rolled back.
+    fn undo(&mut self, s: u8)
+        requires { IsOpenWriter s (engine_of self.old.engine) }
+        ensures keeps { RollsBack s self.old self.new }
+        ensures mark { IsMarked s self.old self.new }
+    {
+        ends_show();
+        self.engine.roll_back(s);
+        self.since.remove(&s);
+        self.locks.release_all(s);
+    }
+
+    // A writer asks for its commit.
+    fn commit(&mut self, s: u8)
+        requires { IsOpenWriter s (engine_of self.old.engine) }
+        ensures keeps { Asks s self.old self.new }
+        ensures count { length self.new.engine.xids.commits ≡ length self.old.engine.xids.commits + 1 }
+    {
+        ends_show();
+        locks_are_the_models();
+        locks_keep_others_off();
+        self.engine.ask(s);
+    }
+}
