@@ -1,3 +1,5 @@
 pub mod Starting
 pub mod Ending
 pub mod Replying
+pub mod Refusing
+pub mod Alike

@@ -6,12 +6,17 @@ ghost use Rattle.ctr_types.specs.declared.tape.Reply.TheVariants as reply;
 ghost use Rattle.ctr_versions.specs.Laws.{IsOpenWriter};
 ghost use Rattle.ctr_rows.specs.Running.{engine_of};
 ghost use Rattle.ctr_acts.specs.Acts.{ActKeeps, Starts, ActsStay, Leaves, RollsBack, IsMarked, Asks};
+ghost use Rattle.ctr_acts.specs.Seats.{RefusesAlike};
 
+use crate::causes::causes;
 use ctr_locks::{Locks, locks_are_the_models};
 use ctr_model::Map;
 use ctr_rows::Engine;
-use ctr_sessions::{ends_show, locks_and_reads_show, locks_keep_others_off, writes_show};
-use ctr_types::{List, Name, OutOfMemory, Refusal, Reply};
+use ctr_sessions::{
+    ends_show, locks_and_reads_show, locks_keep_others_off, refusals_are_the_models, writes_show,
+};
+use ctr_statement::table_of;
+use ctr_types::{Act, List, Name, OutOfMemory, Refusal, Reply, Statement};
 use std::alloc::Global;
 use std::marker::Model;
 
@@ -136,6 +141,28 @@ impl Acts {
         Reply::Answered {
             k: self.engine.answered(),
         }
+    }
+
+    /// Why a Lock or a Read is refused to a session in a transaction that hasn't asked for its commit: the first
+    /// cause in their order, or none.
+    pub fn refusal(&self, s: u8, act: &Act, statement: &Statement) -> Option<Refusal>
+        ensures { RefusesAlike s act.now statement.now self.now result }
+    {
+        refusals_are_the_models();
+        locks_are_the_models();
+        let name = table_of(statement)?;
+        let since = *self.since.get(&s)?;
+        let stuck = self.stuck.as_slice();
+        causes(
+            &self.engine,
+            &self.locks,
+            stuck,
+            s,
+            since,
+            act,
+            statement,
+            name,
+        )
     }
 
     // A transaction that wrote nothing ends.

@@ -3,5 +3,6 @@
 #![tactic(auto)]
 
 mod acts;
+mod causes;
 
 pub use acts::Acts;

@@ -1,0 +1,60 @@
+-- Where a session stands that is in a transaction, and why its Lock or its Read is refused.
+use Rattle.std.specs.Prelude.{◌≡◌, ℕ, List, Option, Some, None, if◌then◌else◌}
+use Rattle.std.specs.Ordering.{nat_cmp}
+use Rattle.std.specs.FinMap.Entries.{find}
+use Rattle.ctr_types.specs.declared.statement.Statement.{Statement}
+use Rattle.ctr_types.specs.declared.tape.Act.{Act}
+use Rattle.ctr_types.specs.declared.tape.Refusal.{Refusal}
+use Rattle.ctr_model.specs.declared.state.State.{State}
+use Rattle.ctr_model.specs.declared.state.Transaction.{Transaction}
+use Rattle.ctr_model.specs.State.{transaction_of, has_name}
+use Rattle.ctr_model.specs.Refusals.{changes_schema, first_of, refusal_of}
+use Rattle.ctr_versions.specs.Xids.{number_of}
+use Rattle.ctr_versions.specs.Engine.{SessionHeld}
+use Rattle.ctr_rows.specs.Running.{HeldEngine, engine_of}
+use Rattle.ctr_locks.specs.Held.{TableHeld, busy_in, locked_in}
+use Rattle.ctr_legal.specs.Kept.{IsKept}
+use Rattle.ctr_sessions.specs.Answers.{Seat, made_seen, refusals_seen}
+use Rattle.ctr_acts.specs.Acts.{ActsHeld, begun_of, ShowsActs}
+
+-- who keeps the session from the statement's table: recovery, whose number is 0, or the lowest other
+-- session
+abbrev pub busy_at : List (List ℕ) → List (ℕ × List (List ℕ × TableHeld)) → ℕ → Statement
+    → List ℕ → Option ℕ
+busy_at stuck locks s statement name = if has_name name stuck then Some 0 else
+    busy_in (changes_schema statement) s name locks
+
+-- where the session stands, with a snapshot of so many commits, for a statement on the table of a name
+abbrev pub seat_at : ActsHeld → ℕ → SessionHeld → ℕ → Statement → List ℕ → Seat
+seat_at h s session since statement name = record {
+  db = begun_of h;
+  session = session;
+  since = since;
+  busy = busy_at h.stuck h.locks s statement name;
+  locked = λ key. locked_in s name key h.locks;
+}
+
+-- these are the engine, the locks and the names that recovery holds
+pub record IsHeldBy (engine : HeldEngine) (locks : List (ℕ × List (List ℕ × TableHeld)))
+    (stuck : List (List ℕ)) (h : ActsHeld) : Type 0 where
+  pub engine_is : h.engine ≡ engine
+  pub locks_are : h.locks ≡ locks
+  pub stuck_are : h.stuck ≡ stuck
+
+-- the session is there, and hasn't asked for its commit
+pub record IsAtWork (engine : HeldEngine) (s : ℕ) (session : SessionHeld) : Type 0 where
+  pub there : find nat_cmp s (engine_of engine).sessions ≡ Some session
+  pub unnumbered : number_of (engine_of engine).xids session.me ≡ None
+
+-- every refusal in its order, by where the session stands
+abbrev pub causes_at : ActsHeld → ℕ → SessionHeld → ℕ → Act → Statement → List ℕ → Option Refusal
+causes_at h s session since a statement name =
+    let seat = seat_at h s session since statement name in
+    first_of (refusals_seen seat a statement name (made_seen seat name))
+
+-- Whatever state is shown, with the session in a transaction that hasn't asked for its commit: its
+-- Lock, or its Read, is refused as the model refuses it.
+abbrev pub RefusesAlike : ℕ → Act → Statement → ActsHeld → Option Refusal → Type 0
+RefusesAlike s a statement h r = (low : ℕ) (state : State) (me : Transaction) → ShowsActs low h state
+    → IsKept state → transaction_of state s ≡ Some me → me.asked ≡ None
+    → r ≡ refusal_of state s me a statement
