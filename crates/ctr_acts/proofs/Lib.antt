@@ -3,3 +3,4 @@ pub mod Ending
 pub mod Replying
 pub mod Refusing
 pub mod Alike
+pub mod Showing

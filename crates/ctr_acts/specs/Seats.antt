@@ -1,7 +1,10 @@
 -- Where a session stands that is in a transaction, and why its Lock or its Read is refused.
-use Rattle.std.specs.Prelude.{◌≡◌, ℕ, List, Option, Some, None, if◌then◌else◌}
+use Rattle.std.specs.Prelude.{◌≡◌, ℕ, Bool, List, [], map, Option, Some, None, if◌then◌else◌}
+use Rattle.std.specs.Option.{option_to_list}
 use Rattle.std.specs.Ordering.{nat_cmp}
 use Rattle.std.specs.FinMap.Entries.{find}
+use Rattle.ctr_types.specs.declared.value.Row.{Row}
+use Rattle.ctr_types.specs.declared.statement.KeyIs.{KeyIs}
 use Rattle.ctr_types.specs.declared.statement.Statement.{Statement}
 use Rattle.ctr_types.specs.declared.tape.Act.{Act}
 use Rattle.ctr_types.specs.declared.tape.Refusal.{Refusal}
@@ -9,10 +12,16 @@ use Rattle.ctr_model.specs.declared.state.State.{State}
 use Rattle.ctr_model.specs.declared.state.Transaction.{Transaction}
 use Rattle.ctr_model.specs.State.{transaction_of, has_name}
 use Rattle.ctr_model.specs.Refusals.{changes_schema, first_of, refusal_of}
+use Rattle.ctr_model.specs.Reply.{with_use}
+use Rattle.ctr_versions.specs.Chains.{value_seen}
+use Rattle.ctr_versions.specs.Listing.{entries_seen}
 use Rattle.ctr_versions.specs.Xids.{number_of}
+use Rattle.ctr_versions.specs.Versions.{Made, Versions, names_at, slots_of, rows_of}
 use Rattle.ctr_versions.specs.Engine.{SessionHeld}
+use Rattle.ctr_versions.specs.Laws.{sees_of}
 use Rattle.ctr_rows.specs.Running.{HeldEngine, engine_of}
 use Rattle.ctr_locks.specs.Held.{TableHeld, busy_in, locked_in}
+use Rattle.ctr_locks.specs.Shows.{LocksStay, GrantShows}
 use Rattle.ctr_legal.specs.Kept.{IsKept}
 use Rattle.ctr_sessions.specs.Answers.{Seat, made_seen, refusals_seen}
 use Rattle.ctr_acts.specs.Acts.{ActsHeld, begun_of, ShowsActs}
@@ -58,3 +67,40 @@ abbrev pub RefusesAlike : ℕ → Act → Statement → ActsHeld → Option Refu
 RefusesAlike s a statement h r = (low : ℕ) (state : State) (me : Transaction) → ShowsActs low h state
     → IsKept state → transaction_of state s ≡ Some me → me.asked ≡ None
     → r ≡ refusal_of state s me a statement
+
+-- ---- a Read
+
+-- the rows that a test sees in a table of this number: all in order of key, or the one of a key
+abbrev pub rows_by : (ℕ → Bool) → Versions → Option KeyIs → ℕ → List Row
+rows_by sees versions None id = map (λ e. e.1) (entries_seen sees (slots_of versions id))
+rows_by sees versions (Some at) id = option_to_list (value_seen sees (rows_of versions id at.key))
+
+-- the same of a table that is there; else there are none
+abbrev pub rows_under : (ℕ → Bool) → Versions → Option KeyIs → Option Made → List Row
+rows_under sees versions at None = []
+rows_under sees versions at (Some made) = rows_by sees versions at made.id
+
+-- the rows that a session sees under a name
+abbrev pub rows_at : HeldEngine → ℕ → List ℕ → Option KeyIs → List Row
+rows_at engine s name at =
+    let versions = (engine_of engine).versions in
+    let sees = sees_of s (engine_of engine) in
+    rows_under sees versions at (value_seen sees (names_at versions name))
+
+-- all but the locks is as it was
+pub record LocksAlone (old new : ActsHeld) : Type 0 where
+  pub engine : new.engine ≡ old.engine
+  pub since : new.since ≡ old.since
+  pub stuck : new.stuck ≡ old.stuck
+
+-- the rows of a Read, which uses the table
+pub record Reads (s : ℕ) (name : List ℕ) (at : Option KeyIs) (old new : ActsHeld) (rows : List Row)
+    : Type 0 where
+  pub rows_are : rows ≡ rows_at old.engine s name at
+  pub others : LocksAlone old new
+  pub uses : GrantShows s (with_use name) old.locks new.locks
+
+-- room was taken, if that
+pub record ReadsNot (old new : ActsHeld) : Type 0 where
+  pub others : LocksAlone old new
+  pub room : LocksStay old.locks new.locks

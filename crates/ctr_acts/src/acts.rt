@@ -1,22 +1,26 @@
 // Sessions at work: each act with its reply.
-ghost use Rattle.std.specs.Prelude.{◌≡◌, ◌+◌, ◌<◌, length, [], OnOk, OnErr};
+ghost use Rattle.std.specs.Prelude.{◌≡◌, ◌+◌, ◌<◌, length, [], List, ℕ, Option, OnOk, OnErr, IfOk};
+ghost use Rattle.ctr_types.specs.declared.statement.KeyIs.{KeyIs as HeldKeyIs};
 ghost use Rattle.ctr_types.specs.declared.statement.Statement.TheVariants as st;
 ghost use Rattle.ctr_types.specs.declared.tape.Act.TheVariants as act;
 ghost use Rattle.ctr_types.specs.declared.tape.Reply.TheVariants as reply;
 ghost use Rattle.ctr_versions.specs.Laws.{IsOpenWriter};
 ghost use Rattle.ctr_rows.specs.Running.{engine_of};
 ghost use Rattle.ctr_acts.specs.Acts.{ActKeeps, Starts, ActsStay, Leaves, RollsBack, IsMarked, Asks};
-ghost use Rattle.ctr_acts.specs.Seats.{RefusesAlike};
+ghost use Rattle.ctr_locks.specs.Held.{IsEntered};
+ghost use Rattle.ctr_acts.specs.Seats.{RefusesAlike, Reads, ReadsNot};
 
 use crate::causes::causes;
+use crate::reading::rows_under;
 use ctr_locks::{Locks, locks_are_the_models};
 use ctr_model::Map;
 use ctr_rows::Engine;
 use ctr_sessions::{
-    ends_show, locks_and_reads_show, locks_keep_others_off, refusals_are_the_models, writes_show,
+    ends_show, locks_and_reads_show, locks_keep_others_off, refusals_are_the_models,
+    rows_are_the_views, writes_show,
 };
 use ctr_statement::table_of;
-use ctr_types::{Act, List, Name, OutOfMemory, Refusal, Reply, Statement};
+use ctr_types::{Act, KeyIs, List, Name, OutOfMemory, Refusal, Reply, Row, Rows, Statement};
 use std::alloc::Global;
 use std::marker::Model;
 
@@ -163,6 +167,50 @@ impl Acts {
             statement,
             name,
         )
+    }
+
+    /// SELECT's act: the rows that the session sees, and a use of the table. It takes memory; where that is refused,
+    /// the session stays as it was.
+    pub fn read(&mut self, alloc: Global, s: u8, statement: &Statement) -> Reply
+        ensures { (name : List ℕ) (at : Option HeldKeyIs) → statement.now ≡ st.Select name at → ActKeeps s act.Read statement.now self.old self.new result }
+    {
+        rows_are_the_views();
+        locks_and_reads_show();
+        if !self.locks.is_entered(s) {
+            return refused(Refusal::NoTransaction);
+        }
+        if let Some(why) = self.refusal(s, &Act::Read, statement) {
+            return refused(why);
+        }
+        let Statement::Select { table, at } = statement else {
+            return refused(Refusal::NoTable);
+        };
+        match self.select(alloc, s, table, at) {
+            Ok(rows) => Reply::Rows {
+                rows: Rows { rows },
+            },
+            Err(_) => refused(Refusal::OutOfMemory),
+        }
+    }
+
+    // A Read that nothing refuses: so no other session holds the name, and its use is granted.
+    fn select(
+        &mut self,
+        alloc: Global,
+        s: u8,
+        name: &Name,
+        at: &Option<KeyIs>,
+    ) -> Result<List<Row>, OutOfMemory>
+        requires { IsEntered s self.old.locks }
+        ensures reads { IfOk result (λ rows. Reads s name.now at.now self.old self.new rows) }
+        ensures not { OnErr result (ReadsNot self.old self.new) }
+    {
+        let rows = rows_under(alloc, &self.engine, s, name, at)?;
+        self.locks.reserve_name(alloc, s, name)?;
+        let Ok(()) = self.locks.use_table(s, name) else {
+            return Err(OutOfMemory);
+        };
+        Ok(rows)
     }
 
     // A transaction that wrote nothing ends.

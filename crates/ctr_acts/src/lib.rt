@@ -4,5 +4,6 @@
 
 mod acts;
 mod causes;
+mod reading;
 
 pub use acts::Acts;

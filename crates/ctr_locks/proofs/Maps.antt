@@ -70,3 +70,7 @@ module _ {K X : Type 0} (R : K → K → Ordering) where
 
   pub through : (old new : BTreeMap K X) (key : K) (v w : X) → Some v ≡ get_by (R key) old → WritesThrough R (R key) old w new → Written old.entries new.entries key (Some w)
   through old new key v w there writes = updated old new key (Some w) (writes.3 (subst IsSome there refl))
+
+pub is_copied : {X : Type 0} (o : Option (Bor X)) → is_some o ≡ is_some (option_copied o)
+is_copied None = refl
+is_copied (Some x) = refl

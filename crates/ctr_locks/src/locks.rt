@@ -1,5 +1,6 @@
 // The locks of all sessions.
-ghost use Rattle.std.specs.Prelude.{◌≡◌, true, false, [], Some, None, OnOk, OnErr};
+ghost use Rattle.std.specs.Prelude.{◌≡◌, true, false, [], Some, None, is_some, OnOk, OnErr};
+ghost use Rattle.std.specs.FinMap.Entries.{find};
 ghost use Rattle.std.specs.Ordering.{nat_cmp};
 ghost use Rattle.ctr_model.specs.Maps.{without};
 ghost use Rattle.ctr_model.specs.Reply.{with_lock, with_use};
@@ -47,6 +48,13 @@ impl Locks {
         Locks {
             sessions: BTreeMap::new(alloc),
         }
+    }
+
+    /// Whether a session is in a transaction.
+    pub fn is_entered(&self, s: u8) -> bool
+        ensures { result ≡ is_some (find nat_cmp s self.now) }
+    {
+        self.sessions.get(&s).is_some()
     }
 
     /// A session begins a transaction, and has nothing yet.
