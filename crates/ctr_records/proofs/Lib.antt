@@ -1,0 +1,7 @@
+pub mod Laws
+pub mod Reading
+pub mod Forms
+pub mod ListLaws
+pub mod RecordForms
+pub mod MemberLaws
+pub mod Found

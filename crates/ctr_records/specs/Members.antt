@@ -1,0 +1,85 @@
+-- The lists of a Checkpoint by their members.
+use Rattle.std.specs.Prelude.{◌≡◌, ℕ, ◌+◌, ◌^◌, ◌<◌, ◌≤◌, Bool, true, false, List, [], ◌∷◌, ◌++◌, length, ◌==◌, if◌then◌else◌}
+use Rattle.std.specs.List.{flat_map, AllByRecursion}
+use Rattle.ctr_bytes.specs.Fields.{spelled}
+use Rattle.ctr_records.specs.declared.record.SlogItem.{SlogItem}
+use Rattle.ctr_records.specs.declared.record.SlogItem.TheVariants.{AllocOf, FreeOf, CreateOf, DropOf}
+use Rattle.ctr_records.specs.Checkpoint.{item_most}
+
+-- ---- their bytes
+
+-- a transaction and its heads
+abbrev pub pair_bytes : ℕ × ℕ → List ℕ
+pair_bytes p = spelled 8 p.0 ++ spelled 8 p.1
+
+-- the kind of an item
+abbrev pub item_kind : SlogItem → ℕ
+item_kind (AllocOf x p) = 1
+item_kind (FreeOf p) = 2
+item_kind (CreateOf x e) = 3
+item_kind (DropOf x e) = 4
+
+-- its transaction, 0 where it has none
+abbrev pub item_xid : SlogItem → ℕ
+item_xid (AllocOf x p) = x
+item_xid (FreeOf p) = 0
+item_xid (CreateOf x e) = x
+item_xid (DropOf x e) = x
+
+-- its page or entry
+abbrev pub item_number : SlogItem → ℕ
+item_number (AllocOf x p) = p
+item_number (FreeOf p) = p
+item_number (CreateOf x e) = e
+item_number (DropOf x e) = e
+
+-- an item of the secondary log
+abbrev pub item_bytes : SlogItem → List ℕ
+item_bytes i = spelled 1 (item_kind i) ++ spelled 8 (item_xid i) ++ spelled 4 (item_number i)
+
+-- how many, and each
+abbrev pub list_bytes : {A : Type 0} → (A → List ℕ) → List A → List ℕ
+list_bytes one xs = spelled 8 (length xs) ++ flat_map one xs
+
+-- the open transactions, the aborted ones, the items
+abbrev pub lists_bytes : List (ℕ × ℕ) → List (ℕ × ℕ) → List SlogItem → List ℕ
+lists_bytes opens aborted items =
+    list_bytes pair_bytes opens ++ list_bytes pair_bytes aborted ++ list_bytes item_bytes items
+
+-- ---- which members there may be
+
+-- a number is among these
+abbrev pub among : ℕ → List ℕ → Bool
+among x [] = false
+among x (y ∷ ys) = if y == x then true else among x ys
+
+-- each transaction is from 1 to below the next and comes once; seen are those before it, the last
+-- first
+abbrev pub AreNew : ℕ → List ℕ → List (ℕ × ℕ) → Type 0
+AreNew next seen [] = Unit {0}
+AreNew next seen (p ∷ ps) =
+    (1 ≤ p.0) × (p.0 < next) × (among p.0 seen ≡ false) × AreNew next (p.0 ∷ seen) ps
+
+-- a transaction has at most 2^62 heads
+abbrev pub HeadsFit : ℕ × ℕ → Type 0
+HeadsFit p = p.1 ≤ 2 ^ 62
+
+-- a page or an entry is one
+abbrev pub ItemFits : SlogItem → Type 0
+ItemFits i = item_number i ≤ item_most (item_kind i)
+
+-- The next transaction is 1 to 2^63 + 2^62, and the members are in their bounds.
+pub record MembersFit (next : ℕ) (opens aborted : List (ℕ × ℕ)) (items : List SlogItem) : Type 0
+  where
+    pub some : 1 ≤ next
+    pub next_fits : next ≤ 2 ^ 63 + 2 ^ 62
+    pub opens_fit : (length opens < 2 ^ 64) × AllByRecursion HeadsFit opens
+    pub aborted_fit : (length aborted < 2 ^ 64) × AllByRecursion HeadsFit aborted
+    pub once : AreNew next [] (opens ++ aborted)
+    pub items_fit : (length items < 2 ^ 64) × AllByRecursion ItemFits items
+
+-- the lists are those of members, in their bounds
+abbrev pub HasMembers : ℕ → List ℕ → Type 0
+HasMembers next lists =
+    (opens : List (ℕ × ℕ)) × (aborted : List (ℕ × ℕ)) × (items : List SlogItem)
+    × MembersFit next opens aborted items × (lists ≡ lists_bytes opens aborted items)

@@ -1,0 +1,21 @@
+//! The records of a log over pages: which there are, and the bytes of each.
+#![tactic(auto)]
+
+mod checkpoint;
+mod decoding;
+mod encoding;
+mod fields;
+mod lists;
+mod record;
+mod span;
+mod table;
+
+pub use decoding::{BadRecord, decode};
+pub use encoding::{encode, one_form};
+pub use lists::encode_checkpoint;
+pub use record::{Form, Overlay, PageNo, Parts, Record, SlogItem};
+pub use span::Bytes;
+pub use table::{Field, Layout, Tag};
+
+#[cfg(test)]
+mod tests;
