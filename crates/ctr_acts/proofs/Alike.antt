@@ -51,7 +51,7 @@ module _ (low : ℕ) (h : ActsHeld) (state : State) (s : ℕ) (me : Transaction)
   }
 
 pub refuses : RefusalsAreTheModels → LocksAnswerTheModel → (h : ActsHeld) (s since : ℕ) (a : Act) (statement : Statement) (name : List ℕ) (r : Option Refusal) → table_of statement ≡ Some name → find nat_cmp s h.since ≡ Some since
-    → ((session : SessionHeld) → IsAtWork h.engine s session → r ≡ causes_at h s session since a statement name) → RefusesAlike s a statement h r
+    → ((session : SessionHeld) → IsAtWork h.engine s session → r ≡ causes_at (seat_at h s session since statement name) a statement name) → RefusesAlike s a statement h r
 refuses law answers h s since a statement name r named counted causes low state me shows kept at unasked =
     let mine = session low h state shows s me at in
     let seat = seat_at h s mine since statement name in

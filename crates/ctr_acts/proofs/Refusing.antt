@@ -51,25 +51,22 @@ module _ (h : ActsHeld) (s : ℕ) (session : SessionHeld) (since : ℕ) (a : Act
   made_is made work is = is ∙ ap (λ o. value_seen (sees_found (engine_of h.engine).xids o) (names_at (engine_of h.engine).versions name)) work.there
 
   module _ (made : Option Made) (seen : made ≡ made_seen (seat_at h s session since statement name) name) where
-    all : first_of (presence made ++ names ++ values_refused statement made ++ keys made) ≡ causes_at h s session since a statement name
+    all : first_of (presence made ++ names ++ values_refused statement made ++ keys made) ≡ causes_at (seat_at h s session since statement name) a statement name
     all = ap (λ m. first_of (refusals_seen (seat_at h s session since statement name) a statement name m)) seen
 
-    pub by_presence : (why : Refusal) → Some why ≡ first_of (presence made) → Some why ≡ causes_at h s session since a statement name
-    by_presence why is = found_first (presence made) (names ++ values_refused statement made ++ keys made) why is ∙ all
-
-    pub by_name : (why : Refusal) → None ≡ first_of (presence made) → Some why ≡ first_of names → Some why ≡ causes_at h s session since a statement name
+    pub by_name : (why : Refusal) → None ≡ first_of (presence made) → Some why ≡ first_of names → Some why ≡ causes_at (seat_at h s session since statement name) a statement name
     by_name why there is = found_first names (values_refused statement made ++ keys made) why is ∙ passed (presence made) (names ++ values_refused statement made ++ keys made) there ∙ all
 
-    pub by_value : (why : Refusal) → None ≡ first_of (presence made) → None ≡ first_of names → Some why ≡ first_of (values_refused statement made) → Some why ≡ causes_at h s session since a statement name
+    pub by_value : (why : Refusal) → None ≡ first_of (presence made) → None ≡ first_of names → Some why ≡ first_of (values_refused statement made) → Some why ≡ causes_at (seat_at h s session since statement name) a statement name
     by_value why there named is = found_first (values_refused statement made) (keys made) why is ∙ passed names (values_refused statement made ++ keys made) named ∙ passed (presence made) (names ++ values_refused statement made ++ keys made) there ∙ all
 
-    pub by_key : (r : Option Refusal) → None ≡ first_of (presence made) → None ≡ first_of names → None ≡ first_of (values_refused statement made) → r ≡ first_of (keys made) → r ≡ causes_at h s session since a statement name
+    pub by_key : (r : Option Refusal) → None ≡ first_of (presence made) → None ≡ first_of names → None ≡ first_of (values_refused statement made) → r ≡ first_of (keys made) → r ≡ causes_at (seat_at h s session since statement name) a statement name
     by_key r there named suits is = is ∙ passed (values_refused statement made) (keys made) suits ∙ passed names (values_refused statement made ++ keys made) named ∙ passed (presence made) (names ++ values_refused statement made ++ keys made) there ∙ all
 
 -- the snapshots of the others aren't asked
 pub held_alike : (h : ActsHeld) (engine : HeldEngine) (locks : List (ℕ × List (List ℕ × TableHeld))) (stuck : List (List ℕ)) (s : ℕ) (session : SessionHeld) (since : ℕ) (a : Act) (statement : Statement) (name : List ℕ) → IsHeldBy engine locks stuck h
-    → causes_at (record { engine = engine; locks = locks; since = []; stuck = stuck }) s session since a statement name ≡ causes_at h s session since a statement name
+    → causes_at (seat_at (record { engine = engine; locks = locks; since = []; stuck = stuck }) s session since statement name) a statement name ≡ causes_at (seat_at h s session since statement name) a statement name
 held_alike h engine locks stuck s session since a statement name held =
-    ap (λ e. causes_at (record { engine = e; locks = locks; since = []; stuck = stuck }) s session since a statement name) (sym held.engine_is)
-    ∙ ap (λ l. causes_at (record { engine = h.engine; locks = l; since = []; stuck = stuck }) s session since a statement name) (sym held.locks_are)
-    ∙ ap (λ k. causes_at (record { engine = h.engine; locks = h.locks; since = []; stuck = k }) s session since a statement name) (sym held.stuck_are)
+    ap (λ e. causes_at (seat_at (record { engine = e; locks = locks; since = []; stuck = stuck }) s session since statement name) a statement name) (sym held.engine_is)
+    ∙ ap (λ l. causes_at (seat_at (record { engine = h.engine; locks = l; since = []; stuck = stuck }) s session since statement name) a statement name) (sym held.locks_are)
+    ∙ ap (λ k. causes_at (seat_at (record { engine = h.engine; locks = h.locks; since = []; stuck = k }) s session since statement name) a statement name) (sym held.stuck_are)

@@ -56,9 +56,8 @@ pub record IsAtWork (engine : HeldEngine) (s : ℕ) (session : SessionHeld) : Ty
   pub unnumbered : number_of (engine_of engine).xids session.me ≡ None
 
 -- every refusal in its order, by where the session stands
-abbrev pub causes_at : ActsHeld → ℕ → SessionHeld → ℕ → Act → Statement → List ℕ → Option Refusal
-causes_at h s session since a statement name =
-    let seat = seat_at h s session since statement name in
+abbrev pub causes_at : Seat → Act → Statement → List ℕ → Option Refusal
+causes_at seat a statement name =
     first_of (refusals_seen seat a statement name (made_seen seat name))
 
 -- Whatever state is shown, with the session in a transaction that hasn't asked for its commit: its

@@ -156,7 +156,7 @@ pub fn causes(
     statement: &Statement,
     name: &Name,
 ) -> Option<Refusal>
-    ensures { (session : SessionHeld) → IsAtWork engine.now s session → (h : ActsHeld) → IsHeldBy engine.now locks.now stuck.now h → result ≡ causes_at h s session since act.now statement.now name.now }
+    ensures { (session : SessionHeld) → IsAtWork engine.now s session → (h : ActsHeld) → IsHeldBy engine.now locks.now stuck.now h → result ≡ causes_at (seat_at h s session since statement.now name.now) act.now statement.now name.now }
 {
     let made = engine.table(s, name);
     if let Some(why) = table_refusal(statement, made) {
