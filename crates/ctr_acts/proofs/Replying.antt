@@ -20,7 +20,7 @@ use Rattle.ctr_model.proofs.Sessions.{known}
 use Rattle.ctr_versions.specs.Laws.{IsOpenWriter}
 use Rattle.ctr_rows.specs.Running.{engine_of}
 use Rattle.ctr_legal.specs.Ready.{IsUnasked}
-use Rattle.ctr_acts.specs.Acts.{ActsHeld, ShowsActs, Replies, ActKeeps, Starts, ActsStay, Leaves, RollsBack, Asks}
+use Rattle.ctr_acts.specs.Acts.{ActsHeld, ShowsActs, ActReplies, ActKeeps, Starts, ActsStay, Leaves, RollsBack, Asks}
 use Rattle.ctr_acts.proofs.Ending.{writer_by, open_writer}
 
 -- whether a session is in a transaction, with the transaction
@@ -67,13 +67,13 @@ module _ (low : ℕ) (old : ActsHeld) (state : State) (s : ℕ) (shows : ShowsAc
 -- ---- a reply, where the state is known
 
 module _ (low : ℕ) (new : ActsHeld) (state : State) (s : ℕ) (a : Act) (statement : Statement) (r : Reply) where
-  pub replies_outside : transaction_of state s ≡ None → (r ≡ reply_outside state a) ⊎ MayStandFor statement (reply_outside state a) r → ShowsActs low new (next_outside state s a (Some statement) r) → Replies low new state s a (statement, r)
+  pub replies_outside : transaction_of state s ≡ None → (r ≡ reply_outside state a) ⊎ MayStandFor statement (reply_outside state a) r → ShowsActs low new (next_outside state s a (Some statement) r) → ActReplies low new state s a (statement, r)
   replies_outside none allowed shows = record {
     allowed = subst (λ t. (r ≡ reply_from state s t a statement) ⊎ MayStandFor statement (reply_from state s t a statement) r) (sym none) allowed;
     shows = subst (λ t. ShowsActs low new (next_from state s t a (Some statement) r)) (sym none) shows;
   }
 
-  pub replies_inside : (me : Transaction) → transaction_of state s ≡ Some me → r ≡ reply_inside state s me a statement → ShowsActs low new (next_inside state s me a (Some statement) r) → Replies low new state s a (statement, r)
+  pub replies_inside : (me : Transaction) → transaction_of state s ≡ Some me → r ≡ reply_inside state s me a statement → ShowsActs low new (next_inside state s me a (Some statement) r) → ActReplies low new state s a (statement, r)
   replies_inside me at given shows = record {
     allowed = inl (subst (λ t. r ≡ reply_from state s t a statement) (sym at) given);
     shows = subst (λ t. ShowsActs low new (next_from state s t a (Some statement) r)) (sym at) shows;

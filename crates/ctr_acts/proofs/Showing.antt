@@ -33,8 +33,8 @@ use Rattle.ctr_sessions.specs.Answers.{Seat, made_seen, with_rows}
 use Rattle.ctr_sessions.specs.Laws.{RowsAreTheViews}
 use Rattle.ctr_sessions.specs.Steps.{ReadShows}
 use Rattle.ctr_sessions.specs.Sessions.{Begun, ShowsBegun}
-use Rattle.ctr_acts.specs.Acts.{ActsHeld, begun_of, ShowsActs, Replies, ActKeeps}
-use Rattle.ctr_acts.specs.Seats.{seat_at, RefusesAlike, rows_under, rows_at, LocksAlone, Reads, ReadsNot}
+use Rattle.ctr_acts.specs.Acts.{ActsHeld, begun_of, ShowsActs, ActReplies, ActKeeps}
+use Rattle.ctr_acts.specs.Seats.{seat_at, RefusesAlike, rows_under, rows_listed, LocksAlone, Reads, ReadsNot}
 use Rattle.ctr_acts.proofs.Ending.{session, here}
 use Rattle.ctr_acts.proofs.Replying.{IsInside, replies_outside}
 
@@ -68,19 +68,19 @@ module _ (low : ℕ) (new : ActsHeld) (state : State) (s : ℕ) (me : Transactio
   abbrev pub or_rows : Option Refusal → Reply
   or_rows why = refused_or why (reply.Rows (record { rows = rows_read (view state me) statement }))
 
-  pub replies_refused : (why : Refusal) → Some why ≡ refusal_of state s me act.Read statement → ShowsActs low new state → Replies low new state s act.Read (statement, reply.Refused why)
+  pub replies_refused : (why : Refusal) → Some why ≡ refusal_of state s me act.Read statement → ShowsActs low new state → ActReplies low new state s act.Read (statement, reply.Refused why)
   replies_refused why is shows = record {
     allowed = inl (ap or_rows is ∙ ap (λ t. reply_from state s t act.Read statement) (sym at));
     shows = subst (λ t. ShowsActs low new (next_from state s t act.Read (Some statement) (reply.Refused why))) (sym at) shows;
   }
 
-  pub replies_rows : (rows : List Row) → None ≡ refusal_of state s me act.Read statement → rows ≡ rows_read (view state me) statement → ShowsActs low new (with_transaction s (with_use table me) state) → Replies low new state s act.Read (statement, reply.Rows (record { rows = rows }))
+  pub replies_rows : (rows : List Row) → None ≡ refusal_of state s me act.Read statement → rows ≡ rows_read (view state me) statement → ShowsActs low new (with_transaction s (with_use table me) state) → ActReplies low new state s act.Read (statement, reply.Rows (record { rows = rows }))
   replies_rows rows is same shows = record {
     allowed = inl (ap (λ (r : List Row). reply.Rows (record { rows = r })) same ∙ ap or_rows is ∙ ap (λ t. reply_from state s t act.Read statement) (sym at));
     shows = subst (λ t. ShowsActs low new (next_from state s t act.Read (Some statement) (reply.Rows (record { rows = rows })))) (sym at) shows;
   }
 
-  pub replies_short : None ≡ refusal_of state s me act.Read statement → ShowsActs low new state → Replies low new state s act.Read (statement, reply.Refused refusal.OutOfMemory)
+  pub replies_short : None ≡ refusal_of state s me act.Read statement → ShowsActs low new state → ActReplies low new state s act.Read (statement, reply.Refused refusal.OutOfMemory)
   replies_short is shows = record {
     allowed = inr (subst (λ r. MayStandFor statement r (reply.Refused refusal.OutOfMemory)) (ap or_rows is ∙ ap (λ t. reply_from state s t act.Read statement) (sym at)) refl);
     shows = subst (λ t. ShowsActs low new (next_from state s t act.Read (Some statement) (reply.Refused refusal.OutOfMemory))) (sym at) shows;
@@ -98,7 +98,7 @@ module _ (low : ℕ) (h : ActsHeld) (state : State) (s : ℕ) (me : Transaction)
   same_rows None (Some made) = refl
   same_rows (Some k) (Some made) = ap option_to_list (sym (row_read (λ x. sees_found (engine_of h.engine).xids (Some (session low h state shows s me at)) x) (engine_of h.engine).versions made k.key (shows.begun.shows.stands.slots_sorted made.id)))
 
-  pub rows_view : RowsAreTheViews → rows_at h.engine s table key ≡ rows_read (view state me) (st.Select table key)
+  pub rows_view : RowsAreTheViews → rows_listed h.engine s table key ≡ rows_read (view state me) (st.Select table key)
   rows_view law =
       ap (λ o. rows_under (sees_found (engine_of h.engine).xids o) (engine_of h.engine).versions key (value_seen (sees_found (engine_of h.engine).xids o) (names_at (engine_of h.engine).versions table))) ((shows.begun.shows.inside s me at).1)
       ∙ same_rows key (made_seen seat table)

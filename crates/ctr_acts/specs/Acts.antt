@@ -40,7 +40,7 @@ pub record ShowsActs (low : ℕ) (h : ActsHeld) (state : State) : Type 0 where
   pub calm : AreCalm (begun_of h)
 
 -- the reply is allowed, and what is left shows the state that it leaves
-pub record Replies (low : ℕ) (new : ActsHeld) (state : State) (s : ℕ) (a : Act)
+pub record ActReplies (low : ℕ) (new : ActsHeld) (state : State) (s : ℕ) (a : Act)
     (of : Statement × Reply) : Type 0 where
   pub allowed : Allowed state s a of.0 of.1
   pub shows : ShowsActs low new (next_state state s a (Some of.0) of.1)
@@ -50,7 +50,7 @@ pub record Replies (low : ℕ) (new : ActsHeld) (state : State) (s : ℕ) (a : A
 abbrev pub ActKeeps : ℕ → Act → Statement → ActsHeld → ActsHeld → Reply → Type 0
 ActKeeps s a statement old new r = (low : ℕ) (state : State) → ShowsActs low old state
     → IsKept state → IsReady state statement a (transaction_of state s) → IsInTurn state s a
-    → Replies low new state s a (statement, r)
+    → ActReplies low new state s a (statement, r)
 
 -- ---- a start
 

@@ -26,14 +26,15 @@ use Rattle.ctr_legal.specs.Kept.{IsKept}
 use Rattle.ctr_sessions.specs.Answers.{Seat, made_seen, refusals_seen}
 use Rattle.ctr_acts.specs.Acts.{ActsHeld, begun_of, ShowsActs}
 
--- who keeps the session from the statement's table: recovery, whose number is 0, or the lowest other
--- session
+-- who keeps the session from the statement's table: recovery, whose number is 0, or the lowest
+-- other session
 abbrev pub busy_at : List (List ℕ) → List (ℕ × List (List ℕ × TableHeld)) → ℕ → Statement
     → List ℕ → Option ℕ
 busy_at stuck locks s statement name = if has_name name stuck then Some 0 else
     busy_in (changes_schema statement) s name locks
 
--- where the session stands, with a snapshot of so many commits, for a statement on the table of a name
+-- where the session stands, with a snapshot of so many commits, for a statement on the table of a
+-- name
 abbrev pub seat_at : ActsHeld → ℕ → SessionHeld → ℕ → Statement → List ℕ → Seat
 seat_at h s session since statement name = record {
   db = begun_of h;
@@ -63,8 +64,8 @@ causes_at seat a statement name =
 -- Whatever state is shown, with the session in a transaction that hasn't asked for its commit: its
 -- Lock, or its Read, is refused as the model refuses it.
 abbrev pub RefusesAlike : ℕ → Act → Statement → ActsHeld → Option Refusal → Type 0
-RefusesAlike s a statement h r = (low : ℕ) (state : State) (me : Transaction) → ShowsActs low h state
-    → IsKept state → transaction_of state s ≡ Some me → me.asked ≡ None
+RefusesAlike s a statement h r = (low : ℕ) (state : State) (me : Transaction)
+    → ShowsActs low h state → IsKept state → transaction_of state s ≡ Some me → me.asked ≡ None
     → r ≡ refusal_of state s me a statement
 
 -- ---- a Read
@@ -80,8 +81,8 @@ rows_under sees versions at None = []
 rows_under sees versions at (Some made) = rows_by sees versions at made.id
 
 -- the rows that a session sees under a name
-abbrev pub rows_at : HeldEngine → ℕ → List ℕ → Option KeyIs → List Row
-rows_at engine s name at =
+abbrev pub rows_listed : HeldEngine → ℕ → List ℕ → Option KeyIs → List Row
+rows_listed engine s name at =
     let versions = (engine_of engine).versions in
     let sees = sees_of s (engine_of engine) in
     rows_under sees versions at (value_seen sees (names_at versions name))
@@ -95,7 +96,7 @@ pub record LocksAlone (old new : ActsHeld) : Type 0 where
 -- the rows of a Read, which uses the table
 pub record Reads (s : ℕ) (name : List ℕ) (at : Option KeyIs) (old new : ActsHeld) (rows : List Row)
     : Type 0 where
-  pub rows_are : rows ≡ rows_at old.engine s name at
+  pub rows_are : rows ≡ rows_listed old.engine s name at
   pub others : LocksAlone old new
   pub uses : GrantShows s (with_use name) old.locks new.locks
 

@@ -3,7 +3,7 @@ ghost use Rattle.std.specs.Prelude.{◌≡◌, IfOk};
 ghost use Rattle.std.specs.Option.{option_copied, option_to_list};
 ghost use Rattle.ctr_versions.specs.Laws.{sees_of};
 ghost use Rattle.ctr_rows.specs.Running.{engine_of};
-ghost use Rattle.ctr_acts.specs.Seats.{rows_by, rows_at};
+ghost use Rattle.ctr_acts.specs.Seats.{rows_by, rows_listed};
 
 use ctr_model::Key;
 use ctr_rows::Engine;
@@ -46,7 +46,7 @@ pub fn rows_under(
     name: &Name,
     at: &Option<KeyIs>,
 ) -> Result<List<Row>, OutOfMemory>
-    ensures { IfOk result (λ rows. rows ≡ rows_at engine.now s name.now at.now) }
+    ensures { IfOk result (λ rows. rows ≡ rows_listed engine.now s name.now at.now) }
 {
     match engine.table(s, name) {
         Some(made) => rows_in(alloc, engine, s, made.id, at),

@@ -20,7 +20,7 @@ use Rattle.ctr_model.specs.State.{same_name, has_name, transaction_of, with_tran
 use Rattle.ctr_model.specs.Refusals.{others, first_session, is_busy, is_lock_of, has_lock}
 use Rattle.ctr_model.specs.Reply.{with_use, with_lock}
 use Rattle.ctr_model.proofs.Sessions.{known, find-put-other, find-put-same, find-without-other, find-without-same}
-use Rattle.ctr_locks.specs.Held.{TableHeld, table_held, is_locked, has_key, has_use, has_hold, keeps_off, first_held, SameTable, LocksKey, Uses, Holds, OfTable, IsEntered, SameEntered, HasKeyRoom, HasNameRoom, HasKeyRoomOf, HasNameRoomOf}
+use Rattle.ctr_locks.specs.Held.{TableHeld, held_of, is_locked, has_key, has_use, has_hold, keeps_off, first_held, SameTable, LocksKey, Uses, Holds, OfTable, IsEntered, SameEntered, HasKeyRoom, HasTableRoom, HasKeyRoomOf, HasTableRoomOf}
 use Rattle.ctr_locks.specs.Shows.{HasSame, IsSame, ShowsLocks, AnswersTheModel, LocksStay, EnterShows, GrantShows, ReleaseShows, OtherChangesShow, TransactionsShow}
 use Rattle.ctr_locks.proofs.Maps.{both, found, in_order, Written, updated, through}
 
@@ -234,17 +234,17 @@ module _ (m : BTreeMap ℕ Tables) (view : List (ℕ × Tables)) (view_is : m.en
   no_session none entered = absurd (false≢true (sym (ap is_some (session_is None none)) ∙ entered))
 
   pub no_key_room : {A : Type 0} (name : List ℕ) (key : ℤ) → None ≡ get_by (nat_cmp s) m → HasKeyRoomOf s name key view → A
-  no_key_room name key none room = absurd (false≢true (sym (ap (λ o. is_some (find int_cmp key (table_held name (unwrap_or o [])).keys)) (session_is None none)) ∙ room))
+  no_key_room name key none room = absurd (false≢true (sym (ap (λ o. is_some (find int_cmp key (held_of name (unwrap_or o [])).keys)) (session_is None none)) ∙ room))
 
-  pub no_name_room : {A : Type 0} (name : List ℕ) → None ≡ get_by (nat_cmp s) m → HasNameRoomOf s name view → A
+  pub no_name_room : {A : Type 0} (name : List ℕ) → None ≡ get_by (nat_cmp s) m → HasTableRoomOf s name view → A
   no_name_room name none room = absurd (false≢true (sym (ap (λ o. is_some (find name_cmp name (unwrap_or o []))) (session_is None none)) ∙ room))
 
   -- its room is the session's
   pub key_room_of : (name : List ℕ) (key : ℤ) (v : Tables) → Some v ≡ get_by (nat_cmp s) m → HasKeyRoomOf s name key view → HasKeyRoom name key v
   key_room_of name key v there room = subst (λ o. HasKeyRoom name key (unwrap_or o [])) (session_is (Some v) there) room
 
-  pub name_room_of : (name : List ℕ) (v : Tables) → Some v ≡ get_by (nat_cmp s) m → HasNameRoomOf s name view → HasNameRoom name v
-  name_room_of name v there room = subst (λ o. HasNameRoom name (unwrap_or o [])) (session_is (Some v) there) room
+  pub name_room_of : (name : List ℕ) (v : Tables) → Some v ≡ get_by (nat_cmp s) m → HasTableRoomOf s name view → HasTableRoom name v
+  name_room_of name v there room = subst (λ o. HasTableRoom name (unwrap_or o [])) (session_is (Some v) there) room
 
   -- a session that was found is written
   module _ (new : BTreeMap ℕ Tables) (v w : Tables) (there : Some v ≡ get_by (nat_cmp s) m) (writes : WritesThrough nat_cmp (nat_cmp s) m w new) where
@@ -269,8 +269,8 @@ module _ (m : BTreeMap ℕ Tables) (view : List (ℕ × Tables)) (view_is : m.en
     pub through_key_room : (name : List ℕ) (key : ℤ) → HasKeyRoom name key w → HasKeyRoomOf s name key new.entries
     through_key_room name key room = subst (λ o. HasKeyRoom name key (unwrap_or o [])) (sym after.here) room
 
-    pub through_name_room : (name : List ℕ) → HasNameRoom name w → HasNameRoomOf s name new.entries
-    through_name_room name room = subst (λ o. HasNameRoom name (unwrap_or o [])) (sym after.here) room
+    pub through_name_room : (name : List ℕ) → HasTableRoom name w → HasTableRoomOf s name new.entries
+    through_name_room name room = subst (λ o. HasTableRoom name (unwrap_or o [])) (sym after.here) room
 
   -- a session is put in, or taken out
   module _ (new : BTreeMap ℕ Tables) (o : Option Tables) (updates : UpdatesBy nat_cmp (nat_cmp s) m new o) (ordered : IsOrdered nat_cmp new) where

@@ -9,7 +9,7 @@ use Rattle.std.specs.FinMap.Entries.{find}
 use Rattle.std.proofs.lemmas.Bool.{false≢true}
 use Rattle.ctr_model.specs.Database.{name_cmp}
 use Rattle.ctr_model.proofs.Sessions.{known}
-use Rattle.ctr_locks.specs.Held.{TableHeld, nothing_held, table_held, is_locked, SameTable, LocksKey, OfTable, HasKeyRoom, HasNameRoom}
+use Rattle.ctr_locks.specs.Held.{TableHeld, nothing_held, held_of, is_locked, SameTable, LocksKey, OfTable, HasKeyRoom, HasTableRoom}
 use Rattle.ctr_locks.proofs.Maps.{found, Written, updated, through}
 
 -- ---- keys
@@ -42,20 +42,20 @@ same_table t = record { used = refl; held = refl; keys = λ k. refl }
 -- ---- names
 
 -- what is found under a name
-pub table_is : (tables : List (List ℕ × TableHeld)) (name : List ℕ) (o : Option TableHeld) → find name_cmp name tables ≡ o → table_held name tables ≡ unwrap_or o nothing_held
+pub table_is : (tables : List (List ℕ × TableHeld)) (name : List ℕ) (o : Option TableHeld) → find name_cmp name tables ≡ o → held_of name tables ≡ unwrap_or o nothing_held
 table_is tables name o is = ap (λ o. unwrap_or o nothing_held) is
 
 module _ (P : TableHeld → TableHeld → Type 0) (old new : List (List ℕ × TableHeld)) (name : List ℕ) where
   -- a table that is written
   pub of_table : (o : Option TableHeld) (w : TableHeld) → find name_cmp name old ≡ o → Written name_cmp old new name (Some w) → P (unwrap_or o nothing_held) w → OfTable name P old new
   of_table o w was is p = record {
-    here = subst (λ t. P t (table_held name new)) (sym (table_is old name o was)) (subst (P (unwrap_or o nothing_held)) (sym (table_is new name (Some w) is.here)) p);
+    here = subst (λ t. P t (held_of name new)) (sym (table_is old name o was)) (subst (P (unwrap_or o nothing_held)) (sym (table_is new name (Some w) is.here)) p);
     others = λ other apart. ap (λ o. unwrap_or o nothing_held) (is.others other (sym (texts_ties name other) ∙ apart));
   }
 
 -- all tables are as they were
 pub same_tables : (old new : List (List ℕ × TableHeld)) (name : List ℕ) → new ≡ old → OfTable name SameTable old new
-same_tables old new name same = subst (OfTable name SameTable old) (sym same) (record { here = same_table (table_held name old); others = λ other apart. refl })
+same_tables old new name same = subst (OfTable name SameTable old) (sym same) (record { here = same_table (held_of name old); others = λ other apart. refl })
 
 -- ---- the map of tables
 
@@ -64,14 +64,14 @@ module _ (m : BTreeMap (List ℕ) TableHeld) (view : List (List ℕ × TableHeld
   pub find_is : (o : Option TableHeld) → o ≡ get_by (name_cmp name) m → find name_cmp name view ≡ o
   find_is o is = ap (find name_cmp name) (sym view_is) ∙ found name_cmp m name o is
 
-  pub held_is : (o : Option TableHeld) → o ≡ get_by (name_cmp name) m → table_held name view ≡ unwrap_or o nothing_held
+  pub held_is : (o : Option TableHeld) → o ≡ get_by (name_cmp name) m → held_of name view ≡ unwrap_or o nothing_held
   held_is o is = table_is view name o (find_is o is)
 
   -- a table that has room is found
   pub no_key : {A : Type 0} (key : ℤ) → None ≡ get_by (name_cmp name) m → HasKeyRoom name key view → A
   no_key key none room = absurd (false≢true (sym (ap (λ (t : TableHeld). is_some (find int_cmp key t.keys)) (held_is None none)) ∙ room))
 
-  pub no_name : {A : Type 0} → None ≡ get_by (name_cmp name) m → HasNameRoom name view → A
+  pub no_name : {A : Type 0} → None ≡ get_by (name_cmp name) m → HasTableRoom name view → A
   no_name none room = absurd (false≢true (sym (ap is_some (find_is None none)) ∙ room))
 
   -- a table that was found is written
@@ -79,7 +79,7 @@ module _ (m : BTreeMap (List ℕ) TableHeld) (view : List (List ℕ × TableHeld
   through_table P new v w there writes p = subst (λ es. OfTable name P es new.entries) view_is (of_table P m.entries new.entries name (Some v) w (found name_cmp m name (Some v) there) (through name_cmp m new name v w there writes) p)
 
   -- room for a table that wasn't there
-  pub table_room : (new : BTreeMap (List ℕ) TableHeld) (w : TableHeld) (copy : List ℕ) → copy ≡ name → w ≡ nothing_held → None ≡ get_by (name_cmp name) m → UpdatesBy name_cmp (name_cmp copy) m new (Some w) → OfTable name SameTable view new.entries × HasNameRoom name new.entries
+  pub table_room : (new : BTreeMap (List ℕ) TableHeld) (w : TableHeld) (copy : List ℕ) → copy ≡ name → w ≡ nothing_held → None ≡ get_by (name_cmp name) m → UpdatesBy name_cmp (name_cmp copy) m new (Some w) → OfTable name SameTable view new.entries × HasTableRoom name new.entries
   table_room new w copy same nothing none updates =
       let written : Written name_cmp m.entries new.entries name (Some w) = updated name_cmp m new name (Some w) (subst (λ n. UpdatesBy name_cmp (name_cmp n) m new (Some w)) same updates) in (
         subst (λ es. OfTable name SameTable es new.entries) view_is (of_table SameTable m.entries new.entries name None w (found name_cmp m name None none) written (subst (SameTable nothing_held) (sym nothing) (same_table nothing_held))),

@@ -18,22 +18,24 @@ abbrev pub nothing_held : TableHeld
 nothing_held = record { used = false; held = false; keys = [] }
 
 -- what a session has of the table of a name
-abbrev pub table_held : List ℕ → List (List ℕ × TableHeld) → TableHeld
-table_held name tables = unwrap_or (find name_cmp name tables) nothing_held
+abbrev pub held_of : List ℕ → List (List ℕ × TableHeld) → TableHeld
+held_of name tables = unwrap_or (find name_cmp name tables) nothing_held
 
 -- the key is locked
 abbrev pub is_locked : ℤ → TableHeld → Bool
 is_locked key t = unwrap_or (find int_cmp key t.keys) false
 
--- the session has the lock of a key; it uses a table; it holds a name
+-- the session has the lock of a key
 abbrev pub has_key : List ℕ → ℤ → List (List ℕ × TableHeld) → Bool
-has_key name key tables = is_locked key (table_held name tables)
+has_key name key tables = is_locked key (held_of name tables)
 
+-- it uses a table
 abbrev pub has_use : List ℕ → List (List ℕ × TableHeld) → Bool
-has_use name tables = (table_held name tables).used
+has_use name tables = (held_of name tables).used
 
+-- it holds a name
 abbrev pub has_hold : List ℕ → List (List ℕ × TableHeld) → Bool
-has_hold name tables = (table_held name tables).held
+has_hold name tables = (held_of name tables).held
 
 -- it keeps others from the name, which they want for a change of schema or not
 abbrev pub keeps_off : Bool → List ℕ → List (List ℕ × TableHeld) → Bool
@@ -84,9 +86,9 @@ pub record Holds (old new : TableHeld) : Type 0 where
 -- what it has of one table is so, and of the others as it was
 pub record OfTable (name : List ℕ) (P : TableHeld → TableHeld → Type 0)
     (old new : List (List ℕ × TableHeld)) : Type 0 where
-  pub here : P (table_held name old) (table_held name new)
+  pub here : P (held_of name old) (held_of name new)
   pub others : (other : List ℕ) → same_name name other ≡ false
-      → table_held other new ≡ table_held other old
+      → held_of other new ≡ held_of other old
 
 -- ---- all sessions
 
@@ -99,16 +101,18 @@ abbrev pub SameEntered : List (ℕ × List (List ℕ × TableHeld))
     → List (ℕ × List (List ℕ × TableHeld)) → Type 0
 SameEntered old new = (s : ℕ) → IsEntered s old → IsEntered s new
 
--- there is room for the lock of a key, or for a use and a hold of a name
+-- there is room for the lock of a key
 abbrev pub HasKeyRoom : List ℕ → ℤ → List (List ℕ × TableHeld) → Type 0
-HasKeyRoom name key tables = is_some (find int_cmp key (table_held name tables).keys) ≡ true
+HasKeyRoom name key tables = is_some (find int_cmp key (held_of name tables).keys) ≡ true
 
-abbrev pub HasNameRoom : List ℕ → List (List ℕ × TableHeld) → Type 0
-HasNameRoom name tables = is_some (find name_cmp name tables) ≡ true
+-- there is room for a use and a hold of a name
+abbrev pub HasTableRoom : List ℕ → List (List ℕ × TableHeld) → Type 0
+HasTableRoom name tables = is_some (find name_cmp name tables) ≡ true
 
--- the same of a session's tables
+-- the session has room for the lock of a key
 abbrev pub HasKeyRoomOf : ℕ → List ℕ → ℤ → List (ℕ × List (List ℕ × TableHeld)) → Type 0
 HasKeyRoomOf s name key sessions = HasKeyRoom name key (unwrap_or (find nat_cmp s sessions) [])
 
-abbrev pub HasNameRoomOf : ℕ → List ℕ → List (ℕ × List (List ℕ × TableHeld)) → Type 0
-HasNameRoomOf s name sessions = HasNameRoom name (unwrap_or (find nat_cmp s sessions) [])
+-- the session has room for a use and a hold of a name
+abbrev pub HasTableRoomOf : ℕ → List ℕ → List (ℕ × List (List ℕ × TableHeld)) → Type 0
+HasTableRoomOf s name sessions = HasTableRoom name (unwrap_or (find nat_cmp s sessions) [])

@@ -4,7 +4,7 @@ ghost use Rattle.std.specs.FinMap.Entries.{find};
 ghost use Rattle.std.specs.Ordering.{nat_cmp};
 ghost use Rattle.ctr_model.specs.Maps.{without};
 ghost use Rattle.ctr_model.specs.Reply.{with_lock, with_use};
-ghost use Rattle.ctr_locks.specs.Held.{has_key, keeps_off, first_held, busy_in, locked_in, IsEntered, SameEntered, HasKeyRoomOf, HasNameRoomOf};
+ghost use Rattle.ctr_locks.specs.Held.{has_key, keeps_off, first_held, busy_in, locked_in, IsEntered, SameEntered, HasKeyRoomOf, HasTableRoomOf};
 ghost use Rattle.ctr_locks.specs.Shows.{LocksStay, EnterShows, GrantShows, ReleaseShows, held_found};
 
 use crate::session::SessionLocks;
@@ -117,7 +117,7 @@ impl Locks {
         requires { IsEntered s self.old }
         ensures keeps { LocksStay self.old self.new }
         ensures entered { SameEntered self.old self.new }
-        ensures room { OnOk result (HasNameRoomOf s name.now self.new) }
+        ensures room { OnOk result (HasTableRoomOf s name.now self.new) }
     {
         let Some(locks) = self.sessions.get_mut(&s) else {
             return Ok(());
@@ -146,7 +146,7 @@ impl Locks {
 
     /// Uses a table whose name no other session holds. It takes no memory.
     pub fn use_table(&mut self, s: u8, name: &Name) -> Result<(), Held>
-        requires { HasNameRoomOf s name.now self.old }
+        requires { HasTableRoomOf s name.now self.old }
         ensures grants { OnOk result (GrantShows s (with_use name.now) self.old self.new) }
         ensures err { OnErr result (self.new ≡ self.old) }
         ensures held { held_found result ≡ busy_in false s name.now self.old }
@@ -164,7 +164,7 @@ impl Locks {
 
     /// Holds a name that no other session holds or uses. It takes no memory.
     pub fn hold_name(&mut self, s: u8, name: &Name) -> Result<(), Held>
-        requires { HasNameRoomOf s name.now self.old }
+        requires { HasTableRoomOf s name.now self.old }
         ensures grants { OnOk result (GrantShows s (with_lock None name.now) self.old self.new) }
         ensures err { OnErr result (self.new ≡ self.old) }
         ensures held { held_found result ≡ busy_in true s name.now self.old }

@@ -1,6 +1,6 @@
 // What a session has of all tables.
 ghost use Rattle.std.specs.Prelude.{◌≡◌, [], OnOk};
-ghost use Rattle.ctr_locks.specs.Held.{has_key, has_use, has_hold, keeps_off, SameTable, LocksKey, Uses, Holds, OfTable, HasKeyRoom, HasNameRoom};
+ghost use Rattle.ctr_locks.specs.Held.{has_key, has_use, has_hold, keeps_off, SameTable, LocksKey, Uses, Holds, OfTable, HasKeyRoom, HasTableRoom};
 
 use crate::table::TableLocks;
 use ctr_model::Key;
@@ -74,7 +74,7 @@ impl SessionLocks {
     /// Takes room for a use and a hold of a name.
     pub fn make_name_room(&mut self, alloc: Global, name: &Name) -> Result<(), OutOfMemory>
         ensures same { OfTable name.now SameTable self.old self.new }
-        ensures room { OnOk result (HasNameRoom name.now self.new) }
+        ensures room { OnOk result (HasTableRoom name.now self.new) }
     {
         if self.tables.get(name).is_none() {
             self.tables
@@ -96,7 +96,7 @@ impl SessionLocks {
 
     /// Uses a table. It takes no memory.
     pub fn use_table(&mut self, name: &Name)
-        requires { HasNameRoom name.now self.old }
+        requires { HasTableRoom name.now self.old }
         ensures { OfTable name.now Uses self.old self.new }
     {
         let Some(table) = self.tables.get_mut(name) else {
@@ -107,7 +107,7 @@ impl SessionLocks {
 
     /// Holds a name. It takes no memory.
     pub fn hold(&mut self, name: &Name)
-        requires { HasNameRoom name.now self.old }
+        requires { HasTableRoom name.now self.old }
         ensures { OfTable name.now Holds self.old self.new }
     {
         let Some(table) = self.tables.get_mut(name) else {
