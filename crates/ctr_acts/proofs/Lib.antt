@@ -4,3 +4,4 @@ pub mod Replying
 pub mod Refusing
 pub mod Alike
 pub mod Showing
+pub mod Granting

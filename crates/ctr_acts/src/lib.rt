@@ -4,6 +4,7 @@
 
 mod acts;
 mod causes;
+mod locking;
 mod reading;
 
 pub use acts::Acts;

@@ -99,6 +99,7 @@ impl Engine {
         ensures store { self.new.store ≡ self.old.store }
         ensures value { IfOk result (λ x. x ≡ self.old.xids.next) }
         ensures refused { OnErr result (RoomKeeps (engine_of self.old) (engine_of self.new)) }
+        ensures stays { OnErr result (self.new.sessions ≡ self.old.sessions) }
     {
         let Some(session) = self.sessions.get(&s) else {
             return Err(OutOfMemory);
