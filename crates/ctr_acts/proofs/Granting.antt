@@ -1,10 +1,11 @@
 -- A Lock: room that is taken shows the state of before, and a lock that is free is granted.
-use Rattle.std.proofs.Common.{◌≡◌, inr, ℕ, ℤ, ◌==◌, ◌<◌, Bool, true, false, List, Option, Some, None, Result, Ok, Err, OnErr, refl, sym, ◌∙◌, ap, subst, arith}
+use Rattle.std.proofs.Common.{◌≡◌, inr, ℕ, ℤ, ◌==◌, ◌<◌, Bool, true, false, List, Option, Some, None, Result, Ok, Err, OnErr, IsErr, IfSome, refl, sym, ◌∙◌, ap, subst, arith}
 use Rattle.std.specs.Prelude.{is_some, is_none, not}
 use Rattle.std.specs.List.{AllByRecursion}
 use Rattle.std.specs.Ordering.{nat_cmp}
 use Rattle.std.specs.FinMap.Entries.{find, put}
-use Rattle.std.proofs.lemmas.Bool.{true≢false, eqb-true}
+use Rattle.std.proofs.lemmas.Bool.{true≢false, false≢true, eqb-true}
+use Rattle.ctr_types.specs.declared.memory.OutOfMemory.{OutOfMemory}
 use Rattle.ctr_types.specs.declared.statement.Statement.{Statement}
 use Rattle.ctr_types.specs.declared.tape.Act.TheVariants as act
 use Rattle.ctr_types.specs.declared.tape.Reply.{Reply}
@@ -30,7 +31,7 @@ use Rattle.ctr_sessions.specs.Sessions.{IsDrawnFor}
 use Rattle.ctr_sessions.specs.Steps.{LockShows, LockLeaves, RoomShows}
 use Rattle.ctr_acts.specs.Acts.{ActsHeld, begun_of, ShowsActs, ActReplies, ActKeeps}
 use Rattle.ctr_acts.specs.Seats.{RefusesAlike}
-use Rattle.ctr_acts.specs.Locking.{IsFreeFor, taken_by, SameEngine, DrawsOnce, MayLock, LockGrants, LockStays}
+use Rattle.ctr_acts.specs.Locking.{taken_reply, IsFreeFor, taken_by, SameEngine, DrawsOnce, MayLock, LockGrants, LockStays}
 use Rattle.ctr_acts.proofs.Ending.{session, here}
 use Rattle.ctr_acts.proofs.Replying.{replies_inside}
 use Rattle.ctr_acts.proofs.Showing.{somebody}
@@ -173,3 +174,12 @@ module _ (s : ℕ) (old new : ActsHeld) (entered : is_some (find nat_cmp s old.l
         let t = somebody s old entered low state shows in
         replies_short low new state s t.me t.at statement (alike low state t.me shows kept t.at (subst IsUnasked t.at ready.1))
         (stays low state t.me shows (may_lock low state shows kept ready t.me t.at))
+
+-- what a refused call answers
+pub short_reply : (r : Result (Unit {0}) OutOfMemory) → IsErr r → taken_reply r ≡ reply.Refused refusal.OutOfMemory
+short_reply (Ok u) is = absurd (false≢true is)
+short_reply (Err e) is = refl
+
+pub if_some : {A : Type 0} (o : Option A) (P : A → Type 0) → ((a : A) → o ≡ Some a → P a) → IfSome o P
+if_some None P each = tt
+if_some (Some a) P each = each a refl

@@ -1,7 +1,13 @@
 -- A Lock: what is free for it, what it takes, and what it leaves.
-use Rattle.std.specs.Prelude.{◌≡◌, ◌==◌, ℕ, ℤ, true, false, List, [], Option, Some, None, not}
+use Rattle.std.specs.Prelude.{◌≡◌, ◌==◌, ℕ, ℤ, true, false, List, [], Option, Some, None, Result, Ok, Err, not}
 use Rattle.std.specs.Ordering.{nat_cmp}
 use Rattle.std.specs.FinMap.Entries.{find}
+use Rattle.ctr_types.specs.declared.memory.OutOfMemory.{OutOfMemory}
+use Rattle.ctr_types.specs.declared.statement.Statement.{Statement}
+use Rattle.ctr_types.specs.declared.tape.Act.TheVariants as act
+use Rattle.ctr_types.specs.declared.tape.Refusal.TheVariants as refusal
+use Rattle.ctr_types.specs.declared.tape.Reply.{Reply}
+use Rattle.ctr_types.specs.declared.tape.Reply.TheVariants as reply
 use Rattle.ctr_model.specs.declared.state.State.{State}
 use Rattle.ctr_model.specs.declared.state.Transaction.{Transaction}
 use Rattle.ctr_model.specs.State.{transaction_of, with_transaction}
@@ -11,9 +17,20 @@ use Rattle.ctr_versions.specs.Versions.{names_at}
 use Rattle.ctr_versions.specs.Engine.{SessionHeld}
 use Rattle.ctr_versions.specs.Laws.{RoomKeeps}
 use Rattle.ctr_rows.specs.Running.{HeldEngine, engine_of}
-use Rattle.ctr_locks.specs.Held.{TableHeld, busy_in, locked_in, HasKeyRoomOf, HasTableRoomOf}
+use Rattle.ctr_locks.specs.Held.{TableHeld, busy_in, locked_in, IsEntered, HasKeyRoomOf, HasTableRoomOf}
 use Rattle.ctr_sessions.specs.Steps.{LockLeaves}
 use Rattle.ctr_acts.specs.Acts.{ActsHeld, ShowsActs}
+use Rattle.ctr_acts.specs.Seats.{RefusesAlike}
+
+-- what a Lock that nothing refuses is answered
+abbrev pub taken_reply : Result (Unit {0}) OutOfMemory → Reply
+taken_reply (Ok unit) = reply.Granted
+taken_reply (Err wanting) = reply.Refused refusal.OutOfMemory
+
+-- the session is in a transaction, and nothing refuses the statement's Lock
+pub record MayTake (s : ℕ) (statement : Statement) (h : ActsHeld) : Type 0 where
+  pub entered : IsEntered s h.locks
+  pub free : RefusesAlike s act.Lock statement h None
 
 -- no other session has the key's lock, or where there is no key holds or uses the name
 abbrev pub IsFreeFor : State → ℕ → List ℕ → Option ℤ → Type 0

@@ -1,19 +1,20 @@
 // A Lock: room is taken first, so that the lock itself, once a number is drawn, can't fail.
-ghost use Rattle.std.specs.Prelude.{◌≡◌, OnOk, OnErr, Some, None};
+ghost use Rattle.std.specs.Prelude.{◌≡◌, OnOk, OnErr, Some, None, IfSome};
 ghost use Rattle.ctr_types.specs.declared.tape.Act.TheVariants as act;
+ghost use Rattle.ctr_types.specs.declared.tape.Reply.TheVariants as reply;
 ghost use Rattle.ctr_model.specs.Reply.{with_lock};
 ghost use Rattle.ctr_locks.specs.Held.{IsEntered, SameEntered};
 ghost use Rattle.ctr_locks.specs.Shows.{LocksStay, GrantShows, held_found};
 ghost use Rattle.ctr_acts.specs.Acts.{ActKeeps};
-ghost use Rattle.ctr_acts.specs.Locking.{taken_by, HasLockRoom, SameEngine, DrawsOnce, Stays, LockGrants, LockStays};
+ghost use Rattle.ctr_acts.specs.Locking.{taken_by, taken_reply, MayTake, HasLockRoom, SameEngine, DrawsOnce, Stays, LockGrants, LockStays};
 
-use crate::acts::{Acts, refused};
+use crate::acts::Acts;
 use ctr_locks::{Held, Locks, locks_are_the_models};
 use ctr_model::Key;
 use ctr_rows::Engine;
 use ctr_sessions::{locks_and_reads_show, writes_show};
 use ctr_statement::{key_written, table_of};
-use ctr_types::{Act, Name, OutOfMemory, Plain, Refusal, Reply, Statement};
+use ctr_types::{Act, Name, OutOfMemory, Plain, Refusal, Statement};
 use std::alloc::Global;
 
 // Takes room for the lock of a key, or for the hold of a name.
@@ -103,41 +104,30 @@ fn draw_once(engine: &mut Engine, alloc: Global, s: u8) -> Result<(), OutOfMemor
 }
 
 impl Acts {
-    /// The first act of INSERT, UPDATE, DELETE, CREATE TABLE and DROP TABLE: the lock of the row's key with a use of
-    /// its table, or the hold of the table's name. It takes the memory that the write will want; where that is
-    /// refused, the session stays as it was.
-    pub fn lock(&mut self, alloc: Global, s: u8, statement: &Statement) -> Reply
-        ensures { ActKeeps s act.Lock statement.now self.old self.new result }
+    /// Why a Lock is refused, the first act of INSERT, UPDATE, DELETE, CREATE TABLE and DROP TABLE: the session is in
+    /// no transaction, or the first cause in their order. Where there is none, `take` grants it.
+    pub fn lock_refusal(&self, s: u8, statement: &Statement) -> Option<Refusal>
+        ensures denied { IfSome result (λ why. ActKeeps s act.Lock statement.now self.now self.now (reply.Refused why)) }
+        ensures granted { result ≡ None → MayTake s statement.now self.now }
     {
         if !self.locks.is_entered(s) {
-            return refused(Refusal::NoTransaction);
+            return Some(Refusal::NoTransaction);
         }
-        if let Some(why) = self.refusal(s, &Act::Lock, statement) {
-            return refused(why);
-        }
-        let Some(name) = table_of(statement) else {
-            return refused(Refusal::NoTable);
-        };
-        match self.take(alloc, s, name, &key_written(statement)) {
-            Ok(()) => Reply::Granted,
-            Err(_) => refused(Refusal::OutOfMemory),
-        }
+        self.refusal(s, &Act::Lock, statement)
     }
 
-    // A Lock that nothing refuses.
-    fn take(
-        &mut self,
-        alloc: Global,
-        s: u8,
-        name: &Name,
-        key: &Option<Key>,
-    ) -> Result<(), OutOfMemory>
-        requires { IsEntered s self.old.locks }
-        ensures grants { OnOk result (LockGrants s name.now key.now self.old self.new) }
-        ensures stays { OnErr result (LockStays s name.now key.now self.old self.new) }
+    /// A Lock that nothing refuses: of the row's key with a use of its table, or the hold of the table's name. It takes
+    /// the memory that the write will want; where that is refused, the session stays as it was.
+    pub fn take(&mut self, alloc: Global, s: u8, statement: &Statement) -> Result<(), OutOfMemory>
+        requires { MayTake s statement.now self.old }
+        ensures { ActKeeps s act.Lock statement.now self.old self.new (taken_reply result) }
     {
-        self.make_room(alloc, s, name, key)?;
-        self.grant(alloc, s, name, key)?;
+        let Some(name) = table_of(statement) else {
+            return Err(OutOfMemory);
+        };
+        let key = key_written(statement);
+        self.make_room(alloc, s, name, &key)?;
+        self.grant(alloc, s, name, &key)?;
         Ok(())
     }
 
