@@ -1,5 +1,5 @@
 -- Chains by key after one of them was written.
-use Rattle.std.proofs.Common.{◌≡◌, ℕ, true, false, cond, ◌<◌, T, List, [], ◌∷◌, map, Option, Some, None, refl, sym, ◌∙◌, ap, subst}
+use Rattle.std.proofs.Common.{◌≡◌, ℕ, true, false, cond, ◌<◌, ◌≤◌, arith, T, List, [], ◌∷◌, map, Option, Some, None, refl, sym, ◌∙◌, ap, subst}
 use Rattle.std.specs.Prelude.{unwrap_or, IsSome, is_some}
 use Rattle.std.proofs.lemmas.Bool.{false≢true}
 use Rattle.std.specs.declared.cmp.Ordering.{Ordering}
@@ -101,3 +101,10 @@ module _ {K V : Type 0} (R : K → K → Ordering) where
   -- what was found has the room that was taken
   pub room_kept : (held : List (K × KeptChain V)) (m : BTreeMap K (KeptChain V)) (key : K) → m.entries ≡ held → HasRoomFor R key held → (o : Option (KeptChain V)) → o ≡ get_by (R key) m → (v : KeptChain V) × (o ≡ Some v) × (0 < v.room)
   room_kept held m key view_is room o found = (room.kept, found ∙ lookup_is key m.entries ∙ ap (find R key) view_is ∙ room.there, room.room)
+
+  -- and has it still where it has no less of it
+  pub kept_through : (held : List (K × KeptChain V)) (old new : BTreeMap K (KeptChain V)) (key : K) (v w : KeptChain V) → old.entries ≡ held → Some v ≡ get_by (R key) old → WritesThrough R (R key) old w new → v.room ≤ w.room → HasRoomFor R key held → HasRoomFor R key new.entries
+  kept_through held old new key v w view_is found writes le room =
+      let there = room_kept held old key view_is room (Some v) found in
+      let had : 0 < v.room = subst (λ (k : KeptChain V). 0 < k.room) (sym (some_is v there.0 there.1)) there.2 in
+      room_found new key w (writes.3 (there_is _ v found)).1 (omega (arith, had, le))

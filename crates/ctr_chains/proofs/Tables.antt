@@ -1,13 +1,13 @@
 -- The versions that the tables stand for, after one chain was written.
-use Rattle.std.proofs.Common.{◌≡◌, ℕ, ℤ, ◌==◌, ◌≤◌, ◌<◌, arith, true, false, cond, T, List, [], map, Option, Some, None, refl, sym, ◌∙◌, ap, subst}
-use Rattle.std.specs.Prelude.{unwrap_or, is_some, ◌&&◌, ◌∷◌}
+use Rattle.std.proofs.Common.{Bool, ◌≡◌, ℕ, ℤ, ◌==◌, ◌≤◌, ◌<◌, arith, true, false, cond, T, List, [], map, Option, Some, None, refl, sym, ◌∙◌, ap, subst}
+use Rattle.std.specs.Prelude.{unwrap_or, ◌&&◌, ◌∷◌}
 use Rattle.std.specs.declared.cmp.Ordering.{Ordering}
 use Rattle.std.specs.declared.cmp.Ordering.TheVariants.{Less, Equal, Greater}
 use Rattle.std.specs.Option.{option_map}
 use Rattle.std.specs.Ordering.{is_eq, nat_cmp, int_cmp, int_eq, ordering_reverse}
 use Rattle.std.specs.Cmp.{int_cmp_total, unsigned_tied, signed_Decides}
 use Rattle.std.specs.Map.{lookup}
-use Rattle.std.specs.BTreeMap.{BTreeMap, is_at, get_by, IsOrdered, WritesThrough}
+use Rattle.std.specs.BTreeMap.{BTreeMap, is_at, get_by, IsOrdered, UpdatesBy, WritesThrough}
 use Rattle.std.specs.FinMap.Entries.{find, is_sorted}
 use Rattle.std.proofs.lemmas.Bool.{eqb-true, eq-eqb, ne_eqb, false≢true, and_parts}
 use Rattle.ctr_types.specs.declared.value.Row.{Row}
@@ -15,7 +15,7 @@ use Rattle.ctr_versions.specs.Listing.{chain_at}
 use Rattle.ctr_versions.specs.Versions.{Versions, slots_of, rows_of, is_slot, RowsSet}
 use Rattle.ctr_versions.proofs.Keys.{known}
 use Rattle.ctr_chains.specs.Kept.{KeptChain, chains_of, ChainSet, HasRoomFor, KeysStay}
-use Rattle.ctr_chains.specs.Stored.{HeldStore, held_store, versions_of, table_chains, IsStored, HasVersionRoom, RoomsStay}
+use Rattle.ctr_chains.specs.Stored.{HeldStore, held_store, versions_of, table_chains, IsStored, HasVersionRoom, RoomsStay, no_row, no_name}
 use Rattle.ctr_chains.specs.declared.store.Store.TheInside.{Inside}
 use Rattle.ctr_chains.proofs.Slots.{there_is, some_is}
 
@@ -56,6 +56,15 @@ swapped i id apart = ne_eqb id i (λ same. false≢true (sym apart ∙ eq-eqb i 
 pub id_apart : (id i : ℕ) → (i == id) ≡ false → is_at (nat_cmp id) i ≡ false
 id_apart id i apart = unsigned_tied id i ∙ swapped i id apart
 
+slot_apart : (id : ℕ) (key : ℤ) (i : ℕ) (k : ℤ) → i ≡ id → is_slot id key i k ≡ false → int_eq k key ≡ false
+slot_apart id key i k one apart = sym (ap (λ b. b && int_eq k key) (eq-eqb i id one)) ∙ apart
+
+-- where the other keys have the chains that they had, and the key has room if it had, each has
+keys_keep : (key : ℤ) (v w : Rows) → KeysStay int_cmp key v w → (HasRoomFor int_cmp key v → HasRoomFor int_cmp key w) → (k : ℤ) → HasRoomFor int_cmp k v → HasRoomFor int_cmp k w
+keys_keep key v w others own k room = known (int_eq k key)
+    (λ same. let one = (signed_Decides k key).0 same in subst (λ j. HasRoomFor int_cmp j w) (sym one) (own (subst (λ j. HasRoomFor int_cmp j v) one room)))
+    (λ apart. record { kept = room.kept; there = others k (flipped key k apart) ∙ room.there; room = room.room })
+
 module _ (h : HeldStore) (a : Inside) (view_is : held_store a ≡ h) (inv : IsStored a) (new : TableMap) (id : ℕ) (key : ℤ) where
   abbrev b : Inside
   b = record a { tables = new }
@@ -66,25 +75,21 @@ module _ (h : HeldStore) (a : Inside) (view_is : held_store a ≡ h) (inv : IsSt
   abbrev new_versions : Versions
   new_versions = versions_of (held_store b)
 
-  module _ (v w : Rows) (there : Some v ≡ get_by (nat_cmp id) a.tables) (writes : WritesThrough nat_cmp (nat_cmp id) a.tables w new) where
+  -- the rows of a table that is there, or of a new one, gave way to others
+  module _ (o : Option Rows) (w : Rows) (there : o ≡ get_by (nat_cmp id) a.tables) (updates : UpdatesBy nat_cmp (nat_cmp id) a.tables new (Some w)) where
     new_here : slots_of new_versions id ≡ chains_of w
-    new_here = slots_found (held_store b) new id (Some w) refl (sym ((writes.3 (there_is _ v there)).1))
+    new_here = slots_found (held_store b) new id (Some w) refl (sym updates.1)
 
-    old_here : slots_of old_versions id ≡ chains_of v
-    old_here = slots_found (held_store a) a.tables id (Some v) refl there
+    old_here : slots_of old_versions id ≡ rows_found o
+    old_here = slots_found (held_store a) a.tables id o refl there
 
     new_apart : (i : ℕ) → (i == id) ≡ false → slots_of new_versions i ≡ slots_of old_versions i
     new_apart i apart =
-        slots_found (held_store b) new i (get_by (nat_cmp i) a.tables) refl (sym ((writes.3 (there_is _ v there)).2 i (id_apart id i apart)))
+        slots_found (held_store b) new i (get_by (nat_cmp i) a.tables) refl (sym (updates.2 i (id_apart id i apart)))
         ∙ sym (slots_found (held_store a) a.tables i (get_by (nat_cmp i) a.tables) refl refl)
 
-    still_there : (i : ℕ) → is_some (find nat_cmp i a.tables.entries) ≡ true → is_some (find nat_cmp i new.entries) ≡ true
-    still_there i is = known (i == id)
-        (λ same. ap (λ j. is_some (find nat_cmp j new.entries)) (eqb-true i id same) ∙ ap is_some (sym (looked_up id new.entries) ∙ (writes.3 (there_is _ v there)).1))
-        (λ apart. ap is_some (sym (looked_up i new.entries) ∙ (writes.3 (there_is _ v there)).2 i (id_apart id i apart) ∙ looked_up i a.tables.entries) ∙ is)
-
     -- a table's chain was written
-    rows_written : (chain : List (ℕ × Option Row)) → ChainSet int_cmp (chains_of v) (chains_of w) key chain → RowsSet old_versions new_versions id key chain
+    rows_written : (chain : List (ℕ × Option Row)) → ChainSet int_cmp (rows_found o) (chains_of w) key chain → RowsSet old_versions new_versions id key chain
     rows_written chain set = record {
       names = refl;
       sorted = λ i. known (i == id)
@@ -98,33 +103,53 @@ module _ (h : HeldStore) (a : Inside) (view_is : held_store a ≡ h) (inv : IsSt
           (λ apart_. ap (chain_at int_cmp k) (new_apart i apart_));
     }
 
-    -- the room of other rows is as it was
-    rooms_held : KeysStay int_cmp key v w → RoomsStay id key (held_store a) (held_store b)
-    rooms_held others i k apart room = known (i == id)
-        (λ same. let one = eqb-true i id same in
-        let rows_are : room.rows ≡ v = some_is room.rows v (sym room.there ∙ ap (λ j. find nat_cmp j a.tables.entries) one ∙ sym (looked_up id a.tables.entries) ∙ sym there) in
-        record {
+    -- the room of a row is there, by what became of it in its table
+    room_updated : (i : ℕ) (k : ℤ) → ((rows : Rows) → i ≡ id → o ≡ Some rows → HasRoomFor int_cmp k rows → HasRoomFor int_cmp k w) → HasVersionRoom i k (held_store a) → HasVersionRoom i k (held_store b)
+    room_updated i k keeps room = known (i == id)
+        (λ same. let one = eqb-true i id same in record {
           made = room.made;
           rows = w;
-          there = ap (λ j. find nat_cmp j new.entries) one ∙ sym (looked_up id new.entries) ∙ (writes.3 (there_is _ v there)).1;
-          room = record { kept = room.room.kept; there = others k (flipped key k (sym (ap (λ b. b && int_eq k key) same) ∙ apart)) ∙ ap (find int_cmp k) (sym rows_are) ∙ room.room.there; room = room.room.room };
+          there = ap (λ j. find nat_cmp j new.entries) one ∙ sym (looked_up id new.entries) ∙ updates.1;
+          room = keeps room.rows one (there ∙ looked_up id a.tables.entries ∙ ap (λ j. find nat_cmp j a.tables.entries) (sym one) ∙ room.there) room.room;
         })
         (λ two. record {
           made = room.made;
           rows = room.rows;
-          there = sym (looked_up i new.entries) ∙ (writes.3 (there_is _ v there)).2 i (id_apart id i two) ∙ looked_up i a.tables.entries ∙ room.there;
+          there = sym (looked_up i new.entries) ∙ updates.2 i (id_apart id i two) ∙ looked_up i a.tables.entries ∙ room.there;
           room = room.room;
         })
 
-    pub rooms_through : KeysStay int_cmp key v w → RoomsStay id key h (held_store b)
-    rooms_through others = subst (λ (g : HeldStore). RoomsStay id key g (held_store b)) view_is (rooms_held others)
+    -- every room stays
+    pub all_rooms : ((k : ℤ) (rows : Rows) → o ≡ Some rows → HasRoomFor int_cmp k rows → HasRoomFor int_cmp k w) → RoomsStay no_row no_name h (held_store b)
+    all_rooms keeps = subst (λ (g : HeldStore). RoomsStay no_row no_name g (held_store b)) view_is (record { rows = λ i k none. room_updated i k (λ rows one is. keeps k rows is); names = λ name none room. room })
 
-    through : (f : List (ℕ × Option Row) → List (ℕ × Option Row)) → ChainSet int_cmp (chains_of v) (chains_of w) key (f (chain_at int_cmp key (chains_of v))) → RowsSet old_versions new_versions id key (f (rows_of old_versions id key))
-    through f set = subst (RowsSet old_versions new_versions id key) (ap (λ s. f (chain_at int_cmp key s)) (sym old_here)) (rows_written (f (chain_at int_cmp key (chains_of v))) set)
+    pub room_there : id < a.next → HasRoomFor int_cmp key w → HasVersionRoom id key (held_store b)
+    room_there lt room = record { made = lt; rows = w; there = sym (looked_up id new.entries) ∙ updates.1; room = room }
+
+    through : (f : List (ℕ × Option Row) → List (ℕ × Option Row)) → ChainSet int_cmp (rows_found o) (chains_of w) key (f (chain_at int_cmp key (rows_found o))) → RowsSet old_versions new_versions id key (f (rows_of old_versions id key))
+    through f set = subst (RowsSet old_versions new_versions id key) (ap (λ s. f (chain_at int_cmp key s)) (sym old_here)) (rows_written (f (chain_at int_cmp key (rows_found o))) set)
 
     -- the same, by what the store stood for
+    pub rows_updated : (f : List (ℕ × Option Row) → List (ℕ × Option Row)) → ChainSet int_cmp (rows_found o) (chains_of w) key (f (chain_at int_cmp key (rows_found o))) → RowsSet (versions_of h) new_versions id key (f (rows_of (versions_of h) id key))
+    rows_updated f set = subst (λ (g : HeldStore). RowsSet (versions_of g) new_versions id key (f (rows_of (versions_of g) id key))) view_is (through f set)
+
+  -- a chain was written in a table that is there
+  module _ (v w : Rows) (there : Some v ≡ get_by (nat_cmp id) a.tables) (writes : WritesThrough nat_cmp (nat_cmp id) a.tables w new) where
     pub rows_through : (f : List (ℕ × Option Row) → List (ℕ × Option Row)) → ChainSet int_cmp (chains_of v) (chains_of w) key (f (chain_at int_cmp key (chains_of v))) → RowsSet (versions_of h) new_versions id key (f (rows_of (versions_of h) id key))
-    rows_through f set = subst (λ (g : HeldStore). RowsSet (versions_of g) new_versions id key (f (rows_of (versions_of g) id key))) view_is (through f set)
+    rows_through f set = rows_updated (Some v) w there (writes.3 (there_is _ v there)) f set
+
+    -- the room of other rows is as it was
+    rooms_held : KeysStay int_cmp key v w → (i : ℕ) (k : ℤ) → is_slot id key i k ≡ false → HasVersionRoom i k (held_store a) → HasVersionRoom i k (held_store b)
+    rooms_held others i k apart = room_updated (Some v) w there (writes.3 (there_is _ v there)) i k (λ rows one is room.
+        let stays : find int_cmp k w ≡ find int_cmp k v = others k (flipped key k (slot_apart id key i k one apart)) in
+        record { kept = room.kept; there = stays ∙ ap (find int_cmp k) (some_is v rows is) ∙ room.there; room = room.room })
+
+    pub rooms_through : KeysStay int_cmp key v w → RoomsStay (is_slot id key) no_name h (held_store b)
+    rooms_through others = subst (λ (g : HeldStore). RoomsStay (is_slot id key) no_name g (held_store b)) view_is (record { rows = rooms_held others; names = λ name none room. room })
+
+    -- nor is the key's own used up
+    pub rooms_kept : KeysStay int_cmp key v w → (HasRoomFor int_cmp key v → HasRoomFor int_cmp key w) → RoomsStay no_row no_name h (held_store b)
+    rooms_kept others own = all_rooms (Some v) w there (writes.3 (there_is _ v there)) (λ k rows is room. keys_keep key v w others own k (subst (HasRoomFor int_cmp k) (sym (some_is v rows is)) room))
 
   none_set : (f : List (ℕ × Option Row) → List (ℕ × Option Row)) → f [] ≡ [] → new ≡ a.tables → None ≡ get_by (nat_cmp id) a.tables → RowsSet old_versions new_versions id key (f (rows_of old_versions id key))
   none_set f keeps same none =
@@ -137,9 +162,8 @@ module _ (h : HeldStore) (a : Inside) (view_is : held_store a ≡ h) (inv : IsSt
   rows_none f keeps same none = subst (λ (g : HeldStore). RowsSet (versions_of g) new_versions id key (f (rows_of (versions_of g) id key))) view_is (none_set f keeps same none)
 
   -- what the store keeps
-  pub kept_stored : (chain : List (ℕ × Option Row)) → RowsSet old_versions new_versions id key chain → IsOrdered nat_cmp new → ((i : ℕ) → is_some (find nat_cmp i a.tables.entries) ≡ true → is_some (find nat_cmp i new.entries) ≡ true) → (a.next ≤ id → chain ≡ []) → IsStored b
-  kept_stored chain set ordered still empty = record {
-    all = λ i lt. still i (inv.all i lt);
+  pub kept_stored : (chain : List (ℕ × Option Row)) → RowsSet old_versions new_versions id key chain → IsOrdered nat_cmp new → (a.next ≤ id → chain ≡ []) → IsStored b
+  kept_stored chain set ordered empty = record {
     tables = ordered;
     names_sorted = inv.names_sorted;
     sorted = set.sorted;
@@ -156,14 +180,19 @@ module _ (h : HeldStore) (a : Inside) (view_is : held_store a ≡ h) (inv : IsSt
   module _ (v w : Rows) (there : Some v ≡ get_by (nat_cmp id) a.tables) (writes : WritesThrough nat_cmp (nat_cmp id) a.tables w new) where
     -- a chain gave way to one that is empty where it was
     pub stored_through : (f : List (ℕ × Option Row) → List (ℕ × Option Row)) → f [] ≡ [] → ChainSet int_cmp (chains_of v) (chains_of w) key (f (chain_at int_cmp key (chains_of v))) → IsStored b
-    stored_through f keeps set = kept_stored (f (rows_of old_versions id key)) (through v w there writes f set) writes.4 (still_there v w there writes) (λ le. ap f (inv.unmade id key le) ∙ keeps)
+    stored_through f keeps set = kept_stored (f (rows_of old_versions id key)) (through (Some v) w there (writes.3 (there_is _ v there)) f set) writes.4 (λ le. ap f (inv.unmade id key le) ∙ keeps)
 
-    -- a row was written in a table that was made
-    pub stored_made : (f : List (ℕ × Option Row) → List (ℕ × Option Row)) → id < a.next → ChainSet int_cmp (chains_of v) (chains_of w) key (f (chain_at int_cmp key (chains_of v))) → IsStored b
-    stored_made f lt set = kept_stored (f (rows_of old_versions id key)) (through v w there writes f set) writes.4 (still_there v w there writes) (λ le. absurd (beyond le lt))
-      where
-        beyond : a.next ≤ id → id < a.next → ⊥
-        beyond le lt = omega (arith, le, lt)
+  -- a row was written in a table that was made
+  pub stored_made : (o : Option Rows) (w : Rows) → o ≡ get_by (nat_cmp id) a.tables → UpdatesBy nat_cmp (nat_cmp id) a.tables new (Some w) → IsOrdered nat_cmp new → (f : List (ℕ × Option Row) → List (ℕ × Option Row)) → id < a.next → ChainSet int_cmp (rows_found o) (chains_of w) key (f (chain_at int_cmp key (rows_found o))) → IsStored b
+  stored_made o w there updates ordered f lt set = kept_stored (f (rows_of old_versions id key)) (through o w there updates f set) ordered (λ le. absurd (beyond le lt))
+    where
+      beyond : a.next ≤ id → id < a.next → ⊥
+      beyond le lt = omega (arith, le, lt)
+
+-- nothing was written, as no table of the number is there
+pub rooms_none : (h : HeldStore) (a : Inside) → held_store a ≡ h → (new : TableMap) → new ≡ a.tables → (row : ℕ → ℤ → Bool) → RoomsStay row no_name h (held_store (record a { tables = new }))
+rooms_none h a view_is new same row = subst (λ (m : TableMap). RoomsStay row no_name h (held_store (record a { tables = m }))) (sym same)
+    (subst (λ (g : HeldStore). RoomsStay row no_name g (held_store a)) view_is (record { rows = λ id key none room. room; names = λ name none room. room }))
 
 -- what is read of a table
 pub row_found : (a : Inside) (id : ℕ) (key : ℤ) (o : Option Rows) → o ≡ get_by (nat_cmp id) a.tables → chain_at int_cmp key (rows_found o) ≡ rows_of (versions_of (held_store a)) id key
@@ -172,11 +201,3 @@ row_found a id key o found = ap (chain_at int_cmp key) (sym (slots_found (held_s
 -- the room that was taken is that of a table that is there
 pub room_rows : (h : HeldStore) (m : TableMap) (id : ℕ) (key : ℤ) → m.entries ≡ h.tables → HasVersionRoom id key h → (o : Option Rows) → o ≡ get_by (nat_cmp id) m → (r : Rows) × (o ≡ Some r) × HasRoomFor int_cmp key r
 room_rows h m id key same room o found = (room.rows, found ∙ looked_up id m.entries ∙ ap (find nat_cmp id) same ∙ room.there, room.room)
-
--- the table is there, since its number is below the next
-pub table_there : (a : Inside) → IsStored a → (id : ℕ) → id < a.next → None ≡ get_by (nat_cmp id) a.tables → ⊥
-table_there a inv id lt none = false≢true (ap is_some (none ∙ looked_up id a.tables.entries) ∙ inv.all id lt)
-
--- room is there after it was taken
-pub row_room : (a : Inside) (new : TableMap) (id : ℕ) (key : ℤ) (v w : Rows) → id < a.next → Some v ≡ get_by (nat_cmp id) a.tables → WritesThrough nat_cmp (nat_cmp id) a.tables w new → HasRoomFor int_cmp key w → HasVersionRoom id key (held_store (record a { tables = new }))
-row_room a new id key v w lt there writes room = record { made = lt; rows = w; there = sym (looked_up id new.entries) ∙ (writes.3 (there_is _ v there)).1; room = room }

@@ -1,12 +1,12 @@
 -- The tables that are kept in memory, and the versions that they stand for.
-use Rattle.std.specs.Prelude.{◌≡◌, ℕ, ◌<◌, ◌≤◌, ℤ, T, List, [], map, Option, Some, IfSome, is_some, true, false}
+use Rattle.std.specs.Prelude.{◌≡◌, ℕ, ◌<◌, ◌≤◌, ℤ, Bool, T, List, [], map, Option, Some, IfSome, false}
 use Rattle.std.specs.List.{AllByRecursion}
 use Rattle.std.specs.Ordering.{nat_cmp, int_cmp}
 use Rattle.std.specs.BTreeMap.{IsOrdered}
 use Rattle.std.specs.FinMap.Entries.{find, is_sorted}
 use Rattle.ctr_types.specs.declared.value.Row.{Row}
 use Rattle.ctr_model.specs.Database.{name_cmp}
-use Rattle.ctr_versions.specs.Versions.{Made, Versions, names_at, slots_of, rows_of, is_slot}
+use Rattle.ctr_versions.specs.Versions.{Made, Versions, names_at, slots_of, rows_of}
 use Rattle.ctr_chains.specs.Kept.{KeptChain, chains_of, HasRoomFor}
 use Rattle.ctr_chains.specs.declared.store.Store.TheInside.{Inside}
 
@@ -35,15 +35,24 @@ pub record HasVersionRoom (id : ℕ) (key : ℤ) (h : HeldStore) : Type 0 where
   pub there : find nat_cmp id h.tables ≡ Some rows
   pub room : HasRoomFor int_cmp key rows
 
--- the room of other rows stays
-abbrev pub RoomsStay : ℕ → ℤ → HeldStore → HeldStore → Type 0
-RoomsStay id key old new = (i : ℕ) (k : ℤ) → is_slot id key i k ≡ false → HasVersionRoom i k old
-    → HasVersionRoom i k new
+-- the name has room for one version more
+abbrev pub HasNameRoom : List ℕ → HeldStore → Type 0
+HasNameRoom name h = HasRoomFor name_cmp name h.names
 
--- the name has room for one version more, and there is a place for the rows of the next table
-pub record HasNameRoom (name : List ℕ) (h : HeldStore) : Type 0 where
-  pub named : HasRoomFor name_cmp name h.names
-  pub rows : is_some (find nat_cmp h.next h.tables) ≡ true
+-- Room that was taken is still there, but for the rows and the names that a test names.
+pub record RoomsStay (row : ℕ → ℤ → Bool) (named : List ℕ → Bool) (old new : HeldStore)
+    : Type 0 where
+  pub rows : (id : ℕ) (key : ℤ) → row id key ≡ false → HasVersionRoom id key old
+      → HasVersionRoom id key new
+  pub names : (name : List ℕ) → named name ≡ false → HasNameRoom name old → HasNameRoom name new
+
+-- no row
+abbrev pub no_row : ℕ → ℤ → Bool
+no_row id key = false
+
+-- no name
+abbrev pub no_name : List ℕ → Bool
+no_name name = false
 
 -- the table's number is below the next
 abbrev pub IsMadeBelow : ℕ → ℕ × Option Made → Type 0
@@ -54,7 +63,6 @@ pub record IsStored (a : Inside) : Type 0 where
   pub tables : IsOrdered nat_cmp a.tables
   pub names_sorted : T (is_sorted name_cmp (chains_of a.names))
   pub sorted : (id : ℕ) → T (is_sorted int_cmp (slots_of (versions_of (held_store a)) id))
-  pub all : (id : ℕ) → id < a.next → is_some (find nat_cmp id a.tables.entries) ≡ true
   pub unmade : (id : ℕ) (key : ℤ) → a.next ≤ id → rows_of (versions_of (held_store a)) id key ≡ []
   pub below : (name : List ℕ)
       → AllByRecursion (IsMadeBelow a.next) (names_at (versions_of (held_store a)) name)

@@ -55,6 +55,7 @@ impl<V> Chain<V> {
     pub fn make_room(&mut self) -> Result<(), OutOfMemory>
         ensures same { self.new.chain ≡ self.old.chain }
         ensures room { OnOk result (0 < self.new.room) }
+        ensures kept { self.old.room ≤ self.new.room }
     {
         self.versions.reserve(1)?;
         Ok(())

@@ -52,6 +52,7 @@ impl<K: Ord, V> Chains<K, V> {
         V: Drop,
         ensures same { ChainSet K.cmp (chains_of self.old) (chains_of self.new) key (chain_at K.cmp key (chains_of self.old)) }
         ensures room { OnOk result (HasRoomFor K.cmp key self.new) }
+        ensures kept { HasRoomFor K.cmp key self.old → HasRoomFor K.cmp key self.new }
         ensures others { KeysStay K.cmp key self.old self.new }
     {
         if let Some(chain) = self.chains.get_mut(&key) {
@@ -130,7 +131,8 @@ impl<K: Ord, V> Chains<K, V> {
     pub fn revert(&mut self, key: &K, xids: &Transactions)
     where
         V: Drop,
-        ensures { ChainSet K.cmp (chains_of self.old) (chains_of self.new) key.now (revert (number_of xids.now) (chain_at K.cmp key.now (chains_of self.old))) }
+        ensures set { ChainSet K.cmp (chains_of self.old) (chains_of self.new) key.now (revert (number_of xids.now) (chain_at K.cmp key.now (chains_of self.old))) }
+        ensures others { KeysStay K.cmp key.now self.old self.new }
     {
         let Some(chain) = self.chains.get_mut(key) else {
             return;
@@ -142,7 +144,8 @@ impl<K: Ord, V> Chains<K, V> {
     pub fn cut(&mut self, key: &K, xids: &Transactions, mark: Xid)
     where
         V: Drop,
-        ensures { ChainSet K.cmp (chains_of self.old) (chains_of self.new) key.now (cut (below_mark xids.now mark) (chain_at K.cmp key.now (chains_of self.old))) }
+        ensures set { ChainSet K.cmp (chains_of self.old) (chains_of self.new) key.now (cut (below_mark xids.now mark) (chain_at K.cmp key.now (chains_of self.old))) }
+        ensures others { KeysStay K.cmp key.now self.old self.new }
     {
         let Some(chain) = self.chains.get_mut(key) else {
             return;
@@ -155,7 +158,8 @@ impl<K: Ord, V> Chains<K, V> {
     where
         K: Drop,
         V: Drop,
-        ensures { ChainSet K.cmp (chains_of self.old) (chains_of self.new) key.now (without_tombstone (below_mark xids.now mark) (chain_at K.cmp key.now (chains_of self.old))) }
+        ensures set { ChainSet K.cmp (chains_of self.old) (chains_of self.new) key.now (without_tombstone (below_mark xids.now mark) (chain_at K.cmp key.now (chains_of self.old))) }
+        ensures others { KeysStay K.cmp key.now self.old self.new }
     {
         let Some(chain) = self.chains.get(key) else {
             return;
@@ -170,7 +174,8 @@ impl<K: Ord, V> Chains<K, V> {
     where
         K: Drop,
         V: Drop,
-        ensures { ChainSet K.cmp (chains_of self.old) (chains_of self.new) key.now [] }
+        ensures set { ChainSet K.cmp (chains_of self.old) (chains_of self.new) key.now [] }
+        ensures others { KeysStay K.cmp key.now self.old self.new }
     {
         self.chains.remove(key);
     }

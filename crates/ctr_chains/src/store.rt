@@ -1,15 +1,14 @@
 // Tables by name and rows by table and key, each with its chain.
-ghost use Rattle.std.specs.Prelude.{◌≡◌, ℕ, ◌+◌, ◌-◌, ◌<◌, ◌^◌, [], Some, None, is_some, true, IfSome, IfOk, OnOk, map, option_copied};
+ghost use Rattle.std.specs.Prelude.{◌≡◌, ◌+◌, ◌-◌, ◌<◌, ◌^◌, [], Some, None, IfSome, IfOk, OnOk, map, option_copied};
+ghost use Rattle.ctr_model.specs.State.{same_name};
 ghost use Rattle.ctr_versions.specs.Chains.{value_seen, newest};
 ghost use Rattle.ctr_versions.specs.Changes.{write, revert, cut, without_tombstone};
 ghost use Rattle.ctr_versions.specs.Heads.{open_head};
 ghost use Rattle.ctr_versions.specs.Listing.{entries_seen};
 ghost use Rattle.ctr_versions.specs.Xids.{number_of, below_mark};
-ghost use Rattle.ctr_versions.specs.Versions.{names_at, slots_of, rows_of, RowsSet, NamesSet, IsUnmadeTable};
+ghost use Rattle.ctr_versions.specs.Versions.{names_at, slots_of, rows_of, RowsSet, NamesSet, IsUnmadeTable, is_slot};
 ghost use Rattle.ctr_versions.specs.Engine.{session_sees};
-ghost use Rattle.std.specs.Ordering.{nat_cmp};
-ghost use Rattle.std.specs.FinMap.Entries.{find};
-ghost use Rattle.ctr_chains.specs.Stored.{versions_of, HasVersionRoom, RoomsStay, HasNameRoom};
+ghost use Rattle.ctr_chains.specs.Stored.{versions_of, HasVersionRoom, HasNameRoom, RoomsStay, no_row, no_name};
 
 use crate::chains::Chains;
 use crate::session::Session;
@@ -151,7 +150,7 @@ impl Store {
     )
         requires { HasVersionRoom id key self.old }
         ensures set { RowsSet (versions_of self.old) (versions_of self.new) id key (write (number_of xids.now) xid value (rows_of (versions_of self.old) id key)) }
-        ensures rooms { RoomsStay id key self.old self.new }
+        ensures rooms { RoomsStay (is_slot id key) no_name self.old self.new }
         ensures next { self.new.next ≡ self.old.next }
     {
         let Some(rows) = self.tables.get_mut(&id) else {
@@ -163,6 +162,7 @@ impl Store {
     /// A head of a key that isn't committed gives way to the next version.
     pub fn revert_row(&mut self, id: u64, key: Key, xids: &Transactions)
         ensures set { RowsSet (versions_of self.old) (versions_of self.new) id key (revert (number_of xids.now) (rows_of (versions_of self.old) id key)) }
+        ensures rooms { RoomsStay (is_slot id key) no_name self.old self.new }
         ensures next { self.new.next ≡ self.old.next }
     {
         let Some(rows) = self.tables.get_mut(&id) else {
@@ -174,6 +174,7 @@ impl Store {
     /// What stands behind a key's newest version that is committed and below the mark goes.
     pub fn cut_row(&mut self, id: u64, key: Key, xids: &Transactions, mark: Xid)
         ensures set { RowsSet (versions_of self.old) (versions_of self.new) id key (cut (below_mark xids.now mark) (rows_of (versions_of self.old) id key)) }
+        ensures rooms { RoomsStay (is_slot id key) no_name self.old self.new }
         ensures next { self.new.next ≡ self.old.next }
     {
         let Some(rows) = self.tables.get_mut(&id) else {
@@ -185,6 +186,7 @@ impl Store {
     /// A key goes whose newest version is a tombstone, committed and below the mark.
     pub fn free_row(&mut self, id: u64, key: Key, xids: &Transactions, mark: Xid)
         ensures set { RowsSet (versions_of self.old) (versions_of self.new) id key (without_tombstone (below_mark xids.now mark) (rows_of (versions_of self.old) id key)) }
+        ensures rooms { RoomsStay (is_slot id key) no_name self.old self.new }
         ensures next { self.new.next ≡ self.old.next }
     {
         let Some(rows) = self.tables.get_mut(&id) else {
@@ -196,6 +198,7 @@ impl Store {
     /// A key goes with all its versions.
     pub fn forget_row(&mut self, id: u64, key: Key)
         ensures set { RowsSet (versions_of self.old) (versions_of self.new) id key [] }
+        ensures rooms { RoomsStay (is_slot id key) no_name self.old self.new }
         ensures next { self.new.next ≡ self.old.next }
     {
         let Some(rows) = self.tables.get_mut(&id) else {
@@ -207,6 +210,7 @@ impl Store {
     /// A name goes with all its versions.
     pub fn forget_name(&mut self, name: &Name)
         ensures set { NamesSet (versions_of self.old) (versions_of self.new) name.now [] }
+        ensures rooms { RoomsStay no_row (same_name name.now) self.old self.new }
         ensures next { self.new.next ≡ self.old.next }
     {
         self.names.forget(name);
@@ -217,35 +221,27 @@ impl Store {
         requires { id < self.old.next }
         ensures same { RowsSet (versions_of self.old) (versions_of self.new) id key (rows_of (versions_of self.old) id key) }
         ensures room { OnOk result (HasVersionRoom id key self.new) }
-        ensures rooms { RoomsStay id key self.old self.new }
+        ensures rooms { RoomsStay no_row no_name self.old self.new }
         ensures next { self.new.next ≡ self.old.next }
     {
-        let Some(rows) = self.tables.get_mut(&id) else {
+        if let Some(rows) = self.tables.get_mut(&id) {
+            rows.make_room(alloc, key)?;
             return Ok(());
-        };
+        }
+        let mut rows = Chains::new(alloc);
         rows.make_room(alloc, key)?;
+        self.tables.insert(id, rows)?;
         Ok(())
     }
 
-    /// Takes room for one version more of a name, and for the rows of a table.
+    /// Takes room for one version more of a name.
     pub fn make_table_room(&mut self, alloc: Global, name: Name) -> Result<(), OutOfMemory>
         ensures same { NamesSet (versions_of self.old) (versions_of self.new) name (names_at (versions_of self.old) name) }
         ensures room { OnOk result (HasNameRoom name self.new) }
+        ensures rooms { RoomsStay no_row no_name self.old self.new }
         ensures next { self.new.next ≡ self.old.next }
     {
         self.names.make_room(alloc, name)?;
-        self.make_rows_room(alloc)?;
-        Ok(())
-    }
-
-    fn make_rows_room(&mut self, alloc: Global) -> Result<(), OutOfMemory>
-        ensures slots { (id : ℕ) → slots_of (versions_of self.new) id ≡ slots_of (versions_of self.old) id }
-        ensures room { OnOk result (is_some (find nat_cmp self.new.next self.new.tables) ≡ true) }
-        ensures same { (self.new.names ≡ self.old.names) × (self.new.next ≡ self.old.next) }
-    {
-        if !self.tables.contains_key(&self.next) {
-            self.tables.insert(self.next, Chains::new(alloc))?;
-        }
         Ok(())
     }
 
@@ -255,6 +251,7 @@ impl Store {
         requires few { self.old.next < 2 ^ 64 - 1 }
         ensures set { NamesSet (versions_of self.old) (versions_of self.new) name.now (write (number_of xids.now) xid (Some (record { id = result; schema = schema })) (names_at (versions_of self.old) name.now)) }
         ensures unmade { IsUnmadeTable result (versions_of self.old) }
+        ensures rooms { RoomsStay no_row (same_name name.now) self.old self.new }
         ensures next { (result ≡ self.old.next) × (self.new.next ≡ self.old.next + 1) }
     {
         let id = self.next;
@@ -267,6 +264,7 @@ impl Store {
     pub fn drop_table(&mut self, name: &Name, xids: &Transactions, xid: Xid)
         requires { HasNameRoom name.now self.old }
         ensures set { NamesSet (versions_of self.old) (versions_of self.new) name.now (write (number_of xids.now) xid None (names_at (versions_of self.old) name.now)) }
+        ensures rooms { RoomsStay no_row (same_name name.now) self.old self.new }
         ensures next { self.new.next ≡ self.old.next }
     {
         self.names.write(name, xids, xid, None);
@@ -275,6 +273,7 @@ impl Store {
     /// A head of a name that isn't committed gives way to the next version.
     pub fn revert_name(&mut self, name: &Name, xids: &Transactions)
         ensures set { NamesSet (versions_of self.old) (versions_of self.new) name.now (revert (number_of xids.now) (names_at (versions_of self.old) name.now)) }
+        ensures rooms { RoomsStay no_row (same_name name.now) self.old self.new }
         ensures next { self.new.next ≡ self.old.next }
     {
         self.names.revert(name, xids);
@@ -283,6 +282,7 @@ impl Store {
     /// What stands behind a name's newest version that is committed and below the mark goes.
     pub fn cut_name(&mut self, name: &Name, xids: &Transactions, mark: Xid)
         ensures set { NamesSet (versions_of self.old) (versions_of self.new) name.now (cut (below_mark xids.now mark) (names_at (versions_of self.old) name.now)) }
+        ensures rooms { RoomsStay no_row (same_name name.now) self.old self.new }
         ensures next { self.new.next ≡ self.old.next }
     {
         self.names.cut(name, xids, mark);
@@ -291,6 +291,7 @@ impl Store {
     /// A name goes whose newest version is a tombstone, committed and below the mark.
     pub fn free_name(&mut self, name: &Name, xids: &Transactions, mark: Xid)
         ensures set { NamesSet (versions_of self.old) (versions_of self.new) name.now (without_tombstone (below_mark xids.now mark) (names_at (versions_of self.old) name.now)) }
+        ensures rooms { RoomsStay no_row (same_name name.now) self.old self.new }
         ensures next { self.new.next ≡ self.old.next }
     {
         self.names.free(name, xids, mark);

@@ -108,3 +108,7 @@ module _ (old mid new : Counts) (from to : Option ℕ) (lowered : CountSet from 
               pick true false at at' = down_one (find nat_cmp x old)
               pick false true at at' = up_one (find nat_cmp x old) (has_one x to old has_ (is' ∙ at'))
               pick false false at at' = refl
+
+pub none_of : {X : Type 0} (x : Option X) → false ≡ is_some x → None ≡ x
+none_of None is = refl
+none_of (Some x) is = absurd (false≢true is)

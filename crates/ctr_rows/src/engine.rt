@@ -1,19 +1,19 @@
 // The engine: each call leaves what its step says, and keeps that the engine shows the model's state.
-ghost use Rattle.std.specs.Prelude.{◌≡◌, ◌==◌, ◌&&◌, not, nat_lt, if◌then◌else◌, ◌<◌, ◌^◌, ℕ, true, false, length, [], Some, None, List, ◌-◌, IfOk, OnOk, OnErr, IfSome, map, option_copied};
+ghost use Rattle.std.specs.Prelude.{◌≡◌, ◌==◌, ◌&&◌, not, nat_lt, if◌then◌else◌, ◌<◌, ◌+◌, ◌^◌, ℕ, true, false, length, [], Some, None, List, ◌-◌, IfOk, OnOk, OnErr, IfSome, map, option_copied};
 ghost use Rattle.std.specs.Ordering.{nat_cmp};
 ghost use Rattle.std.specs.FinMap.Entries.{find};
-ghost use Rattle.ctr_model.specs.State.{at_rest};
+ghost use Rattle.ctr_model.specs.State.{at_rest, same_name};
 ghost use Rattle.ctr_versions.specs.Chains.{value_seen, newest};
 ghost use Rattle.ctr_versions.specs.Changes.{write, revert, cut, without_tombstone};
 ghost use Rattle.ctr_versions.specs.Xids.{number_of, below_mark};
 ghost use Rattle.ctr_versions.specs.Listing.{entries_seen};
-ghost use Rattle.ctr_versions.specs.Versions.{names_at, slots_of, rows_of};
+ghost use Rattle.ctr_versions.specs.Versions.{names_at, slots_of, rows_of, is_slot};
 ghost use Rattle.ctr_versions.specs.Engine.{SessionHeld, ShowsState};
 ghost use Rattle.ctr_versions.specs.Steps.{engine_begun, engine_drawn, engine_asked, engine_ended, engine_answered, engine_rolled_back, engine_forgotten};
 ghost use Rattle.ctr_versions.specs.Heads.{IsCountOf, open_head};
 ghost use Rattle.ctr_versions.specs.Laws.{me_of, IsOpenWriter, SetsRow, SetsName, BeginKeeps, DrawKeeps, RowKeeps, NameKeeps, AskKeeps, AnswerKeeps, EndKeeps, RollbackKeeps, CleaningKeeps, RevertKeeps, RoomKeeps, NameRevertKeeps, DeadKeeps, sees_of, mark_of, sessions_named};
 ghost use Rattle.ctr_snap.specs.Seeing.{has, least};
-ghost use Rattle.ctr_chains.specs.Stored.{versions_of, HasVersionRoom, RoomsStay, HasNameRoom};
+ghost use Rattle.ctr_chains.specs.Stored.{versions_of, HasVersionRoom, HasNameRoom, RoomsStay, no_row, no_name};
 ghost use Rattle.ctr_rows.specs.Running.{engine_of, Runs};
 ghost use Rattle.ctr_rows.specs.Counted.{count_of};
 
@@ -127,8 +127,9 @@ impl Engine {
         requires { id < self.old.store.next }
         ensures leaves { SetsRow (engine_of self.old) (engine_of self.new) id key (rows_of (engine_of self.old).versions id key) }
         ensures room { OnOk result (HasVersionRoom id key self.new.store) }
-        ensures rooms { RoomsStay id key self.old.store self.new.store }
         ensures keeps { RoomKeeps (engine_of self.old) (engine_of self.new) }
+        ensures rooms { RoomsStay no_row no_name self.old.store self.new.store }
+        ensures next { self.new.store.next ≡ self.old.store.next }
     {
         self.store.make_row_room(alloc, id, key)?;
         Ok(())
@@ -139,6 +140,8 @@ impl Engine {
         ensures leaves { SetsName (engine_of self.old) (engine_of self.new) name (names_at (engine_of self.old).versions name) }
         ensures room { OnOk result (HasNameRoom name self.new.store) }
         ensures keeps { RoomKeeps (engine_of self.old) (engine_of self.new) }
+        ensures rooms { RoomsStay no_row no_name self.old.store self.new.store }
+        ensures next { self.new.store.next ≡ self.old.store.next }
     {
         self.store.make_table_room(alloc, name)?;
         Ok(())
@@ -150,7 +153,8 @@ impl Engine {
         requires room { HasVersionRoom id key self.old.store }
         ensures leaves { SetsRow (engine_of self.old) (engine_of self.new) id key (write (number_of self.old.xids) (me_of s (engine_of self.old)) value (rows_of (engine_of self.old).versions id key)) }
         ensures keeps { RowKeeps s id key value (engine_of self.old) (engine_of self.new) }
-        ensures rooms { RoomsStay id key self.old.store self.new.store }
+        ensures rooms { RoomsStay (is_slot id key) no_name self.old.store self.new.store }
+        ensures next { self.new.store.next ≡ self.old.store.next }
     {
         let me = self.me(s);
         let over = self.store.row_head(id, key, &self.xids);
@@ -165,6 +169,8 @@ impl Engine {
         requires few { self.old.store.next < 2 ^ 64 - 1 }
         ensures leaves { SetsName (engine_of self.old) (engine_of self.new) name.now (write (number_of self.old.xids) (me_of s (engine_of self.old)) (Some (record { id = result; schema = schema })) (names_at (engine_of self.old).versions name.now)) }
         ensures keeps { NameKeeps s name.now (Some (record { id = result; schema = schema })) (engine_of self.old) (engine_of self.new) }
+        ensures rooms { RoomsStay no_row (same_name name.now) self.old.store self.new.store }
+        ensures next { self.new.store.next ≡ self.old.store.next + 1 }
     {
         let me = self.me(s);
         let over = self.store.name_head(name, &self.xids);
@@ -179,6 +185,8 @@ impl Engine {
         requires room { HasNameRoom name.now self.old.store }
         ensures leaves { SetsName (engine_of self.old) (engine_of self.new) name.now (write (number_of self.old.xids) (me_of s (engine_of self.old)) None (names_at (engine_of self.old).versions name.now)) }
         ensures keeps { NameKeeps s name.now None (engine_of self.old) (engine_of self.new) }
+        ensures rooms { RoomsStay no_row (same_name name.now) self.old.store self.new.store }
+        ensures next { self.new.store.next ≡ self.old.store.next }
     {
         let me = self.me(s);
         let over = self.store.name_head(name, &self.xids);
@@ -237,6 +245,7 @@ impl Engine {
     pub fn revert_row(&mut self, id: u64, key: Key)
         ensures leaves { SetsRow (engine_of self.old) (engine_of self.new) id key (revert (number_of self.old.xids) (rows_of (engine_of self.old).versions id key)) }
         ensures keeps { RevertKeeps id key (engine_of self.old) (engine_of self.new) }
+        ensures rooms { RoomsStay (is_slot id key) no_name self.old.store self.new.store }
     {
         let over = self.store.row_head(id, key, &self.xids);
         self.store.revert_row(id, key, &self.xids);
@@ -247,6 +256,7 @@ impl Engine {
     pub fn cut_row(&mut self, id: u64, key: Key)
         ensures leaves { SetsRow (engine_of self.old) (engine_of self.new) id key (cut (below_mark self.old.xids (mark_of (engine_of self.old))) (rows_of (engine_of self.old).versions id key)) }
         ensures keeps { CleaningKeeps (engine_of self.old) (engine_of self.new) }
+        ensures rooms { RoomsStay (is_slot id key) no_name self.old.store self.new.store }
     {
         let mark = self.mark();
         self.store.cut_row(id, key, &self.xids, mark);
@@ -256,6 +266,7 @@ impl Engine {
     pub fn free_row(&mut self, id: u64, key: Key)
         ensures leaves { SetsRow (engine_of self.old) (engine_of self.new) id key (without_tombstone (below_mark self.old.xids (mark_of (engine_of self.old))) (rows_of (engine_of self.old).versions id key)) }
         ensures keeps { CleaningKeeps (engine_of self.old) (engine_of self.new) }
+        ensures rooms { RoomsStay (is_slot id key) no_name self.old.store self.new.store }
     {
         let mark = self.mark();
         self.store.free_row(id, key, &self.xids, mark);
@@ -266,6 +277,7 @@ impl Engine {
     pub fn revert_name(&mut self, name: &Name)
         ensures leaves { SetsName (engine_of self.old) (engine_of self.new) name.now (revert (number_of self.old.xids) (names_at (engine_of self.old).versions name.now)) }
         ensures keeps { NameRevertKeeps name.now (engine_of self.old) (engine_of self.new) }
+        ensures rooms { RoomsStay no_row (same_name name.now) self.old.store self.new.store }
     {
         let over = self.store.name_head(name, &self.xids);
         self.store.revert_name(name, &self.xids);
@@ -277,6 +289,7 @@ impl Engine {
     pub fn end_row(&mut self, id: u64, key: Key)
         ensures leaves { SetsRow (engine_of self.old) (engine_of self.new) id key [] }
         ensures keeps { DeadKeeps id key (engine_of self.old) (engine_of self.new) }
+        ensures rooms { RoomsStay (is_slot id key) no_name self.old.store self.new.store }
     {
         let over = self.store.row_head(id, key, &self.xids);
         self.store.forget_row(id, key);
@@ -287,6 +300,7 @@ impl Engine {
     pub fn cut_name(&mut self, name: &Name)
         ensures leaves { SetsName (engine_of self.old) (engine_of self.new) name.now (cut (below_mark self.old.xids (mark_of (engine_of self.old))) (names_at (engine_of self.old).versions name.now)) }
         ensures keeps { CleaningKeeps (engine_of self.old) (engine_of self.new) }
+        ensures rooms { RoomsStay no_row (same_name name.now) self.old.store self.new.store }
     {
         let mark = self.mark();
         self.store.cut_name(name, &self.xids, mark);
@@ -296,6 +310,7 @@ impl Engine {
     pub fn free_name(&mut self, name: &Name)
         ensures leaves { SetsName (engine_of self.old) (engine_of self.new) name.now (without_tombstone (below_mark self.old.xids (mark_of (engine_of self.old))) (names_at (engine_of self.old).versions name.now)) }
         ensures keeps { CleaningKeeps (engine_of self.old) (engine_of self.new) }
+        ensures rooms { RoomsStay no_row (same_name name.now) self.old.store self.new.store }
     {
         let mark = self.mark();
         self.store.free_name(name, &self.xids, mark);

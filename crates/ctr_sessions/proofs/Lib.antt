@@ -4,3 +4,4 @@ pub mod Answers
 pub mod Writes
 pub mod Steps
 pub mod Cleaning
+pub mod Views

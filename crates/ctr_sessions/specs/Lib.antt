@@ -3,3 +3,4 @@ pub mod Answers
 pub mod Laws
 pub mod Steps
 pub mod Cleaning
+pub mod Views

@@ -1,6 +1,7 @@
 // What an engine answers. A call does nothing: what it ensures is the law.
 ghost use Rattle.ctr_sessions.specs.Laws.{RefusalsAreTheModels, RowsAreTheViews, WritesAreRefusedAlike, WritesAreOneChange, LocksKeepKeys, HoldsKeepNames, ChangedTablesAreAlone};
 ghost use Rattle.ctr_sessions.specs.Steps.{BeginShows, LockShows, ReadShows, RowShows, NameShows, RoomShows, AskShows, AnswerShows, EndShows, RollbackShows};
+ghost use Rattle.ctr_sessions.specs.Views.{ViewsStay, DrawsSeeAlike};
 ghost use Rattle.ctr_sessions.specs.Cleaning.{FreeRowsAreNobodys, FreeNamesAreNobodys};
 
 /// A Lock and a Read are refused exactly where the model refuses them, for the same cause, by what the
@@ -56,4 +57,11 @@ pub fn ends_show()
 pub fn what_is_free_is_nobodys()
     ensures rows { FreeRowsAreNobodys }
     ensures names { FreeNamesAreNobodys }
+{}
+
+/// Whatever a session does but write, each other session in a transaction sees the versions that it saw; and so does
+/// a session that draws its number.
+pub fn views_stay()
+    ensures others { ViewsStay }
+    ensures own { DrawsSeeAlike }
 {}

@@ -7,5 +7,5 @@ mod laws;
 
 pub use laws::{
     ends_show, locks_and_reads_show, locks_keep_others_off, refusals_are_the_models,
-    rows_are_the_views, what_is_free_is_nobodys, writes_are_the_models, writes_show,
+    rows_are_the_views, views_stay, what_is_free_is_nobodys, writes_are_the_models, writes_show,
 };

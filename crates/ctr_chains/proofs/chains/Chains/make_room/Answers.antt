@@ -1,6 +1,6 @@
 use Rattle.std.proofs.Common.{Some, None, refl, ◌∙◌, ap, subst}
 use Rattle.std.specs.BTreeMap.{BTreeMap, UpdatesBy}
-use Rattle.ctr_chains.proofs.Slots.{set_kept, set_through, set_updated, others_updated, others_through, room_found, there_is}
+use Rattle.ctr_chains.proofs.Slots.{set_kept, set_through, set_updated, others_updated, others_through, room_found, kept_through, there_is}
 use Rattle.ctr_chains.proofs.chains.Chains.make_room.Goals as goal
 
 pub returns-in-Some-clause-same : goal.returns-in-Some-clause-same
@@ -31,3 +31,9 @@ returns-in_err-make_room-clause-others g c = others_through g.K.Ord.cmp c.args.s
 pub returns-clause-others : goal.returns-clause-others
 returns-clause-others g c = others_updated g.K.Ord.cmp c.args.self.now c.self.inside.chains c.insert.new.self c.args.key (Some c.make_room-2.new.self) c.self.view_is
     (subst (λ m. UpdatesBy g.K.Ord.cmp (g.K.Ord.cmp c.args.key) m c.insert.new.self (Some c.make_room-2.new.self)) c.get_mut.follows.holds-at-none c.in_ok-insert.ensures.updates)
+
+pub returns-in_err-make_room-clause-kept : goal.returns-in_err-make_room-clause-kept
+returns-in_err-make_room-clause-kept g c = kept_through g.K.Ord.cmp c.args.self.now c.self.inside.chains (c.get_mut.follows.lender c.make_room.new.self) c.args.key c.in-Some.chain.now c.make_room.new.self c.self.view_is c.in-Some.ensures.value (c.get_mut.follows.holds c.make_room.new.self) c.make_room.ensures.kept
+
+pub returns-in-Some-clause-kept : goal.returns-in-Some-clause-kept
+returns-in-Some-clause-kept g c = kept_through g.K.Ord.cmp c.args.self.now c.self.inside.chains (c.get_mut.follows.lender c.make_room.new.self) c.args.key c.in-Some.chain.now c.make_room.new.self c.self.view_is c.in-Some.ensures.value (c.get_mut.follows.holds c.make_room.new.self) c.make_room.ensures.kept

@@ -1,13 +1,16 @@
 use Rattle.std.proofs.Common.{None, arith}
 use Rattle.ctr_versions.specs.Changes.{write}
 use Rattle.ctr_versions.specs.Xids.{number_of}
-use Rattle.ctr_chains.proofs.Named.{names_through, stored_names, write_below}
+use Rattle.ctr_chains.proofs.Named.{names_through, other_rooms, stored_names, write_below}
 use Rattle.ctr_versions.specs.Versions.{names_at}
 use Rattle.ctr_chains.specs.Stored.{held_store, versions_of}
 use Rattle.ctr_chains.proofs.store.Store.drop_table.Goals as goal
 
 pub invariant_of-self : goal.invariant_of-self
-invariant_of-self c = stored_names c.args.self.now c.self.inside c.self.view_is c.self.invariant c.write.new.self c.self.inside.next c.args.name.now (write (number_of c.args.xids.now) c.args.xid None) c.write.ensures.set (omega arith) c.self.invariant.all (write_below c.self.inside.next (number_of c.args.xids.now) c.args.xid None (names_at (versions_of (held_store c.self.inside)) c.args.name.now) tt (c.self.invariant.below c.args.name.now)) c.self.invariant.below
+invariant_of-self c = stored_names c.args.self.now c.self.inside c.self.view_is c.self.invariant c.write.new.self c.self.inside.next c.args.name.now (write (number_of c.args.xids.now) c.args.xid None) c.write.ensures.set (omega arith) (write_below c.self.inside.next (number_of c.args.xids.now) c.args.xid None (names_at (versions_of (held_store c.self.inside)) c.args.name.now) tt (c.self.invariant.below c.args.name.now)) c.self.invariant.below
 
 pub returns-clause-set : goal.returns-clause-set
 returns-clause-set c = names_through c.args.self.now c.self.inside c.self.view_is c.self.invariant c.write.new.self c.self.inside.next c.args.name.now (write (number_of c.args.xids.now) c.args.xid None) c.write.ensures.set
+
+pub returns-clause-rooms : goal.returns-clause-rooms
+returns-clause-rooms c = other_rooms c.args.self.now c.self.inside c.self.view_is c.self.invariant c.write.new.self c.self.inside.next c.args.name.now (write (number_of c.args.xids.now) c.args.xid None) c.write.ensures.set (omega arith) c.write.ensures.others

@@ -2,13 +2,16 @@ use Rattle.std.proofs.Common.{arith}
 use Rattle.ctr_versions.specs.Changes.{without_tombstone}
 use Rattle.ctr_versions.specs.Xids.{below_mark}
 use Rattle.ctr_versions.proofs.Changes.{freed_all}
-use Rattle.ctr_chains.proofs.Named.{names_through, stored_names}
+use Rattle.ctr_chains.proofs.Named.{names_through, other_rooms, stored_names}
 use Rattle.ctr_versions.specs.Versions.{names_at}
 use Rattle.ctr_chains.specs.Stored.{held_store, versions_of, IsMadeBelow}
 use Rattle.ctr_chains.proofs.store.Store.free_name.Goals as goal
 
 pub invariant_of-self : goal.invariant_of-self
-invariant_of-self c = stored_names c.args.self.now c.self.inside c.self.view_is c.self.invariant c.free.new.self c.self.inside.next c.args.name.now (without_tombstone (below_mark c.args.xids.now c.args.mark)) c.free.ensures (omega arith) c.self.invariant.all (freed_all (IsMadeBelow c.self.inside.next) (below_mark c.args.xids.now c.args.mark) (names_at (versions_of (held_store c.self.inside)) c.args.name.now) (c.self.invariant.below c.args.name.now)) c.self.invariant.below
+invariant_of-self c = stored_names c.args.self.now c.self.inside c.self.view_is c.self.invariant c.free.new.self c.self.inside.next c.args.name.now (without_tombstone (below_mark c.args.xids.now c.args.mark)) c.free.ensures.set (omega arith) (freed_all (IsMadeBelow c.self.inside.next) (below_mark c.args.xids.now c.args.mark) (names_at (versions_of (held_store c.self.inside)) c.args.name.now) (c.self.invariant.below c.args.name.now)) c.self.invariant.below
 
 pub returns-clause-set : goal.returns-clause-set
-returns-clause-set c = names_through c.args.self.now c.self.inside c.self.view_is c.self.invariant c.free.new.self c.self.inside.next c.args.name.now (without_tombstone (below_mark c.args.xids.now c.args.mark)) c.free.ensures
+returns-clause-set c = names_through c.args.self.now c.self.inside c.self.view_is c.self.invariant c.free.new.self c.self.inside.next c.args.name.now (without_tombstone (below_mark c.args.xids.now c.args.mark)) c.free.ensures.set
+
+pub returns-clause-rooms : goal.returns-clause-rooms
+returns-clause-rooms c = other_rooms c.args.self.now c.self.inside c.self.view_is c.self.invariant c.free.new.self c.self.inside.next c.args.name.now (without_tombstone (below_mark c.args.xids.now c.args.mark)) c.free.ensures.set (omega arith) c.free.ensures.others

@@ -5,7 +5,7 @@ use Rattle.ctr_versions.specs.Changes.{write}
 use Rattle.ctr_versions.specs.Xids.{number_of}
 use Rattle.ctr_chains.specs.Kept.{HasRoomFor}
 use Rattle.ctr_chains.specs.Stored.{HeldStore}
-use Rattle.ctr_chains.proofs.Slots.{none_some, some_is}
+use Rattle.ctr_chains.proofs.Slots.{there_is, none_some, some_is}
 use Rattle.ctr_chains.proofs.Tables.{room_rows, rows_through, rooms_through, stored_made}
 use Rattle.ctr_chains.proofs.store.Store.write_row.Goals as goal
 
@@ -17,7 +17,7 @@ write-requires c = let there = room_rows c.args.self.now c.self.inside.tables c.
     subst (HasRoomFor int_cmp c.args.key) (sym (some_is c.in-Some.rows.now there.0 there.1)) there.2
 
 pub invariant_of-self-2 : goal.invariant_of-self-2
-invariant_of-self-2 c = stored_made c.args.self.now c.self.inside c.self.view_is c.self.invariant (c.get_mut.follows.lender c.write.new.self) c.args.id c.args.key c.in-Some.rows.now c.write.new.self c.in-Some.ensures.value (c.get_mut.follows.holds c.write.new.self) (write (number_of c.args.xids.now) c.args.xid c.args.value) (subst (λ (h : HeldStore). c.args.id < h.next) (sym c.self.view_is) c.requires.made) c.write.ensures.set
+invariant_of-self-2 c = stored_made c.args.self.now c.self.inside c.self.view_is c.self.invariant (c.get_mut.follows.lender c.write.new.self) c.args.id c.args.key (Some c.in-Some.rows.now) c.write.new.self c.in-Some.ensures.value ((c.get_mut.follows.holds c.write.new.self).3 (there_is _ c.in-Some.rows.now c.in-Some.ensures.value)) (c.get_mut.follows.holds c.write.new.self).4 (write (number_of c.args.xids.now) c.args.xid c.args.value) (subst (λ (h : HeldStore). c.args.id < h.next) (sym c.self.view_is) c.requires.made) c.write.ensures.set
 
 pub returns-clause-set : goal.returns-clause-set
 returns-clause-set c = rows_through c.args.self.now c.self.inside c.self.view_is c.self.invariant (c.get_mut.follows.lender c.write.new.self) c.args.id c.args.key c.in-Some.rows.now c.write.new.self c.in-Some.ensures.value (c.get_mut.follows.holds c.write.new.self) (write (number_of c.args.xids.now) c.args.xid c.args.value) c.write.ensures.set

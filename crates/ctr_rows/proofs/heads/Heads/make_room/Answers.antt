@@ -1,7 +1,6 @@
 use Rattle.std.proofs.Common.{sym, ◌∙◌, ap, is_some}
 use Rattle.std.specs.Ordering.{nat_cmp}
-use Rattle.ctr_rows.proofs.Counts.{count_found, room_same, room_kept}
-use Rattle.ctr_chains.proofs.Named.{none_of}
+use Rattle.ctr_rows.proofs.Counts.{count_found, room_same, room_kept, none_of}
 use Rattle.std.specs.BTreeMap.{get_by}
 use Rattle.std.proofs.Common.{refl}
 use Rattle.ctr_rows.proofs.heads.Heads.make_room.Goals as goal
