@@ -3,5 +3,7 @@
 #![tactic(auto)]
 
 mod laws;
+mod record;
 
 pub use laws::{commits_fold, records_are_gathered};
+pub use record::Gathered;
