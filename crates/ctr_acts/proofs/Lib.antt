@@ -4,3 +4,5 @@ pub mod Replying
 pub mod Refusing
 pub mod Alike
 pub mod Showing
+pub mod Others
+pub mod Doing

@@ -4,6 +4,9 @@
 
 mod acts;
 mod causes;
+mod prepared;
 mod reading;
+mod writing;
 
 pub use acts::Acts;
+pub use prepared::{Prepared, prepare};
