@@ -5,3 +5,5 @@ pub mod Refusing
 pub mod Alike
 pub mod Showing
 pub mod Granting
+pub mod Others
+pub mod Doing

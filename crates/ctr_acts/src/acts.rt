@@ -1,5 +1,5 @@
 // Sessions at work: each act with its reply.
-ghost use Rattle.std.specs.Prelude.{◌≡◌, ◌+◌, ◌<◌, length, [], List, ℕ, Option, OnOk, OnErr, IfOk};
+ghost use Rattle.std.specs.Prelude.{◌≡◌, ◌+◌, ◌-◌, ◌<◌, ◌≤◌, ◌^◌, length, [], List, ℕ, Option, OnOk, OnErr, IfOk};
 ghost use Rattle.ctr_types.specs.declared.statement.KeyIs.{KeyIs as HeldKeyIs};
 ghost use Rattle.ctr_types.specs.declared.statement.Statement.TheVariants as st;
 ghost use Rattle.ctr_types.specs.declared.tape.Act.TheVariants as act;
@@ -9,15 +9,18 @@ ghost use Rattle.ctr_rows.specs.Running.{engine_of};
 ghost use Rattle.ctr_acts.specs.Acts.{ActKeeps, Starts, ActsStay, Leaves, RollsBack, IsMarked, Asks};
 ghost use Rattle.ctr_locks.specs.Held.{IsEntered};
 ghost use Rattle.ctr_acts.specs.Seats.{RefusesAlike, Reads, ReadsNot};
+ghost use Rattle.ctr_acts.specs.Writing.{CanWrite, OthersCan, OthersCanWrite};
 
 use crate::causes::causes;
+use crate::prepared::Prepared;
 use crate::reading::rows_under;
+use crate::writing::done;
 use ctr_locks::{Locks, locks_are_the_models};
 use ctr_model::Map;
 use ctr_rows::Engine;
 use ctr_sessions::{
     ends_show, locks_and_reads_show, locks_keep_others_off, refusals_are_the_models,
-    rows_are_the_views, writes_show,
+    rows_are_the_views, views_stay, writes_show,
 };
 use ctr_statement::table_of;
 use ctr_types::{Act, KeyIs, List, Name, OutOfMemory, Refusal, Reply, Row, Rows, Statement};
@@ -63,7 +66,9 @@ impl Acts {
 
     /// BEGIN.
     pub fn begin(&mut self, alloc: Global, s: u8) -> Reply
-        ensures { ActKeeps s act.Begin st.Begin self.old self.new result }
+        ensures keeps { ActKeeps s act.Begin st.Begin self.old self.new result }
+        ensures others { OthersCanWrite s act.Begin st.Begin self.old self.new }
+        ensures store { self.new.engine.store ≡ self.old.engine.store }
     {
         if self.since.get(&s).is_some() {
             return refused(Refusal::InTransaction);
@@ -81,10 +86,13 @@ impl Acts {
         requires { n ≡ self.old.engine.answered }
         ensures starts { OnOk result (Starts s n self.old self.new) }
         ensures stays { OnErr result (ActsStay s self.old self.new) }
+        ensures others { OthersCan s self.old.engine self.new.engine }
+        ensures store { self.new.engine.store ≡ self.old.engine.store }
     {
         locks_and_reads_show();
         writes_show();
         locks_are_the_models();
+        views_stay();
         self.since.put(s, n)?;
         let Ok(()) = self.locks.enter(alloc, s) else {
             self.since.remove(&s);
@@ -101,7 +109,9 @@ impl Acts {
     /// COMMIT's first act: a writer asks for its commit, which takes the next number; another ends. It takes
     /// no memory.
     pub fn ask(&mut self, s: u8) -> Reply
-        ensures { ActKeeps s act.Ask st.Commit self.old self.new result }
+        ensures keeps { ActKeeps s act.Ask st.Commit self.old self.new result }
+        ensures others { OthersCanWrite s act.Ask st.Commit self.old self.new }
+        ensures store { self.new.engine.store ≡ self.old.engine.store }
     {
         if self.since.get(&s).is_none() {
             return refused(Refusal::NoTransaction);
@@ -120,6 +130,8 @@ impl Acts {
     pub fn roll_back(&mut self, s: u8) -> Reply
         ensures keeps { ActKeeps s act.Rollback st.Rollback self.old self.new result }
         ensures mark { result ≡ reply.RolledBack → IsOpenWriter s (engine_of self.old.engine) → IsMarked s self.old self.new }
+        ensures others { OthersCanWrite s act.Rollback st.Rollback self.old self.new }
+        ensures store { self.new.engine.store ≡ self.old.engine.store }
     {
         if self.since.get(&s).is_none() {
             return refused(Refusal::NoTransaction);
@@ -136,9 +148,12 @@ impl Acts {
     /// memory.
     pub fn answer(&mut self, s: u8) -> Reply
         requires { self.old.engine.answered < length self.old.engine.xids.commits }
-        ensures { ActKeeps s act.Answer st.Commit self.old self.new result }
+        ensures keeps { ActKeeps s act.Answer st.Commit self.old self.new result }
+        ensures others { OthersCanWrite s act.Answer st.Commit self.old self.new }
+        ensures store { self.new.engine.store ≡ self.old.engine.store }
     {
         ends_show();
+        views_stay();
         self.engine.answer(s);
         self.since.remove(&s);
         self.locks.release_all(s);
@@ -172,7 +187,9 @@ impl Acts {
     /// SELECT's act: the rows that the session sees, and a use of the table. It takes memory; where that is refused,
     /// the session stays as it was.
     pub fn read(&mut self, alloc: Global, s: u8, statement: &Statement) -> Reply
-        ensures { (name : List ℕ) (at : Option HeldKeyIs) → statement.now ≡ st.Select name at → ActKeeps s act.Read statement.now self.old self.new result }
+        ensures keeps { (name : List ℕ) (at : Option HeldKeyIs) → statement.now ≡ st.Select name at → ActKeeps s act.Read statement.now self.old self.new result }
+        ensures others { OthersCanWrite s act.Read statement.now self.old self.new }
+        ensures store { self.new.engine.store ≡ self.old.engine.store }
     {
         rows_are_the_views();
         locks_and_reads_show();
@@ -204,6 +221,8 @@ impl Acts {
         requires { IsEntered s self.old.locks }
         ensures reads { IfOk result (λ rows. Reads s name.now at.now self.old self.new rows) }
         ensures not { OnErr result (ReadsNot self.old self.new) }
+        ensures others { OthersCan s self.old.engine self.new.engine }
+        ensures store { self.new.engine.store ≡ self.old.engine.store }
     {
         let rows = rows_under(alloc, &self.engine, s, name, at)?;
         self.locks.reserve_name(alloc, s, name)?;
@@ -213,11 +232,26 @@ impl Acts {
         Ok(rows)
     }
 
+    /// An INSERT's, UPDATE's, DELETE's, CREATE TABLE's or DROP TABLE's Write, under the lock that it was granted: it
+    /// does what was prepared with that lock, in the room that was taken with it, and takes no memory.
+    pub fn write(&mut self, s: u8, statement: &Statement, prepared: Prepared) -> Reply
+        requires can { CanWrite self.old.engine s statement.now prepared }
+        requires few { self.old.engine.store.next < 2 ^ 64 - 1 }
+        ensures keeps { ActKeeps s act.Write statement.now self.old self.new result }
+        ensures others { OthersCanWrite s act.Write statement.now self.old self.new }
+        ensures next { self.new.engine.store.next ≤ self.old.engine.store.next + 1 }
+    {
+        done(&mut self.engine, s, statement, prepared)
+    }
+
     // A transaction that wrote nothing ends.
     fn end(&mut self, s: u8)
-        ensures { Leaves s self.old self.new }
+        ensures keeps { Leaves s self.old self.new }
+        ensures others { OthersCan s self.old.engine self.new.engine }
+        ensures store { self.new.engine.store ≡ self.old.engine.store }
     {
         ends_show();
+        views_stay();
         self.engine.end(s);
         self.since.remove(&s);
         self.locks.release_all(s);
@@ -228,8 +262,11 @@ impl Acts {
         requires { IsOpenWriter s (engine_of self.old.engine) }
         ensures keeps { RollsBack s self.old self.new }
         ensures mark { IsMarked s self.old self.new }
+        ensures others { OthersCan s self.old.engine self.new.engine }
+        ensures store { self.new.engine.store ≡ self.old.engine.store }
     {
         ends_show();
+        views_stay();
         self.engine.roll_back(s);
         self.since.remove(&s);
         self.locks.release_all(s);
@@ -240,10 +277,13 @@ impl Acts {
         requires { IsOpenWriter s (engine_of self.old.engine) }
         ensures keeps { Asks s self.old self.new }
         ensures count { length self.new.engine.xids.commits ≡ length self.old.engine.xids.commits + 1 }
+        ensures others { OthersCan s self.old.engine self.new.engine }
+        ensures store { self.new.engine.store ≡ self.old.engine.store }
     {
         ends_show();
         locks_are_the_models();
         locks_keep_others_off();
+        views_stay();
         self.engine.ask(s);
     }
 }

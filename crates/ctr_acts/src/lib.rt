@@ -5,6 +5,9 @@
 mod acts;
 mod causes;
 mod locking;
+mod prepared;
 mod reading;
+mod writing;
 
 pub use acts::Acts;
+pub use prepared::{Prepared, prepare};

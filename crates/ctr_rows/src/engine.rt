@@ -7,7 +7,7 @@ ghost use Rattle.ctr_versions.specs.Chains.{value_seen, newest};
 ghost use Rattle.ctr_versions.specs.Changes.{write, revert, cut, without_tombstone};
 ghost use Rattle.ctr_versions.specs.Xids.{number_of, below_mark};
 ghost use Rattle.ctr_versions.specs.Listing.{entries_seen};
-ghost use Rattle.ctr_versions.specs.Versions.{names_at, slots_of, rows_of, is_slot};
+ghost use Rattle.ctr_versions.specs.Versions.{names_at, slots_of, rows_of, is_slot, IsUnmadeTable};
 ghost use Rattle.ctr_versions.specs.Engine.{SessionHeld, ShowsState};
 ghost use Rattle.ctr_versions.specs.Steps.{engine_begun, engine_drawn, engine_asked, engine_ended, engine_answered, engine_rolled_back, engine_forgotten};
 ghost use Rattle.ctr_versions.specs.Heads.{IsCountOf, open_head};
@@ -100,6 +100,7 @@ impl Engine {
         ensures value { IfOk result (λ x. x ≡ self.old.xids.next) }
         ensures refused { OnErr result (RoomKeeps (engine_of self.old) (engine_of self.new)) }
         ensures stays { OnErr result (self.new.sessions ≡ self.old.sessions) }
+        ensures numbers { OnErr result ((x : ℕ) → number_of self.new.xids x ≡ number_of self.old.xids x) }
     {
         let Some(session) = self.sessions.get(&s) else {
             return Err(OutOfMemory);
@@ -169,6 +170,7 @@ impl Engine {
         requires few { self.old.store.next < 2 ^ 64 - 1 }
         ensures leaves { SetsName (engine_of self.old) (engine_of self.new) name.now (write (number_of self.old.xids) (me_of s (engine_of self.old)) (Some (record { id = result; schema = schema })) (names_at (engine_of self.old).versions name.now)) }
         ensures keeps { NameKeeps s name.now (Some (record { id = result; schema = schema })) (engine_of self.old) (engine_of self.new) }
+        ensures unmade { IsUnmadeTable result (engine_of self.old).versions }
         ensures rooms { RoomsStay no_row (same_name name.now) self.old.store self.new.store }
         ensures next { self.new.store.next ≡ self.old.store.next + 1 }
     {

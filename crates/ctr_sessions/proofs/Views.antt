@@ -87,6 +87,9 @@ rolled_back_alike s engine writer low state r u shows apart at x =
     ap (λ o. sees_found (aborted me engine.xids) o x) (find-without-other r s engine.sessions apart)
     ∙ found_same engine.xids (aborted me engine.xids) (find nat_cmp r engine.sessions) x (aborted_numbers engine.xids shows.sound me (live_me s engine writer) x)
 
+renumbered_alike : (s : ℕ) (old new : EngineHeld) → new.sessions ≡ old.sessions → ((x : ℕ) → number_of new.xids x ≡ number_of old.xids x) → OthersSeeAlike s old new
+renumbered_alike s old new sessions numbers low state r u shows apart at x = ap (λ es. sees_found new.xids (find nat_cmp r es) x) sessions ∙ found_same old.xids new.xids (find nat_cmp r old.sessions) x (numbers x)
+
 pub steps_alike : ViewsStay
 steps_alike = record {
   begun = begun_alike;
@@ -94,6 +97,7 @@ steps_alike = record {
   asked = asked_alike;
   ended = ended_alike;
   answered = answered_alike;
+  renumbered = renumbered_alike;
   rolled_back = rolled_back_alike;
 }
 

@@ -6,6 +6,7 @@ use Rattle.ctr_model.specs.declared.state.State.{State}
 use Rattle.ctr_model.specs.declared.state.Transaction.{Transaction}
 use Rattle.ctr_model.specs.State.{transaction_of}
 use Rattle.ctr_versions.specs.Chains.{value_seen}
+use Rattle.ctr_versions.specs.Xids.{number_of}
 use Rattle.ctr_versions.specs.Versions.{names_at, rows_of}
 use Rattle.ctr_versions.specs.Engine.{SessionHeld, EngineHeld, ShowsState}
 use Rattle.ctr_versions.specs.Steps.{engine_begun, engine_drawn, engine_asked, engine_ended, engine_answered, engine_rolled_back}
@@ -17,7 +18,8 @@ OthersSeeAlike s old new = (low : ℕ) (state : State) (r : ℕ) (u : Transactio
     → ShowsState low old state → (r == s) ≡ false → transaction_of state r ≡ Some u
     → (x : ℕ) → sees_of r new x ≡ sees_of r old x
 
--- so it is after each step of a session that writes no version
+-- So it is after each step of a session that writes no version, and where no session moves and each
+-- transaction has the commit number that it had.
 pub record ViewsStay : Type 0 where
   pub begun : (s : ℕ) (engine : EngineHeld) → OthersSeeAlike s engine (engine_begun s engine)
   pub drawn : (s : ℕ) (session : SessionHeld) (engine : EngineHeld)
@@ -26,6 +28,8 @@ pub record ViewsStay : Type 0 where
       → OthersSeeAlike s engine (engine_asked (me_of s engine) engine)
   pub ended : (s : ℕ) (engine : EngineHeld) → OthersSeeAlike s engine (engine_ended s engine)
   pub answered : (s : ℕ) (engine : EngineHeld) → OthersSeeAlike s engine (engine_answered s engine)
+  pub renumbered : (s : ℕ) (old new : EngineHeld) → new.sessions ≡ old.sessions
+      → ((x : ℕ) → number_of new.xids x ≡ number_of old.xids x) → OthersSeeAlike s old new
   pub rolled_back : (s : ℕ) (engine : EngineHeld) → IsOpenWriter s engine
       → OthersSeeAlike s engine (engine_rolled_back s (me_of s engine) engine)
 

@@ -5,6 +5,9 @@ use Rattle.ctr_versions.specs.Laws.{me_of, IsOpenWriter}
 use Rattle.ctr_rows.specs.Running.{engine_of}
 use Rattle.ctr_acts.specs.Acts.{ActsHeld, Asks}
 use Rattle.ctr_acts.proofs.Ending.{asked_shown}
+use Rattle.ctr_sessions.specs.Views.{OthersSeeAlike}
+use Rattle.ctr_acts.specs.Writing.{OthersCan}
+use Rattle.ctr_acts.proofs.Others.{step_others}
 use Rattle.ctr_acts.proofs.acts.Acts.commit.Goals as goal
 
 pub ask-requires : goal.ask-requires
@@ -19,3 +22,7 @@ returns-clause-keeps c =
 
 pub returns-clause-count : goal.returns-clause-count
 returns-clause-count c = ap (λ (e : EngineHeld). length e.xids.commits) c.ask.ensures.leaves ∙ length_push c.self.inside.engine.xids.commits (me_of c.args.s (engine_of c.self.inside.engine)) ∙ ap (λ (h : ActsHeld). length h.engine.xids.commits + 1) c.self.view_is
+
+pub returns-clause-others : goal.returns-clause-others
+returns-clause-others c = subst (λ (h : ActsHeld). OthersCan c.args.s h.engine c.ask.new.self) c.self.view_is
+    (step_others c.args.s c.self.inside.engine c.ask.new.self (subst (OthersSeeAlike c.args.s (engine_of c.self.inside.engine)) (sym c.ask.ensures.leaves) (c.views_stay.ensures.others.asked c.args.s (engine_of c.self.inside.engine) (subst (λ (h : ActsHeld). IsOpenWriter c.args.s (engine_of h.engine)) (sym c.self.view_is) c.requires))) c.ask.ensures.store)
