@@ -1,8 +1,7 @@
 -- Records that are gathered, one for each session: how far each has come, and the room in the log
 -- that is kept for them.
-use Rattle.std.specs.Prelude.{◌≡◌, ◌==◌, ◌≤◌, ◌+◌, ◌-◌, ℕ, false, List, [], ◌∷◌, ◌++◌, length, Some, slice_get}
+use Rattle.std.specs.Prelude.{◌≡◌, ◌==◌, ◌≤◌, ◌+◌, ◌-◌, ℕ, false, List, [], ◌∷◌, length, get_or}
 use Rattle.std.specs.List.{AllByRecursion}
-use Rattle.ctr_log.specs.Logs.{Log}
 use Rattle.ctr_rec.specs.declared.item.Item.{Item}
 use Rattle.ctr_rec.specs.Encode.{begun_bytes, item_bytes}
 use Rattle.ctr_rec.specs.Items.{Fits}
@@ -18,10 +17,6 @@ pub record GatheredHeld : Type 0 where
 abbrev pub needs : List GatheredHeld → ℕ
 needs [] = 0
 needs (g ∷ gs) = g.most + needs gs
-
--- the log has the room that is kept
-abbrev pub HasRoom : List GatheredHeld → Log → Type 0
-HasRoom records log = needs records ≤ log.room
 
 -- a record of these items is gathered, and room is kept for its end and its frame in the log
 pub record Holds (items : List Item) (g : GatheredHeld) : Type 0 where
@@ -39,12 +34,24 @@ pub record IsGoing (g : GatheredHeld) : Type 0 where
 abbrev pub HasItemRoom : Item → GatheredHeld → Type 0
 HasItemRoom item g = length g.bytes + length (item_bytes item) + 9 ≤ g.most
 
--- a session's record; sessions are numbered from 1
-abbrev pub IsAt : ℕ → List GatheredHeld → GatheredHeld → Type 0
-IsAt s records g = slice_get records (s - 1) ≡ Some g
+-- one of these sessions, which are numbered from 1
+abbrev pub IsOne : ℕ → List GatheredHeld → Type 0
+IsOne s records = (1 ≤ s) × (s ≤ length records)
+
+-- nothing is gathered
+abbrev pub none_gathered : GatheredHeld
+none_gathered = record { bytes = []; count = 0; most = 0 }
+
+-- a session's record
+abbrev pub record_at : ℕ → List GatheredHeld → GatheredHeld
+record_at s records = get_or records (s - 1) none_gathered
+
+-- how many bytes of room an item more wants beyond those that are kept for the session's record
+abbrev pub lack_at : ℕ → Item → List GatheredHeld → ℕ
+lack_at s item records = let g = record_at s records in
+    (length g.bytes + length (item_bytes item) + 9) - g.most
 
 -- the records of other sessions are as they were
 pub record OthersAlike (s : ℕ) (old new : List GatheredHeld) : Type 0 where
-  pub others : (r : ℕ) → (r - 1 == s - 1) ≡ false
-      → slice_get new (r - 1) ≡ slice_get old (r - 1)
+  pub others : (r : ℕ) → 1 ≤ r → (r == s) ≡ false → record_at r new ≡ record_at r old
   pub long : length new ≡ length old

@@ -4,6 +4,7 @@
 
 mod laws;
 mod record;
+mod records;
 
 pub use laws::{commits_fold, records_are_gathered};
-pub use record::Gathered;
+pub use records::Records;

@@ -1,0 +1,51 @@
+-- The room that is kept for all records, where one of them changes.
+use Rattle.std.proofs.Common.{◌≡◌, ◌≤◌, ◌<◌, ◌+◌, ◌-◌, ℕ, zero, suc, List, [], ◌∷◌, ◌++◌, length, get_or, refl, sym, ◌∙◌, ap, subst, arith}
+use Rattle.std.specs.Prelude.{slice_set}
+use Rattle.std.proofs.lemmas.Bool.{false≢true, eq-eqb}
+use Rattle.std.proofs.lemmas.List.{get_or-set_same, get_or-set_other, length-set}
+use Rattle.ctr_gather.specs.Records.{GatheredHeld, needs, none_gathered, record_at, IsOne, OthersAlike}
+
+pub needs_set : (i : ℕ) (gs : List GatheredHeld) (g : GatheredHeld) → i < length gs → needs (slice_set gs i g) + (get_or gs i none_gathered).most ≡ needs gs + g.most
+needs_set i [] g within = absurd (omega (arith, within))
+needs_set zero (h ∷ gs) g within = omega (arith)
+needs_set (suc i) (h ∷ gs) g within = let rest = needs_set i gs g (omega (arith, within)) in omega (arith, rest)
+
+module _ (s : ℕ) (records : List GatheredHeld) (one : IsOne s records) (g : GatheredHeld) where
+  within : s - 1 < length records
+  within = let low = one.0 in let high = one.1 in omega (arith, low, high)
+
+  pub sum_set : needs (slice_set records (s - 1) g) + (record_at s records).most ≡ needs records + g.most
+  sum_set = needs_set (s - 1) records g within
+
+  pub here_set : record_at s (slice_set records (s - 1) g) ≡ g
+  here_set = get_or-set_same records (s - 1) g none_gathered within
+
+  pub others_set : OthersAlike s records (slice_set records (s - 1) g)
+  others_set = record {
+    others = λ r least apart. get_or-set_other records (s - 1) (r - 1) g none_gathered (λ same. false≢true (sym apart ∙ eq-eqb r s (two r s least one.0 same)));
+    long = length-set records (s - 1) g;
+  }
+    where
+      two : (r s : ℕ) → 1 ≤ r → 1 ≤ s → r - 1 ≡ s - 1 → r ≡ s
+      two r s a b same = omega (arith, a, b, same)
+
+same_default : {A : Type 0} (xs : List A) (i : ℕ) (d e : A) → i < length xs → get_or xs i d ≡ get_or xs i e
+same_default [] i d e within = absurd (omega (arith, within))
+same_default (x ∷ xs) zero d e within = refl
+same_default (x ∷ xs) (suc i) d e within = same_default xs i d e (omega (arith, within))
+
+-- what a call on one session's record leaves of the room for all
+module _ (items now : List GatheredHeld) (view : items ≡ now) (s : ℕ) (one : IsOne s now) (g h : GatheredHeld) (value : g ≡ get_or items (s - 1) g) where
+  mine : IsOne s items
+  mine = subst (IsOne s) (sym view) one
+
+  pub at_is : record_at s now ≡ g
+  at_is = ap (record_at s) (sym view) ∙ same_default items (s - 1) none_gathered g (within s items mine h) ∙ sym value
+
+  pub sum_moves : needs (slice_set items (s - 1) h) + g.most ≡ needs now + h.most
+  sum_moves = ap (λ n. needs (slice_set items (s - 1) h) + n) (sym (ap (λ (a : GatheredHeld). a.most) at_is) ∙ ap (λ r. (record_at s r).most) (sym view)) ∙ sum_set s items mine h ∙ ap (λ r. needs r + h.most) view
+
+-- one more that keeps no room
+pub needs_push : (gs : List GatheredHeld) (g : GatheredHeld) → g.most ≡ 0 → needs gs ≡ 0 → needs (gs ++ g ∷ []) ≡ 0
+needs_push [] g none is = omega (arith, none)
+needs_push (h ∷ gs) g none is = let rest = needs_push gs g none (omega (arith, is)) in omega (arith, rest, is)
