@@ -3,7 +3,6 @@ use crate::numbers::name_of;
 use crate::page::Page;
 use crate::setup::{Ask, Counts};
 use ctr_disk::{Call, Disk, Image, MemDisk, Outcome, Recorded};
-use ctr_types::Plain;
 use std::alloc::{AllocError, Global};
 
 /// How many images of a crash a sweep looks at after each call.
@@ -47,7 +46,7 @@ fn one_image(alloc: Global, image: Image) -> Result<Vec<Image>, AllocError> {
 /// The images that are asked for.
 pub fn images_of(alloc: Global, disk: &MemDisk, ask: Ask) -> Result<Vec<Image>, AllocError> {
     match ask {
-        Ask::Last => one_image(alloc, disk.image_now().copy(alloc)?),
+        Ask::Last => one_image(alloc, disk.image_now().copy()?),
         Ask::Stop(count, digits) => one_image(alloc, disk.image_after(count as usize, digits)?),
         Ask::Each => each_image(alloc, disk),
         Ask::Calls => Ok(Vec::new(alloc)),

@@ -4,7 +4,6 @@
 //! output, which `rt ci` compares with the file `stdout`.
 #![tactic(auto)]
 
-mod alter;
 mod calls;
 mod databases;
 mod device;

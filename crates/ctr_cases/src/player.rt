@@ -1,5 +1,4 @@
 // Plays the lines of a suite.
-use crate::alter::{altered, part, with_length};
 use crate::databases::Right;
 use crate::judge::{Found, Probe, found_in, led_from, script_of};
 use crate::numbers::{hex_bytes, name_of, number, numbers, split_file, split_number, split_word};
@@ -7,7 +6,7 @@ use crate::page::Page;
 use crate::reading::{put_cuts, put_line, put_record, put_tokens};
 use crate::run::play;
 use crate::script::add_line;
-use crate::setup::{Ask, Counts, Ran, Setup, Work, run_words, set_file};
+use crate::setup::{Ask, Counts, Ran, Setup, Work, run_words};
 use crate::steps::{Step, step_of};
 use crate::sweep::{NO_DATABASE, sweep_failures, sweep_stops};
 use crate::words::{root_of, words_in};
@@ -216,10 +215,8 @@ impl Player {
         let Some((place, rest)) = split_number(rest) else {
             return Ok(None);
         };
-        let bytes = self.image.file(file).as_slice();
         if step == Step::Length {
-            let changed = with_length(self.alloc, bytes, place)?;
-            set_file(&mut self.image, file, changed);
+            self.image.set_len(self.alloc, file, place)?;
             return Ok(Some(()));
         }
         if step == Step::Show {
@@ -227,17 +224,15 @@ impl Player {
                 return Ok(None);
             };
             self.page.put(name_of(file).as_bytes());
-            for byte in part(bytes, place, to) {
-                self.page.put_hex(self.alloc, *byte);
-            }
+            let bytes = self.image.file(file);
+            self.page.put_part(self.alloc, bytes, place, to);
             self.page.put(b"\n");
             return Ok(Some(()));
         }
         let Some(with) = hex_bytes(self.alloc, rest)? else {
             return Ok(None);
         };
-        let changed = altered(self.alloc, bytes, place, &with)?;
-        set_file(&mut self.image, file, changed);
+        self.image.write(self.alloc, file, place, &with)?;
         Ok(Some(()))
     }
 
@@ -251,7 +246,7 @@ impl Player {
     fn begin_last(&mut self) -> Result<(), OutOfMemory> {
         let next = Setup::new(self.alloc, Image::new(self.alloc));
         self.last = mem::replace(&mut self.next, next);
-        self.last.image = self.image.copy(self.alloc)?;
+        self.last.image = self.image.copy()?;
         self.before = self.right.copy(self.alloc)?;
         Ok(())
     }
@@ -272,7 +267,7 @@ impl Player {
     // Goes on with the image of a run.
     fn take_image(&mut self, ran: &Ran) -> Result<(), OutOfMemory> {
         if let Some(image) = ran.seen.images.first() {
-            self.image = image.copy(self.alloc)?;
+            self.image = image.copy()?;
         }
         Ok(())
     }

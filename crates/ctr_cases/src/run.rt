@@ -41,7 +41,7 @@ fn sink_of(alloc: Global, setup: &Setup) -> Result<MemSink, AllocError> {
 /// The disk that a run begins with.
 pub fn disk_of(alloc: Global, setup: &Setup) -> Result<MemDisk, AllocError> {
     let fails = listed(alloc, &setup.disk_fails)?;
-    let disk = MemDisk::at_moment(alloc, setup.image.copy(alloc)?, fails, setup.moment)?;
+    let disk = MemDisk::at_moment(alloc, setup.image.copy()?, fails, setup.moment)?;
     Ok(disk.counted(setup.faults, setup.strays))
 }
 

@@ -1,7 +1,7 @@
 // What a run begins with, and what it leaves: plain data. A disk lives inside a run alone.
 use crate::page::Page;
 use ctr_disk::{Image, Root};
-use ctr_types::{File, Plain, Tape, Text};
+use ctr_types::Tape;
 use std::alloc::{AllocError, Global};
 
 /// What is done.
@@ -120,19 +120,8 @@ pub fn run_words(alloc: Global) -> Result<Vec<String>, AllocError> {
 
 /// A run of a script over an image, in which nothing fails.
 pub fn plain_run(alloc: Global, image: &Image, script: Vec<u8>) -> Result<Setup, AllocError> {
-    let mut setup = Setup::new(alloc, image.copy(alloc)?);
+    let mut setup = Setup::new(alloc, image.copy()?);
     setup.words = run_words(alloc)?;
     setup.script = script;
     Ok(setup)
-}
-
-/// The file's bytes in place of those that an image has.
-pub fn set_file(image: &mut Image, file: File, bytes: Vec<u8>) {
-    let text = Text::from_vec(bytes);
-    match file {
-        File::Root => image.root = text,
-        File::LogA => image.log_a = text,
-        File::LogB => image.log_b = text,
-        File::Pages => image.pages = text,
-    }
 }

@@ -1,5 +1,5 @@
 pub mod Moments
 pub mod Sections
 mod Kept
-mod InPlace
+mod Places
 pub mod Torn

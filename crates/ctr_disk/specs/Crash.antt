@@ -1,5 +1,5 @@
 -- What a crash may leave at one moment and over a call, and what the counts of a device do.
-use Rattle.std.specs.Prelude.{◌≡◌, ◌⊎◌, ℕ, ◌-◌, ◌^◌, ◌≤◌, ◌<◌, Result, OnOk, OnErr, IsErr}
+use Rattle.std.specs.Prelude.{◌≡◌, ◌⊎◌, ℕ, ◌-◌, ◌^◌, ◌≤◌, ◌<◌, Result, OnOk, IsErr}
 use Rattle.ctr_types.specs.Faults.{CountsFault}
 use Rattle.ctr_disk.specs.Image.{Image, TornImage}
 use Rattle.ctr_types.specs.declared.file.File.{File}

@@ -1,4 +1,5 @@
 pub mod Image
+pub mod Blocks
 pub mod Crash
 pub mod Device
 pub mod Replay

@@ -5,19 +5,20 @@ ghost use Rattle.ctr_disk.specs.Image.{content, section, write_of, TornImage};
 ghost use Rattle.ctr_types.specs.Faults.{HasCause};
 ghost use Rattle.ctr_disk.specs.Crash.{Only, Within, Tears, Elapses, HasStray, Ticks};
 
-use ctr_types::{File, Text};
+use crate::Bytes;
+use ctr_types::File;
 
 /// A device has failed. Its count of faults has risen, or stands at the last value of its type.
 #[derive(Clone, Copy, Debug, PartialEq, Eq)]
 pub struct Failed;
 
 /// What the four files hold together.
-#[derive(Debug, PartialEq, Eq, Drop)]
+#[derive(Drop)]
 pub struct Image {
-    pub root: Text,
-    pub log_a: Text,
-    pub log_b: Text,
-    pub pages: Text,
+    pub root: Bytes,
+    pub log_a: Bytes,
+    pub log_b: Bytes,
+    pub pages: Bytes,
 }
 
 /// Four files on one volume, with one clock.

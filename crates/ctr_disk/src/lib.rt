@@ -3,17 +3,21 @@
 //! In memory it is a `MemDisk`, which fails where a test wants it.
 #![tactic(auto)]
 
-mod bytes;
+mod block;
+mod blocks;
 mod counts;
 mod disk;
 mod fault;
 mod image;
 mod memory;
 mod record;
+mod sparse;
+mod tearing;
 mod through;
 
 pub use disk::{Disk, Failed, Image};
 pub use fault::{Root, Stamp, Stop, StoreFault};
 pub use memory::MemDisk;
 pub use record::{Call, Outcome, Recorded};
+pub use sparse::Bytes;
 pub use through::write_through;

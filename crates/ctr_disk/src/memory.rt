@@ -2,11 +2,11 @@
 ghost use Rattle.std.specs.Prelude.{◌≡◌, ◌≤◌};
 ghost use Rattle.ctr_disk.specs.Replay.{reads_after, latest};
 
-use crate::bytes::{fill, is_past_last};
 use crate::counts::Counts;
 use crate::record::{Replay, carry_out, keep};
+use crate::tearing::is_past_last;
 use crate::{Call, Disk, Failed, Image, Outcome, Recorded};
-use ctr_types::{File, List, Plain};
+use ctr_types::{File, List};
 use std::alloc::{AllocError, Global};
 
 /// A disk in memory, which tells what it holds.
@@ -48,7 +48,7 @@ impl MemDisk {
     ) -> Result<Self, AllocError>
         ensures { IfOk result (StartsWith image fails moment) }
     {
-        let first = image.copy(alloc)?;
+        let first = image.copy()?;
         Ok(MemDisk {
             alloc,
             first,
@@ -136,8 +136,8 @@ impl MemDisk {
         ensures { IfOk result (possible_after (first_image self.now) (take count (recorded_calls self.now))) }
     {
         let mut replay = Replay {
-            reads: self.first.copy(self.alloc)?,
-            left: self.first.copy(self.alloc)?,
+            reads: self.first.copy()?,
+            left: self.first.copy()?,
         };
         let mut digits = k;
         for recorded in &self.calls[..count.min(self.calls.len())] {
@@ -207,7 +207,7 @@ impl Disk for MemDisk {
             outcome,
             self.counts.moment,
         );
-        let len = self.present.file(file).len() as u64;
+        let len = self.present.file(file).len();
         self.counts.finish(outcome, kept, len)
     }
 
@@ -233,7 +233,7 @@ impl Disk for MemDisk {
             Ok(()) => {}
             Err(failed) => return Err(failed),
         }
-        fill(into, self.present.file(file).as_slice(), at);
+        self.present.file(file).read(at, into);
         Ok(())
     }
 

@@ -4,8 +4,8 @@ ghost use Rattle.ctr_disk.specs.Replay.{IsRecorded, reads_by, LeavesBy};
 ghost use Rattle.ctr_disk.specs.declared.record.Call.TheVariants.{Write};
 
 use crate::Image;
-use crate::bytes::{overwrite_file, tear_file};
-use ctr_types::{File, Plain, Text};
+use crate::tearing::tear_file;
+use ctr_types::{File, Text};
 use std::alloc::{AllocError, Global};
 
 /// A call of a disk.
@@ -84,7 +84,7 @@ pub fn carry_out(
     let kept = Text::from_slice(alloc, bytes)?;
     calls.reserve(1)?;
     if outcome == Outcome::Done {
-        overwrite_file(alloc, image, file, at, bytes)?;
+        image.write(alloc, file, at, bytes)?;
     }
     let call = Call::Write {
         file,
@@ -114,14 +114,14 @@ impl Replay {
     {
         match (&recorded.call, recorded.outcome) {
             (Call::Write { file, at, bytes }, Outcome::Done) => {
-                overwrite_file(alloc, &mut self.reads, *file, *at, bytes.as_slice())?;
+                self.reads.write(alloc, *file, *at, bytes.as_slice())?;
                 tear_file(alloc, &mut self.left, *file, *at, bytes.as_slice(), digit)
             }
             (Call::Write { file, at, bytes }, Outcome::Failed) => {
                 tear_file(alloc, &mut self.left, *file, *at, bytes.as_slice(), digit)
             }
             (Call::Sync, Outcome::Done) => {
-                self.left = self.reads.copy(alloc)?;
+                self.left = self.reads.copy()?;
                 Ok(())
             }
             _ => Ok(()),

@@ -7,7 +7,7 @@ use crate::{
     Block, is_open, read_home, read_page, read_root, read_thin_root, write_home, write_root,
 };
 use ctr_disk::{Call, Disk, Failed, Image, MemDisk, Recorded, Root, Stamp, StoreFault};
-use ctr_types::{File, List, Plain, Text};
+use ctr_types::{File, List};
 use std::alloc::{AllocError, Global};
 use std::test::Fail;
 
@@ -75,8 +75,8 @@ impl Still {
         self.disk.calls()
     }
 
-    fn image(&self, alloc: Global) -> Result<Image, AllocError> {
-        self.disk.image_now().copy(alloc)
+    fn image(&self) -> Result<Image, AllocError> {
+        self.disk.image_now().copy()
     }
 
     fn image_left(&self, count: usize, digits: u64) -> Result<Image, AllocError> {
@@ -92,8 +92,8 @@ fn disk_with(alloc: Global, image: Image, fails: u64) -> Result<Still, AllocErro
 
 fn disk_of(alloc: Global, root: &[u8], pages: &[u8], fails: u64) -> Result<Still, AllocError> {
     let mut image = Image::new(alloc);
-    image.root = Text::from_slice(alloc, root)?;
-    image.pages = Text::from_slice(alloc, pages)?;
+    image.write(alloc, File::Root, 0, root)?;
+    image.write(alloc, File::Pages, 0, pages)?;
     disk_with(alloc, image, fails)
 }
 
@@ -558,7 +558,7 @@ impl Writing {
             Ok(()) => (calls as u64) < fails,
             Err(fault) => calls as u64 == fails && fault == StoreFault::Fault,
         };
-        let now = self.is_left(alloc, disk.image(alloc)?, done.is_ok())?;
+        let now = self.is_left(alloc, disk.image()?, done.is_ok())?;
         Ok(ends && now && self.leaves(alloc, &disk, calls, done.is_ok())?)
     }
 }

@@ -7,7 +7,7 @@ ghost use Rattle.ctr_disk.specs.Memory.{moment_at, counted_faults, counted_stray
 use crate::{Gathered, ReadError, read_all};
 use ctr_disk::{Call, Disk, Failed, Image, MemDisk, Recorded, Root, StoreFault};
 use ctr_home::{read_root, write_root};
-use ctr_types::{File, List, Text};
+use ctr_types::{File, List};
 use std::alloc::{AllocError, Global};
 use std::test::Fail;
 
@@ -112,8 +112,8 @@ const ROOT: Root = Root {
 // A disk of these logs.
 fn disk_of(alloc: Global, log: &[u8], other: &[u8]) -> Result<Still, AllocError> {
     let mut image = Image::new(alloc);
-    image.log_a = Text::from_slice(alloc, log)?;
-    image.log_b = Text::from_slice(alloc, other)?;
+    image.write(alloc, File::LogA, 0, log)?;
+    image.write(alloc, File::LogB, 0, other)?;
     disk_with(alloc, image)
 }
 
