@@ -1,8 +1,13 @@
 -- The room that is kept for all records, where one of them changes.
 use Rattle.std.proofs.Common.{◌≡◌, ◌≤◌, ◌<◌, ◌+◌, ◌-◌, ℕ, zero, suc, List, [], ◌∷◌, ◌++◌, length, get_or, refl, sym, ◌∙◌, ap, subst, arith}
 use Rattle.std.specs.Prelude.{slice_set}
+use Rattle.std.specs.List.{flat_map}
 use Rattle.std.proofs.lemmas.Bool.{false≢true, eq-eqb}
-use Rattle.std.proofs.lemmas.List.{get_or-set_same, get_or-set_other, length-set}
+use Rattle.std.proofs.lemmas.List.{get_or-set_same, get_or-set_other, length-append, length-set}
+use Rattle.ctr_bytes.specs.Fields.{spelled}
+use Rattle.ctr_bytes.proofs.FieldLaws.{length-spelled}
+use Rattle.ctr_rec.specs.declared.item.Item.{Item}
+use Rattle.ctr_rec.specs.Encode.{begun_bytes, item_bytes}
 use Rattle.ctr_gather.specs.Records.{GatheredHeld, needs, none_gathered, record_at, IsOne, OthersAlike}
 
 pub needs_set : (i : ℕ) (gs : List GatheredHeld) (g : GatheredHeld) → i < length gs → needs (slice_set gs i g) + (get_or gs i none_gathered).most ≡ needs gs + g.most
@@ -49,3 +54,13 @@ module _ (items now : List GatheredHeld) (view : items ≡ now) (s : ℕ) (one :
 pub needs_push : (gs : List GatheredHeld) (g : GatheredHeld) → g.most ≡ 0 → needs gs ≡ 0 → needs (gs ++ g ∷ []) ≡ 0
 needs_push [] g none is = omega (arith, none)
 needs_push (h ∷ gs) g none is = let rest = needs_push gs g none (omega (arith, is)) in omega (arith, rest, is)
+
+-- a session's room is within that for all
+pub most_within : (i : ℕ) (gs : List GatheredHeld) → (get_or gs i none_gathered).most ≤ needs gs
+most_within i [] = omega (arith)
+most_within zero (h ∷ gs) = omega (arith)
+most_within (suc i) (h ∷ gs) = let rest = most_within i gs in omega (arith, rest)
+
+-- a record that was begun has its head
+pub long_begun : (is : List Item) → 5 ≤ length (begun_bytes is)
+long_begun is = let whole = ap suc (length-append (spelled 4 0) (flat_map item_bytes is)) in let head = length-spelled 4 0 in omega (arith, whole, head)

@@ -25,11 +25,6 @@ pub record Holds (items : List Item) (g : GatheredHeld) : Type 0 where
   pub fit : AllByRecursion Fits items
   pub room : length g.bytes + 9 ≤ g.most
 
--- one is gathered
-pub record IsGoing (g : GatheredHeld) : Type 0 where
-  pub begun : 5 ≤ length g.bytes
-  pub room : length g.bytes + 9 ≤ g.most
-
 -- there is room for an item more
 abbrev pub HasItemRoom : Item → GatheredHeld → Type 0
 HasItemRoom item g = length g.bytes + length (item_bytes item) + 9 ≤ g.most

@@ -3,7 +3,7 @@ ghost use Rattle.std.specs.Prelude.{◌≡◌, ◌≤◌, ◌<◌, ◌+◌, ◌-
 ghost use Rattle.ctr_rec.specs.declared.item.Item.{Item as HeldItem};
 ghost use Rattle.ctr_rec.specs.Items.{Fits};
 ghost use Rattle.ctr_rec.specs.Encode.{record_bytes};
-ghost use Rattle.ctr_gather.specs.Records.{Holds, HasItemRoom, IsGoing};
+ghost use Rattle.ctr_gather.specs.Records.{Holds, HasItemRoom};
 
 use ctr_rec::{Item, begin, end, push_item};
 use ctr_types::OutOfMemory;
@@ -26,14 +26,14 @@ pub struct Gathered {
 }
 
 impl Model for Gathered {
-    ghost use Rattle.std.specs.Prelude.{◌≤◌, ◌+◌, vec_capacity};
     ghost use Rattle.ctr_gather.specs.Records.{GatheredHeld};
+    ghost use Rattle.ctr_gather.specs.Inside.{HasOwnRoom};
 
     ghost Value = { GatheredHeld };
 
     ghost view = { λ a. record { bytes = a.bytes.items; count = a.count; most = a.most } };
 
-    ghost invariant = { λ a. a.most ≤ vec_capacity a.bytes + 8 };
+    ghost invariant = { HasOwnRoom };
 }
 
 impl Gathered {
@@ -57,7 +57,8 @@ impl Gathered {
 
     /// Its bytes so far.
     pub fn bytes(&self) -> &[u8]
-        ensures { result.now ≡ self.now.bytes }
+        ensures are { result.now ≡ self.now.bytes }
+        ensures frame { 0 < self.now.most → length result.now + 8 ≤ self.now.most }
     {
         self.bytes.as_slice()
     }
@@ -109,13 +110,17 @@ impl Gathered {
         self.count += 1;
     }
 
-    /// Ends it: its bytes are the record's. It takes no memory.
+    /// Ends it, where it is going: its bytes are the record's. It takes no memory.
     pub fn end(&mut self)
-        requires { IsGoing self.old }
         ensures ended { (items : List HeldItem) → Holds items self.old → self.new.bytes ≡ record_bytes items }
-        ensures long { length self.new.bytes ≡ length self.old.bytes + 1 }
         ensures most { self.new.most ≡ self.old.most }
     {
+        if self.bytes.len() < HEAD - 1 {
+            return;
+        }
+        if self.most < self.bytes.len() + REST {
+            return;
+        }
         end(&mut self.bytes, self.count);
     }
 

@@ -1,9 +1,9 @@
 // The records of all sessions, and how many bytes of the log's room are kept for them.
-ghost use Rattle.std.specs.Prelude.{◌≡◌, ◌≤◌, ◌<◌, ◌+◌, ◌-◌, ◌^◌, ℕ, List, [], ◌∷◌, ◌++◌, length, IfSome, IfOk, OnOk, OnErr, vec_len};
+ghost use Rattle.std.specs.Prelude.{◌≡◌, ◌≤◌, ◌<◌, ◌+◌, ◌-◌, ◌^◌, nat_lt, ℕ, List, [], ◌∷◌, ◌++◌, length, IfSome, IfOk, OnOk, OnErr, vec_len};
 ghost use Rattle.ctr_rec.specs.declared.item.Item.{Item as HeldItem};
 ghost use Rattle.ctr_rec.specs.Items.{Fits};
 ghost use Rattle.ctr_rec.specs.Encode.{record_bytes, item_bytes};
-ghost use Rattle.ctr_gather.specs.Records.{needs, Holds, IsGoing, HasItemRoom, IsOne, record_at, lack_at, OthersAlike};
+ghost use Rattle.ctr_gather.specs.Records.{needs, Holds, HasItemRoom, IsOne, record_at, lack_at, OthersAlike};
 
 use crate::record::Gathered;
 use ctr_rec::{Item, spelled_len};
@@ -115,12 +115,19 @@ impl Records {
         self.of[at].push(item);
     }
 
+    /// Whether room is kept for a session's record.
+    pub fn is_going(&self, s: u8) -> bool
+        requires { IsOne s self.now }
+        ensures { result ≡ nat_lt 0 (record_at s self.now).most }
+    {
+        let at = s as usize - 1;
+        0 < self.of[at].most()
+    }
+
     /// Ends a session's record: its bytes are those of its items. It takes no memory.
     pub fn end(&mut self, s: u8)
-        requires one { IsOne s self.old }
-        requires going { IsGoing (record_at s self.old) }
+        requires { IsOne s self.old }
         ensures ended { (items : List HeldItem) → Holds items (record_at s self.old) → (record_at s self.new).bytes ≡ record_bytes items }
-        ensures long { length (record_at s self.new).bytes ≡ length (record_at s self.old).bytes + 1 }
         ensures most { (record_at s self.new).most ≡ (record_at s self.old).most }
         ensures needs { needs self.new ≡ needs self.old }
         ensures others { OthersAlike s self.old self.new }
@@ -132,7 +139,9 @@ impl Records {
     /// The bytes of a session's record.
     pub fn bytes(&self, s: u8) -> &[u8]
         requires { IsOne s self.now }
-        ensures { result.now ≡ (record_at s self.now).bytes }
+        ensures are { result.now ≡ (record_at s self.now).bytes }
+        ensures frame { 0 < (record_at s self.now).most → length result.now + 8 ≤ (record_at s self.now).most }
+        ensures within { (record_at s self.now).most ≤ needs self.now }
     {
         let at = s as usize - 1;
         self.of[at].bytes()
