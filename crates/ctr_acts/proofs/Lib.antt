@@ -4,5 +4,6 @@ pub mod Replying
 pub mod Refusing
 pub mod Alike
 pub mod Showing
+pub mod Granting
 pub mod Others
 pub mod Doing

@@ -1,3 +1,4 @@
 pub mod Acts
 pub mod Seats
+pub mod Locking
 pub mod Writing

@@ -30,10 +30,10 @@ use std::marker::Model;
 /// Up to eight sessions over an engine of versions, with their locks.
 #[derive(Drop)]
 pub struct Acts {
-    engine: Engine,
-    locks: Locks,
-    since: Map<u8, u64>,
-    stuck: List<Name>,
+    pub(crate) engine: Engine,
+    pub(crate) locks: Locks,
+    pub(crate) since: Map<u8, u64>,
+    pub(crate) stuck: List<Name>,
 }
 
 impl Model for Acts {
@@ -45,7 +45,7 @@ impl Model for Acts {
 }
 
 // A refusal as a reply.
-fn refused(refusal: Refusal) -> Reply
+pub(crate) fn refused(refusal: Refusal) -> Reply
     ensures { result ≡ reply.Refused refusal }
 {
     Reply::Refused { refusal }

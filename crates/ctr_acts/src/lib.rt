@@ -4,6 +4,7 @@
 
 mod acts;
 mod causes;
+mod locking;
 mod prepared;
 mod reading;
 mod writing;

@@ -1,0 +1,173 @@
+// A Lock: room is taken first, so that the lock itself, once a number is drawn, can't fail.
+ghost use Rattle.std.specs.Prelude.{◌≡◌, OnOk, OnErr, Some, None, IfSome};
+ghost use Rattle.ctr_types.specs.declared.tape.Act.TheVariants as act;
+ghost use Rattle.ctr_types.specs.declared.tape.Reply.TheVariants as reply;
+ghost use Rattle.ctr_model.specs.Reply.{with_lock};
+ghost use Rattle.ctr_locks.specs.Held.{IsEntered, SameEntered};
+ghost use Rattle.ctr_locks.specs.Shows.{LocksStay, GrantShows, held_found};
+ghost use Rattle.ctr_acts.specs.Acts.{ActKeeps};
+ghost use Rattle.ctr_acts.specs.Locking.{taken_by, taken_reply, MayTake, HasLockRoom, SameEngine, DrawsOnce, Stays, LockGrants, LockStays};
+
+use crate::acts::Acts;
+use ctr_locks::{Held, Locks, locks_are_the_models};
+use ctr_model::Key;
+use ctr_rows::Engine;
+use ctr_sessions::{locks_and_reads_show, writes_show};
+use ctr_statement::{key_written, table_of};
+use ctr_types::{Act, Name, OutOfMemory, Plain, Refusal, Statement};
+use std::alloc::Global;
+
+// Takes room for the lock of a key, or for the hold of a name.
+fn reserve(
+    locks: &mut Locks,
+    alloc: Global,
+    s: u8,
+    name: &Name,
+    key: &Option<Key>,
+) -> Result<(), OutOfMemory>
+    requires { IsEntered s locks.old }
+    ensures keeps { LocksStay locks.old locks.new }
+    ensures entered { SameEntered locks.old locks.new }
+    ensures room { OnOk result (HasLockRoom s name.now key.now locks.new) }
+{
+    match key {
+        Some(key) => locks.reserve_key(alloc, s, name, *key),
+        None => locks.reserve_name(alloc, s, name),
+    }
+}
+
+// Locks a key, or holds a name. It takes no memory.
+fn take(locks: &mut Locks, s: u8, name: &Name, key: &Option<Key>) -> Result<(), Held>
+    requires { HasLockRoom s name.now key.now locks.old }
+    ensures grants { OnOk result (GrantShows s (with_lock key.now name.now) locks.old locks.new) }
+    ensures err { OnErr result (locks.new ≡ locks.old) }
+    ensures held { held_found result ≡ taken_by s name.now key.now locks.old }
+    ensures entered { SameEntered locks.old locks.new }
+{
+    match key {
+        Some(key) => locks.try_lock(s, name, *key),
+        None => locks.hold_name(s, name),
+    }
+}
+
+// Takes room for one version more of a row, or of a name.
+fn make_room(
+    engine: &mut Engine,
+    alloc: Global,
+    s: u8,
+    name: &Name,
+    key: &Option<Key>,
+) -> Result<(), OutOfMemory>
+    ensures { SameEngine engine.old engine.new }
+{
+    match key {
+        Some(key) => make_row_room(engine, alloc, s, name, *key),
+        None => make_name_room(engine, alloc, name),
+    }
+}
+
+// Takes room for one version more of a row in the table that the session sees.
+fn make_row_room(
+    engine: &mut Engine,
+    alloc: Global,
+    s: u8,
+    name: &Name,
+    key: Key,
+) -> Result<(), OutOfMemory>
+    ensures { SameEngine engine.old engine.new }
+{
+    let Some(made) = engine.table(s, name) else {
+        return Ok(());
+    };
+    let id = made.id;
+    engine.make_row_room(alloc, id, key)
+}
+
+// Takes room for one version more of a name.
+fn make_name_room(engine: &mut Engine, alloc: Global, name: &Name) -> Result<(), OutOfMemory>
+    ensures { SameEngine engine.old engine.new }
+{
+    let copy = name.copy(alloc)?;
+    engine.make_table_room(alloc, copy)
+}
+
+// Draws the number of a session's transaction, where it has none.
+fn draw_once(engine: &mut Engine, alloc: Global, s: u8) -> Result<(), OutOfMemory>
+    ensures draws { OnOk result (DrawsOnce s engine.old engine.new) }
+    ensures same { OnErr result (SameEngine engine.old engine.new) }
+{
+    if engine.me(s) != 0 {
+        return Ok(());
+    }
+    engine.draw(alloc, s)?;
+    Ok(())
+}
+
+impl Acts {
+    /// Why a Lock is refused, the first act of INSERT, UPDATE, DELETE, CREATE TABLE and DROP TABLE: the session is in
+    /// no transaction, or the first cause in their order. Where there is none, `take` grants it.
+    pub fn lock_refusal(&self, s: u8, statement: &Statement) -> Option<Refusal>
+        ensures denied { IfSome result (λ why. ActKeeps s act.Lock statement.now self.now self.now (reply.Refused why)) }
+        ensures granted { result ≡ None → MayTake s statement.now self.now }
+    {
+        if !self.locks.is_entered(s) {
+            return Some(Refusal::NoTransaction);
+        }
+        self.refusal(s, &Act::Lock, statement)
+    }
+
+    /// A Lock that nothing refuses: of the row's key with a use of its table, or the hold of the table's name. It takes
+    /// the memory that the write will want; where that is refused, the session stays as it was.
+    pub fn take(&mut self, alloc: Global, s: u8, statement: &Statement) -> Result<(), OutOfMemory>
+        requires { MayTake s statement.now self.old }
+        ensures { ActKeeps s act.Lock statement.now self.old self.new (taken_reply result) }
+    {
+        let Some(name) = table_of(statement) else {
+            return Err(OutOfMemory);
+        };
+        let key = key_written(statement);
+        self.make_room(alloc, s, name, &key)?;
+        self.grant(alloc, s, name, &key)?;
+        Ok(())
+    }
+
+    // Takes room for a lock and its write.
+    fn make_room(
+        &mut self,
+        alloc: Global,
+        s: u8,
+        name: &Name,
+        key: &Option<Key>,
+    ) -> Result<(), OutOfMemory>
+        requires { IsEntered s self.old.locks }
+        ensures stays { Stays self.old self.new }
+        ensures room { OnOk result (HasLockRoom s name.now key.now self.new.locks) }
+    {
+        writes_show();
+        make_room(&mut self.engine, alloc, s, name, key)?;
+        reserve(&mut self.locks, alloc, s, name, key)?;
+        Ok(())
+    }
+
+    // Draws the transaction's number, where it has none, and takes the lock.
+    fn grant(
+        &mut self,
+        alloc: Global,
+        s: u8,
+        name: &Name,
+        key: &Option<Key>,
+    ) -> Result<(), OutOfMemory>
+        requires { HasLockRoom s name.now key.now self.old.locks }
+        ensures grants { OnOk result (LockGrants s name.now key.now self.old self.new) }
+        ensures stays { OnErr result (LockStays s name.now key.now self.old self.new) }
+    {
+        locks_and_reads_show();
+        locks_are_the_models();
+        writes_show();
+        draw_once(&mut self.engine, alloc, s)?;
+        let Ok(()) = take(&mut self.locks, s, name, key) else {
+            return Err(OutOfMemory);
+        };
+        Ok(())
+    }
+}
