@@ -16,7 +16,7 @@ use Rattle.ctr_versions.specs.Chains.{value_seen}
 use Rattle.ctr_versions.specs.Listing.{chain_at}
 use Rattle.ctr_versions.specs.Versions.{Made, names_at, rows_of, is_slot}
 use Rattle.ctr_versions.specs.Engine.{EngineHeld}
-use Rattle.ctr_versions.specs.Laws.{sees_of, SetsRow, SetsName}
+use Rattle.ctr_versions.specs.Laws.{sees_of, SetsRow, SetsName, RoomKeeps}
 use Rattle.ctr_versions.proofs.Keys.{same_text}
 use Rattle.ctr_chains.specs.Stored.{HeldStore, versions_of, HasVersionRoom, HasNameRoom, RoomsStay, no_row, no_name}
 use Rattle.ctr_rows.specs.Running.{HeldEngine, engine_of}
@@ -115,6 +115,11 @@ module _ (s : ℕ) (old new : HeldEngine) where
     row_room = λ made k is key_is room. rooms.rows made.id k refl room;
     name_room = λ none room. rooms.names other refl room;
   }) can
+
+-- ---- one step behind another, which keeps what is shown
+
+pub then_others : (s : ℕ) (old mid new : HeldEngine) → RoomKeeps (engine_of old) (engine_of mid) → OthersCan s old mid → OthersCan s mid new → OthersCan s old new
+then_others s old mid new keeps first second low state r u theirs p shows apart at can = second low state r u theirs p (keeps low state shows) apart at (first low state r u theirs p shows apart at can)
 
 -- ---- the session itself, where it sees what it saw
 
