@@ -69,6 +69,7 @@ impl Records {
     pub fn begin(&mut self, s: u8) -> Result<(), OutOfMemory>
         requires { IsOne s self.old }
         ensures begun { OnOk result (Holds [] (record_at s self.new)) }
+        ensures none { OnErr result ((record_at s self.new).most ≡ 0) }
         ensures needs { needs self.new ≤ needs self.old + 14 }
         ensures others { OthersAlike s self.old self.new }
     {
@@ -150,6 +151,7 @@ impl Records {
     /// No record of the session is gathered any more, and no room kept for it. It takes no memory.
     pub fn forget(&mut self, s: u8)
         requires { IsOne s self.old }
+        ensures none { (record_at s self.new).most ≡ 0 }
         ensures needs { needs self.new + (record_at s self.old).most ≡ needs self.old }
         ensures others { OthersAlike s self.old self.new }
     {

@@ -1,0 +1,6 @@
+pub mod Shown
+pub mod Waiting
+pub mod Ends
+pub mod Asking
+pub mod Beginning
+pub mod Reading
