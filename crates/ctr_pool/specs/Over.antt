@@ -47,20 +47,29 @@ pub record WorksBelow {B T : Type 0} (g : Ghosts B) (a b : B) (result : Result T
     pub fails : IsTrue g.tells → g.rests a → IfErr result (g.fails a b)
     pub faults : HasFault Fault (g.faults_of a) (g.faults_of b) result
 
--- A page is there now. It was, and nothing changed; or each page is to be saved that was, unless all
--- frames were changed and the oldest is saved.
-abbrev pub BringsIn : ℕ → Pooled → Pooled → Type 0
-BringsIn p old new =
-    (is_there p new.frames ≡ true) × (new.most ≡ old.most)
-    × (is_there p old.frames ≡ true → new ≡ old)
-    × (0 < unchanged old → (q : ℕ) → since_in q new.frames ≡ since_in q old.frames)
+-- the page is saved that is changed the longest, and no other
+abbrev pub OldestSaved : Pooled → Pooled → Type 0
+OldestSaved old new = (p : ℕ) × (s : ℕ) × IsOldest p s old.frames
+    × ((q : ℕ) → since_in q new.frames ≡ (if p == q then None else since_in q old.frames))
+
+-- What gives room for a page: none is saved where a frame has nothing to save, and else the oldest.
+pub record SavesForRoom (old new : Pooled) : Type 0 where
+  pub kept : 0 < unchanged old → (q : ℕ) → since_in q new.frames ≡ since_in q old.frames
+  pub oldest : unchanged old ≡ 0 → OldestSaved old new
+
+-- A page is there now. It was, and nothing changed; or it was loaded, into a frame for which at most
+-- the oldest page was saved.
+pub record BringsIn (p : ℕ) (old new : Pooled) : Type 0 where
+  pub there : is_there p new.frames ≡ true
+  pub most : new.most ≡ old.most
+  pub hit : is_there p old.frames ≡ true → new ≡ old
+  pub miss : is_there p old.frames ≡ false → SavesForRoom old new
 
 -- one page is saved, which is changed the longest; where none is changed nothing is
 pub record SavesOldest (old new : Pooled) (wrote : Bool) : Type 0 where
   pub none : wrote ≡ false → AreClean old.frames × (new ≡ old)
   pub most : new.most ≡ old.most
-  pub one : wrote ≡ true → (p : ℕ) × (s : ℕ) × IsOldest p s old.frames
-      × ((q : ℕ) → since_in q new.frames ≡ (if p == q then None else since_in q old.frames))
+  pub one : wrote ≡ true → OldestSaved old new
 
 -- What a call that lends a page leaves once the loan is over.
 pub record Fetches {B T : Type 0} (g : Ghosts B) (p : ℕ) (old : Pooled) (a : B) (new : Pooled) (b : B)

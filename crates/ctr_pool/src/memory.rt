@@ -64,7 +64,8 @@ impl Memory {
 }
 
 impl Backing for Memory {
-    ghost use Rattle.std.specs.Prelude.{true, ◌<◌, vec_len};
+    ghost use Rattle.std.specs.Prelude.{true, ◌≡◌, ◌<◌, vec_len};
+    ghost use Rattle.std.proofs.Common.{refl, ◌∙◌};
 
     ghost tells = { true };
 
@@ -78,7 +79,7 @@ impl Backing for Memory {
 
     ghost moves = { λ a b. Unit {0} };
 
-    ghost keeps = { λ a b. Unit {0} };
+    ghost keeps = { λ a b. vec_len b.sheets ≡ vec_len a.sheets };
 
     ghost fails = { λ a b e. Unit {0} };
 
@@ -113,9 +114,9 @@ impl Backing for Memory {
 
     ghost stays = { λ b told at_rest. tt };
 
-    ghost kept = { λ b. tt };
+    ghost kept = { λ b. refl };
 
-    ghost kept_on = { λ a b c ab bc. tt };
+    ghost kept_on = { λ a b c ab bc. bc ∙ ab };
 
     ghost stands = { λ b. tt };
 

@@ -5,7 +5,7 @@ ghost use Rattle.std.specs.Borrow.{sem};
 ghost use Rattle.std.specs.Io.BufRead.{Rests};
 ghost use Rattle.ctr_pool.specs.declared.frame.Frame.{Frame as Framed};
 ghost use Rattle.ctr_pool.specs.Frames.{frame_of, is_there, since_in, shown, changed, IsOldest, AreClean, dirty_count};
-ghost use Rattle.ctr_pool.specs.Over.{unchanged, IsOver, StaysOver, WorksBelow, BringsIn, SavesOldest, Fetches};
+ghost use Rattle.ctr_pool.specs.Over.{unchanged, IsOver, StaysOver, WorksBelow, SavesForRoom, BringsIn, SavesOldest, Fetches};
 
 use crate::ages::Ages;
 use crate::frames::Frames;
@@ -72,7 +72,8 @@ impl Pool {
 
     /// How many frames there may be that have no change to be saved.
     pub fn unchanged(&self) -> usize
-        ensures { result ≡ unchanged self.now }
+        ensures number { result ≡ unchanged self.now }
+        ensures at_most { length self.now.frames ≤ self.now.most }
     {
         self.frames.len() + self.bodies.len() - self.ages.len()
     }
@@ -126,7 +127,7 @@ impl Pool {
         requires full { length self.old.frames ≡ self.old.most }
         ensures stays { IsTrue B.tells → OnOk result (StaysOver B.Backing self.old.frames backing.old self.new.frames backing.new) }
         ensures clean { IfOk result (λ p. (is_there p self.new.frames ≡ true) × (since_in p self.new.frames ≡ None)) }
-        ensures kept { 0 < unchanged self.old → (q : ℕ) → since_in q self.new.frames ≡ since_in q self.old.frames }
+        ensures saves { OnOk result (SavesForRoom self.old self.new) }
         ensures same { ((q : ℕ) → is_there q self.new.frames ≡ is_there q self.old.frames) × (length self.new.frames ≡ length self.old.frames) × (self.new.most ≡ self.old.most) }
         ensures works { WorksBelow B.Backing backing.old backing.new result }
     {
@@ -160,7 +161,7 @@ impl Pool {
         ensures stays { IsTrue B.tells → OnOk result (StaysOver B.Backing self.old.frames backing.old self.new.frames backing.new) }
         ensures room { OnOk result (length self.new.frames < self.new.most) }
         ensures fewer { (q : ℕ) → is_there q self.old.frames ≡ false → is_there q self.new.frames ≡ false }
-        ensures kept { 0 < unchanged self.old → (q : ℕ) → since_in q self.new.frames ≡ since_in q self.old.frames }
+        ensures saves { OnOk result (SavesForRoom self.old self.new) }
         ensures most { self.new.most ≡ self.old.most }
         ensures works { WorksBelow B.Backing backing.old backing.new result }
     {
