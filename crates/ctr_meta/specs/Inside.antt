@@ -15,14 +15,14 @@ tables_in a = record {
 
 -- The tables with their room. For each transaction that is open there is room in the aborted
 -- transaction map besides.
-abbrev pub kept_in : Inside → TablesKept
-kept_in a = record {
+abbrev pub kept_here : Inside → TablesKept
+kept_here a = record {
   tables = tables_in a;
   opens_room = min a.opens.spare (a.aborted.spare - length a.opens.entries);
   items_room = vec_capacity a.items - vec_len a.items;
 }
 
 -- the transactions are as they may be, and each that is open can be aborted without memory
-pub record IsKept (a : Inside) : Type 0 where
+pub record TablesStand (a : Inside) : Type 0 where
   pub xids : XidsFit (tables_in a)
   pub ends : length a.opens.entries ≤ a.aborted.spare

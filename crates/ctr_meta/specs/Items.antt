@@ -23,8 +23,8 @@ is_schema_by x (DropOf y e) = nat_eq y x
 abbrev pub is_item_by : ℕ → SlogItem → Bool
 is_item_by x i = if is_alloc_by x i then true else is_schema_by x i
 
--- An item is one that is wanted: the page that a transaction allocated, any item of a page, the making
--- or the dropping of an entry of the catalog.
+-- An item is one that is wanted: the page that a transaction allocated, any item of a page, the
+-- making or the dropping of an entry of the catalog.
 abbrev pub is_wanted : Wanted → SlogItem → Bool
 is_wanted (Allocation x p) (AllocOf y q) = nat_eq y x && nat_eq q p
 is_wanted (Allocation x p) (FreeOf q) = false

@@ -23,7 +23,8 @@ EachOnce (p ∷ ps) = (is_in p.0 ps ≡ false) × EachOnce ps
 -- Open and aborted transactions are from 1 to below the next, each once, and none is both.
 pub record XidsFit (t : Tables) : Type 0 where
   pub some : 1 ≤ t.next
-  pub opens : (x : ℕ) → is_in x t.opens ≡ true → (1 ≤ x) × (x < t.next) × (is_in x t.aborted ≡ false)
+  pub opens : (x : ℕ) → is_in x t.opens ≡ true
+      → (1 ≤ x) × (x < t.next) × (is_in x t.aborted ≡ false)
   pub aborted : (x : ℕ) → is_in x t.aborted ≡ true → (1 ≤ x) × (x < t.next)
   pub opens_once : EachOnce t.opens
   pub aborted_once : EachOnce t.aborted

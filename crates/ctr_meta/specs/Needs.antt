@@ -34,8 +34,8 @@ is_bare x t = if is_in x t.aborted then nat_eq (heads_in x t.aborted) 0 else fal
 abbrev pub head_there : ℕ → Tables → Bool
 head_there x t = if nat_eq x 0 then true else nat_lt 0 (heads_of x t)
 
--- The next transaction of a Checkpoint and the heads are in their bounds; each transaction is from 1
--- to below the next, and comes once.
+-- The next transaction of a Checkpoint and the heads are in their bounds; each transaction is from
+-- 1 to below the next, and comes once.
 abbrev pub list_needs : ℕ → List ℕ → Result ⊤ BadRecord
 list_needs next bytes = do
   fits ← next_check next

@@ -5,8 +5,8 @@ use Rattle.ctr_types.specs.declared.xid.Fate.{Fate}
 use Rattle.ctr_types.specs.declared.xid.Fate.TheVariants.{Open, Aborted, Committed, Later}
 use Rattle.ctr_records.specs.declared.record.SlogItem.{SlogItem}
 
--- The next transaction; those that are open, and those in the aborted transaction map, each with its
--- heads; the items of the secondary log. A list has the order in which its members were added.
+-- The next transaction; those that are open, and those in the aborted transaction map, each with
+-- its heads; the items of the secondary log. A list has the order in which its members were added.
 pub record Tables : Type 0 where
   pub next : ℕ
   pub opens : List (ℕ × ℕ)

@@ -32,11 +32,11 @@ impl Model for Meta {
 
     ghost Value = { TablesKept };
 
-    ghost use Rattle.ctr_meta.specs.Inside.{kept_in, IsKept};
+    ghost use Rattle.ctr_meta.specs.Inside.{kept_here, TablesStand};
 
-    ghost view = { kept_in };
+    ghost view = { kept_here };
 
-    ghost invariant = { IsKept };
+    ghost invariant = { TablesStand };
 }
 
 impl Meta {

@@ -5,7 +5,7 @@ use Rattle.std.specs.Option.{option_map}
 use Rattle.std.proofs.lemmas.Bool.Decides.{eqb_tells}
 use Rattle.std.proofs.lemmas.List.{get_or_default}
 use Rattle.ctr_pool.specs.declared.frame.Frame.{Frame}
-use Rattle.ctr_pool.specs.Frames.{frame_of, is_there, since_of, since_in, since_then, saved, is_dirty, dirty_count}
+use Rattle.ctr_pool.specs.Frames.{frame_of, has_page, change_of, since_in, since_then, after_save, is_dirty, dirty_count}
 use Rattle.ctr_pool.specs.Kept.{AllAbove, AreOrdered}
 
 -- ---- the first frame, or another
@@ -178,12 +178,12 @@ count_most (f ∷ fs) = let hyp = count_most fs in by (is_dirty f) hyp
     by false h = omega (arith, h)
 
 -- a page without a change leaves one frame less to count
-pub count_less : (p : ℕ) (fs : List Frame) → is_there p fs ≡ true → since_in p fs ≡ None → dirty_count fs < length fs
+pub count_less : (p : ℕ) (fs : List Frame) → has_page p fs ≡ true → since_in p fs ≡ None → dirty_count fs < length fs
 count_less p [] there clean = absurd cc
 count_less p (f ∷ fs) there clean =
-    ⊎_elim (λ same. clean_first f fs (ap since_of (sym (first f fs p same)) ∙ clean))
+    ⊎_elim (λ same. clean_first f fs (ap change_of (sym (first f fs p same)) ∙ clean))
     (λ apart. let e = rest f fs p apart in
-    let hyp = count_less p fs (ap is_some (sym e) ∙ there) (ap since_of (sym e) ∙ clean) in by (is_dirty f) hyp)
+    let hyp = count_less p fs (ap is_some (sym e) ∙ there) (ap change_of (sym e) ∙ clean) in by (is_dirty f) hyp)
     (same_or f.page p)
   where
     clean_first : (f : Frame) (fs : List Frame) → f.since ≡ None → dirty_count (f ∷ fs) < suc (length fs)
@@ -217,7 +217,7 @@ found fs gs at p is ordered there d =
 pub missing : (fs gs : List Frame) (at p : ℕ) → gs ≡ fs → ((k : ℕ) (d : Frame) → k < at → (get_or gs k d).page < p) → ((k : ℕ) (d : Frame) → at ≤ k → k < length gs → p < (get_or gs k d).page) → frame_of p fs ≡ None
 missing fs gs at p is below above = subst (λ (l : List Frame). frame_of p l ≡ None) is (between_absent p gs at below above)
 
-pub found_there : (fs gs : List Frame) (at p : ℕ) → gs ≡ fs → AreOrdered fs → (at < length gs) × ((d : Frame) → (get_or gs at d).page ≡ p) → is_there p fs ≡ true
+pub found_there : (fs gs : List Frame) (at p : ℕ) → gs ≡ fs → AreOrdered fs → (at < length gs) × ((d : Frame) → (get_or gs at d).page ≡ p) → has_page p fs ≡ true
 found_there [] gs at p is ordered there = absurd (let n = ap length is in let t = there.0 in omega (arith, n, t))
 found_there (f ∷ fs) gs at p is ordered there = ap is_some (found (f ∷ fs) gs at p is ordered there f).1
 
@@ -279,7 +279,7 @@ module _ (h : Frame → Frame) (fs now : List Frame) (at p : ℕ) (x f : Frame) 
   put_count =
       let n = count_set fs at x f at_is.inside in
       let was : one_if (is_some (since_in p now)) ≡ one_if (is_dirty (get_or fs at x)) =
-      ap (λ (l : List Frame). one_if (is_some (since_in p l))) (sym same) ∙ ap (λ (o : Option Frame). one_if (is_some (since_of o))) at_is.frame ∙ ap (λ (g : Frame). one_if (is_dirty g)) at_is.here in
+      ap (λ (l : List Frame). one_if (is_some (since_in p l))) (sym same) ∙ ap (λ (o : Option Frame). one_if (is_some (change_of o))) at_is.frame ∙ ap (λ (g : Frame). one_if (is_dirty g)) at_is.here in
       omega (arith, n, was, ap dirty_count same)
 
 module _ (fs gs now : List Frame) (at p : ℕ) (f : Frame) (same : gs ≡ fs) (to : fs ≡ now) (ordered : AreOrdered fs) (within : at ≤ length gs) (below : (k : ℕ) (d : Frame) → k < at → (get_or gs k d).page < p) (above : (k : ℕ) (d : Frame) → at ≤ k → k < length gs → p < (get_or gs k d).page) (page : f.page ≡ p) where
@@ -312,19 +312,19 @@ all_dirty (f ∷ fs) h =
     omega (arith, one, hyp)
 
 -- a frame without a change is a page's that is there, with nothing to save
-pub clean_there : (fs now : List Frame) (at : ℕ) (x y : Frame) → fs ≡ now → AreOrdered fs → at < length fs → x ≡ get_or fs at x → y ≡ get_or fs at y → is_some x.since ≡ false → (is_there y.page now ≡ true) × (since_in y.page now ≡ None)
+pub clean_there : (fs now : List Frame) (at : ℕ) (x y : Frame) → fs ≡ now → AreOrdered fs → at < length fs → x ≡ get_or fs at x → y ≡ get_or fs at y → is_some x.since ≡ false → (has_page y.page now ≡ true) × (since_in y.page now ≡ None)
 clean_there fs now at x y same ordered lt is_x is_y clean =
     let one : x ≡ y = is_x ∙ get_or_default fs at x y lt ∙ sym is_y in
     let there : frame_of y.page fs ≡ Some y = subst (λ (f : Frame). frame_of f.page fs ≡ Some f) (sym is_y) (frame_at fs at y ordered lt) in
     let here : frame_of y.page now ≡ Some y = ap (frame_of y.page) (sym same) ∙ there in
-    (ap is_some here, ap since_of here ∙ none_of y.since (ap (λ (f : Frame). is_some f.since) (sym one) ∙ clean))
+    (ap is_some here, ap change_of here ∙ none_of y.since (ap (λ (f : Frame). is_some f.since) (sym one) ∙ clean))
   where
     none_of : (o : Option ℕ) → is_some o ≡ false → o ≡ None
     none_of None e = refl
     none_of (Some s) e = absurd cc
 
 -- what is saved has no change
-pub since_saved : (b : Bool) (o : Option Frame) → since_of (cond b (option_map saved o) o) ≡ cond b None (since_of o)
+pub since_saved : (b : Bool) (o : Option Frame) → change_of (cond b (option_map after_save o) o) ≡ cond b None (change_of o)
 since_saved true None = refl
 since_saved true (Some f) = refl
 since_saved false o = refl

@@ -3,7 +3,7 @@ use Rattle.std.specs.Prelude.{◌≡◌, ◌≢◌, ℕ}
 use Rattle.ctr_pool.specs.Pages.{PageHeld}
 
 -- All is held as it was, and what might be saved of a page may be saved.
-pub record Holds {B : Type 0} (held : B → ℕ → PageHeld) (takes : B → ℕ → ℕ → PageHeld → Type 0)
+pub record HoldsStill {B : Type 0} (held : B → ℕ → PageHeld) (takes : B → ℕ → ℕ → PageHeld → Type 0)
     (a b : B) : Type 0 where
   pub same : (q : ℕ) → held b q ≡ held a q
   pub still : (q since : ℕ) (v : PageHeld) → takes a q since v → takes b q since v

@@ -10,30 +10,30 @@ frame_of p [] = None
 frame_of p (f ∷ fs) = if f.page == p then Some f else frame_of p fs
 
 -- some frame has the page
-abbrev pub is_there : ℕ → List Frame → Bool
-is_there p fs = is_some (frame_of p fs)
+abbrev pub has_page : ℕ → List Frame → Bool
+has_page p fs = is_some (frame_of p fs)
 
 -- what a frame has of its page
-abbrev pub kept_of : Frame → PageHeld
-kept_of f = record { lsn = f.lsn; body = f.body }
+abbrev pub page_of : Frame → PageHeld
+page_of f = record { lsn = f.lsn; body = f.body }
 
 -- what a frame has, or where there is none what is held below
 abbrev pub kept_or : PageHeld → Option Frame → PageHeld
 kept_or h None = h
-kept_or h (Some f) = kept_of f
+kept_or h (Some f) = page_of f
 
 -- a page as the pool has it: its frame's, or what is held below
-abbrev pub shown : List Frame → ℕ → PageHeld → PageHeld
-shown fs p h = kept_or h (frame_of p fs)
+abbrev pub page_shown : List Frame → ℕ → PageHeld → PageHeld
+page_shown fs p h = kept_or h (frame_of p fs)
 
 -- the LSN of a frame's first change that isn't saved, where it has one
-abbrev pub since_of : Option Frame → Option ℕ
-since_of None = None
-since_of (Some f) = f.since
+abbrev pub change_of : Option Frame → Option ℕ
+change_of None = None
+change_of (Some f) = f.since
 
 -- the same of a page
 abbrev pub since_in : ℕ → List Frame → Option ℕ
-since_in p fs = since_of (frame_of p fs)
+since_in p fs = change_of (frame_of p fs)
 
 -- a frame has changes that aren't saved
 abbrev pub is_dirty : Frame → Bool
@@ -50,8 +50,8 @@ since_then None lsn = Some lsn
 since_then (Some s) lsn = Some s
 
 -- a frame after a change
-abbrev pub changed : Overlay → ℕ → Frame → Frame
-changed o lsn f = record {
+abbrev pub after_change : Overlay → ℕ → Frame → Frame
+after_change o lsn f = record {
   page = f.page;
   lsn = lsn;
   since = since_then f.since lsn;
@@ -59,8 +59,8 @@ changed o lsn f = record {
 }
 
 -- a frame whose changes are saved
-abbrev pub saved : Frame → Frame
-saved f = record { page = f.page; lsn = f.lsn; since = None; body = f.body }
+abbrev pub after_save : Frame → Frame
+after_save f = record { page = f.page; lsn = f.lsn; since = None; body = f.body }
 
 -- This is the least LSN of a first change that isn't saved: some page's, and no other's is less.
 pub record IsOldest (p since : ℕ) (fs : List Frame) : Type 0 where

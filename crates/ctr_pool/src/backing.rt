@@ -4,7 +4,7 @@ ghost use Rattle.ctr_types.specs.Faults.{HasFault};
 ghost use Rattle.ctr_disk.specs.declared.fault.StoreFault.{StoreFault as Wrong};
 ghost use Rattle.ctr_disk.specs.declared.fault.StoreFault.TheVariants.{Fault};
 ghost use Rattle.ctr_pool.specs.Pages.{PageHeld};
-ghost use Rattle.ctr_pool.specs.Below.{Puts, Holds};
+ghost use Rattle.ctr_pool.specs.Below.{Puts, HoldsStill};
 
 use crate::Lsn;
 use ctr_disk::StoreFault;
@@ -43,7 +43,7 @@ pub trait Backing {
         requires { length into.old ≡ 4096 }
         ensures loaded { IsTrue tells → IfOk result (λ lsn. held self.old page ≡ record { lsn = lsn; body = into.new }) }
         ensures keeps { keeps self.old self.new }
-        ensures same { IsTrue tells → OnOk result (Holds held takes self.old self.new) }
+        ensures same { IsTrue tells → OnOk result (HoldsStill held takes self.old self.new) }
         ensures goes { IsTrue tells → rests self.old → goes self.old self.new }
         ensures moves { IsTrue tells → rests self.old → OnOk result (moves self.old self.new × rests self.new) }
         ensures fails { IsTrue tells → rests self.old → IfErr result (fails self.old self.new) }

@@ -1,7 +1,7 @@
 // The bytes of a page.
 ghost use Rattle.std.specs.Prelude.{◌≡◌, ◌≤◌, ◌+◌, ◌++◌, ℕ, List, length, take, drop, replicate, IsTrue, IfOk, IfErr, OnOk};
 ghost use Rattle.ctr_pool.specs.Pages.{PageHeld, overlaid_by};
-ghost use Rattle.ctr_pool.specs.Below.{Holds};
+ghost use Rattle.ctr_pool.specs.Below.{HoldsStill};
 ghost use Rattle.ctr_types.specs.Faults.{HasFault};
 ghost use Rattle.ctr_disk.specs.declared.fault.StoreFault.TheVariants.{Fault};
 
@@ -53,7 +53,7 @@ impl Body {
     pub fn load<B: Backing>(&mut self, page: PageNo, backing: &mut B) -> Result<Lsn, StoreFault>
         ensures loaded { IsTrue B.tells → IfOk result (λ lsn. B.held backing.old page ≡ record { lsn = lsn; body = self.new }) }
         ensures keeps { B.keeps backing.old backing.new }
-        ensures same { IsTrue B.tells → OnOk result (Holds B.held B.takes backing.old backing.new) }
+        ensures same { IsTrue B.tells → OnOk result (HoldsStill B.held B.takes backing.old backing.new) }
         ensures goes { IsTrue B.tells → B.rests backing.old → B.goes backing.old backing.new }
         ensures moves { IsTrue B.tells → B.rests backing.old → OnOk result (B.moves backing.old backing.new × B.rests backing.new) }
         ensures fails { IsTrue B.tells → B.rests backing.old → IfErr result (B.fails backing.old backing.new) }

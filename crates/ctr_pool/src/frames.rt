@@ -2,7 +2,7 @@
 ghost use Rattle.std.specs.Prelude.{◌≡◌, ◌==◌, ◌≤◌, ◌<◌, ◌+◌, ◌⊎◌, ℕ, [], Some, None, true, Option, length, is_some, if◌then◌else◌, IsTrue, IfOk, IfSome, IfNone, OnOk, IfErr};
 ghost use Rattle.std.specs.Option.{option_map};
 ghost use Rattle.ctr_pool.specs.declared.frame.Frame.{Frame as Framed};
-ghost use Rattle.ctr_pool.specs.Frames.{frame_of, is_there, since_in, kept_of, since_then, changed, saved, dirty_count};
+ghost use Rattle.ctr_pool.specs.Frames.{frame_of, has_page, since_in, page_of, since_then, after_change, after_save, dirty_count};
 ghost use Rattle.ctr_pool.specs.Below.{Puts};
 ghost use Rattle.ctr_types.specs.Faults.{HasFault};
 ghost use Rattle.ctr_disk.specs.declared.fault.StoreFault.TheVariants.{Fault};
@@ -60,7 +60,7 @@ impl Frames {
 
     /// Whether a frame has the page.
     pub fn has(&self, page: PageNo) -> bool
-        ensures { result ≡ is_there page self.now.frames }
+        ensures { result ≡ has_page page self.now.frames }
     {
         match find(&self.items, page) {
             Ok(_) => true,
@@ -112,7 +112,7 @@ impl Frames {
     /// Takes a page's frame out, of which nothing is to be saved, and gives its bytes back.
     pub fn remove(&mut self, page: PageNo) -> Option<Body>
         requires { since_in page self.old.frames ≡ None }
-        ensures some { is_some result ≡ is_there page self.old.frames }
+        ensures some { is_some result ≡ has_page page self.old.frames }
         ensures frames { (q : ℕ) → frame_of q self.new.frames ≡ (if page == q then None else frame_of q self.old.frames) }
         ensures count { dirty_count self.new.frames ≡ dirty_count self.old.frames }
         ensures len { length self.new.frames + (if is_some result then 1 else 0) ≡ length self.old.frames }
@@ -128,8 +128,8 @@ impl Frames {
     /// Changes a page that a frame has.
     pub fn change(&mut self, page: PageNo, overlay: &Overlay, lsn: Lsn)
         requires inside { overlay.now.offset + length overlay.now.bytes ≤ 4096 }
-        ensures frames { (q : ℕ) → frame_of q self.new.frames ≡ (if page == q then option_map (changed overlay.now lsn) (frame_of q self.old.frames) else frame_of q self.old.frames) }
-        ensures count { dirty_count self.new.frames + (if is_some (since_in page self.old.frames) then 1 else 0) ≡ dirty_count self.old.frames + (if is_there page self.old.frames then 1 else 0) }
+        ensures frames { (q : ℕ) → frame_of q self.new.frames ≡ (if page == q then option_map (after_change overlay.now lsn) (frame_of q self.old.frames) else frame_of q self.old.frames) }
+        ensures count { dirty_count self.new.frames + (if is_some (since_in page self.old.frames) then 1 else 0) ≡ dirty_count self.old.frames + (if has_page page self.old.frames then 1 else 0) }
         ensures len { length self.new.frames ≡ length self.old.frames }
         ensures room { self.new.spare ≡ self.old.spare }
     {
@@ -144,7 +144,7 @@ impl Frames {
 
     /// Notes that a page's changes are saved.
     pub fn settle(&mut self, page: PageNo)
-        ensures frames { (q : ℕ) → frame_of q self.new.frames ≡ (if page == q then option_map saved (frame_of q self.old.frames) else frame_of q self.old.frames) }
+        ensures frames { (q : ℕ) → frame_of q self.new.frames ≡ (if page == q then option_map after_save (frame_of q self.old.frames) else frame_of q self.old.frames) }
         ensures count { dirty_count self.new.frames + (if is_some (since_in page self.old.frames) then 1 else 0) ≡ dirty_count self.old.frames }
         ensures len { length self.new.frames ≡ length self.old.frames }
         ensures room { self.new.spare ≡ self.old.spare }
@@ -157,10 +157,10 @@ impl Frames {
 
     /// Saves a page that a frame has.
     pub fn save<B: Backing>(&self, page: PageNo, backing: &mut B) -> Result<(), StoreFault>
-        requires takes { IsTrue B.tells → (f : Framed) → frame_of page self.now.frames ≡ Some f → B.rests backing.old × (since : ℕ) × B.takes backing.old page since (kept_of f) }
-        requires there { is_there page self.now.frames ≡ true }
+        requires takes { IsTrue B.tells → (f : Framed) → frame_of page self.now.frames ≡ Some f → B.rests backing.old × (since : ℕ) × B.takes backing.old page since (page_of f) }
+        requires there { has_page page self.now.frames ≡ true }
         ensures keeps { B.keeps backing.old backing.new }
-        ensures saved { IsTrue B.tells → (f : Framed) → frame_of page self.now.frames ≡ Some f → OnOk result (Puts B.held B.takes page (kept_of f) backing.old backing.new) }
+        ensures saved { IsTrue B.tells → (f : Framed) → frame_of page self.now.frames ≡ Some f → OnOk result (Puts B.held B.takes page (page_of f) backing.old backing.new) }
         ensures goes { IsTrue B.tells → B.goes backing.old backing.new }
         ensures moves { IsTrue B.tells → OnOk result (B.moves backing.old backing.new × B.rests backing.new) }
         ensures fails { IsTrue B.tells → IfErr result (B.fails backing.old backing.new) }
@@ -176,7 +176,7 @@ impl Frames {
     }
 
     fn clean_from(&self, from: usize) -> Option<PageNo>
-        ensures clean { IfSome result (λ p. (is_there p self.now.frames ≡ true) × (since_in p self.now.frames ≡ None)) }
+        ensures clean { IfSome result (λ p. (has_page p self.now.frames ≡ true) × (since_in p self.now.frames ≡ None)) }
         ensures none { IfNone result (from ≡ 0 → dirty_count self.now.frames ≡ length self.now.frames) }
     {
         for at in from..self.items.len() {
@@ -189,7 +189,7 @@ impl Frames {
 
     /// A page with nothing to save, the next behind a page if there is one.
     pub fn clean_behind(&self, page: PageNo) -> Option<PageNo>
-        ensures clean { IfSome result (λ p. (is_there p self.now.frames ≡ true) × (since_in p self.now.frames ≡ None)) }
+        ensures clean { IfSome result (λ p. (has_page p self.now.frames ≡ true) × (since_in p self.now.frames ≡ None)) }
         ensures none { IfNone result (dirty_count self.now.frames ≡ length self.now.frames) }
     {
         let behind = match find(&self.items, page) {

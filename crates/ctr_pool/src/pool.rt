@@ -4,7 +4,7 @@ ghost use Rattle.std.specs.Option.{option_map};
 ghost use Rattle.std.specs.Borrow.{sem};
 ghost use Rattle.std.specs.Io.BufRead.{Rests};
 ghost use Rattle.ctr_pool.specs.declared.frame.Frame.{Frame as Framed};
-ghost use Rattle.ctr_pool.specs.Frames.{frame_of, is_there, since_in, shown, changed, IsOldest, AreClean, dirty_count};
+ghost use Rattle.ctr_pool.specs.Frames.{frame_of, has_page, since_in, page_shown, after_change, IsOldest, AreClean, dirty_count};
 ghost use Rattle.ctr_pool.specs.Over.{unchanged, IsOver, StaysOver, WorksBelow, SavesForRoom, BringsIn, SavesOldest, Fetches};
 
 use crate::ages::Ages;
@@ -94,9 +94,9 @@ impl Pool {
         requires over { IsTrue B.tells → IsOver B.Backing self.old.frames backing.old }
         ensures stays { IsTrue B.tells → OnOk result (StaysOver B.Backing self.old.frames backing.old self.new.frames backing.new) }
         ensures saves { IfOk result (λ o. SavesOldest self.old self.new (is_some o)) }
-        ensures page { IfOk result (λ o. IfSome o (λ p. (is_there p self.new.frames ≡ true) × (since_in p self.new.frames ≡ None))) }
+        ensures page { IfOk result (λ o. IfSome o (λ p. (has_page p self.new.frames ≡ true) × (since_in p self.new.frames ≡ None))) }
         ensures none { IfOk result (λ o. IfNone o (dirty_count self.old.frames ≡ 0)) }
-        ensures same { ((q : ℕ) → is_there q self.new.frames ≡ is_there q self.old.frames) × (length self.new.frames ≡ length self.old.frames) × (self.new.most ≡ self.old.most) }
+        ensures same { ((q : ℕ) → has_page q self.new.frames ≡ has_page q self.old.frames) × (length self.new.frames ≡ length self.old.frames) × (self.new.most ≡ self.old.most) }
         ensures failed { IfErr result (λ e. self.new ≡ self.old) }
         ensures works { WorksBelow B.Backing backing.old backing.new result }
     {
@@ -126,9 +126,9 @@ impl Pool {
         requires over { IsTrue B.tells → IsOver B.Backing self.old.frames backing.old }
         requires full { length self.old.frames ≡ self.old.most }
         ensures stays { IsTrue B.tells → OnOk result (StaysOver B.Backing self.old.frames backing.old self.new.frames backing.new) }
-        ensures clean { IfOk result (λ p. (is_there p self.new.frames ≡ true) × (since_in p self.new.frames ≡ None)) }
+        ensures clean { IfOk result (λ p. (has_page p self.new.frames ≡ true) × (since_in p self.new.frames ≡ None)) }
         ensures saves { OnOk result (SavesForRoom self.old self.new) }
-        ensures same { ((q : ℕ) → is_there q self.new.frames ≡ is_there q self.old.frames) × (length self.new.frames ≡ length self.old.frames) × (self.new.most ≡ self.old.most) }
+        ensures same { ((q : ℕ) → has_page q self.new.frames ≡ has_page q self.old.frames) × (length self.new.frames ≡ length self.old.frames) × (self.new.most ≡ self.old.most) }
         ensures works { WorksBelow B.Backing backing.old backing.new result }
     {
         if let Some(page) = self.frames.clean_behind(self.hand) {
@@ -142,7 +142,7 @@ impl Pool {
 
     // A page's frame has no page any more.
     fn give_up(&mut self, page: PageNo)
-        requires there { is_there page self.old.frames ≡ true }
+        requires there { has_page page self.old.frames ≡ true }
         requires clean { since_in page self.old.frames ≡ None }
         ensures frames { (q : ℕ) → frame_of q self.new.frames ≡ (if page == q then None else frame_of q self.old.frames) }
         ensures len { length self.new.frames + 1 ≡ length self.old.frames }
@@ -160,7 +160,7 @@ impl Pool {
         requires over { IsTrue B.tells → IsOver B.Backing self.old.frames backing.old }
         ensures stays { IsTrue B.tells → OnOk result (StaysOver B.Backing self.old.frames backing.old self.new.frames backing.new) }
         ensures room { OnOk result (length self.new.frames < self.new.most) }
-        ensures fewer { (q : ℕ) → is_there q self.old.frames ≡ false → is_there q self.new.frames ≡ false }
+        ensures fewer { (q : ℕ) → has_page q self.old.frames ≡ false → has_page q self.new.frames ≡ false }
         ensures saves { OnOk result (SavesForRoom self.old self.new) }
         ensures most { self.new.most ≡ self.old.most }
         ensures works { WorksBelow B.Backing backing.old backing.new result }
@@ -176,10 +176,10 @@ impl Pool {
     // Loads a page that no frame has.
     fn load<B: Backing>(&mut self, page: PageNo, backing: &mut B) -> Result<(), StoreFault>
         requires over { IsTrue B.tells → IsOver B.Backing self.old.frames backing.old }
-        requires new { is_there page self.old.frames ≡ false }
+        requires new { has_page page self.old.frames ≡ false }
         requires room { length self.old.frames < self.old.most }
         ensures stays { IsTrue B.tells → OnOk result (StaysOver B.Backing self.old.frames backing.old self.new.frames backing.new) }
-        ensures there { OnOk result (is_there page self.new.frames ≡ true) }
+        ensures there { OnOk result (has_page page self.new.frames ≡ true) }
         ensures kept { (q : ℕ) → since_in q self.new.frames ≡ since_in q self.old.frames }
         ensures most { self.new.most ≡ self.old.most }
         ensures works { WorksBelow B.Backing backing.old backing.new result }
@@ -203,7 +203,7 @@ impl Pool {
         requires over { IsTrue B.tells → IsOver B.Backing self.old.frames backing.old }
         ensures stays { IsTrue B.tells → OnOk result (StaysOver B.Backing self.old.frames backing.old self.new.frames backing.new) }
         ensures brings { OnOk result (BringsIn page self.old self.new) }
-        ensures quiet { is_there page self.old.frames ≡ true → backing.new ≡ backing.old }
+        ensures quiet { has_page page self.old.frames ≡ true → backing.new ≡ backing.old }
         ensures most { self.new.most ≡ self.old.most }
         ensures works { WorksBelow B.Backing backing.old backing.new result }
     {
@@ -217,8 +217,8 @@ impl Pool {
     /// A page, as the pool has it. It is brought into a frame as `bring` does.
     pub fn fetch<B: Backing>(&mut self, page: PageNo, backing: &mut B) -> Result<&[u8], StoreFault>
         requires over { IsTrue B.tells → IsOver B.Backing self.old.frames backing.old }
-        ensures shown { IsTrue B.tells → IfOk result (λ bytes. bytes.now ≡ (shown self.old.frames page (B.held backing.old page)).body) }
-        ensures quiet { is_there page self.old.frames ≡ true → backing.new ≡ backing.old }
+        ensures shown { IsTrue B.tells → IfOk result (λ bytes. bytes.now ≡ (page_shown self.old.frames page (B.held backing.old page)).body) }
+        ensures quiet { has_page page self.old.frames ≡ true → backing.new ≡ backing.old }
         ensures works { WorksBelow B.Backing backing.old backing.new result }
         ensures* after { sem 𝓛 (Rests the_row self.entry (λ new. Fetches B.Backing page self.old backing.old new backing.new result)) }
     {
@@ -235,9 +235,9 @@ impl Pool {
 
     /// Changes a page that a frame has, at an LSN above that of its last change. It isn't saved yet.
     pub fn change(&mut self, page: PageNo, overlay: &Overlay, lsn: Lsn)
-        requires there { is_there page self.old.frames ≡ true }
+        requires there { has_page page self.old.frames ≡ true }
         requires inside { overlay.now.offset + length overlay.now.bytes ≤ 4096 }
-        ensures frames { (q : ℕ) → frame_of q self.new.frames ≡ (if page == q then option_map (changed overlay.now lsn) (frame_of q self.old.frames) else frame_of q self.old.frames) }
+        ensures frames { (q : ℕ) → frame_of q self.new.frames ≡ (if page == q then option_map (after_change overlay.now lsn) (frame_of q self.old.frames) else frame_of q self.old.frames) }
         ensures most { self.new.most ≡ self.old.most }
     {
         let new = self.frames.since(page).is_none();

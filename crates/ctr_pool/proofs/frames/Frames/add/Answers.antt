@@ -1,7 +1,7 @@
 use Rattle.std.proofs.Common.{◌≡◌, false, cond, None, is_some, refl, sym, ap, subst, ◌∙◌, arith}
 use Rattle.std.specs.Prelude.{insert, is_ok}
 use Rattle.ctr_pool.specs.declared.frame.Frame.{Frame}
-use Rattle.ctr_pool.specs.Frames.{frame_of, is_there, dirty_count}
+use Rattle.ctr_pool.specs.Frames.{frame_of, has_page, dirty_count}
 use Rattle.ctr_pool.specs.Kept.{FrameList, AreOrdered}
 use Rattle.ctr_pool.proofs.FrameLaws.{found_there, add_ordered, add_frames, add_count}
 use Rattle.ctr_pool.proofs.frames.Frames.add.Goals as goal
@@ -11,7 +11,7 @@ unreachable-requires c =
     let fs = c.self.inside.items.items in
     let to : fs ≡ c.args.self.now.frames = ap (λ (v : FrameList). v.frames) c.self.view_is in
     let there = found_there fs c.deref.result.now c.in_default.field-0 c.args.page c.deref.ensures.value c.self.invariant c.in_default.ensures.found in
-    let none : is_there c.args.page fs ≡ false = ap (is_there c.args.page) to ∙ ap is_some c.requires.new in
+    let none : has_page c.args.page fs ≡ false = ap (has_page c.args.page) to ∙ ap is_some c.requires.new in
     absurd cc
 
 pub invariant_of-self : goal.invariant_of-self

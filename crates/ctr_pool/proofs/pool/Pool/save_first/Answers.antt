@@ -1,6 +1,6 @@
 use Rattle.std.proofs.Common.{◌≡◌, ◌∙◌, cond, eqb, None, List, ap, sym, arith}
 use Rattle.ctr_pool.specs.declared.frame.Frame.{Frame}
-use Rattle.ctr_pool.specs.Frames.{frame_of, since_of, since_in}
+use Rattle.ctr_pool.specs.Frames.{frame_of, change_of, since_in}
 use Rattle.ctr_pool.specs.Over.{Pooled}
 use Rattle.ctr_pool.proofs.FrameLaws.{since_saved}
 use Rattle.ctr_pool.proofs.pool.Pool.save_first.Goals as goal
@@ -24,6 +24,6 @@ returns-clause-saves g c =
           some = ap (since_in p) (sym to) ∙ sym (ages p) ∙ c.in-Some.ensures.some;
           least = λ q t is. c.in-Some.ensures.least q t (ages q ∙ ap (since_in q) to ∙ is);
         },
-        (λ q. ap since_of (c.settle.ensures.frames q) ∙ since_saved (eqb p q) (frame_of q fs) ∙ ap (λ (l : List Frame). cond (eqb p q) None (since_in q l)) to),
+        (λ q. ap change_of (c.settle.ensures.frames q) ∙ since_saved (eqb p q) (frame_of q fs) ∙ ap (λ (l : List Frame). cond (eqb p q) None (since_in q l)) to),
       );
     }
