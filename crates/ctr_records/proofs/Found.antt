@@ -7,20 +7,14 @@ use Rattle.std.proofs.lemmas.List.{append-nil, drop_at, length-take-le}
 use Rattle.ctr_bytes.specs.Fields.{spelled, field}
 use Rattle.ctr_bytes.proofs.FieldLaws.{AreBytes, field_fits, side}
 use Rattle.ctr_records.specs.declared.decoding.BadRecord.{BadRecord}
-use Rattle.ctr_records.specs.declared.record.SlogItem.{SlogItem}
-use Rattle.ctr_records.specs.declared.record.SlogItem.TheVariants.{AllocOf, FreeOf, CreateOf, DropOf}
 use Rattle.ctr_records.specs.Damage.{◌>>=◌, wrong, expect, at_most}
 use Rattle.ctr_records.specs.Checkpoint.{count_at, opens_in, aborted_in, items_at, items_in, end_at, xid_at, each, end_check, kind_check, kinds_in, item_most, item_check, next_check, heads_check, is_among, is_new, xid_check, list_checks, checkpoint_checks}
-use Rattle.ctr_records.specs.Members.{pair_bytes, item_kind, item_xid, item_number, item_bytes, lists_bytes, among, AreNew, HeadsFit, ItemFits, HasMembers}
+use Rattle.ctr_records.specs.Members.{pair_bytes, item_kind, item_xid, item_number, item_bytes, lists_bytes, among, AreNew, HeadsFit, ItemFits, HasMembers, pairs_from, slog_item, items_from}
 use Rattle.ctr_records.proofs.Laws.{grow}
 use Rattle.ctr_records.proofs.Reading.{bind_ok, guard_ok, expect_ok}
 use Rattle.ctr_records.proofs.MemberLaws.{Seen, seen_more, xid_before, xid_behind}
 
 -- ---- pairs
-
-pairs_from : ℕ → ℕ → List ℕ → List (ℕ × ℕ)
-pairs_from at zero bytes = []
-pairs_from at (suc n) bytes = (field 8 at bytes, field 8 (at + 8) bytes) ∷ pairs_from (at + 16) n bytes
 
 length-from : (at n : ℕ) (bytes : List ℕ) → length (pairs_from at n bytes) ≡ n
 unfolding pairs_from
@@ -119,13 +113,6 @@ xids_say opens next bytes place start stop nx is on (suc n) i at seen from le he
 
 -- ---- items
 
-item_of : ℕ → ℕ → ℕ → SlogItem
-item_of k x n = cond (eqb k 1) (AllocOf x n) (cond (eqb k 2) (FreeOf n) (cond (eqb k 3) (CreateOf x n) (DropOf x n)))
-
-items_from : ℕ → ℕ → List ℕ → List SlogItem
-items_from at zero bytes = []
-items_from at (suc n) bytes = item_of (field 1 at bytes) (field 8 (at + 1) bytes) (field 4 (at + 9) bytes) ∷ items_from (at + 13) n bytes
-
 length-items_from : (at n : ℕ) (bytes : List ℕ) → length (items_from at n bytes) ≡ n
 unfolding items_from
 length-items_from at zero bytes = refl
@@ -133,12 +120,12 @@ length-items_from at (suc n) bytes = ap suc (length-items_from (at + 13) n bytes
 
 -- an item by its parts
 record Is (k x n : ℕ) : Type 0 where
-  pub kind : item_kind (item_of k x n) ≡ k
-  pub xid : item_xid (item_of k x n) ≡ x
-  pub number : item_number (item_of k x n) ≡ n
+  pub kind : item_kind (slog_item k x n) ≡ k
+  pub xid : item_xid (slog_item k x n) ≡ x
+  pub number : item_number (slog_item k x n) ≡ n
 
 item_is : (k x n : ℕ) → 1 ≤ k → k ≤ 4 → (k ≡ 2 → x ≡ 0) → Is k x n
-unfolding item_of
+unfolding slog_item
 item_is zero x n some few free = absurd (omega (arith, some))
 item_is (suc zero) x n some few free = record { kind = refl; xid = refl; number = refl }
 item_is (suc (suc zero)) x n some few free = record { kind = refl; xid = sym (free refl); number = refl }
@@ -183,11 +170,11 @@ items_say base bytes fits (suc n) i at here le ks is =
     let one = item_is k x m kind.0 kind.1 item.0 in
     let rest = items_say base bytes fits n (i + 1) (at + 13) (omega (arith, here)) (omega (arith, le)) sk.2 si.2 in
     let more = flat_map item_bytes (items_from (at + 13) n bytes) in
-    let head : item_bytes (item_of k x m) ≡ spelled 1 k ++ spelled 8 x ++ spelled 4 m =
-    ap (λ (a : ℕ). spelled 1 a ++ spelled 8 (item_xid (item_of k x m)) ++ spelled 4 (item_number (item_of k x m))) one.kind
-    ∙ ap (λ (a : ℕ). spelled 1 k ++ spelled 8 a ++ spelled 4 (item_number (item_of k x m))) one.xid
+    let head : item_bytes (slog_item k x m) ≡ spelled 1 k ++ spelled 8 x ++ spelled 4 m =
+    ap (λ (a : ℕ). spelled 1 a ++ spelled 8 (item_xid (slog_item k x m)) ++ spelled 4 (item_number (slog_item k x m))) one.kind
+    ∙ ap (λ (a : ℕ). spelled 1 k ++ spelled 8 a ++ spelled 4 (item_number (slog_item k x m))) one.xid
     ∙ ap (λ (a : ℕ). spelled 1 k ++ spelled 8 x ++ spelled 4 a) one.number in
-    let fit : ItemFits (item_of k x m) = rw (one.kind, one.number) item.1 in (
+    let fit : ItemFits (slog_item k x m) = rw (one.kind, one.number) item.1 in (
       ap (λ (l : List ℕ). take at bytes ++ (l ++ more)) head
           ∙ sym (append_assoc (take at bytes) (spelled 1 k ++ spelled 8 x ++ spelled 4 m) more)
           ∙ ap (λ (l : List ℕ). l ++ more) (sym (append_assoc (take at bytes) (spelled 1 k ++ spelled 8 x) (spelled 4 m)))

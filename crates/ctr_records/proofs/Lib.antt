@@ -5,3 +5,4 @@ pub mod ListLaws
 pub mod RecordForms
 pub mod MemberLaws
 pub mod Found
+pub mod Listed

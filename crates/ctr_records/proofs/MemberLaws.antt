@@ -30,11 +30,11 @@ length-item i =
     let c = spelled 4 (item_number i) in
     omega (arith, length-append (a ++ b) c, length-append a b, length-spelled 1 (item_kind i), length-spelled 8 (item_xid i), length-spelled 4 (item_number i))
 
-length-pairs : (ps : List (ℕ × ℕ)) → length (flat_map pair_bytes ps) ≡ 16 * length ps
+pub length-pairs : (ps : List (ℕ × ℕ)) → length (flat_map pair_bytes ps) ≡ 16 * length ps
 length-pairs [] = refl
 length-pairs (p ∷ ps) = omega (arith, length-append (pair_bytes p) (flat_map pair_bytes ps), length-pair p, length-pairs ps)
 
-length-items : (is : List SlogItem) → length (flat_map item_bytes is) ≡ 13 * length is
+pub length-items : (is : List SlogItem) → length (flat_map item_bytes is) ≡ 13 * length is
 length-items [] = refl
 length-items (i ∷ is) = omega (arith, length-append (item_bytes i) (flat_map item_bytes is), length-item i, length-items is)
 
@@ -72,7 +72,7 @@ kind_small (FreeOf p) = (omega arith, omega arith)
 kind_small (CreateOf x e) = (omega arith, omega arith)
 kind_small (DropOf x e) = (omega arith, omega arith)
 
-kind_read : (i : SlogItem) (at : ℕ) (front whole : List ℕ) → length front ≡ at → Begins (front ++ item_bytes i) whole → field 1 at whole ≡ item_kind i
+pub kind_read : (i : SlogItem) (at : ℕ) (front whole : List ℕ) → length front ≡ at → Begins (front ++ item_bytes i) whole → field 1 at whole ≡ item_kind i
 kind_read i at front whole is b =
     let a = spelled 1 (item_kind i) in
     let b8 = spelled 8 (item_xid i) in
@@ -100,7 +100,7 @@ number_small k = small (ltb 2 k)
     small true = omega arith
     small false = omega arith
 
-number_read : (i : SlogItem) (at : ℕ) (front whole : List ℕ) → ItemFits i → length front ≡ at → Begins (front ++ item_bytes i) whole → field 4 (at + 9) whole ≡ item_number i
+pub number_read : (i : SlogItem) (at : ℕ) (front whole : List ℕ) → ItemFits i → length front ≡ at → Begins (front ++ item_bytes i) whole → field 4 (at + 9) whole ≡ item_number i
 number_read i at front whole fits is b =
     let a = spelled 1 (item_kind i) in
     let b8 = spelled 8 (item_xid i) in
@@ -134,13 +134,13 @@ item_ok base i whole x front fits is b =
     let most : field 4 (at + 9) whole ≤ item_most (field 1 at whole) = rw (kind, number) fits in
     rw free (most_ok (at + 9) (item_most (field 1 at whole)) (field 4 (at + 9) whole) most)
 
-pair_read : (p : ℕ × ℕ) (at : ℕ) (front whole : List ℕ) → p.0 < 2 ^ 64 → length front ≡ at → Begins (front ++ pair_bytes p) whole → field 8 at whole ≡ p.0
+pub pair_read : (p : ℕ × ℕ) (at : ℕ) (front whole : List ℕ) → p.0 < 2 ^ 64 → length front ≡ at → Begins (front ++ pair_bytes p) whole → field 8 at whole ≡ p.0
 pair_read p at front whole fits is b =
     let a = spelled 8 p.0 in
     let first : Begins ((front ++ a) ++ spelled 8 p.1) whole = (b.0, b.1 ∙ ap (λ (l : List ℕ). l ++ b.0) (sym (append_assoc front a (spelled 8 p.1)))) in
     field_last 8 p.0 at front whole (sym is) fits (begins_less (front ++ a) (spelled 8 p.1) whole first)
 
-heads_read : (p : ℕ × ℕ) (at : ℕ) (front whole : List ℕ) → HeadsFit p → length front ≡ at → Begins (front ++ pair_bytes p) whole → field 8 (at + 8) whole ≡ p.1
+pub heads_read : (p : ℕ × ℕ) (at : ℕ) (front whole : List ℕ) → HeadsFit p → length front ≡ at → Begins (front ++ pair_bytes p) whole → field 8 (at + 8) whole ≡ p.1
 heads_read p at front whole fits is b =
     let a = spelled 8 p.0 in
     let first : Begins ((front ++ a) ++ spelled 8 p.1) whole = (b.0, b.1 ∙ ap (λ (l : List ℕ). l ++ b.0) (sym (append_assoc front a (spelled 8 p.1)))) in

@@ -1,10 +1,11 @@
 // Writing a Checkpoint of its members.
-ghost use Rattle.std.specs.Prelude.{◌≡◌, ◌++◌, OnOk, IfOk};
-ghost use Rattle.std.specs.List.{flat_map};
+ghost use Rattle.std.specs.Prelude.{◌≡◌, ◌++◌, ℕ, List, OnOk, IfOk};
+ghost use Rattle.std.specs.List.{flat_map, AllByRecursion};
+ghost use Rattle.ctr_records.specs.declared.record.SlogItem.{SlogItem as Item};
 ghost use Rattle.ctr_bytes.specs.Fields.{spelled};
 ghost use Rattle.ctr_records.specs.declared.record.Record.TheVariants.{Checkpoint};
 ghost use Rattle.ctr_records.specs.Spelling.{checkpoint_bytes};
-ghost use Rattle.ctr_records.specs.Members.{item_kind, item_xid, item_number, pair_bytes, item_bytes, lists_bytes, MembersFit};
+ghost use Rattle.ctr_records.specs.Members.{item_kind, item_xid, item_number, pair_bytes, item_bytes, lists_bytes, MembersFit, XidFits, AreListed};
 ghost use Rattle.ctr_records.specs.Records.{IsRecord};
 
 use crate::SlogItem;
@@ -149,3 +150,8 @@ pub fn encode_checkpoint(
     push_u8(&mut bytes, 0)?;
     Ok(bytes)
 }
+
+/// The members of which lists are made stand in them, so that one list of bytes has one list of members.
+pub fn one_list()
+    ensures { (next : ℕ) (opens aborted : List (ℕ × ℕ)) (items : List Item) → MembersFit next opens aborted items → AllByRecursion XidFits items → AreListed opens aborted items (lists_bytes opens aborted items) }
+{}

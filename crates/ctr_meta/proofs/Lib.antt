@@ -1,0 +1,7 @@
+pub mod XidLaws
+pub mod Fits
+pub mod ItemLaws
+pub mod NeedLaws
+pub mod ListingLaws
+pub mod ListedFits
+pub mod LastLaws

@@ -1,0 +1,16 @@
+//! The tables of transactions: what the records of a log leave of them.
+#![tactic(auto)]
+
+mod items;
+mod listing;
+mod meta;
+mod needs;
+mod room;
+mod xids;
+
+pub use items::Wanted;
+pub use meta::Meta;
+pub use room::{Room, room_for, xids_last};
+
+#[cfg(test)]
+mod tests;

@@ -1,0 +1,16 @@
+-- What changes below a pool.
+use Rattle.std.specs.Prelude.{◌≡◌, ◌≢◌, ℕ}
+use Rattle.ctr_pool.specs.Pages.{PageHeld}
+
+-- All is held as it was, and what might be saved of a page may be saved.
+pub record HoldsStill {B : Type 0} (held : B → ℕ → PageHeld) (takes : B → ℕ → ℕ → PageHeld → Type 0)
+    (a b : B) : Type 0 where
+  pub same : (q : ℕ) → held b q ≡ held a q
+  pub still : (q since : ℕ) (v : PageHeld) → takes a q since v → takes b q since v
+
+-- One page is held as this now, and the others as they were.
+pub record Puts {B : Type 0} (held : B → ℕ → PageHeld) (takes : B → ℕ → ℕ → PageHeld → Type 0)
+    (p : ℕ) (v : PageHeld) (a b : B) : Type 0 where
+  pub there : held b p ≡ v
+  pub others : (q : ℕ) → q ≢ p → held b q ≡ held a q
+  pub still : (q since : ℕ) (w : PageHeld) → q ≢ p → takes a q since w → takes b q since w

@@ -1,0 +1,80 @@
+// What stands below a pool.
+ghost use Rattle.std.specs.Prelude.{◌≡◌, ◌≤◌, ◌<◌, Bool, IsTrue, ℕ, length, IfOk, IfErr, OnOk};
+ghost use Rattle.ctr_types.specs.Faults.{HasFault};
+ghost use Rattle.ctr_disk.specs.declared.fault.StoreFault.{StoreFault as Wrong};
+ghost use Rattle.ctr_disk.specs.declared.fault.StoreFault.TheVariants.{Fault};
+ghost use Rattle.ctr_pool.specs.Pages.{PageHeld};
+ghost use Rattle.ctr_pool.specs.Below.{Puts, HoldsStill};
+
+use crate::Lsn;
+use ctr_disk::StoreFault;
+use ctr_records::PageNo;
+
+/// Pages below a pool. Each is held as an LSN and a body of 4,096 bytes.
+pub trait Backing {
+    /// Whether it tells what it holds. One over real files doesn't.
+    ghost tells: { Bool };
+
+    /// What it holds of a page.
+    ghost held: { Self → ℕ → PageHeld };
+
+    /// What may be saved of a page, all of whose changes from an LSN on are in it.
+    ghost takes: { Self → ℕ → ℕ → PageHeld → Type 0 };
+
+    /// Nothing is pending.
+    ghost rests: { Self → Type 0 };
+
+    /// What holds at each moment of a change from one state to another, however it ends.
+    ghost goes: { Self → Self → Type 0 };
+
+    /// How it may change by calls that were answered Ok.
+    ghost moves: { Self → Self → Type 0 };
+
+    /// What each call keeps, however it ends, told or not: as room that was taken.
+    ghost keeps: { Self → Self → Type 0 };
+
+    /// What an error says of the change at whose end it came.
+    ghost fails: { Self → Self → Wrong → Type 0 };
+
+    ghost faults_of: { Self → ℕ };
+
+    /// Reads a page, and answers its LSN. Nothing that is held changes.
+    fn load(&mut self, page: PageNo, into: &mut [u8]) -> Result<Lsn, StoreFault>
+        requires { length into.old ≡ 4096 }
+        ensures loaded { IsTrue tells → IfOk result (λ lsn. held self.old page ≡ record { lsn = lsn; body = into.new }) }
+        ensures keeps { keeps self.old self.new }
+        ensures same { IsTrue tells → OnOk result (HoldsStill held takes self.old self.new) }
+        ensures goes { IsTrue tells → rests self.old → goes self.old self.new }
+        ensures moves { IsTrue tells → rests self.old → OnOk result (moves self.old self.new × rests self.new) }
+        ensures fails { IsTrue tells → rests self.old → IfErr result (fails self.old self.new) }
+        ensures faults { HasFault Fault (faults_of self.old) (faults_of self.new) result };
+
+    /// Writes a page. The others stay.
+    fn save(&mut self, page: PageNo, lsn: Lsn, body: &[u8]) -> Result<(), StoreFault>
+        requires whole { length body.now ≡ 4096 }
+        requires takes { IsTrue tells → rests self.old × (since : ℕ) × takes self.old page since (record { lsn = lsn; body = body.now }) }
+        ensures keeps { keeps self.old self.new }
+        ensures saved { IsTrue tells → OnOk result (Puts held takes page (record { lsn = lsn; body = body.now }) self.old self.new) }
+        ensures goes { IsTrue tells → goes self.old self.new }
+        ensures moves { IsTrue tells → OnOk result (moves self.old self.new × rests self.new) }
+        ensures fails { IsTrue tells → IfErr result (fails self.old self.new) }
+        ensures faults { HasFault Fault (faults_of self.old) (faults_of self.new) result };
+
+    /// How many calls have failed. It never falls, and stands still at the last value of its type.
+    fn faults(&self) -> u64
+        ensures { result ≡ faults_of self.now };
+
+    ghost stays: { (b : Self) → IsTrue tells → rests b → goes b b };
+
+    ghost kept: { (b : Self) → keeps b b };
+
+    ghost kept_on: { (a b c : Self) → keeps a b → keeps b c → keeps a c };
+
+    ghost stands: { (b : Self) → moves b b };
+
+    ghost joined: { (a b c : Self) → moves a b → goes a b → goes b c → goes a c };
+
+    ghost moved: { (a b c : Self) → moves a b → moves b c → moves a c };
+
+    ghost failed: { (a b c : Self) (e : Wrong) → moves a b → fails b c e → fails a c e };
+}
