@@ -120,8 +120,8 @@ WriteLeavesOthers s statement old new = (h : ActsHeld) → h.engine ≡ old
 
 -- ---- its Lock
 
--- Whatever state is shown, to which a legal tape may have led with the session's Lock next: once that
--- is granted it can make its Write.
+-- Whatever state is shown, to which a legal tape may have led with the session's Lock next: once
+-- that is granted it can make its Write.
 abbrev pub LockPrepares : ℕ → Statement → Prepared → ActsHeld → ActsHeld → Type 0
 LockPrepares s statement p old new = (low : ℕ) (state : State) → ShowsActs low old state
     → IsKept state → IsReady state statement act.Lock (transaction_of state s)
