@@ -18,10 +18,10 @@ use Rattle.ctr_model.specs.State.{transaction_of, with_transaction}
 use Rattle.ctr_model.specs.Refusals.{table_of, key_written, changes_schema, others, first_session, is_busy, key_refusals, refusal_of}
 use Rattle.ctr_model.specs.Reply.{refused_or, reply_from, MayStandFor, next_from, on_table, with_lock}
 use Rattle.ctr_model.proofs.Sessions.{known, find-put-other, find-put-same}
-use Rattle.ctr_versions.specs.Engine.{SessionHeld, EngineHeld}
+use Rattle.ctr_versions.specs.Engine.{SessionHeld, EngineHeld, ShowsState}
 use Rattle.ctr_versions.specs.Laws.{IsGranted}
 use Rattle.ctr_versions.proofs.Keys.{some_is}
-use Rattle.ctr_rows.specs.Running.{engine_of}
+use Rattle.ctr_rows.specs.Running.{HeldEngine, engine_of}
 use Rattle.ctr_locks.specs.declared.locks.Held.{Held}
 use Rattle.ctr_locks.specs.Shows.{LocksStay, GrantShows, LocksAnswerTheModel, held_found}
 use Rattle.ctr_legal.specs.Kept.{IsKept}
@@ -29,12 +29,16 @@ use Rattle.ctr_legal.specs.Ready.{IsUnasked, IsReady}
 use Rattle.ctr_legal.proofs.Keep.{grants, key_free}
 use Rattle.ctr_sessions.specs.Sessions.{IsDrawnFor}
 use Rattle.ctr_sessions.specs.Steps.{LockShows, LockLeaves, RoomShows}
+use Rattle.ctr_sessions.specs.Views.{SeesAlike, DrawsSeeAlike}
+use Rattle.ctr_acts.specs.declared.prepared.Prepared.{Prepared}
+use Rattle.ctr_acts.specs.Writing.{made_for, put_by, HasRoomAt, OthersCan, OthersCanWrite, LockPrepares}
 use Rattle.ctr_acts.specs.Acts.{ActsHeld, begun_of, ShowsActs, ActReplies, ActKeeps}
 use Rattle.ctr_acts.specs.Seats.{RefusesAlike}
 use Rattle.ctr_acts.specs.Locking.{taken_reply, IsFreeFor, taken_by, SameEngine, DrawsOnce, MayLock, LockGrants, LockStays}
 use Rattle.ctr_acts.proofs.Ending.{session, here}
 use Rattle.ctr_acts.proofs.Replying.{replies_inside}
 use Rattle.ctr_acts.proofs.Showing.{somebody}
+use Rattle.ctr_acts.proofs.Others.{then_others, seen_can, others_can}
 
 -- what is free nobody has
 pub free_is : (h : ActsHeld) (low : ℕ) (state : State) (s : ℕ) (name : List ℕ) (key : Option ℤ) → LocksAnswerTheModel → ShowsActs low h state → IsFreeFor state s name key → taken_by s name key h.locks ≡ None
@@ -176,10 +180,40 @@ module _ (s : ℕ) (old new : ActsHeld) (entered : is_some (find nat_cmp s old.l
         (stays low state t.me shows (may_lock low state shows kept ready t.me t.at))
 
 -- what a refused call answers
-pub short_reply : (r : Result (Unit {0}) OutOfMemory) → IsErr r → taken_reply r ≡ reply.Refused refusal.OutOfMemory
+pub short_reply : (r : Result Prepared OutOfMemory) → IsErr r → taken_reply r ≡ reply.Refused refusal.OutOfMemory
 short_reply (Ok u) is = absurd (false≢true is)
 short_reply (Err e) is = refl
 
 pub if_some : {A : Type 0} (o : Option A) (P : A → Type 0) → ((a : A) → o ≡ Some a → P a) → IfSome o P
 if_some None P each = tt
 if_some (Some a) P each = each a refl
+
+-- ---- what was prepared can be done
+
+-- the session sees what it saw when its number is drawn
+own_sees : DrawsSeeAlike → (s : ℕ) (old new : HeldEngine) → DrawsOnce s old new → (low : ℕ) (state : State) → ShowsState low (engine_of old) state → (mine : SessionHeld) → find nat_cmp s (engine_of old).sessions ≡ Some mine → SeesAlike s (engine_of old) (engine_of new)
+own_sees law s old new draws low state shows mine at = known (not (mine.me == 0))
+    (λ drawn. subst (SeesAlike s (engine_of old)) (sym (subst (λ b. LockLeaves b s mine (engine_of old) (engine_of new)) drawn (draws mine at))) (record { names = λ name. refl; rows = λ id key. refl }))
+    (λ undrawn. subst (SeesAlike s (engine_of old)) (sym (subst (λ b. LockLeaves b s mine (engine_of old) (engine_of new)) undrawn (draws mine at)))
+    (law low (engine_of old) state s mine shows at (eqb-true mine.me 0 (not_false (mine.me == 0) undrawn))))
+  where
+    not_false : (b : Bool) → not b ≡ false → b ≡ true
+    not_false true is = refl
+    not_false false is = absurd (true≢false is)
+
+pub lock_prepares : DrawsSeeAlike → (s : ℕ) (statement : Statement) (name : List ℕ) (old new : ActsHeld) (mid : HeldEngine) (p : Prepared) → table_of statement ≡ Some name → is_some (find nat_cmp s old.locks) ≡ true → SameEngine old.engine mid
+    → HasRoomAt mid.store (made_for mid s name) name (key_written statement) → p ≡ put_by mid s statement name → DrawsOnce s mid new.engine → new.engine.store ≡ mid.store → LockPrepares s statement p old new
+lock_prepares law s statement name old new mid p named entered same room is draws store low state shows kept ready =
+    let t = somebody s old entered low state shows in
+    let held = shows.begun.shows.inside s t.me t.at in
+    let one : (n : List ℕ) → table_of statement ≡ Some n → name ≡ n = λ n named_n. some_is name n (sym named ∙ named_n) in
+    seen_can s statement p mid new.engine (own_sees law s mid new.engine draws low state (same.keeps low state shows.begun.shows) held.0 (ap (find nat_cmp s) same.sessions ∙ held.1)) store
+    (record {
+      room = λ n named_n. subst (λ q. HasRoomAt mid.store (made_for mid s q) q (key_written statement)) (one n named_n) room;
+      prepared = λ n named_n. is ∙ ap (put_by mid s statement) (one n named_n);
+    })
+
+-- ---- and the others' Writes
+
+pub lock_others : (s : ℕ) (statement : Statement) (old new : ActsHeld) (mid : HeldEngine) → SameEngine old.engine mid → OthersCan s old.engine mid → OthersCan s mid new.engine → OthersCanWrite s act.Lock statement old new
+lock_others s statement old new mid same first second = others_can s act.Lock statement old new (then_others s old.engine mid new.engine same.keeps first second)

@@ -1,6 +1,8 @@
 -- What an act leaves to the others that were granted the lock of a Write: its room, and what it will do.
-use Rattle.std.proofs.Common.{◌≡◌, ℕ, ℤ, ◌==◌, true, false, List, Option, Some, None, refl, sym, ◌∙◌, ap, subst}
-use Rattle.std.specs.Ordering.{int_cmp, int_eq}
+use Rattle.std.proofs.Common.{◌≡◌, ℕ, ℤ, ◌==◌, true, false, List, Option, Some, None, Result, Ok, Err, OnOk, refl, sym, ◌∙◌, ap, subst}
+use Rattle.std.specs.Prelude.{is_some}
+use Rattle.std.specs.FinMap.Entries.{find}
+use Rattle.std.specs.Ordering.{nat_cmp, int_cmp, int_eq}
 use Rattle.std.specs.Cmp.{signed_Decides}
 use Rattle.std.proofs.lemmas.Bool.{and_parts, eqb-true, ne_eqb, eq-eqb, false≢true}
 use Rattle.ctr_types.specs.declared.value.Row.{Row}
@@ -15,7 +17,8 @@ use Rattle.ctr_model.proofs.Sessions.{known}
 use Rattle.ctr_versions.specs.Chains.{value_seen}
 use Rattle.ctr_versions.specs.Listing.{chain_at}
 use Rattle.ctr_versions.specs.Versions.{Made, names_at, rows_of, is_slot}
-use Rattle.ctr_versions.specs.Engine.{EngineHeld}
+use Rattle.ctr_versions.specs.Engine.{SessionHeld, EngineHeld}
+use Rattle.ctr_versions.specs.Steps.{engine_drawn}
 use Rattle.ctr_versions.specs.Laws.{sees_of, SetsRow, SetsName, RoomKeeps}
 use Rattle.ctr_versions.proofs.Keys.{same_text}
 use Rattle.ctr_chains.specs.Stored.{HeldStore, versions_of, HasVersionRoom, HasNameRoom, RoomsStay, no_row, no_name}
@@ -23,7 +26,7 @@ use Rattle.ctr_rows.specs.Running.{HeldEngine, engine_of}
 use Rattle.ctr_legal.specs.Kept.{IsKept}
 use Rattle.ctr_legal.specs.Ready.{HasKey, MayWrite}
 use Rattle.ctr_sessions.specs.Answers.{columns_seen}
-use Rattle.ctr_sessions.specs.Views.{OthersSeeAlike, SeesAlike}
+use Rattle.ctr_sessions.specs.Views.{OthersSeeAlike, ViewsStay, SeesAlike}
 use Rattle.ctr_acts.specs.declared.prepared.Prepared.{Prepared}
 use Rattle.ctr_acts.specs.Acts.{ActsHeld, ShowsActs}
 use Rattle.ctr_acts.specs.Writing.{made_for, row_for, put_for, put_by, HasRoomAt, CanWrite, OthersCan, OthersCanWrite}
@@ -115,6 +118,24 @@ module _ (s : ℕ) (old new : HeldEngine) where
     row_room = λ made k is key_is room. rooms.rows made.id k refl room;
     name_room = λ none room. rooms.names other refl room;
   }) can
+
+-- a session drew its number
+found : (o : Option SessionHeld) → is_some o ≡ true → (mine : SessionHeld) × (o ≡ Some mine)
+found None is = absurd (false≢true is)
+found (Some mine) is = (mine, refl)
+
+pub drawn_others : ViewsStay → (s : ℕ) (old new : HeldEngine) → is_some (find nat_cmp s old.sessions) ≡ true → ((mine : SessionHeld) → find nat_cmp s old.sessions ≡ Some mine → engine_of new ≡ engine_drawn s mine (engine_of old)) → new.store ≡ old.store → OthersCan s old new
+drawn_others views s old new there leaves same =
+    let mine = found (find nat_cmp s old.sessions) there in
+    step_others s old new (subst (OthersSeeAlike s (engine_of old)) (sym (leaves mine.0 mine.1)) (views.drawn s mine.0 (engine_of old))) same
+
+-- room for a row was taken in the table that the session sees
+pub row_room_at : (s : ℕ) (name : List ℕ) (old new : HeldEngine) (made : Made) (key : ℤ) → made_for old s name ≡ Some made → SetsRow (engine_of old) (engine_of new) made.id key (rows_of (engine_of old).versions made.id key) → HasVersionRoom made.id key new.store → HasRoomAt new.store (made_for new s name) name (Some key)
+row_room_at s name old new made key seen set room = subst (λ m. HasRoomAt new.store m name (Some key)) (sym (made_same old new s (same_sees s old new set.rest s) name (ap (chain_at name_cmp name) set.set.names) ∙ seen)) room
+
+pub on_ok : {A E : Type 0} (r : Result A E) (P Q : Type 0) → (P → Q) → OnOk r P → OnOk r Q
+on_ok (Ok x) P Q f p = f p
+on_ok (Err e) P Q f p = tt
 
 -- ---- one step behind another, which keeps what is shown
 

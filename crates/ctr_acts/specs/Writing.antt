@@ -117,3 +117,12 @@ WriteKeeps s statement old new r = (h : ActsHeld) → h.engine ≡ old
 abbrev pub WriteLeavesOthers : ℕ → Statement → HeldEngine → HeldEngine → Type 0
 WriteLeavesOthers s statement old new = (h : ActsHeld) → h.engine ≡ old
     → OthersCanWrite s act.Write statement h (record h { engine = new })
+
+-- ---- its Lock
+
+-- Whatever state is shown, to which a legal tape may have led with the session's Lock next: once
+-- that is granted it can make its Write.
+abbrev pub LockPrepares : ℕ → Statement → Prepared → ActsHeld → ActsHeld → Type 0
+LockPrepares s statement p old new = (low : ℕ) (state : State) → ShowsActs low old state
+    → IsKept state → IsReady state statement act.Lock (transaction_of state s)
+    → CanWrite new.engine s statement p

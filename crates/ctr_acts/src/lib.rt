@@ -10,4 +10,4 @@ mod reading;
 mod writing;
 
 pub use acts::Acts;
-pub use prepared::{Prepared, prepare};
+pub use prepared::Prepared;

@@ -1,18 +1,21 @@
 // A Lock: room is taken first, so that the lock itself, once a number is drawn, can't fail.
-ghost use Rattle.std.specs.Prelude.{◌≡◌, OnOk, OnErr, Some, None, IfSome};
+ghost use Rattle.std.specs.Prelude.{◌≡◌, OnOk, OnErr, IfOk, Some, None, IfSome};
 ghost use Rattle.ctr_types.specs.declared.tape.Act.TheVariants as act;
 ghost use Rattle.ctr_types.specs.declared.tape.Reply.TheVariants as reply;
 ghost use Rattle.ctr_model.specs.Reply.{with_lock};
 ghost use Rattle.ctr_locks.specs.Held.{IsEntered, SameEntered};
 ghost use Rattle.ctr_locks.specs.Shows.{LocksStay, GrantShows, held_found};
 ghost use Rattle.ctr_acts.specs.Acts.{ActKeeps};
+ghost use Rattle.ctr_chains.specs.Stored.{HasNameRoom};
+ghost use Rattle.ctr_acts.specs.Writing.{made_for, HasRoomAt, OthersCan, OthersCanWrite, LockPrepares};
 ghost use Rattle.ctr_acts.specs.Locking.{taken_by, taken_reply, MayTake, HasLockRoom, SameEngine, DrawsOnce, Stays, LockGrants, LockStays};
 
 use crate::acts::Acts;
+use crate::prepared::{Prepared, prepare};
 use ctr_locks::{Held, Locks, locks_are_the_models};
 use ctr_model::Key;
 use ctr_rows::Engine;
-use ctr_sessions::{locks_and_reads_show, writes_show};
+use ctr_sessions::{locks_and_reads_show, views_stay, writes_show};
 use ctr_statement::{key_written, table_of};
 use ctr_types::{Act, Name, OutOfMemory, Plain, Refusal, Statement};
 use std::alloc::Global;
@@ -58,15 +61,19 @@ fn make_room(
     name: &Name,
     key: &Option<Key>,
 ) -> Result<(), OutOfMemory>
-    ensures { SameEngine engine.old engine.new }
+    ensures same { SameEngine engine.old engine.new }
+    ensures room { OnOk result (HasRoomAt engine.new.store (made_for engine.new s name.now) name.now key.now) }
+    ensures others { OthersCan s engine.old engine.new }
+    ensures next { engine.new.store.next ≡ engine.old.store.next }
 {
     match key {
         Some(key) => make_row_room(engine, alloc, s, name, *key),
-        None => make_name_room(engine, alloc, name),
+        None => make_name_room(engine, alloc, s, name),
     }
 }
 
-// Takes room for one version more of a row in the table that the session sees.
+// Takes room for one version more of a row in the table that the session sees: nothing refuses its Lock, so there is
+// one.
 fn make_row_room(
     engine: &mut Engine,
     alloc: Global,
@@ -74,18 +81,24 @@ fn make_row_room(
     name: &Name,
     key: Key,
 ) -> Result<(), OutOfMemory>
-    ensures { SameEngine engine.old engine.new }
+    ensures same { SameEngine engine.old engine.new }
+    ensures room { OnOk result (HasRoomAt engine.new.store (made_for engine.new s name.now) name.now (Some key)) }
+    ensures others { OthersCan s engine.old engine.new }
+    ensures next { engine.new.store.next ≡ engine.old.store.next }
 {
     let Some(made) = engine.table(s, name) else {
-        return Ok(());
+        return Err(OutOfMemory);
     };
     let id = made.id;
     engine.make_row_room(alloc, id, key)
 }
 
 // Takes room for one version more of a name.
-fn make_name_room(engine: &mut Engine, alloc: Global, name: &Name) -> Result<(), OutOfMemory>
-    ensures { SameEngine engine.old engine.new }
+fn make_name_room(engine: &mut Engine, alloc: Global, s: u8, name: &Name) -> Result<(), OutOfMemory>
+    ensures same { SameEngine engine.old engine.new }
+    ensures room { OnOk result (HasNameRoom name.now engine.new.store) }
+    ensures others { OthersCan s engine.old engine.new }
+    ensures next { engine.new.store.next ≡ engine.old.store.next }
 {
     let copy = name.copy(alloc)?;
     engine.make_table_room(alloc, copy)
@@ -95,7 +108,10 @@ fn make_name_room(engine: &mut Engine, alloc: Global, name: &Name) -> Result<(),
 fn draw_once(engine: &mut Engine, alloc: Global, s: u8) -> Result<(), OutOfMemory>
     ensures draws { OnOk result (DrawsOnce s engine.old engine.new) }
     ensures same { OnErr result (SameEngine engine.old engine.new) }
+    ensures others { OthersCan s engine.old engine.new }
+    ensures store { engine.new.store ≡ engine.old.store }
 {
+    views_stay();
     if engine.me(s) != 0 {
         return Ok(());
     }
@@ -117,18 +133,29 @@ impl Acts {
     }
 
     /// A Lock that nothing refuses: of the row's key with a use of its table, or the hold of the table's name. It takes
-    /// the memory that the write will want; where that is refused, the session stays as it was.
-    pub fn take(&mut self, alloc: Global, s: u8, statement: &Statement) -> Result<(), OutOfMemory>
+    /// the memory that the write will want, and gives what the write will do; where memory is refused, the session stays
+    /// as it was.
+    pub fn take(
+        &mut self,
+        alloc: Global,
+        s: u8,
+        statement: &Statement,
+    ) -> Result<Prepared, OutOfMemory>
         requires { MayTake s statement.now self.old }
-        ensures { ActKeeps s act.Lock statement.now self.old self.new (taken_reply result) }
+        ensures keeps { ActKeeps s act.Lock statement.now self.old self.new (taken_reply result) }
+        ensures can { IfOk result (λ p. LockPrepares s statement.now p self.old self.new) }
+        ensures others { OthersCanWrite s act.Lock statement.now self.old self.new }
+        ensures next { self.new.engine.store.next ≡ self.old.engine.store.next }
     {
+        views_stay();
         let Some(name) = table_of(statement) else {
             return Err(OutOfMemory);
         };
         let key = key_written(statement);
         self.make_room(alloc, s, name, &key)?;
+        let prepared = prepare(alloc, &self.engine, s, statement, name)?;
         self.grant(alloc, s, name, &key)?;
-        Ok(())
+        Ok(prepared)
     }
 
     // Takes room for a lock and its write.
@@ -142,6 +169,10 @@ impl Acts {
         requires { IsEntered s self.old.locks }
         ensures stays { Stays self.old self.new }
         ensures room { OnOk result (HasLockRoom s name.now key.now self.new.locks) }
+        ensures write { OnOk result (HasRoomAt self.new.engine.store (made_for self.new.engine s name.now) name.now key.now) }
+        ensures same { SameEngine self.old.engine self.new.engine }
+        ensures others { OthersCan s self.old.engine self.new.engine }
+        ensures next { self.new.engine.store.next ≡ self.old.engine.store.next }
     {
         writes_show();
         make_room(&mut self.engine, alloc, s, name, key)?;
@@ -160,6 +191,9 @@ impl Acts {
         requires { HasLockRoom s name.now key.now self.old.locks }
         ensures grants { OnOk result (LockGrants s name.now key.now self.old self.new) }
         ensures stays { OnErr result (LockStays s name.now key.now self.old self.new) }
+        ensures draws { OnOk result (DrawsOnce s self.old.engine self.new.engine) }
+        ensures others { OthersCan s self.old.engine self.new.engine }
+        ensures store { self.new.engine.store ≡ self.old.engine.store }
     {
         locks_and_reads_show();
         locks_are_the_models();

@@ -1,5 +1,5 @@
 // The engine: each call leaves what its step says, and keeps that the engine shows the model's state.
-ghost use Rattle.std.specs.Prelude.{◌≡◌, ◌==◌, ◌&&◌, not, nat_lt, if◌then◌else◌, ◌<◌, ◌+◌, ◌^◌, ℕ, true, false, length, [], Some, None, List, ◌-◌, IfOk, OnOk, OnErr, IfSome, map, option_copied};
+ghost use Rattle.std.specs.Prelude.{◌≡◌, ◌==◌, ◌&&◌, not, nat_lt, if◌then◌else◌, ◌<◌, ◌+◌, ◌^◌, ℕ, true, false, length, [], Some, None, List, ◌-◌, IfOk, OnOk, OnErr, IfSome, is_some, map, option_copied};
 ghost use Rattle.std.specs.Ordering.{nat_cmp};
 ghost use Rattle.std.specs.FinMap.Entries.{find};
 ghost use Rattle.ctr_model.specs.State.{at_rest, same_name};
@@ -100,6 +100,7 @@ impl Engine {
         ensures value { IfOk result (λ x. x ≡ self.old.xids.next) }
         ensures refused { OnErr result (RoomKeeps (engine_of self.old) (engine_of self.new)) }
         ensures stays { OnErr result (self.new.sessions ≡ self.old.sessions) }
+        ensures there { OnOk result (is_some (find nat_cmp s self.old.sessions) ≡ true) }
         ensures numbers { OnErr result ((x : ℕ) → number_of self.new.xids x ≡ number_of self.old.xids x) }
     {
         let Some(session) = self.sessions.get(&s) else {

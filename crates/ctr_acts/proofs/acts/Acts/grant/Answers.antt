@@ -1,6 +1,7 @@
 use Rattle.std.proofs.Common.{refl, subst}
 use Rattle.ctr_acts.specs.Acts.{ActsHeld}
 use Rattle.ctr_acts.specs.Locking.{LockGrants, LockStays}
+use Rattle.ctr_acts.specs.Writing.{OthersCan}
 use Rattle.ctr_acts.proofs.Granting.{room_shows, on_err, lock_stays, lock_grants, lock_refused}
 use Rattle.ctr_acts.proofs.acts.Acts.grant.Goals as goal
 
@@ -25,3 +26,12 @@ returns-clause-grants c =
     let new : ActsHeld = record { engine = c.draw_once.new.engine; locks = c.take.new.locks; since = c.self.inside.since; stuck = c.self.inside.stuck } in
     subst (λ o. LockGrants c.args.s c.args.name.now c.args.key.now o new) c.self.view_is
     (lock_grants c.args.s c.args.name.now c.args.key.now old new c.locks_and_reads_show.ensures.lock c.in_ok-draw_once.ensures.draws refl refl c.in-Ok.ensures.grants)
+
+pub returns-in_err-draw_once-clause-others : goal.returns-in_err-draw_once-clause-others
+returns-in_err-draw_once-clause-others c = subst (λ (h : ActsHeld). OthersCan c.args.s h.engine c.draw_once.new.engine) c.self.view_is c.draw_once.ensures.others
+
+pub returns-in_default-clause-others : goal.returns-in_default-clause-others
+returns-in_default-clause-others c = subst (λ (h : ActsHeld). OthersCan c.args.s h.engine c.draw_once.new.engine) c.self.view_is c.draw_once.ensures.others
+
+pub returns-clause-others : goal.returns-clause-others
+returns-clause-others c = subst (λ (h : ActsHeld). OthersCan c.args.s h.engine c.draw_once.new.engine) c.self.view_is c.draw_once.ensures.others
