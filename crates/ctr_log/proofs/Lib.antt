@@ -9,4 +9,5 @@ pub mod NearLemmas
 pub mod InitLemmas
 pub mod KeptLaws
 pub mod StartLemmas
+pub mod GenerationLemmas
 mod KeptReading

@@ -14,7 +14,7 @@ use Rattle.ctr_log.specs.declared.log.LogFile.TheInside.{Inside}
 use Rattle.ctr_log.specs.Logs.{Log, frame, frames, batch, records, sealed, unframed, HasBatches, HasLog, Extends, IsBeforeOrAfter, IsAfter}
 use Rattle.ctr_log.specs.LogFile.{log_of, IsWriter}
 use Rattle.ctr_log.specs.Reading.{log_file}
-use Rattle.ctr_log.specs.Kept.{other_file, next_file, IsDropped, WritesOne, WritesBy, WritesBehind, KeepsPrefix, GoesOnWith, StaysDropped, CanStart}
+use Rattle.ctr_log.specs.Kept.{other_file, next_file, IsDropped, WritesOne, WritesBy, WritesBehind, KeepsPrefix, GoesOnWith, StaysDropped, CanBegin}
 use Rattle.ctr_log.proofs.LogLemmas.{length-unframed, length-frame, length-batch}
 use Rattle.ctr_log.proofs.KeptLaws.{shut_front, begun_front, begun_holds, begun_log, kept_two}
 
@@ -46,7 +46,7 @@ next_other zero = refl
 next_other (suc n) = refl
 
 -- a writer that can start a generation
-module _ (a : Inside) (keeps : IsWriter a) (log : Log) (view : log_of a ≡ log) (r : List ℕ) (can : CanStart (length r) log) (long : vec_len a.buffer ≡ length a.buffer.items) where
+module _ (a : Inside) (keeps : IsWriter a) (log : Log) (view : log_of a ≡ log) (r : List ℕ) (can : CanBegin (length r) log) (long : vec_len a.buffer ≡ length a.buffer.items) where
   pub none_waits : a.count ≡ 0
   none_waits = omega (arith, length-unframed a.count (drop 20 a.buffer.items), ap length (ap (λ (v : Log). v.buffered) view ∙ can.empty))
 

@@ -12,6 +12,7 @@ use Rattle.ctr_log.specs.Logs.{Batches, frames, records, unframed, HasLog, Log, 
 use Rattle.ctr_log.specs.declared.reading.ReadError.{ReadError}
 use Rattle.ctr_log.specs.declared.reading.ReadError.TheVariants.{Store, OutOfMemory}
 use Rattle.ctr_log.specs.Reading.{log_file, HasSome, NamesLog}
+use Rattle.ctr_log.specs.Fresh.{SameRoot}
 
 -- The records in bytes, of n open batches at most and up to the first closed gate. A place past the
 -- end counts as a closed gate.
@@ -114,19 +115,41 @@ pub record GoesOnWith (file first : ℕ) (rs : List (List ℕ)) (log : Log) (old
   pub log_is : kept_log file first new ≡ kept_log file first old ++ rs
   pub writes : WritesBehind file first log new
 
--- what the start of a generation wants of the writer, for a first record of so many bytes: nothing
--- waits, one generation is kept, and room and a number are left
+-- an image holds the log of an older one with a prefix of these records behind it, and the root and
+-- the pages are as they were
+pub record HoldsPrefix (file first : ℕ) (rs : List (List ℕ)) (old new : Image) : Type 0 where
+  pub same : SameRoot old new
+  pub count : ℕ
+  pub holds : HoldsLog file first (kept_log file first old ++ take count rs) new
+
+-- after a call the writer goes on behind the log of before with all these records, and the root and
+-- the pages are as they were
+pub record GoesOnBehind (file first : ℕ) (rs : List (List ℕ)) (log : Log) (old new : Image)
+    : Type 0 where
+  pub same : SameRoot old new
+  pub log_is : kept_log file first new ≡ kept_log file first old ++ rs
+  pub writes : WritesBehind file first log new
+
+-- what the start of a generation wants of the writer, for a first record of so many bytes: one
+-- generation is kept, and room and a number are left
 pub record CanStart (bytes : ℕ) (log : Log) : Type 0 where
+  pub one : log.older ≡ false
+  pub room : 8 + bytes ≤ log.room
+  pub number : log.first + length log.buffered < 2 ^ 63 - 1
+  pub small : bytes < 2 ^ 62
+
+-- the same, and nothing waits
+pub record CanBegin (bytes : ℕ) (log : Log) : Type 0 where
   pub empty : log.buffered ≡ []
   pub one : log.older ≡ false
   pub room : 8 + bytes ≤ log.room
   pub number : log.first < 2 ^ 63 - 1
   pub small : bytes < 2 ^ 62
 
--- how the start of a generation leaves the writer
+-- how the start of a generation leaves the writer: the number goes on behind the records that waited
 pub record IsStarted (old new : Log) : Type 0 where
   pub older : new.older ≡ true
-  pub next : new.first ≡ old.first + 1
+  pub next : new.first ≡ old.first + length old.buffered + 1
   pub empty : new.buffered ≡ []
 
 -- the file that a generation behind one in this file goes to

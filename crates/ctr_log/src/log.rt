@@ -9,7 +9,7 @@ ghost use Rattle.ctr_disk.specs.Device.{LeavesOnly, IsDurable, IsSettled, OnlyRe
 ghost use Rattle.ctr_bytes.specs.Fields.{spelled};
 ghost use Rattle.ctr_log.specs.Reading.{IsEmptyAt};
 ghost use Rattle.ctr_log.specs.Logs.{Batches, headed, sealed, frame, frames, records, HasLog, HasBatches, GoesOn, Extends, IsBeforeOrAfter, IsAfter, IsFlushing, IsEmptied, with_batch};
-ghost use Rattle.ctr_log.specs.Kept.{next_file, StaysDropped, CanStart, IsStarted, WritesBehind, KeepsPrefix, GoesOnWith};
+ghost use Rattle.ctr_log.specs.Kept.{next_file, StaysDropped, CanStart, CanBegin, IsStarted, HoldsPrefix, GoesOnBehind, WritesBehind, KeepsPrefix, GoesOnWith};
 
 use ctr_bytes::{put_u32, put_u64};
 use ctr_disk::{Disk, Failed, StoreFault, write_through};
@@ -153,8 +153,10 @@ impl LogFile {
         Ok(())
     }
 
-    /// Begins a generation in the other file with this record, for which room was taken. A crash at
-    /// any moment leaves the log of before, or that with the record. It takes no memory.
+    /// Flushes what waits, and then begins a generation in the other file with this record, for which
+    /// room was taken. So the new one begins once the current one is durable and whole: a crash at any
+    /// moment leaves the log with a prefix of the records that waited and this one, and after Ok with
+    /// all. It takes no memory.
     pub fn start_generation<D: Disk>(
         &mut self,
         disk: &mut D,
@@ -162,11 +164,30 @@ impl LogFile {
     ) -> Result<(), StoreFault>
         requires { CanStart (length first.now) self.old }
         ensures any_moment { (named oldest : ℕ) → IsSettled D.Disk disk.old → WritesBehind named oldest self.old (D.reads disk.old)
+            → LeavesOnly D.Disk disk.old disk.new (HoldsPrefix named oldest (self.old.buffered ++ first.now ∷ []) (D.reads disk.old)) }
+        ensures begun { (named oldest : ℕ) → IsTrue D.tells → WritesBehind named oldest self.old (D.reads disk.old)
+            → OnOk result (GoesOnBehind named oldest (self.old.buffered ++ first.now ∷ []) self.new (D.reads disk.old) (D.reads disk.new)) }
+        ensures writer { OnOk result (IsStarted self.old self.new) }
+        ensures durable { OnOk result (IsDurable D.Disk disk.new) }
+        ensures refused { OnErr result (result ≡ Err Fault) }
+        ensures later { D.moment_of disk.old ≤ D.moment_of disk.new }
+        ensures faults { HasFault Fault (D.faults_of disk.old) (D.faults_of disk.new) result }
+        // Only a write at the last places counts as a stray.
+        ensures stray { StraysOnlyPast (D.strays_of disk.old) (D.strays_of disk.new) (self.old.place + (22 + length (frames self.old.buffered))) result }
+    {
+        self.flush(disk)?;
+        self.begin(disk, first)
+    }
+
+    // The same where nothing waits.
+    fn begin<D: Disk>(&mut self, disk: &mut D, first: &[u8]) -> Result<(), StoreFault>
+        requires { CanBegin (length first.now) self.old }
+        ensures any_moment { (named oldest : ℕ) → IsSettled D.Disk disk.old → WritesBehind named oldest self.old (D.reads disk.old)
             → LeavesOnly D.Disk disk.old disk.new (KeepsPrefix (next_file self.old.file) named oldest (first.now ∷ []) (D.reads disk.old)) }
         ensures begun { (named oldest : ℕ) → IsTrue D.tells → WritesBehind named oldest self.old (D.reads disk.old)
             → OnOk result (GoesOnWith named oldest (first.now ∷ []) self.new (D.reads disk.old) (D.reads disk.new)) }
         ensures writer { OnOk result (IsStarted self.old self.new) }
-        ensures durable { IsDurable D.Disk disk.old → OnOk result (IsDurable D.Disk disk.new) }
+        ensures durable { OnOk result (IsDurable D.Disk disk.new) }
         ensures refused { OnErr result (result ≡ Err Fault) }
         ensures counts { CountsAs D.Disk Fault disk.old disk.new result }
     {

@@ -127,8 +127,13 @@ const FIRST: Given = Given(1, File::LogA, 29, b'a');
 
 const SECOND: Given = Given(2, File::LogB, 29, b'b');
 
-// The next number, and the first two records that were given.
-type Kept = (u64, [Given; 2]);
+// One behind the older batch, and the one of the other file behind that.
+const FLUSHED: Given = Given(2, File::LogA, 59, b'c');
+
+const THIRD: Given = Given(3, File::LogB, 29, b'b');
+
+// The next number, and the first three records that were given.
+type Kept = (u64, [Given; 3]);
 
 fn given_at(gathered: &Gathered, index: usize) -> Given {
     let visits = gathered.visits();
@@ -145,7 +150,12 @@ fn kept(alloc: Global, disk: &mut Still, root: &Root) -> Result<Kept, ReadError>
 {
     let mut gathered = Gathered::new(alloc);
     let log = read_all(alloc, disk, root, &mut gathered)?;
-    Ok((log.next(), [given_at(&gathered, 0), given_at(&gathered, 1)]))
+    let given = [
+        given_at(&gathered, 0),
+        given_at(&gathered, 1),
+        given_at(&gathered, 2),
+    ];
+    Ok((log.next(), given))
 }
 
 // What is read where LogA has the older batch and LogB these bytes.
@@ -154,9 +164,13 @@ fn read(alloc: Global, other: &[u8]) -> Result<Kept, ReadError> {
     kept(alloc, &mut disk, &ROOT)
 }
 
-const ONE: Result<Kept, ReadError> = Ok((2, [FIRST, NONE]));
+const ONE: Result<Kept, ReadError> = Ok((2, [FIRST, NONE, NONE]));
 
-const BOTH: Result<Kept, ReadError> = Ok((3, [FIRST, SECOND]));
+const BOTH: Result<Kept, ReadError> = Ok((3, [FIRST, SECOND, NONE]));
+
+const TWO: Result<Kept, ReadError> = Ok((3, [FIRST, FLUSHED, NONE]));
+
+const ALL: Result<Kept, ReadError> = Ok((4, [FIRST, FLUSHED, THIRD]));
 
 fn damaged(at: u64, want: u128, got: u128) -> Result<Kept, ReadError> {
     Err(ReadError::Store(StoreFault::Damaged {
@@ -302,6 +316,43 @@ fn each_moment_of_a_generation_that_begins(rt: HostRuntime) -> Result<(), Fail> 
     Ok(())
 }
 
+// The same with a record "c" that waits.
+fn start_behind(alloc: Global, disk: &mut Still) -> Result<(), Fail> {
+    let mut log = read_all(alloc, disk, &ROOT, &mut Gathered::new(alloc))?;
+    log.forget_older();
+    log.reserve(18)?;
+    if log.next() < 9 {
+        log.append(b"c");
+        log.start_generation(disk, b"b")?;
+    }
+    Ok(())
+}
+
+// Whether each image after so many calls has the log of before, with the one that waited, or with both;
+// and in their order.
+fn goes_on(alloc: Global, disk: &Still, count: usize, whole: bool) -> Result<bool, AllocError> {
+    for digits in 0..64 {
+        let kept = kept_in(alloc, disk.image_left(count, digits)?)?;
+        if kept != ALL && (whole || kept != TWO && kept != ONE) {
+            return Ok(false);
+        }
+    }
+    Ok(true)
+}
+
+#[test]
+fn a_generation_begins_behind_what_waits(rt: HostRuntime) -> Result<(), Fail> {
+    let alloc = rt.alloc();
+    let mut disk = disk_of(alloc, &OLDER, &[])?;
+    start_behind(alloc, &mut disk)?;
+    let calls = disk.calls().len();
+    for count in 0..calls {
+        assert!(rt; goes_on(alloc, &disk, count, false)?);
+    }
+    assert!(rt; goes_on(alloc, &disk, calls, true)?);
+    Ok(())
+}
+
 fn root_named(stamp: u64, file: u8, first: u64) -> Root {
     Root {
         stamp,
@@ -328,7 +379,7 @@ fn kept_by_root(alloc: Global, image: Image) -> Result<Option<Kept>, Fail> {
 fn drops(alloc: Global, disk: &Still, count: usize, whole: bool) -> Result<bool, Fail> {
     for digits in 0..64 {
         let kept = kept_by_root(alloc, disk.image_left(count, digits)?)?;
-        if kept != Some((3, [SECOND, NONE])) && (whole || kept != BOTH.ok()) {
+        if kept != Some((3, [SECOND, NONE, NONE])) && (whole || kept != BOTH.ok()) {
             return Ok(false);
         }
     }

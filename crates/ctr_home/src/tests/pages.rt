@@ -1,0 +1,99 @@
+// Pages: bytes by hand, and which home has the value.
+use crate::tests::laid::{
+    HOME_5, HOME_6, Laid, SHUT_8, Seen, TWO, Told, ZEROS, body_of, lay, look, told,
+};
+use crate::tests::still::{Still, disk_of};
+use crate::{Block, is_open, read_home, write_home};
+use ctr_disk::{Disk, Failed, Stamp, StoreFault};
+use ctr_types::File;
+use std::alloc::{AllocError, Global};
+use std::test::Fail;
+
+fn write_page(disk: &mut Still, page: u32) -> Result<(), StoreFault> {
+    let stamp = 0x0102_0304_0506_0708;
+    write_home(disk, Block::Page(page), stamp, &body_of(0x50))
+}
+
+fn bytes_at(disk: &mut Still, at: u64) -> Result<[u8; 16], Failed> {
+    let mut bytes = [9; 16];
+    disk.read(File::Pages, at, &mut bytes)?;
+    Ok(bytes)
+}
+
+// 16 bytes at a place of four pages after one was written: gate, number, stamp, three of the body.
+fn bytes_of(alloc: Global, page: u32, at: u64) -> Result<[u8; 16], Fail> {
+    let mut disk = disk_of(alloc, &[], &lay(alloc, &[ZEROS; 8])?, 0)?;
+    write_page(&mut disk, page)?;
+    Ok(bytes_at(&mut disk, at)?)
+}
+
+#[test]
+fn the_bytes_of_a_page(rt: HostRuntime) -> Result<(), Fail> {
+    let first = [1, 0, 0, 0, 0, 8, 7, 6, 5, 4, 3, 2, 1, 0xee, 0x50, 0x50];
+    let fourth = [1, 3, 0, 0, 0, 8, 7, 6, 5, 4, 3, 2, 1, 0xee, 0x50, 0x50];
+    assert!(rt; bytes_of(rt.alloc(), 0, 0)? == first);
+    assert!(rt; bytes_of(rt.alloc(), 3, 24_768)? == fourth);
+    // Behind the body there are zeros.
+    assert!(rt; bytes_of(rt.alloc(), 3, 28_880)? == [0; 16]);
+    Ok(())
+}
+
+// How many pages are counted, the homes of page 1, the end of its file, and what is read of it.
+struct Value(u32, Laid, Laid, usize, Result<Seen, Told>);
+
+const ODD_5: Laid = Laid(1, 7, 5, 0x50);
+
+const ODD_6: Laid = Laid(1, 0, 6, 0x60);
+
+const VALUES: [Value; 14] = [
+    // Neither is open: each gate but 1 is closed.
+    Value(2, ZEROS, ZEROS, TWO, Ok(Seen(0, 0))),
+    Value(2, SHUT_8, Laid(255, 1, 6, 0x60), TWO, Ok(Seen(0, 0))),
+    // One is open, then both.
+    Value(2, HOME_5, SHUT_8, TWO, Ok(Seen(5, 0x50))),
+    Value(2, SHUT_8, HOME_6, TWO, Ok(Seen(6, 0x60))),
+    Value(2, HOME_5, HOME_6, TWO, Ok(Seen(6, 0x60))),
+    Value(2, HOME_6, HOME_5, TWO, Ok(Seen(6, 0x60))),
+    Value(2, HOME_5, Laid(1, 1, 5, 0x60), TWO, Ok(Seen(5, 0x50))),
+    // A home that doesn't lie whole in its file is closed.
+    Value(2, HOME_5, HOME_6, 16_511, Ok(Seen(5, 0x50))),
+    Value(2, HOME_5, HOME_6, 12_383, Ok(Seen(0, 0))),
+    // A page that isn't counted is blank, whatever stands there.
+    Value(1, HOME_5, ZEROS, TWO, Ok(Seen(0, 0))),
+    Value(0, ODD_5, ZEROS, TWO, Ok(Seen(0, 0))),
+    // The number is checked in the home of the value alone.
+    Value(2, ODD_5, HOME_6, TWO, Ok(Seen(6, 0x60))),
+    Value(2, ODD_5, ZEROS, TWO, Err((File::Pages, 8257, 1, 7))),
+    Value(2, HOME_5, ODD_6, TWO, Err((File::Pages, 12_385, 1, 0))),
+];
+
+fn look_homes(alloc: Global, row: &Value) -> Result<Result<Seen, Told>, AllocError> {
+    let mut pages = lay(alloc, &[ZEROS, ZEROS, row.1, row.2])?;
+    pages.truncate(row.3);
+    let mut disk = disk_of(alloc, &[], &pages, 0)?;
+    Ok(look(&mut disk, row.0, 1).map_err(told))
+}
+
+#[test]
+fn the_value_of_a_page(rt: HostRuntime) -> Result<(), Fail> {
+    for row in &VALUES {
+        assert!(rt; look_homes(rt.alloc(), row)? == row.4);
+    }
+    Ok(())
+}
+
+// The stamp and the byte behind the first of page 1 whose first home is this one, and if one is open.
+fn block_in(alloc: Global, home: Laid) -> Result<(Option<Stamp>, u8, bool), Fail> {
+    let pages = lay(alloc, &[ZEROS, ZEROS, home, ZEROS])?;
+    let mut disk = disk_of(alloc, &[], &pages, 0)?;
+    let mut into = [9; 4096];
+    let stamp = read_home(&mut disk, Block::Page(1), &mut into)?;
+    Ok((stamp, into[1], is_open(&mut disk, Block::Page(1))?))
+}
+
+#[test]
+fn a_block_by_itself(rt: HostRuntime) -> Result<(), Fail> {
+    assert!(rt; block_in(rt.alloc(), HOME_5)? == (Some(5), 0x50, true));
+    assert!(rt; block_in(rt.alloc(), SHUT_8)? == (None, 0, false));
+    Ok(())
+}
