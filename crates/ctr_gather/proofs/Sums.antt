@@ -8,18 +8,18 @@ use Rattle.ctr_bytes.specs.Fields.{spelled}
 use Rattle.ctr_bytes.proofs.FieldLaws.{length-spelled}
 use Rattle.ctr_rec.specs.declared.item.Item.{Item}
 use Rattle.ctr_rec.specs.Encode.{begun_bytes, item_bytes}
-use Rattle.ctr_gather.specs.Records.{GatheredHeld, needs, none_gathered, record_at, IsOne, OthersAlike}
+use Rattle.ctr_gather.specs.Records.{GatheredHeld, room_kept, none_gathered, record_at, IsSession, OthersAlike}
 
-pub needs_set : (i : ℕ) (gs : List GatheredHeld) (g : GatheredHeld) → i < length gs → needs (slice_set gs i g) + (get_or gs i none_gathered).most ≡ needs gs + g.most
+pub needs_set : (i : ℕ) (gs : List GatheredHeld) (g : GatheredHeld) → i < length gs → room_kept (slice_set gs i g) + (get_or gs i none_gathered).most ≡ room_kept gs + g.most
 needs_set i [] g within = absurd (omega (arith, within))
 needs_set zero (h ∷ gs) g within = omega (arith)
 needs_set (suc i) (h ∷ gs) g within = let rest = needs_set i gs g (omega (arith, within)) in omega (arith, rest)
 
-module _ (s : ℕ) (records : List GatheredHeld) (one : IsOne s records) (g : GatheredHeld) where
+module _ (s : ℕ) (records : List GatheredHeld) (one : IsSession s records) (g : GatheredHeld) where
   within : s - 1 < length records
   within = let low = one.0 in let high = one.1 in omega (arith, low, high)
 
-  pub sum_set : needs (slice_set records (s - 1) g) + (record_at s records).most ≡ needs records + g.most
+  pub sum_set : room_kept (slice_set records (s - 1) g) + (record_at s records).most ≡ room_kept records + g.most
   sum_set = needs_set (s - 1) records g within
 
   pub here_set : record_at s (slice_set records (s - 1) g) ≡ g
@@ -40,23 +40,23 @@ same_default (x ∷ xs) zero d e within = refl
 same_default (x ∷ xs) (suc i) d e within = same_default xs i d e (omega (arith, within))
 
 -- what a call on one session's record leaves of the room for all
-module _ (items now : List GatheredHeld) (view : items ≡ now) (s : ℕ) (one : IsOne s now) (g h : GatheredHeld) (value : g ≡ get_or items (s - 1) g) where
-  mine : IsOne s items
-  mine = subst (IsOne s) (sym view) one
+module _ (items now : List GatheredHeld) (view : items ≡ now) (s : ℕ) (one : IsSession s now) (g h : GatheredHeld) (value : g ≡ get_or items (s - 1) g) where
+  mine : IsSession s items
+  mine = subst (IsSession s) (sym view) one
 
   pub at_is : record_at s now ≡ g
   at_is = ap (record_at s) (sym view) ∙ same_default items (s - 1) none_gathered g (within s items mine h) ∙ sym value
 
-  pub sum_moves : needs (slice_set items (s - 1) h) + g.most ≡ needs now + h.most
-  sum_moves = ap (λ n. needs (slice_set items (s - 1) h) + n) (sym (ap (λ (a : GatheredHeld). a.most) at_is) ∙ ap (λ r. (record_at s r).most) (sym view)) ∙ sum_set s items mine h ∙ ap (λ r. needs r + h.most) view
+  pub sum_moves : room_kept (slice_set items (s - 1) h) + g.most ≡ room_kept now + h.most
+  sum_moves = ap (λ n. room_kept (slice_set items (s - 1) h) + n) (sym (ap (λ (a : GatheredHeld). a.most) at_is) ∙ ap (λ r. (record_at s r).most) (sym view)) ∙ sum_set s items mine h ∙ ap (λ r. room_kept r + h.most) view
 
 -- one more that keeps no room
-pub needs_push : (gs : List GatheredHeld) (g : GatheredHeld) → g.most ≡ 0 → needs gs ≡ 0 → needs (gs ++ g ∷ []) ≡ 0
+pub needs_push : (gs : List GatheredHeld) (g : GatheredHeld) → g.most ≡ 0 → room_kept gs ≡ 0 → room_kept (gs ++ g ∷ []) ≡ 0
 needs_push [] g none is = omega (arith, none)
 needs_push (h ∷ gs) g none is = let rest = needs_push gs g none (omega (arith, is)) in omega (arith, rest, is)
 
 -- a session's room is within that for all
-pub most_within : (i : ℕ) (gs : List GatheredHeld) → (get_or gs i none_gathered).most ≤ needs gs
+pub most_within : (i : ℕ) (gs : List GatheredHeld) → (get_or gs i none_gathered).most ≤ room_kept gs
 most_within i [] = omega (arith)
 most_within zero (h ∷ gs) = omega (arith)
 most_within (suc i) (h ∷ gs) = let rest = most_within i gs in omega (arith, rest)

@@ -14,24 +14,24 @@ pub record GatheredHeld : Type 0 where
   pub most : ℕ
 
 -- so many bytes of the log's room are kept for all records
-abbrev pub needs : List GatheredHeld → ℕ
-needs [] = 0
-needs (g ∷ gs) = g.most + needs gs
+abbrev pub room_kept : List GatheredHeld → ℕ
+room_kept [] = 0
+room_kept (g ∷ gs) = g.most + room_kept gs
 
 -- a record of these items is gathered, and room is kept for its end and its frame in the log
-pub record Holds (items : List Item) (g : GatheredHeld) : Type 0 where
+pub record IsRecordOf (items : List Item) (g : GatheredHeld) : Type 0 where
   pub bytes_are : g.bytes ≡ begun_bytes items
   pub counted : g.count ≡ length items
   pub fit : AllByRecursion Fits items
   pub room : length g.bytes + 9 ≤ g.most
 
 -- there is room for an item more
-abbrev pub HasItemRoom : Item → GatheredHeld → Type 0
-HasItemRoom item g = length g.bytes + length (item_bytes item) + 9 ≤ g.most
+abbrev pub HasRoomForItem : Item → GatheredHeld → Type 0
+HasRoomForItem item g = length g.bytes + length (item_bytes item) + 9 ≤ g.most
 
 -- one of these sessions, which are numbered from 1
-abbrev pub IsOne : ℕ → List GatheredHeld → Type 0
-IsOne s records = (1 ≤ s) × (s ≤ length records)
+abbrev pub IsSession : ℕ → List GatheredHeld → Type 0
+IsSession s records = (1 ≤ s) × (s ≤ length records)
 
 -- nothing is gathered
 abbrev pub none_gathered : GatheredHeld

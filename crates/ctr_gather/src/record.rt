@@ -3,7 +3,7 @@ ghost use Rattle.std.specs.Prelude.{◌≡◌, ◌≤◌, ◌<◌, ◌+◌, ◌-
 ghost use Rattle.ctr_rec.specs.declared.item.Item.{Item as HeldItem};
 ghost use Rattle.ctr_rec.specs.Items.{Fits};
 ghost use Rattle.ctr_rec.specs.Encode.{record_bytes};
-ghost use Rattle.ctr_gather.specs.Records.{Holds, HasItemRoom};
+ghost use Rattle.ctr_gather.specs.Records.{IsRecordOf, HasRoomForItem};
 
 use ctr_rec::{Item, begin, end, push_item};
 use ctr_types::OutOfMemory;
@@ -65,7 +65,7 @@ impl Gathered {
 
     /// Begins one without items, for which 14 bytes of the log's room are kept.
     pub fn begin(&mut self) -> Result<(), OutOfMemory>
-        ensures begun { OnOk result (Holds [] self.new) }
+        ensures begun { OnOk result (IsRecordOf [] self.new) }
         ensures most { OnOk result (self.new.most ≡ 14) }
         ensures none { OnErr result (self.new.most ≡ 0) }
     {
@@ -101,9 +101,9 @@ impl Gathered {
     /// Puts an item behind the others. It takes no memory.
     pub fn push(&mut self, item: &Item)
         requires fits { Fits item.now }
-        requires room { HasItemRoom item.now self.old }
+        requires room { HasRoomForItem item.now self.old }
         requires few { self.old.count < 2 ^ 32 - 1 }
-        ensures holds { (items : List HeldItem) → Holds items self.old → Holds (items ++ item.now ∷ []) self.new }
+        ensures holds { (items : List HeldItem) → IsRecordOf items self.old → IsRecordOf (items ++ item.now ∷ []) self.new }
         ensures most { self.new.most ≡ self.old.most }
     {
         push_item(&mut self.bytes, item);
@@ -112,7 +112,7 @@ impl Gathered {
 
     /// Ends it, where it is going: its bytes are the record's. It takes no memory.
     pub fn end(&mut self)
-        ensures ended { (items : List HeldItem) → Holds items self.old → self.new.bytes ≡ record_bytes items }
+        ensures ended { (items : List HeldItem) → IsRecordOf items self.old → self.new.bytes ≡ record_bytes items }
         ensures most { self.new.most ≡ self.old.most }
     {
         if self.bytes.len() < HEAD - 1 {

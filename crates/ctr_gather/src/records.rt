@@ -3,7 +3,7 @@ ghost use Rattle.std.specs.Prelude.{◌≡◌, ◌≤◌, ◌<◌, ◌+◌, ◌-
 ghost use Rattle.ctr_rec.specs.declared.item.Item.{Item as HeldItem};
 ghost use Rattle.ctr_rec.specs.Items.{Fits};
 ghost use Rattle.ctr_rec.specs.Encode.{record_bytes, item_bytes};
-ghost use Rattle.ctr_gather.specs.Records.{needs, Holds, HasItemRoom, IsOne, record_at, lack_at, OthersAlike};
+ghost use Rattle.ctr_gather.specs.Records.{room_kept, IsRecordOf, HasRoomForItem, IsSession, record_at, lack_at, OthersAlike};
 
 use crate::record::Gathered;
 use ctr_rec::{Item, spelled_len};
@@ -29,7 +29,7 @@ impl Model for Records {
 
 // How many bytes of the log's room are kept; none where that isn't a number of this machine.
 fn kept(records: &[Gathered]) -> Option<usize>
-    ensures { IfSome result (λ n. n ≡ needs records.now) }
+    ensures { IfSome result (λ n. n ≡ room_kept records.now) }
 {
     let Some((first, rest)) = records.split_first() else {
         return Some(0);
@@ -39,7 +39,7 @@ fn kept(records: &[Gathered]) -> Option<usize>
 
 // Records of so many sessions, none of which gathers one.
 fn none(alloc: Global, sessions: usize) -> Result<Vec<Gathered>, OutOfMemory>
-    ensures { IfOk result (λ v. (length v.items ≡ sessions) × (needs v.items ≡ 0)) }
+    ensures { IfOk result (λ v. (length v.items ≡ sessions) × (room_kept v.items ≡ 0)) }
 {
     let mut records = Vec::new(alloc);
     for _ in 0..sessions {
@@ -51,7 +51,7 @@ fn none(alloc: Global, sessions: usize) -> Result<Vec<Gathered>, OutOfMemory>
 impl Records {
     /// Those of so many sessions, none of which gathers one.
     pub fn new(alloc: Global, sessions: usize) -> Result<Records, OutOfMemory>
-        ensures { IfOk result (λ a. (length a ≡ sessions) × (needs a ≡ 0)) }
+        ensures { IfOk result (λ a. (length a ≡ sessions) × (room_kept a ≡ 0)) }
     {
         Ok(Records {
             of: none(alloc, sessions)?,
@@ -60,17 +60,17 @@ impl Records {
 
     /// How many bytes of the log's room are kept for them; none where that isn't a number of this machine.
     pub fn kept(&self) -> Option<usize>
-        ensures { IfSome result (λ n. n ≡ needs self.now) }
+        ensures { IfSome result (λ n. n ≡ room_kept self.now) }
     {
         kept(&self.of)
     }
 
     /// A session's record begins, without items.
     pub fn begin(&mut self, s: u8) -> Result<(), OutOfMemory>
-        requires { IsOne s self.old }
-        ensures begun { OnOk result (Holds [] (record_at s self.new)) }
+        requires { IsSession s self.old }
+        ensures begun { OnOk result (IsRecordOf [] (record_at s self.new)) }
         ensures none { OnErr result ((record_at s self.new).most ≡ 0) }
-        ensures needs { needs self.new ≤ needs self.old + 14 }
+        ensures needs { room_kept self.new ≤ room_kept self.old + 14 }
         ensures others { OthersAlike s self.old self.new }
     {
         let at = s as usize - 1;
@@ -80,7 +80,7 @@ impl Records {
 
     /// How many bytes of the log's room an item more of a session's record wants, beyond those that are kept for it.
     pub fn lack(&self, s: u8, item: &Item) -> usize
-        requires one { IsOne s self.now }
+        requires one { IsSession s self.now }
         requires fits { Fits item.now }
         ensures { result ≡ lack_at s item.now self.now }
     {
@@ -90,11 +90,11 @@ impl Records {
 
     /// Takes room for an item more of a session's record.
     pub fn reserve(&mut self, s: u8, item: &Item) -> Result<(), OutOfMemory>
-        requires one { IsOne s self.old }
+        requires one { IsSession s self.old }
         requires fits { Fits item.now }
-        ensures holds { (items : List HeldItem) → Holds items (record_at s self.old) → Holds items (record_at s self.new) }
-        ensures room { OnOk result (HasItemRoom item.now (record_at s self.new)) }
-        ensures needs { needs self.new ≤ needs self.old + lack_at s item.now self.old }
+        ensures holds { (items : List HeldItem) → IsRecordOf items (record_at s self.old) → IsRecordOf items (record_at s self.new) }
+        ensures room { OnOk result (HasRoomForItem item.now (record_at s self.new)) }
+        ensures needs { room_kept self.new ≤ room_kept self.old + lack_at s item.now self.old }
         ensures others { OthersAlike s self.old self.new }
     {
         let at = s as usize - 1;
@@ -104,12 +104,12 @@ impl Records {
 
     /// Puts an item behind the others of a session's record. It takes no memory.
     pub fn push(&mut self, s: u8, item: &Item)
-        requires one { IsOne s self.old }
+        requires one { IsSession s self.old }
         requires fits { Fits item.now }
-        requires room { HasItemRoom item.now (record_at s self.old) }
+        requires room { HasRoomForItem item.now (record_at s self.old) }
         requires few { (record_at s self.old).count < 2 ^ 32 - 1 }
-        ensures holds { (items : List HeldItem) → Holds items (record_at s self.old) → Holds (items ++ item.now ∷ []) (record_at s self.new) }
-        ensures needs { needs self.new ≡ needs self.old }
+        ensures holds { (items : List HeldItem) → IsRecordOf items (record_at s self.old) → IsRecordOf (items ++ item.now ∷ []) (record_at s self.new) }
+        ensures needs { room_kept self.new ≡ room_kept self.old }
         ensures others { OthersAlike s self.old self.new }
     {
         let at = s as usize - 1;
@@ -118,7 +118,7 @@ impl Records {
 
     /// Whether room is kept for a session's record.
     pub fn is_going(&self, s: u8) -> bool
-        requires { IsOne s self.now }
+        requires { IsSession s self.now }
         ensures { result ≡ nat_lt 0 (record_at s self.now).most }
     {
         let at = s as usize - 1;
@@ -127,10 +127,10 @@ impl Records {
 
     /// Ends a session's record: its bytes are those of its items. It takes no memory.
     pub fn end(&mut self, s: u8)
-        requires { IsOne s self.old }
-        ensures ended { (items : List HeldItem) → Holds items (record_at s self.old) → (record_at s self.new).bytes ≡ record_bytes items }
+        requires { IsSession s self.old }
+        ensures ended { (items : List HeldItem) → IsRecordOf items (record_at s self.old) → (record_at s self.new).bytes ≡ record_bytes items }
         ensures most { (record_at s self.new).most ≡ (record_at s self.old).most }
-        ensures needs { needs self.new ≡ needs self.old }
+        ensures needs { room_kept self.new ≡ room_kept self.old }
         ensures others { OthersAlike s self.old self.new }
     {
         let at = s as usize - 1;
@@ -139,10 +139,10 @@ impl Records {
 
     /// The bytes of a session's record.
     pub fn bytes(&self, s: u8) -> &[u8]
-        requires { IsOne s self.now }
+        requires { IsSession s self.now }
         ensures are { result.now ≡ (record_at s self.now).bytes }
         ensures frame { 0 < (record_at s self.now).most → length result.now + 8 ≤ (record_at s self.now).most }
-        ensures within { (record_at s self.now).most ≤ needs self.now }
+        ensures within { (record_at s self.now).most ≤ room_kept self.now }
     {
         let at = s as usize - 1;
         self.of[at].bytes()
@@ -150,9 +150,9 @@ impl Records {
 
     /// No record of the session is gathered any more, and no room kept for it. It takes no memory.
     pub fn forget(&mut self, s: u8)
-        requires { IsOne s self.old }
+        requires { IsSession s self.old }
         ensures none { (record_at s self.new).most ≡ 0 }
-        ensures needs { needs self.new + (record_at s self.old).most ≡ needs self.old }
+        ensures needs { room_kept self.new + (record_at s self.old).most ≡ room_kept self.old }
         ensures others { OthersAlike s self.old self.new }
     {
         let at = s as usize - 1;

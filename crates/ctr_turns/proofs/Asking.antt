@@ -19,8 +19,8 @@ use Rattle.ctr_rec.specs.Encode.{IsSpelled, record_bytes}
 use Rattle.ctr_rec.specs.Fold.{FoldsRecord}
 use Rattle.ctr_acts.specs.Acts.{ActsHeld, ShowsActs, ActReplies, ActKeeps}
 use Rattle.ctr_gather.specs.Gathered.{rows_asked, IsGathered, OthersGather, AskedRowsAre, CommitFolds}
-use Rattle.ctr_gather.specs.Records.{Holds, IsOne, record_at, OthersAlike}
-use Rattle.ctr_turns.specs.Turns.{TurnsHeld, ShowsTurns, TurnReplies, TurnKeeps, WaitFrom, behind}
+use Rattle.ctr_gather.specs.Records.{IsRecordOf, IsSession, record_at, OthersAlike}
+use Rattle.ctr_turns.specs.Turns.{TurnsHeld, ShowsTurns, TurnReplies, TurnKeeps, WaitFrom, with_log}
 use Rattle.ctr_turns.proofs.Shown.{put_gathers, put_idle}
 use Rattle.ctr_turns.proofs.Waiting.{waits_more}
 use Rattle.ctr_turns.proofs.Ends.{either_in, settled, ended}
@@ -39,15 +39,15 @@ in_some s state k (inr may) = may
 
 module _ (s : ℕ) (old new : TurnsHeld) (log log_new : Log) (alike : OthersAlike s old.records new.records) (none : (record_at s new.records).most ≡ 0) where
   -- a writer asks
-  pub ask_turn : OthersGather → AskedRowsAre → CommitFolds → ((is : List Item) → IsSpelled is (record_bytes is)) → IsOne s old.records → (record_at s old.records).count < 2 ^ 32
-      → ((items : List Item) → Holds items (record_at s old.records) → log_new ≡ record log { buffered = log.buffered ++ record_bytes items ∷ []; room = log_new.room })
-      → (k : ℕ) → ActKeeps s act.Ask st.Commit old.acts new.acts (reply.Asked k) → TurnKeeps s act.Ask st.Commit (behind old log) (behind new log_new) (reply.Asked k)
+  pub ask_turn : OthersGather → AskedRowsAre → CommitFolds → ((is : List Item) → IsSpelled is (record_bytes is)) → IsSession s old.records → (record_at s old.records).count < 2 ^ 32
+      → ((items : List Item) → IsRecordOf items (record_at s old.records) → log_new ≡ record log { buffered = log.buffered ++ record_bytes items ∷ []; room = log_new.room })
+      → (k : ℕ) → ActKeeps s act.Ask st.Commit old.acts new.acts (reply.Asked k) → TurnKeeps s act.Ask st.Commit (with_log old log) (with_log new log_new) (reply.Asked k)
   ask_turn others rows folds spelled one few appended k keeps low from state shows kept ready turn = by_case (either_in (transaction_of state s))
     where
       replies : ActReplies low new.acts state s act.Ask (st.Commit, reply.Asked k)
       replies = keeps low state shows.acts kept ready turn
 
-      by_case : (transaction_of state s ≡ None) ⊎ ((me : Transaction) × (transaction_of state s ≡ Some me)) → TurnReplies low (behind new log_new) from state s (act.Ask, (st.Commit, reply.Asked k))
+      by_case : (transaction_of state s ≡ None) ⊎ ((me : Transaction) × (transaction_of state s ≡ Some me)) → TurnReplies low (with_log new log_new) from state s (act.Ask, (st.Commit, reply.Asked k))
       by_case (inl out) = absurd (in_some s state k (subst (λ o. (reply.Asked k ≡ reply_from state s o act.Ask st.Commit) ⊎ MayStandFor st.Commit (reply_from state s o act.Ask st.Commit) (reply.Asked k)) out replies.allowed))
       by_case (inr t) =
           let me = t.0 in
@@ -66,7 +66,7 @@ module _ (s : ℕ) (old new : TurnsHeld) (log log_new : Log) (alike : OthersAlik
               gathers = put_gathers s old.records new.records alike (record state { asked = state.asked ++ me.own ∷ [] }) (record me { asked = Some k }) (rows_asked other)
                   (λ q unasked. absurd (false≢true (sym (ap is_some unasked))))
                   (λ r u their apart there unasked. let theirs = shows.gathers r u their there unasked in
-                      (theirs.0, theirs.1, subst (λ d. IsGathered d u theirs.0) (sym (rows state me.own)) (others state s r me u theirs.0 kept (turned r s apart) at there theirs.2)));
+                  (theirs.0, theirs.1, subst (λ d. IsGathered d u theirs.0) (sym (rows state me.own)) (others state s r me u theirs.0 kept (turned r s apart) at there theirs.2)));
               idle = put_idle s old.records new.records alike (record state { asked = state.asked ++ me.own ∷ [] }) (record me { asked = Some k }) shows.idle;
               waits = subst (WaitFrom other from) (sym buffered) (waits_more state other me.own refl refl (record_bytes items)
                   (subst (λ d. FoldsRecord (rows_asked state) (record_bytes items) d) (sym (rows state me.own)) (folds (rows_asked state) me items (record_bytes items) held.2 (fit, held.1.fit) (spelled items)))
@@ -75,7 +75,7 @@ module _ (s : ℕ) (old new : TurnsHeld) (log log_new : Log) (alike : OthersAlik
           }
 
   -- one that wrote nothing ends
-  pub read_only_turn : IsOne s old.records → log_new ≡ log → ActKeeps s act.Ask st.Commit old.acts new.acts reply.ReadOnly → TurnKeeps s act.Ask st.Commit (behind old log) (behind new log_new) reply.ReadOnly
+  pub read_only_turn : IsSession s old.records → log_new ≡ log → ActKeeps s act.Ask st.Commit old.acts new.acts reply.ReadOnly → TurnKeeps s act.Ask st.Commit (with_log old log) (with_log new log_new) reply.ReadOnly
   read_only_turn one same keeps low from state shows kept ready turn = by_case (either_in (transaction_of state s))
     where
       replies : ActReplies low new.acts state s act.Ask (st.Commit, reply.ReadOnly)
@@ -89,7 +89,7 @@ module _ (s : ℕ) (old new : TurnsHeld) (log log_new : Log) (alike : OthersAlik
       refused_not (inl is) = false≢true (ap is_refused is)
       refused_not (inr may) = may
 
-      by_case : (transaction_of state s ≡ None) ⊎ ((me : Transaction) × (transaction_of state s ≡ Some me)) → TurnReplies low (behind new log_new) from state s (act.Ask, (st.Commit, reply.ReadOnly))
+      by_case : (transaction_of state s ≡ None) ⊎ ((me : Transaction) × (transaction_of state s ≡ Some me)) → TurnReplies low (with_log new log_new) from state s (act.Ask, (st.Commit, reply.ReadOnly))
       by_case (inl out) = absurd (refused_not (subst (λ o. (reply.ReadOnly ≡ reply_from state s o act.Ask st.Commit) ⊎ MayStandFor st.Commit (reply_from state s o act.Ask st.Commit) reply.ReadOnly) out replies.allowed))
       by_case (inr t) =
           let next : next_state state s act.Ask (Some st.Commit) reply.ReadOnly ≡ without_transaction s state = ap (λ o. next_from state s o act.Ask (Some st.Commit) reply.ReadOnly) t.1 in
@@ -100,8 +100,8 @@ module _ (s : ℕ) (old new : TurnsHeld) (log log_new : Log) (alike : OthersAlik
           }
 
 -- one in no transaction is refused
-pub ask_denied : (s : ℕ) (old : TurnsHeld) (acts : ActsHeld) (log : Log) (r : Reply) → IsOne s old.records → ((k : ℕ) → r ≡ reply.Asked k → ⊥) → (r ≡ reply.ReadOnly → ⊥) → ActKeeps s act.Ask st.Commit old.acts acts r
-    → TurnKeeps s act.Ask st.Commit (behind old log) (behind (record { acts = acts; records = old.records }) log) r
+pub ask_denied : (s : ℕ) (old : TurnsHeld) (acts : ActsHeld) (log : Log) (r : Reply) → IsSession s old.records → ((k : ℕ) → r ≡ reply.Asked k → ⊥) → (r ≡ reply.ReadOnly → ⊥) → ActKeeps s act.Ask st.Commit old.acts acts r
+    → TurnKeeps s act.Ask st.Commit (with_log old log) (with_log (record { acts = acts; records = old.records }) log) r
 ask_denied s old acts log r one not_asked not_read keeps low from state shows kept ready turn = by_case (either_in (transaction_of state s))
   where
     replies : ActReplies low acts state s act.Ask (st.Commit, r)
@@ -113,7 +113,7 @@ ask_denied s old acts log r one not_asked not_read keeps low from state shows ke
     may_not false n (inl is) = not_read is
     may_not false n (inr may) = may
 
-    by_case : (transaction_of state s ≡ None) ⊎ ((me : Transaction) × (transaction_of state s ≡ Some me)) → TurnReplies low (behind (record { acts = acts; records = old.records }) log) from state s (act.Ask, (st.Commit, r))
+    by_case : (transaction_of state s ≡ None) ⊎ ((me : Transaction) × (transaction_of state s ≡ Some me)) → TurnReplies low (with_log (record { acts = acts; records = old.records }) log) from state s (act.Ask, (st.Commit, r))
     by_case (inl out) =
         let is : r ≡ reply.Refused refusal.NoTransaction = settled r (reply.Refused refusal.NoTransaction) (subst (λ o. (r ≡ reply_from state s o act.Ask st.Commit) ⊎ MayStandFor st.Commit (reply_from state s o act.Ask st.Commit) r) out replies.allowed) in
         let next : next_state state s act.Ask (Some st.Commit) r ≡ state = ap (λ o. next_from state s o act.Ask (Some st.Commit) r) out ∙ ap (next_outside state s act.Ask (Some st.Commit)) is in

@@ -15,8 +15,8 @@ use Rattle.ctr_legal.specs.Ready.{IsUnasked}
 use Rattle.ctr_log.specs.Logs.{Log}
 use Rattle.ctr_acts.specs.Acts.{ShowsActs, ActReplies, ActKeeps}
 use Rattle.ctr_gather.specs.Gathered.{rows_asked, BeginGathers}
-use Rattle.ctr_gather.specs.Records.{GatheredHeld, Holds, IsOne, record_at, OthersAlike}
-use Rattle.ctr_turns.specs.Turns.{TurnsHeld, ShowsTurns, TurnReplies, TurnKeeps, WaitFrom, behind}
+use Rattle.ctr_gather.specs.Records.{GatheredHeld, IsRecordOf, IsSession, record_at, OthersAlike}
+use Rattle.ctr_turns.specs.Turns.{TurnsHeld, ShowsTurns, TurnReplies, TurnKeeps, WaitFrom, with_log}
 use Rattle.ctr_turns.proofs.Shown.{put_gathers, put_idle}
 use Rattle.ctr_turns.proofs.Waiting.{same_wait}
 use Rattle.ctr_turns.proofs.Ends.{either_in, stayed}
@@ -34,7 +34,7 @@ module _ (s : ℕ) (old new : TurnsHeld) (log log_new : Log) (alike : OthersAlik
   same_waiting = ap (λ (l : Log). l.buffered) log_is
 
   -- it has begun
-  pub begun_turn : BeginGathers → Holds [] (record_at s new.records) → (n : ℕ) → ActKeeps s act.Begin st.Begin old.acts new.acts (reply.Began n) → TurnKeeps s act.Begin st.Begin (behind old log) (behind new log_new) (reply.Began n)
+  pub begun_turn : BeginGathers → IsRecordOf [] (record_at s new.records) → (n : ℕ) → ActKeeps s act.Begin st.Begin old.acts new.acts (reply.Began n) → TurnKeeps s act.Begin st.Begin (with_log old log) (with_log new log_new) (reply.Began n)
   begun_turn law holds n keeps low from state shows kept ready turn = by_case (either_in (transaction_of state s))
     where
       replies : ActReplies low new.acts state s act.Begin (st.Begin, reply.Began n)
@@ -44,7 +44,7 @@ module _ (s : ℕ) (old new : TurnsHeld) (log log_new : Log) (alike : OthersAlik
       not_refused (inl is) = false≢true (ap is_refused is)
       not_refused (inr may) = may
 
-      by_case : (transaction_of state s ≡ None) ⊎ ((me : Transaction) × (transaction_of state s ≡ Some me)) → TurnReplies low (behind new log_new) from state s (act.Begin, (st.Begin, reply.Began n))
+      by_case : (transaction_of state s ≡ None) ⊎ ((me : Transaction) × (transaction_of state s ≡ Some me)) → TurnReplies low (with_log new log_new) from state s (act.Begin, (st.Begin, reply.Began n))
       by_case (inl out) =
           let other : State = with_transaction s (begun n) state in
           let next : next_state state s act.Begin (Some st.Begin) (reply.Began n) ≡ other = ap (λ o. next_from state s o act.Begin (Some st.Begin) (reply.Began n)) out in
@@ -60,7 +60,7 @@ module _ (s : ℕ) (old new : TurnsHeld) (log log_new : Log) (alike : OthersAlik
       by_case (inr t) = absurd (not_refused (subst (λ o. (reply.Began n ≡ reply_from state s o act.Begin st.Begin) ⊎ MayStandFor st.Begin (reply_from state s o act.Begin st.Begin) (reply.Began n)) t.1 replies.allowed))
 
   -- memory is wanting: what was begun of the record is forgotten
-  pub begun_not : IsOne s old.records → false ≡ nat_lt 0 (record_at s old.records).most → (record_at s new.records).most ≡ 0 → (r : Reply) → ((n : ℕ) → r ≡ reply.Began n → ⊥) → ActKeeps s act.Begin st.Begin old.acts new.acts r → TurnKeeps s act.Begin st.Begin (behind old log) (behind new log_new) r
+  pub begun_not : IsSession s old.records → false ≡ nat_lt 0 (record_at s old.records).most → (record_at s new.records).most ≡ 0 → (r : Reply) → ((n : ℕ) → r ≡ reply.Began n → ⊥) → ActKeeps s act.Begin st.Begin old.acts new.acts r → TurnKeeps s act.Begin st.Begin (with_log old log) (with_log new log_new) r
   begun_not one still none r not_begun keeps low from state shows kept ready turn = by_case (either_in (transaction_of state s))
     where
       replies : ActReplies low new.acts state s act.Begin (st.Begin, r)
@@ -70,7 +70,7 @@ module _ (s : ℕ) (old new : TurnsHeld) (log log_new : Log) (alike : OthersAlik
       only (inl is) = absurd (not_begun state.answered is)
       only (inr is) = is
 
-      by_case : (transaction_of state s ≡ None) ⊎ ((me : Transaction) × (transaction_of state s ≡ Some me)) → TurnReplies low (behind new log_new) from state s (act.Begin, (st.Begin, r))
+      by_case : (transaction_of state s ≡ None) ⊎ ((me : Transaction) × (transaction_of state s ≡ Some me)) → TurnReplies low (with_log new log_new) from state s (act.Begin, (st.Begin, r))
       by_case (inl out) =
           let is : r ≡ reply.Refused refusal.OutOfMemory = only (subst (λ o. (r ≡ reply_from state s o act.Begin st.Begin) ⊎ MayStandFor st.Begin (reply_from state s o act.Begin st.Begin) r) out replies.allowed) in
           let next : next_state state s act.Begin (Some st.Begin) r ≡ state = ap (λ o. next_from state s o act.Begin (Some st.Begin) r) out ∙ ap (next_outside state s act.Begin (Some st.Begin)) is in

@@ -66,7 +66,7 @@ module _ (s : ℕ) (old new : TurnsHeld) (waiting : List (List ℕ)) (alike : Ot
       let t = asked_in (transaction_of state s) (state.answered + 1) turn in
       let is : r ≡ reply.Answered (state.answered + 1) = settled r (reply.Answered (state.answered + 1)) (subst (λ o. (r ≡ reply_from state s o act.Answer st.Commit) ⊎ MayStandFor st.Commit (reply_from state s o act.Answer st.Commit) r) t.1 replies.allowed) in
       let next : next_state state s act.Answer (Some st.Commit) r ≡ without_transaction s (record state { answered = state.answered + 1 })
-          = ap (λ o. next_from state s o act.Answer (Some st.Commit) r) t.1 ∙ ap (next_inside state s t.0 act.Answer (Some st.Commit)) is in
+      = ap (λ o. next_from state s o act.Answer (Some st.Commit) r) t.1 ∙ ap (next_inside state s t.0 act.Answer (Some st.Commit)) is in
       record {
         allowed = replies.allowed;
         shows = subst (ShowsTurns low new from waiting) (sym next) (ended low from state shows (without_transaction s (record state { answered = state.answered + 1 })) refl refl refl (subst (ShowsActs low new.acts) next replies.shows));

@@ -16,7 +16,7 @@ use Rattle.ctr_model.specs.Reply.{refused_or, rows_read, with_use, reply_from, M
 use Rattle.ctr_acts.specs.Acts.{ActsHeld, ShowsActs, ActReplies, ActKeeps}
 use Rattle.ctr_gather.specs.Gathered.{rows_asked, UseGathers}
 use Rattle.ctr_gather.specs.Records.{GatheredHeld, OthersAlike}
-use Rattle.ctr_turns.specs.Turns.{TurnsHeld, Behind, ShowsTurns, TurnReplies, TurnKeeps}
+use Rattle.ctr_turns.specs.Turns.{TurnsHeld, WithWaiting, ShowsTurns, TurnReplies, TurnKeeps}
 use Rattle.ctr_turns.proofs.Shown.{put_gathers, put_idle}
 use Rattle.ctr_turns.proofs.Waiting.{same_wait}
 use Rattle.ctr_turns.proofs.Ends.{either_in, settled}
@@ -36,7 +36,7 @@ module _ (s : ℕ) (old : TurnsHeld) (acts : ActsHeld) (waiting : List (List ℕ
   abbrev new : TurnsHeld
   new = record { acts = acts; records = old.records }
 
-  abbrev after : Behind
+  abbrev after : WithWaiting
   after = record { turns = new; waiting = waiting }
 
   pub read_turn : UseGathers → (r : Reply) → ActKeeps s act.Read (st.Select name key) old.acts acts r → TurnKeeps s act.Read (st.Select name key) (record { turns = old; waiting = waiting }) after r
@@ -60,7 +60,7 @@ module _ (s : ℕ) (old : TurnsHeld) (acts : ActsHeld) (waiting : List (List ℕ
       used me at is =
           let other : State = with_transaction s (with_use name me) state in
           let next : next_state state s act.Read (Some (st.Select name key)) r ≡ other
-              = ap (λ o. next_from state s o act.Read (Some (st.Select name key)) r) at ∙ ap (next_inside state s me act.Read (Some (st.Select name key))) is in
+          = ap (λ o. next_from state s o act.Read (Some (st.Select name key)) r) at ∙ ap (next_inside state s me act.Read (Some (st.Select name key))) is in
           record {
             allowed = replies.allowed;
             shows = subst (ShowsTurns low new from waiting) (sym next) (record {

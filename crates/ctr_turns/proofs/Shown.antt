@@ -8,20 +8,20 @@ use Rattle.ctr_model.specs.Database.{Database}
 use Rattle.ctr_model.specs.State.{transaction_of, with_transaction, without_transaction}
 use Rattle.ctr_model.proofs.Sessions.{known, find-put-other, find-put-same, find-without-other, find-without-same}
 use Rattle.ctr_versions.proofs.Keys.{some_is}
-use Rattle.ctr_gather.specs.Records.{GatheredHeld, IsOne, record_at, OthersAlike}
+use Rattle.ctr_gather.specs.Records.{GatheredHeld, IsSession, record_at, OthersAlike}
 use Rattle.ctr_turns.specs.Turns.{HoldsRecord}
 
 -- each session that is in a transaction and hasn't asked gathers its record over these rows
 abbrev pub Gathers : Database → List GatheredHeld → State → Type 0
-Gathers db records state = (s : ℕ) (t : Transaction) → IsOne s records → transaction_of state s ≡ Some t
+Gathers db records state = (s : ℕ) (t : Transaction) → IsSession s records → transaction_of state s ≡ Some t
     → t.asked ≡ None → HoldsRecord db t (record_at s records)
 
 -- who is in no transaction gathers none
 abbrev pub AreIdle : List GatheredHeld → State → Type 0
-AreIdle records state = (s : ℕ) → IsOne s records → transaction_of state s ≡ None → (record_at s records).most ≡ 0
+AreIdle records state = (s : ℕ) → IsSession s records → transaction_of state s ≡ None → (record_at s records).most ≡ 0
 
 module _ (s : ℕ) (old new : List GatheredHeld) (alike : OthersAlike s old new) where
-  one_still : (r : ℕ) → IsOne r new → IsOne r old
+  one_still : (r : ℕ) → IsSession r new → IsSession r old
   one_still r one = (one.0, subst (λ n. r ≤ n) alike.long one.1)
 
   -- the session's transaction ends
@@ -38,13 +38,13 @@ module _ (s : ℕ) (old new : List GatheredHeld) (alike : OthersAlike s old new)
 
     -- it is another
     module _ (u : Transaction) where
-      pub put_gathers : (db : Database) → (IsOne s new → u.asked ≡ None → HoldsRecord db u (record_at s new))
-          → ((r : ℕ) (t : Transaction) → IsOne r old → (r == s) ≡ false → transaction_of state r ≡ Some t → t.asked ≡ None → HoldsRecord db t (record_at r old)) → Gathers db new (with_transaction s u state)
+      pub put_gathers : (db : Database) → (IsSession s new → u.asked ≡ None → HoldsRecord db u (record_at s new))
+          → ((r : ℕ) (t : Transaction) → IsSession r old → (r == s) ≡ false → transaction_of state r ≡ Some t → t.asked ≡ None → HoldsRecord db t (record_at r old)) → Gathers db new (with_transaction s u state)
       put_gathers db mine theirs r t one at unasked = known (r == s)
           (λ same. let is_s = eqb-true r s same in
-              let is_u : t ≡ u = some_is t u (sym at ∙ ap (transaction_of (with_transaction s u state)) is_s ∙ find-put-same s u state.sessions) in
-              subst (λ q. HoldsRecord db t (record_at q new)) (sym is_s)
-              (subst (λ v. HoldsRecord db v (record_at s new)) (sym is_u) (mine (subst (λ q. IsOne q new) is_s one) (ap (λ (v : Transaction). v.asked) (sym is_u) ∙ unasked))))
+          let is_u : t ≡ u = some_is t u (sym at ∙ ap (transaction_of (with_transaction s u state)) is_s ∙ find-put-same s u state.sessions) in
+          subst (λ q. HoldsRecord db t (record_at q new)) (sym is_s)
+          (subst (λ v. HoldsRecord db v (record_at s new)) (sym is_u) (mine (subst (λ q. IsSession q new) is_s one) (ap (λ (v : Transaction). v.asked) (sym is_u) ∙ unasked))))
           (λ other. subst (HoldsRecord db t) (sym (alike.others r one.0 other)) (theirs r t (one_still r one) other (sym (find-put-other r s u state.sessions other) ∙ at) unasked))
 
       pub put_idle : AreIdle old state → AreIdle new (with_transaction s u state)

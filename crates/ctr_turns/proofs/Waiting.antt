@@ -33,11 +33,13 @@ module _ (state other : State) (own : List Change) (base : other.base ≡ state.
   early j (b ∷ bs) is = let later = early (j + 1) bs is.1 in omega (arith, later)
 
   pub waits_more : (b : List ℕ) → FoldsRecord (rows_asked state) b (rows_asked other) → (j : ℕ) (bs : List (List ℕ)) → WaitFrom state j bs → WaitFrom other j (bs ++ b ∷ [])
-  waits_more b folds j [] is =
-      (subst (λ d. FoldsRecord d b (rows_at other (j + 1))) (ap (rows_at state) (sym is) ∙ rows_stay j (omega (arith, is)))
-      (subst (λ d. FoldsRecord (rows_asked state) b d) (ap (rows_at other) (one_more ∙ ap (λ n. n + 1) (sym is))) folds),
-      ap (λ n. n + 1) is ∙ sym one_more)
-  waits_more b folds j (c ∷ bs) is =
-      (subst (λ d. FoldsRecord d c (rows_at other (j + 1))) (rows_stay j (early j (c ∷ bs) is))
-      (subst (λ d. FoldsRecord (rows_at state j) c d) (rows_stay (j + 1) (early (j + 1) bs is.1)) is.0),
-      waits_more b folds (j + 1) bs is.1)
+  waits_more b folds j [] is = (
+    subst (λ d. FoldsRecord d b (rows_at other (j + 1))) (ap (rows_at state) (sym is) ∙ rows_stay j (omega (arith, is)))
+        (subst (λ d. FoldsRecord (rows_asked state) b d) (ap (rows_at other) (one_more ∙ ap (λ n. n + 1) (sym is))) folds),
+    ap (λ n. n + 1) is ∙ sym one_more,
+  )
+  waits_more b folds j (c ∷ bs) is = (
+    subst (λ d. FoldsRecord d c (rows_at other (j + 1))) (rows_stay j (early j (c ∷ bs) is))
+        (subst (λ d. FoldsRecord (rows_at state j) c d) (rows_stay (j + 1) (early (j + 1) bs is.1)) is.0),
+    waits_more b folds (j + 1) bs is.1,
+  )

@@ -1,6 +1,6 @@
 -- Turns of sessions: their acts over versions and locks, the record that each gathers of its commit,
 -- and the records that wait in the log. What these show of a state of the model.
-use Rattle.std.specs.Prelude.{◌≡◌, ◌≤◌, ◌+◌, ℕ, List, [], ◌∷◌, length, Some, None}
+use Rattle.std.specs.Prelude.{◌≡◌, ◌≤◌, ◌<◌, ◌+◌, ◌-◌, ◌^◌, ℕ, List, [], ◌∷◌, length, Some, None}
 use Rattle.ctr_types.specs.declared.statement.Statement.{Statement}
 use Rattle.ctr_types.specs.declared.tape.Act.{Act}
 use Rattle.ctr_types.specs.declared.tape.Reply.{Reply}
@@ -16,9 +16,8 @@ use Rattle.ctr_log.specs.Logs.{Log}
 use Rattle.ctr_rec.specs.declared.item.Item.{Item}
 use Rattle.ctr_rec.specs.Fold.{FoldsRecord}
 use Rattle.ctr_acts.specs.Acts.{ActsHeld, ShowsActs}
-use Rattle.ctr_acts.specs.Writing.{OthersCanWrite}
 use Rattle.ctr_gather.specs.Gathered.{rows_asked, IsGathered}
-use Rattle.ctr_gather.specs.Records.{GatheredHeld, needs, Holds, IsOne, record_at, OthersAlike}
+use Rattle.ctr_gather.specs.Records.{GatheredHeld, room_kept, IsRecordOf, IsSession, record_at}
 
 -- the acts, and the records that sessions gather
 pub record TurnsHeld : Type 0 where
@@ -27,7 +26,7 @@ pub record TurnsHeld : Type 0 where
 
 -- what is gathered is the record of the transaction's changes
 abbrev pub HoldsRecord : Database → Transaction → GatheredHeld → Type 0
-HoldsRecord db t g = (items : List Item) × Holds items g × IsGathered db t items
+HoldsRecord db t g = (items : List Item) × IsRecordOf items g × IsGathered db t items
 
 -- from the j-th on, each commit that was asked for has its record here, in their order: it makes the
 -- rows with it of those before
@@ -42,19 +41,19 @@ WaitFrom state j (b ∷ bs) = FoldsRecord (rows_at state j) b (rows_at state (j 
 pub record ShowsTurns (low : ℕ) (h : TurnsHeld) (from : ℕ) (waiting : List (List ℕ))
     (state : State) : Type 0 where
   pub acts : ShowsActs low h.acts state
-  pub gathers : (s : ℕ) (t : Transaction) → IsOne s h.records → transaction_of state s ≡ Some t
+  pub gathers : (s : ℕ) (t : Transaction) → IsSession s h.records → transaction_of state s ≡ Some t
       → t.asked ≡ None → HoldsRecord (rows_asked state) t (record_at s h.records)
-  pub idle : (s : ℕ) → IsOne s h.records → transaction_of state s ≡ None
+  pub idle : (s : ℕ) → IsSession s h.records → transaction_of state s ≡ None
       → (record_at s h.records).most ≡ 0
   pub waits : WaitFrom state from waiting
 
 -- turns, with the records that wait behind them
-pub record Behind : Type 0 where
+pub record WithWaiting : Type 0 where
   pub turns : TurnsHeld
   pub waiting : List (List ℕ)
 
 -- the reply is allowed, and what is left shows the state that it leaves
-pub record TurnReplies (low : ℕ) (new : Behind) (from : ℕ) (state : State) (s : ℕ)
+pub record TurnReplies (low : ℕ) (new : WithWaiting) (from : ℕ) (state : State) (s : ℕ)
     (of : Act × (Statement × Reply)) : Type 0 where
   pub allowed : Allowed state s of.0 of.1.0 of.1.1
   pub shows : ShowsTurns low new.turns from new.waiting
@@ -62,24 +61,21 @@ pub record TurnReplies (low : ℕ) (new : Behind) (from : ℕ) (state : State) (
 
 -- Whatever state is shown, to which a legal tape may have led with the session's act next: the
 -- reply is the model's, or one that may stand in its place, and the model's next state is shown.
-abbrev pub TurnKeeps : ℕ → Act → Statement → Behind → Behind → Reply → Type 0
+abbrev pub TurnKeeps : ℕ → Act → Statement → WithWaiting → WithWaiting → Reply → Type 0
 TurnKeeps s a statement old new r = (low from : ℕ) (state : State)
     → ShowsTurns low old.turns from old.waiting state → IsKept state
     → IsReady state statement a (transaction_of state s) → IsInTurn state s a
     → TurnReplies low new from state s (a, (statement, r))
 
 -- turns, and the records that wait in the log behind them
-abbrev pub behind : TurnsHeld → Log → Behind
-behind h log = record { turns = h; waiting = log.buffered }
+abbrev pub with_log : TurnsHeld → Log → WithWaiting
+with_log h log = record { turns = h; waiting = log.buffered }
 
 -- the log has the room that is kept for records
 abbrev pub HasRoom : TurnsHeld → Log → Type 0
-HasRoom h log = needs h.records ≤ log.room
+HasRoom h log = room_kept h.records ≤ log.room
 
--- Another session that was granted a lock can make its write after the act, and has the record that
--- it had; and the log has its room.
-pub record LeavesOthers (s : ℕ) (a : Act) (statement : Statement) (old new : TurnsHeld) (log : Log)
-    : Type 0 where
-  pub writes : OthersCanWrite s a statement old.acts new.acts
-  pub records : OthersAlike s old.records new.records
-  pub room : HasRoom new log
+-- there is a number for a record more, in its batch and in the log
+pub record HasNumbers (log : Log) : Type 0 where
+  pub few : length log.buffered < 2 ^ 32 - 1
+  pub next : log.first + length log.buffered < 2 ^ 63 - 1

@@ -7,8 +7,8 @@ ghost use Rattle.ctr_types.specs.declared.tape.Reply.TheVariants as reply;
 ghost use Rattle.ctr_acts.specs.Writing.{OthersCanWrite};
 ghost use Rattle.ctr_rec.specs.declared.item.Item.{Item as HeldItem};
 ghost use Rattle.ctr_rec.specs.Encode.{record_bytes};
-ghost use Rattle.ctr_gather.specs.Records.{needs, Holds, IsOne, record_at, OthersAlike};
-ghost use Rattle.ctr_turns.specs.Turns.{TurnKeeps, behind, HasRoom, LeavesOthers};
+ghost use Rattle.ctr_gather.specs.Records.{room_kept, IsRecordOf, IsSession, record_at, OthersAlike};
+ghost use Rattle.ctr_turns.specs.Turns.{TurnKeeps, with_log, HasRoom, HasNumbers};
 
 use ctr_acts::Acts;
 use ctr_gather::{Records, commits_fold, records_are_gathered};
@@ -35,12 +35,11 @@ impl Model for Turns {
 
 // A session's record is ended, and waits in the log. It takes no memory.
 fn append(records: &mut Records, log: &mut LogFile, s: u8)
-    requires one { IsOne s records.old }
-    requires room { needs records.old ≤ log.old.room }
-    requires few { length log.old.buffered < 2 ^ 32 - 1 }
-    requires next { log.old.first + length log.old.buffered < 2 ^ 63 - 1 }
-    ensures appended { (items : List HeldItem) → Holds items (record_at s records.old) → log.new ≡ record log.old { buffered = log.old.buffered ++ record_bytes items ∷ []; room = log.new.room } }
-    ensures room { needs records.new ≤ log.new.room }
+    requires one { IsSession s records.old }
+    requires room { room_kept records.old ≤ log.old.room }
+    requires numbers { HasNumbers log.old }
+    ensures appended { (items : List HeldItem) → IsRecordOf items (record_at s records.old) → log.new ≡ record log.old { buffered = log.old.buffered ++ record_bytes items ∷ []; room = log.new.room } }
+    ensures room { room_kept records.new ≤ log.new.room }
     ensures idle { (record_at s records.new).most ≡ 0 }
     ensures others { OthersAlike s records.old records.new }
 {
@@ -54,11 +53,11 @@ fn append(records: &mut Records, log: &mut LogFile, s: u8)
 
 // Takes room in the log for a session's record more, and begins it.
 fn start(records: &mut Records, log: &mut LogFile, s: u8) -> Result<(), OutOfMemory>
-    requires one { IsOne s records.old }
-    requires room { needs records.old ≤ log.old.room }
-    ensures begun { OnOk result (Holds [] (record_at s records.new)) }
+    requires one { IsSession s records.old }
+    requires room { room_kept records.old ≤ log.old.room }
+    ensures begun { OnOk result (IsRecordOf [] (record_at s records.new)) }
     ensures none { (record_at s records.old).most ≡ 0 → OnErr result ((record_at s records.new).most ≡ 0) }
-    ensures room { needs records.new ≤ log.new.room }
+    ensures room { room_kept records.new ≤ log.new.room }
     ensures log { log.new ≡ record log.old { room = log.new.room } }
     ensures others { OthersAlike s records.old records.new }
 {
@@ -87,9 +86,9 @@ fn refused(refusal: Refusal) -> Reply
 impl Turns {
     /// BEGIN.
     pub fn begin(&mut self, alloc: Global, log: &mut LogFile, s: u8) -> Reply
-        requires one { IsOne s self.old.records }
+        requires one { IsSession s self.old.records }
         requires room { HasRoom self.old log.old }
-        ensures keeps { TurnKeeps s act.Begin st.Begin (behind self.old log.old) (behind self.new log.new) result }
+        ensures keeps { TurnKeeps s act.Begin st.Begin (with_log self.old log.old) (with_log self.new log.new) result }
         ensures room { HasRoom self.new log.new }
         ensures log { log.new ≡ record log.old { room = log.new.room } }
         ensures others { OthersAlike s self.old.records self.new.records }
@@ -123,12 +122,11 @@ impl Turns {
 
     /// COMMIT's first act: the record of a writer waits in the log, and another ends. It takes no memory.
     pub fn ask(&mut self, log: &mut LogFile, s: u8) -> Reply
-        requires one { IsOne s self.old.records }
+        requires one { IsSession s self.old.records }
         requires room { HasRoom self.old log.old }
         requires items { (record_at s self.old.records).count < 2 ^ 32 }
-        requires few { length log.old.buffered < 2 ^ 32 - 1 }
-        requires next { log.old.first + length log.old.buffered < 2 ^ 63 - 1 }
-        ensures keeps { TurnKeeps s act.Ask st.Commit (behind self.old log.old) (behind self.new log.new) result }
+        requires numbers { HasNumbers log.old }
+        ensures keeps { TurnKeeps s act.Ask st.Commit (with_log self.old log.old) (with_log self.new log.new) result }
         ensures room { HasRoom self.new log.new }
         ensures others { OthersAlike s self.old.records self.new.records }
         ensures writes { OthersCanWrite s act.Ask st.Commit self.old.acts self.new.acts }
@@ -150,10 +148,10 @@ impl Turns {
 
     /// COMMIT's second act: the first commit that isn't answered is, which is the session's. It takes no memory.
     pub fn answer(&mut self, s: u8) -> Reply
-        requires one { IsOne s self.old.records }
+        requires one { IsSession s self.old.records }
         requires waits { self.old.acts.engine.answered < length self.old.acts.engine.xids.commits }
         ensures keeps { (waiting : List (List ℕ)) → TurnKeeps s act.Answer st.Commit (record { turns = self.old; waiting = waiting }) (record { turns = self.new; waiting = waiting }) result }
-        ensures needs { needs self.new.records ≤ needs self.old.records }
+        ensures needs { room_kept self.new.records ≤ room_kept self.old.records }
         ensures others { OthersAlike s self.old.records self.new.records }
         ensures writes { OthersCanWrite s act.Answer st.Commit self.old.acts self.new.acts }
     {
@@ -163,9 +161,9 @@ impl Turns {
 
     /// ROLLBACK: one mark, whatever was written, and the record is forgotten. It takes no memory.
     pub fn roll_back(&mut self, s: u8) -> Reply
-        requires one { IsOne s self.old.records }
+        requires one { IsSession s self.old.records }
         ensures keeps { (waiting : List (List ℕ)) → TurnKeeps s act.Rollback st.Rollback (record { turns = self.old; waiting = waiting }) (record { turns = self.new; waiting = waiting }) result }
-        ensures needs { needs self.new.records ≤ needs self.old.records }
+        ensures needs { room_kept self.new.records ≤ room_kept self.old.records }
         ensures others { OthersAlike s self.old.records self.new.records }
         ensures writes { OthersCanWrite s act.Rollback st.Rollback self.old.acts self.new.acts }
     {

@@ -4,8 +4,8 @@ use Rattle.ctr_types.specs.declared.tape.Act.TheVariants as act
 use Rattle.ctr_types.specs.declared.tape.Reply.TheVariants as reply
 use Rattle.ctr_acts.specs.Acts.{ActKeeps}
 use Rattle.ctr_acts.specs.Writing.{OthersCanWrite}
-use Rattle.ctr_gather.specs.Records.{IsOne, OthersAlike}
-use Rattle.ctr_turns.specs.Turns.{TurnsHeld, TurnKeeps, behind}
+use Rattle.ctr_gather.specs.Records.{IsSession, OthersAlike}
+use Rattle.ctr_turns.specs.Turns.{TurnsHeld, TurnKeeps, with_log}
 use Rattle.ctr_turns.proofs.Beginning.{alike_both, begun_turn, begun_not}
 use Rattle.ctr_turns.proofs.turns.Turns.begin.Goals as goal
 
@@ -13,8 +13,8 @@ pub returns-in-Began-clause-keeps : goal.returns-in-Began-clause-keeps
 returns-in-Began-clause-keeps c =
     let old : TurnsHeld = record { acts = c.self.inside.acts; records = c.self.inside.records } in
     let new : TurnsHeld = record { acts = c.begin-reply.new.self; records = c.start.new.records } in
-    subst (λ r. TurnKeeps c.args.s act.Begin st.Begin (behind c.args.self.now c.args.log.now) (behind new c.start.new.log) r) (sym c.in-Began.is)
-    (subst (λ o. TurnKeeps c.args.s act.Begin st.Begin (behind o c.args.log.now) (behind new c.start.new.log) (reply.Began c.in-Began.n)) c.self.view_is
+    subst (λ r. TurnKeeps c.args.s act.Begin st.Begin (with_log c.args.self.now c.args.log.now) (with_log new c.start.new.log) r) (sym c.in-Began.is)
+    (subst (λ o. TurnKeeps c.args.s act.Begin st.Begin (with_log o c.args.log.now) (with_log new c.start.new.log) (reply.Began c.in-Began.n)) c.self.view_is
     (begun_turn c.args.s old new c.args.log.now c.start.new.log c.start.ensures.others c.start.ensures.log c.records_are_gathered.ensures.begin c.in-Ok.ensures.begun c.in-Began.n
     (subst (ActKeeps c.args.s act.Begin st.Begin old.acts new.acts) c.in-Began.is c.begin-reply.ensures.keeps)))
 
@@ -29,8 +29,8 @@ returns c =
     let kept = c.forget.ensures.needs in
     let room = c.start.ensures.room in
     record {
-      keeps = subst (λ o. TurnKeeps c.args.s act.Begin st.Begin (behind o c.args.log.now) (behind new c.start.new.log) c.begin-reply.result) c.self.view_is
-          (begun_not c.args.s old new c.args.log.now c.start.new.log alike c.start.ensures.log (subst (λ (o : TurnsHeld). IsOne c.args.s o.records) (sym c.self.view_is) c.requires.one) c.if-is_going.ensures c.forget.ensures.none c.begin-reply.result c.in_default-reply.not-Began c.begin-reply.ensures.keeps);
+      keeps = subst (λ o. TurnKeeps c.args.s act.Begin st.Begin (with_log o c.args.log.now) (with_log new c.start.new.log) c.begin-reply.result) c.self.view_is
+          (begun_not c.args.s old new c.args.log.now c.start.new.log alike c.start.ensures.log (subst (λ (o : TurnsHeld). IsSession c.args.s o.records) (sym c.self.view_is) c.requires.one) c.if-is_going.ensures c.forget.ensures.none c.begin-reply.result c.in_default-reply.not-Began c.begin-reply.ensures.keeps);
       room = omega (arith, kept, room);
       log = c.start.ensures.log;
       others = subst (λ (o : TurnsHeld). OthersAlike c.args.s o.records new.records) c.self.view_is alike;

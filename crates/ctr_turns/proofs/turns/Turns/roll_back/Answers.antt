@@ -2,7 +2,7 @@ use Rattle.std.proofs.Common.{ap, subst, arith}
 use Rattle.ctr_types.specs.declared.statement.Statement.TheVariants as st
 use Rattle.ctr_types.specs.declared.tape.Act.TheVariants as act
 use Rattle.ctr_acts.specs.Writing.{OthersCanWrite}
-use Rattle.ctr_gather.specs.Records.{needs, OthersAlike}
+use Rattle.ctr_gather.specs.Records.{room_kept, OthersAlike}
 use Rattle.ctr_turns.specs.Turns.{TurnsHeld, TurnKeeps}
 use Rattle.ctr_turns.proofs.Ends.{back_turn}
 use Rattle.ctr_turns.proofs.turns.Turns.roll_back.Goals as goal
@@ -14,7 +14,7 @@ returns c =
     record {
       keeps = λ waiting. subst (λ o. TurnKeeps c.args.s act.Rollback st.Rollback (record { turns = o; waiting = waiting }) (record { turns = new; waiting = waiting }) c.roll_back.result) c.self.view_is
           (back_turn c.args.s old new waiting c.forget.ensures.others c.forget.ensures.none c.roll_back.result c.roll_back.ensures.keeps);
-      needs = let kept = c.forget.ensures.needs in let before = ap (λ (o : TurnsHeld). needs o.records) c.self.view_is in omega (arith, kept, before);
+      needs = let kept = c.forget.ensures.needs in let before = ap (λ (o : TurnsHeld). room_kept o.records) c.self.view_is in omega (arith, kept, before);
       others = subst (λ (o : TurnsHeld). OthersAlike c.args.s o.records new.records) c.self.view_is c.forget.ensures.others;
       writes = subst (λ (o : TurnsHeld). OthersCanWrite c.args.s act.Rollback st.Rollback o.acts new.acts) c.self.view_is c.roll_back.ensures.others;
     }
