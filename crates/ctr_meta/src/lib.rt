@@ -10,7 +10,7 @@ mod xids;
 
 pub use items::Wanted;
 pub use meta::Meta;
-pub use room::{Room, room_for, xids_last};
+pub use room::{Room, room_for, tables_fold, xids_last};
 
 #[cfg(test)]
 mod tests;

@@ -1,7 +1,8 @@
 // What a record adds to the tables.
-ghost use Rattle.std.specs.Prelude.{◌≡◌, ◌+◌, ◌^◌, ◌<◌, ℕ};
+ghost use Rattle.std.specs.Prelude.{◌≡◌, ◌+◌, ◌^◌, ◌<◌, ℕ, List, [], ◌∷◌, ◌++◌};
 ghost use Rattle.ctr_records.specs.declared.record.Record.{Record as Logged};
-ghost use Rattle.ctr_meta.specs.Tables.{Tables};
+ghost use Rattle.ctr_meta.specs.Tables.{Tables, no_tables};
+ghost use Rattle.ctr_meta.specs.Effects.{effect, tables_of};
 ghost use Rattle.ctr_meta.specs.Kept.{IsLogged, opens_added, items_added, XidsLast};
 
 use crate::listing::counts_in;
@@ -44,4 +45,11 @@ pub fn room_for(rec: &Record) -> Room
 /// both open and aborted, lasts over each record whose needs are met.
 pub fn xids_last()
     ensures { (r : Logged) (t : Tables) → XidsLast r t }
+{}
+
+/// A new Meta has the tables of a log without records; those of a log with one record more are the record's effect
+/// on the log's. So a Meta to which each record of a log was applied has the tables of the log.
+pub fn tables_fold()
+    ensures none { tables_of [] ≡ no_tables }
+    ensures more { (rs : List Logged) (r : Logged) → tables_of (rs ++ r ∷ []) ≡ effect r (tables_of rs) }
 {}
