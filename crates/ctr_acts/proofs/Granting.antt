@@ -1,5 +1,5 @@
 -- A Lock: room that is taken shows the state of before, and a lock that is free is granted.
-use Rattle.std.proofs.Common.{◌≡◌, inr, ℕ, ℤ, ◌==◌, ◌<◌, Bool, true, false, List, Option, Some, None, Result, Ok, Err, OnErr, IsErr, IfSome, refl, sym, ◌∙◌, ap, subst, arith}
+use Rattle.std.proofs.Common.{◌≡◌, inr, ℕ, ℤ, ◌==◌, ◌<◌, Bool, true, false, List, Option, Some, None, Result, Ok, Err, OnErr, IfOk, IsErr, IfSome, refl, sym, ◌∙◌, ap, subst, arith}
 use Rattle.std.specs.Prelude.{is_some, is_none, not}
 use Rattle.std.specs.List.{AllByRecursion}
 use Rattle.std.specs.Ordering.{nat_cmp}
@@ -31,7 +31,7 @@ use Rattle.ctr_sessions.specs.Sessions.{IsDrawnFor}
 use Rattle.ctr_sessions.specs.Steps.{LockShows, LockLeaves, RoomShows}
 use Rattle.ctr_sessions.specs.Views.{SeesAlike, DrawsSeeAlike}
 use Rattle.ctr_acts.specs.declared.prepared.Prepared.{Prepared}
-use Rattle.ctr_acts.specs.Writing.{made_for, put_by, HasRoomAt, OthersCan, OthersCanWrite, LockPrepares}
+use Rattle.ctr_acts.specs.Writing.{IsPrepared, made_for, put_by, HasRoomAt, OthersCan, OthersCanWrite, LockPrepares}
 use Rattle.ctr_acts.specs.Acts.{ActsHeld, begun_of, ShowsActs, ActReplies, ActKeeps}
 use Rattle.ctr_acts.specs.Seats.{RefusesAlike}
 use Rattle.ctr_acts.specs.Locking.{taken_reply, IsFreeFor, taken_by, SameEngine, DrawsOnce, MayLock, LockGrants, LockStays}
@@ -180,7 +180,7 @@ module _ (s : ℕ) (old new : ActsHeld) (entered : is_some (find nat_cmp s old.l
         (stays low state t.me shows (may_lock low state shows kept ready t.me t.at))
 
 -- what a refused call answers
-pub short_reply : (r : Result Prepared OutOfMemory) → IsErr r → taken_reply r ≡ reply.Refused refusal.OutOfMemory
+pub short_reply : (r : Result (Unit {0}) OutOfMemory) → IsErr r → taken_reply r ≡ reply.Refused refusal.OutOfMemory
 short_reply (Ok u) is = absurd (false≢true is)
 short_reply (Err e) is = refl
 
@@ -217,3 +217,11 @@ lock_prepares law s statement name old new mid p named entered same room is draw
 
 pub lock_others : (s : ℕ) (statement : Statement) (old new : ActsHeld) (mid : HeldEngine) → SameEngine old.engine mid → OthersCan s old.engine mid → OthersCan s mid new.engine → OthersCanWrite s act.Lock statement old new
 lock_others s statement old new mid same first second = others_can s act.Lock statement old new (then_others s old.engine mid new.engine same.keeps first second)
+
+-- what a call gave is what it is to be
+pub if_ok : {A E : Type 0} (r : Result A E) (P Q : A → Type 0) → ((a : A) → P a → Q a) → IfOk r P → IfOk r Q
+if_ok (Ok a) P Q f p = f a p
+if_ok (Err e) P Q f p = tt
+
+pub prepared_by : (engine : HeldEngine) (s : ℕ) (statement : Statement) (name : List ℕ) (p : Prepared) → Some name ≡ table_of statement → p ≡ put_by engine s statement name → IsPrepared engine s statement p
+prepared_by engine s statement name p named is other there = is ∙ ap (put_by engine s statement) (some_is name other (named ∙ there))

@@ -91,33 +91,55 @@ module _ (s : ℕ) (old new : HeldEngine) where
   same_sees : engine_of new ≡ record (engine_of old) { versions = (engine_of new).versions } → (r x : ℕ) → sees_of r (engine_of new) x ≡ sees_of r (engine_of old) x
   same_sees rest r x = ap (λ (e : EngineHeld). sees_of r e x) rest
 
-  -- room was taken for a row
-  pub row_room_others : (id : ℕ) (key : ℤ) → SetsRow (engine_of old) (engine_of new) id key (rows_of (engine_of old).versions id key) → RoomsStay no_row no_name old.store new.store → OthersCan s old new
-  row_room_others id key set rooms low state r u theirs p shows apart at can = still old new r (same_sees set.rest r) theirs p (λ name named. record {
-    names = ap (chain_at name_cmp name) set.set.names;
-    rows = λ made k is key_is. known (is_slot id key made.id k) (λ one. here made.id k one) (λ two. set.set.others made.id k two);
-    row_room = λ made k is key_is room. rooms.rows made.id k refl room;
-    name_room = λ none room. rooms.names name refl room;
-  }) can
-    where
-      here : (i : ℕ) (k : ℤ) → is_slot id key i k ≡ true → rows_of (engine_of new).versions i k ≡ rows_of (engine_of old).versions i k
-      here i k one =
+  -- room was taken for a row: each has the versions that it had
+  rows_still : (id : ℕ) (key : ℤ) → SetsRow (engine_of old) (engine_of new) id key (rows_of (engine_of old).versions id key) → (i : ℕ) (k : ℤ) → rows_of (engine_of new).versions i k ≡ rows_of (engine_of old).versions i k
+  rows_still id key set i k = known (is_slot id key i k)
+      (λ one.
           let parts = and_parts (i == id) (int_eq k key) one in
           let same_id : i ≡ id = eqb-true i id parts.0 in
           let same_key : k ≡ key = (signed_Decides k key).0 parts.1 in
           ap (λ j. rows_of (engine_of new).versions j k) same_id ∙ ap (rows_of (engine_of new).versions id) same_key ∙ set.set.here
-          ∙ sym (ap (λ j. rows_of (engine_of old).versions j k) same_id ∙ ap (rows_of (engine_of old).versions id) same_key)
+          ∙ sym (ap (λ j. rows_of (engine_of old).versions j k) same_id ∙ ap (rows_of (engine_of old).versions id) same_key))
+      (λ two. set.set.others i k two)
+
+  pub row_room_others : (id : ℕ) (key : ℤ) → SetsRow (engine_of old) (engine_of new) id key (rows_of (engine_of old).versions id key) → RoomsStay no_row no_name old.store new.store → OthersCan s old new
+  row_room_others id key set rooms low state r u theirs p shows apart at can = still old new r (same_sees set.rest r) theirs p (λ name named. record {
+    names = ap (chain_at name_cmp name) set.set.names;
+    rows = λ made k is key_is. rows_still id key set made.id k;
+    row_room = λ made k is key_is room. rooms.rows made.id k refl room;
+    name_room = λ none room. rooms.names name refl room;
+  }) can
+
+  -- the session sees what it saw
+  pub row_room_sees : (id : ℕ) (key : ℤ) → SetsRow (engine_of old) (engine_of new) id key (rows_of (engine_of old).versions id key) → SeesAlike s (engine_of old) (engine_of new)
+  row_room_sees id key set = record {
+    names = λ name. made_same old new s (same_sees set.rest s) name (ap (chain_at name_cmp name) set.set.names);
+    rows = λ i k. ap (λ test. value_seen test (rows_of (engine_of new).versions i k)) (sees_is old new s (same_sees set.rest s)) ∙ ap (value_seen (sees_of s (engine_of old))) (rows_still id key set i k);
+  }
 
   -- or for a name
+  names_still : (name : List ℕ) → SetsName (engine_of old) (engine_of new) name (names_at (engine_of old).versions name) → (other : List ℕ) → names_at (engine_of new).versions other ≡ names_at (engine_of old).versions other
+  names_still name set other = known (same_name name other)
+      (λ one. subst (λ n. names_at (engine_of new).versions n ≡ names_at (engine_of old).versions n) (same_text name other one) set.set.here)
+      (λ two. set.set.others other two)
+
   pub name_room_others : (name : List ℕ) → SetsName (engine_of old) (engine_of new) name (names_at (engine_of old).versions name) → RoomsStay no_row no_name old.store new.store → OthersCan s old new
   name_room_others name set rooms low state r u theirs p shows apart at can = still old new r (same_sees set.rest r) theirs p (λ other named. record {
-    names = known (same_name name other)
-        (λ one. subst (λ n. names_at (engine_of new).versions n ≡ names_at (engine_of old).versions n) (same_text name other one) set.set.here)
-        (λ two. set.set.others other two);
+    names = names_still name set other;
     rows = λ made k is key_is. ap (chain_at int_cmp k) (set.set.slots made.id);
     row_room = λ made k is key_is room. rooms.rows made.id k refl room;
     name_room = λ none room. rooms.names other refl room;
   }) can
+
+  pub name_room_sees : (name : List ℕ) → SetsName (engine_of old) (engine_of new) name (names_at (engine_of old).versions name) → SeesAlike s (engine_of old) (engine_of new)
+  name_room_sees name set = record {
+    names = λ other. made_same old new s (same_sees set.rest s) other (names_still name set other);
+    rows = λ i k. ap (λ test. value_seen test (rows_of (engine_of new).versions i k)) (sees_is old new s (same_sees set.rest s)) ∙ ap (value_seen (sees_of s (engine_of old))) (ap (chain_at int_cmp k) (set.set.slots i));
+  }
+
+  -- nothing changed
+  pub same_sees_alike : new ≡ old → SeesAlike s (engine_of old) (engine_of new)
+  same_sees_alike same = subst (λ e. SeesAlike s (engine_of old) (engine_of e)) (sym same) (record { names = λ name. refl; rows = λ i k. refl })
 
 -- a session drew its number
 found : (o : Option SessionHeld) → is_some o ≡ true → (mine : SessionHeld) × (o ≡ Some mine)
@@ -144,19 +166,22 @@ then_others s old mid new keeps first second low state r u theirs p shows apart 
 
 -- ---- the session itself, where it sees what it saw
 
-pub seen_can : (s : ℕ) (statement : Statement) (p : Prepared) (old new : HeldEngine) → SeesAlike s (engine_of old) (engine_of new) → new.store ≡ old.store → CanWrite old s statement p → CanWrite new s statement p
-seen_can s statement p old new alike same can = record {
-  room = λ name named. subst (λ m. HasRoomAt new.store m name (key_written statement)) (sym (alike.names name))
-      (subst (λ (h : HeldStore). HasRoomAt h (made_for old s name) name (key_written statement)) (sym same) (can.room name named));
-  prepared = λ name named. can.prepared name named
-      ∙ sym (ap (λ m. put_for (columns_seen m) statement (row_for new s m (key_written statement))) (alike.names name)
-      ∙ ap (put_for (columns_seen (made_for old s name)) statement) (rows_alike (made_for old s name) (key_written statement)));
-}
+pub seen_put : (s : ℕ) (statement : Statement) (old new : HeldEngine) → SeesAlike s (engine_of old) (engine_of new) → (name : List ℕ) → put_by new s statement name ≡ put_by old s statement name
+seen_put s statement old new alike name =
+    ap (λ m. put_for (columns_seen m) statement (row_for new s m (key_written statement))) (alike.names name)
+    ∙ ap (put_for (columns_seen (made_for old s name)) statement) (rows_alike (made_for old s name) (key_written statement))
   where
     rows_alike : (made : Option Made) (key : Option ℤ) → row_for new s made key ≡ row_for old s made key
     rows_alike None key = refl
     rows_alike (Some made) None = refl
     rows_alike (Some made) (Some key) = alike.rows made.id key
+
+pub seen_can : (s : ℕ) (statement : Statement) (p : Prepared) (old new : HeldEngine) → SeesAlike s (engine_of old) (engine_of new) → new.store ≡ old.store → CanWrite old s statement p → CanWrite new s statement p
+seen_can s statement p old new alike same can = record {
+  room = λ name named. subst (λ m. HasRoomAt new.store m name (key_written statement)) (sym (alike.names name))
+      (subst (λ (h : HeldStore). HasRoomAt h (made_for old s name) name (key_written statement)) (sym same) (can.room name named));
+  prepared = λ name named. can.prepared name named ∙ sym (seen_put s statement old new alike name);
+}
 
 -- ---- and an act's clause
 

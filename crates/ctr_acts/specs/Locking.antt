@@ -19,13 +19,12 @@ use Rattle.ctr_versions.specs.Laws.{RoomKeeps}
 use Rattle.ctr_rows.specs.Running.{HeldEngine, engine_of}
 use Rattle.ctr_locks.specs.Held.{TableHeld, busy_in, locked_in, IsEntered, HasKeyRoomOf, HasTableRoomOf}
 use Rattle.ctr_sessions.specs.Steps.{LockLeaves}
-use Rattle.ctr_acts.specs.declared.prepared.Prepared.{Prepared}
 use Rattle.ctr_acts.specs.Acts.{ActsHeld, ShowsActs}
 use Rattle.ctr_acts.specs.Seats.{RefusesAlike}
 
 -- what a Lock that nothing refuses is answered
-abbrev pub taken_reply : Result Prepared OutOfMemory → Reply
-taken_reply (Ok p) = reply.Granted
+abbrev pub taken_reply : Result (Unit {0}) OutOfMemory → Reply
+taken_reply (Ok unit) = reply.Granted
 taken_reply (Err wanting) = reply.Refused refusal.OutOfMemory
 
 -- the session is in a transaction, and nothing refuses the statement's Lock

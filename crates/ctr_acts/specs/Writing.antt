@@ -71,6 +71,11 @@ put_by engine s statement name =
     let made = made_for engine s name in
     put_for (columns_seen made) statement (row_for engine s made (key_written statement))
 
+-- it is what a session's Write of the statement will do
+abbrev pub IsPrepared : HeldEngine → ℕ → Statement → Prepared → Type 0
+IsPrepared engine s statement p = (name : List ℕ) → table_of statement ≡ Some name
+    → p ≡ put_by engine s statement name
+
 -- ---- its room
 
 -- room for a version of a key's row in a table that is there, or of a name
@@ -85,8 +90,7 @@ pub record CanWrite (engine : HeldEngine) (s : ℕ) (statement : Statement) (p :
     : Type 0 where
   pub room : (name : List ℕ) → table_of statement ≡ Some name
       → HasRoomAt engine.store (made_for engine s name) name (key_written statement)
-  pub prepared : (name : List ℕ) → table_of statement ≡ Some name
-      → p ≡ put_by engine s statement name
+  pub prepared : IsPrepared engine s statement p
 
 -- ---- what the others keep
 

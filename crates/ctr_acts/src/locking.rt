@@ -1,5 +1,6 @@
 // A Lock: room is taken first, so that the lock itself, once a number is drawn, can't fail.
 ghost use Rattle.std.specs.Prelude.{◌≡◌, OnOk, OnErr, IfOk, Some, None, IfSome};
+ghost use Rattle.std.specs.Option.{option_copied};
 ghost use Rattle.ctr_types.specs.declared.tape.Act.TheVariants as act;
 ghost use Rattle.ctr_types.specs.declared.tape.Reply.TheVariants as reply;
 ghost use Rattle.ctr_model.specs.Reply.{with_lock};
@@ -7,11 +8,14 @@ ghost use Rattle.ctr_locks.specs.Held.{IsEntered, SameEntered};
 ghost use Rattle.ctr_locks.specs.Shows.{LocksStay, GrantShows, held_found};
 ghost use Rattle.ctr_acts.specs.Acts.{ActKeeps};
 ghost use Rattle.ctr_chains.specs.Stored.{HasNameRoom};
-ghost use Rattle.ctr_acts.specs.Writing.{made_for, HasRoomAt, OthersCan, OthersCanWrite, LockPrepares};
+ghost use Rattle.ctr_rows.specs.Running.{engine_of};
+ghost use Rattle.ctr_sessions.specs.Views.{SeesAlike};
+ghost use Rattle.ctr_acts.specs.Writing.{IsPrepared, made_for, HasRoomAt, OthersCan, OthersCanWrite, LockPrepares};
 ghost use Rattle.ctr_acts.specs.Locking.{taken_by, taken_reply, MayTake, HasLockRoom, SameEngine, DrawsOnce, Stays, LockGrants, LockStays};
 
 use crate::acts::Acts;
 use crate::prepared::{Prepared, prepare};
+use ctr_chains::Made;
 use ctr_locks::{Held, Locks, locks_are_the_models};
 use ctr_model::Key;
 use ctr_rows::Engine;
@@ -62,6 +66,7 @@ fn make_room(
     key: &Option<Key>,
 ) -> Result<(), OutOfMemory>
     ensures same { SameEngine engine.old engine.new }
+    ensures sees { SeesAlike s (engine_of engine.old) (engine_of engine.new) }
     ensures room { OnOk result (HasRoomAt engine.new.store (made_for engine.new s name.now) name.now key.now) }
     ensures others { OthersCan s engine.old engine.new }
     ensures next { engine.new.store.next ≡ engine.old.store.next }
@@ -82,6 +87,7 @@ fn make_row_room(
     key: Key,
 ) -> Result<(), OutOfMemory>
     ensures same { SameEngine engine.old engine.new }
+    ensures sees { SeesAlike s (engine_of engine.old) (engine_of engine.new) }
     ensures room { OnOk result (HasRoomAt engine.new.store (made_for engine.new s name.now) name.now (Some key)) }
     ensures others { OthersCan s engine.old engine.new }
     ensures next { engine.new.store.next ≡ engine.old.store.next }
@@ -96,6 +102,7 @@ fn make_row_room(
 // Takes room for one version more of a name.
 fn make_name_room(engine: &mut Engine, alloc: Global, s: u8, name: &Name) -> Result<(), OutOfMemory>
     ensures same { SameEngine engine.old engine.new }
+    ensures sees { SeesAlike s (engine_of engine.old) (engine_of engine.new) }
     ensures room { OnOk result (HasNameRoom name.now engine.new.store) }
     ensures others { OthersCan s engine.old engine.new }
     ensures next { engine.new.store.next ≡ engine.old.store.next }
@@ -132,18 +139,42 @@ impl Acts {
         self.refusal(s, &Act::Lock, statement)
     }
 
+    /// The table that a session sees under a name.
+    pub fn table(&self, s: u8, name: &Name) -> Option<&Made>
+        ensures { option_copied result ≡ made_for self.now.engine s name.now }
+    {
+        self.engine.table(s, name)
+    }
+
+    /// What the Write of a statement would do, by what the session sees. It takes memory, and changes nothing.
+    pub fn prepare(
+        &self,
+        alloc: Global,
+        s: u8,
+        statement: &Statement,
+    ) -> Result<Prepared, OutOfMemory>
+        ensures { IfOk result (IsPrepared self.now.engine s statement.now) }
+    {
+        let Some(name) = table_of(statement) else {
+            return Err(OutOfMemory);
+        };
+        prepare(alloc, &self.engine, s, statement, name)
+    }
+
     /// A Lock that nothing refuses: of the row's key with a use of its table, or the hold of the table's name. It takes
-    /// the memory that the write will want, and gives what the write will do; where memory is refused, the session stays
-    /// as it was.
+    /// the room that the write will want, which does what was prepared; where memory is refused, the session stays as it
+    /// was.
     pub fn take(
         &mut self,
         alloc: Global,
         s: u8,
         statement: &Statement,
-    ) -> Result<Prepared, OutOfMemory>
-        requires { MayTake s statement.now self.old }
+        prepared: &Prepared,
+    ) -> Result<(), OutOfMemory>
+        requires free { MayTake s statement.now self.old }
+        requires prepared { IsPrepared self.old.engine s statement.now prepared.now }
         ensures keeps { ActKeeps s act.Lock statement.now self.old self.new (taken_reply result) }
-        ensures can { IfOk result (λ p. LockPrepares s statement.now p self.old self.new) }
+        ensures can { OnOk result (LockPrepares s statement.now prepared.now self.old self.new) }
         ensures others { OthersCanWrite s act.Lock statement.now self.old self.new }
         ensures next { self.new.engine.store.next ≡ self.old.engine.store.next }
     {
@@ -153,9 +184,8 @@ impl Acts {
         };
         let key = key_written(statement);
         self.make_room(alloc, s, name, &key)?;
-        let prepared = prepare(alloc, &self.engine, s, statement, name)?;
         self.grant(alloc, s, name, &key)?;
-        Ok(prepared)
+        Ok(())
     }
 
     // Takes room for a lock and its write.
@@ -171,6 +201,7 @@ impl Acts {
         ensures room { OnOk result (HasLockRoom s name.now key.now self.new.locks) }
         ensures write { OnOk result (HasRoomAt self.new.engine.store (made_for self.new.engine s name.now) name.now key.now) }
         ensures same { SameEngine self.old.engine self.new.engine }
+        ensures sees { SeesAlike s (engine_of self.old.engine) (engine_of self.new.engine) }
         ensures others { OthersCan s self.old.engine self.new.engine }
         ensures next { self.new.engine.store.next ≡ self.old.engine.store.next }
     {

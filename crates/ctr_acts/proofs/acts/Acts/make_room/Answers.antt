@@ -1,4 +1,6 @@
 use Rattle.std.proofs.Common.{refl, subst}
+use Rattle.ctr_rows.specs.Running.{engine_of}
+use Rattle.ctr_sessions.specs.Views.{SeesAlike}
 use Rattle.ctr_acts.specs.Acts.{ActsHeld}
 use Rattle.ctr_acts.specs.Locking.{Stays}
 use Rattle.ctr_acts.specs.Writing.{OthersCan}
@@ -31,3 +33,12 @@ returns-in_err-reserve-clause-others c = subst (λ (h : ActsHeld). OthersCan c.a
 
 pub returns-clause-others : goal.returns-clause-others
 returns-clause-others c = subst (λ (h : ActsHeld). OthersCan c.args.s h.engine c.make_room.new.engine) c.self.view_is c.make_room.ensures.others
+
+pub returns-in_err-make_room-clause-sees : goal.returns-in_err-make_room-clause-sees
+returns-in_err-make_room-clause-sees c = subst (λ (h : ActsHeld). SeesAlike c.args.s (engine_of h.engine) (engine_of c.make_room.new.engine)) c.self.view_is c.make_room.ensures.sees
+
+pub returns-in_err-reserve-clause-sees : goal.returns-in_err-reserve-clause-sees
+returns-in_err-reserve-clause-sees c = subst (λ (h : ActsHeld). SeesAlike c.args.s (engine_of h.engine) (engine_of c.make_room.new.engine)) c.self.view_is c.make_room.ensures.sees
+
+pub returns-clause-sees : goal.returns-clause-sees
+returns-clause-sees c = subst (λ (h : ActsHeld). SeesAlike c.args.s (engine_of h.engine) (engine_of c.make_room.new.engine)) c.self.view_is c.make_room.ensures.sees
