@@ -73,27 +73,27 @@ drops (prepared.Puts row) = None
 drops (prepared.Makes schema) = None
 drops prepared.Drops = Some tt
 
-never : {X : Type 0} (x : X) → Some x ≡ None → ⊥
+pub never : {X : Type 0} (x : X) → Some x ≡ None → ⊥
 never x is = false≢true (ap is_some (sym is))
 
-or_refused : (why : Refusal) (r : Option Refusal) (row : Option Row) → prepared.Refused why ≡ put_or r row → r ≡ Some why
+pub or_refused : (why : Refusal) (r : Option Refusal) (row : Option Row) → prepared.Refused why ≡ put_or r row → r ≡ Some why
 or_refused why None row is = absurd (never why (ap refused_why is))
 or_refused why (Some other) row is = ap Some (sym (some_is why other (ap refused_why is)))
 
-or_puts : (new : Option Row) (r : Option Refusal) (row : Option Row) → prepared.Puts new ≡ put_or r row → (r ≡ None) × (new ≡ row)
+pub or_puts : (new : Option Row) (r : Option Refusal) (row : Option Row) → prepared.Puts new ≡ put_or r row → (r ≡ None) × (new ≡ row)
 or_puts new None row is = (refl, some_is new row (ap put_row is))
 or_puts new (Some other) row is = absurd (never new (ap put_row is))
 
-or_makes : (schema : Schema) (r : Option Refusal) (row : Option Row) → prepared.Makes schema ≡ put_or r row → ⊥
+pub or_makes : (schema : Schema) (r : Option Refusal) (row : Option Row) → prepared.Makes schema ≡ put_or r row → ⊥
 or_makes schema None row is = never schema (ap made_schema is)
 or_makes schema (Some why) row is = never schema (ap made_schema is)
 
-or_drops : (r : Option Refusal) (row : Option Row) → prepared.Drops ≡ put_or r row → ⊥
+pub or_drops : (r : Option Refusal) (row : Option Row) → prepared.Drops ≡ put_or r row → ⊥
 or_drops None row is = never tt (ap drops is)
 or_drops (Some why) row is = never tt (ap drops is)
 
 -- a statement that writes a row has that to do
-put_is : (cs : List Column) (statement : Statement) (row : Option Row) (key : ℤ) → key_written statement ≡ Some key → put_for cs statement row ≡ put_or (write_refused cs statement row) (row_left cs statement row)
+pub put_is : (cs : List Column) (statement : Statement) (row : Option Row) (key : ℤ) → key_written statement ≡ Some key → put_for cs statement row ≡ put_or (write_refused cs statement row) (row_left cs statement row)
 put_is cs st.Begin row key is = absurd (never key (sym is))
 put_is cs st.Commit row key is = absurd (never key (sym is))
 put_is cs st.Rollback row key is = absurd (never key (sym is))
@@ -158,7 +158,7 @@ is_drop cs (st.Update table sets at) row name named is = absurd (or_drops _ _ is
 is_drop cs (st.Delete table at) row name named is = absurd (or_drops _ _ is)
 
 -- one without a table takes no lock
-no_lock : (statement : Statement) → table_of statement ≡ None → changes_schema statement ≡ is_none (key_written statement) → ⊥
+pub no_lock : (statement : Statement) → table_of statement ≡ None → changes_schema statement ≡ is_none (key_written statement) → ⊥
 no_lock st.Begin none locks = false≢true locks
 no_lock st.Commit none locks = false≢true locks
 no_lock st.Rollback none locks = false≢true locks

@@ -35,6 +35,7 @@ use Rattle.ctr_acts.specs.Writing.{IsPrepared, made_for, put_by, HasRoomAt, Othe
 use Rattle.ctr_acts.specs.Acts.{ActsHeld, begun_of, ShowsActs, ActReplies, ActKeeps}
 use Rattle.ctr_acts.specs.Seats.{RefusesAlike}
 use Rattle.ctr_acts.specs.Locking.{taken_reply, IsFreeFor, taken_by, SameEngine, DrawsOnce, MayLock, LockGrants, LockStays}
+use Rattle.ctr_acts.proofs.Doing.{no_lock}
 use Rattle.ctr_acts.proofs.Ending.{session, here}
 use Rattle.ctr_acts.proofs.Replying.{replies_inside}
 use Rattle.ctr_acts.proofs.Showing.{somebody}
@@ -225,3 +226,11 @@ if_ok (Err e) P Q f p = tt
 
 pub prepared_by : (engine : HeldEngine) (s : ℕ) (statement : Statement) (name : List ℕ) (p : Prepared) → Some name ≡ table_of statement → p ≡ put_by engine s statement name → IsPrepared engine s statement p
 prepared_by engine s statement name p named is other there = is ∙ ap (put_by engine s statement) (some_is name other (named ∙ there))
+
+-- memory may be wanting where nothing refuses
+pub short_now : (s : ℕ) (h : ActsHeld) → is_some (find nat_cmp s h.locks) ≡ true → (statement : Statement) → RefusesAlike s act.Lock statement h None → ActKeeps s act.Lock statement h h (reply.Refused refusal.OutOfMemory)
+short_now s h entered statement alike low state shows kept ready turn =
+    elim (table_of statement) as (λ o. table_of statement ≡ o → ActReplies low h state s act.Lock (statement, reply.Refused refusal.OutOfMemory)) [
+      | None ↦ λ none. absurd (no_lock statement none ready.0)
+      | Some name ↦ λ named. lock_short s h h entered statement name named alike (λ low state me shows may. shows) low state shows kept ready turn
+    ] refl

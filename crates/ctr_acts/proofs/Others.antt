@@ -95,11 +95,11 @@ module _ (s : ℕ) (old new : HeldEngine) where
   rows_still : (id : ℕ) (key : ℤ) → SetsRow (engine_of old) (engine_of new) id key (rows_of (engine_of old).versions id key) → (i : ℕ) (k : ℤ) → rows_of (engine_of new).versions i k ≡ rows_of (engine_of old).versions i k
   rows_still id key set i k = known (is_slot id key i k)
       (λ one.
-          let parts = and_parts (i == id) (int_eq k key) one in
-          let same_id : i ≡ id = eqb-true i id parts.0 in
-          let same_key : k ≡ key = (signed_Decides k key).0 parts.1 in
-          ap (λ j. rows_of (engine_of new).versions j k) same_id ∙ ap (rows_of (engine_of new).versions id) same_key ∙ set.set.here
-          ∙ sym (ap (λ j. rows_of (engine_of old).versions j k) same_id ∙ ap (rows_of (engine_of old).versions id) same_key))
+      let parts = and_parts (i == id) (int_eq k key) one in
+      let same_id : i ≡ id = eqb-true i id parts.0 in
+      let same_key : k ≡ key = (signed_Decides k key).0 parts.1 in
+      ap (λ j. rows_of (engine_of new).versions j k) same_id ∙ ap (rows_of (engine_of new).versions id) same_key ∙ set.set.here
+      ∙ sym (ap (λ j. rows_of (engine_of old).versions j k) same_id ∙ ap (rows_of (engine_of old).versions id) same_key))
       (λ two. set.set.others i k two)
 
   pub row_room_others : (id : ℕ) (key : ℤ) → SetsRow (engine_of old) (engine_of new) id key (rows_of (engine_of old).versions id key) → RoomsStay no_row no_name old.store new.store → OthersCan s old new

@@ -3,6 +3,7 @@ ghost use Rattle.std.specs.Prelude.{◌≡◌, OnOk, OnErr, IfOk, Some, None, If
 ghost use Rattle.std.specs.Option.{option_copied};
 ghost use Rattle.ctr_types.specs.declared.tape.Act.TheVariants as act;
 ghost use Rattle.ctr_types.specs.declared.tape.Reply.TheVariants as reply;
+ghost use Rattle.ctr_types.specs.declared.tape.Refusal.TheVariants as refusal;
 ghost use Rattle.ctr_model.specs.Reply.{with_lock};
 ghost use Rattle.ctr_locks.specs.Held.{IsEntered, SameEntered};
 ghost use Rattle.ctr_locks.specs.Shows.{LocksStay, GrantShows, held_found};
@@ -128,10 +129,11 @@ fn draw_once(engine: &mut Engine, alloc: Global, s: u8) -> Result<(), OutOfMemor
 
 impl Acts {
     /// Why a Lock is refused, the first act of INSERT, UPDATE, DELETE, CREATE TABLE and DROP TABLE: the session is in
-    /// no transaction, or the first cause in their order. Where there is none, `take` grants it.
+    /// no transaction, or the first cause in their order. Where there is none, `take` grants it, and want of memory may be told.
     pub fn lock_refusal(&self, s: u8, statement: &Statement) -> Option<Refusal>
         ensures denied { IfSome result (λ why. ActKeeps s act.Lock statement.now self.now self.now (reply.Refused why)) }
         ensures granted { result ≡ None → MayTake s statement.now self.now }
+        ensures short { result ≡ None → ActKeeps s act.Lock statement.now self.now self.now (reply.Refused refusal.OutOfMemory) }
     {
         if !self.locks.is_entered(s) {
             return Some(Refusal::NoTransaction);

@@ -4,3 +4,5 @@ pub mod Ends
 pub mod Asking
 pub mod Beginning
 pub mod Reading
+pub mod LockTurns
+pub mod Standing

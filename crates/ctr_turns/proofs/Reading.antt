@@ -21,11 +21,11 @@ use Rattle.ctr_turns.proofs.Shown.{put_gathers, put_idle}
 use Rattle.ctr_turns.proofs.Waiting.{same_wait}
 use Rattle.ctr_turns.proofs.Ends.{either_in, settled}
 
-itself : (s : ℕ) (records : List GatheredHeld) → OthersAlike s records records
+pub itself : (s : ℕ) (records : List GatheredHeld) → OthersAlike s records records
 itself s records = record { others = λ r least apart. refl; long = refl }
 
 -- the rows, or a refusal
-outcome : (statement : Statement) (R : Reply) → ((r : Reply) → MayStandFor statement R r → r ≡ reply.Refused refusal.OutOfMemory) → (why : Option Refusal) (r : Reply) → (r ≡ refused_or why R) ⊎ MayStandFor statement (refused_or why R) r
+pub outcome : (statement : Statement) (R : Reply) → ((r : Reply) → MayStandFor statement R r → r ≡ reply.Refused refusal.OutOfMemory) → (why : Option Refusal) (r : Reply) → (r ≡ refused_or why R) ⊎ MayStandFor statement (refused_or why R) r
     → (r ≡ R) ⊎ ((q : Refusal) × (r ≡ reply.Refused q))
 outcome statement R may None r (inl is) = inl is
 outcome statement R may None r (inr stands) = inr (refusal.OutOfMemory, may r stands)

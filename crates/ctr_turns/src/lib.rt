@@ -2,6 +2,9 @@
 //! waits in the log. How versions, locks and the log are kept isn't spoken of.
 #![tactic(auto)]
 
+mod items;
+mod taking;
 mod turns;
 
+pub use taking::Ready;
 pub use turns::Turns;

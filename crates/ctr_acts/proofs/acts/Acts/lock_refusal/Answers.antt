@@ -6,7 +6,7 @@ use Rattle.ctr_types.specs.declared.tape.Act.TheVariants as act
 use Rattle.ctr_types.specs.declared.tape.Reply.TheVariants as reply
 use Rattle.ctr_acts.specs.Acts.{ActsHeld, ActKeeps}
 use Rattle.ctr_acts.specs.Seats.{RefusesAlike}
-use Rattle.ctr_acts.proofs.Granting.{if_some, lock_denied}
+use Rattle.ctr_acts.proofs.Granting.{if_some, lock_denied, short_now}
 use Rattle.ctr_acts.proofs.acts.Acts.lock_refusal.Goals as goal
 
 pub returns-clause-denied : goal.returns-clause-denied
@@ -19,3 +19,7 @@ returns-clause-granted c is = record {
   entered = sym (ap (λ (h : ActsHeld). is_some (find nat_cmp c.args.s h.locks)) c.self.view_is) ∙ sym c.if-not-is_entered.ensures;
   free = subst (λ o. RefusesAlike c.args.s act.Lock c.args.statement.now c.args.self.now o) is c.refusal.ensures;
 }
+
+pub returns-clause-short : goal.returns-clause-short
+returns-clause-short c is = short_now c.args.s c.args.self.now (sym (ap (λ (h : ActsHeld). is_some (find nat_cmp c.args.s h.locks)) c.self.view_is) ∙ sym c.if-not-is_entered.ensures) c.args.statement.now
+    (subst (λ o. RefusesAlike c.args.s act.Lock c.args.statement.now c.args.self.now o) is c.refusal.ensures)
