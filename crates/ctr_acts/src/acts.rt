@@ -6,7 +6,9 @@ ghost use Rattle.ctr_types.specs.declared.tape.Act.TheVariants as act;
 ghost use Rattle.ctr_types.specs.declared.tape.Reply.TheVariants as reply;
 ghost use Rattle.ctr_versions.specs.Laws.{IsOpenWriter};
 ghost use Rattle.ctr_rows.specs.Running.{engine_of};
-ghost use Rattle.ctr_acts.specs.Acts.{ActKeeps, Starts, ActsStay, Leaves, RollsBack, IsMarked, Asks};
+ghost use Rattle.ctr_model.specs.Database.{Database};
+ghost use Rattle.ctr_model.specs.State.{at_rest};
+ghost use Rattle.ctr_acts.specs.Acts.{IsAtRest, ShowsActs, ActKeeps, Starts, ActsStay, Leaves, RollsBack, IsMarked, Asks};
 ghost use Rattle.ctr_locks.specs.Held.{IsEntered};
 ghost use Rattle.ctr_acts.specs.Seats.{RefusesAlike, Reads, ReadsNot};
 ghost use Rattle.ctr_acts.specs.Writing.{CanWrite, OthersCan, OthersCanWrite};
@@ -54,7 +56,8 @@ pub(crate) fn refused(refusal: Refusal) -> Reply
 impl Acts {
     /// Over an engine that no session is at work on. Recovery holds the names `stuck`.
     pub fn over(alloc: Global, engine: Engine, stuck: List<Name>) -> Acts
-        ensures { result ≡ record { engine = engine; locks = []; since = []; stuck = stuck } }
+        ensures is { result ≡ record { engine = engine; locks = []; since = []; stuck = stuck } }
+        ensures shows { (low : ℕ) (base : Database) → IsAtRest low engine base stuck → ShowsActs low result (at_rest base stuck) }
     {
         Acts {
             engine,

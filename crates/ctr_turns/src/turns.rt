@@ -8,7 +8,12 @@ ghost use Rattle.ctr_acts.specs.Writing.{OthersCanWrite};
 ghost use Rattle.ctr_rec.specs.declared.item.Item.{Item as HeldItem};
 ghost use Rattle.ctr_rec.specs.Encode.{record_bytes};
 ghost use Rattle.ctr_gather.specs.Records.{room_kept, IsRecordOf, IsSession, record_at, OthersAlike};
-ghost use Rattle.ctr_turns.specs.Turns.{TurnKeeps, with_log, HasRoom, HasNumbers};
+ghost use Rattle.ctr_model.specs.Database.{Database};
+ghost use Rattle.ctr_model.specs.State.{at_rest};
+ghost use Rattle.ctr_versions.specs.Laws.{IsOpenWriter};
+ghost use Rattle.ctr_rows.specs.Running.{engine_of};
+ghost use Rattle.ctr_acts.specs.Acts.{ShowsActs, IsMarked};
+ghost use Rattle.ctr_turns.specs.Turns.{ShowsTurns, TurnKeeps, with_log, HasRoom, HasNumbers};
 
 use ctr_acts::Acts;
 use ctr_gather::{Records, commits_fold, records_are_gathered};
@@ -84,6 +89,15 @@ fn refused(refusal: Refusal) -> Reply
 }
 
 impl Turns {
+    /// Over acts of which no session is in a transaction: nothing is gathered, and nothing waits.
+    pub fn over(acts: Acts, records: Records) -> Turns
+        requires { room_kept records ≡ 0 }
+        ensures is { result ≡ record { acts = acts; records = records } }
+        ensures shows { (low : ℕ) (base : Database) (stuck : List (List ℕ)) → ShowsActs low acts (at_rest base stuck) → ShowsTurns low result 0 [] (at_rest base stuck) }
+    {
+        Turns { acts, records }
+    }
+
     /// BEGIN.
     pub fn begin(&mut self, alloc: Global, log: &mut LogFile, s: u8) -> Reply
         requires one { IsSession s self.old.records }
@@ -163,6 +177,7 @@ impl Turns {
     pub fn roll_back(&mut self, s: u8) -> Reply
         requires one { IsSession s self.old.records }
         ensures keeps { (waiting : List (List ℕ)) → TurnKeeps s act.Rollback st.Rollback (record { turns = self.old; waiting = waiting }) (record { turns = self.new; waiting = waiting }) result }
+        ensures mark { result ≡ reply.RolledBack → IsOpenWriter s (engine_of self.old.acts.engine) → IsMarked s self.old.acts self.new.acts }
         ensures needs { room_kept self.new.records ≤ room_kept self.old.records }
         ensures others { OthersAlike s self.old.records self.new.records }
         ensures writes { OthersCanWrite s act.Rollback st.Rollback self.old.acts self.new.acts }

@@ -1,6 +1,10 @@
-use Rattle.std.proofs.Common.{ap, subst, arith}
+use Rattle.std.proofs.Common.{◌≡◌, ap, subst, arith}
 use Rattle.ctr_types.specs.declared.statement.Statement.TheVariants as st
 use Rattle.ctr_types.specs.declared.tape.Act.TheVariants as act
+use Rattle.ctr_types.specs.declared.tape.Reply.TheVariants as reply
+use Rattle.ctr_versions.specs.Laws.{IsOpenWriter}
+use Rattle.ctr_rows.specs.Running.{engine_of}
+use Rattle.ctr_acts.specs.Acts.{IsMarked}
 use Rattle.ctr_acts.specs.Writing.{OthersCanWrite}
 use Rattle.ctr_gather.specs.Records.{room_kept, OthersAlike}
 use Rattle.ctr_turns.specs.Turns.{TurnsHeld, TurnKeeps}
@@ -14,6 +18,7 @@ returns c =
     record {
       keeps = λ waiting. subst (λ o. TurnKeeps c.args.s act.Rollback st.Rollback (record { turns = o; waiting = waiting }) (record { turns = new; waiting = waiting }) c.roll_back.result) c.self.view_is
           (back_turn c.args.s old new waiting c.forget.ensures.others c.forget.ensures.none c.roll_back.result c.roll_back.ensures.keeps);
+      mark = subst (λ (o : TurnsHeld). c.roll_back.result ≡ reply.RolledBack → IsOpenWriter c.args.s (engine_of o.acts.engine) → IsMarked c.args.s o.acts new.acts) c.self.view_is c.roll_back.ensures.mark;
       needs = let kept = c.forget.ensures.needs in let before = ap (λ (o : TurnsHeld). room_kept o.records) c.self.view_is in omega (arith, kept, before);
       others = subst (λ (o : TurnsHeld). OthersAlike c.args.s o.records new.records) c.self.view_is c.forget.ensures.others;
       writes = subst (λ (o : TurnsHeld). OthersCanWrite c.args.s act.Rollback st.Rollback o.acts new.acts) c.self.view_is c.roll_back.ensures.others;
