@@ -1,10 +1,10 @@
 -- Each reply with the state that it leaves: to a session in a transaction, or in none.
-use Rattle.std.proofs.Common.{◌≡◌, ◌⊎◌, inl, inr, ℕ, ◌+◌, Bool, true, false, ◌∷◌, ◌++◌, [], length, Option, Some, None, Bor, refl, sym, ◌∙◌, ap, subst}
-use Rattle.std.specs.Prelude.{is_some, option_and_then, if◌then◌else◌}
+use Rattle.std.proofs.Common.{◌≡◌, ◌⊎◌, inl, inr, ℕ, ◌+◌, Bool, true, false, ◌∷◌, ◌++◌, [], length, Option, Some, None, Bor, refl, sym, ◌∙◌, ap, subst, arith}
+use Rattle.std.specs.Prelude.{is_some, nat_lt, option_and_then, if◌then◌else◌}
 use Rattle.std.specs.Option.{option_map, option_copied}
 use Rattle.std.specs.Ordering.{nat_cmp}
 use Rattle.std.specs.FinMap.Entries.{find}
-use Rattle.std.proofs.lemmas.Bool.{false≢true}
+use Rattle.std.proofs.lemmas.Bool.{false≢true, ltb-false}
 use Rattle.ctr_types.specs.declared.statement.Statement.{Statement}
 use Rattle.ctr_types.specs.declared.statement.Statement.TheVariants as st
 use Rattle.ctr_types.specs.declared.tape.Act.{Act}
@@ -136,3 +136,14 @@ module _ (s : ℕ) (old new : ActsHeld) where
   answers k is_k keeps low state shows kept ready turn =
       let t = asked_of (transaction_of state s) (state.answered + 1) turn in
       replies_inside low new state s act.Answer st.Commit (reply.Answered k) t.0 t.1 (ap reply.Answered (is_k ∙ ap (λ n. n + 1) shows.begun.shows.same_answered)) (keeps low state shows)
+
+  -- where none waits it isn't the session's turn
+  pub none_waits : (r : Reply) → false ≡ nat_lt old.engine.answered (length old.engine.xids.commits) → ActKeeps s act.Answer st.Commit old new r
+  none_waits r still low state shows kept ready turn =
+      let t = asked_of (transaction_of state s) (state.answered + 1) turn in
+      let mine : t.0.asked ≡ Some (state.answered + 1) = subst (λ o. option_and_then (λ (me : Transaction). me.asked) o ≡ Some (state.answered + 1)) t.1 turn in
+      let few = (kept.fits s t.0 t.1).number (state.answered + 1) mine in
+      let all = ltb-false old.engine.answered (length old.engine.xids.commits) (sym still) in
+      let counted = shows.begun.shows.counted in
+      let answered = shows.begun.shows.same_answered in
+      absurd (omega (arith, few, all, counted, answered))

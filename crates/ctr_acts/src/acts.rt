@@ -150,13 +150,15 @@ impl Acts {
     /// COMMIT's second act: of the commits that aren't answered the first is, which is the session's. It takes no
     /// memory.
     pub fn answer(&mut self, s: u8) -> Reply
-        requires { self.old.engine.answered < length self.old.engine.xids.commits }
         ensures keeps { ActKeeps s act.Answer st.Commit self.old self.new result }
         ensures others { OthersCanWrite s act.Answer st.Commit self.old self.new }
         ensures store { self.new.engine.store ≡ self.old.engine.store }
     {
         ends_show();
         views_stay();
+        if !self.engine.is_waiting() {
+            return refused(Refusal::NoTransaction);
+        }
         self.engine.answer(s);
         self.since.remove(&s);
         self.locks.release_all(s);

@@ -380,7 +380,7 @@ impl Engine {
 
     /// Whether a commit was asked for that isn't answered.
     pub fn is_waiting(&self) -> bool
-        ensures { result ≡ true → self.now.answered < length self.now.xids.commits }
+        ensures { result ≡ nat_lt self.now.answered (length self.now.xids.commits) }
     {
         self.answered < self.xids.commits().len() as u64
     }

@@ -162,8 +162,7 @@ impl Turns {
 
     /// COMMIT's second act: the first commit that isn't answered is, which is the session's. It takes no memory.
     pub fn answer(&mut self, s: u8) -> Reply
-        requires one { IsSession s self.old.records }
-        requires waits { self.old.acts.engine.answered < length self.old.acts.engine.xids.commits }
+        requires { IsSession s self.old.records }
         ensures keeps { (waiting : List (List ℕ)) → TurnKeeps s act.Answer st.Commit (record { turns = self.old; waiting = waiting }) (record { turns = self.new; waiting = waiting }) result }
         ensures needs { room_kept self.new.records ≤ room_kept self.old.records }
         ensures others { OthersAlike s self.old.records self.new.records }
