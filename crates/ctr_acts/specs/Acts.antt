@@ -6,20 +6,17 @@ use Rattle.ctr_types.specs.declared.tape.Act.{Act}
 use Rattle.ctr_types.specs.declared.tape.Reply.{Reply}
 use Rattle.ctr_model.specs.declared.state.State.{State}
 use Rattle.ctr_model.specs.declared.state.Transaction.{Transaction}
-use Rattle.ctr_model.specs.Database.{Database}
-use Rattle.ctr_model.specs.State.{at_rest, transaction_of, with_transaction, without_transaction, begun}
+use Rattle.ctr_model.specs.State.{transaction_of, with_transaction, without_transaction, begun}
 use Rattle.ctr_model.specs.Reply.{next_state}
 use Rattle.ctr_model.specs.Tape.{IsInTurn, Allowed}
 use Rattle.ctr_versions.specs.Xids.{aborted}
-use Rattle.ctr_versions.specs.Versions.{IsOrdered}
-use Rattle.ctr_versions.specs.Engine.{ShowsState}
 use Rattle.ctr_versions.specs.Laws.{me_of}
 use Rattle.ctr_rows.specs.Running.{HeldEngine, engine_of}
 use Rattle.ctr_locks.specs.Held.{TableHeld}
 use Rattle.ctr_locks.specs.Shows.{ShowsLocks}
 use Rattle.ctr_legal.specs.Kept.{IsKept}
 use Rattle.ctr_legal.specs.Ready.{IsReady}
-use Rattle.ctr_sessions.specs.Sessions.{Begun, ShowsBegun, HaveOwnTables}
+use Rattle.ctr_sessions.specs.Sessions.{Begun, ShowsBegun}
 use Rattle.ctr_sessions.specs.Cleaning.{AreCalm}
 
 -- the engine, the locks, for each session in a transaction how many commits were answered when it
@@ -41,15 +38,6 @@ pub record ShowsActs (low : ℕ) (h : ActsHeld) (state : State) : Type 0 where
   pub locks : ShowsLocks h.locks state
   pub stuck : h.stuck ≡ state.stuck
   pub calm : AreCalm (begun_of h)
-
--- The engine shows the model at rest over this base, with no session at work: no two names share a
--- table, and the base is in order.
-pub record IsAtRest (low : ℕ) (engine : HeldEngine) (base : Database) (stuck : List (List ℕ))
-    : Type 0 where
-  pub shows : ShowsState low (engine_of engine) (at_rest base stuck)
-  pub nobody : engine.sessions ≡ []
-  pub tables : HaveOwnTables (engine_of engine).versions
-  pub ordered : IsOrdered base
 
 -- the reply is allowed, and what is left shows the state that it leaves
 pub record ActReplies (low : ℕ) (new : ActsHeld) (state : State) (s : ℕ) (a : Act)

@@ -55,6 +55,19 @@ pub needs_push : (gs : List GatheredHeld) (g : GatheredHeld) → g.most ≡ 0 �
 needs_push [] g none is = omega (arith, none)
 needs_push (h ∷ gs) g none is = let rest = needs_push gs g none (omega (arith, is)) in omega (arith, rest, is)
 
+-- one more without an item
+none_more : (gs : List GatheredHeld) (g : GatheredHeld) (i : ℕ) → g.count ≡ 0 → ((j : ℕ) → (get_or gs j none_gathered).count ≡ 0) → (get_or (gs ++ g ∷ []) i none_gathered).count ≡ 0
+none_more [] g zero none before = none
+none_more [] g (suc i) none before = refl
+none_more (h ∷ gs) g zero none before = before 0
+none_more (h ∷ gs) g (suc i) none before = none_more gs g i none (λ j. before (suc j))
+
+pub counts_push : (gs : List GatheredHeld) (g : GatheredHeld) → g.count ≡ 0 → ((s : ℕ) → (record_at s gs).count ≡ 0) → (s : ℕ) → (record_at s (gs ++ g ∷ [])).count ≡ 0
+counts_push gs g none before s = none_more gs g (s - 1) none (λ j. ap (λ i. (get_or gs i none_gathered).count) (same j) ∙ before (suc j))
+  where
+    same : (j : ℕ) → j ≡ suc j - 1
+    same j = omega (arith)
+
 -- a session's room is within that for all
 pub most_within : (i : ℕ) (gs : List GatheredHeld) → (get_or gs i none_gathered).most ≤ room_kept gs
 most_within i [] = omega (arith)

@@ -39,7 +39,8 @@ impl Model for Gathered {
 impl Gathered {
     /// None is gathered. It takes no memory.
     pub fn new(alloc: Global) -> Gathered
-        ensures { result.most ≡ 0 }
+        ensures most { result.most ≡ 0 }
+        ensures count { result.count ≡ 0 }
     {
         Gathered {
             bytes: Vec::new(alloc),
@@ -68,6 +69,7 @@ impl Gathered {
         ensures begun { OnOk result (IsRecordOf [] self.new) }
         ensures most { OnOk result (self.new.most ≡ 14) }
         ensures none { OnErr result (self.new.most ≡ 0) }
+        ensures count { self.new.count ≡ 0 }
     {
         self.bytes.clear();
         self.most = 0;
@@ -105,6 +107,7 @@ impl Gathered {
         requires few { self.old.count < 2 ^ 32 - 1 }
         ensures holds { (items : List HeldItem) → IsRecordOf items self.old → IsRecordOf (items ++ item.now ∷ []) self.new }
         ensures most { self.new.most ≡ self.old.most }
+        ensures count { self.new.count ≡ self.old.count + 1 }
     {
         push_item(&mut self.bytes, item);
         self.count += 1;
@@ -114,6 +117,7 @@ impl Gathered {
     pub fn end(&mut self)
         ensures ended { (items : List HeldItem) → IsRecordOf items self.old → self.new.bytes ≡ record_bytes items }
         ensures most { self.new.most ≡ self.old.most }
+        ensures count { self.new.count ≡ self.old.count }
     {
         if self.bytes.len() < HEAD - 1 {
             return;
@@ -126,7 +130,8 @@ impl Gathered {
 
     /// None is gathered any more. It takes no memory.
     pub fn forget(&mut self)
-        ensures { self.new.most ≡ 0 }
+        ensures most { self.new.most ≡ 0 }
+        ensures count { self.new.count ≡ self.old.count }
     {
         self.most = 0;
     }

@@ -39,7 +39,7 @@ fn kept(records: &[Gathered]) -> Option<usize>
 
 // Records of so many sessions, none of which gathers one.
 fn none(alloc: Global, sessions: usize) -> Result<Vec<Gathered>, OutOfMemory>
-    ensures { IfOk result (λ v. (length v.items ≡ sessions) × (room_kept v.items ≡ 0)) }
+    ensures { IfOk result (λ v. (length v.items ≡ sessions) × (room_kept v.items ≡ 0) × ((s : ℕ) → (record_at s v.items).count ≡ 0)) }
 {
     let mut records = Vec::new(alloc);
     for _ in 0..sessions {
@@ -51,7 +51,7 @@ fn none(alloc: Global, sessions: usize) -> Result<Vec<Gathered>, OutOfMemory>
 impl Records {
     /// Those of so many sessions, none of which gathers one.
     pub fn new(alloc: Global, sessions: usize) -> Result<Records, OutOfMemory>
-        ensures { IfOk result (λ a. (length a ≡ sessions) × (room_kept a ≡ 0)) }
+        ensures { IfOk result (λ a. (length a ≡ sessions) × (room_kept a ≡ 0) × ((s : ℕ) → (record_at s a).count ≡ 0)) }
     {
         Ok(Records {
             of: none(alloc, sessions)?,
@@ -71,6 +71,7 @@ impl Records {
         ensures begun { OnOk result (IsRecordOf [] (record_at s self.new)) }
         ensures none { OnErr result ((record_at s self.new).most ≡ 0) }
         ensures needs { room_kept self.new ≤ room_kept self.old + 14 }
+        ensures count { (record_at s self.new).count ≡ 0 }
         ensures others { OthersAlike s self.old self.new }
     {
         let at = s as usize - 1;
@@ -95,6 +96,7 @@ impl Records {
         ensures holds { (items : List HeldItem) → IsRecordOf items (record_at s self.old) → IsRecordOf items (record_at s self.new) }
         ensures room { OnOk result (HasRoomForItem item.now (record_at s self.new)) }
         ensures needs { room_kept self.new ≤ room_kept self.old + lack_at s item.now self.old }
+        ensures count { (record_at s self.new).count ≡ (record_at s self.old).count }
         ensures others { OthersAlike s self.old self.new }
     {
         let at = s as usize - 1;
@@ -110,6 +112,7 @@ impl Records {
         requires few { (record_at s self.old).count < 2 ^ 32 - 1 }
         ensures holds { (items : List HeldItem) → IsRecordOf items (record_at s self.old) → IsRecordOf (items ++ item.now ∷ []) (record_at s self.new) }
         ensures needs { room_kept self.new ≡ room_kept self.old }
+        ensures count { (record_at s self.new).count ≡ (record_at s self.old).count + 1 }
         ensures others { OthersAlike s self.old self.new }
     {
         let at = s as usize - 1;
@@ -130,6 +133,7 @@ impl Records {
         requires { IsSession s self.old }
         ensures ended { (items : List HeldItem) → IsRecordOf items (record_at s self.old) → (record_at s self.new).bytes ≡ record_bytes items }
         ensures most { (record_at s self.new).most ≡ (record_at s self.old).most }
+        ensures count { (record_at s self.new).count ≡ (record_at s self.old).count }
         ensures needs { room_kept self.new ≡ room_kept self.old }
         ensures others { OthersAlike s self.old self.new }
     {
@@ -153,6 +157,7 @@ impl Records {
         requires { IsSession s self.old }
         ensures none { (record_at s self.new).most ≡ 0 }
         ensures needs { room_kept self.new + (record_at s self.old).most ≡ room_kept self.old }
+        ensures count { (record_at s self.new).count ≡ (record_at s self.old).count }
         ensures others { OthersAlike s self.old self.new }
     {
         let at = s as usize - 1;

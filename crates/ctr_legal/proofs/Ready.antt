@@ -26,7 +26,8 @@ use Rattle.ctr_model.proofs.Sessions.{find-put-other, find-put-same, find-withou
 use Rattle.ctr_versions.proofs.Keys.{some_is}
 use Rattle.ctr_versions.proofs.Written.{same_itself, int_itself}
 use Rattle.ctr_legal.specs.Kept.{IsKept}
-use Rattle.ctr_legal.specs.Ready.{HasKey, MayWrite, IsUnrefused, Tells, TellsOutside, IsUnasked, MayWriteIn, IsReady}
+use Rattle.ctr_legal.specs.Ready.{HasKey, MayWrite, IsUnrefused, Tells, TellsOutside, TellsOf, IsUnasked, MayWriteIn, IsReady}
+use Rattle.ctr_legal.specs.Laws.{RepliesTell}
 use Rattle.ctr_legal.proofs.Keep.{grants}
 use Rattle.ctr_legal.proofs.Telling.{allowed_tells, allowed_outside, next_kept, outside_kept}
 
@@ -332,3 +333,17 @@ comes_to state s statement a r kept ready turn allowed =
         rows = λ j le. outside_rows state s a (Some statement) r j tells;
       }
     ] refl ready allowed
+
+-- what a reply tells, and what the others keep
+pub replies_tell : RepliesTell
+replies_tell state s statement a r kept ready turn allowed =
+    let comes = comes_to state s statement a r kept ready turn allowed in
+    record {
+      tells = elim (transaction_of state s) as (λ o. transaction_of state s ≡ o → IsReady state statement a o → (r ≡ reply_from state s o a statement) ⊎ MayStandFor statement (reply_from state s o a statement) r → TellsOf state s o statement a r) [
+        | Some me ↦ λ at. λ mine. λ is. allowed_tells state s me statement a r mine turn at is
+        | None ↦ λ at. λ mine. λ is. allowed_outside state a statement r mine is
+      ] refl ready allowed;
+      own = comes.either;
+      others = comes.others;
+      rows = comes.rows;
+    }

@@ -77,6 +77,11 @@ TellsOutside state a reply.RolledBack = ⊥
 TellsOutside state a reply.Released = ⊥
 TellsOutside state a (reply.Refused why) = Unit {0}
 
+-- the same of a session in a transaction, or in none
+abbrev pub TellsOf : State → ℕ → Option Transaction → Statement → Act → Reply → Type 0
+TellsOf state s None statement a r = TellsOutside state a r
+TellsOf state s (Some me) statement a r = Tells state s me statement a r
+
 -- ---- between two acts
 
 -- it is in no transaction, or in one that hasn't asked for its commit

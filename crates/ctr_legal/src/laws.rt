@@ -1,5 +1,5 @@
 // What legal tapes keep. A call does nothing: what it ensures is the law.
-ghost use Rattle.ctr_legal.specs.Laws.{LegalTapesAreReached, LegalTapesGrow, WaitingAreAnswered};
+ghost use Rattle.ctr_legal.specs.Laws.{LegalTapesAreReached, LegalTapesGrow, WaitingAreAnswered, RepliesTell};
 
 /// Wherever a legal tape leads, changes lie under locks, locks of two sessions are apart, names in use
 /// are steady, and each session is ready for its next act.
@@ -16,4 +16,10 @@ pub fn legal_tapes_grow()
 /// entry that may come: a flush answers all that it made durable, in their order.
 pub fn waiting_are_answered()
     ensures { WaitingAreAnswered }
+{}
+
+/// What a reply tells of the state in which it was given; the other sessions are in the transactions that they
+/// were in, and see the rows that they saw.
+pub fn replies_tell()
+    ensures { RepliesTell }
 {}

@@ -5,4 +5,4 @@
 
 mod laws;
 
-pub use laws::{legal_tapes_are_reached, legal_tapes_grow, waiting_are_answered};
+pub use laws::{legal_tapes_are_reached, legal_tapes_grow, replies_tell, waiting_are_answered};

@@ -16,9 +16,9 @@ use Rattle.ctr_versions.specs.Engine.{session_sees, ShowsState}
 use Rattle.ctr_versions.specs.Loading.{loader, loading_xids, opened_xids, is_loader}
 use Rattle.ctr_versions.proofs.Changes.{write_seen}
 use Rattle.ctr_versions.proofs.Reading.{schema_read}
-use Rattle.ctr_versions.proofs.Loading.{single_write, row_kept, row_room_kept, row_loads, row_room_loads, name_kept, name_room_kept, name_loads, name_room_loads, absent_loads, loader_sees, loading_opens, opened_sound, opened_heads, single_behind}
+use Rattle.ctr_versions.proofs.Loading.{single_write, row_kept, row_room_kept, row_loads, row_room_loads, name_kept, name_room_kept, name_loads, name_room_loads, absent_loads, loader_sees, loading_opens, opened_sound, opened_heads, single_behind, loaded_apart, loaded_ordered}
 use Rattle.ctr_chains.specs.Stored.{HeldStore, versions_of}
-use Rattle.ctr_rows.specs.Running.{Runs}
+use Rattle.ctr_rows.specs.Running.{Runs, IsAtRest}
 use Rattle.ctr_rows.specs.Loading.{loaded_database, IsLoading}
 use Rattle.ctr_rows.specs.declared.loader.Loader.TheInside.{Inside}
 
@@ -91,8 +91,16 @@ module _ (a : Inside) (inv : IsLoading a) where
 
   -- ---- the engine that is opened
 
-  pub opens : (xids : Xids) → xids ≡ settled loader a.xids → (stuck : List (List ℕ)) → ShowsState 0 (record { xids = xids; versions = versions_of a.store; sessions = []; answered = 0 }) (at_rest (loaded_database a) stuck)
-  opens xids is stuck = subst (λ (x : Xids). ShowsState 0 (record { xids = x; versions = versions_of a.store; sessions = []; answered = 0 }) (at_rest (loaded_database a) stuck)) (sym (is ∙ ap (settled loader) inv.xids)) (loading_opens (versions_of a.store) inv.are stuck)
+  opened_shows : (xids : Xids) → xids ≡ settled loader a.xids → (stuck : List (List ℕ)) → ShowsState 0 (record { xids = xids; versions = versions_of a.store; sessions = []; answered = 0 }) (at_rest (loaded_database a) stuck)
+  opened_shows xids is stuck = subst (λ (x : Xids). ShowsState 0 (record { xids = x; versions = versions_of a.store; sessions = []; answered = 0 }) (at_rest (loaded_database a) stuck)) (sym (is ∙ ap (settled loader) inv.xids)) (loading_opens (versions_of a.store) inv.are stuck)
+
+  pub opens : (xids : Xids) → xids ≡ settled loader a.xids → (stuck : List (List ℕ)) → IsAtRest 0 (record { xids = xids; store = a.store; sessions = []; answered = 0; heads = [] }) (loaded_database a) stuck
+  opens xids is stuck = record {
+    shows = opened_shows xids is stuck;
+    nobody = refl;
+    tables = loaded_apart (versions_of a.store) inv.are;
+    ordered = loaded_ordered (versions_of a.store) inv.are;
+  }
 
   pub opened_runs : (xids : Xids) → xids ≡ settled loader a.xids → Runs xids a.store 0 []
   opened_runs xids is = subst (λ (x : Xids). Runs x a.store 0 []) (sym (is ∙ ap (settled loader) inv.xids)) (record {

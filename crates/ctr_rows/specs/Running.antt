@@ -1,8 +1,11 @@
 -- What an engine in memory is, of the versions and transactions that laws speak of.
-use Rattle.std.specs.Prelude.{◌≡◌, ℕ, ◌≤◌, true, List, length, None}
+use Rattle.std.specs.Prelude.{◌≡◌, ℕ, ◌≤◌, true, List, [], length, None}
+use Rattle.ctr_model.specs.Database.{Database}
+use Rattle.ctr_model.specs.State.{at_rest}
 use Rattle.ctr_snap.specs.Seeing.{has}
 use Rattle.ctr_versions.specs.Xids.{Xids, number_of, AreSound}
-use Rattle.ctr_versions.specs.Engine.{SessionHeld, EngineHeld}
+use Rattle.ctr_versions.specs.Versions.{IsOrdered, HaveOwnTables}
+use Rattle.ctr_versions.specs.Engine.{SessionHeld, EngineHeld, ShowsState}
 use Rattle.ctr_versions.specs.Heads.{IsCountOf, OnlyHeadsAreOpen}
 use Rattle.ctr_chains.specs.Stored.{HeldStore, versions_of}
 use Rattle.ctr_rows.specs.Counted.{Counts, count_of, HasCount}
@@ -49,3 +52,12 @@ pub record Runs (xids : Xids) (store : HeldStore) (answered : ℕ) (heads : Coun
 -- an engine is so
 abbrev pub IsRunning : Inside → Type 0
 IsRunning a = Runs a.xids a.store a.answered a.heads
+
+-- The engine shows the model at rest over this base, with no session at work: no two names share a
+-- table, and the base is in order.
+pub record IsAtRest (low : ℕ) (engine : HeldEngine) (base : Database) (stuck : List (List ℕ))
+    : Type 0 where
+  pub shows : ShowsState low (engine_of engine) (at_rest base stuck)
+  pub nobody : engine.sessions ≡ []
+  pub tables : HaveOwnTables (engine_of engine).versions
+  pub ordered : IsOrdered base

@@ -2,19 +2,19 @@
 ghost use Rattle.std.specs.Prelude.{◌≡◌, ◌==◌, ◌&&◌, not, nat_lt, if◌then◌else◌, ◌<◌, ◌+◌, ◌^◌, ℕ, true, false, length, [], Some, None, List, ◌-◌, IfOk, OnOk, OnErr, IfSome, is_some, map, option_copied};
 ghost use Rattle.std.specs.Ordering.{nat_cmp};
 ghost use Rattle.std.specs.FinMap.Entries.{find};
-ghost use Rattle.ctr_model.specs.State.{at_rest, same_name};
+ghost use Rattle.ctr_model.specs.State.{same_name};
 ghost use Rattle.ctr_versions.specs.Chains.{value_seen, newest};
 ghost use Rattle.ctr_versions.specs.Changes.{write, revert, cut, without_tombstone};
 ghost use Rattle.ctr_versions.specs.Xids.{number_of, below_mark};
 ghost use Rattle.ctr_versions.specs.Listing.{entries_seen};
 ghost use Rattle.ctr_versions.specs.Versions.{names_at, slots_of, rows_of, is_slot, IsUnmadeTable};
-ghost use Rattle.ctr_versions.specs.Engine.{SessionHeld, ShowsState};
+ghost use Rattle.ctr_versions.specs.Engine.{SessionHeld};
 ghost use Rattle.ctr_versions.specs.Steps.{engine_begun, engine_drawn, engine_asked, engine_ended, engine_answered, engine_rolled_back, engine_forgotten};
 ghost use Rattle.ctr_versions.specs.Heads.{IsCountOf, open_head};
 ghost use Rattle.ctr_versions.specs.Laws.{me_of, IsOpenWriter, SetsRow, SetsName, BeginKeeps, DrawKeeps, RowKeeps, NameKeeps, AskKeeps, AnswerKeeps, EndKeeps, RollbackKeeps, CleaningKeeps, RevertKeeps, RoomKeeps, NameRevertKeeps, DeadKeeps, sees_of, mark_of, sessions_named};
 ghost use Rattle.ctr_snap.specs.Seeing.{has, least};
 ghost use Rattle.ctr_chains.specs.Stored.{versions_of, HasVersionRoom, HasNameRoom, RoomsStay, no_row, no_name};
-ghost use Rattle.ctr_rows.specs.Running.{engine_of, Runs};
+ghost use Rattle.ctr_rows.specs.Running.{engine_of, Runs, IsAtRest};
 ghost use Rattle.ctr_rows.specs.Counted.{count_of};
 
 use crate::heads::Heads;
@@ -48,7 +48,7 @@ impl Model for Engine {
 impl Engine {
     /// With no tables: it shows the model at rest.
     pub fn new(alloc: Global) -> Result<Engine, OutOfMemory>
-        ensures { IfOk result (λ a. (stuck : List (List ℕ)) → ShowsState 0 (engine_of a) (at_rest [] stuck)) }
+        ensures { IfOk result (λ a. (stuck : List (List ℕ)) → IsAtRest 0 a [] stuck) }
     {
         Ok(Engine {
             xids: Transactions::new(alloc)?,
@@ -62,7 +62,7 @@ impl Engine {
     /// Over these versions, with nobody in a transaction and nothing answered.
     pub(crate) fn over(alloc: Global, xids: Transactions, store: Store) -> Engine
         requires { Runs xids store 0 [] }
-        ensures { engine_of result ≡ record { xids = xids; versions = versions_of store; sessions = []; answered = 0 } }
+        ensures { result ≡ record { xids = xids; store = store; sessions = []; answered = 0; heads = [] } }
     {
         Engine {
             xids,

@@ -3,13 +3,12 @@ ghost use Rattle.std.specs.Prelude.{◌≡◌, ◌<◌, List, ℕ, [], IfOk, OnO
 ghost use Rattle.std.specs.Option.{option_map};
 ghost use Rattle.ctr_model.specs.declared.database.Change.TheVariants as change;
 ghost use Rattle.ctr_model.specs.Database.{changed};
-ghost use Rattle.ctr_model.specs.State.{at_rest};
 ghost use Rattle.ctr_versions.specs.Chains.{value_seen};
 ghost use Rattle.ctr_versions.specs.Keys.{schema_named};
 ghost use Rattle.ctr_versions.specs.Versions.{names_at};
-ghost use Rattle.ctr_versions.specs.Engine.{session_sees, ShowsState};
+ghost use Rattle.ctr_versions.specs.Engine.{session_sees};
 ghost use Rattle.ctr_chains.specs.Stored.{versions_of};
-ghost use Rattle.ctr_rows.specs.Running.{engine_of};
+ghost use Rattle.ctr_rows.specs.Running.{IsAtRest};
 
 use crate::engine::Engine;
 use ctr_chains::{Session, Store, Transactions};
@@ -126,7 +125,7 @@ impl Loader {
     /// Opens an engine over the database, with nobody in a transaction: it shows the model at rest, with
     /// this database as its base.
     pub fn open(self, alloc: Global) -> Engine
-        ensures { (stuck : List (List ℕ)) → ShowsState 0 (engine_of result) (at_rest self stuck) }
+        ensures { (stuck : List (List ℕ)) → IsAtRest 0 result self stuck }
     {
         let mut xids = self.xids;
         xids.settle(LOADER);

@@ -16,11 +16,11 @@ use Rattle.ctr_versions.specs.Chains.{Numbers, value_seen, Behind, AllCommitted}
 use Rattle.ctr_versions.specs.Changes.{write}
 use Rattle.ctr_versions.specs.Xids.{number_of, taken}
 use Rattle.ctr_versions.specs.Listing.{chain_at}
-use Rattle.ctr_versions.specs.Versions.{Made, Versions, names_at, NamesSet, IsUnmadeTable}
+use Rattle.ctr_versions.specs.Versions.{Made, Versions, names_at, NamesSet, IsUnmadeTable, HaveOwnTables}
 use Rattle.ctr_versions.specs.Engine.{SessionHeld, EngineHeld, ShowsState}
 use Rattle.ctr_versions.specs.Steps.{engine_begun, engine_drawn, engine_asked, engine_ended, engine_answered, engine_rolled_back}
 use Rattle.ctr_versions.specs.Laws.{with_own}
-use Rattle.ctr_sessions.specs.Sessions.{Begun, IsDrawnFor, HaveOwnTables, ShowsBegun}
+use Rattle.ctr_sessions.specs.Sessions.{Begun, IsDrawnFor, ShowsBegun}
 use Rattle.ctr_sessions.specs.Steps.{BeginShows, LockLeaves, LockShows, ReadShows, RowShows, NameShows, AskShows, AnswerShows, EndShows, RollbackShows, RoomShows}
 use Rattle.ctr_versions.proofs.Keys.{same_text, some_is}
 use Rattle.ctr_versions.proofs.Chains.{seen_alike}

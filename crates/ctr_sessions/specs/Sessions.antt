@@ -1,13 +1,12 @@
 -- Versions with the sessions over them: what they show of a state of the model beside its rows.
-use Rattle.std.specs.Prelude.{is_some, ◌≡◌, ℕ, ◌<◌, Bool, true, false, List, Some, None}
+use Rattle.std.specs.Prelude.{is_some, ◌≡◌, ℕ, ◌<◌, true, false, List, Some, None}
 use Rattle.std.specs.Option.{option_map}
 use Rattle.std.specs.Ordering.{nat_cmp}
 use Rattle.std.specs.FinMap.Entries.{find}
 use Rattle.ctr_model.specs.declared.state.State.{State}
 use Rattle.ctr_model.specs.declared.state.Transaction.{Transaction}
 use Rattle.ctr_model.specs.State.{transaction_of}
-use Rattle.ctr_versions.specs.Chains.{value_seen}
-use Rattle.ctr_versions.specs.Versions.{Made, Versions, names_at, IsOrdered}
+use Rattle.ctr_versions.specs.Versions.{HaveOwnTables, IsOrdered}
 use Rattle.ctr_versions.specs.Engine.{SessionHeld, EngineHeld, ShowsSession, ShowsState}
 
 -- An engine, and for each session in a transaction how many commits were answered when it began.
@@ -19,12 +18,6 @@ pub record Begun : Type 0 where
 pub record IsDrawnFor (session : SessionHeld) (t : Transaction) : Type 0 where
   pub writer : t.writer ≡ true → 0 < session.me
   pub reader : t.writer ≡ false → session.me ≡ 0
-
--- no two names share a table
-abbrev pub HaveOwnTables : Versions → Type 0
-HaveOwnTables versions = (name other : List ℕ) (made mine : Made) (test own : ℕ → Bool)
-    → value_seen test (names_at versions name) ≡ Some made
-    → value_seen own (names_at versions other) ≡ Some mine → made.id ≡ mine.id → name ≡ other
 
 -- The engine shows the state, and its sessions are those of the state: each has the number of its
 -- snapshot, and a number of its own from its first lock on.

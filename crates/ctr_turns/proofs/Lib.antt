@@ -6,3 +6,4 @@ pub mod Beginning
 pub mod Reading
 pub mod LockTurns
 pub mod Standing
+pub mod Adding

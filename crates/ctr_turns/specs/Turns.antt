@@ -75,6 +75,16 @@ with_log h log = record { turns = h; waiting = log.buffered }
 abbrev pub HasRoom : TurnsHeld → Log → Type 0
 HasRoom h log = room_kept h.records ≤ log.room
 
+-- of tables, and of items of the session's record, there are so many more at most
+pub record AddsAtMost (n : ℕ) (s : ℕ) (old new : TurnsHeld) : Type 0 where
+  pub tables : new.acts.engine.store.next ≤ old.acts.engine.store.next + n
+  pub items : (record_at s new.records).count ≤ (record_at s old.records).count + n
+
+-- behind what waits in the log there is a record more at most; beside its room nothing else changes
+pub record AppendsAtMostOne (old new : Log) : Type 0 where
+  pub more : length new.buffered ≤ length old.buffered + 1
+  pub same : new ≡ record old { buffered = new.buffered; room = new.room }
+
 -- there is a number for a record more, in its batch and in the log
 pub record HasNumbers (log : Log) : Type 0 where
   pub few : length log.buffered < 2 ^ 32 - 1

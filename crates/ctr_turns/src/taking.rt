@@ -6,7 +6,7 @@ ghost use Rattle.ctr_rec.specs.Items.{Fits};
 ghost use Rattle.ctr_acts.specs.Writing.{IsPrepared, OthersCanWrite};
 ghost use Rattle.ctr_gather.specs.Records.{room_kept, IsRecordOf, HasRoomForItem, IsSession, record_at, OthersAlike};
 ghost use Rattle.ctr_turns.specs.Items.{IsRecorded};
-ghost use Rattle.ctr_turns.specs.Turns.{TurnKeeps, with_log, HasRoom};
+ghost use Rattle.ctr_turns.specs.Turns.{TurnKeeps, with_log, HasRoom, AddsAtMost};
 ghost use Rattle.ctr_turns.specs.Locking.{HasItemBy, lock_reply, LockReadies, LogKeeps, HasLeft, HasCounts, WriteTurnKeeps};
 
 use crate::items::item;
@@ -41,6 +41,7 @@ fn reserve(
     ensures item { OnOk result (IfSome item.now (λ i. HasRoomForItem i (record_at s records.new))) }
     ensures room { room_kept records.new ≤ log.new.room }
     ensures log { log.new ≡ record log.old { room = log.new.room } }
+    ensures count { (record_at s records.new).count ≡ (record_at s records.old).count }
     ensures others { OthersAlike s records.old records.new }
 {
     let Some(item) = item else {
@@ -79,6 +80,7 @@ impl Turns {
         ensures log { LogKeeps self.new log.old log.new }
         ensures others { OthersAlike s self.old.records self.new.records }
         ensures writes { OthersCanWrite s act.Lock statement.now self.old.acts self.new.acts }
+        ensures adds { AddsAtMost 0 s self.old self.new }
     {
         records_are_gathered();
         writes_are_the_models();
@@ -107,7 +109,7 @@ impl Turns {
         ensures room { room_kept self.new.records ≡ room_kept self.old.records }
         ensures others { OthersAlike s self.old.records self.new.records }
         ensures writes { OthersCanWrite s act.Write statement.now self.old.acts self.new.acts }
-        ensures next { self.new.acts.engine.store.next ≤ self.old.acts.engine.store.next + 1 }
+        ensures adds { AddsAtMost 1 s self.old self.new }
     {
         records_are_gathered();
         let Ready { prepared, item } = ready;

@@ -13,7 +13,7 @@ ghost use Rattle.ctr_model.specs.State.{at_rest};
 ghost use Rattle.ctr_versions.specs.Laws.{IsOpenWriter};
 ghost use Rattle.ctr_rows.specs.Running.{engine_of};
 ghost use Rattle.ctr_acts.specs.Acts.{ShowsActs, IsMarked};
-ghost use Rattle.ctr_turns.specs.Turns.{ShowsTurns, TurnKeeps, with_log, HasRoom, HasNumbers};
+ghost use Rattle.ctr_turns.specs.Turns.{ShowsTurns, TurnKeeps, with_log, HasRoom, HasNumbers, AddsAtMost, AppendsAtMostOne};
 
 use ctr_acts::Acts;
 use ctr_gather::{Records, commits_fold, records_are_gathered};
@@ -46,6 +46,8 @@ fn append(records: &mut Records, log: &mut LogFile, s: u8)
     ensures appended { (items : List HeldItem) → IsRecordOf items (record_at s records.old) → log.new ≡ record log.old { buffered = log.old.buffered ++ record_bytes items ∷ []; room = log.new.room } }
     ensures room { room_kept records.new ≤ log.new.room }
     ensures idle { (record_at s records.new).most ≡ 0 }
+    ensures log { AppendsAtMostOne log.old log.new }
+    ensures count { (record_at s records.new).count ≡ (record_at s records.old).count }
     ensures others { OthersAlike s records.old records.new }
 {
     records.end(s);
@@ -61,6 +63,7 @@ fn start(records: &mut Records, log: &mut LogFile, s: u8) -> Result<(), OutOfMem
     requires one { IsSession s records.old }
     requires room { room_kept records.old ≤ log.old.room }
     ensures begun { OnOk result (IsRecordOf [] (record_at s records.new)) }
+    ensures count { (record_at s records.new).count ≤ (record_at s records.old).count }
     ensures none { (record_at s records.old).most ≡ 0 → OnErr result ((record_at s records.new).most ≡ 0) }
     ensures room { room_kept records.new ≤ log.new.room }
     ensures log { log.new ≡ record log.old { room = log.new.room } }
@@ -107,6 +110,7 @@ impl Turns {
         ensures log { log.new ≡ record log.old { room = log.new.room } }
         ensures others { OthersAlike s self.old.records self.new.records }
         ensures writes { OthersCanWrite s act.Begin st.Begin self.old.acts self.new.acts }
+        ensures adds { AddsAtMost 0 s self.old self.new }
     {
         records_are_gathered();
         if self.records.is_going(s) {
@@ -129,6 +133,7 @@ impl Turns {
             → TurnKeeps s act.Read statement.now (record { turns = self.old; waiting = waiting }) (record { turns = self.new; waiting = waiting }) result }
         ensures records { self.new.records ≡ self.old.records }
         ensures writes { OthersCanWrite s act.Read statement.now self.old.acts self.new.acts }
+        ensures adds { AddsAtMost 0 s self.old self.new }
     {
         records_are_gathered();
         self.acts.read(alloc, s, statement)
@@ -142,8 +147,10 @@ impl Turns {
         requires numbers { HasNumbers log.old }
         ensures keeps { TurnKeeps s act.Ask st.Commit (with_log self.old log.old) (with_log self.new log.new) result }
         ensures room { HasRoom self.new log.new }
+        ensures log { AppendsAtMostOne log.old log.new }
         ensures others { OthersAlike s self.old.records self.new.records }
         ensures writes { OthersCanWrite s act.Ask st.Commit self.old.acts self.new.acts }
+        ensures adds { AddsAtMost 0 s self.old self.new }
     {
         written();
         records_are_gathered();
@@ -167,6 +174,7 @@ impl Turns {
         ensures needs { room_kept self.new.records ≤ room_kept self.old.records }
         ensures others { OthersAlike s self.old.records self.new.records }
         ensures writes { OthersCanWrite s act.Answer st.Commit self.old.acts self.new.acts }
+        ensures adds { AddsAtMost 0 s self.old self.new }
     {
         self.records.forget(s);
         self.acts.answer(s)
@@ -180,6 +188,7 @@ impl Turns {
         ensures needs { room_kept self.new.records ≤ room_kept self.old.records }
         ensures others { OthersAlike s self.old.records self.new.records }
         ensures writes { OthersCanWrite s act.Rollback st.Rollback self.old.acts self.new.acts }
+        ensures adds { AddsAtMost 0 s self.old self.new }
     {
         self.records.forget(s);
         self.acts.roll_back(s)

@@ -18,7 +18,7 @@ use Rattle.ctr_versions.specs.Changes.{write}
 use Rattle.ctr_versions.specs.Keys.{schema_change, row_change, row_written}
 use Rattle.ctr_versions.specs.Listing.{chain_at}
 use Rattle.ctr_versions.specs.Xids.{number_of, has_committed, AreSound}
-use Rattle.ctr_versions.specs.Versions.{Made, Versions, names_at, slots_of, rows_of, schemas, table_seen, database_seen, name_written, IsOrdered, is_slot, RowsSet, NamesSet}
+use Rattle.ctr_versions.specs.Versions.{Made, Versions, names_at, slots_of, rows_of, schemas, table_seen, database_seen, name_written, IsOrdered, HaveOwnTables, is_slot, RowsSet, NamesSet}
 use Rattle.ctr_versions.specs.Engine.{session_sees, IsBy, IsDrawn, ShowsState}
 use Rattle.ctr_versions.specs.Heads.{has_head, HeadsAre}
 use Rattle.ctr_versions.specs.Loading.{loader, loading_xids, opened_xids, loading_session, is_loader, loaded, IsSingle, AreLoaded}
@@ -48,6 +48,29 @@ single_schemas number (v ∷ vs) single = subst (λ (c : List (ℕ × Option Mad
 single_drawn : {V : Type 0} (chain : List (ℕ × Option V)) → IsSingle chain → AllByRecursion (IsBy (IsDrawn 2)) chain
 single_drawn [] single = tt
 single_drawn {V} (v ∷ vs) single = subst (λ (c : List (ℕ × Option V)). AllByRecursion (IsBy (IsDrawn 2)) (v ∷ c)) (sym single.1) (subst (λ x. (0 < x) × (x < 2)) (sym single.0) (omega arith, omega arith), tt)
+
+-- what any test sees is what was loaded
+single_seen : {V : Type 0} (test : ℕ → Bool) (chain : List (ℕ × Option V)) (x : V) → IsSingle chain → value_seen test chain ≡ Some x → value_seen is_loader chain ≡ Some x
+single_seen test [] x single is = absurd (false≢true (ap is_some is))
+single_seen {V} test (v ∷ vs) x single is =
+    seen_first (test v.0) (subst (λ (c : List (ℕ × Option V)). cond (test v.0) v.1 (value_seen test c) ≡ Some x) single.1 is)
+  where
+    first : v.1 ≡ Some x → value_seen is_loader (v ∷ vs) ≡ Some x
+    first given = subst (λ y. cond (is_loader y) v.1 (value_seen is_loader vs) ≡ Some x) (sym single.0) given
+
+    seen_first : (b : Bool) → cond b v.1 None ≡ Some x → value_seen is_loader (v ∷ vs) ≡ Some x
+    seen_first true given = first given
+    seen_first false given = absurd (false≢true (ap is_some given))
+
+-- no two names share a table, whatever is seen of them
+pub loaded_apart : (versions : Versions) → AreLoaded versions → HaveOwnTables versions
+loaded_apart versions are name other made mine test own is at same =
+    are.apart name other made mine (single_seen test (names_at versions name) made (are.names name) is)
+    (single_seen own (names_at versions other) mine (are.names other) at) same
+
+-- the database that is loaded is in order
+pub loaded_ordered : (versions : Versions) → AreLoaded versions → IsOrdered (loaded versions)
+loaded_ordered versions are = seen_ordered is_loader versions are.sorted are.slots_sorted
 
 -- ---- what a change leaves is seen
 

@@ -130,6 +130,12 @@ pub record IsOrdered (db : Database) : Type 0 where
   pub names : T (is_sorted name_cmp db)
   pub rows : (name : List ℕ) (t : Table) → table_at db name ≡ Some t → T (is_sorted int_cmp t.rows)
 
+-- no two names share a table
+abbrev pub HaveOwnTables : Versions → Type 0
+HaveOwnTables versions = (name other : List ℕ) (made mine : Made) (test own : ℕ → Bool)
+    → value_seen test (names_at versions name) ≡ Some made
+    → value_seen own (names_at versions other) ≡ Some mine → made.id ≡ mine.id → name ≡ other
+
 -- ---- one chain is changed
 
 -- it is this key of this table

@@ -7,6 +7,7 @@ use Rattle.ctr_acts.specs.Writing.{OthersCanWrite}
 use Rattle.ctr_gather.specs.Records.{IsSession, OthersAlike}
 use Rattle.ctr_turns.specs.Turns.{TurnsHeld, TurnKeeps, with_log}
 use Rattle.ctr_turns.proofs.Beginning.{alike_both, begun_turn, begun_not}
+use Rattle.ctr_turns.proofs.Adding.{adds_none}
 use Rattle.ctr_turns.proofs.turns.Turns.begin.Goals as goal
 
 pub returns-in-Began-clause-keeps : goal.returns-in-Began-clause-keeps
@@ -34,5 +35,11 @@ returns c =
       room = omega (arith, kept, room);
       log = c.start.ensures.log;
       others = subst (λ (o : TurnsHeld). OthersAlike c.args.s o.records new.records) c.self.view_is alike;
+      adds = let few = c.forget.ensures.count in let start = c.start.ensures.count in adds_none c.args.s old new c.begin-reply.ensures.store (omega (arith, few, start)) c.args.self.now c.self.view_is;
       writes = subst (λ (o : TurnsHeld). OthersCanWrite c.args.s act.Begin st.Begin o.acts new.acts) c.self.view_is c.begin-reply.ensures.others;
     }
+
+pub returns-in-Began-clause-adds : goal.returns-in-Began-clause-adds
+returns-in-Began-clause-adds c =
+    let old : TurnsHeld = record { acts = c.self.inside.acts; records = c.self.inside.records } in
+    adds_none c.args.s old (record { acts = c.begin-reply.new.self; records = c.start.new.records }) c.begin-reply.ensures.store c.start.ensures.count c.args.self.now c.self.view_is

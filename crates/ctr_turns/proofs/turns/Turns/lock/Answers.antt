@@ -1,4 +1,4 @@
-use Rattle.std.proofs.Common.{refl, sym, subst}
+use Rattle.std.proofs.Common.{refl, sym, subst, arith}
 use Rattle.ctr_types.specs.declared.tape.Act.TheVariants as act
 use Rattle.ctr_types.specs.declared.tape.Reply.TheVariants as reply
 use Rattle.ctr_types.specs.declared.tape.Refusal.TheVariants as refusal
@@ -10,6 +10,7 @@ use Rattle.ctr_turns.specs.Turns.{TurnsHeld, TurnKeeps, with_log}
 use Rattle.ctr_turns.proofs.Standing.{item_kept}
 use Rattle.ctr_turns.proofs.Reading.{itself}
 use Rattle.ctr_turns.proofs.LockTurns.{lock_turn, memory_not, granted_not}
+use Rattle.ctr_turns.proofs.Adding.{adds}
 use Rattle.ctr_turns.proofs.turns.Turns.lock.Goals as goal
 
 pub returns-in-Some-clause-keeps : goal.returns-in-Some-clause-keeps
@@ -68,3 +69,23 @@ returns-in_default-take-clause-writes c = subst (λ (o : TurnsHeld). OthersCanWr
 
 pub returns-clause-writes : goal.returns-clause-writes
 returns-clause-writes c = subst (λ (o : TurnsHeld). OthersCanWrite c.args.s act.Lock c.args.statement.now o.acts c.take.new.self) c.self.view_is c.take.ensures.others
+
+pub returns-in_default-take-clause-adds : goal.returns-in_default-take-clause-adds
+returns-in_default-take-clause-adds c =
+    let old : TurnsHeld = record { acts = c.self.inside.acts; records = c.self.inside.records } in
+    let few = c.reserve.ensures.count in
+    let next = c.take.ensures.next in
+    adds 0 c.args.s old (record { acts = c.take.new.self; records = c.reserve.new.records }) (omega (arith, next)) (omega (arith, few)) c.args.self.now c.self.view_is
+
+pub returns-clause-adds : goal.returns-clause-adds
+returns-clause-adds c =
+    let old : TurnsHeld = record { acts = c.self.inside.acts; records = c.self.inside.records } in
+    let few = c.reserve.ensures.count in
+    let next = c.take.ensures.next in
+    adds 0 c.args.s old (record { acts = c.take.new.self; records = c.reserve.new.records }) (omega (arith, next)) (omega (arith, few)) c.args.self.now c.self.view_is
+
+pub returns-in_default-reserve-clause-adds : goal.returns-in_default-reserve-clause-adds
+returns-in_default-reserve-clause-adds c =
+    let old : TurnsHeld = record { acts = c.self.inside.acts; records = c.self.inside.records } in
+    let few = c.reserve.ensures.count in
+    adds 0 c.args.s old (record { acts = c.self.inside.acts; records = c.reserve.new.records }) (omega arith) (omega (arith, few)) c.args.self.now c.self.view_is

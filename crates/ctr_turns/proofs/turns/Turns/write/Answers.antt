@@ -1,4 +1,4 @@
-use Rattle.std.proofs.Common.{◌≤◌, ◌+◌, sym, ap, subst}
+use Rattle.std.proofs.Common.{sym, ap, subst, arith}
 use Rattle.ctr_types.specs.declared.tape.Act.TheVariants as act
 use Rattle.ctr_acts.specs.Writing.{OthersCanWrite}
 use Rattle.ctr_gather.specs.Records.{room_kept, IsSession, OthersAlike}
@@ -6,6 +6,7 @@ use Rattle.ctr_turns.specs.Locking.{WriteTurnKeeps}
 use Rattle.ctr_turns.specs.Turns.{TurnsHeld}
 use Rattle.ctr_turns.proofs.Reading.{itself}
 use Rattle.ctr_turns.proofs.LockTurns.{not_written, is_written}
+use Rattle.ctr_turns.proofs.Adding.{adds}
 use Rattle.ctr_turns.proofs.turns.Turns.write.Goals as goal
 
 pub returns-in_default-clause-keeps : goal.returns-in_default-clause-keeps
@@ -31,7 +32,7 @@ returns-in_default-reply c =
       room = ap (λ (o : TurnsHeld). room_kept o.records) c.self.view_is;
       others = subst (λ (o : TurnsHeld). OthersAlike c.args.s o.records c.self.inside.records) c.self.view_is (itself c.args.s c.self.inside.records);
       writes = subst (λ (o : TurnsHeld). OthersCanWrite c.args.s act.Write c.args.statement.now o.acts c.write-reply.new.self) c.self.view_is c.write-reply.ensures.others;
-      next = subst (λ (o : TurnsHeld). c.write-reply.new.self.engine.store.next ≤ o.acts.engine.store.next + 1) c.self.view_is c.write-reply.ensures.next;
+      adds = adds 1 c.args.s old new c.write-reply.ensures.next (omega arith) c.args.self.now c.self.view_is;
     }
 
 pub returns-clause-keeps : goal.returns-clause-keeps
@@ -46,3 +47,14 @@ returns-clause-keeps c =
 
 pub returns-clause-writes : goal.returns-clause-writes
 returns-clause-writes c = subst (λ (o : TurnsHeld). OthersCanWrite c.args.s act.Write c.args.statement.now o.acts c.write-reply.new.self) c.self.view_is c.write-reply.ensures.others
+
+pub returns-clause-adds : goal.returns-clause-adds
+returns-clause-adds c =
+    let old : TurnsHeld = record { acts = c.self.inside.acts; records = c.self.inside.records } in
+    let few = c.push.ensures.count in
+    adds 1 c.args.s old (record { acts = c.write-reply.new.self; records = c.push.new.self }) c.write-reply.ensures.next (omega (arith, few)) c.args.self.now c.self.view_is
+
+pub returns-in_default-clause-adds : goal.returns-in_default-clause-adds
+returns-in_default-clause-adds c =
+    let old : TurnsHeld = record { acts = c.self.inside.acts; records = c.self.inside.records } in
+    adds 1 c.args.s old (record { acts = c.write-reply.new.self; records = c.self.inside.records }) c.write-reply.ensures.next (omega arith) c.args.self.now c.self.view_is

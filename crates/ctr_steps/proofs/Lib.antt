@@ -1,0 +1,10 @@
+pub mod Places
+pub mod Telling
+pub mod Moving
+pub mod Bounding
+pub mod ByKind
+pub mod Walking
+pub mod Answering
+pub mod Needing
+pub mod Stepping
+pub mod Starting

@@ -1,0 +1,147 @@
+-- What steps keep: a legal tape, whose state the turns show, each session as far as the tape says,
+-- and room.
+use Rattle.std.specs.Prelude.{◌≡◌, ◌≤◌, ◌<◌, ◌+◌, ◌*◌, ◌-◌, ◌^◌, ℕ, List, [], length, Some, vec_len, vec_capacity}
+use Rattle.std.specs.List.{AllByRecursion}
+use Rattle.ctr_types.specs.declared.statement.Statement.{Statement}
+use Rattle.ctr_types.specs.declared.statement.Line.{Line}
+use Rattle.ctr_types.specs.declared.tape.Entry.{Entry}
+use Rattle.ctr_model.specs.declared.state.State.{State}
+use Rattle.ctr_model.specs.declared.state.Transaction.{Transaction}
+use Rattle.ctr_model.specs.declared.tape.Point.{Point}
+use Rattle.ctr_model.specs.State.{transaction_of}
+use Rattle.ctr_model.specs.Tape.{progress_of, statement_of, final, Legal, at_start}
+use Rattle.ctr_log.specs.Logs.{Log}
+use Rattle.ctr_gather.specs.Records.{IsSession, record_at}
+use Rattle.ctr_turns.specs.declared.taking.Ready.{Ready}
+use Rattle.ctr_turns.specs.Items.{IsRecorded}
+use Rattle.ctr_turns.specs.Turns.{TurnsHeld, ShowsTurns, HasRoom}
+use Rattle.ctr_turns.specs.Locking.{IsLeft}
+use Rattle.ctr_steps.specs.declared.runners.Stage.TheVariants as stage
+use Rattle.ctr_steps.specs.declared.runners.Runner.{Runner}
+use Rattle.ctr_steps.specs.declared.acting.Acted.{Acted}
+use Rattle.ctr_steps.specs.declared.steps.Steps.{Steps}
+use Rattle.ctr_steps.specs.Acting.{LocksFirst}
+use Rattle.ctr_steps.specs.Runners.{progress_at, runner_at, all_left, all_begun, AreRunners}
+
+-- where the tape has led
+abbrev pub reached_by : Point → Steps → Point
+reached_by start h = final h.script.lines start h.tape.items
+
+-- ---- what a session is in the middle of
+
+-- A session was granted the lock of its statement, which then writes, and has what that wants.
+pub record IsLocked (state : State) (s : ℕ) (statement : Statement) (ready : Ready) (h : Steps)
+    : Type 0 where
+  pub locks : LocksFirst statement
+  pub left : IsLeft state s statement ready h.turns
+
+-- each session whose lock was granted is so
+abbrev pub AreLeft : State → Steps → Type 0
+AreLeft state h = (s : ℕ) (statement : Statement) (ready : Ready) → IsSession s h.turns.records
+    → (runner_at s h.runners.items).stage ≡ stage.Locked ready
+    → statement_of h.script.lines s ((runner_at s h.runners.items).finished + 1) ≡ Some statement
+    → IsLocked state s statement ready h
+
+-- the session is in a transaction that asked for its commit, which has this number
+pub record AskedFor (state : State) (s k : ℕ) : Type 0 where
+  pub me : Transaction
+  pub there : transaction_of state s ≡ Some me
+  pub asked : me.asked ≡ Some k
+
+-- the sessions that wait for the answer of a commit are those that asked for one
+pub record AreAsking (state : State) (h : Steps) : Type 0 where
+  pub who : (s k : ℕ) → IsSession s h.turns.records
+      → (runner_at s h.runners.items).stage ≡ stage.Asked k → AskedFor state s k
+  pub all : (s k : ℕ) → AskedFor state s k
+      → IsSession s h.turns.records × ((runner_at s h.runners.items).stage ≡ stage.Asked k)
+
+-- the entry of a session's act of its next statement
+abbrev pub noted : ℕ → Runner → Acted → ℕ → Entry
+noted s runner made_act moment = record {
+  session = s;
+  statement = runner.finished + 1;
+  act = made_act.act;
+  reply = made_act.reply;
+  moment = moment;
+}
+
+-- ---- the walk
+
+-- From a start on the tape is legal, and not later than now; the turns show the state to which it
+-- leads, where the records from a number on wait; and each session is as far as the tape says.
+pub record Walks (start : Point) (from : ℕ) (h : Steps) (waiting : List (List ℕ)) (now : ℕ)
+    : Type 0 where
+  pub starts : start ≡ at_start start.moment start.state.base start.state.stuck
+  pub legal : Legal h.script.lines start h.tape.items
+  pub low : ℕ
+  pub shows : ShowsTurns low h.turns from waiting (reached_by start h).state
+  pub later : (reached_by start h).moment ≤ now
+  pub answered : (reached_by start h).state.answered ≡ h.answered
+  pub own : (s : ℕ) → IsSession s h.turns.records
+      → progress_of (reached_by start h) s ≡ progress_at (runner_at s h.runners.items)
+  pub none : (s : ℕ) → (IsSession s h.turns.records → ⊥)
+      → progress_of (reached_by start h) s ≡ record { finished = 0; made = 0 }
+  pub left : AreLeft (reached_by start h).state h
+  pub asking : AreAsking (reached_by start h).state h
+
+-- from some start it walks
+pub record Walking (h : Steps) (waiting : List (List ℕ)) (now : ℕ) : Type 0 where
+  pub start : Point
+  pub from : ℕ
+  pub walks : Walks start from h waiting now
+
+-- ---- room and numbers
+
+-- There is room for two entries of each line of the script, and for the records in the log; tables,
+-- items of a record and records in the log have numbers for as many more.
+pub record HasBounds (h : Steps) (log : Log) : Type 0 where
+  pub room : HasRoom h.turns log
+  pub sessions : length h.turns.records ≡ length h.runners.items
+  pub runners : AreRunners h.script.lines 1 h.runners.items
+  pub recorded : AllByRecursion (λ (l : Line). IsRecorded l.statement) h.script.lines
+  pub few : length h.script.lines < 2 ^ 32 - 1
+  pub left : vec_len h.tape + all_left h.runners.items ≤ 2 * length h.script.lines
+  pub tape_room : 2 * length h.script.lines ≤ vec_capacity h.tape
+  pub tables : h.turns.acts.engine.store.next ≤ 2 ^ 62 + vec_len h.tape
+  pub answered : h.answered ≤ vec_len h.tape
+  pub items : (s : ℕ) → IsSession s h.turns.records
+      → (record_at s h.turns.records).count ≤ (runner_at s h.runners.items).finished
+  pub waits : length log.buffered ≤ all_begun h.runners.items
+  pub next : log.first + length log.buffered ≤ 2 ^ 62 + all_begun h.runners.items
+
+-- At a start: the log has the room that is kept for records, no record waits there or is gathered,
+-- and tables and records have numbers enough.
+pub record StartsWithRoom (turns : TurnsHeld) (lines : List Line) (log : Log) : Type 0 where
+  pub room : HasRoom turns log
+  pub recorded : AllByRecursion (λ (l : Line). IsRecorded l.statement) lines
+  pub tables : turns.acts.engine.store.next ≤ 2 ^ 62
+  pub items : (s : ℕ) → (record_at s turns.records).count ≡ 0
+  pub none : log.buffered ≡ []
+  pub next : log.first ≤ 2 ^ 62
+
+-- ---- answers
+
+-- the session waits for the answer of the commit of this number
+pub record WaitsFor (s k : ℕ) (runners : List Runner) : Type 0 where
+  pub least : 1 ≤ s
+  pub most : s ≤ length runners
+  pub asked : (runner_at s runners).stage ≡ stage.Asked k
+
+-- every commit that was asked for is answered
+abbrev pub AreAnswered : Steps → Type 0
+AreAnswered h = (start : Point) (from : ℕ) (waiting : List (List ℕ)) (now : ℕ)
+    → Walks start from h waiting now
+    → (reached_by start h).state.answered ≡ length (reached_by start h).state.asked
+
+-- ---- laws
+
+-- where all that waits is made durable, nothing waits
+abbrev pub DurableWalks : Type 0
+DurableWalks = (start : Point) (from now : ℕ) (h : Steps) (waiting : List (List ℕ))
+    → Walks start from h waiting now
+    → Walks start (length (reached_by start h).state.asked) h [] now
+
+-- at a later moment it is a walk still
+abbrev pub LaterWalks : Type 0
+LaterWalks = (start : Point) (from now later : ℕ) (h : Steps) (waiting : List (List ℕ))
+    → now ≤ later → Walks start from h waiting now → Walks start from h waiting later

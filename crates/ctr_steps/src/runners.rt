@@ -1,0 +1,78 @@
+// Each session's lines of the script, and how far it is.
+ghost use Rattle.std.specs.Prelude.{◌≡◌, ◌==◌, ◌++◌, ◌∷◌, [], length, IfOk, OnOk, if◌then◌else◌};
+ghost use Rattle.std.specs.List.{AllByRecursion};
+ghost use Rattle.ctr_steps.specs.Runners.{places_from, IsFresh, IsRunnerOf, AreRunners};
+
+use ctr_turns::Ready;
+use ctr_types::{Line, List, OutOfMemory};
+use std::alloc::Global;
+
+/// What a session is in the middle of.
+#[derive(Drop)]
+pub enum Stage {
+    /// It has begun no statement that isn't finished.
+    Between,
+    /// Its lock was granted; the Write is next.
+    Locked { ready: Ready },
+    /// It asked for its commit, which has this number, and has no act until that is answered.
+    Asked { k: u64 },
+}
+
+/// A session of a script.
+#[derive(Drop)]
+pub struct Runner {
+    /// Where its lines stand in the script, from 0.
+    pub places: List<usize>,
+    /// How many of its statements are finished.
+    pub finished: usize,
+    pub stage: Stage,
+}
+
+// One line more: its place is the session's, where the line is.
+fn push_place(places: &mut List<usize>, n: usize, line: &Line, s: u8) -> Result<(), OutOfMemory>
+    ensures { OnOk result (places.new ≡ (if line.now.session == s then places.old ++ n ∷ [] else places.old)) }
+{
+    if line.session != s {
+        return Ok(());
+    }
+    places.push(n)?;
+    Ok(())
+}
+
+// The places of a session's lines.
+fn places(alloc: Global, lines: &[Line], s: u8) -> Result<List<usize>, OutOfMemory>
+    ensures { IfOk result (λ ps. ps ≡ places_from s 0 lines.now) }
+{
+    let mut places = List::new(alloc);
+    let mut n = 0;
+    for line in lines {
+        push_place(&mut places, n, line, s)?;
+        n += 1;
+    }
+    Ok(places)
+}
+
+// A session that has begun none of its statements.
+fn fresh(alloc: Global, lines: &[Line], s: u8) -> Result<Runner, OutOfMemory>
+    ensures of { IfOk result (IsRunnerOf lines.now s) }
+    ensures fresh { IfOk result IsFresh }
+{
+    Ok(Runner {
+        places: places(alloc, lines, s)?,
+        finished: 0,
+        stage: Stage::Between,
+    })
+}
+
+/// A runner for each of the sessions 1 to 8.
+pub fn runners(alloc: Global, lines: &[Line]) -> Result<Vec<Runner>, OutOfMemory>
+    ensures are { IfOk result (λ rs. AreRunners lines.now 1 rs.items) }
+    ensures eight { IfOk result (λ rs. length rs.items ≡ 8) }
+    ensures fresh { IfOk result (λ rs. AllByRecursion IsFresh rs.items) }
+{
+    let mut runners = Vec::new(alloc);
+    for s in 1..9 {
+        runners.push(fresh(alloc, lines, s)?)?;
+    }
+    Ok(runners)
+}

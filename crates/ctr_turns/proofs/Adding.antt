@@ -1,0 +1,18 @@
+-- How many tables and items of a record an act adds.
+use Rattle.std.proofs.Common.{◌≡◌, ◌≤◌, ◌+◌, ℕ, List, ap, subst, arith}
+use Rattle.ctr_chains.specs.Stored.{HeldStore}
+use Rattle.ctr_gather.specs.Records.{GatheredHeld, record_at}
+use Rattle.ctr_acts.specs.Acts.{ActsHeld}
+use Rattle.ctr_turns.specs.Turns.{TurnsHeld, AddsAtMost}
+
+-- over what was held, where the tables and the items are so many more at most
+pub adds : (n s : ℕ) (held new : TurnsHeld) → new.acts.engine.store.next ≤ held.acts.engine.store.next + n → (record_at s new.records).count ≤ (record_at s held.records).count + n
+    → (old : TurnsHeld) → held ≡ old → AddsAtMost n s old new
+adds n s held new tables items old is = subst (λ (o : TurnsHeld). AddsAtMost n s o new) is (record { tables = tables; items = items })
+
+-- none, where what is stored stays
+pub adds_none : (s : ℕ) (held new : TurnsHeld) → new.acts.engine.store ≡ held.acts.engine.store → (record_at s new.records).count ≤ (record_at s held.records).count
+    → (old : TurnsHeld) → held ≡ old → AddsAtMost 0 s old new
+adds_none s held new same few =
+    let next = ap (λ (h : HeldStore). h.next) same in
+    adds 0 s held new (omega (arith, next)) (omega (arith, few))
