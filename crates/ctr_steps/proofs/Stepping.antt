@@ -1,5 +1,5 @@
 -- A step in the code: a session's stage is taken out, its act is made and written down. What that keeps.
-use Rattle.std.proofs.Common.{◌≡◌, ◌+◌, ◌-◌, ◌≤◌, ◌<◌, ℕ, ◌++◌, ◌∷◌, [], length, Some, sym, ◌∙◌, ap, subst, arith}
+use Rattle.std.proofs.Common.{◌≡◌, ◌+◌, ◌-◌, ◌≤◌, ◌<◌, ℕ, ◌++◌, ◌∷◌, [], length, Some, refl, sym, ◌∙◌, ap, subst, arith}
 use Rattle.std.specs.Prelude.{slice_set, vec_len, vec_capacity}
 use Rattle.ctr_types.specs.declared.statement.Statement.{Statement}
 use Rattle.ctr_model.specs.declared.tape.Point.{Point}
@@ -15,7 +15,7 @@ use Rattle.ctr_steps.specs.declared.acting.Acted.{Acted}
 use Rattle.ctr_steps.specs.declared.steps.Steps.{Steps}
 use Rattle.ctr_steps.specs.Runners.{made_at, runner_at, after_stage, finished_with, all_left}
 use Rattle.ctr_steps.specs.Acting.{IsActOfTurn, StepKeeps, both}
-use Rattle.ctr_steps.specs.Steps.{Walks, HasBounds, noted}
+use Rattle.ctr_steps.specs.Steps.{Walks, HasBounds, AddsEntry, noted}
 use Rattle.ctr_steps.proofs.Moving.{taken_is, back_is}
 use Rattle.ctr_steps.proofs.Walking.{act_walks}
 use Rattle.ctr_steps.proofs.Bounding.{bounds_on, fewer}
@@ -88,6 +88,9 @@ module _ (old mid new : Steps) (log log' : Log) (s moment : ℕ) (one : IsSessio
     step_bounds = bounds_on old new log log' bounds s one acted.stage more is_old.ends alike adds script long roomy runners_are
         (subst (λ (t : TurnsHeld). HasRoom t log') (sym turns_are) is_old.room) (let no_more = answered in omega (arith, no_more))
         (appends_by mine.stage log log' is_old.log.more is_old.quiet) (ap (λ (l : Log). l.first) is_old.log.same)
+
+    pub step_entry : AddsEntry s moment old new
+    step_entry = record { entry = noted s mine acted moment; tape = tape_is; session = refl; moment_is = refl }
 
     pub step_fewer : all_left new.runners.items < all_left old.runners.items
     step_fewer = fewer old new log log' bounds s one acted.stage more is_old.ends alike adds script long roomy runners_are

@@ -1,6 +1,6 @@
 -- What steps keep: a legal tape, whose state the turns show, each session as far as the tape says,
 -- and room.
-use Rattle.std.specs.Prelude.{◌≡◌, ◌≤◌, ◌<◌, ◌+◌, ◌*◌, ◌-◌, ◌^◌, ℕ, List, [], length, Some, vec_len, vec_capacity}
+use Rattle.std.specs.Prelude.{◌≡◌, ◌≤◌, ◌<◌, ◌+◌, ◌*◌, ◌-◌, ◌^◌, ℕ, List, [], length, Some, vec_len, vec_capacity, ◌++◌, ◌∷◌}
 use Rattle.std.specs.List.{AllByRecursion}
 use Rattle.ctr_types.specs.declared.statement.Statement.{Statement}
 use Rattle.ctr_types.specs.declared.statement.Line.{Line}
@@ -118,6 +118,13 @@ pub record StartsWithRoom (turns : TurnsHeld) (lines : List Line) (log : Log) : 
   pub items : (s : ℕ) → (record_at s turns.records).count ≡ 0
   pub none : log.buffered ≡ []
   pub next : log.first ≤ 2 ^ 62
+
+-- one entry more, of this session and this moment
+pub record AddsEntry (s moment : ℕ) (old new : Steps) : Type 0 where
+  pub entry : Entry
+  pub tape : new.tape.items ≡ old.tape.items ++ entry ∷ []
+  pub session : entry.session ≡ s
+  pub moment_is : entry.moment ≡ moment
 
 -- ---- answers
 

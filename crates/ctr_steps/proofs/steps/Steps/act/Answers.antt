@@ -8,7 +8,7 @@ use Rattle.ctr_steps.specs.Runners.{runner_at}
 use Rattle.ctr_steps.specs.Acting.{LocksFirst}
 use Rattle.ctr_steps.proofs.Needing.{within, counts, numbers, left_for, small_finished}
 use Rattle.ctr_steps.proofs.Moving.{taken_is}
-use Rattle.ctr_steps.proofs.Stepping.{step_walks, step_bounds, step_fewer}
+use Rattle.ctr_steps.proofs.Stepping.{step_walks, step_bounds, step_entry, step_fewer}
 use Rattle.ctr_steps.proofs.steps.Steps.act.Goals as goal
 
 -- the statement is the session's next
@@ -52,5 +52,10 @@ returns-clause-bounds c = step_bounds c.args.self.now c.take-place.new.self c.no
 
 pub returns-clause-fewer : goal.returns-clause-fewer
 returns-clause-fewer c = step_fewer c.args.self.now c.take-place.new.self c.note.new.self c.args.log.now c.step-acted.new.log c.args.s c.args.moment c.requires.one c.requires.bounds c.requires.next.more
+    c.statement_at-statement.result.now (named_after c) c.take-place.result.1 c.take-place.ensures.stage c.step-acted.result c.step-acted.new.turns c.take-place.ensures.same c.take-place.ensures.runners c.step-acted.ensures.keeps c.step-acted.ensures.is
+    c.note.ensures.is c.note.ensures.tape c.note.ensures.len c.note.ensures.capacity c.note.ensures.runners
+
+pub returns-clause-entry : goal.returns-clause-entry
+returns-clause-entry c = step_entry c.args.self.now c.take-place.new.self c.note.new.self c.args.log.now c.step-acted.new.log c.args.s c.args.moment c.requires.one c.requires.bounds c.requires.next.more
     c.statement_at-statement.result.now (named_after c) c.take-place.result.1 c.take-place.ensures.stage c.step-acted.result c.step-acted.new.turns c.take-place.ensures.same c.take-place.ensures.runners c.step-acted.ensures.keeps c.step-acted.ensures.is
     c.note.ensures.is c.note.ensures.tape c.note.ensures.len c.note.ensures.capacity c.note.ensures.runners
