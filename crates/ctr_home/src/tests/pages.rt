@@ -1,20 +1,20 @@
 // Pages: bytes by hand, and which home has the value.
+use crate::tests::disks::disk_of;
 use crate::tests::laid::{
     HOME_5, HOME_6, Laid, SHUT_8, Seen, TWO, Told, ZEROS, body_of, lay, look, told,
 };
-use crate::tests::still::{Still, disk_of};
 use crate::{Block, is_open, read_home, write_home};
-use ctr_disk::{Disk, Failed, Stamp, StoreFault};
+use ctr_disk::{Disk, Failed, SilentDisk, Stamp, StoreFault};
 use ctr_types::File;
 use std::alloc::{AllocError, Global};
 use std::test::Fail;
 
-fn write_page(disk: &mut Still, page: u32) -> Result<(), StoreFault> {
+fn write_page(disk: &mut SilentDisk, page: u32) -> Result<(), StoreFault> {
     let stamp = 0x0102_0304_0506_0708;
     write_home(disk, Block::Page(page), stamp, &body_of(0x50))
 }
 
-fn bytes_at(disk: &mut Still, at: u64) -> Result<[u8; 16], Failed> {
+fn bytes_at(disk: &mut SilentDisk, at: u64) -> Result<[u8; 16], Failed> {
     let mut bytes = [9; 16];
     disk.read(File::Pages, at, &mut bytes)?;
     Ok(bytes)

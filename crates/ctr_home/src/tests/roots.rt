@@ -1,8 +1,8 @@
 // The root: each check, its bytes, its bounds, and both forms of it.
+use crate::tests::disks::disk_of;
 use crate::tests::laid::{HOME_7, HOME_9, ROOT_7, ROOT_9, Told, altered, lay_roots, told};
-use crate::tests::still::{Still, disk_of};
 use crate::{read_root, read_thin_root, write_root};
-use ctr_disk::{Disk, Root};
+use ctr_disk::{Disk, Root, SilentDisk};
 use ctr_types::File;
 use std::alloc::{AllocError, Global};
 use std::test::Fail;
@@ -104,12 +104,12 @@ const ACTS: [Act; 14] = [
     Act::Paged(Ok(Some(MOST))),
 ];
 
-fn has_bytes(disk: &mut Still, at: u64, home: &[u8; 64]) -> bool {
+fn has_bytes(disk: &mut SilentDisk, at: u64, home: &[u8; 64]) -> bool {
     let mut bytes = [9; 64];
     disk.read(File::Root, at, &mut bytes).is_ok() && bytes == *home
 }
 
-fn goes(disk: &mut Still, act: &Act) -> bool {
+fn goes(disk: &mut SilentDisk, act: &Act) -> bool {
     match act {
         Act::Write(root) => write_root(disk, root).is_ok(),
         Act::Thin(answer) => read_thin_root(disk).map_err(told) == *answer,
