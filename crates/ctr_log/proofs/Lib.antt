@@ -1,11 +1,10 @@
-pub mod DamageLemmas
 pub mod LogLemmas
 pub mod FlushLemmas
 pub mod ReadLemmas
+mod DamageLaws
 pub mod BatchLemmas
 pub mod VisitLemmas
 pub mod VisitLaws
-pub mod NearLemmas
 pub mod InitLemmas
 pub mod KeptLaws
 pub mod StartLemmas

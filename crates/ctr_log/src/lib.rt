@@ -8,7 +8,7 @@ mod kept;
 mod laws;
 mod log;
 mod making;
-mod near;
+mod named;
 mod reading;
 mod visitor;
 

@@ -175,8 +175,10 @@ impl LogFile {
         // Only a write at the last places counts as a stray.
         ensures stray { StraysOnlyPast (D.strays_of disk.old) (D.strays_of disk.new) (self.old.place + (22 + length (frames self.old.buffered))) result }
     {
-        self.flush(disk)?;
-        self.begin(disk, first)
+        match self.flush(disk) {
+            Ok(()) => self.begin(disk, first),
+            Err(fault) => Err(fault),
+        }
     }
 
     // The same where nothing waits.
