@@ -10,3 +10,4 @@ pub mod KeptLaws
 pub mod StartLemmas
 pub mod GenerationLemmas
 mod KeptReading
+mod ForgetLaws

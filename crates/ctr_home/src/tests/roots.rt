@@ -26,7 +26,7 @@ const CHECKS: [Row; 9] = [
 // What is told of the root in the first home, or in the second of a file whose first is closed.
 fn root_in(alloc: Global, second: bool, home: [u8; 64]) -> Result<Option<Told>, AllocError> {
     let file = lay_roots(alloc, &[(0, HOME_9), (1, home)])?;
-    let mut disk = disk_of(alloc, if second { &file } else { &home }, &[], 0)?;
+    let mut disk = disk_of(alloc, if second { &file } else { &home }, &[])?;
     Ok(read_root(&mut disk).err().map(told))
 }
 
@@ -120,7 +120,7 @@ fn goes(disk: &mut SilentDisk, act: &Act) -> bool {
 
 #[test]
 fn roots_that_are_written_and_read(rt: HostRuntime) -> Result<(), Fail> {
-    let mut disk = disk_of(rt.alloc(), &[7; 128], &[], 0)?;
+    let mut disk = disk_of(rt.alloc(), &[7; 128], &[])?;
     for act in &ACTS {
         assert!(rt; goes(&mut disk, act));
     }
