@@ -14,6 +14,15 @@ fn disk_with(alloc: Global, image: Image) -> Result<SilentDisk, AllocError> {
     })
 }
 
+// What is asked of a disk once the calls are made, of which no proof wants anything.
+fn calls_of(disk: &SilentDisk) -> &[Recorded] {
+    disk.disk.calls()
+}
+
+fn image_left(disk: &SilentDisk, count: usize, digits: u64) -> Result<Image, AllocError> {
+    disk.disk.image_after(count, digits)
+}
+
 // A batch of the one record "a" or "b", behind its gate, with a closed gate behind it.
 const OLDER: [u8; 31] = [
     1, 9, 0, 0, 0, 0, 0, 0, 0, 1, 0, 0, 0, 0, 0, 0, 0, 1, 0, 0, 0, 1, 0, 0, 0, 0, 0, 0, 0, b'a', 0,
@@ -187,7 +196,7 @@ fn the_log_alone_is_read(rt: HostRuntime) -> Result<(), Fail> {
     log.extend_from_slice(&[7; 1000])?;
     let mut disk = disk_of(alloc, &log, &[])?;
     assert!(rt; kept(alloc, &mut disk, &ROOT) == ONE);
-    assert!(rt; bytes_read(disk.disk.calls()) == 1 + 21 + 9 + 21 + 17);
+    assert!(rt; bytes_read(calls_of(&disk)) == 1 + 21 + 9 + 21 + 17);
     Ok(())
 }
 
@@ -210,7 +219,7 @@ fn kept_in(alloc: Global, image: Image) -> Result<Result<Kept, ReadError>, Alloc
 // Whether each image after so many calls has both records, or the first alone if it isn't whole.
 fn starts(alloc: Global, disk: &SilentDisk, count: usize, whole: bool) -> Result<bool, AllocError> {
     for digits in 0..64 {
-        let kept = kept_in(alloc, disk.disk.image_after(count, digits)?)?;
+        let kept = kept_in(alloc, image_left(disk, count, digits)?)?;
         if kept != BOTH && (whole || kept != ONE) {
             return Ok(false);
         }
@@ -223,7 +232,7 @@ fn starts(alloc: Global, disk: &SilentDisk, count: usize, whole: bool) -> Result
 fn starts_well(alloc: Global, other: &[u8]) -> Result<bool, Fail> {
     let mut disk = disk_of(alloc, &OLDER, other)?;
     start(alloc, &mut disk)?;
-    let calls = disk.disk.calls().len();
+    let calls = calls_of(&disk).len();
     for count in 0..calls {
         if !starts(alloc, &disk, count, false)? {
             return Ok(false);
@@ -266,7 +275,7 @@ fn goes_on(
     whole: bool,
 ) -> Result<bool, AllocError> {
     for digits in 0..64 {
-        let kept = kept_in(alloc, disk.disk.image_after(count, digits)?)?;
+        let kept = kept_in(alloc, image_left(disk, count, digits)?)?;
         if kept != ALL && (whole || kept != TWO && kept != ONE) {
             return Ok(false);
         }
@@ -279,7 +288,7 @@ fn a_generation_begins_behind_what_waits(rt: HostRuntime) -> Result<(), Fail> {
     let alloc = rt.alloc();
     let mut disk = disk_of(alloc, &OLDER, &[])?;
     start_behind(alloc, &mut disk)?;
-    let calls = disk.disk.calls().len();
+    let calls = calls_of(&disk).len();
     for count in 0..calls {
         assert!(rt; goes_on(alloc, &disk, count, false)?);
     }
@@ -312,7 +321,7 @@ fn kept_by_root(alloc: Global, image: Image) -> Result<Option<Kept>, Fail> {
 // Whether each image after so many calls has the newer record alone, or both if it isn't whole.
 fn drops(alloc: Global, disk: &SilentDisk, count: usize, whole: bool) -> Result<bool, Fail> {
     for digits in 0..64 {
-        let kept = kept_by_root(alloc, disk.disk.image_after(count, digits)?)?;
+        let kept = kept_by_root(alloc, image_left(disk, count, digits)?)?;
         if kept != Some((3, [SECOND, NONE, NONE])) && (whole || kept != BOTH.ok()) {
             return Ok(false);
         }
@@ -325,9 +334,9 @@ fn each_moment_of_the_older_generation_dropped(rt: HostRuntime) -> Result<(), Fa
     let alloc = rt.alloc();
     let mut disk = disk_of(alloc, &OLDER, &newer(1, 2, 1))?;
     write_root(&mut disk, &root_named(1, 0, 1))?;
-    let first = disk.disk.calls().len();
+    let first = calls_of(&disk).len();
     write_root(&mut disk, &root_named(2, 1, 2))?;
-    let calls = disk.disk.calls().len();
+    let calls = calls_of(&disk).len();
     for count in first..calls {
         assert!(rt; drops(alloc, &disk, count, false)?);
     }
