@@ -121,7 +121,8 @@ impl MemDisk {
     /// - 2 the first half of its bytes, rounded down,
     /// - 3 the second half alone,
     /// - 4 other bytes in the whole range: 255 less what was to be written,
-    /// - 5 bytes of 1 in all that may change: the range, and the part from the old end on,
+    /// - 5 bytes of 1 in what may change: the range, and before it the part from the old end on, of
+    ///   which the last 4,096 bytes at most,
     /// - 6 all of it, but the file ends in the middle of its growth, rounded down,
     /// - 7 as 5, but the file ends as with 6.
     pub fn image(&self, k: u64) -> Result<Image, AllocError>

@@ -2,6 +2,7 @@
 ghost use Rattle.std.specs.Prelude.{◌≡◌, ◌≤◌, ◌<◌, ◌+◌, ◌^◌, nat_le, min, length, IfOk, OnOk};
 ghost use Rattle.ctr_disk.specs.Image.{Torn, TornImage};
 
+use crate::block::BLOCK;
 use crate::{Bytes, Image};
 use ctr_types::File;
 use std::alloc::{AllocError, Global};
@@ -22,7 +23,8 @@ pub struct Piece {
     pub end: u64,
 }
 
-/// What a digit, 0 to 7, leaves of a write at a place of a file of `len` bytes.
+/// What a digit, 0 to 7, leaves of a write at a place of a file of `len` bytes. It costs what is
+/// written, however long the gap before it is.
 pub fn piece_left(
     alloc: Global,
     digit: u64,
@@ -37,20 +39,21 @@ pub fn piece_left(
     ensures end { IfOk result (λ p. len ≤ p.end) }
 {
     let low = at.min(len);
+    let ones = low.max(at.saturating_sub(BLOCK));
     let last = at + with.len() as u64;
     let end = len.max(last);
     let inside = len + (end - len) / 2;
     let half = with.len() / 2;
-    let all = (last - low) as usize;
+    let all = (last - ones) as usize;
     let (at, bytes, end) = match digit {
         0 => (low, Vec::new(alloc), len),
         1 => (at, with.to_vec(alloc)?, end),
         2 => (at, with[..half].to_vec(alloc)?, end),
         3 => (at + half as u64, with[half..].to_vec(alloc)?, end),
         4 => (at, others(alloc, with)?, end),
-        5 => (low, vec![in alloc; 1u8; all]?, end),
+        5 => (ones, vec![in alloc; 1u8; all]?, end),
         6 => (at, with.to_vec(alloc)?, inside),
-        _ => (low, vec![in alloc; 1u8; all]?, inside),
+        _ => (ones, vec![in alloc; 1u8; all]?, inside),
     };
     Ok(Piece { at, bytes, end })
 }

@@ -1,5 +1,6 @@
 -- A file of the log that was read up to a gate.
-use Rattle.std.proofs.Common.{◌≡◌, ◌≢◌, ◌⊎◌, inl, inr, ℕ, zero, suc, ◌+◌, ◌-◌, ◌*◌, ◌^◌, ◌≤◌, ◌<◌, List, [], ◌∷◌, ◌++◌, length, take, drop, get_or, refl, sym, ◌∙◌, ap, subst, arith, length-drop, append_assoc, Option, Some, None}
+use Rattle.std.proofs.Common.{◌≡◌, ◌≢◌, ◌⊎◌, inl, inr, ℕ, zero, suc, ◌+◌, ◌-◌, ◌*◌, ◌^◌, ◌≤◌, ◌<◌, List, [], ◌∷◌, ◌++◌, length, take, drop, get_or, refl, sym, ◌∙◌, ap, subst, arith, length-drop, append_assoc, Option, Some, None, Ok, Err}
+use Rattle.std.proofs.lemmas.Bool.{cases_eq}
 use Rattle.std.proofs.lemmas.List.{append-nil, drop-drop, get_or-drop}
 use Rattle.ctr_types.specs.declared.file.File.{File}
 use Rattle.ctr_disk.specs.declared.fault.StoreFault.{StoreFault}
@@ -10,7 +11,11 @@ use Rattle.ctr_bytes.specs.Fields.{field}
 use Rattle.ctr_bytes.proofs.FieldLaws.{AreBytes}
 use Rattle.ctr_log.specs.Damage.{IsDamageOf}
 use Rattle.ctr_log.specs.Logs.{Batches, frames, records, HasLog}
-use Rattle.ctr_log.specs.Reading.{RefusesOrFails, AreFrames, HasFrames, ReadsFrames, HasSome}
+use Rattle.ctr_log.specs.Reading.{ReadsLog, RefusesOrFails, AreFrames, HasFrames, ReadsFrames, HasSome}
+use Rattle.ctr_home.specs.Checks.{check_of, judged}
+use Rattle.ctr_home.proofs.CheckLemmas.{judged_same}
+use Rattle.ctr_log.specs.Kept.{log_in}
+use Rattle.ctr_log.specs.LogChecks.{frame_bytes, batch_checks, gate_checks, log_checks, file_damage, IsThisDamage}
 use Rattle.ctr_log.specs.Batch.{FindsBatch, HeadFits, CountFits, IsRead, OpensBatch, EndsLog}
 use Rattle.ctr_log.specs.Visits.{frame_visits, batch_visits, file_visits, RefusesOne}
 use Rattle.ctr_log.specs.declared.visitor.VisitError.TheVariants.{Refused}
@@ -19,7 +24,9 @@ use Rattle.ctr_log.specs.declared.batches.Batch.{Batch}
 use Rattle.ctr_log.specs.declared.visitor.Visit.{Visit}
 use Rattle.ctr_log.specs.declared.reading.ReadError.{ReadError}
 use Rattle.ctr_log.specs.declared.reading.ReadError.TheVariants.{Store, OutOfMemory}
-use Rattle.ctr_log.proofs.KeptLaws.{picks, passes}
+use Rattle.ctr_log.proofs.KeptLaws.{picks, passes, log_in_is}
+use Rattle.ctr_log.proofs.KeptReading.{shorts}
+use Rattle.ctr_log.proofs.DamageLaws.{length_read, judged-append, judged-front, this_more}
 use Rattle.ctr_log.proofs.ReadLemmas.{Done, LeftOf, done_none, done_more, done_all, left_at_start, left_batch, left_more, left_none, front_length, front_count, front_frames, front_behind, front_long, spelled_head, begins_room, begins_first, begins_count, begins_frames, begins_records, batch_read, length-frames-le}
 
 -- the first gate is open, so there is one
@@ -69,6 +76,7 @@ pub record SoFar (file : File) (first : ℕ) (bytes : List ℕ) (gate next : ℕ
   pub more : ℕ
   pub enough : length bytes ≤ gate + more
   pub visits_are : file_visits file first bytes ≡ given ++ batch_visits file next gate more (drop gate bytes)
+  pub damage_is : file_damage file first bytes ≡ judged file (log_checks next gate more (drop gate bytes))
 
 pub so_far_start : (file : File) (first : ℕ) (bytes : List ℕ) → get_or bytes 0 0 ≡ 1 → SoFar file first bytes 0 first []
 so_far_start file first bytes open_ = record {
@@ -79,6 +87,7 @@ so_far_start file first bytes open_ = record {
   more = length bytes;
   enough = omega arith;
   visits_are = refl;
+  damage_is = judged_same file (check_of 0 1 (get_or bytes 0 0)) (log_checks first 0 (length bytes) bytes) (sym open_);
 }
 
 -- a batch more was read and given
@@ -89,7 +98,7 @@ module _ (file : File) (first : ℕ) (bytes : List ℕ) (gate next : ℕ) (given
   short_rest : length bytes < 2 ^ 64 → length rest < 2 ^ 64
   short_rest few = omega (arith, few, length-drop gate bytes)
 
-  module _ (b : Batch) (r : IsRead next rest b) (few : length bytes < 2 ^ 64) (low : next < 2 ^ 64) where
+  module _ (b : Batch) (r : IsRead next rest b) (few : length bytes < 2 ^ 64) (low : next < 2 ^ 64) (passed : judged file (gate_checks next gate rest) ≡ Ok tt) where
     abbrev given_more : List Visit
     given_more = given ++ frame_visits file next (gate + 21) b.count b.frames.items
 
@@ -107,9 +116,26 @@ module _ (file : File) (first : ℕ) (bytes : List ℕ) (gate next : ℕ) (given
         ∙ sym (append_assoc given (frame_visits file next (gate + 21) b.count b.frames.items) (batch_visits file (next + b.count) gate_more k r.behind))
         ∙ ap (λ (l : List ℕ). given_more ++ batch_visits file (next + b.count) gate_more k l) (sym behind_is)
 
-    step : (more : ℕ) → length bytes ≤ gate + more → file_visits file first bytes ≡ given ++ batch_visits file next gate more rest → SoFar file first bytes gate_more (next + b.count) given_more
-    step zero enough is = absurd (omega (arith, enough, s.inside))
-    step (suc k) enough is = record {
+    is_open : get_or rest 0 0 ≡ 1
+    is_open = ap (λ (l : List ℕ). get_or l 0 0) r.bytes_are
+
+    batch_passes : judged file (batch_checks next gate rest) ≡ Ok tt
+    batch_passes = ap (judged file) (sym (picks (get_or rest 0 0) 1 (batch_checks next gate rest) [] is_open)) ∙ passed
+
+    -- its checks are passed over
+    checks_more : (k : ℕ) → judged file (log_checks next gate (suc k) rest) ≡ judged file (log_checks (next + b.count) gate_more k (drop gate_more bytes))
+    checks_more k =
+        let n = field 8 1 rest in
+        let later = log_checks (next + field 4 17 rest) (gate + (21 + n)) k (drop (21 + n) rest) in
+        ap (judged file) (picks (get_or rest 0 0) 1 (batch_checks next gate rest ++ later) [] is_open) ∙ judged-append file (batch_checks next gate rest) later batch_passes
+        ∙ ap (λ (m : ℕ). judged file (log_checks (next + m) (gate + (21 + n)) k (drop (21 + n) rest))) (read_count file next gate 0 rest b r (short_rest few) low)
+        ∙ ap (λ (l : List ℕ). judged file (log_checks (next + b.count) (gate + (21 + n)) k l)) (read_behind file next gate 0 rest b r (short_rest few) low)
+        ∙ ap (λ (m : ℕ). judged file (log_checks (next + b.count) (gate + (21 + m)) k r.behind)) (read_length file next gate 0 rest b r (short_rest few) low)
+        ∙ ap (λ (l : List ℕ). judged file (log_checks (next + b.count) gate_more k l)) (sym behind_is)
+
+    step : (more : ℕ) → length bytes ≤ gate + more → file_visits file first bytes ≡ given ++ batch_visits file next gate more rest → file_damage file first bytes ≡ judged file (log_checks next gate more rest) → SoFar file first bytes gate_more (next + b.count) given_more
+    step zero enough is damage = absurd (omega (arith, enough, s.inside))
+    step (suc k) enough is damage = record {
       rs = s.rs ++ r.rs;
       done = subst (λ (l : List ℕ). Done first bytes l (s.rs ++ r.rs) (next + b.count)) (sym behind_is) (
           subst (λ (n : ℕ). Done first bytes r.behind (s.rs ++ r.rs) (next + n)) (sym r.count_is) (
@@ -121,12 +147,13 @@ module _ (file : File) (first : ℕ) (bytes : List ℕ) (gate next : ℕ) (given
       more = k;
       enough = omega (arith, enough);
       visits_are = left_more_visits k is;
+      damage_is = damage ∙ checks_more k;
     }
 
     pub so_far_more : (gate2 next2 : ℕ) → gate2 ≡ gate_more → next2 ≡ next + b.count → SoFar file first bytes gate2 next2 given_more
     so_far_more gate2 next2 gate_is next_is =
         subst (λ (n : ℕ). SoFar file first bytes n next2 given_more) (sym gate_is) (
-        subst (λ (n : ℕ). SoFar file first bytes gate_more n given_more) (sym next_is) (step s.more s.enough s.visits_are))
+        subst (λ (n : ℕ). SoFar file first bytes gate_more n given_more) (sym next_is) (step s.more s.enough s.visits_are s.damage_is))
 
   -- a front of the file's visits was given
   pub so_far_part : file_visits file first bytes ≡ given ++ batch_visits file next gate s.more rest
@@ -137,12 +164,46 @@ module _ (file : File) (first : ℕ) (bytes : List ℕ) (gate next : ℕ) (given
     pub so_far_all : file_visits file first bytes ≡ given
     so_far_all = s.visits_are ∙ ap (λ (l : List Visit). given ++ l) (batch_none file next gate s.more rest shut) ∙ append-nil given
 
+    so_far_reads : get_or bytes 0 0 ≡ 1 → ReadsLog first bytes s.rs gate next
+    so_far_reads open_ = done_all first bytes rest s.rs next gate s.done (omega (arith, s.inside, length-drop gate bytes)) shut open_ (omega (arith, s.inside, length-drop gate bytes))
+
     pub so_far_end : get_or bytes 0 0 ≡ 1 → EndsLog first bytes gate next
-    so_far_end open_ = (s.rs, done_all first bytes rest s.rs next gate s.done (omega (arith, s.inside, length-drop gate bytes)) shut open_ (omega (arith, s.inside, length-drop gate bytes)))
+    so_far_end open_ = (s.rs, so_far_reads open_)
 
     pub so_far_only : (cs : Batches) → HasLog first cs bytes → next ≡ first + length (records cs)
     so_far_only cs log =
         omega (arith, ap length (left_none next rest (records cs) s.rs (s.left cs log) shut), ap length s.done.records_are, s.done.next_is)
+
+    -- the records of a log that stands there are those of the bytes
+    pub so_far_records : get_or bytes 0 0 ≡ 1 → gate < 2 ^ 63 → next < 2 ^ 64 → (cs : Batches) → HasLog first cs bytes → log_in bytes ≡ records cs
+    so_far_records open_ low low_next cs log =
+        let read = so_far_reads open_ in
+        log_in_is first read.bs bytes read.log_is.batches_are (shorts first read.bs (omega (arith, read.place_is, low))) (omega (arith, read.next_is, low_next))
+        ∙ sym read.records_are ∙ sym (left_none next rest (records cs) s.rs (s.left cs log) shut)
+
+    -- and no check failed
+    pub so_far_passes : file_damage file first bytes ≡ Ok tt
+    so_far_passes = s.damage_is ∙ ap (judged file) (none_left s.more)
+      where
+        none_left : (n : ℕ) → log_checks next gate n rest ≡ []
+        none_left zero = refl
+        none_left (suc n) =
+            passes (get_or rest 0 0) 1 (batch_checks next gate rest ++ log_checks (next + field 4 17 rest) (gate + (21 + field 8 1 rest)) n (drop (21 + field 8 1 rest) rest)) [] shut
+
+  -- a check that fails at the gate is the first of all
+  so_far_fails : (e : StoreFault) → judged file (gate_checks next gate rest) ≡ Err e → file_damage file first bytes ≡ Err e
+  so_far_fails e is = s.damage_is ∙ by_gate s.more s.enough (cases_eq (get_or rest 0 0) 1)
+    where
+      by_gate : (n : ℕ) → length bytes ≤ gate + n → (get_or rest 0 0 ≡ 1) ⊎ (get_or rest 0 0 ≢ 1) → judged file (log_checks next gate n rest) ≡ Err e
+      by_gate zero enough gate_is = absurd (omega (arith, enough, s.inside))
+      by_gate (suc n) enough (inl open_) =
+          let later = log_checks (next + field 4 17 rest) (gate + (21 + field 8 1 rest)) n (drop (21 + field 8 1 rest) rest) in
+          ap (judged file) (picks (get_or rest 0 0) 1 (batch_checks next gate rest ++ later) [] open_)
+          ∙ judged-front file (batch_checks next gate rest) later e (ap (judged file) (sym (picks (get_or rest 0 0) 1 (batch_checks next gate rest) [] open_)) ∙ is)
+      by_gate (suc n) enough (inr shut) = let none = ap (judged file) (passes (get_or rest 0 0) 1 (batch_checks next gate rest) [] shut) in absurd (cc (none, is))
+
+  pub so_far_tells : (e : ReadError) → IsThisDamage (judged file (gate_checks next gate rest)) e → IsThisDamage (file_damage file first bytes) e
+  so_far_tells e told = this_more (judged file (gate_checks next gate rest)) (file_damage file first bytes) so_far_fails e told
 
   -- where a log stands, a batch stands behind an open gate
   pub so_far_opens : HasSome first bytes → OpensBatch next rest
@@ -206,6 +267,10 @@ module _ (size gate next : ℕ) (bytes head : List ℕ) (head_is : head ≡ sect
 
       part_at : part ≡ take (field 8 1 head) (drop 21 behind_gate)
       part_at = part_len ∙ ap (λ (n : ℕ). take n (drop 21 behind_gate)) len_is
+
+      -- the frames of the batch that stands there
+      pub part_whole : part ≡ frame_bytes behind_gate
+      part_whole = part_len ∙ ap (λ (n : ℕ). take n (drop 21 behind_gate)) (len_is ∙ length_read size gate next bytes head head_is size_is)
 
       pub frames_lack : (AreFrames part → ⊥) → OpensBatch next behind_gate → ⊥
       frames_lack lacks opens =

@@ -95,7 +95,6 @@ module _ (named oldest : ℕ) (log : Log) (old : Image) (writes : WritesBehind n
     flush_leaves leaves = weaker g a b (KeepsPrefix log.file named oldest log.buffered old) Held leaves flushing
 
     -- and of both
-    pub both_leave : (d : D) (mid : Image) (next : Log) → GoesOnWith named oldest log.buffered next old mid → next.file ≡ log.file
-        → LeavesOnly g a b (KeepsPrefix log.file named oldest log.buffered old) → LeavesOnly g b d (KeepsPrefix (next_file next.file) named oldest (r ∷ []) mid) → LeavesOnly g a d Held
-    both_leave d mid next goes stays first second =
-        joined g a b d Held (flush_leaves first) (weaker g b d (KeepsPrefix (next_file next.file) named oldest (r ∷ []) mid) Held second (beginning mid next goes stays))
+    pub both_leave : (d : D) (mid : Image) (next : Log) → GoesOnWith named oldest log.buffered next old mid → next.file ≡ log.file → LeavesOnly g a b Held → LeavesOnly g b d (KeepsPrefix (next_file next.file) named oldest (r ∷ []) mid)
+        → LeavesOnly g a d Held
+    both_leave d mid next goes stays first second = joined g a b d Held first (weaker g b d (KeepsPrefix (next_file next.file) named oldest (r ∷ []) mid) Held second (beginning mid next goes stays))

@@ -1,8 +1,9 @@
 -- What reading two generations finds is the log of the image.
-use Rattle.std.proofs.Common.{◌≡◌, ◌⊎◌, inl, inr, ℕ, zero, suc, ◌+◌, ◌^◌, ◌<◌, ◌≤◌, ◌==◌, Bool, true, false, if◌then◌else◌, List, [], ◌∷◌, ◌++◌, length, drop, get_or, refl, sym, ◌∙◌, ap, subst, arith, length-append, append_assoc}
+use Rattle.std.proofs.Common.{◌≡◌, ◌⊎◌, inl, inr, ℕ, ◌+◌, ◌^◌, ◌<◌, ◌≤◌, ◌==◌, Bool, true, false, if◌then◌else◌, List, [], ◌∷◌, ◌++◌, length, drop, get_or, refl, sym, ◌∙◌, ap, subst, arith, length-append, append_assoc, Ok}
+use Rattle.std.specs.Prelude.{Result, ⊤}
 use Rattle.std.proofs.lemmas.Bool.{false≢true}
 use Rattle.std.proofs.lemmas.Bool.Decides.{nat_tests}
-use Rattle.std.proofs.lemmas.List.{get_or-drop, append-nil}
+use Rattle.std.proofs.lemmas.List.{append-nil}
 use Rattle.ctr_types.specs.declared.file.File.{File}
 use Rattle.ctr_disk.specs.declared.disk.Image.{Image}
 use Rattle.ctr_disk.specs.Image.{content, section}
@@ -15,21 +16,19 @@ use Rattle.ctr_log.specs.declared.reading.ReadError.TheVariants.{Store, OutOfMem
 use Rattle.ctr_log.specs.Logs.{Batches, batch, batches, records, HasLog, Log, GoesOn}
 use Rattle.ctr_log.specs.Reading.{log_file, ReadsLog, HasSome, IsEmptyAt, RefusesOrFails}
 use Rattle.ctr_log.specs.Kept.{NamesKept, log_in, begins_at, kept_log, other_file, next_file, IsDropped, AreShort, RefusesKept, HoldsTwo, HoldsLog, StandsLog, OpensKept, WritesBy, WritesBehind, writer_file, has_newer}
-use Rattle.ctr_log.specs.Visits.{file_visits, kept_visits, GivesPart, StopsAt, OnRead}
+use Rattle.ctr_disk.specs.declared.fault.StoreFault.{StoreFault}
+use Rattle.ctr_log.specs.LogChecks.{file_damage, damage_or, kept_damage, IsThisDamage}
+use Rattle.ctr_log.specs.Batch.{EndsLog}
+use Rattle.ctr_log.specs.Visits.{visit_bytes, file_visits, kept_visits, GivesPart, StopsAt, OnRead}
 use Rattle.ctr_log.specs.declared.visitor.Visit.{Visit}
 use Rattle.ctr_log.specs.declared.visitor.VisitError.{VisitError}
 use Rattle.ctr_log.specs.declared.visitor.VisitError.TheVariants.{Read, Refused}
 use Rattle.ctr_log.proofs.LogLemmas.{length-batch}
 use Rattle.ctr_log.proofs.KeptLaws.{log_in_is, begins}
 use Rattle.ctr_log.proofs.StartLemmas.{next_other}
+use Rattle.ctr_log.proofs.DamageLaws.{section-drop, this_more}
+use Rattle.ctr_log.proofs.VisitLaws.{file_bytes}
 use Rattle.ctr_log.proofs.VisitLemmas.{stops_more, stops_behind, part_given}
-
--- what a read gives, of a part
-section-drop : (from at n : ℕ) (bytes : List ℕ) → section at n (drop from bytes) ≡ section (from + at) n bytes
-section-drop from at zero bytes = refl
-section-drop from at (suc n) bytes =
-    ap (λ (x : ℕ). x ∷ section (at + 1) n (drop from bytes)) (get_or-drop from bytes at 0)
-    ∙ ap (λ (l : List ℕ). get_or bytes (from + at) 0 ∷ l) (section-drop from (at + 1) n bytes ∙ ap (λ (k : ℕ). section k n bytes) (omega arith))
 
 -- a number where a read gives it, past the end too
 number_read : (bytes : List ℕ) → field 8 0 (section 0 8 bytes) ≡ field 8 0 bytes
@@ -40,7 +39,7 @@ pub first_read : (bytes : List ℕ) → field 8 9 (section 0 17 bytes) ≡ field
 first_read bytes =
     sym (field-drop 8 0 9 (section 0 17 bytes)) ∙ ap (λ (l : List ℕ). field 8 0 l) (sym (section-drop 9 0 8 bytes)) ∙ number_read (drop 9 bytes) ∙ field-drop 8 0 9 bytes
 
-shorts : (first : ℕ) (bs : Batches) → length (batches first bs) < 2 ^ 63 → AreShort bs
+pub shorts : (first : ℕ) (bs : Batches) → length (batches first bs) < 2 ^ 63 → AreShort bs
 shorts first [] low = tt
 shorts first (rs ∷ bs) low =
     let total = length-append (batch first rs) (batches (first + length rs) bs) in
@@ -102,6 +101,16 @@ module _ (file first : ℕ) (image : Image) (f : File) (is : f ≡ log_file file
 pub older_refused_by : {E : Type 0} (file first : ℕ) (image : Image) (g : File) → g ≡ log_file file → (e : VisitError E) → OnRead (RefusesOrFails g (HasSome first (content g image))) e → OnRead (RefusesKept file first image) e
 older_refused_by file first image g is (Read e) refused = older_refused file first image g is e refused
 older_refused_by file first image g is (Refused r) refused = tt
+
+-- damage of the named one is told first
+pub older_told : {E : Type 0} (file first : ℕ) (image : Image) (g : File) → g ≡ log_file file → (e : VisitError E) → OnRead (IsThisDamage (file_damage g first (content g image))) e → OnRead (IsThisDamage (kept_damage file first image)) e
+older_told file first image g is (Refused r) told = tt
+older_told file first image g is (Read e) told =
+    let named = content (log_file file) image in
+    let other = content (other_file file) image in
+    let newer : Result ⊤ StoreFault = if has_newer first named other then file_damage (other_file file) (first + length (log_in named)) other else Ok tt in
+    this_more (file_damage g first (content g image)) (kept_damage file first image) (λ d here.
+    ap (λ (x : Result ⊤ StoreFault). damage_or x newer) (ap (λ (k : File). file_damage k first (content k image)) (sym is) ∙ here)) e told
 
 -- the named file was read, whose image is that later too
 pub record WasRead (r : Root) (image mid : Image) (f h : File) (rs : List (List ℕ)) (place next : ℕ) : Type 0 where
@@ -165,6 +174,19 @@ module _ {r : Root} {image mid : Image} {f h : File} {rs : List (List ℕ)} {pla
   visits_by =
       ap (λ (t : Bool). if t then file_visits (log_file r.file) r.first named ++ file_visits (other_file r.file) (r.first + length (log_in named)) other else file_visits (log_file r.file) r.first named) looked
       ∙ ap (λ (n : ℕ). if b then file_visits (log_file r.file) r.first named ++ file_visits (other_file r.file) n other else file_visits (log_file r.file) r.first named) next_read
+
+  -- the damage is that of the named file, and then of the other where it was found to go on
+  damage_by : kept_damage r.file r.first image ≡ damage_or (file_damage f r.first (content f image)) (if b then file_damage (other_file r.file) next other else Ok tt)
+  damage_by =
+      ap (λ (t : Bool). damage_or (file_damage (log_file r.file) r.first named) (if t then file_damage (other_file r.file) (r.first + length (log_in named)) other else Ok tt)) looked
+      ∙ ap (λ (n : ℕ). damage_or (file_damage (log_file r.file) r.first named) (if b then file_damage (other_file r.file) n other else Ok tt)) next_read
+      ∙ ap (λ (k : File). damage_or (file_damage k r.first (content k image)) (if b then file_damage (other_file r.file) next other else Ok tt)) (sym w.named_is)
+
+  behind_passed : file_damage f r.first (content f image) ≡ Ok tt → kept_damage r.file r.first image ≡ (if b then file_damage (other_file r.file) next other else Ok tt)
+  behind_passed passed = damage_by ∙ ap (λ (x : Result ⊤ StoreFault). damage_or x (if b then file_damage (other_file r.file) next other else Ok tt)) passed
+
+  pub passed_one : b ≡ false → file_damage f r.first (content f image) ≡ Ok tt → kept_damage r.file r.first image ≡ Ok tt
+  passed_one alone passed = behind_passed passed ∙ ap (λ (t : Bool). if t then file_damage (other_file r.file) next other else Ok tt) alone
 
   -- a log that stands has the batches that were read
   same_next : (bs : Batches) → HasLog r.first bs named → r.first + length (records bs) ≡ next
@@ -235,6 +257,15 @@ module _ {r : Root} {image mid : Image} {f h : File} {rs : List (List ℕ)} {pla
     newer_refused_by (Read e) refused = newer_refused e refused
     newer_refused_by (Refused own) refused = tt
 
+    pub damage_two : file_damage f r.first (content f image) ≡ Ok tt → kept_damage r.file r.first image ≡ file_damage h next (content h late)
+    damage_two passed =
+        behind_passed passed ∙ ap (λ (t : Bool). if t then file_damage (other_file r.file) next other else Ok tt) there
+        ∙ ap (λ (k : File). file_damage k next other) (sym behind_is) ∙ ap (λ (l : List ℕ). file_damage h next l) (sym bytes_are)
+
+    pub newer_told : {E : Type 0} → file_damage f r.first (content f image) ≡ Ok tt → (e : VisitError E) → OnRead (IsThisDamage (file_damage h next (content h late))) e → OnRead (IsThisDamage (kept_damage r.file r.first image)) e
+    newer_told passed (Refused own) told = tt
+    newer_told passed (Read e) told = this_more (file_damage h next (content h late)) (kept_damage r.file r.first image) (λ d here. damage_two passed ∙ here) e told
+
     visits_two : kept_visits r.file r.first image ≡ file_visits f r.first (content f image) ++ file_visits h next (content h late)
     visits_two =
         visits_by ∙ ap (λ (t : Bool). if t then file_visits (log_file r.file) r.first named ++ file_visits (other_file r.file) next other else file_visits (log_file r.file) r.first named) there
@@ -303,4 +334,22 @@ module _ {r : Root} {image mid : Image} {f h : File} {rs : List (List ℕ)} {pla
             low = omega (arith, newer.next_is, number_is, low2);
           };
         });
+      }
+
+-- ---- one file's log as a list
+
+-- what a visitor that keeps all was given of a file that was read to its end
+module _ (file : File) (first : ℕ) (bytes : List ℕ) (rs : List (List ℕ)) (visits : List Visit) (all : visits ≡ file_visits file first bytes) (rs_are : rs ≡ visit_bytes visits) where
+  pub gathered_records : rs ≡ log_in bytes
+  gathered_records = rs_are ∙ ap visit_bytes all ∙ file_bytes file first bytes
+
+  pub gathered_log : (place next : ℕ) → EndsLog first bytes place next → place < 2 ^ 63 → next < 2 ^ 64 → ReadsLog first bytes rs place next
+  gathered_log place next found low low_next =
+      let read = found.1 in
+      record {
+        bs = read.bs;
+        log_is = read.log_is;
+        records_are = gathered_records ∙ log_in_is first read.bs bytes read.log_is.batches_are (shorts first read.bs (omega (arith, read.place_is, low))) (omega (arith, read.next_is, low_next));
+        place_is = read.place_is;
+        next_is = read.next_is;
       }

@@ -1,13 +1,13 @@
-pub mod DamageLemmas
 pub mod LogLemmas
 pub mod FlushLemmas
 pub mod ReadLemmas
+mod DamageLaws
 pub mod BatchLemmas
 pub mod VisitLemmas
 pub mod VisitLaws
-pub mod NearLemmas
 pub mod InitLemmas
 pub mod KeptLaws
 pub mod StartLemmas
 pub mod GenerationLemmas
 mod KeptReading
+mod ForgetLaws

@@ -1,21 +1,11 @@
 -- What stands in bytes that are read.
-use Rattle.std.proofs.Common.{◌*◌, ◌≡◌, ◌≢◌, ℕ, ◌+◌, ◌-◌, ◌^◌, ◌≤◌, ◌<◌, List, [], ◌∷◌, ◌++◌, length, take, drop, get_or, refl, sym, ◌∙◌, ap, subst, arith, length-append, length-take, length-drop, take-append-drop, append_assoc}
+use Rattle.std.proofs.Common.{◌*◌, ◌≡◌, ◌≢◌, ℕ, ◌+◌, ◌-◌, ◌^◌, ◌≤◌, ◌<◌, List, [], ◌∷◌, ◌++◌, length, take, drop, get_or, refl, sym, ◌∙◌, ap, arith, length-append, length-take, length-drop, take-append-drop, append_assoc}
 use Rattle.std.proofs.lemmas.List.{append-nil, take_at, take-take, drop_at, drop_more, drop-drop, drop-take, length-take-le}
-use Rattle.ctr_types.specs.declared.file.File.{File}
-use Rattle.ctr_disk.specs.declared.fault.StoreFault.{StoreFault}
-use Rattle.ctr_disk.specs.declared.fault.StoreFault.TheVariants.{Damaged}
-use Rattle.ctr_log.specs.Damage.{IsDamageOf}
 use Rattle.ctr_bytes.specs.Fields.{spelled, field}
 use Rattle.ctr_log.specs.Logs.{frame, frames, batch, batches, records, IsBatch, AreBatches, HasLog}
-use Rattle.ctr_log.specs.declared.reading.ReadError.{ReadError}
-use Rattle.ctr_log.specs.declared.reading.ReadError.TheVariants.{Store, OutOfMemory}
-use Rattle.ctr_log.specs.Reading.{RefusesLog, ReadsFrames, BeginsWithBatch, ReadsBatch, ReadsLog}
+use Rattle.ctr_log.specs.Reading.{ReadsFrames, BeginsWithBatch, ReadsBatch, ReadsLog}
 use Rattle.ctr_bytes.proofs.FieldLaws.{AreBytes, side, spelled_field, field-drop, field-append}
 use Rattle.ctr_log.proofs.LogLemmas.{length-frame, length-batch, frame_field, frame_record, frame_rest, batch_length, batch_first, batch_count, batch_frames, batches-push, records-push, each-push, frames-push}
-
--- damage with its numbers is damage
-pub damage_is : (file : File) (at want got : ℕ) (e : StoreFault) → e ≡ Damaged file at want got → want ≢ got → IsDamageOf file e
-damage_is file at want got e is differ = subst (IsDamageOf file) (sym is) (refl, differ)
 
 -- a frame at the front of bytes
 pub frame_at : (bytes : List ℕ) → AreBytes bytes → 8 + field 8 0 bytes ≤ length bytes → bytes ≡ frame (take (field 8 0 bytes) (drop 8 bytes)) ++ drop (8 + field 8 0 bytes) bytes
@@ -312,11 +302,6 @@ done_all first bytes rest rs next place done some shut open_ place_is = record {
     by_batches : (bs : List (List (List ℕ))) → bytes ≡ batches first bs ++ rest → 0 < length bs
     by_batches [] is = absurd (shut (sym (ap (λ (l : List ℕ). get_or l 0 0) is) ∙ open_))
     by_batches (x ∷ bs) is = omega arith
-
--- what isn't there isn't part of more
-pub refuses_more : (file : File) (P Q : Type 0) (e : ReadError) → (Q → P) → RefusesLog file P e → RefusesLog file Q e
-refuses_more file P Q OutOfMemory part refused = tt
-refuses_more file P Q (Store e) part refused = (refused.0, λ q. refused.1 (part q))
 
 pub length-frames-le : (rs : List (List ℕ)) → 8 * length rs ≤ length (frames rs)
 length-frames-le [] = omega arith

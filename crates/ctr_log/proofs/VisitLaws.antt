@@ -14,7 +14,7 @@ use Rattle.ctr_log.specs.declared.visitor.Visit.{Visit}
 
 -- ---- their bytes are the records
 
-bytes-append : (xs ys : List Visit) → visit_bytes (xs ++ ys) ≡ visit_bytes xs ++ visit_bytes ys
+pub bytes-append : (xs ys : List Visit) → visit_bytes (xs ++ ys) ≡ visit_bytes xs ++ visit_bytes ys
 bytes-append [] ys = refl
 bytes-append (x ∷ xs) ys = ap (λ (l : List (List ℕ)). x.bytes ∷ l) (bytes-append xs ys)
 

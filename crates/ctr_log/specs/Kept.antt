@@ -206,3 +206,14 @@ pub record OpensKept (file first : ℕ) (image : Image) (log : Log) : Type 0 whe
   pub file_is : log.file ≡ writer_file log.older file
   pub next_is : log.first ≡ first + length (kept_log file first image)
   pub goes_on : (oldest : ℕ) × (bs : Batches) × GoesOn oldest bs log image
+
+-- the byte by which a root names the file that this one doesn't
+abbrev pub other_byte : ℕ → ℕ
+other_byte zero = 1
+other_byte (suc n) = 0
+
+-- Where two generations are kept and the root comes to name the newer one, by its first number, a writer
+-- that was behind both goes on behind that one alone.
+abbrev pub Forgets : Log → Log → Type 0
+Forgets old new = (file first : ℕ) (image : Image) → old.older ≡ true → WritesBehind file first old image
+    → WritesBehind (other_byte file) (field 8 9 (content (other_file file) image)) new image

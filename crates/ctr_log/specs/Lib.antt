@@ -7,3 +7,4 @@ pub mod Fresh
 pub mod Kept
 pub mod Batch
 pub mod Visits
+pub mod LogChecks

@@ -10,12 +10,8 @@ use Rattle.ctr_log.specs.declared.reading.ReadError.TheVariants.{Store, OutOfMem
 use Rattle.ctr_log.specs.Damage.{IsDamageOf, Differs}
 use Rattle.ctr_log.specs.Logs.{Batches, frame, frames, batch, batches, records, IsBatch, HasLog, Log, GoesOn}
 
--- what was to be read isn't there, and damage of the file is told; or memory was refused
-abbrev pub RefusesLog : File → Type 0 → ReadError → Type 0
-RefusesLog file P OutOfMemory = Unit {0}
-RefusesLog file P (Store e) = IsDamageOf file e × (P → ⊥)
-
--- the same, or the disk failed
+-- What was to be read isn't there, and damage of the file is told; or the disk failed, or memory was
+-- refused.
 abbrev pub RefusesOrFails : File → Type 0 → ReadError → Type 0
 RefusesOrFails file P OutOfMemory = Unit {0}
 RefusesOrFails file P (Store Fault) = Unit {0}
@@ -82,16 +78,6 @@ pub record FitsFile (first place next : ℕ) : Type 0 where
 -- some log stands in the bytes
 abbrev pub HasSome : ℕ → List ℕ → Type 0
 HasSome first bytes = (bs : Batches) × HasLog first bs bytes
-
--- so many bytes stand in the file, whose length is a number of 64 bits
-abbrev pub IsFront : ℕ → List ℕ → Type 0
-IsFront n bytes = (n ≤ length bytes) × (length bytes < 2 ^ 64)
-
--- the file's log, whose numbers and places are low ones
-pub record HasShortLog (first : ℕ) (bs : Batches) (bytes : List ℕ) : Type 0 where
-  pub log_is : HasLog first bs bytes
-  pub low : first ≤ 2 ^ 63
-  pub short : length (batches first bs) < 2 ^ 62
 
 -- the file that a root's byte names
 abbrev pub log_file : ℕ → File

@@ -1,15 +1,18 @@
 // Reads a file of the log batch by batch. A batch is checked by itself as it is read, and then its
 // records are given to a visitor; so no more than a batch is held.
-ghost use Rattle.std.specs.Prelude.{◌≡◌, ◌≢◌, ◌⊎◌, ◌≤◌, ◌<◌, ◌+◌, ◌-◌, ◌*◌, ◌^◌, ◌++◌, ℕ, IsTrue, Err, length, take, drop, slice_index, IfOk, IfErr, OnOk, MatchResult};
+ghost use Rattle.std.specs.Prelude.{◌≡◌, ◌≢◌, ◌⊎◌, ◌≤◌, ◌<◌, ◌+◌, ◌-◌, ◌*◌, ◌^◌, [], ◌∷◌, ◌++◌, ℕ, IsTrue, Ok, Err, length, take, drop, slice_index, IfOk, IfErr, OnOk, MatchResult};
 ghost use Rattle.ctr_disk.specs.declared.fault.StoreFault.TheVariants.{Fault};
 ghost use Rattle.ctr_disk.specs.Image.{content, section};
 ghost use Rattle.ctr_disk.specs.Device.{OnlyReads, CountsAs};
 ghost use Rattle.ctr_bytes.specs.Fields.{field};
 ghost use Rattle.ctr_log.specs.declared.reading.ReadError.TheVariants.{Store, OutOfMemory as NoMemory};
 ghost use Rattle.ctr_log.specs.declared.visitor.VisitError.TheVariants.{Read};
+ghost use Rattle.ctr_home.specs.Checks.{check_of, judged};
 ghost use Rattle.ctr_log.specs.Damage.{IsDamageOf};
 ghost use Rattle.ctr_log.specs.Logs.{Batches, frame, records, HasLog};
 ghost use Rattle.ctr_log.specs.Reading.{RefusesOrFails, ReadDiffers, AreFrames, HasFrames, HasSome, FitsFile};
+ghost use Rattle.ctr_log.specs.Kept.{log_in};
+ghost use Rattle.ctr_log.specs.LogChecks.{head_checks, count_checks, frames_in, frame_checks, gate_checks, file_damage, IsThisDamage, TellsDamage, VisitsDamage};
 ghost use Rattle.ctr_log.specs.Batch.{HeadFits, CountFits, FindsBatch, IsWholeBatch, OpensBatch, EndsLog};
 ghost use Rattle.ctr_log.specs.Visits.{frame_visits, file_visits, RefusesOne, Visits, OnRead, EndsEarly};
 
@@ -19,6 +22,7 @@ use crate::reading::{ReadError, next_frame};
 use crate::visitor::{VisitError, Visitor};
 use ctr_bytes::{get_u32, get_u64};
 use ctr_disk::{Disk, StoreFault};
+use ctr_home::judge;
 use ctr_types::File;
 use std::alloc::Global;
 
@@ -46,27 +50,37 @@ fn check_head(file: File, head: &[u8], gate: u64, size: u64, next: Lsn) -> Resul
     requires low { gate < 2 ^ 62 }
     ensures bytes { (k : ℕ) → slice_index head.now k < 256 }
     ensures fits { MatchResult result (λ len. (len ≡ field 8 1 head.now) × HeadFits head.now (size - gate) next) (λ e. IsDamageOf file e × (HeadFits head.now (size - gate) next → ⊥)) }
+    ensures damage { MatchResult result (λ _. judged file (head_checks next gate (size - gate) head.now) ≡ Ok tt) (λ e. judged file (head_checks next gate (size - gate) head.now) ≡ Err e) }
 {
     let len = get_u64(head, 1);
     let room = size.saturating_sub(gate).saturating_sub(22);
-    at_most(file, gate + 1, room, len)?;
-    same(file, gate + 9, next, get_u64(head, 9))?;
+    let checks = [
+        at_most(gate + 1, room, len),
+        same(gate + 9, next, get_u64(head, 9)),
+    ];
+    judge(file, &checks)?;
     Ok(len)
 }
 
 // The count in a batch's head is that of its frames, of which there is one.
 fn check_count(file: File, head: &[u8; 21], gate: u64, count: u64) -> Result<(), StoreFault>
     requires { gate < 2 ^ 62 }
-    ensures { MatchResult result (λ _. CountFits head.now count) (λ e. IsDamageOf file e × (CountFits head.now count → ⊥)) }
+    ensures fits { MatchResult result (λ _. CountFits head.now count) (λ e. IsDamageOf file e × (CountFits head.now count → ⊥)) }
+    ensures damage { result ≡ judged file (count_checks count gate head.now) }
 {
-    same(file, gate + 17, count, get_u32(head, 17) as u64)?;
-    at_least(file, gate + 17, 1, count)
+    let checks = [
+        same(gate + 17, count, get_u32(head, 17) as u64),
+        at_least(gate + 17, 1, count),
+    ];
+    judge(file, &checks)
 }
 
 // How many frames the bytes are.
 fn count_frames(file: File, bytes: &[u8], at: u64) -> Result<u64, StoreFault>
     requires { at + length bytes.now < 2 ^ 64 }
-    ensures { MatchResult result (HasFrames bytes.now) (λ e. IsDamageOf file e × (AreFrames bytes.now → ⊥)) }
+    ensures found { MatchResult result (HasFrames bytes.now) (λ e. IsDamageOf file e × (AreFrames bytes.now → ⊥)) }
+    ensures count { IfOk result (λ n. n ≡ frames_in (length bytes.now) bytes.now) }
+    ensures damage { MatchResult result (λ _. judged file (frame_checks (length bytes.now) at bytes.now) ≡ Ok tt) (λ e. judged file (frame_checks (length bytes.now) at bytes.now) ≡ Err e) }
 {
     let mut rest = bytes;
     let mut count = 0;
@@ -114,6 +128,7 @@ fn read_batch<D: Disk>(
     requires { gate < 2 ^ 61 }
     ensures found { IsTrue D.tells → size ≡ length (content file (D.reads disk.old)) → IfOk result (FindsBatch next (drop gate (content file (D.reads disk.old)))) }
     ensures refused { IsTrue D.tells → size ≡ length (content file (D.reads disk.old)) → IfErr result (RefusesOrFails file (OpensBatch next (drop gate (content file (D.reads disk.old))))) }
+    ensures damage { IsTrue D.tells → size ≡ length (content file (D.reads disk.old)) → TellsDamage (judged file (gate_checks next gate (drop gate (content file (D.reads disk.old))))) result }
     ensures differs { IfErr result ReadDiffers }
     ensures small { IfOk result IsWholeBatch }
     ensures quiet { OnlyReads D.Disk disk.old disk.new }
@@ -161,6 +176,7 @@ fn give<V: Visitor>(
 fn open_len<D: Disk>(disk: &mut D, file: File) -> Result<u64, ReadError>
     ensures told { IsTrue D.tells → IfOk result (λ n. (n ≡ length (content file (D.reads disk.old))) × (slice_index (content file (D.reads disk.old)) 0 ≡ 1)) }
     ensures refused { IsTrue D.tells → IfErr result (RefusesOrFails file (slice_index (content file (D.reads disk.old)) 0 ≡ 1)) }
+    ensures damage { IsTrue D.tells → IfErr result (IsThisDamage (judged file (check_of 0 1 (slice_index (content file (D.reads disk.old)) 0) ∷ []))) }
     ensures differs { IfErr result ReadDiffers }
     ensures quiet { OnlyReads D.Disk disk.old disk.new }
     ensures counts { CountsAs D.Disk (Store Fault) disk.old disk.new result }
@@ -168,7 +184,7 @@ fn open_len<D: Disk>(disk: &mut D, file: File) -> Result<u64, ReadError>
     let size = disk.size(file)?;
     let mut gate = [0];
     disk.read(file, 0, &mut gate)?;
-    same(file, 0, 1, gate[0] as u64)?;
+    judge(file, &[same(0, 1, gate[0] as u64)])?;
     Ok(size)
 }
 
@@ -183,9 +199,10 @@ pub fn visit_file<D: Disk, V: Visitor>(
 ) -> Result<End, VisitError<V::E>>
     requires low { first ≤ 2 ^ 63 + 2 ^ 60 }
     ensures found { IsTrue D.tells → IfOk result (λ end. EndsLog first (content file (D.reads disk.old)) end.place end.next) }
-    ensures only { (bs : Batches) → IsTrue D.tells → HasLog first bs (content file (D.reads disk.old)) → IfOk result (λ end. end.next ≡ first + length (records bs)) }
+    ensures only { (bs : Batches) → IsTrue D.tells → HasLog first bs (content file (D.reads disk.old)) → IfOk result (λ end. (end.next ≡ first + length (records bs)) × (log_in (content file (D.reads disk.old)) ≡ records bs)) }
     ensures visits { IsTrue D.tells → Visits V.refuses (V.seen visitor.old) (V.seen visitor.new) (file_visits file first (content file (D.reads disk.old))) result }
     ensures refused { IsTrue D.tells → IfErr result (OnRead (RefusesOrFails file (HasSome first (content file (D.reads disk.old))))) }
+    ensures damage { IsTrue D.tells → VisitsDamage (file_damage file first (content file (D.reads disk.old))) result }
     ensures early { IfErr result (EndsEarly V.refuses) }
     ensures low { IfOk result (λ end. FitsFile first end.place end.next) }
     ensures quiet { OnlyReads D.Disk disk.old disk.new }

@@ -1,6 +1,6 @@
 // Reads the log that is kept: the generation that the root names, and behind it the one in the other
 // file where that goes on from it.
-ghost use Rattle.std.specs.Prelude.{◌≡◌, ◌+◌, IsTrue, ℕ, List, [], ◌++◌, length, Result, IfOk, IfErr, OnOk, Err};
+ghost use Rattle.std.specs.Prelude.{◌≡◌, ◌+◌, IsTrue, ℕ, List, [], ◌++◌, length, Result, IfOk, IfErr, OnOk, Ok, Err};
 ghost use Rattle.ctr_disk.specs.declared.fault.StoreFault.TheVariants.{Fault};
 ghost use Rattle.ctr_disk.specs.Image.{content};
 ghost use Rattle.ctr_disk.specs.Device.{OnlyReads, Counts, CountsAs};
@@ -10,11 +10,12 @@ ghost use Rattle.ctr_log.specs.declared.visitor.VisitError.TheVariants.{Read};
 ghost use Rattle.ctr_log.specs.Logs.{Batches, records, HasLog};
 ghost use Rattle.ctr_log.specs.Reading.{RefusesOrFails, ReadDiffers, HasSome, OpensLog, NamesLog, log_file};
 ghost use Rattle.ctr_log.specs.Kept.{begins_at, NamesKept, HoldsLog, RefusesKept, OpensKept, WritesBehind};
+ghost use Rattle.ctr_log.specs.LogChecks.{file_damage, kept_damage, IsThisDamage, TellsDamage, VisitsDamage};
 ghost use Rattle.ctr_log.specs.Visits.{kept_visits, Visits, StopsAt, OnRead, EndsEarly, IsToldBy};
 
 use crate::batches::visit_file;
 use crate::log::{LogFile, Lsn, next_file};
-use crate::near::find_log;
+use crate::named::find_log;
 use crate::reading::ReadError;
 use crate::visitor::{VisitError, Visitor};
 use ctr_bytes::get_u64;
@@ -34,6 +35,8 @@ pub fn read_named<D: Disk>(
     ensures found { IsTrue D.tells → IfOk result (λ r. OpensLog root.now.first (log_file root.now.file) (D.reads disk.old) r.0 r.1) }
     ensures only { (bs : Batches) → IsTrue D.tells → HasLog root.now.first bs (content (log_file root.now.file) (D.reads disk.old)) → IfOk result (λ r. r.1 ≡ records bs) }
     ensures refused { IsTrue D.tells → IfErr result (RefusesOrFails (log_file root.now.file) (HasSome root.now.first (content (log_file root.now.file) (D.reads disk.old)))) }
+    // Damage is told by the first check of the file that fails, and exactly where one fails.
+    ensures damage { IsTrue D.tells → TellsDamage (file_damage (log_file root.now.file) root.now.first (content (log_file root.now.file) (D.reads disk.old))) result }
     ensures differs { IfErr result ReadDiffers }
     ensures none { IfOk result (λ r. r.0.buffered ≡ []) }
     ensures quiet { OnlyReads D.Disk disk.old disk.new }
@@ -65,7 +68,10 @@ pub fn read_all<D: Disk, V: Visitor>(
     ensures refused { IfErr result (λ e. (cause : VisitError V.E) × IsToldBy V.E.From-1.from_gives V.E.From-2.from_gives cause e
         × (let ended : Result ℕ (VisitError V.E) = Err cause in CountsAs D.Disk (Read (Store Fault)) disk.old disk.new ended) × EndsEarly V.refuses cause
         × (IsTrue D.tells → OnRead (RefusesKept root.now.file root.now.first (D.reads disk.old)) cause)
-        × (IsTrue D.tells → StopsAt V.refuses (V.seen visitor.old) (V.seen visitor.new) (kept_visits root.now.file root.now.first (D.reads disk.old)) cause)) }
+        × (IsTrue D.tells → StopsAt V.refuses (V.seen visitor.old) (V.seen visitor.new) (kept_visits root.now.file root.now.first (D.reads disk.old)) cause)
+        × (IsTrue D.tells → OnRead (IsThisDamage (kept_damage root.now.file root.now.first (D.reads disk.old))) cause)) }
+    // Damage is told by the first check of the log that fails, and where one fails the answer isn't Ok.
+    ensures sound { IsTrue D.tells → OnOk result (kept_damage root.now.file root.now.first (D.reads disk.old) ≡ Ok tt) }
     ensures none { IfOk result (λ log. log.buffered ≡ []) }
     ensures quiet { OnlyReads D.Disk disk.old disk.new }
     ensures counts { OnOk result (D.faults_of disk.new ≡ D.faults_of disk.old) × (D.strays_of disk.new ≡ D.strays_of disk.old) }
@@ -95,6 +101,7 @@ fn read_kept<D: Disk, V: Visitor>(
         → IfOk result (λ log. WritesBehind root.now.file root.now.first log (D.reads disk.old)) }
     ensures visits { IsTrue D.tells → Visits V.refuses (V.seen visitor.old) (V.seen visitor.new) (kept_visits root.now.file root.now.first (D.reads disk.old)) result }
     ensures refused { IsTrue D.tells → IfErr result (OnRead (RefusesKept root.now.file root.now.first (D.reads disk.old))) }
+    ensures damage { IsTrue D.tells → VisitsDamage (kept_damage root.now.file root.now.first (D.reads disk.old)) result }
     ensures early { IfErr result (EndsEarly V.refuses) }
     ensures none { IfOk result (λ log. log.buffered ≡ []) }
     ensures quiet { OnlyReads D.Disk disk.old disk.new }

@@ -8,13 +8,13 @@ mod kept;
 mod laws;
 mod log;
 mod making;
-mod near;
+mod named;
 mod reading;
 mod visitor;
 
 pub use gathered::Gathered;
 pub use kept::{read_all, read_named};
-pub use laws::visits_are_the_log;
+pub use laws::{the_newer_is_kept_alone, visits_are_the_log};
 pub use log::{LogFile, Lsn};
 pub use making::{Making, init, is_first_checkpoint};
 pub use reading::ReadError;

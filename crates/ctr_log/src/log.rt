@@ -175,8 +175,26 @@ impl LogFile {
         // Only a write at the last places counts as a stray.
         ensures stray { StraysOnlyPast (D.strays_of disk.old) (D.strays_of disk.new) (self.old.place + (22 + length (frames self.old.buffered))) result }
     {
-        self.flush(disk)?;
-        self.begin(disk, first)
+        match self.flush_before(disk, first) {
+            Ok(()) => self.begin(disk, first),
+            Err(fault) => Err(fault),
+        }
+    }
+
+    // Flushes what waits, before a generation begins with this record.
+    fn flush_before<D: Disk>(&mut self, disk: &mut D, _first: &[u8]) -> Result<(), StoreFault>
+        ensures any_moment { (named oldest : ℕ) → IsSettled D.Disk disk.old → WritesBehind named oldest self.old (D.reads disk.old)
+            → LeavesOnly D.Disk disk.old disk.new (HoldsPrefix named oldest (self.old.buffered ++ _first.now ∷ []) (D.reads disk.old)) }
+        ensures kept { (named oldest : ℕ) → IsTrue D.tells → WritesBehind named oldest self.old (D.reads disk.old)
+            → OnOk result (GoesOnWith named oldest self.old.buffered self.new (D.reads disk.old) (D.reads disk.new)) }
+        ensures emptied { IsEmptied self.old self.new result }
+        ensures durable { IsDurable D.Disk disk.old → OnOk result (IsDurable D.Disk disk.new) }
+        ensures refused { OnErr result (result ≡ Err Fault) }
+        ensures later { D.moment_of disk.old ≤ D.moment_of disk.new }
+        ensures faults { HasFault Fault (D.faults_of disk.old) (D.faults_of disk.new) result }
+        ensures stray { StraysOnlyPast (D.strays_of disk.old) (D.strays_of disk.new) (self.old.place + (22 + length (frames self.old.buffered))) result }
+    {
+        self.flush(disk)
     }
 
     // The same where nothing waits.

@@ -1,88 +1,26 @@
 // Two generations, byte by byte: what is read of them, and each moment of their making.
-ghost use Rattle.std.specs.Prelude.{[], false};
-ghost use Rattle.ctr_disk.specs.Silent.{never_told};
 ghost use Rattle.ctr_log.specs.Kept.{NamesKept};
-ghost use Rattle.ctr_disk.specs.Memory.{moment_at, counted_faults, counted_strays};
 
 use crate::{Gathered, ReadError, read_all};
-use ctr_disk::{Call, Disk, Failed, Image, MemDisk, Recorded, Root, StoreFault};
+use ctr_disk::{Call, Image, MemDisk, Recorded, Root, SilentDisk, StoreFault};
 use ctr_home::{read_root, write_root};
 use ctr_types::{File, List};
 use std::alloc::{AllocError, Global};
 use std::test::Fail;
 
-// A disk in memory that doesn't tell what it holds: a call on it wants nothing of that.
-#[derive(Drop)]
-struct Still {
-    disk: MemDisk,
+fn disk_with(alloc: Global, image: Image) -> Result<SilentDisk, AllocError> {
+    Ok(SilentDisk {
+        disk: MemDisk::new(alloc, image, List::new(alloc))?,
+    })
 }
 
-impl Disk for Still {
-    ghost tells = { false };
-
-    ghost reads = { λ _. record { root = []; log_a = []; log_b = []; pages = [] } };
-
-    ghost images = { λ _ _. ⊥ };
-
-    ghost since = { λ _ _ _. ⊥ };
-
-    ghost moment_of = { λ d. moment_at d.disk };
-
-    ghost faults_of = { λ d. counted_faults d.disk };
-
-    ghost strays_of = { λ d. counted_strays d.disk };
-
-    ghost counts_now = { λ d t c le is. is };
-
-    ghost only_now = { λ d c is. is };
-
-    ghost earlier = { λ d s t c le is. is };
-
-    ghost among = { λ d told. never_told told };
-
-    fn moment(&self) -> u64 {
-        self.disk.moment()
-    }
-
-    fn faults(&self) -> u64 {
-        self.disk.faults()
-    }
-
-    fn strays(&self) -> u64 {
-        self.disk.strays()
-    }
-
-    fn size(&mut self, file: File) -> Result<u64, Failed> {
-        self.disk.size(file)
-    }
-
-    fn read(&mut self, file: File, at: u64, into: &mut [u8]) -> Result<(), Failed> {
-        self.disk.read(file, at, into)
-    }
-
-    fn write(&mut self, file: File, at: u64, bytes: &[u8]) -> Result<(), Failed> {
-        self.disk.write(file, at, bytes)
-    }
-
-    fn sync(&mut self) -> Result<(), Failed> {
-        self.disk.sync()
-    }
+// What is asked of a disk once the calls are made, of which no proof wants anything.
+fn calls_of(disk: &SilentDisk) -> &[Recorded] {
+    disk.disk.calls()
 }
 
-// What is asked of it once the calls are made, of which no proof wants anything.
-impl Still {
-    fn calls(&self) -> &[Recorded] {
-        self.disk.calls()
-    }
-
-    fn image_left(&self, count: usize, digits: u64) -> Result<Image, AllocError> {
-        self.disk.image_after(count, digits)
-    }
-}
-
-fn disk_with(alloc: Global, image: Image) -> Result<Still, AllocError> {
-    let disk = MemDisk::new(alloc, image, List::new(alloc))?;
-    Ok(Still { disk })
+fn image_left(disk: &SilentDisk, count: usize, digits: u64) -> Result<Image, AllocError> {
+    disk.disk.image_after(count, digits)
 }
 
 // A batch of the one record "a" or "b", behind its gate, with a closed gate behind it.
@@ -110,7 +48,7 @@ const ROOT: Root = Root {
 };
 
 // A disk of these logs.
-fn disk_of(alloc: Global, log: &[u8], other: &[u8]) -> Result<Still, AllocError> {
+fn disk_of(alloc: Global, log: &[u8], other: &[u8]) -> Result<SilentDisk, AllocError> {
     let mut image = Image::new(alloc);
     image.write(alloc, File::LogA, 0, log)?;
     image.write(alloc, File::LogB, 0, other)?;
@@ -145,7 +83,7 @@ fn given_at(gathered: &Gathered, index: usize) -> Given {
     Given(visit.lsn, visit.file, visit.at, byte)
 }
 
-fn kept(alloc: Global, disk: &mut Still, root: &Root) -> Result<Kept, ReadError>
+fn kept(alloc: Global, disk: &mut SilentDisk, root: &Root) -> Result<Kept, ReadError>
     requires { NamesKept root.now }
 {
     let mut gathered = Gathered::new(alloc);
@@ -258,12 +196,12 @@ fn the_log_alone_is_read(rt: HostRuntime) -> Result<(), Fail> {
     log.extend_from_slice(&[7; 1000])?;
     let mut disk = disk_of(alloc, &log, &[])?;
     assert!(rt; kept(alloc, &mut disk, &ROOT) == ONE);
-    assert!(rt; bytes_read(disk.calls()) == 1 + 21 + 9 + 21 + 17);
+    assert!(rt; bytes_read(calls_of(&disk)) == 1 + 21 + 9 + 21 + 17);
     Ok(())
 }
 
 // Begins a second generation with the record "b" behind the one that is read.
-fn start(alloc: Global, disk: &mut Still) -> Result<(), Fail> {
+fn start(alloc: Global, disk: &mut SilentDisk) -> Result<(), Fail> {
     let mut log = read_all(alloc, disk, &ROOT, &mut Gathered::new(alloc))?;
     log.forget_older();
     log.reserve(9)?;
@@ -279,9 +217,9 @@ fn kept_in(alloc: Global, image: Image) -> Result<Result<Kept, ReadError>, Alloc
 }
 
 // Whether each image after so many calls has both records, or the first alone if it isn't whole.
-fn starts(alloc: Global, disk: &Still, count: usize, whole: bool) -> Result<bool, AllocError> {
+fn starts(alloc: Global, disk: &SilentDisk, count: usize, whole: bool) -> Result<bool, AllocError> {
     for digits in 0..64 {
-        let kept = kept_in(alloc, disk.image_left(count, digits)?)?;
+        let kept = kept_in(alloc, image_left(disk, count, digits)?)?;
         if kept != BOTH && (whole || kept != ONE) {
             return Ok(false);
         }
@@ -294,7 +232,7 @@ fn starts(alloc: Global, disk: &Still, count: usize, whole: bool) -> Result<bool
 fn starts_well(alloc: Global, other: &[u8]) -> Result<bool, Fail> {
     let mut disk = disk_of(alloc, &OLDER, other)?;
     start(alloc, &mut disk)?;
-    let calls = disk.calls().len();
+    let calls = calls_of(&disk).len();
     for count in 0..calls {
         if !starts(alloc, &disk, count, false)? {
             return Ok(false);
@@ -317,7 +255,7 @@ fn each_moment_of_a_generation_that_begins(rt: HostRuntime) -> Result<(), Fail> 
 }
 
 // The same with a record "c" that waits.
-fn start_behind(alloc: Global, disk: &mut Still) -> Result<(), Fail> {
+fn start_behind(alloc: Global, disk: &mut SilentDisk) -> Result<(), Fail> {
     let mut log = read_all(alloc, disk, &ROOT, &mut Gathered::new(alloc))?;
     log.forget_older();
     log.reserve(18)?;
@@ -330,9 +268,14 @@ fn start_behind(alloc: Global, disk: &mut Still) -> Result<(), Fail> {
 
 // Whether each image after so many calls has the log of before, with the one that waited, or with both;
 // and in their order.
-fn goes_on(alloc: Global, disk: &Still, count: usize, whole: bool) -> Result<bool, AllocError> {
+fn goes_on(
+    alloc: Global,
+    disk: &SilentDisk,
+    count: usize,
+    whole: bool,
+) -> Result<bool, AllocError> {
     for digits in 0..64 {
-        let kept = kept_in(alloc, disk.image_left(count, digits)?)?;
+        let kept = kept_in(alloc, image_left(disk, count, digits)?)?;
         if kept != ALL && (whole || kept != TWO && kept != ONE) {
             return Ok(false);
         }
@@ -345,7 +288,7 @@ fn a_generation_begins_behind_what_waits(rt: HostRuntime) -> Result<(), Fail> {
     let alloc = rt.alloc();
     let mut disk = disk_of(alloc, &OLDER, &[])?;
     start_behind(alloc, &mut disk)?;
-    let calls = disk.calls().len();
+    let calls = calls_of(&disk).len();
     for count in 0..calls {
         assert!(rt; goes_on(alloc, &disk, count, false)?);
     }
@@ -376,9 +319,9 @@ fn kept_by_root(alloc: Global, image: Image) -> Result<Option<Kept>, Fail> {
 }
 
 // Whether each image after so many calls has the newer record alone, or both if it isn't whole.
-fn drops(alloc: Global, disk: &Still, count: usize, whole: bool) -> Result<bool, Fail> {
+fn drops(alloc: Global, disk: &SilentDisk, count: usize, whole: bool) -> Result<bool, Fail> {
     for digits in 0..64 {
-        let kept = kept_by_root(alloc, disk.image_left(count, digits)?)?;
+        let kept = kept_by_root(alloc, image_left(disk, count, digits)?)?;
         if kept != Some((3, [SECOND, NONE, NONE])) && (whole || kept != BOTH.ok()) {
             return Ok(false);
         }
@@ -391,9 +334,9 @@ fn each_moment_of_the_older_generation_dropped(rt: HostRuntime) -> Result<(), Fa
     let alloc = rt.alloc();
     let mut disk = disk_of(alloc, &OLDER, &newer(1, 2, 1))?;
     write_root(&mut disk, &root_named(1, 0, 1))?;
-    let first = disk.calls().len();
+    let first = calls_of(&disk).len();
     write_root(&mut disk, &root_named(2, 1, 2))?;
-    let calls = disk.calls().len();
+    let calls = calls_of(&disk).len();
     for count in first..calls {
         assert!(rt; drops(alloc, &disk, count, false)?);
     }

@@ -1,7 +1,6 @@
 // Homes that are laid by hand, and what is read of them.
 use crate::read_page;
-use crate::tests::still::Still;
-use ctr_disk::{Root, StoreFault};
+use ctr_disk::{Root, SilentDisk, StoreFault};
 use ctr_types::File;
 use std::alloc::{AllocError, Global};
 
@@ -36,7 +35,7 @@ pub fn lay(alloc: Global, homes: &[Laid]) -> Result<Vec<u8>, AllocError> {
 #[derive(Clone, Copy, PartialEq, Eq)]
 pub struct Seen(pub u64, pub u8);
 
-pub fn look(disk: &mut Still, counted: u32, page: u32) -> Result<Seen, StoreFault> {
+pub fn look(disk: &mut SilentDisk, counted: u32, page: u32) -> Result<Seen, StoreFault> {
     let mut into = [9; 4096];
     let stamp = read_page(disk, counted, page, &mut into)?;
     let filled = into == body_of(into[4095]);

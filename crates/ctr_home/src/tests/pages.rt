@@ -1,20 +1,20 @@
 // Pages: bytes by hand, and which home has the value.
+use crate::tests::disks::disk_of;
 use crate::tests::laid::{
     HOME_5, HOME_6, Laid, SHUT_8, Seen, TWO, Told, ZEROS, body_of, lay, look, told,
 };
-use crate::tests::still::{Still, disk_of};
-use crate::{Block, is_open, read_home, write_home};
-use ctr_disk::{Disk, Failed, Stamp, StoreFault};
+use crate::{Block, write_home};
+use ctr_disk::{Disk, Failed, SilentDisk, StoreFault};
 use ctr_types::File;
 use std::alloc::{AllocError, Global};
 use std::test::Fail;
 
-fn write_page(disk: &mut Still, page: u32) -> Result<(), StoreFault> {
+fn write_page(disk: &mut SilentDisk, page: u32) -> Result<(), StoreFault> {
     let stamp = 0x0102_0304_0506_0708;
     write_home(disk, Block::Page(page), stamp, &body_of(0x50))
 }
 
-fn bytes_at(disk: &mut Still, at: u64) -> Result<[u8; 16], Failed> {
+fn bytes_at(disk: &mut SilentDisk, at: u64) -> Result<[u8; 16], Failed> {
     let mut bytes = [9; 16];
     disk.read(File::Pages, at, &mut bytes)?;
     Ok(bytes)
@@ -22,7 +22,7 @@ fn bytes_at(disk: &mut Still, at: u64) -> Result<[u8; 16], Failed> {
 
 // 16 bytes at a place of four pages after one was written: gate, number, stamp, three of the body.
 fn bytes_of(alloc: Global, page: u32, at: u64) -> Result<[u8; 16], Fail> {
-    let mut disk = disk_of(alloc, &[], &lay(alloc, &[ZEROS; 8])?, 0)?;
+    let mut disk = disk_of(alloc, &[], &lay(alloc, &[ZEROS; 8])?)?;
     write_page(&mut disk, page)?;
     Ok(bytes_at(&mut disk, at)?)
 }
@@ -70,7 +70,7 @@ const VALUES: [Value; 14] = [
 fn look_homes(alloc: Global, row: &Value) -> Result<Result<Seen, Told>, AllocError> {
     let mut pages = lay(alloc, &[ZEROS, ZEROS, row.1, row.2])?;
     pages.truncate(row.3);
-    let mut disk = disk_of(alloc, &[], &pages, 0)?;
+    let mut disk = disk_of(alloc, &[], &pages)?;
     Ok(look(&mut disk, row.0, 1).map_err(told))
 }
 
@@ -79,21 +79,5 @@ fn the_value_of_a_page(rt: HostRuntime) -> Result<(), Fail> {
     for row in &VALUES {
         assert!(rt; look_homes(rt.alloc(), row)? == row.4);
     }
-    Ok(())
-}
-
-// The stamp and the byte behind the first of page 1 whose first home is this one, and if one is open.
-fn block_in(alloc: Global, home: Laid) -> Result<(Option<Stamp>, u8, bool), Fail> {
-    let pages = lay(alloc, &[ZEROS, ZEROS, home, ZEROS])?;
-    let mut disk = disk_of(alloc, &[], &pages, 0)?;
-    let mut into = [9; 4096];
-    let stamp = read_home(&mut disk, Block::Page(1), &mut into)?;
-    Ok((stamp, into[1], is_open(&mut disk, Block::Page(1))?))
-}
-
-#[test]
-fn a_block_by_itself(rt: HostRuntime) -> Result<(), Fail> {
-    assert!(rt; block_in(rt.alloc(), HOME_5)? == (Some(5), 0x50, true));
-    assert!(rt; block_in(rt.alloc(), SHUT_8)? == (None, 0, false));
     Ok(())
 }

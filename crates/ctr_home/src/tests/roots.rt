@@ -1,8 +1,8 @@
 // The root: each check, its bytes, its bounds, and both forms of it.
+use crate::tests::disks::disk_of;
 use crate::tests::laid::{HOME_7, HOME_9, ROOT_7, ROOT_9, Told, altered, lay_roots, told};
-use crate::tests::still::{Still, disk_of};
 use crate::{read_root, read_thin_root, write_root};
-use ctr_disk::{Disk, Root};
+use ctr_disk::{Disk, Root, SilentDisk};
 use ctr_types::File;
 use std::alloc::{AllocError, Global};
 use std::test::Fail;
@@ -26,7 +26,7 @@ const CHECKS: [Row; 9] = [
 // What is told of the root in the first home, or in the second of a file whose first is closed.
 fn root_in(alloc: Global, second: bool, home: [u8; 64]) -> Result<Option<Told>, AllocError> {
     let file = lay_roots(alloc, &[(0, HOME_9), (1, home)])?;
-    let mut disk = disk_of(alloc, if second { &file } else { &home }, &[], 0)?;
+    let mut disk = disk_of(alloc, if second { &file } else { &home }, &[])?;
     Ok(read_root(&mut disk).err().map(told))
 }
 
@@ -104,12 +104,12 @@ const ACTS: [Act; 14] = [
     Act::Paged(Ok(Some(MOST))),
 ];
 
-fn has_bytes(disk: &mut Still, at: u64, home: &[u8; 64]) -> bool {
+fn has_bytes(disk: &mut SilentDisk, at: u64, home: &[u8; 64]) -> bool {
     let mut bytes = [9; 64];
     disk.read(File::Root, at, &mut bytes).is_ok() && bytes == *home
 }
 
-fn goes(disk: &mut Still, act: &Act) -> bool {
+fn goes(disk: &mut SilentDisk, act: &Act) -> bool {
     match act {
         Act::Write(root) => write_root(disk, root).is_ok(),
         Act::Thin(answer) => read_thin_root(disk).map_err(told) == *answer,
@@ -120,7 +120,7 @@ fn goes(disk: &mut Still, act: &Act) -> bool {
 
 #[test]
 fn roots_that_are_written_and_read(rt: HostRuntime) -> Result<(), Fail> {
-    let mut disk = disk_of(rt.alloc(), &[7; 128], &[], 0)?;
+    let mut disk = disk_of(rt.alloc(), &[7; 128], &[])?;
     for act in &ACTS {
         assert!(rt; goes(&mut disk, act));
     }

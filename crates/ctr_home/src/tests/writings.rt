@@ -1,11 +1,11 @@
-// Each moment of a writing, and each call of it failing.
+// Each moment of a writing.
+use crate::tests::disks::{calls_of, disk_of, disk_with, image_left};
 use crate::tests::laid::{
     HOME_5, HOME_6, HOME_7, HOME_9, Laid, ROOT_7, ROOT_9, ROOT_10, SHUT_8, Seen, TWO, WHOLE, ZEROS,
     body_of, lay, lay_roots, look,
 };
-use crate::tests::still::{Still, disk_of, disk_with};
 use crate::{Block, read_root, write_home, write_root};
-use ctr_disk::{Call, Image, Recorded, Root, StoreFault};
+use ctr_disk::{Call, Image, Recorded, Root, SilentDisk, StoreFault};
 use std::alloc::{AllocError, Global};
 use std::test::Fail;
 
@@ -14,7 +14,7 @@ fn is_one_of_these(root: &Root) -> bool {
 }
 
 // What is read of three pages: the root by its stamp, if it is one of these, and the pages.
-fn state_of(disk: &mut Still) -> Result<[Seen; 4], StoreFault> {
+fn state_of(disk: &mut SilentDisk) -> Result<[Seen; 4], StoreFault> {
     let root = match read_root(disk)? {
         Some(root) => Seen(root.stamp, if is_one_of_these(&root) { 0 } else { 1 }),
         None => Seen(0, 0),
@@ -27,7 +27,7 @@ fn state_of(disk: &mut Still) -> Result<[Seen; 4], StoreFault> {
 }
 
 fn state_with(alloc: Global, image: Image) -> Result<[Seen; 4], Fail> {
-    let mut disk = disk_with(alloc, image, 0)?;
+    let mut disk = disk_with(alloc, image)?;
     Ok(state_of(&mut disk)?)
 }
 
@@ -75,7 +75,7 @@ const WRITINGS: [Writing; 13] = [
 const DIGITS: u64 = 9;
 
 impl Writing {
-    fn disk(&self, alloc: Global, fails: u64) -> Result<Still, AllocError> {
+    fn disk(&self, alloc: Global) -> Result<SilentDisk, AllocError> {
         let Writing(block, first, second, end, _, _, _) = *self;
         let [before, behind] = [Laid(1, 0, 3, 0x30), Laid(1, 2, 4, 0x40)];
         let mut root = lay_roots(alloc, &[(first.0, HOME_7), (second.0, HOME_9)])?;
@@ -83,10 +83,10 @@ impl Writing {
         if block == Block::Root {
             root.truncate(end);
             pages.truncate(8256);
-            disk_of(alloc, &root, &pages, fails)
+            disk_of(alloc, &root, &pages)
         } else {
             pages.truncate(end);
-            disk_of(alloc, &HOME_7, &pages, fails)
+            disk_of(alloc, &HOME_7, &pages)
         }
     }
 
@@ -113,7 +113,7 @@ impl Writing {
         [Some((at, 1, 0)), None, rest, None, Some((at, 1, 1)), None]
     }
 
-    fn make(&self, disk: &mut Still) -> Result<(), StoreFault> {
+    fn make(&self, disk: &mut SilentDisk) -> Result<(), StoreFault> {
         match self.0 {
             Block::Page(_) => write_home(disk, self.0, 9, &body_of(0x90)),
             Block::Root => write_root(disk, &ROOT_10),
@@ -130,9 +130,15 @@ impl Writing {
     }
 
     // Whether each image after so many calls says the new value, or the old one if it isn't whole.
-    fn leaves(&self, alloc: Global, disk: &Still, count: usize, whole: bool) -> Result<bool, Fail> {
+    fn leaves(
+        &self,
+        alloc: Global,
+        disk: &SilentDisk,
+        count: usize,
+        whole: bool,
+    ) -> Result<bool, Fail> {
         for digits in 0..DIGITS {
-            if !self.is_left(alloc, disk.image_left(count, digits)?, whole)? {
+            if !self.is_left(alloc, image_left(disk, count, digits)?, whole)? {
                 return Ok(false);
             }
         }
@@ -140,32 +146,19 @@ impl Writing {
     }
 
     // Whether each moment leaves the one or the other, and the last the new one.
-    fn leaves_each(&self, alloc: Global, disk: &Still) -> Result<bool, Fail> {
-        for count in 0..disk.calls().len() {
+    fn leaves_each(&self, alloc: Global, disk: &SilentDisk) -> Result<bool, Fail> {
+        for count in 0..calls_of(disk).len() {
             if !self.leaves(alloc, disk, count, false)? {
                 return Ok(false);
             }
         }
-        self.leaves(alloc, disk, disk.calls().len(), true)
+        self.leaves(alloc, disk, calls_of(disk).len(), true)
     }
 
     fn goes_well(&self, alloc: Global) -> Result<(bool, Vec<Step>), Fail> {
-        let mut disk = self.disk(alloc, 0)?;
+        let mut disk = self.disk(alloc)?;
         let well = self.make(&mut disk).is_ok() && self.leaves_each(alloc, &disk)?;
-        Ok((well, steps_of(alloc, disk.calls())?))
-    }
-
-    // Whether it ends at the call of this number, which fails, or before it.
-    fn ends_well(&self, alloc: Global, fails: u64) -> Result<bool, Fail> {
-        let mut disk = self.disk(alloc, fails)?;
-        let done = self.make(&mut disk);
-        let calls = disk.calls().len();
-        let ends = match done {
-            Ok(()) => (calls as u64) < fails,
-            Err(fault) => calls as u64 == fails && fault == StoreFault::Fault,
-        };
-        let now = self.is_left(alloc, disk.image()?, done.is_ok())?;
-        Ok(ends && now && self.leaves(alloc, &disk, calls, done.is_ok())?)
+        Ok((well, steps_of(alloc, calls_of(&disk))?))
     }
 }
 
@@ -177,17 +170,6 @@ fn each_moment_of_a_writing(rt: HostRuntime) -> Result<(), Fail> {
         assert!(rt; well);
         let skipped = if writing.6 { 0 } else { 2 };
         assert!(rt; steps.as_slice() == &writing.steps()[skipped..]);
-    }
-    Ok(())
-}
-
-// A call that fails is the last, and leaves the one or the other.
-#[test]
-fn each_call_of_a_writing_failing(rt: HostRuntime) -> Result<(), Fail> {
-    for writing in &WRITINGS {
-        for fails in 1..=12u64 {
-            assert!(rt; writing.ends_well(rt.alloc(), fails)?);
-        }
     }
     Ok(())
 }

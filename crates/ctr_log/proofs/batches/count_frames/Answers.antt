@@ -1,15 +1,16 @@
-use Rattle.std.proofs.Common.{◌≡◌, ◌∙◌, ◌<◌, ◌+◌, ◌∷◌, [], ◌++◌, ◌^◌, length, ap, sym, arith, length-append}
+use Rattle.std.proofs.Common.{◌≡◌, ◌∙◌, ◌<◌, ◌≤◌, ◌+◌, ◌∷◌, [], ◌++◌, ◌^◌, length, ap, sym, arith, length-append}
 use Rattle.std.proofs.lemmas.Result.{err_from_is_err_and}
 use Rattle.std.proofs.lemmas.Bool.Decides.{nat_tests}
 use Rattle.ctr_log.specs.Logs.{frame, frames}
 use Rattle.ctr_log.proofs.LogLemmas.{length-frame, length-push}
 use Rattle.ctr_log.proofs.ReadLemmas.{first_frame, frame_same, frames_more}
+use Rattle.ctr_log.proofs.DamageLaws.{left_less, left_fails, left_counts, left_passes}
 use Rattle.ctr_log.proofs.batches.count_frames.Goals as goal
 
-pub returns-in_err-behind : goal.returns-in_err-behind
-returns-in_err-behind c =
+pub returns-in_err-behind-clause-found : goal.returns-in_err-behind-clause-found
+returns-in_err-behind-clause-found c =
     let p = err_from_is_err_and c.from_residual.result c.from_residual.ensures.1 in
-    let fails = c.in_err-behind.ensures in
+    let fails = c.in_err-behind.ensures.found in
     let empty = c.is_empty.ensures in
     let test = c.loop-rest-test.true in
     let some : 0 < length c.loop-rest.rest.now = grind (arith, nat_tests) in
@@ -19,7 +20,7 @@ pub loop-rest-smaller : goal.loop-rest-smaller
 loop-rest-smaller c =
     let record_ = c.in_ok-behind.field-0-0.now in
     let behind = c.in_ok-behind.behind.now in
-    let read : c.loop-rest.rest.now ≡ frame record_ ++ behind = c.in_ok-behind.ensures in
+    let read : c.loop-rest.rest.now ≡ frame record_ ++ behind = c.in_ok-behind.ensures.found in
     let long : length c.loop-rest.rest.now ≡ length (frame record_) + length behind = ap length read ∙ length-append (frame record_) behind in
     let one = length-frame record_ in
     omega arith
@@ -30,7 +31,7 @@ loop-rest-preserved c =
     let record_ = c.in_ok-behind.field-0-0.now in
     let behind = c.in_ok-behind.behind.now in
     let done = c.loop-rest.invariant.done in
-    let read : rest ≡ frame record_ ++ behind = c.in_ok-behind.ensures in
+    let read : rest ≡ frame record_ ++ behind = c.in_ok-behind.ensures.found in
     let long : length rest ≡ length (frame record_) + length behind = ap length read ∙ length-append (frame record_) behind in
     let one = length-frame record_ in
     let some : 0 < length rest = omega arith in
@@ -41,4 +42,25 @@ loop-rest-preserved c =
       done = (done.0 ++ record_ ∷ [], frames_more done.0 c.args.bytes.now rest record_ behind done.1 read, omega (arith, count, length-push done.0 record_));
       left = λ all. let left = c.loop-rest.invariant.left all in let first = first_frame left.0 rest left.1 some in (first.1, (frame_same record_ behind first.0 (frames first.1) (sym read ∙ first.2) fits).1);
       few = omega arith;
+      checks = left_less c.args.file c.args.at c.args.bytes.now rest c.loop-rest.count c.loop-rest.invariant.checks some record_ behind read (omega arith) (omega (arith, long, one)) c.in_ok-behind.ensures.damage;
     }
+
+pub returns-in_err-behind-clause-damage : goal.returns-in_err-behind-clause-damage
+returns-in_err-behind-clause-damage c =
+    let p = err_from_is_err_and c.from_residual.result c.from_residual.ensures.1 in
+    let empty = c.is_empty.ensures in
+    let test = c.loop-rest-test.true in
+    let some : 0 < length c.loop-rest.rest.now = grind (arith, nat_tests) in
+    rw (p.1, p.2) (left_fails c.args.file c.args.at c.args.bytes.now c.loop-rest.rest.now c.loop-rest.count c.loop-rest.invariant.checks some c.in_err-behind.field-0.0 c.in_err-behind.ensures.damage)
+
+pub returns-clause-count : goal.returns-clause-count
+returns-clause-count c =
+    let empty = c.is_empty.ensures in
+    let none : length c.loop-rest.rest.now ≤ 0 = grind (arith, nat_tests) in
+    left_counts c.args.file c.args.at c.args.bytes.now c.loop-rest.rest.now c.loop-rest.count c.loop-rest.invariant.checks none
+
+pub returns-clause-damage : goal.returns-clause-damage
+returns-clause-damage c =
+    let empty = c.is_empty.ensures in
+    let none : length c.loop-rest.rest.now ≤ 0 = grind (arith, nat_tests) in
+    left_passes c.args.file c.args.at c.args.bytes.now c.loop-rest.rest.now c.loop-rest.count c.loop-rest.invariant.checks none

@@ -1,4 +1,4 @@
-use Rattle.std.proofs.Common.{◌≡◌, ◌∙◌, ◌+◌, ◌++◌, [], ◌^◌, ◌<◌, ℕ, List, length, drop, get_or, ap, subst, sym, refl, arith, append_assoc}
+use Rattle.std.proofs.Common.{◌≡◌, ◌∙◌, ◌+◌, ◌++◌, [], ◌∷◌, ◌^◌, ◌<◌, ℕ, List, length, drop, get_or, ap, subst, sym, refl, arith, append_assoc, Ok}
 use Rattle.std.proofs.lemmas.List.{append-nil}
 use Rattle.std.proofs.lemmas.Result.{err_from_is_err_and}
 use Rattle.ctr_disk.specs.Image.{content}
@@ -9,9 +9,12 @@ use Rattle.ctr_log.specs.Reading.{HasSome, HasFrames, RefusesOrFails}
 use Rattle.ctr_log.specs.Batch.{FindsBatch, OpensBatch, IsRead, IsWholeBatch}
 use Rattle.ctr_log.specs.Visits.{frame_visits, file_visits, RefusesOne}
 use Rattle.ctr_log.specs.declared.visitor.Visit.{Visit}
+use Rattle.ctr_home.specs.Checks.{check_of, judged}
+use Rattle.ctr_log.specs.LogChecks.{log_checks, gate_checks, file_damage, IsThisDamage}
 use Rattle.ctr_log.proofs.ReadLemmas.{first_gate}
+use Rattle.ctr_log.proofs.DamageLaws.{judged-front, this_more}
 use Rattle.ctr_log.proofs.VisitLemmas.{part_none, part_given, ok_isnt}
-use Rattle.ctr_log.proofs.BatchLemmas.{so_far_start, so_far_more, so_far_all, so_far_end, so_far_only, so_far_opens, fails_more, no_batch, refused_there, few_more, low_more, place_low, next_low}
+use Rattle.ctr_log.proofs.BatchLemmas.{so_far_start, so_far_more, so_far_all, so_far_end, so_far_only, so_far_records, so_far_passes, so_far_tells, so_far_opens, fails_more, no_batch, refused_there, few_more, low_more, place_low, next_low}
 use Rattle.ctr_log.proofs.batches.visit_file.Goals as goal
 
 pub returns-in_err-size-clause-visits : goal.returns-in_err-size-clause-visits
@@ -78,7 +81,38 @@ returns-in_default-clause-only g c bs told log =
     let next = c.loop-gate.next in
     let finds : FindsBatch next (drop gate bytes) c.in_ok-batch.field-0 = subst (λ (l : List ℕ). FindsBatch next (drop gate l) c.in_ok-batch.field-0) same (c.in_ok-batch.ensures.found told (size ∙ sym (ap length same))) in
     let shut = no_batch next (drop gate bytes) c.in_ok-batch.field-0 (λ b is. c.in_default.not-Some b is) finds in
-    so_far_only c.args.file c.args.first bytes gate next t.0 t.1 shut bs log
+    (so_far_only c.args.file c.args.first bytes gate next t.0 t.1 shut bs log, so_far_records c.args.file c.args.first bytes gate next t.0 t.1 shut (c.loop-gate.invariant.opened told) c.loop-gate.invariant.low (omega arith) bs log)
+
+pub returns-in_err-size-clause-damage : goal.returns-in_err-size-clause-damage
+returns-in_err-size-clause-damage g c told =
+    let p = err_from_is_err_and c.from_residual.result c.from_residual.ensures.1 in
+    let bytes = content c.args.file (g.D.Disk.reads c.args.disk.now) in
+    let gate = check_of 0 1 (get_or bytes 0 0) in
+    rw (p.1, p.2) (this_more (judged c.args.file (gate ∷ [])) (file_damage c.args.file c.args.first bytes) (λ e is. judged-front c.args.file (gate ∷ []) (log_checks c.args.first 0 (length bytes) bytes) e is) c.in_err-size.field-0.0 (c.in_err-size.ensures.damage told))
+
+pub returns-in_err-batch-clause-damage : goal.returns-in_err-batch-clause-damage
+returns-in_err-batch-clause-damage g c told =
+    let p = err_from_is_err_and c.from_residual-in_err-batch.result c.from_residual-in_err-batch.ensures.1 in
+    let bytes = content c.args.file (g.D.Disk.reads c.args.disk.now) in
+    let here = content c.args.file (g.D.Disk.reads c.loop-gate.disk) in
+    let same : here ≡ bytes = ap (content c.args.file) c.loop-gate.invariant.quiet.same in
+    let size = c.loop-gate.invariant.size told in
+    let t = c.loop-gate.invariant.told told in
+    rw (p.1, p.2) (so_far_tells c.args.file c.args.first bytes c.loop-gate.gate c.loop-gate.next t.0 t.1 c.in_err-batch.field-0.0
+    (subst (λ (l : List ℕ). IsThisDamage (judged c.args.file (gate_checks c.loop-gate.next c.loop-gate.gate (drop c.loop-gate.gate l))) c.in_err-batch.field-0.0) same (c.in_err-batch.ensures.damage told (size ∙ sym (ap length same)))))
+
+pub returns-in_default-clause-damage : goal.returns-in_default-clause-damage
+returns-in_default-clause-damage g c told =
+    let bytes = content c.args.file (g.D.Disk.reads c.args.disk.now) in
+    let here = content c.args.file (g.D.Disk.reads c.loop-gate.disk) in
+    let same : here ≡ bytes = ap (content c.args.file) c.loop-gate.invariant.quiet.same in
+    let size = c.loop-gate.invariant.size told in
+    let t = c.loop-gate.invariant.told told in
+    let gate = c.loop-gate.gate in
+    let next = c.loop-gate.next in
+    let finds : FindsBatch next (drop gate bytes) c.in_ok-batch.field-0 = subst (λ (l : List ℕ). FindsBatch next (drop gate l) c.in_ok-batch.field-0) same (c.in_ok-batch.ensures.found told (size ∙ sym (ap length same))) in
+    let shut = no_batch next (drop gate bytes) c.in_ok-batch.field-0 (λ b is. c.in_default.not-Some b is) finds in
+    so_far_passes c.args.file c.args.first bytes gate next t.0 t.1 shut
 
 pub returns-in-Err-clause-visits : goal.returns-in-Err-clause-visits
 returns-in-Err-clause-visits g c told =
@@ -94,7 +128,8 @@ returns-in-Err-clause-visits g c told =
     let b = c.in-Some.batch in
     let read : IsRead next (drop gate bytes) b = subst (FindsBatch next (drop gate bytes)) c.in-Some.is finds in
     let front = c.deref.ensures.value in
-    let more = so_far_more c.args.file c.args.first bytes gate next t.0 t.1 b read few (omega arith) (gate + (21 + length b.frames.items)) (next + b.count) refl refl in
+    let passed : judged c.args.file (gate_checks next gate (drop gate bytes)) ≡ Ok tt = subst (λ (l : List ℕ). judged c.args.file (gate_checks next gate (drop gate l)) ≡ Ok tt) same (c.in_ok-batch.ensures.damage told (size ∙ sym (ap length same))) in
+    let more = so_far_more c.args.file c.args.first bytes gate next t.0 t.1 b read few (omega arith) passed (gate + (21 + length b.frames.items)) (next + b.count) refl refl in
     let one = subst (λ (l : List ℕ). RefusesOne g.V.Visitor.refuses (g.V.Visitor.seen c.loop-gate.visitor) (g.V.Visitor.seen c.give.new.visitor) (frame_visits c.args.file next (gate + 21) b.count l) c.in-Err.error) front c.in-Err.ensures in
     refused_there g.V.Visitor.refuses (g.V.Visitor.seen c.args.visitor.now) (g.V.Visitor.seen c.loop-gate.visitor) (g.V.Visitor.seen c.give.new.visitor) t.0 (frame_visits c.args.file next (gate + 21) b.count b.frames.items) _ _ c.in-Err.error t.2 more.visits_are one
 
@@ -131,9 +166,10 @@ loop-gate-preserved g c =
           let finds : FindsBatch next (drop gate bytes) c.in_ok-batch.field-0 = subst (λ (l : List ℕ). FindsBatch next (drop gate l) c.in_ok-batch.field-0) same (c.in_ok-batch.ensures.found told (size ∙ sym (ap length same))) in
           let few : length bytes < 2 ^ 64 = omega (arith, size) in
           let read : IsRead next (drop gate bytes) b = subst (FindsBatch next (drop gate bytes)) c.in-Some.is finds in
+          let passed : judged c.args.file (gate_checks next gate (drop gate bytes)) ≡ Ok tt = subst (λ (l : List ℕ). judged c.args.file (gate_checks next gate (drop gate l)) ≡ Ok tt) same (c.in_ok-batch.ensures.damage told (size ∙ sym (ap length same))) in
           let more = frame_visits c.args.file next (gate + 21) b.count b.frames.items in (
             t.0 ++ more,
-            so_far_more c.args.file c.args.first bytes gate next t.0 t.1 b read few (omega arith) (gate + (21 + c.len.result)) (next + b.count) (ap (λ (n : ℕ). gate + (21 + n)) long) refl,
+            so_far_more c.args.file c.args.first bytes gate next t.0 t.1 b read few (omega arith) passed (gate + (21 + c.len.result)) (next + b.count) (ap (λ (n : ℕ). gate + (21 + n)) long) refl,
             c.in_default-give.ensures ∙ ap (λ (l : List ℕ). seen c.loop-gate.visitor ++ frame_visits c.args.file next (gate + 21) b.count l) c.deref.ensures.value ∙ ap (λ (l : List Visit). l ++ more) t.2
                 ∙ append_assoc (seen c.args.visitor.now) t.0 more,
           );

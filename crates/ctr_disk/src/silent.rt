@@ -1,19 +1,19 @@
-// A disk in memory that tells nothing, for tests.
+// A disk in memory that tells nothing.
 ghost use Rattle.std.specs.Prelude.{[], false};
 ghost use Rattle.ctr_disk.specs.Silent.{never_told};
 ghost use Rattle.ctr_disk.specs.Memory.{moment_at, counted_faults, counted_strays};
 
-use ctr_disk::{Disk, Failed, Image, MemDisk, Recorded};
-use ctr_types::{File, List};
-use std::alloc::{AllocError, Global};
+use crate::{Disk, Failed, MemDisk};
+use ctr_types::File;
 
-// A disk in memory that doesn't tell what it holds: a call on it wants nothing of that.
+/// A disk in memory that doesn't tell what it holds, for tests: a proof that calls it wants nothing of
+/// its content. What it holds and which calls it had is asked of the disk within.
 #[derive(Drop)]
-pub struct Still {
-    disk: MemDisk,
+pub struct SilentDisk {
+    pub disk: MemDisk,
 }
 
-impl Disk for Still {
+impl Disk for SilentDisk {
     ghost tells = { false };
 
     ghost reads = { λ _. record { root = []; log_a = []; log_b = []; pages = [] } };
@@ -63,32 +63,4 @@ impl Disk for Still {
     fn sync(&mut self) -> Result<(), Failed> {
         self.disk.sync()
     }
-}
-
-// What is asked of it once the calls are made, of which no proof wants anything.
-impl Still {
-    pub fn calls(&self) -> &[Recorded] {
-        self.disk.calls()
-    }
-
-    pub fn image(&self) -> Result<Image, AllocError> {
-        self.disk.image_now().copy()
-    }
-
-    pub fn image_left(&self, count: usize, digits: u64) -> Result<Image, AllocError> {
-        self.disk.image_after(count, digits)
-    }
-}
-
-// A disk of an image, of which the call of this number fails; none at 0.
-pub fn disk_with(alloc: Global, image: Image, fails: u64) -> Result<Still, AllocError> {
-    let disk = MemDisk::new(alloc, image, List::from_vec([fails].to_vec(alloc)?))?;
-    Ok(Still { disk })
-}
-
-pub fn disk_of(alloc: Global, root: &[u8], pages: &[u8], fails: u64) -> Result<Still, AllocError> {
-    let mut image = Image::new(alloc);
-    image.write(alloc, File::Root, 0, root)?;
-    image.write(alloc, File::Pages, 0, pages)?;
-    disk_with(alloc, image, fails)
 }
