@@ -1,3 +1,4 @@
 pub mod PageLaws
 pub mod StateLaws
 pub mod Generations
+pub mod ImageLaws

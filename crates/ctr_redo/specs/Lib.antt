@@ -1,2 +1,3 @@
 pub mod Overlaid
 pub mod States
+pub mod Images
