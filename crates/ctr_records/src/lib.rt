@@ -13,7 +13,7 @@ mod table;
 pub use decoding::{BadRecord, decode};
 pub use encoding::{bytes_tell, encode, one_form};
 pub use lists::{encode_checkpoint, one_list};
-pub use record::{Form, Overlay, PageNo, Parts, Record, SlogItem};
+pub use record::{Form, Overlay, PageNo, Parts, Record, SlogItem, to_form};
 pub use span::Bytes;
 pub use table::{Field, Layout, Tag};
 
