@@ -1,5 +1,5 @@
 -- A page of a sound image is read without damage.
-use Rattle.std.proofs.Common.{◌≡◌, ⊎_elim, ℕ, ◌<◌, ◌≤◌, ◌+◌, [], ◌∷◌, Result, Ok, Err, Option, Some, refl, sym, ◌∙◌, ap, subst}
+use Rattle.std.proofs.Common.{◌≡◌, ⊎_elim, ℕ, ◌≤◌, ◌+◌, [], ◌∷◌, Result, Ok, Err, refl, sym}
 use Rattle.std.specs.Prelude.{IfErr, OnErr}
 use Rattle.std.proofs.lemmas.Bool.{cases_lt}
 use Rattle.std.proofs.lemmas.Bool.Decides.{eqb_tells}
@@ -9,9 +9,9 @@ use Rattle.ctr_disk.specs.declared.fault.Root.{Root}
 use Rattle.ctr_disk.specs.declared.fault.StoreFault.{StoreFault}
 use Rattle.ctr_disk.specs.declared.fault.StoreFault.TheVariants.{Fault, Damaged}
 use Rattle.ctr_home.specs.declared.block.Block.TheVariants.{Page}
-use Rattle.ctr_home.specs.Blocks.{BlockValue, file_of, value_place, value_of}
+use Rattle.ctr_home.specs.Blocks.{file_of, value_place}
 use Rattle.ctr_home.specs.Checks.{check_of, judged}
-use Rattle.ctr_home.specs.Reading.{number_check, IsMisnumbered, IsFaultOr}
+use Rattle.ctr_home.specs.Reading.{IsMisnumbered, IsFaultOr}
 use Rattle.ctr_redo.specs.Images.{IsSound}
 
 passes : (file : File) (at want got : ℕ) (e : StoreFault) → got ≡ want → judged file (check_of at want got ∷ []) ≡ Err e → ⊥

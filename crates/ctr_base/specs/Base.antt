@@ -1,6 +1,5 @@
 -- The log and the homes below a pool, on which nothing is pending, and how they change.
 use Rattle.std.specs.Prelude.{◌≡◌, ◌≢◌, ◌⊎◌, ℕ, ◌+◌, ◌<◌, ◌≤◌, List, length, take, drop}
-use Rattle.ctr_disk.specs.declared.disk.Image.{Image}
 use Rattle.ctr_disk.specs.declared.disk.Disk.{Ghosts}
 use Rattle.ctr_disk.specs.Device.{LeavesOnly, IsDurable}
 use Rattle.ctr_log.specs.Kept.{WritesBehind}

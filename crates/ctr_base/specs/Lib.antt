@@ -1,2 +1,3 @@
 pub mod Base
 pub mod BaseLaws
+pub mod Opening

@@ -5,5 +5,7 @@
 
 mod backed;
 mod base;
+mod opening;
 
 pub use base::Base;
+pub use opening::{Found, OpenError};

@@ -1,5 +1,5 @@
 -- Two generations of the log: a checkpoint changes nothing, and the older one can be dropped where its records are home.
-use Rattle.std.proofs.Common.{◌≡◌, ⊎_elim, ℕ, ◌+◌, ◌-◌, ◌≤◌, List, [], ◌∷◌, ◌++◌, length, take, refl, sym, ◌∙◌, ap, subst, arith}
+use Rattle.std.proofs.Common.{◌≡◌, ⊎_elim, ℕ, ◌+◌, ◌-◌, ◌≤◌, List, [], ◌∷◌, ◌++◌, length, take, refl, sym, ◌∙◌, ap, arith}
 use Rattle.std.proofs.Math.Seq.{take-append-add}
 use Rattle.std.proofs.lemmas.List.Sums.{fold-append}
 use Rattle.ctr_pool.specs.Pages.{PageHeld}
@@ -7,7 +7,7 @@ use Rattle.ctr_meta.specs.Tables.{Tables, no_tables}
 use Rattle.ctr_meta.specs.Effects.{effect, listed, tables_of}
 use Rattle.ctr_records.specs.declared.record.Record.{Record}
 use Rattle.ctr_records.specs.declared.record.Record.TheVariants.{Checkpoint}
-use Rattle.ctr_redo.specs.Overlaid.{touches, overlaid, with_record}
+use Rattle.ctr_redo.specs.Overlaid.{overlaid, with_record}
 use Rattle.ctr_redo.specs.States.{page_limit, State, Stored, pages_of, state_of, pages_after, step, without_older, AreHome}
 use Rattle.ctr_redo.proofs.PageLaws.{overlaid-append, no_lower, none_new, stays_out, in_or_out, GoesIn, StaysOut}
 use Rattle.ctr_redo.proofs.StateLaws.{pages_same}

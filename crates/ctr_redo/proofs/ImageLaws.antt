@@ -1,6 +1,6 @@
 -- What calls of the log and of the homes leave folds to the same state, or to one with more records.
-use Rattle.std.proofs.Common.{◌≡◌, ◌≢◌, ◌⊎◌, inl, inr, ⊎_elim, ℕ, zero, suc, ◌+◌, ◌<◌, ◌≤◌, ◌*◌, Bool, true, false, nat_lt, if◌then◌else◌, List, [], ◌∷◌, ◌++◌, length, take, map, Option, Some, None, refl, sym, ◌∙◌, ap, subst, arith, length-append}
-use Rattle.std.proofs.lemmas.List.{append-nil, map-append, take-map, length-map}
+use Rattle.std.proofs.Common.{◌≡◌, ◌≢◌, inl, inr, ⊎_elim, ℕ, zero, suc, ◌+◌, ◌<◌, ◌≤◌, ◌*◌, Bool, nat_lt, if◌then◌else◌, List, ◌++◌, length, take, Option, Some, sym, ◌∙◌, ap, subst, arith, length-append}
+use Rattle.std.proofs.lemmas.List.{map-append, take-map}
 use Rattle.std.proofs.lemmas.Bool.{lt-ltb}
 use Rattle.std.proofs.lemmas.Bool.Decides.{eqb_tells}
 use Rattle.ctr_types.specs.declared.file.File.{File}
@@ -11,18 +11,17 @@ use Rattle.ctr_disk.specs.Image.{content, OtherFilesStay}
 use Rattle.ctr_home.specs.declared.block.Block.{Block}
 use Rattle.ctr_home.specs.declared.block.Block.TheVariants.{Page, Root as RootBlock}
 use Rattle.ctr_home.specs.declared.root.Form.TheVariants.{Paged}
-use Rattle.ctr_home.specs.Blocks.{BlockValue, value_of, page_at_home, page_with, blank_page}
+use Rattle.ctr_home.specs.Blocks.{BlockValue, value_of, page_with, blank_page}
 use Rattle.ctr_home.specs.Roots.{SaysRootOf}
 use Rattle.ctr_home.specs.Writing.{OthersStay, IsOldOrNewValue}
 use Rattle.ctr_log.specs.Logs.{HasLog, records}
 use Rattle.ctr_log.specs.Reading.{log_file}
-use Rattle.ctr_log.specs.Kept.{kept_in, kept_log, other_file, IsDropped, HoldsOne, HoldsTwo, HoldsLog, KeepsPrefix}
+use Rattle.ctr_log.specs.Kept.{kept_in, kept_log, other_file, IsDropped, HoldsLog, KeepsPrefix}
 use Rattle.ctr_log.proofs.KeptLaws.{holds_is}
 use Rattle.ctr_records.specs.declared.record.Record.{Record}
 use Rattle.ctr_records.specs.Read.{record_in}
 use Rattle.ctr_pool.specs.Pages.{PageHeld}
-use Rattle.ctr_redo.specs.Overlaid.{overlaid}
-use Rattle.ctr_redo.specs.States.{State, Stored, state_of, step, steps, with_more, with_home, home_put, next_of, LieBelow}
+use Rattle.ctr_redo.specs.States.{Stored, state_of, steps, with_more, home_put, next_of, LieBelow}
 use Rattle.ctr_redo.specs.Images.{records_in, home_in, stored_in, IsSound, FoldsTo, FoldsFront, IsLogFile, held_by, MayStand}
 use Rattle.ctr_redo.proofs.StateLaws.{state_more, state_same, state_swapped_now, below_more, put_there, put_elsewhere}
 

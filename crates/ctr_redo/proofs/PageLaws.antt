@@ -3,7 +3,7 @@ use Rattle.std.proofs.Common.{◌≡◌, ◌⊎◌, inl, inr, ⊎_elim, ℕ, ◌
 use Rattle.std.proofs.lemmas.Bool.{ltb-true, ltb-false, lt-ltb, le-ltb}
 use Rattle.ctr_pool.specs.Pages.{PageHeld}
 use Rattle.ctr_records.specs.declared.record.Record.{Record}
-use Rattle.ctr_redo.specs.Overlaid.{touches, changed_by, with_record, overlaid, by_home}
+use Rattle.ctr_redo.specs.Overlaid.{touches, changed_by, with_record, overlaid}
 
 pub either : (b : Bool) → (b ≡ true) ⊎ (b ≡ false)
 either true = inl refl

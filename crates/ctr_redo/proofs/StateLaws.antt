@@ -1,5 +1,5 @@
 -- Laws of states: a record more in the log, a page written home.
-use Rattle.std.proofs.Common.{◌≡◌, ◌≢◌, ◌⊎◌, inl, inr, ⊎_elim, ℕ, zero, suc, ◌+◌, ◌<◌, ◌≤◌, ◌==◌, Bool, true, false, nat_lt, ◌&&◌, if◌then◌else◌, List, [], ◌∷◌, ◌++◌, length, take, refl, sym, ◌∙◌, ap, subst, arith, length-append, append_assoc}
+use Rattle.std.proofs.Common.{◌≡◌, ◌≢◌, ◌⊎◌, inl, inr, ⊎_elim, ℕ, zero, suc, ◌+◌, ◌<◌, ◌≤◌, ◌==◌, Bool, true, false, nat_lt, ◌&&◌, if◌then◌else◌, List, [], ◌∷◌, ◌++◌, length, refl, sym, ◌∙◌, ap, subst, arith, length-append, append_assoc}
 use Rattle.std.proofs.lemmas.List.{append-nil}
 use Rattle.std.proofs.lemmas.List.Sums.{fold-append}
 use Rattle.std.proofs.lemmas.Bool.{lt-ltb, le-ltb}
@@ -10,7 +10,7 @@ use Rattle.ctr_meta.specs.Effects.{effect, tables_of}
 use Rattle.ctr_records.specs.declared.record.Record.{Record}
 use Rattle.ctr_redo.specs.Overlaid.{touches, changed_by, with_record, overlaid, by_home}
 use Rattle.ctr_redo.specs.States.{page_limit, State, Stored, pages_of, state_of, pages_after, step, steps, with_more, home_put, with_home, next_of, LieBelow, page_at}
-use Rattle.ctr_redo.proofs.PageLaws.{GoesIn, StaysOut, in_or_out, choose_first, choose_second, below_next, overlaid-append, same_page}
+use Rattle.ctr_redo.proofs.PageLaws.{GoesIn, StaysOut, in_or_out, choose_first, choose_second, below_next, overlaid-append}
 
 pub tables-push : (rs : List Record) (r : Record) → tables_of (rs ++ r ∷ []) ≡ effect r (tables_of rs)
 tables-push rs r = fold-append (λ (t : Tables) (x : Record). effect x t) no_tables rs (r ∷ [])

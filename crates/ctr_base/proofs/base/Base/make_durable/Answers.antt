@@ -1,4 +1,3 @@
-use Rattle.std.proofs.Common.{refl, subst, sym, ◌<◌}
 use Rattle.ctr_base.specs.BaseLaws.{quiet_leaves, stands_still, holds_still}
 use Rattle.ctr_base.proofs.base.Base.make_durable.Goals as goal
 
