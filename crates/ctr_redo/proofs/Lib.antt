@@ -2,3 +2,4 @@ pub mod PageLaws
 pub mod StateLaws
 pub mod Generations
 pub mod ImageLaws
+pub mod GrowthLaws

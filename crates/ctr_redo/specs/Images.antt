@@ -1,5 +1,5 @@
 -- What of an image folds to a state, and which images are sound.
-use Rattle.std.specs.Prelude.{◌≡◌, ◌<◌, ◌≤◌, ◌*◌, ℕ, List, map, take, length, Some}
+use Rattle.std.specs.Prelude.{◌≡◌, ◌<◌, ◌≤◌, ◌*◌, ℕ, List, map, take, length, Some, None}
 use Rattle.ctr_types.specs.declared.file.File.{File}
 use Rattle.ctr_types.specs.declared.file.File.TheVariants.{Root as RootFile, LogA, LogB, Pages}
 use Rattle.ctr_disk.specs.declared.disk.Image.{Image}
@@ -8,7 +8,7 @@ use Rattle.ctr_disk.specs.Image.{content}
 use Rattle.ctr_home.specs.declared.block.Block.TheVariants.{Page, Root as RootBlock}
 use Rattle.ctr_home.specs.declared.root.Form.TheVariants.{Paged}
 use Rattle.ctr_home.specs.Blocks.{BlockValue, value_of, page_at_home}
-use Rattle.ctr_home.specs.Roots.{SaysRootOf}
+use Rattle.ctr_home.specs.Roots.{IsRootOf, SaysRootOf}
 use Rattle.ctr_log.specs.Kept.{kept_log, HoldsLog}
 use Rattle.ctr_records.specs.declared.record.Record.{Record}
 use Rattle.ctr_records.specs.Read.{record_in}
@@ -75,3 +75,13 @@ pub record MayStand (root : Root) (image : Image) (p : ℕ) (v : BlockValue) : T
   pub below : v.stamp < next_of (stored_in root image)
   pub same : overlaid p root.first (stored_in root image).records (held_by v)
       ≡ overlaid p root.first (stored_in root image).records (home_in root.pages image p)
+
+-- More pages can be counted: the pages that are added are blank in the file, which has them, and the
+-- root says the rest as before.
+pub record CanCount (root more : Root) (image : Image) : Type 0 where
+  pub is_root : IsRootOf Paged more
+  pub file : more.file ≡ root.file
+  pub first : more.first ≡ root.first
+  pub grows : root.pages ≤ more.pages
+  pub blank : (p : ℕ) → root.pages ≤ p → p < more.pages → value_of (Page p) image ≡ None
+  pub size : 8256 * more.pages ≤ length (content Pages image)
