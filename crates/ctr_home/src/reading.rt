@@ -1,5 +1,5 @@
 // Reads of a block: the value is in the open home with the greater stamp.
-ghost use Rattle.std.specs.Prelude.{◌≡◌, ◌≢◌, ◌↔◌, ◌+◌, [], ◌∷◌, IsTrue, IsSome, length, slice_index, Some, None, IfOk, IfErr, OnOk};
+ghost use Rattle.std.specs.Prelude.{◌≡◌, ◌≢◌, ◌↔◌, ◌≤◌, ◌+◌, [], ◌∷◌, IsTrue, IsSome, length, slice_index, Some, None, Ok, IfOk, IfErr, OnOk};
 ghost use Rattle.ctr_disk.specs.declared.fault.StoreFault.TheVariants.{Fault};
 ghost use Rattle.ctr_disk.specs.Image.{content};
 ghost use Rattle.ctr_disk.specs.Device.{OnlyReads, Counts, CountsAs};
@@ -61,6 +61,7 @@ pub fn read_page<D: Disk>(
     requires { length into.old ≡ 4096 }
     ensures told { IsTrue D.tells → IfOk result (λ lsn. page_at_home counted page (D.reads disk.old) ≡ record { lsn = lsn; bytes = into.new }) }
     ensures refused { IsTrue D.tells → IfErr result (IsFaultOr (IsMisnumbered (Page page) (D.reads disk.old))) }
+    ensures uncounted { counted ≤ page → result ≡ Ok 0 }
     ensures differs { IfErr result TellsApart }
     ensures quiet { OnlyReads D.Disk disk.old disk.new }
     ensures counts { CountsAs D.Disk Fault disk.old disk.new result }

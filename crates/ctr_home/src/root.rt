@@ -1,5 +1,5 @@
 // The root: which file has the oldest generation of the log that is kept, and how many pages count.
-ghost use Rattle.std.specs.Prelude.{◌≡◌, ◌≤◌, IsTrue, Err, IfErr, OnOk, OnErr};
+ghost use Rattle.std.specs.Prelude.{◌≡◌, ◌≤◌, IsTrue, Err, IfOk, IfErr, IfSome, OnOk, OnErr};
 ghost use Rattle.ctr_types.specs.declared.file.File.TheVariants.{Root as RootFile};
 ghost use Rattle.ctr_disk.specs.declared.fault.StoreFault.TheVariants.{Fault};
 ghost use Rattle.ctr_disk.specs.Device.{LeavesOnly, IsDurable, IsSettled, OnlyReads, CountsAs};
@@ -7,7 +7,7 @@ ghost use Rattle.ctr_home.specs.declared.block.Block.TheVariants.{Root as RootBl
 ghost use Rattle.ctr_home.specs.declared.root.Form.TheVariants.{Thin, Paged};
 ghost use Rattle.ctr_home.specs.Blocks.{value_of};
 ghost use Rattle.ctr_home.specs.Checks.{TellsApart, bounded, check_of, judged};
-ghost use Rattle.ctr_home.specs.Roots.{ReadsRoot, SaysOrRefuses, root_body, root_block, root_checks, format_of, least_pages, most_pages};
+ghost use Rattle.ctr_home.specs.Roots.{ReadsRoot, IsRootOf, SaysOrRefuses, root_body, root_block, root_checks, format_of, least_pages, most_pages};
 ghost use Rattle.ctr_home.specs.Writing.{IsAbove, IsOldOrNewValue, IsNewValue};
 
 use crate::block::{Block, Home};
@@ -62,6 +62,7 @@ impl Form {
 /// Reads the root of a database on pages, where a home of it is open.
 pub fn read_root<D: Disk>(disk: &mut D) -> Result<Option<Root>, StoreFault>
     ensures answer { IsTrue D.tells → ReadsRoot Paged (D.reads disk.old) result }
+    ensures checked { IfOk result (λ o. IfSome o (IsRootOf Paged)) }
     ensures differs { IfErr result TellsApart }
     ensures quiet { OnlyReads D.Disk disk.old disk.new }
     ensures counts { CountsAs D.Disk Fault disk.old disk.new result }
@@ -81,6 +82,7 @@ pub fn read_thin_root<D: Disk>(disk: &mut D) -> Result<Option<Root>, StoreFault>
 
 fn read_root_of<D: Disk>(disk: &mut D, form: Form) -> Result<Option<Root>, StoreFault>
     ensures answer { IsTrue D.tells → ReadsRoot form (D.reads disk.old) result }
+    ensures checked { IfOk result (λ o. IfSome o (IsRootOf form)) }
     ensures differs { IfErr result TellsApart }
     ensures quiet { OnlyReads D.Disk disk.old disk.new }
     ensures counts { CountsAs D.Disk Fault disk.old disk.new result }

@@ -107,14 +107,16 @@ pub record IsFlushing (first : ℕ) (bs : Batches) (log : Log) (old new : Image)
   pub records_are : HasPrefix log.file first (records bs) log.buffered old new
   pub long : log.place < length (content log.file new)
 
--- How a flush leaves the writer: its file stays, and at Ok nothing waits, the numbers go on behind
--- the records that waited, and there is no less room.
+-- How a flush leaves the writer: its file and the number of its next record stay, and there is no
+-- less room. At Ok nothing waits, and the numbers go on behind the records that waited.
 pub record IsEmptied {T E : Type 0} (old new : Log) (result : Result T E) : Type 0 where
   pub file : new.file ≡ old.file
   pub older : new.older ≡ old.older
   pub none : OnOk result (new.buffered ≡ [])
   pub next : OnOk result (new.first ≡ old.first + length old.buffered)
-  pub room : OnOk result (old.room ≤ new.room)
+  pub room : old.room ≤ new.room
+  pub number : new.first + length new.buffered ≡ old.first + length old.buffered
+  pub later : old.first ≤ new.first
 
 -- a batch that is to stand at the closed gate behind the log, with a closed gate behind it
 pub record Extends (first : ℕ) (bs : Batches) (rs : List (List ℕ)) (place : ℕ) (body bytes : List ℕ)

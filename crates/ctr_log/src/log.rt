@@ -83,6 +83,20 @@ impl LogFile {
         self.first + self.count as u64
     }
 
+    /// For how many bytes of frames more there is room: a record's length, and 8 for each record.
+    pub fn room(&self) -> usize
+        ensures { result ≡ self.now.room }
+    {
+        self.buffer.capacity() - self.buffer.len() - 1
+    }
+
+    /// How many records wait to be flushed.
+    pub fn waiting(&self) -> u32
+        ensures { result ≡ length self.now.buffered }
+    {
+        self.count
+    }
+
     /// From here on the older generation isn't kept: the root names the newer one.
     pub fn forget_older(&mut self)
         ensures { self.new ≡ record self.old { older = false } }

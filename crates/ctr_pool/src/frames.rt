@@ -88,6 +88,16 @@ impl Frames {
         }
     }
 
+    /// The LSN of a page that a frame has.
+    pub fn lsn(&self, page: PageNo) -> Lsn
+        ensures { (f : Framed) → frame_of page self.now.frames ≡ Some f → result ≡ f.lsn }
+    {
+        match find(&self.items, page) {
+            Ok(at) => self.items[at].lsn,
+            Err(_) => 0,
+        }
+    }
+
     /// Adds a page that no frame has, with nothing to save.
     pub fn add(&mut self, page: PageNo, lsn: Lsn, body: Body)
         requires new { frame_of page self.old.frames ≡ None }

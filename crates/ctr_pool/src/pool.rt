@@ -233,6 +233,13 @@ impl Pool {
         self.frames.body(page)
     }
 
+    /// The LSN of the last record in a page that a frame has.
+    pub fn lsn(&self, page: PageNo) -> Lsn
+        ensures { (f : Framed) → frame_of page self.now.frames ≡ Some f → result ≡ f.lsn }
+    {
+        self.frames.lsn(page)
+    }
+
     /// Changes a page that a frame has, at an LSN above that of its last change. It isn't saved yet.
     pub fn change(&mut self, page: PageNo, overlay: &Overlay, lsn: Lsn)
         requires there { has_page page self.old.frames ≡ true }

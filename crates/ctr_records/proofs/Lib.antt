@@ -3,6 +3,7 @@ pub mod Reading
 pub mod Forms
 pub mod ListLaws
 pub mod RecordForms
+pub mod ReadBack
 pub mod MemberLaws
 pub mod Found
 pub mod Listed

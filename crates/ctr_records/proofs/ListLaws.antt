@@ -38,7 +38,7 @@ checkpoint_next next lists fits =
     let x = spelled 1 1 in
     field_last 8 next 1 x whole (sym (length-spelled 1 1)) fits (begins_less (x ++ spelled 8 next) lists whole (begins_less (x ++ spelled 8 next ++ lists) (spelled 1 0) whole (begins_whole whole)))
 
-checkpoint_rest : (next : ℕ) (lists : List ℕ) → drop 9 (checkpoint_bytes next lists) ≡ lists ++ spelled 1 0
+pub checkpoint_rest : (next : ℕ) (lists : List ℕ) → drop 9 (checkpoint_bytes next lists) ≡ lists ++ spelled 1 0
 unfolding head
 checkpoint_rest next lists =
     ap (drop 9) (append_assoc (head next) lists (spelled 1 0)) ∙ drop_at (head next) (lists ++ spelled 1 0) 9 (length-head next)

@@ -5,3 +5,4 @@ pub mod Damage
 pub mod Checkpoint
 pub mod Members
 pub mod Records
+pub mod Read

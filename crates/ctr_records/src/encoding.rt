@@ -4,6 +4,7 @@ ghost use Rattle.ctr_bytes.specs.Fields.{with_field};
 ghost use Rattle.ctr_records.specs.declared.record.Record.{Record};
 ghost use Rattle.ctr_records.specs.Table.{width, most, layout, flag_at};
 ghost use Rattle.ctr_records.specs.Parts.{OverlayFits, PartsFit};
+ghost use Rattle.ctr_records.specs.Read.{record_in};
 ghost use Rattle.ctr_records.specs.Records.{IsRecord};
 ghost use Rattle.ctr_records.specs.Spelling.{with_overlay, overlay_len, parts_bytes, checkpoint_bytes, record_bytes};
 
@@ -98,4 +99,9 @@ pub fn encode(rec: &Record, into: &mut [u8]) -> usize
 /// Two records have different bytes.
 pub fn one_form()
     ensures { (a b : Record) → IsRecord a → IsRecord b → record_bytes a ≡ record_bytes b → a ≡ b }
+{}
+
+/// The bytes of a record tell it: what stands in them is the record.
+pub fn bytes_tell()
+    ensures { (r : Record) → IsRecord r → record_in (record_bytes r) ≡ r }
 {}

@@ -11,9 +11,9 @@ mod span;
 mod table;
 
 pub use decoding::{BadRecord, decode};
-pub use encoding::{encode, one_form};
+pub use encoding::{bytes_tell, encode, one_form};
 pub use lists::{encode_checkpoint, one_list};
-pub use record::{Form, Overlay, PageNo, Parts, Record, SlogItem};
+pub use record::{Form, Overlay, PageNo, Parts, Record, SlogItem, to_form};
 pub use span::Bytes;
 pub use table::{Field, Layout, Tag};
 

@@ -1,5 +1,6 @@
 use Rattle.std.proofs.Common.{◌≡◌, ◌∙◌, ◌+◌, [], ℕ, List, length, take, drop, ap, subst, sym, refl, arith, length-drop, length-take}
 use Rattle.std.proofs.lemmas.List.{drop_all}
+use Rattle.std.proofs.lemmas.Result.{err_from_is_err_and}
 use Rattle.ctr_disk.specs.Image.{content, OtherFilesStay}
 use Rattle.ctr_disk.specs.Device.{LeavesOnly, IsSettled}
 use Rattle.ctr_log.specs.Logs.{Batches, Log, frames, unframed, GoesOn, Extends, IsFlushing, with_batch}
@@ -74,7 +75,26 @@ returns-clause-emptied g c =
       none = refl;
       next = subst (λ (v : Log). a.first + a.count ≡ v.first + length v.buffered) c.self.view_is count_is;
       room = omega (arith, ap (λ (v : Log). v.room) c.self.view_is);
+      number = subst (λ (v : Log). a.first + a.count + 0 ≡ v.first + length v.buffered) c.self.view_is (omega (arith, count_is));
+      later = omega (arith, ap (λ (v : Log). v.first) c.self.view_is);
     }
+
+pub returns-in_err-written-clause-emptied : goal.returns-in_err-written-clause-emptied
+returns-in_err-written-clause-emptied g c =
+    let a = c.self.inside in
+    let now = drop 20 c.truncate.new.self.items in
+    let count_is : a.first + a.count ≡ (log_of a).first + length (log_of a).buffered = ap (λ (n : ℕ). a.first + n) (sym (length-unframed a.count (drop 20 a.buffer.items))) in
+    let p = err_from_is_err_and c.from_residual.result c.from_residual.ensures.1 in
+    rw (p.1)
+    (record {
+      file = ap (λ (v : Log). v.file) c.self.view_is;
+      older = ap (λ (v : Log). v.older) c.self.view_is;
+      none = tt;
+      next = tt;
+      room = omega (arith, ap (λ (v : Log). v.room) c.self.view_is);
+      number = subst (λ (v : Log). a.first + length (unframed a.count now) ≡ v.first + length v.buffered) c.self.view_is (omega (arith, count_is, length-unframed a.count now));
+      later = omega (arith, ap (λ (v : Log). v.first) c.self.view_is);
+    })
 
 pub returns-then-self-eq0-clause-kept_any_moment : goal.returns-then-self-eq0-clause-kept_any_moment
 returns-then-self-eq0-clause-kept_any_moment g c named oldest settled writes =

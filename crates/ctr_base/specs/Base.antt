@@ -1,0 +1,93 @@
+-- The log and the homes below a pool, on which nothing is pending, and how they change.
+use Rattle.std.specs.Prelude.{◌≡◌, ◌≢◌, ◌⊎◌, ℕ, ◌+◌, ◌<◌, ◌≤◌, List, length, take, drop}
+use Rattle.ctr_disk.specs.declared.disk.Disk.{Ghosts}
+use Rattle.ctr_disk.specs.Device.{LeavesOnly, IsDurable}
+use Rattle.ctr_log.specs.Kept.{WritesBehind}
+use Rattle.ctr_records.specs.declared.record.Record.{Record}
+use Rattle.ctr_disk.specs.declared.fault.StoreFault.TheVariants.{Fault}
+use Rattle.ctr_pool.specs.Pages.{PageHeld}
+use Rattle.ctr_pool.specs.declared.backing.Backing.{Ghosts as BackingGhosts}
+use Rattle.ctr_redo.specs.Overlaid.{overlaid}
+use Rattle.ctr_redo.specs.States.{Stored, state_of, steps, with_more, next_of}
+use Rattle.ctr_redo.specs.Images.{records_in, home_in, stored_in, IsSound, FoldsFront}
+use Rattle.ctr_base.specs.declared.base.Base.{Base}
+
+-- what stands on the disk
+abbrev pub stored_of : {D : Type 0} → Ghosts D → Base D → Stored
+stored_of g b = stored_in b.root (g.reads b.disk)
+
+-- the records that wait in the log's buffer
+abbrev pub waiting_of : {D : Type 0} → Base D → List Record
+waiting_of b = records_in b.log.buffered
+
+-- what stands on the disk, with what waits behind its log
+abbrev pub now_of : {D : Type 0} → Ghosts D → Base D → Stored
+now_of g b = with_more (waiting_of b) (stored_of g b)
+
+-- a page as it stands at home
+abbrev pub held_of : {D : Type 0} → Ghosts D → Base D → ℕ → PageHeld
+held_of g b p = home_in b.root.pages (g.reads b.disk) p
+
+-- A page that may go home once its records are durable: it has all records so far, or the records on
+-- the disk make the same page of it as of what is at home.
+pub record MaySave {D : Type 0} (g : Ghosts D) (b : Base D) (p since : ℕ) (v : PageHeld) : Type 0 where
+  pub counted : p < b.root.pages
+  pub above : (held_of g b p).lsn < v.lsn
+  pub low : v.lsn < next_of (now_of g b)
+  pub is : (v ≡ overlaid p b.root.first (now_of g b).records (held_of g b p))
+      ⊎ (overlaid p b.root.first (stored_of g b).records v ≡ overlaid p b.root.first (stored_of g b).records (held_of g b p))
+
+-- Nothing is pending on the disk, which is sound, and the log goes on behind what it holds.
+pub record IsQuiet {D : Type 0} (g : Ghosts D) (b : Base D) : Type 0 where
+  pub only : IsDurable g b.disk
+  pub sound : IsSound b.root (g.reads b.disk)
+  pub writes : WritesBehind b.root.file b.root.first b.log (g.reads b.disk)
+  pub durable : b.durable ≡ next_of (stored_of g b)
+  pub first : b.log.first ≡ next_of (stored_of g b)
+
+-- at each moment from one to another a crash leaves what was hardened with a prefix of what waited
+abbrev pub LeavesBase : {D : Type 0} → Ghosts D → Base D → Base D → Type 0
+LeavesBase g a b = LeavesOnly g a.disk b.disk (FoldsFront (state_of (stored_of g a)) (waiting_of a))
+
+-- The first of what waited is durable now; the root, the records in order and each page with them are
+-- as they were.
+pub record MovesBase {D : Type 0} (g : Ghosts D) (a b : Base D) : Type 0 where
+  pub j : ℕ
+  pub at_most : j ≤ length (waiting_of a)
+  pub waiting : waiting_of b ≡ drop j (waiting_of a)
+  pub hardened : state_of (stored_of g b) ≡ steps (take j (waiting_of a)) (state_of (stored_of g a))
+  pub now : state_of (now_of g b) ≡ state_of (now_of g a)
+  pub root : b.root ≡ a.root
+  pub all : (now_of g b).records ≡ (now_of g a).records
+  pub pages : (q : ℕ) → overlaid q b.root.first (now_of g b).records (held_of g b q)
+      ≡ overlaid q a.root.first (now_of g a).records (held_of g a q)
+
+-- However a call ends, the root and the number of the next record are those of before, room for
+-- records isn't lost, and no more of them wait.
+pub record KeepsBase {D : Type 0} (a b : Base D) : Type 0 where
+  pub root : b.root ≡ a.root
+  pub room : a.log.room ≤ b.log.room
+  pub next : b.log.first + length b.log.buffered ≡ a.log.first + length a.log.buffered
+  pub few : length b.log.buffered ≤ length a.log.buffered
+
+-- a page is this at home now, and the others and the log are as they were
+pub record IsHome {D : Type 0} (g : Ghosts D) (p : ℕ) (v : PageHeld) (a b : Base D) : Type 0 where
+  pub there : held_of g b p ≡ v
+  pub others : (q : ℕ) → q ≢ p → held_of g b q ≡ held_of g a q
+  pub records : (stored_of g b).records ≡ (stored_of g a).records
+  pub log : b.log ≡ a.log
+  pub root : b.root ≡ a.root
+
+-- the log and the homes as the backing of a pool
+abbrev pub backing_of : {D : Type 0} → Ghosts D → BackingGhosts (Base D)
+backing_of g = record {
+  tells = g.tells;
+  held = held_of g;
+  takes = MaySave g;
+  rests = IsQuiet g;
+  goes = LeavesBase g;
+  moves = MovesBase g;
+  keeps = KeepsBase;
+  fails = λ a b e. e ≡ Fault;
+  faults_of = λ b. g.faults_of b.disk;
+}

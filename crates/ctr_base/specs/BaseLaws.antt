@@ -1,0 +1,416 @@
+-- How the log and the homes go on under a pool.
+use Rattle.std.proofs.Common.{◌≡◌, ◌≢◌, inl, inr, ⊎_elim, ℕ, zero, suc, ◌+◌, ◌<◌, Bool, true, false, List, [], ◌∷◌, ◌++◌, length, take, drop, refl, sym, ◌∙◌, ap, subst, arith, length-append, length-drop, Some}
+use Rattle.std.proofs.Math.Seq.{take-nil}
+use Rattle.std.proofs.lemmas.List.{append-nil, take_all, drop_all, drop-drop, length-map}
+use Rattle.ctr_types.specs.declared.file.File.{File}
+use Rattle.ctr_disk.specs.declared.disk.Image.{Image}
+use Rattle.ctr_disk.specs.declared.disk.Disk.{Ghosts}
+use Rattle.ctr_disk.specs.declared.fault.Root.{Root}
+use Rattle.ctr_disk.specs.Device.{LeavesOnly, OnlyReads, IsDurable}
+use Rattle.ctr_disk.specs.Image.{content}
+use Rattle.ctr_disk.proofs.Moments.{starts, joined, weaker, still_only}
+use Rattle.ctr_home.specs.declared.block.Block.TheVariants.{Page}
+use Rattle.ctr_home.specs.Blocks.{BlockValue, value_of}
+use Rattle.ctr_home.specs.Writing.{IsOldOrNewValue, with_body, OthersStay}
+use Rattle.ctr_log.specs.Logs.{Log, HasLog, GoesOn, records}
+use Rattle.ctr_log.specs.Reading.{log_file}
+use Rattle.ctr_log.specs.Kept.{kept_log, other_file, IsDropped, HoldsLog, WritesBy, WritesBehind, KeepsPrefix, GoesOnWith}
+use Rattle.ctr_log.proofs.KeptLaws.{front_same}
+use Rattle.ctr_records.specs.declared.record.Record.{Record}
+use Rattle.ctr_records.specs.Read.{record_in}
+use Rattle.ctr_pool.specs.Pages.{PageHeld}
+use Rattle.ctr_pool.specs.Below.{Puts, HoldsStill}
+use Rattle.ctr_redo.specs.Overlaid.{overlaid}
+use Rattle.ctr_redo.specs.States.{State, Stored, state_of, steps, with_more, home_put, next_of}
+use Rattle.ctr_redo.specs.Images.{records_in, stored_in, IsSound, FoldsFront, IsLogFile, MayStand}
+use Rattle.ctr_redo.proofs.PageLaws.{again, durable_alone, overlaid-append}
+use Rattle.ctr_redo.proofs.StateLaws.{state_more, state_swapped, page_swapped, steps-append, put_there, put_elsewhere}
+use Rattle.ctr_redo.proofs.ImageLaws.{KeepsHomes, KeepsLogs, logs_apart, pages_apart, kept_same, named_same, other_same, more_stored, sound_flushed, folds_flushed, folds_written, sound_written, state_written, state_with_more, home_written, next_same}
+use Rattle.ctr_base.specs.declared.base.Base.{Base}
+use Rattle.ctr_base.specs.Base.{stored_of, waiting_of, now_of, held_of, MaySave, IsQuiet, LeavesBase, MovesBase, KeepsBase, IsHome}
+
+take_split : {A : Type 0} (j k : ℕ) (l : List A) → take j l ++ take k (drop j l) ≡ take (j + k) l
+take_split zero k l = let n : k ≡ 0 + k = omega arith in ap (λ (m : ℕ). take m l) n
+take_split {A} (suc j) k [] = let n : suc (j + k) ≡ suc j + k = omega arith in ap (λ (m : List A). m) (take-nil k) ∙ sym (take-nil (suc j + k))
+take_split {A} (suc j) k (x ∷ l) = let n : suc (j + k) ≡ suc j + k = omega arith in ap (λ (t : List A). x ∷ t) (take_split j k l) ∙ ap (λ (m : ℕ). take m (x ∷ l)) n
+
+three : {A B C E : Type 0} (f : A → B → C → E) {a a' : A} {b b' : B} {c c' : C} → a ≡ a' → b ≡ b' → c ≡ c' → f a b c ≡ f a' b' c'
+three f {a} {a'} {b} {b'} {c} {c'} one two thr = ap (λ x. f x b c) one ∙ ap (λ y. f a' y c) two ∙ ap (f a' b') thr
+
+-- a prefix of the rest behind a prefix
+front_of_rest : (j : ℕ) (ws : List Record) (s : State) (c : Image) → FoldsFront (steps (take j ws) s) (drop j ws) c → FoldsFront s ws c
+front_of_rest j ws s c (k, folds) = (
+  j + k,
+  record {
+    root = folds.root;
+    sound = folds.sound;
+    state_is = folds.state_is ∙ sym (steps-append (take j ws) (take k (drop j ws)) s) ∙ ap (λ (l : List Record). steps l s) (take_split j k ws);
+  },
+)
+
+-- the writer's file is one of the log
+file_is_log : (n : ℕ) → IsLogFile (log_file n)
+file_is_log zero = tt
+file_is_log (suc n) = tt
+
+other_is_log : (n : ℕ) → IsLogFile (other_file n)
+other_is_log zero = tt
+other_is_log (suc n) = tt
+
+by_is_log : (older : Bool) (file first : ℕ) (log : Log) (image : Image) → WritesBy older file first log image → IsLogFile log.file
+by_is_log false file first log image w = subst IsLogFile (sym w.file_is) (file_is_log file)
+by_is_log true file first log image w = subst IsLogFile (sym w.file_is) (other_is_log file)
+
+-- what the writer goes on behind is held
+writes_holds : (file first : ℕ) (log : Log) (image : Image) → WritesBehind file first log image → HoldsLog file first (kept_log file first image) image
+writes_holds file first log image w =
+    let same = front_same file first log image [] log.older w.by in
+    subst (λ (l : List (List ℕ)). HoldsLog file first l image) (ap (λ (l : List (List ℕ)). kept_log file first image ++ l) (take-nil same.count) ∙ append-nil (kept_log file first image)) same.holds
+
+-- the writer goes on where the files of the log are as they were
+goes_on_same : (first : ℕ) (bs : List (List (List ℕ))) (log : Log) (old new : Image) → content log.file new ≡ content log.file old → GoesOn first bs log old → GoesOn first bs log new
+goes_on_same first bs log old new same goes = record { log_is = subst (HasLog first bs) (sym same) goes.log_is; place = goes.place; first_is = goes.first_is }
+
+by_same : (older : Bool) (file first : ℕ) (log : Log) (old new : Image) → KeepsLogs old new → WritesBy older file first log old → WritesBy older file first log new
+by_same false file first log old new same w =
+    let here : content log.file new ≡ content log.file old = subst (λ (f : File). content f new ≡ content f old) (sym w.file_is) (named_same file old new same) in
+    record {
+      bs = w.bs;
+      file_is = w.file_is;
+      goes_on = goes_on_same first w.bs log old new here w.goes_on;
+      holds = record {
+        named = subst (HasLog first w.bs) (sym (named_same file old new same)) w.holds.named;
+        short = w.holds.short;
+        low = w.holds.low;
+        dropped = subst (IsDropped first) (sym (other_same file old new same)) w.holds.dropped;
+      };
+    }
+by_same true file first log old new same w =
+    let next = first + length (records w.bs) in
+    let here : content log.file new ≡ content log.file old = subst (λ (f : File). content f new ≡ content f old) (sym w.file_is) (other_same file old new same) in
+    record {
+      bs = w.bs;
+      cs = w.cs;
+      file_is = w.file_is;
+      goes_on = goes_on_same next w.cs log old new here w.goes_on;
+      holds = record {
+        named = subst (HasLog first w.bs) (sym (named_same file old new same)) w.holds.named;
+        short = w.holds.short;
+        newer = subst (HasLog next w.cs) (sym (other_same file old new same)) w.holds.newer;
+        newer_short = w.holds.newer_short;
+        low = w.holds.low;
+      };
+    }
+
+writes_same : (file first : ℕ) (log : Log) (old new : Image) → KeepsLogs old new → WritesBehind file first log old → WritesBehind file first log new
+writes_same file first log old new same w = record { numbered = w.numbered; by = by_same log.older file first log old new same w.by }
+
+-- a page as the value of its block
+abbrev value : ℕ → PageHeld → BlockValue
+value p v = with_body (Page p) v.lsn v.body
+
+module _ {D : Type 0} (g : Ghosts D) where
+  none_folds : (b : Base D) (c : Image) → IsQuiet g b → c ≡ g.reads b.disk → FoldsFront (state_of (stored_of g b)) (waiting_of b) c
+  none_folds b c quiet is = (0, record { root = b.root; sound = subst (IsSound b.root) (sym is) quiet.sound; state_is = ap (λ (i : Image). state_of (stored_in b.root i)) is })
+
+  -- ---- nothing happens
+
+  pub quiet_leaves : ((d : D) (c : Image) → g.since d (g.moment_of d) c → g.images d c) → (b : Base D) → IsQuiet g b → LeavesBase g b b
+  quiet_leaves only_now b quiet = starts g b.disk (FoldsFront (state_of (stored_of g b)) (waiting_of b)) (g.images b.disk) (only_now b.disk) (λ c is. none_folds b c quiet (quiet.only c is))
+
+  -- all that is stored is as it was
+  pub same_moves : (a b : Base D) → b.root ≡ a.root → stored_of g b ≡ stored_of g a → b.log.buffered ≡ a.log.buffered → MovesBase g a b
+  same_moves a b root stored waits =
+      let both : now_of g b ≡ now_of g a = ap (λ (l : List (List ℕ)). with_more (records_in l) (stored_of g b)) waits ∙ ap (with_more (waiting_of a)) stored in
+      record {
+        j = 0;
+        at_most = omega arith;
+        waiting = ap records_in waits;
+        hardened = ap state_of stored;
+        now = ap state_of both;
+        root = root;
+        all = ap (λ (s : Stored). s.records) both;
+        pages = λ q. ap (λ (s : Stored). overlaid q s.first s.records (s.homes q)) both;
+      }
+
+  pub stands_still : (b : Base D) → MovesBase g b b
+  stands_still b = same_moves b b refl refl refl
+
+  pub holds_still : (b : Base D) → HoldsStill (held_of g) (MaySave g) b b
+  holds_still b = record { same = λ q. refl; still = λ q since v may. may }
+
+  -- ---- one change behind another
+
+  pub leaves_joined : (a b c : Base D) → MovesBase g a b → LeavesBase g a b → LeavesBase g b c → LeavesBase g a c
+  leaves_joined a b c m ab bc =
+      let ws = waiting_of a in
+      let s = state_of (stored_of g a) in
+      let P : Image → Type 0 = FoldsFront s ws in
+      let Q : Image → Type 0 = FoldsFront (state_of (stored_of g b)) (waiting_of b) in
+      let within : (i : Image) → Q i → P i = λ i q.
+      front_of_rest m.j ws s i (subst (λ (l : List Record). FoldsFront (steps (take m.j ws) s) l i) m.waiting (subst (λ (t : State). FoldsFront t (waiting_of b) i) m.hardened q)) in
+      joined g a.disk b.disk c.disk P ab (weaker g b.disk c.disk Q P bc within)
+
+  pub moves_joined : (a b c : Base D) → MovesBase g a b → MovesBase g b c → MovesBase g a c
+  moves_joined a b c m n =
+      let ws = waiting_of a in
+      let s = state_of (stored_of g a) in
+      record {
+        j = m.j + n.j;
+        at_most = let one = m.at_most in let two = n.at_most in omega (arith, one, two, ap (λ (l : List Record). length l) m.waiting, length-drop m.j ws);
+        waiting = n.waiting ∙ ap (λ (l : List Record). drop n.j l) m.waiting ∙ drop-drop n.j m.j ws;
+        hardened = n.hardened ∙ ap (λ (l : List Record). steps (take n.j l) (state_of (stored_of g b))) m.waiting ∙ ap (steps (take n.j (drop m.j ws))) m.hardened
+            ∙ sym (steps-append (take m.j ws) (take n.j (drop m.j ws)) s) ∙ ap (λ (l : List Record). steps l s) (take_split m.j n.j ws);
+        now = n.now ∙ m.now;
+        root = n.root ∙ m.root;
+        all = n.all ∙ m.all;
+        pages = λ q. n.pages q ∙ m.pages q;
+      }
+
+  -- ---- a read
+
+  pub read_leaves : (a : Base D) (d : D) → IsQuiet g a → OnlyReads g a.disk d → LeavesOnly g a.disk d (FoldsFront (state_of (stored_of g a)) (waiting_of a))
+  read_leaves a d quiet reads =
+      weaker g a.disk d (g.images a.disk) (FoldsFront (state_of (stored_of g a)) (waiting_of a)) reads.any_moment (λ c is. none_folds a c quiet (quiet.only c is))
+
+  pub read_moves : (a : Base D) (d : D) → OnlyReads g a.disk d → MovesBase g a (record a { disk = d })
+  read_moves a d reads = same_moves a (record a { disk = d }) refl (ap (stored_in a.root) reads.same) refl
+
+  pub read_quiet : (a : Base D) (d : D) → IsQuiet g a → OnlyReads g a.disk d → IsQuiet g (record a { disk = d })
+  read_quiet a d quiet reads =
+      let same = reads.same in record {
+        only = still_only g a.disk d reads quiet.only;
+        sound = subst (IsSound a.root) (sym same) quiet.sound;
+        writes = subst (WritesBehind a.root.file a.root.first a.log) (sym same) quiet.writes;
+        durable = quiet.durable ∙ ap (λ (i : Image). next_of (stored_in a.root i)) (sym same);
+        first = quiet.first ∙ ap (λ (i : Image). next_of (stored_in a.root i)) (sym same);
+      }
+
+  -- what might be saved might be still, where all that is stored and waits is as it was
+  pub saves_same : (a b : Base D) (p since : ℕ) (v : PageHeld) → b.root ≡ a.root → stored_of g b ≡ stored_of g a → b.log.buffered ≡ a.log.buffered → MaySave g a p since v → MaySave g b p since v
+  saves_same a b p since v root stored waits may =
+      let both : now_of g b ≡ now_of g a = ap (λ (l : List (List ℕ)). with_more (records_in l) (stored_of g b)) waits ∙ ap (with_more (waiting_of a)) stored in
+      record {
+        counted = subst (λ (s : Stored). p < s.counted) (sym stored) may.counted;
+        above = subst (λ (s : Stored). (s.homes p).lsn < v.lsn) (sym stored) may.above;
+        low = subst (λ (s : Stored). v.lsn < next_of s) (sym both) may.low;
+        is = ⊎_elim (λ all. inl (subst (λ (s : Stored). v ≡ overlaid p s.first s.records (s.homes p)) (sym both) all))
+            (λ same. inr (subst (λ (s : Stored). overlaid p s.first s.records v ≡ overlaid p s.first s.records (s.homes p)) (sym stored) same))
+            may.is;
+      }
+
+  pub read_holds : (a : Base D) (d : D) → OnlyReads g a.disk d → HoldsStill (held_of g) (MaySave g) a (record a { disk = d })
+  read_holds a d reads =
+      let stored = ap (stored_in a.root) reads.same in record {
+        same = λ q. ap (λ (s : Stored). s.homes q) stored;
+        still = λ q since v may. saves_same a (record a { disk = d }) q since v refl stored refl may;
+      }
+
+  -- ---- a flush
+
+  pub flush_leaves : (a : Base D) (d : D) → IsQuiet g a → LeavesOnly g a.disk d (KeepsPrefix a.log.file a.root.file a.root.first a.log.buffered (g.reads a.disk))
+      → LeavesOnly g a.disk d (FoldsFront (state_of (stored_of g a)) (waiting_of a))
+  flush_leaves a d quiet crash =
+      let w = quiet.writes in
+      weaker g a.disk d (KeepsPrefix a.log.file a.root.file a.root.first a.log.buffered (g.reads a.disk)) (FoldsFront (state_of (stored_of g a)) (waiting_of a)) crash
+      (λ c keeps. folds_flushed a.root a.log.file a.log.buffered (g.reads a.disk) c quiet.sound (by_is_log a.log.older a.root.file a.root.first a.log (g.reads a.disk) w.by) keeps)
+
+  -- what a flush that was answered Ok made
+  pub record Flushed (a b : Base D) : Type 0 where
+    pub root : b.root ≡ a.root
+    pub file : b.log.file ≡ a.log.file
+    pub none : b.log.buffered ≡ []
+    pub next : b.log.first ≡ a.log.first + length a.log.buffered
+    pub durable : b.durable ≡ b.log.first + length b.log.buffered
+    pub goes_on : GoesOnWith a.root.file a.root.first a.log.buffered b.log (g.reads a.disk) (g.reads b.disk)
+
+  homes_kept : (a b : Base D) → IsQuiet g a → Flushed a b → KeepsHomes (g.reads a.disk) (g.reads b.disk)
+  homes_kept a b quiet f =
+      let w = quiet.writes in
+      logs_apart b.log.file (g.reads a.disk) (g.reads b.disk) (subst IsLogFile (sym f.file) (by_is_log a.log.older a.root.file a.root.first a.log (g.reads a.disk) w.by)) f.goes_on.others
+
+  stored_flushed : (a b : Base D) → IsQuiet g a → Flushed a b → stored_of g b ≡ with_more (waiting_of a) (stored_of g a)
+  stored_flushed a b quiet f =
+      ap (λ (r : Root). stored_in r (g.reads b.disk)) f.root ∙ more_stored a.root a.log.buffered (g.reads a.disk) (g.reads b.disk) (homes_kept a b quiet f) f.goes_on.log_is
+
+  now_flushed : (a b : Base D) → IsQuiet g a → Flushed a b → now_of g b ≡ now_of g a
+  now_flushed a b quiet f =
+      ap (λ (l : List (List ℕ)). with_more (records_in l) (stored_of g b)) f.none ∙ ap (with_more []) (stored_flushed a b quiet f)
+      ∙ ap (λ (l : List Record). record (stored_of g a) { records = l }) (append-nil ((stored_of g a).records ++ waiting_of a))
+
+  pub flush_moves : (a b : Base D) → IsQuiet g a → Flushed a b → MovesBase g a b
+  flush_moves a b quiet f =
+      let ws = waiting_of a in
+      let s = stored_of g a in
+      let both = now_flushed a b quiet f in
+      record {
+        j = length ws;
+        at_most = omega arith;
+        waiting = ap records_in f.none ∙ sym (drop_all (length ws) ws (omega arith));
+        hardened = ap state_of (stored_flushed a b quiet f) ∙ state_more ws s quiet.sound.below ∙ ap (λ (l : List Record). steps l (state_of s)) (sym (take_all (length ws) ws (omega arith)));
+        now = ap state_of both;
+        root = f.root;
+        all = ap (λ (x : Stored). x.records) both;
+        pages = λ q. ap (λ (x : Stored). overlaid q x.first x.records (x.homes q)) both;
+      }
+
+  pub flush_quiet : (a b : Base D) → IsQuiet g a → Flushed a b → IsDurable g b.disk → IsQuiet g b
+  flush_quiet a b quiet f only =
+      let old = g.reads a.disk in
+      let new = g.reads b.disk in
+      let first = quiet.first in
+      let writes = f.goes_on.writes in
+      let holds = writes_holds a.root.file a.root.first b.log new writes in
+      let all : HoldsLog a.root.file a.root.first (kept_log a.root.file a.root.first old ++ a.log.buffered) new = subst (λ (l : List (List ℕ)). HoldsLog a.root.file a.root.first l new) f.goes_on.log_is holds in
+      let next : next_of (stored_of g b) ≡ next_of (stored_of g a) + length a.log.buffered =
+      ap next_of (stored_flushed a b quiet f) ∙ omega (arith, length-append (stored_of g a).records (waiting_of a), length-map a.log.buffered record_in) in
+      record {
+        only = only;
+        sound = subst (λ (r : Root). IsSound r new) (sym f.root) (sound_flushed a.root a.log.buffered old new quiet.sound (homes_kept a b quiet f) all);
+        writes = subst (λ (r : Root). WritesBehind r.file r.first b.log new) (sym f.root) writes;
+        durable = omega (arith, f.durable, ap (λ (l : List (List ℕ)). length l) f.none, f.next, first, next);
+        first = omega (arith, f.next, first, next);
+      }
+
+  pub flush_holds : (a b : Base D) → IsQuiet g a → Flushed a b → HoldsStill (held_of g) (MaySave g) a b
+  flush_holds a b quiet f =
+      let stored = stored_flushed a b quiet f in
+      let both = now_flushed a b quiet f in
+      let s = stored_of g a in
+      let ws = waiting_of a in
+      record {
+        same = λ q. ap (λ (x : Stored). x.homes q) stored;
+        still = λ q since v may.
+            record {
+              counted = subst (λ (x : Stored). q < x.counted) (sym stored) may.counted;
+              above = subst (λ (x : Stored). (x.homes q).lsn < v.lsn) (sym stored) may.above;
+              low = subst (λ (x : Stored). v.lsn < next_of x) (sym both) may.low;
+              is = ⊎_elim (λ all. inl (subst (λ (x : Stored). v ≡ overlaid q x.first x.records (x.homes q)) (sym both) all))
+                  (λ same.
+                  inr (subst (λ (x : Stored). overlaid q x.first x.records v ≡ overlaid q x.first x.records (x.homes q)) (sym stored)
+                  (overlaid-append q s.first s.records ws v ∙ ap (overlaid q (s.first + length s.records) ws) same ∙ sym (overlaid-append q s.first s.records ws (s.homes q)))))
+                  may.is;
+            };
+      }
+
+  -- what may be saved is durable behind a flush
+  pub flush_durable : (a b : Base D) (p since : ℕ) (v : PageHeld) → IsQuiet g a → Flushed a b → IsQuiet g b → MaySave g a p since v → v.lsn < b.durable
+  flush_durable a b p since v quiet f quiet_b may =
+      let low = may.low in
+      let durable = quiet_b.durable in
+      omega (arith, low, durable, ap next_of (stored_flushed a b quiet f))
+
+  -- ---- a page's writing
+
+  pub may_stand : (a : Base D) (p since : ℕ) (v : PageHeld) → IsQuiet g a → MaySave g a p since v → v.lsn < a.durable → MayStand a.root (g.reads a.disk) p (value p v)
+  may_stand a p since v quiet may low =
+      let s = stored_of g a in
+      let ws = waiting_of a in
+      let durable = quiet.durable in
+      record {
+        counted = may.counted;
+        number = refl;
+        below = omega (arith, low, durable);
+        same = ⊎_elim
+            (λ (all : v ≡ overlaid p s.first (s.records ++ ws) (s.homes p)).
+            let there : (overlaid p s.first (s.records ++ ws) (s.homes p)).lsn < s.first + length s.records = subst (λ (x : PageHeld). x.lsn < s.first + length s.records) all (omega (arith, low, durable)) in
+            ap (overlaid p s.first s.records) (all ∙ durable_alone p s.first s.records ws (s.homes p) there) ∙ again p s.first s.records (s.homes p))
+            (λ same. same)
+            may.is;
+      }
+
+  pub home_leaves : (a : Base D) (d : D) (p since : ℕ) (v : PageHeld) → IsQuiet g a → MaySave g a p since v → v.lsn < a.durable
+      → LeavesOnly g a.disk d (IsOldOrNewValue (Page p) (value p v) (g.reads a.disk)) → LeavesOnly g a.disk d (FoldsFront (state_of (stored_of g a)) (waiting_of a))
+  home_leaves a d p since v quiet may low crash =
+      weaker g a.disk d (IsOldOrNewValue (Page p) (value p v) (g.reads a.disk)) (FoldsFront (state_of (stored_of g a)) (waiting_of a)) crash
+      (λ c which. (0, folds_written a.root p (value p v) (g.reads a.disk) c quiet.sound (may_stand a p since v quiet may low) which))
+
+  module _ (a : Base D) (d : D) (p since : ℕ) (v : PageHeld) (quiet : IsQuiet g a) (may : MaySave g a p since v) (low : v.lsn < a.durable) (others : OthersStay (Page p) (g.reads a.disk) (g.reads d))
+      (is : value_of (Page p) (g.reads d) ≡ Some (value p v)) where
+    abbrev b : Base D
+    b = record a { disk = d }
+
+    same_logs : KeepsLogs (g.reads a.disk) (g.reads d)
+    same_logs = pages_apart (g.reads a.disk) (g.reads d) others.files
+
+    homes_are : (q : ℕ) → held_of g b q ≡ home_put p v (held_of g a) q
+    homes_are = home_written a.root.pages p (value p v) (g.reads a.disk) (g.reads d) may.counted others is
+
+    log_same : kept_log a.root.file a.root.first (g.reads d) ≡ kept_log a.root.file a.root.first (g.reads a.disk)
+    log_same = kept_same a.root.file a.root.first (g.reads a.disk) (g.reads d) same_logs
+
+    stands : MayStand a.root (g.reads a.disk) p (value p v)
+    stands = may_stand a p since v quiet may low
+
+    pub home_moves : MovesBase g a b
+    home_moves =
+        let s = stored_of g a in
+        let ws = waiting_of a in
+        record {
+          j = 0;
+          at_most = omega arith;
+          waiting = refl;
+          hardened = state_written a.root p (value p v) (g.reads a.disk) (g.reads d) stands others is;
+          now = state_with_more a.root ws (home_put p v (held_of g a)) (g.reads a.disk) (g.reads d) same_logs homes_are ∙ state_swapped p v ws s stands.same;
+          root = refl;
+          all = ap (λ (l : List (List ℕ)). records_in l ++ ws) log_same;
+          pages = λ q. ap (λ (l : List (List ℕ)). overlaid q a.root.first (records_in l ++ ws) (held_of g b q)) log_same ∙ ap (overlaid q a.root.first (s.records ++ ws)) (homes_are q)
+              ∙ page_swapped p a.root.first s.records ws v (held_of g a) stands.same q;
+        }
+
+    pub home_quiet : IsDurable g d → IsQuiet g b
+    home_quiet only =
+        let next = next_same a.root (g.reads a.disk) (g.reads d) same_logs in
+        record {
+          only = only;
+          sound = sound_written a.root p (value p v) (g.reads a.disk) (g.reads d) quiet.sound stands others is;
+          writes = writes_same a.root.file a.root.first a.log (g.reads a.disk) (g.reads d) same_logs quiet.writes;
+          durable = quiet.durable ∙ sym next;
+          first = quiet.first ∙ sym next;
+        }
+
+    pub is_home : IsHome g p v a b
+    is_home = record {
+      there = homes_are p ∙ put_there p v (held_of g a);
+      others = λ q other. homes_are q ∙ put_elsewhere p q v (held_of g a) other;
+      records = ap records_in log_same;
+      log = refl;
+      root = refl;
+    }
+
+  -- what a page's writing puts below the pool, where it was held and might be saved as before
+  pub puts_home : (a m b : Base D) (p : ℕ) (v : PageHeld) → HoldsStill (held_of g) (MaySave g) a m → IsHome g p v m b → Puts (held_of g) (MaySave g) p v a b
+  puts_home a m b p v holds home = record {
+    there = home.there;
+    others = λ q other. home.others q other ∙ holds.same q;
+    still = λ q since w other may. goes_on q since w other (holds.still q since w may);
+  }
+    where
+      first : b.root.first ≡ m.root.first
+      first = ap (λ (r : Root). r.first) home.root
+
+      records : (now_of g b).records ≡ (now_of g m).records
+      records = ap (λ (l : List Record). l ++ waiting_of b) home.records ∙ ap (λ (l : Log). (stored_of g m).records ++ records_in l.buffered) home.log
+
+      goes_on : (q since : ℕ) (w : PageHeld) → q ≢ p → MaySave g m q since w → MaySave g b q since w
+      goes_on q since w other may =
+          let held = home.others q other in
+          record {
+            counted = subst (λ (r : Root). q < r.pages) (sym home.root) may.counted;
+            above = subst (λ (h : PageHeld). h.lsn < w.lsn) (sym held) may.above;
+            low = let was = may.low in omega (arith, was, first, ap (λ (l : List Record). length l) records);
+            is = ⊎_elim (λ all. inl (all ∙ sym (three (λ n l h. overlaid q n l h) first records held)))
+                (λ same. inr (three (λ n l h. overlaid q n l h) first home.records refl ∙ same ∙ sym (three (λ n l h. overlaid q n l h) first home.records held)))
+                may.is;
+          }
+
+pub base_kept : {D : Type 0} (b : Base D) → KeepsBase b b
+base_kept b = record { root = refl; room = omega arith; next = refl; few = omega arith }
+
+pub base_kept_on : {D : Type 0} (a b c : Base D) → KeepsBase a b → KeepsBase b c → KeepsBase a c
+base_kept_on a b c ab bc =
+    let m = ab.room in
+    let n = bc.room in
+    let k = ab.few in
+    let l = bc.few in
+    record { root = bc.root ∙ ab.root; room = omega (arith, m, n); next = bc.next ∙ ab.next; few = omega (arith, k, l) }

@@ -1,0 +1,95 @@
+// The log with what waits in it, and the homes.
+ghost use Rattle.std.specs.Prelude.{◌≡◌, ◌<◌, ◌≤◌, ◌+◌, IsTrue, ℕ, [], length, Err, IfOk, OnOk, OnErr};
+ghost use Rattle.ctr_types.specs.Faults.{HasFault};
+ghost use Rattle.ctr_disk.specs.declared.fault.StoreFault.TheVariants.{Fault};
+
+use ctr_disk::{Disk, Root, StoreFault};
+use ctr_home::{Block, read_page, write_home};
+use ctr_log::{LogFile, Lsn};
+use ctr_records::PageNo;
+
+/// A disk, the writer of its log, and what its root says.
+#[derive(Drop)]
+pub struct Base<D> {
+    pub disk: D,
+    pub log: LogFile,
+    pub root: Root,
+    /// The LSN behind the last record that is durable.
+    pub durable: Lsn,
+}
+
+impl<D: Disk> Base<D> {
+    ghost use Rattle.ctr_pool.specs.Pages.{PageHeld};
+    ghost use Rattle.ctr_pool.specs.Below.{HoldsStill};
+    ghost use Rattle.ctr_base.specs.Base.{held_of, MaySave, IsQuiet, LeavesBase, MovesBase, KeepsBase, IsHome};
+
+    /// Makes what waits durable.
+    pub fn flush(&mut self) -> Result<(), StoreFault>
+        requires { IsTrue D.tells → IsQuiet D.Disk self.old }
+        ensures keeps { KeepsBase self.old self.new }
+        ensures goes { IsTrue D.tells → LeavesBase D.Disk self.old self.new }
+        ensures moves { IsTrue D.tells → OnOk result (MovesBase D.Disk self.old self.new × IsQuiet D.Disk self.new) }
+        ensures holds { IsTrue D.tells → OnOk result (HoldsStill (held_of D.Disk) (MaySave D.Disk) self.old self.new) }
+        ensures none { OnOk result (self.new.log.buffered ≡ []) }
+        ensures refused { OnErr result (result ≡ Err Fault) }
+        ensures faults { HasFault Fault (D.faults_of self.old.disk) (D.faults_of self.new.disk) result }
+    {
+        self.log.flush(&mut self.disk)?;
+        self.durable = self.log.next();
+        Ok(())
+    }
+
+    // Makes what waits durable where this record does.
+    pub(crate) fn make_durable(&mut self, lsn: Lsn) -> Result<(), StoreFault>
+        requires { IsTrue D.tells → IsQuiet D.Disk self.old }
+        ensures keeps { KeepsBase self.old self.new }
+        ensures goes { IsTrue D.tells → LeavesBase D.Disk self.old self.new }
+        ensures moves { IsTrue D.tells → OnOk result (MovesBase D.Disk self.old self.new × IsQuiet D.Disk self.new) }
+        ensures holds { IsTrue D.tells → OnOk result (HoldsStill (held_of D.Disk) (MaySave D.Disk) self.old self.new) }
+        ensures durable { IsTrue D.tells → OnOk result ((p since : ℕ) (h : PageHeld) → MaySave D.Disk self.old p since h → h.lsn ≡ lsn → h.lsn < self.new.durable) }
+        ensures refused { OnErr result (result ≡ Err Fault) }
+        ensures faults { HasFault Fault (D.faults_of self.old.disk) (D.faults_of self.new.disk) result }
+    {
+        if lsn < self.durable {
+            return Ok(());
+        }
+        self.flush()?;
+        Ok(())
+    }
+
+    // Writes a page home whose records are durable.
+    pub(crate) fn put_home(&mut self, page: PageNo, lsn: Lsn, body: &[u8]) -> Result<(), StoreFault>
+        requires whole { length body.now ≡ 4096 }
+        requires told { IsTrue D.tells → IsQuiet D.Disk self.old × ((since : ℕ) × MaySave D.Disk self.old page since (record { lsn = lsn; body = body.now })) × (lsn < self.old.durable) }
+        ensures keeps { KeepsBase self.old self.new }
+        ensures goes { IsTrue D.tells → LeavesBase D.Disk self.old self.new }
+        ensures moves { IsTrue D.tells → OnOk result (MovesBase D.Disk self.old self.new × IsQuiet D.Disk self.new) }
+        ensures home { IsTrue D.tells → OnOk result (IsHome D.Disk page (record { lsn = lsn; body = body.now }) self.old self.new) }
+        ensures refused { OnErr result (result ≡ Err Fault) }
+        ensures faults { HasFault Fault (D.faults_of self.old.disk) (D.faults_of self.new.disk) result }
+    {
+        write_home(&mut self.disk, Block::Page(page), lsn, body)?;
+        Ok(())
+    }
+
+    // Reads a page as it stands at home.
+    pub(crate) fn get_home(&mut self, page: PageNo, into: &mut [u8]) -> Result<Lsn, StoreFault>
+        requires { length into.old ≡ 4096 }
+        ensures keeps { KeepsBase self.old self.new }
+        ensures told { IsTrue D.tells → IfOk result (λ lsn. held_of D.Disk self.old page ≡ record { lsn = lsn; body = into.new }) }
+        ensures holds { IsTrue D.tells → HoldsStill (held_of D.Disk) (MaySave D.Disk) self.old self.new }
+        ensures goes { IsTrue D.tells → IsQuiet D.Disk self.old → LeavesBase D.Disk self.old self.new }
+        ensures moves { IsTrue D.tells → IsQuiet D.Disk self.old → MovesBase D.Disk self.old self.new × IsQuiet D.Disk self.new }
+        ensures refused { IsTrue D.tells → IsQuiet D.Disk self.old → OnErr result (result ≡ Err Fault) }
+        ensures faults { HasFault Fault (D.faults_of self.old.disk) (D.faults_of self.new.disk) result }
+    {
+        read_page(&mut self.disk, self.root.pages, page, into)
+    }
+
+    /// The number of the next record.
+    pub fn next(&self) -> Lsn
+        ensures { result ≡ self.now.log.first + length self.now.log.buffered }
+    {
+        self.log.next()
+    }
+}

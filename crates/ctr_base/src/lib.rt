@@ -1,0 +1,11 @@
+//! The log with what waits in it, and the homes of pages, below a pool. A page goes home only when the log is
+//! durable up to its LSN, so at every moment a crash leaves the state that was hardened with a prefix of the records
+//! that waited.
+#![tactic(auto)]
+
+mod backed;
+mod base;
+mod opening;
+
+pub use base::Base;
+pub use opening::{Found, OpenError};

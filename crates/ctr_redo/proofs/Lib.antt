@@ -1,0 +1,5 @@
+pub mod PageLaws
+pub mod StateLaws
+pub mod Generations
+pub mod ImageLaws
+pub mod GrowthLaws

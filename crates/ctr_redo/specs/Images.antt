@@ -1,0 +1,87 @@
+-- What of an image folds to a state, and which images are sound.
+use Rattle.std.specs.Prelude.{◌≡◌, ◌<◌, ◌≤◌, ◌*◌, ℕ, List, map, take, length, Some, None}
+use Rattle.ctr_types.specs.declared.file.File.{File}
+use Rattle.ctr_types.specs.declared.file.File.TheVariants.{Root as RootFile, LogA, LogB, Pages}
+use Rattle.ctr_disk.specs.declared.disk.Image.{Image}
+use Rattle.ctr_disk.specs.declared.fault.Root.{Root}
+use Rattle.ctr_disk.specs.Image.{content}
+use Rattle.ctr_home.specs.declared.block.Block.TheVariants.{Page, Root as RootBlock}
+use Rattle.ctr_home.specs.declared.root.Form.TheVariants.{Paged}
+use Rattle.ctr_home.specs.Blocks.{BlockValue, value_of, page_at_home}
+use Rattle.ctr_home.specs.Roots.{IsRootOf, SaysRootOf}
+use Rattle.ctr_log.specs.Kept.{kept_log, HoldsLog}
+use Rattle.ctr_records.specs.declared.record.Record.{Record}
+use Rattle.ctr_records.specs.Read.{record_in}
+use Rattle.ctr_pool.specs.Pages.{PageHeld}
+use Rattle.ctr_redo.specs.Overlaid.{overlaid}
+use Rattle.ctr_redo.specs.States.{State, Stored, state_of, steps, next_of, LieBelow}
+
+-- the records that the bytes of a log tell
+abbrev pub records_in : List (List ℕ) → List Record
+records_in bs = map record_in bs
+
+-- a page of an image in which so many pages are counted, as it stands at home
+abbrev pub home_in : ℕ → Image → ℕ → PageHeld
+home_in counted image p = record {
+  lsn = (page_at_home counted p image).lsn;
+  body = (page_at_home counted p image).bytes;
+}
+
+-- what of an image folds to its state, by its root: how many pages are counted, the pages at home,
+-- the records of its log, of two generations where two are kept
+abbrev pub stored_in : Root → Image → Stored
+stored_in root image = record {
+  counted = root.pages;
+  homes = home_in root.pages image;
+  first = root.first;
+  records = records_in (kept_log root.file root.first image);
+}
+
+-- The image says this root, its log is whole, its pages have their numbers and no record that the
+-- log lacks, and the file of pages has all that are counted.
+pub record IsSound (root : Root) (image : Image) : Type 0 where
+  pub says : SaysRootOf Paged (value_of RootBlock image) root
+  pub log : HoldsLog root.file root.first (kept_log root.file root.first image) image
+  pub below : LieBelow (next_of (stored_in root image)) (home_in root.pages image)
+  pub numbered : (p : ℕ) (v : BlockValue) → p < root.pages → value_of (Page p) image ≡ Some v → v.number ≡ p
+  pub size : 8256 * root.pages ≤ length (content Pages image)
+
+-- the image is sound and folds to a state
+pub record FoldsTo (image : Image) (s : State) : Type 0 where
+  pub root : Root
+  pub sound : IsSound root image
+  pub state_is : state_of (stored_in root image) ≡ s
+
+-- the image folds to a state with a prefix of these records
+abbrev pub FoldsFront : State → List Record → Image → Type 0
+FoldsFront s rs image = (k : ℕ) × FoldsTo image (steps (take k rs) s)
+
+-- a file of the log
+abbrev pub IsLogFile : File → Type 0
+IsLogFile RootFile = ⊥
+IsLogFile LogA = Unit {0}
+IsLogFile LogB = Unit {0}
+IsLogFile Pages = ⊥
+
+-- a value of a block as a page that is held
+abbrev pub held_by : BlockValue → PageHeld
+held_by v = record { lsn = v.stamp; body = v.body }
+
+-- A value that a page of an image may have at home: it has the page's number and no record that the
+-- log lacks, and the log's records make the same page of it as of what is there.
+pub record MayStand (root : Root) (image : Image) (p : ℕ) (v : BlockValue) : Type 0 where
+  pub counted : p < root.pages
+  pub number : v.number ≡ p
+  pub below : v.stamp < next_of (stored_in root image)
+  pub same : overlaid p root.first (stored_in root image).records (held_by v)
+      ≡ overlaid p root.first (stored_in root image).records (home_in root.pages image p)
+
+-- More pages can be counted: the pages that are added are blank in the file, which has them, and the
+-- root says the rest as before.
+pub record CanCount (root more : Root) (image : Image) : Type 0 where
+  pub is_root : IsRootOf Paged more
+  pub file : more.file ≡ root.file
+  pub first : more.first ≡ root.first
+  pub grows : root.pages ≤ more.pages
+  pub blank : (p : ℕ) → root.pages ≤ p → p < more.pages → value_of (Page p) image ≡ None
+  pub size : 8256 * more.pages ≤ length (content Pages image)

@@ -1,0 +1,3 @@
+pub mod Overlaid
+pub mod States
+pub mod Images

@@ -1,0 +1,33 @@
+// What a crash leaves of calls of the log and of the homes. A call does nothing: what it ensures is the law.
+ghost use Rattle.std.specs.Prelude.{◌⊎◌, ℕ, List};
+ghost use Rattle.ctr_types.specs.declared.file.File.{File as FileOf};
+ghost use Rattle.ctr_disk.specs.declared.disk.Image.{Image};
+ghost use Rattle.ctr_disk.specs.declared.fault.Root.{Root};
+ghost use Rattle.ctr_home.specs.declared.block.Block.TheVariants.{Page, Root as RootBlock};
+ghost use Rattle.ctr_home.specs.Roots.{root_block};
+ghost use Rattle.ctr_home.specs.Blocks.{BlockValue};
+ghost use Rattle.ctr_home.specs.Writing.{IsOldOrNewValue};
+ghost use Rattle.ctr_log.specs.Kept.{KeepsPrefix};
+ghost use Rattle.ctr_redo.specs.States.{state_of};
+ghost use Rattle.ctr_redo.specs.Images.{records_in, stored_in, IsSound, FoldsTo, FoldsFront, IsLogFile, MayStand, CanCount};
+
+/// A crash in a flush of the log leaves an image that is sound and folds to the state with a prefix of the records
+/// that waited.
+pub fn a_flush_leaves_a_prefix()
+    ensures { (root : Root) (file : FileOf) (waiting : List (List ℕ)) (old new : Image) → IsSound root old → IsLogFile file → KeepsPrefix file root.file root.first waiting old new
+        → FoldsFront (state_of (stored_in root old)) (records_in waiting) new }
+{}
+
+/// A crash in the writing of a page that may stand at home leaves an image that is sound and folds to the same state:
+/// whether the page has its old or its new value there.
+pub fn a_writing_home_leaves_the_state()
+    ensures { (root : Root) (p : ℕ) (v : BlockValue) (old new : Image) → IsSound root old → MayStand root old p v → IsOldOrNewValue (Page p) v old new
+        → FoldsTo new (state_of (stored_in root old)) }
+{}
+
+/// A crash in the root's writing that counts more pages, which are blank, leaves an image that is sound and folds to the
+/// same state, or to the same but for the count.
+pub fn more_pages_can_be_counted()
+    ensures { (root more : Root) (old new : Image) → IsSound root old → CanCount root more old → IsOldOrNewValue RootBlock (root_block more) old new
+        → FoldsTo new (state_of (stored_in root old)) ⊎ FoldsTo new (record (state_of (stored_in root old)) { counted = more.pages }) }
+{}

@@ -1,0 +1,84 @@
+-- How long a record is, and where its overlay lies.
+use Rattle.std.proofs.Common.{◌≡◌, ◌≢◌, ⊎_elim, ℕ, ◌+◌, ◌<◌, ◌≤◌, ◌==◌, true, false, length, Option, Some, None, refl, sym, ◌∙◌, ap, subst, arith}
+use Rattle.std.specs.Prelude.{is_some}
+use Rattle.std.proofs.lemmas.Bool.Decides.{eqb_tells}
+use Rattle.ctr_records.specs.declared.record.Overlay.{Overlay}
+use Rattle.ctr_records.specs.declared.record.Record.{Record}
+use Rattle.ctr_records.specs.declared.record.Form.{Form}
+use Rattle.ctr_records.specs.declared.record.Form.TheVariants.{Lists, Fields}
+use Rattle.ctr_records.specs.declared.table.Tag.{Tag}
+use Rattle.ctr_records.specs.declared.table.Tag.TheVariants as tag
+use Rattle.ctr_records.specs.Table.{layout, flag_at}
+use Rattle.ctr_records.specs.Parts.{form_of, OverlayFits}
+use Rattle.ctr_records.specs.Spelling.{record_bytes, form_bytes, overlay_len}
+use Rattle.ctr_records.specs.Records.{FormFits, IsRecord}
+use Rattle.ctr_records.proofs.Laws.{length-parts}
+use Rattle.ctr_pool.specs.declared.frame.Frame.{Frame}
+use Rattle.ctr_pool.specs.Frames.{frame_of, has_page}
+use Rattle.ctr_redo.specs.Overlaid.{form_overlay, overlay_of, lies_on, touches}
+use Rattle.ctr_store.specs.Changes.{HasFields, IsChange, LiesInside}
+
+flag_low : (t : Tag) → flag_at (layout t) ≤ 17
+flag_low tag.Begin = omega arith
+flag_low tag.Commit = omega arith
+flag_low tag.Abort = omega arith
+flag_low tag.Forget = omega arith
+flag_low tag.Alloc = omega arith
+flag_low tag.Format = omega arith
+flag_low tag.Link = omega arith
+flag_low tag.Free = omega arith
+flag_low tag.Unlink = omega arith
+flag_low tag.Create = omega arith
+flag_low tag.Uncreate = omega arith
+flag_low tag.Drop = omega arith
+flag_low tag.Undrop = omega arith
+flag_low tag.Row = omega arith
+flag_low tag.Keep = omega arith
+flag_low tag.Revert = omega arith
+flag_low tag.Trim = omega arith
+
+overlay_low : (flag : ℕ) (o : Option Overlay) → OverlayFits flag o → overlay_len o ≤ 4105
+overlay_low flag None fits = omega arith
+overlay_low flag (Some o) fits = let inside = fits.3 in omega (arith, inside)
+
+-- a record that is no Checkpoint is a short one
+form_short : (f : Form) → FormFits f → HasFields f → length (form_bytes f) ≤ 4122
+form_short (Lists next lists) fits has = absurd has
+form_short (Fields p) fits has = let flag = flag_low p.tag in let over = overlay_low (layout p.tag).flag p.overlay fits.overlay in omega (arith, length-parts p, flag, over)
+
+pub record_short : (r : Record) → IsRecord r → IsChange r → length (record_bytes r) ≤ 4122
+record_short r fits change = form_short (form_of r) fits change
+
+-- its overlay lies inside a page
+form_inside : (f : Form) (o : Overlay) → FormFits f → form_overlay f ≡ Some o → o.offset + length o.bytes ≤ 4096
+form_inside (Lists next lists) o fits is = absurd (cc is)
+form_inside (Fields p) o fits is = let has = subst (OverlayFits (layout p.tag).flag) is fits.overlay in has.3
+
+pub overlay_inside : (r : Record) (o : Overlay) → IsRecord r → overlay_of r ≡ Some o → o.offset + length o.bytes ≤ 4096
+overlay_inside r o fits is = form_inside (form_of r) o fits is
+
+-- the page that it is on, and the others
+pub on_page : (o : Overlay) → (o.page == o.page) ≡ true
+on_page o = ⊎_elim (λ w. w.0) (λ w. absurd (w.1 refl)) (eqb_tells o.page o.page)
+
+pub off_page : (r : Record) (o : Overlay) → overlay_of r ≡ Some o → (q : ℕ) → q ≢ o.page → touches r q ≡ false
+off_page r o is q other = ap (λ x. lies_on x q) is ∙ ⊎_elim (λ w. absurd (other (sym w.1))) (λ w. w.0) (eqb_tells o.page q)
+
+pub off_all : (r : Record) → overlay_of r ≡ None → (q : ℕ) → touches r q ≡ false
+off_all r is q = ap (λ x. lies_on x q) is
+
+-- a page that is there has a frame
+some_there : (x : Option Frame) → is_some x ≡ true → (f : Frame) × (x ≡ Some f)
+some_there None is = absurd (cc is)
+some_there (Some f) is = (f, refl)
+
+pub frame_there : (p : ℕ) (fs : _) → has_page p fs ≡ true → (f : Frame) × (frame_of p fs ≡ Some f)
+frame_there p fs is = some_there (frame_of p fs) is
+
+pub inside_of : (counted : ℕ) (r : Record) (o : Overlay) → overlay_of r ≡ Some o → LiesInside counted (overlay_of r) → o.page < counted
+inside_of counted r o is inside = subst (LiesInside counted) is inside
+
+pub page_of_touch : (r : Record) (o : Overlay) (q : ℕ) → overlay_of r ≡ Some o → touches r q ≡ true → q ≡ o.page
+page_of_touch r o q is on =
+    let on_it : (o.page == q) ≡ true = sym (ap (λ x. lies_on x q) is) ∙ on in
+    ⊎_elim (λ w. sym w.1) (λ w. absurd (cc (w.0, on_it))) (eqb_tells o.page q)

@@ -1,0 +1,211 @@
+-- A record more in the redo of a log.
+use Rattle.std.proofs.Common.{◌≡◌, ◌≢◌, inr, ⊎_elim, ℕ, zero, suc, ◌+◌, ◌<◌, ◌≤◌, ◌==◌, if◌then◌else◌, true, false, List, [], ◌∷◌, ◌++◌, length, take, drop, Option, Some, None, slice_get, refl, sym, ◌∙◌, ap, subst, arith, length-append, take-append-drop}
+use Rattle.std.proofs.Math.Seq.{drop-nil}
+use Rattle.std.proofs.lemmas.List.{append-nil, take_all}
+use Rattle.std.proofs.lemmas.Option.{slice_get_within}
+use Rattle.std.proofs.lemmas.Bool.Decides.{eqb_tells}
+use Rattle.std.specs.Option.{option_map}
+use Rattle.ctr_disk.specs.declared.disk.Disk.{Ghosts}
+use Rattle.ctr_disk.specs.declared.fault.Root.{Root}
+use Rattle.ctr_records.specs.declared.record.Record.{Record}
+use Rattle.ctr_records.specs.declared.record.Overlay.{Overlay}
+use Rattle.ctr_meta.specs.Effects.{effect, tables_of}
+use Rattle.ctr_meta.specs.Kept.{TablesKept}
+use Rattle.ctr_pool.specs.declared.frame.Frame.{Frame}
+use Rattle.ctr_pool.specs.Pages.{PageHeld, overlaid_by}
+use Rattle.ctr_pool.specs.Frames.{frame_of, page_of, kept_or, page_shown, after_change, since_then}
+use Rattle.ctr_pool.specs.Over.{IsHeld, IsOver, ShowsSame}
+use Rattle.ctr_pool.proofs.FrameLaws.{yes, no}
+use Rattle.ctr_redo.specs.Overlaid.{overlay_of, lies_on, laid_over, touches, with_record, overlaid}
+use Rattle.ctr_redo.specs.Images.{records_in}
+use Rattle.ctr_redo.specs.States.{Stored}
+use Rattle.ctr_redo.proofs.PageLaws.{stays_out, goes_in, overlaid-append, same_page}
+use Rattle.ctr_redo.proofs.StateLaws.{tables-push}
+use Rattle.ctr_base.specs.declared.base.Base.{Base}
+use Rattle.ctr_base.specs.Base.{stored_of, waiting_of, held_of, MaySave, IsQuiet, MovesBase, backing_of}
+use Rattle.ctr_base.specs.BaseLaws.{moves_joined, stands_still}
+use Rattle.ctr_store.specs.declared.parts.Parts.{Parts}
+use Rattle.ctr_store.specs.Parts.{IsFold}
+use Rattle.ctr_store.specs.Redo.{RedoesPages, IsNextRecord}
+use Rattle.ctr_store.proofs.RecordLaws.{inside_of}
+
+take_next : (l : List Record) (j : ℕ) (r : Record) → slice_get l j ≡ Some r → take (j + 1) l ≡ take j l ++ r ∷ []
+take_next [] j r is = absurd (cc is)
+take_next (x ∷ l) zero r is = let same : x ≡ r = cc is in ap (λ (y : Record). y ∷ []) same
+take_next (x ∷ l) (suc j) r is = let n : suc j + 1 ≡ suc (j + 1) = omega arith in ap (λ (m : ℕ). take m (x ∷ l)) n ∙ ap (λ (t : List Record). x ∷ t) (take_next l j r is)
+
+length_of : (n : ℕ) (l : List Record) → n < length l → length (take n l) ≡ n
+length_of zero l inside = refl
+length_of (suc n) [] inside = absurd (omega (arith, inside))
+length_of (suc n) (x ∷ l) inside = let k = length_of n l (omega (arith, inside)) in omega (arith, k)
+
+module _ {D : Type 0} (g : Ghosts D) where
+  -- a frame's LSN isn't below that of what is held
+  held_high : (b : Base D) (p : ℕ) (v : PageHeld) (s : Option ℕ) → IsHeld (backing_of g) b p v s → (held_of g b p).lsn ≤ v.lsn
+  held_high b p v None is = omega (arith, ap (λ (h : PageHeld). h.lsn) is)
+  held_high b p v (Some s) may = let above = may.above in omega (arith, above)
+
+  -- ---- a call below on the way
+
+  pub redo_moved : (start : Base D) (n : ℕ) (s t : Parts D) → RedoesPages g start n s → MovesBase g s.base t.base → ShowsSame (backing_of g) s.pool.frames s.base t.pool.frames t.base
+      → IsOver (backing_of g) t.pool.frames t.base → RedoesPages g start n t
+  redo_moved start n s t doing m shows over = record { over = over; moves = moves_joined g start s.base t.base doing.moves m; none = doing.none; current = λ p. shows p ∙ doing.current p }
+
+  -- other tables
+  pub with_meta : (start : Base D) (n : ℕ) (s : Parts D) (m : TablesKept) → RedoesPages g start n s → RedoesPages g start n (record s { meta = m })
+  with_meta start n s m doing = record { over = doing.over; moves = doing.moves; none = doing.none; current = doing.current }
+
+  module _ (start : Base D) (n : ℕ) (r : Record) (next : IsNextRecord g start n r) where
+    abbrev i : Stored
+    i = stored_of g start
+
+    abbrev lsn : ℕ
+    lsn = start.root.first + n
+
+    inside : n < length i.records
+    inside = slice_get_within i.records n r next.there
+
+    page_next : (q : ℕ) (h : PageHeld) → overlaid q i.first (take (n + 1) i.records) h ≡ with_record q lsn r (overlaid q i.first (take n i.records) h)
+    page_next q h =
+        ap (λ (l : List Record). overlaid q i.first l h) (take_next i.records n r next.there) ∙ overlaid-append q i.first (take n i.records) (r ∷ []) h
+        ∙ ap (λ (m : ℕ). with_record q (i.first + m) r (overlaid q i.first (take n i.records) h)) (length_of n i.records inside)
+
+    page_off : (q : ℕ) (h : PageHeld) → (touches r q ≡ true → lsn ≤ (overlaid q i.first (take n i.records) h).lsn) → overlaid q i.first (take n i.records) h ≡ overlaid q i.first (take (n + 1) i.records) h
+    page_off q h out = sym (page_next q h ∙ stays_out q lsn r (overlaid q i.first (take n i.records) h) out)
+
+    pub tables_next : effect r (tables_of (take n i.records)) ≡ tables_of (take (n + 1) i.records)
+    tables_next = sym (ap tables_of (take_next i.records n r next.there) ∙ tables-push (take n i.records) r)
+
+    -- a record that changes no page, or was in its page before
+    pub redo_off : (s : Parts D) → RedoesPages g start n s → ((q : ℕ) → touches r q ≡ true → lsn ≤ (page_shown s.pool.frames q (held_of g s.base q)).lsn) → RedoesPages g start (n + 1) s
+    redo_off s doing out = record {
+      over = doing.over;
+      moves = doing.moves;
+      none = doing.none;
+      current = λ q. doing.current q ∙ page_off q (held_of g start q) (λ on. subst (λ (h : PageHeld). lsn ≤ h.lsn) (doing.current q) (out q on));
+    }
+
+    -- a record that goes into the frame of its page
+    module _ (s : Parts D) (doing : RedoesPages g start n s) (o : Overlay) (f : Frame) (gs : List Frame) (is_over : overlay_of r ≡ Some o) (others : (q : ℕ) → q ≢ o.page → touches r q ≡ false) (on : (o.page == o.page) ≡ true)
+        (there : frame_of o.page s.pool.frames ≡ Some f) (lower : f.lsn < lsn) (changed : (q : ℕ) → frame_of q gs ≡ (if o.page == q then option_map (after_change o lsn) (frame_of q s.pool.frames) else frame_of q s.pool.frames)) where
+      abbrev p : ℕ
+      p = o.page
+
+      abbrev fs : List Frame
+      fs = s.pool.frames
+
+      abbrev b : Base D
+      b = s.base
+
+      abbrev was : PageHeld
+      was = overlaid p i.first (take n i.records) (held_of g start p)
+
+      was_is : page_of f ≡ was
+      was_is = ap (kept_or (held_of g b p)) (sym there) ∙ doing.current p
+
+      touched : touches r p ≡ true
+      touched = ap (λ x. lies_on x p) is_over ∙ on
+
+      abbrev v : PageHeld
+      v = page_of (after_change o lsn f)
+
+      v_is : v ≡ overlaid p i.first (take (n + 1) i.records) (held_of g start p)
+      v_is =
+          ap (λ (h : PageHeld). record { lsn = lsn; body = overlaid_by o h.body }) was_is
+          ∙ ap (λ x. record { lsn = lsn; body = laid_over x was.body }) (sym is_over)
+          ∙ sym (goes_in p lsn r was touched (subst (λ (h : PageHeld). h.lsn < lsn) was_is lower)) ∙ sym (page_next p (held_of g start p))
+
+      waits_none : waiting_of b ≡ []
+      waits_none = doing.moves.waiting ∙ ap (λ (l : List (List ℕ)). drop doing.moves.j (records_in l)) doing.none ∙ drop-nil doing.moves.j
+
+      records_are : (stored_of g b).records ≡ i.records
+      records_are =
+          sym (append-nil (stored_of g b).records) ∙ ap (λ (l : List Record). (stored_of g b).records ++ l) (sym waits_none) ∙ doing.moves.all
+          ∙ ap (λ (l : List (List ℕ)). i.records ++ records_in l) doing.none ∙ append-nil i.records
+
+      same_first : b.root.first ≡ start.root.first
+      same_first = ap (λ (x : Root). x.first) doing.moves.root
+
+      -- all records make the same page of it
+      v_fits : overlaid p b.root.first (stored_of g b).records v ≡ overlaid p b.root.first (stored_of g b).records (held_of g b p)
+      v_fits =
+          let h = held_of g start p in
+          let ds = take (n + 1) i.records in
+          let es = drop (n + 1) i.records in
+          let whole : ds ++ es ≡ i.records = take-append-drop (n + 1) i.records in
+          let one : overlaid p i.first i.records v ≡ overlaid p i.first i.records h =
+          ap (λ (l : List Record). overlaid p i.first l v) (sym whole) ∙ ap (overlaid p i.first (ds ++ es)) v_is ∙ same_page p i.first ds es h ∙ ap (λ (l : List Record). overlaid p i.first l h) whole in
+          let now : overlaid p b.root.first (stored_of g b).records (held_of g b p) ≡ overlaid p i.first i.records h =
+          ap (λ (l : List Record). overlaid p b.root.first l (held_of g b p)) (sym (append-nil (stored_of g b).records) ∙ ap (λ (l : List Record). (stored_of g b).records ++ l) (sym waits_none))
+          ∙ doing.moves.pages p ∙ ap (λ (l : List Record). overlaid p i.first l h) (ap (λ (l : List (List ℕ)). i.records ++ records_in l) doing.none ∙ append-nil i.records) in
+          ap (λ (m : ℕ). overlaid p m (stored_of g b).records v) same_first ∙ ap (λ (l : List Record). overlaid p i.first l v) records_are ∙ one ∙ sym now
+
+      may_save : (since : ℕ) → MaySave g b p since v
+      may_save since =
+          let counted = inside_of start.root.pages r o is_over next.counted in
+          let high = held_high b p (page_of f) f.since (doing.over.held p f there) in
+          record {
+            counted = subst (λ (x : Root). p < x.pages) (sym doing.moves.root) counted;
+            above = omega (arith, high, lower);
+            low = omega (arith, inside, same_first, ap (λ (l : List Record). length l) records_are, length-append (stored_of g b).records (waiting_of b));
+            is = inr v_fits;
+          }
+
+      held_now : (x : Option ℕ) → IsHeld (backing_of g) b p v (since_then x lsn)
+      held_now None = may_save lsn
+      held_now (Some x) = may_save x
+
+      one : {A : Type 0} (x y : A) → Some x ≡ Some y → x ≡ y
+      one x y e = cc e
+
+      here : frame_of p gs ≡ Some (after_change o lsn f)
+      here = changed p ∙ yes (p == p) (option_map (after_change o lsn) (frame_of p fs)) (frame_of p fs) on ∙ ap (option_map (after_change o lsn)) there
+
+      elsewhere : (q : ℕ) → q ≢ p → frame_of q gs ≡ frame_of q fs
+      elsewhere q other = changed q ∙ ⊎_elim (λ w. absurd (other (sym w.1))) (λ w. no (p == q) (option_map (after_change o lsn) (frame_of q fs)) (frame_of q fs) w.0) (eqb_tells p q)
+
+      on_frames : IsOver (backing_of g) gs b
+      on_frames = record { at_rest = doing.over.at_rest; held = λ q h is. ⊎_elim (λ w. at_page q h is w.1) (λ w. doing.over.held q h (sym (elsewhere q w.1) ∙ is)) (eqb_tells q p) }
+        where
+          at_page : (q : ℕ) (h : Frame) → frame_of q gs ≡ Some h → q ≡ p → IsHeld (backing_of g) b q (page_of h) h.since
+          at_page q h is same =
+              let h_is : after_change o lsn f ≡ h = one (after_change o lsn f) h (sym here ∙ ap (λ (m : ℕ). frame_of m gs) (sym same) ∙ is) in
+              subst (λ (x : Frame). IsHeld (backing_of g) b q (page_of x) x.since) h_is
+              (subst (λ (m : ℕ). IsHeld (backing_of g) b m v (since_then f.since lsn)) (sym same) (held_now f.since))
+
+      pub redo_on : (t : Parts D) → t.base ≡ s.base → t.pool.frames ≡ gs → RedoesPages g start (n + 1) t
+      redo_on t base frames = record {
+        over = subst (λ (k : Base D). IsOver (backing_of g) t.pool.frames k) (sym base) (subst (λ (l : List Frame). IsOver (backing_of g) l s.base) (sym frames) on_frames);
+        moves = subst (λ (k : Base D). MovesBase g start k) (sym base) doing.moves;
+        none = doing.none;
+        current = λ q.
+            ap (λ (k : Base D). page_shown t.pool.frames q (held_of g k q)) base ∙ ap (λ (l : List Frame). page_shown l q (held_of g b q)) frames
+            ∙ ⊎_elim
+            (λ w.
+            let P : ℕ → Type 0 = λ m. page_shown gs m (held_of g b m) ≡ overlaid m i.first (take (n + 1) i.records) (held_of g start m) in
+            subst P (sym w.1) (ap (kept_or (held_of g b p)) here ∙ v_is))
+            (λ w.
+            ap (kept_or (held_of g b q)) (elsewhere q w.1) ∙ doing.current q
+            ∙ page_off q (held_of g start q) (λ is_q. let off = others q w.1 in absurd (cc (off, is_q))))
+            (eqb_tells q p);
+      }
+
+  -- before the first record
+  pub redo_starts : (s : Parts D) → IsQuiet g s.base → s.pool.frames ≡ [] → s.base.log.buffered ≡ [] → RedoesPages g s.base 0 s
+  redo_starts s quiet empty none = record {
+    over = record { at_rest = quiet; held = λ p f is. let none : None ≡ Some f = sym (ap (frame_of p) empty) ∙ is in absurd (cc none) };
+    moves = stands_still g s.base;
+    none = none;
+    current = λ p. ap (λ (l : List Frame). page_shown l p (held_of g s.base p)) empty;
+  }
+
+  -- behind the last
+  pub redo_ends : (start : Base D) (n : ℕ) (s : Parts D) → RedoesPages g start n s → n ≡ length (stored_of g start).records → s.meta.tables ≡ tables_of (take n (stored_of g start).records) → IsFold g s
+  redo_ends start n s doing all tables =
+      let i = stored_of g start in
+      let whole : take n i.records ≡ i.records ++ waiting_of start = take_all n i.records (omega (arith, all)) ∙ sym (append-nil i.records) ∙ ap (λ (l : List (List ℕ)). i.records ++ records_in l) (sym doing.none) in
+      record {
+        over = doing.over;
+        tables = tables ∙ ap tables_of (whole ∙ sym doing.moves.all);
+        current = λ p. doing.current p ∙ ap (λ (l : List Record). overlaid p i.first l (held_of g start p)) whole ∙ sym (doing.moves.pages p);
+      }

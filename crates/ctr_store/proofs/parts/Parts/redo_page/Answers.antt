@@ -1,0 +1,43 @@
+use Rattle.std.proofs.Common.{◌≡◌, ◌∙◌, ◌==◌, ◌≤◌, ◌+◌, if◌then◌else◌, ℕ, refl, sym, ap, subst, arith}
+use Rattle.std.specs.Option.{option_map}
+use Rattle.ctr_pool.specs.Frames.{frame_of, after_change, page_shown, kept_or}
+use Rattle.ctr_base.specs.Base.{held_of}
+use Rattle.ctr_store.specs.declared.parts.Parts.{Parts}
+use Rattle.ctr_store.proofs.RecordLaws.{on_page, off_page, frame_there, page_of_touch}
+use Rattle.ctr_store.proofs.RedoLaws.{redo_moved, redo_off, redo_on}
+use Rattle.ctr_store.proofs.parts.Parts.redo_page.Goals as goal
+
+pub returns-then-lsn-clause-redone : goal.returns-then-lsn-clause-redone
+returns-then-lsn-clause-redone g c start n r told doing next is at =
+    let d = g.D.Disk in
+    let s = c.args.self.now in
+    let t : Parts g.row.D.Denot = record s { base = c.bring.new.backing; pool = c.bring.new.self } in
+    let e = c.in_ok-bring.ensures in
+    let stays = e.stays told in
+    let o = c.args.overlay.now in
+    let mid = redo_moved d start n s t doing (e.works.moves told doing.over.at_rest) stays.shows stays.over in
+    let frame = frame_there o.page t.pool.frames e.brings.there in
+    let low = c.lsn.ensures frame.0 frame.1 in
+    redo_off d start n r next t mid
+    (λ q on.
+    let same = page_of_touch r o q is on in
+    subst (λ (m : ℕ). start.root.first + n ≤ (page_shown t.pool.frames m (held_of d t.base m)).lsn) (sym same)
+    (subst (λ x. start.root.first + n ≤ (kept_or (held_of d t.base o.page) x).lsn) (sym frame.1) (omega (arith, low, at))))
+
+pub returns-clause-redone : goal.returns-clause-redone
+returns-clause-redone g c start n r told doing next is at =
+    let d = g.D.Disk in
+    let s = c.args.self.now in
+    let m : Parts g.row.D.Denot = record s { base = c.bring.new.backing; pool = c.bring.new.self } in
+    let t : Parts g.row.D.Denot = record s { base = c.bring.new.backing; pool = c.change.new.self } in
+    let e = c.in_ok-bring.ensures in
+    let stays = e.stays told in
+    let o = c.args.overlay.now in
+    let mid = redo_moved d start n s m doing (e.works.moves told doing.over.at_rest) stays.shows stays.over in
+    let fs = m.pool.frames in
+    let frame = frame_there o.page fs e.brings.there in
+    let low = c.lsn.ensures frame.0 frame.1 in
+    let gs = c.change.new.self.frames in
+    let changed : (q : ℕ) → frame_of q gs ≡ (if o.page == q then option_map (after_change o (start.root.first + n)) (frame_of q fs) else frame_of q fs) = λ q.
+    c.change.ensures.frames q ∙ ap (λ (k : ℕ). if o.page == q then option_map (after_change o k) (frame_of q fs) else frame_of q fs) at in
+    redo_on d start n r next m mid o frame.0 gs is (off_page r o is) (on_page o) frame.1 (omega (arith, low, at)) changed t refl refl

@@ -1,0 +1,38 @@
+// Records as they go into the log.
+ghost use Rattle.std.specs.Prelude.{◌≡◌, ◌≤◌, ◌<◌, ◌+◌, ◌-◌, ◌^◌, ◌++◌, [], ◌∷◌, length};
+ghost use Rattle.ctr_records.specs.Records.{IsRecord};
+ghost use Rattle.ctr_records.specs.Spelling.{record_bytes};
+ghost use Rattle.ctr_redo.specs.Overlaid.{overlay_of};
+ghost use Rattle.ctr_store.specs.Changes.{IsChange};
+
+use ctr_log::{LogFile, Lsn};
+use ctr_records::{Form, Overlay, Record, encode, to_form};
+
+/// How many bytes a record has at most that is no Checkpoint: its number, two fields, and an overlay of a page.
+pub const MOST_BYTES: usize = 4122;
+
+/// The overlay of a record, where it has one.
+pub fn overlay_of<'a>(rec: &'a Record) -> Option<Overlay<'a>>
+    ensures { result ≡ overlay_of rec.now }
+{
+    match to_form(rec) {
+        Form::Lists { .. } => None,
+        Form::Fields(parts) => parts.overlay,
+    }
+}
+
+/// Adds a record that is no Checkpoint to the log's buffer. It takes no memory.
+pub fn append_record(log: &mut LogFile, rec: &Record) -> Lsn
+    requires is_record { IsRecord rec.now }
+    requires change { IsChange rec.now }
+    requires room { 8 + length (record_bytes rec.now) ≤ log.old.room }
+    requires few { length log.old.buffered < 2 ^ 32 - 1 }
+    requires next { log.old.first + length log.old.buffered < 2 ^ 63 - 1 }
+    ensures number { result ≡ log.old.first + length log.old.buffered }
+    ensures added { log.new ≡ record log.old { buffered = log.old.buffered ++ record_bytes rec.now ∷ []; room = log.new.room } }
+    ensures room_left { log.old.room ≤ log.new.room + (8 + length (record_bytes rec.now)) }
+{
+    let mut bytes = [0; MOST_BYTES];
+    let len = encode(rec, &mut bytes);
+    log.append(&bytes[..len])
+}
