@@ -25,17 +25,17 @@ abbrev pub now_of : {D : Type 0} → Ghosts D → Base D → Stored
 now_of g b = with_more (waiting_of b) (stored_of g b)
 
 -- a page as it stands at home
-abbrev pub held_of : {D : Type 0} → Ghosts D → Base D → ℕ → PageHeld
-held_of g b p = home_in b.root.pages (g.reads b.disk) p
+abbrev pub home_of : {D : Type 0} → Ghosts D → Base D → ℕ → PageHeld
+home_of g b p = home_in b.root.pages (g.reads b.disk) p
 
 -- A page that may go home once its records are durable: it has all records so far, or the records on
 -- the disk make the same page of it as of what is at home.
 pub record MaySave {D : Type 0} (g : Ghosts D) (b : Base D) (p since : ℕ) (v : PageHeld) : Type 0 where
   pub counted : p < b.root.pages
-  pub above : (held_of g b p).lsn < v.lsn
+  pub above : (home_of g b p).lsn < v.lsn
   pub low : v.lsn < next_of (now_of g b)
-  pub is : (v ≡ overlaid p b.root.first (now_of g b).records (held_of g b p))
-      ⊎ (overlaid p b.root.first (stored_of g b).records v ≡ overlaid p b.root.first (stored_of g b).records (held_of g b p))
+  pub is : (v ≡ overlaid p b.root.first (now_of g b).records (home_of g b p))
+      ⊎ (overlaid p b.root.first (stored_of g b).records v ≡ overlaid p b.root.first (stored_of g b).records (home_of g b p))
 
 -- Nothing is pending on the disk, which is sound, and the log goes on behind what it holds.
 pub record IsQuiet {D : Type 0} (g : Ghosts D) (b : Base D) : Type 0 where
@@ -59,8 +59,8 @@ pub record MovesBase {D : Type 0} (g : Ghosts D) (a b : Base D) : Type 0 where
   pub now : state_of (now_of g b) ≡ state_of (now_of g a)
   pub root : b.root ≡ a.root
   pub all : (now_of g b).records ≡ (now_of g a).records
-  pub pages : (q : ℕ) → overlaid q b.root.first (now_of g b).records (held_of g b q)
-      ≡ overlaid q a.root.first (now_of g a).records (held_of g a q)
+  pub pages : (q : ℕ) → overlaid q b.root.first (now_of g b).records (home_of g b q)
+      ≡ overlaid q a.root.first (now_of g a).records (home_of g a q)
 
 -- However a call ends, the root and the number of the next record are those of before, room for
 -- records isn't lost, and no more of them wait.
@@ -72,8 +72,8 @@ pub record KeepsBase {D : Type 0} (a b : Base D) : Type 0 where
 
 -- a page is this at home now, and the others and the log are as they were
 pub record IsHome {D : Type 0} (g : Ghosts D) (p : ℕ) (v : PageHeld) (a b : Base D) : Type 0 where
-  pub there : held_of g b p ≡ v
-  pub others : (q : ℕ) → q ≢ p → held_of g b q ≡ held_of g a q
+  pub there : home_of g b p ≡ v
+  pub others : (q : ℕ) → q ≢ p → home_of g b q ≡ home_of g a q
   pub records : (stored_of g b).records ≡ (stored_of g a).records
   pub log : b.log ≡ a.log
   pub root : b.root ≡ a.root
@@ -82,7 +82,7 @@ pub record IsHome {D : Type 0} (g : Ghosts D) (p : ℕ) (v : PageHeld) (a b : Ba
 abbrev pub backing_of : {D : Type 0} → Ghosts D → BackingGhosts (Base D)
 backing_of g = record {
   tells = g.tells;
-  held = held_of g;
+  held = home_of g;
   takes = MaySave g;
   rests = IsQuiet g;
   goes = LeavesBase g;

@@ -27,7 +27,7 @@ use Rattle.ctr_redo.proofs.PageLaws.{again, durable_alone, overlaid-append}
 use Rattle.ctr_redo.proofs.StateLaws.{state_more, state_swapped, page_swapped, steps-append, put_there, put_elsewhere}
 use Rattle.ctr_redo.proofs.ImageLaws.{KeepsHomes, KeepsLogs, logs_apart, pages_apart, kept_same, named_same, other_same, more_stored, sound_flushed, folds_flushed, folds_written, sound_written, state_written, state_with_more, home_written, next_same}
 use Rattle.ctr_base.specs.declared.base.Base.{Base}
-use Rattle.ctr_base.specs.Base.{stored_of, waiting_of, now_of, held_of, MaySave, IsQuiet, LeavesBase, MovesBase, KeepsBase, IsHome}
+use Rattle.ctr_base.specs.Base.{stored_of, waiting_of, now_of, home_of, MaySave, IsQuiet, LeavesBase, MovesBase, KeepsBase, IsHome}
 
 take_split : {A : Type 0} (j k : ℕ) (l : List A) → take j l ++ take k (drop j l) ≡ take (j + k) l
 take_split zero k l = let n : k ≡ 0 + k = omega arith in ap (λ (m : ℕ). take m l) n
@@ -136,7 +136,7 @@ module _ {D : Type 0} (g : Ghosts D) where
   pub stands_still : (b : Base D) → MovesBase g b b
   stands_still b = same_moves b b refl refl refl
 
-  pub holds_still : (b : Base D) → HoldsStill (held_of g) (MaySave g) b b
+  pub holds_still : (b : Base D) → HoldsStill (home_of g) (MaySave g) b b
   holds_still b = record { same = λ q. refl; still = λ q since v may. may }
 
   -- ---- one change behind another
@@ -199,7 +199,7 @@ module _ {D : Type 0} (g : Ghosts D) where
             may.is;
       }
 
-  pub read_holds : (a : Base D) (d : D) → OnlyReads g a.disk d → HoldsStill (held_of g) (MaySave g) a (record a { disk = d })
+  pub read_holds : (a : Base D) (d : D) → OnlyReads g a.disk d → HoldsStill (home_of g) (MaySave g) a (record a { disk = d })
   read_holds a d reads =
       let stored = ap (stored_in a.root) reads.same in record {
         same = λ q. ap (λ (s : Stored). s.homes q) stored;
@@ -272,7 +272,7 @@ module _ {D : Type 0} (g : Ghosts D) where
         first = omega (arith, f.next, first, next);
       }
 
-  pub flush_holds : (a b : Base D) → IsQuiet g a → Flushed a b → HoldsStill (held_of g) (MaySave g) a b
+  pub flush_holds : (a b : Base D) → IsQuiet g a → Flushed a b → HoldsStill (home_of g) (MaySave g) a b
   flush_holds a b quiet f =
       let stored = stored_flushed a b quiet f in
       let both = now_flushed a b quiet f in
@@ -333,7 +333,7 @@ module _ {D : Type 0} (g : Ghosts D) where
     same_logs : KeepsLogs (g.reads a.disk) (g.reads d)
     same_logs = pages_apart (g.reads a.disk) (g.reads d) others.files
 
-    homes_are : (q : ℕ) → held_of g b q ≡ home_put p v (held_of g a) q
+    homes_are : (q : ℕ) → home_of g b q ≡ home_put p v (home_of g a) q
     homes_are = home_written a.root.pages p (value p v) (g.reads a.disk) (g.reads d) may.counted others is
 
     log_same : kept_log a.root.file a.root.first (g.reads d) ≡ kept_log a.root.file a.root.first (g.reads a.disk)
@@ -351,11 +351,11 @@ module _ {D : Type 0} (g : Ghosts D) where
           at_most = omega arith;
           waiting = refl;
           hardened = state_written a.root p (value p v) (g.reads a.disk) (g.reads d) stands others is;
-          now = state_with_more a.root ws (home_put p v (held_of g a)) (g.reads a.disk) (g.reads d) same_logs homes_are ∙ state_swapped p v ws s stands.same;
+          now = state_with_more a.root ws (home_put p v (home_of g a)) (g.reads a.disk) (g.reads d) same_logs homes_are ∙ state_swapped p v ws s stands.same;
           root = refl;
           all = ap (λ (l : List (List ℕ)). records_in l ++ ws) log_same;
-          pages = λ q. ap (λ (l : List (List ℕ)). overlaid q a.root.first (records_in l ++ ws) (held_of g b q)) log_same ∙ ap (overlaid q a.root.first (s.records ++ ws)) (homes_are q)
-              ∙ page_swapped p a.root.first s.records ws v (held_of g a) stands.same q;
+          pages = λ q. ap (λ (l : List (List ℕ)). overlaid q a.root.first (records_in l ++ ws) (home_of g b q)) log_same ∙ ap (overlaid q a.root.first (s.records ++ ws)) (homes_are q)
+              ∙ page_swapped p a.root.first s.records ws v (home_of g a) stands.same q;
         }
 
     pub home_quiet : IsDurable g d → IsQuiet g b
@@ -371,15 +371,15 @@ module _ {D : Type 0} (g : Ghosts D) where
 
     pub is_home : IsHome g p v a b
     is_home = record {
-      there = homes_are p ∙ put_there p v (held_of g a);
-      others = λ q other. homes_are q ∙ put_elsewhere p q v (held_of g a) other;
+      there = homes_are p ∙ put_there p v (home_of g a);
+      others = λ q other. homes_are q ∙ put_elsewhere p q v (home_of g a) other;
       records = ap records_in log_same;
       log = refl;
       root = refl;
     }
 
   -- what a page's writing puts below the pool, where it was held and might be saved as before
-  pub puts_home : (a m b : Base D) (p : ℕ) (v : PageHeld) → HoldsStill (held_of g) (MaySave g) a m → IsHome g p v m b → Puts (held_of g) (MaySave g) p v a b
+  pub puts_home : (a m b : Base D) (p : ℕ) (v : PageHeld) → HoldsStill (home_of g) (MaySave g) a m → IsHome g p v m b → Puts (home_of g) (MaySave g) p v a b
   puts_home a m b p v holds home = record {
     there = home.there;
     others = λ q other. home.others q other ∙ holds.same q;

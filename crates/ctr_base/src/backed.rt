@@ -10,12 +10,12 @@ use ctr_records::PageNo;
 impl<D: Disk> Backing for Base<D> {
     ghost use Rattle.ctr_disk.specs.declared.fault.StoreFault.TheVariants.{Fault};
     ghost use Rattle.std.specs.Prelude.{◌≡◌};
-    ghost use Rattle.ctr_base.specs.Base.{held_of, MaySave, IsQuiet, LeavesBase, MovesBase, KeepsBase};
+    ghost use Rattle.ctr_base.specs.Base.{home_of, MaySave, IsQuiet, LeavesBase, MovesBase, KeepsBase};
     ghost use Rattle.ctr_base.specs.BaseLaws.{quiet_leaves, stands_still, base_kept, base_kept_on, leaves_joined, moves_joined};
 
     ghost tells = { D.tells };
 
-    ghost held = { held_of D.Disk };
+    ghost held = { home_of D.Disk };
 
     ghost takes = { MaySave D.Disk };
 

@@ -21,7 +21,7 @@ pub struct Base<D> {
 impl<D: Disk> Base<D> {
     ghost use Rattle.ctr_pool.specs.Pages.{PageHeld};
     ghost use Rattle.ctr_pool.specs.Below.{HoldsStill};
-    ghost use Rattle.ctr_base.specs.Base.{held_of, MaySave, IsQuiet, LeavesBase, MovesBase, KeepsBase, IsHome};
+    ghost use Rattle.ctr_base.specs.Base.{home_of, MaySave, IsQuiet, LeavesBase, MovesBase, KeepsBase, IsHome};
 
     /// Makes what waits durable.
     pub fn flush(&mut self) -> Result<(), StoreFault>
@@ -29,7 +29,7 @@ impl<D: Disk> Base<D> {
         ensures keeps { KeepsBase self.old self.new }
         ensures goes { IsTrue D.tells → LeavesBase D.Disk self.old self.new }
         ensures moves { IsTrue D.tells → OnOk result (MovesBase D.Disk self.old self.new × IsQuiet D.Disk self.new) }
-        ensures holds { IsTrue D.tells → OnOk result (HoldsStill (held_of D.Disk) (MaySave D.Disk) self.old self.new) }
+        ensures holds { IsTrue D.tells → OnOk result (HoldsStill (home_of D.Disk) (MaySave D.Disk) self.old self.new) }
         ensures none { OnOk result (self.new.log.buffered ≡ []) }
         ensures refused { OnErr result (result ≡ Err Fault) }
         ensures faults { HasFault Fault (D.faults_of self.old.disk) (D.faults_of self.new.disk) result }
@@ -45,7 +45,7 @@ impl<D: Disk> Base<D> {
         ensures keeps { KeepsBase self.old self.new }
         ensures goes { IsTrue D.tells → LeavesBase D.Disk self.old self.new }
         ensures moves { IsTrue D.tells → OnOk result (MovesBase D.Disk self.old self.new × IsQuiet D.Disk self.new) }
-        ensures holds { IsTrue D.tells → OnOk result (HoldsStill (held_of D.Disk) (MaySave D.Disk) self.old self.new) }
+        ensures holds { IsTrue D.tells → OnOk result (HoldsStill (home_of D.Disk) (MaySave D.Disk) self.old self.new) }
         ensures durable { IsTrue D.tells → OnOk result ((p since : ℕ) (h : PageHeld) → MaySave D.Disk self.old p since h → h.lsn ≡ lsn → h.lsn < self.new.durable) }
         ensures refused { OnErr result (result ≡ Err Fault) }
         ensures faults { HasFault Fault (D.faults_of self.old.disk) (D.faults_of self.new.disk) result }
@@ -76,8 +76,8 @@ impl<D: Disk> Base<D> {
     pub(crate) fn get_home(&mut self, page: PageNo, into: &mut [u8]) -> Result<Lsn, StoreFault>
         requires { length into.old ≡ 4096 }
         ensures keeps { KeepsBase self.old self.new }
-        ensures told { IsTrue D.tells → IfOk result (λ lsn. held_of D.Disk self.old page ≡ record { lsn = lsn; body = into.new }) }
-        ensures holds { IsTrue D.tells → HoldsStill (held_of D.Disk) (MaySave D.Disk) self.old self.new }
+        ensures told { IsTrue D.tells → IfOk result (λ lsn. home_of D.Disk self.old page ≡ record { lsn = lsn; body = into.new }) }
+        ensures holds { IsTrue D.tells → HoldsStill (home_of D.Disk) (MaySave D.Disk) self.old self.new }
         ensures goes { IsTrue D.tells → IsQuiet D.Disk self.old → LeavesBase D.Disk self.old self.new }
         ensures moves { IsTrue D.tells → IsQuiet D.Disk self.old → MovesBase D.Disk self.old self.new × IsQuiet D.Disk self.new }
         ensures refused { IsTrue D.tells → IsQuiet D.Disk self.old → OnErr result (result ≡ Err Fault) }

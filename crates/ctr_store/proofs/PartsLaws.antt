@@ -25,7 +25,7 @@ use Rattle.ctr_redo.specs.Images.{records_in}
 use Rattle.ctr_redo.proofs.PageLaws.{stays_out, goes_in, below_next, overlaid-append}
 use Rattle.ctr_redo.proofs.StateLaws.{state_push, page_is, tables-push, below_more}
 use Rattle.ctr_base.specs.declared.base.Base.{Base}
-use Rattle.ctr_base.specs.Base.{stored_of, waiting_of, now_of, held_of, MaySave, IsQuiet, MovesBase, KeepsBase, backing_of}
+use Rattle.ctr_base.specs.Base.{stored_of, waiting_of, now_of, home_of, MaySave, IsQuiet, MovesBase, KeepsBase, backing_of}
 use Rattle.ctr_store.specs.declared.parts.Parts.{Parts}
 use Rattle.ctr_store.specs.Changes.{LiesInside}
 use Rattle.ctr_store.specs.Parts.{IsFold, CanLog, AddsRecord, LogsRecord}
@@ -48,14 +48,14 @@ writes_more true file first log image more room w = record {
 
 module _ {D : Type 0} (g : Ghosts D) where
   -- what a frame has is held, or may be saved, where all is held as it was
-  is_held_same : (a b : Base D) → HoldsStill (held_of g) (MaySave g) a b → (p : ℕ) (v : PageHeld) (s : Option ℕ) → IsHeld (backing_of g) a p v s → IsHeld (backing_of g) b p v s
+  is_held_same : (a b : Base D) → HoldsStill (home_of g) (MaySave g) a b → (p : ℕ) (v : PageHeld) (s : Option ℕ) → IsHeld (backing_of g) a p v s → IsHeld (backing_of g) b p v s
   is_held_same a b holds p v None is = is ∙ sym (holds.same p)
   is_held_same a b holds p v (Some s) may = holds.still p s v may
 
-  pub over_held : (fs : List Frame) (a b : Base D) → HoldsStill (held_of g) (MaySave g) a b → IsQuiet g b → IsOver (backing_of g) fs a → IsOver (backing_of g) fs b
+  pub over_held : (fs : List Frame) (a b : Base D) → HoldsStill (home_of g) (MaySave g) a b → IsQuiet g b → IsOver (backing_of g) fs a → IsOver (backing_of g) fs b
   over_held fs a b holds quiet over = record { at_rest = quiet; held = λ p f is. is_held_same a b holds p (page_of f) f.since (over.held p f is) }
 
-  pub shows_held : (fs : List Frame) (a b : Base D) → HoldsStill (held_of g) (MaySave g) a b → ShowsSame (backing_of g) fs a fs b
+  pub shows_held : (fs : List Frame) (a b : Base D) → HoldsStill (home_of g) (MaySave g) a b → ShowsSame (backing_of g) fs a fs b
   shows_held fs a b holds q = ap (page_shown fs q) (holds.same q)
 
   -- below the pool the first of what waited became durable, or a page went home
@@ -68,7 +68,7 @@ module _ {D : Type 0} (g : Ghosts D) where
   }
 
   -- what a page shows is what the state has of it
-  pub page_is_shown : (s : Parts D) (p : ℕ) → IsFold g s → p < page_limit → (page_shown s.pool.frames p (held_of g s.base p)).body ≡ page_at p (state_of (now_of g s.base)).pages
+  pub page_is_shown : (s : Parts D) (p : ℕ) → IsFold g s → p < page_limit → (page_shown s.pool.frames p (home_of g s.base p)).body ≡ page_at p (state_of (now_of g s.base)).pages
   page_is_shown s p fold inside = ap (λ (h : PageHeld). h.body) (fold.current p) ∙ sym (page_is p (now_of g s.base) inside)
 
   -- the number of the next record
@@ -114,7 +114,7 @@ module _ {D : Type 0} (g : Ghosts D) where
     pub push_state : state_of (now_of g b) ≡ step r (state_of (now_of g a))
     push_state =
         ap (λ (l : List Record). state_of (record (now_of g a) { records = l })) records_are
-        ∙ state_push r (now_of g a) (below_more (next_of (stored_of g a)) (next_of (now_of g a)) (held_of g a) (omega (arith, length-append (stored_of g a).records (waiting_of a))) quiet.sound.below)
+        ∙ state_push r (now_of g a) (below_more (next_of (stored_of g a)) (next_of (now_of g a)) (home_of g a) (omega (arith, length-append (stored_of g a).records (waiting_of a))) quiet.sound.below)
 
     pub push_tables : tables_of (now_of g b).records ≡ effect r (tables_of (now_of g a).records)
     push_tables = ap tables_of records_are ∙ tables-push (now_of g a).records r
@@ -125,7 +125,7 @@ module _ {D : Type 0} (g : Ghosts D) where
       counted = may.counted;
       above = may.above;
       low = let low = may.low in omega (arith, low, length_more);
-      is = ⊎_elim (λ all. inl (all ∙ sym (push_other q (held_of g a q) off))) (λ same. inr same) may.is;
+      is = ⊎_elim (λ all. inl (all ∙ sym (push_other q (home_of g a q) off))) (λ same. inr same) may.is;
     }
 
     still_held : (q : ℕ) (v : PageHeld) (s : Option ℕ) → touches r q ≡ false → IsHeld (backing_of g) a q v s → IsHeld (backing_of g) b q v s
@@ -136,28 +136,28 @@ module _ {D : Type 0} (g : Ghosts D) where
     pub off_over : (fs : List Frame) → ((q : ℕ) → touches r q ≡ false) → IsOver (backing_of g) fs a → IsOver (backing_of g) fs b
     off_over fs off over = record { at_rest = push_quiet; held = λ q f is. still_held q (page_of f) f.since (off q) (over.held q f is) }
 
-    pub off_current : (fs : List Frame) → ((q : ℕ) → touches r q ≡ false) → ((q : ℕ) → page_shown fs q (held_of g a q) ≡ overlaid q a.root.first (now_of g a).records (held_of g a q))
-        → (q : ℕ) → page_shown fs q (held_of g b q) ≡ overlaid q a.root.first (now_of g b).records (held_of g b q)
-    off_current fs off current q = current q ∙ sym (push_other q (held_of g a q) (off q))
+    pub off_current : (fs : List Frame) → ((q : ℕ) → touches r q ≡ false) → ((q : ℕ) → page_shown fs q (home_of g a q) ≡ overlaid q a.root.first (now_of g a).records (home_of g a q))
+        → (q : ℕ) → page_shown fs q (home_of g b q) ≡ overlaid q a.root.first (now_of g b).records (home_of g b q)
+    off_current fs off current q = current q ∙ sym (push_other q (home_of g a q) (off q))
 
     -- a record on a page that a frame has
     module _ (p : ℕ) (o : Overlay) (f : Frame) (fs gs : List Frame) (is_over : overlay_of r ≡ Some o) (on : (o.page == p) ≡ true) (others : (q : ℕ) → q ≢ p → touches r q ≡ false) (inside : p < a.root.pages)
-        (over : IsOver (backing_of g) fs a) (current : (q : ℕ) → page_shown fs q (held_of g a q) ≡ overlaid q a.root.first (now_of g a).records (held_of g a q)) (there : frame_of p fs ≡ Some f)
+        (over : IsOver (backing_of g) fs a) (current : (q : ℕ) → page_shown fs q (home_of g a q) ≡ overlaid q a.root.first (now_of g a).records (home_of g a q)) (there : frame_of p fs ≡ Some f)
         (changed : (q : ℕ) → frame_of q gs ≡ (if p == q then option_map (after_change o lsn) (frame_of q fs) else frame_of q fs)) where
       abbrev was : PageHeld
-      was = overlaid p a.root.first (now_of g a).records (held_of g a p)
+      was = overlaid p a.root.first (now_of g a).records (home_of g a p)
 
       was_is : page_of f ≡ was
-      was_is = ap (kept_or (held_of g a p)) (sym there) ∙ current p
+      was_is = ap (kept_or (home_of g a p)) (sym there) ∙ current p
 
       touched : touches r p ≡ true
       touched = ap (λ x. lies_on x p) is_over ∙ on
 
-      low : (held_of g a p).lsn < lsn
+      low : (home_of g a p).lsn < lsn
       low = let below = quiet.sound.below p in omega (arith, below, length-append (stored_of g a).records (waiting_of a))
 
       high : was.lsn < lsn
-      high = below_next p a.root.first (now_of g a).records (held_of g a p) low
+      high = below_next p a.root.first (now_of g a).records (home_of g a p) low
 
       here : frame_of p gs ≡ Some (after_change o lsn f)
       here = changed p ∙ ⊎_elim (λ w. yes (p == p) (option_map (after_change o lsn) (frame_of p fs)) (frame_of p fs) w.0) (λ w. absurd (w.1 refl)) (eqb_tells p p) ∙ ap (option_map (after_change o lsn)) there
@@ -165,11 +165,11 @@ module _ {D : Type 0} (g : Ghosts D) where
       elsewhere : (q : ℕ) → q ≢ p → frame_of q gs ≡ frame_of q fs
       elsewhere q other = changed q ∙ ⊎_elim (λ w. absurd (other (sym w.1))) (λ w. no (p == q) (option_map (after_change o lsn) (frame_of q fs)) (frame_of q fs) w.0) (eqb_tells p q)
 
-      now_is : page_of (after_change o lsn f) ≡ overlaid p a.root.first (now_of g b).records (held_of g b p)
+      now_is : page_of (after_change o lsn f) ≡ overlaid p a.root.first (now_of g b).records (home_of g b p)
       now_is =
           ap (λ (h : PageHeld). record { lsn = lsn; body = overlaid_by o h.body }) was_is
           ∙ ap (λ x. record { lsn = lsn; body = laid_over x was.body }) (sym is_over)
-          ∙ sym (goes_in p lsn r was touched high) ∙ sym (push_page p (held_of g a p))
+          ∙ sym (goes_in p lsn r was touched high) ∙ sym (push_page p (home_of g a p))
 
       may_save : (since : ℕ) → MaySave g b p since (page_of (after_change o lsn f))
       may_save since = record { counted = inside; above = low; low = omega (arith, length_more); is = inl now_is }
@@ -193,13 +193,13 @@ module _ {D : Type 0} (g : Ghosts D) where
           beside : (q : ℕ) (h : Frame) → frame_of q gs ≡ Some h → q ≢ p → IsHeld (backing_of g) b q (page_of h) h.since
           beside q h is other = still_held q (page_of h) h.since (others q other) (over.held q h (sym (elsewhere q other) ∙ is))
 
-      pub on_current : (q : ℕ) → page_shown gs q (held_of g b q) ≡ overlaid q a.root.first (now_of g b).records (held_of g b q)
+      pub on_current : (q : ℕ) → page_shown gs q (home_of g b q) ≡ overlaid q a.root.first (now_of g b).records (home_of g b q)
       on_current q =
           ⊎_elim
           (λ w.
-          let P : ℕ → Type 0 = λ n. page_shown gs n (held_of g b n) ≡ overlaid n a.root.first (now_of g b).records (held_of g b n) in
-          subst P (sym w.1) (ap (kept_or (held_of g b p)) here ∙ now_is))
-          (λ w. ap (kept_or (held_of g b q)) (elsewhere q w.1) ∙ current q ∙ sym (push_other q (held_of g a q) (others q w.1)))
+          let P : ℕ → Type 0 = λ n. page_shown gs n (home_of g b n) ≡ overlaid n a.root.first (now_of g b).records (home_of g b n) in
+          subst P (sym w.1) (ap (kept_or (home_of g b p)) here ∙ now_is))
+          (λ w. ap (kept_or (home_of g b q)) (elsewhere q w.1) ∙ current q ∙ sym (push_other q (home_of g a q) (others q w.1)))
           (eqb_tells q p)
 
   -- ---- the whole call

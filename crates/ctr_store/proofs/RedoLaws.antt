@@ -22,7 +22,7 @@ use Rattle.ctr_redo.specs.States.{Stored}
 use Rattle.ctr_redo.proofs.PageLaws.{stays_out, goes_in, overlaid-append, same_page}
 use Rattle.ctr_redo.proofs.StateLaws.{tables-push}
 use Rattle.ctr_base.specs.declared.base.Base.{Base}
-use Rattle.ctr_base.specs.Base.{stored_of, waiting_of, held_of, MaySave, IsQuiet, MovesBase, backing_of}
+use Rattle.ctr_base.specs.Base.{stored_of, waiting_of, home_of, MaySave, IsQuiet, MovesBase, backing_of}
 use Rattle.ctr_base.specs.BaseLaws.{moves_joined, stands_still}
 use Rattle.ctr_store.specs.declared.parts.Parts.{Parts}
 use Rattle.ctr_store.specs.Parts.{IsFold}
@@ -41,7 +41,7 @@ length_of (suc n) (x ∷ l) inside = let k = length_of n l (omega (arith, inside
 
 module _ {D : Type 0} (g : Ghosts D) where
   -- a frame's LSN isn't below that of what is held
-  held_high : (b : Base D) (p : ℕ) (v : PageHeld) (s : Option ℕ) → IsHeld (backing_of g) b p v s → (held_of g b p).lsn ≤ v.lsn
+  held_high : (b : Base D) (p : ℕ) (v : PageHeld) (s : Option ℕ) → IsHeld (backing_of g) b p v s → (home_of g b p).lsn ≤ v.lsn
   held_high b p v None is = omega (arith, ap (λ (h : PageHeld). h.lsn) is)
   held_high b p v (Some s) may = let above = may.above in omega (arith, above)
 
@@ -77,12 +77,12 @@ module _ {D : Type 0} (g : Ghosts D) where
     tables_next = sym (ap tables_of (take_next i.records n r next.there) ∙ tables-push (take n i.records) r)
 
     -- a record that changes no page, or was in its page before
-    pub redo_off : (s : Parts D) → RedoesPages g start n s → ((q : ℕ) → touches r q ≡ true → lsn ≤ (page_shown s.pool.frames q (held_of g s.base q)).lsn) → RedoesPages g start (n + 1) s
+    pub redo_off : (s : Parts D) → RedoesPages g start n s → ((q : ℕ) → touches r q ≡ true → lsn ≤ (page_shown s.pool.frames q (home_of g s.base q)).lsn) → RedoesPages g start (n + 1) s
     redo_off s doing out = record {
       over = doing.over;
       moves = doing.moves;
       none = doing.none;
-      current = λ q. doing.current q ∙ page_off q (held_of g start q) (λ on. subst (λ (h : PageHeld). lsn ≤ h.lsn) (doing.current q) (out q on));
+      current = λ q. doing.current q ∙ page_off q (home_of g start q) (λ on. subst (λ (h : PageHeld). lsn ≤ h.lsn) (doing.current q) (out q on));
     }
 
     -- a record that goes into the frame of its page
@@ -98,10 +98,10 @@ module _ {D : Type 0} (g : Ghosts D) where
       b = s.base
 
       abbrev was : PageHeld
-      was = overlaid p i.first (take n i.records) (held_of g start p)
+      was = overlaid p i.first (take n i.records) (home_of g start p)
 
       was_is : page_of f ≡ was
-      was_is = ap (kept_or (held_of g b p)) (sym there) ∙ doing.current p
+      was_is = ap (kept_or (home_of g b p)) (sym there) ∙ doing.current p
 
       touched : touches r p ≡ true
       touched = ap (λ x. lies_on x p) is_over ∙ on
@@ -109,11 +109,11 @@ module _ {D : Type 0} (g : Ghosts D) where
       abbrev v : PageHeld
       v = page_of (after_change o lsn f)
 
-      v_is : v ≡ overlaid p i.first (take (n + 1) i.records) (held_of g start p)
+      v_is : v ≡ overlaid p i.first (take (n + 1) i.records) (home_of g start p)
       v_is =
           ap (λ (h : PageHeld). record { lsn = lsn; body = overlaid_by o h.body }) was_is
           ∙ ap (λ x. record { lsn = lsn; body = laid_over x was.body }) (sym is_over)
-          ∙ sym (goes_in p lsn r was touched (subst (λ (h : PageHeld). h.lsn < lsn) was_is lower)) ∙ sym (page_next p (held_of g start p))
+          ∙ sym (goes_in p lsn r was touched (subst (λ (h : PageHeld). h.lsn < lsn) was_is lower)) ∙ sym (page_next p (home_of g start p))
 
       waits_none : waiting_of b ≡ []
       waits_none = doing.moves.waiting ∙ ap (λ (l : List (List ℕ)). drop doing.moves.j (records_in l)) doing.none ∙ drop-nil doing.moves.j
@@ -127,16 +127,16 @@ module _ {D : Type 0} (g : Ghosts D) where
       same_first = ap (λ (x : Root). x.first) doing.moves.root
 
       -- all records make the same page of it
-      v_fits : overlaid p b.root.first (stored_of g b).records v ≡ overlaid p b.root.first (stored_of g b).records (held_of g b p)
+      v_fits : overlaid p b.root.first (stored_of g b).records v ≡ overlaid p b.root.first (stored_of g b).records (home_of g b p)
       v_fits =
-          let h = held_of g start p in
+          let h = home_of g start p in
           let ds = take (n + 1) i.records in
           let es = drop (n + 1) i.records in
           let whole : ds ++ es ≡ i.records = take-append-drop (n + 1) i.records in
           let one : overlaid p i.first i.records v ≡ overlaid p i.first i.records h =
           ap (λ (l : List Record). overlaid p i.first l v) (sym whole) ∙ ap (overlaid p i.first (ds ++ es)) v_is ∙ same_page p i.first ds es h ∙ ap (λ (l : List Record). overlaid p i.first l h) whole in
-          let now : overlaid p b.root.first (stored_of g b).records (held_of g b p) ≡ overlaid p i.first i.records h =
-          ap (λ (l : List Record). overlaid p b.root.first l (held_of g b p)) (sym (append-nil (stored_of g b).records) ∙ ap (λ (l : List Record). (stored_of g b).records ++ l) (sym waits_none))
+          let now : overlaid p b.root.first (stored_of g b).records (home_of g b p) ≡ overlaid p i.first i.records h =
+          ap (λ (l : List Record). overlaid p b.root.first l (home_of g b p)) (sym (append-nil (stored_of g b).records) ∙ ap (λ (l : List Record). (stored_of g b).records ++ l) (sym waits_none))
           ∙ doing.moves.pages p ∙ ap (λ (l : List Record). overlaid p i.first l h) (ap (λ (l : List (List ℕ)). i.records ++ records_in l) doing.none ∙ append-nil i.records) in
           ap (λ (m : ℕ). overlaid p m (stored_of g b).records v) same_first ∙ ap (λ (l : List Record). overlaid p i.first l v) records_are ∙ one ∙ sym now
 
@@ -179,14 +179,14 @@ module _ {D : Type 0} (g : Ghosts D) where
         moves = subst (λ (k : Base D). MovesBase g start k) (sym base) doing.moves;
         none = doing.none;
         current = λ q.
-            ap (λ (k : Base D). page_shown t.pool.frames q (held_of g k q)) base ∙ ap (λ (l : List Frame). page_shown l q (held_of g b q)) frames
+            ap (λ (k : Base D). page_shown t.pool.frames q (home_of g k q)) base ∙ ap (λ (l : List Frame). page_shown l q (home_of g b q)) frames
             ∙ ⊎_elim
             (λ w.
-            let P : ℕ → Type 0 = λ m. page_shown gs m (held_of g b m) ≡ overlaid m i.first (take (n + 1) i.records) (held_of g start m) in
-            subst P (sym w.1) (ap (kept_or (held_of g b p)) here ∙ v_is))
+            let P : ℕ → Type 0 = λ m. page_shown gs m (home_of g b m) ≡ overlaid m i.first (take (n + 1) i.records) (home_of g start m) in
+            subst P (sym w.1) (ap (kept_or (home_of g b p)) here ∙ v_is))
             (λ w.
-            ap (kept_or (held_of g b q)) (elsewhere q w.1) ∙ doing.current q
-            ∙ page_off q (held_of g start q) (λ is_q. let off = others q w.1 in absurd (cc (off, is_q))))
+            ap (kept_or (home_of g b q)) (elsewhere q w.1) ∙ doing.current q
+            ∙ page_off q (home_of g start q) (λ is_q. let off = others q w.1 in absurd (cc (off, is_q))))
             (eqb_tells q p);
       }
 
@@ -196,7 +196,7 @@ module _ {D : Type 0} (g : Ghosts D) where
     over = record { at_rest = quiet; held = λ p f is. let none : None ≡ Some f = sym (ap (frame_of p) empty) ∙ is in absurd (cc none) };
     moves = stands_still g s.base;
     none = none;
-    current = λ p. ap (λ (l : List Frame). page_shown l p (held_of g s.base p)) empty;
+    current = λ p. ap (λ (l : List Frame). page_shown l p (home_of g s.base p)) empty;
   }
 
   -- behind the last
@@ -207,5 +207,5 @@ module _ {D : Type 0} (g : Ghosts D) where
       record {
         over = doing.over;
         tables = tables ∙ ap tables_of (whole ∙ sym doing.moves.all);
-        current = λ p. doing.current p ∙ ap (λ (l : List Record). overlaid p i.first l (held_of g start p)) whole ∙ sym (doing.moves.pages p);
+        current = λ p. doing.current p ∙ ap (λ (l : List Record). overlaid p i.first l (home_of g start p)) whole ∙ sym (doing.moves.pages p);
       }

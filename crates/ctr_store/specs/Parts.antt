@@ -10,7 +10,7 @@ use Rattle.ctr_pool.specs.Over.{IsOver}
 use Rattle.ctr_redo.specs.Overlaid.{overlay_of, overlaid}
 use Rattle.ctr_redo.specs.States.{state_of, step, steps}
 use Rattle.ctr_base.specs.declared.base.Base.{Base}
-use Rattle.ctr_base.specs.Base.{stored_of, waiting_of, now_of, held_of, backing_of}
+use Rattle.ctr_base.specs.Base.{stored_of, waiting_of, now_of, home_of, backing_of}
 use Rattle.ctr_store.specs.Changes.{IsChange, LiesInside}
 use Rattle.ctr_store.specs.declared.parts.Parts.{Parts}
 
@@ -19,8 +19,8 @@ use Rattle.ctr_store.specs.declared.parts.Parts.{Parts}
 pub record IsFold {D : Type 0} (g : Ghosts D) (s : Parts D) : Type 0 where
   pub over : IsOver (backing_of g) s.pool.frames s.base
   pub tables : s.meta.tables ≡ tables_of (now_of g s.base).records
-  pub current : (p : ℕ) → page_shown s.pool.frames p (held_of g s.base p)
-      ≡ overlaid p s.base.root.first (now_of g s.base).records (held_of g s.base p)
+  pub current : (p : ℕ) → page_shown s.pool.frames p (home_of g s.base p)
+      ≡ overlaid p s.base.root.first (now_of g s.base).records (home_of g s.base p)
 
 -- A record can be logged: it is one and no Checkpoint, its overlay lies on a counted page, the tables
 -- meet its needs and have room for what it adds; and there is room for its bytes and its number.

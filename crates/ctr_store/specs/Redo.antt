@@ -6,7 +6,7 @@ use Rattle.ctr_pool.specs.Frames.{page_shown}
 use Rattle.ctr_pool.specs.Over.{IsOver}
 use Rattle.ctr_redo.specs.Overlaid.{overlay_of, overlaid}
 use Rattle.ctr_base.specs.declared.base.Base.{Base}
-use Rattle.ctr_base.specs.Base.{stored_of, held_of, MovesBase, backing_of}
+use Rattle.ctr_base.specs.Base.{stored_of, home_of, MovesBase, backing_of}
 use Rattle.ctr_store.specs.Changes.{LiesInside}
 use Rattle.ctr_store.specs.declared.parts.Parts.{Parts}
 
@@ -16,8 +16,8 @@ pub record RedoesPages {D : Type 0} (g : Ghosts D) (start : Base D) (n : ℕ) (s
   pub over : IsOver (backing_of g) s.pool.frames s.base
   pub moves : MovesBase g start s.base
   pub none : start.log.buffered ≡ []
-  pub current : (p : ℕ) → page_shown s.pool.frames p (held_of g s.base p)
-      ≡ overlaid p start.root.first (take n (stored_of g start).records) (held_of g start p)
+  pub current : (p : ℕ) → page_shown s.pool.frames p (home_of g s.base p)
+      ≡ overlaid p start.root.first (take n (stored_of g start).records) (home_of g start p)
 
 -- the record behind the first n of the log
 pub record IsNextRecord {D : Type 0} (g : Ghosts D) (start : Base D) (n : ℕ) (r : Record) : Type 0 where

@@ -1,7 +1,7 @@
 use Rattle.std.proofs.Common.{◌≡◌, ◌∙◌, ◌==◌, ◌≤◌, ◌+◌, if◌then◌else◌, ℕ, refl, sym, ap, subst, arith}
 use Rattle.std.specs.Option.{option_map}
 use Rattle.ctr_pool.specs.Frames.{frame_of, after_change, page_shown, kept_or}
-use Rattle.ctr_base.specs.Base.{held_of}
+use Rattle.ctr_base.specs.Base.{home_of}
 use Rattle.ctr_store.specs.declared.parts.Parts.{Parts}
 use Rattle.ctr_store.proofs.RecordLaws.{on_page, off_page, frame_there, page_of_touch}
 use Rattle.ctr_store.proofs.RedoLaws.{redo_moved, redo_off, redo_on}
@@ -21,8 +21,8 @@ returns-then-lsn-clause-redone g c start n r told doing next is at =
     redo_off d start n r next t mid
     (λ q on.
     let same = page_of_touch r o q is on in
-    subst (λ (m : ℕ). start.root.first + n ≤ (page_shown t.pool.frames m (held_of d t.base m)).lsn) (sym same)
-    (subst (λ x. start.root.first + n ≤ (kept_or (held_of d t.base o.page) x).lsn) (sym frame.1) (omega (arith, low, at))))
+    subst (λ (m : ℕ). start.root.first + n ≤ (page_shown t.pool.frames m (home_of d t.base m)).lsn) (sym same)
+    (subst (λ x. start.root.first + n ≤ (kept_or (home_of d t.base o.page) x).lsn) (sym frame.1) (omega (arith, low, at))))
 
 pub returns-clause-redone : goal.returns-clause-redone
 returns-clause-redone g c start n r told doing next is at =
