@@ -1,0 +1,5 @@
+pub mod Bytes
+pub mod Places
+pub mod Written
+pub mod Placed
+pub mod Fresh
