@@ -20,8 +20,8 @@ use Rattle.ctr_page.specs.Reading.{piece}
 use Rattle.ctr_area.specs.Areas.{Firsts, no_pages, Area}
 use Rattle.ctr_page.specs.Columns.{first_in, versions_first_in}
 use Rattle.ctr_area.specs.Reading.{entry_bytes, bucket_numbers, area_of}
-use Rattle.ctr_area.specs.Chains.{most_pages, pages_from, places_from, places_on, slot_places, older_places, table_pages}
-use Rattle.ctr_area.specs.Images.{new_pages, is_live, is_standing, is_committed_in, entry_numbers, table_in, tables_in, image_rows}
+use Rattle.ctr_area.specs.Chains.{pages_bound, pages_from, places_from, places_on, slot_places, older_places, table_pages}
+use Rattle.ctr_area.specs.Images.{new_pages, is_live, is_standing, is_committed_in, entry_numbers, table_in, tables_standing, image_rows}
 use Rattle.ctr_area.specs.Sound.{IsAmong, IsUsedSlot, how_many, EndsIn, AreBuckets, IsOfVersions, owned_pages, IsSound, IsBare}
 
 -- ---- bytes
@@ -62,7 +62,7 @@ no_pages_from zero header = refl
 no_pages_from (suc n) header = refl
 
 no_places_from : (area : Area) → places_from area 0 ≡ []
-no_places_from area = ap (flat_map (λ q. places_on q 0 (area.room q))) (no_pages_from most_pages area.header)
+no_places_from area = ap (flat_map (λ q. places_on q 0 (area.room q))) (no_pages_from pages_bound area.header)
 
 no_slots : (e : ℕ) → slot_places fresh e ≡ []
 no_slots e = ap (λ (f : Firsts). flat_map (places_from fresh) f.buckets) (firsts_none e)
@@ -72,7 +72,7 @@ no_older e = ap (λ (f : Firsts). places_from fresh f.versions) (firsts_none e) 
 
 no_table_pages : (e : ℕ) → table_pages fresh e ≡ []
 no_table_pages e =
-    ap (λ (f : Firsts). flat_map (pages_from most_pages fresh.header) f.buckets ++ pages_from most_pages fresh.header f.versions) (firsts_none e) ∙ no_pages_from most_pages fresh.header
+    ap (λ (f : Firsts). flat_map (pages_from pages_bound fresh.header) f.buckets ++ pages_from pages_bound fresh.header f.versions) (firsts_none e) ∙ no_pages_from pages_bound fresh.header
 
 no_pages_of : (es : List ℕ) → flat_map (table_pages fresh) es ≡ []
 no_pages_of [] = refl
@@ -90,10 +90,10 @@ not_older e at among = subst (IsAmong at) (no_older e) among
 not_live : (e : ℕ) → is_live (fresh.title e) ≡ true → ⊥
 not_live e live = false≢true (sym (ap (λ (n : ℕ). n == 1) (state_zero e)) ∙ live)
 
-ends_none : (header : ℕ → Header) (Is : Header → Type 0) → EndsIn most_pages header Is 0
+ends_none : (header : ℕ → Header) (Is : Header → Type 0) → EndsIn pages_bound header Is 0
 ends_none header Is = (
-  subst (AllByRecursion (λ q. Is (header q))) (sym (no_pages_from most_pages header)) tt,
-  no_pages_from (most_pages + 1) header ∙ sym (no_pages_from most_pages header),
+  subst (AllByRecursion (λ q. Is (header q))) (sym (no_pages_from pages_bound header)) tt,
+  no_pages_from (pages_bound + 1) header ∙ sym (no_pages_from pages_bound header),
 )
 
 -- ---- sound
@@ -102,13 +102,14 @@ pub fresh_sound : (counted : ℕ) → IsSound counted no_tables (area_of new_pag
 fresh_sound counted = record {
   readable = record {
     rows = λ e. subst (λ (f : Firsts). AreBuckets fresh e 0 f.buckets) (sym (firsts_none e)) tt;
-    versions = λ e. subst (λ (f : Firsts). EndsIn most_pages fresh.header (IsOfVersions e) f.versions) (sym (firsts_none e)) (ends_none fresh.header (IsOfVersions e));
+    versions = λ e. subst (λ (f : Firsts). EndsIn pages_bound fresh.header (IsOfVersions e) f.versions) (sym (firsts_none e)) (ends_none fresh.header (IsOfVersions e));
   };
   behind = λ e at used. absurd (unused e at used);
   counts = tt;
   owned = record {
     once = λ p third few. ap (how_many (λ q. q == p)) none_owned ∙ sym (ap (λ b. cond b 1 0) (not_taken p));
     inside = subst (AllByRecursion (λ p. (3 ≤ p) × (p < counted) × (fresh.taken p ≡ true))) (sym none_owned) tt;
+    uncounted = λ p many. not_taken p;
     allocs = λ x p h. absurd h;
     creates = λ x e h. absurd h;
     drops = λ x e h. absurd h;
@@ -152,11 +153,11 @@ fresh_bare = record {
   entries = λ e two. omega (arith, two, state_zero e);
 }
 
-none_stand : (committed : ℕ → Bool) (es : List ℕ) → tables_in committed fresh es ≡ []
+none_stand : (committed : ℕ → Bool) (es : List ℕ) → tables_standing committed fresh es ≡ []
 none_stand committed [] = refl
 none_stand committed (e ∷ es) = known (is_live (fresh.title e))
     (λ live. absurd (not_live e live))
-    (λ dead. ap (λ b. cond (b && (committed (fresh.title e).creator && not (committed (fresh.title e).dropper))) (put name_cmp (fresh.title e).name (table_in committed fresh e) (tables_in committed fresh es)) (tables_in committed fresh es)) dead
+    (λ dead. ap (λ b. cond (b && (committed (fresh.title e).creator && not (committed (fresh.title e).dropper))) (put name_cmp (fresh.title e).name (table_in committed fresh e) (tables_standing committed fresh es)) (tables_standing committed fresh es)) dead
     ∙ none_stand committed es)
 
 pub fresh_rows : (committed : ℕ → Bool) → image_rows committed (area_of new_pages) ≡ []

@@ -7,11 +7,11 @@ use Rattle.ctr_area.specs.Areas.{RowVersion, Slot, Older, Area}
 
 -- As many steps as pages can be counted, and as 170 version entries on each of them: no chain that
 -- ends is cut short.
-unfoldable pub most_pages : ℕ
-most_pages = 30000
+unfoldable pub pages_bound : ℕ
+pages_bound = 30000
 
-unfoldable pub most_older : ℕ
-most_older = 5100000
+unfoldable pub older_bound : ℕ
+older_bound = 5100000
 
 -- ---- pages
 
@@ -29,7 +29,7 @@ places_on p k (suc n) = record { page = p; slot = k } ∷ places_on p (k + 1) n
 -- the places on the pages of a chain
 abbrev pub places_from : Area → ℕ → List Place
 places_from area p =
-    flat_map (λ q. places_on q 0 (area.room q)) (pages_from most_pages area.header p)
+    flat_map (λ q. places_on q 0 (area.room q)) (pages_from pages_bound area.header p)
 
 -- the slots of a table, bucket after bucket
 abbrev pub slot_places : Area → ℕ → List Place
@@ -42,8 +42,8 @@ older_places area e = places_from area (area.firsts e).versions
 -- the pages of a table
 abbrev pub table_pages : Area → ℕ → List ℕ
 table_pages area e =
-    flat_map (pages_from most_pages area.header) (area.firsts e).buckets
-    ++ pages_from most_pages area.header (area.firsts e).versions
+    flat_map (pages_from pages_bound area.header) (area.firsts e).buckets
+    ++ pages_from pages_bound area.header (area.firsts e).versions
 
 -- ---- versions
 
@@ -62,7 +62,7 @@ if_any (Some v) = v ∷ []
 abbrev pub chain_of : (Place → Older) → Slot → List RowVersion
 chain_of older slot =
     slot.head ∷ (if_any slot.previous
-    ++ map (λ at. (older at).version) (places_along most_older older slot.pointer))
+    ++ map (λ at. (older at).version) (places_along older_bound older slot.pointer))
 
 -- the pointers come to an end within so many steps, through entries of which this holds
 abbrev pub Leads : ℕ → (Place → Older) → (Place → Older → Type 0) → Place → Type 0

@@ -1,10 +1,11 @@
 -- What a record does to an area: one place of it is changed.
-use Rattle.std.specs.Prelude.{◌≡◌, ℕ, ◌==◌, ◌≤◌, Bool, List, length, if◌then◌else◌}
+use Rattle.std.specs.Prelude.{◌≡◌, ℕ, ◌+◌, ◌*◌, ◌/◌, ◌%◌, ◌==◌, ◌≤◌, Bool, List, length, if◌then◌else◌}
 use Rattle.ctr_page.specs.declared.rows.Place.{Place}
+use Rattle.ctr_page.specs.declared.table.TheConstants.{ENTRY_SIZE}
 use Rattle.ctr_page.specs.Places.{start_of}
-use Rattle.ctr_page.specs.Reading.{put_over, header_in}
+use Rattle.ctr_page.specs.Reading.{put_over}
 use Rattle.ctr_area.specs.Areas.{same_place, Title, Firsts, Slot, Older, Area}
-use Rattle.ctr_area.specs.Reading.{size_on}
+use Rattle.ctr_area.specs.Reading.{header_on, size_on}
 
 -- Row, Revert, and Trim of a slot
 abbrev pub with_slot : Place → Slot → Area → Area
@@ -40,8 +41,15 @@ with_bytes_at at bytes pages =
     with_page at.page
     (put_over (start_of (size_on pages at.page) at.slot) bytes (pages at.page)) pages
 
+-- the pages, where these bytes are put over an entry of the catalog
+abbrev pub with_entry : ℕ → List ℕ → (ℕ → List ℕ) → ℕ → List ℕ
+with_entry e bytes pages =
+    with_page (1 + e / 16)
+    (put_over (ENTRY_SIZE * (e % 16)) bytes (pages (1 + e / 16))) pages
+
 -- a place on a page behind those of the catalog, whose header says what stands there
 pub record IsPlaceOf (kind : ℕ) (pages : ℕ → List ℕ) (at : Place) : Type 0 where
   pub behind_catalog : 3 ≤ at.page
-  pub of_kind : (header_in (pages at.page)).kind ≡ kind
-  pub inside : start_of (size_on pages at.page) at.slot ≤ length (pages at.page)
+  pub of_kind : (header_on pages at.page).kind ≡ kind
+  pub inside : start_of (size_on pages at.page) at.slot + size_on pages at.page
+      ≤ length (pages at.page)

@@ -11,7 +11,7 @@ use Rattle.ctr_page.specs.Columns.{kinds_of, slot_start, kept_start}
 use Rattle.ctr_page.specs.Damage.{header_check, slot_check, kept_check, entry_check}
 use Rattle.ctr_area.specs.Areas.{Area}
 use Rattle.ctr_area.specs.Reading.{area_of}
-use Rattle.ctr_area.specs.Chains.{most_pages, pages_from, slot_places, older_places}
+use Rattle.ctr_area.specs.Chains.{pages_bound, pages_from, slot_places, older_places}
 
 -- the check passes
 abbrev pub Passes : Result ⊤ BadRecord → Type 0
@@ -25,7 +25,7 @@ kinds_at area e = kinds_of (area.title e).columns
 abbrev pub ChainPasses : ℕ → (ℕ → List ℕ) → Chain → ℕ → Type 0
 ChainPasses counted pages chain p =
     AllByRecursion (λ q. Passes (header_check chain counted (pages q)))
-    (pages_from most_pages (area_of pages).header p)
+    (pages_from pages_bound (area_of pages).header p)
 
 -- the chains of an entry's buckets, from one bucket on
 abbrev pub BucketsPass : ℕ → (ℕ → List ℕ) → ℕ → ℕ → List ℕ → Type 0

@@ -43,8 +43,8 @@ rows_gathered older slot (at ∷ places) =
     else rows_gathered older slot places
 
 -- the rows of an entry of the catalog
-abbrev pub rows_in : Area → ℕ → List (ℤ × List RowVersion)
-rows_in area e = rows_gathered area.older area.slot (slot_places area e)
+abbrev pub rows_of_entry : Area → ℕ → List (ℤ × List RowVersion)
+rows_of_entry area e = rows_gathered area.older area.slot (slot_places area e)
 
 -- so many numbers, from one on
 abbrev pub numbers : ℕ → ℕ → List ℕ
@@ -69,19 +69,19 @@ is_standing committed title =
 abbrev pub table_in : (ℕ → Bool) → Area → ℕ → Table
 table_in committed area e = record {
   schema = record { columns = (area.title e).columns };
-  rows = entries_seen committed (rows_in area e);
+  rows = entries_seen committed (rows_of_entry area e);
 }
 
-abbrev pub tables_in : (ℕ → Bool) → Area → List ℕ → Database
-tables_in committed area [] = []
-tables_in committed area (e ∷ es) =
+abbrev pub tables_standing : (ℕ → Bool) → Area → List ℕ → Database
+tables_standing committed area [] = []
+tables_standing committed area (e ∷ es) =
     if is_standing committed (area.title e) then
-    put name_cmp (area.title e).name (table_in committed area e) (tables_in committed area es)
-    else tables_in committed area es
+    put name_cmp (area.title e).name (table_in committed area e) (tables_standing committed area es)
+    else tables_standing committed area es
 
 -- the rows of an image, by who is committed
 abbrev pub image_rows : (ℕ → Bool) → Area → Database
-image_rows committed area = tables_in committed area entry_numbers
+image_rows committed area = tables_standing committed area entry_numbers
 
 -- ---- the versions of names
 
@@ -128,29 +128,29 @@ newest_first committed [] = []
 newest_first committed (e ∷ es) = placed committed e (newest_first committed es)
 
 -- of two versions of one transaction next to each other the newer one counts
-abbrev pub in_front : {V : Type 0} → ℕ × V → List (ℕ × V) → List (ℕ × V)
-in_front v [] = v ∷ []
-in_front v (w ∷ ws) = if v.0 == w.0 then v ∷ ws else v ∷ w ∷ ws
+abbrev pub put_first : {V : Type 0} → ℕ × V → List (ℕ × V) → List (ℕ × V)
+put_first v [] = v ∷ []
+put_first v (w ∷ ws) = if v.0 == w.0 then v ∷ ws else v ∷ w ∷ ws
 
-abbrev pub all_in_front : {V : Type 0} → List (ℕ × V) → List (ℕ × V) → List (ℕ × V)
-all_in_front [] ws = ws
-all_in_front (v ∷ vs) ws = in_front v (all_in_front vs ws)
+abbrev pub all_put_first : {V : Type 0} → List (ℕ × V) → List (ℕ × V) → List (ℕ × V)
+all_put_first [] ws = ws
+all_put_first (v ∷ vs) ws = put_first v (all_put_first vs ws)
 
 abbrev pub name_versions : List Numbered → List (ℕ × Option Made)
 name_versions [] = []
-name_versions (e ∷ es) = all_in_front (versions_by_entry e) (name_versions es)
+name_versions (e ∷ es) = all_put_first (versions_by_entry e) (name_versions es)
 
 abbrev pub all_numbered : (ℕ → Title) → List Numbered
 all_numbered title = map (λ e. (e, title e)) entry_numbers
 
 -- a live entry of the name
-abbrev pub has_name : List ℕ → Numbered → Bool
-has_name name e = is_live e.1 && same_name name e.1.name
+abbrev pub is_named_so : List ℕ → Numbered → Bool
+is_named_so name e = is_live e.1 && same_name name e.1.name
 
 -- the chain of a name, the newest version first
 abbrev pub name_chain : (ℕ → Bool) → (ℕ → Title) → List ℕ → List (ℕ × Option Made)
 name_chain committed title name =
-    name_versions (newest_first committed (filter (has_name name) (all_numbered title)))
+    name_versions (newest_first committed (filter (is_named_so name) (all_numbered title)))
 
 abbrev pub names_gathered : (List ℕ → List (ℕ × Option Made)) → List Numbered
     → List (List ℕ × List (ℕ × Option Made))
@@ -165,5 +165,5 @@ names_gathered chain (e ∷ es) =
 abbrev pub versions_in : (ℕ → Bool) → Area → Versions
 versions_in committed area = record {
   names = names_gathered (name_chain committed area.title) (all_numbered area.title);
-  slots = map (λ e. (e, rows_in area e)) entry_numbers;
+  slots = map (λ e. (e, rows_of_entry area e)) entry_numbers;
 }

@@ -15,7 +15,7 @@ use Rattle.ctr_page.specs.declared.rows.VersionEntry.{VersionEntry}
 use Rattle.ctr_page.specs.declared.entry.CatalogEntry.{CatalogEntry}
 use Rattle.ctr_page.specs.declared.table.TheConstants.{ENTRY_SIZE}
 use Rattle.ctr_page.specs.Places.{slot_size, kept_size, room_for}
-use Rattle.ctr_page.specs.Reading.{piece, header_in, slot_at, kept_at}
+use Rattle.ctr_page.specs.Reading.{piece, header_in, slot_at, older_at}
 use Rattle.ctr_page.specs.Columns.{entry_in, columns_in, table_name_in, first_in, versions_first_in}
 use Rattle.ctr_area.specs.Areas.{Title, Firsts, no_pages, RowVersion, Slot, Older, Area, free_slot, free_older}
 
@@ -87,9 +87,17 @@ older_said columns e =
 
 -- ---- the area
 
+-- the pages 0, 1 and 2 are none of rows or of versions
+abbrev pub no_header : Header
+no_header = record { kind = 0; entry = 0; bucket = 0; next = 0 }
+
+-- the header of any other
+abbrev pub header_on : (ℕ → List ℕ) → ℕ → Header
+header_on pages p = if nat_lt p 3 then no_header else header_in (pages p)
+
 -- the columns of the entry that a page names
 abbrev pub columns_on : (ℕ → List ℕ) → ℕ → List Column
-columns_on pages p = columns_in (entry_bytes pages (header_in (pages p)).entry)
+columns_on pages p = columns_in (entry_bytes pages (header_on pages p).entry)
 
 -- the width of the rows on a page
 abbrev pub width_on : (ℕ → List ℕ) → ℕ → ℕ
@@ -98,21 +106,21 @@ width_on pages p = width (drop 1 (columns_on pages p))
 -- the size of what stands on it
 abbrev pub size_on : (ℕ → List ℕ) → ℕ → ℕ
 size_on pages p =
-    if (header_in (pages p)).kind == 1 then slot_size (width_on pages p)
+    if (header_on pages p).kind == 1 then slot_size (width_on pages p)
     else kept_size (width_on pages p)
 
 -- on a page of rows a slot
 abbrev pub slot_on : (ℕ → List ℕ) → Place → Slot
 slot_on pages at =
-    if (header_in (pages at.page)).kind == 1 then
+    if (header_on pages at.page).kind == 1 then
     slot_said (columns_on pages at.page) (slot_at (width_on pages at.page) at.slot (pages at.page))
     else free_slot
 
 -- on a page of versions a version entry
 abbrev pub older_on : (ℕ → List ℕ) → Place → Older
 older_on pages at =
-    if (header_in (pages at.page)).kind == 2 then
-    older_said (columns_on pages at.page) (kept_at (width_on pages at.page) at.slot (pages at.page))
+    if (header_on pages at.page).kind == 2 then
+    older_said (columns_on pages at.page) (older_at (width_on pages at.page) at.slot (pages at.page))
     else free_older
 
 abbrev pub area_of : (ℕ → List ℕ) → Area
@@ -120,7 +128,7 @@ area_of pages = record {
   title = λ e. title_of (entry_in (entry_bytes pages e));
   firsts = λ e. firsts_of (entry_in (entry_bytes pages e));
   taken = λ p. is_taken p (pages 0);
-  header = λ p. header_in (pages p);
+  header = header_on pages;
   room = λ p. room_for (size_on pages p);
   slot = slot_on pages;
   older = older_on pages;

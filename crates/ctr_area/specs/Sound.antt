@@ -10,7 +10,7 @@ use Rattle.ctr_page.specs.declared.header.Header.{Header}
 use Rattle.ctr_page.specs.declared.rows.Place.{Place}
 use Rattle.ctr_page.specs.Places.{bucket_of}
 use Rattle.ctr_area.specs.Areas.{Title, RowVersion, Slot, Older, Area}
-use Rattle.ctr_area.specs.Chains.{most_pages, most_older, pages_from, slot_places, older_places, table_pages, places_along, chain_of, Leads}
+use Rattle.ctr_area.specs.Chains.{pages_bound, older_bound, pages_from, slot_places, older_places, table_pages, places_along, chain_of, Leads}
 use Rattle.ctr_area.specs.Images.{is_committed_in, is_live, is_standing, entry_numbers}
 
 -- ---- words
@@ -21,9 +21,9 @@ IsAmong x [] = ⊥
 IsAmong x (y ∷ ys) = (x ≡ y) ⊎ IsAmong x ys
 
 -- each is one of them once
-abbrev pub AreApart : List ℕ → Type 0
-AreApart [] = Unit {0}
-AreApart (x ∷ xs) = (IsAmong x xs → ⊥) × AreApart xs
+abbrev pub AreAllOnce : List ℕ → Type 0
+AreAllOnce [] = Unit {0}
+AreAllOnce (x ∷ xs) = (IsAmong x xs → ⊥) × AreAllOnce xs
 
 -- how many pass a test
 abbrev pub how_many : {A : Type 0} → (A → Bool) → List A → ℕ
@@ -56,12 +56,12 @@ IsOfVersions e h = (h.kind ≡ 2) × (h.entry ≡ e) × (h.bucket ≡ 0)
 abbrev pub AreBuckets : Area → ℕ → ℕ → List ℕ → Type 0
 AreBuckets area e bucket [] = Unit {0}
 AreBuckets area e bucket (p ∷ ps) =
-    EndsIn most_pages area.header (IsOfRows e bucket) p × AreBuckets area e (bucket + 1) ps
+    EndsIn pages_bound area.header (IsOfRows e bucket) p × AreBuckets area e (bucket + 1) ps
 
 -- Chains of pages end, and lead to pages of theirs.
 pub record AreReadable (area : Area) : Type 0 where
   pub rows : (e : ℕ) → AreBuckets area e 0 (area.firsts e).buckets
-  pub versions : (e : ℕ) → EndsIn most_pages area.header (IsOfVersions e) (area.firsts e).versions
+  pub versions : (e : ℕ) → EndsIn pages_bound area.header (IsOfVersions e) (area.firsts e).versions
 
 -- Every version behind a head is committed, and a head is somebody's.
 abbrev pub AreBehind : (ℕ → Bool) → Area → Type 0
@@ -97,13 +97,14 @@ owned_pages items area =
     flat_map (table_pages area) entry_numbers ++ flat_map page_of_item items
 
 -- Each counted page from 3 on is in one chain or one item, once, exactly where it is allocated; no
--- other page is; and whoever has an item is open.
+-- other page is in any, and none that isn't counted is allocated; and whoever has an item is open.
 pub record AreOwned (counted : ℕ) (live : List ℕ) (items : List SlogItem) (area : Area) : Type 0
   where
   pub once : (p : ℕ) → 3 ≤ p → p < counted
       → how_many (λ q. q == p) (owned_pages items area) ≡ (if area.taken p then 1 else 0)
   pub inside : AllByRecursion (λ p. (3 ≤ p) × (p < counted) × (area.taken p ≡ true))
       (owned_pages items area)
+  pub uncounted : (p : ℕ) → counted ≤ p → area.taken p ≡ false
   pub allocs : (x p : ℕ) → IsAmong (AllocOf x p) items → IsAmong x live
   pub creates : (x e : ℕ) → IsAmong (CreateOf x e) items → IsAmong x live
   pub drops : (x e : ℕ) → IsAmong (DropOf x e) items → IsAmong x live
@@ -122,12 +123,12 @@ IsKeptFor area e key at older =
 
 -- the version entries of a slot's chain
 abbrev pub along : Area → Place → List Place
-along area at = places_along most_older area.older (area.slot at).pointer
+along area at = places_along older_bound area.older (area.slot at).pointer
 
 -- Pointers lead through used version entries of the key and the table, and none is in two chains.
 pub record ArePointed (area : Area) : Type 0 where
   pub lead : (e : ℕ) (at : Place) → IsUsedSlot area e at
-      → Leads most_older area.older (IsKeptFor area e (area.slot at).key) (area.slot at).pointer
+      → Leads older_bound area.older (IsKeptFor area e (area.slot at).key) (area.slot at).pointer
   pub apart : (e f : ℕ) (a b q : Place) → IsUsedSlot area e a → IsUsedSlot area f b
       → IsAmong q (along area a) → IsAmong q (along area b) → a ≡ b
 
@@ -159,21 +160,21 @@ stands_for committed x title =
     (committed title.creator || (title.creator == x))
     && not (committed title.dropper || (title.dropper == x))
 
-abbrev pub is_create_of : ℕ → SlogItem → Bool
-is_create_of e (AllocOf x p) = false
-is_create_of e (FreeOf p) = false
-is_create_of e (CreateOf x f) = f == e
-is_create_of e (DropOf x f) = false
+abbrev pub is_creation : ℕ → SlogItem → Bool
+is_creation e (AllocOf x p) = false
+is_creation e (FreeOf p) = false
+is_creation e (CreateOf x f) = f == e
+is_creation e (DropOf x f) = false
 
-abbrev pub is_drop_of : ℕ → SlogItem → Bool
-is_drop_of e (AllocOf x p) = false
-is_drop_of e (FreeOf p) = false
-is_drop_of e (CreateOf x f) = false
-is_drop_of e (DropOf x f) = f == e
+abbrev pub is_dropping : ℕ → SlogItem → Bool
+is_dropping e (AllocOf x p) = false
+is_dropping e (FreeOf p) = false
+is_dropping e (CreateOf x f) = false
+is_dropping e (DropOf x f) = f == e
 
 -- an item of an entry of the catalog by a transaction
-abbrev pub IsItemOf : ℕ → ℕ → List SlogItem → Type 0
-IsItemOf x e items = IsAmong (CreateOf x e) items ⊎ IsAmong (DropOf x e) items
+abbrev pub IsSchemaItem : ℕ → ℕ → List SlogItem → Type 0
+IsSchemaItem x e items = IsAmong (CreateOf x e) items ⊎ IsAmong (DropOf x e) items
 
 -- Who made a live entry is committed, or open with an item that says so; and so is who dropped it. An
 -- item is of a live entry that says the same. An entry has at most one item of each kind, the creation
@@ -193,10 +194,10 @@ pub record AreNamed (committed : ℕ → Bool) (live : List ℕ) (items : List S
   pub drops : (x e : ℕ) → IsAmong (DropOf x e) items
       → (is_live (title e) ≡ true) × ((title e).dropper ≡ x)
   pub once : (e : ℕ)
-      → (how_many (is_create_of e) items ≤ 1) × (how_many (is_drop_of e) items ≤ 1)
+      → (how_many (is_creation e) items ≤ 1) × (how_many (is_dropping e) items ≤ 1)
   pub in_order : (front rest : List SlogItem) (x y e : ℕ)
       → items ≡ front ++ CreateOf x e ∷ rest → IsAmong (DropOf y e) front → ⊥
-  pub of_one : (x y e f : ℕ) → IsItemOf x e items → IsItemOf y f items
+  pub of_one : (x y e f : ℕ) → IsSchemaItem x e items → IsSchemaItem y f items
       → (title e).name ≡ (title f).name → x ≡ y
   pub undoing : (x k : ℕ) → IsAmong x live
       → IsOneOf (all_undone (drop k (filter (is_item_by x) items)) title) (stands_for committed x)
@@ -205,21 +206,21 @@ pub record AreNamed (committed : ℕ → Bool) (live : List ℕ) (items : List S
 -- ---- numbers of transactions
 
 -- where there is such a version, it is by one that was drawn
-abbrev pub IsDrawn : ℕ → Option RowVersion → Type 0
-IsDrawn next None = Unit {0}
-IsDrawn next (Some v) = v.0 < next
+abbrev pub PreviousBelow : ℕ → Option RowVersion → Type 0
+PreviousBelow next None = Unit {0}
+PreviousBelow next (Some v) = v.0 < next
 
 -- Every number in slots, version entries and entries of the catalog is below the next; so are those of
 -- open and aborted transactions, each from 1 on, once, and in one of the two.
-pub record AreBelow (next : ℕ) (xids : List ℕ) (area : Area) : Type 0 where
+pub record NumbersBelow (next : ℕ) (xids : List ℕ) (area : Area) : Type 0 where
   pub slots : (e : ℕ) (at : Place) → IsUsedSlot area e at
-      → ((area.slot at).head.0 < next) × IsDrawn next (area.slot at).previous
+      → ((area.slot at).head.0 < next) × PreviousBelow next (area.slot at).previous
   pub older : (e : ℕ) (at : Place) → IsAmong at (older_places area e)
       → (area.older at).used ≡ true → (area.older at).version.0 < next
   pub entries : (e : ℕ) → ((area.title e).state ≡ 0)
       ⊎ (((area.title e).creator < next) × ((area.title e).dropper < next))
   pub drawn : AllByRecursion (λ x. (0 < x) × (x < next)) xids
-  pub once : AreApart xids
+  pub once : AreAllOnce xids
 
 -- ---- all of it
 
@@ -232,7 +233,7 @@ pub record IsSound (counted : ℕ) (tables : Tables) (area : Area) : Type 0 wher
   pub keys : AreKeyed area
   pub pointers : ArePointed area
   pub names : AreNamed (is_committed_in tables) (xids_in tables.opens) tables.items area.title
-  pub below : AreBelow tables.next (xids_in tables.opens ++ xids_in tables.aborted) area
+  pub below : NumbersBelow tables.next (xids_in tables.opens ++ xids_in tables.aborted) area
 
 -- ---- nothing is left to clean
 

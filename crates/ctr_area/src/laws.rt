@@ -1,14 +1,15 @@
 // Laws of areas, each on a call that does nothing else.
-ghost use Rattle.std.specs.Prelude.{◌≡◌, ℕ, Bool, List, []};
+ghost use Rattle.std.specs.Prelude.{◌≡◌, ◌<◌, ◌≤◌, ◌+◌, ◌*◌, ◌/◌, ◌%◌, ℕ, Bool, List, [], length};
 ghost use Rattle.ctr_meta.specs.Tables.{no_tables};
 ghost use Rattle.ctr_page.specs.declared.rows.Place.{Place};
 ghost use Rattle.ctr_page.specs.declared.rows.RowSlot.{RowSlot};
 ghost use Rattle.ctr_page.specs.declared.rows.VersionEntry.{VersionEntry};
 ghost use Rattle.ctr_page.specs.Making.{slot_bytes, kept_bytes, IsSlot, IsEntry};
-ghost use Rattle.ctr_area.specs.Reading.{slot_said, older_said, columns_on, width_on, area_of};
+ghost use Rattle.ctr_page.specs.Columns.{entry_in, columns_in};
+ghost use Rattle.ctr_area.specs.Reading.{slot_said, older_said, entry_bytes, title_of, firsts_of, columns_on, width_on, area_of};
 ghost use Rattle.ctr_area.specs.Images.{new_pages, image_rows, undo_size};
 ghost use Rattle.ctr_area.specs.Sound.{IsSound, IsBare};
-ghost use Rattle.ctr_area.specs.Changes.{with_slot, with_older, with_bytes_at, IsPlaceOf};
+ghost use Rattle.ctr_area.specs.Changes.{with_slot, with_older, with_title, with_firsts, with_bytes_at, with_entry, IsPlaceOf};
 
 /// The bytes of a slot over what stands at a place of a page of rows: the area changes at this place, and
 /// nowhere else.
@@ -21,6 +22,14 @@ pub fn slot_changes_its_place()
 pub fn version_changes_its_place()
     ensures { (pages : ℕ → List ℕ) (at : Place) (e : VersionEntry) → IsPlaceOf 2 pages at → IsEntry (width_on pages at.page) e
         → area_of (with_bytes_at at (kept_bytes e) pages) ≡ with_older at (older_said (columns_on pages at.page) e) (area_of pages) }
+{}
+
+/// The bytes of an entry of the catalog, whose columns are those of before, over what stands there: its title
+/// and its first pages become those of the new bytes, and nothing else changes.
+pub fn entry_changes_alone()
+    ensures { (pages : ℕ → List ℕ) (e : ℕ) (new : List ℕ) → e < 32 → length new ≡ 256 → 256 * (e % 16) + 256 ≤ length (pages (1 + e / 16))
+        → columns_in new ≡ columns_in (entry_bytes pages e)
+        → area_of (with_entry e new pages) ≡ with_firsts e (firsts_of (entry_in new)) (with_title e (title_of (entry_in new)) (area_of pages)) }
 {}
 
 /// A new database has pages of zeros and no transaction. It is sound, however many of its pages are

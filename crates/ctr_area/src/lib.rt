@@ -4,4 +4,6 @@
 
 mod laws;
 
-pub use laws::{new_database, slot_changes_its_place, version_changes_its_place};
+pub use laws::{
+    entry_changes_alone, new_database, slot_changes_its_place, version_changes_its_place,
+};

@@ -15,8 +15,8 @@ use Rattle.ctr_page.specs.declared.rows.Version.{Version}
 use Rattle.ctr_page.specs.declared.rows.RowSlot.{RowSlot}
 use Rattle.ctr_page.specs.declared.rows.VersionEntry.{VersionEntry}
 use Rattle.ctr_page.specs.Places.{has_previous, previous_at, pointer_at, kept_pointer_at, slot_size, kept_size}
-use Rattle.ctr_page.specs.Reading.{piece, header_in, place_in, version_in, if_there, previous_in, slot_in, kept_in}
-use Rattle.ctr_page.specs.Making.{header_bytes, pointer_bytes, version_bytes, some_version_bytes, previous_bytes, slot_bytes, kept_bytes, IsHeader, IsPlace, IsVersion, IsSlot, IsEntry}
+use Rattle.ctr_page.specs.Reading.{piece, header_in, place_in, version_in, if_there, previous_in, slot_in, older_in}
+use Rattle.ctr_page.specs.Making.{header_bytes, pointer_bytes, version_bytes, some_version_bytes, previous_bytes, slot_bytes, kept_bytes, IsHeader, PlaceFits, IsVersion, IsSlot, IsEntry}
 
 -- ---- fronts
 
@@ -34,7 +34,7 @@ length-more n x front = omega (arith, length-append front (spelled n x), length-
 
 -- ---- places and versions
 
-place_back : (p : Place) (at : ℕ) (front bytes : List ℕ) → at ≡ length front → IsPlace p → Begins (front ++ pointer_bytes p) bytes → place_in at bytes ≡ p
+place_back : (p : Place) (at : ℕ) (front bytes : List ℕ) → at ≡ length front → PlaceFits p → Begins (front ++ pointer_bytes p) bytes → place_in at bytes ≡ p
 place_back p at front bytes is fits begins =
     let f = front ++ spelled 4 p.page in
     let b = begins_apart front (spelled 4 p.page) (spelled 2 p.slot) bytes begins in
@@ -135,7 +135,7 @@ slot_back w s bytes fits begins =
         ∙ ap (λ x. record a { used = b.used; key = b.key; head = x }) head ∙ ap (λ x. record b { previous = x; older = a.older }) previous
         ∙ ap (λ x. record b { older = x }) older
 
-pub kept_back : (w : ℕ) (e : VersionEntry) (bytes : List ℕ) → IsEntry w e → Begins (kept_bytes e) bytes → kept_in w bytes ≡ e
+pub kept_back : (w : ℕ) (e : VersionEntry) (bytes : List ℕ) → IsEntry w e → Begins (kept_bytes e) bytes → older_in w bytes ≡ e
 kept_back w e bytes fits begins =
     let u = spelled 1 e.used in
     let k = spelled 8 (cast_unsigned w64 e.key) in
@@ -150,7 +150,7 @@ kept_back w e bytes fits begins =
     let key = key_back e.key u bytes l1 fits.key b2 in
     let version = version_back w e.version 9 (u ++ k) bytes l2 fits.version b3 in
     let older = place_back e.older (kept_pointer_at w) (u ++ k ++ h) bytes l3 fits.older begins in
-    same_kept (kept_in w bytes) e used key version older
+    same_kept (older_in w bytes) e used key version older
   where
     same_kept : (a b : VersionEntry) → a.used ≡ b.used → a.key ≡ b.key → a.version ≡ b.version → a.older ≡ b.older → a ≡ b
     same_kept a b used key version older =

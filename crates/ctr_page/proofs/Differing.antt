@@ -11,8 +11,8 @@ use Rattle.ctr_records.specs.Damage.{◌>>=◌, wrong, expect, at_most}
 use Rattle.ctr_records.proofs.Forms.{Fair, fair_bind, fair_expect, fair_if, fair_both}
 use Rattle.ctr_page.specs.declared.checks.Chain.{Chain}
 use Rattle.ctr_page.specs.Places.{has_previous, previous_at, pointer_at, kept_pointer_at, kept_size, room_for}
-use Rattle.ctr_page.specs.Columns.{kind_at, kinds_width}
-use Rattle.ctr_page.specs.Damage.{chain_kind, chain_entry, chain_bucket, counted_check, header_check, place_check, pointer_check, text_check, texts_check, version_check, some_version_check, previous_check, used_slot_check, used_kept_check, slot_check, kept_check, from_1_check, firsts_check, column_check, columns_check, used_entry_check, entry_check, Differs}
+use Rattle.ctr_page.specs.Columns.{column_kind_at, kinds_width}
+use Rattle.ctr_page.specs.Damage.{chain_kind, chain_entry, chain_bucket, counted_check, header_check, place_check, pointer_check, text_check, texts_check, version_check, some_version_check, previous_check, used_slot_check, used_kept_check, slot_check, kept_check, from_1_check, firsts_check, column_check, columns_check, used_entry_check, entry_check, DamageDiffers}
 
 -- two checks, one after the other
 fair_then : (r s : Result ⊤ BadRecord) → Fair r → Fair s → Fair (r >>= λ _. s)
@@ -99,7 +99,7 @@ firsts_fair (suc n) counted at page = fair_then (counted_check counted at page) 
 
 column_fair : (most at : ℕ) (page : List ℕ) → Fair (column_check most at page)
 unfolding column_check
-column_fair most at page = fair_then (from_1_check 16 at page) (at_most (kind_at at) most (field 1 (kind_at at) page)) (from_1_fair 16 at page) (most_fair (kind_at at) most (field 1 (kind_at at) page))
+column_fair most at page = fair_then (from_1_check 16 at page) (at_most (column_kind_at at) most (field 1 (column_kind_at at) page)) (from_1_fair 16 at page) (most_fair (column_kind_at at) most (field 1 (column_kind_at at) page))
 
 columns_fair : (n at : ℕ) (page : List ℕ) → Fair (columns_check n at page)
 columns_fair zero at page = 0
@@ -121,18 +121,18 @@ entry_fair counted start page = fair_both (eqb (field 1 start page) 0) (Ok tt) (
 
 -- ---- told
 
-differs : (r : Result ⊤ BadRecord) → Fair r → Differs r
+differs : (r : Result ⊤ BadRecord) → Fair r → DamageDiffers r
 differs (Ok x) fair = tt
 differs (Err e) fair = fair
 
-pub header_differs : (chain : Chain) (counted : ℕ) (page : List ℕ) → Differs (header_check chain counted page)
+pub header_differs : (chain : Chain) (counted : ℕ) (page : List ℕ) → DamageDiffers (header_check chain counted page)
 header_differs chain counted page = differs (header_check chain counted page) (header_fair chain counted page)
 
-pub slot_differs : (kinds : List Kind) (counted start : ℕ) (page : List ℕ) → Differs (slot_check kinds counted start page)
+pub slot_differs : (kinds : List Kind) (counted start : ℕ) (page : List ℕ) → DamageDiffers (slot_check kinds counted start page)
 slot_differs kinds counted start page = differs (slot_check kinds counted start page) (slot_fair kinds counted start page)
 
-pub kept_differs : (kinds : List Kind) (counted start : ℕ) (page : List ℕ) → Differs (kept_check kinds counted start page)
+pub kept_differs : (kinds : List Kind) (counted start : ℕ) (page : List ℕ) → DamageDiffers (kept_check kinds counted start page)
 kept_differs kinds counted start page = differs (kept_check kinds counted start page) (kept_fair kinds counted start page)
 
-pub entry_differs : (counted start : ℕ) (page : List ℕ) → Differs (entry_check counted start page)
+pub entry_differs : (counted start : ℕ) (page : List ℕ) → DamageDiffers (entry_check counted start page)
 entry_differs counted start page = differs (entry_check counted start page) (entry_fair counted start page)

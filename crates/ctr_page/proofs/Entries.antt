@@ -11,8 +11,8 @@ use Rattle.ctr_bytes.specs.Fields.{spelled, field}
 use Rattle.ctr_bytes.proofs.FieldLaws.{length-spelled}
 use Rattle.ctr_records.proofs.Laws.{Begins, begins_less, field_last}
 use Rattle.ctr_value.specs.Columns.{KindFits, ColumnFits, ColumnsFit, zeros, kind_number, column_bytes}
-use Rattle.ctr_page.specs.Columns.{name_in, kind_of, columns_from, columns_in, table_name_in, text_bytes, columns_bytes, new_entry_bytes}
-use Rattle.ctr_page.specs.Making.{Puts}
+use Rattle.ctr_page.specs.Columns.{name_in, kind_said, columns_from, columns_in, table_name_in, text_bytes, columns_bytes, new_entry_bytes}
+use Rattle.ctr_page.specs.Making.{PutsBytes}
 use Rattle.ctr_page.proofs.Puts.{puts_more, put_front}
 use Rattle.ctr_page.proofs.Back.{begins_apart, piece_last, length-more}
 
@@ -42,7 +42,7 @@ text_back at front text more bytes is small begins =
 
 -- ---- columns
 
-kind_back : (most : ℕ) (k : Kind) → KindFits most k → kind_of (kind_number k) ≡ k
+kind_back : (most : ℕ) (k : Kind) → KindFits most k → kind_said (kind_number k) ≡ k
 kind_back most Int fits = refl
 kind_back most (Chars n) fits = ap (λ (b : Bool). if b then Int else Chars n) (ne_eqb n 0 (λ e. omega (arith, e, fits.0)))
 
@@ -67,7 +67,7 @@ length-column c small short =
     omega (arith, ap length (column_parts c small), length-append name (spelled 1 (kind_number c.kind)), length-spelled 1 (kind_number c.kind), length-append c.name (zeros (16 - length c.name)), length-zeros (16 - length c.name), short)
 
 column_back : (most : ℕ) (c : Column) (at : ℕ) (front bytes : List ℕ) → at ≡ length front → most ≤ 64 → ColumnFits most c → Begins (front ++ column_bytes c) bytes
-    → (let d : Column = record { name = name_in at bytes; kind = kind_of (field 1 (at + 18 - 1) bytes) } in d) ≡ c
+    → (let d : Column = record { name = name_in at bytes; kind = kind_said (field 1 (at + 18 - 1) bytes) } in d) ≡ c
 column_back most c at front bytes is le fits begins =
     let small = kind_small most c.kind le fits.1 in
     let name = length c.name ∷ (c.name ++ zeros (16 - length c.name)) in
@@ -76,8 +76,8 @@ column_back most c at front bytes is le fits begins =
     let apart = begins_apart front name k bytes (begins.0, begins.1 ∙ ap (λ (l : List ℕ). (front ++ l) ++ begins.0) (column_parts c small)) in
     let here : at + 18 - 1 ≡ length (front ++ name) =
     omega (arith, is, length-append front name, length-append c.name (zeros (16 - length c.name)), length-zeros (16 - length c.name), fits.0.1) in
-    let kind : kind_of (field 1 (at + 18 - 1) bytes) ≡ c.kind = ap kind_of (field_last 1 (kind_number c.kind) (at + 18 - 1) (front ++ name) bytes here small apart) ∙ kind_back most c.kind fits.1 in
-    ap (λ (x : List ℕ). let d : Column = record { name = x; kind = kind_of (field 1 (at + 18 - 1) bytes) } in d) named
+    let kind : kind_said (field 1 (at + 18 - 1) bytes) ≡ c.kind = ap kind_said (field_last 1 (kind_number c.kind) (at + 18 - 1) (front ++ name) bytes here small apart) ∙ kind_back most c.kind fits.1 in
+    ap (λ (x : List ℕ). let d : Column = record { name = x; kind = kind_said (field 1 (at + 18 - 1) bytes) } in d) named
     ∙ ap (λ (x : Kind). let d : Column = record { name = c.name; kind = x } in d) kind
 
 columns_back : (cs : List Column) (at : ℕ) (front bytes : List ℕ) → at ≡ length front → AllByRecursion (ColumnFits 64) cs → Begins (front ++ flat_map column_bytes cs) bytes → columns_from (length cs) at bytes ≡ cs
@@ -143,13 +143,13 @@ entry_back creator name cs bytes drawn short fits begins =
 -- ---- making
 
 -- a name and a kind are a column
-pub column_put : (at next end k : ℕ) (c : Column) (a b d : List ℕ) → k ≡ kind_number c.kind → k < 256 → Puts at (text_bytes 16 c.name) a b next → Puts next (spelled 1 k) b d end → Puts at (column_bytes c) a d end
+pub column_put : (at next end k : ℕ) (c : Column) (a b d : List ℕ) → k ≡ kind_number c.kind → k < 256 → PutsBytes at (text_bytes 16 c.name) a b next → PutsBytes next (spelled 1 k) b d end → PutsBytes at (column_bytes c) a d end
 column_put at next end k c a b d is small p q =
-    subst (λ l. Puts at l a d end)
+    subst (λ l. PutsBytes at l a d end)
     (ap (λ (n : ℕ). text_bytes 16 c.name ++ spelled 1 n) is ∙ column_is c (subst (λ n. n < 256) is small))
     (puts_more at next end (text_bytes 16 c.name) (spelled 1 k) a b d p q)
 
-pub made_back : (creator end : ℕ) (name : List ℕ) (cs ds : List Column) (a b : List ℕ) → creator < 256 ^ 8 → IsName name → ColumnsFit cs → ds ≡ cs → Puts 0 (new_entry_bytes creator name ds) a b end
+pub made_back : (creator end : ℕ) (name : List ℕ) (cs ds : List Column) (a b : List ℕ) → creator < 256 ^ 8 → IsName name → ColumnsFit cs → ds ≡ cs → PutsBytes 0 (new_entry_bytes creator name ds) a b end
     → (b ≡ new_entry_bytes creator name cs ++ drop end a) × NewEntry creator name cs b
 made_back creator end name cs ds a b drawn named fits is p =
     let bytes : b ≡ new_entry_bytes creator name cs ++ drop end a = put_front end (new_entry_bytes creator name ds) a b p ∙ ap (λ (xs : List Column). new_entry_bytes creator name xs ++ drop end a) is in

@@ -9,10 +9,10 @@ use Rattle.ctr_bytes.proofs.FieldLaws.{length-spelled, length-with_field}
 use Rattle.ctr_records.proofs.Laws.{put_more}
 use Rattle.ctr_page.specs.Places.{start_of}
 use Rattle.ctr_page.specs.Reading.{piece}
-use Rattle.ctr_page.specs.Making.{Puts}
+use Rattle.ctr_page.specs.Making.{PutsBytes}
 
 -- a number
-pub field_put : (n at x : ℕ) (a b : List ℕ) → at + n ≤ length a → b ≡ with_field n at x a → Puts at (spelled n x) a b (at + n)
+pub field_put : (n at x : ℕ) (a b : List ℕ) → at + n ≤ length a → b ≡ with_field n at x a → PutsBytes at (spelled n x) a b (at + n)
 field_put n at x a b fits put = record {
   long = ap length put ∙ length-with_field n at x a fits;
   ends = omega (arith, length-spelled n x);
@@ -20,7 +20,7 @@ field_put n at x a b fits put = record {
 }
 
 -- one thing behind another
-pub puts_more : (at next end : ℕ) (x y a b c : List ℕ) → Puts at x a b next → Puts next y b c end → Puts at (x ++ y) a c end
+pub puts_more : (at next end : ℕ) (x y a b c : List ℕ) → PutsBytes at x a b next → PutsBytes next y b c end → PutsBytes at (x ++ y) a c end
 puts_more at next end x y a b c p q = record {
   long = q.long ∙ p.long;
   ends = omega (arith, p.ends, q.ends, length-append x y);
@@ -30,7 +30,7 @@ puts_more at next end x y a b c p q = record {
 }
 
 -- bytes over those that were there
-pub bytes_put : (at end : ℕ) (x a : List ℕ) → end ≡ at + length x → end ≤ length a → Puts at x a (take at a ++ x ++ drop end a) end
+pub bytes_put : (at end : ℕ) (x a : List ℕ) → end ≡ at + length x → end ≤ length a → PutsBytes at x a (take at a ++ x ++ drop end a) end
 bytes_put at end x a ends fits = record {
   long = omega (arith, ends, length-append (take at a ++ x) (drop end a), length-append (take at a) x, length-take-le at a (omega (arith, ends)), length-drop end a);
   ends = ends;
@@ -44,7 +44,7 @@ bytes_put at end x a ends fits = record {
 }
 
 -- nothing
-pub none_put : (at : ℕ) (a : List ℕ) → Puts at [] a a at
+pub none_put : (at : ℕ) (a : List ℕ) → PutsBytes at [] a a at
 none_put at a = record {
   long = refl;
   ends = omega arith;
@@ -52,16 +52,16 @@ none_put at a = record {
 }
 
 -- at the front it is those bytes, and the rest as it was
-pub put_front : (end : ℕ) (x a b : List ℕ) → Puts 0 x a b end → b ≡ x ++ drop end a
+pub put_front : (end : ℕ) (x a b : List ℕ) → PutsBytes 0 x a b end → b ≡ x ++ drop end a
 put_front end x a b p = p.adds [] a refl refl
 
 -- a key as the machine has it
-pub key_put : (at end : ℕ) (key : ℤ) (a b : List ℕ) → FitsSigned w64 key → Puts at (spelled 8 (cast_unsigned w64 (to_z w64 (of_z w64 key)))) a b end → Puts at (spelled 8 (cast_unsigned w64 key)) a b end
-key_put at end key a b fits p = subst (λ z. Puts at (spelled 8 (cast_unsigned w64 z)) a b end) (to_z-of_z w64 key fits) p
+pub key_put : (at end : ℕ) (key : ℤ) (a b : List ℕ) → FitsSigned w64 key → PutsBytes at (spelled 8 (cast_unsigned w64 (to_z w64 (of_z w64 key)))) a b end → PutsBytes at (spelled 8 (cast_unsigned w64 key)) a b end
+key_put at end key a b fits p = subst (λ z. PutsBytes at (spelled 8 (cast_unsigned w64 z)) a b end) (to_z-of_z w64 key fits) p
 
 -- up to the same end
-pub ends_at : (at end wanted : ℕ) (x a b : List ℕ) → end ≡ wanted → Puts at x a b end → Puts at x a b wanted
-ends_at at end wanted x a b same p = subst (λ e. Puts at x a b e) same p
+pub ends_at : (at end wanted : ℕ) (x a b : List ℕ) → end ≡ wanted → PutsBytes at x a b end → PutsBytes at x a b wanted
+ends_at at end wanted x a b same p = subst (λ e. PutsBytes at x a b e) same p
 
 -- ---- pieces
 

@@ -31,18 +31,18 @@ abbrev pub name_in : ℕ → List ℕ → List ℕ
 name_in at bytes = piece (at + 1) (field 1 at bytes) bytes
 
 -- INT for 0, else a text of so many bytes
-abbrev pub kind_of : ℕ → Kind
-kind_of n = if n == 0 then Int else Chars n
+abbrev pub kind_said : ℕ → Kind
+kind_said n = if n == 0 then Int else Chars n
 
 -- where the kind of a column stands, which begins at a place
-abbrev pub kind_at : ℕ → ℕ
-kind_at at = at + COLUMN_SIZE - 1
+abbrev pub column_kind_at : ℕ → ℕ
+column_kind_at at = at + COLUMN_SIZE - 1
 
 -- so many columns from a place on
 abbrev pub columns_from : ℕ → ℕ → List ℕ → List Column
 columns_from zero at bytes = []
 columns_from (suc n) at bytes =
-    record { name = name_in at bytes; kind = kind_of (field 1 (kind_at at) bytes) }
+    record { name = name_in at bytes; kind = kind_said (field 1 (column_kind_at at) bytes) }
     ∷ columns_from n (at + COLUMN_SIZE) bytes
 
 -- the columns of the table

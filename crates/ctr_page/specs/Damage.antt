@@ -10,7 +10,7 @@ use Rattle.ctr_page.specs.declared.checks.Chain.{Chain}
 use Rattle.ctr_page.specs.declared.checks.Chain.TheVariants.{Rows, Versions}
 use Rattle.ctr_page.specs.declared.table.TheConstants.{KIND_AT, OWNER_AT, BUCKET_AT, NEXT_AT, HEAD_AT, TOMBSTONE_AT, VERSION_SIZE, NAME_AT, NAME_MOST, COLUMNS_AT, COLUMN_SIZE, MOST_COLUMNS, FIRSTS_AT}
 use Rattle.ctr_page.specs.Places.{has_previous, previous_at, pointer_at, kept_pointer_at, kept_size, room_for}
-use Rattle.ctr_page.specs.Columns.{kind_at, kinds_width}
+use Rattle.ctr_page.specs.Columns.{column_kind_at, kinds_width}
 
 -- ---- the header of a page to which a chain leads
 
@@ -120,7 +120,7 @@ firsts_check (suc n) counted at page =
 unfoldable pub column_check : ℕ → ℕ → List ℕ → Result ⊤ BadRecord
 column_check most at page = do
   name ← from_1_check NAME_MOST at page
-  at_most (kind_at at) most (field 1 (kind_at at) page)
+  at_most (column_kind_at at) most (field 1 (column_kind_at at) page)
 
 -- so many columns behind the first
 abbrev pub columns_check : ℕ → ℕ → List ℕ → Result ⊤ BadRecord
@@ -144,5 +144,5 @@ entry_check counted start page =
     if field 1 start page == 0 then Ok tt else used_entry_check counted start page
 
 -- where there is damage, what is wanted isn't what is there
-abbrev pub Differs : Result ⊤ BadRecord → Type 0
-Differs checked = IfErr checked (λ e. e.want ≢ e.got)
+abbrev pub DamageDiffers : Result ⊤ BadRecord → Type 0
+DamageDiffers checked = IfErr checked (λ e. e.want ≢ e.got)

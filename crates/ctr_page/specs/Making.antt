@@ -47,8 +47,8 @@ kept_bytes e =
 abbrev pub IsHeader : Header → Type 0
 IsHeader h = (h.kind < 256) × (h.entry < 256) × (h.bucket < 256) × (h.next < 256 ^ 4)
 
-abbrev pub IsPlace : Place → Type 0
-IsPlace p = (p.page < 256 ^ 4) × (p.slot < 256 ^ 2)
+abbrev pub PlaceFits : Place → Type 0
+PlaceFits p = (p.page < 256 ^ 4) × (p.slot < 256 ^ 2)
 
 -- a version with a payload of the width
 abbrev pub IsVersion : ℕ → Version → Type 0
@@ -64,18 +64,18 @@ pub record IsSlot (w : ℕ) (s : RowSlot) : Type 0 where
   pub key : FitsSigned w64 s.key
   pub head : IsVersion w s.head
   pub previous : IsPrevious w s.previous
-  pub older : IsPlace s.older
+  pub older : PlaceFits s.older
 
 pub record IsEntry (w : ℕ) (e : VersionEntry) : Type 0 where
   pub used : e.used < 256
   pub key : FitsSigned w64 e.key
   pub version : IsVersion w e.version
-  pub older : IsPlace e.older
+  pub older : PlaceFits e.older
 
 -- ---- putting
 
 -- Bytes are put at a place, up to an end; those before and behind stay.
-pub record Puts (at : ℕ) (bytes a b : List ℕ) (end : ℕ) : Type 0 where
+pub record PutsBytes (at : ℕ) (bytes a b : List ℕ) (end : ℕ) : Type 0 where
   pub long : length b ≡ length a
   pub ends : end ≡ at + length bytes
   pub adds : (front old : List ℕ) → at ≡ length front → a ≡ front ++ drop at old → b ≡ (front ++ bytes) ++ drop end old

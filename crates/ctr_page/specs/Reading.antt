@@ -56,8 +56,8 @@ slot_in w bytes = record {
   older = place_in (pointer_at w) bytes;
 }
 
-abbrev pub kept_in : ℕ → List ℕ → VersionEntry
-kept_in w bytes = record {
+abbrev pub older_in : ℕ → List ℕ → VersionEntry
+older_in w bytes = record {
   used = field 1 0 bytes;
   key = cast_signed w64 (field 8 KEY_AT bytes);
   version = version_in w HEAD_AT bytes;
@@ -69,5 +69,5 @@ kept_in w bytes = record {
 abbrev pub slot_at : ℕ → ℕ → List ℕ → RowSlot
 slot_at w number page = slot_in w (piece (start_of (slot_size w) number) (slot_size w) page)
 
-abbrev pub kept_at : ℕ → ℕ → List ℕ → VersionEntry
-kept_at w number page = kept_in w (piece (start_of (kept_size w) number) (kept_size w) page)
+abbrev pub older_at : ℕ → ℕ → List ℕ → VersionEntry
+older_at w number page = older_in w (piece (start_of (kept_size w) number) (kept_size w) page)

@@ -4,7 +4,7 @@ ghost use Rattle.ctr_types.specs.declared.value.Kind.{Kind};
 ghost use Rattle.ctr_page.specs.declared.checks.Chain.{Chain};
 ghost use Rattle.ctr_page.specs.Places.{slot_size as size_of_slot, kept_size as size_of_kept};
 ghost use Rattle.ctr_page.specs.Columns.{slot_start, kept_start, kinds_width as width_of_kinds};
-ghost use Rattle.ctr_page.specs.Damage.{chain_kind, chain_entry, chain_bucket, counted_check, header_check, place_check, pointer_check, text_check, texts_check, version_check, some_version_check, previous_check, used_slot_check, used_kept_check, slot_check, kept_check, from_1_check, firsts_check, column_check, columns_check, used_entry_check, entry_check, Differs};
+ghost use Rattle.ctr_page.specs.Damage.{chain_kind, chain_entry, chain_bucket, counted_check, header_check, place_check, pointer_check, text_check, texts_check, version_check, some_version_check, previous_check, used_slot_check, used_kept_check, slot_check, kept_check, from_1_check, firsts_check, column_check, columns_check, used_entry_check, entry_check, DamageDiffers};
 
 use crate::table::{
     BUCKET_AT, COLUMN_SIZE, COLUMNS_AT, ENTRY_SIZE, FIRSTS_AT, HEAD_AT, HEADER_SIZE, KIND_AT,
@@ -325,8 +325,8 @@ pub fn check_entry(counted: u32, at: u8, page: &[u8]) -> Result<(), BadPage>
 
 /// Where a check fails, what is wanted isn't what is there.
 pub fn damage_differs()
-    ensures header { (chain : Chain) (counted : ℕ) (page : List ℕ) → Differs (header_check chain counted page) }
-    ensures slot { (kinds : List Kind) (counted start : ℕ) (page : List ℕ) → Differs (slot_check kinds counted start page) }
-    ensures version { (kinds : List Kind) (counted start : ℕ) (page : List ℕ) → Differs (kept_check kinds counted start page) }
-    ensures entry { (counted start : ℕ) (page : List ℕ) → Differs (entry_check counted start page) }
+    ensures header { (chain : Chain) (counted : ℕ) (page : List ℕ) → DamageDiffers (header_check chain counted page) }
+    ensures slot { (kinds : List Kind) (counted start : ℕ) (page : List ℕ) → DamageDiffers (slot_check kinds counted start page) }
+    ensures version { (kinds : List Kind) (counted start : ℕ) (page : List ℕ) → DamageDiffers (kept_check kinds counted start page) }
+    ensures entry { (counted start : ℕ) (page : List ℕ) → DamageDiffers (entry_check counted start page) }
 {}

@@ -3,8 +3,8 @@ ghost use Rattle.std.specs.Prelude.{◌≡◌, ◌≤◌, ◌<◌, ◌+◌, ◌*
 ghost use Rattle.std.specs.List.{flat_map};
 ghost use Rattle.ctr_bytes.specs.Fields.{field};
 ghost use Rattle.ctr_value.specs.Columns.{ColumnsFit, column_bytes};
-ghost use Rattle.ctr_page.specs.Columns.{entry_at as entry_of, kind_of, table_name_in, first_in, versions_first_in, kind_at, columns_in, columns_bytes, text_bytes, new_entry_bytes};
-ghost use Rattle.ctr_page.specs.Making.{Puts};
+ghost use Rattle.ctr_page.specs.Columns.{entry_at as entry_of, kind_said, table_name_in, first_in, versions_first_in, column_kind_at, columns_in, columns_bytes, text_bytes, new_entry_bytes};
+ghost use Rattle.ctr_page.specs.Making.{PutsBytes};
 ghost use Rattle.ctr_types.specs.Names.{IsName};
 
 use crate::putting::{put_byte, put_long, put_zeros};
@@ -46,8 +46,8 @@ pub fn read_entry<'a>(page: &'a [u8], at: u8) -> CatalogEntry<'a>
     }
 }
 
-fn kind_of(number: u8) -> Kind
-    ensures { result ≡ kind_of number }
+fn kind_said(number: u8) -> Kind
+    ensures { result ≡ kind_said number }
 {
     if number == 0 {
         Kind::Int
@@ -80,10 +80,10 @@ impl<'a> CatalogEntry<'a> {
     pub fn kind(&self, column: u8) -> Kind
         requires whole { length self.now.bytes ≡ ENTRY_SIZE }
         requires there { column < MOST_COLUMNS }
-        ensures { result ≡ kind_of (field 1 (kind_at (COLUMNS_AT + 1 + COLUMN_SIZE * column)) self.now.bytes) }
+        ensures { result ≡ kind_said (field 1 (column_kind_at (COLUMNS_AT + 1 + COLUMN_SIZE * column)) self.now.bytes) }
     {
         let at = COLUMNS_AT + 1 + COLUMN_SIZE * column as usize;
-        kind_of(get_u8(self.bytes.as_slice(), at + COLUMN_SIZE - 1))
+        kind_said(get_u8(self.bytes.as_slice(), at + COLUMN_SIZE - 1))
     }
 
     /// The first page of a bucket; 0 for none.
@@ -118,7 +118,7 @@ fn kind_number(kind: Kind) -> u8
 fn put_name(into: &mut [u8], at: usize, name: &Name) -> usize
     requires { at + 17 ≤ length into.old }
     ensures short { IsName name.now }
-    ensures put { Puts at (text_bytes NAME_MOST name.now) into.old into.new result }
+    ensures put { PutsBytes at (text_bytes NAME_MOST name.now) into.old into.new result }
     ensures long { length into.new ≡ length into.old }
     ensures end { result ≡ at + 17 }
 {
@@ -129,7 +129,7 @@ fn put_name(into: &mut [u8], at: usize, name: &Name) -> usize
 
 fn put_column(into: &mut [u8], at: usize, column: &Column) -> usize
     requires { at + COLUMN_SIZE ≤ length into.old }
-    ensures put { Puts at (column_bytes column.now) into.old into.new result }
+    ensures put { PutsBytes at (column_bytes column.now) into.old into.new result }
     ensures long { length into.new ≡ length into.old }
     ensures end { result ≡ at + COLUMN_SIZE }
 {
@@ -139,7 +139,7 @@ fn put_column(into: &mut [u8], at: usize, column: &Column) -> usize
 
 fn put_all(into: &mut [u8], at: usize, columns: &[Column]) -> usize
     requires { at + COLUMN_SIZE * length columns.now ≤ length into.old }
-    ensures put { Puts at (flat_map column_bytes columns.now) into.old into.new result }
+    ensures put { PutsBytes at (flat_map column_bytes columns.now) into.old into.new result }
     ensures long { length into.new ≡ length into.old }
     ensures end { result ≡ at + COLUMN_SIZE * length columns.now }
 {
@@ -153,7 +153,7 @@ fn put_all(into: &mut [u8], at: usize, columns: &[Column]) -> usize
 fn put_columns(into: &mut [u8], at: usize, columns: &[Column]) -> usize
     requires few { length columns.now ≤ MOST_COLUMNS }
     requires room { at + 145 ≤ length into.old }
-    ensures put { Puts at (columns_bytes columns.now) into.old into.new result }
+    ensures put { PutsBytes at (columns_bytes columns.now) into.old into.new result }
     ensures long { length into.new ≡ length into.old }
     ensures end { result ≡ at + 145 }
 {
@@ -166,7 +166,7 @@ fn put_entry(creator: Xid, name: &Name, columns: &[Column], into: &mut [u8]) -> 
     requires few { length columns.now ≤ MOST_COLUMNS }
     requires room { ENTRY_SIZE ≤ length into.old }
     ensures short { IsName name.now }
-    ensures put { Puts 0 (new_entry_bytes creator name.now columns.now) into.old into.new result }
+    ensures put { PutsBytes 0 (new_entry_bytes creator name.now columns.now) into.old into.new result }
     ensures end { result ≡ ENTRY_SIZE }
 {
     let at = put_byte(into, 0, 1);

@@ -1,7 +1,7 @@
 // The header of a page.
 ghost use Rattle.std.specs.Prelude.{◌≡◌, ◌≤◌, ◌++◌, length, drop};
 ghost use Rattle.ctr_page.specs.Reading.{header_in};
-ghost use Rattle.ctr_page.specs.Making.{header_bytes, IsHeader, Puts};
+ghost use Rattle.ctr_page.specs.Making.{header_bytes, IsHeader, PutsBytes};
 
 use crate::putting::{put_byte, put_long, put_word};
 use crate::table::{BUCKET_AT, HEADER_SIZE, KIND_AT, NEXT_AT, OWNER_AT};
@@ -37,7 +37,7 @@ pub fn read_header(page: &[u8]) -> Header
 
 fn put_header(header: &Header, into: &mut [u8]) -> usize
     requires { HEADER_SIZE ≤ length into.old }
-    ensures put { Puts 0 (header_bytes header.now) into.old into.new result }
+    ensures put { PutsBytes 0 (header_bytes header.now) into.old into.new result }
     ensures number { result ≡ HEADER_SIZE }
 {
     let at = put_byte(into, KIND_AT, header.kind);

@@ -2,14 +2,14 @@
 ghost use Rattle.std.specs.Prelude.{◌≡◌, ◌+◌, ◌≤◌, length, replicate};
 ghost use Rattle.std.specs.Int.{w64, cast_unsigned};
 ghost use Rattle.ctr_bytes.specs.Fields.{spelled};
-ghost use Rattle.ctr_page.specs.Making.{Puts};
+ghost use Rattle.ctr_page.specs.Making.{PutsBytes};
 
 use ctr_bytes::{put_i64, put_u8, put_u16, put_u32, put_u64};
 
-/// Puts one byte.
+/// PutsBytes one byte.
 pub fn put_byte(into: &mut [u8], at: usize, v: u8) -> usize
     requires { at + 1 ≤ length into.old }
-    ensures put { Puts at (spelled 1 v) into.old into.new result }
+    ensures put { PutsBytes at (spelled 1 v) into.old into.new result }
     ensures long { length into.new ≡ length into.old }
     ensures end { result ≡ at + 1 }
 {
@@ -17,10 +17,10 @@ pub fn put_byte(into: &mut [u8], at: usize, v: u8) -> usize
     at + 1
 }
 
-/// Puts 2 bytes.
+/// PutsBytes 2 bytes.
 pub fn put_half(into: &mut [u8], at: usize, v: u16) -> usize
     requires { at + 2 ≤ length into.old }
-    ensures put { Puts at (spelled 2 v) into.old into.new result }
+    ensures put { PutsBytes at (spelled 2 v) into.old into.new result }
     ensures long { length into.new ≡ length into.old }
     ensures end { result ≡ at + 2 }
 {
@@ -28,10 +28,10 @@ pub fn put_half(into: &mut [u8], at: usize, v: u16) -> usize
     at + 2
 }
 
-/// Puts 4 bytes.
+/// PutsBytes 4 bytes.
 pub fn put_word(into: &mut [u8], at: usize, v: u32) -> usize
     requires { at + 4 ≤ length into.old }
-    ensures put { Puts at (spelled 4 v) into.old into.new result }
+    ensures put { PutsBytes at (spelled 4 v) into.old into.new result }
     ensures long { length into.new ≡ length into.old }
     ensures end { result ≡ at + 4 }
 {
@@ -39,10 +39,10 @@ pub fn put_word(into: &mut [u8], at: usize, v: u32) -> usize
     at + 4
 }
 
-/// Puts 8 bytes.
+/// PutsBytes 8 bytes.
 pub fn put_long(into: &mut [u8], at: usize, v: u64) -> usize
     requires { at + 8 ≤ length into.old }
-    ensures put { Puts at (spelled 8 v) into.old into.new result }
+    ensures put { PutsBytes at (spelled 8 v) into.old into.new result }
     ensures long { length into.new ≡ length into.old }
     ensures end { result ≡ at + 8 }
 {
@@ -50,10 +50,10 @@ pub fn put_long(into: &mut [u8], at: usize, v: u64) -> usize
     at + 8
 }
 
-/// Puts a key of 8 bytes.
+/// PutsBytes a key of 8 bytes.
 pub fn put_key(into: &mut [u8], at: usize, v: i64) -> usize
     requires { at + 8 ≤ length into.old }
-    ensures put { Puts at (spelled 8 (cast_unsigned w64 v)) into.old into.new result }
+    ensures put { PutsBytes at (spelled 8 (cast_unsigned w64 v)) into.old into.new result }
     ensures long { length into.new ≡ length into.old }
     ensures end { result ≡ at + 8 }
 {
@@ -61,10 +61,10 @@ pub fn put_key(into: &mut [u8], at: usize, v: i64) -> usize
     at + 8
 }
 
-/// Puts these bytes.
+/// PutsBytes these bytes.
 pub fn put_bytes(into: &mut [u8], at: usize, bytes: &[u8]) -> usize
     requires { at + length bytes.now ≤ length into.old }
-    ensures put { Puts at bytes.now into.old into.new result }
+    ensures put { PutsBytes at bytes.now into.old into.new result }
     ensures long { length into.new ≡ length into.old }
     ensures end { result ≡ at + length bytes.now }
 {
@@ -73,10 +73,10 @@ pub fn put_bytes(into: &mut [u8], at: usize, bytes: &[u8]) -> usize
     end
 }
 
-/// Puts so many zeros.
+/// PutsBytes so many zeros.
 pub fn put_zeros(into: &mut [u8], at: usize, count: usize) -> usize
     requires { at + count ≤ length into.old }
-    ensures put { Puts at (replicate count 0) into.old into.new result }
+    ensures put { PutsBytes at (replicate count 0) into.old into.new result }
     ensures long { length into.new ≡ length into.old }
     ensures end { result ≡ at + count }
 {

@@ -1,8 +1,8 @@
 // Slots of rows, and entries of older versions.
 ghost use Rattle.std.specs.Prelude.{◌≡◌, ◌≤◌, ◌+◌, ◌++◌, length, drop};
 ghost use Rattle.ctr_page.specs.Places.{slot_size as size_of_slot, kept_size as size_of_kept, pointer_at as pointer_place, previous_at as previous_place, start_of as start_place};
-ghost use Rattle.ctr_page.specs.Reading.{place_in, version_in, previous_in, slot_in, kept_in, slot_at, kept_at};
-ghost use Rattle.ctr_page.specs.Making.{pointer_bytes, version_bytes, previous_bytes, slot_bytes, kept_bytes, IsPlace, IsVersion, IsPrevious, IsSlot, IsEntry, Puts};
+ghost use Rattle.ctr_page.specs.Reading.{place_in, version_in, previous_in, slot_in, older_in, slot_at, older_at};
+ghost use Rattle.ctr_page.specs.Making.{pointer_bytes, version_bytes, previous_bytes, slot_bytes, kept_bytes, PlaceFits, IsVersion, IsPrevious, IsSlot, IsEntry, PutsBytes};
 
 use crate::putting::{put_byte, put_bytes, put_half, put_key, put_long, put_word, put_zeros};
 use crate::table::{
@@ -62,7 +62,7 @@ pub struct VersionEntry<'a> {
 fn place_in(bytes: &[u8], at: usize) -> Place
     requires { at + 6 ≤ length bytes.now }
     ensures read { result ≡ place_in at bytes.now }
-    ensures fits { IsPlace result }
+    ensures fits { PlaceFits result }
 {
     Place {
         page: get_u32(bytes, at),
@@ -114,10 +114,10 @@ fn slot_in<'a>(bytes: &'a [u8], w: usize) -> RowSlot<'a>
     }
 }
 
-fn kept_in<'a>(bytes: &'a [u8], w: usize) -> VersionEntry<'a>
+fn older_in<'a>(bytes: &'a [u8], w: usize) -> VersionEntry<'a>
     requires width { w ≤ 2048 }
     requires room { size_of_kept w ≤ length bytes.now }
-    ensures read { result ≡ kept_in w bytes.now }
+    ensures read { result ≡ older_in w bytes.now }
     ensures fits { IsEntry w result }
 {
     VersionEntry {
@@ -145,20 +145,20 @@ pub fn read_slot<'a>(page: &'a [u8], w: usize, slot: u16) -> RowSlot<'a>
 pub fn read_version<'a>(page: &'a [u8], w: usize, slot: u16) -> VersionEntry<'a>
     requires width { w ≤ 2048 }
     requires inside { start_place (size_of_kept w) slot + size_of_kept w ≤ length page.now }
-    ensures read { result ≡ kept_at w slot page.now }
+    ensures read { result ≡ older_at w slot page.now }
     // What is read can be made.
     ensures fits { IsEntry w result }
 {
     let size = kept_size(w);
     let start = start_of(size, slot);
-    kept_in(&page[start..start + size], w)
+    older_in(&page[start..start + size], w)
 }
 
 // ---- making
 
 fn put_pointer(into: &mut [u8], at: usize, place: &Place) -> usize
     requires { at + 6 ≤ length into.old }
-    ensures put { Puts at (pointer_bytes place.now) into.old into.new result }
+    ensures put { PutsBytes at (pointer_bytes place.now) into.old into.new result }
     ensures long { length into.new ≡ length into.old }
     ensures end { result ≡ at + 6 }
 {
@@ -168,7 +168,7 @@ fn put_pointer(into: &mut [u8], at: usize, place: &Place) -> usize
 
 fn put_version(into: &mut [u8], at: usize, version: &Version) -> usize
     requires { at + 9 + length version.now.payload ≤ length into.old }
-    ensures put { Puts at (version_bytes version.now) into.old into.new result }
+    ensures put { PutsBytes at (version_bytes version.now) into.old into.new result }
     ensures long { length into.new ≡ length into.old }
     ensures end { result ≡ at + 9 + length version.now.payload }
 {
@@ -181,7 +181,7 @@ fn put_previous(into: &mut [u8], w: usize, previous: &Option<Version>) -> usize
     requires width { w ≤ 2048 }
     requires fits { IsPrevious w previous.now }
     requires room { pointer_place w ≤ length into.old }
-    ensures put { Puts (previous_place w) (previous_bytes w previous.now) into.old into.new result }
+    ensures put { PutsBytes (previous_place w) (previous_bytes w previous.now) into.old into.new result }
     ensures long { length into.new ≡ length into.old }
     ensures end { result ≡ pointer_place w }
 {
@@ -199,7 +199,7 @@ fn put_slot(w: usize, slot: &RowSlot, into: &mut [u8]) -> usize
     requires width { w ≤ 2048 }
     requires fits { IsSlot w slot.now }
     requires room { size_of_slot w ≤ length into.old }
-    ensures put { Puts 0 (slot_bytes w slot.now) into.old into.new result }
+    ensures put { PutsBytes 0 (slot_bytes w slot.now) into.old into.new result }
     ensures end { result ≡ size_of_slot w }
 {
     let at = put_byte(into, 0, slot.used);
@@ -213,7 +213,7 @@ fn put_kept(w: usize, entry: &VersionEntry, into: &mut [u8]) -> usize
     requires width { w ≤ 2048 }
     requires fits { IsEntry w entry.now }
     requires room { size_of_kept w ≤ length into.old }
-    ensures put { Puts 0 (kept_bytes entry.now) into.old into.new result }
+    ensures put { PutsBytes 0 (kept_bytes entry.now) into.old into.new result }
     ensures end { result ≡ size_of_kept w }
 {
     let at = put_byte(into, 0, entry.used);
@@ -244,7 +244,7 @@ pub fn make_version(w: usize, entry: &VersionEntry, into: &mut [u8]) -> usize
     ensures number { result ≡ size_of_kept w }
     ensures bytes { into.new ≡ kept_bytes entry.now ++ drop result into.old }
     // What is made is read back.
-    ensures read { kept_in w into.new ≡ entry.now }
+    ensures read { older_in w into.new ≡ entry.now }
 {
     put_kept(w, entry, into)
 }

@@ -53,6 +53,16 @@ fn lay(page: &mut [u8], at: usize, bytes: &[u8]) {
     }
 }
 
+// Whether bytes begin so.
+fn begin_so(bytes: &[u8], front: &[u8]) -> bool {
+    bytes.len() >= front.len() && bytes[..front.len()] == *front
+}
+
+// Whether bytes are zeros from a place on.
+fn zeros_from(bytes: &[u8], from: usize) -> bool {
+    from <= bytes.len() && bytes[from..].iter().all(|byte| *byte == 0)
+}
+
 const HEADER: &[u8] = b"\x01\x03\x02\0\x05\0\0\0\0\0\0\0\0\0\0\0";
 
 // The second slot of a page of rows of one INT: key -1; a head by 5, a version by 3, and older ones.
@@ -89,7 +99,7 @@ fn a_slot_is_read_and_made(rt: HostRuntime) -> Result<(), Fail> {
     assert_eq!(rt; text.as_str(), "1 -1 5.0.10 3.1.0 260.2");
     let mut bytes = [0xee; 50];
     assert_eq!(rt; make_slot(8, &slot, &mut bytes), 49);
-    assert_eq!(rt; &bytes[..49], SLOT);
+    assert!(rt; begin_so(&bytes, SLOT));
     assert_eq!(rt; bytes[49], 0xee);
     let free = show_slot(alloc, &read_slot(&page, 8, 82))?;
     assert_eq!(rt; free.as_str(), "0 0 0.0.0  0.0");
@@ -115,7 +125,7 @@ fn a_version_entry_is_read_and_made(rt: HostRuntime) -> Result<(), Fail> {
     );
     let mut bytes = [0xee; 33];
     assert_eq!(rt; make_version(8, &entry, &mut bytes), 32);
-    assert_eq!(rt; &bytes[..32], KEPT);
+    assert!(rt; begin_so(&bytes, KEPT));
     Ok(())
 }
 
@@ -135,7 +145,7 @@ fn a_header_is_read_and_made(rt: HostRuntime) -> Result<(), Fail> {
     );
     let mut bytes = [0xee; 17];
     assert_eq!(rt; make_header(&header, &mut bytes), 16);
-    assert_eq!(rt; &bytes[..16], HEADER);
+    assert!(rt; begin_so(&bytes, HEADER));
     Ok(())
 }
 
@@ -175,8 +185,8 @@ fn an_entry_of_the_catalog_is_made_and_read(rt: HostRuntime) -> Result<(), Fail>
         make_entry(5, &name(alloc, b"t")?, &schema(alloc)?, &mut bytes),
         256
     );
-    assert_eq!(rt; &bytes[..71], TITLE);
-    assert!(rt; bytes[71..].iter().all(|byte| *byte == 0));
+    assert!(rt; begin_so(&bytes, TITLE));
+    assert!(rt; zeros_from(&bytes, 71));
     let entry = read_entry(&bytes, 0);
     assert_eq!(rt; (entry.state, entry.creator, entry.dropper), (1, 5, 0));
     assert_eq!(rt;
@@ -207,6 +217,13 @@ fn make(which: u8, page: &mut [u8]) {
             lay(page, 42, b"\x02ab\0\0\x09\0\0\0\x02");
         }
         _ => lay(page, 256, TITLE),
+    }
+}
+
+// Alters bytes of a page.
+fn alter(page: &mut [u8], altered: &[(usize, u8)]) {
+    for one in altered {
+        lay(page, one.0, &[one.1]);
     }
 }
 
@@ -296,9 +313,7 @@ fn each_row_of_damage_is_told(rt: HostRuntime) -> Result<(), Fail> {
     for Line(which, altered, says) in LINES {
         let mut page = [0; 4096];
         make(which, &mut page);
-        for (at, byte) in altered {
-            lay(&mut page, *at, &[*byte]);
-        }
+        alter(&mut page, altered);
         let text = show_damage(alloc, check(which, &page))?;
         assert_eq!(rt; text.as_str(), says);
     }

@@ -12,10 +12,10 @@ use Rattle.ctr_types.specs.declared.value.Value.TheVariants as value
 use Rattle.ctr_bytes.specs.Fields.{field}
 use Rattle.ctr_bytes.proofs.FieldLaws.{field_at, got_byte}
 use Rattle.ctr_value.specs.Payload.{IsOf, AreOf, field_width, IsField, IsPayload, IsRowOf}
-use Rattle.ctr_value.specs.Values.{value_in, values_in, row_values}
+use Rattle.ctr_value.specs.Values.{value_said, values_in, row_values}
 use Rattle.ctr_value.proofs.PayloadLaws.{field_len}
 
-text_read : (text padding rest : List ℕ) → value_in (kind.Chars 0) (length text ∷ ((text ++ padding) ++ rest)) ≡ value.Chars text
+text_read : (text padding rest : List ℕ) → value_said (kind.Chars 0) (length text ∷ ((text ++ padding) ++ rest)) ≡ value.Chars text
 text_read text padding rest =
     let l = length text ∷ ((text ++ padding) ++ rest) in
     let first : field 1 0 l ≡ length text = sym (got_byte 0 l) in
@@ -23,13 +23,13 @@ text_read text padding rest =
     ∙ ap (λ (m : List ℕ). value.Chars (take (length text) m)) (append_assoc text padding rest)
     ∙ ap value.Chars (take_at text (padding ++ rest) (length text) refl)
 
-value_read : (k : Kind) (v : Value) (front rest : List ℕ) → IsOf k v → IsField k v front → value_in k (front ++ rest) ≡ v
+value_read : (k : Kind) (v : Value) (front rest : List ℕ) → IsOf k v → IsField k v front → value_said k (front ++ rest) ≡ v
 value_read kind.Int (value.Int n) front rest o f =
     ap (λ (l : List ℕ). value.Int (cast_signed w64 (field 8 0 (l ++ rest)))) f
     ∙ ap (λ (x : ℕ). value.Int (cast_signed w64 x)) (field_at 8 (cast_unsigned w64 n) 0 [] rest refl ((Fits-of_z {w = w64} {z = n} o).fits))
     ∙ ap value.Int (to_z-of_z w64 n o)
 value_read (kind.Chars most) (value.Chars text) front rest o f =
-    ap (λ (l : List ℕ). value_in (kind.Chars most) (l ++ rest)) f.2 ∙ text_read text f.0 rest
+    ap (λ (l : List ℕ). value_said (kind.Chars most) (l ++ rest)) f.2 ∙ text_read text f.0 rest
 value_read kind.Int (value.Chars text) front rest o f = absurd o
 value_read (kind.Chars most) (value.Int n) front rest o f = absurd o
 
@@ -39,7 +39,7 @@ values_read [] (v ∷ vs) bytes rest a p = absurd a
 values_read (c ∷ cs) [] bytes rest a p = absurd a
 values_read (c ∷ cs) (v ∷ vs) bytes rest a p =
     let all : bytes ++ rest ≡ p.0 ++ (p.1 ++ rest) = ap (λ (l : List ℕ). l ++ rest) p.4 ∙ append_assoc p.0 p.1 rest in
-    let first : value_in c.kind (bytes ++ rest) ≡ v = ap (value_in c.kind) all ∙ value_read c.kind v p.0 (p.1 ++ rest) a.0 p.2 in
+    let first : value_said c.kind (bytes ++ rest) ≡ v = ap (value_said c.kind) all ∙ value_read c.kind v p.0 (p.1 ++ rest) a.0 p.2 in
     let tail : drop (field_width c.kind) (bytes ++ rest) ≡ p.1 ++ rest = ap (drop (field_width c.kind)) all ∙ drop_at p.0 (p.1 ++ rest) (field_width c.kind) (field_len c.kind v p.0 a.0 p.2) in
     let others : values_in cs (drop (field_width c.kind) (bytes ++ rest)) ≡ vs = ap (values_in cs) tail ∙ values_read cs vs p.1 rest a.1 p.3 in
     ap (λ (x : Value). x ∷ values_in cs (drop (field_width c.kind) (bytes ++ rest))) first ∙ ap (λ (xs : List Value). v ∷ xs) others

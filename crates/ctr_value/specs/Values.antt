@@ -10,14 +10,14 @@ use Rattle.ctr_bytes.specs.Fields.{field}
 use Rattle.ctr_value.specs.Payload.{field_width}
 
 -- the value in a field: a number, or as many bytes of text as its length says
-abbrev pub value_in : Kind → List ℕ → Value
-value_in kind.Int bytes = value.Int (cast_signed w64 (field 8 0 bytes))
-value_in (kind.Chars most) bytes = value.Chars (take (field 1 0 bytes) (drop 1 bytes))
+abbrev pub value_said : Kind → List ℕ → Value
+value_said kind.Int bytes = value.Int (cast_signed w64 (field 8 0 bytes))
+value_said (kind.Chars most) bytes = value.Chars (take (field 1 0 bytes) (drop 1 bytes))
 
 -- the values of these columns' fields, one behind another
 abbrev pub values_in : List Column → List ℕ → List Value
 values_in [] bytes = []
-values_in (c ∷ cs) bytes = value_in c.kind bytes ∷ values_in cs (drop (field_width c.kind) bytes)
+values_in (c ∷ cs) bytes = value_said c.kind bytes ∷ values_in cs (drop (field_width c.kind) bytes)
 
 -- the values of the row of a key, by its payload
 abbrev pub row_values : List Column → ℤ → List ℕ → List Value
