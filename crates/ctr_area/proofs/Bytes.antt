@@ -1,7 +1,6 @@
 -- Bytes that are put over those of a page: what stands where they are, before them and behind them.
-use Rattle.std.proofs.Common.{◌≡◌, ℕ, ◌+◌, ◌-◌, ◌<◌, ◌≤◌, List, ◌++◌, append_assoc, length, take, drop, sym, ◌∙◌, ap, subst, take-append-drop, arith}
+use Rattle.std.proofs.Common.{◌≡◌, ℕ, ◌+◌, ◌-◌, ◌≤◌, List, ◌++◌, append_assoc, length, take, drop, sym, ◌∙◌, ap, subst, take-append-drop, arith}
 use Rattle.std.proofs.lemmas.List.{length-take-le, length-drop, length-append, take_at, drop_at, take-take, take-append-le, drop-append-le, drop-drop, drop-take}
-use Rattle.std.proofs.Math.Seq.{take-append-add}
 use Rattle.ctr_bytes.specs.Fields.{field}
 use Rattle.ctr_bytes.proofs.FieldLaws.{field-append}
 use Rattle.ctr_page.specs.Reading.{piece, put_over}

@@ -13,9 +13,8 @@ use Rattle.ctr_page.specs.Reading.{piece, put_over, header_in, slot_in, older_in
 use Rattle.ctr_page.specs.Columns.{entry_in, columns_in}
 use Rattle.ctr_area.specs.Areas.{free_slot, free_older}
 use Rattle.ctr_area.specs.Reading.{is_taken, entry_bytes, title_of, firsts_of, slot_said, older_said, no_header, header_on, columns_on, width_on, size_on, area_of}
-use Rattle.ctr_area.specs.Changes.{with_title, with_firsts, with_page, with_entry}
+use Rattle.ctr_area.specs.Changes.{with_title, with_firsts, with_entry}
 use Rattle.ctr_area.proofs.Bytes.{piece_here, piece_before, piece_after}
-use Rattle.ctr_area.proofs.Places.{below}
 use Rattle.ctr_area.proofs.Written.{catalog_page}
 
 -- on the pages 0, 1 and 2 there is no slot and no version entry

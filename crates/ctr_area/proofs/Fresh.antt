@@ -1,19 +1,18 @@
 -- Pages of zeros: no entry of the catalog is used, no page is in a chain, and no transaction has left
 -- anything.
-use Rattle.std.proofs.Common.{◌≡◌, ⊎_elim, inl, inr, ℕ, zero, suc, ◌+◌, ◌*◌, ◌/◌, ◌%◌, ◌^◌, ◌<◌, ◌≤◌, Bool, true, false, cond, List, [], ◌∷◌, ◌++◌, length, map, take, drop, replicate, get_or, slice_index, length-append, refl, sym, ◌∙◌, ap, subst, arith}
+use Rattle.std.proofs.Common.{◌≡◌, ⊎_elim, inl, ℕ, zero, suc, ◌+◌, ◌*◌, ◌/◌, ◌%◌, ◌^◌, ◌<◌, ◌≤◌, Bool, true, false, cond, List, [], ◌∷◌, ◌++◌, length, map, drop, replicate, slice_index, length-append, refl, sym, ◌∙◌, ap, subst, arith}
 use Rattle.std.specs.Prelude.{◌==◌, ◌&&◌, not, nat_lt}
 use Rattle.std.specs.FinMap.Entries.{put}
 use Rattle.std.specs.List.{flat_map, AllByRecursion}
 use Rattle.std.proofs.Math.Nat.{zero-div}
-use Rattle.std.proofs.lemmas.Bool.{false≢true, cases_lt}
-use Rattle.std.proofs.lemmas.List.{get_or-replicate, get_or-take, get_or-drop, length-replicate}
+use Rattle.std.proofs.lemmas.Bool.{false≢true}
+use Rattle.std.proofs.lemmas.List.{get_or-take, get_or-drop}
 use Rattle.ctr_versions.proofs.Keys.{known}
 use Rattle.ctr_records.specs.declared.record.SlogItem.{SlogItem}
 use Rattle.ctr_records.specs.declared.record.SlogItem.TheVariants.{CreateOf}
 use Rattle.ctr_model.specs.Database.{name_cmp}
-use Rattle.ctr_bytes.specs.Fields.{field}
 use Rattle.ctr_bytes.proofs.FieldLaws.{got_byte}
-use Rattle.ctr_meta.specs.Tables.{Tables, no_tables}
+use Rattle.ctr_meta.specs.Tables.{no_tables}
 use Rattle.ctr_page.specs.declared.header.Header.{Header}
 use Rattle.ctr_page.specs.declared.rows.Place.{Place}
 use Rattle.ctr_page.specs.Reading.{piece}
@@ -21,7 +20,7 @@ use Rattle.ctr_area.specs.Areas.{Firsts, no_pages, Area}
 use Rattle.ctr_page.specs.Columns.{first_in, versions_first_in}
 use Rattle.ctr_area.specs.Reading.{entry_bytes, bucket_numbers, area_of}
 use Rattle.ctr_area.specs.Chains.{pages_bound, pages_from, places_from, places_on, slot_places, older_places, table_pages}
-use Rattle.ctr_area.specs.Images.{new_pages, is_live, is_standing, is_committed_in, entry_numbers, table_in, tables_standing, image_rows}
+use Rattle.ctr_area.specs.Images.{new_pages, is_live, entry_numbers, table_in, tables_standing, image_rows}
 use Rattle.ctr_area.specs.Sound.{IsAmong, IsUsedSlot, how_many, EndsIn, AreBuckets, IsOfVersions, owned_pages, IsSound, IsBare}
 
 -- ---- bytes

@@ -3,7 +3,6 @@ use Rattle.std.specs.Prelude.{ℕ, zero, suc, ◌+◌, ◌==◌, nat_lt, ℤ, Bo
 use Rattle.std.specs.List.{filter}
 use Rattle.std.specs.Ordering.{int_cmp}
 use Rattle.std.specs.FinMap.Entries.{put}
-use Rattle.ctr_types.specs.declared.value.Column.{Column}
 use Rattle.ctr_model.specs.declared.database.Table.{Table}
 use Rattle.ctr_model.specs.Database.{Database, name_cmp}
 use Rattle.ctr_model.specs.State.{same_name}

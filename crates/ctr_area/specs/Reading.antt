@@ -1,10 +1,9 @@
 -- The area of pages. A page is read as its own header says: as one of rows or of versions, and by the
 -- columns of the entry that it names. So what stands at a place doesn't depend on any chain.
-use Rattle.std.specs.Prelude.{ℕ, ◌+◌, ◌*◌, ◌-◌, ◌/◌, ◌%◌, ◌^◌, ◌==◌, nat_lt, ℤ, Bool, true, List, [], ◌∷◌, map, drop, slice_index, Option, Some, None, if◌then◌else◌}
+use Rattle.std.specs.Prelude.{ℕ, ◌+◌, ◌*◌, ◌/◌, ◌%◌, ◌^◌, ◌==◌, nat_lt, ℤ, Bool, true, List, [], ◌∷◌, map, drop, slice_index, Some, None, if◌then◌else◌}
 use Rattle.std.specs.Option.{option_map}
 use Rattle.ctr_types.specs.declared.value.Row.{Row}
 use Rattle.ctr_types.specs.declared.value.Column.{Column}
-use Rattle.ctr_bytes.specs.Fields.{field}
 use Rattle.ctr_value.specs.Payload.{width}
 use Rattle.ctr_value.specs.Values.{row_values}
 use Rattle.ctr_page.specs.declared.header.Header.{Header}

@@ -68,7 +68,7 @@ abbrev pub AreBehind : (ℕ → Bool) → Area → Type 0
 AreBehind committed area = (e : ℕ) (at : Place) → IsUsedSlot area e at
     → (0 < (area.slot at).head.0)
     × AllByRecursion (λ (v : RowVersion). committed v.0 ≡ true)
-        (drop 1 (chain_of area.older (area.slot at)))
+    (drop 1 (chain_of area.older (area.slot at)))
 
 -- it is a used slot, and its head is the transaction's
 abbrev pub is_headed_by : (Place → Slot) → ℕ → Place → Bool
@@ -100,14 +100,14 @@ owned_pages items area =
 -- other page is in any, and none that isn't counted is allocated; and whoever has an item is open.
 pub record AreOwned (counted : ℕ) (live : List ℕ) (items : List SlogItem) (area : Area) : Type 0
   where
-  pub once : (p : ℕ) → 3 ≤ p → p < counted
-      → how_many (λ q. q == p) (owned_pages items area) ≡ (if area.taken p then 1 else 0)
-  pub inside : AllByRecursion (λ p. (3 ≤ p) × (p < counted) × (area.taken p ≡ true))
-      (owned_pages items area)
-  pub uncounted : (p : ℕ) → counted ≤ p → area.taken p ≡ false
-  pub allocs : (x p : ℕ) → IsAmong (AllocOf x p) items → IsAmong x live
-  pub creates : (x e : ℕ) → IsAmong (CreateOf x e) items → IsAmong x live
-  pub drops : (x e : ℕ) → IsAmong (DropOf x e) items → IsAmong x live
+    pub once : (p : ℕ) → 3 ≤ p → p < counted
+        → how_many (λ q. q == p) (owned_pages items area) ≡ (if area.taken p then 1 else 0)
+    pub inside : AllByRecursion (λ p. (3 ≤ p) × (p < counted) × (area.taken p ≡ true))
+        (owned_pages items area)
+    pub uncounted : (p : ℕ) → counted ≤ p → area.taken p ≡ false
+    pub allocs : (x p : ℕ) → IsAmong (AllocOf x p) items → IsAmong x live
+    pub creates : (x e : ℕ) → IsAmong (CreateOf x e) items → IsAmong x live
+    pub drops : (x e : ℕ) → IsAmong (DropOf x e) items → IsAmong x live
 
 -- A key has at most one used slot of a table, and it is in the key's bucket.
 pub record AreKeyed (area : Area) : Type 0 where

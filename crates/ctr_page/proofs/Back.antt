@@ -171,6 +171,7 @@ length-slot w s fits =
   where
     length-pointer : (p : Place) → length (pointer_bytes p) ≡ 6
     length-pointer p = omega (arith, length-more 2 p.slot (spelled 4 p.page), length-spelled 4 p.page)
+
     whole : (b : Bool) (w : ℕ) (front p o : List ℕ) → 18 + w ≡ length front → length p ≡ (if b then 9 + w else 0) → length o ≡ 6 → length (front ++ p ++ o) ≡ (if b then previous_at w + 9 + w else previous_at w) + 6
     whole true w front p o is long six = omega (arith, is, long, six, length-append (front ++ p) o, length-append front p)
     whole false w front p o is long six = omega (arith, is, long, six, length-append (front ++ p) o, length-append front p)

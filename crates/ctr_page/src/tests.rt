@@ -55,7 +55,7 @@ fn lay(page: &mut [u8], at: usize, bytes: &[u8]) {
 
 // Whether bytes begin so.
 fn begin_so(bytes: &[u8], front: &[u8]) -> bool {
-    bytes.len() >= front.len() && bytes[..front.len()] == *front
+    bytes.len() >= front.len() && &bytes[..front.len()] == front
 }
 
 // Whether bytes are zeros from a place on.
