@@ -1,5 +1,5 @@
 //! Widths, payloads and texts by hand, each way, and what is bad in bytes that are no payload.
-ghost use Rattle.std.specs.Prelude.{◌≤◌, ◌→◌, length, IsTrue};
+ghost use Rattle.std.specs.Prelude.{◌≤◌, length, IsTrue};
 ghost use Rattle.ctr_value.specs.Payload.{IsKeyed, IsRow};
 
 use crate::{PayloadError, decode_row, encode_row, width, write_row};
