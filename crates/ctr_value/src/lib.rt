@@ -2,8 +2,6 @@
 #![tactic(auto)]
 
 mod payload;
-#[cfg(test)]
-mod tests;
 mod text;
 
 pub use payload::{
