@@ -21,7 +21,7 @@ use Rattle.ctr_rec.specs.declared.item.Item.{Item}
 use Rattle.ctr_rec.specs.declared.item.Item.TheVariants as item
 use Rattle.ctr_rec.specs.Items.{Fits}
 use Rattle.ctr_rec.specs.Encode.{begun_bytes}
-use Rattle.ctr_rec.specs.Payload.{IsRow, payload_of}
+use Rattle.ctr_value.specs.Payload.{IsRow, payload_of}
 use Rattle.ctr_rec.specs.Fold.{StandAll}
 use Rattle.ctr_tables.specs.Stored.{IsSchemaHeld}
 use Rattle.ctr_tables.specs.Tables.{Held, database_of}

@@ -2,14 +2,15 @@
 ghost use Rattle.std.specs.Prelude.{◌≡◌, ◌<◌, ◌+◌, ◌^◌, ◌≤◌, length, drop, true, FitsSigned, IfOk, IfNone};
 ghost use Rattle.std.specs.Int.{w64};
 ghost use Rattle.ctr_model.specs.Refusals.{bad_from, fits, key_of};
-ghost use Rattle.ctr_rec.specs.Payload.{AreOf, IsOf, IsRow, IsKeyed, payload_of};
+ghost use Rattle.ctr_value.specs.Payload.{AreOf, IsOf, IsRow, IsKeyed, payload_of};
 ghost use Rattle.ctr_rec.specs.Items.{ColumnsFit};
 ghost use Rattle.ctr_tables.specs.Stored.{IsSchemaHeld};
 ghost use Rattle.ctr_exec.specs.Session.{IsReadyRow, IsReadyTable};
 
 use ctr_model::Key;
-use ctr_rec::{Item, encode_row, width};
+use ctr_rec::Item;
 use ctr_types::{Column, Kind, List, Name, Plain, Row, Schema, Text, Value};
+use ctr_value::{encode_row, width};
 use std::alloc::{AllocError, Global};
 
 /// A row that is ready to be put.

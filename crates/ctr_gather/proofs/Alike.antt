@@ -12,7 +12,7 @@ use Rattle.ctr_versions.specs.Keys.{schema_change, schema_named}
 use Rattle.ctr_versions.proofs.Keys.{schema_step}
 use Rattle.ctr_rec.specs.declared.item.Item.{Item}
 use Rattle.ctr_rec.specs.declared.item.Item.TheVariants as item
-use Rattle.ctr_rec.specs.Payload.{IsRowOf}
+use Rattle.ctr_value.specs.Payload.{IsRowOf}
 use Rattle.ctr_rec.specs.Items.{item_table}
 use Rattle.ctr_rec.specs.Fold.{HasTable, Stands, StandAll}
 

@@ -11,9 +11,9 @@ use Rattle.ctr_model.specs.Database.{Database, table_at, changed, after}
 use Rattle.ctr_model.specs.Refusals.{key_of, columns_of}
 use Rattle.ctr_rec.specs.declared.item.Item.{Item}
 use Rattle.ctr_rec.specs.declared.item.Item.TheVariants as item
-use Rattle.ctr_rec.specs.Payload.{IsRow, IsRowOf, payload_of}
+use Rattle.ctr_value.specs.Payload.{IsRow, IsRowOf, payload_of}
 use Rattle.ctr_rec.specs.Fold.{HasTable, Stands, StandAll, Folds, FoldsRecord, FoldsRecords, Suits, SuitAll, item_of, items_of}
-use Rattle.ctr_rec.proofs.PayloadLaws.{one_row, row_written}
+use Rattle.ctr_value.proofs.PayloadLaws.{one_row, row_written}
 use Rattle.ctr_rec.proofs.ItemLaws.{one_list}
 
 -- the row that a payload is of is one

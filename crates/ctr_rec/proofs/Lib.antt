@@ -1,5 +1,3 @@
-pub mod PayloadLaws
-pub mod PayloadLoops
 pub mod RecordLoops
 pub mod RecordLaws
 pub mod ItemLaws

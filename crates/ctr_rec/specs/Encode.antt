@@ -8,30 +8,13 @@ use Rattle.ctr_types.specs.declared.value.Kind.TheVariants.{Int, Chars}
 use Rattle.ctr_types.specs.declared.value.Column.{Column}
 use Rattle.ctr_types.specs.declared.value.Schema.{Schema}
 use Rattle.ctr_bytes.specs.Fields.{spelled}
+pub use Rattle.ctr_value.specs.Columns.{name_bytes, zeros, kind_number, column_bytes}
 use Rattle.ctr_rec.specs.declared.item.Item.{Item}
 use Rattle.ctr_rec.specs.declared.item.Item.TheVariants.{Put, Remove, Create, Drop}
 use Rattle.ctr_rec.specs.declared.item.TheConstants.{COMMIT_TAG, NO_OVERLAY, PUT, REMOVE, CREATE, DROP}
 use Rattle.ctr_rec.specs.Items.{item_table}
 
 -- ---- what is written
-
--- a byte of length, and the name
-abbrev pub name_bytes : List ℕ → List ℕ
-name_bytes name = length name ∷ name
-
--- so many zeros
-abbrev pub zeros : ℕ → List ℕ
-zeros zero = []
-zeros (suc n) = 0 ∷ zeros n
-
--- 0 for INT, n for TEXT(n)
-abbrev pub kind_number : Kind → ℕ
-kind_number Int = 0
-kind_number (Chars n) = n
-
--- 18 bytes: the name's length, the name with zeros up to 16 bytes, the kind
-abbrev pub column_bytes : Column → List ℕ
-column_bytes c = name_bytes c.name ++ (zeros (16 - length c.name) ++ (kind_number c.kind ∷ []))
 
 -- the number of the columns, and the columns
 abbrev pub schema_bytes : Schema → List ℕ

@@ -10,7 +10,7 @@ use Rattle.ctr_model.specs.Database.{Database, table_at, changed, after}
 use Rattle.ctr_model.specs.Refusals.{key_of, columns_of}
 use Rattle.ctr_rec.specs.declared.item.Item.{Item}
 use Rattle.ctr_rec.specs.declared.item.Item.TheVariants as item
-use Rattle.ctr_rec.specs.Payload.{IsRow, IsRowOf, payload_of}
+use Rattle.ctr_value.specs.Payload.{IsRow, IsRowOf, payload_of}
 use Rattle.ctr_rec.specs.Items.{AreItems, ColumnsFit}
 use Rattle.ctr_rec.specs.Encode.{IsSpelled}
 

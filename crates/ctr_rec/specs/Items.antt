@@ -6,6 +6,7 @@ use Rattle.ctr_types.specs.Names.{IsName}
 use Rattle.ctr_types.specs.declared.value.Kind.{Kind}
 use Rattle.ctr_types.specs.declared.value.Kind.TheVariants.{Int, Chars}
 use Rattle.ctr_types.specs.declared.value.Column.{Column}
+pub use Rattle.ctr_value.specs.Columns.{KindFits, ColumnFits, ColumnsFit}
 use Rattle.ctr_rec.specs.declared.item.Item.{Item}
 use Rattle.ctr_rec.specs.declared.item.Item.TheVariants.{Put, Remove, Create, Drop}
 
@@ -15,20 +16,6 @@ item_table (Put t k p) = t
 item_table (Remove t k) = t
 item_table (Create t s) = t
 item_table (Drop t) = t
-
--- INT, or a text with room for 1 to so many bytes
-abbrev pub KindFits : ℕ → Kind → Type 0
-KindFits most Int = Unit {0}
-KindFits most (Chars n) = (1 ≤ n) × (n ≤ most)
-
--- a name of 1 to 16 bytes, and such a kind
-abbrev pub ColumnFits : ℕ → Column → Type 0
-ColumnFits most c = IsName c.name × KindFits most c.kind
-
--- 1 to 8 columns; the first is INT, as a text of at most 0 bytes is none
-abbrev pub ColumnsFit : List Column → Type 0
-ColumnsFit [] = ⊥
-ColumnsFit (c ∷ cs) = ColumnFits 0 c × AllByRecursion (ColumnFits 64) cs × (length cs < 8)
 
 -- a key of 64 bits, a payload whose length has 16 bits, and such columns
 abbrev pub BodyFits : Item → Type 0

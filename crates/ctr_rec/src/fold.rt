@@ -9,7 +9,7 @@ ghost use Rattle.ctr_model.specs.Database.{Database, table_at, changed};
 ghost use Rattle.ctr_model.specs.Refusals.{key_of};
 ghost use Rattle.ctr_rec.specs.declared.item.Item.{Item};
 ghost use Rattle.ctr_rec.specs.declared.item.Item.TheVariants as item;
-ghost use Rattle.ctr_rec.specs.Payload.{IsKeyed, IsRow, payload_of};
+ghost use Rattle.ctr_value.specs.Payload.{IsKeyed, IsRow, payload_of};
 ghost use Rattle.ctr_rec.specs.Items.{Fits, ColumnsFit};
 ghost use Rattle.ctr_rec.specs.Fold.{Stands, StandAll, FoldsRecord, FoldsRecords, SuitAll, items_of, HasSchemas};
 

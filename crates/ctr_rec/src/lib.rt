@@ -1,12 +1,10 @@
-//! Spellings: the record of a commit in the thin form, the payload of a row by its schema, and what
-//! records do to a database.
+//! Spellings: the record of a commit in the thin form, and what records do to a database.
 #![tactic(auto)]
 
 mod decoding;
 mod encoding;
 mod fold;
 mod item;
-mod payload;
 
 pub use decoding::{BadRecord, RecordError, decode, one_form};
 pub use encoding::{begin, end, gathered, push_item, spelled_len, written};
@@ -15,4 +13,3 @@ pub use fold::{
     schema_of_table, schemas_stay, written_stands,
 };
 pub use item::Item;
-pub use payload::{PayloadError, decode_row, encode_row, one_payload, width, written_payload};

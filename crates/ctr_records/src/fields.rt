@@ -20,6 +20,7 @@ impl Layout {
     }
 }
 
+/// One number is wanted at a place.
 pub fn expect(at: u64, want: u128, got: u128) -> Result<(), BadRecord>
     ensures { result ≡ expect at want got }
 {
@@ -30,6 +31,7 @@ pub fn expect(at: u64, want: u128, got: u128) -> Result<(), BadRecord>
     }
 }
 
+/// A number at a place is at most so much.
 #[tactic(auto, unfolding(crate::specs::Damage::at_most))]
 pub fn at_most(at: usize, bound: u64, got: u64) -> Result<(), BadRecord>
     ensures { result ≡ at_most at bound got }

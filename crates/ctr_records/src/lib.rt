@@ -12,6 +12,7 @@ mod table;
 
 pub use decoding::{BadRecord, decode};
 pub use encoding::{bytes_tell, encode, one_form};
+pub use fields::{at_most, expect};
 pub use lists::{encode_checkpoint, one_list};
 pub use record::{Form, Overlay, PageNo, Parts, Record, SlogItem, to_form};
 pub use span::Bytes;

@@ -5,7 +5,7 @@ use Rattle.std.specs.FinMap.Entries.{find}
 use Rattle.ctr_types.specs.declared.value.Row.{Row}
 use Rattle.ctr_types.specs.declared.value.Schema.{Schema}
 use Rattle.ctr_model.specs.declared.database.Table.{Table}
-use Rattle.ctr_rec.specs.Payload.{IsKeyed}
+use Rattle.ctr_value.specs.Payload.{IsKeyed}
 use Rattle.ctr_tables.specs.declared.stored.Stored.TheInside.{Inside}
 
 -- an entry that shows a value

@@ -12,9 +12,9 @@ use Rattle.ctr_rec.specs.declared.item.Item.{Item}
 use Rattle.ctr_rec.specs.declared.item.Item.TheVariants as item
 use Rattle.ctr_rec.specs.declared.decoding.RecordError.{RecordError}
 use Rattle.ctr_rec.specs.declared.decoding.RecordError.TheVariants as record_error
-use Rattle.ctr_rec.specs.declared.payload.PayloadError.{PayloadError}
-use Rattle.ctr_rec.specs.declared.payload.PayloadError.TheVariants as payload
-use Rattle.ctr_rec.specs.Payload.{IsRowOf, IsNoPayload as RefusesPayload}
+use Rattle.ctr_value.specs.declared.payload.PayloadError.{PayloadError}
+use Rattle.ctr_value.specs.declared.payload.PayloadError.TheVariants as payload
+use Rattle.ctr_value.specs.Payload.{IsRowOf, IsNoPayload as RefusesPayload}
 use Rattle.ctr_rec.specs.Fold.{HasTable, StandAll, Folds, FoldsRecord, FoldsRecords}
 use Rattle.ctr_thin.specs.Opening.{of_payload}
 use Rattle.ctr_thin.specs.Thin.{Applies, CanApply, RefusesRecord}

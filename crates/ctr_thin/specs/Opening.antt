@@ -4,8 +4,8 @@ use Rattle.ctr_disk.specs.declared.fault.StoreFault.{StoreFault}
 use Rattle.ctr_disk.specs.declared.fault.StoreFault.TheVariants as store
 use Rattle.ctr_log.specs.declared.reading.ReadError.{ReadError}
 use Rattle.ctr_log.specs.declared.reading.ReadError.TheVariants as read
-use Rattle.ctr_rec.specs.declared.payload.PayloadError.{PayloadError}
-use Rattle.ctr_rec.specs.declared.payload.PayloadError.TheVariants as payload
+use Rattle.ctr_value.specs.declared.payload.PayloadError.{PayloadError}
+use Rattle.ctr_value.specs.declared.payload.PayloadError.TheVariants as payload
 use Rattle.ctr_rec.specs.declared.decoding.RecordError.{RecordError}
 use Rattle.ctr_rec.specs.declared.decoding.RecordError.TheVariants as record_error
 use Rattle.ctr_thin.specs.declared.opening.OpenError.{OpenError}

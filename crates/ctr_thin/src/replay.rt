@@ -12,12 +12,10 @@ ghost use Rattle.ctr_thin.specs.Opening.{of_payload};
 ghost use Rattle.ctr_thin.specs.Thin.{Applies, CanApply, CanApplyItems, CanReplayRecord, CanReplay, RefusesRecord};
 
 use ctr_model::Key;
-use ctr_rec::{
-    BadRecord, Item, PayloadError, RecordError, decode, decode_row, fold_is_one, one_meaning,
-    schema_is_keyed,
-};
+use ctr_rec::{BadRecord, Item, RecordError, decode, fold_is_one, one_meaning, schema_is_keyed};
 use ctr_tables::Tables;
 use ctr_types::{Name, Plain, Schema, Text};
+use ctr_value::{PayloadError, decode_row};
 use std::alloc::Global;
 
 // Something is there that isn't to be, or the other way round: 1 stands for there, 0 for not.

@@ -35,7 +35,7 @@ use Rattle.ctr_sessions.specs.Laws.{IsSeat, WritesAreRefusedAlike, WritesAreOneC
 use Rattle.ctr_sessions.proofs.Answers.{reads}
 use Rattle.ctr_rec.specs.declared.item.Item.{Item}
 use Rattle.ctr_rec.specs.declared.item.Item.TheVariants as item
-use Rattle.ctr_rec.specs.Payload.{IsRow, payload_of}
+use Rattle.ctr_value.specs.Payload.{IsRow, payload_of}
 use Rattle.ctr_rec.specs.Items.{item_table}
 use Rattle.ctr_rec.specs.Fold.{Stands}
 use Rattle.ctr_acts.specs.declared.prepared.Prepared.{Prepared}

@@ -15,7 +15,7 @@ use Rattle.ctr_rec.specs.declared.item.Item.{Item}
 use Rattle.ctr_rec.specs.declared.item.Item.TheVariants as item
 use Rattle.ctr_rec.specs.Items.{Fits, ColumnsFit, item_table}
 use Rattle.ctr_rec.specs.Fold.{Stands}
-use Rattle.ctr_rec.specs.Payload.{IsRow, payload_of}
+use Rattle.ctr_value.specs.Payload.{IsRow, payload_of}
 use Rattle.ctr_acts.specs.declared.prepared.Prepared.{Prepared}
 use Rattle.ctr_acts.specs.declared.prepared.Prepared.TheVariants as prepared
 

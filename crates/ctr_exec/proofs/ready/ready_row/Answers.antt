@@ -3,7 +3,7 @@ use Rattle.std.proofs.lemmas.Int.{to_z-of_z}
 use Rattle.ctr_types.specs.Names.{IsName}
 use Rattle.ctr_model.specs.Refusals.{key_of}
 use Rattle.ctr_rec.specs.declared.item.Item.TheVariants as item
-use Rattle.ctr_rec.specs.Payload.{payload_of}
+use Rattle.ctr_value.specs.Payload.{payload_of}
 use Rattle.ctr_exec.proofs.ready.ready_row.Goals as goal
 
 pub returns : goal.returns

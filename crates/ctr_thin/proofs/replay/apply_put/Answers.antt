@@ -1,6 +1,6 @@
 use Rattle.std.proofs.Common.{◌∙◌, drop, w64, to_z, of_z}
 use Rattle.std.proofs.lemmas.Int.{to_z-of_z}
-use Rattle.ctr_rec.specs.Payload.{IsBadPayload}
+use Rattle.ctr_value.specs.Payload.{IsBadPayload}
 use Rattle.ctr_tables.specs.Tables.{database_of}
 use Rattle.ctr_thin.proofs.ReplayLemmas.{put_done, put_refused}
 use Rattle.ctr_thin.proofs.replay.apply_put.Goals as goal

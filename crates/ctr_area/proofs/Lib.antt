@@ -1,0 +1,6 @@
+pub mod Bytes
+pub mod Places
+pub mod Written
+pub mod Placed
+pub mod Entered
+pub mod Fresh

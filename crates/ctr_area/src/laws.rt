@@ -1,0 +1,42 @@
+// Laws of areas, each on a call that does nothing else.
+ghost use Rattle.std.specs.Prelude.{◌≡◌, ◌<◌, ◌≤◌, ◌+◌, ◌*◌, ◌/◌, ◌%◌, ℕ, Bool, List, [], length};
+ghost use Rattle.ctr_meta.specs.Tables.{no_tables};
+ghost use Rattle.ctr_page.specs.declared.rows.Place.{Place};
+ghost use Rattle.ctr_page.specs.declared.rows.RowSlot.{RowSlot};
+ghost use Rattle.ctr_page.specs.declared.rows.VersionEntry.{VersionEntry};
+ghost use Rattle.ctr_page.specs.Making.{slot_bytes, kept_bytes, IsSlot, IsEntry};
+ghost use Rattle.ctr_page.specs.Columns.{entry_in, columns_in};
+ghost use Rattle.ctr_area.specs.Reading.{slot_said, older_said, entry_bytes, title_of, firsts_of, columns_on, width_on, area_of};
+ghost use Rattle.ctr_area.specs.Images.{new_pages, image_rows, undo_size};
+ghost use Rattle.ctr_area.specs.Sound.{IsSound, IsBare};
+ghost use Rattle.ctr_area.specs.Changes.{with_slot, with_older, with_title, with_firsts, with_bytes_at, with_entry, IsPlaceOf};
+
+/// The bytes of a slot over what stands at a place of a page of rows: the area changes at this place, and
+/// nowhere else.
+pub fn slot_changes_its_place()
+    ensures { (pages : ℕ → List ℕ) (at : Place) (s : RowSlot) → IsPlaceOf 1 pages at → IsSlot (width_on pages at.page) s
+        → area_of (with_bytes_at at (slot_bytes (width_on pages at.page) s) pages) ≡ with_slot at (slot_said (columns_on pages at.page) s) (area_of pages) }
+{}
+
+/// The bytes of a version entry over what stands at a place of a page of versions, likewise.
+pub fn version_changes_its_place()
+    ensures { (pages : ℕ → List ℕ) (at : Place) (e : VersionEntry) → IsPlaceOf 2 pages at → IsEntry (width_on pages at.page) e
+        → area_of (with_bytes_at at (kept_bytes e) pages) ≡ with_older at (older_said (columns_on pages at.page) e) (area_of pages) }
+{}
+
+/// The bytes of an entry of the catalog, whose columns are those of before, over what stands there: its title
+/// and its first pages become those of the new bytes, and nothing else changes.
+pub fn entry_changes_alone()
+    ensures { (pages : ℕ → List ℕ) (e : ℕ) (new : List ℕ) → e < 32 → length new ≡ 256 → 256 * (e % 16) + 256 ≤ length (pages (1 + e / 16))
+        → columns_in new ≡ columns_in (entry_bytes pages e)
+        → area_of (with_entry e new pages) ≡ with_firsts e (firsts_of (entry_in new)) (with_title e (title_of (entry_in new)) (area_of pages)) }
+{}
+
+/// A new database has pages of zeros and no transaction. It is sound, however many of its pages are
+/// counted; nothing is to clean or to undo, and there is no row.
+pub fn new_database()
+    ensures sound { (counted : ℕ) → IsSound counted no_tables (area_of new_pages) }
+    ensures bare { IsBare no_tables (area_of new_pages) }
+    ensures rows { (committed : ℕ → Bool) → image_rows committed (area_of new_pages) ≡ [] }
+    ensures undo { undo_size no_tables ≡ 0 }
+{}

@@ -1,5 +1,0 @@
-use Rattle.ctr_rec.proofs.PayloadLaws.{one_row}
-use Rattle.ctr_rec.proofs.payload.one_payload.Goals as goal
-
-pub returns : goal.returns
-returns c = one_row

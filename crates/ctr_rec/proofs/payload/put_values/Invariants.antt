@@ -1,5 +1,0 @@
-use Rattle.ctr_rec.proofs.PayloadLoops.{HasPut}
-use Rattle.ctr_rec.proofs.payload.put_values.Given as goal
-
-abbrev pub invariant-loop-i : goal.invariant-loop-i
-invariant-loop-i l = HasPut l.columns l.values l.into l.i l.at

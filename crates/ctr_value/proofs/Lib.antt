@@ -1,0 +1,3 @@
+pub mod PayloadLaws
+pub mod PayloadLoops
+pub mod ValueLaws

@@ -1,0 +1,24 @@
+-- What a payload says, whatever bytes it has.
+use Rattle.std.specs.Prelude.{ℕ, ℤ, List, [], ◌∷◌, take, drop}
+use Rattle.std.specs.Int.{w64, cast_signed}
+use Rattle.ctr_types.specs.declared.value.Column.{Column}
+use Rattle.ctr_types.specs.declared.value.Kind.{Kind}
+use Rattle.ctr_types.specs.declared.value.Kind.TheVariants as kind
+use Rattle.ctr_types.specs.declared.value.Value.{Value}
+use Rattle.ctr_types.specs.declared.value.Value.TheVariants as value
+use Rattle.ctr_bytes.specs.Fields.{field}
+use Rattle.ctr_value.specs.Payload.{field_width}
+
+-- the value in a field: a number, or as many bytes of text as its length says
+abbrev pub value_said : Kind → List ℕ → Value
+value_said kind.Int bytes = value.Int (cast_signed w64 (field 8 0 bytes))
+value_said (kind.Chars most) bytes = value.Chars (take (field 1 0 bytes) (drop 1 bytes))
+
+-- the values of these columns' fields, one behind another
+abbrev pub values_in : List Column → List ℕ → List Value
+values_in [] bytes = []
+values_in (c ∷ cs) bytes = value_said c.kind bytes ∷ values_in cs (drop (field_width c.kind) bytes)
+
+-- the values of the row of a key, by its payload
+abbrev pub row_values : List Column → ℤ → List ℕ → List Value
+row_values cs key payload = value.Int key ∷ values_in (drop 1 cs) payload

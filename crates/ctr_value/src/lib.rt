@@ -1,0 +1,11 @@
+//! Rows: their payloads, which stand on pages and in records, and their texts.
+#![tactic(auto)]
+
+mod payload;
+mod text;
+
+pub use payload::{
+    PayloadError, decode_row, encode_row, field_width, one_payload, put_text, said_by_payload,
+    width, written_payload,
+};
+pub use text::write_row;
