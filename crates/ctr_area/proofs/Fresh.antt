@@ -21,7 +21,7 @@ use Rattle.ctr_page.specs.Columns.{first_in, versions_first_in}
 use Rattle.ctr_area.specs.Reading.{entry_bytes, bucket_numbers, area_of}
 use Rattle.ctr_area.specs.Chains.{pages_bound, pages_from, places_from, places_on, slot_places, older_places, table_pages}
 use Rattle.ctr_area.specs.Images.{new_pages, is_live, entry_numbers, table_in, tables_standing, image_rows}
-use Rattle.ctr_area.specs.Sound.{IsAmong, IsUsedSlot, how_many, EndsIn, AreBuckets, IsOfVersions, owned_pages, IsSound, IsBare}
+use Rattle.ctr_area.specs.Sound.{IsAmong, IsUsedSlot, how_many, EndsIn, AreBuckets, IsOfVersions, owned_pages, IsSoundArea, IsBare}
 
 -- ---- bytes
 
@@ -97,7 +97,7 @@ ends_none header Is = (
 
 -- ---- sound
 
-pub fresh_sound : (counted : ℕ) → IsSound counted no_tables (area_of new_pages)
+pub fresh_sound : (counted : ℕ) → IsSoundArea counted no_tables (area_of new_pages)
 fresh_sound counted = record {
   readable = record {
     rows = λ e. subst (λ (f : Firsts). AreBuckets fresh e 0 f.buckets) (sym (firsts_none e)) tt;

@@ -51,6 +51,7 @@ pub record Older : Type 0 where
   pub version : RowVersion
   pub pointer : Place
 
+-- a slot that isn't used
 abbrev pub free_slot : Slot
 free_slot = record {
   used = false;
@@ -60,6 +61,7 @@ free_slot = record {
   pointer = nowhere;
 }
 
+-- a version entry that isn't used
 abbrev pub free_older : Older
 free_older = record { used = false; key = pos 0; version = (0, None); pointer = nowhere }
 

@@ -56,6 +56,7 @@ entry_numbers = numbers 0 32
 
 -- ---- the rows of an image
 
+-- an entry that is live: neither free nor dead
 abbrev pub is_live : Title → Bool
 is_live title = title.state == 1
 
@@ -71,6 +72,7 @@ table_in committed area e = record {
   rows = entries_seen committed (rows_of_entry area e);
 }
 
+-- the tables of these entries that are there, by their names
 abbrev pub tables_standing : (ℕ → Bool) → Area → List ℕ → Database
 tables_standing committed area [] = []
 tables_standing committed area (e ∷ es) =
@@ -88,6 +90,7 @@ image_rows committed area = tables_standing committed area entry_numbers
 abbrev pub Numbered : Type 0
 Numbered = ℕ × Title
 
+-- the table that an entry is: its number is the entry's
 abbrev pub made_by_entry : Numbered → Made
 made_by_entry e = record { id = e.0; schema = record { columns = e.1.columns } }
 
@@ -117,11 +120,13 @@ is_newer committed a b =
     if is_gone committed a then (is_gone committed b && is_dropped_later a b)
     else (is_gone committed b || is_dropped_later a b)
 
+-- an entry among others of its name, before the first that is no newer
 abbrev pub placed : (ℕ → Bool) → Numbered → List Numbered → List Numbered
 placed committed e [] = e ∷ []
 placed committed e (f ∷ fs) =
     if is_newer committed e.1 f.1 then e ∷ f ∷ fs else f ∷ placed committed e fs
 
+-- entries of one name, the newest first
 abbrev pub newest_first : (ℕ → Bool) → List Numbered → List Numbered
 newest_first committed [] = []
 newest_first committed (e ∷ es) = placed committed e (newest_first committed es)
@@ -131,14 +136,17 @@ abbrev pub put_first : {V : Type 0} → ℕ × V → List (ℕ × V) → List (�
 put_first v [] = v ∷ []
 put_first v (w ∷ ws) = if v.0 == w.0 then v ∷ ws else v ∷ w ∷ ws
 
+-- the same of several, before others
 abbrev pub all_put_first : {V : Type 0} → List (ℕ × V) → List (ℕ × V) → List (ℕ × V)
 all_put_first [] ws = ws
 all_put_first (v ∷ vs) ws = put_first v (all_put_first vs ws)
 
+-- the versions of a name by its entries, the newest first
 abbrev pub name_versions : List Numbered → List (ℕ × Option Made)
 name_versions [] = []
 name_versions (e ∷ es) = all_put_first (versions_by_entry e) (name_versions es)
 
+-- all entries of the catalog, with their numbers
 abbrev pub all_numbered : (ℕ → Title) → List Numbered
 all_numbered title = map (λ e. (e, title e)) entry_numbers
 
@@ -151,6 +159,7 @@ abbrev pub name_chain : (ℕ → Bool) → (ℕ → Title) → List ℕ → List
 name_chain committed title name =
     name_versions (newest_first committed (filter (is_named_so name) (all_numbered title)))
 
+-- the chains of the names that live entries have
 abbrev pub names_gathered : (List ℕ → List (ℕ × Option Made)) → List Numbered
     → List (List ℕ × List (ℕ × Option Made))
 names_gathered chain [] = []

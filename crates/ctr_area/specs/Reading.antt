@@ -29,6 +29,7 @@ abbrev pub entry_bytes : (ℕ → List ℕ) → ℕ → List ℕ
 entry_bytes pages e =
     if nat_lt e 32 then piece (ENTRY_SIZE * (e % 16)) ENTRY_SIZE (pages (1 + e / 16)) else []
 
+-- what an entry says beside its pages
 abbrev pub title_of : CatalogEntry → Title
 title_of entry = record {
   state = entry.state;
@@ -57,6 +58,7 @@ firsts_of entry =
 abbrev pub row_said : List Column → ℤ → List ℕ → Row
 row_said columns key payload = record { values = row_values columns key payload }
 
+-- the version of a row, or of its tombstone, by the bytes of one
 abbrev pub version_said : List Column → ℤ → Version → RowVersion
 version_said columns key v =
     (v.xid, if v.tombstone == 0 then Some (row_said columns key v.payload) else None)
@@ -122,6 +124,7 @@ older_on pages at =
     older_said (columns_on pages at.page) (older_at (width_on pages at.page) at.slot (pages at.page))
     else free_older
 
+-- the area of pages, by their bytes
 abbrev pub area_of : (ℕ → List ℕ) → Area
 area_of pages = record {
   title = λ e. title_of (entry_in (entry_bytes pages e));

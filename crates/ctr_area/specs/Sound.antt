@@ -30,6 +30,7 @@ abbrev pub how_many : {A : Type 0} → (A → Bool) → List A → ℕ
 how_many test [] = 0
 how_many test (x ∷ xs) = (if test x then 1 else 0) + how_many test xs
 
+-- the transactions of these pairs
 abbrev pub xids_in : List (ℕ × ℕ) → List ℕ
 xids_in ps = map (λ (p : ℕ × ℕ). p.0) ps
 
@@ -53,6 +54,7 @@ IsOfRows e bucket h = (h.kind ≡ 1) × (h.entry ≡ e) × (h.bucket ≡ bucket)
 abbrev pub IsOfVersions : ℕ → Header → Type 0
 IsOfVersions e h = (h.kind ≡ 2) × (h.entry ≡ e) × (h.bucket ≡ 0)
 
+-- from this bucket on each has a chain of pages of its rows, which begins at its first page
 abbrev pub AreBuckets : Area → ℕ → ℕ → List ℕ → Type 0
 AreBuckets area e bucket [] = Unit {0}
 AreBuckets area e bucket (p ∷ ps) =
@@ -160,12 +162,14 @@ stands_for committed x title =
     (committed title.creator || (title.creator == x))
     && not (committed title.dropper || (title.dropper == x))
 
+-- the item says that an entry was created
 abbrev pub is_creation : ℕ → SlogItem → Bool
 is_creation e (AllocOf x p) = false
 is_creation e (FreeOf p) = false
 is_creation e (CreateOf x f) = f == e
 is_creation e (DropOf x f) = false
 
+-- the item says that an entry was dropped
 abbrev pub is_dropping : ℕ → SlogItem → Bool
 is_dropping e (AllocOf x p) = false
 is_dropping e (FreeOf p) = false
@@ -225,7 +229,7 @@ pub record NumbersBelow (next : ℕ) (xids : List ℕ) (area : Area) : Type 0 wh
 -- ---- all of it
 
 -- An area is sound with its tables, where so many pages are counted.
-pub record IsSound (counted : ℕ) (tables : Tables) (area : Area) : Type 0 where
+pub record IsSoundArea (counted : ℕ) (tables : Tables) (area : Area) : Type 0 where
   pub readable : AreReadable area
   pub behind : AreBehind (is_committed_in tables) area
   pub counts : AreCounted tables area

@@ -8,7 +8,7 @@ ghost use Rattle.ctr_page.specs.Making.{slot_bytes, kept_bytes, IsSlot, IsEntry}
 ghost use Rattle.ctr_page.specs.Columns.{entry_in, columns_in};
 ghost use Rattle.ctr_area.specs.Reading.{slot_said, older_said, entry_bytes, title_of, firsts_of, columns_on, width_on, area_of};
 ghost use Rattle.ctr_area.specs.Images.{new_pages, image_rows, undo_size};
-ghost use Rattle.ctr_area.specs.Sound.{IsSound, IsBare};
+ghost use Rattle.ctr_area.specs.Sound.{IsSoundArea, IsBare};
 ghost use Rattle.ctr_area.specs.Changes.{with_slot, with_older, with_title, with_firsts, with_bytes_at, with_entry, IsPlaceOf};
 
 /// The bytes of a slot over what stands at a place of a page of rows: the area changes at this place, and
@@ -35,7 +35,7 @@ pub fn entry_changes_alone()
 /// A new database has pages of zeros and no transaction. It is sound, however many of its pages are
 /// counted; nothing is to clean or to undo, and there is no row.
 pub fn new_database()
-    ensures sound { (counted : ℕ) → IsSound counted no_tables (area_of new_pages) }
+    ensures sound { (counted : ℕ) → IsSoundArea counted no_tables (area_of new_pages) }
     ensures bare { IsBare no_tables (area_of new_pages) }
     ensures rows { (committed : ℕ → Bool) → image_rows committed (area_of new_pages) ≡ [] }
     ensures undo { undo_size no_tables ≡ 0 }

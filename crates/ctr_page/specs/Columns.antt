@@ -14,6 +14,8 @@ use Rattle.ctr_page.specs.Reading.{piece}
 
 -- ---- what the bytes of an entry say
 
+-- What the bytes say of the entry's state and its transactions. The rest is read of them when it is
+-- asked for.
 abbrev pub entry_in : List ℕ → CatalogEntry
 entry_in bytes = record {
   state = field 1 0 bytes;

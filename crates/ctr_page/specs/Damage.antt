@@ -14,10 +14,12 @@ use Rattle.ctr_page.specs.Columns.{column_kind_at, kinds_width}
 
 -- ---- the header of a page to which a chain leads
 
+-- the kind of the pages of a chain
 abbrev pub chain_kind : Chain → ℕ
 chain_kind (Rows e b) = 1
 chain_kind (Versions e) = 2
 
+-- the entry of the catalog that a chain is of
 abbrev pub chain_entry : Chain → ℕ
 chain_entry (Rows e b) = e
 chain_entry (Versions e) = e

@@ -12,14 +12,17 @@ use Rattle.ctr_page.specs.Places.{has_previous}
 
 -- ---- bytes
 
+-- a page's header
 abbrev pub header_bytes : Header → List ℕ
 header_bytes h =
     spelled 1 h.kind ++ spelled 1 h.entry ++ spelled 1 h.bucket ++ spelled 1 0 ++ spelled 4 h.next
     ++ spelled 8 0
 
+-- where the next older version stands
 abbrev pub pointer_bytes : Place → List ℕ
 pointer_bytes p = spelled 4 p.page ++ spelled 2 p.slot
 
+-- a version: its transaction, whether it is a tombstone, its payload
 abbrev pub version_bytes : Version → List ℕ
 version_bytes v = spelled 8 v.xid ++ spelled 1 v.tombstone ++ v.payload
 
@@ -32,11 +35,13 @@ some_version_bytes w (Some v) = version_bytes v
 abbrev pub previous_bytes : ℕ → Option Version → List ℕ
 previous_bytes w v = if has_previous w then some_version_bytes w v else []
 
+-- a row's slot, of this width
 abbrev pub slot_bytes : ℕ → RowSlot → List ℕ
 slot_bytes w s =
     spelled 1 s.used ++ spelled 8 (cast_unsigned w64 s.key) ++ version_bytes s.head
     ++ previous_bytes w s.previous ++ pointer_bytes s.older
 
+-- a version entry
 abbrev pub kept_bytes : VersionEntry → List ℕ
 kept_bytes e =
     spelled 1 e.used ++ spelled 8 (cast_unsigned w64 e.key) ++ version_bytes e.version
@@ -44,9 +49,11 @@ kept_bytes e =
 
 -- ---- what has bytes
 
+-- its numbers fit their fields
 abbrev pub IsHeader : Header → Type 0
 IsHeader h = (h.kind < 256) × (h.entry < 256) × (h.bucket < 256) × (h.next < 256 ^ 4)
 
+-- the same of a place
 abbrev pub PlaceFits : Place → Type 0
 PlaceFits p = (p.page < 256 ^ 4) × (p.slot < 256 ^ 2)
 
@@ -59,6 +66,7 @@ abbrev pub IsPrevious : ℕ → Option Version → Type 0
 IsPrevious w None = Unit {0}
 IsPrevious w (Some v) = (has_previous w ≡ true) × (0 < v.xid) × IsVersion w v
 
+-- the same of a slot, whose versions have payloads of the width
 pub record IsSlot (w : ℕ) (s : RowSlot) : Type 0 where
   pub used : s.used < 256
   pub key : FitsSigned w64 s.key
@@ -66,6 +74,7 @@ pub record IsSlot (w : ℕ) (s : RowSlot) : Type 0 where
   pub previous : IsPrevious w s.previous
   pub older : PlaceFits s.older
 
+-- the same of a version entry
 pub record IsEntry (w : ℕ) (e : VersionEntry) : Type 0 where
   pub used : e.used < 256
   pub key : FitsSigned w64 e.key

@@ -29,9 +29,11 @@ header_in page = record {
 
 -- ---- slots and version entries, by their own bytes
 
+-- where a slot or a version entry stands
 abbrev pub place_in : ℕ → List ℕ → Place
 place_in at bytes = record { page = field 4 at bytes; slot = field 2 (at + 4) bytes }
 
+-- a version, whose payload has this width
 abbrev pub version_in : ℕ → ℕ → List ℕ → Version
 version_in w at bytes = record {
   xid = field 8 at bytes;
@@ -43,10 +45,12 @@ version_in w at bytes = record {
 abbrev pub if_there : Version → Option Version
 if_there v = if v.xid == 0 then None else Some v
 
+-- the version before the head, where the slot has room for one and it is there
 abbrev pub previous_in : ℕ → List ℕ → Option Version
 previous_in w bytes =
     if has_previous w then if_there (version_in w (previous_at w) bytes) else None
 
+-- a row's slot
 abbrev pub slot_in : ℕ → List ℕ → RowSlot
 slot_in w bytes = record {
   used = field 1 0 bytes;
@@ -56,6 +60,7 @@ slot_in w bytes = record {
   older = place_in (pointer_at w) bytes;
 }
 
+-- a version entry
 abbrev pub older_in : ℕ → List ℕ → VersionEntry
 older_in w bytes = record {
   used = field 1 0 bytes;
@@ -66,8 +71,10 @@ older_in w bytes = record {
 
 -- ---- by their number on a page
 
+-- the slot of a number, from 0, on a page
 abbrev pub slot_at : ℕ → ℕ → List ℕ → RowSlot
 slot_at w number page = slot_in w (piece (start_of (slot_size w) number) (slot_size w) page)
 
+-- the version entry of a number, from 0, on a page
 abbrev pub older_at : ℕ → ℕ → List ℕ → VersionEntry
 older_at w number page = older_in w (piece (start_of (kept_size w) number) (kept_size w) page)

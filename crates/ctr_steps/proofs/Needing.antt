@@ -18,7 +18,7 @@ use Rattle.ctr_turns.specs.Locking.{HasLeft, HasCounts}
 use Rattle.ctr_steps.specs.declared.runners.Runner.{Runner}
 use Rattle.ctr_steps.specs.declared.runners.Stage.TheVariants as stage
 use Rattle.ctr_steps.specs.declared.steps.Steps.{Steps}
-use Rattle.ctr_steps.specs.Runners.{IsNextLine, made_at, vacant, runner_at, places_from, acts_left, IsRunnerOf}
+use Rattle.ctr_steps.specs.Runners.{IsNextLine, made_at, vacant, runner_at, session_places, acts_left, IsRunnerOf}
 use Rattle.ctr_steps.specs.Acting.{LocksFirst}
 use Rattle.ctr_steps.specs.Steps.{Walking, HasBounds}
 use Rattle.ctr_steps.proofs.Places.{next_line, runner_of, begun_within}
@@ -67,13 +67,13 @@ module _ (h : Steps) (log : Log) (bounds : HasBounds h log) (s : ℕ) (one : IsS
     pub few_places : length mine.places ≤ length h.script.lines
     few_places = places_few h.script.lines s runner_is.places
       where
-        few : (n : ℕ) (ls : List Line) → length (places_from s n ls) ≤ length ls
+        few : (n : ℕ) (ls : List Line) → length (session_places s n ls) ≤ length ls
         few n [] = omega (arith)
         few n (l ∷ ls) = known (l.session == s)
-            (λ is. let here = ap (λ b. length (cond b (n ∷ places_from s (n + 1) ls) (places_from s (n + 1) ls))) is in let rest = few (n + 1) ls in omega (arith, here, rest))
-            (λ not. let here = ap (λ b. length (cond b (n ∷ places_from s (n + 1) ls) (places_from s (n + 1) ls))) not in let rest = few (n + 1) ls in omega (arith, here, rest))
+            (λ is. let here = ap (λ b. length (cond b (n ∷ session_places s (n + 1) ls) (session_places s (n + 1) ls))) is in let rest = few (n + 1) ls in omega (arith, here, rest))
+            (λ not. let here = ap (λ b. length (cond b (n ∷ session_places s (n + 1) ls) (session_places s (n + 1) ls))) not in let rest = few (n + 1) ls in omega (arith, here, rest))
 
-        places_few : (ls : List Line) (q : ℕ) → mine.places ≡ places_from s 0 ls → length mine.places ≤ length ls
+        places_few : (ls : List Line) (q : ℕ) → mine.places ≡ session_places s 0 ls → length mine.places ≤ length ls
         places_few ls q is = let same = ap length is in let few_ = few 0 ls in omega (arith, same, few_)
 
     pub counts : HasCounts h.turns s

@@ -9,7 +9,7 @@ use Rattle.ctr_types.specs.declared.statement.Statement.{Statement}
 use Rattle.ctr_model.specs.Tape.{statements_of, statement_of}
 use Rattle.ctr_model.proofs.Sessions.{known}
 use Rattle.ctr_steps.specs.declared.runners.Runner.{Runner}
-use Rattle.ctr_steps.specs.Runners.{IsNextLine, places_from, vacant, made_at, IsRunnerOf, AreRunners, IsFresh, acts_left, all_left, all_begun}
+use Rattle.ctr_steps.specs.Runners.{IsNextLine, session_places, vacant, made_at, IsRunnerOf, AreRunners, IsUnbegun, acts_left, all_left, all_begun}
 
 -- ---- what stands at a place
 
@@ -49,20 +49,20 @@ later_line n i k l ls statements more j is step = record {
     behind : n + 1 ≤ i → i - n ≡ suc (i - (n + 1))
     behind least = omega (arith, least)
 
-line_at : (s n : ℕ) (ls : List Line) (k i : ℕ) → slice_get (places_from s n ls) k ≡ Some i → HasLine n ls (statements_of s ls) k i
+line_at : (s n : ℕ) (ls : List Line) (k i : ℕ) → slice_get (session_places s n ls) k ≡ Some i → HasLine n ls (statements_of s ls) k i
 line_at s n [] k i is = absurd (none_there k i is)
 line_at s n (l ∷ ls) k i is =
-    elim (l.session == s) as (λ b. slice_get (cond b (n ∷ places_from s (n + 1) ls) (places_from s (n + 1) ls)) k ≡ Some i
+    elim (l.session == s) as (λ b. slice_get (cond b (n ∷ session_places s (n + 1) ls) (session_places s (n + 1) ls)) k ≡ Some i
     → HasLine n (l ∷ ls) (texts (cond b (l ∷ filter (λ (x : Line). x.session == s) ls) (filter (λ (x : Line). x.session == s) ls))) k i) [
       | true ↦ λ at. mine (λ k at. line_at s (n + 1) ls k i at) k at
       | false ↦ λ at. later_line n i k l ls (statements_of s ls) (statements_of s ls) k (line_at s (n + 1) ls k i at) (λ x there. there)
     ] is
   where
-    mine : ((k : ℕ) → slice_get (places_from s (n + 1) ls) k ≡ Some i → HasLine (n + 1) ls (statements_of s ls) k i) → (k : ℕ) → slice_get (n ∷ places_from s (n + 1) ls) k ≡ Some i → HasLine n (l ∷ ls) (l.statement ∷ statements_of s ls) k i
+    mine : ((k : ℕ) → slice_get (session_places s (n + 1) ls) k ≡ Some i → HasLine (n + 1) ls (statements_of s ls) k i) → (k : ℕ) → slice_get (n ∷ session_places s (n + 1) ls) k ≡ Some i → HasLine n (l ∷ ls) (l.statement ∷ statements_of s ls) k i
     mine more zero at = first_line n i l ls (statements_of s ls) (ap (λ o. unwrap_or o i) at)
     mine more (suc k) at = later_line n i k l ls (statements_of s ls) (l.statement ∷ statements_of s ls) (suc k) (more k at) (λ x there. there)
 
-pub next_line : (lines : List Line) (s finished i : ℕ) → slice_get (places_from s 0 lines) finished ≡ Some i → IsNextLine lines s finished i
+pub next_line : (lines : List Line) (s finished i : ℕ) → slice_get (session_places s 0 lines) finished ≡ Some i → IsNextLine lines s finished i
 next_line lines s finished i is =
     let at = line_at s 0 lines finished i is in
     record {
@@ -77,9 +77,9 @@ next_line lines s finished i is =
     more : finished + 1 ≡ suc finished
     more = omega (arith)
 
-pub count_of : (s n : ℕ) (ls : List Line) → length (places_from s n ls) ≡ length (statements_of s ls)
+pub count_of : (s n : ℕ) (ls : List Line) → length (session_places s n ls) ≡ length (statements_of s ls)
 count_of s n [] = refl
-count_of s n (l ∷ ls) = elim (l.session == s) as (λ b. length (cond b (n ∷ places_from s (n + 1) ls) (places_from s (n + 1) ls)) ≡ length (texts (cond b (l ∷ filter (λ (x : Line). x.session == s) ls) (filter (λ (x : Line). x.session == s) ls)))) [
+count_of s n (l ∷ ls) = elim (l.session == s) as (λ b. length (cond b (n ∷ session_places s (n + 1) ls) (session_places s (n + 1) ls)) ≡ length (texts (cond b (l ∷ filter (λ (x : Line). x.session == s) ls) (filter (λ (x : Line). x.session == s) ls)))) [
   | true ↦ ap suc (count_of s (n + 1) ls)
   | false ↦ count_of s (n + 1) ls
 ]
@@ -89,7 +89,7 @@ count_of s n (l ∷ ls) = elim (l.session == s) as (λ b. length (cond b (n ∷ 
 -- so many lines have the sessions from this one on, so many of them
 abbrev total : ℕ → ℕ → ℕ → List Line → ℕ
 total s zero n ls = 0
-total s (suc k) n ls = length (places_from s n ls) + total (s + 1) k n ls
+total s (suc k) n ls = length (session_places s n ls) + total (s + 1) k n ls
 
 total_nil : (s k n : ℕ) → total s k n [] ≡ 0
 total_nil s zero n = refl
@@ -98,7 +98,7 @@ total_nil s (suc k) n = let rest = total_nil (s + 1) k n in omega (arith, rest)
 total_below : (s k n : ℕ) (l : Line) (ls : List Line) → l.session < s → total s k n (l ∷ ls) ≡ total s k (n + 1) ls
 total_below s zero n l ls below = refl
 total_below s (suc k) n l ls below =
-    let here : length (places_from s n (l ∷ ls)) ≡ length (places_from s (n + 1) ls) = ap (λ b. length (cond b (n ∷ places_from s (n + 1) ls) (places_from s (n + 1) ls))) (ne_eqb l.session s (λ same. apart same)) in
+    let here : length (session_places s n (l ∷ ls)) ≡ length (session_places s (n + 1) ls) = ap (λ b. length (cond b (n ∷ session_places s (n + 1) ls) (session_places s (n + 1) ls))) (ne_eqb l.session s (λ same. apart same)) in
     let rest = total_below (s + 1) k n l ls (omega (arith, below)) in
     (λ i. here i + rest i)
   where
@@ -109,11 +109,11 @@ total_one : (s k n : ℕ) (l : Line) (ls : List Line) → total s k n (l ∷ ls)
 total_one s zero n l ls = omega (arith)
 total_one s (suc k) n l ls = known (l.session == s)
     (λ same.
-    let here = ap (λ b. length (cond b (n ∷ places_from s (n + 1) ls) (places_from s (n + 1) ls))) same in
+    let here = ap (λ b. length (cond b (n ∷ session_places s (n + 1) ls) (session_places s (n + 1) ls))) same in
     let rest = total_below (s + 1) k n l ls (below (eqb-true l.session s same)) in
     omega (arith, here, rest))
     (λ other.
-    let here = ap (λ b. length (cond b (n ∷ places_from s (n + 1) ls) (places_from s (n + 1) ls))) other in
+    let here = ap (λ b. length (cond b (n ∷ session_places s (n + 1) ls) (session_places s (n + 1) ls))) other in
     let rest = total_one (s + 1) k n l ls in
     omega (arith, here, rest))
   where
@@ -181,17 +181,17 @@ are_more lines s (r ∷ rs) x are is = (are.0, are_more lines (s + 1) rs x are.1
     same : s + suc (length rs) ≡ s + 1 + length rs
     same = omega (arith)
 
-pub fresh_more : (rs : List Runner) (x : Runner) → AllByRecursion IsFresh rs → IsFresh x → AllByRecursion IsFresh (rs ++ x ∷ [])
+pub fresh_more : (rs : List Runner) (x : Runner) → AllByRecursion IsUnbegun rs → IsUnbegun x → AllByRecursion IsUnbegun (rs ++ x ∷ [])
 fresh_more [] x are is = (is, tt)
 fresh_more (r ∷ rs) x are is = (are.0, fresh_more rs x are.1 is)
 
-pub fresh_at : (rs : List Runner) (i : ℕ) → AllByRecursion IsFresh rs → IsFresh (get_or rs i vacant)
+pub fresh_at : (rs : List Runner) (i : ℕ) → AllByRecursion IsUnbegun rs → IsUnbegun (get_or rs i vacant)
 fresh_at [] i are = record { none = refl; between = refl }
 fresh_at (r ∷ rs) zero are = are.0
 fresh_at (r ∷ rs) (suc i) are = fresh_at rs i are.1
 
 -- what is left of them at the start: two acts of each line
-pub fresh_left : (rs : List Runner) → AllByRecursion IsFresh rs → all_left rs ≤ 2 * sum_by (λ (r : Runner). length r.places) rs
+pub fresh_left : (rs : List Runner) → AllByRecursion IsUnbegun rs → all_left rs ≤ 2 * sum_by (λ (r : Runner). length r.places) rs
 fresh_left [] are = omega (arith)
 fresh_left (r ∷ rs) are =
     let here = sum_by-cons acts_left r rs in

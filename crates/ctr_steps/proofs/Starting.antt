@@ -10,14 +10,14 @@ use Rattle.ctr_model.specs.Tape.{final, Legal, at_start}
 use Rattle.ctr_log.specs.Logs.{Log}
 use Rattle.ctr_turns.specs.Turns.{ShowsTurns}
 use Rattle.ctr_steps.specs.declared.steps.Steps.{Steps}
-use Rattle.ctr_steps.specs.Runners.{made_at, runner_at, AreRunners, IsFresh}
+use Rattle.ctr_steps.specs.Runners.{made_at, runner_at, AreRunners, IsUnbegun}
 use Rattle.ctr_steps.specs.Steps.{Walks, HasBounds, StartsWithRoom, reached_by}
 use Rattle.ctr_steps.proofs.Moving.{Fits}
 use Rattle.ctr_steps.proofs.ByKind.{not_locked, not_waiting}
 use Rattle.ctr_steps.proofs.Places.{fresh_at, fresh_left, places_within}
 
-module _ (h : Steps) (items : h.tape.items ≡ []) (answered : h.answered ≡ 0) (fresh : AllByRecursion IsFresh h.runners.items) where
-  at : (s : ℕ) → IsFresh (runner_at s h.runners.items)
+module _ (h : Steps) (items : h.tape.items ≡ []) (answered : h.answered ≡ 0) (fresh : AllByRecursion IsUnbegun h.runners.items) where
+  at : (s : ℕ) → IsUnbegun (runner_at s h.runners.items)
   at s = fresh_at h.runners.items (s - 1) fresh
 
   pub new_walks : (low moment : ℕ) (base : Database) (stuck : List (List ℕ)) → ShowsTurns low h.turns 0 [] (at_rest base stuck) → Walks (at_start moment base stuck) 0 h [] moment

@@ -10,10 +10,10 @@ use Rattle.ctr_steps.specs.declared.runners.Stage.{Stage}
 use Rattle.ctr_steps.specs.declared.runners.Stage.TheVariants as stage
 
 -- the places of a session's lines, in lines before which so many stand
-abbrev pub places_from : ℕ → ℕ → List Line → List ℕ
-places_from s n [] = []
-places_from s n (l ∷ ls) =
-    if l.session == s then n ∷ places_from s (n + 1) ls else places_from s (n + 1) ls
+abbrev pub session_places : ℕ → ℕ → List Line → List ℕ
+session_places s n [] = []
+session_places s n (l ∷ ls) =
+    if l.session == s then n ∷ session_places s (n + 1) ls else session_places s (n + 1) ls
 
 -- how many acts of its next statement a session has made
 abbrev pub made_at : Stage → ℕ
@@ -61,7 +61,7 @@ all_begun runners = sum_by (λ r. r.finished + made_at r.stage) runners
 
 -- it has the lines of its session, and is at one of them or behind the last
 pub record IsRunnerOf (lines : List Line) (s : ℕ) (runner : Runner) : Type 0 where
-  pub places : runner.places ≡ places_from s 0 lines
+  pub places : runner.places ≡ session_places s 0 lines
   pub within : runner.finished + made_at runner.stage ≤ length runner.places
 
 -- each is the one of its session, the first of them of this one
@@ -75,7 +75,7 @@ pub record MayStep (runner : Runner) : Type 0 where
   pub unasked : (k : ℕ) → runner.stage ≡ stage.Asked k → ⊥
 
 -- it has begun none of its statements
-pub record IsFresh (runner : Runner) : Type 0 where
+pub record IsUnbegun (runner : Runner) : Type 0 where
   pub none : runner.finished ≡ 0
   pub between : runner.stage ≡ stage.Between
 

@@ -1,7 +1,7 @@
 // Each session's lines of the script, and how far it is.
 ghost use Rattle.std.specs.Prelude.{◌≡◌, ◌==◌, ◌++◌, ◌∷◌, [], length, IfOk, OnOk, if◌then◌else◌};
 ghost use Rattle.std.specs.List.{AllByRecursion};
-ghost use Rattle.ctr_steps.specs.Runners.{places_from, IsFresh, IsRunnerOf, AreRunners};
+ghost use Rattle.ctr_steps.specs.Runners.{session_places, IsUnbegun, IsRunnerOf, AreRunners};
 
 use ctr_turns::Ready;
 use ctr_types::{Line, List, OutOfMemory};
@@ -41,7 +41,7 @@ fn push_place(places: &mut List<usize>, n: usize, line: &Line, s: u8) -> Result<
 
 // The places of a session's lines.
 fn places(alloc: Global, lines: &[Line], s: u8) -> Result<List<usize>, OutOfMemory>
-    ensures { IfOk result (λ ps. ps ≡ places_from s 0 lines.now) }
+    ensures { IfOk result (λ ps. ps ≡ session_places s 0 lines.now) }
 {
     let mut places = List::new(alloc);
     let mut n = 0;
@@ -55,7 +55,7 @@ fn places(alloc: Global, lines: &[Line], s: u8) -> Result<List<usize>, OutOfMemo
 // A session that has begun none of its statements.
 fn fresh(alloc: Global, lines: &[Line], s: u8) -> Result<Runner, OutOfMemory>
     ensures of { IfOk result (IsRunnerOf lines.now s) }
-    ensures fresh { IfOk result IsFresh }
+    ensures fresh { IfOk result IsUnbegun }
 {
     Ok(Runner {
         places: places(alloc, lines, s)?,
@@ -68,7 +68,7 @@ fn fresh(alloc: Global, lines: &[Line], s: u8) -> Result<Runner, OutOfMemory>
 pub fn runners(alloc: Global, lines: &[Line]) -> Result<Vec<Runner>, OutOfMemory>
     ensures are { IfOk result (λ rs. AreRunners lines.now 1 rs.items) }
     ensures eight { IfOk result (λ rs. length rs.items ≡ 8) }
-    ensures fresh { IfOk result (λ rs. AllByRecursion IsFresh rs.items) }
+    ensures fresh { IfOk result (λ rs. AllByRecursion IsUnbegun rs.items) }
 {
     let mut runners = Vec::new(alloc);
     for s in 1..9 {

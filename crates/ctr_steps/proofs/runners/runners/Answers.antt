@@ -1,6 +1,6 @@
 use Rattle.std.proofs.Common.{◌≡◌, ◌+◌, ◌∷◌, [], length, sym, ◌∙◌, ap, subst, arith, length-append}
 use Rattle.std.specs.List.{AllByRecursion}
-use Rattle.ctr_steps.specs.Runners.{IsFresh, IsRunnerOf, AreRunners}
+use Rattle.ctr_steps.specs.Runners.{IsUnbegun, IsRunnerOf, AreRunners}
 use Rattle.ctr_steps.proofs.Places.{are_more, fresh_more}
 use Rattle.ctr_steps.proofs.runners.runners.Goals as goal
 
@@ -12,7 +12,7 @@ loop-s-preserved c =
     let at = before.0 in (
       omega (arith, long, at),
       subst (AreRunners c.args.lines.now 1) (sym items) (are_more c.args.lines.now 1 c.loop-s.runners.items c.in_ok-fresh.field-0 before.1 (subst (λ n. IsRunnerOf c.args.lines.now n c.in_ok-fresh.field-0) (here before.0) c.in_ok-fresh.ensures.of)),
-      subst (AllByRecursion IsFresh) (sym items) (fresh_more c.loop-s.runners.items c.in_ok-fresh.field-0 before.2 c.in_ok-fresh.ensures.fresh),
+      subst (AllByRecursion IsUnbegun) (sym items) (fresh_more c.loop-s.runners.items c.in_ok-fresh.field-0 before.2 c.in_ok-fresh.ensures.fresh),
     )
   where
     here : length c.loop-s.runners.items + 1 ≡ c.loop-s.s → c.loop-s.s ≡ 1 + length c.loop-s.runners.items
