@@ -137,7 +137,6 @@ impl Steps {
     /// whether there was one. It takes no memory. That its record is durable is the caller's.
     pub fn answer(&mut self, moment: u64) -> bool
         requires walking { (waiting : List (List ℕ)) × Walking self.old waiting moment }
-        requires few { length self.old.runners.items < 2 ^ 8 - 1 }
         requires bounds { (log : Log) × HasBounds self.old log }
         ensures walks { (start : Point) (from : ℕ) (waiting : List (List ℕ)) → Walks start from self.old waiting moment → Walks start from self.new waiting moment }
         ensures bounds { (log : Log) → HasBounds self.old log → HasBounds self.new log }

@@ -51,3 +51,6 @@ returns-clause-entry c = λ is. (
     moment_is = refl;
   },
 )
+
+pub next_asked-requires-clause-few : goal.next_asked-requires-clause-few
+next_asked-requires-clause-few c = c.requires.bounds.1.sessions_few
