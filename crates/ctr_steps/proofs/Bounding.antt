@@ -110,7 +110,7 @@ module _ (h h' : Steps) (log log' : Log) (bounds : HasBounds h log) (s : ℕ) (o
       bounds_on = record {
         room = room;
         sessions = sessions;
-        sessions_few = let old = bounds.sessions_few in let same = ap length runners ∙ length-set h.runners.items (s - 1) (after_stage g mine) in omega (arith, old, same);
+        eight = ap length runners ∙ length-set h.runners.items (s - 1) (after_stage g mine) ∙ bounds.eight;
         runners = are;
         recorded = subst (λ (sc : Script). AllByRecursion (λ (l : Line). IsRecorded l.statement) sc.lines) (sym script) bounds.recorded;
         few = subst (λ (sc : Script). length sc.lines < 2 ^ 32 - 1) (sym script) bounds.few;

@@ -53,7 +53,7 @@ module _ (h : Steps) (items : h.tape.items ≡ []) (answered : h.answered ≡ 0)
   new_bounds eight long are few len room log starts = record {
     room = starts.room;
     sessions = eight ∙ sym long;
-    sessions_few = omega (arith, long);
+    eight = long;
     runners = are;
     recorded = starts.recorded;
     few = few;

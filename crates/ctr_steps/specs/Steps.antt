@@ -97,7 +97,7 @@ pub record Walking (h : Steps) (waiting : List (List ℕ)) (now : ℕ) : Type 0 
 pub record HasBounds (h : Steps) (log : Log) : Type 0 where
   pub room : HasRoom h.turns log
   pub sessions : length h.turns.records ≡ length h.runners.items
-  pub sessions_few : length h.runners.items < 2 ^ 8 - 1
+  pub eight : length h.runners.items ≡ 8
   pub runners : AreRunners h.script.lines 1 h.runners.items
   pub recorded : AllByRecursion (λ (l : Line). IsRecorded l.statement) h.script.lines
   pub few : length h.script.lines < 2 ^ 32 - 1

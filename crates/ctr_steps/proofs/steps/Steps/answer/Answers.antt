@@ -1,4 +1,4 @@
-use Rattle.std.proofs.Common.{◌≤◌, ◌+◌, refl, sym, subst, ap}
+use Rattle.std.proofs.Common.{◌≤◌, ◌+◌, refl, sym, subst, ap, arith}
 use Rattle.ctr_types.specs.declared.tape.Act.TheVariants as act
 use Rattle.ctr_gather.specs.Records.{IsSession}
 use Rattle.ctr_steps.specs.declared.runners.Stage.TheVariants as stage
@@ -53,4 +53,4 @@ returns-clause-entry c = λ is. (
 )
 
 pub next_asked-requires-clause-few : goal.next_asked-requires-clause-few
-next_asked-requires-clause-few c = c.requires.bounds.1.sessions_few
+next_asked-requires-clause-few c = let eight = c.requires.bounds.1.eight in omega (arith, eight)
