@@ -3,3 +3,4 @@ pub mod Keep
 pub mod Telling
 pub mod Ready
 pub mod Reached
+pub mod Own

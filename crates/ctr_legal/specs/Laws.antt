@@ -74,3 +74,16 @@ abbrev pub RepliesTell : Type 0
 RepliesTell = (state : State) (s : ℕ) (statement : Statement) (a : Act) (r : Reply) → IsKept state
     → IsReady state statement a (transaction_of state s) → IsInTurn state s a
     → Allowed state s a statement r → IsTold state s statement a r
+
+-- Each session that has asked for its commit waits with a number of its own, which isn't answered.
+pub record HaveOwnNumbers (state : State) : Type 0 where
+  pub waits : (s k : ℕ) (t : Transaction) → transaction_of state s ≡ Some t → t.asked ≡ Some k
+      → state.answered < k
+  pub own : (s r k : ℕ) (t u : Transaction) → (s == r) ≡ false → transaction_of state s ≡ Some t
+      → transaction_of state r ≡ Some u → t.asked ≡ Some k → u.asked ≡ Some k → ⊥
+
+-- So it is wherever a legal tape leads.
+abbrev pub NumbersAreOwn : Type 0
+NumbersAreOwn = (lines : List Line) (moment : ℕ) (base : Database) (stuck : List (List ℕ))
+    (tape : List Entry) → Legal lines (at_start moment base stuck) tape
+    → HaveOwnNumbers (final lines (at_start moment base stuck) tape).state

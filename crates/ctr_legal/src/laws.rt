@@ -1,5 +1,5 @@
 // What legal tapes keep. A call does nothing: what it ensures is the law.
-ghost use Rattle.ctr_legal.specs.Laws.{LegalTapesAreReached, LegalTapesGrow, WaitingAreAnswered, RepliesTell};
+ghost use Rattle.ctr_legal.specs.Laws.{LegalTapesAreReached, LegalTapesGrow, WaitingAreAnswered, RepliesTell, NumbersAreOwn};
 
 /// Wherever a legal tape leads, changes lie under locks, locks of two sessions are apart, names in use
 /// are steady, and each session is ready for its next act.
@@ -22,4 +22,10 @@ pub fn waiting_are_answered()
 /// were in, and see the rows that they saw.
 pub fn replies_tell()
     ensures { RepliesTell }
+{}
+
+/// A session that has asked for its commit waits with a number of its own, which isn't answered: so it waits no
+/// more where all that were asked for are answered.
+pub fn numbers_are_own()
+    ensures { NumbersAreOwn }
 {}

@@ -5,4 +5,6 @@
 
 mod laws;
 
-pub use laws::{legal_tapes_are_reached, legal_tapes_grow, replies_tell, waiting_are_answered};
+pub use laws::{
+    legal_tapes_are_reached, legal_tapes_grow, numbers_are_own, replies_tell, waiting_are_answered,
+};

@@ -23,6 +23,10 @@ pub type Lsn = u64;
 /// The bytes of a batch's length, first LSN and count.
 const HEAD: usize = 20;
 
+/// A batch that waits has fewer bytes than these, 2^60, so a write of it at a place below 2^62 stays
+/// within a file.
+const MOST: usize = 1 << 60;
+
 /// The writer of a log: where its file's log ends, and the records that aren't flushed. After a
 /// flush that failed, open the log again.
 #[derive(Debug, Drop)]
@@ -87,7 +91,10 @@ impl LogFile {
     pub fn room(&self) -> usize
         ensures { result ≡ self.now.room }
     {
-        self.buffer.capacity() - self.buffer.len() - 1
+        if self.buffer.capacity() < MOST {
+            return self.buffer.capacity() - self.buffer.len() - 1;
+        }
+        MOST - self.buffer.len() - 1
     }
 
     /// How many records wait to be flushed.
@@ -104,13 +111,14 @@ impl LogFile {
         self.older = false;
     }
 
-    /// Takes room for frames of so many bytes: a record's length, and 8 for each record.
+    /// Takes room for frames of so many bytes: a record's length, and 8 for each record. There is none for
+    /// 2^60 bytes of one batch.
     pub fn reserve(&mut self, bytes: usize) -> Result<(), OutOfMemory>
         ensures ok { OnOk result (bytes ≤ self.new.room) }
         ensures kept { self.old.room ≤ self.new.room }
         ensures same { self.new ≡ record self.old { room = self.new.room } }
     {
-        if bytes == usize::MAX {
+        if bytes >= MOST - self.buffer.len() {
             return Err(OutOfMemory);
         }
         self.buffer.reserve(bytes + 1)?;
@@ -150,7 +158,7 @@ impl LogFile {
         ensures later { D.moment_of disk.old ≤ D.moment_of disk.new }
         ensures faults { HasFault Fault (D.faults_of disk.old) (D.faults_of disk.new) result }
         // Only a write at the last places counts as a stray.
-        ensures stray { StraysOnlyPast (D.strays_of disk.old) (D.strays_of disk.new) (self.old.place + (22 + length (frames self.old.buffered))) result }
+        ensures stray { StraysOnlyPast (D.strays_of disk.old) (D.strays_of disk.new) (self.old.place + 2 ^ 61) result }
     {
         if self.count == 0 {
             return Ok(());
@@ -187,7 +195,7 @@ impl LogFile {
         ensures later { D.moment_of disk.old ≤ D.moment_of disk.new }
         ensures faults { HasFault Fault (D.faults_of disk.old) (D.faults_of disk.new) result }
         // Only a write at the last places counts as a stray.
-        ensures stray { StraysOnlyPast (D.strays_of disk.old) (D.strays_of disk.new) (self.old.place + (22 + length (frames self.old.buffered))) result }
+        ensures stray { StraysOnlyPast (D.strays_of disk.old) (D.strays_of disk.new) (self.old.place + 2 ^ 61) result }
     {
         match self.flush_before(disk, first) {
             Ok(()) => self.begin(disk, first),
@@ -206,7 +214,7 @@ impl LogFile {
         ensures refused { OnErr result (result ≡ Err Fault) }
         ensures later { D.moment_of disk.old ≤ D.moment_of disk.new }
         ensures faults { HasFault Fault (D.faults_of disk.old) (D.faults_of disk.new) result }
-        ensures stray { StraysOnlyPast (D.strays_of disk.old) (D.strays_of disk.new) (self.old.place + (22 + length (frames self.old.buffered))) result }
+        ensures stray { StraysOnlyPast (D.strays_of disk.old) (D.strays_of disk.new) (self.old.place + 2 ^ 61) result }
     {
         self.flush(disk)
     }

@@ -58,6 +58,7 @@ invariant_of-self g c =
     record {
       head = omega (arith, keeps.head, c.put_frame.ensures.long, c.seal.ensures.long, c.truncate.ensures.len);
       spare = omega (arith, keeps.spare, keeps.head, c.put_frame.ensures.long, c.seal.ensures.long, c.truncate.ensures.len, c.truncate.ensures.capacity, c.seal.ensures.capacity, c.put_frame.ensures.capacity);
+      short = omega (arith, keeps.head, c.put_frame.ensures.long, c.seal.ensures.long, c.truncate.ensures.len);
       frames_are = none ∙ sym (ap (λ (n : ℕ). frames (unframed n (drop 20 new.items))) count);
       place = keeps.place;
       next = keeps.next;

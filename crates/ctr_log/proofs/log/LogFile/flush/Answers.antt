@@ -26,6 +26,7 @@ invariant_of-self g c =
     record {
       head = omega arith;
       spare = omega arith;
+      short = omega arith;
       frames_are = frames_in ∙ keeps.frames_are ∙ ap (λ (l : List ℕ). frames (unframed a.count l)) (sym frames_in);
       place = keeps.place;
       next = keeps.next;
@@ -43,6 +44,7 @@ invariant_of-self-2 g c =
     record {
       head = omega arith;
       spare = omega arith;
+      short = omega arith;
       frames_are = none;
       place = omega arith;
       next = omega arith;
