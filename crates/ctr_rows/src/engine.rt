@@ -164,13 +164,6 @@ impl Engine {
         self.heads.moved(over, Some(me));
     }
 
-    /// The number that the next table gets.
-    pub fn next_table(&self) -> u64
-        ensures { result ≡ self.now.store.next }
-    {
-        self.store.next()
-    }
-
     /// Makes a table, new, and gives its number. It takes no memory.
     pub fn create(&mut self, s: u8, name: &Name, schema: Schema) -> u64
         requires writer { IsOpenWriter s (engine_of self.old) }
