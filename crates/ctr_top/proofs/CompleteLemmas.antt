@@ -5,8 +5,9 @@ use Rattle.ctr_types.specs.declared.statement.Line.{Line}
 use Rattle.ctr_disk.specs.declared.disk.Disk.{Ghosts}
 use Rattle.ctr_io.specs.declared.edges.Source.{Ghosts as Source}
 use Rattle.ctr_types.specs.Faults.{CountsFault}
-use Rattle.ctr_model.specs.Grammar.{first, IsScript, IsRefusedAt}
-use Rattle.ctr_script.specs.Reading.{IsShortScript}
+use Rattle.ctr_model.specs.Language.{SpellsLine}
+use Rattle.ctr_model.specs.Lines.{IsWritten, IsRefusedIn}
+use Rattle.ctr_language.specs.Written.{IsShortText}
 use Rattle.ctr_world.specs.World.{CanOpen}
 use Rattle.ctr_top.specs.declared.outcome.Outcome.{Outcome}
 use Rattle.ctr_top.specs.declared.ending.Ending.{Ending}
@@ -15,7 +16,7 @@ use Rattle.ctr_top.specs.Endings.{work}
 use Rattle.ctr_top.specs.Top.{RunCauses, RunLeaves, DiskWhy, SourceWhy, IsRefused}
 
 abbrev pub NoScriptIsRefused : Type 0
-NoScriptIsRefused = (bytes : List ℕ) (ls : List Line) (line at : ℕ) → IsScript first bytes ls → IsRefusedAt first bytes line at → ⊥
+NoScriptIsRefused = (bytes : List ℕ) (ls : List Line) (line at : ℕ) → IsWritten SpellsLine bytes ls → IsRefusedIn SpellsLine bytes line at → ⊥
 
 -- only work that came to its end and whose sink failed has another ending than its work
 pub work_is : (e : Ending) → e ≢ ending.WriteFault → work e ≡ e
@@ -34,12 +35,12 @@ work_is (ending.Worn number) other = refl
 
 -- a run in which nothing failed is finished, or ended for want of memory before its first entry
 module _ {D S : Type 0} (law : NoScriptIsRefused) (g : Ghosts D) (old : D) (s : Source S) (source new : S) (o : Outcome D) (h : RunCauses g old s source new o) (leaves : RunLeaves g old o)
-    (told : IsTrue g.tells) (source_told : IsTrue s.tells) (ls : List Line) (script : IsShortScript (s.left source) ls) (can_open : CanOpen (g.reads old))
+    (told : IsTrue g.tells) (source_told : IsTrue s.tells) (ls : List Line) (script : IsShortText (s.left source) ls) (can_open : CanOpen (g.reads old))
     (no_disk : CountsFault (g.faults_of old) (g.faults_of o.disk) → ⊥) (no_source : CountsFault (s.faults_of source) (s.faults_of new) → ⊥) where
   each : (e : Ending) → DiskWhy g old o.disk e → SourceWhy s source new e → (e ≡ ending.Finished) ⊎ (e ≡ ending.OutOfMemory)
   each ending.Finished disk from = inl refl
-  each (ending.Refused line at) disk from = absurd (law (s.left source) ls line at script.script (from source_told).0)
-  each ending.TooLong disk from = absurd (omega (arith, script.short, from source_told))
+  each (ending.Refused line at) disk from = absurd (law (s.left source) ls line at script.written (from source_told).refused)
+  each ending.TooLong disk from = absurd (omega (arith, script.few, from source_told))
   each ending.Usage disk from = absurd disk
   each ending.NoDatabase disk from = absurd (cc (disk told, can_open.1.0.root.0))
   each (ending.Damaged file at want got) disk from = absurd ((disk.1 told).1 can_open.0 can_open.1.0 can_open.1.1)

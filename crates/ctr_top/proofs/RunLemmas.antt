@@ -23,10 +23,11 @@ use Rattle.ctr_log.specs.Reading.{log_file}
 use Rattle.ctr_log.specs.Fresh.{IsFresh, IsNoneOrFresh, fresh_root, fresh_log}
 use Rattle.ctr_thin.specs.Thin.{Explains, OpenDiffers, StandsBy, StandsFor}
 use Rattle.ctr_world.specs.declared.opening.Opening.{Ghosts as Opening}
-use Rattle.ctr_world.specs.World.{CanOpen, reached, HasCommits, IsPrefixAt, Survives, Ends, StopsBy, IsOpenedOn}
+use Rattle.ctr_world.specs.Crash.{reached, HasCommits, IsPrefixAt, Survives}
+use Rattle.ctr_world.specs.World.{CanOpen, Ends, StopsBy, IsOpenedOn}
 use Rattle.ctr_script.specs.declared.error.ScriptError.{ScriptError}
 use Rattle.ctr_script.specs.declared.error.ScriptError.TheVariants as script_error
-use Rattle.ctr_script.specs.Reading.{HasReason, IsHindrance, IsShortScript, IsDecided}
+use Rattle.ctr_language.specs.Written.{ErrorHasCause, MayHinder, IsShortText, DecideAnswer}
 use Rattle.ctr_top.specs.declared.outcome.Outcome.{Outcome}
 use Rattle.ctr_top.specs.declared.ending.Ending.{Ending}
 use Rattle.ctr_top.specs.declared.ending.Ending.TheVariants as ending
@@ -147,7 +148,7 @@ not_read_fine script_error.ReadFault is = absurd (cc is)
 not_read_fine script_error.OutOfMemory is = absurd (cc is)
 
 -- the error is this one, or one that may come in place of any
-as_ending : (error wanted : ScriptError) → (error ≡ wanted) ⊎ IsHindrance error → (read_as error ≡ read_as wanted) ⊎ IsHindered (read_as error)
+as_ending : (error wanted : ScriptError) → (error ≡ wanted) ⊎ MayHinder error → (read_as error ≡ read_as wanted) ⊎ IsHindered (read_as error)
 as_ending error wanted (inl is) = inl (ap read_as is)
 as_ending error wanted (inr (inl is)) = inr (inl (ap read_as is))
 as_ending error wanted (inr (inr is)) = inr (inr (ap read_as is))
@@ -165,7 +166,7 @@ disk_why_read g old new script_error.ReadFault = tt
 disk_why_read g old new script_error.OutOfMemory = tt
 
 module _ {S : Type 0} (s : Source S) (source new : S) where
-  source_why_read : (error : ScriptError) → HasReason s source error → (error ≡ script_error.ReadFault → CountsFault (s.faults_of source) (s.faults_of new)) → SourceWhy s source new (read_as error)
+  source_why_read : (error : ScriptError) → ErrorHasCause s source error → (error ≡ script_error.ReadFault → CountsFault (s.faults_of source) (s.faults_of new)) → SourceWhy s source new (read_as error)
   source_why_read (script_error.Refused line at) reason counts = reason
   source_why_read script_error.TooLong reason counts = reason
   source_why_read script_error.ReadFault reason counts = counts refl
@@ -187,19 +188,19 @@ module _ {S : Type 0} (s : Source S) (source new : S) where
 
 module _ {D S : Type 0} (g : Ghosts D) (old : D) (s : Source S) (source new : S) (o : Outcome D) where
   -- a script that was read
-  pub lines_causes : (script : Script) → LinesCauses g old o → (IsTrue s.tells → IsShortScript (s.left source) script.lines) → (IsTrue s.tells → IsDecided (s.left source) (Ok script)) → s.faults_of new ≡ s.faults_of source → RunCauses g old s source new o
+  pub lines_causes : (script : Script) → LinesCauses g old o → (IsTrue s.tells → IsShortText (s.left source) script.lines) → (IsTrue s.tells → DecideAnswer (s.left source) (Ok script)) → s.faults_of new ≡ s.faults_of source → RunCauses g old s source new o
   lines_causes script h read decided same = record {
     by_disk = h.by_disk;
     by_source = source_why s source new o.ending h.is_read same;
     by_script = λ t. record {
-      wants = inr (inr (script.lines, (read t).script));
+      wants = inr (inr (script.lines, (read t).written));
       refused = λ line at is. absurd ((decided t).refused line at is);
       too_long = λ is. absurd ((decided t).too_long is);
     };
   }
 
   -- a script that wasn't
-  pub read_causes : (error : ScriptError) → o.ending ≡ read_as error → HasReason s source error → (error ≡ script_error.ReadFault → CountsFault (s.faults_of source) (s.faults_of new)) → (IsTrue s.tells → IsDecided (s.left source) (Err error)) → RunCauses g old s source new o
+  pub read_causes : (error : ScriptError) → o.ending ≡ read_as error → ErrorHasCause s source error → (error ≡ script_error.ReadFault → CountsFault (s.faults_of source) (s.faults_of new)) → (IsTrue s.tells → DecideAnswer (s.left source) (Err error)) → RunCauses g old s source new o
   read_causes error is reason counts decided = record {
     by_disk = subst (DiskWhy g old o.disk) (sym is) (disk_why_read g old o.disk error);
     by_source = subst (SourceWhy s source new) (sym is) (source_why_read s source new error reason counts);

@@ -1,6 +1,5 @@
 -- What a command promises: what a crash leaves, the tape, the text, and the cause of each ending.
 use Rattle.std.specs.Prelude.{◌≡◌, ◌≢◌, ◌⊎◌, ◌≤◌, ◌<◌, ℕ, ◌+◌, pos, Bool, true, false, IsTrue, IsSome, List, [], ◌++◌, length, None}
-use Rattle.std.specs.List.{AllByRecursion}
 use Rattle.ctr_types.specs.declared.statement.Line.{Line}
 use Rattle.ctr_types.specs.declared.tape.Entry.{Entry}
 use Rattle.ctr_disk.specs.declared.disk.Image.{Image}
@@ -12,15 +11,18 @@ use Rattle.ctr_disk.specs.Device.{LeavesOnly, OnlyReads}
 use Rattle.ctr_model.specs.declared.tape.Command.{Command}
 use Rattle.ctr_model.specs.declared.tape.Report.{Report}
 use Rattle.ctr_model.specs.Database.{Database}
-use Rattle.ctr_model.specs.Grammar.{first, IsScript, most_bytes}
+use Rattle.ctr_model.specs.Grammar.{most_bytes}
+use Rattle.ctr_model.specs.Language.{SpellsLine}
+use Rattle.ctr_model.specs.Lines.{IsWritten}
 use Rattle.ctr_model.specs.Tape.{Legal, at_start, IsWhole}
 use Rattle.ctr_model.specs.Texts.{answers, refusals, transcript, last_line}
 use Rattle.ctr_print.specs.Prints.{PutsOn}
 use Rattle.ctr_log.specs.Homes.{root_value}
-use Rattle.ctr_script.specs.Reading.{IsShortRefused}
+use Rattle.ctr_language.specs.Written.{IsShortRefusal}
 use Rattle.ctr_thin.specs.Thin.{StandsFor, StandsForNone}
-use Rattle.ctr_exec.specs.Session.{IsNotFull}
-use Rattle.ctr_world.specs.World.{CanOpen, reached, HasCommits, IsPrefixAt, Survives, OnlyLogChanges, StraysOnlyLong}
+use Rattle.ctr_world.specs.Crash.{reached, HasCommits, IsPrefixAt, Survives, OnlyLogChanges, StraysOnlyLong}
+use Rattle.ctr_world.specs.Turns.{NoneFull}
+use Rattle.ctr_world.specs.World.{CanOpen}
 use Rattle.ctr_top.specs.declared.outcome.Outcome.{Outcome}
 use Rattle.ctr_top.specs.declared.run.Ended.{Ended}
 use Rattle.ctr_top.specs.declared.ending.Ending.{Ending}
@@ -59,9 +61,9 @@ pub record RanScript {D S : Type 0} (g : Ghosts D) (old : D) (base : Database) (
     : Type 0 where
   pub lines : List Line
   -- also where the source doesn't tell, they are the script of some bytes
-  pub of_bytes : (bytes : List ℕ) × IsScript first bytes lines
-  pub script : IsTrue s.tells → IsScript first (s.left source) lines ⊎ (o.tape.entries ≡ [])
-  pub script_at_end : IsTrue s.tells → o.ending ≡ ending.Finished → IsScript first (s.left source) lines
+  pub of_bytes : (bytes : List ℕ) × IsWritten SpellsLine bytes lines
+  pub script : IsTrue s.tells → IsWritten SpellsLine (s.left source) lines ⊎ (o.tape.entries ≡ [])
+  pub script_at_end : IsTrue s.tells → o.ending ≡ ending.Finished → IsWritten SpellsLine (s.left source) lines
   pub ran : Ran g old base lines o
 
 -- with these endings nothing was run: there is no script, no database that can be opened, or no memory
@@ -133,7 +135,7 @@ DiskWhy g old new (ending.Worn number) = ⊥
 -- fault.
 abbrev pub SourceWhy : {S : Type 0} → Source S → S → S → Ending → Type 0
 SourceWhy s old new ending.Finished = s.faults_of new ≡ s.faults_of old
-SourceWhy s old new (ending.Refused line at) = IsTrue s.tells → IsShortRefused (s.left old) line at
+SourceWhy s old new (ending.Refused line at) = IsTrue s.tells → IsShortRefusal (s.left old) line at
 SourceWhy s old new ending.TooLong = IsTrue s.tells → most_bytes < length (s.left old)
 SourceWhy s old new ending.Usage = Unit {0}
 SourceWhy s old new ending.NoDatabase = Unit {0}
@@ -172,13 +174,13 @@ IsHindered e = (e ≡ ending.ReadFault) ⊎ (e ≡ ending.OutOfMemory)
 -- the bytes are a script, or the ending may come without one
 abbrev pub WantsScript : List ℕ → Ending → Type 0
 WantsScript bytes e = (IsRead e → ⊥)
-    ⊎ ((e ≡ ending.OutOfMemory) ⊎ ((lines : List Line) × IsScript first bytes lines))
+    ⊎ ((e ≡ ending.OutOfMemory) ⊎ ((lines : List Line) × IsWritten SpellsLine bytes lines))
 
 -- The script is read before the disk is touched, so the bytes decide first: what is refused is
 -- refused at its place, and what is too long is so, unless the source fails or memory is refused.
 pub record IsByScript (bytes : List ℕ) (e : Ending) : Type 0 where
   pub wants : WantsScript bytes e
-  pub refused : (line at : ℕ) → IsShortRefused bytes line at
+  pub refused : (line at : ℕ) → IsShortRefusal bytes line at
       → (e ≡ ending.Refused line at) ⊎ IsHindered e
   pub too_long : most_bytes < length bytes → (e ≡ ending.TooLong) ⊎ IsHindered e
 
@@ -256,7 +258,7 @@ report_of es =
 -- the report counts what the tape has, and no reply is a refusal for want of room in the files
 pub record IsReported (es : List Entry) (report : Report) : Type 0 where
   pub report_is : report ≡ report_of es
-  pub not_full : AllByRecursion (λ e. IsNotFull e.reply) es
+  pub not_full : NoneFull es
 
 -- ---- faults
 

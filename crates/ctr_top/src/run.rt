@@ -6,7 +6,7 @@ ghost use Rattle.ctr_model.specs.declared.tape.Command.{Command};
 ghost use Rattle.ctr_model.specs.declared.tape.Command.TheVariants.{Init, Run};
 ghost use Rattle.ctr_model.specs.Database.{Database};
 ghost use Rattle.ctr_model.specs.Texts.{transcript, last_line};
-ghost use Rattle.ctr_script.specs.Reading.{IsShortScript};
+ghost use Rattle.ctr_language.specs.Written.{IsShortText};
 ghost use Rattle.ctr_thin.specs.Thin.{StandsFor};
 ghost use Rattle.ctr_world.specs.World.{CanOpen};
 ghost use Rattle.ctr_top.specs.declared.ending.Ending.TheVariants.{Finished, Usage, WriteFault, OutOfMemory};
@@ -21,9 +21,9 @@ use crate::script::run_script;
 use crate::words::command;
 use ctr_disk::Disk;
 use ctr_io::{Sink, Source};
+use ctr_language::one_script;
 use ctr_model::{Command, Report};
 use ctr_print::{count_answers, count_refusals, put_run};
-use ctr_script::no_script_is_refused;
 use ctr_types::Tape;
 use std::alloc::Global;
 
@@ -102,7 +102,7 @@ pub fn run_serial<D: Disk, S: Source, K: Sink>(
     ensures run_leaves { IsCommand (map string_bytes words.now) Run → RunLeaves D.Disk disk (work_of result) }
     // Where nothing fails a script runs to its end, or memory was refused before its first entry.
     ensures complete { IsCommand (map string_bytes words.now) Run → IsTrue D.tells → IsTrue S.tells
-        → (lines : List Line) → IsShortScript (S.left source.old) lines → CanOpen (D.reads disk)
+        → (lines : List Line) → IsShortText (S.left source.old) lines → CanOpen (D.reads disk)
         → NoneFailed (faults_of D.Disk S.Source K.Sink disk source.old sink.old) (faults_of D.Disk S.Source K.Sink result.disk source.new sink.new)
         → (result.ending ≡ Finished) ⊎ ((result.ending ≡ OutOfMemory) × (result.tape.entries ≡ [])) }
     ensures init { IsCommand (map string_bytes words.now) Init → Makes D.Disk disk (work_of result) }
@@ -111,7 +111,7 @@ pub fn run_serial<D: Disk, S: Source, K: Sink>(
         → faults_of D.Disk S.Source K.Sink result.disk source.new sink.new ≡ faults_of D.Disk S.Source K.Sink disk source.old sink.old }
     ensures forward { GoesForward D.Disk S.Source disk result.disk source.old source.new }
 {
-    no_script_is_refused();
+    one_script();
     let Some(command) = command(words) else {
         let outcome = Outcome::without_tape(alloc, Ending::Usage, disk);
         return ending(sink, &Command::Run, outcome);

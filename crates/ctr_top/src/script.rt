@@ -1,10 +1,9 @@
 // Runs a script over a database.
 ghost use Rattle.std.specs.Prelude.{◌≤◌, IsTrue};
-ghost use Rattle.std.specs.List.{AllByRecursion};
 ghost use Rattle.ctr_disk.specs.Crash.{Within};
 ghost use Rattle.ctr_model.specs.Database.{Database};
 ghost use Rattle.ctr_thin.specs.Thin.{StandsFor};
-ghost use Rattle.ctr_exec.specs.Session.{IsNotFull};
+ghost use Rattle.ctr_world.specs.Turns.{NoneFull};
 ghost use Rattle.ctr_world.specs.World.{IsOpenedOn, CanRun};
 ghost use Rattle.ctr_top.specs.Top.{Ran, RanScript, RunCauses, LinesCauses, RunLeaves, GoesForward};
 
@@ -12,7 +11,7 @@ use crate::ending::{not_opened, not_read, stopped};
 use crate::outcome::Outcome;
 use ctr_disk::Disk;
 use ctr_io::Source;
-use ctr_script::read_script;
+use ctr_language::read_script;
 use ctr_types::{Actor, Script, Turn};
 use ctr_world::{Opening, World};
 use std::alloc::Global;
@@ -47,7 +46,7 @@ fn run_opened<D: Disk, B: Opening>(alloc: Global, disk: D, script: Script) -> Ou
     ensures ran { (base : Database) → IsTrue D.tells → StandsFor (D.reads disk) base → Ran D.Disk disk base script.lines result }
     ensures causes { LinesCauses D.Disk disk result }
     ensures leaves { RunLeaves D.Disk disk result }
-    ensures not_full { AllByRecursion (λ e. IsNotFull e.reply) result.tape.entries }
+    ensures not_full { NoneFull result.tape.entries }
     ensures faults { D.faults_of disk ≤ D.faults_of result.disk }
     ensures later { D.moment_of disk ≤ D.moment_of result.disk }
 {
@@ -72,7 +71,7 @@ pub fn run_script<D: Disk, S: Source>(alloc: Global, disk: D, source: &mut S) ->
         → RanScript D.Disk disk base S.Source source.old result }
     ensures causes { RunCauses D.Disk disk S.Source source.old source.new result }
     ensures leaves { RunLeaves D.Disk disk result }
-    ensures not_full { AllByRecursion (λ e. IsNotFull e.reply) result.tape.entries }
+    ensures not_full { NoneFull result.tape.entries }
     ensures forward { GoesForward D.Disk S.Source disk result.disk source.old source.new }
 {
     match read_script(alloc, source) {

@@ -1,2 +1,3 @@
-pub mod Turn
+pub mod Crash
+pub mod Turns
 pub mod World

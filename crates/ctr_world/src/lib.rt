@@ -2,12 +2,13 @@
 //! durable, and keeps the tape.
 #![tactic(auto)]
 
+mod answers;
+mod beginning;
+mod next;
 mod opening;
 mod parts;
-mod turns;
 mod world;
 
 pub use opening::Opening;
 pub use parts::Parts;
-pub use turns::{Acts, turn};
 pub use world::{Finished, World};

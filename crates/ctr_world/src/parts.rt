@@ -1,22 +1,25 @@
-// The parts of a World, and the turns of its session.
-ghost use Rattle.std.specs.Prelude.{◌≡◌, ◌≢◌, ◌≤◌, ◌<◌, ◌+◌, ◌-◌, ◌*◌, ◌^◌, ◌⊎◌, IsTrue, [], ◌∷◌, ◌++◌, length, None, Some, vec_len, vec_capacity};
+// The parts of a World, and the turns of its actors.
+ghost use Rattle.std.specs.Prelude.{◌≡◌, ◌≢◌, ◌≤◌, ◌<◌, ◌⊎◌, IsTrue, ℕ, List, None, Some};
 ghost use Rattle.ctr_disk.specs.declared.fault.Stop.TheVariants.{Fault};
 ghost use Rattle.ctr_types.specs.Faults.{CountsFault};
 ghost use Rattle.ctr_types.specs.declared.tape.Actor.TheVariants as who;
 ghost use Rattle.ctr_types.specs.declared.tape.Turn.TheVariants.{Went, Stopped};
 ghost use Rattle.ctr_model.specs.Database.{Database};
-ghost use Rattle.ctr_exec.specs.declared.session.Stage.TheVariants as stage;
-ghost use Rattle.ctr_world.specs.Turn.{WaitsAfter};
-ghost use Rattle.ctr_world.specs.World.{Runs, IsBounded, Kept, NoneFull, Notes, EndsTurn, next_entry, made_in, turns_left};
+ghost use Rattle.ctr_gather.specs.Records.{IsSession};
+ghost use Rattle.ctr_steps.specs.Runners.{runner_at, MayStep};
+ghost use Rattle.ctr_steps.specs.Steps.{Walking, HasBounds, AddsEntry};
+ghost use Rattle.ctr_world.specs.World.{Runs, Kept};
+ghost use Rattle.ctr_world.specs.Turns.{AnswersAll, HasLeft, EndsTurn, turns_left};
 
+use crate::answers::answer_all;
+use crate::next::{Next, first_left, next};
 use crate::opening::Opening;
-use crate::turns::{Acts, turn};
 use ctr_disk::{Disk, Stop};
-use ctr_exec::Session;
 use ctr_log::LogFile;
-use ctr_model::states_grow;
-use ctr_thin::{goes_on_by_record, goes_on_by_records};
-use ctr_types::{Act, Actor, Entry, Reply, Script, Turn};
+use ctr_model::{legal_states_are_sound, states_grow};
+use ctr_steps::{Steps, durable_walks, later_walks};
+use ctr_thin::goes_on_by_records;
+use ctr_types::{Actor, Turn};
 use std::alloc::Global;
 
 /// What a World is made of.
@@ -24,169 +27,144 @@ use std::alloc::Global;
 pub struct Parts<D: Disk> {
     /// What the database stands on.
     pub disk: D,
-    /// The record of a commit that was asked for waits here until it is flushed.
+    /// The records of commits that were asked for wait here until they are flushed.
     pub log: LogFile,
-    /// Session 1, with the tables.
-    pub session: Session,
-    /// The statements, all of session 1.
-    pub script: Script,
-    /// Room for two entries of each line was taken.
-    pub tape: Vec<Entry>,
-    /// Statements finished.
-    pub finished: usize,
+    /// The sessions at the statements of the script, with the tape.
+    pub steps: Steps,
     /// Why it stopped, if it did.
     pub stop: Option<Stop>,
 }
 
 impl<D: Disk> Parts<D> {
-    // Writes an act of the next statement down. Room for it was taken.
-    fn note(&mut self, act: Act, reply: Reply)
-        requires room { vec_len self.old.tape < vec_capacity self.old.tape }
-        requires small { self.old.finished < 2 ^ 64 - 1 }
-        ensures items { self.new.tape.items ≡ self.old.tape.items ++ next_entry D.Disk self.old act reply ∷ [] }
-        ensures len { vec_len self.new.tape ≡ vec_len self.old.tape + 1 }
-        ensures room { vec_capacity self.new.tape ≡ vec_capacity self.old.tape }
-        ensures same { self.new ≡ record self.old { tape = self.new.tape } }
-    {
-        let moment = self.disk.moment();
-        self.tape.push_reserved(Entry {
-            session: 1,
-            statement: self.finished as u64 + 1,
-            act,
-            reply,
-            moment,
-        });
-    }
-
-    // Writes the acts of a turn down.
-    fn note_acts(&mut self, acts: Acts)
-        requires waits { WaitsAfter acts self.old.session.stage }
-        requires room { vec_len self.old.tape + 2 ≤ vec_capacity self.old.tape }
-        requires small { self.old.finished < 2 ^ 64 - 1 }
-        ensures notes { Notes D.Disk acts self.old self.new }
-        ensures at_most { vec_len self.new.tape + 2 * self.old.finished + made_in self.new.session.stage ≤ vec_len self.old.tape + 2 * self.new.finished + 2 * made_in self.new.session.stage }
-        ensures ends { self.new.finished + made_in self.new.session.stage ≡ self.old.finished + 1 }
-        ensures room { vec_capacity self.new.tape ≡ vec_capacity self.old.tape }
-        ensures same { self.new ≡ record self.old { tape = self.new.tape; finished = self.new.finished } }
-    {
-        match acts {
-            Acts::One { act, reply } => self.note(act, reply),
-            Acts::Two { reply } => {
-                self.note(Act::Lock, Reply::Granted);
-                self.note(Act::Write, reply);
-            }
-        }
-        if !self.session.is_asked() {
-            self.finished += 1;
-        }
-    }
-
-    /// The turn of session 1 at its next statement: its acts up to a commit's answer.
-    pub fn act<B: Opening>(&mut self, alloc: Global)
-        requires bounded { IsBounded self.old }
+    // A session's next act.
+    fn act<B: Opening>(&mut self, alloc: Global, s: u8)
         requires going { self.old.stop ≡ None }
-        requires next { self.old.finished < length self.old.script.lines }
-        requires turn { self.old.session.stage ≢ stage.Asked }
-        ensures runs { (base : Database) → Runs D.Disk B.Opening base self.old
-            → Runs D.Disk B.Opening base self.new }
-        ensures bounded { IsBounded self.new }
-        ensures not_full { NoneFull self.old.tape.items → NoneFull self.new.tape.items }
+        requires one { IsSession s self.old.steps.turns.records }
+        requires next { MayStep (runner_at s self.old.steps.runners.items) }
+        requires walking { Walking self.old.steps self.old.log.buffered (D.moment_of self.old.disk) }
+        requires bounds { HasBounds self.old.steps self.old.log }
+        ensures runs { (base : Database) → Runs D.Disk B.Opening base self.old → Runs D.Disk B.Opening base self.new }
+        ensures walking { Walking self.new.steps self.new.log.buffered (D.moment_of self.old.disk) }
+        ensures bounds { HasBounds self.new.steps self.new.log }
+        ensures entry { AddsEntry s (D.moment_of self.old.disk) self.old.steps self.new.steps }
         ensures fewer { turns_left self.new < turns_left self.old }
-        ensures same { self.new ≡ record self.old { log = self.new.log; session = self.new.session; tape = self.new.tape; finished = self.new.finished } }
+        ensures script { self.new.steps.script ≡ self.old.steps.script }
+        ensures same { self.new ≡ record self.old { log = self.new.log; steps = self.new.steps } }
     {
         states_grow();
-        let line = &self.script.lines.as_slice()[self.finished];
-        let acts = turn(alloc, &mut self.session, &mut self.log, &line.statement);
-        self.note_acts(acts);
+        legal_states_are_sound();
+        let moment = self.disk.moment();
+        self.steps.act(alloc, &mut self.log, s, moment);
     }
 
-    /// Makes the commit durable that was asked for, and answers it. A fault of the disk is a stop.
-    pub fn harden<B: Opening>(&mut self)
-        requires bounded { IsBounded self.old }
+    // Makes all commits durable that were asked for, and answers them. A fault of the disk is a stop.
+    fn harden<B: Opening>(&mut self)
         requires going { self.old.stop ≡ None }
-        requires asked { self.old.session.stage ≡ stage.Asked }
-        ensures runs { (base : Database) → IsTrue D.tells → B.start ≤ D.moment_of self.old.disk
-            → Runs D.Disk B.Opening base self.old
-            → Runs D.Disk B.Opening base self.new }
-        ensures bounded { self.new.stop ≡ None → IsBounded self.new }
-        ensures not_full { NoneFull self.old.tape.items → NoneFull self.new.tape.items }
-        ensures fewer { self.new.stop ≡ None → turns_left self.new < turns_left self.old }
-        ensures answered { self.new.stop ≡ None → self.new.session.stage ≢ stage.Asked }
-        ensures stop { ((self.new.stop ≡ None) × (D.faults_of self.new.disk ≡ D.faults_of self.old.disk)) ⊎ ((self.new.stop ≡ Some Fault) × CountsFault (D.faults_of self.old.disk) (D.faults_of self.new.disk)) }
-        ensures faults { D.faults_of self.old.disk ≤ D.faults_of self.new.disk }
-        ensures later { D.moment_of self.old.disk ≤ D.moment_of self.new.disk }
-        ensures script { self.new.script ≡ self.old.script }
+        requires kept { Kept D.Disk B.Opening self.old }
+        ensures kept { Kept D.Disk B.Opening self.new }
+        ensures answers { self.new.stop ≡ None → AnswersAll (D.moment_of self.new.disk) self.old.steps self.new.steps }
+        ensures fewer { self.new.stop ≡ None → (self.new.steps ≡ self.old.steps) ⊎ (turns_left self.new < turns_left self.old) }
+        ensures stopped { self.new.stop ≢ None → self.new.steps ≡ self.old.steps }
     {
         states_grow();
-        goes_on_by_record();
+        legal_states_are_sound();
         goes_on_by_records();
+        durable_walks();
+        later_walks();
         let Ok(()) = self.log.flush(&mut self.disk) else {
             self.stop = Some(Stop::Fault);
             return;
         };
-        let reply = self.session.answer();
-        self.note(Act::Answer, reply);
-        self.finished += 1;
+        let moment = self.disk.moment();
+        answer_all(&mut self.steps, moment);
     }
 
-    // A turn of session 1.
-    fn serve<B: Opening>(&mut self, alloc: Global) -> Turn
-        requires going { self.old.stop ≡ None }
-        requires kept { Kept D.Disk B.Opening self.old }
-        ensures kept { Kept D.Disk B.Opening self.new }
-        ensures says { EndsTurn result (who.Session 1) self.old self.new }
-    {
-        if self.session.is_asked() {
-            return self.flush::<B>();
-        }
-        if self.finished == self.script.lines.len() {
-            return Turn::Over;
-        }
-        self.act::<B>(alloc);
-        Turn::Went
-    }
-
-    // Flushes what waits in the log.
+    // Flushes for an actor, where a commit waits for its answer.
     fn flush<B: Opening>(&mut self) -> Turn
         requires going { self.old.stop ≡ None }
-        requires asked { self.old.session.stage ≡ stage.Asked }
         requires kept { Kept D.Disk B.Opening self.old }
         ensures kept { Kept D.Disk B.Opening self.new }
-        ensures went { result ≡ Went → (self.new.stop ≡ None) × (turns_left self.new < turns_left self.old) }
-        ensures stopped { result ≡ Stopped → self.new.stop ≢ None }
+        ensures went { result ≡ Went → (self.new.stop ≡ None) × AnswersAll (D.moment_of self.new.disk) self.old.steps self.new.steps × ((self.new.steps ≡ self.old.steps) ⊎ (turns_left self.new < turns_left self.old)) }
+        ensures stopped { result ≡ Stopped → (self.new.stop ≢ None) × (self.new.steps ≡ self.old.steps) }
         ensures one_of { (result ≡ Went) ⊎ (result ≡ Stopped) }
     {
         self.harden::<B>();
-        self.went()
+        if self.stop.is_some() {
+            return Turn::Stopped;
+        }
+        Turn::Went
     }
 
-    // How a turn that did something ended.
-    fn went(&self) -> Turn
-        ensures went { result ≡ Went → self.now.stop ≡ None }
-        ensures stopped { result ≡ Stopped → self.now.stop ≢ None }
-        ensures one_of { (result ≡ Went) ⊎ (result ≡ Stopped) }
+    // A turn of a session.
+    fn serve<B: Opening>(&mut self, alloc: Global, s: u8) -> Turn
+        requires going { self.old.stop ≡ None }
+        requires kept { Kept D.Disk B.Opening self.old }
+        ensures kept { Kept D.Disk B.Opening self.new }
+        ensures says { EndsTurn D.Disk result (who.Session s) self.old self.new }
     {
-        if self.stop.is_some() {
-            Turn::Stopped
-        } else {
-            Turn::Went
+        match next(&self.steps, s) {
+            Next::Over => Turn::Over,
+            Next::Answer => self.flush::<B>(),
+            Next::Act => {
+                self.act::<B>(alloc, s);
+                Turn::Went
+            }
         }
     }
 
-    /// A turn of an actor. After a stop it does nothing.
-    pub fn step<B: Opening>(&mut self, alloc: Global, actor: Actor) -> Turn
+    // A turn of the flusher.
+    fn serve_flusher<B: Opening>(&mut self) -> Turn
+        requires going { self.old.stop ≡ None }
         requires kept { Kept D.Disk B.Opening self.old }
         ensures kept { Kept D.Disk B.Opening self.new }
-        ensures says { EndsTurn result actor self.old self.new }
+        ensures says { EndsTurn D.Disk result who.Flusher self.old self.new }
+    {
+        if self.log.waiting() == 0 {
+            return Turn::Idle;
+        }
+        self.flush::<B>()
+    }
+
+    /// A turn of an actor. After a stop it does nothing.
+    pub(crate) fn step<B: Opening>(&mut self, alloc: Global, actor: Actor) -> Turn
+        requires kept { Kept D.Disk B.Opening self.old }
+        ensures kept { Kept D.Disk B.Opening self.new }
+        ensures says { EndsTurn D.Disk result actor self.old self.new }
     {
         if self.stop.is_some() {
             return Turn::Stopped;
         }
         match actor {
-            Actor::Session(1) => self.serve::<B>(alloc),
-            Actor::Flusher if self.session.is_asked() => self.flush::<B>(),
-            Actor::Flusher | Actor::Cleaner => Turn::Idle,
-            Actor::Session(_) | Actor::Undo => Turn::Over,
+            Actor::Session(s) => self.serve::<B>(alloc, s),
+            Actor::Flusher => self.serve_flusher::<B>(),
+            Actor::Cleaner => Turn::Idle,
+            Actor::Undo => Turn::Over,
         }
+    }
+
+    /// Steps each session whose statements aren't finished, in order of number, until they are, or the World
+    /// stops.
+    pub(crate) fn run<B: Opening>(&mut self, alloc: Global)
+        requires kept { Kept D.Disk B.Opening self.old }
+        ensures kept { Kept D.Disk B.Opening self.new }
+        ensures none { self.new.stop ≡ None → (s : ℕ) → HasLeft s self.new.steps → ⊥ }
+    {
+        while let Turn::Went = self.step_first::<B>(alloc) {}
+    }
+
+    // A turn of the first session whose statements aren't finished.
+    fn step_first<B: Opening>(&mut self, alloc: Global) -> Turn
+        requires kept { Kept D.Disk B.Opening self.old }
+        ensures kept { Kept D.Disk B.Opening self.new }
+        ensures fewer { result ≡ Went → turns_left self.new < turns_left self.old }
+        ensures none { result ≢ Went → self.new.stop ≡ None → (s : ℕ) → HasLeft s self.new.steps → ⊥ }
+    {
+        if self.stop.is_some() {
+            return Turn::Stopped;
+        }
+        let Some(s) = first_left(&self.steps, 0) else {
+            return Turn::Over;
+        };
+        self.serve::<B>(alloc, s)
     }
 }

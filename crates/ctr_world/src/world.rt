@@ -1,23 +1,24 @@
 // The World: its type names what it was opened on, and keeps the tape legal and the disk's images in order.
-ghost use Rattle.std.specs.Prelude.{◌≡◌, ◌↔◌, ◌≤◌, ◌<◌, ◌-◌, ◌^◌, IsTrue, length, slice_get, IfOk, IfErr};
+ghost use Rattle.std.specs.Prelude.{◌≡◌, ◌↔◌, ◌≤◌, IsTrue, length, slice_get, IfOk, IfErr};
 ghost use Rattle.std.specs.Option.{option_map};
 ghost use Rattle.ctr_model.specs.Database.{Database};
 ghost use Rattle.ctr_thin.specs.Thin.{StandsFor, Explains, OpenDiffers};
-ghost use Rattle.ctr_exec.specs.declared.session.Stage.TheVariants as stage;
 ghost use Rattle.ctr_world.specs.declared.parts.Parts.{Parts};
-ghost use Rattle.ctr_world.specs.World.{IsOpenedOn, CanRun, CanOpen, NoneFull, EndsTurn, Ends, StopsBy, RefusesWith};
+ghost use Rattle.ctr_world.specs.Turns.{NoneFull, EndsTurn, HasLeft, IsBetween};
+ghost use Rattle.ctr_world.specs.World.{IsOpenedOn, CanRun, CanOpen, Ends, StopsBy, RefusesWith};
 
+use crate::beginning::begin;
+use crate::next::{first_left, is_between};
 use crate::opening::Opening;
 use crate::parts::Parts;
 use ctr_disk::{Disk, Stop};
-use ctr_exec::Session;
 use ctr_thin::{OpenError, Opened, open};
 use ctr_types::{Actor, Entry, List, Script, Tape, Turn};
 use std::alloc::Global;
 use std::marker::{Model, PhantomData};
 
-/// A database that runs a script. Its tape is legal at every moment, and a crash at any moment leaves a
-/// prefix of the commit order with every commit that was answered by then.
+/// A database that runs a script of eight sessions. Its tape is legal at every moment, and a crash at any
+/// moment leaves a prefix of the commit order with every commit that was answered by then.
 #[derive(Drop)]
 pub struct World<D: Disk, B: Opening> {
     parts: Parts<D>,
@@ -48,7 +49,8 @@ pub struct Finished<D> {
 }
 
 impl<D: Disk, B: Opening> World<D, B> {
-    /// Opens the database of a disk for a script. A refusal gives the disk back.
+    /// Opens the database of a disk for a script. Room for the whole tape is taken. A refusal gives the disk
+    /// back.
     pub fn open(alloc: Global, disk: D, script: Script) -> Result<World<D, B>, (OpenError, D)>
         requires named { IsOpenedOn B.Opening D.Disk disk script.lines }
         requires runs { CanRun script.lines }
@@ -62,21 +64,15 @@ impl<D: Disk, B: Opening> World<D, B> {
             Ok(opened) => opened,
             Err(error) => return Err((error, disk)),
         };
-        let Ok(tape) = Vec::with_capacity(alloc, 2 * script.lines.len()) else {
-            return Err((OpenError::OutOfMemory, disk));
-        };
-        let Opened { log, tables } = opened;
-        let Ok(session) = Session::new(alloc, tables) else {
+        let Opened { log, database } = opened;
+        let Ok(steps) = begin(alloc, database, script) else {
             return Err((OpenError::OutOfMemory, disk));
         };
         Ok(World {
             parts: Parts {
                 disk,
                 log,
-                session,
-                script,
-                tape,
-                finished: 0,
+                steps,
                 stop: None,
             },
             of: PhantomData,
@@ -85,16 +81,17 @@ impl<D: Disk, B: Opening> World<D, B> {
 
     /// How many lines the script has.
     pub fn lines(&self) -> usize
-        ensures { result ≡ length self.now.script.lines }
+        ensures { result ≡ length self.now.steps.script.lines }
     {
-        self.parts.script.lines.len()
+        self.parts.steps.script.lines.len()
     }
 
     /// The session of a line of the script, by its index.
     pub fn session_of(&self, line: usize) -> Option<u8>
-        ensures { result ≡ option_map (λ l. l.session) (slice_get self.now.script.lines line) }
+        ensures { result ≡ option_map (λ l. l.session) (slice_get self.now.steps.script.lines line) }
     {
         self.parts
+            .steps
             .script
             .lines
             .as_slice()
@@ -104,9 +101,16 @@ impl<D: Disk, B: Opening> World<D, B> {
 
     /// The session has begun no statement that it hasn't finished.
     pub fn is_between(&self, session: u8) -> bool
-        ensures { IsTrue result ↔ ¬ ((session ≡ 1) × (self.now.session.stage ≡ stage.Asked)) }
+        ensures { IsTrue result ↔ IsBetween session self.now.steps }
     {
-        session != 1 || !self.parts.session.is_asked()
+        is_between(&self.parts.steps, session)
+    }
+
+    /// Every session's statements are finished.
+    pub fn done(&self) -> bool
+        ensures { IsTrue result → (s : ℕ) → HasLeft s self.now.steps → ⊥ }
+    {
+        first_left(&self.parts.steps, 0).is_none()
     }
 
     /// Why the World stopped, if it did.
@@ -118,19 +122,20 @@ impl<D: Disk, B: Opening> World<D, B> {
 
     /// The tape so far.
     pub fn tape(&self) -> &[Entry]
-        ensures { result.now ≡ self.now.tape.items }
+        ensures { result.now ≡ self.now.steps.tape.items }
     {
-        &self.parts.tape
+        &self.parts.steps.tape
     }
 
     /// A turn of an actor. After a stop it does nothing.
     pub fn step(&mut self, alloc: Global, actor: Actor) -> Turn
-        ensures says { EndsTurn result actor self.old self.new }
+        ensures says { EndsTurn D.Disk result actor self.old self.new }
     {
         self.parts.step::<B>(alloc, actor)
     }
 
-    /// Steps the session until its statements are finished, or the World stops.
+    /// Steps each session whose statements aren't finished, in order of number, until they are, or the World
+    /// stops.
     pub fn finish(self, alloc: Global) -> Finished<D>
         ensures ends { (base : Database) → IsTrue D.tells → StandsFor B.image base → Ends D.Disk B.Opening base
             result.tape.entries result.stop result.disk }
@@ -139,12 +144,11 @@ impl<D: Disk, B: Opening> World<D, B> {
         ensures stops { StopsBy result.stop B.faults (D.faults_of result.disk) }
         ensures faults { B.faults ≤ D.faults_of result.disk }
     {
-        let mut world = self;
-        while let Turn::Went = world.step(alloc, Actor::Session(1)) {}
-        let World { parts, of: _ } = world;
+        let mut parts = self.parts;
+        parts.run::<B>(alloc);
         Finished {
             tape: Tape {
-                entries: List::from_vec(parts.tape),
+                entries: List::from_vec(parts.steps.tape),
             },
             stop: parts.stop,
             disk: parts.disk,

@@ -39,7 +39,7 @@ returns-clause-complete g c = λ is told source_told ls script can_open none.
     let same : e.result.ending ≡ r.result.ending = sym (work_is e.result.ending not) ∙ ap (λ o. o.ending) e.ensures.outcome in
     let no_disk : CountsFault (d.faults_of c.args.disk) (d.faults_of r.result.disk) → ⊥ = λ rose. none.no_disk (subst (λ o. CountsFault (d.faults_of c.args.disk) (d.faults_of o.disk)) (sym e.ensures.outcome) rose) in
     ⊎_elim (λ fine. inl (same ∙ fine)) (λ memory. inr (same ∙ memory.0, ap (λ o. o.tape.entries) e.ensures.outcome ∙ memory.1))
-    (complete_of c.no_script_is_refused.ensures d c.args.disk g.S.Source c.args.source.now r.new.source r.result r.ensures.causes r.ensures.leaves told source_told ls script can_open no_disk none.no_source)
+    (complete_of c.one_script.ensures.never_both d c.args.disk g.S.Source c.args.source.now r.new.source r.result r.ensures.causes r.ensures.leaves told source_told ls script can_open no_disk none.no_source)
 
 pub returns-clause-calm : goal.returns-clause-calm
 returns-clause-calm g c = λ is.

@@ -1,4 +1,4 @@
-use Rattle.ctr_world.specs.World.{turns_left}
+use Rattle.ctr_world.specs.Turns.{turns_left}
 use Rattle.ctr_top.proofs.script.run_line.Given as goal
 
 abbrev pub decreases-loop-world : goal.decreases-loop-world

@@ -1,22 +1,21 @@
-use Rattle.std.proofs.Common.{◌≡◌, ◌≢◌, ◌∙◌, inl, inr, [], sym, subst, ap, arith}
+use Rattle.std.proofs.Common.{◌≡◌, ◌≢◌, ◌∙◌, inl, inr, [], refl, sym, subst, ap, arith}
 use Rattle.ctr_disk.specs.Device.{OnlyReads}
-use Rattle.ctr_model.specs.Grammar.{ends}
 use Rattle.ctr_top.specs.declared.ending.Ending.TheVariants as ending
-use Rattle.ctr_top.proofs.ScriptLemmas.{lines_taken, lines_at_most}
+use Rattle.ctr_top.proofs.ScriptLemmas.{lines_run, lines_at_most}
 use Rattle.ctr_top.proofs.RunLemmas.{ran_none, lines_causes, read_causes, not_read_fine, only_reads_same}
 use Rattle.ctr_top.proofs.script.run_script.Goals as goal
 
 pub run_opened-requires-clause-runs : goal.run_opened-requires-clause-runs
 run_opened-requires-clause-runs g c =
     let s = c.in-Ok.ensures.is_script in
-    record { taken = lines_taken [] s.0 c.in-Ok.script.lines s.1.script; few = omega (arith, lines_at_most [] s.0 c.in-Ok.script.lines s.1.script, s.1.short) }
+    record { each = lines_run s.0 c.in-Ok.script.lines s.1.written; few = omega (arith, lines_at_most s.0 c.in-Ok.script.lines s.1.written, s.1.few) }
 
 pub returns-in-Ok-clause-ran : goal.returns-in-Ok-clause-ran
 returns-in-Ok-clause-ran g c = λ base told stands. record {
   lines = c.in-Ok.script.lines;
-  of_bytes = let s = c.in-Ok.ensures.is_script in (s.0, s.1.script);
-  script = λ t. inl (c.in-Ok.ensures.read t).script;
-  script_at_end = λ t is. (c.in-Ok.ensures.read t).script;
+  of_bytes = let s = c.in-Ok.ensures.is_script in (s.0, s.1.written);
+  script = λ t. inl (c.in-Ok.ensures.read t).written;
+  script_at_end = λ t is. (c.in-Ok.ensures.read t).written;
   ran = c.run_opened.ensures.ran base told stands;
 }
 
@@ -34,7 +33,7 @@ returns-in-Err-clause-ran g c = λ base told stands.
     let not : c.without_tape.result.ending ≢ ending.Finished = λ is. not_read_fine c.in-Err.error (sym (t.ending ∙ c.not_read.ensures) ∙ is) in
     record {
       lines = [];
-      of_bytes = ([], ends);
+      of_bytes = ([], refl);
       script = λ _. inr t.tape;
       script_at_end = λ _ is. absurd (not is);
       ran = ran_none d g.met.D.Disk.earlier c.args.disk base [] stands c.without_tape.result t.tape not

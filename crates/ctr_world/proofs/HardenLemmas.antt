@@ -1,0 +1,249 @@
+-- A World goes on over a flush, and the answers of the commits that it made durable.
+use Rattle.std.proofs.Common.{◌≡◌, ◌⊎◌, inl, inr, ⊎_elim, ℕ, zero, suc, ◌+◌, ◌^◌, ◌<◌, ◌≤◌, List, [], ◌∷◌, ◌++◌, length, take, Some, None, refl, sym, ◌∙◌, ap, subst, arith, length-append}
+use Rattle.std.proofs.lemmas.List.{append-nil}
+use Rattle.ctr_types.specs.declared.file.File.{File}
+use Rattle.ctr_types.specs.declared.statement.Line.{Line}
+use Rattle.ctr_types.specs.declared.statement.Script.{Script}
+use Rattle.ctr_disk.specs.declared.disk.Image.{Image}
+use Rattle.ctr_disk.specs.declared.disk.Disk.{Ghosts}
+use Rattle.ctr_disk.specs.declared.fault.Stop.TheVariants as stop
+use Rattle.ctr_disk.specs.Device.{LeavesOnly, IsDurable}
+use Rattle.ctr_disk.specs.Image.{content, with_content, OtherFilesStay}
+use Rattle.ctr_model.specs.declared.database.Change.{Change}
+use Rattle.ctr_model.specs.declared.state.State.{State}
+use Rattle.ctr_model.specs.declared.tape.Point.{Point}
+use Rattle.ctr_model.specs.Database.{Database, after_all}
+use Rattle.ctr_model.specs.State.{rows_at}
+use Rattle.ctr_model.specs.Laws.{StatesGrow, LegalStatesAreSound}
+use Rattle.ctr_model.specs.Tape.{at_start}
+use Rattle.ctr_model.specs.Texts.{answers}
+use Rattle.ctr_log.specs.Logs.{Batches, Log, records, HasLog, HasPrefix, IsFlushing, GoesOn, with_batch}
+use Rattle.ctr_log.specs.Reading.{log_file}
+use Rattle.ctr_rec.specs.Fold.{FoldsRecords}
+use Rattle.ctr_thin.specs.Thin.{StandsFor, StandsBy}
+use Rattle.ctr_turns.specs.Turns.{WaitFrom}
+use Rattle.ctr_steps.specs.declared.steps.Steps.{Steps}
+use Rattle.ctr_steps.specs.Steps.{Walks, Walking, HasBounds, AreAnswered, DurableWalks, LaterWalks, reached_by}
+use Rattle.ctr_world.specs.declared.parts.Parts.{Parts}
+use Rattle.ctr_world.specs.declared.opening.Opening.{Ghosts as Opening}
+use Rattle.ctr_world.specs.Crash.{reached, HasCommits, IsPrefixAt, Survives, Rests, HasLongLog, OnlyLogChanges}
+use Rattle.ctr_world.specs.Turns.{AnswersAll}
+use Rattle.ctr_world.specs.World.{Runs, state_of}
+use Rattle.ctr_world.proofs.AloneLemmas.{others_twice}
+use Rattle.ctr_world.proofs.CrashLemmas.{order, has_less, survives_call}
+use Rattle.ctr_world.proofs.RunLemmas.{Longer, longer, more_runs, rows_same}
+use Rattle.ctr_world.proofs.TapeLemmas.{base_on, answers_on}
+
+-- ---- the records that wait
+
+-- a prefix of them makes the rows at some number of those that were asked
+pub record FoldsTo (state : State) (j : ℕ) (bs : List (List ℕ)) : Type 0 where
+  pub m : ℕ
+  pub least : j ≤ m
+  pub most : m ≤ length state.asked
+  pub folds : FoldsRecords (rows_at state j) bs (rows_at state m)
+
+waits_within : (state : State) (j : ℕ) (bs : List (List ℕ)) → WaitFrom state j bs → j ≤ length state.asked
+waits_within state j [] waits = omega (arith, waits)
+waits_within state j (b ∷ bs) waits = let rest = waits_within state (j + 1) bs waits.1 in omega (arith, rest)
+
+pub prefix_folds : (state : State) (k j : ℕ) (bs : List (List ℕ)) → WaitFrom state j bs → FoldsTo state j (take k bs)
+prefix_folds state zero j bs waits = record { m = j; least = omega arith; most = waits_within state j bs waits; folds = refl }
+prefix_folds state (suc k) j [] waits = record { m = j; least = omega arith; most = waits_within state j [] waits; folds = refl }
+prefix_folds state (suc k) j (b ∷ bs) waits =
+    let rest = prefix_folds state k (j + 1) bs waits.1 in
+    record { m = rest.m; least = let le = rest.least in omega (arith, le); most = rest.most; folds = (rows_at state (j + 1), waits.0, rest.folds) }
+
+-- all of them make the rows of all that was asked
+pub all_fold : (state : State) (j : ℕ) (bs : List (List ℕ)) → WaitFrom state j bs → FoldsRecords (rows_at state j) bs (rows_at state (length state.asked))
+all_fold state j [] waits = ap (rows_at state) (sym waits)
+all_fold state j (b ∷ bs) waits = (rows_at state (j + 1), waits.0, all_fold state (j + 1) bs waits.1)
+
+-- ---- images of a flush
+
+root_stays : (n : ℕ) (bytes : List ℕ) (old new : Image) → new ≡ with_content (log_file n) bytes old → new.root ≡ old.root
+root_stays zero bytes old new is = ap (λ (i : Image). i.root) is
+root_stays (suc n) bytes old new is = ap (λ (i : Image). i.root) is
+
+same_root : (n : ℕ) (file : File) (old new : Image) → file ≡ log_file n → OtherFilesStay file old new → new.root ≡ old.root
+same_root n file old new is same = root_stays n (content file new) old new (same ∙ ap (λ (f : File). with_content f (content file new) old) is)
+
+-- the law of images that a flush leaves
+abbrev pub ByRecords : Type 0
+ByRecords = (old new : Image) (db next : Database) (more : List (List ℕ)) (bs : Batches) (s : StandsFor old db) → new.root ≡ old.root
+    → HasLog s.r.first bs (content (log_file s.r.file) new) → records bs ≡ records s.bs ++ more → FoldsRecords db more next → StandsBy new next s.r bs
+
+records_push : (bs : Batches) (rs : List (List ℕ)) → records (bs ++ rs ∷ []) ≡ records bs ++ rs
+records_push [] rs = append-nil rs
+records_push (b ∷ bs) rs = ap (λ (l : List (List ℕ)). b ++ l) (records_push bs rs) ∙ sym (assoc b (records bs) rs)
+  where
+    assoc : (xs ys zs : List (List ℕ)) → (xs ++ ys) ++ zs ≡ xs ++ ys ++ zs
+    assoc [] ys zs = refl
+    assoc (x ∷ xs) ys zs = ap (λ l. x ∷ l) (assoc xs ys zs)
+
+records_with : (bs : Batches) (rs : List (List ℕ)) → records (with_batch bs rs) ≡ records bs ++ rs
+records_with bs [] = sym (append-nil (records bs))
+records_with bs (r ∷ rs) = records_push bs (r ∷ rs)
+
+long_log : (n place : ℕ) (file : File) (c : Image) → file ≡ log_file n → 2 ^ 62 ≤ place → place < length (content file c) → HasLongLog c
+long_log zero place file c is high long = inl (omega (arith, high, long, ap (λ (f : File). length (content f c)) is))
+long_log (suc n) place file c is high long = inr (omega (arith, high, long, ap (λ (f : File). length (content f c)) is))
+
+-- ---- the World, over both
+
+module _ {D : Type 0} (dev : Ghosts D)
+    (earlier : (d : D) (s t : ℕ) (c : Image) → s ≤ t → dev.since d t c → dev.since d s c) (only_now : (d : D) (c : Image) → dev.since d (dev.moment_of d) c → dev.images d c)
+    (by_records : ByRecords) (later_law : LaterWalks) {B : Type 0} (op : Opening B) (base : Database)
+    (w : Parts D) (runs : Runs dev op base w) (going : w.stop ≡ None) (later : op.start ≤ dev.moment_of w.disk)
+    (grow : StatesGrow) where
+  abbrev pub now_state : State
+  now_state = state_of op base w
+
+  pub at_rest : Rests dev w.disk w.log now_state
+  at_rest = runs.rests going
+
+  old_walks : Walks (at_start op.start base []) w.steps.answered w.steps w.log.buffered (dev.moment_of w.disk)
+  old_walks = subst (λ l. Walks (at_start op.start base []) w.steps.answered w.steps l (dev.moment_of w.disk)) (sym (runs.buffered going)) runs.walks
+
+  waits : WaitFrom now_state now_state.answered w.log.buffered
+  waits = subst (λ n. WaitFrom now_state n w.log.buffered) (sym old_walks.answered) old_walks.shows.waits
+
+  base_is : now_state.base ≡ base
+  base_is = base_on grow w.steps.script.lines (at_start op.start base []) w.steps.tape.items
+
+  pub prefix_has : (c : Image) → HasPrefix w.log.file at_rest.stands.r.first (records at_rest.stands.bs) w.log.buffered (dev.reads w.disk) c → HasCommits base now_state.asked now_state.answered c
+  prefix_has c prefix =
+      let at = prefix.1 in
+      let bs = at.1.0 in
+      let some = prefix_folds now_state at.0 now_state.answered w.log.buffered waits in
+      let folds = subst (λ db. FoldsRecords db (take at.0 w.log.buffered) (rows_at now_state some.m)) (sym at_rest.rows_are) some.folds in
+      let stands = (by_records (dev.reads w.disk) c at_rest.rows (rows_at now_state some.m) (take at.0 w.log.buffered) bs at_rest.stands (same_root at_rest.stands.r.file w.log.file (dev.reads w.disk) c at_rest.file prefix.0)
+      (subst (λ (f : File). HasLog at_rest.stands.r.first bs (content f c)) at_rest.file at.1.2) at.1.1 folds).0 in
+      record {
+        k = some.m;
+        at_least = some.least;
+        at_most = some.most;
+        stands = subst (StandsFor c) (ap (after_all (take some.m now_state.asked)) base_is) stands;
+      }
+
+  abbrev pub Flushing : D → Type 0
+  Flushing e = LeavesOnly dev w.disk e (IsFlushing at_rest.stands.r.first at_rest.stands.bs w.log (dev.reads w.disk))
+
+  survives_flush : (e : D) → Flushing e → Survives dev op.start e (IsPrefixAt op.before base now_state.asked w.steps.tape.items)
+  survives_flush e leaves = survives_call dev earlier op.start op.before base now_state.asked w.steps.tape.items w.disk e _ later runs.survives leaves
+      (λ c p. has_less base now_state.asked now_state.answered (answers w.steps.tape.items) c (omega (arith, answers_on w.steps.script.lines (at_start op.start base []) w.steps.tape.items old_walks.legal)) (prefix_has c p.records_are))
+
+  -- the file of the log that the first image's root names
+  abbrev the_file : File
+  the_file = log_file runs.log_alone.root.file
+
+  others_after : (c : Image) → OtherFilesStay w.log.file (dev.reads w.disk) c → OtherFilesStay the_file op.image c
+  others_after c stay = others_twice the_file op.image (dev.reads w.disk) c (runs.others going) (subst (λ f. OtherFilesStay f (dev.reads w.disk) c) runs.log_is stay)
+
+  abbrev alone_after : (e : D) → Flushing e → OnlyLogChanges dev op.start op.before op.image e
+  alone_after e leaves = record {
+    root = runs.log_alone.root;
+    says = runs.log_alone.says;
+    alone = λ t c start_le le left. ⊎_elim
+        (λ was. ⊎_elim (λ h. runs.log_alone.alone t c start_le was h) (λ p. inl (others_after c p.records_are.0)) (leaves.before t c was left))
+        (λ after. inl (others_after c (leaves.each c (earlier e (dev.moment_of w.disk) t c (omega (arith, after)) left)).records_are.0))
+        (order t (dev.moment_of w.disk));
+  }
+
+  -- the flush failed
+  pub fails_runs : (e : D) (log : Log) → dev.moment_of w.disk ≤ dev.moment_of e → Flushing e
+      → (w.log.place + 2 ^ 61 < 2 ^ 63 → dev.strays_of e ≡ dev.strays_of w.disk) → log.file ≡ w.log.file
+      → Runs dev op base (record w { disk = e; log = log; stop = Some stop.Fault })
+  fails_runs e log on leaves stray file = record {
+    waiting = w.log.buffered;
+    walks = later_law (at_start op.start base []) w.steps.answered (dev.moment_of w.disk) (dev.moment_of e) w.steps w.log.buffered on old_walks;
+    buffered = λ bad. absurd (cc bad);
+    survives = survives_flush e leaves;
+    rests = λ bad. absurd (cc bad);
+    log_alone = alone_after e leaves;
+    log_is = file ∙ runs.log_is;
+    others = λ bad. absurd (cc bad);
+    stray = ⊎_elim
+        (λ same. ⊎_elim
+        (λ high. inr (
+          (λ bad. absurd (cc bad)),
+          λ c left.
+              long_log at_rest.stands.r.file w.log.place w.log.file c at_rest.file (omega (arith, high)) (leaves.each c (earlier e (dev.moment_of w.disk) (dev.moment_of e) c on left)).long,
+        ))
+        (λ low. inl (stray low ∙ same))
+        (order (2 ^ 63) (w.log.place + 2 ^ 61)))
+        (λ bad. absurd (bad.0 going))
+        runs.stray;
+  }
+
+  -- the flush has ended, and all commits are answered
+  module _ (sound : LegalStatesAreSound) (durable_law : DurableWalks) (e : D) (log : Log) (steps : Steps) (on : dev.moment_of w.disk ≤ dev.moment_of e) (leaves : Flushing e)
+      (flushed : OtherFilesStay w.log.file (dev.reads w.disk) (dev.reads e) × GoesOn at_rest.stands.r.first (with_batch at_rest.stands.bs w.log.buffered) log (dev.reads e))
+      (file : log.file ≡ w.log.file) (none : log.buffered ≡ []) (only : IsDurable dev e) (strays : dev.strays_of e ≡ dev.strays_of w.disk)
+      (script : steps.script ≡ w.steps.script) (all : AnswersAll (dev.moment_of e) w.steps steps)
+      (walks : (start : Point) (from : ℕ) (waiting : List (List ℕ)) → Walks start from w.steps waiting (dev.moment_of e) → Walks start from steps waiting (dev.moment_of e)) where
+    abbrev start : Point
+    start = at_start op.start base []
+
+    abbrev n : ℕ
+    n = length now_state.asked
+
+    abbrev lines : List Line
+    lines = w.steps.script.lines
+
+    lines_are : ◌≡◌ {A = List Line} steps.script.lines lines
+    lines_are = ap (λ (q : Script). q.lines) script
+
+    durable : Walks start n w.steps [] (dev.moment_of e)
+    durable = durable_law start w.steps.answered (dev.moment_of e) w.steps w.log.buffered (later_law start w.steps.answered (dev.moment_of w.disk) (dev.moment_of e) w.steps w.log.buffered on old_walks)
+
+    answered : Walks start n steps [] (dev.moment_of e)
+    answered = walks start n [] durable
+
+    abbrev then_state : State
+    then_state = (reached lines op.start base (w.steps.tape.items ++ all.adds.entries)).state
+
+    there : reached_by start steps ≡ reached lines op.start base (w.steps.tape.items ++ all.adds.entries)
+    there = λ i. reached (lines_are i) op.start base (all.adds.tape i)
+
+    -- all that was asked is answered, and nothing more is asked
+    all_is : then_state.answered ≡ length then_state.asked
+    all_is = subst (λ (p : Point). p.state.answered ≡ length p.state.asked) there (all.all start n [] (dev.moment_of e) answered)
+
+    n_is : n ≡ length then_state.asked
+    n_is = subst (λ (p : Point). n ≡ length p.state.asked) there answered.shows.waits
+
+    steps_is : n ≡ steps.answered
+    steps_is = n_is ∙ sym all_is ∙ sym (subst (λ (p : Point). steps.answered ≡ p.state.answered) there (sym answered.answered))
+
+    long : Longer now_state then_state base (w.steps.tape.items ++ all.adds.entries)
+    long = longer grow sound lines op.start base w.steps.tape.items all.adds.entries n (dev.moment_of e) steps [] lines_are all.adds.tape answered
+
+    rests_again : Rests dev e log then_state
+    rests_again =
+        let bs = with_batch at_rest.stands.bs w.log.buffered in
+        let file_is : log.file ≡ log_file at_rest.stands.r.file = file ∙ at_rest.file in
+        let log_is : HasLog at_rest.stands.r.first bs (content (log_file at_rest.stands.r.file) (dev.reads e)) = subst (λ (f : File). HasLog at_rest.stands.r.first bs (content f (dev.reads e))) file_is flushed.1.log_is in
+        let folds = subst (λ db. FoldsRecords db w.log.buffered (rows_at now_state n)) (sym at_rest.rows_are) (all_fold now_state now_state.answered w.log.buffered waits) in
+        let by = by_records (dev.reads w.disk) (dev.reads e) at_rest.rows (rows_at now_state n) w.log.buffered bs at_rest.stands (same_root at_rest.stands.r.file w.log.file (dev.reads w.disk) (dev.reads e) at_rest.file flushed.0) log_is
+        (records_with at_rest.stands.bs w.log.buffered) folds in
+        record {
+          only = only;
+          rows = rows_at now_state n;
+          rows_are = rows_same now_state then_state long.more n long.same long.asked (omega arith) ∙ ap (rows_at then_state) (n_is ∙ sym all_is);
+          stands = by.0;
+          file = file_is ∙ ap (λ r. log_file r.file) (sym by.1);
+          goes_on = subst (λ (q : Batches). GoesOn by.0.r.first q log (dev.reads e)) (sym by.2) (subst (λ r. GoesOn r.first bs log (dev.reads e)) (sym by.1) flushed.1);
+        }
+
+    abbrev pub hardened : Parts D
+    hardened = record w { disk = e; log = log; steps = steps }
+
+    pub hardened_walks : Walks start steps.answered steps log.buffered (dev.moment_of e)
+    hardened_walks = subst (λ l. Walks start steps.answered steps l (dev.moment_of e)) (sym none) (subst (λ k. Walks start k steps [] (dev.moment_of e)) steps_is answered)
+
+    pub answers_runs : Runs dev op base hardened
+    answers_runs = more_runs dev earlier only_now grow sound op base w hardened all.adds.entries all.adds.tape all.adds.moments script hardened_walks (survives_flush e leaves)
+        (subst (λ es. Rests dev e log (reached lines op.start base es).state) (sym all.adds.tape) rests_again)
+        (alone_after e leaves) (file ∙ runs.log_is) (others_after (dev.reads e) flushed.0)
+        (strays ∙ ⊎_elim (λ same. same) (λ bad. absurd (bad.0 going)) runs.stray)

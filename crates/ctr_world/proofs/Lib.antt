@@ -1,0 +1,7 @@
+pub mod AloneLemmas
+pub mod CrashLemmas
+pub mod HardenLemmas
+pub mod KeptLemmas
+pub mod OpenLemmas
+pub mod RunLemmas
+pub mod TapeLemmas

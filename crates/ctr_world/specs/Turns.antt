@@ -1,0 +1,87 @@
+-- How a turn ends, and what it adds to the tape.
+use Rattle.std.specs.Prelude.{◌≡◌, ◌≢◌, ◌⊎◌, ℕ, ◌≤◌, ◌<◌, List, [], ◌++◌, length, Option, Some, None}
+use Rattle.std.specs.List.{AllByRecursion}
+use Rattle.ctr_types.specs.declared.tape.Actor.{Actor}
+use Rattle.ctr_types.specs.declared.tape.Actor.TheVariants as actor
+use Rattle.ctr_types.specs.declared.tape.Turn.{Turn}
+use Rattle.ctr_types.specs.declared.tape.Turn.TheVariants as turn
+use Rattle.ctr_types.specs.declared.tape.Entry.{Entry}
+use Rattle.ctr_disk.specs.declared.disk.Disk.{Ghosts}
+use Rattle.ctr_acts.specs.Seats.{IsNotFull}
+use Rattle.ctr_gather.specs.Records.{IsSession}
+use Rattle.ctr_steps.specs.declared.steps.Steps.{Steps}
+use Rattle.ctr_steps.specs.declared.runners.Stage.TheVariants as stage
+use Rattle.ctr_steps.specs.Runners.{runner_at, all_left}
+use Rattle.ctr_steps.specs.Steps.{AddsEntry, AreAnswered}
+use Rattle.ctr_world.specs.declared.parts.Parts.{Parts}
+
+-- no reply is a refusal for want of room in the files
+abbrev pub NoneFull : List Entry → Type 0
+NoneFull es = AllByRecursion (λ e. IsNotFull e.reply) es
+
+-- a session of the script has a statement that isn't finished
+pub record HasLeft (s : ℕ) (steps : Steps) : Type 0 where
+  pub one : IsSession s steps.turns.records
+  pub more : (runner_at s steps.runners.items).finished
+      < length (runner_at s steps.runners.items).places
+
+-- it waits for the answer of a commit
+abbrev pub IsAsking : ℕ → Steps → Type 0
+IsAsking s steps = (k : ℕ) × ((runner_at s steps.runners.items).stage ≡ stage.Asked k)
+
+-- it has begun no statement that it hasn't finished; so it is with one that there isn't
+abbrev pub IsBetween : ℕ → Steps → Type 0
+IsBetween s steps = 1 ≤ s → s ≤ length steps.runners.items
+    → (runner_at s steps.runners.items).stage ≡ stage.Between
+
+-- entries more, of this one moment, of which none is a refusal for want of room
+pub record AddsEntries (moment : ℕ) (old new : Steps) : Type 0 where
+  pub entries : List Entry
+  pub tape : new.tape.items ≡ old.tape.items ++ entries
+  pub moments : AllByRecursion (λ e. e.moment ≡ moment) entries
+  pub not_full : NoneFull entries
+
+-- every commit that was asked for was made durable and is answered, at one moment
+pub record AnswersAll (moment : ℕ) (old new : Steps) : Type 0 where
+  pub adds : AddsEntries moment old new
+  pub all : AreAnswered new
+
+-- nothing is left to do for a session, whose statements are finished, or for undo, which has nothing
+-- to undo
+abbrev pub NoneLeft : {D : Type 0} → Actor → Parts D → Type 0
+NoneLeft (actor.Session s) w = HasLeft s w.steps → ⊥
+NoneLeft actor.Undo w = Unit {0}
+NoneLeft actor.Flusher w = ⊥
+NoneLeft actor.Cleaner w = ⊥
+
+-- nothing is due for the flusher, where nothing waits in the log, or for the cleaner
+abbrev pub NoneDue : {D : Type 0} → Actor → Parts D → Type 0
+NoneDue (actor.Session s) w = ⊥
+NoneDue actor.Undo w = ⊥
+NoneDue actor.Flusher w = w.log.buffered ≡ []
+NoneDue actor.Cleaner w = Unit {0}
+
+-- Who did something, and what came on the tape. A session that waits for an answer flushes, as the
+-- flusher does where something waits in the log; another makes one act, which is one entry.
+abbrev pub Moves : {D : Type 0} → ℕ → Actor → Parts D → Parts D → Type 0
+Moves moment (actor.Session s) old new = HasLeft s old.steps
+    × ((IsAsking s old.steps × AnswersAll moment old.steps new.steps)
+    ⊎ ((IsAsking s old.steps → ⊥) × AddsEntry s moment old.steps new.steps))
+Moves moment actor.Undo old new = ⊥
+Moves moment actor.Flusher old new = (0 < length old.log.buffered)
+    × AnswersAll moment old.steps new.steps
+Moves moment actor.Cleaner old new = ⊥
+
+-- how many acts of the sessions are left at most
+abbrev pub turns_left : {D : Type 0} → Parts D → ℕ
+turns_left w = all_left w.steps.runners.items
+
+-- How a turn ended: a World that stops has added nothing, and a turn after a stop does nothing.
+abbrev pub EndsTurn : {D : Type 0} → Ghosts D → Turn → Actor → Parts D → Parts D → Type 0
+EndsTurn g turn.Went a old new = (new.stop ≡ None) × Moves (g.moment_of new.disk) a old new
+    × (turns_left new < turns_left old)
+EndsTurn g turn.Idle a old new = (old.stop ≡ None) × NoneDue a old × (new ≡ old)
+EndsTurn g turn.Short a old new = ⊥
+EndsTurn g turn.Over a old new = (old.stop ≡ None) × NoneLeft a old × (new ≡ old)
+EndsTurn g turn.Stopped a old new = (new.stop ≢ None) × (new.steps ≡ old.steps)
+    × (old.stop ≢ None → new ≡ old)

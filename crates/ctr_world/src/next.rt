@@ -1,0 +1,76 @@
+// What a session's next turn is.
+ghost use Rattle.std.specs.Prelude.{◌≡◌, ◌≤◌, ◌<◌, ◌≢◌, ◌+◌, ◌↔◌, IsTrue, ℕ, length, true, false, None, IfSome};
+ghost use Rattle.ctr_steps.specs.Runners.{runner_at, MayStep};
+ghost use Rattle.ctr_world.specs.declared.next.Next.TheVariants as is;
+ghost use Rattle.ctr_world.specs.Turns.{HasLeft, IsAsking, IsBetween};
+
+use ctr_steps::{Stage, Steps};
+
+/// The next turn of a session.
+#[derive(Clone, Copy, Debug, PartialEq, Eq)]
+pub enum Next {
+    /// Its statements are finished, or the script has none of it.
+    Over,
+    /// An act of its next statement.
+    Act,
+    /// The answer of the commit that it asked for.
+    Answer,
+}
+
+/// What a session's next turn is.
+pub fn next(steps: &Steps, s: u8) -> Next
+    requires eight { (length steps.now.runners.items ≡ length steps.now.turns.records) × (length steps.now.runners.items ≡ 8) }
+    ensures over { result ≡ is.Over → HasLeft s steps.now → ⊥ }
+    ensures acts { result ≡ is.Act → HasLeft s steps.now × MayStep (runner_at s steps.now.runners.items) × (IsAsking s steps.now → ⊥) }
+    ensures answer { result ≡ is.Answer → HasLeft s steps.now × IsAsking s steps.now }
+{
+    if !has_left(steps, s) {
+        return Next::Over;
+    }
+    if let Stage::Asked { .. } = &steps.runners[s as usize - 1].stage {
+        return Next::Answer;
+    }
+    Next::Act
+}
+
+// Whether a session has a statement that isn't finished.
+fn has_left(steps: &Steps, s: u8) -> bool
+    requires eight { (length steps.now.runners.items ≡ length steps.now.turns.records) × (length steps.now.runners.items ≡ 8) }
+    ensures yes { result ≡ true → HasLeft s steps.now }
+    ensures no { result ≡ false → HasLeft s steps.now → ⊥ }
+{
+    if s == 0 || s as usize > steps.runners.len() {
+        return false;
+    }
+    let runner = &steps.runners[s as usize - 1];
+    runner.finished < runner.places.len()
+}
+
+/// The first session, from this one on, that has a statement that isn't finished.
+pub fn first_left(steps: &Steps, s: u8) -> Option<u8>
+    requires eight { (length steps.now.runners.items ≡ length steps.now.turns.records) × (length steps.now.runners.items ≡ 8) }
+    requires small { s ≤ 9 }
+    ensures left { IfSome result (λ q. HasLeft q steps.now) }
+    ensures none { result ≡ None → (q : ℕ) → s ≤ q → HasLeft q steps.now → ⊥ }
+{
+    if s > 8 {
+        return None;
+    }
+    if has_left(steps, s) {
+        return Some(s);
+    }
+    first_left(steps, s + 1)
+}
+
+/// Whether a session has begun no statement that it hasn't finished.
+pub fn is_between(steps: &Steps, s: u8) -> bool
+    ensures { IsTrue result ↔ IsBetween s steps.now }
+{
+    if s == 0 || s as usize > steps.runners.len() {
+        return true;
+    }
+    match &steps.runners[s as usize - 1].stage {
+        Stage::Between => true,
+        Stage::Locked { .. } | Stage::Asked { .. } => false,
+    }
+}
