@@ -9,4 +9,6 @@ mod script;
 mod words;
 
 pub use ending::Ending;
+pub use outcome::Outcome;
 pub use run::{Ended, run_serial};
+pub use script::{Schedule, run_script};

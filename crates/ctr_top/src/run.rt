@@ -17,7 +17,7 @@ ghost use Rattle.ctr_top.specs.Top.{RanScript, RunCauses, RunLeaves, Makes, Goes
 use crate::ending::Ending;
 use crate::making::make;
 use crate::outcome::Outcome;
-use crate::script::run_script;
+use crate::script::{Schedule, run_script};
 use crate::words::command;
 use ctr_disk::Disk;
 use ctr_io::{Sink, Source};
@@ -120,6 +120,6 @@ pub fn run_serial<D: Disk, S: Source, K: Sink>(
         let outcome = make(alloc, disk);
         return ending(sink, &command, outcome);
     }
-    let outcome = run_script(alloc, disk, source);
+    let outcome = run_script(alloc, disk, source, Schedule::Serial);
     ending(sink, &command, outcome)
 }

@@ -17,6 +17,16 @@ use ctr_world::{Opening, World};
 use std::alloc::Global;
 use std::marker::Brand;
 
+/// In which order the sessions of a script take their turns.
+#[derive(Clone, Copy)]
+pub enum Schedule<'a> {
+    /// The statements stand in the order of the script's lines, each one's acts together; behind each come a turn
+    /// of undo, of the flusher and of the cleaner.
+    Serial,
+    /// A turn of each of these actors; then the sessions, in order of number, go to the end of their statements.
+    Turns(&'a [Actor]),
+}
+
 // Turns of a session until its statement is finished, and then one each of undo, flusher and cleaner.
 fn run_line<D: Disk, B: Opening>(alloc: Global, world: &mut World<D, B>, session: u8) {
     while let Turn::Went = world.step(alloc, Actor::Session(session)) {
@@ -38,8 +48,28 @@ fn run_lines<D: Disk, B: Opening>(alloc: Global, world: &mut World<D, B>) {
     }
 }
 
+// A turn of each of these actors.
+fn run_actors<D: Disk, B: Opening>(alloc: Global, world: &mut World<D, B>, actors: &[Actor]) {
+    for actor in actors {
+        let _ = world.step(alloc, *actor);
+    }
+}
+
+// The turns of a schedule.
+fn run_turns<D: Disk, B: Opening>(alloc: Global, world: &mut World<D, B>, schedule: Schedule<'_>) {
+    match schedule {
+        Schedule::Serial => run_lines(alloc, world),
+        Schedule::Turns(actors) => run_actors(alloc, world, actors),
+    }
+}
+
 // Opens the database of the disk and runs a script over it.
-fn run_opened<D: Disk, B: Opening>(alloc: Global, disk: D, script: Script) -> Outcome<D>
+fn run_opened<D: Disk, B: Opening>(
+    alloc: Global,
+    disk: D,
+    script: Script,
+    schedule: Schedule<'_>,
+) -> Outcome<D>
     requires named { IsOpenedOn B.Opening D.Disk disk script.lines }
     requires before { Within B.before (D.images disk) }
     requires runs { CanRun script.lines }
@@ -56,7 +86,7 @@ fn run_opened<D: Disk, B: Opening>(alloc: Global, disk: D, script: Script) -> Ou
             return Outcome::without_tape(alloc, not_opened(error), disk);
         }
     };
-    run_lines(alloc, &mut world);
+    run_turns(alloc, &mut world, schedule);
     let finished = world.finish(alloc);
     Outcome {
         ending: stopped(finished.stop),
@@ -65,8 +95,13 @@ fn run_opened<D: Disk, B: Opening>(alloc: Global, disk: D, script: Script) -> Ou
     }
 }
 
-/// Reads a script and runs it over the database of a disk.
-pub fn run_script<D: Disk, S: Source>(alloc: Global, disk: D, source: &mut S) -> Outcome<D>
+/// Reads a script and runs it over the database of a disk, in whichever order.
+pub fn run_script<D: Disk, S: Source>(
+    alloc: Global,
+    disk: D,
+    source: &mut S,
+    schedule: Schedule<'_>,
+) -> Outcome<D>
     ensures ran { (base : Database) → IsTrue D.tells → StandsFor (D.reads disk) base
         → RanScript D.Disk disk base S.Source source.old result }
     ensures causes { RunCauses D.Disk disk S.Source source.old source.new result }
@@ -75,7 +110,7 @@ pub fn run_script<D: Disk, S: Source>(alloc: Global, disk: D, source: &mut S) ->
     ensures forward { GoesForward D.Disk S.Source disk result.disk source.old source.new }
 {
     match read_script(alloc, source) {
-        Ok(script) => run_opened::<D, Brand>(alloc, disk, script),
+        Ok(script) => run_opened::<D, Brand>(alloc, disk, script, schedule),
         Err(error) => Outcome::without_tape(alloc, not_read(error), disk),
     }
 }

@@ -115,7 +115,7 @@ module _ {D : Type 0} (dev : Ghosts D)
       let at_rest : Rests dev v.disk v.log (reached w.steps.script.lines op.start base (w.steps.tape.items ++ entries)).state = subst (λ es. Rests dev v.disk v.log (reached w.steps.script.lines op.start base es).state) tape rests in
       let has : (c : Image) → dev.since v.disk (dev.moment_of v.disk) c → HasCommits base (reached w.steps.script.lines op.start base (w.steps.tape.items ++ entries)).state.asked (answers (w.steps.tape.items ++ entries)) c =
       λ c left. subst (HasCommits base (reached w.steps.script.lines op.start base (w.steps.tape.items ++ entries)).state.asked (answers (w.steps.tape.items ++ entries))) (sym (rests.only c (only_now v.disk c left)))
-          (rests_has dev v.disk v.log (reached w.steps.script.lines op.start base (w.steps.tape.items ++ entries)).state base (answers (w.steps.tape.items ++ entries)) at_rest long.base_is long.most (omega (arith, long.answers_are))) in
+      (rests_has dev v.disk v.log (reached w.steps.script.lines op.start base (w.steps.tape.items ++ entries)).state base (answers (w.steps.tape.items ++ entries)) at_rest long.base_is long.most (omega (arith, long.answers_are))) in
       let survived = survives_more dev earlier op.start op.before base (state_of op base w).asked long.more (reached w.steps.script.lines op.start base (w.steps.tape.items ++ entries)).state.asked w.steps.tape.items entries v.disk survives moments long.asked has in
       record {
         waiting = v.log.buffered;

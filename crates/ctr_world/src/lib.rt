@@ -4,7 +4,7 @@
 
 mod answers;
 mod beginning;
-mod next;
+mod left;
 mod opening;
 mod parts;
 mod world;

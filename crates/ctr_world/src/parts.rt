@@ -12,7 +12,7 @@ ghost use Rattle.ctr_world.specs.World.{Runs, Kept};
 ghost use Rattle.ctr_world.specs.Turns.{AnswersAll, HasLeft, EndsTurn, turns_left};
 
 use crate::answers::answer_all;
-use crate::next::{Next, first_left, next};
+use crate::left::{Next, first_left, next_of};
 use crate::opening::Opening;
 use ctr_disk::{Disk, Stop};
 use ctr_log::LogFile;
@@ -102,7 +102,7 @@ impl<D: Disk> Parts<D> {
         ensures kept { Kept D.Disk B.Opening self.new }
         ensures says { EndsTurn D.Disk result (who.Session s) self.old self.new }
     {
-        match next(&self.steps, s) {
+        match next_of(&self.steps, s) {
             Next::Over => Turn::Over,
             Next::Answer => self.flush::<B>(),
             Next::Act => {

@@ -8,7 +8,7 @@ ghost use Rattle.ctr_world.specs.Turns.{NoneFull, EndsTurn, HasLeft, IsBetween};
 ghost use Rattle.ctr_world.specs.World.{IsOpenedOn, CanRun, CanOpen, Ends, StopsBy, RefusesWith};
 
 use crate::beginning::begin;
-use crate::next::{first_left, is_between};
+use crate::left::{first_left, is_between};
 use crate::opening::Opening;
 use crate::parts::Parts;
 use ctr_disk::{Disk, Stop};

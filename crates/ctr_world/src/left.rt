@@ -1,7 +1,7 @@
 // What a session's next turn is.
 ghost use Rattle.std.specs.Prelude.{◌≡◌, ◌≤◌, ◌<◌, ◌≢◌, ◌+◌, ◌↔◌, IsTrue, ℕ, length, true, false, None, IfSome};
 ghost use Rattle.ctr_steps.specs.Runners.{runner_at, MayStep};
-ghost use Rattle.ctr_world.specs.declared.next.Next.TheVariants as is;
+ghost use Rattle.ctr_world.specs.declared.left.Next.TheVariants as is;
 ghost use Rattle.ctr_world.specs.Turns.{HasLeft, IsAsking, IsBetween};
 
 use ctr_steps::{Stage, Steps};
@@ -18,7 +18,7 @@ pub enum Next {
 }
 
 /// What a session's next turn is.
-pub fn next(steps: &Steps, s: u8) -> Next
+pub fn next_of(steps: &Steps, s: u8) -> Next
     requires eight { (length steps.now.runners.items ≡ length steps.now.turns.records) × (length steps.now.runners.items ≡ 8) }
     ensures over { result ≡ is.Over → HasLeft s steps.now → ⊥ }
     ensures acts { result ≡ is.Act → HasLeft s steps.now × MayStep (runner_at s steps.now.runners.items) × (IsAsking s steps.now → ⊥) }
