@@ -59,6 +59,11 @@ pub all_fold : (state : State) (j : ℕ) (bs : List (List ℕ)) → WaitFrom sta
 all_fold state j [] waits = ap (rows_at state) (sym waits)
 all_fold state j (b ∷ bs) waits = (rows_at state (j + 1), waits.0, all_fold state (j + 1) bs waits.1)
 
+-- where some wait, not all that was asked is made
+pub waits_some : (state : State) (j : ℕ) (bs : List (List ℕ)) → WaitFrom state j bs → 0 < length bs → j < length state.asked
+waits_some state j [] waits some = absurd (omega (arith, some))
+waits_some state j (b ∷ bs) waits some = let le = waits_within state (j + 1) bs waits.1 in omega (arith, le)
+
 -- ---- images of a flush
 
 root_stays : (n : ℕ) (bytes : List ℕ) (old new : Image) → new ≡ with_content (log_file n) bytes old → new.root ≡ old.root
@@ -75,9 +80,9 @@ ByRecords = (old new : Image) (db next : Database) (more : List (List ℕ)) (bs 
 
 records_push : (bs : Batches) (rs : List (List ℕ)) → records (bs ++ rs ∷ []) ≡ records bs ++ rs
 records_push [] rs = append-nil rs
-records_push (b ∷ bs) rs = ap (λ (l : List (List ℕ)). b ++ l) (records_push bs rs) ∙ sym (assoc b (records bs) rs)
+records_push (b ∷ bs) rs = ap (λ (l : List (List ℕ)). b ++ l) (records_push bs rs) ∙ assoc b (records bs) rs
   where
-    assoc : (xs ys zs : List (List ℕ)) → (xs ++ ys) ++ zs ≡ xs ++ ys ++ zs
+    assoc : (xs ys zs : List (List ℕ)) → xs ++ (ys ++ zs) ≡ (xs ++ ys) ++ zs
     assoc [] ys zs = refl
     assoc (x ∷ xs) ys zs = ap (λ l. x ∷ l) (assoc xs ys zs)
 

@@ -1,17 +1,20 @@
 -- What a World keeps over its calls.
 use Rattle.std.proofs.Common.{◌≡◌, ◌⊎◌, inl, inr, ⊎_elim, ℕ, ◌+◌, ◌<◌, ◌≤◌, List, [], ◌∷◌, ◌++◌, length, Option, Some, None, refl, sym, ◌∙◌, ap, subst, arith}
-use Rattle.std.specs.List.{AllByRecursion}
+use Rattle.std.specs.Prelude.{IfSome}
 use Rattle.ctr_types.specs.Faults.{CountsFault}
 use Rattle.ctr_types.specs.declared.tape.Entry.{Entry}
 use Rattle.ctr_disk.specs.declared.fault.Stop.{Stop}
 use Rattle.ctr_disk.specs.declared.fault.Stop.TheVariants as stop
 use Rattle.ctr_log.specs.Logs.{Log, IsEmptied}
 use Rattle.ctr_model.specs.declared.tape.Point.{Point}
-use Rattle.ctr_acts.specs.Acts.{IsNotFull}
+use Rattle.ctr_model.specs.Laws.{IsSoundState, LegalStatesAreSound}
+use Rattle.ctr_model.specs.Tape.{final, Legal}
+use Rattle.ctr_legal.specs.Laws.{HaveOwnNumbers, NumbersAreOwn}
 use Rattle.ctr_steps.specs.declared.steps.Steps.{Steps}
-use Rattle.ctr_steps.specs.Steps.{Walks, Walking, HasBounds, AddsEntry, DurableWalks, LaterWalks, reached_by}
-use Rattle.ctr_world.specs.Turns.{NoneFull, AddsEntries}
-use Rattle.ctr_world.specs.World.{StopsBy}
+use Rattle.ctr_steps.specs.Steps.{Walks, Walking, HasBounds, AreAnswered, DurableWalks, LaterWalks, reached_by}
+use Rattle.ctr_world.specs.Turns.{NoneFull, HasLeft, IsAsking}
+use Rattle.ctr_world.specs.World.{WalksOn, StopsBy}
+use Rattle.ctr_world.proofs.HardenLemmas.{waits_some}
 
 pub rose_before : (a b c : ℕ) → a ≤ b → CountsFault b c → CountsFault a c
 rose_before a b c le rose = omega (arith, le, rose)
@@ -25,7 +28,7 @@ none_full_more [] more all rest = rest
 none_full_more (e ∷ es) more all rest = (all.0, none_full_more es more all.1 rest)
 
 -- a flush leaves no less room, and as many numbers
-pub emptied_bounds : {T E : Type 0} (steps : Steps) (old new : Log) → HasBounds steps old → length new.buffered ≡ 0 → old.room ≤ new.room → new.first + length new.buffered ≡ old.first + length old.buffered → HasBounds steps new
+pub emptied_bounds : (steps : Steps) (old new : Log) → HasBounds steps old → length new.buffered ≡ 0 → old.room ≤ new.room → new.first + length new.buffered ≡ old.first + length old.buffered → HasBounds steps new
 emptied_bounds steps old new b none room number = record {
   room = let kept = b.room in omega (arith, kept, room);
   sessions = b.sessions;
@@ -42,13 +45,54 @@ emptied_bounds steps old new b none room number = record {
   next = let next = b.next in omega (arith, number, next);
 }
 
+-- the walk from a start, whatever waits before it
+pub as_walking : (steps : Steps) (waiting : List (List ℕ)) (now : ℕ) → WalksOn steps waiting now → Walking steps waiting now
+as_walking steps waiting now w = record { start = w.start; from = steps.answered; walks = w.walks }
+
 -- once all is durable the sessions walk on, with nothing that waits
-pub durable_walking : DurableWalks → LaterWalks → (steps : Steps) (old new : List (List ℕ)) (now later : ℕ) → now ≤ later → new ≡ [] → Walking steps old now → Walking steps new later
-durable_walking durable later_law steps old new now later on none walking =
-    let start = walking.start in
-    let there = length (reached_by start steps).state.asked in
+pub durable_walking : DurableWalks → LaterWalks → (steps : Steps) (old new : List (List ℕ)) (now later : ℕ) → now ≤ later → new ≡ [] → WalksOn steps old now → Walking steps new later
+durable_walking durable later_law steps old new now later on none w =
+    let there = length (reached_by w.start steps).state.asked in
     record {
-      start = start;
+      start = w.start;
       from = there;
-      walks = subst (λ l. Walks start there steps l later) (sym none) (durable start walking.from later steps old (later_law start walking.from now later steps old on walking.walks));
+      walks = subst (λ l. Walks w.start there steps l later) (sym none) (durable w.start steps.answered later steps old (later_law w.start steps.answered now later steps old on w.walks));
     }
+
+-- and after the answers
+pub answered_walking : (steps : Steps) (waiting : List (List ℕ)) (now : ℕ) → waiting ≡ [] → AreAnswered steps → Walking steps waiting now → WalksOn steps waiting now
+answered_walking steps waiting now none all w =
+    let empty : Walks w.start w.from steps [] now = subst (λ l. Walks w.start w.from steps l now) none w.walks in
+    let is : w.from ≡ steps.answered = empty.shows.waits ∙ sym (all w.start w.from [] now empty) ∙ empty.answered in
+    record { start = w.start; walks = subst (λ n. Walks w.start n steps waiting now) is w.walks }
+
+-- ---- where all are answered, nobody waits
+
+own_numbers : NumbersAreOwn → (steps : Steps) (waiting : List (List ℕ)) (now : ℕ) (w : WalksOn steps waiting now) → HaveOwnNumbers (reached_by w.start steps).state
+own_numbers law steps waiting now w =
+    let lines = steps.script.lines in
+    let start = w.start in
+    subst (λ (p : Point). HaveOwnNumbers (final lines p steps.tape.items).state) (sym w.walks.starts)
+    (law lines start.moment start.state.base start.state.stuck steps.tape.items (subst (λ (p : Point). Legal lines p steps.tape.items) w.walks.starts w.walks.legal))
+
+sound_state : LegalStatesAreSound → (steps : Steps) (waiting : List (List ℕ)) (now : ℕ) (w : WalksOn steps waiting now) → IsSoundState (reached_by w.start steps).state
+sound_state law steps waiting now w =
+    let lines = steps.script.lines in
+    let start = w.start in
+    subst (λ (p : Point). IsSoundState (final lines p steps.tape.items).state) (sym w.walks.starts)
+    (law lines start.moment start.state.base start.state.stuck steps.tape.items (subst (λ (p : Point). Legal lines p steps.tape.items) w.walks.starts w.walks.legal))
+
+-- no session waits for the answer of a commit
+pub none_asking : NumbersAreOwn → LegalStatesAreSound → (steps : Steps) (waiting : List (List ℕ)) (now s : ℕ) → WalksOn steps waiting now → AreAnswered steps → HasLeft s steps → IsAsking s steps → ⊥
+none_asking own sound steps waiting now s w all left asking =
+    let state = (reached_by w.start steps).state in
+    let for = w.walks.asking.who s asking.0 left.one asking.1 in
+    let before = (own_numbers own steps waiting now w).waits s asking.0 for.me for.there for.asked in
+    let within = subst (λ o. IfSome o (λ k. k ≤ length state.asked)) for.asked ((sound_state sound steps waiting now w).each s for.me for.there).1 in
+    omega (arith, before, within, all w.start steps.answered waiting now w.walks)
+
+-- nothing waits in the log
+pub none_waits : (steps : Steps) (waiting : List (List ℕ)) (now : ℕ) → WalksOn steps waiting now → AreAnswered steps → 0 < length waiting → ⊥
+none_waits steps waiting now w all some =
+    let less = waits_some (reached_by w.start steps).state steps.answered waiting w.walks.shows.waits some in
+    omega (arith, less, all w.start steps.answered waiting now w.walks, w.walks.answered)

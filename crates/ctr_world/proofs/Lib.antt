@@ -1,4 +1,5 @@
 pub mod AloneLemmas
+pub mod AnswerLemmas
 pub mod CrashLemmas
 pub mod HardenLemmas
 pub mod KeptLemmas

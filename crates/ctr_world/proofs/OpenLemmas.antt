@@ -1,5 +1,5 @@
 -- A World that was just opened, and one that has ended.
-use Rattle.std.proofs.Common.{◌≡◌, ◌≢◌, ◌⊎◌, inl, inr, ⊎_elim, ℕ, ◌+◌, ◌<◌, ◌≤◌, ◌==◌, false, cond, List, [], ◌∷◌, length, map, None, refl, sym, ◌∙◌, ap, subst, arith}
+use Rattle.std.proofs.Common.{◌≡◌, ◌≢◌, ◌⊎◌, inl, inr, ⊎_elim, ℕ, ◌+◌, ◌-◌, ◌<◌, ◌≤◌, ◌==◌, false, cond, List, [], ◌∷◌, length, map, None, refl, sym, ◌∙◌, ap, subst, arith}
 use Rattle.std.specs.Prelude.{IsTrue}
 use Rattle.std.specs.List.{AllByRecursion, filter}
 use Rattle.std.proofs.lemmas.Bool.Decides.{nat_tests}
@@ -23,13 +23,13 @@ use Rattle.ctr_thin.specs.Thin.{StandsFor, Opens}
 use Rattle.ctr_gather.specs.Records.{IsSession}
 use Rattle.ctr_steps.specs.declared.steps.Steps.{Steps}
 use Rattle.ctr_steps.specs.Runners.{runner_at}
-use Rattle.ctr_steps.specs.Steps.{Walks, Walking, HasBounds, LaterWalks}
+use Rattle.ctr_steps.specs.Steps.{Walks, HasBounds, LaterWalks}
 use Rattle.ctr_steps.proofs.Places.{count_of, runner_of}
 use Rattle.ctr_world.specs.declared.parts.Parts.{Parts}
 use Rattle.ctr_world.specs.declared.opening.Opening.{Ghosts as Opening}
 use Rattle.ctr_world.specs.Crash.{reached, HasCommits, IsPrefixAt, Survives, Rests}
 use Rattle.ctr_world.specs.Turns.{HasLeft}
-use Rattle.ctr_world.specs.World.{IsRunLine, Runs, Kept, Ends, state_of}
+use Rattle.ctr_world.specs.World.{IsRunLine, WalksOn, Runs, Kept, Ends, state_of}
 use Rattle.ctr_world.proofs.AloneLemmas.{others_same}
 use Rattle.ctr_world.proofs.CrashLemmas.{order}
 use Rattle.ctr_world.proofs.RunLemmas.{rests_has}
@@ -41,8 +41,11 @@ use Rattle.ctr_world.proofs.TapeLemmas.{base_on, stuck_on, answers_on}
 abbrev pub Begins : Database → Steps → Type 0
 Begins db steps = (moment : ℕ) → Walks (at_start moment db []) 0 steps [] moment
 
-pub walking_new : (db : Database) (steps : Steps) (waiting : List (List ℕ)) (now : ℕ) → Begins db steps → waiting ≡ [] → Walking steps waiting now
-walking_new db steps waiting now begins none = record { start = at_start now db []; from = 0; walks = subst (λ l. Walks (at_start now db []) 0 steps l now) (sym none) (begins now) }
+pub walking_new : (db : Database) (steps : Steps) (waiting : List (List ℕ)) (now : ℕ) → Begins db steps → steps.answered ≡ 0 → waiting ≡ [] → WalksOn steps waiting now
+walking_new db steps waiting now begins none_answered none = record {
+  start = at_start now db [];
+  walks = subst (λ n. Walks (at_start now db []) n steps waiting now) (sym none_answered) (subst (λ l. Walks (at_start now db []) 0 steps l now) (sym none) (begins now));
+}
 
 module _ {D : Type 0} (dev : Ghosts D)
     (earlier : (d : D) (s t : ℕ) (c : Image) → s ≤ t → dev.since d t c → dev.since d s c) (later_law : LaterWalks) {B : Type 0} (op : Opening B) where

@@ -89,7 +89,7 @@ module _ (grow : StatesGrow) (sound : LegalStatesAreSound) (lines : List Line) (
         same = base_on grow lines p (es ++ more) ∙ sym (base_on grow lines p es);
         more = asked.0;
         asked = ap (λ (q : Point). q.state.asked) split ∙ asked.1;
-        answers_are = answers_on lines p (es ++ more) legal;
+        answers_are = let are = answers_on lines p (es ++ more) legal in omega (arith, are);
         most = (sound lines start base [] (es ++ more) legal).answered;
       }
 

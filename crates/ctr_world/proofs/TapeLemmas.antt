@@ -1,7 +1,7 @@
 -- What holds along a tape of whichever sessions: the base stays, what was asked stays before what is
 -- asked later, no name is held by recovery where none was, and its answers are the commits answered.
 use Rattle.std.proofs.Common.{◌≡◌, ◌⊎◌, inl, inr, ⊎_elim, ℕ, ◌+◌, true, false, cond, List, [], ◌∷◌, ◌++◌, Option, Some, None, refl, sym, ◌∙◌, ap, subst, arith}
-use Rattle.std.proofs.lemmas.List.{append-nil, append-assoc}
+use Rattle.std.proofs.lemmas.List.{append-nil, append_assoc}
 use Rattle.ctr_types.specs.declared.statement.Statement.{Statement}
 use Rattle.ctr_types.specs.declared.statement.Line.{Line}
 use Rattle.ctr_types.specs.declared.tape.Act.{Act}
@@ -34,7 +34,7 @@ asked_on grow lines p (e ∷ es) =
     let rest = asked_on grow lines (passed lines p e) es in
     let one = grow p.state e.session e.act (statement_of lines e.session e.statement) e.reply in
     let first = asked_by e.reply (transaction_of p.state e.session) in
-    (first ++ rest.0, rest.1 ∙ ap (λ (l : List (List Change)). l ++ rest.0) one.asked ∙ append-assoc p.state.asked first rest.0)
+    (first ++ rest.0, rest.1 ∙ ap (λ (l : List (List Change)). l ++ rest.0) one.asked ∙ append_assoc p.state.asked first rest.0)
 
 -- ---- names that recovery holds
 

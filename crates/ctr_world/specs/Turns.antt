@@ -7,7 +7,7 @@ use Rattle.ctr_types.specs.declared.tape.Turn.{Turn}
 use Rattle.ctr_types.specs.declared.tape.Turn.TheVariants as turn
 use Rattle.ctr_types.specs.declared.tape.Entry.{Entry}
 use Rattle.ctr_disk.specs.declared.disk.Disk.{Ghosts}
-use Rattle.ctr_acts.specs.Seats.{IsNotFull}
+use Rattle.ctr_acts.specs.Acts.{IsNotFull}
 use Rattle.ctr_gather.specs.Records.{IsSession}
 use Rattle.ctr_steps.specs.declared.steps.Steps.{Steps}
 use Rattle.ctr_steps.specs.declared.runners.Stage.TheVariants as stage
@@ -18,6 +18,11 @@ use Rattle.ctr_world.specs.declared.parts.Parts.{Parts}
 -- no reply is a refusal for want of room in the files
 abbrev pub NoneFull : List Entry → Type 0
 NoneFull es = AllByRecursion (λ e. IsNotFull e.reply) es
+
+-- there are eight sessions
+pub record AreEight (steps : Steps) : Type 0 where
+  pub same : length steps.turns.records ≡ length steps.runners.items
+  pub eight : length steps.runners.items ≡ 8
 
 -- a session of the script has a statement that isn't finished
 pub record HasLeft (s : ℕ) (steps : Steps) : Type 0 where

@@ -12,6 +12,7 @@ use Rattle.ctr_disk.specs.Crash.{Within}
 use Rattle.ctr_disk.specs.Device.{OnlyReads}
 use Rattle.ctr_disk.specs.Image.{OtherFilesStay}
 use Rattle.ctr_model.specs.declared.state.State.{State}
+use Rattle.ctr_model.specs.declared.tape.Point.{Point}
 use Rattle.ctr_model.specs.Database.{Database}
 use Rattle.ctr_model.specs.Tape.{Legal, at_start, IsWhole}
 use Rattle.ctr_model.specs.Texts.{answers}
@@ -20,11 +21,12 @@ use Rattle.ctr_thin.specs.declared.opening.OpenError.{OpenError}
 use Rattle.ctr_thin.specs.declared.opening.OpenError.TheVariants.{Fault}
 use Rattle.ctr_thin.specs.Thin.{StandsFor, IsLow}
 use Rattle.ctr_turns.specs.Items.{IsRecorded}
-use Rattle.ctr_steps.specs.Steps.{Walks, Walking, HasBounds}
+use Rattle.ctr_steps.specs.declared.steps.Steps.{Steps}
+use Rattle.ctr_steps.specs.Steps.{Walks, HasBounds}
 use Rattle.ctr_world.specs.declared.parts.Parts.{Parts}
 use Rattle.ctr_world.specs.declared.opening.Opening.{Ghosts as Opening}
 use Rattle.ctr_world.specs.Crash.{reached, HasCommits, IsPrefixAt, Survives, Rests, HasLongLog, StraysOnlyLong, OnlyLogChanges}
-use Rattle.ctr_world.specs.Turns.{NoneFull}
+use Rattle.ctr_world.specs.Turns.{NoneFull, AreEight}
 
 -- ---- what the World was opened on
 
@@ -54,6 +56,12 @@ pub record CanRun (lines : List Line) : Type 0 where
 -- the state to which the tape has led from this base
 abbrev pub state_of : {D B : Type 0} → Opening B → Database → Parts D → State
 state_of o base w = (reached w.steps.script.lines o.start base w.steps.tape.items).state
+
+-- From some start on the sessions walk along a legal tape, and the records of the commits that aren't
+-- answered wait. It holds whatever the disk tells.
+pub record WalksOn (steps : Steps) (waiting : List (List ℕ)) (now : ℕ) : Type 0 where
+  pub start : Point
+  pub walks : Walks start steps.answered steps waiting now
 
 -- Of a database that the first image stands for: the tape is legal from it on, and has led to what
 -- the sessions show; a crash leaves a prefix of the commits; between two turns the disk holds those
@@ -85,8 +93,9 @@ StopsBy (Some (stop.Worn lsn)) before now = ⊥
 -- since the World was opened on the disk and the script that its type names
 pub record Kept {D B : Type 0} (g : Ghosts D) (o : Opening B) (w : Parts D) : Type 0 where
   pub runs : (base : Database) → IsTrue g.tells → StandsFor o.image base → Runs g o base w
-  pub walking : w.stop ≡ None → Walking w.steps w.log.buffered (g.moment_of w.disk)
+  pub walking : w.stop ≡ None → WalksOn w.steps w.log.buffered (g.moment_of w.disk)
   pub bounds : w.stop ≡ None → HasBounds w.steps w.log
+  pub eight : AreEight w.steps
   pub not_full : NoneFull w.steps.tape.items
   pub lines_are : w.steps.script.lines ≡ o.lines
   pub each : AllByRecursion IsRunLine o.lines

@@ -37,5 +37,6 @@ pub fn begin(alloc: Global, database: Loader, script: Script) -> Result<Steps, O
     let records = Records::new(alloc, SESSIONS)?;
     let acts = Acts::over(alloc, engine, List::new(alloc));
     let turns = Turns::over(acts, records);
-    Steps::new(alloc, turns, script)
+    let steps = Steps::new(alloc, turns, script)?;
+    Ok(steps)
 }

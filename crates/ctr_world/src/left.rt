@@ -2,7 +2,7 @@
 ghost use Rattle.std.specs.Prelude.{◌≡◌, ◌≤◌, ◌<◌, ◌≢◌, ◌+◌, ◌↔◌, IsTrue, ℕ, length, true, false, None, IfSome};
 ghost use Rattle.ctr_steps.specs.Runners.{runner_at, MayStep};
 ghost use Rattle.ctr_world.specs.declared.left.Next.TheVariants as is;
-ghost use Rattle.ctr_world.specs.Turns.{HasLeft, IsAsking, IsBetween};
+ghost use Rattle.ctr_world.specs.Turns.{AreEight, HasLeft, IsAsking, IsBetween};
 
 use ctr_steps::{Stage, Steps};
 
@@ -19,7 +19,7 @@ pub enum Next {
 
 /// What a session's next turn is.
 pub fn next_of(steps: &Steps, s: u8) -> Next
-    requires eight { (length steps.now.runners.items ≡ length steps.now.turns.records) × (length steps.now.runners.items ≡ 8) }
+    requires { AreEight steps.now }
     ensures over { result ≡ is.Over → HasLeft s steps.now → ⊥ }
     ensures acts { result ≡ is.Act → HasLeft s steps.now × MayStep (runner_at s steps.now.runners.items) × (IsAsking s steps.now → ⊥) }
     ensures answer { result ≡ is.Answer → HasLeft s steps.now × IsAsking s steps.now }
@@ -35,7 +35,7 @@ pub fn next_of(steps: &Steps, s: u8) -> Next
 
 // Whether a session has a statement that isn't finished.
 fn has_left(steps: &Steps, s: u8) -> bool
-    requires eight { (length steps.now.runners.items ≡ length steps.now.turns.records) × (length steps.now.runners.items ≡ 8) }
+    requires { AreEight steps.now }
     ensures yes { result ≡ true → HasLeft s steps.now }
     ensures no { result ≡ false → HasLeft s steps.now → ⊥ }
 {
@@ -48,7 +48,7 @@ fn has_left(steps: &Steps, s: u8) -> bool
 
 /// The first session, from this one on, that has a statement that isn't finished.
 pub fn first_left(steps: &Steps, s: u8) -> Option<u8>
-    requires eight { (length steps.now.runners.items ≡ length steps.now.turns.records) × (length steps.now.runners.items ≡ 8) }
+    requires eight { AreEight steps.now }
     requires small { s ≤ 9 }
     ensures left { IfSome result (λ q. HasLeft q steps.now) }
     ensures none { result ≡ None → (q : ℕ) → s ≤ q → HasLeft q steps.now → ⊥ }

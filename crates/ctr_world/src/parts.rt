@@ -7,14 +7,15 @@ ghost use Rattle.ctr_types.specs.declared.tape.Turn.TheVariants.{Went, Stopped};
 ghost use Rattle.ctr_model.specs.Database.{Database};
 ghost use Rattle.ctr_gather.specs.Records.{IsSession};
 ghost use Rattle.ctr_steps.specs.Runners.{runner_at, MayStep};
-ghost use Rattle.ctr_steps.specs.Steps.{Walking, HasBounds, AddsEntry};
-ghost use Rattle.ctr_world.specs.World.{Runs, Kept};
+ghost use Rattle.ctr_steps.specs.Steps.{HasBounds, AddsEntry};
+ghost use Rattle.ctr_world.specs.World.{WalksOn, Runs, Kept};
 ghost use Rattle.ctr_world.specs.Turns.{AnswersAll, HasLeft, EndsTurn, turns_left};
 
 use crate::answers::answer_all;
 use crate::left::{Next, first_left, next_of};
 use crate::opening::Opening;
 use ctr_disk::{Disk, Stop};
+use ctr_legal::numbers_are_own;
 use ctr_log::LogFile;
 use ctr_model::{legal_states_are_sound, states_grow};
 use ctr_steps::{Steps, durable_walks, later_walks};
@@ -41,10 +42,10 @@ impl<D: Disk> Parts<D> {
         requires going { self.old.stop ≡ None }
         requires one { IsSession s self.old.steps.turns.records }
         requires next { MayStep (runner_at s self.old.steps.runners.items) }
-        requires walking { Walking self.old.steps self.old.log.buffered (D.moment_of self.old.disk) }
+        requires walking { WalksOn self.old.steps self.old.log.buffered (D.moment_of self.old.disk) }
         requires bounds { HasBounds self.old.steps self.old.log }
         ensures runs { (base : Database) → Runs D.Disk B.Opening base self.old → Runs D.Disk B.Opening base self.new }
-        ensures walking { Walking self.new.steps self.new.log.buffered (D.moment_of self.old.disk) }
+        ensures walking { WalksOn self.new.steps self.new.log.buffered (D.moment_of self.old.disk) }
         ensures bounds { HasBounds self.new.steps self.new.log }
         ensures entry { AddsEntry s (D.moment_of self.old.disk) self.old.steps self.new.steps }
         ensures fewer { turns_left self.new < turns_left self.old }
@@ -102,6 +103,8 @@ impl<D: Disk> Parts<D> {
         ensures kept { Kept D.Disk B.Opening self.new }
         ensures says { EndsTurn D.Disk result (who.Session s) self.old self.new }
     {
+        numbers_are_own();
+        legal_states_are_sound();
         match next_of(&self.steps, s) {
             Next::Over => Turn::Over,
             Next::Answer => self.flush::<B>(),

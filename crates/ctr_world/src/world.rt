@@ -1,5 +1,5 @@
 // The World: its type names what it was opened on, and keeps the tape legal and the disk's images in order.
-ghost use Rattle.std.specs.Prelude.{◌≡◌, ◌↔◌, ◌≤◌, IsTrue, length, slice_get, IfOk, IfErr};
+ghost use Rattle.std.specs.Prelude.{◌≡◌, ◌↔◌, ◌≤◌, ℕ, IsTrue, true, false, length, slice_get, IfOk, IfErr};
 ghost use Rattle.std.specs.Option.{option_map};
 ghost use Rattle.ctr_model.specs.Database.{Database};
 ghost use Rattle.ctr_thin.specs.Thin.{StandsFor, Explains, OpenDiffers};
@@ -12,6 +12,8 @@ use crate::left::{first_left, is_between};
 use crate::opening::Opening;
 use crate::parts::Parts;
 use ctr_disk::{Disk, Stop};
+use ctr_model::{legal_states_are_sound, states_grow};
+use ctr_steps::{Steps, later_walks};
 use ctr_thin::{OpenError, Opened, open};
 use ctr_types::{Actor, Entry, List, Script, Tape, Turn};
 use std::alloc::Global;
@@ -59,6 +61,7 @@ impl<D: Disk, B: Opening> World<D, B> {
         ensures differs { IfErr result (λ e. OpenDiffers e.0) }
         ensures stays { IfErr result (λ e. RefusesWith D.Disk disk e.0 e.1) }
     {
+        later_walks();
         let mut disk = disk;
         let opened = match open(alloc, &mut disk) {
             Ok(opened) => opened,
@@ -108,7 +111,8 @@ impl<D: Disk, B: Opening> World<D, B> {
 
     /// Every session's statements are finished.
     pub fn done(&self) -> bool
-        ensures { IsTrue result → (s : ℕ) → HasLeft s self.now.steps → ⊥ }
+        ensures yes { result ≡ true → (s : ℕ) → HasLeft s self.now.steps → ⊥ }
+        ensures no { result ≡ false → (s : ℕ) × HasLeft s self.now.steps }
     {
         first_left(&self.parts.steps, 0).is_none()
     }
@@ -144,14 +148,24 @@ impl<D: Disk, B: Opening> World<D, B> {
         ensures stops { StopsBy result.stop B.faults (D.faults_of result.disk) }
         ensures faults { B.faults ≤ D.faults_of result.disk }
     {
-        let mut parts = self.parts;
+        states_grow();
+        legal_states_are_sound();
+        let World { parts, of: _ } = self;
+        let mut parts = parts;
         parts.run::<B>(alloc);
+        let Parts {
+            disk,
+            log: _,
+            steps,
+            stop,
+        } = parts;
+        let Steps { tape, .. } = steps;
         Finished {
             tape: Tape {
-                entries: List::from_vec(parts.steps.tape),
+                entries: List::from_vec(tape),
             },
-            stop: parts.stop,
-            disk: parts.disk,
+            stop,
+            disk,
         }
     }
 }

@@ -1,0 +1,55 @@
+use Rattle.std.proofs.Common.{◌≡◌, ◌⊎◌, inl, inr, ⊎_elim, ℕ, ◌<◌, None, refl, sym, ◌∙◌, ap, subst, arith, [], ◌∷◌}
+use Rattle.ctr_types.specs.declared.statement.Script.{Script}
+use Rattle.ctr_types.specs.declared.tape.Actor.TheVariants as who
+use Rattle.ctr_types.specs.declared.tape.Turn.TheVariants as turn
+use Rattle.ctr_steps.specs.declared.steps.Steps.{Steps}
+use Rattle.ctr_steps.specs.Steps.{AreAnswered}
+use Rattle.ctr_world.specs.Turns.{NoneFull, EndsTurn}
+use Rattle.ctr_world.specs.World.{Runs, Kept, StopsBy}
+use Rattle.ctr_world.specs.declared.parts.Parts.{Parts}
+use Rattle.ctr_world.proofs.KeptLemmas.{none_full_more, none_asking}
+use Rattle.ctr_world.proofs.parts.Parts.serve.Goals as goal
+
+pub returns-in-Answer-clause-says : goal.returns-in-Answer-clause-says
+returns-in-Answer-clause-says g c =
+    let d = g.D.Disk in
+    let w = c.args.self.now in
+    let v = c.flush.new.self in
+    let f = c.flush.ensures in
+    let mine = c.in-Answer.ensures.answer refl in
+    ⊎_elim
+    (λ went.
+    let done = f.went went in
+    let less = ⊎_elim
+    (λ same. absurd (none_asking c.numbers_are_own.ensures c.legal_states_are_sound.ensures w.steps w.log.buffered (d.moment_of w.disk) c.args.s (c.requires.kept.walking c.requires.going)
+    (subst (λ (h : Steps). AreAnswered h) same done.1.all) mine.0 mine.1))
+    (λ less. less) done.2 in
+    subst (λ r. EndsTurn d r (who.Session c.args.s) w v) (sym went) (done.0, (mine.0, inl (mine.1, done.1)), less))
+    (λ stopped.
+    let done = f.stopped stopped in
+    subst (λ r. EndsTurn d r (who.Session c.args.s) w v) (sym stopped) (done.0, done.1, λ bad. absurd (bad c.requires.going)))
+    f.one_of
+
+pub returns-in-Act-clause-kept : goal.returns-in-Act-clause-kept
+returns-in-Act-clause-kept g c =
+    let d = g.D.Disk in
+    let b = g.B.Opening in
+    let w = c.args.self.now in
+    let v = c.act.new.self in
+    let k = c.requires.kept in
+    let a = c.act.ensures in
+    let made : Parts g.row.D.Denot = record w { log = v.log; steps = v.steps } in
+    let held = a.bounds in
+    let kept : Kept d b made = record {
+      runs = λ base told stands. subst (Runs d b base) a.same (a.runs base (k.runs base told stands));
+      walking = λ going. a.walking;
+      bounds = λ going. a.bounds;
+      eight = record { same = held.sessions; eight = held.eight };
+      not_full = subst NoneFull (sym a.entry.tape) (none_full_more w.steps.tape.items (a.entry.entry ∷ []) k.not_full (a.entry.not_full, tt));
+      lines_are = ap (λ (s : Script). s.lines) a.script ∙ k.lines_are;
+      each = k.each;
+      later = k.later;
+      faults_later = k.faults_later;
+      stops = k.stops;
+    } in
+    subst (Kept d b) (sym a.same) kept

@@ -1,0 +1,12 @@
+use Rattle.std.proofs.Common.{sym, subst}
+use Rattle.ctr_world.specs.World.{Ends}
+use Rattle.ctr_world.proofs.OpenLemmas.{ended}
+use Rattle.ctr_world.proofs.world.World.finish.Goals as goal
+
+pub returns-clause-ends : goal.returns-clause-ends
+returns-clause-ends g c = λ base told stands.
+    let d = g.D.Disk in
+    let b = g.B.Opening in
+    let w = c.run.new.self in
+    subst (λ es. Ends d b base es w.stop w.disk) (sym c.from_vec.ensures)
+    (ended d g.met.D.Disk.only_now c.states_grow.ensures c.legal_states_are_sound.ensures b w c.run.ensures.kept c.run.ensures.none base told stands)
