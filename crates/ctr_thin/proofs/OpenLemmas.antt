@@ -1,6 +1,6 @@
 -- What the root and the log that it names say of the image.
 use Rattle.std.proofs.Common.{◌≡◌, ◌≢◌, ◌+◌, ◌<◌, ◌≤◌, ◌^◌, ◌-◌, ℕ, List, [], ◌∷◌, ◌++◌, length, sym, ◌∙◌, ap, subst, arith, Option, Some, None, append_assoc, length-append}
-use Rattle.std.specs.Prelude.{codes, Ok}
+use Rattle.std.specs.Prelude.{codes, Result, Ok, Err, OnOk}
 use Rattle.ctr_bytes.specs.Fields.{spelled, field}
 use Rattle.ctr_bytes.proofs.FieldLaws.{field_at, length-spelled}
 use Rattle.ctr_disk.specs.declared.disk.Image.{Image}
@@ -8,6 +8,9 @@ use Rattle.ctr_types.specs.declared.file.File.{File}
 use Rattle.ctr_disk.specs.declared.fault.Root.{Root}
 use Rattle.ctr_disk.specs.declared.fault.StoreFault.{StoreFault}
 use Rattle.ctr_disk.specs.declared.fault.StoreFault.TheVariants as store
+use Rattle.ctr_disk.specs.declared.disk.Disk.{Ghosts}
+use Rattle.ctr_disk.specs.Crash.{Only}
+use Rattle.ctr_disk.specs.Device.{OnlyReads, IsDurableFrom}
 use Rattle.ctr_disk.specs.Image.{content}
 use Rattle.ctr_log.specs.declared.reading.ReadError.{ReadError}
 use Rattle.ctr_log.specs.declared.reading.ReadError.TheVariants as read
@@ -20,7 +23,6 @@ use Rattle.ctr_log.specs.Reading.{log_file, HasSome, RefusesOrFails, ReadDiffers
 use Rattle.ctr_log.specs.Fresh.{first_checkpoint}
 use Rattle.ctr_model.specs.Database.{Database}
 use Rattle.ctr_rec.specs.Fold.{FoldsRecords}
-use Rattle.ctr_tables.specs.Tables.{database_of}
 use Rattle.ctr_thin.specs.declared.opening.Opened.{Opened}
 use Rattle.ctr_thin.specs.declared.opening.OpenError.{OpenError}
 use Rattle.ctr_thin.specs.declared.opening.OpenError.TheVariants as open_error
@@ -110,8 +112,8 @@ module _ {image mid : Image} {r : Root} (root_is : FoundRoot image mid r) where
     records_refused open_error.NoDatabase refused = absurd refused
     records_refused (open_error.Damaged f at want got) refused = (refused.0, not_none, λ db s low. refused.1 (db, (s.rs, records_of_image db s, s.folds)))
 
-    pub only_tables : OneFold → (made : Database) → MakesDatabase rs made → (db : Database) → StandsFor image db → made ≡ db
-    only_tables one made makes db s =
+    pub only_database : OneFold → (made : Database) → MakesDatabase rs made → (db : Database) → StandsFor image db → made ≡ db
+    only_database one made makes db s =
         let heads : first_checkpoint ∷ makes.0 ≡ first_checkpoint ∷ s.rs = sym makes.1 ∙ records_of_image db s in
         let rests : makes.0 ≡ s.rs = cc in
         one [] s.rs made db (subst (λ (l : List (List ℕ)). FoldsRecords [] l made) rests makes.2) s.folds
@@ -130,7 +132,7 @@ module _ {image mid : Image} {r : Root} (root_is : FoundRoot image mid r) where
             omega (arith, low, long, next_is_of, ap (λ (q : Root). q.first) root),
       )
 
-    pub was_opened : (o : Opened) → OpensLog r.first (log_file r.file) mid o.log rs → MakesDatabase rs (database_of o.tables) → o.log.first + length o.log.buffered < 2 ^ 62 → Opens image o
+    pub was_opened : (o : Opened) → OpensLog r.first (log_file r.file) mid o.log rs → MakesDatabase rs o.database → o.log.first + length o.log.buffered < 2 ^ 62 → Opens image o
     was_opened o opens makes low = record {
       stands = record {
         r = r;
@@ -165,3 +167,18 @@ records_differ P open_error.Fault is = tt
 
 pub next_differs : (file : File) (next : ℕ) → 2 ^ 62 ≤ next → OpenDiffers (open_error.Damaged file 0 (2 ^ 62 - 1) next)
 next_differs file next high same = omega (arith, high, same)
+
+-- ---- what was pending
+
+-- reading leaves durable what was made so
+pub reads_settled : {D T E : Type 0} (g : Ghosts D) (old mid new : D) (result : Result T E) → ((d : D) (c : Image) → g.since d (g.moment_of d) c → g.images d c) → ((d : D) (s t : ℕ) (c : Image) → s ≤ t → g.since d t c → g.since d s c)
+    → IsDurableFrom g old mid → OnlyReads g mid new → g.moment_of mid ≤ g.moment_of new → OnOk result (IsDurableFrom g old new)
+reads_settled g old mid new (Err e) only_now earlier settled quiet later = tt
+reads_settled g old mid new (Ok x) only_now earlier settled quiet later =
+    let only : Only (g.reads new) (g.images new) = λ i left. settled.now i (quiet.now i left) ∙ sym quiet.same in
+    let rises = settled.rises in
+    record {
+      rises = omega (arith, rises, later);
+      now = only;
+      since = λ t late i left. only i (only_now new i (earlier new (g.moment_of new) t i late left));
+    }

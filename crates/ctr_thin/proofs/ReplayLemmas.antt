@@ -7,7 +7,7 @@ use Rattle.ctr_types.specs.declared.value.Schema.{Schema}
 use Rattle.ctr_model.specs.declared.database.Table.{Table}
 use Rattle.ctr_model.specs.declared.database.Change.{Change}
 use Rattle.ctr_model.specs.declared.database.Change.TheVariants as change
-use Rattle.ctr_model.specs.Database.{Database, table_at, at_table, with_row, changed, after}
+use Rattle.ctr_model.specs.Database.{Database, table_at, changed, after}
 use Rattle.ctr_rec.specs.declared.item.Item.{Item}
 use Rattle.ctr_rec.specs.declared.item.Item.TheVariants as item
 use Rattle.ctr_rec.specs.declared.decoding.RecordError.{RecordError}
@@ -15,7 +15,9 @@ use Rattle.ctr_rec.specs.declared.decoding.RecordError.TheVariants as record_err
 use Rattle.ctr_value.specs.declared.payload.PayloadError.{PayloadError}
 use Rattle.ctr_value.specs.declared.payload.PayloadError.TheVariants as payload
 use Rattle.ctr_value.specs.Payload.{IsRowOf, IsNoPayload as RefusesPayload}
-use Rattle.ctr_rec.specs.Fold.{HasTable, StandAll, Folds, FoldsRecord, FoldsRecords}
+use Rattle.ctr_versions.specs.Keys.{schema_named}
+use Rattle.ctr_rec.specs.Items.{Fits, ColumnsFit}
+use Rattle.ctr_rec.specs.Fold.{HasTable, HasSchemas, Stands, StandAll, Folds, FoldsRecord, FoldsRecords}
 use Rattle.ctr_thin.specs.Opening.{of_payload}
 use Rattle.ctr_thin.specs.Thin.{Applies, CanApply, RefusesRecord}
 
@@ -30,12 +32,16 @@ table_has : (found : Option Table) (s : Schema) → Some s ≡ option_map (λ (t
 table_has None s is = cc
 table_has (Some table) s is = (table, refl, cc)
 
-pub put_done : (old mid new : Database) (t p : List ℕ) (k read wrote : ℤ) (row : Row) (s : Schema) → read ≡ k → wrote ≡ k → Some s ≡ option_map (λ (u : Table). u.schema) (table_at old t) → IsRowOf s.columns read p row.values → mid ≡ old
-    → new ≡ at_table t (with_row wrote row) mid → Applies old (item.Put t k p) new
-put_done old mid new t p k read wrote row s read_is wrote_is found is same put =
+pub put_done : (old new : Database) (t p : List ℕ) (k read wrote : ℤ) (row : Row) (s : Schema) → read ≡ k → wrote ≡ k → Some s ≡ schema_named old t → IsRowOf s.columns read p row.values
+    → new ≡ changed (change.Put t wrote row) old → Applies old (item.Put t k p) new
+put_done old new t p k read wrote row s read_is wrote_is found is put =
     let table = table_has (table_at old t) s found in
     let there : HasTable old t (λ (u : Table). IsRowOf u.schema.columns k p row.values) = (table.0, table.1, subst (λ (z : Schema). IsRowOf z.columns k p row.values) (sym table.2) (subst (λ (z : ℤ). IsRowOf s.columns z p row.values) read_is is)) in
-    (change.Put t k row, (row, refl, there), put ∙ ap (λ (z : ℤ). at_table t (with_row z row) mid) wrote_is ∙ ap (at_table t (with_row k row)) same)
+    (change.Put t k row, (row, refl, there), put ∙ ap (λ (z : ℤ). changed (change.Put t z row) old) wrote_is)
+
+-- the columns of a table that was found are those of rows that can be read
+pub columns_of_found : (db : Database) (t : List ℕ) (s : Schema) → ((name : List ℕ) (table : Table) → table_at db name ≡ Some table → ColumnsFit table.schema.columns) → Some s ≡ schema_named db t → ColumnsFit s.columns
+columns_of_found db t s fit found = let table = table_has (table_at db t) s found in subst (λ (z : Schema). ColumnsFit z.columns) table.2 (fit t table.0 table.1)
 
 -- no row has a payload that was refused
 pub put_refused : (db : Database) (t p : List ℕ) (k read : ℤ) (s : Schema) (Bad : ℕ → ℕ → ℕ → Type 0) → read ≡ k → Some s ≡ option_map (λ (u : Table). u.schema) (table_at db t) → (e : PayloadError)
@@ -52,6 +58,10 @@ put_refused db t p k read s Bad read_is found (payload.Bad at want got) refused 
     subst (RefusesRecord (CanApply db (item.Put t k p))) (sym is) (refused.1, none)
 
 -- ---- items
+
+-- the tables keep such schemas
+pub schemas_applied : ((db : Database) (i : Item) (c : Change) → Fits i → Stands db i c → HasSchemas db → HasSchemas (changed c db)) → (db : Database) (i : Item) (new : Database) → Fits i → HasSchemas db → Applies db i new → HasSchemas new
+schemas_applied stay db i new fits has a = subst HasSchemas (sym a.2) (stay db i a.0 fits a.1 has)
 
 -- items stand for one list of changes at most
 abbrev pub OneMeaning : Type 0
@@ -85,6 +95,9 @@ first_applies db i is new f = first_of_all db i is f.0 f.1
 -- records leave one database at most
 abbrev pub OneFold : Type 0
 OneFold = (db : Database) (rs : List (List ℕ)) (a b : Database) → FoldsRecords db rs a → FoldsRecords db rs b → a ≡ b
+
+pub schemas_folded : ((db : Database) (rs : List (List ℕ)) (new : Database) → FoldsRecords db rs new → HasSchemas db → HasSchemas new) → (db : Database) (r : List ℕ) (new : Database) → HasSchemas db → FoldsRecord db r new → HasSchemas new
+schemas_folded keep db r new has f = keep db (r ∷ []) new (new, f, refl) has
 
 pub records_left : OneFold → (db : Database) (r : List ℕ) (rs : List (List ℕ)) (mid new : Database) → FoldsRecord db r mid → FoldsRecords db (r ∷ rs) new → FoldsRecords mid rs new
 records_left one db r rs mid new a f =

@@ -15,7 +15,6 @@ use Rattle.ctr_rec.specs.declared.item.Item.{Item}
 use Rattle.ctr_rec.specs.declared.decoding.RecordError.{RecordError}
 use Rattle.ctr_rec.specs.declared.decoding.RecordError.TheVariants as record_error
 use Rattle.ctr_rec.specs.Fold.{Stands, Folds, FoldsRecord, FoldsRecords}
-use Rattle.ctr_tables.specs.Tables.{database_of}
 use Rattle.ctr_thin.specs.declared.opening.Opened.{Opened}
 use Rattle.ctr_thin.specs.declared.opening.OpenError.{OpenError}
 use Rattle.ctr_thin.specs.declared.opening.OpenError.TheVariants.{NoDatabase, Damaged, Fault, OutOfMemory}
@@ -91,10 +90,10 @@ RefusesToOpen P (Damaged file at want got) = (want ≢ got) × (P → ⊥)
 RefusesToOpen P NoDatabase = ⊥
 RefusesToOpen P Fault = ⊥
 
--- the tables are those of the database that the image stands for, and the log's writer goes on
--- behind the log with nothing to flush
+-- the database is the one that the image stands for, and the log's writer goes on behind the log
+-- with nothing to flush
 pub record Opens (image : Image) (o : Opened) : Type 0 where
-  pub stands : StandsFor image (database_of o.tables)
+  pub stands : StandsFor image o.database
   pub low : IsLow stands.r stands.bs
   pub file : o.log.file ≡ log_file stands.r.file
   pub goes_on : GoesOn stands.r.first stands.bs o.log image

@@ -1,10 +1,9 @@
-// Opening a database: the root, the log that it names, and the tables that its records make.
+// Opening a database: the root, the log that it names, and the database that its records make.
 ghost use Rattle.std.specs.Prelude.{◌≡◌, ◌≢◌, ◌≤◌, ◌<◌, ◌-◌, ◌^◌, IsTrue, ℕ, [], None, Err, IfOk, IfErr, OnOk, MatchResult};
-ghost use Rattle.ctr_disk.specs.Device.{OnlyReads, CountsAs, IsDurableFrom};
+ghost use Rattle.ctr_disk.specs.Device.{OnlyReads, Counts, CountsAs, IsDurableFrom};
 ghost use Rattle.ctr_log.specs.Homes.{IsRoot};
 ghost use Rattle.ctr_log.specs.Reading.{log_file};
 ghost use Rattle.ctr_model.specs.Database.{Database};
-ghost use Rattle.ctr_tables.specs.Tables.{database_of};
 ghost use Rattle.ctr_thin.specs.declared.opening.OpenError.TheVariants.{Damaged, Fault};
 ghost use Rattle.ctr_thin.specs.Opening.{of_record};
 ghost use Rattle.ctr_thin.specs.Thin.{StandsFor, Opens, Explains, OpenDiffers, IsExplained, MakesDatabase, MakesSomeDatabase, RefusesToOpen};
@@ -14,18 +13,18 @@ use ctr_disk::{Disk, Failed, Root, StoreFault};
 use ctr_home::read_thin_root;
 use ctr_log::{LogFile, Lsn, ReadError, is_first_checkpoint, read_named};
 use ctr_rec::{RecordError, fold_is_one};
-use ctr_tables::Tables;
-use ctr_types::{File, Text};
+use ctr_rows::Loader;
+use ctr_types::{File, OutOfMemory, Text};
 use std::alloc::Global;
 
 /// The first number that no record of a database that can be opened has: 2^62.
 const LSN_END: Lsn = 1 << 62;
 
-/// A database that was opened: the writer of its log, and its tables.
+/// A database that was opened: the writer of its log, and what its records make.
 #[derive(Drop)]
 pub struct Opened {
     pub log: LogFile,
-    pub tables: Tables,
+    pub database: Loader,
 }
 
 /// Why a database wasn't opened.
@@ -51,6 +50,16 @@ impl From<Failed> for OpenError {
 
     fn from(_: Failed) -> OpenError {
         OpenError::Fault
+    }
+}
+
+impl From<OutOfMemory> for OpenError {
+    ghost use Rattle.ctr_thin.specs.declared.opening.OpenError.TheVariants as open_error;
+
+    ghost from_gives = { λ _ e. e ≡ open_error.OutOfMemory };
+
+    fn from(_: OutOfMemory) -> OpenError {
+        OpenError::OutOfMemory
     }
 }
 
@@ -150,9 +159,9 @@ fn bad_record(file: File, error: RecordError) -> OpenError
     }
 }
 
-// The tables that a log's records make.
-fn load(alloc: Global, file: File, records: &[Text]) -> Result<Tables, OpenError>
-    ensures found { IfOk result (λ t. MakesDatabase records.now (database_of t)) }
+// The database that a log's records make.
+fn load(alloc: Global, file: File, records: &[Text]) -> Result<Loader, OpenError>
+    ensures found { IfOk result (MakesDatabase records.now) }
     ensures refused { IfErr result (RefusesToOpen (MakesSomeDatabase records.now)) }
 {
     let Some((first, others)) = records.split_first() else {
@@ -161,9 +170,9 @@ fn load(alloc: Global, file: File, records: &[Text]) -> Result<Tables, OpenError
     if !is_first_checkpoint(first.as_slice()) {
         return Err(no_checkpoint(file));
     }
-    let mut tables = Tables::new(alloc);
-    match replay(alloc, &mut tables, others) {
-        Ok(()) => Ok(tables),
+    let mut database = Loader::new(alloc)?;
+    match replay(alloc, &mut database, others) {
+        Ok(()) => Ok(database),
         Err(error) => Err(bad_record(file, error)),
     }
 }
@@ -186,7 +195,7 @@ fn check_next(file: File, next: Lsn) -> Result<(), OpenError>
 // What the root and the log that it names make.
 fn read_database<D: Disk>(alloc: Global, disk: &mut D) -> Result<Opened, OpenError>
     ensures opened { IsTrue D.tells → IfOk result (Opens (D.reads disk.old)) }
-    ensures only { (db : Database) → IsTrue D.tells → StandsFor (D.reads disk.old) db → IfOk result (λ o. database_of o.tables ≡ db) }
+    ensures only { (db : Database) → IsTrue D.tells → StandsFor (D.reads disk.old) db → IfOk result (λ o. o.database ≡ db) }
     ensures refused { IsTrue D.tells → IfErr result (Explains (D.reads disk.old)) }
     ensures differs { IfErr result OpenDiffers }
     ensures next { IfOk result (λ o. (o.log.first < 2 ^ 62) × (o.log.buffered ≡ [])) }
@@ -200,17 +209,26 @@ fn read_database<D: Disk>(alloc: Global, disk: &mut D) -> Result<Opened, OpenErr
     check_root(&root)?;
     let (log, records) = read_named(alloc, disk, &root)?;
     let file = named_file(&root);
-    let tables = load(alloc, file, records.as_slice())?;
+    let database = load(alloc, file, records.as_slice())?;
     check_next(file, log.next())?;
-    Ok(Opened { log, tables })
+    Ok(Opened { log, database })
+}
+
+// What is pending becomes durable.
+fn settle<D: Disk>(disk: &mut D) -> Result<(), Failed>
+    ensures quiet { OnlyReads D.Disk disk.old disk.new }
+    ensures settled { OnOk result (IsDurableFrom D.Disk disk.old disk.new) }
+    ensures counts { Counts D.Disk disk.old disk.new result }
+{
+    disk.sync()
 }
 
 /// Opens the database of a disk, in time linear in its log, or in the log's file where that has none,
-/// times the logarithm of its tables. It writes nothing, and what was pending is durable after Ok.
+/// times the logarithm of its size. It writes nothing, and what was pending is durable after Ok.
 pub fn open<D: Disk>(alloc: Global, disk: &mut D) -> Result<Opened, OpenError>
     // What is opened is the database that the image stands for.
     ensures opened { IsTrue D.tells → IfOk result (Opens (D.reads disk.old)) }
-    ensures only { (db : Database) → IsTrue D.tells → StandsFor (D.reads disk.old) db → IfOk result (λ o. database_of o.tables ≡ db) }
+    ensures only { (db : Database) → IsTrue D.tells → StandsFor (D.reads disk.old) db → IfOk result (λ o. o.database ≡ db) }
     // The log's writer has nothing to flush, and numbers are left for further records.
     ensures next { IfOk result (λ o. (o.log.first < 2 ^ 62) × (o.log.buffered ≡ [])) }
     // There is no root, or the image stands for no database that can be opened.
@@ -220,6 +238,6 @@ pub fn open<D: Disk>(alloc: Global, disk: &mut D) -> Result<Opened, OpenError>
     ensures settled { OnOk result (IsDurableFrom D.Disk disk.old disk.new) }
     ensures counts { CountsAs D.Disk Fault disk.old disk.new result }
 {
-    disk.sync()?;
+    settle(disk)?;
     read_database(alloc, disk)
 }

@@ -1,8 +1,7 @@
 use Rattle.std.proofs.Common.{◌<◌, ◌^◌, List, ℕ, subst}
 use Rattle.std.proofs.lemmas.Result.{err_from_is_err_and}
-use Rattle.ctr_tables.specs.Tables.{database_of}
 use Rattle.ctr_thin.specs.Thin.{MakesDatabase, MakesSomeDatabase, RefusesToOpen}
-use Rattle.ctr_thin.proofs.OpenLemmas.{found, log_refused, records_refused, next_refused, was_opened, only_tables, store_differs, log_differs, records_differ, next_differs}
+use Rattle.ctr_thin.proofs.OpenLemmas.{found, log_refused, records_refused, next_refused, was_opened, only_database, store_differs, log_differs, records_differ, next_differs}
 use Rattle.ctr_thin.proofs.opening.read_database.Goals as goal
 
 pub returns-in_err-log-clause-refused : goal.returns-in_err-log-clause-refused
@@ -10,12 +9,12 @@ returns-in_err-log-clause-refused g c told =
     let p = err_from_is_err_and c.from_residual-in_err-log.result c.from_residual-in_err-log.ensures.1 in
     rw (p.1, p.2) (log_refused (found c.in-Some.is (c.in_ok-root.ensures.answer told) c.in_ok-root.ensures.quiet.same) c.in_err-log.field-0.0 (c.in_err-log.ensures.refused told))
 
-pub returns-in_err-tables-clause-refused : goal.returns-in_err-tables-clause-refused
-returns-in_err-tables-clause-refused g c told =
-    let p = err_from_is_err_and c.from_residual-in_err-tables.result c.from_residual-in_err-tables.ensures.1 in
-    let e = c.in_err-tables.field-0.0 in
+pub returns-in_err-database-clause-refused : goal.returns-in_err-database-clause-refused
+returns-in_err-database-clause-refused g c told =
+    let p = err_from_is_err_and c.from_residual-in_err-database.result c.from_residual-in_err-database.ensures.1 in
+    let e = c.in_err-database.field-0.0 in
     rw (p.1, p.2) (records_refused (found c.in-Some.is (c.in_ok-root.ensures.answer told) c.in_ok-root.ensures.quiet.same) (λ bs log. c.in_ok-log.ensures.only bs told log) e
-    (subst (λ (l : List (List ℕ)). RefusesToOpen (MakesSomeDatabase l) e) c.as_slice.ensures c.in_err-tables.ensures.refused))
+    (subst (λ (l : List (List ℕ)). RefusesToOpen (MakesSomeDatabase l) e) c.as_slice.ensures c.in_err-database.ensures.refused))
 
 pub returns-in_err-check_next-clause-refused : goal.returns-in_err-check_next-clause-refused
 returns-in_err-check_next-clause-refused g c told =
@@ -26,16 +25,16 @@ returns-in_err-check_next-clause-refused g c told =
 
 pub returns-clause-opened : goal.returns-clause-opened
 returns-clause-opened g c told =
-    let tables = c.in_ok-tables.tables in
-    was_opened (found c.in-Some.is (c.in_ok-root.ensures.answer told) c.in_ok-root.ensures.quiet.same) (λ bs log. c.in_ok-log.ensures.only bs told log) (record { log = c.in_ok-log.log; tables = tables }) (c.in_ok-log.ensures.found told)
-    (subst (λ (l : List (List ℕ)). MakesDatabase l (database_of tables)) c.as_slice.ensures c.in_ok-tables.ensures.found)
+    let database = c.in_ok-database.database in
+    was_opened (found c.in-Some.is (c.in_ok-root.ensures.answer told) c.in_ok-root.ensures.quiet.same) (λ bs log. c.in_ok-log.ensures.only bs told log) (record { log = c.in_ok-log.log; database = database }) (c.in_ok-log.ensures.found told)
+    (subst (λ (l : List (List ℕ)). MakesDatabase l database) c.as_slice.ensures c.in_ok-database.ensures.found)
     (subst (λ (n : ℕ). n < 2 ^ 62) c.next.ensures c.in_ok-check_next.ensures)
 
 pub returns-clause-only : goal.returns-clause-only
 returns-clause-only g c db told =
-    let made = database_of c.in_ok-tables.tables in
-    only_tables (found c.in-Some.is (c.in_ok-root.ensures.answer told) c.in_ok-root.ensures.quiet.same) (λ bs log. c.in_ok-log.ensures.only bs told log) c.fold_is_one.ensures made
-    (subst (λ (l : List (List ℕ)). MakesDatabase l made) c.as_slice.ensures c.in_ok-tables.ensures.found) db
+    let made = c.in_ok-database.database in
+    only_database (found c.in-Some.is (c.in_ok-root.ensures.answer told) c.in_ok-root.ensures.quiet.same) (λ bs log. c.in_ok-log.ensures.only bs told log) c.fold_is_one.ensures made
+    (subst (λ (l : List (List ℕ)). MakesDatabase l made) c.as_slice.ensures c.in_ok-database.ensures.found) db
 
 pub returns-in_err-root-clause-differs : goal.returns-in_err-root-clause-differs
 returns-in_err-root-clause-differs g c =
@@ -47,10 +46,10 @@ returns-in_err-log-clause-differs g c =
     let p = err_from_is_err_and c.from_residual-in_err-log.result c.from_residual-in_err-log.ensures.1 in
     rw (p.1, p.2) (log_differs c.in_err-log.field-0.0 c.in_err-log.ensures.differs)
 
-pub returns-in_err-tables-clause-differs : goal.returns-in_err-tables-clause-differs
-returns-in_err-tables-clause-differs g c =
-    let p = err_from_is_err_and c.from_residual-in_err-tables.result c.from_residual-in_err-tables.ensures.1 in
-    rw (p.1, p.2) (records_differ _ c.in_err-tables.field-0.0 c.in_err-tables.ensures.refused)
+pub returns-in_err-database-clause-differs : goal.returns-in_err-database-clause-differs
+returns-in_err-database-clause-differs g c =
+    let p = err_from_is_err_and c.from_residual-in_err-database.result c.from_residual-in_err-database.ensures.1 in
+    rw (p.1, p.2) (records_differ _ c.in_err-database.field-0.0 c.in_err-database.ensures.refused)
 
 pub returns-in_err-check_next-clause-differs : goal.returns-in_err-check_next-clause-differs
 returns-in_err-check_next-clause-differs g c =
