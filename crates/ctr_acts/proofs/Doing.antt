@@ -1,6 +1,6 @@
 -- A Write: what was prepared is the model's, and the model's next state is shown.
 use Rattle.std.proofs.Common.{◌≡◌, ℕ, ℤ, ◌∷◌, ◌++◌, [], List, Option, Some, None, refl, sym, ◌∙◌, ap, subst}
-use Rattle.std.specs.Prelude.{is_some, is_none}
+use Rattle.std.specs.Prelude.{Bool, true, false, is_some, is_none}
 use Rattle.std.specs.Ordering.{nat_cmp}
 use Rattle.std.specs.FinMap.Entries.{find}
 use Rattle.std.proofs.lemmas.Bool.{false≢true}
@@ -11,6 +11,7 @@ use Rattle.ctr_types.specs.declared.statement.Statement.{Statement}
 use Rattle.ctr_types.specs.declared.statement.Statement.TheVariants as st
 use Rattle.ctr_types.specs.declared.tape.Act.TheVariants as act
 use Rattle.ctr_types.specs.declared.tape.Refusal.{Refusal}
+use Rattle.ctr_types.specs.declared.tape.Refusal.TheVariants as refusal
 use Rattle.ctr_types.specs.declared.tape.Reply.{Reply}
 use Rattle.ctr_types.specs.declared.tape.Reply.TheVariants as reply
 use Rattle.ctr_model.specs.declared.database.Change.{Change}
@@ -19,7 +20,7 @@ use Rattle.ctr_model.specs.declared.state.State.{State}
 use Rattle.ctr_model.specs.declared.state.Transaction.{Transaction}
 use Rattle.ctr_model.specs.Database.{Database}
 use Rattle.ctr_model.specs.State.{transaction_of, view, with_transaction, same_name}
-use Rattle.ctr_model.specs.Refusals.{table_of, key_written, changes_schema, write_refusal}
+use Rattle.ctr_model.specs.Refusals.{table_of, key_written, changes_schema, write_refusal, when, updated}
 use Rattle.ctr_model.specs.Reply.{refused_or, changes_of}
 use Rattle.ctr_versions.specs.Chains.{value_seen}
 use Rattle.ctr_versions.specs.Keys.{row_written}
@@ -40,7 +41,7 @@ use Rattle.ctr_sessions.specs.Steps.{RowShows, NameShows}
 use Rattle.ctr_sessions.specs.Sessions.{ShowsBegun}
 use Rattle.ctr_acts.specs.declared.prepared.Prepared.{Prepared}
 use Rattle.ctr_acts.specs.declared.prepared.Prepared.TheVariants as prepared
-use Rattle.ctr_acts.specs.Acts.{ActsHeld, begun_of, ShowsActs, ActReplies}
+use Rattle.ctr_acts.specs.Acts.{ActsHeld, begun_of, ShowsActs, ActReplies, IsNotFull}
 use Rattle.ctr_acts.specs.Seats.{seat_at}
 use Rattle.ctr_acts.specs.Writing.{made_for, row_for, put_or, put_for, put_by, CanWrite, WriteKeeps, WriteLeavesOthers}
 use Rattle.ctr_acts.proofs.Ending.{session, here, me_is, open_writer}
@@ -91,6 +92,34 @@ or_makes schema (Some why) row is = never schema (ap made_schema is)
 pub or_drops : (r : Option Refusal) (row : Option Row) → prepared.Drops ≡ put_or r row → ⊥
 or_drops None row is = never tt (ap drops is)
 or_drops (Some why) row is = never tt (ap drops is)
+
+-- what is refused isn't for want of room
+abbrev IsFine : Prepared → Type 0
+IsFine (prepared.Refused why) = IsNotFull (reply.Refused why)
+IsFine (prepared.Puts row) = Unit {0}
+IsFine (prepared.Makes schema) = Unit {0}
+IsFine prepared.Drops = Unit {0}
+
+when_fine : (b : Bool) (why : Refusal) (row : Option Row) → IsNotFull (reply.Refused why) → IsFine (put_or (when b why) row)
+when_fine false why row fine = tt
+when_fine true why row fine = fine
+
+put_fine : (cs : List Column) (statement : Statement) (row : Option Row) → IsFine (put_for cs statement row)
+put_fine cs st.Begin row = tt
+put_fine cs st.Commit row = tt
+put_fine cs st.Rollback row = tt
+put_fine cs (st.Create table schema) row = tt
+put_fine cs (st.DropTable table) row = tt
+put_fine cs (st.Insert table values) row = when_fine (is_some row) refusal.Duplicate (row_left cs (st.Insert table values) row) tt
+put_fine cs (st.Select table at) row = tt
+put_fine cs (st.Update table sets at) None = tt
+put_fine cs (st.Update table sets at) (Some row) = when_fine (is_none (updated cs sets row)) refusal.OutOfRange (row_left cs (st.Update table sets at) (Some row)) tt
+put_fine cs (st.Delete table at) row = when_fine (is_none row) refusal.NotFound (row_left cs (st.Delete table at) row) tt
+
+pub refused_fine : (s : ℕ) (statement : Statement) (engine : HeldEngine) (name : List ℕ) → table_of statement ≡ Some name → (why : Refusal) → CanWrite engine s statement (prepared.Refused why) → IsNotFull (reply.Refused why)
+refused_fine s statement engine name named why can =
+    let made = made_for engine s name in
+    subst IsFine (sym (can.prepared name named)) (put_fine (columns_seen made) statement (row_for engine s made (key_written statement)))
 
 -- a statement that writes a row has that to do
 pub put_is : (cs : List Column) (statement : Statement) (row : Option Row) (key : ℤ) → key_written statement ≡ Some key → put_for cs statement row ≡ put_or (write_refused cs statement row) (row_left cs statement row)

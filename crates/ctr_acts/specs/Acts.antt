@@ -3,7 +3,9 @@
 use Rattle.std.specs.Prelude.{◌≡◌, ℕ, ◌+◌, List, [], ◌∷◌, ◌++◌, length, Some, None}
 use Rattle.ctr_types.specs.declared.statement.Statement.{Statement}
 use Rattle.ctr_types.specs.declared.tape.Act.{Act}
+use Rattle.ctr_types.specs.declared.tape.Refusal.TheVariants as refusal
 use Rattle.ctr_types.specs.declared.tape.Reply.{Reply}
+use Rattle.ctr_types.specs.declared.tape.Reply.TheVariants as reply
 use Rattle.ctr_model.specs.declared.state.State.{State}
 use Rattle.ctr_model.specs.declared.state.Transaction.{Transaction}
 use Rattle.ctr_model.specs.State.{transaction_of, with_transaction, without_transaction, begun}
@@ -51,6 +53,12 @@ abbrev pub ActKeeps : ℕ → Act → Statement → ActsHeld → ActsHeld → Re
 ActKeeps s a statement old new r = (low : ℕ) (state : State) → ShowsActs low old state
     → IsKept state → IsReady state statement a (transaction_of state s) → IsInTurn state s a
     → ActReplies low new state s a (statement, r)
+
+-- it is no refusal for want of room in the files: of a free entry of the catalog, or of a free page
+abbrev pub IsNotFull : Reply → Type 0
+IsNotFull (reply.Refused (refusal.CatalogFull limit)) = ⊥
+IsNotFull (reply.Refused (refusal.Full limit)) = ⊥
+IsNotFull r = Unit {0}
 
 -- ---- a start
 

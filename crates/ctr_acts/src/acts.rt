@@ -8,7 +8,7 @@ ghost use Rattle.ctr_versions.specs.Laws.{IsOpenWriter};
 ghost use Rattle.ctr_rows.specs.Running.{IsAtRest, engine_of};
 ghost use Rattle.ctr_model.specs.Database.{Database};
 ghost use Rattle.ctr_model.specs.State.{at_rest};
-ghost use Rattle.ctr_acts.specs.Acts.{ShowsActs, ActKeeps, Starts, ActsStay, Leaves, RollsBack, IsMarked, Asks};
+ghost use Rattle.ctr_acts.specs.Acts.{ShowsActs, ActKeeps, IsNotFull, Starts, ActsStay, Leaves, RollsBack, IsMarked, Asks};
 ghost use Rattle.ctr_locks.specs.Held.{IsEntered};
 ghost use Rattle.ctr_acts.specs.Seats.{RefusesAlike, Reads, ReadsNot};
 ghost use Rattle.ctr_acts.specs.Writing.{CanWrite, OthersCan, OthersCanWrite};
@@ -243,6 +243,7 @@ impl Acts {
         requires can { CanWrite self.old.engine s statement.now prepared }
         requires few { self.old.engine.store.next < 2 ^ 64 - 1 }
         ensures keeps { ActKeeps s act.Write statement.now self.old self.new result }
+        ensures not_full { IsNotFull result }
         ensures others { OthersCanWrite s act.Write statement.now self.old self.new }
         ensures next { self.new.engine.store.next ≤ self.old.engine.store.next + 1 }
     {

@@ -5,6 +5,7 @@ ghost use Rattle.ctr_model.specs.Refusals.{table_of};
 ghost use Rattle.ctr_versions.specs.Laws.{IsOpenWriter};
 ghost use Rattle.ctr_rows.specs.Running.{engine_of};
 ghost use Rattle.ctr_acts.specs.declared.prepared.Prepared.TheVariants as prepared;
+ghost use Rattle.ctr_acts.specs.Acts.{IsNotFull};
 ghost use Rattle.ctr_acts.specs.Writing.{CanWrite, WriteKeeps, WriteLeavesOthers};
 
 use crate::prepared::Prepared;
@@ -73,6 +74,7 @@ pub fn done(engine: &mut Engine, s: u8, statement: &Statement, prepared: Prepare
     requires can { CanWrite engine.old s statement.now prepared }
     requires few { engine.old.store.next < 2 ^ 64 - 1 }
     ensures keeps { WriteKeeps s statement.now engine.old engine.new result }
+    ensures not_full { IsNotFull result }
     ensures others { WriteLeavesOthers s statement.now engine.old engine.new }
     ensures next { engine.new.store.next ≤ engine.old.store.next + 1 }
 {

@@ -19,6 +19,7 @@ use Rattle.ctr_legal.specs.Ready.{IsNext, IsReached}
 use Rattle.ctr_legal.specs.Laws.{LegalTapesAreReached, LegalTapesGrow, RepliesTell, WaitingAreAnswered, IsTold}
 use Rattle.ctr_log.specs.Logs.{Log}
 use Rattle.ctr_gather.specs.Records.{room_kept, IsSession, OthersAlike}
+use Rattle.ctr_acts.specs.Acts.{IsNotFull}
 use Rattle.ctr_acts.specs.Writing.{OthersCanWrite}
 use Rattle.ctr_turns.specs.Turns.{TurnsHeld, ShowsTurns, TurnReplies, TurnKeeps, HasRoom, AddsAtMost}
 use Rattle.ctr_steps.specs.declared.runners.Runner.{Runner}
@@ -26,7 +27,7 @@ use Rattle.ctr_steps.specs.declared.runners.Stage.TheVariants as stage
 use Rattle.ctr_steps.specs.declared.acting.Acted.{Acted}
 use Rattle.ctr_steps.specs.declared.steps.Steps.{Steps}
 use Rattle.ctr_steps.specs.Runners.{made_at, runner_at, after_stage, finished_with, all_left}
-use Rattle.ctr_steps.specs.Steps.{Walks, HasBounds, AskedFor, WaitsFor, AreAnswered, noted, reached_by}
+use Rattle.ctr_steps.specs.Steps.{Walks, Walking, HasBounds, AddsEntry, AskedFor, WaitsFor, AreAnswered, noted, reached_by}
 use Rattle.ctr_steps.proofs.Telling.{unasked_number, IsAsk}
 use Rattle.ctr_steps.proofs.ByKind.{last_act, not_locked, not_waiting}
 use Rattle.ctr_steps.proofs.Moving.{reached_of, walks_on}
@@ -123,6 +124,9 @@ module _ (law : LegalTapesAreReached) (grow : LegalTapesGrow) (tell : RepliesTel
     replies : TurnReplies w.low (record { turns = turns; waiting = waiting }) from p.state s (act.Answer, (st.Commit, r))
     replies = keeps waiting w.low from p.state w.shows reached.kept tt in_turn
 
+    pub answer_not_full : IsNotFull r
+    answer_not_full = subst IsNotFull (sym (answer_is p.state s mine_asked.me r mine_asked.there replies.allowed)) tt
+
     told : IsTold p.state s st.Commit act.Answer r
     told = tell p.state s st.Commit act.Answer r reached.kept tt in_turn replies.allowed
 
@@ -188,6 +192,15 @@ module _ (old noted_new : Steps) (s moment : ℕ) (one : IsSession s old.turns.r
 
     pub answered_walks : LegalTapesAreReached → LegalTapesGrow → RepliesTell → (start : Point) (from : ℕ) (waiting : List (List ℕ)) → Walks start from old waiting moment → Walks start from new waiting moment
     answered_walks law grow tell start from waiting w = answer_walks law grow tell start from old waiting moment w s one asked turns r keeps others writes new turns_are script tape runners answered sessions
+
+    pub answered_entry : LegalTapesAreReached → LegalTapesGrow → RepliesTell → (waiting : List (List ℕ)) → Walking old waiting moment → AddsEntry s moment old new
+    answered_entry law grow tell waiting walking = record {
+      entry = noted s (runner_at s old.runners.items) (record { act = act.Answer; reply = r; stage = stage.Between }) moment;
+      tape = tape;
+      session = refl;
+      moment_is = refl;
+      not_full = answer_not_full law grow tell walking.start walking.from old waiting moment walking.walks s one asked turns r keeps others writes;
+    }
 
     module _ (log : Log) (bounds : HasBounds old log) where
       more : (runner_at s old.runners.items).finished < length (runner_at s old.runners.items).places

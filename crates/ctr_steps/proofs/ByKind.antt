@@ -13,6 +13,7 @@ use Rattle.ctr_model.specs.State.{transaction_of}
 use Rattle.ctr_model.specs.Tape.{acts_of, advanced, goes_on}
 use Rattle.ctr_log.specs.Logs.{Log}
 use Rattle.ctr_gather.specs.Records.{GatheredHeld, record_at, OthersAlike}
+use Rattle.ctr_acts.specs.Acts.{IsNotFull}
 use Rattle.ctr_acts.specs.Writing.{OthersCanWrite}
 use Rattle.ctr_turns.specs.declared.taking.Ready.{Ready}
 use Rattle.ctr_turns.specs.Turns.{TurnsHeld, HasRoom, AddsAtMost, AppendsAtMostOne}
@@ -40,6 +41,19 @@ IsAnswer (act.Release name) = ⊥
 
 pub no_answer : (a : Act) → (IsAnswer a → ⊥) → a ≢ act.Answer
 no_answer a not is = not (subst IsAnswer (sym is) tt)
+
+abbrev IsWrite : Act → Type 0
+IsWrite act.Begin = ⊥
+IsWrite act.Read = ⊥
+IsWrite act.Lock = ⊥
+IsWrite act.Write = Unit {0}
+IsWrite act.Ask = ⊥
+IsWrite act.Answer = ⊥
+IsWrite act.Rollback = ⊥
+IsWrite (act.Release name) = ⊥
+
+pub no_write : (a : Act) → (IsWrite a → ⊥) → a ≢ act.Write
+no_write a not is = not (subst IsWrite (sym is) tt)
 
 -- what stages have in them
 abbrev IsLockedStage : Stage → Type 0
@@ -109,12 +123,13 @@ module _ (s : ℕ) (statement : Statement) (old new : TurnsAndLog) (alike : Othe
   adds_more none = let tables = none.tables in let items = none.items in record { tables = omega (arith, tables); items = omega (arith, items) }
 
   -- the one act of its statement
-  pub one_act : (a : Act) (r : Reply) → ((state : State) → acts_of state s statement ≡ a ∷ []) → a ≢ act.Answer → a ≢ act.Ask → OthersCanWrite s a statement old.turns.acts new.turns.acts → AddsAtMost 0 s old.turns new.turns
+  pub one_act : (a : Act) (r : Reply) → ((state : State) → acts_of state s statement ≡ a ∷ []) → a ≢ act.Answer → a ≢ act.Ask → a ≢ act.Write → OthersCanWrite s a statement old.turns.acts new.turns.acts → AddsAtMost 0 s old.turns new.turns
       → IsActOfTurn 0 s statement old new (record { act = a; reply = r; stage = stage.Between })
-  one_act a r acts unanswered other writes adds = record {
+  one_act a r acts unanswered other unwritten writes adds = record {
     next_act = λ state. ap (λ xs. slice_get xs 0) (acts state);
     advances = λ state n tells. ap (λ xs. advanced xs r (record { finished = n; made = 0 })) (acts state) ∙ last_act (a ∷ []) r n 0 refl;
     unanswered = unanswered;
+    not_full = λ is. absurd (unwritten is);
     others = alike;
     writes = writes;
     ready = λ ready is. absurd (not_locked refl ready is);
@@ -134,6 +149,7 @@ module _ (s : ℕ) (statement : Statement) (old new : TurnsAndLog) (alike : Othe
     next_act = λ state. ap (λ xs. slice_get xs 0) (acts state);
     advances = λ state n tells. ap (λ xs. advanced xs (reply.Asked k) (record { finished = n; made = 0 })) (acts state);
     unanswered = no_answer act.Ask (λ is. is);
+    not_full = λ is. absurd (no_write act.Ask (λ no. no) is);
     others = alike;
     writes = writes;
     ready = λ ready is. absurd (two k ready is);
@@ -162,6 +178,7 @@ module _ (s : ℕ) (statement : Statement) (old new : TurnsAndLog) (alike : Othe
     next_act = λ state. ap (λ xs. slice_get xs 0) (acts state);
     advances = λ state n tells. ap (λ xs. advanced xs r (record { finished = n; made = 0 })) (acts state) ∙ ended_act (act.Ask ∷ act.Answer ∷ []) r n 0 (not_asked state s (transaction_of state s) statement r tells none);
     unanswered = no_answer act.Ask (λ is. is);
+    not_full = λ is. absurd (no_write act.Ask (λ no. no) is);
     others = alike;
     writes = writes;
     ready = λ ready is. absurd (not_locked refl ready is);
@@ -181,6 +198,7 @@ module _ (s : ℕ) (statement : Statement) (old new : TurnsAndLog) (alike : Othe
     next_act = λ state. ap (λ xs. slice_get xs 0) (acts state s);
     advances = λ state n tells. ap (λ xs. advanced xs reply.Granted (record { finished = n; made = 0 })) (acts state s);
     unanswered = no_answer act.Lock (λ is. is);
+    not_full = λ is. absurd (no_write act.Lock (λ no. no) is);
     others = alike;
     writes = writes;
     ready = λ other is. record { lock = refl; granted = refl; locks = acts; readies = subst (LockReadies s statement old.turns new.turns) (of_stage is) readies };
@@ -203,6 +221,7 @@ module _ (s : ℕ) (statement : Statement) (old new : TurnsAndLog) (alike : Othe
     next_act = λ state. ap (λ xs. slice_get xs 0) (acts state s);
     advances = λ state n tells. ap (λ xs. advanced xs (reply.Refused why) (record { finished = n; made = 0 })) (acts state s);
     unanswered = no_answer act.Lock (λ is. is);
+    not_full = λ is. absurd (no_write act.Lock (λ no. no) is);
     others = alike;
     writes = writes;
     ready = λ ready is. absurd (not_locked refl ready is);
@@ -216,12 +235,13 @@ module _ (s : ℕ) (statement : Statement) (old new : TurnsAndLog) (alike : Othe
   }
 
 -- a Write
-pub write_act : (s : ℕ) (statement : Statement) (old new : TurnsHeld) (log : Log) → OthersAlike s old.records new.records → HasRoom new log → (r : Reply) → LocksFirst statement → OthersCanWrite s act.Write statement old.acts new.acts → AddsAtMost 1 s old new
+pub write_act : (s : ℕ) (statement : Statement) (old new : TurnsHeld) (log : Log) → OthersAlike s old.records new.records → HasRoom new log → (r : Reply) → IsNotFull r → LocksFirst statement → OthersCanWrite s act.Write statement old.acts new.acts → AddsAtMost 1 s old new
     → IsActOfTurn 1 s statement (record { turns = old; log = log }) (record { turns = new; log = log }) (record { act = act.Write; reply = r; stage = stage.Between })
-write_act s statement old new log alike room r acts writes adds = record {
+write_act s statement old new log alike room r not_full acts writes adds = record {
   next_act = λ state. ap (λ xs. slice_get xs 1) (acts state s);
   advances = λ state n tells. ap (λ xs. advanced xs r (record { finished = n; made = 1 })) (acts state s) ∙ last_act (act.Lock ∷ act.Write ∷ []) r n 1 refl;
   unanswered = no_answer act.Write (λ is. is);
+  not_full = λ is. not_full;
   others = alike;
   writes = writes;
   ready = λ ready is. absurd (not_locked refl ready is);

@@ -3,6 +3,7 @@ pub mod Telling
 pub mod Moving
 pub mod Bounding
 pub mod ByKind
+pub mod Filling
 pub mod Walking
 pub mod Answering
 pub mod Needing

@@ -15,9 +15,9 @@ use Rattle.ctr_steps.specs.declared.acting.Acted.{Acted}
 use Rattle.ctr_steps.specs.declared.steps.Steps.{Steps}
 use Rattle.ctr_steps.specs.Runners.{made_at, runner_at, after_stage, finished_with, all_left}
 use Rattle.ctr_steps.specs.Acting.{IsActOfTurn, StepKeeps, both}
-use Rattle.ctr_steps.specs.Steps.{Walks, HasBounds, AddsEntry, noted}
+use Rattle.ctr_steps.specs.Steps.{Walks, Walking, HasBounds, AddsEntry, noted}
 use Rattle.ctr_steps.proofs.Moving.{taken_is, back_is}
-use Rattle.ctr_steps.proofs.Walking.{act_walks}
+use Rattle.ctr_steps.proofs.Walking.{act_walks, reply_not_full}
 use Rattle.ctr_steps.proofs.Bounding.{bounds_on, fewer}
 
 -- a statement's later act appends nothing
@@ -89,8 +89,14 @@ module _ (old mid new : Steps) (log log' : Log) (s moment : ℕ) (one : IsSessio
         (subst (λ (t : TurnsHeld). HasRoom t log') (sym turns_are) is_old.room) (let no_more = answered in omega (arith, no_more))
         (appends_by mine.stage log log' is_old.log.more is_old.quiet) (ap (λ (l : Log). l.first) is_old.log.same)
 
-    pub step_entry : AddsEntry s moment old new
-    step_entry = record { entry = noted s mine acted moment; tape = tape_is; session = refl; moment_is = refl }
+    pub step_entry : LegalTapesAreReached → LegalTapesGrow → RepliesTell → Walking old log.buffered moment → AddsEntry s moment old new
+    step_entry law grow tell walking = record {
+      entry = noted s mine acted moment;
+      tape = tape_is;
+      session = refl;
+      moment_is = refl;
+      not_full = reply_not_full law grow tell walking.start walking.from old log moment walking.walks s one statement named acted turns log' is_old keeps_old;
+    }
 
     pub step_fewer : all_left new.runners.items < all_left old.runners.items
     step_fewer = fewer old new log log' bounds s one acted.stage more is_old.ends alike adds script long roomy runners_are

@@ -14,6 +14,7 @@ use Rattle.ctr_legal.specs.Ready.{TellsOf, IsReady, IsReached}
 use Rattle.ctr_legal.specs.Laws.{LegalTapesAreReached, LegalTapesGrow, RepliesTell, IsTold}
 use Rattle.ctr_log.specs.Logs.{Log}
 use Rattle.ctr_gather.specs.Records.{IsSession, OthersAlike}
+use Rattle.ctr_acts.specs.Acts.{IsNotFull}
 use Rattle.ctr_acts.specs.Writing.{OthersCanWrite}
 use Rattle.ctr_turns.specs.declared.taking.Ready.{Ready}
 use Rattle.ctr_turns.specs.Turns.{TurnsHeld, ShowsTurns, TurnReplies, with_log}
@@ -26,6 +27,7 @@ use Rattle.ctr_steps.specs.Runners.{made_at, runner_at, after_stage}
 use Rattle.ctr_steps.specs.Acting.{IsActOfTurn, StepKeeps, both}
 use Rattle.ctr_steps.specs.Steps.{Walks, IsLocked, AskedFor, noted, reached_by}
 use Rattle.ctr_steps.proofs.Telling.{item_locked, asked_number, asked_for, unasked_number, one_number, answered_stays}
+use Rattle.ctr_steps.proofs.Filling.{act_not_full}
 use Rattle.ctr_steps.proofs.Moving.{reached_of, ready_for, walks_on}
 
 -- every act but an answer is in turn
@@ -63,6 +65,9 @@ module _ (law : LegalTapesAreReached) (grow : LegalTapesGrow) (tell : RepliesTel
 
     replies : TurnReplies w.low (with_log turns log') from p.state s (acted.act, (statement, acted.reply))
     replies = keeps w.low from p.state w.shows reached.kept ready in_turn (λ r locked. (w.left s statement r one locked given).left.item)
+
+    pub reply_not_full : IsNotFull acted.reply
+    reply_not_full = act_not_full p.state s statement acted.reply acted.act is.not_full replies.allowed
 
     told : IsTold p.state s statement acted.act acted.reply
     told = tell p.state s statement acted.act acted.reply reached.kept ready in_turn replies.allowed

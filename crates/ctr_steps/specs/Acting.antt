@@ -13,6 +13,7 @@ use Rattle.ctr_legal.specs.Kept.{IsKept}
 use Rattle.ctr_legal.specs.Ready.{TellsOf, IsReady}
 use Rattle.ctr_log.specs.Logs.{Log}
 use Rattle.ctr_gather.specs.Records.{OthersAlike}
+use Rattle.ctr_acts.specs.Acts.{IsNotFull}
 use Rattle.ctr_acts.specs.Writing.{OthersCanWrite}
 use Rattle.ctr_turns.specs.declared.taking.Ready.{Ready}
 use Rattle.ctr_turns.specs.Turns.{TurnsHeld, ShowsTurns, TurnReplies, with_log, HasRoom, AddsAtMost, AppendsAtMostOne}
@@ -46,8 +47,9 @@ pub record LeavesReady (s : ℕ) (statement : Statement) (old new : TurnsHeld) (
   pub readies : LockReadies s statement old new ready
 
 -- It is the act of the statement that comes after so many of it, and leaves the session where the
--- model does, as it was answered. The others' records are as they were, whoever of them was granted
--- a lock can write still, and a lock that was granted leaves what its Write wants.
+-- model does, as it was answered. A Write isn't refused for want of room in the files. The others'
+-- records are as they were, whoever of them was granted a lock can write still, and a lock that was
+-- granted leaves what its Write wants.
 pub record IsActOfTurn (made s : ℕ) (statement : Statement) (old new : TurnsAndLog) (made_act : Acted)
     : Type 0 where
   pub next_act : (state : State) → slice_get (acts_of state s statement) made ≡ Some made_act.act
@@ -56,6 +58,7 @@ pub record IsActOfTurn (made s : ℕ) (statement : Statement) (old new : TurnsAn
       → advanced (acts_of state s statement) made_act.reply (record { finished = n; made = made })
       ≡ record { finished = finished_with made_act.stage n; made = made_at made_act.stage }
   pub unanswered : made_act.act ≢ act.Answer
+  pub not_full : made_act.act ≡ act.Write → IsNotFull made_act.reply
   pub others : OthersAlike s old.turns.records new.turns.records
   pub writes : OthersCanWrite s made_act.act statement old.turns.acts new.turns.acts
   pub ready : (ready : Ready) → made_act.stage ≡ stage.Locked ready

@@ -12,6 +12,7 @@ use Rattle.ctr_model.specs.State.{transaction_of}
 use Rattle.ctr_model.specs.Tape.{progress_of, statement_of, final, Legal, at_start}
 use Rattle.ctr_log.specs.Logs.{Log}
 use Rattle.ctr_gather.specs.Records.{IsSession, record_at}
+use Rattle.ctr_acts.specs.Acts.{IsNotFull}
 use Rattle.ctr_turns.specs.declared.taking.Ready.{Ready}
 use Rattle.ctr_turns.specs.Items.{IsRecorded}
 use Rattle.ctr_turns.specs.Turns.{TurnsHeld, ShowsTurns, HasRoom}
@@ -120,12 +121,13 @@ pub record StartsWithRoom (turns : TurnsHeld) (lines : List Line) (log : Log) : 
   pub none : log.buffered ≡ []
   pub next : log.first ≤ 2 ^ 62
 
--- one entry more, of this session and this moment
+-- one entry more, of this session and this moment; it is no refusal for want of room in the files
 pub record AddsEntry (s moment : ℕ) (old new : Steps) : Type 0 where
   pub entry : Entry
   pub tape : new.tape.items ≡ old.tape.items ++ entry ∷ []
   pub session : entry.session ≡ s
   pub moment_is : entry.moment ≡ moment
+  pub not_full : IsNotFull entry.reply
 
 -- ---- answers
 

@@ -3,6 +3,7 @@ ghost use Rattle.std.specs.Prelude.{◌≡◌, ◌≤◌, ◌+◌, List, OnOk, I
 ghost use Rattle.ctr_types.specs.declared.tape.Act.TheVariants as act;
 ghost use Rattle.ctr_rec.specs.declared.item.Item.{Item as HeldItem};
 ghost use Rattle.ctr_rec.specs.Items.{Fits};
+ghost use Rattle.ctr_acts.specs.Acts.{IsNotFull};
 ghost use Rattle.ctr_acts.specs.Writing.{IsPrepared, OthersCanWrite};
 ghost use Rattle.ctr_gather.specs.Records.{room_kept, IsRecordOf, HasRoomForItem, IsSession, record_at, OthersAlike};
 ghost use Rattle.ctr_turns.specs.Items.{IsRecorded};
@@ -106,6 +107,7 @@ impl Turns {
         requires left { HasLeft self.old s statement.now ready }
         requires counts { HasCounts self.old s }
         ensures keeps { WriteTurnKeeps s statement.now ready.item self.old self.new result }
+        ensures not_full { IsNotFull result }
         ensures room { room_kept self.new.records ≡ room_kept self.old.records }
         ensures others { OthersAlike s self.old.records self.new.records }
         ensures writes { OthersCanWrite s act.Write statement.now self.old.acts self.new.acts }

@@ -58,4 +58,4 @@ returns-clause-fewer c = step_fewer c.args.self.now c.take-place.new.self c.note
 pub returns-clause-entry : goal.returns-clause-entry
 returns-clause-entry c = step_entry c.args.self.now c.take-place.new.self c.note.new.self c.args.log.now c.step-acted.new.log c.args.s c.args.moment c.requires.one c.requires.bounds c.requires.next.more
     c.statement_at-statement.result.now (named_after c) c.take-place.result.1 c.take-place.ensures.stage c.step-acted.result c.step-acted.new.turns c.take-place.ensures.same c.take-place.ensures.runners c.step-acted.ensures.keeps c.step-acted.ensures.is
-    c.note.ensures.is c.note.ensures.tape c.note.ensures.len c.note.ensures.capacity c.note.ensures.runners
+    c.note.ensures.is c.note.ensures.tape c.note.ensures.len c.note.ensures.capacity c.note.ensures.runners c.legal_tapes_are_reached.ensures c.legal_tapes_grow.ensures c.replies_tell.ensures c.requires.walking

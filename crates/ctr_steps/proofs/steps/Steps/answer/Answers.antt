@@ -1,12 +1,8 @@
 use Rattle.std.proofs.Common.{◌≤◌, ◌+◌, refl, sym, subst, ap, arith}
-use Rattle.ctr_types.specs.declared.tape.Act.TheVariants as act
 use Rattle.ctr_gather.specs.Records.{IsSession}
-use Rattle.ctr_steps.specs.declared.runners.Stage.TheVariants as stage
-use Rattle.ctr_steps.specs.Runners.{runner_at}
-use Rattle.ctr_steps.specs.Steps.{noted}
 use Rattle.ctr_steps.specs.declared.steps.Steps.{Steps}
 use Rattle.ctr_steps.proofs.Needing.{tape_room, small_finished, more_asked}
-use Rattle.ctr_steps.proofs.Answering.{all_answered, answered_walks, answered_bounds, answered_fewer}
+use Rattle.ctr_steps.proofs.Answering.{all_answered, answered_walks, answered_bounds, answered_entry, answered_fewer}
 use Rattle.ctr_steps.proofs.steps.Steps.answer.Goals as goal
 
 pub returns-in_default-clause-none : goal.returns-in_default-clause-none
@@ -44,12 +40,8 @@ returns-clause-next c = λ is. (
 pub returns-clause-entry : goal.returns-clause-entry
 returns-clause-entry c = λ is. (
   c.in-Some.s,
-  record {
-    entry = noted c.in-Some.s (runner_at c.in-Some.s c.args.self.now.runners.items) (record { act = act.Answer; reply = c.answer-reply.result; stage = stage.Between }) c.args.moment;
-    tape = c.note.ensures.tape;
-    session = refl;
-    moment_is = refl;
-  },
+  answered_entry c.args.self.now c.note.new.self c.in-Some.s c.args.moment (one c) c.in-Some.ensures.found.asked c.requires.bounds.1.sessions c.answer-reply.new.self c.answer-reply.result c.answer-reply.ensures.keeps c.answer-reply.ensures.others c.answer-reply.ensures.writes c.answer-reply.ensures.adds c.answer-reply.ensures.needs
+      c.note.ensures.is c.note.ensures.tape c.note.ensures.len c.note.ensures.capacity c.note.ensures.runners c.legal_tapes_are_reached.ensures c.legal_tapes_grow.ensures c.replies_tell.ensures c.requires.walking.0 c.requires.walking.1,
 )
 
 pub next_asked-requires-clause-few : goal.next_asked-requires-clause-few

@@ -29,6 +29,7 @@ returns-in_default-reply c =
       keeps = subst (λ o. WriteTurnKeeps c.args.s c.args.statement.now c.args.ready.item o new c.write-reply.result) c.self.view_is
           (λ waiting low from state shows kept ready item. not_written c.args.s old c.write-reply.new.self c.args.statement.now c.args.ready.item c.write-reply.result c.write-reply.ensures.keeps waiting low from state shows kept ready item
           (λ done me at fine. not_done done));
+      not_full = c.write-reply.ensures.not_full;
       room = ap (λ (o : TurnsHeld). room_kept o.records) c.self.view_is;
       others = subst (λ (o : TurnsHeld). OthersAlike c.args.s o.records c.self.inside.records) c.self.view_is (itself c.args.s c.self.inside.records);
       writes = subst (λ (o : TurnsHeld). OthersCanWrite c.args.s act.Write c.args.statement.now o.acts c.write-reply.new.self) c.self.view_is c.write-reply.ensures.others;
