@@ -1,8 +1,7 @@
 -- How many tables and items of a record an act adds.
-use Rattle.std.proofs.Common.{◌≡◌, ◌≤◌, ◌+◌, ℕ, List, ap, subst, arith}
+use Rattle.std.proofs.Common.{◌≡◌, ◌≤◌, ◌+◌, ℕ, ap, subst, arith}
 use Rattle.ctr_chains.specs.Stored.{HeldStore}
-use Rattle.ctr_gather.specs.Records.{GatheredHeld, record_at}
-use Rattle.ctr_acts.specs.Acts.{ActsHeld}
+use Rattle.ctr_gather.specs.Records.{record_at}
 use Rattle.ctr_turns.specs.Turns.{TurnsHeld, AddsAtMost}
 
 -- over what was held, where the tables and the items are so many more at most

@@ -1,9 +1,5 @@
 use Rattle.std.proofs.Common.{◌≤◌, ◌+◌, refl, sym, subst, ap, arith}
-use Rattle.ctr_types.specs.declared.tape.Act.TheVariants as act
 use Rattle.ctr_gather.specs.Records.{IsSession}
-use Rattle.ctr_steps.specs.declared.runners.Stage.TheVariants as stage
-use Rattle.ctr_steps.specs.Runners.{runner_at}
-use Rattle.ctr_steps.specs.Steps.{noted}
 use Rattle.ctr_steps.specs.declared.steps.Steps.{Steps}
 use Rattle.ctr_steps.proofs.Needing.{tape_room, small_finished, more_asked}
 use Rattle.ctr_steps.proofs.Answering.{all_answered, answered_walks, answered_bounds, answered_entry, answered_fewer}
