@@ -8,7 +8,7 @@ use Rattle.ctr_log.specs.Logs.{Log}
 use Rattle.ctr_steps.specs.declared.steps.Steps.{Steps}
 use Rattle.ctr_steps.specs.Runners.{all_left}
 use Rattle.ctr_steps.specs.Steps.{Walks, HasBounds, AddsEntry}
-use Rattle.ctr_world.specs.Turns.{NoneFull, AddsEntries}
+use Rattle.ctr_world.specs.Turns.{AddsEntries}
 use Rattle.ctr_world.proofs.KeptLemmas.{none_full_more}
 
 -- what some answers leave

@@ -1,5 +1,5 @@
 -- A World that was just opened, and one that has ended.
-use Rattle.std.proofs.Common.{◌≡◌, ◌≢◌, ◌⊎◌, inl, inr, ⊎_elim, ℕ, ◌+◌, ◌-◌, ◌<◌, ◌≤◌, ◌==◌, false, cond, List, [], ◌∷◌, length, map, None, refl, sym, ◌∙◌, ap, subst, arith}
+use Rattle.std.proofs.Common.{◌≡◌, inl, inr, ⊎_elim, ℕ, ◌+◌, ◌-◌, ◌<◌, ◌≤◌, ◌==◌, false, cond, List, [], ◌∷◌, length, map, None, refl, sym, ◌∙◌, ap, subst, arith}
 use Rattle.std.specs.Prelude.{IsTrue}
 use Rattle.std.specs.List.{AllByRecursion, filter}
 use Rattle.std.proofs.lemmas.Bool.Decides.{nat_tests}
@@ -11,9 +11,8 @@ use Rattle.ctr_disk.specs.Device.{LeavesOnly, IsDurable}
 use Rattle.ctr_disk.specs.Image.{OtherFilesStay}
 use Rattle.ctr_model.specs.declared.tape.Progress.{Progress}
 use Rattle.ctr_model.specs.Database.{Database}
-use Rattle.ctr_model.specs.State.{at_rest}
 use Rattle.ctr_model.specs.Laws.{StatesGrow, LegalStatesAreSound}
-use Rattle.ctr_model.specs.Tape.{Legal, at_start, progress_of, statements_of}
+use Rattle.ctr_model.specs.Tape.{at_start, progress_of, statements_of}
 use Rattle.ctr_model.specs.Texts.{answers}
 use Rattle.ctr_log.specs.Homes.{root_value, SaysRoot}
 use Rattle.ctr_log.specs.Logs.{Log, GoesOn}

@@ -1,5 +1,5 @@
 -- A World goes on: over entries more on its tape, and over an act of a session.
-use Rattle.std.proofs.Common.{◌≡◌, ◌≢◌, ◌⊎◌, ⊎_elim, inl, ℕ, ◌+◌, ◌<◌, ◌≤◌, List, [], ◌∷◌, ◌++◌, length, take, Some, None, refl, sym, ◌∙◌, ap, subst, arith, length-append}
+use Rattle.std.proofs.Common.{◌≡◌, ⊎_elim, inl, ℕ, ◌≤◌, List, [], ◌∷◌, ◌++◌, length, take, None, refl, sym, ◌∙◌, ap, subst, arith}
 use Rattle.std.specs.List.{AllByRecursion}
 use Rattle.std.proofs.lemmas.List.{take-append-le}
 use Rattle.ctr_types.specs.declared.statement.Line.{Line}
@@ -21,7 +21,7 @@ use Rattle.ctr_log.specs.Reading.{log_file}
 use Rattle.ctr_thin.specs.Thin.{StandsFor}
 use Rattle.ctr_turns.specs.Turns.{AppendsAtMostOne}
 use Rattle.ctr_steps.specs.declared.steps.Steps.{Steps}
-use Rattle.ctr_steps.specs.Steps.{Walks, AddsEntry, reached_by}
+use Rattle.ctr_steps.specs.Steps.{Walks, AddsEntry}
 use Rattle.ctr_world.specs.declared.parts.Parts.{Parts}
 use Rattle.ctr_world.specs.declared.opening.Opening.{Ghosts as Opening}
 use Rattle.ctr_world.specs.Crash.{reached, HasCommits, IsPrefixAt, Survives, Rests, OnlyLogChanges}

@@ -1,8 +1,7 @@
-use Rattle.std.proofs.Common.{◌≡◌, ◌⊎◌, inl, inr, ℕ, ◌≤◌, List, None, Some, refl, sym, ◌∙◌, ap, subst, arith, length}
+use Rattle.std.proofs.Common.{ℕ, List, sym, ◌∙◌, ap, subst, arith, length}
 use Rattle.ctr_types.specs.declared.statement.Script.{Script}
 use Rattle.ctr_model.specs.declared.tape.Point.{Point}
 use Rattle.ctr_disk.specs.Device.{IsSettled}
-use Rattle.ctr_disk.specs.declared.fault.Stop.TheVariants as stop
 use Rattle.ctr_steps.specs.Steps.{Walks, Walking, HasBounds}
 use Rattle.ctr_world.specs.Turns.{NoneFull, AnswersAll}
 use Rattle.ctr_world.specs.World.{WalksOn, StopsBy}

@@ -1,11 +1,10 @@
-use Rattle.std.proofs.Common.{◌≡◌, ◌⊎◌, inl, inr, ⊎_elim, ℕ, ◌<◌, None, refl, sym, ◌∙◌, ap, subst, arith, [], ◌∷◌}
+use Rattle.std.proofs.Common.{inl, ⊎_elim, refl, sym, ◌∙◌, ap, subst, [], ◌∷◌}
 use Rattle.ctr_types.specs.declared.statement.Script.{Script}
 use Rattle.ctr_types.specs.declared.tape.Actor.TheVariants as who
-use Rattle.ctr_types.specs.declared.tape.Turn.TheVariants as turn
 use Rattle.ctr_steps.specs.declared.steps.Steps.{Steps}
 use Rattle.ctr_steps.specs.Steps.{AreAnswered}
 use Rattle.ctr_world.specs.Turns.{NoneFull, EndsTurn}
-use Rattle.ctr_world.specs.World.{Runs, Kept, StopsBy}
+use Rattle.ctr_world.specs.World.{Runs, Kept}
 use Rattle.ctr_world.specs.declared.parts.Parts.{Parts}
 use Rattle.ctr_world.proofs.KeptLemmas.{none_full_more, none_asking}
 use Rattle.ctr_world.proofs.parts.Parts.serve.Goals as goal

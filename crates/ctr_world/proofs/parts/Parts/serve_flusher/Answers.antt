@@ -1,4 +1,4 @@
-use Rattle.std.proofs.Common.{inl, ⊎_elim, ◌<◌, length, sym, subst, arith}
+use Rattle.std.proofs.Common.{⊎_elim, ◌<◌, length, sym, subst, arith}
 use Rattle.ctr_types.specs.declared.tape.Actor.TheVariants as who
 use Rattle.ctr_steps.specs.declared.steps.Steps.{Steps}
 use Rattle.ctr_steps.specs.Steps.{AreAnswered}
