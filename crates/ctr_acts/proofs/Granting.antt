@@ -1,5 +1,5 @@
 -- A Lock: room that is taken shows the state of before, and a lock that is free is granted.
-use Rattle.std.proofs.Common.{◌≡◌, inr, ℕ, ℤ, ◌==◌, ◌<◌, Bool, true, false, List, Option, Some, None, Result, Ok, Err, OnErr, IfOk, IsErr, IfSome, refl, sym, ◌∙◌, ap, subst, arith}
+use Rattle.std.proofs.Common.{◌≡◌, inr, ℕ, ℤ, ◌==◌, ◌<◌, Bool, true, false, List, Option, Some, None, Result, Ok, Err, OnOk, OnErr, IfOk, IsErr, IfSome, refl, sym, ◌∙◌, ap, subst, arith}
 use Rattle.std.specs.Prelude.{is_some, is_none, not}
 use Rattle.std.specs.List.{AllByRecursion}
 use Rattle.std.specs.Ordering.{nat_cmp}
@@ -42,12 +42,12 @@ use Rattle.ctr_acts.proofs.Showing.{somebody}
 use Rattle.ctr_acts.proofs.Others.{then_others, seen_can, others_can}
 
 -- what is free nobody has
-pub free_is : (h : ActsHeld) (low : ℕ) (state : State) (s : ℕ) (name : List ℕ) (key : Option ℤ) → LocksAnswerTheModel → ShowsActs low h state → IsFreeFor state s name key → taken_by s name key h.locks ≡ None
+free_is : (h : ActsHeld) (low : ℕ) (state : State) (s : ℕ) (name : List ℕ) (key : Option ℤ) → LocksAnswerTheModel → ShowsActs low h state → IsFreeFor state s name key → taken_by s name key h.locks ≡ None
 free_is h low state s name None answers shows free = (answers h.locks state s shows.locks).busy true name ∙ free
 free_is h low state s name (Some key) answers shows free = (answers h.locks state s shows.locks).locked name key ∙ free
 
 -- a call that was refused says so
-pub refused_not : (held : Held) (o : Option ℕ) → held_found (Err held) ≡ o → o ≡ None → ⊥
+refused_not : (held : Held) (o : Option ℕ) → held_found (Err held) ≡ o → o ≡ None → ⊥
 refused_not held o is none = true≢false (ap is_some (is ∙ none))
 
 -- room was taken
@@ -98,7 +98,7 @@ calm_after false s mine old new calm leaves all r a at = known (r == s)
 
 -- the lock is granted
 module _ (s : ℕ) (name : List ℕ) (key : Option ℤ) (old new : ActsHeld) where
-  pub lock_grants : LockShows → DrawsOnce s old.engine new.engine → new.since ≡ old.since → new.stuck ≡ old.stuck → GrantShows s (with_lock key name) old.locks new.locks → LockGrants s name key old new
+  lock_grants : LockShows → DrawsOnce s old.engine new.engine → new.since ≡ old.since → new.stuck ≡ old.stuck → GrantShows s (with_lock key name) old.locks new.locks → LockGrants s name key old new
   lock_grants law draws since stuck locks low state me shows may =
       let mine = session low old state shows s me may.there in
       let held = (shows.begun.shows.inside s me may.there).1 in
@@ -111,8 +111,10 @@ module _ (s : ℕ) (name : List ℕ) (key : Option ℤ) (old new : ActsHeld) whe
       }
 
   -- one that is free isn't refused
-  pub lock_refused : LocksAnswerTheModel → (held : Held) → held_found (Err held) ≡ taken_by s name key old.locks → LockStays s name key old new
-  lock_refused answers held is low state me shows may = absurd (refused_not held (taken_by s name key old.locks) is (free_is old low state s name key answers shows may.free))
+  pub lock_taken : LocksAnswerTheModel → LockShows → DrawsOnce s old.engine new.engine → new.since ≡ old.since → new.stuck ≡ old.stuck → (r : Result (Unit {0}) Held) → OnOk r (GrantShows s (with_lock key name) old.locks new.locks) → held_found r ≡ taken_by s name key old.locks
+      → LockGrants s name key old new
+  lock_taken answers law draws since stuck (Ok unit) locks is low state me shows may = lock_grants law draws since stuck locks low state me shows may
+  lock_taken answers law draws since stuck (Err held) locks is low state me shows may = absurd (refused_not held (taken_by s name key old.locks) is (free_is old low state s name key answers shows may.free))
 
 -- what stays anyway
 pub on_err : {A E : Type 0} (r : Result A E) (P : Type 0) → P → OnErr r P

@@ -1,5 +1,5 @@
 -- A Read: its rows are the model's, and the table is in use after it.
-use Rattle.std.proofs.Common.{◌≡◌, inl, inr, ℕ, true, false, List, Option, Some, None, refl, sym, ◌∙◌, ap, subst}
+use Rattle.std.proofs.Common.{◌≡◌, inl, inr, ℕ, true, false, List, Option, Some, None, Result, Ok, Err, OnOk, refl, sym, ◌∙◌, ap, subst}
 use Rattle.std.specs.Prelude.{is_some}
 use Rattle.std.specs.Option.{option_map, option_to_list}
 use Rattle.std.specs.Ordering.{nat_cmp}
@@ -17,7 +17,7 @@ use Rattle.ctr_types.specs.declared.tape.Refusal.TheVariants as refusal
 use Rattle.ctr_model.specs.declared.state.State.{State}
 use Rattle.ctr_model.specs.declared.state.Transaction.{Transaction}
 use Rattle.ctr_model.specs.State.{transaction_of, view, with_transaction}
-use Rattle.ctr_model.specs.Refusals.{refusal_of}
+use Rattle.ctr_model.specs.Refusals.{others, first_session, is_busy, refusal_of}
 use Rattle.ctr_model.specs.Reply.{rows_found, rows_read, refused_or, reply_from, MayStandFor, next_from, with_use}
 use Rattle.ctr_versions.specs.Chains.{value_seen}
 use Rattle.ctr_versions.specs.Versions.{Made, names_at}
@@ -25,16 +25,18 @@ use Rattle.ctr_versions.specs.Laws.{sees_found}
 use Rattle.ctr_versions.specs.Engine.{SessionHeld}
 use Rattle.ctr_versions.proofs.Reading.{row_read}
 use Rattle.ctr_rows.specs.Running.{HeldEngine, engine_of}
-use Rattle.ctr_locks.specs.Held.{TableHeld}
-use Rattle.ctr_locks.specs.Shows.{IsSame}
+use Rattle.ctr_locks.specs.declared.locks.Held.{Held}
+use Rattle.ctr_locks.specs.Held.{TableHeld, busy_in}
+use Rattle.ctr_locks.specs.Shows.{IsSame, LocksStay, GrantShows, LocksAnswerTheModel, held_found}
 use Rattle.ctr_legal.specs.Kept.{IsKept}
 use Rattle.ctr_legal.specs.Ready.{IsUnasked}
+use Rattle.ctr_legal.proofs.Keep.{grants}
 use Rattle.ctr_sessions.specs.Answers.{Seat, made_seen, with_rows}
 use Rattle.ctr_sessions.specs.Laws.{RowsAreTheViews}
 use Rattle.ctr_sessions.specs.Steps.{ReadShows}
 use Rattle.ctr_sessions.specs.Sessions.{Begun, ShowsBegun}
 use Rattle.ctr_acts.specs.Acts.{ActsHeld, begun_of, ShowsActs, ActReplies, ActKeeps}
-use Rattle.ctr_acts.specs.Seats.{seat_at, RefusesAlike, rows_under, rows_listed, LocksAlone, Reads, ReadsNot}
+use Rattle.ctr_acts.specs.Seats.{seat_at, RefusesAlike, rows_under, rows_listed, LocksAlone, Reads, ReadsNot, UseShows}
 use Rattle.ctr_acts.proofs.Ending.{session, here}
 use Rattle.ctr_acts.proofs.Replying.{IsInside, replies_outside}
 
@@ -104,6 +106,18 @@ module _ (low : ℕ) (h : ActsHeld) (state : State) (s : ℕ) (me : Transaction)
       ∙ same_rows key (made_seen seat table)
       ∙ law low state s me seat (st.Select table key) (record { shows = shows.begun; kept = kept; here = here low h state shows s me at unasked; since = is_since })
 
+-- ---- the use
+
+-- no other session holds the name of a Read that nothing refuses
+name_free : (state : State) (s : ℕ) (me : Transaction) (table : List ℕ) (key : Option KeyIs) → refusal_of state s me act.Read (st.Select table key) ≡ None → first_session (is_busy false table) (others s state) ≡ None
+name_free state s me table key none = (grants state s me act.Read (st.Select table key) table refl none).idle
+
+-- so its use is granted
+module _ (s : ℕ) (name : List ℕ) (old mid new : List (ℕ × List (List ℕ × TableHeld))) where
+  pub use_shows : LocksAnswerTheModel → LocksStay old mid → (r : Result (Unit {0}) Held) → OnOk r (GrantShows s (with_use name) mid new) → held_found r ≡ busy_in false s name mid → UseShows s name old new
+  use_shows answers stay (Ok unit) grants held state me shows at free = grants state me (stay state shows) at
+  use_shows answers stay (Err other) grants held state me shows at free = absurd (false≢true (sym (ap is_some (held ∙ (answers mid state s (stay state shows)).busy false name ∙ free))))
+
 -- ---- the act
 
 -- the locks aren't asked of what has begun
@@ -131,7 +145,7 @@ module _ (s : ℕ) (old new : ActsHeld) (entered : is_some (find nat_cmp s old.l
       (record {
         begun = subst (λ (b : Begun). ShowsBegun low b (with_transaction s (with_use table me) state)) (sym (same_begun old new is.others))
             (reads low (begun_of old) state s me (with_use table me) (session low old state shows s me t.at) shows.begun (here low old state shows s me t.at unasked) (record { snapshot = refl; own = refl; asked = refl }) refl);
-        locks = is.uses state me shows.locks t.at;
+        locks = is.uses state me shows.locks t.at (name_free state s me table key (sym (alike low state me shows kept t.at unasked)));
         stuck = is.others.stuck ∙ shows.stuck;
         calm = subst (λ e. (r : ℕ) (a : SessionHeld) → find nat_cmp r (engine_of e).sessions ≡ Some a → a.undoing ≡ false) (sym is.others.engine) shows.calm;
       })

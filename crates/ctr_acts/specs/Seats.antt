@@ -1,5 +1,5 @@
 -- Where a session stands that is in a transaction, and why its Lock or its Read is refused.
-use Rattle.std.specs.Prelude.{◌≡◌, ℕ, Bool, List, [], map, Option, Some, None, if◌then◌else◌}
+use Rattle.std.specs.Prelude.{◌≡◌, ℕ, Bool, false, List, [], map, Option, Some, None, if◌then◌else◌}
 use Rattle.std.specs.Option.{option_to_list}
 use Rattle.std.specs.Ordering.{nat_cmp}
 use Rattle.std.specs.FinMap.Entries.{find}
@@ -10,8 +10,8 @@ use Rattle.ctr_types.specs.declared.tape.Act.{Act}
 use Rattle.ctr_types.specs.declared.tape.Refusal.{Refusal}
 use Rattle.ctr_model.specs.declared.state.State.{State}
 use Rattle.ctr_model.specs.declared.state.Transaction.{Transaction}
-use Rattle.ctr_model.specs.State.{transaction_of, has_name}
-use Rattle.ctr_model.specs.Refusals.{changes_schema, first_of, refusal_of}
+use Rattle.ctr_model.specs.State.{transaction_of, with_transaction, has_name}
+use Rattle.ctr_model.specs.Refusals.{changes_schema, others, first_session, is_busy, first_of, refusal_of}
 use Rattle.ctr_model.specs.Reply.{with_use}
 use Rattle.ctr_versions.specs.Chains.{value_seen}
 use Rattle.ctr_versions.specs.Listing.{entries_seen}
@@ -21,7 +21,7 @@ use Rattle.ctr_versions.specs.Engine.{SessionHeld}
 use Rattle.ctr_versions.specs.Laws.{sees_of}
 use Rattle.ctr_rows.specs.Running.{HeldEngine, engine_of}
 use Rattle.ctr_locks.specs.Held.{TableHeld, busy_in, locked_in}
-use Rattle.ctr_locks.specs.Shows.{LocksStay, GrantShows}
+use Rattle.ctr_locks.specs.Shows.{ShowsLocks, LocksStay}
 use Rattle.ctr_legal.specs.Kept.{IsKept}
 use Rattle.ctr_sessions.specs.Answers.{Seat, made_seen, refusals_seen}
 use Rattle.ctr_acts.specs.Acts.{ActsHeld, begun_of, ShowsActs}
@@ -93,12 +93,21 @@ pub record LocksAlone (old new : ActsHeld) : Type 0 where
   pub since : new.since ≡ old.since
   pub stuck : new.stuck ≡ old.stuck
 
+-- Whatever state the locks show, with the session in a transaction: where no other session holds the
+-- name, they show its use of the table after this.
+abbrev pub UseShows : ℕ → List ℕ → List (ℕ × List (List ℕ × TableHeld))
+    → List (ℕ × List (List ℕ × TableHeld)) → Type 0
+UseShows s name old new = (state : State) (me : Transaction) → ShowsLocks old state
+    → transaction_of state s ≡ Some me
+    → first_session (is_busy false name) (others s state) ≡ None
+    → ShowsLocks new (with_transaction s (with_use name me) state)
+
 -- the rows of a Read, which uses the table
 pub record Reads (s : ℕ) (name : List ℕ) (at : Option KeyIs) (old new : ActsHeld) (rows : List Row)
     : Type 0 where
   pub rows_are : rows ≡ rows_listed old.engine s name at
   pub others : LocksAlone old new
-  pub uses : GrantShows s (with_use name) old.locks new.locks
+  pub uses : UseShows s name old.locks new.locks
 
 -- room was taken, if that
 pub record ReadsNot (old new : ActsHeld) : Type 0 where

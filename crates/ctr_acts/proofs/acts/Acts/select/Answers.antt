@@ -1,6 +1,7 @@
 use Rattle.std.proofs.Common.{refl, subst}
 use Rattle.ctr_acts.specs.Acts.{ActsHeld}
 use Rattle.ctr_acts.specs.Seats.{Reads}
+use Rattle.ctr_acts.proofs.Showing.{use_shows}
 use Rattle.ctr_acts.proofs.acts.Acts.select.Goals as goal
 
 pub returns-clause-reads : goal.returns-clause-reads
@@ -11,5 +12,5 @@ returns-clause-reads c =
     (record {
       rows_are = c.in_ok-rows.ensures;
       others = record { engine = refl; since = refl; stuck = refl };
-      uses = λ state t shows at. c.in-Ok.ensures.grants state t (c.in_ok-reserve_name.ensures.keeps state shows) at;
+      uses = use_shows c.args.s c.args.name.now c.self.inside.locks c.reserve_name.new.self c.use_table.new.self c.locks_are_the_models.ensures.answers c.in_ok-reserve_name.ensures.keeps c.use_table.result c.use_table.ensures.grants c.use_table.ensures.held;
     })
