@@ -7,7 +7,9 @@
 mod calls;
 mod databases;
 mod device;
+mod generated;
 mod judge;
+mod meetings;
 mod numbers;
 mod page;
 mod player;

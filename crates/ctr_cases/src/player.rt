@@ -1,6 +1,7 @@
 // Plays the lines of a suite.
 use crate::databases::Right;
 use crate::judge::{Found, Probe, found_in, led_from, script_of};
+use crate::meetings::{Met, meet};
 use crate::numbers::{hex_bytes, name_of, number, numbers, split_file, split_number, split_word};
 use crate::page::Page;
 use crate::reading::{put_cuts, put_line, put_record, put_tokens};
@@ -9,9 +10,9 @@ use crate::script::add_line;
 use crate::setup::{Ask, Counts, Ran, Setup, Work, run_words};
 use crate::steps::{Step, step_of};
 use crate::sweep::{NO_DATABASE, sweep_failures, sweep_stops};
-use crate::words::{root_of, words_in};
+use crate::words::{actors_in, root_of, words_in};
 use ctr_disk::Image;
-use ctr_types::{OutOfMemory, Plain};
+use ctr_types::{OutOfMemory, Plain, Reply};
 use std::alloc::Global;
 use std::mem;
 
@@ -142,17 +143,19 @@ impl Player {
             Step::Any => self.right.least = 0,
             Step::Tokens => self.waiting = Waiting::Tokens,
             Step::Lines => self.waiting = Waiting::Lines,
-            Step::Init | Step::Run | Step::Words | Step::Device | Step::Root => {
+            Step::Init | Step::Run | Step::Words | Step::Turns | Step::Device | Step::Root => {
                 return self.begin_run(step, rest);
             }
             Step::Alter | Step::Length | Step::Show => return self.on_file(step, rest),
             Step::After => return self.go_on_after(rest),
             Step::Calls => self.list_calls()?,
             Step::Counts => self.put_counts(),
+            Step::Answers => self.put_answers()?,
             Step::Holds => self.put_found()?,
             Step::Stops => self.sweep_stops()?,
             Step::Failures => self.sweep_failures()?,
             Step::Record | Step::Cuts => return self.read_record(step, rest),
+            Step::Generated => return self.meet_generated(rest),
             _ => return self.set_fault(step, rest),
         }
         Ok(Some(()))
@@ -176,6 +179,13 @@ impl Player {
             Step::Init => self.next.words = words_in(self.alloc, b"init d")?,
             Step::Run => self.next.words = run_words(self.alloc)?,
             Step::Words => self.next.words = words_in(self.alloc, rest)?,
+            Step::Turns => match actors_in(self.alloc, rest)? {
+                Some(actors) => {
+                    self.next.work = Work::Turns;
+                    self.next.actors = actors;
+                }
+                None => return Ok(None),
+            },
             Step::Device => self.next.work = Work::Calls,
             _ => match root_of(self.alloc, rest)? {
                 Some(root) => self.next.work = Work::WriteRoot(root),
@@ -279,7 +289,7 @@ impl Player {
             self.page.put(&ran.text);
         }
         self.brief = false;
-        if matches!(self.last.work, Work::Command) {
+        if matches!(self.last.work, Work::Command | Work::Turns) {
             self.page
                 .put_number(self.alloc, "status ", ran.status as u64);
             self.page.put(b"\n");
@@ -385,6 +395,21 @@ impl Player {
         Ok(())
     }
 
+    // Each commit that the last run answered, with the moment.
+    fn put_answers(&mut self) -> Result<(), OutOfMemory> {
+        let ran = play(self.alloc, &self.last, Ask::Last)?;
+        for entry in ran.tape.entries.as_slice() {
+            if let Reply::Answered { k } = &entry.reply {
+                self.page.put_number(self.alloc, "", entry.session as u64);
+                self.page.put_number(self.alloc, ".", entry.statement);
+                self.page.put_number(self.alloc, ": commit ", *k);
+                self.page.put_number(self.alloc, " at ", entry.moment);
+                self.page.put(b"\n");
+            }
+        }
+        Ok(())
+    }
+
     fn put_counts(&mut self) {
         let counts = self.counts;
         self.page.put_number(self.alloc, "calls ", counts.calls);
@@ -427,6 +452,32 @@ impl Player {
             }
         }
         Ok(())
+    }
+
+    // generated FROM TO LEAST
+    fn meet_generated(&mut self, rest: &[u8]) -> Result<Option<()>, OutOfMemory> {
+        let Some((from, rest)) = split_number(rest) else {
+            return Ok(None);
+        };
+        let Some((to, rest)) = split_number(rest) else {
+            return Ok(None);
+        };
+        let Some(least) = number(rest) else {
+            return Ok(None);
+        };
+        let mut met = Met::new();
+        for script in from..=to {
+            meet(
+                self.alloc,
+                &self.image,
+                &self.right,
+                script,
+                &mut met,
+                &mut self.page,
+            )?;
+        }
+        met.put(self.alloc, &mut self.page, least);
+        Ok(Some(()))
     }
 
     fn read_record(&mut self, step: Step, rest: &[u8]) -> Result<Option<()>, OutOfMemory> {

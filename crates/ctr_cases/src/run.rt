@@ -7,9 +7,10 @@ use crate::printed::printing_of;
 use crate::setup::{Ask, Ran, Seen, Setup, Work};
 use ctr_disk::MemDisk;
 use ctr_io::{MemSink, MemSource};
-use ctr_model::Command;
-use ctr_top::{Ended, run_serial};
-use ctr_types::{List, Plain, Text};
+use ctr_model::{Command, Report};
+use ctr_print::{count_answers, count_refusals};
+use ctr_top::{Ended, Schedule, run_script, run_serial};
+use ctr_types::{List, Plain, Tape, Text};
 use std::alloc::{AllocError, Global};
 
 fn listed(alloc: Global, numbers: &[u64]) -> Result<List<u64>, AllocError> {
@@ -101,10 +102,45 @@ fn play_command(alloc: Global, setup: &Setup, ask: Ask) -> Result<Ran, AllocErro
     })
 }
 
+// How often commits were answered and acts refused.
+fn report_of(tape: &Tape) -> Report {
+    Report {
+        commits: count_answers(tape),
+        refused: count_refusals(tape),
+        undo_turns: 0,
+        rows: 0,
+        sum: 0,
+    }
+}
+
+// Runs a script by turns of the setup's actors.
+fn play_turns(alloc: Global, setup: &Setup, ask: Ask) -> Result<Ran, AllocError> {
+    let mut source = source_of(alloc, setup)?;
+    let disk = disk_of(alloc, setup)?;
+    let outcome = run_script(alloc, disk, &mut source, Schedule::Turns(&setup.actors));
+    let printing = printing_of(
+        alloc,
+        &Command::Run,
+        outcome.ending.status(),
+        &outcome.ending.cause(),
+        &outcome.tape,
+        &report_of(&outcome.tape),
+    );
+    let text = printing.to_vec(alloc)?;
+    let seen = look_at(alloc, &outcome.disk, printing, ask)?;
+    Ok(Ran {
+        status: outcome.ending.status(),
+        tape: outcome.tape,
+        text,
+        seen,
+    })
+}
+
 /// Does what a setup says.
 pub fn play(alloc: Global, setup: &Setup, ask: Ask) -> Result<Ran, AllocError> {
     match setup.work {
         Work::Command => play_command(alloc, setup, ask),
+        Work::Turns => play_turns(alloc, setup, ask),
         Work::Calls => play_calls(alloc, setup, ask),
         Work::WriteRoot(root) => play_root(alloc, setup, root, ask),
     }

@@ -1,7 +1,7 @@
 // What a run begins with, and what it leaves: plain data. A disk lives inside a run alone.
 use crate::page::Page;
 use ctr_disk::{Image, Root};
-use ctr_types::Tape;
+use ctr_types::{Actor, Tape};
 use std::alloc::{AllocError, Global};
 
 /// What is done.
@@ -9,6 +9,8 @@ use std::alloc::{AllocError, Global};
 pub enum Work {
     /// The command of the words.
     Command,
+    /// The script, by turns of a list of actors.
+    Turns,
     /// The device calls that the script lists.
     Calls,
     /// The root is written.
@@ -21,6 +23,7 @@ pub struct Setup {
     pub work: Work,
     pub words: Vec<String>,
     pub script: Vec<u8>,
+    pub actors: Vec<Actor>,
     pub image: Image,
     /// The numbers, from 1, of the calls that fail.
     pub disk_fails: Vec<u64>,
@@ -89,6 +92,7 @@ impl Setup {
             work: Work::Command,
             words: Vec::new(alloc),
             script: Vec::new(alloc),
+            actors: Vec::new(alloc),
             image,
             disk_fails: Vec::new(alloc),
             source_fails: Vec::new(alloc),

@@ -52,9 +52,14 @@ pub enum Step {
     /// Whether bytes are the record of a commit; and what is said of each shorter length.
     Record,
     Cuts,
+    /// The script that follows, by turns of these actors; and the commits that the last run answered, each at its moment.
+    Turns,
+    Answers,
+    /// Generated scripts over what the disk holds, by generated lists of actors.
+    Generated,
 }
 
-const STEPS: [(&str, Step); 29] = [
+const STEPS: [(&str, Step); 32] = [
     ("case", Step::Case),
     ("init", Step::Init),
     ("run", Step::Run),
@@ -84,6 +89,9 @@ const STEPS: [(&str, Step); 29] = [
     ("lines", Step::Lines),
     ("record", Step::Record),
     ("cuts", Step::Cuts),
+    ("turns", Step::Turns),
+    ("answers", Step::Answers),
+    ("generated", Step::Generated),
 ];
 
 /// The step that a word names.

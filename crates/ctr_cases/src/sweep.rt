@@ -73,8 +73,8 @@ fn clock(start: u64, moments: &[u64], calls: usize) -> u64 {
     moments.get(calls - 1).copied().unwrap_or(start)
 }
 
-// How many commits are owed after so many calls.
-fn owed(setup: &Setup, ran: &Ran, right: &Right, calls: usize) -> usize {
+/// How many commits are owed after so many calls.
+pub fn owed(setup: &Setup, ran: &Ran, right: &Right, calls: usize) -> usize {
     if ran.tape.entries.is_empty() {
         return right.least;
     }

@@ -1,6 +1,7 @@
 // The words of a command, and of a root.
-use crate::numbers::numbers;
+use crate::numbers::{number, numbers};
 use ctr_disk::Root;
+use ctr_types::Actor;
 use std::alloc::{AllocError, Global};
 
 /// The words of a line; one that isn't UTF-8 is left out.
@@ -14,6 +15,24 @@ pub fn words_in(alloc: Global, rest: &[u8]) -> Result<Vec<String>, AllocError> {
         }
     }
     Ok(words)
+}
+
+/// Actors: the number of a session, `f` for the flusher, `c` for the cleaner, `u` for undo.
+pub fn actors_in(alloc: Global, rest: &[u8]) -> Result<Option<Vec<Actor>>, AllocError> {
+    let mut actors = Vec::new(alloc);
+    for word in rest.split(|byte| *byte == b' ') {
+        match word {
+            [] => {}
+            b"f" => actors.push(Actor::Flusher)?,
+            b"c" => actors.push(Actor::Cleaner)?,
+            b"u" => actors.push(Actor::Undo)?,
+            _ => match number(word) {
+                Some(session) => actors.push(Actor::Session((session % 256) as u8))?,
+                None => return Ok(None),
+            },
+        }
+    }
+    Ok(Some(actors))
 }
 
 /// A stamp, the number of a file and a first LSN.

@@ -1,4 +1,4 @@
-use Rattle.std.proofs.Common.{◌≡◌, ◌++◌, pos, ap, subst}
+use Rattle.std.proofs.Common.{◌≡◌, ◌++◌, pos, subst}
 use Rattle.ctr_model.specs.declared.tape.Report.{Report}
 use Rattle.ctr_model.specs.Texts.{transcript, last_line}
 use Rattle.ctr_print.specs.Prints.{PutsOn}

@@ -1,4 +1,4 @@
-use Rattle.std.proofs.Common.{◌≢◌, ◌≡◌, ◌∙◌, ⊎_elim, inl, inr, refl, sym, ap, subst}
+use Rattle.std.proofs.Common.{◌≢◌, ◌≡◌, ◌∙◌, ⊎_elim, inl, inr, sym, ap, subst}
 use Rattle.ctr_types.specs.Faults.{CountsFault}
 use Rattle.ctr_model.specs.declared.tape.Command.TheVariants.{Init, Run}
 use Rattle.ctr_top.specs.declared.ending.Ending.TheVariants as ending

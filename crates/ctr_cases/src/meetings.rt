@@ -1,0 +1,204 @@
+// Generated scripts, played by generated lists of actors, each judged, and how often each reply was met.
+use crate::databases::Right;
+use crate::generated::Maker;
+use crate::judge::{Found, Probe, found_in, led_from, script_of};
+use crate::page::Page;
+use crate::run::play;
+use crate::setup::{Ask, Ran, Setup, Work, plain_run};
+use crate::sweep::owed;
+use ctr_disk::Image;
+use ctr_types::{OutOfMemory, Refusal, Reply};
+use std::alloc::Global;
+
+/// The replies and refusals that a run over one database in memory gives, by their places in a `Met`.
+const NAMES: [&str; 21] = [
+    "Began",
+    "Granted",
+    "Rows",
+    "Done",
+    "Asked",
+    "ReadOnly",
+    "Answered",
+    "RolledBack",
+    "NoTransaction",
+    "InTransaction",
+    "NoTable",
+    "TableExists",
+    "TableBusy",
+    "SchemaChanged",
+    "BadValue",
+    "RowLocked",
+    "RowChanged",
+    "Duplicate",
+    "NotFound",
+    "OutOfRange",
+    "another",
+];
+
+/// The place of what isn't to be met: want of memory or room, and recovery's.
+const ANOTHER: usize = 20;
+
+fn place_of(reply: &Reply) -> usize {
+    match reply {
+        Reply::Began { .. } => 0,
+        Reply::Granted => 1,
+        Reply::Rows { .. } => 2,
+        Reply::Done => 3,
+        Reply::Asked { .. } => 4,
+        Reply::ReadOnly => 5,
+        Reply::Answered { .. } => 6,
+        Reply::RolledBack => 7,
+        Reply::Released => ANOTHER,
+        Reply::Refused { refusal } => refused_place(*refusal),
+    }
+}
+
+fn refused_place(refusal: Refusal) -> usize {
+    match refusal {
+        Refusal::NoTransaction => 8,
+        Refusal::InTransaction => 9,
+        Refusal::NoTable => 10,
+        Refusal::TableExists => 11,
+        Refusal::TableBusy { .. } => 12,
+        Refusal::SchemaChanged { .. } => 13,
+        Refusal::BadValue { .. } => 14,
+        Refusal::RowLocked { .. } => 15,
+        Refusal::RowChanged { .. } => 16,
+        Refusal::Duplicate => 17,
+        Refusal::NotFound => 18,
+        Refusal::OutOfRange => 19,
+        Refusal::OutOfMemory | Refusal::CatalogFull { .. } | Refusal::Full { .. } => ANOTHER,
+    }
+}
+
+/// How often each reply was met, and how many runs were wrong.
+#[derive(Drop)]
+pub struct Met {
+    counts: [u64; 21],
+    /// Flushes that made more than one commit durable.
+    together: u64,
+    wrong: u64,
+}
+
+impl Met {
+    pub fn new() -> Met {
+        Met {
+            counts: [0; 21],
+            together: 0,
+            wrong: 0,
+        }
+    }
+
+    fn count(&mut self, ran: &Ran) {
+        let mut last = u64::MAX;
+        for entry in ran.tape.entries.as_slice() {
+            let place = place_of(&entry.reply).min(ANOTHER);
+            self.counts[place] = self.counts[place].saturating_add(1);
+            if let Reply::Answered { .. } = &entry.reply {
+                if entry.moment == last {
+                    self.together = self.together.saturating_add(1);
+                }
+                last = entry.moment;
+            }
+        }
+    }
+
+    /// Which were met so often at least; the others with how often they were.
+    pub fn put(&self, alloc: Global, page: &mut Page, least: u64) {
+        for (place, name) in NAMES.iter().enumerate() {
+            put_met(alloc, page, name, self.counts[place.min(ANOTHER)], least);
+        }
+        put_met(alloc, page, "answered with another", self.together, least);
+        page.put_number(alloc, "wrong ", self.wrong);
+        page.put(b"\n");
+    }
+}
+
+fn put_met(alloc: Global, page: &mut Page, name: &str, count: u64, least: u64) {
+    page.put(name.as_bytes());
+    if count < least {
+        page.put_number(alloc, " ", count);
+    } else {
+        page.put_number(alloc, " at least ", least);
+    }
+    page.put(b"\n");
+}
+
+// What a generated run is told wrong for.
+fn wrong(page: &mut Page, met: &mut Met, alloc: Global, number: u64, what: &str) {
+    met.wrong = met.wrong.saturating_add(1);
+    page.put_number(alloc, "WRONG: script ", number);
+    page.put(b": ");
+    page.put(what.as_bytes());
+    page.put(b"\n");
+}
+
+// What the disk is left with at the end, and by a stop at one moment: rows of right commits, as many as are owed.
+fn is_left_well(
+    alloc: Global,
+    setup: &Setup,
+    right: &Right,
+    ran: &Ran,
+    maker: &mut Maker,
+) -> Result<bool, OutOfMemory> {
+    let probe = Probe::new(alloc, right)?;
+    let calls = maker.number((ran.seen.moments.len() as u64).saturating_add(1));
+    let stopped = play(alloc, setup, Ask::Stop(calls, maker.number(64)))?;
+    let at_end = ran.seen.moments.len();
+    Ok(
+        is_found(alloc, setup, right, ran, &probe, &stopped, calls as usize)?
+            && is_found(alloc, setup, right, ran, &probe, ran, at_end)?,
+    )
+}
+
+// Whether the image of a run holds as many commits as are owed after so many calls.
+fn is_found(
+    alloc: Global,
+    setup: &Setup,
+    right: &Right,
+    ran: &Ran,
+    probe: &Probe,
+    image: &Ran,
+    calls: usize,
+) -> Result<bool, OutOfMemory> {
+    let Some(image) = image.seen.images.first() else {
+        return Ok(false);
+    };
+    let least = owed(setup, ran, right, calls);
+    match found_in(alloc, right, probe, image)? {
+        Found::Commits(number) => Ok(number >= least),
+        Found::Status(_) | Found::Other => Ok(false),
+    }
+}
+
+/// Plays the script of a number over a disk, by its list of actors, and judges it: the tape is legal, the run is
+/// finished, and the disk is left with a prefix of the commits, at the end and by a stop at one moment.
+pub fn meet(
+    alloc: Global,
+    image: &Image,
+    before: &Right,
+    number: u64,
+    met: &mut Met,
+    page: &mut Page,
+) -> Result<(), OutOfMemory> {
+    let mut maker = Maker::new(alloc, number);
+    let mut setup = plain_run(alloc, image, maker.script()?)?;
+    setup.work = Work::Turns;
+    setup.actors = maker.actors()?;
+    let ran = play(alloc, &setup, Ask::Last)?;
+    met.count(&ran);
+    if ran.status != 0 {
+        wrong(page, met, alloc, number, "it isn't finished");
+        return Ok(());
+    }
+    let script = script_of(alloc, &setup.script)?;
+    match led_from(alloc, before, &script, &ran)? {
+        None => wrong(page, met, alloc, number, "the tape isn't legal"),
+        Some(right) => {
+            if !is_left_well(alloc, &setup, &right, &ran, &mut maker)? {
+                wrong(page, met, alloc, number, "the disk is left with other rows");
+            }
+        }
+    }
+    Ok(())
+}
