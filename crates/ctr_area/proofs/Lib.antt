@@ -1,6 +1,10 @@
+mod Behind
+mod Cleared
+mod Made
+mod Marked
 pub mod Bytes
-pub mod Places
-pub mod Written
-pub mod Placed
 pub mod Entered
 pub mod Fresh
+pub mod Placed
+pub mod Places
+pub mod Written

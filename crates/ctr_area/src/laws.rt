@@ -1,15 +1,18 @@
 // Laws of areas, each on a call that does nothing else.
-ghost use Rattle.std.specs.Prelude.{◌≡◌, ◌<◌, ◌≤◌, ◌+◌, ◌*◌, ◌/◌, ◌%◌, ℕ, Bool, List, [], length};
+ghost use Rattle.std.specs.Prelude.{◌≡◌, ◌<◌, ◌≤◌, ◌+◌, ◌*◌, ◌/◌, ◌%◌, ◌^◌, ℕ, Bool, List, [], length, slice_index};
 ghost use Rattle.ctr_meta.specs.Tables.{no_tables};
 ghost use Rattle.ctr_page.specs.declared.rows.Place.{Place};
 ghost use Rattle.ctr_page.specs.declared.rows.RowSlot.{RowSlot};
 ghost use Rattle.ctr_page.specs.declared.rows.VersionEntry.{VersionEntry};
-ghost use Rattle.ctr_page.specs.Making.{slot_bytes, kept_bytes, IsSlot, IsEntry};
-ghost use Rattle.ctr_page.specs.Columns.{entry_in, columns_in};
+ghost use Rattle.ctr_types.specs.declared.value.Column.{Column};
+ghost use Rattle.ctr_value.specs.Columns.{ColumnsFit};
+ghost use Rattle.ctr_page.specs.declared.header.Header.{Header};
+ghost use Rattle.ctr_page.specs.Making.{slot_bytes, kept_bytes, IsHeader, IsSlot, IsEntry};
+ghost use Rattle.ctr_page.specs.Columns.{entry_in, columns_in, new_entry_bytes};
 ghost use Rattle.ctr_area.specs.Reading.{slot_said, older_said, entry_bytes, title_of, firsts_of, columns_on, width_on, area_of};
 ghost use Rattle.ctr_area.specs.Images.{new_pages, image_rows, undo_size};
 ghost use Rattle.ctr_area.specs.Sound.{IsSoundArea, IsBare};
-ghost use Rattle.ctr_area.specs.Changes.{with_slot, with_older, with_title, with_firsts, with_bytes_at, with_entry, IsPlaceOf};
+ghost use Rattle.ctr_area.specs.Changes.{with_slot, with_older, with_title, with_firsts, with_taken, with_blank, new_title, empty_chains, ChangesEntry, IsBitSet, with_byte_of, with_header, with_bytes_at, with_entry, IsPlaceOf};
 
 /// The bytes of a slot over what stands at a place of a page of rows: the area changes at this place, and
 /// nowhere else.
@@ -30,6 +33,30 @@ pub fn entry_changes_alone()
     ensures { (pages : ℕ → List ℕ) (e : ℕ) (new : List ℕ) → e < 32 → length new ≡ 256 → 256 * (e % 16) + 256 ≤ length (pages (1 + e / 16))
         → columns_in new ≡ columns_in (entry_bytes pages e)
         → area_of (with_entry e new pages) ≡ with_firsts e (firsts_of (entry_in new)) (with_title e (title_of (entry_in new)) (area_of pages)) }
+{}
+
+/// A byte of page 0 in which the bit of one page is as wanted, and the others are as before: this page is
+/// allocated or free, and nothing else changes.
+pub fn bit_changes_alone()
+    ensures { (pages : ℕ → List ℕ) (p byte : ℕ) (taken : Bool) → p / 8 < length (pages 0)
+        → IsBitSet (p % 8) taken (slice_index (pages 0) (p / 8)) byte
+        → area_of (with_byte_of p byte pages) ≡ with_taken p taken (area_of pages) }
+{}
+
+/// A page behind the catalog that is cleared and has a header: nothing is used on it, it has room for the
+/// rows of the header's table, and nothing else changes.
+pub fn page_is_cleared()
+    ensures { (pages : ℕ → List ℕ) (p : ℕ) (h : Header) → 3 ≤ p → IsHeader h
+        → area_of (with_header p h pages) ≡ with_blank p h (area_of pages) }
+{}
+
+/// The bytes of a new entry over one of the catalog: its title is the new one, it has no page, and other
+/// entries and what stands on their pages stay.
+pub fn entry_is_made()
+    ensures { (pages : ℕ → List ℕ) (e creator : ℕ) (name : List ℕ) (cs : List Column) → e < 32
+        → 256 * (e % 16) + 256 ≤ length (pages (1 + e / 16)) → creator < 256 ^ 8 → length name ≤ 16 → ColumnsFit cs
+        → ChangesEntry e (new_title creator name cs) empty_chains (area_of pages)
+        (area_of (with_entry e (new_entry_bytes creator name cs) pages)) }
 {}
 
 /// A new database has pages of zeros and no transaction. It is sound, however many of its pages are

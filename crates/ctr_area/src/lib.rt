@@ -5,5 +5,6 @@
 mod laws;
 
 pub use laws::{
-    entry_changes_alone, new_database, slot_changes_its_place, version_changes_its_place,
+    bit_changes_alone, entry_changes_alone, entry_is_made, new_database, page_is_cleared,
+    slot_changes_its_place, version_changes_its_place,
 };
