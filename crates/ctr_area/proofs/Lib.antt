@@ -1,7 +1,7 @@
-mod Behind
-mod Cleared
-mod Made
-mod Marked
+pub mod Behind
+pub mod Cleared
+pub mod Made
+pub mod Marked
 pub mod Bytes
 pub mod Entered
 pub mod Fresh

@@ -4,3 +4,4 @@ pub mod Entries
 pub mod Holding
 pub mod Passing
 pub mod Differing
+pub mod Searches

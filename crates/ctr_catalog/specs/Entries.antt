@@ -1,0 +1,20 @@
+-- The entries on a page of the catalog: which is sought, and what is wrong with one.
+use Rattle.std.specs.Prelude.{ℕ, ◌*◌, ◌==◌, Bool, ◌&&◌, List, ⊤, Result}
+use Rattle.ctr_model.specs.State.{same_name}
+use Rattle.ctr_records.specs.declared.decoding.BadRecord.{BadRecord}
+use Rattle.ctr_page.specs.declared.entry.CatalogEntry.{CatalogEntry}
+use Rattle.ctr_page.specs.declared.table.TheConstants.{ENTRY_SIZE}
+use Rattle.ctr_page.specs.Columns.{table_name_in}
+use Rattle.ctr_page.specs.Damage.{entry_check}
+
+-- a live entry of a name
+abbrev pub is_live_of : List ℕ → CatalogEntry → Bool
+is_live_of name entry = (entry.state == 1) && same_name (table_name_in entry.bytes) name
+
+-- an entry of no table
+abbrev pub is_free : CatalogEntry → Bool
+is_free entry = entry.state == 0
+
+-- what is wrong with an entry, by its number on a page
+abbrev pub checks_entry : ℕ → List ℕ → ℕ → Result ⊤ BadRecord
+checks_entry counted page n = entry_check counted (ENTRY_SIZE * n) page

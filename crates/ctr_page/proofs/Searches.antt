@@ -1,0 +1,22 @@
+-- A search goes one further, and what is looked at lies on the page.
+use Rattle.std.proofs.Common.{◌≡◌, ⊎_elim, ℕ, ◌+◌, ◌/◌, ◌<◌, ◌≤◌, Bool, false, Result, Ok, subst, arith}
+use Rattle.std.specs.Prelude.{⊤}
+use Rattle.std.proofs.Math.Nat.{div-mul-le_self}
+use Rattle.std.proofs.lemmas.Bool.{cases_lt}
+use Rattle.std.proofs.lemmas.Nat.{row_fits}
+use Rattle.ctr_records.specs.declared.decoding.BadRecord.{BadRecord}
+use Rattle.ctr_page.specs.Places.{room_for, start_of}
+use Rattle.ctr_page.specs.Searching.{PassesBy}
+
+-- one more passes by
+pub passes_one : (check : ℕ → Result ⊤ BadRecord) (sought : ℕ → Bool) (from n : ℕ) → PassesBy check sought from n → check n ≡ Ok tt → sought n ≡ false → PassesBy check sought from (n + 1)
+passes_one check sought from n before passes isnt = λ m from_on lt. ⊎_elim
+    (λ less. before m from_on less)
+    (λ le. subst (λ k. (check k ≡ Ok tt) × (sought k ≡ false)) (last m lt le) (passes, isnt)) (cases_lt m n)
+  where
+    last : (m : ℕ) → m < n + 1 → n ≤ m → n ≡ m
+    last m lt le = omega (arith, lt, le)
+
+-- a slot or a version entry that has room on a page
+pub lies_on_page : (size n : ℕ) → n < room_for size → start_of size n + size ≤ 4096
+lies_on_page size n lt = omega (arith, row_fits n size (4080 / size) size lt (omega arith), div-mul-le_self 4080 size)
