@@ -1,5 +1,6 @@
 -- The bits of page 0: what a bit says of its page.
-use Rattle.std.proofs.Common.{◌≡◌, ◌≢◌, ⊎_elim, ℕ, ◌+◌, ◌*◌, ◌/◌, ◌%◌, ◌<◌, ◌≤◌, Bool, true, false, cond, List, [], ◌∷◌, length, slice_index, sym, ◌∙◌, ap, subst, arith}
+use Rattle.std.proofs.Common.{◌≡◌, ◌≢◌, ⊎_elim, ℕ, ◌+◌, ◌*◌, ◌/◌, ◌%◌, ◌<◌, ◌≤◌, Bool, true, false, cond, List, [], ◌∷◌, length, slice_index, sym, ◌∙◌, ap, subst, arith, ◌++◌, set, take, drop, take-append-drop}
+use Rattle.std.proofs.lemmas.List.{take-set, drop-set}
 use Rattle.std.specs.Prelude.{◌==◌}
 use Rattle.std.specs.Int.{w8, bit_at, trailing_ones}
 use Rattle.std.specs.Int.Bits.{bit_or}
@@ -90,6 +91,10 @@ taken_all page from end bytes right is full = λ q third lt. ⊎_elim (right q t
     (λ le. full_byte page q third (full (q / 8) (omega (arith, le)) (omega (arith, lt, is)))) (cases_lt q from)
 
 -- ---- where a byte changes
+
+-- a byte that is set is put over
+pub set_over : (at byte : ℕ) (page : List ℕ) → at < length page → set page at byte ≡ put_over at (byte ∷ []) page
+set_over at byte page inside = sym (take-append-drop at (set page at byte)) ∙ (λ i. take-set page at byte i ++ drop-set page at byte inside i)
 
 module _ (page : List ℕ) (p byte : ℕ) (inside : p / 8 < length page) where
   -- a page is allocated

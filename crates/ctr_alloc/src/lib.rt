@@ -8,3 +8,6 @@ mod search;
 
 pub use bits::{with_free, with_taken};
 pub use search::{NextFree, Search, search_goes_on};
+
+#[cfg(test)]
+mod tests;

@@ -6,3 +6,6 @@
 mod entries;
 
 pub use entries::{ENTRIES_ON_PAGE, find_free, find_named};
+
+#[cfg(test)]
+mod tests;

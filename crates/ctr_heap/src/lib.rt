@@ -6,3 +6,6 @@
 mod slots;
 
 pub use slots::{SlotSought, search_slots};
+
+#[cfg(test)]
+mod tests;
