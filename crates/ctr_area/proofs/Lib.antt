@@ -8,3 +8,4 @@ pub mod Fresh
 pub mod Placed
 pub mod Places
 pub mod Written
+pub mod InEntry

@@ -1,18 +1,20 @@
 // Laws of areas, each on a call that does nothing else.
-ghost use Rattle.std.specs.Prelude.{◌≡◌, ◌<◌, ◌≤◌, ◌+◌, ◌*◌, ◌/◌, ◌%◌, ◌^◌, ℕ, Bool, List, [], length, slice_index};
+ghost use Rattle.std.specs.Prelude.{◌≡◌, ◌≢◌, ◌∷◌, ◌<◌, ◌≤◌, ◌+◌, ◌*◌, ◌/◌, ◌%◌, ◌^◌, ℕ, Bool, List, [], length, slice_index};
 ghost use Rattle.ctr_meta.specs.Tables.{no_tables};
 ghost use Rattle.ctr_page.specs.declared.rows.Place.{Place};
 ghost use Rattle.ctr_page.specs.declared.rows.RowSlot.{RowSlot};
 ghost use Rattle.ctr_page.specs.declared.rows.VersionEntry.{VersionEntry};
 ghost use Rattle.ctr_types.specs.declared.value.Column.{Column};
 ghost use Rattle.ctr_value.specs.Columns.{ColumnsFit};
+ghost use Rattle.ctr_bytes.specs.Fields.{spelled};
+ghost use Rattle.ctr_page.specs.declared.table.TheConstants.{DROPPER_AT};
 ghost use Rattle.ctr_page.specs.declared.header.Header.{Header};
 ghost use Rattle.ctr_page.specs.Making.{slot_bytes, kept_bytes, IsHeader, IsSlot, IsEntry};
 ghost use Rattle.ctr_page.specs.Columns.{entry_in, columns_in, new_entry_bytes};
 ghost use Rattle.ctr_area.specs.Reading.{slot_said, older_said, entry_bytes, title_of, firsts_of, columns_on, width_on, area_of};
 ghost use Rattle.ctr_area.specs.Images.{new_pages, image_rows, undo_size};
 ghost use Rattle.ctr_area.specs.Sound.{IsSoundArea, IsBare};
-ghost use Rattle.ctr_area.specs.Changes.{with_slot, with_older, with_title, with_firsts, with_taken, with_blank, new_title, empty_chains, ChangesEntry, IsBitSet, with_byte_of, with_header, with_bytes_at, with_entry, IsPlaceOf};
+ghost use Rattle.ctr_area.specs.Changes.{with_slot, with_older, with_title, with_firsts, with_taken, with_blank, new_title, empty_chains, ChangesEntry, IsBitSet, with_byte_of, with_header, with_bytes_at, with_entry, with_in_entry, IsPlaceOf};
 
 /// The bytes of a slot over what stands at a place of a page of rows: the area changes at this place, and
 /// nowhere else.
@@ -57,6 +59,26 @@ pub fn entry_is_made()
         → 256 * (e % 16) + 256 ≤ length (pages (1 + e / 16)) → creator < 256 ^ 8 → length name ≤ 16 → ColumnsFit cs
         → ChangesEntry e (new_title creator name cs) empty_chains (area_of pages)
         (area_of (with_entry e (new_entry_bytes creator name cs) pages)) }
+{}
+
+/// Any bytes over an entry of the catalog: its title and its chains become those of the new bytes; other
+/// entries and what stands on their pages stay.
+pub fn entry_is_written_over()
+    ensures { (pages : ℕ → List ℕ) (e : ℕ) (new : List ℕ) → e < 32 → length new ≡ 256 → 256 * (e % 16) + 256 ≤ length (pages (1 + e / 16))
+        → ChangesEntry e (title_of (entry_in new)) (firsts_of (entry_in new)) (area_of pages) (area_of (with_entry e new pages)) }
+{}
+
+/// The number of a transaction in the place of the one that dropped a table, or 0: the table is dropped by
+/// it, or not any more, and nothing else changes.
+pub fn dropper_changes_alone()
+    ensures { (pages : ℕ → List ℕ) (e x : ℕ) → e < 32 → 256 * (e % 16) + 256 ≤ length (pages (1 + e / 16)) → x < 256 ^ 8
+        → area_of (with_in_entry e DROPPER_AT (spelled 8 x) pages) ≡ with_title e (record ((area_of pages).title e) { dropper = x }) (area_of pages) }
+{}
+
+/// Another state of an entry that isn't free, and isn't to be: nothing else changes.
+pub fn state_changes_alone()
+    ensures { (pages : ℕ → List ℕ) (e s : ℕ) → e < 32 → 256 * (e % 16) + 256 ≤ length (pages (1 + e / 16)) → s ≢ 0 → ((area_of pages).title e).state ≢ 0
+        → area_of (with_in_entry e 0 (s ∷ []) pages) ≡ with_title e (record ((area_of pages).title e) { state = s }) (area_of pages) }
 {}
 
 /// A new database has pages of zeros and no transaction. It is sound, however many of its pages are
