@@ -1,8 +1,8 @@
 -- Some bytes of an entry of the catalog are put over: the transaction that dropped its table, its state.
-use Rattle.std.proofs.Common.{◌≡◌, ◌≢◌, ℕ, zero, suc, ◌+◌, ◌-◌, ◌*◌, ◌/◌, ◌%◌, ◌^◌, ◌<◌, ◌≤◌, cond, List, [], ◌∷◌, ◌++◌, append_assoc, length, length-append, map, take, drop, refl, sym, ◌∙◌, ap, take-append-drop, arith}
+use Rattle.std.proofs.Common.{◌≡◌, ◌≢◌, ℕ, zero, suc, ◌+◌, ◌-◌, ◌*◌, ◌/◌, ◌%◌, ◌^◌, ◌<◌, ◌≤◌, cond, List, [], ◌∷◌, ◌++◌, append_assoc, length, length-append, map, take, drop, refl, sym, ◌∙◌, ap, take-append-drop, arith, inl, inr, ◌⊎◌, ⊎_elim, set}
 use Rattle.std.specs.Prelude.{◌==◌}
 use Rattle.std.proofs.Math.Seq.{take-add}
-use Rattle.std.proofs.lemmas.Bool.{eqb-true, ne_eqb, lt-ltb}
+use Rattle.std.proofs.lemmas.Bool.{eqb-true, ne_eqb, lt-ltb, cases_lt, cases_eq, eq-eqb}
 use Rattle.std.proofs.lemmas.List.{take-take, drop-drop, drop-append-le, length-take-le, length-drop, drop_at}
 use Rattle.ctr_versions.proofs.Keys.{known}
 use Rattle.ctr_bytes.specs.Fields.{spelled, field}
@@ -11,8 +11,9 @@ use Rattle.ctr_page.specs.Reading.{piece, put_over}
 use Rattle.ctr_page.specs.Columns.{entry_in, name_in, kind_said, columns_from, columns_in, table_name_in, first_in, versions_first_in}
 use Rattle.ctr_area.specs.Areas.{Title, Firsts, no_pages, Area}
 use Rattle.ctr_area.specs.Reading.{entry_bytes, bucket_numbers, title_of, firsts_of, area_of}
-use Rattle.ctr_area.specs.Changes.{with_title, with_firsts, with_page, with_entry, with_in_entry}
-use Rattle.ctr_area.proofs.Bytes.{length-piece, field_before, byte_here}
+use Rattle.ctr_page.specs.Readable.{NamesFit, PartsFit}
+use Rattle.ctr_area.specs.Changes.{with_title, with_firsts, with_bucket, with_page, with_entry, with_in_entry}
+use Rattle.ctr_area.proofs.Bytes.{length-piece, field_before, byte_here, piece_before}
 use Rattle.ctr_area.proofs.Entered.{entry_written}
 
 -- ---- bytes that are put over a part
@@ -103,6 +104,20 @@ module _ (m : ℕ) (a b : List ℕ) (same : drop m a ≡ drop m b) where
         f : (k : ℕ) → m ≤ k → field 4 k a ≡ field 4 k b
         f k le = field_behind 4 k le
 
+-- one of eight numbers is set
+one_of_eight : (b p x0 x1 x2 x3 x4 x5 x6 x7 : ℕ) → b < 8
+    → cond (0 == b) p x0 ∷ cond (1 == b) p x1 ∷ cond (2 == b) p x2 ∷ cond (3 == b) p x3 ∷ cond (4 == b) p x4 ∷ cond (5 == b) p x5 ∷ cond (6 == b) p x6 ∷ cond (7 == b) p x7 ∷ []
+    ≡ set (x0 ∷ x1 ∷ x2 ∷ x3 ∷ x4 ∷ x5 ∷ x6 ∷ x7 ∷ []) b p
+one_of_eight zero p x0 x1 x2 x3 x4 x5 x6 x7 few = refl
+one_of_eight (suc zero) p x0 x1 x2 x3 x4 x5 x6 x7 few = refl
+one_of_eight (suc (suc zero)) p x0 x1 x2 x3 x4 x5 x6 x7 few = refl
+one_of_eight (suc (suc (suc zero))) p x0 x1 x2 x3 x4 x5 x6 x7 few = refl
+one_of_eight (suc (suc (suc (suc zero)))) p x0 x1 x2 x3 x4 x5 x6 x7 few = refl
+one_of_eight (suc (suc (suc (suc (suc zero))))) p x0 x1 x2 x3 x4 x5 x6 x7 few = refl
+one_of_eight (suc (suc (suc (suc (suc (suc zero)))))) p x0 x1 x2 x3 x4 x5 x6 x7 few = refl
+one_of_eight (suc (suc (suc (suc (suc (suc (suc zero))))))) p x0 x1 x2 x3 x4 x5 x6 x7 few = refl
+one_of_eight (suc (suc (suc (suc (suc (suc (suc (suc b)))))))) p x0 x1 x2 x3 x4 x5 x6 x7 few = absurd (omega (arith, few))
+
 -- ---- in the area
 
 module _ (pages : ℕ → List ℕ) (e : ℕ) (few : e < 32) (whole : 256 * (e % 16) + 256 ≤ length (pages (1 + e / 16))) where
@@ -173,3 +188,110 @@ module _ (pages : ℕ → List ℕ) (e : ℕ) (few : e < 32) (whole : 256 * (e %
       ∙ same_chains 1 new old behind (omega arith)
       ∙ sym (ap (λ b. cond b no_pages (chains old)) (ne_eqb (field 1 0 old) 0 used)))
       ∙ firsts_stay (record (area.title e) { state = s })
+
+  -- ---- the first page of a chain
+
+  title_stays : (firsts : Firsts) → with_firsts e firsts (with_title e (area.title e) area) ≡ with_firsts e firsts area
+  title_stays firsts = λ i. record (with_firsts e firsts area) { title = λ f. same f i }
+    where
+      same : (f : ℕ) → cond (f == e) (area.title e) (area.title f) ≡ area.title f
+      same f = known (f == e)
+          (λ is. ap (λ b. cond b (area.title e) (area.title f)) is ∙ ap area.title (sym (eqb-true f e is)))
+          (λ isnt. ap (λ b. cond b (area.title e) (area.title f)) isnt)
+
+  module _ (k p : ℕ) (from_on : 179 ≤ k) (within : k + 4 ≤ 256) (small : p < 256 ^ 4) (used : (area.title e).state ≢ 0) (fit : PartsFit old) where
+    abbrev new : List ℕ
+    new = put_over k (spelled 4 p) old
+
+    front : (n j : ℕ) → j + n ≤ 179 → field n j new ≡ field n j old
+    front n j le = field_before j n k (spelled 4 p) old (omega (arith, le, from_on)) (omega (arith, length-old, within))
+
+    name_front : (j : ℕ) → j + 17 ≤ 179 → field 1 j old ≤ 16 → name_in j new ≡ name_in j old
+    name_front j le short =
+        ap (λ n. piece (j + 1) n new) (front 1 j (omega (arith, le)))
+        ∙ piece_before (j + 1) (field 1 j old) k (spelled 4 p) old (omega (arith, le, from_on, short)) (omega (arith, length-old, within))
+
+    columns_front : (n j : ℕ) → j + 18 * n ≤ 179 → NamesFit n j old → columns_from n j new ≡ columns_from n j old
+    columns_front zero j le names = refl
+    columns_front (suc n) j le names = λ i.
+        record { name = name_front j (omega (arith, le)) names.0 i; kind = kind_said (front 1 (j + 18 - 1) (omega (arith, le)) i) } ∷ columns_front n (j + 18) (omega (arith, le)) names.1 i
+
+    same_columns : columns_in new ≡ columns_in old
+    same_columns = ap (λ n. columns_from n 35 new) (front 1 34 (omega arith)) ∙ columns_front (field 1 34 old) 35 (omega (arith, fit.few)) fit.columns
+
+    same_title : title_of (entry_in new) ≡ area.title e
+    same_title = λ i. record {
+      state = front 1 0 (omega arith) i;
+      creator = front 8 1 (omega arith) i;
+      dropper = front 8 9 (omega arith) i;
+      name = name_front 17 (omega arith) fit.name i;
+      columns = same_columns i;
+    }
+
+    first_here : field 4 k new ≡ p
+    first_here = field_put 4 k p old small (omega (arith, length-old, within))
+
+    -- one that doesn't meet it
+    first_apart : (j : ℕ) → (j + 4 ≤ k) ⊎ (k + 4 ≤ j) → field 4 j new ≡ field 4 j old
+    first_apart j apart = ⊎_elim
+        (λ le. field_before j 4 k (spelled 4 p) old le (omega (arith, length-old, within)))
+        (λ le. field_behind (k + 4) new old (drop_put (k + 4) k (spelled 4 p) old (omega (arith, length-spelled 4 p)) (omega (arith, length-old, within))) 4 j le) apart
+
+    -- the chains before and after
+    chains_before : firsts_of (entry_in old) ≡ chains old
+    chains_before = ap (λ b. cond b no_pages (chains old)) (ne_eqb (field 1 0 old) 0 used)
+
+    chains_after : firsts_of (entry_in new) ≡ chains new
+    chains_after = ap (λ b. cond b no_pages (chains new)) (ne_eqb (field 1 0 new) 0 (λ none. used (sym (front 1 0 (omega arith)) ∙ none)))
+
+    pub first_written : (firsts : Firsts) → chains new ≡ firsts → area_of (with_in_entry e k (spelled 4 p) pages) ≡ with_firsts e firsts area
+    first_written firsts is =
+        changes_to k (spelled 4 p) (area.title e) firsts (omega (arith, length-spelled 4 p, within)) same_columns same_title (chains_after ∙ is) ∙ title_stays firsts
+
+  pub versions_written : (p : ℕ) → p < 256 ^ 4 → (area.title e).state ≢ 0 → PartsFit old
+      → area_of (with_in_entry e 211 (spelled 4 p) pages) ≡ with_firsts e (record (area.firsts e) { versions = p }) area
+  versions_written p small used fit =
+      first_written 211 p (omega arith) (omega arith) small used fit (record (area.firsts e) { versions = p }) ((λ i. record {
+        buckets = f 179 (omega arith) i ∷ f 183 (omega arith) i ∷ f 187 (omega arith) i ∷ f 191 (omega arith) i ∷ f 195 (omega arith) i ∷ f 199 (omega arith) i ∷ f 203 (omega arith) i ∷ f 207 (omega arith) i ∷ [];
+        versions = first_here 211 p (omega arith) (omega arith) small used fit i;
+      }) ∙ ap (λ (c : Firsts). let d : Firsts = record c { versions = p } in d) (sym (chains_before 211 p (omega arith) (omega arith) small used fit)))
+    where
+      f : (j : ℕ) → j + 4 ≤ 211 → field 4 j (put_over 211 (spelled 4 p) old) ≡ field 4 j old
+      f j le = first_apart 211 p (omega arith) (omega arith) small used fit j (inl le)
+
+  pub bucket_written : (b p : ℕ) → b < 8 → p < 256 ^ 4 → (area.title e).state ≢ 0 → PartsFit old
+      → area_of (with_in_entry e (179 + 4 * b) (spelled 4 p) pages) ≡ with_firsts e (with_bucket b p (area.firsts e)) area
+  bucket_written b p few_buckets small used fit =
+      first_written k p from_on within small used fit (with_bucket b p (area.firsts e)) ((λ i. record {
+        buckets = f 0 i ∷ f 1 i ∷ f 2 i ∷ f 3 i ∷ f 4 i ∷ f 5 i ∷ f 6 i ∷ f 7 i ∷ [];
+        versions = first_apart k p from_on within small used fit 211 (inr (omega (arith, few_buckets))) i;
+      }) ∙ (λ i. record {
+        buckets = one_of_eight b p (g 0) (g 1) (g 2) (g 3) (g 4) (g 5) (g 6) (g 7) few_buckets i;
+        versions = field 4 211 old;
+      }) ∙ ap (with_bucket b p) (sym (chains_before k p from_on within small used fit)))
+    where
+      k : ℕ
+      k = 179 + 4 * b
+
+      from_on : 179 ≤ 179 + 4 * b
+      from_on = omega arith
+
+      within : 179 + 4 * b + 4 ≤ 256
+      within = omega (arith, few_buckets)
+
+      g : ℕ → ℕ
+      g j = field 4 (179 + 4 * j) old
+
+      f : (j : ℕ) → field 4 (179 + 4 * j) (put_over (179 + 4 * b) (spelled 4 p) old) ≡ cond (j == b) p (field 4 (179 + 4 * j) old)
+      f j = ⊎_elim
+          (λ is. ap (λ m. field 4 (179 + 4 * m) (put_over (179 + 4 * b) (spelled 4 p) old)) is ∙ first_here (179 + 4 * b) p (omega arith) (omega (arith, few_buckets)) small used fit
+          ∙ sym (ap (λ c. cond c p (field 4 (179 + 4 * j) old)) (eq-eqb j b is)))
+          (λ isnt. first_apart (179 + 4 * b) p (omega arith) (omega (arith, few_buckets)) small used fit (179 + 4 * j) (apart j isnt)
+          ∙ sym (ap (λ c. cond c p (field 4 (179 + 4 * j) old)) (ne_eqb j b isnt)))
+          (cases_eq j b)
+        where
+          apart : (j : ℕ) → (j ≡ b → ⊥) → (179 + 4 * j + 4 ≤ 179 + 4 * b) ⊎ (179 + 4 * b + 4 ≤ 179 + 4 * j)
+          apart j isnt = ⊎_elim (λ lt. inl (omega (arith, lt))) (λ le. inr (beyond le)) (cases_lt j b)
+            where
+              beyond : b ≤ j → 179 + 4 * b + 4 ≤ 179 + 4 * j
+              beyond le = ⊎_elim (λ lt. omega (arith, lt)) (λ ge. absurd (isnt (omega (arith, le, ge)))) (cases_lt b j)

@@ -1,5 +1,5 @@
 -- What a record does to an area: one place of it is changed.
-use Rattle.std.specs.Prelude.{◌≡◌, ◌≢◌, ℕ, ◌+◌, ◌*◌, ◌/◌, ◌%◌, ◌==◌, ◌<◌, ◌≤◌, Bool, List, [], ◌∷◌, length, drop, replicate, if◌then◌else◌}
+use Rattle.std.specs.Prelude.{◌≡◌, ◌≢◌, ℕ, ◌+◌, ◌*◌, ◌/◌, ◌%◌, ◌==◌, ◌<◌, ◌≤◌, Bool, List, [], ◌∷◌, length, drop, set, replicate, if◌then◌else◌}
 use Rattle.ctr_types.specs.declared.value.Column.{Column}
 use Rattle.ctr_value.specs.Payload.{width}
 use Rattle.ctr_page.specs.declared.header.Header.{Header}
@@ -28,6 +28,10 @@ with_title e title area = record area { title = λ f. if f == e then title else 
 -- Link and Unlink; and Create, by which a free entry gets empty buckets
 abbrev pub with_firsts : ℕ → Firsts → Area → Area
 with_firsts e firsts area = record area { firsts = λ f. if f == e then firsts else area.firsts f }
+
+-- the first pages, where that of a bucket, by its number, is this one
+abbrev pub with_bucket : ℕ → ℕ → Firsts → Firsts
+with_bucket bucket p firsts = record firsts { buckets = set firsts.buckets bucket p }
 
 -- Alloc and Free
 abbrev pub with_taken : ℕ → Bool → Area → Area

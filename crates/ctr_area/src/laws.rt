@@ -7,14 +7,15 @@ ghost use Rattle.ctr_page.specs.declared.rows.VersionEntry.{VersionEntry};
 ghost use Rattle.ctr_types.specs.declared.value.Column.{Column};
 ghost use Rattle.ctr_value.specs.Columns.{ColumnsFit};
 ghost use Rattle.ctr_bytes.specs.Fields.{spelled};
-ghost use Rattle.ctr_page.specs.declared.table.TheConstants.{DROPPER_AT};
+ghost use Rattle.ctr_page.specs.declared.table.TheConstants.{DROPPER_AT, FIRSTS_AT, VERSIONS_AT};
 ghost use Rattle.ctr_page.specs.declared.header.Header.{Header};
+ghost use Rattle.ctr_page.specs.Readable.{PartsFit};
 ghost use Rattle.ctr_page.specs.Making.{slot_bytes, kept_bytes, IsHeader, IsSlot, IsEntry};
 ghost use Rattle.ctr_page.specs.Columns.{entry_in, columns_in, new_entry_bytes};
 ghost use Rattle.ctr_area.specs.Reading.{slot_said, older_said, entry_bytes, title_of, firsts_of, columns_on, width_on, area_of};
 ghost use Rattle.ctr_area.specs.Images.{new_pages, image_rows, undo_size};
 ghost use Rattle.ctr_area.specs.Sound.{IsSoundArea, IsBare};
-ghost use Rattle.ctr_area.specs.Changes.{with_slot, with_older, with_title, with_firsts, with_taken, with_blank, new_title, empty_chains, ChangesEntry, IsBitSet, with_byte_of, with_header, with_bytes_at, with_entry, with_in_entry, IsPlaceOf};
+ghost use Rattle.ctr_area.specs.Changes.{with_slot, with_older, with_title, with_firsts, with_bucket, with_taken, with_blank, new_title, empty_chains, ChangesEntry, IsBitSet, with_byte_of, with_header, with_bytes_at, with_entry, with_in_entry, IsPlaceOf};
 
 /// The bytes of a slot over what stands at a place of a page of rows: the area changes at this place, and
 /// nowhere else.
@@ -79,6 +80,17 @@ pub fn dropper_changes_alone()
 pub fn state_changes_alone()
     ensures { (pages : ℕ → List ℕ) (e s : ℕ) → e < 32 → 256 * (e % 16) + 256 ≤ length (pages (1 + e / 16)) → s ≢ 0 → ((area_of pages).title e).state ≢ 0
         → area_of (with_in_entry e 0 (s ∷ []) pages) ≡ with_title e (record ((area_of pages).title e) { state = s }) (area_of pages) }
+{}
+
+/// The number of a page in the place of the first of a chain of an entry that passes its checks: the chain
+/// begins there, and nothing else changes.
+pub fn first_changes_alone()
+    ensures bucket { (pages : ℕ → List ℕ) (e b p : ℕ) → e < 32 → 256 * (e % 16) + 256 ≤ length (pages (1 + e / 16)) → b < 8 → p < 256 ^ 4
+        → ((area_of pages).title e).state ≢ 0 → PartsFit (entry_bytes pages e)
+        → area_of (with_in_entry e (FIRSTS_AT + 4 * b) (spelled 4 p) pages) ≡ with_firsts e (with_bucket b p ((area_of pages).firsts e)) (area_of pages) }
+    ensures versions { (pages : ℕ → List ℕ) (e p : ℕ) → e < 32 → 256 * (e % 16) + 256 ≤ length (pages (1 + e / 16)) → p < 256 ^ 4
+        → ((area_of pages).title e).state ≢ 0 → PartsFit (entry_bytes pages e)
+        → area_of (with_in_entry e VERSIONS_AT (spelled 4 p) pages) ≡ with_firsts e (record ((area_of pages).firsts e) { versions = p }) (area_of pages) }
 {}
 
 /// A new database has pages of zeros and no transaction. It is sound, however many of its pages are

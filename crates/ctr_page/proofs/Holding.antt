@@ -1,5 +1,5 @@
 -- What passes its checks holds rows that can be read.
-use Rattle.std.proofs.Common.{◌≡◌, inl, inr, ℕ, ◌+◌, ◌-◌, ◌*◌, ◌≤◌, ℤ, Bool, true, false, cond, ltb, List, [], ◌∷◌, map, length, take, drop, slice_index, Some, None, Result, Ok, Err, refl, sym, ◌∙◌, ap, subst, arith, take-append-drop}
+use Rattle.std.proofs.Common.{◌≡◌, inl, inr, ℕ, ◌+◌, ◌-◌, ◌*◌, ◌≤◌, ℤ, Bool, true, false, cond, ltb, List, [], ◌∷◌, map, length, take, drop, slice_index, Some, None, Result, Ok, Err, refl, sym, ◌∙◌, ap, subst, arith, take-append-drop, zero, suc}
 use Rattle.std.specs.Prelude.{⊤, IfSome, FitsSigned, ◌==◌}
 use Rattle.std.specs.Int.{w64, cast_signed}
 use Rattle.std.proofs.Math.Facts.{sfits_to_z}
@@ -20,9 +20,9 @@ use Rattle.ctr_records.specs.Damage.{◌>>=◌, wrong, at_most}
 use Rattle.ctr_records.proofs.Reading.{guard_ok}
 use Rattle.ctr_page.specs.Places.{has_previous, previous_at, pointer_at, kept_pointer_at, slot_size, kept_size}
 use Rattle.ctr_page.specs.Reading.{piece, version_in, if_there, previous_in, slot_at, older_at}
-use Rattle.ctr_page.specs.Columns.{entry_at, kinds_of, kinds_width, slot_start, kept_start}
-use Rattle.ctr_page.specs.Damage.{text_check, texts_check, version_check, some_version_check, previous_check, pointer_check, used_slot_check, used_kept_check, slot_check, kept_check, from_1_check, firsts_check, used_entry_check, entry_check}
-use Rattle.ctr_page.specs.Readable.{HoldsRow, HoldsRows, HoldsOlder, HasParts}
+use Rattle.ctr_page.specs.Columns.{entry_at, column_kind_at, kinds_of, kinds_width, slot_start, kept_start}
+use Rattle.ctr_page.specs.Damage.{text_check, texts_check, version_check, some_version_check, previous_check, pointer_check, used_slot_check, used_kept_check, slot_check, kept_check, from_1_check, firsts_check, column_check, columns_check, used_entry_check, entry_check}
+use Rattle.ctr_page.specs.Readable.{HoldsRow, HoldsRows, HoldsOlder, NamesFit, HasParts}
 use Rattle.ctr_page.proofs.Passing.{from_1_holds}
 
 -- ---- checks that pass
@@ -196,6 +196,21 @@ older_row page below counted n ks inside cs keyed are e =
 
 -- ---- entries of the catalog
 
+-- a column's name, by the entry's bytes
+name_holds : (most start k : ℕ) (page : List ℕ) → start + 256 ≤ length page → k + 1 ≤ 256 → column_check most (start + k) page ≡ Ok tt → field 1 k (piece start 256 page) ≤ 16
+unfolding column_check
+name_holds most start k page inside within e =
+    let first = then_ok (from_1_check 16 (start + k) page) (at_most (column_kind_at (start + k)) most (field 1 (column_kind_at (start + k)) page)) e in
+    subst (λ x. x ≤ 16) (sym (piece_field 1 k start 256 page within inside)) ((from_1_holds 16 (start + k) page (sym first.0)).1)
+
+names_hold : (n start k : ℕ) (page : List ℕ) → start + 256 ≤ length page → k + 18 * n ≤ 256 → columns_check n (start + k) page ≡ Ok tt → NamesFit n k (piece start 256 page)
+names_hold zero start k page inside within e = tt
+names_hold (suc n) start k page inside within e =
+    let both = then_ok (column_check 64 (start + k) page) (columns_check n (start + k + 18) page) e in (
+      name_holds 64 start k page inside (omega (arith, within)) both.0,
+      names_hold n start (k + 18) page inside (omega (arith, within)) (ap (λ j. columns_check n j page) (let z : start + (k + 18) ≡ start + k + 18 = omega arith in z) ∙ both.1),
+    )
+
 pub entry_parts : (counted n : ℕ) (page : List ℕ) → 256 * n + 256 ≤ length page → entry_check counted (256 * n) page ≡ Ok tt → HasParts (entry_at n page)
 unfolding entry_check used_entry_check
 entry_parts counted n page inside e = λ used.
@@ -207,9 +222,16 @@ entry_parts counted n page inside e = λ used.
     let third = then_ok (at_most start 2 (field 1 start page)) _ second.1 in
     let fourth = then_ok (from_1_check 16 (start + 17) page) _ third.1 in
     let fifth = then_ok (from_1_check 8 (start + 34) page) _ fourth.1 in
+    let sixth = then_ok (column_check 0 (start + 34 + 1) page) (columns_check (field 1 (start + 34) page - 1) (start + 34 + 1 + 18) page) fifth.1 in
     let name = from_1_holds 16 (start + 17) page (sym fourth.0) in
-    let number = from_1_holds 8 (start + 34) page (sym fifth.0) in (
-      subst (λ x. x ≤ 16) (sym (piece_field 1 17 start 256 page (omega arith) inside)) name.1,
-      subst (λ x. 1 ≤ x) (sym (piece_field 1 34 start 256 page (omega arith) inside)) number.0,
-      subst (λ x. x ≤ 8) (sym (piece_field 1 34 start 256 page (omega arith) inside)) number.1,
-    )
+    let number = from_1_holds 8 (start + 34) page (sym fifth.0) in
+    let same : field 1 34 (piece start 256 page) ≡ field 1 (start + 34) page = piece_field 1 34 start 256 page (omega arith) inside in
+    let one_more : suc (field 1 (start + 34) page - 1) ≡ field 1 34 (piece start 256 page) = omega (arith, number.0, same) in
+    let key = name_holds 0 start 35 page inside (omega arith) (ap (λ k. column_check 0 k page) (let z : start + 35 ≡ start + 34 + 1 = omega arith in z) ∙ sixth.0) in
+    let others = names_hold (field 1 (start + 34) page - 1) start 53 page inside (omega (arith, number.1)) (ap (λ k. columns_check (field 1 (start + 34) page - 1) k page) (let z : start + 53 ≡ start + 34 + 1 + 18 = omega arith in z) ∙ sixth.1) in
+    record {
+      name = subst (λ x. x ≤ 16) (sym (piece_field 1 17 start 256 page (omega arith) inside)) name.1;
+      keyed = subst (λ x. 1 ≤ x) (sym same) number.0;
+      few = subst (λ x. x ≤ 8) (sym same) number.1;
+      columns = subst (λ n. NamesFit n 35 (piece start 256 page)) one_more (key, others);
+    }
