@@ -1,5 +1,5 @@
 -- The bits of page 0: what a bit says of its page.
-use Rattle.std.proofs.Common.{◌≡◌, ◌≢◌, ⊎_elim, ℕ, ◌+◌, ◌*◌, ◌/◌, ◌%◌, ◌<◌, ◌≤◌, Bool, true, false, cond, List, [], ◌∷◌, length, slice_index, sym, ◌∙◌, ap, subst, arith, ◌++◌, set, take, drop, take-append-drop}
+use Rattle.std.proofs.Common.{◌≡◌, ◌≢◌, ⊎_elim, ℕ, ◌+◌, ◌*◌, ◌/◌, ◌%◌, ◌<◌, ◌≤◌, Bool, true, false, cond, List, [], ◌∷◌, length, slice_index, sym, ◌∙◌, ap, subst, arith, ◌++◌, set, take-append-drop}
 use Rattle.std.proofs.lemmas.List.{take-set, drop-set}
 use Rattle.std.specs.Prelude.{◌==◌}
 use Rattle.std.specs.Int.{w8, bit_at, trailing_ones}

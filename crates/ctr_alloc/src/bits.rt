@@ -22,6 +22,20 @@ fn with_zero(byte: u8, k: u32) -> u8
     byte & !(1 << k)
 }
 
+fn set_bit(page: &[u8], p: PageNo) -> u8
+    requires { p / 8 < length page.now }
+    ensures { IsBitSet (p % 8) true (slice_index page.now (p / 8)) result }
+{
+    with_one(page[p as usize / 8], p % 8)
+}
+
+fn clear_bit(page: &[u8], p: PageNo) -> u8
+    requires { p / 8 < length page.now }
+    ensures { IsBitSet (p % 8) false (slice_index page.now (p / 8)) result }
+{
+    with_zero(page[p as usize / 8], p % 8)
+}
+
 /// The byte of page 0 in which a page has its bit, where this page is allocated. Its place is the number
 /// of the page by 8.
 pub fn with_taken(page: &[u8], p: PageNo) -> u8
@@ -31,7 +45,7 @@ pub fn with_taken(page: &[u8], p: PageNo) -> u8
     // Over page 0 it allocates the page, and changes nothing else in the pages.
     ensures area { (pages : ℕ → List ℕ) → pages 0 ≡ page.now → area_of (with_byte_of p result pages) ≡ area_with_taken p true (area_of pages) }
 {
-    with_one(page[p as usize / 8], p % 8)
+    set_bit(page, p)
 }
 
 /// The byte of page 0 in which a page has its bit, where this page is free.
@@ -42,5 +56,5 @@ pub fn with_free(page: &[u8], p: PageNo) -> u8
     // Over page 0 it frees the page, and changes nothing else in the pages.
     ensures area { (pages : ℕ → List ℕ) → pages 0 ≡ page.now → area_of (with_byte_of p result pages) ≡ area_with_taken p false (area_of pages) }
 {
-    with_zero(page[p as usize / 8], p % 8)
+    clear_bit(page, p)
 }
