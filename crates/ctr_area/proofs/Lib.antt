@@ -9,3 +9,4 @@ pub mod Placed
 pub mod Places
 pub mod Written
 pub mod InEntry
+pub mod Walked

@@ -1,5 +1,5 @@
 // Laws of areas, each on a call that does nothing else.
-ghost use Rattle.std.specs.Prelude.{◌≡◌, ◌≢◌, ◌∷◌, ◌<◌, ◌≤◌, ◌+◌, ◌*◌, ◌/◌, ◌%◌, ◌^◌, ℕ, Bool, List, [], length, slice_index};
+ghost use Rattle.std.specs.Prelude.{◌≡◌, ◌≢◌, ◌∷◌, ◌<◌, ◌≤◌, ◌+◌, ◌*◌, ◌/◌, ◌%◌, ◌^◌, ℕ, Bool, List, [], length, slice_index, Ok};
 ghost use Rattle.ctr_meta.specs.Tables.{no_tables};
 ghost use Rattle.ctr_page.specs.declared.rows.Place.{Place};
 ghost use Rattle.ctr_page.specs.declared.rows.RowSlot.{RowSlot};
@@ -13,6 +13,10 @@ ghost use Rattle.ctr_page.specs.Readable.{PartsFit};
 ghost use Rattle.ctr_page.specs.Making.{slot_bytes, kept_bytes, IsHeader, IsSlot, IsEntry};
 ghost use Rattle.ctr_page.specs.Columns.{entry_in, columns_in, new_entry_bytes};
 ghost use Rattle.ctr_area.specs.Reading.{slot_said, older_said, entry_bytes, title_of, firsts_of, columns_on, width_on, area_of};
+ghost use Rattle.ctr_page.specs.declared.checks.Chain.{Chain};
+ghost use Rattle.ctr_page.specs.Walking.{most_pages, chain_check};
+ghost use Rattle.ctr_area.specs.Chains.{pages_bound, pages_from};
+ghost use Rattle.ctr_area.specs.Checked.{ChainPasses};
 ghost use Rattle.ctr_area.specs.Images.{new_pages, image_rows, undo_size};
 ghost use Rattle.ctr_area.specs.Sound.{IsSoundArea, IsBare};
 ghost use Rattle.ctr_area.specs.Changes.{with_slot, with_older, with_title, with_firsts, with_bucket, with_taken, with_blank, new_title, empty_chains, ChangesEntry, IsBitSet, with_byte_of, with_header, with_bytes_at, with_entry, with_in_entry, IsPlaceOf};
@@ -91,6 +95,15 @@ pub fn first_changes_alone()
     ensures versions { (pages : ℕ → List ℕ) (e p : ℕ) → e < 32 → 256 * (e % 16) + 256 ≤ length (pages (1 + e / 16)) → p < 256 ^ 4
         → ((area_of pages).title e).state ≢ 0 → PartsFit (entry_bytes pages e)
         → area_of (with_in_entry e VERSIONS_AT (spelled 4 p) pages) ≡ with_firsts e (record ((area_of pages).firsts e) { versions = p }) (area_of pages) }
+{}
+
+/// A chain of pages that is read without damage: each of its pages passes its check, and it ends.
+pub fn a_checked_chain_ends()
+    ensures passes { (chain : Chain) (counted : ℕ) (pages : ℕ → List ℕ) (last p : ℕ) → counted ≤ pages_bound
+        → chain_check chain counted pages (most_pages counted) last p ≡ Ok tt → ChainPasses counted pages chain p }
+    ensures ends { (chain : Chain) (counted : ℕ) (pages : ℕ → List ℕ) (last p : ℕ) → counted ≤ pages_bound
+        → chain_check chain counted pages (most_pages counted) last p ≡ Ok tt
+        → pages_from (pages_bound + 1) (area_of pages).header p ≡ pages_from pages_bound (area_of pages).header p }
 {}
 
 /// A new database has pages of zeros and no transaction. It is sound, however many of its pages are

@@ -5,3 +5,4 @@ pub mod Columns
 pub mod Damage
 pub mod Readable
 pub mod Searching
+pub mod Walking
