@@ -1,9 +1,11 @@
 // The entries on a page of the catalog.
-ghost use Rattle.std.specs.Prelude.{◌≡◌, ◌≤◌, ◌<◌, length};
+ghost use Rattle.std.specs.Prelude.{◌≡◌, ◌≤◌, ◌<◌, ◌+◌, ℕ, List, Option, length, Ok};
 ghost use Rattle.ctr_page.specs.declared.table.TheConstants.{PAGE_SIZE, ENTRY_SIZE};
 ghost use Rattle.ctr_page.specs.Readable.{HasParts};
-ghost use Rattle.ctr_page.specs.Searching.{EndsSearch};
-ghost use Rattle.ctr_catalog.specs.Entries.{is_live_of, is_free, checks_entry};
+ghost use Rattle.ctr_page.specs.Searching.{EndsSearch, IsFirst};
+ghost use Rattle.ctr_area.specs.Reading.{area_of};
+ghost use Rattle.ctr_catalog.specs.declared.entries.TheConstants.{ENTRIES_ON_PAGE};
+ghost use Rattle.ctr_catalog.specs.Entries.{is_live_of, is_free, checks_entry, names_in, frees_in};
 ghost use Rattle.ctr_page.specs.Columns.{entry_at as entry_of};
 
 use ctr_page::{BadPage, CatalogEntry, check_entry, read_entry};
@@ -52,3 +54,14 @@ pub fn find_free(counted: u32, page: &[u8]) -> Result<Option<u8>, BadPage>
     }
     Ok(None)
 }
+
+/// A search that ends without damage, on the first page of the catalog (0) or the second (1), has found the
+/// first entry of the area there that is sought, or there is none.
+pub fn found_in_area()
+    ensures named { (pages : ℕ → List ℕ) (half from counted : ℕ) (name : List ℕ) (found : Option ℕ) → half < 2
+        → EndsSearch (checks_entry counted (pages (1 + half))) (λ n. is_live_of name (entry_of n (pages (1 + half)))) from ENTRIES_ON_PAGE (Ok found)
+        → IsFirst (names_in (area_of pages) half name) from ENTRIES_ON_PAGE found }
+    ensures free { (pages : ℕ → List ℕ) (half from counted : ℕ) (found : Option ℕ) → half < 2
+        → EndsSearch (checks_entry counted (pages (1 + half))) (λ n. is_free (entry_of n (pages (1 + half)))) from ENTRIES_ON_PAGE (Ok found)
+        → IsFirst (frees_in (area_of pages) half) from ENTRIES_ON_PAGE found }
+{}

@@ -5,7 +5,7 @@
 
 mod entries;
 
-pub use entries::{ENTRIES_ON_PAGE, find_free, find_named};
+pub use entries::{ENTRIES_ON_PAGE, find_free, find_named, found_in_area};
 
 #[cfg(test)]
 mod tests;

@@ -5,7 +5,7 @@
 
 mod slots;
 
-pub use slots::{SlotSought, search_slots};
+pub use slots::{SlotSought, found_in_area, search_slots};
 
 #[cfg(test)]
 mod tests;

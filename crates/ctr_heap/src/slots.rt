@@ -1,11 +1,14 @@
 // The slots of a page of rows.
-ghost use Rattle.std.specs.Prelude.{◌≡◌, ◌≤◌, ◌<◌, length};
+ghost use Rattle.std.specs.Prelude.{◌≡◌, ◌≤◌, ◌<◌, ℕ, List, length, Ok};
+ghost use Rattle.std.specs.Prelude.{Option};
 ghost use Rattle.ctr_types.specs.declared.value.Kind.{Kind};
 ghost use Rattle.ctr_page.specs.declared.table.TheConstants.{PAGE_SIZE};
-ghost use Rattle.ctr_page.specs.Columns.{kinds_width as width_of_kinds};
+ghost use Rattle.ctr_page.specs.Columns.{kinds_of, kinds_width as width_of_kinds};
 ghost use Rattle.ctr_page.specs.Places.{slot_size as size_of_slot, room_for as room_of};
-ghost use Rattle.ctr_page.specs.Searching.{EndsSearch};
-ghost use Rattle.ctr_heap.specs.Slots.{slot_is, checks_slot, seeks_slot};
+ghost use Rattle.ctr_page.specs.Searching.{EndsSearch, IsFirst};
+ghost use Rattle.ctr_area.specs.Reading.{header_on, columns_on, area_of};
+ghost use Rattle.ctr_heap.specs.declared.slots.SlotSought.{SlotSought};
+ghost use Rattle.ctr_heap.specs.Slots.{slot_is, checks_slot, seeks_slot, seeks_in};
 
 use ctr_page::{BadPage, RowSlot, check_slot, kinds_width, read_slot, room_for, slot_size};
 use ctr_types::Kind;
@@ -56,3 +59,12 @@ pub fn search_slots(
     }
     Ok(None)
 }
+
+/// A search that ends without damage, on a page of rows by the columns of its table, has found the first slot
+/// of the area there that is sought, or there is none.
+pub fn found_in_area()
+    ensures { (pages : ℕ → List ℕ) (p counted : ℕ) (sought : SlotSought) (found : Option ℕ) → (header_on pages p).kind ≡ 1
+        → EndsSearch (checks_slot (kinds_of (columns_on pages p)) counted (pages p)) (seeks_slot (width_of_kinds (kinds_of (columns_on pages p))) sought (pages p))
+        0 (room_of (size_of_slot (width_of_kinds (kinds_of (columns_on pages p))))) (Ok found)
+        → IsFirst (seeks_in (area_of pages) p sought) 0 ((area_of pages).room p) found }
+{}

@@ -31,7 +31,7 @@ then_ok : (r s : Result ⊤ BadRecord) → (r >>= λ _. s) ≡ Ok tt → (r ≡ 
 then_ok (Ok x) s e = (refl, e)
 then_ok (Err d) s e = absurd cc
 
-most_ok : (at bound got : ℕ) → at_most at bound got ≡ Ok tt → got ≤ bound
+pub most_ok : (at bound got : ℕ) → at_most at bound got ≡ Ok tt → got ≤ bound
 unfolding at_most
 most_ok at bound got e = ltb-false bound got (guard_ok (ltb bound got) (wrong at bound got) (Ok tt) tt e).0
 
@@ -82,7 +82,7 @@ texts_hold (c ∷ cs) at page below fits e =
     ((first.0, held.0), (take w (drop at page), piece (at + w) (width cs) page, first.1, held.1, sym (side at w (width cs) page)))
 
 -- the kinds have the width of their columns
-kinds_wide : (cs : List Column) → kinds_width (map (λ (c : Column). c.kind) cs) ≡ width cs
+pub kinds_wide : (cs : List Column) → kinds_width (map (λ (c : Column). c.kind) cs) ≡ width cs
 kinds_wide [] = refl
 kinds_wide (c ∷ cs) = ap (λ n. field_width c.kind + n) (kinds_wide cs)
 

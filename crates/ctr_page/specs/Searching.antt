@@ -18,3 +18,10 @@ EndsSearch check sought from count (Ok (Some n)) =
 EndsSearch check sought from count (Ok None) = PassesBy check sought from count
 EndsSearch check sought from count (Err bad) =
     (n : ℕ) × (from ≤ n) × (n < count) × PassesBy check sought from n × (check n ≡ Err bad)
+
+-- The first from a number on, among so many, that is sought, or none.
+abbrev pub IsFirst : (ℕ → Bool) → ℕ → ℕ → Option ℕ → Type 0
+IsFirst sought from count (Some n) =
+    (from ≤ n) × (n < count) × (sought n ≡ true)
+    × ((m : ℕ) → from ≤ m → m < n → sought m ≡ false)
+IsFirst sought from count None = (m : ℕ) → from ≤ m → m < count → sought m ≡ false
