@@ -1,4 +1,5 @@
--- Which pages are free, by the bytes of page 0. The pages 0, 1 and 2 never are, though their bits are 0.
+-- Which pages are free, by the bytes of page 0. The pages 0, 1 and 2 never are, though their bits
+-- are 0.
 use Rattle.std.specs.Prelude.{◌≡◌, ℕ, ◌==◌, ◌<◌, ◌≤◌, true, false, List, slice_index, if◌then◌else◌}
 use Rattle.std.specs.Int.Bits.{bit_or}
 use Rattle.ctr_model.specs.declared.limits.TheConstants.{MOST_PAGES}
@@ -14,8 +15,9 @@ AreTakenBelow p page = (q : ℕ) → 3 ≤ q → q < p → is_taken q page ≡ t
 abbrev pub IsFree : List ℕ → ℕ → Type 0
 IsFree page p = (3 ≤ p) × (is_taken p page ≡ false)
 
--- Where a page can be had: the lowest free one; or by growth, exactly where no counted page is free and
--- fewer than the most are counted; or nowhere, exactly where none is free and the most are counted.
+-- Where a page can be had: the lowest free one; or by growth, exactly where no counted page is
+-- free and fewer than the most are counted; or nowhere, exactly where none is free and the most
+-- are counted.
 abbrev pub IsNextFree : ℕ → List ℕ → NextFree → Type 0
 IsNextFree counted page (Page p) = IsFree page p × (p < counted) × AreTakenBelow p page
 IsNextFree counted page Grow = AreTakenBelow counted page × (counted < MOST_PAGES)

@@ -11,7 +11,7 @@ use Rattle.ctr_page.specs.Reading.{piece, put_over}
 use Rattle.ctr_page.specs.Columns.{entry_in, name_in, kind_said, columns_from, columns_in, table_name_in, first_in, versions_first_in}
 use Rattle.ctr_area.specs.Areas.{Title, Firsts, no_pages, Area}
 use Rattle.ctr_area.specs.Reading.{entry_bytes, bucket_numbers, title_of, firsts_of, area_of}
-use Rattle.ctr_page.specs.Readable.{NamesFit, PartsFit}
+use Rattle.ctr_page.specs.Readable.{NamesFit, PartsHaveRoom}
 use Rattle.ctr_area.specs.Changes.{with_title, with_firsts, with_bucket, with_page, with_entry, with_in_entry}
 use Rattle.ctr_area.proofs.Bytes.{length-piece, field_before, byte_here, piece_before}
 use Rattle.ctr_area.proofs.Entered.{entry_written}
@@ -199,7 +199,7 @@ module _ (pages : ℕ → List ℕ) (e : ℕ) (few : e < 32) (whole : 256 * (e %
           (λ is. ap (λ b. cond b (area.title e) (area.title f)) is ∙ ap area.title (sym (eqb-true f e is)))
           (λ isnt. ap (λ b. cond b (area.title e) (area.title f)) isnt)
 
-  module _ (k p : ℕ) (from_on : 179 ≤ k) (within : k + 4 ≤ 256) (small : p < 256 ^ 4) (used : (area.title e).state ≢ 0) (fit : PartsFit old) where
+  module _ (k p : ℕ) (from_on : 179 ≤ k) (within : k + 4 ≤ 256) (small : p < 256 ^ 4) (used : (area.title e).state ≢ 0) (fit : PartsHaveRoom old) where
     abbrev new : List ℕ
     new = put_over k (spelled 4 p) old
 
@@ -248,7 +248,7 @@ module _ (pages : ℕ → List ℕ) (e : ℕ) (few : e < 32) (whole : 256 * (e %
     first_written firsts is =
         changes_to k (spelled 4 p) (area.title e) firsts (omega (arith, length-spelled 4 p, within)) same_columns same_title (chains_after ∙ is) ∙ title_stays firsts
 
-  pub versions_written : (p : ℕ) → p < 256 ^ 4 → (area.title e).state ≢ 0 → PartsFit old
+  pub versions_written : (p : ℕ) → p < 256 ^ 4 → (area.title e).state ≢ 0 → PartsHaveRoom old
       → area_of (with_in_entry e 211 (spelled 4 p) pages) ≡ with_firsts e (record (area.firsts e) { versions = p }) area
   versions_written p small used fit =
       first_written 211 p (omega arith) (omega arith) small used fit (record (area.firsts e) { versions = p }) ((λ i. record {
@@ -259,7 +259,7 @@ module _ (pages : ℕ → List ℕ) (e : ℕ) (few : e < 32) (whole : 256 * (e %
       f : (j : ℕ) → j + 4 ≤ 211 → field 4 j (put_over 211 (spelled 4 p) old) ≡ field 4 j old
       f j le = first_apart 211 p (omega arith) (omega arith) small used fit j (inl le)
 
-  pub bucket_written : (b p : ℕ) → b < 8 → p < 256 ^ 4 → (area.title e).state ≢ 0 → PartsFit old
+  pub bucket_written : (b p : ℕ) → b < 8 → p < 256 ^ 4 → (area.title e).state ≢ 0 → PartsHaveRoom old
       → area_of (with_in_entry e (179 + 4 * b) (spelled 4 p) pages) ≡ with_firsts e (with_bucket b p (area.firsts e)) area
   bucket_written b p few_buckets small used fit =
       first_written k p from_on within small used fit (with_bucket b p (area.firsts e)) ((λ i. record {

@@ -10,3 +10,4 @@ pub mod Places
 pub mod Written
 pub mod InEntry
 pub mod Walked
+pub mod Buckets

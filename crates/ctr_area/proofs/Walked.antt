@@ -10,7 +10,7 @@ use Rattle.ctr_page.specs.declared.walk.BadChain.{BadChain}
 use Rattle.ctr_page.specs.declared.walk.BadChain.TheVariants.{TooLong}
 use Rattle.ctr_page.specs.Reading.{header_in}
 use Rattle.ctr_page.specs.Damage.{header_check}
-use Rattle.ctr_page.specs.Walking.{most_pages, header_then, chain_check}
+use Rattle.ctr_page.specs.Walking.{most_in_chain, header_then, chain_check}
 use Rattle.ctr_area.specs.Chains.{pages_bound, pages_from}
 use Rattle.ctr_area.specs.Checked.{Passes, ChainPasses}
 use Rattle.ctr_area.specs.Reading.{no_header, header_on}
@@ -46,7 +46,7 @@ module _ (chain : Chain) (counted : ℕ) (pages : ℕ → List ℕ) where
 
   walked : (left n last p : ℕ) → left ≤ n → chain_check chain counted pages left last p ≡ Ok tt → Passing n p
   walked zero n last p le e = known (p == 0) (none_passing n p)
-      (λ some. absurd (let f : Err (TooLong last (most_pages counted)) ≡ Ok tt = sym (ap (λ b. cond b (Ok tt) (Err (TooLong last (most_pages counted)))) some) ∙ e in cc))
+      (λ some. absurd (let f : Err (TooLong last (most_in_chain counted)) ≡ Ok tt = sym (ap (λ b. cond b (Ok tt) (Err (TooLong last (most_in_chain counted)))) some) ∙ e in cc))
   walked (suc left) zero last p le e = absurd (omega (arith, le))
   walked (suc left) (suc n) last p le e = known (p == 0) (none_passing (suc n) p)
       (λ some.
@@ -56,10 +56,10 @@ module _ (chain : Chain) (counted : ℕ) (pages : ℕ → List ℕ) where
       (λ low. subst (λ (h : Header). Passing n h.next) (sym (ap (λ b. cond b no_header (header_in (pages p))) low)) (none_passing n 0 refl))
       (λ high. subst (λ (h : Header). Passing n h.next) (sym (ap (λ b. cond b no_header (header_in (pages p))) high)) (walked left n p (header_in (pages p)).next (omega (arith, le)) both.1))))
 
-  pub chain_walked : (last p : ℕ) → counted ≤ pages_bound → chain_check chain counted pages (most_pages counted) last p ≡ Ok tt
+  pub chain_walked : (last p : ℕ) → counted ≤ pages_bound → chain_check chain counted pages (most_in_chain counted) last p ≡ Ok tt
       → ChainPasses counted pages chain p × (pages_from (pages_bound + 1) header p ≡ pages_from pages_bound header p)
   chain_walked last p few e =
-      let all = walked (most_pages counted) pages_bound last p (at_most counted pages_bound few) e in
+      let all = walked (most_in_chain counted) pages_bound last p (at_most counted pages_bound few) e in
       (all.0, ap (λ n. pages_from n header p) (next pages_bound) ∙ all.1)
     where
       at_most : (c m : ℕ) → c ≤ m → c - 3 ≤ m

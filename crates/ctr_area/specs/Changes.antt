@@ -63,9 +63,9 @@ empty_chains = record {
   versions = 0;
 }
 
--- Create: an entry of the catalog gets a title, with its own columns, and first pages. Other entries stay,
--- and so does all that stands on pages of other entries. Pages that name this one in their headers are
--- read by its new columns.
+-- Create: an entry of the catalog gets a title, with its own columns, and first pages. Other
+-- entries stay, and so does all that stands on pages of other entries. Pages that name this one in
+-- their headers are read by its new columns.
 pub record ChangesEntry (e : ℕ) (title : Title) (chains : Firsts) (old new : Area) : Type 0 where
   pub titles : (f : ℕ) → new.title f ≡ (with_title e title old).title f
   pub firsts : (f : ℕ) → new.firsts f ≡ (with_firsts e chains old).firsts f

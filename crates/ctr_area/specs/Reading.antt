@@ -1,5 +1,5 @@
--- The area of pages. A page is read as its own header says: as one of rows or of versions, and by the
--- columns of the entry that it names. So what stands at a place doesn't depend on any chain.
+-- The area of pages. A page is read as its own header says: as one of rows or of versions, and by
+-- the columns of the entry that it names. So what stands at a place doesn't depend on any chain.
 use Rattle.std.specs.Prelude.{ℕ, ◌+◌, ◌*◌, ◌/◌, ◌%◌, ◌^◌, ◌==◌, nat_lt, ℤ, Bool, true, List, [], ◌∷◌, map, drop, slice_index, Some, None, if◌then◌else◌}
 use Rattle.std.specs.Option.{option_map}
 use Rattle.ctr_types.specs.declared.value.Row.{Row}

@@ -9,12 +9,12 @@ ghost use Rattle.ctr_value.specs.Columns.{ColumnsFit};
 ghost use Rattle.ctr_bytes.specs.Fields.{spelled};
 ghost use Rattle.ctr_page.specs.declared.table.TheConstants.{DROPPER_AT, FIRSTS_AT, VERSIONS_AT};
 ghost use Rattle.ctr_page.specs.declared.header.Header.{Header};
-ghost use Rattle.ctr_page.specs.Readable.{PartsFit};
+ghost use Rattle.ctr_page.specs.Readable.{PartsHaveRoom};
 ghost use Rattle.ctr_page.specs.Making.{slot_bytes, kept_bytes, IsHeader, IsSlot, IsEntry};
 ghost use Rattle.ctr_page.specs.Columns.{entry_in, columns_in, new_entry_bytes};
 ghost use Rattle.ctr_area.specs.Reading.{slot_said, older_said, entry_bytes, title_of, firsts_of, columns_on, width_on, area_of};
 ghost use Rattle.ctr_page.specs.declared.checks.Chain.{Chain};
-ghost use Rattle.ctr_page.specs.Walking.{most_pages, chain_check};
+ghost use Rattle.ctr_page.specs.Walking.{most_in_chain, chain_check};
 ghost use Rattle.ctr_area.specs.Chains.{pages_bound, pages_from};
 ghost use Rattle.ctr_area.specs.Checked.{ChainPasses};
 ghost use Rattle.ctr_area.specs.Images.{new_pages, image_rows, undo_size};
@@ -90,19 +90,19 @@ pub fn state_changes_alone()
 /// begins there, and nothing else changes.
 pub fn first_changes_alone()
     ensures bucket { (pages : ℕ → List ℕ) (e b p : ℕ) → e < 32 → 256 * (e % 16) + 256 ≤ length (pages (1 + e / 16)) → b < 8 → p < 256 ^ 4
-        → ((area_of pages).title e).state ≢ 0 → PartsFit (entry_bytes pages e)
+        → ((area_of pages).title e).state ≢ 0 → PartsHaveRoom (entry_bytes pages e)
         → area_of (with_in_entry e (FIRSTS_AT + 4 * b) (spelled 4 p) pages) ≡ with_firsts e (with_bucket b p ((area_of pages).firsts e)) (area_of pages) }
     ensures versions { (pages : ℕ → List ℕ) (e p : ℕ) → e < 32 → 256 * (e % 16) + 256 ≤ length (pages (1 + e / 16)) → p < 256 ^ 4
-        → ((area_of pages).title e).state ≢ 0 → PartsFit (entry_bytes pages e)
+        → ((area_of pages).title e).state ≢ 0 → PartsHaveRoom (entry_bytes pages e)
         → area_of (with_in_entry e VERSIONS_AT (spelled 4 p) pages) ≡ with_firsts e (record ((area_of pages).firsts e) { versions = p }) (area_of pages) }
 {}
 
 /// A chain of pages that is read without damage: each of its pages passes its check, and it ends.
 pub fn a_checked_chain_ends()
     ensures passes { (chain : Chain) (counted : ℕ) (pages : ℕ → List ℕ) (last p : ℕ) → counted ≤ pages_bound
-        → chain_check chain counted pages (most_pages counted) last p ≡ Ok tt → ChainPasses counted pages chain p }
+        → chain_check chain counted pages (most_in_chain counted) last p ≡ Ok tt → ChainPasses counted pages chain p }
     ensures ends { (chain : Chain) (counted : ℕ) (pages : ℕ → List ℕ) (last p : ℕ) → counted ≤ pages_bound
-        → chain_check chain counted pages (most_pages counted) last p ≡ Ok tt
+        → chain_check chain counted pages (most_in_chain counted) last p ≡ Ok tt
         → pages_from (pages_bound + 1) (area_of pages).header p ≡ pages_from pages_bound (area_of pages).header p }
 {}
 

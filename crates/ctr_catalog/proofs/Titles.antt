@@ -10,7 +10,7 @@ use Rattle.ctr_area.specs.Areas.{Title}
 use Rattle.ctr_area.specs.Reading.{title_of, area_of}
 use Rattle.ctr_area.specs.Images.{is_live}
 use Rattle.ctr_model.specs.State.{same_name}
-use Rattle.ctr_catalog.specs.Entries.{is_live_of, is_free, checks_entry, names_in, frees_in}
+use Rattle.ctr_catalog.specs.Entries.{is_live_of, is_unused, checks_entry, names_in, frees_in}
 
 module _ (pages : ℕ → List ℕ) (half from counted : ℕ) (two : half < 2) where
   title_here : (n : ℕ) → n < 16 → (area_of pages).title (16 * half + n) ≡ title_of (entry_at n (pages (1 + half)))
@@ -28,8 +28,8 @@ module _ (pages : ℕ → List ℕ) (half from counted : ℕ) (two : half < 2) w
       ends_first (checks_entry counted (pages (1 + half))) (λ n. is_live_of name (entry_at n (pages (1 + half)))) (names_in (area_of pages) half name) from 16 found
       (λ m few passes. ap (λ (t : Title). is_live t && same_name t.name name) (title_here m few)) ends
 
-  pub free_in_area : (found : Option ℕ) → EndsSearch (checks_entry counted (pages (1 + half))) (λ n. is_free (entry_at n (pages (1 + half)))) from 16 (Ok found)
+  pub free_in_area : (found : Option ℕ) → EndsSearch (checks_entry counted (pages (1 + half))) (λ n. is_unused (entry_at n (pages (1 + half)))) from 16 (Ok found)
       → IsFirst (frees_in (area_of pages) half) from 16 found
   free_in_area found ends =
-      ends_first (checks_entry counted (pages (1 + half))) (λ n. is_free (entry_at n (pages (1 + half)))) (frees_in (area_of pages) half) from 16 found
+      ends_first (checks_entry counted (pages (1 + half))) (λ n. is_unused (entry_at n (pages (1 + half)))) (frees_in (area_of pages) half) from 16 found
       (λ m few passes. ap (λ (t : Title). t.state == 0) (title_here m few)) ends

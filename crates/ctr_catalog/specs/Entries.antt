@@ -14,8 +14,8 @@ abbrev pub is_live_of : List ℕ → CatalogEntry → Bool
 is_live_of name entry = (entry.state == 1) && same_name (table_name_in entry.bytes) name
 
 -- an entry of no table
-abbrev pub is_free : CatalogEntry → Bool
-is_free entry = entry.state == 0
+abbrev pub is_unused : CatalogEntry → Bool
+is_unused entry = entry.state == 0
 
 -- what is wrong with an entry, by its number on a page
 abbrev pub checks_entry : ℕ → List ℕ → ℕ → Result ⊤ BadRecord
@@ -23,7 +23,8 @@ checks_entry counted page n = entry_check counted (ENTRY_SIZE * n) page
 
 -- ---- in the area
 
--- an entry of the area is live, of a name; by its number on the first page of the catalog (0) or the second (1)
+-- an entry of the area is live, of a name; by its number on the first page of the catalog (0) or
+-- the second (1)
 abbrev pub names_in : Area → ℕ → List ℕ → ℕ → Bool
 names_in area half name n =
     is_live (area.title (16 * half + n)) && same_name (area.title (16 * half + n)).name name

@@ -5,7 +5,7 @@ ghost use Rattle.ctr_page.specs.Readable.{HasParts};
 ghost use Rattle.ctr_page.specs.Searching.{EndsSearch, IsFirst};
 ghost use Rattle.ctr_area.specs.Reading.{area_of};
 ghost use Rattle.ctr_catalog.specs.declared.entries.TheConstants.{ENTRIES_ON_PAGE};
-ghost use Rattle.ctr_catalog.specs.Entries.{is_live_of, is_free, checks_entry, names_in, frees_in};
+ghost use Rattle.ctr_catalog.specs.Entries.{is_live_of, is_unused, checks_entry, names_in, frees_in};
 ghost use Rattle.ctr_page.specs.Columns.{entry_at as entry_of};
 
 use ctr_page::{BadPage, CatalogEntry, check_entry, read_entry};
@@ -44,7 +44,7 @@ pub fn find_named(name: &Name, from: u8, counted: u32, page: &[u8]) -> Result<Op
 pub fn find_free(counted: u32, page: &[u8]) -> Result<Option<u8>, BadPage>
     requires some { 0 < counted }
     requires whole { length page.now ≡ PAGE_SIZE }
-    ensures { EndsSearch (checks_entry counted page.now) (λ n. is_free (entry_of n page.now)) 0 ENTRIES_ON_PAGE result }
+    ensures { EndsSearch (checks_entry counted page.now) (λ n. is_unused (entry_of n page.now)) 0 ENTRIES_ON_PAGE result }
 {
     for entry in 0..ENTRIES_ON_PAGE {
         check_entry(counted, entry, page)?;
@@ -62,6 +62,6 @@ pub fn found_in_area()
         → EndsSearch (checks_entry counted (pages (1 + half))) (λ n. is_live_of name (entry_of n (pages (1 + half)))) from ENTRIES_ON_PAGE (Ok found)
         → IsFirst (names_in (area_of pages) half name) from ENTRIES_ON_PAGE found }
     ensures free { (pages : ℕ → List ℕ) (half from counted : ℕ) (found : Option ℕ) → half < 2
-        → EndsSearch (checks_entry counted (pages (1 + half))) (λ n. is_free (entry_of n (pages (1 + half)))) from ENTRIES_ON_PAGE (Ok found)
+        → EndsSearch (checks_entry counted (pages (1 + half))) (λ n. is_unused (entry_of n (pages (1 + half)))) from ENTRIES_ON_PAGE (Ok found)
         → IsFirst (frees_in (area_of pages) half) from ENTRIES_ON_PAGE found }
 {}

@@ -1,5 +1,5 @@
--- What can be read where no check fails: which rows stand in a slot or a version entry, by the columns of
--- their table, and the parts of an entry of the catalog.
+-- What can be read where no check fails: which rows stand in a slot or a version entry, by the
+-- columns of their table, and the parts of an entry of the catalog.
 use Rattle.std.specs.Prelude.{◌≡◌, ◌≢◌, ℕ, zero, suc, ◌+◌, ◌≤◌, ℤ, List, IfSome}
 use Rattle.ctr_types.specs.declared.value.Column.{Column}
 use Rattle.ctr_value.specs.Payload.{IsRowOf}
@@ -30,9 +30,9 @@ NamesFit zero at bytes = Unit {0}
 NamesFit (suc n) at bytes =
     (field 1 at bytes ≤ NAME_MOST) × NamesFit n (at + COLUMN_SIZE) bytes
 
--- The parts of an entry, by its bytes: its name has room, it has a key's column and no more than there may
--- be, and their names have room.
-pub record PartsFit (bytes : List ℕ) : Type 0 where
+-- The parts of an entry, by its bytes: its name has room, it has a key's column and no more than
+-- there may be, and their names have room.
+pub record PartsHaveRoom (bytes : List ℕ) : Type 0 where
   pub name : field 1 NAME_AT bytes ≤ NAME_MOST
   pub keyed : 1 ≤ field 1 COLUMNS_AT bytes
   pub few : field 1 COLUMNS_AT bytes ≤ MOST_COLUMNS
@@ -40,4 +40,4 @@ pub record PartsFit (bytes : List ℕ) : Type 0 where
 
 -- an entry that isn't free has them
 abbrev pub HasParts : CatalogEntry → Type 0
-HasParts entry = entry.state ≢ 0 → PartsFit entry.bytes
+HasParts entry = entry.state ≢ 0 → PartsHaveRoom entry.bytes

@@ -1,5 +1,5 @@
--- A search through what stands on a page, by number: each is checked before it is looked at, and the
--- search ends at the first that is sought, or that fails its check.
+-- A search through what stands on a page, by number: each is checked before it is looked at, and
+-- the search ends at the first that is sought, or that fails its check.
 use Rattle.std.specs.Prelude.{◌≡◌, ℕ, ◌<◌, ◌≤◌, Bool, true, false, Option, None, Some, ⊤, Result, Ok, Err}
 use Rattle.ctr_records.specs.declared.decoding.BadRecord.{BadRecord}
 
@@ -8,8 +8,8 @@ abbrev pub PassesBy : (ℕ → Result ⊤ BadRecord) → (ℕ → Bool) → ℕ 
 PassesBy check sought from n =
     (m : ℕ) → from ≤ m → m < n → (check m ≡ Ok tt) × (sought m ≡ false)
 
--- Where the search from a number on ends, among so many: the first that is sought, which passes too; none
--- of them; or the damage of the first that fails.
+-- Where the search from a number on ends, among so many: the first that is sought, which passes
+-- too; none of them; or the damage of the first that fails.
 abbrev pub EndsSearch : (ℕ → Result ⊤ BadRecord) → (ℕ → Bool) → ℕ → ℕ
     → Result (Option ℕ) BadRecord → Type 0
 EndsSearch check sought from count (Ok (Some n)) =

@@ -1,6 +1,6 @@
 // Walks along a chain of pages.
 ghost use Rattle.std.specs.Prelude.{◌≡◌, ◌≢◌, ◌≤◌, ◌<◌, ◌+◌, length, ℕ, List, Err, OnOk, IfErr};
-ghost use Rattle.ctr_page.specs.Walking.{most_pages as most_in_chain, rest_check};
+ghost use Rattle.ctr_page.specs.Walking.{most_in_chain, rest_check};
 
 use crate::checks::{BadPage, Chain, check_header};
 use crate::header::read_header;
