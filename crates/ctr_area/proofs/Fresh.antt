@@ -16,6 +16,7 @@ use Rattle.ctr_meta.specs.Tables.{no_tables}
 use Rattle.ctr_page.specs.declared.header.Header.{Header}
 use Rattle.ctr_page.specs.declared.rows.Place.{Place}
 use Rattle.ctr_page.specs.Reading.{piece}
+use Rattle.ctr_area.proofs.Bytes.{zero_at}
 use Rattle.ctr_area.specs.Areas.{Firsts, no_pages, Area}
 use Rattle.ctr_page.specs.Columns.{first_in, versions_first_in}
 use Rattle.ctr_area.specs.Reading.{entry_bytes, bucket_numbers, area_of}
@@ -24,11 +25,6 @@ use Rattle.ctr_area.specs.Images.{new_pages, is_live, entry_numbers, table_in, t
 use Rattle.ctr_area.specs.Sound.{IsAmong, IsUsedSlot, how_many, EndsIn, AreBuckets, IsOfVersions, owned_pages, IsSoundArea, IsBare}
 
 -- ---- bytes
-
-zero_at : (n k : ℕ) → slice_index (replicate n 0) k ≡ 0
-zero_at zero k = refl
-zero_at (suc n) zero = refl
-zero_at (suc n) (suc k) = zero_at n k
 
 zero_in : (e : ℕ) → slice_index (entry_bytes new_pages e) 0 ≡ 0
 zero_in e = known (nat_lt e 32)

@@ -1,8 +1,9 @@
 -- Chains in an area: of pages, of version entries, and the versions of a slot.
-use Rattle.std.specs.Prelude.{◌≡◌, ℕ, zero, suc, ◌+◌, ◌==◌, ◌⊎◌, List, [], ◌∷◌, ◌++◌, map, Option, Some, None, if◌then◌else◌}
+use Rattle.std.specs.Prelude.{◌≡◌, ℕ, zero, suc, ◌+◌, ◌==◌, ◌⊎◌, ℤ, List, [], ◌∷◌, ◌++◌, map, slice_index, Option, Some, None, if◌then◌else◌}
 use Rattle.std.specs.List.{flat_map}
 use Rattle.ctr_page.specs.declared.header.Header.{Header}
 use Rattle.ctr_page.specs.declared.rows.Place.{Place}
+use Rattle.ctr_page.specs.Places.{bucket_of}
 use Rattle.ctr_area.specs.Areas.{RowVersion, Slot, Older, Area}
 
 -- As many steps as pages can be counted, and as 170 version entries on each of them: no chain that
@@ -34,6 +35,10 @@ places_from area p =
 -- the slots of a table, bucket after bucket
 abbrev pub slot_places : Area → ℕ → List Place
 slot_places area e = flat_map (places_from area) (area.firsts e).buckets
+
+-- the first page of the bucket of a key, 0 for none
+abbrev pub bucket_first : Area → ℕ → ℤ → ℕ
+bucket_first area e key = slice_index (area.firsts e).buckets (bucket_of key)
 
 -- the version entries of a table
 abbrev pub older_places : Area → ℕ → List Place

@@ -1,5 +1,5 @@
--- The area of pages. A page is read as its own header says: as one of rows or of versions, and by the
--- columns of the entry that it names. So what stands at a place doesn't depend on any chain.
+-- The area of pages. A page is read as its own header says: as one of rows or of versions, and by
+-- the columns of the entry that it names. So what stands at a place doesn't depend on any chain.
 use Rattle.std.specs.Prelude.{ℕ, ◌+◌, ◌*◌, ◌/◌, ◌%◌, ◌^◌, ◌==◌, nat_lt, ℤ, Bool, true, List, [], ◌∷◌, map, drop, slice_index, Some, None, if◌then◌else◌}
 use Rattle.std.specs.Option.{option_map}
 use Rattle.ctr_types.specs.declared.value.Row.{Row}
@@ -20,9 +20,13 @@ use Rattle.ctr_area.specs.Areas.{Title, Firsts, no_pages, RowVersion, Slot, Olde
 
 -- ---- page 0, and the pages 1 and 2
 
+-- a bit of a byte is 1
+abbrev pub has_bit : ℕ → ℕ → Bool
+has_bit k byte = byte / 2 ^ k % 2 == 1
+
 -- a page is allocated: a bit of page 0
 abbrev pub is_taken : ℕ → List ℕ → Bool
-is_taken p page = slice_index page (p / 8) / 2 ^ (p % 8) % 2 == 1
+is_taken p page = has_bit (p % 8) (slice_index page (p / 8))
 
 -- the bytes of an entry of the catalog: 16 on page 1, and 16 on page 2; beyond them there are none
 abbrev pub entry_bytes : (ℕ → List ℕ) → ℕ → List ℕ
@@ -104,11 +108,13 @@ columns_on pages p = columns_in (entry_bytes pages (header_on pages p).entry)
 abbrev pub width_on : (ℕ → List ℕ) → ℕ → ℕ
 width_on pages p = width (drop 1 (columns_on pages p))
 
+-- the size of a slot, or of a version entry, of rows so wide
+abbrev pub size_of_kind : Bool → ℕ → ℕ
+size_of_kind rows w = if rows then slot_size w else kept_size w
+
 -- the size of what stands on it
 abbrev pub size_on : (ℕ → List ℕ) → ℕ → ℕ
-size_on pages p =
-    if (header_on pages p).kind == 1 then slot_size (width_on pages p)
-    else kept_size (width_on pages p)
+size_on pages p = size_of_kind ((header_on pages p).kind == 1) (width_on pages p)
 
 -- on a page of rows a slot
 abbrev pub slot_on : (ℕ → List ℕ) → Place → Slot

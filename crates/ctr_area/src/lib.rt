@@ -5,5 +5,7 @@
 mod laws;
 
 pub use laws::{
-    entry_changes_alone, new_database, slot_changes_its_place, version_changes_its_place,
+    a_checked_chain_ends, bit_changes_alone, dropper_changes_alone, entry_changes_alone,
+    entry_is_made, entry_is_written_over, first_changes_alone, new_database, page_is_cleared,
+    slot_changes_its_place, state_changes_alone, version_changes_its_place,
 };

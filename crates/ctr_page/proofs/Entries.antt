@@ -46,7 +46,7 @@ kind_back : (most : ℕ) (k : Kind) → KindFits most k → kind_said (kind_numb
 kind_back most Int fits = refl
 kind_back most (Chars n) fits = ap (λ (b : Bool). if b then Int else Chars n) (ne_eqb n 0 (λ e. omega (arith, e, fits.0)))
 
-kind_small : (most : ℕ) (k : Kind) → most ≤ 64 → KindFits most k → kind_number k < 256
+pub kind_small : (most : ℕ) (k : Kind) → most ≤ 64 → KindFits most k → kind_number k < 256
 kind_small most Int le fits = omega arith
 kind_small most (Chars n) le fits = omega (arith, le, fits.1)
 
@@ -61,7 +61,7 @@ pub column_is : (c : Column) → kind_number c.kind < 256 → text_bytes 16 c.na
 column_is c small =
     ap (λ (l : List ℕ). (length c.name ∷ (c.name ++ l)) ++ spelled 1 (kind_number c.kind)) (sym (zeros_are (16 - length c.name))) ∙ sym (column_parts c small)
 
-length-column : (c : Column) → kind_number c.kind < 256 → length c.name ≤ 16 → length (column_bytes c) ≡ 18
+pub length-column : (c : Column) → kind_number c.kind < 256 → length c.name ≤ 16 → length (column_bytes c) ≡ 18
 length-column c small short =
     let name = length c.name ∷ (c.name ++ zeros (16 - length c.name)) in
     omega (arith, ap length (column_parts c small), length-append name (spelled 1 (kind_number c.kind)), length-spelled 1 (kind_number c.kind), length-append c.name (zeros (16 - length c.name)), length-zeros (16 - length c.name), short)
@@ -91,7 +91,7 @@ columns_back (c ∷ cs) at front bytes is fits begins =
     ∙ ap (λ (ds : List Column). c ∷ ds) (columns_back cs (at + 18) (front ++ column_bytes c) bytes next fits.1 apart)
 
 -- the key's column may be such a one too
-as_others : (cs : List Column) → ColumnsFit cs → AllByRecursion (ColumnFits 64) cs × (length cs ≤ 8)
+pub as_others : (cs : List Column) → ColumnsFit cs → AllByRecursion (ColumnFits 64) cs × (length cs ≤ 8)
 as_others [] fits = absurd fits
 as_others (c ∷ cs) fits = ((((fits.0.0, key_kind c.kind fits.0.1)), fits.1), omega (arith, fits.2))
   where

@@ -1,5 +1,7 @@
 pub mod Puts
 pub mod Back
 pub mod Entries
+pub mod Holding
 pub mod Passing
 pub mod Differing
+pub mod Searches

@@ -3,3 +3,6 @@ pub mod Reading
 pub mod Making
 pub mod Columns
 pub mod Damage
+pub mod Readable
+pub mod Searching
+pub mod Walking

@@ -1,9 +1,13 @@
 // The checks of a page, in the order in which they are told. None takes memory.
-ghost use Rattle.std.specs.Prelude.{◌≡◌, ◌≤◌, ◌<◌, ◌+◌, ◌-◌, ◌*◌, length, ℕ, List};
+ghost use Rattle.std.specs.Prelude.{◌≡◌, ◌≤◌, ◌<◌, ◌+◌, ◌-◌, ◌*◌, length, ℕ, List, Ok};
+ghost use Rattle.ctr_types.specs.declared.value.Column.{Column};
 ghost use Rattle.ctr_types.specs.declared.value.Kind.{Kind};
 ghost use Rattle.ctr_page.specs.declared.checks.Chain.{Chain};
 ghost use Rattle.ctr_page.specs.Places.{slot_size as size_of_slot, kept_size as size_of_kept};
-ghost use Rattle.ctr_page.specs.Columns.{slot_start, kept_start, kinds_width as width_of_kinds};
+ghost use Rattle.ctr_value.specs.Payload.{IsKeyed};
+ghost use Rattle.ctr_page.specs.Reading.{slot_at, older_at};
+ghost use Rattle.ctr_page.specs.Columns.{entry_at as entry_of, kinds_of, slot_start, kept_start, kinds_width as width_of_kinds};
+ghost use Rattle.ctr_page.specs.Readable.{HoldsRows, HoldsOlder, HasParts};
 ghost use Rattle.ctr_page.specs.Damage.{chain_kind, chain_entry, chain_bucket, counted_check, header_check, place_check, pointer_check, text_check, texts_check, version_check, some_version_check, previous_check, used_slot_check, used_kept_check, slot_check, kept_check, from_1_check, firsts_check, column_check, columns_check, used_entry_check, entry_check, DamageDiffers};
 
 use crate::table::{
@@ -210,16 +214,13 @@ fn check_used_kept(kinds: &[Kind], counted: u32, start: usize, page: &[u8]) -> R
     check_version_at(kinds, start + HEAD_AT, page)
 }
 
-/// Checks a slot of a page of rows with columns of these kinds behind the key, where so many pages are
-/// counted.
 #[tactic(auto, unfolding(crate::specs::Damage::slot_check))]
-pub fn check_slot(kinds: &[Kind], counted: u32, slot: u16, page: &[u8]) -> Result<(), BadPage>
+fn check_slot_at(kinds: &[Kind], counted: u32, start: usize, page: &[u8]) -> Result<(), BadPage>
     requires some { 0 < counted }
     requires few { length kinds.now ≤ 7 }
-    requires inside { slot_start kinds.now slot + size_of_slot (width_of_kinds kinds.now) ≤ length page.now }
-    ensures { result ≡ slot_check kinds.now counted (slot_start kinds.now slot) page.now }
+    requires inside { start + size_of_slot (width_of_kinds kinds.now) ≤ length page.now }
+    ensures { result ≡ slot_check kinds.now counted start page.now }
 {
-    let start = start_of(slot_size(kinds_width(kinds)), slot);
     let used = get_u8(page, start);
     if used == 1 {
         return check_used_slot(kinds, counted, start, page);
@@ -227,20 +228,53 @@ pub fn check_slot(kinds: &[Kind], counted: u32, slot: u16, page: &[u8]) -> Resul
     at_most(start, 1, used as u64)
 }
 
-/// Checks an entry of a page of versions, likewise.
-#[tactic(auto, unfolding(crate::specs::Damage::kept_check))]
-pub fn check_version(kinds: &[Kind], counted: u32, slot: u16, page: &[u8]) -> Result<(), BadPage>
+/// Checks a slot of a page of rows with columns of these kinds behind the key, where so many pages are
+/// counted.
+pub fn check_slot(kinds: &[Kind], counted: u32, slot: u16, page: &[u8]) -> Result<(), BadPage>
     requires some { 0 < counted }
     requires few { length kinds.now ≤ 7 }
-    requires inside { kept_start kinds.now slot + size_of_kept (width_of_kinds kinds.now) ≤ length page.now }
-    ensures { result ≡ kept_check kinds.now counted (kept_start kinds.now slot) page.now }
+    requires inside { slot_start kinds.now slot + size_of_slot (width_of_kinds kinds.now) ≤ length page.now }
+    ensures checked { result ≡ slot_check kinds.now counted (slot_start kinds.now slot) page.now }
+    // What passes holds rows of the columns, each of which can be read.
+    ensures rows { (cs : List Column) → IsKeyed cs → kinds_of cs ≡ kinds.now → result ≡ Ok tt → HoldsRows cs (slot_at (width_of_kinds kinds.now) slot page.now) }
 {
-    let start = start_of(kept_size(kinds_width(kinds)), slot);
+    check_slot_at(
+        kinds,
+        counted,
+        start_of(slot_size(kinds_width(kinds)), slot),
+        page,
+    )
+}
+
+#[tactic(auto, unfolding(crate::specs::Damage::kept_check))]
+fn check_kept_at(kinds: &[Kind], counted: u32, start: usize, page: &[u8]) -> Result<(), BadPage>
+    requires some { 0 < counted }
+    requires few { length kinds.now ≤ 7 }
+    requires inside { start + size_of_kept (width_of_kinds kinds.now) ≤ length page.now }
+    ensures { result ≡ kept_check kinds.now counted start page.now }
+{
     let used = get_u8(page, start);
     if used == 1 {
         return check_used_kept(kinds, counted, start, page);
     }
     at_most(start, 1, used as u64)
+}
+
+/// Checks an entry of a page of versions, likewise.
+pub fn check_version(kinds: &[Kind], counted: u32, slot: u16, page: &[u8]) -> Result<(), BadPage>
+    requires some { 0 < counted }
+    requires few { length kinds.now ≤ 7 }
+    requires inside { kept_start kinds.now slot + size_of_kept (width_of_kinds kinds.now) ≤ length page.now }
+    ensures checked { result ≡ kept_check kinds.now counted (kept_start kinds.now slot) page.now }
+    // What passes holds a row of the columns, which can be read.
+    ensures rows { (cs : List Column) → IsKeyed cs → kinds_of cs ≡ kinds.now → result ≡ Ok tt → HoldsOlder cs (older_at (width_of_kinds kinds.now) slot page.now) }
+{
+    check_kept_at(
+        kinds,
+        counted,
+        start_of(kept_size(kinds_width(kinds)), slot),
+        page,
+    )
 }
 
 // ---- entries of the catalog
@@ -309,18 +343,27 @@ fn check_used_entry(counted: u32, start: usize, page: &[u8]) -> Result<(), BadPa
     check_columns(get_u8(page, start + COLUMNS_AT) - 1, at + COLUMN_SIZE, page)
 }
 
-/// Checks an entry of a page of the catalog, by its number from 0, where so many pages are counted.
 #[tactic(auto, unfolding(crate::specs::Damage::entry_check))]
-pub fn check_entry(counted: u32, at: u8, page: &[u8]) -> Result<(), BadPage>
+fn check_entry_at(counted: u32, start: usize, page: &[u8]) -> Result<(), BadPage>
     requires some { 0 < counted }
-    requires inside { ENTRY_SIZE * at + ENTRY_SIZE ≤ length page.now }
-    ensures { result ≡ entry_check counted (ENTRY_SIZE * at) page.now }
+    requires inside { start + ENTRY_SIZE ≤ length page.now }
+    ensures { result ≡ entry_check counted start page.now }
 {
-    let start = ENTRY_SIZE * at as usize;
     if get_u8(page, start) == 0 {
         return Ok(());
     }
     check_used_entry(counted, start, page)
+}
+
+/// Checks an entry of a page of the catalog, by its number from 0, where so many pages are counted.
+pub fn check_entry(counted: u32, at: u8, page: &[u8]) -> Result<(), BadPage>
+    requires some { 0 < counted }
+    requires inside { ENTRY_SIZE * at + ENTRY_SIZE ≤ length page.now }
+    ensures checked { result ≡ entry_check counted (ENTRY_SIZE * at) page.now }
+    // What passes has a name and columns that can be read.
+    ensures parts { result ≡ Ok tt → HasParts (entry_of at page.now) }
+{
+    check_entry_at(counted, ENTRY_SIZE * at as usize, page)
 }
 
 /// Where a check fails, what is wanted isn't what is there.

@@ -9,6 +9,7 @@ mod header;
 mod putting;
 mod rows;
 mod table;
+mod walk;
 
 pub use checks::{
     BadPage, Chain, check_entry, check_header, check_slot, check_version, damage_differs,
@@ -20,6 +21,7 @@ pub use rows::{
     Place, RowSlot, Version, VersionEntry, make_slot, make_version, read_slot, read_version,
 };
 pub use table::{bucket_of, kept_size, room_for, slot_size};
+pub use walk::{BadChain, Walk};
 
 #[cfg(test)]
 mod tests;

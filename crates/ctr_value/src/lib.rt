@@ -9,3 +9,6 @@ pub use payload::{
     width, written_payload,
 };
 pub use text::write_row;
+
+#[cfg(test)]
+mod tests;

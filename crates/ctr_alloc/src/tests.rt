@@ -1,0 +1,78 @@
+//! The pages of a new database, one after another; pages that are given back; and no page left.
+ghost use Rattle.std.specs.Prelude.{◌≡◌, ◌≤◌, ◌<◌, length};
+ghost use Rattle.ctr_alloc.specs.Free.{AreTakenBelow};
+
+use crate::*;
+use std::test::Fail;
+
+// Finds the next free page, and allocates it.
+fn take_next(search: &mut Search, counted: u32, page: &mut [u8]) -> NextFree
+    requires few { counted ≤ 30000 }
+    requires whole { length page.old ≡ 4096 }
+    requires right { AreTakenBelow search.old.from page.old }
+    ensures whole { length page.new ≡ 4096 }
+    ensures right { AreTakenBelow search.new.from page.new }
+{
+    let next = search.next_free(counted, page);
+    if let NextFree::Page(p) = next {
+        page[p as usize / 8] = with_taken(page, p);
+    }
+    next
+}
+
+// Frees a page.
+fn give_back(search: &mut Search, p: u32, page: &mut [u8])
+    requires there { p < 32768 }
+    requires whole { length page.old ≡ 4096 }
+    requires right { AreTakenBelow search.old.from page.old }
+    ensures whole { length page.new ≡ 4096 }
+    ensures right { AreTakenBelow search.new.from page.new }
+{
+    page[p as usize / 8] = with_free(page, p);
+    search.freed(p);
+}
+
+#[test]
+fn a_new_database_has_61_free_pages(rt: HostRuntime) -> Result<(), Fail> {
+    let mut page = [0; 4096];
+    let mut search = Search::new();
+    for p in 3..64 {
+        assert_eq!(rt; take_next(&mut search, 64, &mut page), NextFree::Page(p));
+    }
+    assert_eq!(rt; take_next(&mut search, 64, &mut page), NextFree::Grow);
+    assert_eq!(rt; take_next(&mut search, 128, &mut page), NextFree::Page(64));
+    assert_eq!(rt; (page[0], page[7], page[8], page[9]), (0xf8, 0xff, 1, 0));
+    Ok(())
+}
+
+#[test]
+fn the_lowest_page_that_was_given_back_is_next(rt: HostRuntime) -> Result<(), Fail> {
+    let mut page = [0; 4096];
+    let mut search = Search::new();
+    for p in 3..21 {
+        assert_eq!(rt; take_next(&mut search, 64, &mut page), NextFree::Page(p));
+    }
+    give_back(&mut search, 17, &mut page);
+    give_back(&mut search, 5, &mut page);
+    for p in [5, 17, 21] {
+        assert_eq!(rt; take_next(&mut search, 64, &mut page), NextFree::Page(p));
+    }
+    Ok(())
+}
+
+#[test]
+fn no_page_is_left_of_30_000(rt: HostRuntime) -> Result<(), Fail> {
+    let mut page = [0xff; 4096];
+    page[0] = 0xf8;
+    assert_eq!(rt; Search::new().next_free(30_000, &page), NextFree::Full);
+    assert_eq!(rt; Search::new().next_free(29_952, &page), NextFree::Grow);
+    page[3749] = 0x7f;
+    assert_eq!(rt;
+        Search::new().next_free(30_000, &page),
+        NextFree::Page(29_999)
+    );
+    page[3749] = 0xff;
+    page[3750] = 0;
+    assert_eq!(rt; Search::new().next_free(30_000, &page), NextFree::Full);
+    Ok(())
+}

@@ -1,0 +1,70 @@
+// The slots of a page of rows.
+ghost use Rattle.std.specs.Prelude.{◌≡◌, ◌≤◌, ◌<◌, ℕ, List, length, Ok};
+ghost use Rattle.std.specs.Prelude.{Option};
+ghost use Rattle.ctr_types.specs.declared.value.Kind.{Kind};
+ghost use Rattle.ctr_page.specs.declared.table.TheConstants.{PAGE_SIZE};
+ghost use Rattle.ctr_page.specs.Columns.{kinds_of, kinds_width as width_of_kinds};
+ghost use Rattle.ctr_page.specs.Places.{slot_size as size_of_slot, room_for as room_of};
+ghost use Rattle.ctr_page.specs.Searching.{EndsSearch, IsFirst};
+ghost use Rattle.ctr_area.specs.Reading.{header_on, columns_on, area_of};
+ghost use Rattle.ctr_heap.specs.declared.slots.SlotSought.{SlotSought};
+ghost use Rattle.ctr_heap.specs.Slots.{slot_is, checks_slot, seeks_slot, seeks_in};
+
+use ctr_page::{BadPage, RowSlot, check_slot, kinds_width, read_slot, room_for, slot_size};
+use ctr_types::Kind;
+
+/// Which slot is sought.
+#[derive(Clone, Copy, Debug, PartialEq, Eq)]
+pub enum SlotSought {
+    /// The one of a key.
+    Key(i64),
+    /// One that is free.
+    Free,
+}
+
+impl SlotSought {
+    /// Whether it is this one.
+    fn is(self, slot: &RowSlot) -> bool
+        ensures { result ≡ slot_is self slot.now }
+    {
+        match self {
+            SlotSought::Key(key) => slot.used == 1 && slot.key == key,
+            SlotSought::Free => slot.used == 0,
+        }
+    }
+}
+
+/// Searches the slots of a page of rows, whose columns behind the key are of these kinds, where so many
+/// pages are counted: the first slot that is sought, or the damage of the first that fails its checks. No
+/// slot behind it is looked at. It takes no memory.
+pub fn search_slots(
+    kinds: &[Kind],
+    counted: u32,
+    sought: SlotSought,
+    page: &[u8],
+) -> Result<Option<u16>, BadPage>
+    requires some { 0 < counted }
+    requires few { length kinds.now ≤ 7 }
+    requires whole { length page.now ≡ PAGE_SIZE }
+    ensures { EndsSearch (checks_slot kinds.now counted page.now) (seeks_slot (width_of_kinds kinds.now) sought page.now)
+        0 (room_of (size_of_slot (width_of_kinds kinds.now))) result }
+{
+    let w = kinds_width(kinds);
+    let count = room_for(slot_size(w)) as u16;
+    for slot in 0..count {
+        check_slot(kinds, counted, slot, page)?;
+        if sought.is(&read_slot(page, w, slot)) {
+            return Ok(Some(slot));
+        }
+    }
+    Ok(None)
+}
+
+/// A search that ends without damage, on a page of rows by the columns of its table, has found the first slot
+/// of the area there that is sought, or there is none.
+pub fn found_in_area()
+    ensures { (pages : ℕ → List ℕ) (p counted : ℕ) (sought : SlotSought) (found : Option ℕ) → (header_on pages p).kind ≡ 1
+        → EndsSearch (checks_slot (kinds_of (columns_on pages p)) counted (pages p)) (seeks_slot (width_of_kinds (kinds_of (columns_on pages p))) sought (pages p))
+        0 (room_of (size_of_slot (width_of_kinds (kinds_of (columns_on pages p))))) (Ok found)
+        → IsFirst (seeks_in (area_of pages) p sought) 0 ((area_of pages).room p) found }
+{}

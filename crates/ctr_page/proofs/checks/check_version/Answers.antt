@@ -1,0 +1,14 @@
+use Rattle.std.proofs.Common.{◌∙◌, sym, ap}
+use Rattle.ctr_page.specs.Places.{kept_size, start_of}
+use Rattle.ctr_page.specs.Damage.{kept_check}
+use Rattle.ctr_page.proofs.Holding.{older_row}
+use Rattle.ctr_page.proofs.checks.check_version.Goals as goal
+
+pub returns-clause-checked : goal.returns-clause-checked
+returns-clause-checked c =
+    c.check_kept_at.ensures ∙ ap (λ s. kept_check c.args.kinds.now c.args.counted s c.args.page.now)
+    (c.start_of.ensures ∙ ap (λ s. start_of s c.args.slot) (c.kept_size.ensures.value ∙ ap kept_size c.kinds_width.ensures.value))
+
+pub returns-clause-rows : goal.returns-clause-rows
+returns-clause-rows c = λ cs keyed are ok.
+    older_row c.args.page.now (λ k. (c.type_inv.page k).fits) c.args.counted c.args.slot c.args.kinds.now c.requires.inside cs keyed are (sym (returns-clause-checked c) ∙ ok)
