@@ -1,0 +1,36 @@
+use Rattle.std.proofs.Common.{◌≡◌, ◌∙◌, ◌++◌, ℕ, List, sym, ap, subst}
+use Rattle.ctr_home.specs.declared.block.Block.TheVariants.{Root as RootBlock}
+use Rattle.ctr_home.specs.Blocks.{value_of}
+use Rattle.ctr_log.specs.declared.visitor.Visit.{Visit}
+use Rattle.ctr_log.specs.Visits.{kept_visits}
+use Rattle.ctr_base.proofs.RootLaws.{one_root}
+use Rattle.ctr_disk.specs.declared.fault.Root.{Root}
+use Rattle.ctr_store.specs.RecordChecks.{SeenLog, ArePassed, tables_seen}
+use Rattle.ctr_store.proofs.opening.read_log.Goals as goal
+
+pub new-seen-requires : goal.new-seen-requires
+new-seen-requires g c told r says = ap (λ (x : Root). x.pages) (one_root (value_of RootBlock g.O.Origin.first) c.args.root.now r (c.requires.says told) says)
+
+pub returns-clause-found : goal.returns-clause-found
+returns-clause-found g c told =
+    let root = c.args.root.now in
+    let image = g.D.Disk.reads c.args.disk.now in
+    let e = c.in_ok-log.ensures in
+    let parts = c.into_parts-meta.ensures in
+    let seen = c.read_all.new.visitor in
+    let all : seen.visits ≡ kept_visits root.file root.first image = e.visited told ∙ ap (λ (s : SeenLog). s.visits ++ kept_visits root.file root.first image) c.new-seen.ensures in
+    let counted : seen.pages ≡ root.pages = parts.passed.2 told root (c.requires.says told) in
+    record {
+      kept = e.found told;
+      none = e.none;
+      visits_are = parts.visits ∙ all;
+      passed = subst (λ (vs : List Visit). ArePassed root.pages vs) (sym parts.visits) (subst (λ (n : ℕ). ArePassed n seen.visits) counted parts.passed.0);
+      tables = parts.tables ∙ parts.passed.1 ∙ ap tables_seen (sym parts.visits);
+      goes_on = λ rs holds. e.goes_on rs told holds;
+    }
+
+pub returns-clause-passed : goal.returns-clause-passed
+returns-clause-passed g c =
+    let parts = c.into_parts-meta.ensures in
+    let seen = c.read_all.new.visitor in
+    (seen.pages, subst (λ (vs : List Visit). ArePassed seen.pages vs) (sym parts.visits) parts.passed.0)
