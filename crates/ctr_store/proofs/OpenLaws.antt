@@ -17,8 +17,8 @@ use Rattle.ctr_log.specs.declared.visitor.Visit.{Visit}
 use Rattle.ctr_log.specs.Visits.{kept_visits}
 use Rattle.ctr_log.proofs.VisitLaws.{kept_bytes}
 use Rattle.ctr_meta.specs.Effects.{tables_of}
-use Rattle.ctr_log.specs.Logs.{Batches, GoesOn}
-use Rattle.ctr_log.specs.Kept.{kept_log, writer_file, WritesBehind}
+use Rattle.ctr_log.specs.Logs.{Log, Batches, GoesOn}
+use Rattle.ctr_log.specs.Kept.{kept_log, writer_file, OpensKept, WritesBehind}
 use Rattle.ctr_records.specs.declared.record.Record.{Record}
 use Rattle.ctr_records.specs.Read.{record_in}
 use Rattle.ctr_redo.specs.States.{state_of, steps, next_of}
@@ -26,6 +26,7 @@ use Rattle.ctr_redo.specs.Images.{records_in, stored_in, IsSound, FoldsFront, Is
 use Rattle.ctr_base.specs.declared.base.Base.{Base}
 use Rattle.ctr_base.specs.Base.{stored_of, waiting_of, Rests, MovesBase}
 use Rattle.ctr_base.proofs.RootLaws.{one_root}
+use Rattle.ctr_store.proofs.PartsLaws.{goes_more, writes_more}
 use Rattle.ctr_store.specs.declared.parts.Parts.{Parts}
 use Rattle.ctr_store.specs.declared.opening.Found.{Found}
 use Rattle.ctr_store.specs.declared.opening.OpenError.{OpenError}
@@ -42,6 +43,20 @@ writer_is_log true (suc n) = tt
 pub none_left : {A : Type 0} (l : List A) → length l ≤ 0 → l ≡ []
 none_left [] few = refl
 none_left (x ∷ l) few = absurd (omega (arith, few))
+
+-- a log was read, and its writer has room
+pub opens_room : (file first : ℕ) (image : Image) (log : Log) (room : ℕ) → OpensKept file first image log → OpensKept file first image (record log { room = room })
+opens_room file first image log room k = record {
+  stands = k.stands;
+  older_is = k.older_is;
+  file_is = k.file_is;
+  next_is = k.next_is;
+  goes_on = goes_more image log log.buffered room k.goes_on;
+}
+
+-- it goes on behind the log still
+pub writes_room : (file first : ℕ) (image : Image) (log : Log) (room : ℕ) → WritesBehind file first log image → WritesBehind file first (record log { room = room }) image
+writes_room file first image log room w = record { numbered = w.numbered; by = writes_more log.older file first log image log.buffered room w.by }
 
 -- the tables that were read are those of the log
 pub tables_found : (image : Image) (root : Root) (vs : List Visit) → vs ≡ kept_visits root.file root.first image → tables_seen vs ≡ tables_of (records_in (kept_log root.file root.first image))

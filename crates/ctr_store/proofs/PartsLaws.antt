@@ -48,7 +48,7 @@ writes_more true file first log image more room w = record {
 }
 
 -- a writer with more that waits goes on behind the same batches
-goes_more : (image : Image) (log : Log) (more : List (List ℕ)) (room : ℕ) → ((oldest : ℕ) × (bs : Batches) × GoesOn oldest bs log image) → (oldest : ℕ) × (bs : Batches) × GoesOn oldest bs (record log { buffered = more; room = room }) image
+pub goes_more : (image : Image) (log : Log) (more : List (List ℕ)) (room : ℕ) → ((oldest : ℕ) × (bs : Batches) × GoesOn oldest bs log image) → (oldest : ℕ) × (bs : Batches) × GoesOn oldest bs (record log { buffered = more; room = room }) image
 goes_more image log more room w = (w.0, w.1, record { log_is = w.2.log_is; place = w.2.place; first_is = w.2.first_is })
 
 -- a frame's LSN isn't below that of what is held

@@ -6,3 +6,4 @@ pub mod Inside
 pub mod Opening
 pub mod Store
 pub mod StoreInside
+pub mod StoreOpening

@@ -1,12 +1,17 @@
 -- What callers see of a store, and how its calls change that.
-use Rattle.std.specs.Prelude.{◌≡◌, ◌-◌, ◌^◌, ◌<◌, ◌≤◌, ℕ, Bool, List, ◌++◌, length, take, drop}
+use Rattle.std.specs.Prelude.{◌≡◌, ◌-◌, ◌^◌, ◌<◌, ◌≤◌, ℕ, Bool, true, false, IsTrue, List, [], ◌++◌, length, take, drop, Result, Err, OnOk, OnErr}
 use Rattle.ctr_disk.specs.declared.disk.Disk.{Ghosts}
+use Rattle.ctr_types.specs.Faults.{HasFault}
+use Rattle.ctr_disk.specs.declared.disk.Image.{Image}
+use Rattle.ctr_disk.specs.declared.fault.StoreFault.{StoreFault}
+use Rattle.ctr_disk.specs.declared.fault.StoreFault.TheVariants.{Fault}
 use Rattle.ctr_disk.specs.Device.{LeavesOnly}
 use Rattle.ctr_records.specs.declared.record.Record.{Record}
 use Rattle.ctr_meta.specs.Kept.{TablesKept, IsLogged, MayApply}
 use Rattle.ctr_redo.specs.Overlaid.{overlay_of}
 use Rattle.ctr_redo.specs.States.{State, steps}
 use Rattle.ctr_redo.specs.Images.{FoldsFront}
+use Rattle.ctr_base.specs.Base.{IsSoundImage}
 use Rattle.ctr_store.specs.Changes.{IsChange, LiesInside}
 
 -- The disk; what it folds to; the records that aren't hardened, in order; pages and tables with these;
@@ -53,3 +58,14 @@ pub record KeepsRoom {D : Type 0} (a b : View D) : Type 0 where
   pub room : a.room ≤ b.room
   pub few : length b.waiting ≤ length a.waiting
   pub meta : b.meta ≡ a.meta
+
+-- What a call that lends a page leaves once the loan is over.
+pub record LeavesPage {D T : Type 0} (first : Image) (g : Ghosts D) (old new : View D)
+    (result : Result T StoreFault) : Type 0 where
+  pub any_moment : IsTrue g.tells → IsSoundImage first → LeavesFront g old new
+  pub logs : IsTrue g.tells → IsSoundImage first → OnOk result (Logs [] old new)
+  pub keeps : KeepsRoom old new
+  pub going : OnOk result (new.stopped ≡ false)
+  pub stopped : OnErr result (new.stopped ≡ true)
+  pub refused : IsTrue g.tells → IsSoundImage first → OnErr result (result ≡ Err Fault)
+  pub faults : HasFault Fault (g.faults_of old.disk) (g.faults_of new.disk) result

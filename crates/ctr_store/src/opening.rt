@@ -26,6 +26,9 @@ use std::marker::PhantomData;
 /// A number at which no more may be logged.
 const WORN_AT: u64 = 1 << 62;
 
+/// For how many bytes of records the log's buffer has room.
+const BUFFER: usize = 65_536;
+
 /// A disk couldn't be opened.
 #[derive(Clone, Copy, Debug, PartialEq, Eq)]
 pub enum OpenError {
@@ -102,10 +105,12 @@ fn read_log<D: Disk, O: Origin>(
     requires says { IsTrue D.tells → SaysRootOf Paged (value_of RootBlock O.first) root.now }
     ensures found { IsTrue D.tells → IfOk result (FindsLog (D.reads disk.old) root.now) }
     ensures passed { IfOk result (λ f. (pages : ℕ) × ArePassed pages f.visits) }
+    ensures room { IfOk result (λ f. 65536 ≤ f.log.room) }
     ensures quiet { OnlyReads D.Disk disk.old disk.new }
 {
     let mut seen = Seen::<D, O>::new(alloc, root.pages);
-    let log = read_all(alloc, disk, root, &mut seen)?;
+    let mut log = read_all(alloc, disk, root, &mut seen)?;
+    log.reserve(BUFFER)?;
     let (meta, visits) = seen.into_parts();
     Ok(Found { log, meta, visits })
 }
@@ -114,7 +119,7 @@ fn read_log<D: Disk, O: Origin>(
 fn read_front<D: Disk, O: Origin>(alloc: Global, disk: &mut D) -> Result<(Root, Found), OpenError>
     requires named { O.first ≡ D.reads disk.old }
     ensures found { IsTrue D.tells → IfOk result (λ r. FindsFront O.first r.0 r.1) }
-    ensures passed { IfOk result (λ r. (pages : ℕ) × ArePassed pages r.1.visits) }
+    ensures passed { IfOk result (λ r. ((pages : ℕ) × ArePassed pages r.1.visits) × (65536 ≤ r.1.log.room)) }
     ensures none { IsTrue D.tells → TellsNone O.first result }
     ensures quiet { OnlyReads D.Disk disk.old disk.new }
     ensures durable { OnOk result (IsDurable D.Disk disk.new) }
@@ -137,10 +142,12 @@ fn bring_forward<D: Disk, O: Origin>(
     requires frames { (8 ≤ frames) × (frames ≤ 4096) }
     requires told { IsTrue D.tells → FindsFront O.first root found × IsDurable D.Disk disk × (D.reads disk ≡ O.first) }
     requires passed { (pages : ℕ) × ArePassed pages found.visits }
+    requires room { 65536 ≤ found.log.room }
     ensures opened { IsTrue D.tells → IfOk result (Opens O.first D.Disk root) }
     ensures goes { IsTrue D.tells → IsSoundImage O.first → LeavesOnly D.Disk disk (disk_left result) (FoldsFront (state_of (stored_in root O.first)) []) }
     ensures refused { IsTrue D.tells → IfErr result (λ e. IsSoundImage O.first → (e.0 ≡ Fault) ⊎ (e.0 ≡ NoMemory)) }
     ensures later { IfErr result (λ e. IsLater e.0) }
+    ensures room { IfOk result (λ s. 65536 ≤ s.base.log.room) }
 {
     let Found { log, meta, visits } = found;
     let Ok(pool) = Pool::new(alloc, frames) else {
@@ -199,7 +206,9 @@ fn finish<D: Disk, O: Origin>(
     requires frames { (8 ≤ frames) × (frames ≤ 4096) }
     requires told { IsTrue D.tells → FindsFront O.first root found × IsDurable D.Disk disk × (D.reads disk ≡ O.first) }
     requires passed { (pages : ℕ) × ArePassed pages found.visits }
+    requires room { 65536 ≤ found.log.room }
     ensures answer { IsTrue D.tells → AnswersOpen O.first D.Disk result }
+    ensures room { IfOk result (λ s. 65536 ≤ s.base.log.room) }
     ensures goes { IsTrue D.tells → IsSoundImage O.first → LeavesOnly D.Disk disk (disk_left result) (FoldsFront (state_of (stored_in root O.first)) []) }
 {
     match bring_forward::<D, O>(alloc, disk, frames, root, found) {
@@ -215,6 +224,7 @@ impl<D: Disk, O: Origin> Parts<D, O> {
         requires named { O.first ≡ D.reads disk }
         requires frames { (8 ≤ frames) × (frames ≤ 4096) }
         ensures answer { IsTrue D.tells → AnswersOpen O.first D.Disk result }
+        ensures room { IfOk result (λ s. 65536 ≤ s.base.log.room) }
         ensures any_moment { IsTrue D.tells → IsSoundImage O.first → LeavesOnly D.Disk disk (disk_left result) (LeavesFirst O.first (D.images disk)) }
     {
         let mut disk = disk;

@@ -4,7 +4,8 @@ ghost use Rattle.ctr_types.specs.Faults.{HasFault};
 ghost use Rattle.ctr_disk.specs.declared.fault.StoreFault.TheVariants.{Fault};
 ghost use Rattle.ctr_redo.specs.Overlaid.{overlay_of};
 ghost use Rattle.ctr_pool.specs.Frames.{has_page, AreClean};
-ghost use Rattle.ctr_base.specs.Base.{IsSoundImage, LeavesIf, MovesIf, KeepsBase, backing_of};
+ghost use Rattle.ctr_redo.specs.States.{page_limit, page_at, state_of};
+ghost use Rattle.ctr_base.specs.Base.{now_of, IsSoundImage, LeavesIf, MovesIf, KeepsBase, backing_of};
 ghost use Rattle.ctr_pool.specs.Over.{IsOver, StaysOver};
 ghost use Rattle.ctr_disk.specs.Device.{OnlyReads};
 ghost use Rattle.ctr_store.specs.Parts.{IsFold, IsLow, AreLow, CanLog, AddsRecord, LogsRecord, LogsRoom};
@@ -85,6 +86,14 @@ impl<D: Disk, O: Origin> Parts<D, O> {
         self.pool.bring(page, &mut self.base)?;
         self.check_low(page)?;
         Ok(())
+    }
+
+    /// The bytes of a page that a frame has.
+    pub fn bytes(&self, page: PageNo) -> &[u8]
+        ensures { IsTrue D.tells → IsSoundImage O.first → IsFold O.first D.Disk self.now → has_page page self.now.pool.frames ≡ true → page < page_limit
+            → result.now ≡ page_at page (state_of (now_of D.Disk self.now.base)).pages }
+    {
+        self.pool.bytes(page)
     }
 
     /// Makes all records durable.

@@ -4,7 +4,13 @@ ghost use Rattle.ctr_types.specs.Faults.{HasFault};
 ghost use Rattle.ctr_disk.specs.declared.fault.StoreFault.TheVariants.{Fault};
 ghost use Rattle.ctr_meta.specs.Kept.{RoomLeft};
 ghost use Rattle.ctr_base.specs.Base.{IsSoundImage};
-ghost use Rattle.ctr_store.specs.Store.{LeavesFront, Logs, MayLog, KeepsRoom};
+ghost use Rattle.std.specs.Borrow.{sem};
+ghost use Rattle.std.specs.Io.BufRead.{Rests};
+ghost use Rattle.ctr_disk.specs.Device.{LeavesOnly};
+ghost use Rattle.ctr_redo.specs.States.{page_limit, page_at};
+ghost use Rattle.ctr_store.specs.Opening.{LeavesFirst};
+ghost use Rattle.ctr_store.specs.Store.{LeavesFront, LeavesPage, Logs, MayLog, KeepsRoom};
+ghost use Rattle.ctr_store.specs.StoreOpening.{AnswersStore, store_left};
 
 use crate::opening::OpenError;
 use crate::parts::Parts;
@@ -12,7 +18,7 @@ use ctr_base::Origin;
 use ctr_disk::{Disk, StoreFault};
 use ctr_log::Lsn;
 use ctr_meta::Meta;
-use ctr_records::Record;
+use ctr_records::{PageNo, Record};
 use ctr_types::OutOfMemory;
 use std::alloc::Global;
 use std::marker::Model;
@@ -41,6 +47,42 @@ impl<D: Disk, O: Origin> Model for Store<D, O> {
 }
 
 impl<D: Disk, O: Origin> Store<D, O> {
+    ghost use Rattle.ctr_store.specs.contracts.store.Store.{the_row as store-row};
+
+    /// Opens the database of a disk, over so many frames, 8 to 4,096. It begins with a sync, and logs nothing: pages may go
+    /// home that the log's records are on. A refusal gives the disk back.
+    pub fn open(alloc: Global, disk: D, frames: usize) -> Result<Store<D, O>, (OpenError, D)>
+        requires named { O.first ≡ D.reads disk }
+        requires frames { (8 ≤ frames) × (frames ≤ 4096) }
+        ensures answer { IsTrue D.tells → AnswersStore O.first result }
+        ensures fresh { IfOk result (λ s. (s.stopped ≡ false) × (65536 ≤ s.room)) }
+        ensures any_moment { IsTrue D.tells → IsSoundImage O.first → LeavesOnly D.Disk disk (store_left result) (LeavesFirst O.first (D.images disk)) }
+    {
+        match Parts::<D, O>::open(alloc, disk, frames) {
+            Ok(parts) => Ok(Store {
+                parts,
+                stopped: false,
+            }),
+            Err(error) => Err(error),
+        }
+    }
+
+    /// The bytes of a page, with all records.
+    pub fn page(&mut self, page: PageNo) -> Result<&[u8], StoreFault>
+        requires { self.old.stopped ≡ false }
+        ensures shown { IsTrue D.tells → IsSoundImage O.first → page < page_limit → IfOk result (λ b. b.now ≡ page_at page self.old.now.pages) }
+        ensures* after { sem 𝓛 (Rests (store-row D.row O.row D.Disk O.Origin) self.entry (λ new. LeavesPage O.first D.Disk self.old new result)) }
+    {
+        match self.parts.bring(page) {
+            Ok(()) => {}
+            Err(fault) => {
+                self.stopped = true;
+                return Err(fault);
+            }
+        }
+        Ok(self.parts.bytes(page))
+    }
+
     /// Whether there is room for a turn: two frames that have nothing to be written home, and 5,000 bytes of records.
     pub fn room(&self) -> bool
         ensures { IsTrue result ↔ ((2 ≤ self.now.frames) × (5000 ≤ self.now.room)) }

@@ -2,10 +2,13 @@ use Rattle.std.proofs.Common.{◌≡◌, ◌∙◌, ◌++◌, ℕ, List, sym, ap
 use Rattle.ctr_home.specs.declared.block.Block.TheVariants.{Root as RootBlock}
 use Rattle.ctr_home.specs.Blocks.{value_of}
 use Rattle.ctr_log.specs.declared.visitor.Visit.{Visit}
+use Rattle.ctr_log.specs.Logs.{Log}
+use Rattle.ctr_log.specs.Kept.{OpensKept, WritesBehind}
 use Rattle.ctr_log.specs.Visits.{kept_visits}
 use Rattle.ctr_base.proofs.RootLaws.{one_root}
 use Rattle.ctr_disk.specs.declared.fault.Root.{Root}
 use Rattle.ctr_store.specs.RecordChecks.{SeenLog, ArePassed, tables_seen}
+use Rattle.ctr_store.proofs.OpenLaws.{opens_room, writes_room}
 use Rattle.ctr_store.proofs.opening.read_log.Goals as goal
 
 pub new-seen-requires : goal.new-seen-requires
@@ -20,13 +23,16 @@ returns-clause-found g c told =
     let seen = c.read_all.new.visitor in
     let all : seen.visits ≡ kept_visits root.file root.first image = e.visited told ∙ ap (λ (s : SeenLog). s.visits ++ kept_visits root.file root.first image) c.new-seen.ensures in
     let counted : seen.pages ≡ root.pages = parts.passed.2 told root (c.requires.says told) in
+    let log = c.in_ok-log.log in
+    let same = c.reserve.ensures.same in
+    let room = c.reserve.new.self.room in
     record {
-      kept = e.found told;
-      none = e.none;
+      kept = subst (OpensKept root.file root.first image) (sym same) (opens_room root.file root.first image log room (e.found told));
+      none = ap (λ (l : Log). l.buffered) same ∙ e.none;
       visits_are = parts.visits ∙ all;
       passed = subst (λ (vs : List Visit). ArePassed root.pages vs) (sym parts.visits) (subst (λ (n : ℕ). ArePassed n seen.visits) counted parts.passed.0);
       tables = parts.tables ∙ parts.passed.1 ∙ ap tables_seen (sym parts.visits);
-      goes_on = λ rs holds. e.goes_on rs told holds;
+      goes_on = λ rs holds. subst (λ (l : Log). WritesBehind root.file root.first l image) (sym same) (writes_room root.file root.first image log room (e.goes_on rs told holds));
     }
 
 pub returns-clause-passed : goal.returns-clause-passed
