@@ -14,3 +14,6 @@ pub use opening::OpenError;
 pub use parts::Parts;
 pub use seen::Seen;
 pub use store::Store;
+
+#[cfg(test)]
+mod tests;
