@@ -1,9 +1,21 @@
 -- What is opened stands over the pool, and nothing is pending where the disk was sound.
-use Rattle.std.proofs.Common.{◌≡◌, ℕ, zero, suc, ◌+◌, ◌*◌, ◌≤◌, Bool, true, false, List, [], ◌∷◌, length, take, Option, Some, None, Result, Ok, Err, refl, sym, ◌∙◌, ap, subst, arith}
+use Rattle.std.proofs.Common.{◌≡◌, ◌≢◌, inl, inr, ⊎_elim, ◌++◌, ℕ, zero, suc, ◌+◌, ◌*◌, ◌≤◌, Bool, true, false, List, [], ◌∷◌, length, take, Option, Some, None, Result, Ok, Err, refl, sym, ◌∙◌, ap, subst, arith}
 use Rattle.std.specs.Prelude.{IfOk}
 use Rattle.std.proofs.Math.Seq.{take-nil}
 use Rattle.std.proofs.lemmas.List.{length-map}
+use Rattle.ctr_types.specs.declared.file.File.{File}
 use Rattle.ctr_types.specs.declared.file.File.TheVariants.{Pages}
+use Rattle.ctr_types.specs.declared.memory.OutOfMemory.{OutOfMemory as WantOfMemory}
+use Rattle.ctr_disk.specs.declared.fault.StoreFault.{StoreFault}
+use Rattle.ctr_disk.specs.declared.fault.StoreFault.TheVariants as store
+use Rattle.ctr_home.specs.Reading.{IsFaultOr}
+use Rattle.ctr_log.specs.declared.reading.ReadError.{ReadError}
+use Rattle.ctr_log.specs.declared.reading.ReadError.TheVariants as read
+use Rattle.ctr_log.specs.declared.visitor.VisitError.{VisitError}
+use Rattle.ctr_log.specs.declared.visitor.VisitError.TheVariants as visit
+use Rattle.ctr_log.specs.LogChecks.{kept_damage, IsThisDamage}
+use Rattle.ctr_base.specs.Opening.{IsRootDamage}
+use Rattle.ctr_store.specs.declared.opening.OpenError.TheVariants as open_error
 use Rattle.ctr_disk.specs.declared.disk.Image.{Image}
 use Rattle.ctr_disk.specs.declared.disk.Disk.{Ghosts}
 use Rattle.ctr_disk.specs.declared.fault.Root.{Root}
@@ -14,7 +26,7 @@ use Rattle.ctr_home.specs.declared.root.Form.TheVariants.{Paged}
 use Rattle.ctr_home.specs.Blocks.{value_of}
 use Rattle.ctr_home.specs.Roots.{SaysRootOf}
 use Rattle.ctr_log.specs.declared.visitor.Visit.{Visit}
-use Rattle.ctr_log.specs.Visits.{kept_visits}
+use Rattle.ctr_log.specs.Visits.{kept_visits, StopsAt, OnRead, IsToldBy}
 use Rattle.ctr_log.proofs.VisitLaws.{kept_bytes}
 use Rattle.ctr_meta.specs.Effects.{tables_of}
 use Rattle.ctr_log.specs.Logs.{Log, Batches, GoesOn}
@@ -30,8 +42,8 @@ use Rattle.ctr_store.proofs.PartsLaws.{goes_more, writes_more}
 use Rattle.ctr_store.specs.declared.parts.Parts.{Parts}
 use Rattle.ctr_store.specs.declared.opening.Found.{Found}
 use Rattle.ctr_store.specs.declared.opening.OpenError.{OpenError}
-use Rattle.ctr_store.specs.RecordChecks.{tables_seen}
-use Rattle.ctr_store.specs.Opening.{FindsFront, Opens, AnswersOpen, RefusesAs, IsWornBy, worn_by, worn_in}
+use Rattle.ctr_store.specs.RecordChecks.{FailsAs, RefusesVisit, tables_seen}
+use Rattle.ctr_store.specs.Opening.{FindsFront, fault_told, read_told, LogPasses, RefusesLog, IsLater, Opens, AnswersOpen, RefusesAs, IsWornBy, worn_by, worn_in}
 
 writer_is_log : (older : Bool) (file : ℕ) → IsLogFile (writer_file older file)
 writer_is_log false zero = tt
@@ -61,6 +73,56 @@ writes_room file first image log room w = record { numbered = w.numbered; by = w
 -- the tables that were read are those of the log
 pub tables_found : (image : Image) (root : Root) (vs : List Visit) → vs ≡ kept_visits root.file root.first image → tables_seen vs ≡ tables_of (records_in (kept_log root.file root.first image))
 tables_found image root vs is = ap tables_seen is ∙ ap (λ (l : List (List ℕ)). tables_of (records_in l)) (kept_bytes root.file root.first image)
+
+-- how the reading of a log is refused
+pub log_refused : (counts : ℕ → Type 0) (root : Root) (image : Image) (old new : List Visit) (cause : VisitError ReadError) (e : ReadError) → ((n : ℕ) → counts n → n ≡ root.pages) → old ≡ []
+    → IsToldBy (λ (s : StoreFault) (x : ReadError). x ≡ read.Store s) (λ (w : WantOfMemory) (x : ReadError). x ≡ read.OutOfMemory) cause e
+    → StopsAt (RefusesVisit counts) old new (kept_visits root.file root.first image) cause → OnRead (IsThisDamage (kept_damage root.file root.first image)) cause → RefusesLog root image e
+log_refused counts root image old new (visit.Read (read.Store store.Fault)) e pages none told stops damage = subst (RefusesLog root image) (sym told) tt
+log_refused counts root image old new (visit.Read (read.Store (store.Damaged file at want got))) e pages none told stops damage = subst (RefusesLog root image) (sym told) (inl damage)
+log_refused counts root image old new (visit.Read read.OutOfMemory) e pages none told stops damage = subst (RefusesLog root image) (sym told.1) tt
+log_refused counts root image old new (visit.Refused r) e pages none told stops damage =
+    let front : new ≡ stops.given = stops.seen ∙ ap (λ (l : List Visit). l ++ stops.given) none in
+    subst (RefusesLog root image) (sym told)
+    (⊎_elim (λ is. subst (RefusesLog root image) (sym is) tt)
+    (λ w.
+    let bad = w.2.0 in
+    let v = stops.refused in
+    let counted : FailsAs root.pages v.at (tables_seen new) v.bytes bad = subst (λ (n : ℕ). FailsAs n v.at (tables_seen new) v.bytes bad) (pages w.0 w.1) w.2.1 in
+    subst (RefusesLog root image) (sym w.2.2)
+    (inr (record {
+      given = stops.given;
+      v = v;
+      rest = stops.rest;
+      all_are = stops.all_are;
+      bad = bad;
+      fails = subst (λ (l : List Visit). FailsAs root.pages v.at (tables_seen l) v.bytes bad) front counted;
+      told = refl;
+    })))
+    stops.because)
+
+-- a root that is damaged is there
+root_there : (image : Image) (file : File) (at want got : ℕ) → IsRootDamage image (store.Damaged file at want got) → value_of RootBlock image ≢ None
+root_there image file at want got is none = ⊎_elim (λ w. absurd (cc (w.1, none))) (λ w. absurd (cc (w.1.0, none))) is
+
+-- a refusal of the root
+pub root_refused : (image : Image) (e : StoreFault) → IsFaultOr (IsRootDamage image) e → RefusesAs image (fault_told e)
+root_refused image store.Fault is = tt
+root_refused image (store.Damaged file at want got) is = (root_there image file at want got is, inl is)
+
+-- of the log
+pub read_refused : (image : Image) (root : Root) (e : ReadError) → SaysRootOf Paged (value_of RootBlock image) root → RefusesLog root image e → RefusesAs image (read_told e)
+read_refused image root (read.Store store.Fault) says refused = tt
+read_refused image root (read.Store (store.Damaged file at want got)) says refused = ((λ none. absurd (cc (says.0, none))), inr (root, says, inl refused))
+read_refused image root read.OutOfMemory says refused = λ none. absurd (cc (says.0, none))
+
+-- and behind it
+pub later_refused : (image : Image) (root : Root) (e : OpenError) → SaysRootOf Paged (value_of RootBlock image) root → LogPasses root image → IsLater e → RefusesAs image e
+later_refused image root open_error.NoDatabase says passes later = absurd later
+later_refused image root (open_error.Damaged file at want got) says passes later = ((λ none. absurd (cc (says.0, none))), inr (root, says, inr passes))
+later_refused image root (open_error.Worn n) says passes later = absurd later
+later_refused image root open_error.Fault says passes later = tt
+later_refused image root open_error.OutOfMemory says passes later = λ none. absurd (cc (says.0, none))
 
 module _ {D O : Type 0} (first : Image) (g : Ghosts D) where
   pub rests_opened : (d : D) (root : Root) (f : Found) (durable : ℕ) → FindsFront first root f → IsDurable g d → g.reads d ≡ first → durable ≡ f.log.first + length f.log.buffered

@@ -13,10 +13,11 @@ use Rattle.ctr_redo.specs.Images.{records_in, stored_in}
 use Rattle.ctr_base.specs.Base.{IsSoundImage}
 use Rattle.ctr_store.specs.declared.opening.OpenError.{OpenError}
 use Rattle.ctr_store.specs.Store.{View}
-use Rattle.ctr_store.specs.Opening.{RefusesAs, worn_in}
+use Rattle.ctr_store.specs.Opening.{LogPasses, RefusesAs, worn_in}
 
 -- A store stands on an image that says a root and isn't worn. Nothing waits, the next record comes behind
--- the image's, and the tables are theirs. Where the image is sound, pages and tables are what it folds to.
+-- the image's, and the tables are theirs. Where the image is sound, pages and tables are what it folds to. All
+-- checks of the log pass.
 pub record OpensStore {D : Type 0} (image : Image) (v : View D) : Type 0 where
   pub root : Root
   pub says : SaysRootOf Paged (value_of RootBlock image) root
@@ -26,6 +27,7 @@ pub record OpensStore {D : Type 0} (image : Image) (v : View D) : Type 0 where
   pub tables : v.meta.tables ≡ tables_of (records_in (kept_log root.file root.first image))
   pub hardened : IsSoundImage image → v.hardened ≡ state_of (stored_in root image)
   pub now : IsSoundImage image → v.now ≡ state_of (stored_in root image)
+  pub passes : LogPasses root image
 
 -- an opening answers with it, or refuses the image
 abbrev pub AnswersStore : {D : Type 0} → Image → Result (View D) (OpenError × D) → Type 0

@@ -6,7 +6,7 @@ ghost use Rattle.ctr_home.specs.declared.root.Form.TheVariants.{Paged};
 ghost use Rattle.ctr_home.specs.Blocks.{value_of};
 ghost use Rattle.ctr_home.specs.Roots.{IsRootOf, SaysRootOf};
 ghost use Rattle.ctr_store.specs.RecordChecks.{ArePassed};
-ghost use Rattle.ctr_store.specs.Opening.{FindsLog, FindsFront, TellsNone, Opens, disk_left, worn_by, IsWornBy, IsLater, AnswersOpen, LeavesFirst};
+ghost use Rattle.ctr_store.specs.Opening.{FindsLog, FindsFront, RefusesLog, RefusesAs, Opens, disk_left, worn_by, IsWornBy, IsLater, AnswersOpen, LeavesFirst};
 ghost use Rattle.ctr_store.specs.declared.opening.OpenError.TheVariants.{Fault, OutOfMemory as NoMemory};
 ghost use Rattle.ctr_redo.specs.States.{state_of};
 ghost use Rattle.ctr_redo.specs.Images.{stored_in, FoldsFront};
@@ -106,6 +106,7 @@ fn read_log<D: Disk, O: Origin>(
     ensures found { IsTrue D.tells → IfOk result (FindsLog (D.reads disk.old) root.now) }
     ensures passed { IfOk result (λ f. (pages : ℕ) × ArePassed pages f.visits) }
     ensures room { IfOk result (λ f. 65536 ≤ f.log.room) }
+    ensures refused { IsTrue D.tells → IfErr result (RefusesLog root.now (D.reads disk.old)) }
     ensures quiet { OnlyReads D.Disk disk.old disk.new }
 {
     let mut seen = Seen::<D, O>::new(alloc, root.pages);
@@ -120,7 +121,7 @@ fn read_front<D: Disk, O: Origin>(alloc: Global, disk: &mut D) -> Result<(Root, 
     requires named { O.first ≡ D.reads disk.old }
     ensures found { IsTrue D.tells → IfOk result (λ r. FindsFront O.first r.0 r.1) }
     ensures passed { IfOk result (λ r. ((pages : ℕ) × ArePassed pages r.1.visits) × (65536 ≤ r.1.log.room)) }
-    ensures none { IsTrue D.tells → TellsNone O.first result }
+    ensures refused { IsTrue D.tells → IfErr result (RefusesAs O.first) }
     ensures quiet { OnlyReads D.Disk disk.old disk.new }
     ensures durable { OnOk result (IsDurable D.Disk disk.new) }
 {

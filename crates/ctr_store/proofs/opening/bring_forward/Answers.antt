@@ -57,5 +57,6 @@ returns-in-Ok-redo-clause-opened g c told =
       fold = e.fold told;
       state = λ sound. state_first o d a c.redo.new.self.base c.args.root refl none r.2 (e.moves told sound);
       next = e.keeps.0.next ∙ omega (arith, r.0.log.kept.next_is, ap (λ (l : List (List ℕ)). length l) none);
+      passes = (r.0.log.sound, subst (ArePassed c.args.root.pages) r.0.log.visits_are r.0.log.passed);
       tables = ap (λ t. t.tables) e.keeps.1 ∙ r.0.log.tables ∙ tables_found o c.args.root f.visits r.0.log.visits_are;
     }

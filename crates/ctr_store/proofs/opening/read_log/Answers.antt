@@ -1,4 +1,6 @@
 use Rattle.std.proofs.Common.{◌≡◌, ◌∙◌, ◌++◌, ℕ, List, sym, ap, subst}
+use Rattle.std.specs.Prelude.{IsTrue}
+use Rattle.std.proofs.lemmas.Result.{err_from_is_err_and}
 use Rattle.ctr_home.specs.declared.block.Block.TheVariants.{Root as RootBlock}
 use Rattle.ctr_home.specs.Blocks.{value_of}
 use Rattle.ctr_log.specs.declared.visitor.Visit.{Visit}
@@ -7,8 +9,8 @@ use Rattle.ctr_log.specs.Kept.{OpensKept, WritesBehind}
 use Rattle.ctr_log.specs.Visits.{kept_visits}
 use Rattle.ctr_base.proofs.RootLaws.{one_root}
 use Rattle.ctr_disk.specs.declared.fault.Root.{Root}
-use Rattle.ctr_store.specs.RecordChecks.{SeenLog, ArePassed, tables_seen}
-use Rattle.ctr_store.proofs.OpenLaws.{opens_room, writes_room}
+use Rattle.ctr_store.specs.RecordChecks.{SeenLog, CountsPages, ArePassed, tables_seen}
+use Rattle.ctr_store.proofs.OpenLaws.{opens_room, writes_room, log_refused}
 use Rattle.ctr_store.proofs.opening.read_log.Goals as goal
 
 pub new-seen-requires : goal.new-seen-requires
@@ -32,6 +34,7 @@ returns-clause-found g c told =
       visits_are = parts.visits ∙ all;
       passed = subst (λ (vs : List Visit). ArePassed root.pages vs) (sym parts.visits) (subst (λ (n : ℕ). ArePassed n seen.visits) counted parts.passed.0);
       tables = parts.tables ∙ parts.passed.1 ∙ ap tables_seen (sym parts.visits);
+      sound = e.sound told;
       goes_on = λ rs holds. subst (λ (l : Log). WritesBehind root.file root.first l image) (sym same) (writes_room root.file root.first image log room (e.goes_on rs told holds));
     }
 
@@ -40,3 +43,13 @@ returns-clause-passed g c =
     let parts = c.into_parts-meta.ensures in
     let seen = c.read_all.new.visitor in
     (seen.pages, subst (λ (vs : List Visit). ArePassed seen.pages vs) (sym parts.visits) parts.passed.0)
+
+pub returns-in_err-log-clause-refused : goal.returns-in_err-log-clause-refused
+returns-in_err-log-clause-refused g c told =
+    let p = err_from_is_err_and c.from_residual.result c.from_residual.ensures.1 in
+    let root = c.args.root.now in
+    let image = g.D.Disk.reads c.args.disk.now in
+    let r = c.in_err-log.ensures.refused in
+    rw (p.1, p.2)
+    (log_refused (λ n. IsTrue g.D.Disk.tells → CountsPages g.O.Origin.first n) root image c.new-seen.result.visits c.read_all.new.visitor.visits r.0 c.in_err-log.field-0.0
+    (λ n counts. counts told root (c.requires.says told)) (ap (λ (s : SeenLog). s.visits) c.new-seen.ensures) r.1 (r.5 told) (r.6 told))
