@@ -1,36 +1,41 @@
 -- The log and the homes below a pool, on which nothing is pending, and how they change.
-use Rattle.std.specs.Prelude.{◌≡◌, ◌≢◌, ◌⊎◌, ℕ, ◌+◌, ◌<◌, ◌≤◌, List, length, take, drop}
+use Rattle.std.specs.Prelude.{◌≡◌, ◌≢◌, ◌⊎◌, ℕ, ◌+◌, ◌*◌, ◌<◌, ◌≤◌, List, length, take, drop}
 use Rattle.ctr_disk.specs.declared.disk.Disk.{Ghosts}
+use Rattle.ctr_disk.specs.declared.disk.Image.{Image}
 use Rattle.ctr_disk.specs.Device.{LeavesOnly, IsDurable}
+use Rattle.ctr_disk.specs.Image.{content}
+use Rattle.ctr_types.specs.declared.file.File.TheVariants.{Pages}
+use Rattle.ctr_disk.specs.declared.fault.Root.{Root}
 use Rattle.ctr_log.specs.Kept.{WritesBehind}
+use Rattle.ctr_log.specs.Logs.{Batches, GoesOn}
 use Rattle.ctr_records.specs.declared.record.Record.{Record}
 use Rattle.ctr_disk.specs.declared.fault.StoreFault.TheVariants.{Fault}
 use Rattle.ctr_pool.specs.Pages.{PageHeld}
 use Rattle.ctr_pool.specs.declared.backing.Backing.{Ghosts as BackingGhosts}
 use Rattle.ctr_redo.specs.Overlaid.{overlaid}
 use Rattle.ctr_redo.specs.States.{Stored, state_of, steps, with_more, next_of}
-use Rattle.ctr_redo.specs.Images.{records_in, home_in, stored_in, IsSound, FoldsFront}
+use Rattle.ctr_redo.specs.Images.{records_in, home_in, stored_in, IsSound, FoldsFront, IsLogFile}
 use Rattle.ctr_base.specs.declared.base.Base.{Base}
 
 -- what stands on the disk
-abbrev pub stored_of : {D : Type 0} → Ghosts D → Base D → Stored
+abbrev pub stored_of : {D O : Type 0} → Ghosts D → Base D O → Stored
 stored_of g b = stored_in b.root (g.reads b.disk)
 
 -- the records that wait in the log's buffer
-abbrev pub waiting_of : {D : Type 0} → Base D → List Record
+abbrev pub waiting_of : {D O : Type 0} → Base D O → List Record
 waiting_of b = records_in b.log.buffered
 
 -- what stands on the disk, with what waits behind its log
-abbrev pub now_of : {D : Type 0} → Ghosts D → Base D → Stored
+abbrev pub now_of : {D O : Type 0} → Ghosts D → Base D O → Stored
 now_of g b = with_more (waiting_of b) (stored_of g b)
 
 -- a page as it stands at home
-abbrev pub home_of : {D : Type 0} → Ghosts D → Base D → ℕ → PageHeld
+abbrev pub home_of : {D O : Type 0} → Ghosts D → Base D O → ℕ → PageHeld
 home_of g b p = home_in b.root.pages (g.reads b.disk) p
 
 -- A page that may go home once its records are durable: it has all records so far, or the records on
 -- the disk make the same page of it as of what is at home.
-pub record MaySave {D : Type 0} (g : Ghosts D) (b : Base D) (p since : ℕ) (v : PageHeld) : Type 0 where
+pub record MaySave {D O : Type 0} (g : Ghosts D) (b : Base D O) (p since : ℕ) (v : PageHeld) : Type 0 where
   pub counted : p < b.root.pages
   pub above : (home_of g b p).lsn < v.lsn
   pub low : v.lsn < next_of (now_of g b)
@@ -38,7 +43,7 @@ pub record MaySave {D : Type 0} (g : Ghosts D) (b : Base D) (p since : ℕ) (v :
       ⊎ (overlaid p b.root.first (stored_of g b).records v ≡ overlaid p b.root.first (stored_of g b).records (home_of g b p))
 
 -- Nothing is pending on the disk, which is sound, and the log goes on behind what it holds.
-pub record IsQuiet {D : Type 0} (g : Ghosts D) (b : Base D) : Type 0 where
+pub record IsQuiet {D O : Type 0} (g : Ghosts D) (b : Base D O) : Type 0 where
   pub only : IsDurable g b.disk
   pub sound : IsSound b.root (g.reads b.disk)
   pub writes : WritesBehind b.root.file b.root.first b.log (g.reads b.disk)
@@ -46,12 +51,12 @@ pub record IsQuiet {D : Type 0} (g : Ghosts D) (b : Base D) : Type 0 where
   pub first : b.log.first ≡ next_of (stored_of g b)
 
 -- at each moment from one to another a crash leaves what was hardened with a prefix of what waited
-abbrev pub LeavesBase : {D : Type 0} → Ghosts D → Base D → Base D → Type 0
+abbrev pub LeavesBase : {D O : Type 0} → Ghosts D → Base D O → Base D O → Type 0
 LeavesBase g a b = LeavesOnly g a.disk b.disk (FoldsFront (state_of (stored_of g a)) (waiting_of a))
 
 -- The first of what waited is durable now; the root, the records in order and each page with them are
 -- as they were.
-pub record MovesBase {D : Type 0} (g : Ghosts D) (a b : Base D) : Type 0 where
+pub record MovesBase {D O : Type 0} (g : Ghosts D) (a b : Base D O) : Type 0 where
   pub j : ℕ
   pub at_most : j ≤ length (waiting_of a)
   pub waiting : waiting_of b ≡ drop j (waiting_of a)
@@ -64,30 +69,65 @@ pub record MovesBase {D : Type 0} (g : Ghosts D) (a b : Base D) : Type 0 where
 
 -- However a call ends, the root and the number of the next record are those of before, room for
 -- records isn't lost, and no more of them wait.
-pub record KeepsBase {D : Type 0} (a b : Base D) : Type 0 where
+pub record KeepsBase {D O : Type 0} (a b : Base D O) : Type 0 where
   pub root : b.root ≡ a.root
   pub room : a.log.room ≤ b.log.room
   pub next : b.log.first + length b.log.buffered ≡ a.log.first + length a.log.buffered
   pub few : length b.log.buffered ≤ length a.log.buffered
 
--- a page is this at home now, and the others and the log are as they were
-pub record IsHome {D : Type 0} (g : Ghosts D) (p : ℕ) (v : PageHeld) (a b : Base D) : Type 0 where
-  pub there : home_of g b p ≡ v
-  pub others : (q : ℕ) → q ≢ p → home_of g b q ≡ home_of g a q
-  pub records : (stored_of g b).records ≡ (stored_of g a).records
-  pub log : b.log ≡ a.log
-  pub root : b.root ≡ a.root
+-- ---- what holds of every disk, and what holds besides where the first image was sound
 
--- the log and the homes as the backing of a pool
-abbrev pub backing_of : {D : Type 0} → Ghosts D → BackingGhosts (Base D)
-backing_of g = record {
+-- an image is sound, by some root
+abbrev pub IsSoundImage : Image → Type 0
+IsSoundImage image = (root : Root) × IsSound root image
+
+-- Whatever the disk holds: the log's writer goes on behind the batches of its file, and the file of
+-- pages has all that are counted.
+pub record Stands {D O : Type 0} (g : Ghosts D) (b : Base D O) : Type 0 where
+  pub file : IsLogFile b.log.file
+  pub goes_on : (oldest : ℕ) × (bs : Batches) × GoesOn oldest bs b.log (g.reads b.disk)
+  pub size : 8256 * b.root.pages ≤ length (content Pages (g.reads b.disk))
+
+-- it stands so; and where the first image was sound nothing is pending
+pub record Rests {D O : Type 0} (first : Image) (g : Ghosts D) (b : Base D O) : Type 0 where
+  pub stands : Stands g b
+  pub quiet : IsSoundImage first → IsQuiet g b
+
+-- what a crash leaves, where the first image was sound
+abbrev pub LeavesIf : {D O : Type 0} → Image → Ghosts D → Base D O → Base D O → Type 0
+LeavesIf first g a b = IsSoundImage first → LeavesBase g a b
+
+-- how it moves, where the first image was sound
+abbrev pub MovesIf : {D O : Type 0} → Image → Ghosts D → Base D O → Base D O → Type 0
+MovesIf first g a b = IsSoundImage first → MovesBase g a b
+
+-- A page with changes goes home above what is held. Where the first image was sound, it may go home
+-- once its records are durable.
+pub record MayPut {D O : Type 0} (first : Image) (g : Ghosts D) (b : Base D O) (p since : ℕ)
+    (v : PageHeld) : Type 0 where
+  pub counted : p < b.root.pages
+  pub above : (home_of g b p).lsn < v.lsn
+  pub sound : IsSoundImage first → MaySave g b p since v
+
+-- a page is this at home now, and the others and the log are as they were
+pub record IsHome {D O : Type 0} (g : Ghosts D) (p : ℕ) (v : PageHeld) (a b : Base D O) : Type 0
+  where
+    pub there : home_of g b p ≡ v
+    pub others : (q : ℕ) → q ≢ p → home_of g b q ≡ home_of g a q
+    pub records : (stored_of g b).records ≡ (stored_of g a).records
+    pub log : b.log ≡ a.log
+    pub root : b.root ≡ a.root
+
+-- the log and the homes as the backing of a pool, whose first image was this
+abbrev pub backing_of : {D O : Type 0} → Image → Ghosts D → BackingGhosts (Base D O)
+backing_of first g = record {
   tells = g.tells;
   held = home_of g;
-  takes = MaySave g;
-  rests = IsQuiet g;
-  goes = LeavesBase g;
-  moves = MovesBase g;
+  takes = MayPut first g;
+  rests = Rests first g;
+  goes = LeavesIf first g;
+  moves = MovesIf first g;
   keeps = KeepsBase;
-  fails = λ a b e. e ≡ Fault;
+  fails = λ a b e. IsSoundImage first → e ≡ Fault;
   faults_of = λ b. g.faults_of b.disk;
 }

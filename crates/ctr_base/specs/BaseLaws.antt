@@ -1,8 +1,9 @@
 -- How the log and the homes go on under a pool.
-use Rattle.std.proofs.Common.{◌≡◌, ◌≢◌, inl, inr, ⊎_elim, ℕ, zero, suc, ◌+◌, ◌<◌, Bool, true, false, List, [], ◌∷◌, ◌++◌, length, take, drop, refl, sym, ◌∙◌, ap, subst, arith, length-append, length-drop, Some}
+use Rattle.std.proofs.Common.{◌≡◌, ◌≢◌, inl, inr, ⊎_elim, ℕ, zero, suc, ◌+◌, ◌*◌, ◌<◌, ◌≤◌, nat_lt, if◌then◌else◌, Bool, true, false, List, [], ◌∷◌, ◌++◌, length, take, drop, refl, sym, ◌∙◌, ap, subst, arith, length-append, length-drop, Some}
 use Rattle.std.proofs.Math.Seq.{take-nil}
 use Rattle.std.proofs.lemmas.List.{append-nil, take_all, drop_all, drop-drop, length-map}
 use Rattle.ctr_types.specs.declared.file.File.{File}
+use Rattle.ctr_types.specs.declared.file.File.TheVariants.{Root as RootFile, LogA, LogB, Pages}
 use Rattle.ctr_disk.specs.declared.disk.Image.{Image}
 use Rattle.ctr_disk.specs.declared.disk.Disk.{Ghosts}
 use Rattle.ctr_disk.specs.declared.fault.Root.{Root}
@@ -10,9 +11,9 @@ use Rattle.ctr_disk.specs.Device.{LeavesOnly, OnlyReads, IsDurable}
 use Rattle.ctr_disk.specs.Image.{content}
 use Rattle.ctr_disk.proofs.Moments.{starts, joined, weaker, still_only}
 use Rattle.ctr_home.specs.declared.block.Block.TheVariants.{Page}
-use Rattle.ctr_home.specs.Blocks.{BlockValue, value_of}
+use Rattle.ctr_home.specs.Blocks.{BlockValue, value_of, value_in, page_with, blank_page}
 use Rattle.ctr_home.specs.Writing.{IsOldOrNewValue, with_body, OthersStay}
-use Rattle.ctr_log.specs.Logs.{Log, HasLog, GoesOn, records}
+use Rattle.ctr_log.specs.Logs.{Log, Batches, HasLog, GoesOn, records}
 use Rattle.ctr_log.specs.Reading.{log_file}
 use Rattle.ctr_log.specs.Kept.{kept_log, other_file, IsDropped, HoldsLog, WritesBy, WritesBehind, KeepsPrefix, GoesOnWith}
 use Rattle.ctr_log.proofs.KeptLaws.{front_same}
@@ -22,12 +23,12 @@ use Rattle.ctr_pool.specs.Pages.{PageHeld}
 use Rattle.ctr_pool.specs.Below.{Puts, HoldsStill}
 use Rattle.ctr_redo.specs.Overlaid.{overlaid}
 use Rattle.ctr_redo.specs.States.{State, Stored, state_of, steps, with_more, home_put, next_of}
-use Rattle.ctr_redo.specs.Images.{records_in, stored_in, IsSound, FoldsFront, IsLogFile, MayStand}
+use Rattle.ctr_redo.specs.Images.{records_in, home_in, stored_in, IsSound, FoldsFront, IsLogFile, MayStand}
 use Rattle.ctr_redo.proofs.PageLaws.{again, durable_alone, overlaid-append}
 use Rattle.ctr_redo.proofs.StateLaws.{state_more, state_swapped, page_swapped, steps-append, put_there, put_elsewhere}
 use Rattle.ctr_redo.proofs.ImageLaws.{KeepsHomes, KeepsLogs, logs_apart, pages_apart, kept_same, named_same, other_same, more_stored, sound_flushed, folds_flushed, folds_written, sound_written, state_written, state_with_more, home_written, next_same}
 use Rattle.ctr_base.specs.declared.base.Base.{Base}
-use Rattle.ctr_base.specs.Base.{stored_of, waiting_of, now_of, home_of, MaySave, IsQuiet, LeavesBase, MovesBase, KeepsBase, IsHome}
+use Rattle.ctr_base.specs.Base.{stored_of, waiting_of, now_of, home_of, MaySave, MayPut, IsQuiet, IsSoundImage, Stands, Rests, LeavesBase, LeavesIf, MovesBase, KeepsBase, IsHome}
 
 take_split : {A : Type 0} (j k : ℕ) (l : List A) → take j l ++ take k (drop j l) ≡ take (j + k) l
 take_split zero k l = let n : k ≡ 0 + k = omega arith in ap (λ (m : ℕ). take m l) n
@@ -105,21 +106,36 @@ by_same true file first log old new same w =
 writes_same : (file first : ℕ) (log : Log) (old new : Image) → KeepsLogs old new → WritesBehind file first log old → WritesBehind file first log new
 writes_same file first log old new same w = record { numbered = w.numbered; by = by_same log.older file first log old new same w.by }
 
+-- a file of the log is as it was, where both are
+log_content : (f : File) (old new : Image) → IsLogFile f → KeepsLogs old new → content f new ≡ content f old
+log_content RootFile old new is same = absurd is
+log_content LogA old new is same = same.log_a
+log_content LogB old new is same = same.log_b
+log_content Pages old new is same = absurd is
+
+-- a page at home is as it was, where the file of pages is
+home_same : (counted q : ℕ) (old new : Image) → content Pages new ≡ content Pages old → home_in counted new q ≡ home_in counted old q
+home_same counted q old new same =
+    ap
+    (λ (bytes : List ℕ).
+    record { lsn = (if nat_lt q counted then page_with (value_in (Page q) bytes) else blank_page).lsn; body = (if nat_lt q counted then page_with (value_in (Page q) bytes) else blank_page).bytes })
+    same
+
 -- a page as the value of its block
 abbrev value : ℕ → PageHeld → BlockValue
 value p v = with_body (Page p) v.lsn v.body
 
-module _ {D : Type 0} (g : Ghosts D) where
-  none_folds : (b : Base D) (c : Image) → IsQuiet g b → c ≡ g.reads b.disk → FoldsFront (state_of (stored_of g b)) (waiting_of b) c
+module _ {D O : Type 0} (g : Ghosts D) where
+  none_folds : (b : Base D O) (c : Image) → IsQuiet g b → c ≡ g.reads b.disk → FoldsFront (state_of (stored_of g b)) (waiting_of b) c
   none_folds b c quiet is = (0, record { root = b.root; sound = subst (IsSound b.root) (sym is) quiet.sound; state_is = ap (λ (i : Image). state_of (stored_in b.root i)) is })
 
   -- ---- nothing happens
 
-  pub quiet_leaves : ((d : D) (c : Image) → g.since d (g.moment_of d) c → g.images d c) → (b : Base D) → IsQuiet g b → LeavesBase g b b
+  pub quiet_leaves : ((d : D) (c : Image) → g.since d (g.moment_of d) c → g.images d c) → (b : Base D O) → IsQuiet g b → LeavesBase g b b
   quiet_leaves only_now b quiet = starts g b.disk (FoldsFront (state_of (stored_of g b)) (waiting_of b)) (g.images b.disk) (only_now b.disk) (λ c is. none_folds b c quiet (quiet.only c is))
 
   -- all that is stored is as it was
-  pub same_moves : (a b : Base D) → b.root ≡ a.root → stored_of g b ≡ stored_of g a → b.log.buffered ≡ a.log.buffered → MovesBase g a b
+  pub same_moves : (a b : Base D O) → b.root ≡ a.root → stored_of g b ≡ stored_of g a → b.log.buffered ≡ a.log.buffered → MovesBase g a b
   same_moves a b root stored waits =
       let both : now_of g b ≡ now_of g a = ap (λ (l : List (List ℕ)). with_more (records_in l) (stored_of g b)) waits ∙ ap (with_more (waiting_of a)) stored in
       record {
@@ -133,15 +149,15 @@ module _ {D : Type 0} (g : Ghosts D) where
         pages = λ q. ap (λ (s : Stored). overlaid q s.first s.records (s.homes q)) both;
       }
 
-  pub stands_still : (b : Base D) → MovesBase g b b
+  pub stands_still : (b : Base D O) → MovesBase g b b
   stands_still b = same_moves b b refl refl refl
 
-  pub holds_still : (b : Base D) → HoldsStill (home_of g) (MaySave g) b b
-  holds_still b = record { same = λ q. refl; still = λ q since v may. may }
+  pub holds_still : (first : Image) (b : Base D O) → HoldsStill (home_of g) (MayPut first g) b b
+  holds_still first b = record { same = λ q. refl; still = λ q since v may. may }
 
   -- ---- one change behind another
 
-  pub leaves_joined : (a b c : Base D) → MovesBase g a b → LeavesBase g a b → LeavesBase g b c → LeavesBase g a c
+  pub leaves_joined : (a b c : Base D O) → MovesBase g a b → LeavesBase g a b → LeavesBase g b c → LeavesBase g a c
   leaves_joined a b c m ab bc =
       let ws = waiting_of a in
       let s = state_of (stored_of g a) in
@@ -151,7 +167,7 @@ module _ {D : Type 0} (g : Ghosts D) where
       front_of_rest m.j ws s i (subst (λ (l : List Record). FoldsFront (steps (take m.j ws) s) l i) m.waiting (subst (λ (t : State). FoldsFront t (waiting_of b) i) m.hardened q)) in
       joined g a.disk b.disk c.disk P ab (weaker g b.disk c.disk Q P bc within)
 
-  pub moves_joined : (a b c : Base D) → MovesBase g a b → MovesBase g b c → MovesBase g a c
+  pub moves_joined : (a b c : Base D O) → MovesBase g a b → MovesBase g b c → MovesBase g a c
   moves_joined a b c m n =
       let ws = waiting_of a in
       let s = state_of (stored_of g a) in
@@ -169,14 +185,14 @@ module _ {D : Type 0} (g : Ghosts D) where
 
   -- ---- a read
 
-  pub read_leaves : (a : Base D) (d : D) → IsQuiet g a → OnlyReads g a.disk d → LeavesOnly g a.disk d (FoldsFront (state_of (stored_of g a)) (waiting_of a))
+  pub read_leaves : (a : Base D O) (d : D) → IsQuiet g a → OnlyReads g a.disk d → LeavesOnly g a.disk d (FoldsFront (state_of (stored_of g a)) (waiting_of a))
   read_leaves a d quiet reads =
       weaker g a.disk d (g.images a.disk) (FoldsFront (state_of (stored_of g a)) (waiting_of a)) reads.any_moment (λ c is. none_folds a c quiet (quiet.only c is))
 
-  pub read_moves : (a : Base D) (d : D) → OnlyReads g a.disk d → MovesBase g a (record a { disk = d })
+  pub read_moves : (a : Base D O) (d : D) → OnlyReads g a.disk d → MovesBase g a (record a { disk = d })
   read_moves a d reads = same_moves a (record a { disk = d }) refl (ap (stored_in a.root) reads.same) refl
 
-  pub read_quiet : (a : Base D) (d : D) → IsQuiet g a → OnlyReads g a.disk d → IsQuiet g (record a { disk = d })
+  pub read_quiet : (a : Base D O) (d : D) → IsQuiet g a → OnlyReads g a.disk d → IsQuiet g (record a { disk = d })
   read_quiet a d quiet reads =
       let same = reads.same in record {
         only = still_only g a.disk d reads quiet.only;
@@ -187,7 +203,7 @@ module _ {D : Type 0} (g : Ghosts D) where
       }
 
   -- what might be saved might be still, where all that is stored and waits is as it was
-  pub saves_same : (a b : Base D) (p since : ℕ) (v : PageHeld) → b.root ≡ a.root → stored_of g b ≡ stored_of g a → b.log.buffered ≡ a.log.buffered → MaySave g a p since v → MaySave g b p since v
+  pub saves_same : (a b : Base D O) (p since : ℕ) (v : PageHeld) → b.root ≡ a.root → stored_of g b ≡ stored_of g a → b.log.buffered ≡ a.log.buffered → MaySave g a p since v → MaySave g b p since v
   saves_same a b p since v root stored waits may =
       let both : now_of g b ≡ now_of g a = ap (λ (l : List (List ℕ)). with_more (records_in l) (stored_of g b)) waits ∙ ap (with_more (waiting_of a)) stored in
       record {
@@ -199,7 +215,7 @@ module _ {D : Type 0} (g : Ghosts D) where
             may.is;
       }
 
-  pub read_holds : (a : Base D) (d : D) → OnlyReads g a.disk d → HoldsStill (home_of g) (MaySave g) a (record a { disk = d })
+  pub read_holds : (a : Base D O) (d : D) → OnlyReads g a.disk d → HoldsStill (home_of g) (MaySave g) a (record a { disk = d })
   read_holds a d reads =
       let stored = ap (stored_in a.root) reads.same in record {
         same = λ q. ap (λ (s : Stored). s.homes q) stored;
@@ -208,7 +224,7 @@ module _ {D : Type 0} (g : Ghosts D) where
 
   -- ---- a flush
 
-  pub flush_leaves : (a : Base D) (d : D) → IsQuiet g a → LeavesOnly g a.disk d (KeepsPrefix a.log.file a.root.file a.root.first a.log.buffered (g.reads a.disk))
+  pub flush_leaves : (a : Base D O) (d : D) → IsQuiet g a → LeavesOnly g a.disk d (KeepsPrefix a.log.file a.root.file a.root.first a.log.buffered (g.reads a.disk))
       → LeavesOnly g a.disk d (FoldsFront (state_of (stored_of g a)) (waiting_of a))
   flush_leaves a d quiet crash =
       let w = quiet.writes in
@@ -216,7 +232,7 @@ module _ {D : Type 0} (g : Ghosts D) where
       (λ c keeps. folds_flushed a.root a.log.file a.log.buffered (g.reads a.disk) c quiet.sound (by_is_log a.log.older a.root.file a.root.first a.log (g.reads a.disk) w.by) keeps)
 
   -- what a flush that was answered Ok made
-  pub record Flushed (a b : Base D) : Type 0 where
+  pub record Flushed (a b : Base D O) : Type 0 where
     pub root : b.root ≡ a.root
     pub file : b.log.file ≡ a.log.file
     pub none : b.log.buffered ≡ []
@@ -224,21 +240,21 @@ module _ {D : Type 0} (g : Ghosts D) where
     pub durable : b.durable ≡ b.log.first + length b.log.buffered
     pub goes_on : GoesOnWith a.root.file a.root.first a.log.buffered b.log (g.reads a.disk) (g.reads b.disk)
 
-  homes_kept : (a b : Base D) → IsQuiet g a → Flushed a b → KeepsHomes (g.reads a.disk) (g.reads b.disk)
+  homes_kept : (a b : Base D O) → IsQuiet g a → Flushed a b → KeepsHomes (g.reads a.disk) (g.reads b.disk)
   homes_kept a b quiet f =
       let w = quiet.writes in
       logs_apart b.log.file (g.reads a.disk) (g.reads b.disk) (subst IsLogFile (sym f.file) (by_is_log a.log.older a.root.file a.root.first a.log (g.reads a.disk) w.by)) f.goes_on.others
 
-  stored_flushed : (a b : Base D) → IsQuiet g a → Flushed a b → stored_of g b ≡ with_more (waiting_of a) (stored_of g a)
+  stored_flushed : (a b : Base D O) → IsQuiet g a → Flushed a b → stored_of g b ≡ with_more (waiting_of a) (stored_of g a)
   stored_flushed a b quiet f =
       ap (λ (r : Root). stored_in r (g.reads b.disk)) f.root ∙ more_stored a.root a.log.buffered (g.reads a.disk) (g.reads b.disk) (homes_kept a b quiet f) f.goes_on.log_is
 
-  now_flushed : (a b : Base D) → IsQuiet g a → Flushed a b → now_of g b ≡ now_of g a
+  now_flushed : (a b : Base D O) → IsQuiet g a → Flushed a b → now_of g b ≡ now_of g a
   now_flushed a b quiet f =
       ap (λ (l : List (List ℕ)). with_more (records_in l) (stored_of g b)) f.none ∙ ap (with_more []) (stored_flushed a b quiet f)
       ∙ ap (λ (l : List Record). record (stored_of g a) { records = l }) (append-nil ((stored_of g a).records ++ waiting_of a))
 
-  pub flush_moves : (a b : Base D) → IsQuiet g a → Flushed a b → MovesBase g a b
+  pub flush_moves : (a b : Base D O) → IsQuiet g a → Flushed a b → MovesBase g a b
   flush_moves a b quiet f =
       let ws = waiting_of a in
       let s = stored_of g a in
@@ -254,7 +270,7 @@ module _ {D : Type 0} (g : Ghosts D) where
         pages = λ q. ap (λ (x : Stored). overlaid q x.first x.records (x.homes q)) both;
       }
 
-  pub flush_quiet : (a b : Base D) → IsQuiet g a → Flushed a b → IsDurable g b.disk → IsQuiet g b
+  pub flush_quiet : (a b : Base D O) → IsQuiet g a → Flushed a b → IsDurable g b.disk → IsQuiet g b
   flush_quiet a b quiet f only =
       let old = g.reads a.disk in
       let new = g.reads b.disk in
@@ -272,7 +288,7 @@ module _ {D : Type 0} (g : Ghosts D) where
         first = omega (arith, f.next, first, next);
       }
 
-  pub flush_holds : (a b : Base D) → IsQuiet g a → Flushed a b → HoldsStill (home_of g) (MaySave g) a b
+  pub flush_holds : (a b : Base D O) → IsQuiet g a → Flushed a b → HoldsStill (home_of g) (MaySave g) a b
   flush_holds a b quiet f =
       let stored = stored_flushed a b quiet f in
       let both = now_flushed a b quiet f in
@@ -294,7 +310,7 @@ module _ {D : Type 0} (g : Ghosts D) where
       }
 
   -- what may be saved is durable behind a flush
-  pub flush_durable : (a b : Base D) (p since : ℕ) (v : PageHeld) → IsQuiet g a → Flushed a b → IsQuiet g b → MaySave g a p since v → v.lsn < b.durable
+  pub flush_durable : (a b : Base D O) (p since : ℕ) (v : PageHeld) → IsQuiet g a → Flushed a b → IsQuiet g b → MaySave g a p since v → v.lsn < b.durable
   flush_durable a b p since v quiet f quiet_b may =
       let low = may.low in
       let durable = quiet_b.durable in
@@ -302,7 +318,7 @@ module _ {D : Type 0} (g : Ghosts D) where
 
   -- ---- a page's writing
 
-  pub may_stand : (a : Base D) (p since : ℕ) (v : PageHeld) → IsQuiet g a → MaySave g a p since v → v.lsn < a.durable → MayStand a.root (g.reads a.disk) p (value p v)
+  pub may_stand : (a : Base D O) (p since : ℕ) (v : PageHeld) → IsQuiet g a → MaySave g a p since v → v.lsn < a.durable → MayStand a.root (g.reads a.disk) p (value p v)
   may_stand a p since v quiet may low =
       let s = stored_of g a in
       let ws = waiting_of a in
@@ -319,57 +335,24 @@ module _ {D : Type 0} (g : Ghosts D) where
             may.is;
       }
 
-  pub home_leaves : (a : Base D) (d : D) (p since : ℕ) (v : PageHeld) → IsQuiet g a → MaySave g a p since v → v.lsn < a.durable
+  pub home_leaves : (a : Base D O) (d : D) (p since : ℕ) (v : PageHeld) → IsQuiet g a → MaySave g a p since v → v.lsn < a.durable
       → LeavesOnly g a.disk d (IsOldOrNewValue (Page p) (value p v) (g.reads a.disk)) → LeavesOnly g a.disk d (FoldsFront (state_of (stored_of g a)) (waiting_of a))
   home_leaves a d p since v quiet may low crash =
       weaker g a.disk d (IsOldOrNewValue (Page p) (value p v) (g.reads a.disk)) (FoldsFront (state_of (stored_of g a)) (waiting_of a)) crash
       (λ c which. (0, folds_written a.root p (value p v) (g.reads a.disk) c quiet.sound (may_stand a p since v quiet may low) which))
 
-  module _ (a : Base D) (d : D) (p since : ℕ) (v : PageHeld) (quiet : IsQuiet g a) (may : MaySave g a p since v) (low : v.lsn < a.durable) (others : OthersStay (Page p) (g.reads a.disk) (g.reads d))
-      (is : value_of (Page p) (g.reads d) ≡ Some (value p v)) where
-    abbrev b : Base D
-    b = record a { disk = d }
-
+  -- whatever the log held, a page's writing leaves it and the other pages
+  module _ (a : Base D O) (d : D) (p : ℕ) (v : PageHeld) (counted : p < a.root.pages) (others : OthersStay (Page p) (g.reads a.disk) (g.reads d)) (is : value_of (Page p) (g.reads d) ≡ Some (value p v)) where
     same_logs : KeepsLogs (g.reads a.disk) (g.reads d)
     same_logs = pages_apart (g.reads a.disk) (g.reads d) others.files
 
-    homes_are : (q : ℕ) → home_of g b q ≡ home_put p v (home_of g a) q
-    homes_are = home_written a.root.pages p (value p v) (g.reads a.disk) (g.reads d) may.counted others is
+    homes_are : (q : ℕ) → home_of g (record a { disk = d }) q ≡ home_put p v (home_of g a) q
+    homes_are = home_written a.root.pages p (value p v) (g.reads a.disk) (g.reads d) counted others is
 
     log_same : kept_log a.root.file a.root.first (g.reads d) ≡ kept_log a.root.file a.root.first (g.reads a.disk)
     log_same = kept_same a.root.file a.root.first (g.reads a.disk) (g.reads d) same_logs
 
-    stands : MayStand a.root (g.reads a.disk) p (value p v)
-    stands = may_stand a p since v quiet may low
-
-    pub home_moves : MovesBase g a b
-    home_moves =
-        let s = stored_of g a in
-        let ws = waiting_of a in
-        record {
-          j = 0;
-          at_most = omega arith;
-          waiting = refl;
-          hardened = state_written a.root p (value p v) (g.reads a.disk) (g.reads d) stands others is;
-          now = state_with_more a.root ws (home_put p v (home_of g a)) (g.reads a.disk) (g.reads d) same_logs homes_are ∙ state_swapped p v ws s stands.same;
-          root = refl;
-          all = ap (λ (l : List (List ℕ)). records_in l ++ ws) log_same;
-          pages = λ q. ap (λ (l : List (List ℕ)). overlaid q a.root.first (records_in l ++ ws) (home_of g b q)) log_same ∙ ap (overlaid q a.root.first (s.records ++ ws)) (homes_are q)
-              ∙ page_swapped p a.root.first s.records ws v (home_of g a) stands.same q;
-        }
-
-    pub home_quiet : IsDurable g d → IsQuiet g b
-    home_quiet only =
-        let next = next_same a.root (g.reads a.disk) (g.reads d) same_logs in
-        record {
-          only = only;
-          sound = sound_written a.root p (value p v) (g.reads a.disk) (g.reads d) quiet.sound stands others is;
-          writes = writes_same a.root.file a.root.first a.log (g.reads a.disk) (g.reads d) same_logs quiet.writes;
-          durable = quiet.durable ∙ sym next;
-          first = quiet.first ∙ sym next;
-        }
-
-    pub is_home : IsHome g p v a b
+    pub is_home : IsHome g p v a (record a { disk = d })
     is_home = record {
       there = homes_are p ∙ put_there p v (home_of g a);
       others = λ q other. homes_are q ∙ put_elsewhere p q v (home_of g a) other;
@@ -378,36 +361,132 @@ module _ {D : Type 0} (g : Ghosts D) where
       root = refl;
     }
 
+    pub stands_written : Stands g a → Stands g (record a { disk = d })
+    stands_written stands =
+        let goes = stands.goes_on in
+        let more = others.no_shorter in
+        let size = stands.size in
+        record {
+          file = stands.file;
+          goes_on = (goes.0, goes.1, goes_on_same goes.0 goes.1 a.log (g.reads a.disk) (g.reads d) (log_content a.log.file (g.reads a.disk) (g.reads d) stands.file same_logs) goes.2);
+          size = omega (arith, more, size);
+        }
+
+  module _ (a : Base D O) (d : D) (p since : ℕ) (v : PageHeld) (quiet : IsQuiet g a) (may : MaySave g a p since v) (low : v.lsn < a.durable) (others : OthersStay (Page p) (g.reads a.disk) (g.reads d))
+      (is : value_of (Page p) (g.reads d) ≡ Some (value p v)) where
+    abbrev b : Base D O
+    b = record a { disk = d }
+
+    logs : KeepsLogs (g.reads a.disk) (g.reads d)
+    logs = same_logs a d p v may.counted others is
+
+    stands : MayStand a.root (g.reads a.disk) p (value p v)
+    stands = may_stand a p since v quiet may low
+
+    pub home_moves : MovesBase g a b
+    home_moves =
+        let s = stored_of g a in
+        let ws = waiting_of a in
+        let log = log_same a d p v may.counted others is in
+        let homes = homes_are a d p v may.counted others is in
+        record {
+          j = 0;
+          at_most = omega arith;
+          waiting = refl;
+          hardened = state_written a.root p (value p v) (g.reads a.disk) (g.reads d) stands others is;
+          now = state_with_more a.root ws (home_put p v (home_of g a)) (g.reads a.disk) (g.reads d) logs homes ∙ state_swapped p v ws s stands.same;
+          root = refl;
+          all = ap (λ (l : List (List ℕ)). records_in l ++ ws) log;
+          pages = λ q. ap (λ (l : List (List ℕ)). overlaid q a.root.first (records_in l ++ ws) (home_of g b q)) log ∙ ap (overlaid q a.root.first (s.records ++ ws)) (homes q)
+              ∙ page_swapped p a.root.first s.records ws v (home_of g a) stands.same q;
+        }
+
+    pub home_quiet : IsDurable g d → IsQuiet g b
+    home_quiet only =
+        let next = next_same a.root (g.reads a.disk) (g.reads d) logs in
+        record {
+          only = only;
+          sound = sound_written a.root p (value p v) (g.reads a.disk) (g.reads d) quiet.sound stands others is;
+          writes = writes_same a.root.file a.root.first a.log (g.reads a.disk) (g.reads d) logs quiet.writes;
+          durable = quiet.durable ∙ sym next;
+          first = quiet.first ∙ sym next;
+        }
+
   -- what a page's writing puts below the pool, where it was held and might be saved as before
-  pub puts_home : (a m b : Base D) (p : ℕ) (v : PageHeld) → HoldsStill (home_of g) (MaySave g) a m → IsHome g p v m b → Puts (home_of g) (MaySave g) p v a b
-  puts_home a m b p v holds home = record {
+  pub puts_home : (first : Image) (a m b : Base D O) (p : ℕ) (v : PageHeld) → HoldsStill (home_of g) (MayPut first g) a m → IsHome g p v m b → Puts (home_of g) (MayPut first g) p v a b
+  puts_home first a m b p v holds home = record {
     there = home.there;
     others = λ q other. home.others q other ∙ holds.same q;
-    still = λ q since w other may. goes_on q since w other (holds.still q since w may);
+    still = λ q since w other may. still q since w other (holds.still q since w may);
   }
     where
-      first : b.root.first ≡ m.root.first
-      first = ap (λ (r : Root). r.first) home.root
+      from : b.root.first ≡ m.root.first
+      from = ap (λ (r : Root). r.first) home.root
 
       records : (now_of g b).records ≡ (now_of g m).records
       records = ap (λ (l : List Record). l ++ waiting_of b) home.records ∙ ap (λ (l : Log). (stored_of g m).records ++ records_in l.buffered) home.log
 
-      goes_on : (q since : ℕ) (w : PageHeld) → q ≢ p → MaySave g m q since w → MaySave g b q since w
-      goes_on q since w other may =
+      saves : (q since : ℕ) (w : PageHeld) → q ≢ p → MaySave g m q since w → MaySave g b q since w
+      saves q since w other may =
           let held = home.others q other in
           record {
             counted = subst (λ (r : Root). q < r.pages) (sym home.root) may.counted;
             above = subst (λ (h : PageHeld). h.lsn < w.lsn) (sym held) may.above;
-            low = let was = may.low in omega (arith, was, first, ap (λ (l : List Record). length l) records);
-            is = ⊎_elim (λ all. inl (all ∙ sym (three (λ n l h. overlaid q n l h) first records held)))
-                (λ same. inr (three (λ n l h. overlaid q n l h) first home.records refl ∙ same ∙ sym (three (λ n l h. overlaid q n l h) first home.records held)))
+            low = let was = may.low in omega (arith, was, from, ap (λ (l : List Record). length l) records);
+            is = ⊎_elim (λ all. inl (all ∙ sym (three (λ n l h. overlaid q n l h) from records held)))
+                (λ same. inr (three (λ n l h. overlaid q n l h) from home.records refl ∙ same ∙ sym (three (λ n l h. overlaid q n l h) from home.records held)))
                 may.is;
           }
 
-pub base_kept : {D : Type 0} (b : Base D) → KeepsBase b b
+      still : (q since : ℕ) (w : PageHeld) → q ≢ p → MayPut first g m q since w → MayPut first g b q since w
+      still q since w other may = record {
+        counted = subst (λ (r : Root). q < r.pages) (sym home.root) may.counted;
+        above = subst (λ (h : PageHeld). h.lsn < w.lsn) (sym (home.others q other)) may.above;
+        sound = λ s. saves q since w other (may.sound s);
+      }
+
+  -- ---- what holds of every disk
+
+  -- all is held, where the homes are as they were
+  pub holds_if : (first : Image) (a b : Base D O) → b.root ≡ a.root → ((q : ℕ) → home_of g b q ≡ home_of g a q) → (IsSoundImage first → HoldsStill (home_of g) (MaySave g) a b) → HoldsStill (home_of g) (MayPut first g) a b
+  holds_if first a b root same sound = record {
+    same = same;
+    still = λ q since v may.
+        record {
+          counted = subst (λ (r : Root). q < r.pages) (sym root) may.counted;
+          above = subst (λ (h : PageHeld). h.lsn < v.lsn) (sym (same q)) may.above;
+          sound = λ s. (sound s).still q since v (may.sound s);
+        };
+  }
+
+  pub rests_leaves : (first : Image) → ((d : D) (c : Image) → g.since d (g.moment_of d) c → g.images d c) → (b : Base D O) → Rests first g b → LeavesIf first g b b
+  rests_leaves first only_now b rests sound = quiet_leaves only_now b (rests.quiet sound)
+
+  -- what a read leaves
+  pub stands_read : (a : Base D O) (d : D) → g.reads d ≡ g.reads a.disk → Stands g a → Stands g (record a { disk = d })
+  stands_read a d same stands = record {
+    file = stands.file;
+    goes_on = subst (λ (i : Image). (oldest : ℕ) × (bs : Batches) × GoesOn oldest bs a.log i) (sym same) stands.goes_on;
+    size = subst (λ (i : Image). 8256 * a.root.pages ≤ length (content Pages i)) (sym same) stands.size;
+  }
+
+  -- what a flush leaves, that changes one file of the log
+  pub stands_flushed : (a b : Base D O) → Stands g a → b.root ≡ a.root → b.log.file ≡ a.log.file → KeepsHomes (g.reads a.disk) (g.reads b.disk) → (oldest : ℕ) (bs : Batches) → GoesOn oldest bs b.log (g.reads b.disk) → Stands g b
+  stands_flushed a b stands root file kept oldest bs goes =
+      let size = stands.size in
+      record {
+        file = subst IsLogFile (sym file) stands.file;
+        goes_on = (oldest, bs, goes);
+        size = omega (arith, size, ap (λ (r : Root). r.pages) root, ap (λ (l : List ℕ). length l) kept.pages);
+      }
+
+  pub homes_flushed : (a b : Base D O) → b.root ≡ a.root → KeepsHomes (g.reads a.disk) (g.reads b.disk) → (q : ℕ) → home_of g b q ≡ home_of g a q
+  homes_flushed a b root kept q = ap (λ (r : Root). home_in r.pages (g.reads b.disk) q) root ∙ home_same a.root.pages q (g.reads a.disk) (g.reads b.disk) kept.pages
+
+pub base_kept : {D O : Type 0} (b : Base D O) → KeepsBase b b
 base_kept b = record { root = refl; room = omega arith; next = refl; few = omega arith }
 
-pub base_kept_on : {D : Type 0} (a b c : Base D) → KeepsBase a b → KeepsBase b c → KeepsBase a c
+pub base_kept_on : {D O : Type 0} (a b c : Base D O) → KeepsBase a b → KeepsBase b c → KeepsBase a c
 base_kept_on a b c ab bc =
     let m = ab.room in
     let n = bc.room in

@@ -2,32 +2,33 @@
 ghost use Rattle.std.specs.Prelude.{◌≡◌, ◌≢◌, ◌<◌, ◌≤◌, IsTrue, IfOk, IfErr, OnOk, length};
 
 use crate::base::Base;
+use crate::origin::Origin;
 use ctr_disk::{Disk, StoreFault};
 use ctr_log::Lsn;
 use ctr_pool::Backing;
 use ctr_records::PageNo;
 
-impl<D: Disk> Backing for Base<D> {
+impl<D: Disk, O: Origin> Backing for Base<D, O> {
     ghost use Rattle.ctr_disk.specs.declared.fault.StoreFault.TheVariants.{Fault};
     ghost use Rattle.std.specs.Prelude.{◌≡◌};
-    ghost use Rattle.ctr_base.specs.Base.{home_of, MaySave, IsQuiet, LeavesBase, MovesBase, KeepsBase};
-    ghost use Rattle.ctr_base.specs.BaseLaws.{quiet_leaves, stands_still, base_kept, base_kept_on, leaves_joined, moves_joined};
+    ghost use Rattle.ctr_base.specs.Base.{home_of, MayPut, IsSoundImage, Rests, LeavesIf, MovesIf, KeepsBase};
+    ghost use Rattle.ctr_base.specs.BaseLaws.{rests_leaves, stands_still, base_kept, base_kept_on, leaves_joined, moves_joined};
 
     ghost tells = { D.tells };
 
     ghost held = { home_of D.Disk };
 
-    ghost takes = { MaySave D.Disk };
+    ghost takes = { MayPut O.first D.Disk };
 
-    ghost rests = { IsQuiet D.Disk };
+    ghost rests = { Rests O.first D.Disk };
 
-    ghost goes = { LeavesBase D.Disk };
+    ghost goes = { LeavesIf O.first D.Disk };
 
-    ghost moves = { MovesBase D.Disk };
+    ghost moves = { MovesIf O.first D.Disk };
 
     ghost keeps = { KeepsBase };
 
-    ghost fails = { λ _ _ e. e ≡ Fault };
+    ghost fails = { λ _ _ e. IsSoundImage O.first → e ≡ Fault };
 
     ghost faults_of = { λ b. D.faults_of b.disk };
 
@@ -45,17 +46,17 @@ impl<D: Disk> Backing for Base<D> {
         self.disk.faults()
     }
 
-    ghost stays = { λ b told quiet. quiet_leaves D.Disk.own D.only_now b quiet };
+    ghost stays = { λ b told rests. rests_leaves D.Disk.own O.first D.only_now b rests };
 
     ghost kept = { base_kept };
 
     ghost kept_on = { base_kept_on };
 
-    ghost stands = { stands_still D.Disk.own };
+    ghost stands = { λ b sound. stands_still D.Disk.own b };
 
-    ghost joined = { leaves_joined D.Disk.own };
+    ghost joined = { λ a b c m ab bc sound. leaves_joined D.Disk.own a b c (m sound) (ab sound) (bc sound) };
 
-    ghost moved = { moves_joined D.Disk.own };
+    ghost moved = { λ a b c m n sound. moves_joined D.Disk.own a b c (m sound) (n sound) };
 
     ghost failed = { λ a b c e moved is. is };
 }

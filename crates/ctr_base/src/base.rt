@@ -1,35 +1,41 @@
 // The log with what waits in it, and the homes.
-ghost use Rattle.std.specs.Prelude.{◌≡◌, ◌<◌, ◌≤◌, ◌+◌, IsTrue, ℕ, [], length, Err, IfOk, OnOk, OnErr};
+ghost use Rattle.std.specs.Prelude.{◌≡◌, ◌<◌, ◌≤◌, ◌+◌, IsTrue, ℕ, [], length, Err, IfOk, IfErr, OnOk, OnErr};
 ghost use Rattle.ctr_types.specs.Faults.{HasFault};
+ghost use Rattle.ctr_disk.specs.Device.{OnlyReads};
 ghost use Rattle.ctr_disk.specs.declared.fault.StoreFault.TheVariants.{Fault};
 
+use crate::origin::Origin;
+use ctr_bytes::get_u64;
 use ctr_disk::{Disk, Root, StoreFault};
-use ctr_home::{Block, read_page, write_home};
+use ctr_home::{Block, Home, read_page, write_home};
 use ctr_log::{LogFile, Lsn};
 use ctr_records::PageNo;
+use ctr_types::File;
+use std::marker::PhantomData;
 
-/// A disk, the writer of its log, and what its root says.
+/// A disk, the writer of its log, and what its root says. The type names what a read of the disk gave when it was opened.
 #[derive(Drop)]
-pub struct Base<D> {
+pub struct Base<D, O> {
     pub disk: D,
     pub log: LogFile,
     pub root: Root,
     /// The LSN behind the last record that is durable.
     pub durable: Lsn,
+    pub of: PhantomData<O>,
 }
 
-impl<D: Disk> Base<D> {
+impl<D: Disk, O: Origin> Base<D, O> {
     ghost use Rattle.ctr_pool.specs.Pages.{PageHeld};
     ghost use Rattle.ctr_pool.specs.Below.{HoldsStill};
-    ghost use Rattle.ctr_base.specs.Base.{home_of, MaySave, IsQuiet, LeavesBase, MovesBase, KeepsBase, IsHome};
+    ghost use Rattle.ctr_base.specs.Base.{home_of, MaySave, MayPut, IsSoundImage, Rests, LeavesIf, MovesIf, KeepsBase, IsHome};
 
     /// Makes what waits durable.
     pub fn flush(&mut self) -> Result<(), StoreFault>
-        requires { IsTrue D.tells → IsQuiet D.Disk self.old }
+        requires { IsTrue D.tells → Rests O.first D.Disk self.old }
         ensures keeps { KeepsBase self.old self.new }
-        ensures goes { IsTrue D.tells → LeavesBase D.Disk self.old self.new }
-        ensures moves { IsTrue D.tells → OnOk result (MovesBase D.Disk self.old self.new × IsQuiet D.Disk self.new) }
-        ensures holds { IsTrue D.tells → OnOk result (HoldsStill (home_of D.Disk) (MaySave D.Disk) self.old self.new) }
+        ensures goes { IsTrue D.tells → LeavesIf O.first D.Disk self.old self.new }
+        ensures moves { IsTrue D.tells → OnOk result (MovesIf O.first D.Disk self.old self.new × Rests O.first D.Disk self.new) }
+        ensures holds { IsTrue D.tells → OnOk result (HoldsStill (home_of D.Disk) (MayPut O.first D.Disk) self.old self.new) }
         ensures none { OnOk result (self.new.log.buffered ≡ []) }
         ensures refused { OnErr result (result ≡ Err Fault) }
         ensures faults { HasFault Fault (D.faults_of self.old.disk) (D.faults_of self.new.disk) result }
@@ -41,12 +47,12 @@ impl<D: Disk> Base<D> {
 
     // Makes what waits durable where this record does.
     pub(crate) fn make_durable(&mut self, lsn: Lsn) -> Result<(), StoreFault>
-        requires { IsTrue D.tells → IsQuiet D.Disk self.old }
+        requires { IsTrue D.tells → Rests O.first D.Disk self.old }
         ensures keeps { KeepsBase self.old self.new }
-        ensures goes { IsTrue D.tells → LeavesBase D.Disk self.old self.new }
-        ensures moves { IsTrue D.tells → OnOk result (MovesBase D.Disk self.old self.new × IsQuiet D.Disk self.new) }
-        ensures holds { IsTrue D.tells → OnOk result (HoldsStill (home_of D.Disk) (MaySave D.Disk) self.old self.new) }
-        ensures durable { IsTrue D.tells → OnOk result ((p since : ℕ) (h : PageHeld) → MaySave D.Disk self.old p since h → h.lsn ≡ lsn → h.lsn < self.new.durable) }
+        ensures goes { IsTrue D.tells → LeavesIf O.first D.Disk self.old self.new }
+        ensures moves { IsTrue D.tells → OnOk result (MovesIf O.first D.Disk self.old self.new × Rests O.first D.Disk self.new) }
+        ensures holds { IsTrue D.tells → OnOk result (HoldsStill (home_of D.Disk) (MayPut O.first D.Disk) self.old self.new) }
+        ensures durable { IsTrue D.tells → OnOk result ((p since : ℕ) (h : PageHeld) → IsSoundImage O.first → MaySave D.Disk self.old p since h → h.lsn ≡ lsn → h.lsn < self.new.durable) }
         ensures refused { OnErr result (result ≡ Err Fault) }
         ensures faults { HasFault Fault (D.faults_of self.old.disk) (D.faults_of self.new.disk) result }
     {
@@ -60,10 +66,11 @@ impl<D: Disk> Base<D> {
     // Writes a page home whose records are durable.
     pub(crate) fn put_home(&mut self, page: PageNo, lsn: Lsn, body: &[u8]) -> Result<(), StoreFault>
         requires whole { length body.now ≡ 4096 }
-        requires told { IsTrue D.tells → IsQuiet D.Disk self.old × ((since : ℕ) × MaySave D.Disk self.old page since (record { lsn = lsn; body = body.now })) × (lsn < self.old.durable) }
+        requires told { IsTrue D.tells → Rests O.first D.Disk self.old × ((since : ℕ) × MayPut O.first D.Disk self.old page since (record { lsn = lsn; body = body.now })) }
+        requires durable { IsTrue D.tells → IsSoundImage O.first → lsn < self.old.durable }
         ensures keeps { KeepsBase self.old self.new }
-        ensures goes { IsTrue D.tells → LeavesBase D.Disk self.old self.new }
-        ensures moves { IsTrue D.tells → OnOk result (MovesBase D.Disk self.old self.new × IsQuiet D.Disk self.new) }
+        ensures goes { IsTrue D.tells → LeavesIf O.first D.Disk self.old self.new }
+        ensures moves { IsTrue D.tells → OnOk result (MovesIf O.first D.Disk self.old self.new × Rests O.first D.Disk self.new) }
         ensures home { IsTrue D.tells → OnOk result (IsHome D.Disk page (record { lsn = lsn; body = body.now }) self.old self.new) }
         ensures refused { OnErr result (result ≡ Err Fault) }
         ensures faults { HasFault Fault (D.faults_of self.old.disk) (D.faults_of self.new.disk) result }
@@ -77,13 +84,30 @@ impl<D: Disk> Base<D> {
         requires { length into.old ≡ 4096 }
         ensures keeps { KeepsBase self.old self.new }
         ensures told { IsTrue D.tells → IfOk result (λ lsn. home_of D.Disk self.old page ≡ record { lsn = lsn; body = into.new }) }
-        ensures holds { IsTrue D.tells → HoldsStill (home_of D.Disk) (MaySave D.Disk) self.old self.new }
-        ensures goes { IsTrue D.tells → IsQuiet D.Disk self.old → LeavesBase D.Disk self.old self.new }
-        ensures moves { IsTrue D.tells → IsQuiet D.Disk self.old → MovesBase D.Disk self.old self.new × IsQuiet D.Disk self.new }
-        ensures refused { IsTrue D.tells → IsQuiet D.Disk self.old → OnErr result (result ≡ Err Fault) }
+        ensures holds { IsTrue D.tells → HoldsStill (home_of D.Disk) (MayPut O.first D.Disk) self.old self.new }
+        ensures goes { IsTrue D.tells → Rests O.first D.Disk self.old → LeavesIf O.first D.Disk self.old self.new }
+        ensures moves { IsTrue D.tells → Rests O.first D.Disk self.old → MovesIf O.first D.Disk self.old self.new × Rests O.first D.Disk self.new }
+        ensures refused { IsTrue D.tells → Rests O.first D.Disk self.old → IfErr result (λ e. IsSoundImage O.first → e ≡ Fault) }
         ensures faults { HasFault Fault (D.faults_of self.old.disk) (D.faults_of self.new.disk) result }
     {
         read_page(&mut self.disk, self.root.pages, page, into)
+    }
+
+    /// Where the stamp of a page's value stands in the file of pages, which is this one.
+    pub fn stamp_place(&mut self, page: PageNo, stamp: u64) -> Result<u64, StoreFault>
+        ensures read { OnlyReads D.Disk self.old.disk self.new.disk }
+        ensures same { self.new ≡ record self.old { disk = self.new.disk } }
+        ensures refused { OnErr result (result ≡ Err Fault) }
+        ensures faults { HasFault Fault (D.faults_of self.old.disk) (D.faults_of self.new.disk) result }
+    {
+        let block = Block::Page(page);
+        let at = block.at(Home::First);
+        let mut head = [0; 13];
+        self.disk.read(File::Pages, at, &mut head)?;
+        if head[0] == 1 && get_u64(&head, 5) == stamp {
+            return Ok(at + 5);
+        }
+        Ok(block.at(Home::Second) + 5)
     }
 
     /// The number of the next record.

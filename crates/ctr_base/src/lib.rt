@@ -6,6 +6,8 @@
 mod backed;
 mod base;
 mod opening;
+mod origin;
 
 pub use base::Base;
-pub use opening::{Found, OpenError};
+pub use opening::find_root;
+pub use origin::Origin;

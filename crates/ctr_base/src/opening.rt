@@ -1,87 +1,64 @@
-// Opens the log and the homes of a disk.
-ghost use Rattle.std.specs.Prelude.{◌≡◌, ◌≤◌, IsTrue, Err, IfOk, IfErr, OnOk, MatchResult};
+// The root of a disk, with which opening begins.
+ghost use Rattle.std.specs.Prelude.{◌≡◌, ◌≤◌, ◌*◌, [], ◌∷◌, IsTrue, Ok, length, IfOk, IfErr, IfSome, OnOk, MatchResult};
+ghost use Rattle.ctr_types.specs.declared.file.File.TheVariants.{Pages};
 ghost use Rattle.ctr_disk.specs.declared.fault.StoreFault.TheVariants.{Fault};
-ghost use Rattle.ctr_disk.specs.Device.{LeavesOnly, IsDurable, OnlyReads};
+ghost use Rattle.ctr_disk.specs.Image.{content};
+ghost use Rattle.ctr_disk.specs.Device.{IsDurable, OnlyReads, CountsAs};
+ghost use Rattle.ctr_home.specs.Checks.{TellsApart, judged};
+ghost use Rattle.ctr_home.specs.Reading.{IsFaultOr};
 ghost use Rattle.ctr_home.specs.declared.root.Form.TheVariants.{Paged};
-ghost use Rattle.ctr_home.specs.Roots.{IsRootOf};
-ghost use Rattle.ctr_base.specs.Opening.{IsFound, IsFoundOrNone, OpensBase, LeavesAsOpened};
+ghost use Rattle.ctr_home.specs.Roots.{IsRootOf, ReadsRoot};
+ghost use Rattle.ctr_base.specs.Opening.{size_check, FindsRoot, IsRootDamage};
 
-use crate::base::Base;
 use ctr_disk::{Disk, Root, StoreFault};
-use ctr_home::read_root;
-use ctr_log::{Gathered, LogFile, ReadError, Visit, read_all};
-use ctr_types::List;
-use std::alloc::Global;
+use ctr_home::{Check, judge, read_root};
+use ctr_types::File;
 
-/// What stands on a disk: its root, the writer behind its log, and the log's records with their places.
-#[derive(Debug, Drop)]
-pub struct Found {
-    pub root: Root,
-    pub log: LogFile,
-    pub visits: List<Visit>,
-}
+/// How many bytes of the file of pages each page has.
+const PAGE_SIZE: u64 = 8256;
 
-/// A disk couldn't be opened.
-#[derive(Clone, Copy, Debug, PartialEq, Eq)]
-pub enum OpenError {
-    /// No root home is open.
-    NoDatabase,
-    /// The disk failed, or a check failed in the root or in the log; or memory was refused.
-    Read(ReadError),
-}
-
-fn read_log_of<D: Disk>(alloc: Global, disk: &mut D, root: Root) -> Result<Found, ReadError>
-    requires { IsRootOf Paged root }
-    ensures found { IsTrue D.tells → IfOk result (IsFound (D.reads disk.old)) }
-    ensures same { IfOk result (λ f. f.root ≡ root) }
+// The file of pages has all that are counted.
+fn check_size<D: Disk>(disk: &mut D, pages: u32) -> Result<(), StoreFault>
+    ensures row { IsTrue D.tells → MatchResult result (λ _. judged Pages (size_check pages (content Pages (D.reads disk.old)) ∷ []) ≡ Ok tt)
+        (IsFaultOr (λ e. judged Pages (size_check pages (content Pages (D.reads disk.old)) ∷ []) ≡ Err e)) }
+    ensures differs { IfErr result TellsApart }
     ensures quiet { OnlyReads D.Disk disk.old disk.new }
+    ensures counts { CountsAs D.Disk Fault disk.old disk.new result }
 {
-    let mut seen = Gathered::new(alloc);
-    let log = read_all(alloc, disk, &root, &mut seen)?;
-    Ok(Found {
-        root,
-        log,
-        visits: seen.into_visits(),
-    })
+    let size = disk.size(File::Pages)?;
+    let check = Check {
+        at: 0,
+        want: size.max(pages as u64 * PAGE_SIZE),
+        got: size,
+    };
+    judge(File::Pages, &[check])
 }
 
-// The root and the log; none where no root home is open.
-fn read_disk<D: Disk>(alloc: Global, disk: &mut D) -> Result<Option<Found>, ReadError>
-    ensures found { IsTrue D.tells → IfOk result (IsFoundOrNone (D.reads disk.old)) }
+// The root and its checks, that of the file of pages behind them.
+fn read_checked<D: Disk>(disk: &mut D) -> Result<Option<Root>, StoreFault>
+    ensures found { IsTrue D.tells → MatchResult result (FindsRoot (D.reads disk.old)) (IsFaultOr (IsRootDamage (D.reads disk.old))) }
+    ensures checked { IfOk result (λ o. IfSome o (IsRootOf Paged)) }
+    ensures differs { IfErr result TellsApart }
     ensures quiet { OnlyReads D.Disk disk.old disk.new }
+    ensures counts { CountsAs D.Disk Fault disk.old disk.new result }
 {
     let Some(root) = read_root(disk)? else {
         return Ok(None);
     };
-    let found = read_log_of(alloc, disk, root)?;
-    Ok(Some(found))
+    check_size(disk, root.pages)?;
+    Ok(Some(root))
 }
 
-impl<D: Disk> Base<D> {
-    /// Opens the log and the homes of a disk, which begins with a sync. It writes nothing. The log's records come beside it,
-    /// with their places. Where the disk is sound, the log goes on behind what it holds and nothing is pending.
-    pub fn open(alloc: Global, disk: D) -> Result<(Base<D>, List<Visit>), (OpenError, D)>
-        ensures opened { IsTrue D.tells → IfOk result (λ r. OpensBase D.Disk disk r.0 r.1) }
-        ensures any_moment { LeavesAsOpened D.Disk disk result }
-    {
-        let mut disk = disk;
-        if let Err(failed) = disk.sync() {
-            return Err((OpenError::Read(ReadError::from(failed)), disk));
-        }
-        match read_disk(alloc, &mut disk) {
-            Ok(Some(found)) => {
-                let Found { root, log, visits } = found;
-                let durable = log.next();
-                let base = Base {
-                    disk,
-                    log,
-                    root,
-                    durable,
-                };
-                Ok((base, visits))
-            }
-            Ok(None) => Err((OpenError::NoDatabase, disk)),
-            Err(error) => Err((OpenError::Read(error), disk)),
-        }
-    }
+/// Begins an opening, with a sync: answers the root of a disk whose checks pass and whose file of pages has all that
+/// are counted; none exactly where no root home is open. It writes nothing.
+pub fn find_root<D: Disk>(disk: &mut D) -> Result<Option<Root>, StoreFault>
+    ensures found { IsTrue D.tells → MatchResult result (FindsRoot (D.reads disk.old)) (IsFaultOr (IsRootDamage (D.reads disk.old))) }
+    ensures checked { IfOk result (λ o. IfSome o (IsRootOf Paged)) }
+    ensures differs { IfErr result TellsApart }
+    ensures quiet { OnlyReads D.Disk disk.old disk.new }
+    ensures durable { OnOk result (IsDurable D.Disk disk.new) }
+    ensures counts { CountsAs D.Disk Fault disk.old disk.new result }
+{
+    disk.sync()?;
+    read_checked(disk)
 }

@@ -1,3 +1,6 @@
 pub mod RecordLaws
 pub mod PartsLaws
+pub mod SeenLaws
 pub mod RedoLaws
+pub mod OpenLaws
+pub mod StoreLaws

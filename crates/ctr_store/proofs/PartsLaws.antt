@@ -1,11 +1,11 @@
 -- How the parts of a store go on.
-use Rattle.std.proofs.Common.{◌≡◌, ◌≢◌, inl, inr, ⊎_elim, ℕ, ◌+◌, ◌<◌, ◌==◌, if◌then◌else◌, Bool, true, false, List, [], ◌∷◌, ◌++◌, length, Option, Some, None, refl, sym, ◌∙◌, ap, subst, arith, length-append, append_assoc}
+use Rattle.std.proofs.Common.{◌≡◌, ◌≢◌, inl, inr, ⊎_elim, ℕ, ◌+◌, ◌<◌, ◌≤◌, ◌==◌, if◌then◌else◌, Bool, true, false, List, [], ◌∷◌, ◌++◌, length, Option, Some, None, refl, sym, ◌∙◌, ap, subst, arith, length-append, append_assoc}
 use Rattle.std.proofs.lemmas.List.{map-append, length-map}
 use Rattle.std.proofs.lemmas.Bool.Decides.{eqb_tells}
 use Rattle.std.specs.Option.{option_map}
 use Rattle.ctr_disk.specs.declared.disk.Disk.{Ghosts}
 use Rattle.ctr_disk.specs.declared.disk.Image.{Image}
-use Rattle.ctr_log.specs.Logs.{Log}
+use Rattle.ctr_log.specs.Logs.{Log, Batches, GoesOn}
 use Rattle.ctr_log.specs.Kept.{WritesBehind, WritesBy}
 use Rattle.ctr_records.specs.declared.record.Record.{Record}
 use Rattle.ctr_records.specs.declared.record.Overlay.{Overlay}
@@ -21,14 +21,15 @@ use Rattle.ctr_pool.specs.Over.{IsHeld, IsOver, ShowsSame}
 use Rattle.ctr_pool.proofs.FrameLaws.{yes, no}
 use Rattle.ctr_redo.specs.Overlaid.{overlay_of, lies_on, laid_over, touches, with_record, overlaid}
 use Rattle.ctr_redo.specs.States.{page_limit, state_of, step, next_of, page_at}
-use Rattle.ctr_redo.specs.Images.{records_in}
+use Rattle.ctr_disk.specs.Device.{LeavesOnly}
+use Rattle.ctr_redo.specs.Images.{records_in, FoldsFront}
 use Rattle.ctr_redo.proofs.PageLaws.{stays_out, goes_in, below_next, overlaid-append}
 use Rattle.ctr_redo.proofs.StateLaws.{state_push, page_is, tables-push, below_more}
 use Rattle.ctr_base.specs.declared.base.Base.{Base}
-use Rattle.ctr_base.specs.Base.{stored_of, waiting_of, now_of, home_of, MaySave, IsQuiet, MovesBase, KeepsBase, backing_of}
+use Rattle.ctr_base.specs.Base.{stored_of, waiting_of, now_of, home_of, MaySave, MayPut, IsQuiet, IsSoundImage, Stands, Rests, LeavesIf, MovesBase, MovesIf, KeepsBase, backing_of}
 use Rattle.ctr_store.specs.declared.parts.Parts.{Parts}
 use Rattle.ctr_store.specs.Changes.{LiesInside}
-use Rattle.ctr_store.specs.Parts.{IsFold, CanLog, AddsRecord, LogsRecord}
+use Rattle.ctr_store.specs.Parts.{IsFold, AreLow, CanLog, AddsRecord, LogsRecord}
 
 -- a writer with more that waits goes on behind the same log
 pub writes_more : (older : Bool) (file first : ℕ) (log : Log) (image : Image) (more : List (List ℕ)) (room : ℕ) → WritesBy older file first log image → WritesBy older file first (record log { buffered = more; room = room }) image
@@ -46,43 +47,69 @@ writes_more true file first log image more room w = record {
   holds = w.holds;
 }
 
-module _ {D : Type 0} (g : Ghosts D) where
+-- a writer with more that waits goes on behind the same batches
+pub goes_more : (image : Image) (log : Log) (more : List (List ℕ)) (room : ℕ) → ((oldest : ℕ) × (bs : Batches) × GoesOn oldest bs log image) → (oldest : ℕ) × (bs : Batches) × GoesOn oldest bs (record log { buffered = more; room = room }) image
+goes_more image log more room w = (w.0, w.1, record { log_is = w.2.log_is; place = w.2.place; first_is = w.2.first_is })
+
+-- a frame's LSN isn't below that of what is held
+pub held_high : {D O : Type 0} (first : Image) (g : Ghosts D) (b : Base D O) (p : ℕ) (v : PageHeld) (s : Option ℕ) → IsHeld (backing_of first g) b p v s → (home_of g b p).lsn ≤ v.lsn
+held_high first g b p v None is = omega (arith, ap (λ (h : PageHeld). h.lsn) is)
+held_high first g b p v (Some s) may = let above = may.above in omega (arith, above)
+
+module _ {D O : Type 0} (first : Image) (g : Ghosts D) where
   -- what a frame has is held, or may be saved, where all is held as it was
-  is_held_same : (a b : Base D) → HoldsStill (home_of g) (MaySave g) a b → (p : ℕ) (v : PageHeld) (s : Option ℕ) → IsHeld (backing_of g) a p v s → IsHeld (backing_of g) b p v s
+  is_held_same : (a b : Base D O) → HoldsStill (home_of g) (MayPut first g) a b → (p : ℕ) (v : PageHeld) (s : Option ℕ) → IsHeld (backing_of first g) a p v s → IsHeld (backing_of first g) b p v s
   is_held_same a b holds p v None is = is ∙ sym (holds.same p)
   is_held_same a b holds p v (Some s) may = holds.still p s v may
 
-  pub over_held : (fs : List Frame) (a b : Base D) → HoldsStill (home_of g) (MaySave g) a b → IsQuiet g b → IsOver (backing_of g) fs a → IsOver (backing_of g) fs b
-  over_held fs a b holds quiet over = record { at_rest = quiet; held = λ p f is. is_held_same a b holds p (page_of f) f.since (over.held p f is) }
+  pub over_held : (fs : List Frame) (a b : Base D O) → HoldsStill (home_of g) (MayPut first g) a b → Rests first g b → IsOver (backing_of first g) fs a → IsOver (backing_of first g) fs b
+  over_held fs a b holds rests over = record { at_rest = rests; held = λ p f is. is_held_same a b holds p (page_of f) f.since (over.held p f is) }
 
-  pub shows_held : (fs : List Frame) (a b : Base D) → HoldsStill (home_of g) (MaySave g) a b → ShowsSame (backing_of g) fs a fs b
+  pub shows_held : (fs : List Frame) (a b : Base D O) → HoldsStill (home_of g) (MayPut first g) a b → ShowsSame (backing_of first g) fs a fs b
   shows_held fs a b holds q = ap (page_shown fs q) (holds.same q)
 
   -- below the pool the first of what waited became durable, or a page went home
-  pub fold_moved : (s t : Parts D) → IsFold g s → MovesBase g s.base t.base → t.meta.tables ≡ s.meta.tables → ShowsSame (backing_of g) s.pool.frames s.base t.pool.frames t.base
-      → IsOver (backing_of g) t.pool.frames t.base → IsFold g t
+  pub fold_moved : (s t : Parts D O) → IsFold first g s → MovesIf first g s.base t.base → t.meta.tables ≡ s.meta.tables → ShowsSame (backing_of first g) s.pool.frames s.base t.pool.frames t.base
+      → IsOver (backing_of first g) t.pool.frames t.base → IsFold first g t
   fold_moved s t fold m tables shows over = record {
     over = over;
-    tables = tables ∙ fold.tables ∙ ap tables_of (sym m.all);
-    current = λ p. shows p ∙ fold.current p ∙ sym (m.pages p);
+    tables = λ sound. tables ∙ fold.tables sound ∙ ap tables_of (sym (m sound).all);
+    current = λ sound p. shows p ∙ fold.current sound p ∙ sym ((m sound).pages p);
   }
 
   -- what a page shows is what the state has of it
-  pub page_is_shown : (s : Parts D) (p : ℕ) → IsFold g s → p < page_limit → (page_shown s.pool.frames p (home_of g s.base p)).body ≡ page_at p (state_of (now_of g s.base)).pages
-  page_is_shown s p fold inside = ap (λ (h : PageHeld). h.body) (fold.current p) ∙ sym (page_is p (now_of g s.base) inside)
+  pub page_is_shown : (s : Parts D O) (p : ℕ) → IsSoundImage first → IsFold first g s → p < page_limit → (page_shown s.pool.frames p (home_of g s.base p)).body ≡ page_at p (state_of (now_of g s.base)).pages
+  page_is_shown s p sound fold inside = ap (λ (h : PageHeld). h.body) (fold.current sound p) ∙ sym (page_is p (now_of g s.base) inside)
 
   -- the number of the next record
-  pub next_is : (a : Base D) → IsQuiet g a → a.log.first + length a.log.buffered ≡ next_of (now_of g a)
+  pub next_is : (a : Base D O) → IsQuiet g a → a.log.first + length a.log.buffered ≡ next_of (now_of g a)
   next_is a quiet = let first = quiet.first in omega (arith, first, length-append (stored_of g a).records (waiting_of a), length-map a.log.buffered record_in)
+
+  -- no page has a record that the log lacks
+  pub fold_low : (s : Parts D O) → IsFold first g s → IsSoundImage first → AreLow g s
+  fold_low s fold sound p =
+      let a = s.base in
+      let quiet = fold.over.at_rest.quiet sound in
+      let h = home_of g a p in
+      let at_home = quiet.sound.below p in
+      let more = length-append (stored_of g a).records (waiting_of a) in
+      let low : h.lsn < a.root.first + length (now_of g a).records = omega (arith, at_home, more) in
+      let below = below_next p a.root.first (now_of g a).records h low in
+      omega (arith, below, next_is a quiet, ap (λ (v : PageHeld). v.lsn) (fold.current sound p))
+
+  -- the same where pages and records are as they were
+  pub low_moved : (s t : Parts D O) → KeepsBase s.base t.base → ShowsSame (backing_of first g) s.pool.frames s.base t.pool.frames t.base → AreLow g s → AreLow g t
+  low_moved s t keeps shows low p = let was = low p in let next = keeps.next in omega (arith, was, next, ap (λ (v : PageHeld). v.lsn) (shows p))
+
+  -- what a crash leaves of a call, where the disk is as at another one's end
+  pub leaves_same : (a m b : Base D O) → b.disk ≡ m.disk → LeavesIf first g a m → LeavesIf first g a b
+  leaves_same a m b same leaves sound = subst (λ (x : D). LeavesOnly g a.disk x (FoldsFront (state_of (stored_of g a)) (waiting_of a))) (sym same) (leaves sound)
 
   -- ---- a record more
 
-  module _ (a : Base D) (log : Log) (bytes : List ℕ) (r : Record) (quiet : IsQuiet g a) (log_is : log ≡ record a.log { buffered = a.log.buffered ++ bytes ∷ []; room = log.room }) (tells : record_in bytes ≡ r) where
-    abbrev b : Base D
+  module _ (a : Base D O) (log : Log) (bytes : List ℕ) (r : Record) (log_is : log ≡ record a.log { buffered = a.log.buffered ++ bytes ∷ []; room = log.room }) (tells : record_in bytes ≡ r) where
+    abbrev b : Base D O
     b = record a { log = log }
-
-    abbrev lsn : ℕ
-    lsn = next_of (now_of g a)
 
     pub waits : waiting_of b ≡ waiting_of a ++ r ∷ []
     waits = ap (λ (l : Log). records_in l.buffered) log_is ∙ map-append record_in a.log.buffered (bytes ∷ []) ∙ ap (λ (x : Record). waiting_of a ++ x ∷ []) tells
@@ -94,15 +121,15 @@ module _ {D : Type 0} (g : Ghosts D) where
     length_more = omega (arith, ap (λ (l : List Record). length l) records_are, length-append (now_of g a).records (r ∷ []))
 
     -- a page with it
-    pub push_page : (q : ℕ) (h : PageHeld) → overlaid q a.root.first (now_of g b).records h ≡ with_record q lsn r (overlaid q a.root.first (now_of g a).records h)
+    pub push_page : (q : ℕ) (h : PageHeld) → overlaid q a.root.first (now_of g b).records h ≡ with_record q (next_of (now_of g a)) r (overlaid q a.root.first (now_of g a).records h)
     push_page q h = ap (λ (l : List Record). overlaid q a.root.first l h) records_are ∙ overlaid-append q a.root.first (now_of g a).records (r ∷ []) h
 
     -- another page stays
     pub push_other : (q : ℕ) (h : PageHeld) → touches r q ≡ false → overlaid q a.root.first (now_of g b).records h ≡ overlaid q a.root.first (now_of g a).records h
-    push_other q h off = push_page q h ∙ stays_out q lsn r (overlaid q a.root.first (now_of g a).records h) (λ is_on. absurd (cc (off, is_on)))
+    push_other q h off = push_page q h ∙ stays_out q (next_of (now_of g a)) r (overlaid q a.root.first (now_of g a).records h) (λ is_on. absurd (cc (off, is_on)))
 
-    pub push_quiet : IsQuiet g b
-    push_quiet = record {
+    push_quiet : IsQuiet g a → IsQuiet g b
+    push_quiet quiet = record {
       only = quiet.only;
       sound = quiet.sound;
       writes = subst (λ (l : Log). WritesBehind a.root.file a.root.first l (g.reads a.disk)) (sym log_is)
@@ -111,8 +138,14 @@ module _ {D : Type 0} (g : Ghosts D) where
       first = ap (λ (l : Log). l.first) log_is ∙ quiet.first;
     }
 
-    pub push_state : state_of (now_of g b) ≡ step r (state_of (now_of g a))
-    push_state =
+    push_stands : Stands g a → Stands g b
+    push_stands stands = subst (λ (l : Log). Stands g (record a { log = l })) (sym log_is) (record { file = stands.file; goes_on = goes_more (g.reads a.disk) a.log (a.log.buffered ++ bytes ∷ []) log.room stands.goes_on; size = stands.size })
+
+    pub push_rests : Rests first g a → Rests first g b
+    push_rests rests = record { stands = push_stands rests.stands; quiet = λ sound. push_quiet (rests.quiet sound) }
+
+    pub push_state : IsQuiet g a → state_of (now_of g b) ≡ step r (state_of (now_of g a))
+    push_state quiet =
         ap (λ (l : List Record). state_of (record (now_of g a) { records = l })) records_are
         ∙ state_push r (now_of g a) (below_more (next_of (stored_of g a)) (next_of (now_of g a)) (home_of g a) (omega (arith, length-append (stored_of g a).records (waiting_of a))) quiet.sound.below)
 
@@ -128,36 +161,30 @@ module _ {D : Type 0} (g : Ghosts D) where
       is = ⊎_elim (λ all. inl (all ∙ sym (push_other q (home_of g a q) off))) (λ same. inr same) may.is;
     }
 
-    still_held : (q : ℕ) (v : PageHeld) (s : Option ℕ) → touches r q ≡ false → IsHeld (backing_of g) a q v s → IsHeld (backing_of g) b q v s
+    still_held : (q : ℕ) (v : PageHeld) (s : Option ℕ) → touches r q ≡ false → IsHeld (backing_of first g) a q v s → IsHeld (backing_of first g) b q v s
     still_held q v None off is = is
-    still_held q v (Some s) off may = still_saves q s v off may
+    still_held q v (Some s) off may = record { counted = may.counted; above = may.above; sound = λ sound. still_saves q s v off (may.sound sound) }
 
     -- a record on no page
-    pub off_over : (fs : List Frame) → ((q : ℕ) → touches r q ≡ false) → IsOver (backing_of g) fs a → IsOver (backing_of g) fs b
-    off_over fs off over = record { at_rest = push_quiet; held = λ q f is. still_held q (page_of f) f.since (off q) (over.held q f is) }
+    pub off_over : (fs : List Frame) → ((q : ℕ) → touches r q ≡ false) → IsOver (backing_of first g) fs a → IsOver (backing_of first g) fs b
+    off_over fs off over = record { at_rest = push_rests over.at_rest; held = λ q f is. still_held q (page_of f) f.since (off q) (over.held q f is) }
 
     pub off_current : (fs : List Frame) → ((q : ℕ) → touches r q ≡ false) → ((q : ℕ) → page_shown fs q (home_of g a q) ≡ overlaid q a.root.first (now_of g a).records (home_of g a q))
         → (q : ℕ) → page_shown fs q (home_of g b q) ≡ overlaid q a.root.first (now_of g b).records (home_of g b q)
     off_current fs off current q = current q ∙ sym (push_other q (home_of g a q) (off q))
 
     -- a record on a page that a frame has
-    module _ (p : ℕ) (o : Overlay) (f : Frame) (fs gs : List Frame) (is_over : overlay_of r ≡ Some o) (on : (o.page == p) ≡ true) (others : (q : ℕ) → q ≢ p → touches r q ≡ false) (inside : p < a.root.pages)
-        (over : IsOver (backing_of g) fs a) (current : (q : ℕ) → page_shown fs q (home_of g a q) ≡ overlaid q a.root.first (now_of g a).records (home_of g a q)) (there : frame_of p fs ≡ Some f)
+    module _ (p : ℕ) (o : Overlay) (f : Frame) (fs gs : List Frame) (lsn : ℕ) (lsn_is : lsn ≡ a.log.first + length a.log.buffered) (is_over : overlay_of r ≡ Some o) (on : (o.page == p) ≡ true) (others : (q : ℕ) → q ≢ p → touches r q ≡ false) (inside : p < a.root.pages)
+        (over : IsOver (backing_of first g) fs a) (current : IsSoundImage first → (q : ℕ) → page_shown fs q (home_of g a q) ≡ overlaid q a.root.first (now_of g a).records (home_of g a q)) (there : frame_of p fs ≡ Some f) (lower : f.lsn < lsn)
         (changed : (q : ℕ) → frame_of q gs ≡ (if p == q then option_map (after_change o lsn) (frame_of q fs) else frame_of q fs)) where
       abbrev was : PageHeld
       was = overlaid p a.root.first (now_of g a).records (home_of g a p)
 
-      was_is : page_of f ≡ was
-      was_is = ap (kept_or (home_of g a p)) (sym there) ∙ current p
+      was_is : IsSoundImage first → page_of f ≡ was
+      was_is sound = ap (kept_or (home_of g a p)) (sym there) ∙ current sound p
 
       touched : touches r p ≡ true
       touched = ap (λ x. lies_on x p) is_over ∙ on
-
-      low : (home_of g a p).lsn < lsn
-      low = let below = quiet.sound.below p in omega (arith, below, length-append (stored_of g a).records (waiting_of a))
-
-      high : was.lsn < lsn
-      high = below_next p a.root.first (now_of g a).records (home_of g a p) low
 
       here : frame_of p gs ≡ Some (after_change o lsn f)
       here = changed p ∙ ⊎_elim (λ w. yes (p == p) (option_map (after_change o lsn) (frame_of p fs)) (frame_of p fs) w.0) (λ w. absurd (w.1 refl)) (eqb_tells p p) ∙ ap (option_map (after_change o lsn)) there
@@ -165,47 +192,60 @@ module _ {D : Type 0} (g : Ghosts D) where
       elsewhere : (q : ℕ) → q ≢ p → frame_of q gs ≡ frame_of q fs
       elsewhere q other = changed q ∙ ⊎_elim (λ w. absurd (other (sym w.1))) (λ w. no (p == q) (option_map (after_change o lsn) (frame_of q fs)) (frame_of q fs) w.0) (eqb_tells p q)
 
-      now_is : page_of (after_change o lsn f) ≡ overlaid p a.root.first (now_of g b).records (home_of g b p)
-      now_is =
-          ap (λ (h : PageHeld). record { lsn = lsn; body = overlaid_by o h.body }) was_is
-          ∙ ap (λ x. record { lsn = lsn; body = laid_over x was.body }) (sym is_over)
-          ∙ sym (goes_in p lsn r was touched high) ∙ sym (push_page p (home_of g a p))
+      next_now : IsSoundImage first → lsn ≡ next_of (now_of g a)
+      next_now sound = lsn_is ∙ next_is a (over.at_rest.quiet sound)
 
-      may_save : (since : ℕ) → MaySave g b p since (page_of (after_change o lsn f))
-      may_save since = record { counted = inside; above = low; low = omega (arith, length_more); is = inl now_is }
+      now_is : IsSoundImage first → page_of (after_change o lsn f) ≡ overlaid p a.root.first (now_of g b).records (home_of g b p)
+      now_is sound =
+          let next = next_of (now_of g a) in
+          let high : was.lsn < next = subst (λ (h : PageHeld). h.lsn < next) (was_is sound) (omega (arith, lower, next_now sound)) in
+          ap (λ (h : PageHeld). record { lsn = lsn; body = overlaid_by o h.body }) (was_is sound)
+          ∙ ap (λ (n : ℕ). record { lsn = n; body = overlaid_by o was.body }) (next_now sound)
+          ∙ ap (λ x. record { lsn = next; body = laid_over x was.body }) (sym is_over)
+          ∙ sym (goes_in p next r was touched high) ∙ sym (push_page p (home_of g a p))
 
-      held_now : (s : Option ℕ) → IsHeld (backing_of g) b p (page_of (after_change o lsn f)) (since_then s lsn)
-      held_now None = may_save lsn
-      held_now (Some s) = may_save s
+      high_home : (home_of g a p).lsn < lsn
+      high_home = let h = held_high first g a p (page_of f) f.since (over.held p f there) in omega (arith, h, lower)
+
+      may_put : (since : ℕ) → MayPut first g b p since (page_of (after_change o lsn f))
+      may_put since = record {
+        counted = inside;
+        above = high_home;
+        sound = λ sound. record { counted = inside; above = high_home; low = omega (arith, length_more, next_now sound); is = inl (now_is sound) };
+      }
+
+      held_now : (s : Option ℕ) → IsHeld (backing_of first g) b p (page_of (after_change o lsn f)) (since_then s lsn)
+      held_now None = may_put lsn
+      held_now (Some s) = may_put s
 
       one : {A : Type 0} (x y : A) → Some x ≡ Some y → x ≡ y
       one x y e = cc e
 
-      pub on_over : IsOver (backing_of g) gs b
-      on_over = record { at_rest = push_quiet; held = λ q h is. ⊎_elim (λ w. at_page q h is w.1) (λ w. beside q h is w.1) (eqb_tells q p) }
+      pub on_over : IsOver (backing_of first g) gs b
+      on_over = record { at_rest = push_rests over.at_rest; held = λ q h is. ⊎_elim (λ w. at_page q h is w.1) (λ w. beside q h is w.1) (eqb_tells q p) }
         where
-          at_page : (q : ℕ) (h : Frame) → frame_of q gs ≡ Some h → q ≡ p → IsHeld (backing_of g) b q (page_of h) h.since
+          at_page : (q : ℕ) (h : Frame) → frame_of q gs ≡ Some h → q ≡ p → IsHeld (backing_of first g) b q (page_of h) h.since
           at_page q h is same =
               let h_is : after_change o lsn f ≡ h = one (after_change o lsn f) h (sym here ∙ ap (λ (n : ℕ). frame_of n gs) (sym same) ∙ is) in
-              subst (λ (x : Frame). IsHeld (backing_of g) b q (page_of x) x.since) h_is
-              (subst (λ (n : ℕ). IsHeld (backing_of g) b n (page_of (after_change o lsn f)) (since_then f.since lsn)) (sym same) (held_now f.since))
+              subst (λ (x : Frame). IsHeld (backing_of first g) b q (page_of x) x.since) h_is
+              (subst (λ (n : ℕ). IsHeld (backing_of first g) b n (page_of (after_change o lsn f)) (since_then f.since lsn)) (sym same) (held_now f.since))
 
-          beside : (q : ℕ) (h : Frame) → frame_of q gs ≡ Some h → q ≢ p → IsHeld (backing_of g) b q (page_of h) h.since
+          beside : (q : ℕ) (h : Frame) → frame_of q gs ≡ Some h → q ≢ p → IsHeld (backing_of first g) b q (page_of h) h.since
           beside q h is other = still_held q (page_of h) h.since (others q other) (over.held q h (sym (elsewhere q other) ∙ is))
 
-      pub on_current : (q : ℕ) → page_shown gs q (home_of g b q) ≡ overlaid q a.root.first (now_of g b).records (home_of g b q)
-      on_current q =
+      pub on_current : IsSoundImage first → (q : ℕ) → page_shown gs q (home_of g b q) ≡ overlaid q a.root.first (now_of g b).records (home_of g b q)
+      on_current sound q =
           ⊎_elim
           (λ w.
           let P : ℕ → Type 0 = λ n. page_shown gs n (home_of g b n) ≡ overlaid n a.root.first (now_of g b).records (home_of g b n) in
-          subst P (sym w.1) (ap (kept_or (home_of g b p)) here ∙ now_is))
-          (λ w. ap (kept_or (home_of g b q)) (elsewhere q w.1) ∙ current q ∙ sym (push_other q (home_of g a q) (others q w.1)))
+          subst P (sym w.1) (ap (kept_or (home_of g b p)) here ∙ now_is sound))
+          (λ w. ap (kept_or (home_of g b q)) (elsewhere q w.1) ∙ current sound q ∙ sym (push_other q (home_of g a q) (others q w.1)))
           (eqb_tells q p)
 
   -- ---- the whole call
 
   -- what can be logged can still be, where room isn't lost below
-  pub can_still : (r : Record) (s t : Parts D) → KeepsBase s.base t.base → t.meta ≡ s.meta → CanLog r s → CanLog r t
+  pub can_still : (r : Record) (s t : Parts D O) → KeepsBase s.base t.base → t.meta ≡ s.meta → CanLog r s → CanLog r t
   can_still r s t keeps meta can =
       let root = keeps.root in
       let more = keeps.room in
@@ -225,11 +265,11 @@ module _ {D : Type 0} (g : Ghosts D) where
       }
 
   -- with no change below
-  pub logs_now : (r : Record) (s t : Parts D) → AddsRecord g r s t → LogsRecord g r s.base t.base
+  pub logs_now : (r : Record) (s t : Parts D O) → AddsRecord g r s t → LogsRecord g r s.base t.base
   logs_now r s t adds = record { j = 0; waiting = adds.waiting; hardened = adds.hardened; now = adds.now; root = adds.root }
 
   -- behind a change below
-  pub logs_behind : (r : Record) (s m t : Parts D) → MovesBase g s.base m.base → AddsRecord g r m t → LogsRecord g r s.base t.base
+  pub logs_behind : (r : Record) (s m t : Parts D O) → MovesBase g s.base m.base → AddsRecord g r m t → LogsRecord g r s.base t.base
   logs_behind r s m t moves adds = record {
     j = moves.j;
     waiting = adds.waiting ∙ ap (λ (l : List Record). l ++ r ∷ []) moves.waiting;

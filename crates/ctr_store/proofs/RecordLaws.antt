@@ -12,6 +12,8 @@ use Rattle.ctr_records.specs.Table.{layout, flag_at}
 use Rattle.ctr_records.specs.Parts.{form_of, OverlayFits}
 use Rattle.ctr_records.specs.Spelling.{record_bytes, form_bytes, overlay_len}
 use Rattle.ctr_records.specs.Records.{FormFits, IsRecord}
+use Rattle.ctr_records.specs.Read.{record_in}
+use Rattle.ctr_records.proofs.ReadBack.{record_read}
 use Rattle.ctr_records.proofs.Laws.{length-parts}
 use Rattle.ctr_pool.specs.declared.frame.Frame.{Frame}
 use Rattle.ctr_pool.specs.Frames.{frame_of, has_page}
@@ -82,3 +84,7 @@ pub page_of_touch : (r : Record) (o : Overlay) (q : ℕ) → overlay_of r ≡ So
 page_of_touch r o q is on =
     let on_it : (o.page == q) ≡ true = sym (ap (λ x. lies_on x q) is) ∙ on in
     ⊎_elim (λ w. sym w.1) (λ w. absurd (cc (w.0, on_it))) (eqb_tells o.page q)
+
+-- one spelling is of one record
+pub same_record : (a b : Record) → IsRecord a → IsRecord b → record_bytes a ≡ record_bytes b → a ≡ b
+same_record a b is_a is_b same = sym (record_read a is_a) ∙ ap record_in same ∙ record_read b is_b

@@ -6,6 +6,7 @@ use Rattle.std.proofs.lemmas.Option.{slice_get_within}
 use Rattle.std.proofs.lemmas.Bool.Decides.{eqb_tells}
 use Rattle.std.specs.Option.{option_map}
 use Rattle.ctr_disk.specs.declared.disk.Disk.{Ghosts}
+use Rattle.ctr_disk.specs.declared.disk.Image.{Image}
 use Rattle.ctr_disk.specs.declared.fault.Root.{Root}
 use Rattle.ctr_records.specs.declared.record.Record.{Record}
 use Rattle.ctr_records.specs.declared.record.Overlay.{Overlay}
@@ -19,15 +20,16 @@ use Rattle.ctr_pool.proofs.FrameLaws.{yes, no}
 use Rattle.ctr_redo.specs.Overlaid.{overlay_of, lies_on, laid_over, touches, with_record, overlaid}
 use Rattle.ctr_redo.specs.Images.{records_in}
 use Rattle.ctr_redo.specs.States.{Stored}
-use Rattle.ctr_redo.proofs.PageLaws.{stays_out, goes_in, overlaid-append, same_page}
+use Rattle.ctr_redo.proofs.PageLaws.{stays_out, goes_in, overlaid-append, same_page, below_next, no_lower}
 use Rattle.ctr_redo.proofs.StateLaws.{tables-push}
 use Rattle.ctr_base.specs.declared.base.Base.{Base}
-use Rattle.ctr_base.specs.Base.{stored_of, waiting_of, home_of, MaySave, IsQuiet, MovesBase, backing_of}
+use Rattle.ctr_base.specs.Base.{stored_of, waiting_of, home_of, MaySave, MayPut, IsSoundImage, Rests, MovesBase, MovesIf, KeepsBase, backing_of}
 use Rattle.ctr_base.specs.BaseLaws.{moves_joined, stands_still}
 use Rattle.ctr_store.specs.declared.parts.Parts.{Parts}
-use Rattle.ctr_store.specs.Parts.{IsFold}
+use Rattle.ctr_store.specs.Parts.{IsFold, AreLow}
 use Rattle.ctr_store.specs.Redo.{RedoesPages, IsNextRecord}
 use Rattle.ctr_store.proofs.RecordLaws.{inside_of}
+use Rattle.ctr_store.proofs.PartsLaws.{held_high}
 
 take_next : (l : List Record) (j : ℕ) (r : Record) → slice_get l j ≡ Some r → take (j + 1) l ≡ take j l ++ r ∷ []
 take_next [] j r is = absurd (cc is)
@@ -39,23 +41,43 @@ length_of zero l inside = refl
 length_of (suc n) [] inside = absurd (omega (arith, inside))
 length_of (suc n) (x ∷ l) inside = let k = length_of n l (omega (arith, inside)) in omega (arith, k)
 
-module _ {D : Type 0} (g : Ghosts D) where
-  -- a frame's LSN isn't below that of what is held
-  held_high : (b : Base D) (p : ℕ) (v : PageHeld) (s : Option ℕ) → IsHeld (backing_of g) b p v s → (home_of g b p).lsn ≤ v.lsn
-  held_high b p v None is = omega (arith, ap (λ (h : PageHeld). h.lsn) is)
-  held_high b p v (Some s) may = let above = may.above in omega (arith, above)
-
+module _ {D O : Type 0} (first : Image) (g : Ghosts D) where
   -- ---- a call below on the way
 
-  pub redo_moved : (start : Base D) (n : ℕ) (s t : Parts D) → RedoesPages g start n s → MovesBase g s.base t.base → ShowsSame (backing_of g) s.pool.frames s.base t.pool.frames t.base
-      → IsOver (backing_of g) t.pool.frames t.base → RedoesPages g start n t
-  redo_moved start n s t doing m shows over = record { over = over; moves = moves_joined g start s.base t.base doing.moves m; none = doing.none; current = λ p. shows p ∙ doing.current p }
+  pub redo_moved : (start : Base D O) (n : ℕ) (s t : Parts D O) → RedoesPages first g start n s → MovesIf first g s.base t.base → KeepsBase s.base t.base → ShowsSame (backing_of first g) s.pool.frames s.base t.pool.frames t.base
+      → IsOver (backing_of first g) t.pool.frames t.base → RedoesPages first g start n t
+  redo_moved start n s t doing m keeps shows over = record {
+    over = over;
+    root = keeps.root ∙ doing.root;
+    moves = λ sound. moves_joined g start s.base t.base (doing.moves sound) (m sound);
+    sound = doing.sound;
+    none = doing.none;
+    next = keeps.next ∙ doing.next;
+    current = λ sound p. shows p ∙ doing.current sound p;
+  }
 
   -- other tables
-  pub with_meta : (start : Base D) (n : ℕ) (s : Parts D) (m : TablesKept) → RedoesPages g start n s → RedoesPages g start n (record s { meta = m })
-  with_meta start n s m doing = record { over = doing.over; moves = doing.moves; none = doing.none; current = doing.current }
+  pub with_meta : (start : Base D O) (n : ℕ) (s : Parts D O) (m : TablesKept) → RedoesPages first g start n s → RedoesPages first g start n (record s { meta = m })
+  with_meta start n s m doing = record { over = doing.over; root = doing.root; moves = doing.moves; sound = doing.sound; none = doing.none; next = doing.next; current = doing.current }
 
-  module _ (start : Base D) (n : ℕ) (r : Record) (next : IsNextRecord g start n r) where
+  -- no page has a record that the log lacks
+  pub redo_low : (start : Base D O) (n : ℕ) (s : Parts D O) → RedoesPages first g start n s → IsSoundImage first → AreLow g s
+  redo_low start n s doing sound p =
+      let i = stored_of g start in
+      let quiet = doing.sound sound in
+      let h = home_of g start p in
+      let rs = take n i.records in
+      let es = drop n i.records in
+      let at_home = quiet.sound.below p in
+      let next = quiet.first in
+      let behind = doing.next in
+      let below = below_next p i.first i.records h at_home in
+      let more = no_lower p (i.first + length rs) es (overlaid p i.first rs h) in
+      let split : overlaid p i.first i.records h ≡ overlaid p (i.first + length rs) es (overlaid p i.first rs h) =
+      ap (λ (l : List Record). overlaid p i.first l h) (sym (take-append-drop n i.records)) ∙ overlaid-append p i.first rs es h in
+      omega (arith, below, more, next, behind, ap (λ (v : PageHeld). v.lsn) split, ap (λ (v : PageHeld). v.lsn) (doing.current sound p))
+
+  module _ (start : Base D O) (n : ℕ) (r : Record) (next : IsNextRecord g start n r) where
     abbrev i : Stored
     i = stored_of g start
 
@@ -77,16 +99,19 @@ module _ {D : Type 0} (g : Ghosts D) where
     tables_next = sym (ap tables_of (take_next i.records n r next.there) ∙ tables-push (take n i.records) r)
 
     -- a record that changes no page, or was in its page before
-    pub redo_off : (s : Parts D) → RedoesPages g start n s → ((q : ℕ) → touches r q ≡ true → lsn ≤ (page_shown s.pool.frames q (home_of g s.base q)).lsn) → RedoesPages g start (n + 1) s
+    pub redo_off : (s : Parts D O) → RedoesPages first g start n s → ((q : ℕ) → touches r q ≡ true → lsn ≤ (page_shown s.pool.frames q (home_of g s.base q)).lsn) → RedoesPages first g start (n + 1) s
     redo_off s doing out = record {
       over = doing.over;
+      root = doing.root;
       moves = doing.moves;
+      sound = doing.sound;
       none = doing.none;
-      current = λ q. doing.current q ∙ page_off q (home_of g start q) (λ on. subst (λ (h : PageHeld). lsn ≤ h.lsn) (doing.current q) (out q on));
+      next = doing.next;
+      current = λ sound q. doing.current sound q ∙ page_off q (home_of g start q) (λ on. subst (λ (h : PageHeld). lsn ≤ h.lsn) (doing.current sound q) (out q on));
     }
 
     -- a record that goes into the frame of its page
-    module _ (s : Parts D) (doing : RedoesPages g start n s) (o : Overlay) (f : Frame) (gs : List Frame) (is_over : overlay_of r ≡ Some o) (others : (q : ℕ) → q ≢ o.page → touches r q ≡ false) (on : (o.page == o.page) ≡ true)
+    module _ (s : Parts D O) (doing : RedoesPages first g start n s) (o : Overlay) (f : Frame) (gs : List Frame) (is_over : overlay_of r ≡ Some o) (others : (q : ℕ) → q ≢ o.page → touches r q ≡ false) (on : (o.page == o.page) ≡ true)
         (there : frame_of o.page s.pool.frames ≡ Some f) (lower : f.lsn < lsn) (changed : (q : ℕ) → frame_of q gs ≡ (if o.page == q then option_map (after_change o lsn) (frame_of q s.pool.frames) else frame_of q s.pool.frames)) where
       abbrev p : ℕ
       p = o.page
@@ -94,14 +119,11 @@ module _ {D : Type 0} (g : Ghosts D) where
       abbrev fs : List Frame
       fs = s.pool.frames
 
-      abbrev b : Base D
+      abbrev b : Base D O
       b = s.base
 
       abbrev was : PageHeld
       was = overlaid p i.first (take n i.records) (home_of g start p)
-
-      was_is : page_of f ≡ was
-      was_is = ap (kept_or (home_of g b p)) (sym there) ∙ doing.current p
 
       touched : touches r p ≡ true
       touched = ap (λ x. lies_on x p) is_over ∙ on
@@ -109,51 +131,64 @@ module _ {D : Type 0} (g : Ghosts D) where
       abbrev v : PageHeld
       v = page_of (after_change o lsn f)
 
-      v_is : v ≡ overlaid p i.first (take (n + 1) i.records) (home_of g start p)
-      v_is =
-          ap (λ (h : PageHeld). record { lsn = lsn; body = overlaid_by o h.body }) was_is
-          ∙ ap (λ x. record { lsn = lsn; body = laid_over x was.body }) (sym is_over)
-          ∙ sym (goes_in p lsn r was touched (subst (λ (h : PageHeld). h.lsn < lsn) was_is lower)) ∙ sym (page_next p (home_of g start p))
+      counted : p < b.root.pages
+      counted = subst (λ (x : Root). p < x.pages) (sym doing.root) (inside_of start.root.pages r o is_over next.counted)
 
-      waits_none : waiting_of b ≡ []
-      waits_none = doing.moves.waiting ∙ ap (λ (l : List (List ℕ)). drop doing.moves.j (records_in l)) doing.none ∙ drop-nil doing.moves.j
+      above : (home_of g b p).lsn < v.lsn
+      above = let high = held_high first g b p (page_of f) f.since (doing.over.held p f there) in omega (arith, high, lower)
 
-      records_are : (stored_of g b).records ≡ i.records
-      records_are =
-          sym (append-nil (stored_of g b).records) ∙ ap (λ (l : List Record). (stored_of g b).records ++ l) (sym waits_none) ∙ doing.moves.all
-          ∙ ap (λ (l : List (List ℕ)). i.records ++ records_in l) doing.none ∙ append-nil i.records
+      module _ (sound : IsSoundImage first) where
+        abbrev m : MovesBase g start b
+        m = doing.moves sound
 
-      same_first : b.root.first ≡ start.root.first
-      same_first = ap (λ (x : Root). x.first) doing.moves.root
+        was_is : page_of f ≡ was
+        was_is = ap (kept_or (home_of g b p)) (sym there) ∙ doing.current sound p
 
-      -- all records make the same page of it
-      v_fits : overlaid p b.root.first (stored_of g b).records v ≡ overlaid p b.root.first (stored_of g b).records (home_of g b p)
-      v_fits =
-          let h = home_of g start p in
-          let ds = take (n + 1) i.records in
-          let es = drop (n + 1) i.records in
-          let whole : ds ++ es ≡ i.records = take-append-drop (n + 1) i.records in
-          let one : overlaid p i.first i.records v ≡ overlaid p i.first i.records h =
-          ap (λ (l : List Record). overlaid p i.first l v) (sym whole) ∙ ap (overlaid p i.first (ds ++ es)) v_is ∙ same_page p i.first ds es h ∙ ap (λ (l : List Record). overlaid p i.first l h) whole in
-          let now : overlaid p b.root.first (stored_of g b).records (home_of g b p) ≡ overlaid p i.first i.records h =
-          ap (λ (l : List Record). overlaid p b.root.first l (home_of g b p)) (sym (append-nil (stored_of g b).records) ∙ ap (λ (l : List Record). (stored_of g b).records ++ l) (sym waits_none))
-          ∙ doing.moves.pages p ∙ ap (λ (l : List Record). overlaid p i.first l h) (ap (λ (l : List (List ℕ)). i.records ++ records_in l) doing.none ∙ append-nil i.records) in
-          ap (λ (m : ℕ). overlaid p m (stored_of g b).records v) same_first ∙ ap (λ (l : List Record). overlaid p i.first l v) records_are ∙ one ∙ sym now
+        v_is : v ≡ overlaid p i.first (take (n + 1) i.records) (home_of g start p)
+        v_is =
+            ap (λ (h : PageHeld). record { lsn = lsn; body = overlaid_by o h.body }) was_is
+            ∙ ap (λ x. record { lsn = lsn; body = laid_over x was.body }) (sym is_over)
+            ∙ sym (goes_in p lsn r was touched (subst (λ (h : PageHeld). h.lsn < lsn) was_is lower)) ∙ sym (page_next p (home_of g start p))
 
-      may_save : (since : ℕ) → MaySave g b p since v
-      may_save since =
-          let counted = inside_of start.root.pages r o is_over next.counted in
-          let high = held_high b p (page_of f) f.since (doing.over.held p f there) in
-          record {
-            counted = subst (λ (x : Root). p < x.pages) (sym doing.moves.root) counted;
-            above = omega (arith, high, lower);
-            low = omega (arith, inside, same_first, ap (λ (l : List Record). length l) records_are, length-append (stored_of g b).records (waiting_of b));
-            is = inr v_fits;
-          }
+        waits_none : waiting_of b ≡ []
+        waits_none = m.waiting ∙ ap (λ (l : List (List ℕ)). drop m.j (records_in l)) doing.none ∙ drop-nil m.j
 
-      held_now : (x : Option ℕ) → IsHeld (backing_of g) b p v (since_then x lsn)
-      held_now None = may_save lsn
-      held_now (Some x) = may_save x
+        records_are : (stored_of g b).records ≡ i.records
+        records_are =
+            sym (append-nil (stored_of g b).records) ∙ ap (λ (l : List Record). (stored_of g b).records ++ l) (sym waits_none) ∙ m.all
+            ∙ ap (λ (l : List (List ℕ)). i.records ++ records_in l) doing.none ∙ append-nil i.records
+
+        same_first : b.root.first ≡ start.root.first
+        same_first = ap (λ (x : Root). x.first) doing.root
+
+        -- all records make the same page of it
+        v_fits : overlaid p b.root.first (stored_of g b).records v ≡ overlaid p b.root.first (stored_of g b).records (home_of g b p)
+        v_fits =
+            let h = home_of g start p in
+            let ds = take (n + 1) i.records in
+            let es = drop (n + 1) i.records in
+            let whole : ds ++ es ≡ i.records = take-append-drop (n + 1) i.records in
+            let one : overlaid p i.first i.records v ≡ overlaid p i.first i.records h =
+            ap (λ (l : List Record). overlaid p i.first l v) (sym whole) ∙ ap (overlaid p i.first (ds ++ es)) v_is ∙ same_page p i.first ds es h ∙ ap (λ (l : List Record). overlaid p i.first l h) whole in
+            let now : overlaid p b.root.first (stored_of g b).records (home_of g b p) ≡ overlaid p i.first i.records h =
+            ap (λ (l : List Record). overlaid p b.root.first l (home_of g b p)) (sym (append-nil (stored_of g b).records) ∙ ap (λ (l : List Record). (stored_of g b).records ++ l) (sym waits_none))
+            ∙ m.pages p ∙ ap (λ (l : List Record). overlaid p i.first l h) (ap (λ (l : List (List ℕ)). i.records ++ records_in l) doing.none ∙ append-nil i.records) in
+            ap (λ (k : ℕ). overlaid p k (stored_of g b).records v) same_first ∙ ap (λ (l : List Record). overlaid p i.first l v) records_are ∙ one ∙ sym now
+
+        may_save : (since : ℕ) → MaySave g b p since v
+        may_save since = record {
+          counted = counted;
+          above = above;
+          low = omega (arith, inside, same_first, ap (λ (l : List Record). length l) records_are, length-append (stored_of g b).records (waiting_of b));
+          is = inr v_fits;
+        }
+
+      may_put : (since : ℕ) → MayPut first g b p since v
+      may_put since = record { counted = counted; above = above; sound = λ sound. may_save sound since }
+
+      held_now : (x : Option ℕ) → IsHeld (backing_of first g) b p v (since_then x lsn)
+      held_now None = may_put lsn
+      held_now (Some x) = may_put x
 
       one : {A : Type 0} (x y : A) → Some x ≡ Some y → x ≡ y
       one x y e = cc e
@@ -164,48 +199,56 @@ module _ {D : Type 0} (g : Ghosts D) where
       elsewhere : (q : ℕ) → q ≢ p → frame_of q gs ≡ frame_of q fs
       elsewhere q other = changed q ∙ ⊎_elim (λ w. absurd (other (sym w.1))) (λ w. no (p == q) (option_map (after_change o lsn) (frame_of q fs)) (frame_of q fs) w.0) (eqb_tells p q)
 
-      on_frames : IsOver (backing_of g) gs b
+      on_frames : IsOver (backing_of first g) gs b
       on_frames = record { at_rest = doing.over.at_rest; held = λ q h is. ⊎_elim (λ w. at_page q h is w.1) (λ w. doing.over.held q h (sym (elsewhere q w.1) ∙ is)) (eqb_tells q p) }
         where
-          at_page : (q : ℕ) (h : Frame) → frame_of q gs ≡ Some h → q ≡ p → IsHeld (backing_of g) b q (page_of h) h.since
+          at_page : (q : ℕ) (h : Frame) → frame_of q gs ≡ Some h → q ≡ p → IsHeld (backing_of first g) b q (page_of h) h.since
           at_page q h is same =
               let h_is : after_change o lsn f ≡ h = one (after_change o lsn f) h (sym here ∙ ap (λ (m : ℕ). frame_of m gs) (sym same) ∙ is) in
-              subst (λ (x : Frame). IsHeld (backing_of g) b q (page_of x) x.since) h_is
-              (subst (λ (m : ℕ). IsHeld (backing_of g) b m v (since_then f.since lsn)) (sym same) (held_now f.since))
+              subst (λ (x : Frame). IsHeld (backing_of first g) b q (page_of x) x.since) h_is
+              (subst (λ (m : ℕ). IsHeld (backing_of first g) b m v (since_then f.since lsn)) (sym same) (held_now f.since))
 
-      pub redo_on : (t : Parts D) → t.base ≡ s.base → t.pool.frames ≡ gs → RedoesPages g start (n + 1) t
+      pub redo_on : (t : Parts D O) → t.base ≡ s.base → t.pool.frames ≡ gs → RedoesPages first g start (n + 1) t
       redo_on t base frames = record {
-        over = subst (λ (k : Base D). IsOver (backing_of g) t.pool.frames k) (sym base) (subst (λ (l : List Frame). IsOver (backing_of g) l s.base) (sym frames) on_frames);
-        moves = subst (λ (k : Base D). MovesBase g start k) (sym base) doing.moves;
+        over = subst (λ (k : Base D O). IsOver (backing_of first g) t.pool.frames k) (sym base) (subst (λ (l : List Frame). IsOver (backing_of first g) l s.base) (sym frames) on_frames);
+        root = ap (λ (k : Base D O). k.root) base ∙ doing.root;
+        moves = subst (λ (k : Base D O). MovesIf first g start k) (sym base) doing.moves;
+        sound = doing.sound;
         none = doing.none;
-        current = λ q.
-            ap (λ (k : Base D). page_shown t.pool.frames q (home_of g k q)) base ∙ ap (λ (l : List Frame). page_shown l q (home_of g b q)) frames
+        next = ap (λ (k : Base D O). k.log.first + length k.log.buffered) base ∙ doing.next;
+        current = λ sound q.
+            ap (λ (k : Base D O). page_shown t.pool.frames q (home_of g k q)) base ∙ ap (λ (l : List Frame). page_shown l q (home_of g b q)) frames
             ∙ ⊎_elim
             (λ w.
-            let P : ℕ → Type 0 = λ m. page_shown gs m (home_of g b m) ≡ overlaid m i.first (take (n + 1) i.records) (home_of g start m) in
-            subst P (sym w.1) (ap (kept_or (home_of g b p)) here ∙ v_is))
+            let P : ℕ → Type 0 = λ k. page_shown gs k (home_of g b k) ≡ overlaid k i.first (take (n + 1) i.records) (home_of g start k) in
+            subst P (sym w.1) (ap (kept_or (home_of g b p)) here ∙ v_is sound))
             (λ w.
-            ap (kept_or (home_of g b q)) (elsewhere q w.1) ∙ doing.current q
+            ap (kept_or (home_of g b q)) (elsewhere q w.1) ∙ doing.current sound q
             ∙ page_off q (home_of g start q) (λ is_q. let off = others q w.1 in absurd (cc (off, is_q))))
             (eqb_tells q p);
       }
 
   -- before the first record
-  pub redo_starts : (s : Parts D) → IsQuiet g s.base → s.pool.frames ≡ [] → s.base.log.buffered ≡ [] → RedoesPages g s.base 0 s
-  redo_starts s quiet empty none = record {
-    over = record { at_rest = quiet; held = λ p f is. let none : None ≡ Some f = sym (ap (frame_of p) empty) ∙ is in absurd (cc none) };
-    moves = stands_still g s.base;
+  pub redo_starts : (s : Parts D O) → Rests first g s.base → s.pool.frames ≡ [] → s.base.log.buffered ≡ [] → RedoesPages first g s.base 0 s
+  redo_starts s rests empty none = record {
+    over = record { at_rest = rests; held = λ p f is. let none : None ≡ Some f = sym (ap (frame_of p) empty) ∙ is in absurd (cc none) };
+    root = refl;
+    moves = λ sound. stands_still g s.base;
+    sound = rests.quiet;
     none = none;
-    current = λ p. ap (λ (l : List Frame). page_shown l p (home_of g s.base p)) empty;
+    next = omega (arith, ap (λ (l : List (List ℕ)). length l) none);
+    current = λ sound p. ap (λ (l : List Frame). page_shown l p (home_of g s.base p)) empty;
   }
 
   -- behind the last
-  pub redo_ends : (start : Base D) (n : ℕ) (s : Parts D) → RedoesPages g start n s → n ≡ length (stored_of g start).records → s.meta.tables ≡ tables_of (take n (stored_of g start).records) → IsFold g s
+  pub redo_ends : (start : Base D O) (n : ℕ) (s : Parts D O) → RedoesPages first g start n s → (IsSoundImage first → n ≡ length (stored_of g start).records)
+      → (IsSoundImage first → s.meta.tables ≡ tables_of (take n (stored_of g start).records)) → IsFold first g s
   redo_ends start n s doing all tables =
       let i = stored_of g start in
-      let whole : take n i.records ≡ i.records ++ waiting_of start = take_all n i.records (omega (arith, all)) ∙ sym (append-nil i.records) ∙ ap (λ (l : List (List ℕ)). i.records ++ records_in l) (sym doing.none) in
+      let whole : IsSoundImage first → take n i.records ≡ i.records ++ waiting_of start = λ sound.
+      take_all n i.records (omega (arith, all sound)) ∙ sym (append-nil i.records) ∙ ap (λ (l : List (List ℕ)). i.records ++ records_in l) (sym doing.none) in
       record {
         over = doing.over;
-        tables = tables ∙ ap tables_of (whole ∙ sym doing.moves.all);
-        current = λ p. doing.current p ∙ ap (λ (l : List Record). overlaid p i.first l (home_of g start p)) whole ∙ sym (doing.moves.pages p);
+        tables = λ sound. tables sound ∙ ap tables_of (whole sound ∙ sym (doing.moves sound).all);
+        current = λ sound p. doing.current sound p ∙ ap (λ (l : List Record). overlaid p start.root.first l (home_of g start p)) (whole sound) ∙ sym ((doing.moves sound).pages p);
       }

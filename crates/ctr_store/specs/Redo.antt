@@ -1,25 +1,47 @@
 -- Bringing pages and tables forward by the records of a log.
-use Rattle.std.specs.Prelude.{◌≡◌, ℕ, [], take, Some, slice_get}
+use Rattle.std.specs.Prelude.{◌≡◌, ℕ, ◌+◌, List, [], length, take, Some, slice_get}
 use Rattle.ctr_disk.specs.declared.disk.Disk.{Ghosts}
+use Rattle.ctr_disk.specs.declared.disk.Image.{Image}
+use Rattle.ctr_log.specs.declared.visitor.Visit.{Visit}
+use Rattle.ctr_log.specs.Kept.{kept_log}
+use Rattle.ctr_log.specs.Visits.{visit_bytes, AreNumbered}
 use Rattle.ctr_records.specs.declared.record.Record.{Record}
 use Rattle.ctr_pool.specs.Frames.{page_shown}
 use Rattle.ctr_pool.specs.Over.{IsOver}
 use Rattle.ctr_redo.specs.Overlaid.{overlay_of, overlaid}
 use Rattle.ctr_base.specs.declared.base.Base.{Base}
-use Rattle.ctr_base.specs.Base.{stored_of, home_of, MovesBase, backing_of}
+use Rattle.ctr_base.specs.Base.{stored_of, home_of, IsSoundImage, Rests, IsQuiet, MovesIf, backing_of}
 use Rattle.ctr_store.specs.Changes.{LiesInside}
 use Rattle.ctr_store.specs.declared.parts.Parts.{Parts}
+use Rattle.ctr_store.specs.RecordChecks.{ArePassed, tables_seen}
 
--- The pool shows what the first n records make of what was held at the start. What is held now doesn't
--- matter: a page may have gone home on the way.
-pub record RedoesPages {D : Type 0} (g : Ghosts D) (start : Base D) (n : ℕ) (s : Parts D) : Type 0 where
-  pub over : IsOver (backing_of g) s.pool.frames s.base
-  pub moves : MovesBase g start s.base
+-- Where the first image was sound, the pool shows what the first n records make of what was held at the
+-- start. What is held now doesn't matter: a page may have gone home on the way.
+pub record RedoesPages {D O : Type 0} (first : Image) (g : Ghosts D) (start : Base D O) (n : ℕ)
+    (s : Parts D O) : Type 0 where
+  pub over : IsOver (backing_of first g) s.pool.frames s.base
+  pub root : s.base.root ≡ start.root
+  pub moves : MovesIf first g start s.base
+  pub sound : IsSoundImage first → IsQuiet g start
   pub none : start.log.buffered ≡ []
-  pub current : (p : ℕ) → page_shown s.pool.frames p (home_of g s.base p)
+  pub next : s.base.log.first + length s.base.log.buffered ≡ start.log.first
+  pub current : IsSoundImage first → (p : ℕ) → page_shown s.pool.frames p (home_of g s.base p)
       ≡ overlaid p start.root.first (take n (stored_of g start).records) (home_of g start p)
 
 -- the record behind the first n of the log
-pub record IsNextRecord {D : Type 0} (g : Ghosts D) (start : Base D) (n : ℕ) (r : Record) : Type 0 where
+pub record IsNextRecord {D O : Type 0} (g : Ghosts D) (start : Base D O) (n : ℕ) (r : Record)
+    : Type 0 where
   pub there : slice_get (stored_of g start).records n ≡ Some r
   pub counted : LiesInside start.root.pages (overlay_of r)
+
+-- Before the first record: the records are those of the log, with their numbers, the tables are theirs,
+-- and the pool has no page.
+pub record Begins {D O : Type 0} (first : Image) (g : Ghosts D) (vs : List Visit) (s : Parts D O)
+    : Type 0 where
+  pub rests : Rests first g s.base
+  pub empty : s.pool.frames ≡ []
+  pub none : s.base.log.buffered ≡ []
+  pub records : visit_bytes vs ≡ kept_log s.base.root.file s.base.root.first (g.reads s.base.disk)
+  pub numbers : AreNumbered s.base.root.first vs
+  pub tables : s.meta.tables ≡ tables_seen vs
+  pub passed : ArePassed s.base.root.pages vs

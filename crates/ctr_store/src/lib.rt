@@ -2,9 +2,18 @@
 #![tactic(auto)]
 
 mod laws;
+mod opening;
 mod parts;
 mod redo;
+mod seen;
 mod spelling;
+mod store;
 
 pub use laws::redo_makes_the_fold;
+pub use opening::OpenError;
 pub use parts::Parts;
+pub use seen::Seen;
+pub use store::Store;
+
+#[cfg(test)]
+mod tests;

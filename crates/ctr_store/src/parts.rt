@@ -1,52 +1,109 @@
 // The parts of a store. Each call is one statement on what a crash leaves, and one on what it answers.
-ghost use Rattle.std.specs.Prelude.{◌≡◌, ◌<◌, ◌≤◌, ◌+◌, true, false, IsTrue, ℕ, [], Err, None, Some, length, IfOk, OnOk, OnErr};
+ghost use Rattle.std.specs.Prelude.{◌≡◌, ◌<◌, ◌≤◌, ◌+◌, true, false, IsTrue, ℕ, [], Err, None, Some, length, IfOk, OnOk, OnErr, IfErr};
 ghost use Rattle.ctr_types.specs.Faults.{HasFault};
 ghost use Rattle.ctr_disk.specs.declared.fault.StoreFault.TheVariants.{Fault};
 ghost use Rattle.ctr_redo.specs.Overlaid.{overlay_of};
 ghost use Rattle.ctr_pool.specs.Frames.{has_page, AreClean};
-ghost use Rattle.ctr_base.specs.Base.{LeavesBase, MovesBase, KeepsBase};
-ghost use Rattle.ctr_store.specs.Parts.{IsFold, CanLog, AddsRecord, LogsRecord, LogsRoom};
+ghost use Rattle.ctr_redo.specs.States.{page_limit, page_at, state_of};
+ghost use Rattle.ctr_base.specs.Base.{now_of, IsSoundImage, LeavesIf, MovesIf, KeepsBase, backing_of};
+ghost use Rattle.ctr_pool.specs.Over.{IsOver, StaysOver};
+ghost use Rattle.ctr_disk.specs.Device.{OnlyReads};
+ghost use Rattle.ctr_store.specs.Parts.{IsFold, IsLow, AreLow, CanLog, AddsRecord, LogsRecord, LogsRoom};
 
 use crate::spelling::{append_record, overlay_of};
-use ctr_base::Base;
+use ctr_base::{Base, Origin};
 use ctr_disk::{Disk, StoreFault};
 use ctr_log::Lsn;
 use ctr_meta::Meta;
 use ctr_pool::Pool;
 use ctr_records::{Overlay, PageNo, Record};
+use ctr_types::File;
 
 /// What a store is made of: the log and the homes, pages in frames over them, the tables.
 #[derive(Drop)]
-pub struct Parts<D> {
-    pub base: Base<D>,
+pub struct Parts<D, O> {
+    pub base: Base<D, O>,
     pub pool: Pool,
     pub meta: Meta,
 }
 
-impl<D: Disk> Parts<D> {
-    /// Brings a page into a frame.
+impl<D: Disk, O: Origin> Parts<D, O> {
+    /// The disk.
+    pub fn into_disk(self) -> D
+        ensures { result ≡ self.base.disk }
+    {
+        let Parts {
+            base,
+            pool: _,
+            meta: _,
+        } = self;
+        let Base {
+            disk,
+            log: _,
+            root: _,
+            durable: _,
+            of: _,
+        } = base;
+        disk
+    }
+
+    // The page that a frame has lacks no record of the log, with those that wait.
+    fn check_low(&mut self, page: PageNo) -> Result<(), StoreFault>
+        requires { has_page page self.old.pool.frames ≡ true }
+        ensures low { OnOk result (IsLow page self.old) }
+        ensures same { (self.new.pool ≡ self.old.pool) × (self.new.meta ≡ self.old.meta) }
+        ensures read { OnlyReads D.Disk self.old.base.disk self.new.base.disk }
+        ensures below { self.new.base ≡ record self.old.base { disk = self.new.base.disk } }
+        ensures quiet { OnOk result (self.new ≡ self.old) }
+        ensures refused { IfErr result (λ e. AreLow D.Disk self.old → e ≡ Fault) }
+        ensures faults { HasFault Fault (D.faults_of self.old.base.disk) (D.faults_of self.new.base.disk) result }
+    {
+        let stamp = self.pool.lsn(page);
+        let next = self.base.next();
+        if stamp < next {
+            return Ok(());
+        }
+        let at = self.base.stamp_place(page, stamp)?;
+        Err(StoreFault::Damaged {
+            file: File::Pages,
+            at,
+            want: (next as u128).saturating_sub(1),
+            got: stamp as u128,
+        })
+    }
+
+    /// Brings a page into a frame. It has no record that the log lacks, or that is damage.
     pub fn bring(&mut self, page: PageNo) -> Result<(), StoreFault>
-        requires { IsTrue D.tells → IsFold D.Disk self.old }
-        ensures there { OnOk result (has_page page self.new.pool.frames ≡ true) }
+        requires { IsTrue D.tells → IsOver (backing_of O.first D.Disk) self.old.pool.frames self.old.base }
+        ensures there { OnOk result ((has_page page self.new.pool.frames ≡ true) × IsLow page self.new) }
         ensures keeps { KeepsBase self.old.base self.new.base × (self.new.meta ≡ self.old.meta) }
-        ensures goes { IsTrue D.tells → LeavesBase D.Disk self.old.base self.new.base }
-        ensures moves { IsTrue D.tells → OnOk result (MovesBase D.Disk self.old.base self.new.base) }
-        ensures fold { IsTrue D.tells → OnOk result (IsFold D.Disk self.new) }
-        ensures refused { IsTrue D.tells → OnErr result (result ≡ Err Fault) }
+        ensures goes { IsTrue D.tells → LeavesIf O.first D.Disk self.old.base self.new.base }
+        ensures moves { IsTrue D.tells → OnOk result (MovesIf O.first D.Disk self.old.base self.new.base) }
+        ensures stays { IsTrue D.tells → OnOk result (StaysOver (backing_of O.first D.Disk) self.old.pool.frames self.old.base self.new.pool.frames self.new.base) }
+        ensures refused { IsTrue D.tells → (IsSoundImage O.first → AreLow D.Disk self.old) → IfErr result (λ e. IsSoundImage O.first → e ≡ Fault) }
         ensures faults { HasFault Fault (D.faults_of self.old.base.disk) (D.faults_of self.new.base.disk) result }
     {
         self.pool.bring(page, &mut self.base)?;
+        self.check_low(page)?;
         Ok(())
+    }
+
+    /// The bytes of a page that a frame has.
+    pub fn bytes(&self, page: PageNo) -> &[u8]
+        ensures { IsTrue D.tells → IsSoundImage O.first → IsFold O.first D.Disk self.now → has_page page self.now.pool.frames ≡ true → page < page_limit
+            → result.now ≡ page_at page (state_of (now_of D.Disk self.now.base)).pages }
+    {
+        self.pool.bytes(page)
     }
 
     /// Makes all records durable.
     pub fn harden(&mut self) -> Result<(), StoreFault>
-        requires { IsTrue D.tells → IsFold D.Disk self.old }
-        ensures keeps { KeepsBase self.old.base self.new.base }
-        ensures goes { IsTrue D.tells → LeavesBase D.Disk self.old.base self.new.base }
-        ensures moves { IsTrue D.tells → OnOk result (MovesBase D.Disk self.old.base self.new.base) }
+        requires { IsTrue D.tells → IsFold O.first D.Disk self.old }
+        ensures keeps { KeepsBase self.old.base self.new.base × (self.new.meta ≡ self.old.meta) }
+        ensures goes { IsTrue D.tells → LeavesIf O.first D.Disk self.old.base self.new.base }
+        ensures moves { IsTrue D.tells → OnOk result (MovesIf O.first D.Disk self.old.base self.new.base) }
         ensures none { OnOk result (self.new.base.log.buffered ≡ []) }
-        ensures fold { IsTrue D.tells → OnOk result (IsFold D.Disk self.new) }
+        ensures fold { IsTrue D.tells → OnOk result (IsFold O.first D.Disk self.new) }
         ensures refused { OnErr result (result ≡ Err Fault) }
         ensures faults { HasFault Fault (D.faults_of self.old.base.disk) (D.faults_of self.new.base.disk) result }
     {
@@ -56,13 +113,13 @@ impl<D: Disk> Parts<D> {
 
     /// Writes the page home that is changed the longest, or answers that none is changed.
     pub fn write_one_dirty(&mut self) -> Result<bool, StoreFault>
-        requires { IsTrue D.tells → IsFold D.Disk self.old }
+        requires { IsTrue D.tells → IsFold O.first D.Disk self.old }
         ensures none { IfOk result (λ wrote. wrote ≡ false → AreClean self.old.pool.frames) }
-        ensures keeps { KeepsBase self.old.base self.new.base }
-        ensures goes { IsTrue D.tells → LeavesBase D.Disk self.old.base self.new.base }
-        ensures moves { IsTrue D.tells → OnOk result (MovesBase D.Disk self.old.base self.new.base) }
-        ensures fold { IsTrue D.tells → OnOk result (IsFold D.Disk self.new) }
-        ensures refused { IsTrue D.tells → OnErr result (result ≡ Err Fault) }
+        ensures keeps { KeepsBase self.old.base self.new.base × (self.new.meta ≡ self.old.meta) }
+        ensures goes { IsTrue D.tells → LeavesIf O.first D.Disk self.old.base self.new.base }
+        ensures moves { IsTrue D.tells → OnOk result (MovesIf O.first D.Disk self.old.base self.new.base) }
+        ensures fold { IsTrue D.tells → OnOk result (IsFold O.first D.Disk self.new) }
+        ensures refused { IsTrue D.tells → IfErr result (λ e. IsSoundImage O.first → e ≡ Fault) }
         ensures faults { HasFault Fault (D.faults_of self.old.base.disk) (D.faults_of self.new.base.disk) result }
     {
         let wrote = self.pool.write_one(&mut self.base)?;
@@ -75,8 +132,8 @@ impl<D: Disk> Parts<D> {
         requires off { overlay_of rec.now ≡ None }
         ensures number { result ≡ self.old.base.log.first + length self.old.base.log.buffered }
         ensures below { self.new.base.disk ≡ self.old.base.disk }
-        ensures adds { IsTrue D.tells → IsFold D.Disk self.old → AddsRecord D.Disk rec.now self.old self.new }
-        ensures fold { IsTrue D.tells → IsFold D.Disk self.old → IsFold D.Disk self.new }
+        ensures adds { IsTrue D.tells → IsFold O.first D.Disk self.old → IsSoundImage O.first → AddsRecord D.Disk rec.now self.old self.new }
+        ensures fold { IsTrue D.tells → IsFold O.first D.Disk self.old → IsFold O.first D.Disk self.new }
         ensures room { LogsRoom rec.now self.old self.new }
     {
         let lsn = append_record(&mut self.base.log, rec);
@@ -88,11 +145,11 @@ impl<D: Disk> Parts<D> {
     fn log_on(&mut self, rec: &Record, overlay: &Overlay) -> Lsn
         requires can { CanLog rec.now self.old }
         requires on { overlay_of rec.now ≡ Some overlay.now }
-        requires there { has_page overlay.now.page self.old.pool.frames ≡ true }
+        requires there { (has_page overlay.now.page self.old.pool.frames ≡ true) × IsLow overlay.now.page self.old }
         ensures number { result ≡ self.old.base.log.first + length self.old.base.log.buffered }
         ensures below { self.new.base.disk ≡ self.old.base.disk }
-        ensures adds { IsTrue D.tells → IsFold D.Disk self.old → AddsRecord D.Disk rec.now self.old self.new }
-        ensures fold { IsTrue D.tells → IsFold D.Disk self.old → IsFold D.Disk self.new }
+        ensures adds { IsTrue D.tells → IsFold O.first D.Disk self.old → IsSoundImage O.first → AddsRecord D.Disk rec.now self.old self.new }
+        ensures fold { IsTrue D.tells → IsFold O.first D.Disk self.old → IsFold O.first D.Disk self.new }
         ensures room { LogsRoom rec.now self.old self.new }
     {
         let lsn = append_record(&mut self.base.log, rec);
@@ -103,14 +160,14 @@ impl<D: Disk> Parts<D> {
 
     /// Adds a record that can be logged, and answers its number. It waits in the log's buffer.
     pub fn log(&mut self, rec: &Record) -> Result<Lsn, StoreFault>
-        requires fold { IsTrue D.tells → IsFold D.Disk self.old }
+        requires fold { IsTrue D.tells → IsFold O.first D.Disk self.old }
         requires can { CanLog rec.now self.old }
         ensures number { IfOk result (λ lsn. lsn ≡ self.old.base.log.first + length self.old.base.log.buffered) }
-        ensures goes { IsTrue D.tells → LeavesBase D.Disk self.old.base self.new.base }
-        ensures logs { IsTrue D.tells → OnOk result (LogsRecord D.Disk rec.now self.old.base self.new.base) }
-        ensures fold { IsTrue D.tells → OnOk result (IsFold D.Disk self.new) }
+        ensures goes { IsTrue D.tells → LeavesIf O.first D.Disk self.old.base self.new.base }
+        ensures logs { IsTrue D.tells → OnOk result (IsSoundImage O.first → LogsRecord D.Disk rec.now self.old.base self.new.base) }
+        ensures fold { IsTrue D.tells → OnOk result (IsFold O.first D.Disk self.new) }
         ensures room { OnOk result (LogsRoom rec.now self.old self.new) }
-        ensures refused { IsTrue D.tells → OnErr result (result ≡ Err Fault) }
+        ensures refused { IsTrue D.tells → IfErr result (λ e. IsSoundImage O.first → e ≡ Fault) }
         ensures faults { HasFault Fault (D.faults_of self.old.base.disk) (D.faults_of self.new.base.disk) result }
     {
         let Some(overlay) = overlay_of(rec) else {

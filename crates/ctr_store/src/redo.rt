@@ -1,35 +1,39 @@
 // Opening: pages and tables are brought forward by the log's records. A page may go home on the way.
-ghost use Rattle.std.specs.Prelude.{◌≡◌, ◌≤◌, ◌<◌, ◌+◌, IsTrue, ℕ, Err, Some, length, IfOk, OnOk, OnErr};
+ghost use Rattle.std.specs.Prelude.{◌≡◌, ◌≤◌, ◌<◌, ◌+◌, IsTrue, ℕ, Err, Some, length, IfOk, IfErr, OnOk, OnErr};
 ghost use Rattle.ctr_types.specs.Faults.{HasFault};
 ghost use Rattle.ctr_disk.specs.declared.fault.StoreFault.TheVariants.{Fault};
 ghost use Rattle.ctr_records.specs.declared.record.Record.{Record as Logged};
-ghost use Rattle.ctr_meta.specs.Effects.{effect};
-ghost use Rattle.ctr_meta.specs.Kept.{IsLogged, MayApply};
+ghost use Rattle.ctr_meta.specs.Tables.{Tables};
+ghost use Rattle.ctr_records.specs.Records.{IsRecord};
+ghost use Rattle.ctr_records.specs.Spelling.{record_bytes};
+ghost use Rattle.ctr_store.specs.RecordChecks.{PassesAs, ArePassed};
 ghost use Rattle.ctr_pool.specs.Over.{IsOver};
 ghost use Rattle.ctr_redo.specs.Overlaid.{overlay_of};
 ghost use Rattle.ctr_base.specs.declared.base.Base.{Base as Under};
-ghost use Rattle.ctr_base.specs.Base.{LeavesBase, KeepsBase, backing_of};
-ghost use Rattle.ctr_store.specs.Redo.{RedoesPages, IsNextRecord};
+ghost use Rattle.ctr_base.specs.Base.{IsSoundImage, LeavesIf, MovesIf, KeepsBase, backing_of};
+ghost use Rattle.ctr_store.specs.Parts.{IsFold, AreLow};
+ghost use Rattle.ctr_store.specs.Redo.{RedoesPages, IsNextRecord, Begins};
 
 use crate::parts::Parts;
 use crate::spelling::overlay_of;
+use ctr_base::Origin;
 use ctr_disk::{Disk, StoreFault};
-use ctr_log::Lsn;
-use ctr_records::{Overlay, Record};
+use ctr_log::{Lsn, Visit};
+use ctr_records::{Overlay, decode};
 
-impl<D: Disk> Parts<D> {
+impl<D: Disk, O: Origin> Parts<D, O> {
     // Lays an overlay over its page, where the page lacks the overlay's record.
     fn redo_page(&mut self, overlay: &Overlay, lsn: Lsn) -> Result<(), StoreFault>
-        requires over { IsTrue D.tells → IsOver (backing_of D.Disk) self.old.pool.frames self.old.base }
+        requires over { IsTrue D.tells → IsOver (backing_of O.first D.Disk) self.old.pool.frames self.old.base }
         requires inside { overlay.now.offset + length overlay.now.bytes ≤ 4096 }
-        ensures goes { IsTrue D.tells → LeavesBase D.Disk self.old.base self.new.base }
-        ensures redone { (start : Under D) (n : ℕ) (r : Logged) → IsTrue D.tells → RedoesPages D.Disk start n self.old → IsNextRecord D.Disk start n r → overlay_of r ≡ Some overlay.now → lsn ≡ start.root.first + n
-            → OnOk result (RedoesPages D.Disk start (n + 1) self.new) }
+        ensures goes { IsTrue D.tells → LeavesIf O.first D.Disk self.old.base self.new.base }
+        ensures redone { (start : Under D O) (n : ℕ) (r : Logged) → IsTrue D.tells → RedoesPages O.first D.Disk start n self.old → IsNextRecord D.Disk start n r → overlay_of r ≡ Some overlay.now → lsn ≡ start.root.first + n
+            → OnOk result (RedoesPages O.first D.Disk start (n + 1) self.new) }
         ensures keeps { KeepsBase self.old.base self.new.base × (self.new.meta ≡ self.old.meta) }
-        ensures refused { IsTrue D.tells → OnErr result (result ≡ Err Fault) }
+        ensures refused { IsTrue D.tells → (IsSoundImage O.first → AreLow D.Disk self.old) → IfErr result (λ e. IsSoundImage O.first → e ≡ Fault) }
         ensures faults { HasFault Fault (D.faults_of self.old.base.disk) (D.faults_of self.new.base.disk) result }
     {
-        self.pool.bring(overlay.page, &mut self.base)?;
+        self.bring(overlay.page)?;
         if lsn <= self.pool.lsn(overlay.page) {
             return Ok(());
         }
@@ -37,24 +41,43 @@ impl<D: Disk> Parts<D> {
         Ok(())
     }
 
-    /// Brings the page of a record forward by it, where the page lacks it, and the tables.
-    pub fn redo(&mut self, rec: &Record, lsn: Lsn) -> Result<(), StoreFault>
-        requires over { IsTrue D.tells → IsOver (backing_of D.Disk) self.old.pool.frames self.old.base }
-        requires logged { IsLogged rec.now }
-        requires may { MayApply rec.now self.old.meta }
-        ensures goes { IsTrue D.tells → LeavesBase D.Disk self.old.base self.new.base }
-        ensures redone { (start : Under D) (n : ℕ) → IsTrue D.tells → RedoesPages D.Disk start n self.old → IsNextRecord D.Disk start n rec.now → lsn ≡ start.root.first + n
-            → OnOk result (RedoesPages D.Disk start (n + 1) self.new) }
-        ensures tables { OnOk result (self.new.meta.tables ≡ effect rec.now self.old.meta.tables) }
-        ensures refused { IsTrue D.tells → OnErr result (result ≡ Err Fault) }
+    // Lays the overlay of a record over its page, where the page lacks it.
+    fn redo_visit(&mut self, visit: &Visit) -> Result<(), StoreFault>
+        requires over { IsTrue D.tells → IsOver (backing_of O.first D.Disk) self.old.pool.frames self.old.base }
+        requires passed { (pages : ℕ) × (t : Tables) × (r : Logged) × PassesAs pages visit.now.at t visit.now.bytes r }
+        ensures goes { IsTrue D.tells → LeavesIf O.first D.Disk self.old.base self.new.base }
+        ensures redone { (start : Under D O) (n : ℕ) (r : Logged) → IsTrue D.tells → RedoesPages O.first D.Disk start n self.old → IsNextRecord D.Disk start n r → IsRecord r → record_bytes r ≡ visit.now.bytes → visit.now.lsn ≡ start.root.first + n
+            → OnOk result (RedoesPages O.first D.Disk start (n + 1) self.new) }
+        ensures keeps { KeepsBase self.old.base self.new.base × (self.new.meta ≡ self.old.meta) }
+        ensures refused { IsTrue D.tells → (IsSoundImage O.first → AreLow D.Disk self.old) → IfErr result (λ e. IsSoundImage O.first → e ≡ Fault) }
         ensures faults { HasFault Fault (D.faults_of self.old.base.disk) (D.faults_of self.new.base.disk) result }
     {
-        let Some(overlay) = overlay_of(rec) else {
-            self.meta.apply(rec);
+        let Ok(rec) = decode(visit.bytes.as_slice()) else {
+            unreachable!();
+        };
+        let Some(overlay) = overlay_of(&rec) else {
             return Ok(());
         };
-        self.redo_page(&overlay, lsn)?;
-        self.meta.apply(rec);
+        self.redo_page(&overlay, visit.lsn)?;
+        Ok(())
+    }
+
+    /// Brings the pages forward by the records of the log, in order, each page where it lacks one.
+    pub fn redo(&mut self, visits: &[Visit]) -> Result<(), StoreFault>
+        requires begins { IsTrue D.tells → Begins O.first D.Disk visits.now self.old }
+        requires passed { (pages : ℕ) × ArePassed pages visits.now }
+        ensures goes { IsTrue D.tells → LeavesIf O.first D.Disk self.old.base self.new.base }
+        ensures fold { IsTrue D.tells → OnOk result (IsFold O.first D.Disk self.new) }
+        ensures moves { IsTrue D.tells → OnOk result (MovesIf O.first D.Disk self.old.base self.new.base) }
+        ensures keeps { KeepsBase self.old.base self.new.base × (self.new.meta ≡ self.old.meta) }
+        ensures refused { IsTrue D.tells → IfErr result (λ e. IsSoundImage O.first → e ≡ Fault) }
+        ensures faults { HasFault Fault (D.faults_of self.old.base.disk) (D.faults_of self.new.base.disk) result }
+    {
+        let mut i = 0;
+        while i < visits.len() {
+            self.redo_visit(&visits[i])?;
+            i += 1;
+        }
         Ok(())
     }
 }

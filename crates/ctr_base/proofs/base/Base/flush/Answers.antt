@@ -1,40 +1,62 @@
 use Rattle.std.proofs.Common.{refl}
+use Rattle.ctr_log.specs.Logs.{with_batch}
+use Rattle.ctr_redo.proofs.ImageLaws.{logs_apart}
 use Rattle.ctr_base.specs.declared.base.Base.{Base}
-use Rattle.ctr_base.specs.BaseLaws.{flush_leaves, flush_moves, flush_quiet, flush_holds, Flushed}
+use Rattle.ctr_base.specs.BaseLaws.{flush_leaves, flush_moves, flush_quiet, flush_holds, Flushed, holds_if, stands_flushed, homes_flushed}
 use Rattle.ctr_base.proofs.base.Base.flush.Goals as goal
 
 pub returns-in_err-flush-clause-goes : goal.returns-in_err-flush-clause-goes
-returns-in_err-flush-clause-goes g c told =
+returns-in_err-flush-clause-goes g c told sound =
     let d = g.D.Disk in
     let a = c.args.self.now in
-    let quiet = c.requires told in
+    let quiet = (c.requires told).quiet sound in
     flush_leaves d a c.flush.new.disk quiet (c.flush.ensures.kept_any_moment a.root.file a.root.first (record { told = told; only = quiet.only }) quiet.writes)
 
 pub returns-clause-goes : goal.returns-clause-goes
-returns-clause-goes g c told =
+returns-clause-goes g c told sound =
     let d = g.D.Disk in
     let a = c.args.self.now in
-    let quiet = c.requires told in
+    let quiet = (c.requires told).quiet sound in
     flush_leaves d a c.flush.new.disk quiet (c.flush.ensures.kept_any_moment a.root.file a.root.first (record { told = told; only = quiet.only }) quiet.writes)
 
 pub returns-clause-moves : goal.returns-clause-moves
 returns-clause-moves g c told =
     let d = g.D.Disk in
     let a = c.args.self.now in
-    let b : Base g.row.D.Denot = record { disk = c.flush.new.disk; log = c.flush.new.self; root = a.root; durable = c.next-self.result } in
-    let quiet = c.requires told in
+    let b : Base g.row.D.Denot g.row.O.Denot = record { disk = c.flush.new.disk; log = c.flush.new.self; root = a.root; durable = c.next-self.result; of = a.of } in
+    let rests = c.requires told in
     let e = c.in_ok-flush.ensures in
-    let f : Flushed d a b = record { root = refl; file = c.flush.ensures.emptied.file; none = e.emptied.none; next = e.emptied.next; durable = c.next-self.ensures; goes_on = e.kept a.root.file a.root.first (told) quiet.writes } in (
-      flush_moves d a b quiet f,
-      flush_quiet d a b quiet f (e.durable quiet.only),
+    let file = c.flush.ensures.emptied.file in
+    let goes = rests.stands.goes_on in
+    let flushed = e.flushed goes.0 goes.1 told goes.2 in
+    let kept = logs_apart a.log.file (d.reads a.disk) (d.reads c.flush.new.disk) rests.stands.file flushed.0 in
+    let f : (sound : _) → Flushed d a b = λ sound.
+    record { root = refl; file = file; none = e.emptied.none; next = e.emptied.next; durable = c.next-self.ensures; goes_on = e.kept a.root.file a.root.first told (rests.quiet sound).writes } in (
+      λ sound. flush_moves d a b (rests.quiet sound) (f sound),
+      record {
+        stands = stands_flushed d a b rests.stands refl file kept goes.0 (with_batch goes.1 a.log.buffered) flushed.1;
+        quiet = λ sound. flush_quiet d a b (rests.quiet sound) (f sound) (e.durable (rests.quiet sound).only);
+      },
     )
 
 pub returns-clause-holds : goal.returns-clause-holds
 returns-clause-holds g c told =
     let d = g.D.Disk in
     let a = c.args.self.now in
-    let b : Base g.row.D.Denot = record { disk = c.flush.new.disk; log = c.flush.new.self; root = a.root; durable = c.next-self.result } in
-    let quiet = c.requires told in
+    let b : Base g.row.D.Denot g.row.O.Denot = record { disk = c.flush.new.disk; log = c.flush.new.self; root = a.root; durable = c.next-self.result; of = a.of } in
+    let rests = c.requires told in
     let e = c.in_ok-flush.ensures in
-    let f : Flushed d a b = record { root = refl; file = c.flush.ensures.emptied.file; none = e.emptied.none; next = e.emptied.next; durable = c.next-self.ensures; goes_on = e.kept a.root.file a.root.first (told) quiet.writes } in
-    flush_holds d a b quiet f
+    let goes = rests.stands.goes_on in
+    let flushed = e.flushed goes.0 goes.1 told goes.2 in
+    let kept = logs_apart a.log.file (d.reads a.disk) (d.reads c.flush.new.disk) rests.stands.file flushed.0 in
+    holds_if d g.O.Origin.first a b refl (homes_flushed d a b refl kept)
+    (λ sound.
+    flush_holds d a b (rests.quiet sound)
+    (record {
+      root = refl;
+      file = c.flush.ensures.emptied.file;
+      none = e.emptied.none;
+      next = e.emptied.next;
+      durable = c.next-self.ensures;
+      goes_on = e.kept a.root.file a.root.first told (rests.quiet sound).writes;
+    }))

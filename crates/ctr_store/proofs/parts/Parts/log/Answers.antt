@@ -1,31 +1,52 @@
-use Rattle.std.proofs.Common.{sym, subst}
-use Rattle.ctr_disk.specs.Device.{LeavesOnly}
-use Rattle.ctr_redo.specs.Images.{FoldsFront}
-use Rattle.ctr_redo.specs.States.{state_of}
-use Rattle.ctr_base.specs.Base.{stored_of, waiting_of}
-use Rattle.ctr_base.specs.BaseLaws.{quiet_leaves}
-use Rattle.ctr_store.proofs.PartsLaws.{can_still, logs_now, logs_behind}
+use Rattle.std.proofs.Common.{ap}
+use Rattle.std.proofs.lemmas.Result.{err_from_is_err_and}
+use Rattle.ctr_base.specs.BaseLaws.{rests_leaves}
+use Rattle.ctr_store.proofs.PartsLaws.{can_still, logs_now, logs_behind, leaves_same, fold_moved, fold_low}
 use Rattle.ctr_store.proofs.parts.Parts.log.Goals as goal
 
 pub returns-in_default-clause-goes : goal.returns-in_default-clause-goes
 returns-in_default-clause-goes g c told =
     let d = g.D.Disk in
+    let o = g.O.Origin.first in
     let a = c.args.self.now.base in
-    subst (λ (x : g.row.D.Denot). LeavesOnly d a.disk x (FoldsFront (state_of (stored_of d a)) (waiting_of a))) (sym c.log_off.ensures.below) (quiet_leaves d g.met.D.Disk.only_now a (c.requires.fold told).over.at_rest)
+    leaves_same o d a a c.log_off.new.self.base c.log_off.ensures.below (rests_leaves d o g.met.D.Disk.only_now a (c.requires.fold told).over.at_rest)
 
 pub returns-in_default-clause-logs : goal.returns-in_default-clause-logs
-returns-in_default-clause-logs g c told = logs_now g.D.Disk c.args.rec.now c.args.self.now c.log_off.new.self (c.log_off.ensures.adds told (c.requires.fold told))
+returns-in_default-clause-logs g c told sound = logs_now g.O.Origin.first g.D.Disk c.args.rec.now c.args.self.now c.log_off.new.self (c.log_off.ensures.adds told (c.requires.fold told) sound)
 
 pub log_on-requires-clause-can : goal.log_on-requires-clause-can
-log_on-requires-clause-can g c = let keeps = c.bring.ensures.keeps in can_still g.D.Disk c.args.rec.now c.args.self.now c.bring.new.self keeps.0 keeps.1 c.requires.can
+log_on-requires-clause-can g c = let keeps = c.bring.ensures.keeps in can_still g.O.Origin.first g.D.Disk c.args.rec.now c.args.self.now c.bring.new.self keeps.0 keeps.1 c.requires.can
 
 pub returns-clause-goes : goal.returns-clause-goes
 returns-clause-goes g c told =
     let d = g.D.Disk in
     let a = c.args.self.now.base in
-    subst (λ (x : g.row.D.Denot). LeavesOnly d a.disk x (FoldsFront (state_of (stored_of d a)) (waiting_of a))) (sym c.log_on.ensures.below) (c.bring.ensures.goes told)
+    leaves_same g.O.Origin.first d a c.bring.new.self.base c.log_on.new.self.base c.log_on.ensures.below (c.bring.ensures.goes told)
 
 pub returns-clause-logs : goal.returns-clause-logs
-returns-clause-logs g c told =
+returns-clause-logs g c told sound =
+    let d = g.D.Disk in
+    let o = g.O.Origin.first in
     let e = c.in_ok-bring.ensures in
-    logs_behind g.D.Disk c.args.rec.now c.args.self.now c.bring.new.self c.log_on.new.self (e.moves told) (c.log_on.ensures.adds told (e.fold told))
+    let s = c.args.self.now in
+    let m = c.bring.new.self in
+    let stays = e.stays told in
+    let fold = fold_moved o d s m (c.requires.fold told) (e.moves told) (let keeps = c.bring.ensures.keeps in ap (λ x. x.tables) keeps.1) stays.shows stays.over in
+    logs_behind o d c.args.rec.now s m c.log_on.new.self (e.moves told sound) (c.log_on.ensures.adds told fold sound)
+
+pub returns-clause-fold : goal.returns-clause-fold
+returns-clause-fold g c told =
+    let d = g.D.Disk in
+    let o = g.O.Origin.first in
+    let e = c.in_ok-bring.ensures in
+    let s = c.args.self.now in
+    let m = c.bring.new.self in
+    let stays = e.stays told in
+    c.log_on.ensures.fold told (fold_moved o d s m (c.requires.fold told) (e.moves told) (let keeps = c.bring.ensures.keeps in ap (λ x. x.tables) keeps.1) stays.shows stays.over)
+
+pub returns-in_err-bring-clause-refused : goal.returns-in_err-bring-clause-refused
+returns-in_err-bring-clause-refused g c told =
+    let d = g.D.Disk in
+    let o = g.O.Origin.first in
+    let p = err_from_is_err_and c.from_residual.result c.from_residual.ensures.1 in
+    rw (p.1, p.2) (c.in_err-bring.ensures.refused told (fold_low o d c.args.self.now (c.requires.fold told)))

@@ -7,33 +7,34 @@ use Rattle.ctr_store.proofs.PartsLaws.{waits, push_state, push_tables, off_over,
 use Rattle.ctr_store.proofs.parts.Parts.log_off.Goals as goal
 
 pub returns-clause-adds : goal.returns-clause-adds
-returns-clause-adds g c told fold =
+returns-clause-adds g c told fold sound =
     let d = g.D.Disk in
+    let o = g.O.Origin.first in
     let s = c.args.self.now in
     let r = c.args.rec.now in
     let log = c.append_record-lsn.new.log in
     let tells = record_read r c.requires.can.logged.record_is in
-    let quiet = fold.over.at_rest in
+    let quiet = fold.over.at_rest.quiet sound in
     let added = c.append_record-lsn.ensures.added in
     record {
-      waiting = waits d s.base log (record_bytes r) r quiet added tells;
+      waiting = waits o d s.base log (record_bytes r) r added tells;
       hardened = refl;
       root = refl;
-      now = push_state d s.base log (record_bytes r) r quiet added tells;
+      now = push_state o d s.base log (record_bytes r) r added tells quiet;
     }
 
 pub returns-clause-fold : goal.returns-clause-fold
 returns-clause-fold g c told fold =
     let d = g.D.Disk in
+    let o = g.O.Origin.first in
     let s = c.args.self.now in
     let r = c.args.rec.now in
     let log = c.append_record-lsn.new.log in
     let tells = record_read r c.requires.can.logged.record_is in
-    let quiet = fold.over.at_rest in
     let added = c.append_record-lsn.ensures.added in
     let off = off_all r c.requires.off in
     record {
-      over = off_over d s.base log (record_bytes r) r quiet added tells s.pool.frames off fold.over;
-      tables = c.apply.ensures.tables ∙ ap (effect r) fold.tables ∙ sym (push_tables d s.base log (record_bytes r) r quiet added tells);
-      current = off_current d s.base log (record_bytes r) r quiet added tells s.pool.frames off fold.current;
+      over = off_over o d s.base log (record_bytes r) r added tells s.pool.frames off fold.over;
+      tables = λ sound. c.apply.ensures.tables ∙ ap (effect r) (fold.tables sound) ∙ sym (push_tables o d s.base log (record_bytes r) r added tells);
+      current = λ sound. off_current o d s.base log (record_bytes r) r added tells s.pool.frames off (fold.current sound);
     }

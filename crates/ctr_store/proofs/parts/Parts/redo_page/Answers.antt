@@ -10,15 +10,16 @@ use Rattle.ctr_store.proofs.parts.Parts.redo_page.Goals as goal
 pub returns-then-lsn-clause-redone : goal.returns-then-lsn-clause-redone
 returns-then-lsn-clause-redone g c start n r told doing next is at =
     let d = g.D.Disk in
+    let i = g.O.Origin.first in
     let s = c.args.self.now in
-    let t : Parts g.row.D.Denot = record s { base = c.bring.new.backing; pool = c.bring.new.self } in
+    let t = c.bring.new.self in
     let e = c.in_ok-bring.ensures in
     let stays = e.stays told in
     let o = c.args.overlay.now in
-    let mid = redo_moved d start n s t doing (e.works.moves told doing.over.at_rest) stays.shows stays.over in
-    let frame = frame_there o.page t.pool.frames e.brings.there in
+    let mid = redo_moved i d start n s t doing (e.moves told) c.bring.ensures.keeps.0 stays.shows stays.over in
+    let frame = frame_there o.page t.pool.frames e.there.0 in
     let low = c.lsn.ensures frame.0 frame.1 in
-    redo_off d start n r next t mid
+    redo_off i d start n r next t mid
     (λ q on.
     let same = page_of_touch r o q is on in
     subst (λ (m : ℕ). start.root.first + n ≤ (page_shown t.pool.frames m (home_of d t.base m)).lsn) (sym same)
@@ -27,17 +28,18 @@ returns-then-lsn-clause-redone g c start n r told doing next is at =
 pub returns-clause-redone : goal.returns-clause-redone
 returns-clause-redone g c start n r told doing next is at =
     let d = g.D.Disk in
+    let i = g.O.Origin.first in
     let s = c.args.self.now in
-    let m : Parts g.row.D.Denot = record s { base = c.bring.new.backing; pool = c.bring.new.self } in
-    let t : Parts g.row.D.Denot = record s { base = c.bring.new.backing; pool = c.change.new.self } in
+    let m = c.bring.new.self in
+    let t : Parts g.row.D.Denot g.row.O.Denot = record m { pool = c.change.new.self } in
     let e = c.in_ok-bring.ensures in
     let stays = e.stays told in
     let o = c.args.overlay.now in
-    let mid = redo_moved d start n s m doing (e.works.moves told doing.over.at_rest) stays.shows stays.over in
+    let mid = redo_moved i d start n s m doing (e.moves told) c.bring.ensures.keeps.0 stays.shows stays.over in
     let fs = m.pool.frames in
-    let frame = frame_there o.page fs e.brings.there in
+    let frame = frame_there o.page fs e.there.0 in
     let low = c.lsn.ensures frame.0 frame.1 in
     let gs = c.change.new.self.frames in
     let changed : (q : ℕ) → frame_of q gs ≡ (if o.page == q then option_map (after_change o (start.root.first + n)) (frame_of q fs) else frame_of q fs) = λ q.
     c.change.ensures.frames q ∙ ap (λ (k : ℕ). if o.page == q then option_map (after_change o k) (frame_of q fs) else frame_of q fs) at in
-    redo_on d start n r next m mid o frame.0 gs is (off_page r o is) (on_page o) frame.1 (omega (arith, low, at)) changed t refl refl
+    redo_on i d start n r next m mid o frame.0 gs is (off_page r o is) (on_page o) frame.1 (omega (arith, low, at)) changed t refl refl

@@ -1,0 +1,184 @@
+-- What is opened stands over the pool, and nothing is pending where the disk was sound.
+use Rattle.std.proofs.Common.{◌≡◌, ◌≢◌, inl, inr, ⊎_elim, ◌++◌, ℕ, zero, suc, ◌+◌, ◌*◌, ◌≤◌, Bool, true, false, List, [], ◌∷◌, length, take, Option, Some, None, Result, Ok, Err, refl, sym, ◌∙◌, ap, subst, arith}
+use Rattle.std.specs.Prelude.{IfOk}
+use Rattle.std.proofs.Math.Seq.{take-nil}
+use Rattle.std.proofs.lemmas.List.{length-map}
+use Rattle.ctr_types.specs.declared.file.File.{File}
+use Rattle.ctr_types.specs.declared.file.File.TheVariants.{Pages}
+use Rattle.ctr_types.specs.declared.memory.OutOfMemory.{OutOfMemory as WantOfMemory}
+use Rattle.ctr_disk.specs.declared.fault.StoreFault.{StoreFault}
+use Rattle.ctr_disk.specs.declared.fault.StoreFault.TheVariants as store
+use Rattle.ctr_home.specs.Reading.{IsFaultOr}
+use Rattle.ctr_log.specs.declared.reading.ReadError.{ReadError}
+use Rattle.ctr_log.specs.declared.reading.ReadError.TheVariants as read
+use Rattle.ctr_log.specs.declared.visitor.VisitError.{VisitError}
+use Rattle.ctr_log.specs.declared.visitor.VisitError.TheVariants as visit
+use Rattle.ctr_log.specs.LogChecks.{kept_damage, IsThisDamage}
+use Rattle.ctr_base.specs.Opening.{IsRootDamage}
+use Rattle.ctr_store.specs.declared.opening.OpenError.TheVariants as open_error
+use Rattle.ctr_disk.specs.declared.disk.Image.{Image}
+use Rattle.ctr_disk.specs.declared.disk.Disk.{Ghosts}
+use Rattle.ctr_disk.specs.declared.fault.Root.{Root}
+use Rattle.ctr_disk.specs.Device.{LeavesOnly, IsDurable}
+use Rattle.ctr_disk.specs.Image.{content}
+use Rattle.ctr_home.specs.declared.block.Block.TheVariants.{Root as RootBlock}
+use Rattle.ctr_home.specs.declared.root.Form.TheVariants.{Paged}
+use Rattle.ctr_home.specs.Blocks.{value_of}
+use Rattle.ctr_home.specs.Roots.{SaysRootOf}
+use Rattle.ctr_log.specs.declared.visitor.Visit.{Visit}
+use Rattle.ctr_log.specs.Visits.{kept_visits, StopsAt, OnRead, IsToldBy}
+use Rattle.ctr_log.proofs.VisitLaws.{kept_bytes}
+use Rattle.ctr_meta.specs.Effects.{tables_of}
+use Rattle.ctr_log.specs.Logs.{Log, Batches, GoesOn}
+use Rattle.ctr_log.specs.Kept.{kept_log, writer_file, OpensKept, WritesBehind}
+use Rattle.ctr_records.specs.declared.record.Record.{Record}
+use Rattle.ctr_records.specs.Read.{record_in}
+use Rattle.ctr_redo.specs.States.{state_of, steps, next_of}
+use Rattle.ctr_redo.specs.Images.{records_in, stored_in, IsSound, FoldsFront, IsLogFile}
+use Rattle.ctr_base.specs.declared.base.Base.{Base}
+use Rattle.ctr_base.specs.Base.{stored_of, waiting_of, Rests, MovesBase}
+use Rattle.ctr_base.proofs.RootLaws.{one_root}
+use Rattle.ctr_store.proofs.PartsLaws.{goes_more, writes_more}
+use Rattle.ctr_store.specs.declared.parts.Parts.{Parts}
+use Rattle.ctr_store.specs.declared.opening.Found.{Found}
+use Rattle.ctr_store.specs.declared.opening.OpenError.{OpenError}
+use Rattle.ctr_store.specs.RecordChecks.{FailsAs, RefusesVisit, tables_seen}
+use Rattle.ctr_store.specs.Opening.{FindsFront, fault_told, read_told, LogPasses, RefusesLog, IsLater, Opens, AnswersOpen, RefusesAs, IsWornBy, worn_by, worn_in}
+
+writer_is_log : (older : Bool) (file : ℕ) → IsLogFile (writer_file older file)
+writer_is_log false zero = tt
+writer_is_log false (suc n) = tt
+writer_is_log true zero = tt
+writer_is_log true (suc n) = tt
+
+-- there is none where there are none at most
+pub none_left : {A : Type 0} (l : List A) → length l ≤ 0 → l ≡ []
+none_left [] few = refl
+none_left (x ∷ l) few = absurd (omega (arith, few))
+
+-- a log was read, and its writer has room
+pub opens_room : (file first : ℕ) (image : Image) (log : Log) (room : ℕ) → OpensKept file first image log → OpensKept file first image (record log { room = room })
+opens_room file first image log room k = record {
+  stands = k.stands;
+  older_is = k.older_is;
+  file_is = k.file_is;
+  next_is = k.next_is;
+  goes_on = goes_more image log log.buffered room k.goes_on;
+}
+
+-- it goes on behind the log still
+pub writes_room : (file first : ℕ) (image : Image) (log : Log) (room : ℕ) → WritesBehind file first log image → WritesBehind file first (record log { room = room }) image
+writes_room file first image log room w = record { numbered = w.numbered; by = writes_more log.older file first log image log.buffered room w.by }
+
+-- the tables that were read are those of the log
+pub tables_found : (image : Image) (root : Root) (vs : List Visit) → vs ≡ kept_visits root.file root.first image → tables_seen vs ≡ tables_of (records_in (kept_log root.file root.first image))
+tables_found image root vs is = ap tables_seen is ∙ ap (λ (l : List (List ℕ)). tables_of (records_in l)) (kept_bytes root.file root.first image)
+
+-- how the reading of a log is refused
+pub log_refused : (counts : ℕ → Type 0) (root : Root) (image : Image) (old new : List Visit) (cause : VisitError ReadError) (e : ReadError) → ((n : ℕ) → counts n → n ≡ root.pages) → old ≡ []
+    → IsToldBy (λ (s : StoreFault) (x : ReadError). x ≡ read.Store s) (λ (w : WantOfMemory) (x : ReadError). x ≡ read.OutOfMemory) cause e
+    → StopsAt (RefusesVisit counts) old new (kept_visits root.file root.first image) cause → OnRead (IsThisDamage (kept_damage root.file root.first image)) cause → RefusesLog root image e
+log_refused counts root image old new (visit.Read (read.Store store.Fault)) e pages none told stops damage = subst (RefusesLog root image) (sym told) tt
+log_refused counts root image old new (visit.Read (read.Store (store.Damaged file at want got))) e pages none told stops damage = subst (RefusesLog root image) (sym told) (inl damage)
+log_refused counts root image old new (visit.Read read.OutOfMemory) e pages none told stops damage = subst (RefusesLog root image) (sym told.1) tt
+log_refused counts root image old new (visit.Refused r) e pages none told stops damage =
+    let front : new ≡ stops.given = stops.seen ∙ ap (λ (l : List Visit). l ++ stops.given) none in
+    subst (RefusesLog root image) (sym told)
+    (⊎_elim (λ is. subst (RefusesLog root image) (sym is) tt)
+    (λ w.
+    let bad = w.2.0 in
+    let v = stops.refused in
+    let counted : FailsAs root.pages v.at (tables_seen new) v.bytes bad = subst (λ (n : ℕ). FailsAs n v.at (tables_seen new) v.bytes bad) (pages w.0 w.1) w.2.1 in
+    subst (RefusesLog root image) (sym w.2.2)
+    (inr (record {
+      given = stops.given;
+      v = v;
+      rest = stops.rest;
+      all_are = stops.all_are;
+      bad = bad;
+      fails = subst (λ (l : List Visit). FailsAs root.pages v.at (tables_seen l) v.bytes bad) front counted;
+      told = refl;
+    })))
+    stops.because)
+
+-- a root that is damaged is there
+root_there : (image : Image) (file : File) (at want got : ℕ) → IsRootDamage image (store.Damaged file at want got) → value_of RootBlock image ≢ None
+root_there image file at want got is none = ⊎_elim (λ w. absurd (cc (w.1, none))) (λ w. absurd (cc (w.1.0, none))) is
+
+-- a refusal of the root
+pub root_refused : (image : Image) (e : StoreFault) → IsFaultOr (IsRootDamage image) e → RefusesAs image (fault_told e)
+root_refused image store.Fault is = tt
+root_refused image (store.Damaged file at want got) is = (root_there image file at want got is, inl is)
+
+-- of the log
+pub read_refused : (image : Image) (root : Root) (e : ReadError) → SaysRootOf Paged (value_of RootBlock image) root → RefusesLog root image e → RefusesAs image (read_told e)
+read_refused image root (read.Store store.Fault) says refused = tt
+read_refused image root (read.Store (store.Damaged file at want got)) says refused = ((λ none. absurd (cc (says.0, none))), inr (root, says, inl refused))
+read_refused image root read.OutOfMemory says refused = λ none. absurd (cc (says.0, none))
+
+-- and behind it
+pub later_refused : (image : Image) (root : Root) (e : OpenError) → SaysRootOf Paged (value_of RootBlock image) root → LogPasses root image → IsLater e → RefusesAs image e
+later_refused image root open_error.NoDatabase says passes later = absurd later
+later_refused image root (open_error.Damaged file at want got) says passes later = ((λ none. absurd (cc (says.0, none))), inr (root, says, inr passes))
+later_refused image root (open_error.Worn n) says passes later = absurd later
+later_refused image root open_error.Fault says passes later = tt
+later_refused image root open_error.OutOfMemory says passes later = λ none. absurd (cc (says.0, none))
+
+module _ {D O : Type 0} (first : Image) (g : Ghosts D) where
+  pub rests_opened : (d : D) (root : Root) (f : Found) (durable : ℕ) → FindsFront first root f → IsDurable g d → g.reads d ≡ first → durable ≡ f.log.first + length f.log.buffered
+      → (b : Base D O) → b.disk ≡ d → b.log ≡ f.log → b.root ≡ root → b.durable ≡ durable → Rests first g b
+  rests_opened d root f durable front only same next b disk_is log_is root_is durable_is =
+      let kept = kept_log root.file root.first first in
+      let found = front.log in
+      let here : g.reads b.disk ≡ first = ap (λ (x : D). g.reads x) disk_is ∙ same in
+      let next_is : f.log.first ≡ next_of (stored_in root first) = found.kept.next_is ∙ omega (arith, length-map kept record_in) in
+      let stored : next_of (stored_of g b) ≡ next_of (stored_in root first) = ap (λ (r : Root). next_of (stored_in r (g.reads b.disk))) root_is ∙ ap (λ (i : Image). next_of (stored_in root i)) here in
+      record {
+        stands = record {
+          file = subst (λ l. IsLogFile l.file) (sym log_is) (subst IsLogFile (sym found.kept.file_is) (writer_is_log f.log.older root.file));
+          goes_on = subst (λ l. (oldest : ℕ) × (bs : Batches) × GoesOn oldest bs l (g.reads b.disk)) (sym log_is)
+              (subst (λ (i : Image). (oldest : ℕ) × (bs : Batches) × GoesOn oldest bs f.log i) (sym here) found.kept.goes_on);
+          size = subst (λ (r : Root). 8256 * r.pages ≤ length (content Pages (g.reads b.disk))) (sym root_is) (subst (λ (i : Image). 8256 * root.pages ≤ length (content Pages i)) (sym here) front.size);
+        };
+        quiet = λ sound.
+            let s : IsSound root first = subst (λ (r : Root). IsSound r first) (one_root (value_of RootBlock first) sound.0 root sound.1.says front.says) sound.1 in
+            let writes = found.goes_on kept s.log in
+            record {
+              only = subst (λ (x : D). IsDurable g x) (sym disk_is) only;
+              sound = subst (λ (r : Root). IsSound r (g.reads b.disk)) (sym root_is) (subst (IsSound root) (sym here) s);
+              writes = subst (λ l. WritesBehind b.root.file b.root.first l (g.reads b.disk)) (sym log_is)
+                  (subst (λ (r : Root). WritesBehind r.file r.first f.log (g.reads b.disk)) (sym root_is) (subst (WritesBehind root.file root.first f.log) (sym here) writes));
+              durable = durable_is ∙ next ∙ omega (arith, next_is, ap (λ (l : List (List ℕ)). length l) found.none) ∙ sym stored;
+              first = ap (λ l. l.first) log_is ∙ next_is ∙ sym stored;
+            };
+      }
+
+  -- what a crash leaves of a call, where none waits and the disk reads as the first image
+  pub leaves_first : (b : Base D O) (d : D) (root : Root) → b.root ≡ root → b.log.buffered ≡ [] → g.reads b.disk ≡ first
+      → LeavesOnly g b.disk d (FoldsFront (state_of (stored_of g b)) (waiting_of b)) → LeavesOnly g b.disk d (FoldsFront (state_of (stored_in root first)) [])
+  leaves_first b d root root_is none same leaves =
+      let P : Root → Image → List (List ℕ) → Type 0 = λ r i l. LeavesOnly g b.disk d (FoldsFront (state_of (stored_in r i)) (records_in l)) in
+      subst (λ (l : List (List ℕ)). P root first l) none
+      (subst (λ (i : Image). P root i b.log.buffered) same (subst (λ (r : Root). P r (g.reads b.disk) b.log.buffered) root_is leaves))
+
+  -- the state is as it was, where none waited
+  pub state_first : (a b : Base D O) (root : Root) → a.root ≡ root → a.log.buffered ≡ [] → g.reads a.disk ≡ first → MovesBase g a b → state_of (stored_of g b) ≡ state_of (stored_in root first)
+  state_first a b root root_is none same m =
+      let s = state_of (stored_of g a) in
+      m.hardened ∙ ap (λ (l : List (List ℕ)). steps (take m.j (records_in l)) s) none ∙ ap (λ (l : List Record). steps l s) (take-nil m.j)
+      ∙ ap (λ (r : Root). state_of (stored_in r (g.reads a.disk))) root_is ∙ ap (λ (i : Image). state_of (stored_in root i)) same
+
+  -- what was opened is answered, or refused as worn
+  pub answered : (s : Parts D O) (root : Root) → SaysRootOf Paged (value_of RootBlock first) root → Opens first g root s → (r : Result (Parts D O) (OpenError × D)) → IfOk r (λ t. t ≡ s)
+      → IsWornBy (worn_by (s.base.log.first + length s.base.log.buffered) s.meta.tables.next) r → AnswersOpen first g r
+  answered s root says opens r same worn =
+      by_worn r (worn_by (s.base.log.first + length s.base.log.buffered) s.meta.tables.next) same worn
+      (ap (λ (n : ℕ). worn_by n (tables_of (records_in (kept_log root.file root.first first))).next) (sym opens.next) ∙ ap (λ t. worn_by (s.base.log.first + length s.base.log.buffered) t.next) (sym opens.tables))
+    where
+      by_worn : (x : Result (Parts D O) (OpenError × D)) (w : Option ℕ) → IfOk x (λ t. t ≡ s) → IsWornBy w x → worn_in root first ≡ w → AnswersOpen first g x
+      by_worn (Ok t) None is told eq =
+          subst (λ (u : Parts D O). SaysRootOf Paged (value_of RootBlock first) u.base.root × Opens first g u.base.root u × (worn_in u.base.root first ≡ None)) (sym is)
+          (subst (λ (q : Root). SaysRootOf Paged (value_of RootBlock first) q × Opens first g q s × (worn_in q first ≡ None)) (sym opens.root_is) (says, opens, eq))
+      by_worn (Ok t) (Some n) is told eq = absurd told
+      by_worn (Err e) None is told eq = absurd told
+      by_worn (Err e) (Some n) is told eq = subst (RefusesAs first) (sym told) (root, says, eq)

@@ -1,0 +1,91 @@
+-- What callers see of a call on the parts.
+use Rattle.std.proofs.Common.{◌≡◌, ◌∙◌, Bool, true, false, [], drop, Result, Ok, Err, refl, sym, ap, subst, arith}
+use Rattle.std.specs.Prelude.{IsTrue}
+use Rattle.std.proofs.lemmas.List.{append-nil, length-map}
+use Rattle.ctr_disk.specs.declared.disk.Disk.{Ghosts}
+use Rattle.ctr_types.specs.Faults.{HasFault}
+use Rattle.ctr_disk.specs.declared.disk.Image.{Image}
+use Rattle.ctr_disk.specs.declared.fault.StoreFault.{StoreFault}
+use Rattle.ctr_disk.specs.declared.fault.StoreFault.TheVariants.{Fault}
+use Rattle.ctr_log.proofs.VisitLemmas.{ok_isnt}
+use Rattle.ctr_records.specs.declared.record.Record.{Record}
+use Rattle.ctr_records.specs.Read.{record_in}
+use Rattle.ctr_base.specs.Base.{waiting_of, IsSoundImage, LeavesIf, MovesBase, MovesIf, KeepsBase}
+use Rattle.ctr_store.specs.declared.parts.Parts.{Parts}
+use Rattle.ctr_store.specs.Parts.{CanLog}
+use Rattle.ctr_store.specs.Store.{View, Logs, LeavesPage, MayLog, KeepsRoom}
+use Rattle.ctr_store.specs.StoreInside.{view_of}
+use Rattle.ctr_store.proofs.RecordLaws.{record_short}
+
+-- a call that answers with this fault
+abbrev failed_with : (T : Type 0) → StoreFault → Result T StoreFault
+failed_with T e = Err e
+
+module _ {D O : Type 0} (g : Ghosts D) where
+  -- a call that logs nothing
+  pub logs_moved : (s t : Parts D O) (b c : Bool) → MovesBase g s.base t.base → Logs [] (view_of g s b) (view_of g t c)
+  logs_moved s t b c m = record { j = m.j; waiting = m.waiting ∙ sym (append-nil (drop m.j (waiting_of s.base))); hardened = m.hardened; now = m.now }
+
+  -- what callers see is enough for a record
+  pub can_of : (r : Record) (s : Parts D O) (b : Bool) → MayLog r (view_of g s b) → CanLog r s
+  can_of r s b may =
+      let room = may.room in
+      let few = may.few in
+      record {
+        logged = may.logged;
+        change = may.change;
+        counted = may.counted;
+        may = may.may;
+        room = omega (arith, room, record_short r may.logged.record_is may.change);
+        few = omega (arith, few, length-map s.base.log.buffered record_in);
+        number = may.number;
+      }
+
+  -- what callers see of a number and room that are kept
+  pub keeps_seen : (s t : Parts D O) (b c : Bool) → KeepsBase s.base t.base → t.meta ≡ s.meta → KeepsRoom (view_of g s b) (view_of g t c)
+  keeps_seen s t b c keeps meta =
+      let few = keeps.few in
+      record {
+        next = keeps.next;
+        room = keeps.room;
+        few = omega (arith, few, length-map s.base.log.buffered record_in, length-map t.base.log.buffered record_in);
+        meta = meta;
+      }
+
+  -- a page that is lent, or a call for one that was refused
+  module _ (first : Image) (s t : Parts D O) (b : Bool) (old : View D) (is : view_of g s b ≡ old) (goes : IsTrue g.tells → LeavesIf first g s.base t.base) (keeps : KeepsBase s.base t.base) (meta : t.meta ≡ s.meta) where
+    pub page_fails : {T U : Type 0} (e : StoreFault) → (IsTrue g.tells → IsSoundImage first → e ≡ Fault) → HasFault {T = U} Fault (g.faults_of s.base.disk) (g.faults_of t.base.disk) (Err e) → LeavesPage {T = T} first g old (view_of g t true) (Err e)
+    page_fails {T} {U} e only f =
+        subst (λ (v : View D). LeavesPage {T = T} first g v (view_of g t true) (Err e)) is
+        (record {
+          any_moment = goes;
+          logs = λ told sound. tt;
+          keeps = keeps_seen s t b true keeps meta;
+          going = tt;
+          stopped = refl;
+          refused = λ told sound. ap Err (only told sound);
+          faults = record {
+            later = f.later;
+            failed = λ same. f.failed (ap Err (one e Fault same));
+            fine = λ other. f.fine (λ same. other (ap Err (one_of e Fault same)));
+          };
+        })
+      where
+        one : (x y : StoreFault) → failed_with T x ≡ failed_with T y → x ≡ y
+        one x y same = cc same
+
+        one_of : (x y : StoreFault) → failed_with U x ≡ failed_with U y → x ≡ y
+        one_of x y same = cc same
+
+    pub page_lends : {T U : Type 0} (x : T) (u : U) → b ≡ false → (IsTrue g.tells → MovesIf first g s.base t.base) → HasFault {T = U} Fault (g.faults_of s.base.disk) (g.faults_of t.base.disk) (Ok u) → LeavesPage {T = T} first g old (view_of g t b) (Ok x)
+    page_lends {T} {U} x u going moves f =
+        subst (λ (v : View D). LeavesPage {T = T} first g v (view_of g t b) (Ok x)) is
+        (record {
+          any_moment = goes;
+          logs = λ told sound. logs_moved s t b b (moves told sound);
+          keeps = keeps_seen s t b b keeps meta;
+          going = going;
+          stopped = tt;
+          refused = λ told sound. tt;
+          faults = record { later = f.later; failed = λ same. absurd (ok_isnt x Fault same); fine = λ other. f.fine (ok_isnt u Fault) };
+        })

@@ -1,0 +1,55 @@
+use Rattle.std.proofs.Common.{◌≡◌, ◌∙◌, ◌++◌, ℕ, List, sym, ap, subst}
+use Rattle.std.specs.Prelude.{IsTrue}
+use Rattle.std.proofs.lemmas.Result.{err_from_is_err_and}
+use Rattle.ctr_home.specs.declared.block.Block.TheVariants.{Root as RootBlock}
+use Rattle.ctr_home.specs.Blocks.{value_of}
+use Rattle.ctr_log.specs.declared.visitor.Visit.{Visit}
+use Rattle.ctr_log.specs.Logs.{Log}
+use Rattle.ctr_log.specs.Kept.{OpensKept, WritesBehind}
+use Rattle.ctr_log.specs.Visits.{kept_visits}
+use Rattle.ctr_base.proofs.RootLaws.{one_root}
+use Rattle.ctr_disk.specs.declared.fault.Root.{Root}
+use Rattle.ctr_store.specs.RecordChecks.{SeenLog, CountsPages, ArePassed, tables_seen}
+use Rattle.ctr_store.proofs.OpenLaws.{opens_room, writes_room, log_refused}
+use Rattle.ctr_store.proofs.opening.read_log.Goals as goal
+
+pub new-seen-requires : goal.new-seen-requires
+new-seen-requires g c told r says = ap (λ (x : Root). x.pages) (one_root (value_of RootBlock g.O.Origin.first) c.args.root.now r (c.requires.says told) says)
+
+pub returns-clause-found : goal.returns-clause-found
+returns-clause-found g c told =
+    let root = c.args.root.now in
+    let image = g.D.Disk.reads c.args.disk.now in
+    let e = c.in_ok-log.ensures in
+    let parts = c.into_parts-meta.ensures in
+    let seen = c.read_all.new.visitor in
+    let all : seen.visits ≡ kept_visits root.file root.first image = e.visited told ∙ ap (λ (s : SeenLog). s.visits ++ kept_visits root.file root.first image) c.new-seen.ensures in
+    let counted : seen.pages ≡ root.pages = parts.passed.2 told root (c.requires.says told) in
+    let log = c.in_ok-log.log in
+    let same = c.reserve.ensures.same in
+    let room = c.reserve.new.self.room in
+    record {
+      kept = subst (OpensKept root.file root.first image) (sym same) (opens_room root.file root.first image log room (e.found told));
+      none = ap (λ (l : Log). l.buffered) same ∙ e.none;
+      visits_are = parts.visits ∙ all;
+      passed = subst (λ (vs : List Visit). ArePassed root.pages vs) (sym parts.visits) (subst (λ (n : ℕ). ArePassed n seen.visits) counted parts.passed.0);
+      tables = parts.tables ∙ parts.passed.1 ∙ ap tables_seen (sym parts.visits);
+      sound = e.sound told;
+      goes_on = λ rs holds. subst (λ (l : Log). WritesBehind root.file root.first l image) (sym same) (writes_room root.file root.first image log room (e.goes_on rs told holds));
+    }
+
+pub returns-clause-passed : goal.returns-clause-passed
+returns-clause-passed g c =
+    let parts = c.into_parts-meta.ensures in
+    let seen = c.read_all.new.visitor in
+    (seen.pages, subst (λ (vs : List Visit). ArePassed seen.pages vs) (sym parts.visits) parts.passed.0)
+
+pub returns-in_err-log-clause-refused : goal.returns-in_err-log-clause-refused
+returns-in_err-log-clause-refused g c told =
+    let p = err_from_is_err_and c.from_residual.result c.from_residual.ensures.1 in
+    let root = c.args.root.now in
+    let image = g.D.Disk.reads c.args.disk.now in
+    let r = c.in_err-log.ensures.refused in
+    rw (p.1, p.2)
+    (log_refused (λ n. IsTrue g.D.Disk.tells → CountsPages g.O.Origin.first n) root image c.new-seen.result.visits c.read_all.new.visitor.visits r.0 c.in_err-log.field-0.0
+    (λ n counts. counts told root (c.requires.says told)) (ap (λ (s : SeenLog). s.visits) c.new-seen.ensures) r.1 (r.5 told) (r.6 told))

@@ -1,0 +1,47 @@
+use Rattle.std.proofs.Common.{◌≡◌, ◌∙◌, false, refl, ap}
+use Rattle.ctr_redo.specs.States.{State, page_at}
+use Rattle.ctr_store.specs.Store.{View}
+use Rattle.ctr_store.proofs.PartsLaws.{fold_low, fold_moved}
+use Rattle.ctr_store.proofs.StoreLaws.{page_fails, page_lends}
+use Rattle.ctr_store.proofs.store.Store.page.Goals as goal
+
+pub returns-in-Err : goal.returns-in-Err
+returns-in-Err g c =
+    let d = g.D.Disk in
+    let o = g.O.Origin.first in
+    let s = c.self.inside.parts in
+    let b = c.self.inside.stopped in
+    let e = c.bring.ensures in
+    let going : b ≡ false = ap (λ (v : View g.row.D.Denot). v.stopped) c.self.view_is ∙ c.requires in (
+      (
+        refl,
+        (λ _. tt),
+        page_fails d o s c.bring.new.self b c.args.self.now c.self.view_is e.goes e.keeps.0 e.keeps.1 c.in-Err.fault (λ told. c.in-Err.ensures.refused told (fold_low o d s (c.self.invariant told going))) c.in-Err.ensures.faults,
+      ),
+      record { shown = λ told sound inside. tt; after = tt },
+    )
+
+pub returns : goal.returns
+returns g c =
+    let d = g.D.Disk in
+    let o = g.O.Origin.first in
+    let s = c.self.inside.parts in
+    let b = c.self.inside.stopped in
+    let t = c.bring.new.self in
+    let e = c.in-Ok.ensures in
+    let p = c.args.page in
+    let going : b ≡ false = ap (λ (v : View g.row.D.Denot). v.stopped) c.self.view_is ∙ c.requires in (
+      (
+        refl,
+        (λ _. tt),
+        page_lends d o s t b c.args.self.now c.self.view_is c.bring.ensures.goes c.bring.ensures.keeps.0 c.bring.ensures.keeps.1 c.bytes.result c.in-Ok.field-0 going e.moves e.faults,
+      ),
+      record {
+        shown = λ told sound inside.
+            let stays = e.stays told in
+            let tables = ap (λ k. k.tables) c.bring.ensures.keeps.1 in
+            let fold = fold_moved o d s t (c.self.invariant told going) (e.moves told) tables stays.shows stays.over in
+            c.bytes.ensures told sound fold e.there.0 inside ∙ ap (λ (x : State). page_at p x.pages) (e.moves told sound).now ∙ ap (λ (v : View g.row.D.Denot). page_at p v.now.pages) c.self.view_is;
+        after = tt;
+      },
+    )

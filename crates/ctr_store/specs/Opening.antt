@@ -1,0 +1,159 @@
+-- What an opening finds, and how it is refused.
+use Rattle.std.specs.Prelude.{◌≡◌, ◌≢◌, ◌⊎◌, ◌∷◌, ◌++◌, min, ◌+◌, ◌*◌, ◌≤◌, List, [], ℕ, length, nat_lt, if◌then◌else◌, Option, Some, None, Result, Ok, Err}
+use Rattle.ctr_disk.specs.declared.disk.Image.{Image}
+use Rattle.ctr_disk.specs.declared.fault.Root.{Root}
+use Rattle.ctr_disk.specs.declared.fault.StoreFault.{StoreFault}
+use Rattle.ctr_disk.specs.declared.fault.StoreFault.TheVariants as store
+use Rattle.ctr_types.specs.declared.file.File.TheVariants.{Pages}
+use Rattle.ctr_disk.specs.declared.disk.Disk.{Ghosts}
+use Rattle.ctr_disk.specs.Image.{content}
+use Rattle.ctr_home.specs.declared.block.Block.TheVariants.{Root as RootBlock}
+use Rattle.ctr_home.specs.declared.root.Form.TheVariants.{Paged}
+use Rattle.ctr_home.specs.Blocks.{value_of}
+use Rattle.ctr_home.specs.Roots.{SaysRootOf}
+use Rattle.ctr_redo.specs.States.{state_of}
+use Rattle.ctr_redo.specs.Images.{records_in, stored_in, FoldsFront}
+use Rattle.ctr_meta.specs.Effects.{tables_of}
+use Rattle.ctr_base.specs.Base.{stored_of, IsSoundImage}
+use Rattle.ctr_store.specs.declared.parts.Parts.{Parts}
+use Rattle.ctr_store.specs.Parts.{IsFold}
+use Rattle.ctr_log.specs.declared.reading.ReadError.{ReadError}
+use Rattle.ctr_log.specs.declared.reading.ReadError.TheVariants as read
+use Rattle.ctr_log.specs.Kept.{kept_log, OpensKept, HoldsLog, WritesBehind}
+use Rattle.ctr_log.specs.LogChecks.{kept_damage}
+use Rattle.ctr_log.specs.Visits.{kept_visits}
+use Rattle.ctr_log.specs.declared.visitor.Visit.{Visit}
+use Rattle.ctr_records.specs.declared.decoding.BadRecord.{BadRecord}
+use Rattle.ctr_base.specs.Opening.{IsRootDamage}
+use Rattle.ctr_store.specs.declared.opening.OpenError.{OpenError}
+use Rattle.ctr_store.specs.declared.opening.OpenError.TheVariants as open_error
+use Rattle.ctr_store.specs.declared.opening.Found.{Found}
+use Rattle.ctr_store.specs.RecordChecks.{FailsAs, ArePassed, tables_seen}
+
+-- how a fault below is told
+abbrev pub fault_told : StoreFault → OpenError
+fault_told store.Fault = open_error.Fault
+fault_told (store.Damaged file at want got) = open_error.Damaged file at want got
+
+-- how an end of reading is told
+abbrev pub read_told : ReadError → OpenError
+read_told (read.Store fault) = fault_told fault
+read_told read.OutOfMemory = open_error.OutOfMemory
+
+-- What the reading of the log of an image finds, by this root: the records in their places, which pass,
+-- the tables that they leave, and the writer behind them, with nothing to flush.
+pub record FindsLog (image : Image) (root : Root) (f : Found) : Type 0 where
+  pub kept : OpensKept root.file root.first image f.log
+  pub none : f.log.buffered ≡ []
+  pub visits_are : f.visits ≡ kept_visits root.file root.first image
+  pub passed : ArePassed root.pages f.visits
+  pub sound : kept_damage root.file root.first image ≡ Ok tt
+  pub tables : f.meta.tables ≡ tables_seen f.visits
+  pub goes_on : (rs : List (List ℕ)) → HoldsLog root.file root.first rs image
+      → WritesBehind root.file root.first f.log image
+
+-- The first check that fails is one of a record of the log, behind those that pass; the damage says at
+-- which byte of its file, as far as 64 bits tell it.
+pub record IsRecordDamage (root : Root) (image : Image) (e : StoreFault) : Type 0 where
+  pub given : List Visit
+  pub v : Visit
+  pub rest : List Visit
+  pub all_are : kept_visits root.file root.first image ≡ given ++ v ∷ rest
+  pub bad : BadRecord
+  pub fails : FailsAs root.pages v.at (tables_seen given) v.bytes bad
+  pub told : e ≡ store.Damaged v.file (min (v.at + bad.at) 18446744073709551615) bad.want bad.got
+
+-- it is one of a batch, or of a record of a batch before that
+abbrev pub IsLogDamage : Root → Image → StoreFault → Type 0
+IsLogDamage root image e = (kept_damage root.file root.first image ≡ Err e) ⊎ IsRecordDamage root image e
+
+-- the reading of a log was refused: where it is damage, by the first check that fails
+abbrev pub RefusesLog : Root → Image → ReadError → Type 0
+RefusesLog root image (read.Store store.Fault) = Unit {0}
+RefusesLog root image (read.Store (store.Damaged file at want got)) = IsLogDamage root image (store.Damaged file at want got)
+RefusesLog root image read.OutOfMemory = Unit {0}
+
+-- all checks of the log pass
+abbrev pub LogPasses : Root → Image → Type 0
+LogPasses root image = (kept_damage root.file root.first image ≡ Ok tt)
+    × ArePassed root.pages (kept_visits root.file root.first image)
+
+-- Damage that an opening tells is of the root, or of the file of pages; else of the log; else all checks
+-- of these pass, and it is of a page that the log's records are on.
+abbrev pub IsOpenDamage : Image → StoreFault → Type 0
+IsOpenDamage image e = IsRootDamage image e
+    ⊎ ((root : Root) × SaysRootOf Paged (value_of RootBlock image) root × (IsLogDamage root image e ⊎ LogPasses root image))
+
+-- What stands on an image that can be opened: a root whose file of pages has all that are counted, and
+-- its log.
+pub record FindsFront (image : Image) (root : Root) (f : Found) : Type 0 where
+  pub says : SaysRootOf Paged (value_of RootBlock image) root
+  pub size : 8256 * root.pages ≤ length (content Pages image)
+  pub log : FindsLog image root f
+
+-- What was opened stands over the pool, with this root; where the first image was sound it is the fold
+-- of its records, and none waits.
+pub record Opens {D O : Type 0} (first : Image) (g : Ghosts D) (root : Root) (s : Parts D O) : Type 0
+  where
+    pub root_is : s.base.root ≡ root
+    pub none : s.base.log.buffered ≡ []
+    pub fold : IsFold first g s
+    pub state : IsSoundImage first → state_of (stored_of g s.base) ≡ state_of (stored_in root first)
+    pub next : s.base.log.first + length s.base.log.buffered ≡ root.first + length (kept_log root.file root.first first)
+    pub tables : s.meta.tables ≡ tables_of (records_in (kept_log root.file root.first first))
+    pub passes : LogPasses root first
+
+-- the disk that an opening leaves
+abbrev pub disk_left : {D O : Type 0} → Result (Parts D O) (OpenError × D) → D
+disk_left (Ok s) = s.base.disk
+disk_left (Err e) = e.1
+
+-- a number at which no more may be logged: 2 ^ 62
+abbrev pub worn_at : ℕ
+worn_at = 4611686018427387904
+
+-- the next LSN where it is worn, or else the next transaction
+abbrev pub worn_by : ℕ → ℕ → Option ℕ
+worn_by next xid = if nat_lt next worn_at then (if nat_lt xid worn_at then None else Some xid) else Some next
+
+-- it is refused as worn by this number; or it isn't, where there is none
+abbrev pub IsWornBy : {T D : Type 0} → Option ℕ → Result T (OpenError × D) → Type 0
+IsWornBy None (Ok t) = Unit {0}
+IsWornBy None (Err e) = ⊥
+IsWornBy (Some n) (Ok t) = ⊥
+IsWornBy (Some n) (Err e) = e.0 ≡ open_error.Worn n
+
+-- the same of an image whose root is this
+abbrev pub worn_in : Root → Image → Option ℕ
+worn_in root image =
+    worn_by (root.first + length (kept_log root.file root.first image)) (tables_of (records_in (kept_log root.file root.first image))).next
+
+-- an error that comes behind the log's
+abbrev pub IsLater : OpenError → Type 0
+IsLater open_error.NoDatabase = ⊥
+IsLater (open_error.Damaged file at want got) = Unit {0}
+IsLater (open_error.Worn n) = ⊥
+IsLater open_error.Fault = Unit {0}
+IsLater open_error.OutOfMemory = Unit {0}
+
+-- An image is refused so: as no database exactly where no root home is open, as damaged by the first check
+-- that fails, as worn by its number.
+abbrev pub RefusesAs : Image → OpenError → Type 0
+RefusesAs image open_error.NoDatabase = value_of RootBlock image ≡ None
+RefusesAs image (open_error.Damaged file at want got) = (value_of RootBlock image ≢ None)
+    × IsOpenDamage image (store.Damaged file at want got)
+RefusesAs image (open_error.Worn n) = (root : Root) × SaysRootOf Paged (value_of RootBlock image) root × (worn_in root image ≡ Some n)
+RefusesAs image open_error.Fault = Unit {0}
+RefusesAs image open_error.OutOfMemory = value_of RootBlock image ≢ None
+
+-- An opening answers with what stands on the first image, which isn't worn; or it refuses that.
+abbrev pub AnswersOpen : {D O : Type 0} → Image → Ghosts D → Result (Parts D O) (OpenError × D) → Type 0
+AnswersOpen first g (Ok s) = SaysRootOf Paged (value_of RootBlock first) s.base.root
+    × Opens first g s.base.root s × (worn_in s.base.root first ≡ None)
+AnswersOpen first g (Err e) = RefusesAs first e.0
+
+-- What a crash in an opening leaves: what it might have left as it began, or an image that folds to the
+-- state of the first one.
+abbrev pub LeavesFirst : Image → (Image → Type 0) → Image → Type 0
+LeavesFirst first before c = before c
+    ⊎ ((root : Root) × SaysRootOf Paged (value_of RootBlock first) root × FoldsFront (state_of (stored_in root first)) [] c)

@@ -1,0 +1,71 @@
+-- What callers see of a store, and how its calls change that.
+use Rattle.std.specs.Prelude.{◌≡◌, ◌-◌, ◌^◌, ◌<◌, ◌≤◌, ℕ, Bool, true, false, IsTrue, List, [], ◌++◌, length, take, drop, Result, Err, OnOk, OnErr}
+use Rattle.ctr_disk.specs.declared.disk.Disk.{Ghosts}
+use Rattle.ctr_types.specs.Faults.{HasFault}
+use Rattle.ctr_disk.specs.declared.disk.Image.{Image}
+use Rattle.ctr_disk.specs.declared.fault.StoreFault.{StoreFault}
+use Rattle.ctr_disk.specs.declared.fault.StoreFault.TheVariants.{Fault}
+use Rattle.ctr_disk.specs.Device.{LeavesOnly}
+use Rattle.ctr_records.specs.declared.record.Record.{Record}
+use Rattle.ctr_meta.specs.Kept.{TablesKept, IsLogged, MayApply}
+use Rattle.ctr_redo.specs.Overlaid.{overlay_of}
+use Rattle.ctr_redo.specs.States.{State, steps}
+use Rattle.ctr_redo.specs.Images.{FoldsFront}
+use Rattle.ctr_base.specs.Base.{IsSoundImage}
+use Rattle.ctr_store.specs.Changes.{IsChange, LiesInside}
+
+-- The disk; what it folds to; the records that aren't hardened, in order; pages and tables with these;
+-- the number of the next record; how many bytes of records may wait besides; how many frames have
+-- nothing to be written home; the tables as they are kept; whether a call was answered an error, after
+-- which no more can be asked.
+pub record View (D : Type 0) : Type 0 where
+  pub disk : D
+  pub hardened : State
+  pub waiting : List Record
+  pub now : State
+  pub next : ℕ
+  pub room : ℕ
+  pub frames : ℕ
+  pub meta : TablesKept
+  pub stopped : Bool
+
+-- At each moment of a call a crash leaves what was hardened with a prefix of what wasn't.
+abbrev pub LeavesFront : {D : Type 0} → Ghosts D → View D → View D → Type 0
+LeavesFront g a b = LeavesOnly g a.disk b.disk (FoldsFront a.hardened a.waiting)
+
+-- The first of what waited is hardened now, these records wait behind the rest, and pages and tables are
+-- those of before with them.
+pub record Logs {D : Type 0} (rs : List Record) (a b : View D) : Type 0 where
+  pub j : ℕ
+  pub waiting : b.waiting ≡ drop j a.waiting ++ rs
+  pub hardened : b.hardened ≡ steps (take j a.waiting) a.hardened
+  pub now : b.now ≡ steps rs a.now
+
+-- A record can be logged: it is one and no Checkpoint, its overlay lies on a counted page, the tables
+-- meet its needs and have room for what it adds; there is room for it, and a number.
+pub record MayLog {D : Type 0} (r : Record) (v : View D) : Type 0 where
+  pub logged : IsLogged r
+  pub change : IsChange r
+  pub counted : LiesInside v.now.counted (overlay_of r)
+  pub may : MayApply r v.meta
+  pub room : 5000 ≤ v.room
+  pub few : length v.waiting < 2 ^ 32 - 1
+  pub number : v.next < 2 ^ 63 - 1
+
+-- However a call ends, the number of the next record is that of before, and room for records isn't lost.
+pub record KeepsRoom {D : Type 0} (a b : View D) : Type 0 where
+  pub next : b.next ≡ a.next
+  pub room : a.room ≤ b.room
+  pub few : length b.waiting ≤ length a.waiting
+  pub meta : b.meta ≡ a.meta
+
+-- What a call that lends a page leaves once the loan is over.
+pub record LeavesPage {D T : Type 0} (first : Image) (g : Ghosts D) (old new : View D)
+    (result : Result T StoreFault) : Type 0 where
+  pub any_moment : IsTrue g.tells → IsSoundImage first → LeavesFront g old new
+  pub logs : IsTrue g.tells → IsSoundImage first → OnOk result (Logs [] old new)
+  pub keeps : KeepsRoom old new
+  pub going : OnOk result (new.stopped ≡ false)
+  pub stopped : OnErr result (new.stopped ≡ true)
+  pub refused : IsTrue g.tells → IsSoundImage first → OnErr result (result ≡ Err Fault)
+  pub faults : HasFault Fault (g.faults_of old.disk) (g.faults_of new.disk) result

@@ -1,0 +1,34 @@
+-- What the fields of a store stand for, and what they keep.
+use Rattle.std.specs.Prelude.{◌≡◌, ◌+◌, Bool, false, IsTrue, length}
+use Rattle.ctr_disk.specs.declared.disk.Disk.{Ghosts}
+use Rattle.ctr_disk.specs.declared.disk.Image.{Image}
+use Rattle.ctr_pool.specs.Over.{unchanged}
+use Rattle.ctr_redo.specs.States.{state_of}
+use Rattle.ctr_base.specs.Base.{stored_of, waiting_of, now_of}
+use Rattle.ctr_store.specs.declared.parts.Parts.{Parts}
+use Rattle.ctr_store.specs.declared.store.Store.TheInside.{Inside}
+use Rattle.ctr_store.specs.Parts.{IsFold}
+use Rattle.ctr_store.specs.Store.{View}
+
+-- what callers see of the parts
+abbrev pub view_of : {D O : Type 0} → Ghosts D → Parts D O → Bool → View D
+view_of g s stopped = record {
+  disk = s.base.disk;
+  hardened = state_of (stored_of g s.base);
+  waiting = waiting_of s.base;
+  now = state_of (now_of g s.base);
+  next = s.base.log.first + length s.base.log.buffered;
+  room = s.base.log.room;
+  frames = unchanged s.pool;
+  meta = s.meta;
+  stopped = stopped;
+}
+
+-- the same of the fields
+abbrev pub view_in : {D O : Type 0} → Ghosts D → Inside D O → View D
+view_in g a = view_of g a.parts a.stopped
+
+-- What it shows is the fold of the records on the disk and behind them those that wait, where no call was
+-- answered an error.
+abbrev pub IsStore : {D O : Type 0} → Image → Ghosts D → Inside D O → Type 0
+IsStore first g a = IsTrue g.tells → a.stopped ≡ false → IsFold first g a.parts

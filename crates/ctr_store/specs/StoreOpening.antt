@@ -1,0 +1,40 @@
+-- What callers see of an opening.
+use Rattle.std.specs.Prelude.{◌≡◌, ◌+◌, [], length, None, Result, Ok, Err}
+use Rattle.ctr_disk.specs.declared.disk.Image.{Image}
+use Rattle.ctr_disk.specs.declared.fault.Root.{Root}
+use Rattle.ctr_home.specs.declared.block.Block.TheVariants.{Root as RootBlock}
+use Rattle.ctr_home.specs.declared.root.Form.TheVariants.{Paged}
+use Rattle.ctr_home.specs.Blocks.{value_of}
+use Rattle.ctr_home.specs.Roots.{SaysRootOf}
+use Rattle.ctr_log.specs.Kept.{kept_log}
+use Rattle.ctr_meta.specs.Effects.{tables_of}
+use Rattle.ctr_redo.specs.States.{state_of}
+use Rattle.ctr_redo.specs.Images.{records_in, stored_in}
+use Rattle.ctr_base.specs.Base.{IsSoundImage}
+use Rattle.ctr_store.specs.declared.opening.OpenError.{OpenError}
+use Rattle.ctr_store.specs.Store.{View}
+use Rattle.ctr_store.specs.Opening.{LogPasses, RefusesAs, worn_in}
+
+-- A store stands on an image that says a root and isn't worn. Nothing waits, the next record comes behind
+-- the image's, and the tables are theirs. Where the image is sound, pages and tables are what it folds to. All
+-- checks of the log pass.
+pub record OpensStore {D : Type 0} (image : Image) (v : View D) : Type 0 where
+  pub root : Root
+  pub says : SaysRootOf Paged (value_of RootBlock image) root
+  pub fresh : worn_in root image ≡ None
+  pub none : v.waiting ≡ []
+  pub next : v.next ≡ root.first + length (kept_log root.file root.first image)
+  pub tables : v.meta.tables ≡ tables_of (records_in (kept_log root.file root.first image))
+  pub hardened : IsSoundImage image → v.hardened ≡ state_of (stored_in root image)
+  pub now : IsSoundImage image → v.now ≡ state_of (stored_in root image)
+  pub passes : LogPasses root image
+
+-- an opening answers with it, or refuses the image
+abbrev pub AnswersStore : {D : Type 0} → Image → Result (View D) (OpenError × D) → Type 0
+AnswersStore image (Ok v) = OpensStore image v
+AnswersStore image (Err e) = RefusesAs image e.0
+
+-- the disk that it leaves
+abbrev pub store_left : {D : Type 0} → Result (View D) (OpenError × D) → D
+store_left (Ok v) = v.disk
+store_left (Err e) = e.1

@@ -1,0 +1,237 @@
+// Opening: the root, the log with its records' checks, and the pages that its records are on.
+ghost use Rattle.std.specs.Prelude.{◌≡◌, ◌≢◌, ◌⊎◌, ◌≤◌, ◌<◌, ◌+◌, ◌^◌, IsTrue, ℕ, [], Ok, Err, None, length, IfOk, IfErr, OnOk, OnErr, MatchResult};
+ghost use Rattle.ctr_disk.specs.Device.{LeavesOnly, IsDurable, OnlyReads};
+ghost use Rattle.ctr_home.specs.declared.block.Block.TheVariants.{Root as RootBlock};
+ghost use Rattle.ctr_home.specs.declared.root.Form.TheVariants.{Paged};
+ghost use Rattle.ctr_home.specs.Blocks.{value_of};
+ghost use Rattle.ctr_home.specs.Roots.{IsRootOf, SaysRootOf};
+ghost use Rattle.ctr_store.specs.RecordChecks.{ArePassed};
+ghost use Rattle.ctr_store.specs.Opening.{FindsLog, FindsFront, RefusesLog, RefusesAs, Opens, disk_left, worn_by, IsWornBy, IsLater, AnswersOpen, LeavesFirst};
+ghost use Rattle.ctr_store.specs.declared.opening.OpenError.TheVariants.{Fault, OutOfMemory as NoMemory};
+ghost use Rattle.ctr_redo.specs.States.{state_of};
+ghost use Rattle.ctr_redo.specs.Images.{stored_in, FoldsFront};
+ghost use Rattle.ctr_base.specs.Base.{IsSoundImage};
+
+use crate::parts::Parts;
+use crate::seen::Seen;
+use ctr_base::{Base, Origin, find_root};
+use ctr_disk::{Disk, Root, StoreFault};
+use ctr_log::{LogFile, ReadError, Visit, read_all};
+use ctr_meta::Meta;
+use ctr_pool::Pool;
+use ctr_types::{File, List};
+use std::alloc::Global;
+use std::marker::PhantomData;
+
+/// A number at which no more may be logged.
+const WORN_AT: u64 = 1 << 62;
+
+/// For how many bytes of records the log's buffer has room.
+const BUFFER: usize = 65_536;
+
+/// A disk couldn't be opened.
+#[derive(Clone, Copy, Debug, PartialEq, Eq)]
+pub enum OpenError {
+    /// No root home is open.
+    NoDatabase,
+    /// A check failed in the root, in the log, or in a page that the log's records are on: in this file, at this byte.
+    Damaged {
+        file: File,
+        at: u64,
+        want: u128,
+        got: u128,
+    },
+    /// The next LSN is at least 2^62, or else the next transaction is.
+    Worn {
+        number: u64,
+    },
+    /// The disk failed.
+    Fault,
+    OutOfMemory,
+}
+
+impl From<StoreFault> for OpenError {
+    ghost use Rattle.ctr_store.specs.Opening.{fault_told};
+
+    ghost from_gives = { λ f e. e ≡ fault_told f };
+
+    fn from(fault: StoreFault) -> OpenError {
+        match fault {
+            StoreFault::Fault => OpenError::Fault,
+            StoreFault::Damaged {
+                file,
+                at,
+                want,
+                got,
+            } => OpenError::Damaged {
+                file,
+                at,
+                want,
+                got,
+            },
+        }
+    }
+}
+
+impl From<ReadError> for OpenError {
+    ghost use Rattle.ctr_store.specs.Opening.{read_told};
+
+    ghost from_gives = { λ f e. e ≡ read_told f };
+
+    fn from(error: ReadError) -> OpenError {
+        match error {
+            ReadError::Store(fault) => OpenError::from(fault),
+            ReadError::OutOfMemory => OpenError::OutOfMemory,
+        }
+    }
+}
+
+/// What the reading of a log found: the writer behind it, the tables that its records leave, and the records in their
+/// places.
+#[derive(Drop)]
+pub struct Found {
+    pub log: LogFile,
+    pub meta: Meta,
+    pub visits: List<Visit>,
+}
+
+// Reads the log that the root names; each record passes its checks before the next batch is read.
+fn read_log<D: Disk, O: Origin>(
+    alloc: Global,
+    disk: &mut D,
+    root: &Root,
+) -> Result<Found, ReadError>
+    requires root { IsRootOf Paged root.now }
+    requires says { IsTrue D.tells → SaysRootOf Paged (value_of RootBlock O.first) root.now }
+    ensures found { IsTrue D.tells → IfOk result (FindsLog (D.reads disk.old) root.now) }
+    ensures passed { IfOk result (λ f. (pages : ℕ) × ArePassed pages f.visits) }
+    ensures room { IfOk result (λ f. 65536 ≤ f.log.room) }
+    ensures refused { IsTrue D.tells → IfErr result (RefusesLog root.now (D.reads disk.old)) }
+    ensures quiet { OnlyReads D.Disk disk.old disk.new }
+{
+    let mut seen = Seen::<D, O>::new(alloc, root.pages);
+    let mut log = read_all(alloc, disk, root, &mut seen)?;
+    log.reserve(BUFFER)?;
+    let (meta, visits) = seen.into_parts();
+    Ok(Found { log, meta, visits })
+}
+
+// The root of a disk, and what the reading of its log found.
+fn read_front<D: Disk, O: Origin>(alloc: Global, disk: &mut D) -> Result<(Root, Found), OpenError>
+    requires named { O.first ≡ D.reads disk.old }
+    ensures found { IsTrue D.tells → IfOk result (λ r. FindsFront O.first r.0 r.1) }
+    ensures passed { IfOk result (λ r. ((pages : ℕ) × ArePassed pages r.1.visits) × (65536 ≤ r.1.log.room)) }
+    ensures refused { IsTrue D.tells → IfErr result (RefusesAs O.first) }
+    ensures quiet { OnlyReads D.Disk disk.old disk.new }
+    ensures durable { OnOk result (IsDurable D.Disk disk.new) }
+{
+    let Some(root) = find_root(disk)? else {
+        return Err(OpenError::NoDatabase);
+    };
+    let found = read_log::<D, O>(alloc, disk, &root)?;
+    Ok((root, found))
+}
+
+// Over what was read, a pool, and the pages brought forward that the log's records are on.
+fn bring_forward<D: Disk, O: Origin>(
+    alloc: Global,
+    disk: D,
+    frames: usize,
+    root: Root,
+    found: Found,
+) -> Result<Parts<D, O>, (OpenError, D)>
+    requires frames { (8 ≤ frames) × (frames ≤ 4096) }
+    requires told { IsTrue D.tells → FindsFront O.first root found × IsDurable D.Disk disk × (D.reads disk ≡ O.first) }
+    requires passed { (pages : ℕ) × ArePassed pages found.visits }
+    requires room { 65536 ≤ found.log.room }
+    ensures opened { IsTrue D.tells → IfOk result (Opens O.first D.Disk root) }
+    ensures goes { IsTrue D.tells → IsSoundImage O.first → LeavesOnly D.Disk disk (disk_left result) (FoldsFront (state_of (stored_in root O.first)) []) }
+    ensures refused { IsTrue D.tells → IfErr result (λ e. IsSoundImage O.first → (e.0 ≡ Fault) ⊎ (e.0 ≡ NoMemory)) }
+    ensures later { IfErr result (λ e. IsLater e.0) }
+    ensures room { IfOk result (λ s. 65536 ≤ s.base.log.room) }
+{
+    let Found { log, meta, visits } = found;
+    let Ok(pool) = Pool::new(alloc, frames) else {
+        return Err((OpenError::OutOfMemory, disk));
+    };
+    let durable = log.next();
+    let base = Base {
+        disk,
+        log,
+        root,
+        durable,
+        of: PhantomData,
+    };
+    let mut parts = Parts { base, pool, meta };
+    match parts.redo(visits.as_slice()) {
+        Ok(()) => Ok(parts),
+        Err(fault) => Err((OpenError::from(fault), parts.into_disk())),
+    }
+}
+
+// The number at which a store is worn.
+fn worn_number<D: Disk, O: Origin>(parts: &Parts<D, O>) -> Option<u64>
+    ensures { result ≡ worn_by (parts.now.base.log.first + length parts.now.base.log.buffered) parts.now.meta.tables.next }
+{
+    let next = parts.base.next();
+    if next >= WORN_AT {
+        return Some(next);
+    }
+    let xid = parts.meta.next();
+    if xid >= WORN_AT {
+        return Some(xid);
+    }
+    None
+}
+
+// Refuses a store that is worn.
+fn refuse_worn<D: Disk, O: Origin>(parts: Parts<D, O>) -> Result<Parts<D, O>, (OpenError, D)>
+    ensures same { IfOk result (λ s. s ≡ parts) }
+    ensures disk { disk_left result ≡ parts.base.disk }
+    ensures worn { IsWornBy (worn_by (parts.base.log.first + length parts.base.log.buffered) parts.meta.tables.next) result }
+{
+    match worn_number(&parts) {
+        Some(number) => Err((OpenError::Worn { number }, parts.into_disk())),
+        None => Ok(parts),
+    }
+}
+
+// The same, and refuses what is worn.
+fn finish<D: Disk, O: Origin>(
+    alloc: Global,
+    disk: D,
+    frames: usize,
+    root: Root,
+    found: Found,
+) -> Result<Parts<D, O>, (OpenError, D)>
+    requires frames { (8 ≤ frames) × (frames ≤ 4096) }
+    requires told { IsTrue D.tells → FindsFront O.first root found × IsDurable D.Disk disk × (D.reads disk ≡ O.first) }
+    requires passed { (pages : ℕ) × ArePassed pages found.visits }
+    requires room { 65536 ≤ found.log.room }
+    ensures answer { IsTrue D.tells → AnswersOpen O.first D.Disk result }
+    ensures room { IfOk result (λ s. 65536 ≤ s.base.log.room) }
+    ensures goes { IsTrue D.tells → IsSoundImage O.first → LeavesOnly D.Disk disk (disk_left result) (FoldsFront (state_of (stored_in root O.first)) []) }
+{
+    match bring_forward::<D, O>(alloc, disk, frames, root, found) {
+        Ok(parts) => refuse_worn(parts),
+        Err(error) => Err(error),
+    }
+}
+
+impl<D: Disk, O: Origin> Parts<D, O> {
+    /// Opens the database of a disk, over so many frames, 8 to 4,096. It begins with a sync, and logs nothing: pages may go
+    /// home that the log's records are on. A refusal gives the disk back.
+    pub fn open(alloc: Global, disk: D, frames: usize) -> Result<Parts<D, O>, (OpenError, D)>
+        requires named { O.first ≡ D.reads disk }
+        requires frames { (8 ≤ frames) × (frames ≤ 4096) }
+        ensures answer { IsTrue D.tells → AnswersOpen O.first D.Disk result }
+        ensures room { IfOk result (λ s. 65536 ≤ s.base.log.room) }
+        ensures any_moment { IsTrue D.tells → IsSoundImage O.first → LeavesOnly D.Disk disk (disk_left result) (LeavesFirst O.first (D.images disk)) }
+    {
+        let mut disk = disk;
+        match read_front::<D, O>(alloc, &mut disk) {
+            Ok((root, found)) => finish::<D, O>(alloc, disk, frames, root, found),
+            Err(error) => Err((error, disk)),
+        }
+    }
+}

@@ -1,0 +1,219 @@
+// A visitor of a log that checks each record and lays it into the tables.
+ghost use Rattle.std.specs.Prelude.{◌≡◌, ◌≢◌, ◌⊎◌, ◌≤◌, ◌<◌, ◌+◌, min, MatchResult, [], ◌∷◌, ◌++◌, Ok, IsTrue, length, IfOk, IfErr, OnOk, OnErr};
+ghost use Rattle.ctr_bytes.specs.Fields.{field};
+ghost use Rattle.ctr_records.specs.Spelling.{record_bytes};
+ghost use Rattle.ctr_meta.specs.Needs.{needs};
+ghost use Rattle.ctr_meta.specs.Kept.{IsLogged, MayApply};
+ghost use Rattle.ctr_redo.specs.Overlaid.{overlay_of};
+ghost use Rattle.ctr_disk.specs.declared.fault.StoreFault.TheVariants.{Damaged};
+ghost use Rattle.ctr_log.specs.declared.reading.ReadError.TheVariants.{Store, OutOfMemory as NoMemory};
+ghost use Rattle.ctr_store.specs.RecordChecks.{place_check, counted_check, PassesAs, FailsAs, ArePassed, CountsPages, tables_seen};
+ghost use Rattle.ctr_log.specs.Visits.{visit_of};
+
+use crate::spelling::overlay_of;
+use ctr_base::Origin;
+use ctr_bytes::get_u8;
+use ctr_disk::{Disk, StoreFault};
+use ctr_log::{Lsn, ReadError, Visit, Visitor};
+use ctr_meta::{Meta, room_for};
+use ctr_records::{BadRecord, Record, decode, expect};
+use ctr_types::{File, List, Text};
+use std::alloc::Global;
+use std::marker::{Model, PhantomData};
+
+/// Where the first record of a file stands.
+const FIRST_RECORD: u64 = 29;
+
+/// The records of a log that it was given, each of which passed its checks, and the tables that they leave.
+#[derive(Drop)]
+pub struct Seen<D: Disk, O: Origin> {
+    alloc: Global,
+    pages: u32,
+    meta: Meta,
+    visits: List<Visit>,
+    of: PhantomData<(D, O)>,
+}
+
+impl<D: Disk, O: Origin> Model for Seen<D, O> {
+    ghost use Rattle.ctr_store.specs.RecordChecks.{SeenLog};
+
+    ghost Value = { SeenLog };
+
+    ghost use Rattle.ctr_store.specs.Inside.{seen_in, IsSeen};
+
+    ghost view = { seen_in };
+
+    ghost invariant = { IsSeen D.tells O.first };
+}
+
+// The first byte of a record; of none it is 0.
+fn first_byte(bytes: &[u8]) -> u8
+    ensures { result ≡ field 1 0 bytes.now }
+{
+    if bytes.is_empty() {
+        return 0;
+    }
+    get_u8(bytes, 0)
+}
+
+// A Checkpoint stands first in its file, and nowhere else.
+fn check_place(at: u64, bytes: &[u8]) -> Result<(), BadRecord>
+    ensures { result ≡ place_check at bytes.now }
+{
+    let tag = first_byte(bytes);
+    if at == FIRST_RECORD {
+        return expect(0, 1, tag as u128);
+    }
+    if tag == 1 {
+        return Err(BadRecord {
+            at: 0,
+            want: 18,
+            got: 1,
+        });
+    }
+    Ok(())
+}
+
+// A record's overlay is on a counted page.
+fn check_counted(pages: u32, len: usize, rec: &Record) -> Result<(), BadRecord>
+    ensures { result ≡ counted_check pages len (overlay_of rec.now) }
+{
+    let Some(overlay) = overlay_of(rec) else {
+        return Ok(());
+    };
+    if overlay.page < pages {
+        return Ok(());
+    }
+    Err(BadRecord {
+        at: len
+            .saturating_sub(overlay.bytes.as_slice().len())
+            .saturating_sub(9) as u64,
+        want: (pages as u128).saturating_sub(1),
+        got: overlay.page as u128,
+    })
+}
+
+// A record that passes its checks, behind records that left these tables.
+fn read_record<'a>(
+    meta: &Meta,
+    pages: u32,
+    at: u64,
+    bytes: &'a [u8],
+) -> Result<Record<'a>, BadRecord>
+    ensures { MatchResult result (PassesAs pages at meta.now.tables bytes.now) (FailsAs pages at meta.now.tables bytes.now) }
+{
+    check_place(at, bytes)?;
+    let rec = decode(bytes)?;
+    check_counted(pages, bytes.len(), &rec)?;
+    meta.check(&rec)?;
+    Ok(rec)
+}
+
+// Damage of a record that stands at a place of a file.
+fn damage_at(file: File, at: u64, bad: BadRecord) -> ReadError
+    ensures { result ≡ Store (Damaged file (min (at + bad.at) 18446744073709551615) bad.want bad.got) }
+{
+    ReadError::Store(StoreFault::Damaged {
+        file,
+        at: at.saturating_add(bad.at),
+        want: bad.want,
+        got: bad.got,
+    })
+}
+
+impl<D: Disk, O: Origin> Seen<D, O> {
+    ghost use Rattle.ctr_meta.specs.Tables.{no_tables};
+
+    /// Nothing was given yet, of a log over so many pages. It takes no memory.
+    pub fn new(alloc: Global, pages: u32) -> Seen<D, O>
+        requires { IsTrue D.tells → CountsPages O.first pages }
+        ensures { result ≡ record { visits = []; tables = no_tables; pages = pages } }
+    {
+        Seen {
+            alloc,
+            pages,
+            meta: Meta::new(alloc),
+            visits: List::new(alloc),
+            of: PhantomData,
+        }
+    }
+
+    /// The tables, and the records in their places.
+    pub fn into_parts(self) -> (Meta, List<Visit>)
+        ensures tables { result.0.tables ≡ self.tables }
+        ensures visits { result.1 ≡ self.visits }
+        ensures passed { ArePassed self.pages self.visits × (self.tables ≡ tables_seen self.visits) × (IsTrue D.tells → CountsPages O.first self.pages) }
+    {
+        let Seen {
+            alloc: _,
+            pages: _,
+            meta,
+            visits,
+            of: _,
+        } = self;
+        (meta, visits)
+    }
+
+    // Adds a record that passed.
+    fn add(&mut self, visit: Visit, rec: &Record) -> Result<(), ReadError>
+        requires { PassesAs self.old.pages visit.at self.old.tables visit.bytes rec.now }
+        ensures given { OnOk result (self.new.visits ≡ self.old.visits ++ visit ∷ []) }
+        ensures left { OnErr result (self.new.visits ≡ self.old.visits) }
+        ensures pages { self.new.pages ≡ self.old.pages }
+        ensures refused { IfErr result (λ e. e ≡ NoMemory) }
+    {
+        let room = room_for(rec);
+        self.meta.reserve(room.opens, room.items)?;
+        if !self.meta.has_numbers(rec) {
+            return Err(ReadError::OutOfMemory);
+        }
+        self.visits.push(visit)?;
+        self.meta.apply(rec);
+        Ok(())
+    }
+
+    // The record as it is kept.
+    fn keep(
+        &mut self,
+        lsn: Lsn,
+        file: File,
+        at: u64,
+        bytes: &[u8],
+        rec: &Record,
+    ) -> Result<(), ReadError>
+        requires { PassesAs self.old.pages at self.old.tables bytes.now rec.now }
+        ensures given { OnOk result (self.new.visits ≡ self.old.visits ++ visit_of lsn file at bytes.now ∷ []) }
+        ensures left { OnErr result (self.new.visits ≡ self.old.visits) }
+        ensures pages { self.new.pages ≡ self.old.pages }
+        ensures refused { IfErr result (λ e. e ≡ NoMemory) }
+    {
+        let bytes = Text::from_slice(self.alloc, bytes)?;
+        self.add(
+            Visit {
+                lsn,
+                file,
+                at,
+                bytes,
+            },
+            rec,
+        )
+    }
+}
+
+impl<D: Disk, O: Origin> Visitor for Seen<D, O> {
+    ghost use Rattle.ctr_store.specs.RecordChecks.{RefusesVisit, CountsPages};
+    ghost use Rattle.std.specs.Prelude.{IsTrue};
+
+    type E = ReadError;
+
+    ghost seen = { λ s. s.visits };
+
+    ghost refuses = { RefusesVisit (λ pages. IsTrue D.tells → CountsPages O.first pages) };
+
+    fn visit(&mut self, lsn: Lsn, file: File, at: u64, bytes: &[u8]) -> Result<(), ReadError> {
+        match read_record(&self.meta, self.pages, at, bytes) {
+            Ok(rec) => self.keep(lsn, file, at, bytes, &rec),
+            Err(bad) => Err(damage_at(file, at, bad)),
+        }
+    }
+}

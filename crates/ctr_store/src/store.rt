@@ -1,0 +1,167 @@
+// The store: pages and tables are the fold of the log, at every moment.
+ghost use Rattle.std.specs.Prelude.{◌≡◌, ◌≤◌, ◌<◌, ◌+◌, ◌↔◌, IsTrue, true, false, [], ◌∷◌, Err, length, IfOk, IfErr, OnOk, OnErr};
+ghost use Rattle.ctr_types.specs.Faults.{HasFault};
+ghost use Rattle.ctr_disk.specs.declared.fault.StoreFault.TheVariants.{Fault};
+ghost use Rattle.ctr_meta.specs.Kept.{RoomLeft};
+ghost use Rattle.ctr_base.specs.Base.{IsSoundImage};
+ghost use Rattle.std.specs.Borrow.{sem};
+ghost use Rattle.std.specs.Io.BufRead.{Rests};
+ghost use Rattle.ctr_disk.specs.Device.{LeavesOnly};
+ghost use Rattle.ctr_redo.specs.States.{page_limit, page_at};
+ghost use Rattle.ctr_store.specs.Opening.{LeavesFirst};
+ghost use Rattle.ctr_store.specs.Store.{LeavesFront, LeavesPage, Logs, MayLog, KeepsRoom};
+ghost use Rattle.ctr_store.specs.StoreOpening.{AnswersStore, store_left};
+
+use crate::opening::OpenError;
+use crate::parts::Parts;
+use ctr_base::Origin;
+use ctr_disk::{Disk, StoreFault};
+use ctr_log::Lsn;
+use ctr_meta::Meta;
+use ctr_records::{PageNo, Record};
+use ctr_types::OutOfMemory;
+use std::alloc::Global;
+use std::marker::Model;
+
+/// For how many bytes of records there is room when a turn begins.
+const ROOM: usize = 5000;
+
+/// The pages and the tables of a database, over its log and its homes.
+#[derive(Drop)]
+pub struct Store<D: Disk, O: Origin> {
+    parts: Parts<D, O>,
+    // a call was answered an error
+    stopped: bool,
+}
+
+impl<D: Disk, O: Origin> Model for Store<D, O> {
+    ghost use Rattle.ctr_store.specs.Store.{View};
+
+    ghost Value = { View D };
+
+    ghost use Rattle.ctr_store.specs.StoreInside.{view_in, IsStore};
+
+    ghost view = { view_in D.Disk };
+
+    ghost invariant = { IsStore O.first D.Disk };
+}
+
+impl<D: Disk, O: Origin> Store<D, O> {
+    ghost use Rattle.ctr_store.specs.contracts.store.Store.{the_row as store-row};
+
+    /// Opens the database of a disk, over so many frames, 8 to 4,096. It begins with a sync, and logs nothing: pages may go
+    /// home that the log's records are on. A refusal gives the disk back.
+    pub fn open(alloc: Global, disk: D, frames: usize) -> Result<Store<D, O>, (OpenError, D)>
+        requires named { O.first ≡ D.reads disk }
+        requires frames { (8 ≤ frames) × (frames ≤ 4096) }
+        ensures answer { IsTrue D.tells → AnswersStore O.first result }
+        ensures fresh { IfOk result (λ s. (s.stopped ≡ false) × (65536 ≤ s.room)) }
+        ensures any_moment { IsTrue D.tells → IsSoundImage O.first → LeavesOnly D.Disk disk (store_left result) (LeavesFirst O.first (D.images disk)) }
+    {
+        match Parts::<D, O>::open(alloc, disk, frames) {
+            Ok(parts) => Ok(Store {
+                parts,
+                stopped: false,
+            }),
+            Err(error) => Err(error),
+        }
+    }
+
+    /// The bytes of a page, with all records.
+    pub fn page(&mut self, page: PageNo) -> Result<&[u8], StoreFault>
+        requires { self.old.stopped ≡ false }
+        ensures shown { IsTrue D.tells → IsSoundImage O.first → page < page_limit → IfOk result (λ b. b.now ≡ page_at page self.old.now.pages) }
+        ensures* after { sem 𝓛 (Rests (store-row D.row O.row D.Disk O.Origin) self.entry (λ new. LeavesPage O.first D.Disk self.old new result)) }
+    {
+        match self.parts.bring(page) {
+            Ok(()) => {}
+            Err(fault) => {
+                self.stopped = true;
+                return Err(fault);
+            }
+        }
+        Ok(self.parts.bytes(page))
+    }
+
+    /// Whether there is room for a turn: two frames that have nothing to be written home, and 5,000 bytes of records.
+    pub fn room(&self) -> bool
+        ensures { IsTrue result ↔ ((2 ≤ self.now.frames) × (5000 ≤ self.now.room)) }
+    {
+        self.parts.pool.unchanged() >= 2 && self.parts.base.log.room() >= ROOM
+    }
+
+    /// Takes room for so many more transactions and items.
+    pub fn reserve(&mut self, opens: usize, items: usize) -> Result<(), OutOfMemory>
+        ensures same { self.new ≡ record self.old { meta = self.new.meta } }
+        ensures tables { self.new.meta.tables ≡ self.old.meta.tables }
+        ensures kept { RoomLeft 0 0 self.old.meta self.new.meta }
+        ensures opens { OnOk result (opens ≤ self.new.meta.opens_room) }
+        ensures items { OnOk result (items ≤ self.new.meta.items_room) }
+    {
+        self.parts.meta.reserve(opens, items)
+    }
+
+    /// Adds a record that can be logged, and answers its number. It isn't hardened yet.
+    pub fn log(&mut self, rec: &Record) -> Result<Lsn, StoreFault>
+        requires goes { self.old.stopped ≡ false }
+        requires may { MayLog rec.now self.old }
+        ensures number { IfOk result (λ lsn. lsn ≡ self.old.next) }
+        ensures any_moment { IsTrue D.tells → IsSoundImage O.first → LeavesFront D.Disk self.old self.new }
+        ensures logs { IsTrue D.tells → IsSoundImage O.first → OnOk result (Logs (rec.now ∷ []) self.old self.new) }
+        ensures stopped { (OnOk result (self.new.stopped ≡ false)) × (OnErr result (self.new.stopped ≡ true)) }
+        ensures refused { IsTrue D.tells → IsSoundImage O.first → OnErr result (result ≡ Err Fault) }
+        ensures faults { HasFault Fault (D.faults_of self.old.disk) (D.faults_of self.new.disk) result }
+    {
+        let logged = self.parts.log(rec);
+        self.stopped = logged.is_err();
+        logged
+    }
+
+    /// Makes all records durable.
+    pub fn harden(&mut self) -> Result<(), StoreFault>
+        requires { self.old.stopped ≡ false }
+        ensures any_moment { IsTrue D.tells → IsSoundImage O.first → LeavesFront D.Disk self.old self.new }
+        ensures logs { IsTrue D.tells → IsSoundImage O.first → OnOk result (Logs [] self.old self.new) }
+        ensures none { OnOk result (self.new.waiting ≡ []) }
+        ensures keeps { KeepsRoom self.old self.new }
+        ensures stopped { (OnOk result (self.new.stopped ≡ false)) × (OnErr result (self.new.stopped ≡ true)) }
+        ensures refused { OnErr result (result ≡ Err Fault) }
+        ensures faults { HasFault Fault (D.faults_of self.old.disk) (D.faults_of self.new.disk) result }
+    {
+        let hardened = self.parts.harden();
+        self.stopped = hardened.is_err();
+        hardened
+    }
+
+    /// Writes the page home that is changed the longest, or answers that none is changed.
+    pub fn write_one_dirty(&mut self) -> Result<bool, StoreFault>
+        requires { self.old.stopped ≡ false }
+        ensures any_moment { IsTrue D.tells → IsSoundImage O.first → LeavesFront D.Disk self.old self.new }
+        ensures logs { IsTrue D.tells → IsSoundImage O.first → OnOk result (Logs [] self.old self.new) }
+        ensures keeps { KeepsRoom self.old self.new }
+        ensures stopped { (OnOk result (self.new.stopped ≡ false)) × (OnErr result (self.new.stopped ≡ true)) }
+        ensures refused { IsTrue D.tells → IsSoundImage O.first → OnErr result (result ≡ Err Fault) }
+        ensures faults { HasFault Fault (D.faults_of self.old.disk) (D.faults_of self.new.disk) result }
+    {
+        let wrote = self.parts.write_one_dirty();
+        self.stopped = wrote.is_err();
+        wrote
+    }
+
+    /// The tables of transactions.
+    pub fn meta(&self) -> &Meta
+        ensures tables { result.now ≡ self.now.meta }
+        // They are those of all records.
+        ensures now { IsTrue D.tells → IsSoundImage O.first → self.now.stopped ≡ false → self.now.meta.tables ≡ self.now.now.tables }
+    {
+        &self.parts.meta
+    }
+
+    /// The disk. What isn't hardened is lost.
+    pub fn into_disk(self) -> D
+        ensures { result ≡ self.disk }
+    {
+        let Store { parts, stopped: _ } = self;
+        parts.into_disk()
+    }
+}
