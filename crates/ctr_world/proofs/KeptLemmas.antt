@@ -1,5 +1,5 @@
 -- What a World keeps over its calls.
-use Rattle.std.proofs.Common.{◌≡◌, ◌⊎◌, inl, inr, ℕ, ◌+◌, ◌<◌, ◌≤◌, List, [], ◌∷◌, ◌++◌, length, Option, Some, None, sym, ◌∙◌, subst, arith}
+use Rattle.std.proofs.Common.{◌≡◌, ◌⊎◌, inl, inr, ⊎_elim, ℕ, ◌+◌, ◌<◌, ◌≤◌, List, [], ◌∷◌, ◌++◌, length, Option, Some, None, sym, ◌∙◌, ap, subst, arith}
 use Rattle.std.specs.Prelude.{IfSome}
 use Rattle.ctr_types.specs.Faults.{CountsFault}
 use Rattle.ctr_types.specs.declared.tape.Entry.{Entry}
@@ -12,7 +12,13 @@ use Rattle.ctr_model.specs.Tape.{final, Legal}
 use Rattle.ctr_legal.specs.Laws.{HaveOwnNumbers, NumbersAreOwn}
 use Rattle.ctr_steps.specs.declared.steps.Steps.{Steps}
 use Rattle.ctr_steps.specs.Steps.{Walks, Walking, HasBounds, AreAnswered, DurableWalks, LaterWalks, reached_by}
-use Rattle.ctr_world.specs.Turns.{NoneFull, HasLeft, IsAsking}
+use Rattle.std.proofs.lemmas.List.{append-nil, append_assoc}
+use Rattle.ctr_types.specs.declared.tape.Actor.TheVariants as actor
+use Rattle.ctr_types.specs.declared.tape.Turn.{Turn}
+use Rattle.ctr_types.specs.declared.tape.Turn.TheVariants as turn
+use Rattle.ctr_disk.specs.declared.disk.Disk.{Ghosts}
+use Rattle.ctr_world.specs.declared.parts.Parts.{Parts}
+use Rattle.ctr_world.specs.Turns.{NoneFull, AddsMore, EndsTurn, HasLeft, IsAsking}
 use Rattle.ctr_world.specs.World.{WalksOn, StopsBy}
 use Rattle.ctr_world.proofs.HardenLemmas.{waits_some}
 
@@ -96,3 +102,23 @@ pub none_waits : (steps : Steps) (waiting : List (List ℕ)) (now : ℕ) → Wal
 none_waits steps waiting now w all some =
     let less = waits_some (reached_by w.start steps).state steps.answered waiting w.walks.shows.waits some in
     omega (arith, less, all w.start steps.answered waiting now w.walks, w.walks.answered)
+
+-- ---- the tape goes on
+
+pub more_none : (old new : Steps) → new ≡ old → AddsMore old new
+more_none old new same = ([], ap (λ (h : Steps). h.tape.items) same ∙ sym (append-nil old.tape.items))
+
+pub more_more : (old mid new : Steps) → AddsMore old mid → AddsMore mid new → AddsMore old new
+more_more old mid new first second =
+    (first.0 ++ second.0, second.1 ∙ ap (λ (l : List Entry). l ++ second.0) first.1 ∙ append_assoc old.tape.items first.0 second.0)
+
+-- however a turn of a session ended
+pub says_more : {D : Type 0} (dev : Ghosts D) (s : ℕ) (r : Turn) (old new : Parts D) → EndsTurn dev r (actor.Session s) old new → AddsMore old.steps new.steps
+says_more dev s turn.Went old new says = ⊎_elim
+    (λ all. (all.1.adds.entries, all.1.adds.tape))
+    (λ one. (one.1.entry ∷ [], one.1.tape))
+    says.1.1
+says_more dev s turn.Idle old new says = absurd says.1
+says_more dev s turn.Short old new says = absurd says
+says_more dev s turn.Over old new says = more_none old.steps new.steps (ap (λ w. w.steps) says.2)
+says_more dev s turn.Stopped old new says = more_none old.steps new.steps says.1

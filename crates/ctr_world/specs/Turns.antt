@@ -39,6 +39,10 @@ abbrev pub IsBetween : ℕ → Steps → Type 0
 IsBetween s steps = 1 ≤ s → s ≤ length steps.runners.items
     → (runner_at s steps.runners.items).stage ≡ stage.Between
 
+-- entries more behind those that are there
+abbrev pub AddsMore : Steps → Steps → Type 0
+AddsMore old new = (more : List Entry) × (new.tape.items ≡ old.tape.items ++ more)
+
 -- entries more, of this one moment, of which none is a refusal for want of room
 pub record AddsEntries (moment : ℕ) (old new : Steps) : Type 0 where
   pub entries : List Entry

@@ -9,7 +9,7 @@ ghost use Rattle.ctr_gather.specs.Records.{IsSession};
 ghost use Rattle.ctr_steps.specs.Runners.{runner_at, MayStep};
 ghost use Rattle.ctr_steps.specs.Steps.{HasBounds, AddsEntry};
 ghost use Rattle.ctr_world.specs.World.{WalksOn, Runs, Kept};
-ghost use Rattle.ctr_world.specs.Turns.{AnswersAll, HasLeft, EndsTurn, turns_left};
+ghost use Rattle.ctr_world.specs.Turns.{AnswersAll, AddsMore, HasLeft, EndsTurn, turns_left};
 
 use crate::answers::answer_all;
 use crate::left::{Next, first_left, next_of};
@@ -150,6 +150,7 @@ impl<D: Disk> Parts<D> {
     pub(crate) fn run<B: Opening>(&mut self, alloc: Global)
         requires kept { Kept D.Disk B.Opening self.old }
         ensures kept { Kept D.Disk B.Opening self.new }
+        ensures adds { AddsMore self.old.steps self.new.steps }
         ensures none { self.new.stop ≡ None → (s : ℕ) → HasLeft s self.new.steps → ⊥ }
     {
         while let Turn::Went = self.step_first::<B>(alloc) {}
@@ -159,6 +160,7 @@ impl<D: Disk> Parts<D> {
     fn step_first<B: Opening>(&mut self, alloc: Global) -> Turn
         requires kept { Kept D.Disk B.Opening self.old }
         ensures kept { Kept D.Disk B.Opening self.new }
+        ensures adds { AddsMore self.old.steps self.new.steps }
         ensures fewer { result ≡ Went → turns_left self.new < turns_left self.old }
         ensures none { result ≢ Went → self.new.stop ≡ None → (s : ℕ) → HasLeft s self.new.steps → ⊥ }
     {

@@ -1,6 +1,7 @@
 // The World: its type names what it was opened on, and keeps the tape legal and the disk's images in order.
-ghost use Rattle.std.specs.Prelude.{◌≡◌, ◌↔◌, ◌≤◌, ℕ, IsTrue, true, false, length, slice_get, IfOk, IfErr};
+ghost use Rattle.std.specs.Prelude.{◌≡◌, ◌↔◌, ◌≤◌, ℕ, List, [], ◌++◌, None, IsTrue, true, false, length, slice_get, IfOk, IfErr};
 ghost use Rattle.std.specs.Option.{option_map};
+ghost use Rattle.ctr_types.specs.declared.tape.Entry.{Entry as HeldEntry};
 ghost use Rattle.ctr_model.specs.Database.{Database};
 ghost use Rattle.ctr_thin.specs.Thin.{StandsFor, Explains, OpenDiffers};
 ghost use Rattle.ctr_world.specs.declared.parts.Parts.{Parts};
@@ -56,6 +57,7 @@ impl<D: Disk, B: Opening> World<D, B> {
     pub fn open(alloc: Global, disk: D, script: Script) -> Result<World<D, B>, (OpenError, D)>
         requires named { IsOpenedOn B.Opening D.Disk disk script.lines }
         requires runs { CanRun script.lines }
+        ensures begins { IfOk result (λ w. (w.steps.tape.items ≡ []) × (w.stop ≡ None)) }
         ensures can_open { IsTrue D.tells → IfOk result (λ w. CanOpen (D.reads disk)) }
         ensures refused { IsTrue D.tells → IfErr result (λ e. Explains (D.reads disk) e.0) }
         ensures differs { IfErr result (λ e. OpenDiffers e.0) }
@@ -143,6 +145,7 @@ impl<D: Disk, B: Opening> World<D, B> {
     pub fn finish(self, alloc: Global) -> Finished<D>
         ensures ends { (base : Database) → IsTrue D.tells → StandsFor B.image base → Ends D.Disk B.Opening base
             result.tape.entries result.stop result.disk }
+        ensures tape { (more : List HeldEntry) × (result.tape.entries ≡ self.steps.tape.items ++ more) }
         ensures not_full { NoneFull result.tape.entries }
         ensures later { B.start ≤ D.moment_of result.disk }
         ensures stops { StopsBy result.stop B.faults (D.faults_of result.disk) }
