@@ -1,5 +1,5 @@
 -- What callers see of a store, and how its calls change that.
-use Rattle.std.specs.Prelude.{◌≡◌, ◌-◌, ◌^◌, ◌<◌, ◌≤◌, ℕ, Bool, true, false, IsTrue, List, [], ◌++◌, length, take, drop, Result, Err, OnOk, OnErr}
+use Rattle.std.specs.Prelude.{◌≡◌, ◌-◌, ◌^◌, ◌<◌, ◌≤◌, ℕ, Bool, true, false, IsTrue, List, [], ◌++◌, length, take, drop, Result, Err, OnOk, OnErr, ◌+◌}
 use Rattle.ctr_disk.specs.declared.disk.Disk.{Ghosts}
 use Rattle.ctr_types.specs.Faults.{HasFault}
 use Rattle.ctr_disk.specs.declared.disk.Image.{Image}
@@ -7,7 +7,8 @@ use Rattle.ctr_disk.specs.declared.fault.StoreFault.{StoreFault}
 use Rattle.ctr_disk.specs.declared.fault.StoreFault.TheVariants.{Fault}
 use Rattle.ctr_disk.specs.Device.{LeavesOnly}
 use Rattle.ctr_records.specs.declared.record.Record.{Record}
-use Rattle.ctr_meta.specs.Kept.{TablesKept, IsLogged, MayApply}
+use Rattle.ctr_records.specs.Spelling.{record_bytes}
+use Rattle.ctr_meta.specs.Kept.{TablesKept, IsLogged, MayApply, RoomLeft, opens_added, items_added}
 use Rattle.ctr_redo.specs.Overlaid.{overlay_of}
 use Rattle.ctr_redo.specs.States.{State, steps}
 use Rattle.ctr_redo.specs.Images.{FoldsFront}
@@ -51,6 +52,13 @@ pub record MayLog {D : Type 0} (r : Record) (v : View D) : Type 0 where
   pub room : 5000 ≤ v.room
   pub few : length v.waiting < 2 ^ 32 - 1
   pub number : v.next < 2 ^ 63 - 1
+
+-- A record has this number, the next one is one more, and this room is left.
+pub record TakesRecord {D : Type 0} (r : Record) (lsn : ℕ) (a b : View D) : Type 0 where
+  pub number : lsn ≡ a.next
+  pub next : b.next ≡ a.next + 1
+  pub room : a.room ≤ b.room + (8 + length (record_bytes r))
+  pub left : RoomLeft (opens_added r) (items_added r) a.meta b.meta
 
 -- However a call ends, the number of the next record is that of before, and room for records isn't lost.
 pub record KeepsRoom {D : Type 0} (a b : View D) : Type 0 where
