@@ -16,9 +16,9 @@ use Rattle.ctr_base.specs.Base.{stored_of, waiting_of, now_of, home_of, IsSoundI
 use Rattle.ctr_store.specs.Changes.{IsChange, LiesInside}
 use Rattle.ctr_store.specs.declared.parts.Parts.{Parts}
 
--- The pool stands over the log and the homes. Where the first image was sound, nothing is pending, the
--- tables are those that all records leave, on the disk and behind them those that wait; and each page
--- is its home with all of them.
+-- The pool stands over the log and the homes. Where the first image was sound, nothing is pending,
+-- the tables are those that all records leave, on the disk and behind them those that wait; and
+-- each page is its home with all of them.
 pub record IsFold {D O : Type 0} (first : Image) (g : Ghosts D) (s : Parts D O) : Type 0 where
   pub over : IsOver (backing_of first g) s.pool.frames s.base
   pub tables : IsSoundImage first → s.meta.tables ≡ tables_of (now_of g s.base).records
@@ -35,8 +35,9 @@ abbrev pub AreLow : {D O : Type 0} → Ghosts D → Parts D O → Type 0
 AreLow g s = (p : ℕ) → (page_shown s.pool.frames p (home_of g s.base p)).lsn
     < s.base.log.first + length s.base.log.buffered
 
--- A record can be logged: it is one and no Checkpoint, its overlay lies on a counted page, the tables
--- meet its needs and have room for what it adds; and there is room for its bytes and its number.
+-- A record can be logged: it is one and no Checkpoint, its overlay lies on a counted page, the
+-- tables meet its needs and have room for what it adds; and there is room for its bytes and its
+-- number.
 pub record CanLog {D O : Type 0} (r : Record) (s : Parts D O) : Type 0 where
   pub logged : IsLogged r
   pub change : IsChange r

@@ -15,10 +15,10 @@ use Rattle.ctr_redo.specs.Images.{FoldsFront}
 use Rattle.ctr_base.specs.Base.{IsSoundImage}
 use Rattle.ctr_store.specs.Changes.{IsChange, LiesInside}
 
--- The disk; what it folds to; the records that aren't hardened, in order; pages and tables with these;
--- the number of the next record; how many bytes of records may wait besides; how many frames have
--- nothing to be written home; the tables as they are kept; whether a call was answered an error, after
--- which no more can be asked.
+-- The disk; what it folds to; the records that aren't hardened, in order; pages and tables with
+-- these; the number of the next record; how many bytes of records may wait besides; how many
+-- frames have nothing to be written home; the tables as they are kept; whether a call was answered
+-- an error, after which no more can be asked.
 pub record View (D : Type 0) : Type 0 where
   pub disk : D
   pub hardened : State
@@ -34,16 +34,16 @@ pub record View (D : Type 0) : Type 0 where
 abbrev pub LeavesFront : {D : Type 0} → Ghosts D → View D → View D → Type 0
 LeavesFront g a b = LeavesOnly g a.disk b.disk (FoldsFront a.hardened a.waiting)
 
--- The first of what waited is hardened now, these records wait behind the rest, and pages and tables are
--- those of before with them.
+-- The first of what waited is hardened now, these records wait behind the rest, and pages and
+-- tables are those of before with them.
 pub record Logs {D : Type 0} (rs : List Record) (a b : View D) : Type 0 where
   pub j : ℕ
   pub waiting : b.waiting ≡ drop j a.waiting ++ rs
   pub hardened : b.hardened ≡ steps (take j a.waiting) a.hardened
   pub now : b.now ≡ steps rs a.now
 
--- A record can be logged: it is one and no Checkpoint, its overlay lies on a counted page, the tables
--- meet its needs and have room for what it adds; there is room for it, and a number.
+-- A record can be logged: it is one and no Checkpoint, its overlay lies on a counted page, the
+-- tables meet its needs and have room for what it adds; there is room for it, and a number.
 pub record MayLog {D : Type 0} (r : Record) (v : View D) : Type 0 where
   pub logged : IsLogged r
   pub change : IsChange r
@@ -60,7 +60,8 @@ pub record TakesRecord {D : Type 0} (r : Record) (lsn : ℕ) (a b : View D) : Ty
   pub room : a.room ≤ b.room + (8 + length (record_bytes r))
   pub left : RoomLeft (opens_added r) (items_added r) a.meta b.meta
 
--- However a call ends, the number of the next record is that of before, and room for records isn't lost.
+-- However a call ends, the number of the next record is that of before, and room for records isn't
+-- lost.
 pub record KeepsRoom {D : Type 0} (a b : View D) : Type 0 where
   pub next : b.next ≡ a.next
   pub room : a.room ≤ b.room
