@@ -33,9 +33,10 @@ now_of g b = with_more (waiting_of b) (stored_of g b)
 abbrev pub home_of : {D O : Type 0} → Ghosts D → Base D O → ℕ → PageHeld
 home_of g b p = home_in b.root.pages (g.reads b.disk) p
 
--- A page that may go home once its records are durable: it has all records so far, or the records on
--- the disk make the same page of it as of what is at home.
-pub record MaySave {D O : Type 0} (g : Ghosts D) (b : Base D O) (p since : ℕ) (v : PageHeld) : Type 0 where
+-- A page that may go home once its records are durable: it has all records so far, or the records
+-- on the disk make the same page of it as of what is at home.
+pub record MaySave {D O : Type 0} (g : Ghosts D) (b : Base D O) (p since : ℕ) (v : PageHeld)
+    : Type 0 where
   pub counted : p < b.root.pages
   pub above : (home_of g b p).lsn < v.lsn
   pub low : v.lsn < next_of (now_of g b)
@@ -54,8 +55,8 @@ pub record IsQuiet {D O : Type 0} (g : Ghosts D) (b : Base D O) : Type 0 where
 abbrev pub LeavesBase : {D O : Type 0} → Ghosts D → Base D O → Base D O → Type 0
 LeavesBase g a b = LeavesOnly g a.disk b.disk (FoldsFront (state_of (stored_of g a)) (waiting_of a))
 
--- The first of what waited is durable now; the root, the records in order and each page with them are
--- as they were.
+-- The first of what waited is durable now; the root, the records in order and each page with them
+-- are as they were.
 pub record MovesBase {D O : Type 0} (g : Ghosts D) (a b : Base D O) : Type 0 where
   pub j : ℕ
   pub at_most : j ≤ length (waiting_of a)

@@ -16,8 +16,8 @@ use Rattle.ctr_home.specs.Roots.{SaysRootOf, ReadsRoot}
 abbrev pub size_check : ℕ → List ℕ → Check
 size_check pages bytes = check_of 0 (max (length bytes) (pages * 8256)) (length bytes)
 
--- the root that an image says, whose file of pages has all that are counted; none where no root home
--- is open
+-- the root that an image says, whose file of pages has all that are counted; none where no root
+-- home is open
 abbrev pub FindsRoot : Image → Option Root → Type 0
 FindsRoot image None = value_of RootBlock image ≡ None
 FindsRoot image (Some r) = SaysRootOf Paged (value_of RootBlock image) r

@@ -8,8 +8,8 @@ use Rattle.ctr_store.specs.RecordChecks.{SeenLog, ArePassed, CountsPages, tables
 abbrev pub seen_in : {D O : Type 0} → Inside D O → SeenLog
 seen_in a = record { visits = a.visits; tables = a.meta.tables; pages = a.pages }
 
--- Each record passed, and the tables are theirs; where the disk tells, as many pages are counted as its
--- first image says.
+-- Each record passed, and the tables are theirs; where the disk tells, as many pages are counted
+-- as its first image says.
 pub record IsSeen {D O : Type 0} (tells : Bool) (first : Image) (a : Inside D O) : Type 0 where
   pub passed : ArePassed a.pages a.visits
   pub tables : a.meta.tables ≡ tables_seen a.visits

@@ -40,8 +40,8 @@ abbrev pub read_told : ReadError → OpenError
 read_told (read.Store fault) = fault_told fault
 read_told read.OutOfMemory = open_error.OutOfMemory
 
--- What the reading of the log of an image finds, by this root: the records in their places, which pass,
--- the tables that they leave, and the writer behind them, with nothing to flush.
+-- What the reading of the log of an image finds, by this root: the records in their places, which
+-- pass, the tables that they leave, and the writer behind them, with nothing to flush.
 pub record FindsLog (image : Image) (root : Root) (f : Found) : Type 0 where
   pub kept : OpensKept root.file root.first image f.log
   pub none : f.log.buffered ≡ []
@@ -52,8 +52,8 @@ pub record FindsLog (image : Image) (root : Root) (f : Found) : Type 0 where
   pub goes_on : (rs : List (List ℕ)) → HoldsLog root.file root.first rs image
       → WritesBehind root.file root.first f.log image
 
--- The first check that fails is one of a record of the log, behind those that pass; the damage says at
--- which byte of its file, as far as 64 bits tell it.
+-- The first check that fails is one of a record of the log, behind those that pass; the damage
+-- says at which byte of its file, as far as 64 bits tell it.
 pub record IsRecordDamage (root : Root) (image : Image) (e : StoreFault) : Type 0 where
   pub given : List Visit
   pub v : Visit
@@ -65,12 +65,14 @@ pub record IsRecordDamage (root : Root) (image : Image) (e : StoreFault) : Type 
 
 -- it is one of a batch, or of a record of a batch before that
 abbrev pub IsLogDamage : Root → Image → StoreFault → Type 0
-IsLogDamage root image e = (kept_damage root.file root.first image ≡ Err e) ⊎ IsRecordDamage root image e
+IsLogDamage root image e = (kept_damage root.file root.first image ≡ Err e)
+    ⊎ IsRecordDamage root image e
 
 -- the reading of a log was refused: where it is damage, by the first check that fails
 abbrev pub RefusesLog : Root → Image → ReadError → Type 0
 RefusesLog root image (read.Store store.Fault) = Unit {0}
-RefusesLog root image (read.Store (store.Damaged file at want got)) = IsLogDamage root image (store.Damaged file at want got)
+RefusesLog root image (read.Store (store.Damaged file at want got)) =
+    IsLogDamage root image (store.Damaged file at want got)
 RefusesLog root image read.OutOfMemory = Unit {0}
 
 -- all checks of the log pass
@@ -78,28 +80,30 @@ abbrev pub LogPasses : Root → Image → Type 0
 LogPasses root image = (kept_damage root.file root.first image ≡ Ok tt)
     × ArePassed root.pages (kept_visits root.file root.first image)
 
--- Damage that an opening tells is of the root, or of the file of pages; else of the log; else all checks
--- of these pass, and it is of a page that the log's records are on.
+-- Damage that an opening tells is of the root, or of the file of pages; else of the log; else all
+-- checks of these pass, and it is of a page that the log's records are on.
 abbrev pub IsOpenDamage : Image → StoreFault → Type 0
 IsOpenDamage image e = IsRootDamage image e
-    ⊎ ((root : Root) × SaysRootOf Paged (value_of RootBlock image) root × (IsLogDamage root image e ⊎ LogPasses root image))
+    ⊎ ((root : Root) × SaysRootOf Paged (value_of RootBlock image) root
+    × (IsLogDamage root image e ⊎ LogPasses root image))
 
--- What stands on an image that can be opened: a root whose file of pages has all that are counted, and
--- its log.
+-- What stands on an image that can be opened: a root whose file of pages has all that are counted,
+-- and its log.
 pub record FindsFront (image : Image) (root : Root) (f : Found) : Type 0 where
   pub says : SaysRootOf Paged (value_of RootBlock image) root
   pub size : 8256 * root.pages ≤ length (content Pages image)
   pub log : FindsLog image root f
 
--- What was opened stands over the pool, with this root; where the first image was sound it is the fold
--- of its records, and none waits.
+-- What was opened stands over the pool, with this root; where the first image was sound it is the
+-- fold of its records, and none waits.
 pub record Opens {D O : Type 0} (first : Image) (g : Ghosts D) (root : Root) (s : Parts D O) : Type 0
   where
     pub root_is : s.base.root ≡ root
     pub none : s.base.log.buffered ≡ []
     pub fold : IsFold first g s
     pub state : IsSoundImage first → state_of (stored_of g s.base) ≡ state_of (stored_in root first)
-    pub next : s.base.log.first + length s.base.log.buffered ≡ root.first + length (kept_log root.file root.first first)
+    pub next : s.base.log.first + length s.base.log.buffered
+        ≡ root.first + length (kept_log root.file root.first first)
     pub tables : s.meta.tables ≡ tables_of (records_in (kept_log root.file root.first first))
     pub passes : LogPasses root first
 
@@ -126,7 +130,8 @@ IsWornBy (Some n) (Err e) = e.0 ≡ open_error.Worn n
 -- the same of an image whose root is this
 abbrev pub worn_in : Root → Image → Option ℕ
 worn_in root image =
-    worn_by (root.first + length (kept_log root.file root.first image)) (tables_of (records_in (kept_log root.file root.first image))).next
+    let kept = kept_log root.file root.first image in
+    worn_by (root.first + length kept) (tables_of (records_in kept)).next
 
 -- an error that comes behind the log's
 abbrev pub IsLater : OpenError → Type 0
@@ -136,13 +141,14 @@ IsLater (open_error.Worn n) = ⊥
 IsLater open_error.Fault = Unit {0}
 IsLater open_error.OutOfMemory = Unit {0}
 
--- An image is refused so: as no database exactly where no root home is open, as damaged by the first check
--- that fails, as worn by its number.
+-- An image is refused so: as no database exactly where no root home is open, as damaged by the
+-- first check that fails, as worn by its number.
 abbrev pub RefusesAs : Image → OpenError → Type 0
 RefusesAs image open_error.NoDatabase = value_of RootBlock image ≡ None
 RefusesAs image (open_error.Damaged file at want got) = (value_of RootBlock image ≢ None)
     × IsOpenDamage image (store.Damaged file at want got)
-RefusesAs image (open_error.Worn n) = (root : Root) × SaysRootOf Paged (value_of RootBlock image) root × (worn_in root image ≡ Some n)
+RefusesAs image (open_error.Worn n) = (root : Root)
+    × SaysRootOf Paged (value_of RootBlock image) root × (worn_in root image ≡ Some n)
 RefusesAs image open_error.Fault = Unit {0}
 RefusesAs image open_error.OutOfMemory = value_of RootBlock image ≢ None
 
@@ -152,8 +158,9 @@ AnswersOpen first g (Ok s) = SaysRootOf Paged (value_of RootBlock first) s.base.
     × Opens first g s.base.root s × (worn_in s.base.root first ≡ None)
 AnswersOpen first g (Err e) = RefusesAs first e.0
 
--- What a crash in an opening leaves: what it might have left as it began, or an image that folds to the
--- state of the first one.
+-- What a crash in an opening leaves: what it might have left as it began, or an image that folds
+-- to the state of the first one.
 abbrev pub LeavesFirst : Image → (Image → Type 0) → Image → Type 0
 LeavesFirst first before c = before c
-    ⊎ ((root : Root) × SaysRootOf Paged (value_of RootBlock first) root × FoldsFront (state_of (stored_in root first)) [] c)
+    ⊎ ((root : Root) × SaysRootOf Paged (value_of RootBlock first) root
+    × FoldsFront (state_of (stored_in root first)) [] c)

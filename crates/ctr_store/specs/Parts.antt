@@ -16,9 +16,9 @@ use Rattle.ctr_base.specs.Base.{stored_of, waiting_of, now_of, home_of, IsSoundI
 use Rattle.ctr_store.specs.Changes.{IsChange, LiesInside}
 use Rattle.ctr_store.specs.declared.parts.Parts.{Parts}
 
--- The pool stands over the log and the homes. Where the first image was sound, nothing is pending, the
--- tables are those that all records leave, on the disk and behind them those that wait; and each page
--- is its home with all of them.
+-- The pool stands over the log and the homes. Where the first image was sound, nothing is pending,
+-- the tables are those that all records leave, on the disk and behind them those that wait; and
+-- each page is its home with all of them.
 pub record IsFold {D O : Type 0} (first : Image) (g : Ghosts D) (s : Parts D O) : Type 0 where
   pub over : IsOver (backing_of first g) s.pool.frames s.base
   pub tables : IsSoundImage first → s.meta.tables ≡ tables_of (now_of g s.base).records
@@ -35,8 +35,9 @@ abbrev pub AreLow : {D O : Type 0} → Ghosts D → Parts D O → Type 0
 AreLow g s = (p : ℕ) → (page_shown s.pool.frames p (home_of g s.base p)).lsn
     < s.base.log.first + length s.base.log.buffered
 
--- A record can be logged: it is one and no Checkpoint, its overlay lies on a counted page, the tables
--- meet its needs and have room for what it adds; and there is room for its bytes and its number.
+-- A record can be logged: it is one and no Checkpoint, its overlay lies on a counted page, the
+-- tables meet its needs and have room for what it adds; and there is room for its bytes and its
+-- number.
 pub record CanLog {D O : Type 0} (r : Record) (s : Parts D O) : Type 0 where
   pub logged : IsLogged r
   pub change : IsChange r
@@ -53,10 +54,11 @@ pub record AddsRecord {D O : Type 0} (g : Ghosts D) (r : Record) (s t : Parts D 
   pub root : t.base.root ≡ s.base.root
   pub now : state_of (now_of g t.base) ≡ step r (state_of (now_of g s.base))
 
--- the room that is left in the log's buffer and in the tables
+-- the room that is left in the log's buffer and in the tables, and the number of the next record
 abbrev pub LogsRoom : {D O : Type 0} → Record → Parts D O → Parts D O → Type 0
 LogsRoom r s t = (s.base.log.room ≤ t.base.log.room + (8 + length (record_bytes r)))
     × RoomLeft (opens_added r) (items_added r) s.meta t.meta
+    × (t.base.log.first + length t.base.log.buffered ≡ s.base.log.first + length s.base.log.buffered + 1)
 
 -- The first of what waited is durable now, and a record more waits behind the rest.
 pub record LogsRecord {D O : Type 0} (g : Ghosts D) (r : Record) (a b : Base D O) : Type 0 where

@@ -50,8 +50,8 @@ counted_check pages len (Some o) =
     if nat_lt o.page pages then Ok tt else
     Err (wrong (len - length o.bytes - 9) (pages - 1) o.page)
 
--- The bytes at a place are a record that passes all checks, behind records that left these tables, in
--- a database of so many pages.
+-- The bytes at a place are a record that passes all checks, behind records that left these tables,
+-- in a database of so many pages.
 pub record PassesAs (pages at : ℕ) (t : Tables) (bytes : List ℕ) (r : Record) : Type 0 where
   pub logged : IsLogged r
   pub bytes_are : record_bytes r ≡ bytes
@@ -80,15 +80,15 @@ ArePassed pages vs = (i : ℕ) (v : Visit) → slice_get vs i ≡ Some v
 abbrev pub CountsPages : Image → ℕ → Type 0
 CountsPages image pages = (r : Root) → SaysRootOf Paged (value_of RootBlock image) r → pages ≡ r.pages
 
--- Memory was refused; or a record is refused where so many pages are counted, and the damage says at which
--- byte of its file, as far as 64 bits tell it.
+-- Memory was refused; or a record is refused where so many pages are counted, and the damage says
+-- at which byte of its file, as far as 64 bits tell it.
 abbrev pub RefusesVisit : (ℕ → Type 0) → List Visit → Visit → ReadError → Type 0
 RefusesVisit counts seen v e = (e ≡ OutOfMemory)
     ⊎ ((pages : ℕ) × counts pages × ((bad : BadRecord) × FailsAs pages v.at (tables_seen seen) v.bytes bad
     × (e ≡ Store (Damaged v.file (min (v.at + bad.at) 18446744073709551615) bad.want bad.got))))
 
--- What a visitor of a log has seen: the records in their places, the tables that they leave, and for how
--- many pages they were checked.
+-- What a visitor of a log has seen: the records in their places, the tables that they leave, and
+-- for how many pages they were checked.
 pub record SeenLog : Type 0 where
   pub visits : List Visit
   pub tables : Tables

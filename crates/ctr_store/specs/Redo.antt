@@ -15,8 +15,8 @@ use Rattle.ctr_store.specs.Changes.{LiesInside}
 use Rattle.ctr_store.specs.declared.parts.Parts.{Parts}
 use Rattle.ctr_store.specs.RecordChecks.{ArePassed, tables_seen}
 
--- Where the first image was sound, the pool shows what the first n records make of what was held at the
--- start. What is held now doesn't matter: a page may have gone home on the way.
+-- Where the first image was sound, the pool shows what the first n records make of what was held
+-- at the start. What is held now doesn't matter: a page may have gone home on the way.
 pub record RedoesPages {D O : Type 0} (first : Image) (g : Ghosts D) (start : Base D O) (n : ℕ)
     (s : Parts D O) : Type 0 where
   pub over : IsOver (backing_of first g) s.pool.frames s.base
@@ -34,8 +34,8 @@ pub record IsNextRecord {D O : Type 0} (g : Ghosts D) (start : Base D O) (n : �
   pub there : slice_get (stored_of g start).records n ≡ Some r
   pub counted : LiesInside start.root.pages (overlay_of r)
 
--- Before the first record: the records are those of the log, with their numbers, the tables are theirs,
--- and the pool has no page.
+-- Before the first record: the records are those of the log, with their numbers, the tables are
+-- theirs, and the pool has no page.
 pub record Begins {D O : Type 0} (first : Image) (g : Ghosts D) (vs : List Visit) (s : Parts D O)
     : Type 0 where
   pub rests : Rests first g s.base

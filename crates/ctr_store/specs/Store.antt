@@ -1,5 +1,5 @@
 -- What callers see of a store, and how its calls change that.
-use Rattle.std.specs.Prelude.{◌≡◌, ◌-◌, ◌^◌, ◌<◌, ◌≤◌, ℕ, Bool, true, false, IsTrue, List, [], ◌++◌, length, take, drop, Result, Err, OnOk, OnErr}
+use Rattle.std.specs.Prelude.{◌≡◌, ◌-◌, ◌^◌, ◌<◌, ◌≤◌, ℕ, Bool, true, false, IsTrue, List, [], ◌++◌, length, take, drop, Result, Err, OnOk, OnErr, ◌+◌}
 use Rattle.ctr_disk.specs.declared.disk.Disk.{Ghosts}
 use Rattle.ctr_types.specs.Faults.{HasFault}
 use Rattle.ctr_disk.specs.declared.disk.Image.{Image}
@@ -7,17 +7,18 @@ use Rattle.ctr_disk.specs.declared.fault.StoreFault.{StoreFault}
 use Rattle.ctr_disk.specs.declared.fault.StoreFault.TheVariants.{Fault}
 use Rattle.ctr_disk.specs.Device.{LeavesOnly}
 use Rattle.ctr_records.specs.declared.record.Record.{Record}
-use Rattle.ctr_meta.specs.Kept.{TablesKept, IsLogged, MayApply}
+use Rattle.ctr_records.specs.Spelling.{record_bytes}
+use Rattle.ctr_meta.specs.Kept.{TablesKept, IsLogged, MayApply, RoomLeft, opens_added, items_added}
 use Rattle.ctr_redo.specs.Overlaid.{overlay_of}
 use Rattle.ctr_redo.specs.States.{State, steps}
 use Rattle.ctr_redo.specs.Images.{FoldsFront}
 use Rattle.ctr_base.specs.Base.{IsSoundImage}
 use Rattle.ctr_store.specs.Changes.{IsChange, LiesInside}
 
--- The disk; what it folds to; the records that aren't hardened, in order; pages and tables with these;
--- the number of the next record; how many bytes of records may wait besides; how many frames have
--- nothing to be written home; the tables as they are kept; whether a call was answered an error, after
--- which no more can be asked.
+-- The disk; what it folds to; the records that aren't hardened, in order; pages and tables with
+-- these; the number of the next record; how many bytes of records may wait besides; how many
+-- frames have nothing to be written home; the tables as they are kept; whether a call was answered
+-- an error, after which no more can be asked.
 pub record View (D : Type 0) : Type 0 where
   pub disk : D
   pub hardened : State
@@ -33,16 +34,16 @@ pub record View (D : Type 0) : Type 0 where
 abbrev pub LeavesFront : {D : Type 0} → Ghosts D → View D → View D → Type 0
 LeavesFront g a b = LeavesOnly g a.disk b.disk (FoldsFront a.hardened a.waiting)
 
--- The first of what waited is hardened now, these records wait behind the rest, and pages and tables are
--- those of before with them.
+-- The first of what waited is hardened now, these records wait behind the rest, and pages and
+-- tables are those of before with them.
 pub record Logs {D : Type 0} (rs : List Record) (a b : View D) : Type 0 where
   pub j : ℕ
   pub waiting : b.waiting ≡ drop j a.waiting ++ rs
   pub hardened : b.hardened ≡ steps (take j a.waiting) a.hardened
   pub now : b.now ≡ steps rs a.now
 
--- A record can be logged: it is one and no Checkpoint, its overlay lies on a counted page, the tables
--- meet its needs and have room for what it adds; there is room for it, and a number.
+-- A record can be logged: it is one and no Checkpoint, its overlay lies on a counted page, the
+-- tables meet its needs and have room for what it adds; there is room for it, and a number.
 pub record MayLog {D : Type 0} (r : Record) (v : View D) : Type 0 where
   pub logged : IsLogged r
   pub change : IsChange r
@@ -52,7 +53,15 @@ pub record MayLog {D : Type 0} (r : Record) (v : View D) : Type 0 where
   pub few : length v.waiting < 2 ^ 32 - 1
   pub number : v.next < 2 ^ 63 - 1
 
--- However a call ends, the number of the next record is that of before, and room for records isn't lost.
+-- A record has this number, the next one is one more, and this room is left.
+pub record TakesRecord {D : Type 0} (r : Record) (lsn : ℕ) (a b : View D) : Type 0 where
+  pub number : lsn ≡ a.next
+  pub next : b.next ≡ a.next + 1
+  pub room : a.room ≤ b.room + (8 + length (record_bytes r))
+  pub left : RoomLeft (opens_added r) (items_added r) a.meta b.meta
+
+-- However a call ends, the number of the next record is that of before, and room for records isn't
+-- lost.
 pub record KeepsRoom {D : Type 0} (a b : View D) : Type 0 where
   pub next : b.next ≡ a.next
   pub room : a.room ≤ b.room

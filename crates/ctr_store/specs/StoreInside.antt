@@ -28,7 +28,7 @@ view_of g s stopped = record {
 abbrev pub view_in : {D O : Type 0} → Ghosts D → Inside D O → View D
 view_in g a = view_of g a.parts a.stopped
 
--- What it shows is the fold of the records on the disk and behind them those that wait, where no call was
--- answered an error.
+-- What it shows is the fold of the records on the disk and behind them those that wait, where no
+-- call was answered an error.
 abbrev pub IsStore : {D O : Type 0} → Image → Ghosts D → Inside D O → Type 0
 IsStore first g a = IsTrue g.tells → a.stopped ≡ false → IsFold first g a.parts

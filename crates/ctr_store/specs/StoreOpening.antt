@@ -15,9 +15,9 @@ use Rattle.ctr_store.specs.declared.opening.OpenError.{OpenError}
 use Rattle.ctr_store.specs.Store.{View}
 use Rattle.ctr_store.specs.Opening.{LogPasses, RefusesAs, worn_in}
 
--- A store stands on an image that says a root and isn't worn. Nothing waits, the next record comes behind
--- the image's, and the tables are theirs. Where the image is sound, pages and tables are what it folds to. All
--- checks of the log pass.
+-- A store stands on an image that says a root and isn't worn. Nothing waits, the next record comes
+-- behind the image's, and the tables are theirs. Where the image is sound, pages and tables are
+-- what it folds to. All checks of the log pass.
 pub record OpensStore {D : Type 0} (image : Image) (v : View D) : Type 0 where
   pub root : Root
   pub says : SaysRootOf Paged (value_of RootBlock image) root

@@ -9,7 +9,7 @@ ghost use Rattle.std.specs.Io.BufRead.{Rests};
 ghost use Rattle.ctr_disk.specs.Device.{LeavesOnly};
 ghost use Rattle.ctr_redo.specs.States.{page_limit, page_at};
 ghost use Rattle.ctr_store.specs.Opening.{LeavesFirst};
-ghost use Rattle.ctr_store.specs.Store.{LeavesFront, LeavesPage, Logs, MayLog, KeepsRoom};
+ghost use Rattle.ctr_store.specs.Store.{LeavesFront, LeavesPage, Logs, MayLog, TakesRecord, KeepsRoom};
 ghost use Rattle.ctr_store.specs.StoreOpening.{AnswersStore, store_left};
 
 use crate::opening::OpenError;
@@ -105,7 +105,7 @@ impl<D: Disk, O: Origin> Store<D, O> {
     pub fn log(&mut self, rec: &Record) -> Result<Lsn, StoreFault>
         requires goes { self.old.stopped ≡ false }
         requires may { MayLog rec.now self.old }
-        ensures number { IfOk result (λ lsn. lsn ≡ self.old.next) }
+        ensures takes { IfOk result (λ lsn. TakesRecord rec.now lsn self.old self.new) }
         ensures any_moment { IsTrue D.tells → IsSoundImage O.first → LeavesFront D.Disk self.old self.new }
         ensures logs { IsTrue D.tells → IsSoundImage O.first → OnOk result (Logs (rec.now ∷ []) self.old self.new) }
         ensures stopped { (OnOk result (self.new.stopped ≡ false)) × (OnErr result (self.new.stopped ≡ true)) }
