@@ -168,7 +168,7 @@ impl Maker {
             1 => Actor::Cleaner,
             2 => Actor::Undo,
             3 => Actor::Session(0),
-            _ => Actor::Session(self.below(self.sessions).saturating_add(1) as u8),
+            _ => Actor::Session((self.below(self.sessions).saturating_add(1) % 256) as u8),
         }
     }
 
