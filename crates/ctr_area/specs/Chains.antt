@@ -11,6 +11,7 @@ use Rattle.ctr_area.specs.Areas.{RowVersion, Slot, Older, Area}
 unfoldable pub pages_bound : ℕ
 pages_bound = 30000
 
+-- as many version entries as stand on all pages that can be counted
 unfoldable pub older_bound : ℕ
 older_bound = 5100000
 

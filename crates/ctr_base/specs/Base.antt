@@ -84,14 +84,14 @@ IsSoundImage image = (root : Root) × IsSound root image
 
 -- Whatever the disk holds: the log's writer goes on behind the batches of its file, and the file of
 -- pages has all that are counted.
-pub record Stands {D O : Type 0} (g : Ghosts D) (b : Base D O) : Type 0 where
+pub record StandsWell {D O : Type 0} (g : Ghosts D) (b : Base D O) : Type 0 where
   pub file : IsLogFile b.log.file
   pub goes_on : (oldest : ℕ) × (bs : Batches) × GoesOn oldest bs b.log (g.reads b.disk)
   pub size : 8256 * b.root.pages ≤ length (content Pages (g.reads b.disk))
 
 -- it stands so; and where the first image was sound nothing is pending
-pub record Rests {D O : Type 0} (first : Image) (g : Ghosts D) (b : Base D O) : Type 0 where
-  pub stands : Stands g b
+pub record StandsQuiet {D O : Type 0} (first : Image) (g : Ghosts D) (b : Base D O) : Type 0 where
+  pub stands : StandsWell g b
   pub quiet : IsSoundImage first → IsQuiet g b
 
 -- what a crash leaves, where the first image was sound
@@ -125,7 +125,7 @@ backing_of first g = record {
   tells = g.tells;
   held = home_of g;
   takes = MayPut first g;
-  rests = Rests first g;
+  rests = StandsQuiet first g;
   goes = LeavesIf first g;
   moves = MovesIf first g;
   keeps = KeepsBase;

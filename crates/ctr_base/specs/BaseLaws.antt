@@ -20,7 +20,7 @@ use Rattle.ctr_log.proofs.KeptLaws.{front_same}
 use Rattle.ctr_records.specs.declared.record.Record.{Record}
 use Rattle.ctr_records.specs.Read.{record_in}
 use Rattle.ctr_pool.specs.Pages.{PageHeld}
-use Rattle.ctr_pool.specs.Below.{Puts, HoldsStill}
+use Rattle.ctr_pool.specs.Below.{PutsPage, HoldsStill}
 use Rattle.ctr_redo.specs.Overlaid.{overlaid}
 use Rattle.ctr_redo.specs.States.{State, Stored, state_of, steps, with_more, home_put, next_of}
 use Rattle.ctr_redo.specs.Images.{records_in, home_in, stored_in, IsSound, FoldsFront, IsLogFile, MayStand}
@@ -28,7 +28,7 @@ use Rattle.ctr_redo.proofs.PageLaws.{again, durable_alone, overlaid-append}
 use Rattle.ctr_redo.proofs.StateLaws.{state_more, state_swapped, page_swapped, steps-append, put_there, put_elsewhere}
 use Rattle.ctr_redo.proofs.ImageLaws.{KeepsHomes, KeepsLogs, logs_apart, pages_apart, kept_same, named_same, other_same, more_stored, sound_flushed, folds_flushed, folds_written, sound_written, state_written, state_with_more, home_written, next_same}
 use Rattle.ctr_base.specs.declared.base.Base.{Base}
-use Rattle.ctr_base.specs.Base.{stored_of, waiting_of, now_of, home_of, MaySave, MayPut, IsQuiet, IsSoundImage, Stands, Rests, LeavesBase, LeavesIf, MovesBase, KeepsBase, IsHome}
+use Rattle.ctr_base.specs.Base.{stored_of, waiting_of, now_of, home_of, MaySave, MayPut, IsQuiet, IsSoundImage, StandsWell, StandsQuiet, LeavesBase, LeavesIf, MovesBase, KeepsBase, IsHome}
 
 take_split : {A : Type 0} (j k : ℕ) (l : List A) → take j l ++ take k (drop j l) ≡ take (j + k) l
 take_split zero k l = let n : k ≡ 0 + k = omega arith in ap (λ (m : ℕ). take m l) n
@@ -361,7 +361,7 @@ module _ {D O : Type 0} (g : Ghosts D) where
       root = refl;
     }
 
-    pub stands_written : Stands g a → Stands g (record a { disk = d })
+    pub stands_written : StandsWell g a → StandsWell g (record a { disk = d })
     stands_written stands =
         let goes = stands.goes_on in
         let more = others.no_shorter in
@@ -413,7 +413,7 @@ module _ {D O : Type 0} (g : Ghosts D) where
         }
 
   -- what a page's writing puts below the pool, where it was held and might be saved as before
-  pub puts_home : (first : Image) (a m b : Base D O) (p : ℕ) (v : PageHeld) → HoldsStill (home_of g) (MayPut first g) a m → IsHome g p v m b → Puts (home_of g) (MayPut first g) p v a b
+  pub puts_home : (first : Image) (a m b : Base D O) (p : ℕ) (v : PageHeld) → HoldsStill (home_of g) (MayPut first g) a m → IsHome g p v m b → PutsPage (home_of g) (MayPut first g) p v a b
   puts_home first a m b p v holds home = record {
     there = home.there;
     others = λ q other. home.others q other ∙ holds.same q;
@@ -459,11 +459,11 @@ module _ {D O : Type 0} (g : Ghosts D) where
         };
   }
 
-  pub rests_leaves : (first : Image) → ((d : D) (c : Image) → g.since d (g.moment_of d) c → g.images d c) → (b : Base D O) → Rests first g b → LeavesIf first g b b
+  pub rests_leaves : (first : Image) → ((d : D) (c : Image) → g.since d (g.moment_of d) c → g.images d c) → (b : Base D O) → StandsQuiet first g b → LeavesIf first g b b
   rests_leaves first only_now b rests sound = quiet_leaves only_now b (rests.quiet sound)
 
   -- what a read leaves
-  pub stands_read : (a : Base D O) (d : D) → g.reads d ≡ g.reads a.disk → Stands g a → Stands g (record a { disk = d })
+  pub stands_read : (a : Base D O) (d : D) → g.reads d ≡ g.reads a.disk → StandsWell g a → StandsWell g (record a { disk = d })
   stands_read a d same stands = record {
     file = stands.file;
     goes_on = subst (λ (i : Image). (oldest : ℕ) × (bs : Batches) × GoesOn oldest bs a.log i) (sym same) stands.goes_on;
@@ -471,7 +471,7 @@ module _ {D O : Type 0} (g : Ghosts D) where
   }
 
   -- what a flush leaves, that changes one file of the log
-  pub stands_flushed : (a b : Base D O) → Stands g a → b.root ≡ a.root → b.log.file ≡ a.log.file → KeepsHomes (g.reads a.disk) (g.reads b.disk) → (oldest : ℕ) (bs : Batches) → GoesOn oldest bs b.log (g.reads b.disk) → Stands g b
+  pub stands_flushed : (a b : Base D O) → StandsWell g a → b.root ≡ a.root → b.log.file ≡ a.log.file → KeepsHomes (g.reads a.disk) (g.reads b.disk) → (oldest : ℕ) (bs : Batches) → GoesOn oldest bs b.log (g.reads b.disk) → StandsWell g b
   stands_flushed a b stands root file kept oldest bs goes =
       let size = stands.size in
       record {
@@ -483,9 +483,11 @@ module _ {D O : Type 0} (g : Ghosts D) where
   pub homes_flushed : (a b : Base D O) → b.root ≡ a.root → KeepsHomes (g.reads a.disk) (g.reads b.disk) → (q : ℕ) → home_of g b q ≡ home_of g a q
   homes_flushed a b root kept q = ap (λ (r : Root). home_in r.pages (g.reads b.disk) q) root ∙ home_same a.root.pages q (g.reads a.disk) (g.reads b.disk) kept.pages
 
+-- a base is kept by itself
 pub base_kept : {D O : Type 0} (b : Base D O) → KeepsBase b b
 base_kept b = record { root = refl; room = omega arith; next = refl; few = omega arith }
 
+-- what is kept by one call and by the next is kept by both
 pub base_kept_on : {D O : Type 0} (a b c : Base D O) → KeepsBase a b → KeepsBase b c → KeepsBase a c
 base_kept_on a b c ab bc =
     let m = ab.room in

@@ -11,7 +11,7 @@ use ctr_records::PageNo;
 impl<D: Disk, O: Origin> Backing for Base<D, O> {
     ghost use Rattle.ctr_disk.specs.declared.fault.StoreFault.TheVariants.{Fault};
     ghost use Rattle.std.specs.Prelude.{◌≡◌};
-    ghost use Rattle.ctr_base.specs.Base.{home_of, MayPut, IsSoundImage, Rests, LeavesIf, MovesIf, KeepsBase};
+    ghost use Rattle.ctr_base.specs.Base.{home_of, MayPut, IsSoundImage, StandsQuiet, LeavesIf, MovesIf, KeepsBase};
     ghost use Rattle.ctr_base.specs.BaseLaws.{rests_leaves, stands_still, base_kept, base_kept_on, leaves_joined, moves_joined};
 
     ghost tells = { D.tells };
@@ -20,7 +20,7 @@ impl<D: Disk, O: Origin> Backing for Base<D, O> {
 
     ghost takes = { MayPut O.first D.Disk };
 
-    ghost rests = { Rests O.first D.Disk };
+    ghost rests = { StandsQuiet O.first D.Disk };
 
     ghost goes = { LeavesIf O.first D.Disk };
 

@@ -27,14 +27,14 @@ pub struct Base<D, O> {
 impl<D: Disk, O: Origin> Base<D, O> {
     ghost use Rattle.ctr_pool.specs.Pages.{PageHeld};
     ghost use Rattle.ctr_pool.specs.Below.{HoldsStill};
-    ghost use Rattle.ctr_base.specs.Base.{home_of, MaySave, MayPut, IsSoundImage, Rests, LeavesIf, MovesIf, KeepsBase, IsHome};
+    ghost use Rattle.ctr_base.specs.Base.{home_of, MaySave, MayPut, IsSoundImage, StandsQuiet, LeavesIf, MovesIf, KeepsBase, IsHome};
 
     /// Makes what waits durable.
     pub fn flush(&mut self) -> Result<(), StoreFault>
-        requires { IsTrue D.tells → Rests O.first D.Disk self.old }
+        requires { IsTrue D.tells → StandsQuiet O.first D.Disk self.old }
         ensures keeps { KeepsBase self.old self.new }
         ensures goes { IsTrue D.tells → LeavesIf O.first D.Disk self.old self.new }
-        ensures moves { IsTrue D.tells → OnOk result (MovesIf O.first D.Disk self.old self.new × Rests O.first D.Disk self.new) }
+        ensures moves { IsTrue D.tells → OnOk result (MovesIf O.first D.Disk self.old self.new × StandsQuiet O.first D.Disk self.new) }
         ensures holds { IsTrue D.tells → OnOk result (HoldsStill (home_of D.Disk) (MayPut O.first D.Disk) self.old self.new) }
         ensures none { OnOk result (self.new.log.buffered ≡ []) }
         ensures refused { OnErr result (result ≡ Err Fault) }
@@ -47,10 +47,10 @@ impl<D: Disk, O: Origin> Base<D, O> {
 
     // Makes what waits durable where this record does.
     pub(crate) fn make_durable(&mut self, lsn: Lsn) -> Result<(), StoreFault>
-        requires { IsTrue D.tells → Rests O.first D.Disk self.old }
+        requires { IsTrue D.tells → StandsQuiet O.first D.Disk self.old }
         ensures keeps { KeepsBase self.old self.new }
         ensures goes { IsTrue D.tells → LeavesIf O.first D.Disk self.old self.new }
-        ensures moves { IsTrue D.tells → OnOk result (MovesIf O.first D.Disk self.old self.new × Rests O.first D.Disk self.new) }
+        ensures moves { IsTrue D.tells → OnOk result (MovesIf O.first D.Disk self.old self.new × StandsQuiet O.first D.Disk self.new) }
         ensures holds { IsTrue D.tells → OnOk result (HoldsStill (home_of D.Disk) (MayPut O.first D.Disk) self.old self.new) }
         ensures durable { IsTrue D.tells → OnOk result ((p since : ℕ) (h : PageHeld) → IsSoundImage O.first → MaySave D.Disk self.old p since h → h.lsn ≡ lsn → h.lsn < self.new.durable) }
         ensures refused { OnErr result (result ≡ Err Fault) }
@@ -66,11 +66,11 @@ impl<D: Disk, O: Origin> Base<D, O> {
     // Writes a page home whose records are durable.
     pub(crate) fn put_home(&mut self, page: PageNo, lsn: Lsn, body: &[u8]) -> Result<(), StoreFault>
         requires whole { length body.now ≡ 4096 }
-        requires told { IsTrue D.tells → Rests O.first D.Disk self.old × ((since : ℕ) × MayPut O.first D.Disk self.old page since (record { lsn = lsn; body = body.now })) }
+        requires told { IsTrue D.tells → StandsQuiet O.first D.Disk self.old × ((since : ℕ) × MayPut O.first D.Disk self.old page since (record { lsn = lsn; body = body.now })) }
         requires durable { IsTrue D.tells → IsSoundImage O.first → lsn < self.old.durable }
         ensures keeps { KeepsBase self.old self.new }
         ensures goes { IsTrue D.tells → LeavesIf O.first D.Disk self.old self.new }
-        ensures moves { IsTrue D.tells → OnOk result (MovesIf O.first D.Disk self.old self.new × Rests O.first D.Disk self.new) }
+        ensures moves { IsTrue D.tells → OnOk result (MovesIf O.first D.Disk self.old self.new × StandsQuiet O.first D.Disk self.new) }
         ensures home { IsTrue D.tells → OnOk result (IsHome D.Disk page (record { lsn = lsn; body = body.now }) self.old self.new) }
         ensures refused { OnErr result (result ≡ Err Fault) }
         ensures faults { HasFault Fault (D.faults_of self.old.disk) (D.faults_of self.new.disk) result }
@@ -85,9 +85,9 @@ impl<D: Disk, O: Origin> Base<D, O> {
         ensures keeps { KeepsBase self.old self.new }
         ensures told { IsTrue D.tells → IfOk result (λ lsn. home_of D.Disk self.old page ≡ record { lsn = lsn; body = into.new }) }
         ensures holds { IsTrue D.tells → HoldsStill (home_of D.Disk) (MayPut O.first D.Disk) self.old self.new }
-        ensures goes { IsTrue D.tells → Rests O.first D.Disk self.old → LeavesIf O.first D.Disk self.old self.new }
-        ensures moves { IsTrue D.tells → Rests O.first D.Disk self.old → MovesIf O.first D.Disk self.old self.new × Rests O.first D.Disk self.new }
-        ensures refused { IsTrue D.tells → Rests O.first D.Disk self.old → IfErr result (λ e. IsSoundImage O.first → e ≡ Fault) }
+        ensures goes { IsTrue D.tells → StandsQuiet O.first D.Disk self.old → LeavesIf O.first D.Disk self.old self.new }
+        ensures moves { IsTrue D.tells → StandsQuiet O.first D.Disk self.old → MovesIf O.first D.Disk self.old self.new × StandsQuiet O.first D.Disk self.new }
+        ensures refused { IsTrue D.tells → StandsQuiet O.first D.Disk self.old → IfErr result (λ e. IsSoundImage O.first → e ≡ Fault) }
         ensures faults { HasFault Fault (D.faults_of self.old.disk) (D.faults_of self.new.disk) result }
     {
         read_page(&mut self.disk, self.root.pages, page, into)

@@ -8,7 +8,7 @@ use Rattle.ctr_snap.specs.Seeing.{has}
 use Rattle.ctr_versions.specs.Xids.{Xids, minus, number_of, drawn, asked, aborted, settled, forgotten, AreSound}
 use Rattle.ctr_versions.proofs.Chains.{with_number}
 use Rattle.ctr_versions.proofs.Xids.{drawn_numbers, drawn_sound, asked_numbers, asked_sound, settled_numbers, settled_sound, aborted_numbers, aborted_sound, aborted_bounds, forgotten_numbers, forgotten_sound, live_below}
-use Rattle.ctr_chains.specs.Numbered.{number_at, xids_kept, AreNumbered}
+use Rattle.ctr_chains.specs.Numbered.{number_at, xids_kept, HaveNumbers}
 use Rattle.ctr_chains.specs.declared.transactions.Transactions.TheInside.{Inside}
 
 -- ---- places
@@ -50,15 +50,15 @@ fewer x (y ∷ ys) here = elim (x == y) as (λ b. (b || has x ys) ≡ true → l
 
 -- ---- the changes
 
-pub in_place : (a : Inside) → AreNumbered a → (x : ℕ) → has x a.live.items ≡ true → x < length a.numbers.items
+pub in_place : (a : Inside) → HaveNumbers a → (x : ℕ) → has x a.live.items ≡ true → x < length a.numbers.items
 in_place a inv x is_live = live_below (xids_kept a) inv.sound x is_live
 
-module _ (a b : Inside) (inv : AreNumbered a) where
+module _ (a b : Inside) (inv : HaveNumbers a) where
   pub drawn_is : b.numbers.items ≡ a.numbers.items ++ None ∷ [] → b.live.items ≡ a.live.items ++ length a.numbers.items ∷ [] → b.commits.items ≡ a.commits.items → b.aborted.items ≡ a.aborted.items → xids_kept b ≡ drawn (xids_kept a)
   drawn_is numbers live commits aborted = λ i. record { next = (ap length numbers ∙ length_push a.numbers.items None) i; live = live i; aborted = aborted i; commits = commits i }
 
   pub drawn_kept : b.numbers.items ≡ a.numbers.items ++ None ∷ [] → xids_kept b ≡ drawn (xids_kept a)
-      → vec_len b.commits + length b.live.items ≤ vec_capacity b.commits → vec_len b.aborted + length b.live.items ≤ vec_capacity b.aborted → AreNumbered b
+      → vec_len b.commits + length b.live.items ≤ vec_capacity b.commits → vec_len b.aborted + length b.live.items ≤ vec_capacity b.aborted → HaveNumbers b
   drawn_kept numbers is asks aborts = record {
     sound = subst AreSound (sym is) (drawn_sound (xids_kept a) inv.sound);
     numbers = λ x. ap (λ ks. number_at ks x) numbers ∙ number_push a.numbers.items x ∙ inv.numbers x ∙ sym (drawn_numbers (xids_kept a) x) ∙ ap (λ (xs : Xids). number_of xs x) (sym is);
@@ -80,7 +80,7 @@ module _ (a b : Inside) (inv : AreNumbered a) where
     aborted_place = (aborted_bounds (xids_kept a) inv.sound x is_aborted).1
 
     pub forgotten_kept : b.aborted.items ≡ minus x a.aborted.items → b.numbers.items ≡ slice_set a.numbers.items x (Some 0) → xids_kept b ≡ forgotten x (xids_kept a)
-        → b.live.items ≡ a.live.items → vec_len b.commits ≡ vec_len a.commits → vec_capacity b.commits ≡ vec_capacity a.commits → vec_capacity b.aborted ≡ vec_capacity a.aborted → AreNumbered b
+        → b.live.items ≡ a.live.items → vec_len b.commits ≡ vec_len a.commits → vec_capacity b.commits ≡ vec_capacity a.commits → vec_capacity b.aborted ≡ vec_capacity a.aborted → HaveNumbers b
     forgotten_kept fewer_ numbers is live same kept spare =
         let shorter : length b.aborted.items ≤ length a.aborted.items = subst (λ xs. length xs ≤ length a.aborted.items) (sym fewer_) (fewer_at_most x a.aborted.items) in
         record {
@@ -95,7 +95,7 @@ module _ (a b : Inside) (inv : AreNumbered a) where
     fewer_live = subst (λ xs. length xs + 1 ≤ length a.live.items) (sym live) (fewer x a.live.items is_live)
 
     pub asked_kept : b.numbers.items ≡ slice_set a.numbers.items x (Some (length a.commits.items + 1)) → xids_kept b ≡ asked x (xids_kept a)
-        → vec_len b.commits ≡ vec_len a.commits + 1 → vec_capacity b.commits ≡ vec_capacity a.commits → vec_len b.aborted ≡ vec_len a.aborted → vec_capacity b.aborted ≡ vec_capacity a.aborted → AreNumbered b
+        → vec_len b.commits ≡ vec_len a.commits + 1 → vec_capacity b.commits ≡ vec_capacity a.commits → vec_len b.aborted ≡ vec_len a.aborted → vec_capacity b.aborted ≡ vec_capacity a.aborted → HaveNumbers b
     asked_kept numbers is one same kept spare = record {
       sound = subst AreSound (sym is) (asked_sound (xids_kept a) inv.sound x is_live);
       numbers = λ y. ap (λ ks. number_at ks y) numbers ∙ numbers_set x (in_place a inv x is_live) (length a.commits.items + 1) y ∙ sym (asked_numbers (xids_kept a) inv.sound x is_live y) ∙ ap (λ (xs : Xids). number_of xs y) (sym is);
@@ -104,7 +104,7 @@ module _ (a b : Inside) (inv : AreNumbered a) where
     }
 
     pub settled_kept : b.numbers.items ≡ slice_set a.numbers.items x (Some 0) → xids_kept b ≡ settled x (xids_kept a)
-        → vec_len b.commits ≡ vec_len a.commits → vec_capacity b.commits ≡ vec_capacity a.commits → vec_len b.aborted ≡ vec_len a.aborted → vec_capacity b.aborted ≡ vec_capacity a.aborted → AreNumbered b
+        → vec_len b.commits ≡ vec_len a.commits → vec_capacity b.commits ≡ vec_capacity a.commits → vec_len b.aborted ≡ vec_len a.aborted → vec_capacity b.aborted ≡ vec_capacity a.aborted → HaveNumbers b
     settled_kept numbers is same kept few spare = record {
       sound = subst AreSound (sym is) (settled_sound (xids_kept a) inv.sound x is_live);
       numbers = λ y. ap (λ ks. number_at ks y) numbers ∙ numbers_set x (in_place a inv x is_live) 0 y ∙ sym (settled_numbers (xids_kept a) inv.sound x is_live y) ∙ ap (λ (xs : Xids). number_of xs y) (sym is);
@@ -113,7 +113,7 @@ module _ (a b : Inside) (inv : AreNumbered a) where
     }
 
     pub aborted_kept : b.numbers.items ≡ a.numbers.items → xids_kept b ≡ aborted x (xids_kept a)
-        → vec_len b.aborted ≡ vec_len a.aborted + 1 → vec_capacity b.aborted ≡ vec_capacity a.aborted → vec_len b.commits ≡ vec_len a.commits → vec_capacity b.commits ≡ vec_capacity a.commits → AreNumbered b
+        → vec_len b.aborted ≡ vec_len a.aborted + 1 → vec_capacity b.aborted ≡ vec_capacity a.aborted → vec_len b.commits ≡ vec_len a.commits → vec_capacity b.commits ≡ vec_capacity a.commits → HaveNumbers b
     aborted_kept numbers is one same kept spare = record {
       sound = subst AreSound (sym is) (aborted_sound (xids_kept a) inv.sound x is_live);
       numbers = λ y. ap (λ ks. number_at ks y) numbers ∙ inv.numbers y ∙ sym (aborted_numbers (xids_kept a) inv.sound x is_live y) ∙ ap (λ (xs : Xids). number_of xs y) (sym is);

@@ -20,7 +20,7 @@ xids_kept a = record {
 
 -- Each number that was drawn has its commit number at its place, and there is room for the commit
 -- and for the mark of an abort of each that is open.
-pub record AreNumbered (a : Inside) : Type 0 where
+pub record HaveNumbers (a : Inside) : Type 0 where
   pub sound : AreSound (xids_kept a)
   pub numbers : (x : ℕ) → number_at a.numbers.items x ≡ number_of (xids_kept a) x
   pub asks : vec_len a.commits + length a.live.items ≤ vec_capacity a.commits

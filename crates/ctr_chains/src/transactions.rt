@@ -25,11 +25,11 @@ impl Model for Transactions {
 
     ghost Value = { Xids };
 
-    ghost use Rattle.ctr_chains.specs.Numbered.{xids_kept, AreNumbered};
+    ghost use Rattle.ctr_chains.specs.Numbered.{xids_kept, HaveNumbers};
 
     ghost view = { xids_kept };
 
-    ghost invariant = { AreNumbered };
+    ghost invariant = { HaveNumbers };
 }
 
 impl Transactions {

@@ -10,7 +10,7 @@ use Rattle.ctr_disk.specs.Crash.{Only, Within, Tears, Elapses, HasStray}
 use Rattle.ctr_types.specs.Faults.{raised}
 use Rattle.ctr_disk.specs.Counting.{outcome_of}
 use Rattle.ctr_disk.specs.Memory.{IsAnswered, IsStarved}
-use Rattle.ctr_disk.specs.Replay.{reads_by, reads_by_call, images_by, images_by_call, LeavesBy, LeavesByCall, reads_after, images_after, images_since, possible_after, possible_since, latest, IsRecorded}
+use Rattle.ctr_disk.specs.Replay.{reads_by, reads_by_call, images_by, images_by_call, LeavesBy, LeavesByCall, reads_after, images_after, images_since, possible_after, possible_since, latest, IsCallRecorded}
 use Rattle.ctr_disk.specs.ReplayLaws.{among_of}
 use Rattle.ctr_disk.specs.TornLaws.{torn_whole, torn_nothing}
 use Rattle.ctr_types.specs.declared.file.File.{File}
@@ -141,24 +141,24 @@ was_lost T value (Err f) e outcome done = refl
 
 module _ {T E : Type 0} where
   -- the last moment of the record
-  pub timely_kept : (kept : Result T E) (r : Recorded) (old new : List Recorded) (m : ℕ) → IsRecorded kept r old new → latest old ≤ m → r.moment ≤ m → latest new ≤ m
+  pub timely_kept : (kept : Result T E) (r : Recorded) (old new : List Recorded) (m : ℕ) → IsCallRecorded kept r old new → latest old ≤ m → r.moment ≤ m → latest new ≤ m
   timely_kept (Ok x) r old new m is low here = omega (arith, ap latest is, latest-push old r, low, here)
   timely_kept (Err e) r old new m is low here = omega (arith, ap latest is, low)
 
   -- a call that changes no file
-  pub replayed_kept : (kept : Result T E) (r : Recorded) (old new : List Recorded) (first present : Image) → IsQuiet r.call → IsRecorded kept r old new → present ≡ reads_after first old → present ≡ reads_after first new
+  pub replayed_kept : (kept : Result T E) (r : Recorded) (old new : List Recorded) (first present : Image) → IsQuiet r.call → IsCallRecorded kept r old new → present ≡ reads_after first old → present ≡ reads_after first new
   replayed_kept (Ok x) r old new first present quiet is was =
       was ∙ sym (quiet_reads r.call r.outcome (reads_after first old) quiet) ∙ sym (reads-push first old r) ∙ sym (ap (reads_after first) is)
   replayed_kept (Err e) r old new first present quiet is was = was ∙ sym (ap (reads_after first) is)
 
-  pub within_kept : (kept : Result T E) (r : Recorded) (old new : List Recorded) (first present : Image) → IsQuiet r.call → IsRecorded kept r old new → present ≡ reads_after first old
+  pub within_kept : (kept : Result T E) (r : Recorded) (old new : List Recorded) (first present : Image) → IsQuiet r.call → IsCallRecorded kept r old new → present ≡ reads_after first old
       → Within (possible_after first new) (possible_after first old)
   within_kept (Ok x) r old new first present quiet is was c left =
       quiet_images r.call r.outcome (reads_after first old) (possible_after first old) c quiet (subst (possible_after first old) was (among_of first old present was))
       (images-push first (λ d. d ≡ first) old r c (subst (λ l. possible_after first l c) is left))
   within_kept (Err e) r old new first present quiet is was c left = subst (λ l. possible_after first l c) is left
 
-  pub elapses_kept : (kept : Result T E) (r : Recorded) (old new : List Recorded) (first : Image) (m n : ℕ) → (m < r.moment) ⊎ KeepsImages r.call r.outcome → m ≤ n → IsRecorded kept r old new
+  pub elapses_kept : (kept : Result T E) (r : Recorded) (old new : List Recorded) (first : Image) (m n : ℕ) → (m < r.moment) ⊎ KeepsImages r.call r.outcome → m ≤ n → IsCallRecorded kept r old new
       → Elapses m n (possible_since first old) (possible_since first new) (possible_after first new)
   elapses_kept (Ok x) r old new first m n how later is = record {
     later = later;
@@ -176,13 +176,13 @@ module _ {T E : Type 0} where
   }
 
   -- a write: what a read gives, whole or torn, and what a crash may leave
-  pub replayed_write : (kept : Result T E) (r : Recorded) (old new : List Recorded) (first present after : Image) → IsRecorded kept r old new
+  pub replayed_write : (kept : Result T E) (r : Recorded) (old new : List Recorded) (first present after : Image) → IsCallRecorded kept r old new
       → MatchResult kept (λ _. after ≡ reads_by r present) (λ _. after ≡ present) → present ≡ reads_after first old → after ≡ reads_after first new
   replayed_write (Ok x) r old new first present after is made was = made ∙ ap (reads_by r) was ∙ sym (reads-push first old r) ∙ sym (ap (reads_after first) is)
   replayed_write (Err e) r old new first present after is made was = made ∙ was ∙ sym (ap (reads_after first) is)
 
   pub within_write : (kept : Result T E) (file : File) (at : ℕ) (bytes : List ℕ) (outcome : Outcome) (moment : ℕ) (old new : List Recorded) (first : Image)
-      → IsRecorded kept (record { call = Write file at bytes; outcome = outcome; moment = moment }) old new
+      → IsCallRecorded kept (record { call = Write file at bytes; outcome = outcome; moment = moment }) old new
       → Within (possible_after first new) (Tears file at (length bytes) (possible_after first old))
   within_write (Ok x) file at bytes outcome moment old new first is c left =
       write_tears outcome file at bytes (reads_after first old) (possible_after first old) c
@@ -209,7 +209,7 @@ module _ {T E : Type 0} where
     -- a sync that was carried out
     pub durable_sync : (result : Result A F) (kept : Result T E) (outcome : Outcome) (moment : ℕ) (old new : List Recorded) (first present : Image)
         → IfOk result (λ v. (v ≡ value) × (outcome ≡ Done) × IsOk kept)
-        → IsRecorded kept (record { call = Sync; outcome = outcome; moment = moment }) old new → present ≡ reads_after first old → OnOk result (Only present (possible_after first new))
+        → IsCallRecorded kept (record { call = Sync; outcome = outcome; moment = moment }) old new → present ≡ reads_after first old → OnOk result (Only present (possible_after first new))
     durable_sync (Err e) kept outcome moment old new first present done is was = tt
     durable_sync (Ok v) (Err e) outcome moment old new first present done is was = absurd (cc done.2)
     durable_sync (Ok v) (Ok x) outcome moment old new first present done is was = λ (c : Image) (left : possible_after first new c).
@@ -236,7 +236,7 @@ module _ {T E : Type 0} where
 
     -- the call is recorded, or memory was refused
     pub goes_kept : (result : Result A F) (kept : Result T E) (call : Call) (outcome ends : Outcome) (moment at : ℕ) (old new : List Recorded) (before now : ℕ)
-        → IsRecorded kept (record { call = call; outcome = outcome; moment = moment }) old new → outcome ≡ ends → moment ≡ at → now ≡ (if is_ok kept then before else raised before)
+        → IsCallRecorded kept (record { call = call; outcome = outcome; moment = moment }) old new → outcome ≡ ends → moment ≡ at → now ≡ (if is_ok kept then before else raised before)
         → IfOk result (λ v. (v ≡ value) × (outcome ≡ Done) × IsOk kept) → (IsOk kept → outcome ≡ Done → IsOk result)
         → IsAnswered (record { call = call; outcome = ends; moment = at }) old new before now result ⊎ IsStarved old new before now result
     goes_kept result (Ok x) call outcome ends moment at old new before now is ended when_ up done answers = inl (

@@ -83,6 +83,6 @@ latest [] = 0
 latest (r ∷ calls) = max r.moment (latest calls)
 
 -- a call was added to the record, or memory was refused and the record stays
-abbrev pub IsRecorded : {T E : Type 0} → Result T E → Recorded → List Recorded → List Recorded
+abbrev pub IsCallRecorded : {T E : Type 0} → Result T E → Recorded → List Recorded → List Recorded
     → Type 0
-IsRecorded kept r old new = MatchResult kept (λ _. new ≡ old ++ r ∷ []) (λ _. new ≡ old)
+IsCallRecorded kept r old new = MatchResult kept (λ _. new ≡ old ++ r ∷ []) (λ _. new ≡ old)

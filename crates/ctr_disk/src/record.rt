@@ -1,6 +1,6 @@
 // The record of a disk in memory.
 ghost use Rattle.std.specs.Prelude.{◌≡◌, MatchResult, OnOk};
-ghost use Rattle.ctr_disk.specs.Replay.{IsRecorded, reads_by, LeavesBy};
+ghost use Rattle.ctr_disk.specs.Replay.{IsCallRecorded, reads_by, LeavesBy};
 ghost use Rattle.ctr_disk.specs.declared.record.Call.TheVariants.{Write};
 
 use crate::Image;
@@ -56,7 +56,7 @@ pub fn keep(
     outcome: Outcome,
     moment: u64,
 ) -> Result<(), AllocError>
-    ensures { IsRecorded result (record { call = call; outcome = outcome; moment = moment }) calls.old.items calls.new.items }
+    ensures { IsCallRecorded result (record { call = call; outcome = outcome; moment = moment }) calls.old.items calls.new.items }
 {
     calls.push(Recorded {
         call,
@@ -78,7 +78,7 @@ pub fn carry_out(
     outcome: Outcome,
     moment: u64,
 ) -> Result<(), AllocError>
-    ensures calls { IsRecorded result (record { call = Write file at bytes.now; outcome = outcome; moment = moment }) calls.old.items calls.new.items }
+    ensures calls { IsCallRecorded result (record { call = Write file at bytes.now; outcome = outcome; moment = moment }) calls.old.items calls.new.items }
     ensures image { MatchResult result (λ _. image.new ≡ reads_by (record { call = Write file at bytes.now; outcome = outcome; moment = moment }) image.old) (λ _. image.new ≡ image.old) }
 {
     let kept = Text::from_slice(alloc, bytes)?;

@@ -2,7 +2,7 @@
 ghost use Rattle.std.specs.Prelude.{◌≡◌, ◌≤◌, ◌<◌, ◌+◌, ◌-◌, ◌^◌, ℕ, List, [], ◌∷◌, ◌++◌, length, OnOk, OnErr, vec_capacity};
 ghost use Rattle.ctr_rec.specs.declared.item.Item.{Item as HeldItem};
 ghost use Rattle.ctr_rec.specs.Items.{Fits};
-ghost use Rattle.ctr_rec.specs.Encode.{record_bytes};
+ghost use Rattle.ctr_rec.specs.Encode.{commit_bytes};
 ghost use Rattle.ctr_gather.specs.Records.{IsRecordOf, HasRoomForItem};
 
 use ctr_rec::{Item, begin, end, push_item};
@@ -115,7 +115,7 @@ impl Gathered {
 
     /// Ends it, where it is going: its bytes are the record's. It takes no memory.
     pub fn end(&mut self)
-        ensures ended { (items : List HeldItem) → IsRecordOf items self.old → self.new.bytes ≡ record_bytes items }
+        ensures ended { (items : List HeldItem) → IsRecordOf items self.old → self.new.bytes ≡ commit_bytes items }
         ensures most { self.new.most ≡ self.old.most }
         ensures count { self.new.count ≡ self.old.count }
     {

@@ -2,7 +2,7 @@
 ghost use Rattle.std.specs.Prelude.{◌≡◌, ◌≤◌, ◌<◌, ◌+◌, ◌-◌, ◌^◌, nat_lt, ℕ, List, [], ◌∷◌, ◌++◌, length, IfSome, IfOk, OnOk, OnErr, vec_len};
 ghost use Rattle.ctr_rec.specs.declared.item.Item.{Item as HeldItem};
 ghost use Rattle.ctr_rec.specs.Items.{Fits};
-ghost use Rattle.ctr_rec.specs.Encode.{record_bytes, item_bytes};
+ghost use Rattle.ctr_rec.specs.Encode.{commit_bytes, item_bytes};
 ghost use Rattle.ctr_gather.specs.Records.{room_kept, IsRecordOf, HasRoomForItem, IsSession, record_at, lack_at, OthersAlike};
 
 use crate::record::Gathered;
@@ -131,7 +131,7 @@ impl Records {
     /// Ends a session's record: its bytes are those of its items. It takes no memory.
     pub fn end(&mut self, s: u8)
         requires { IsSession s self.old }
-        ensures ended { (items : List HeldItem) → IsRecordOf items (record_at s self.old) → (record_at s self.new).bytes ≡ record_bytes items }
+        ensures ended { (items : List HeldItem) → IsRecordOf items (record_at s self.old) → (record_at s self.new).bytes ≡ commit_bytes items }
         ensures most { (record_at s self.new).most ≡ (record_at s self.old).most }
         ensures count { (record_at s self.new).count ≡ (record_at s self.old).count }
         ensures needs { room_kept self.new ≡ room_kept self.old }

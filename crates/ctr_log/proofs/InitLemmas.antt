@@ -7,7 +7,7 @@ use Rattle.ctr_home.specs.declared.block.Block.TheVariants.{Root as RootBlock}
 use Rattle.ctr_home.specs.Roots.{root_block, root_value}
 use Rattle.ctr_home.specs.Writing.{IsAbove, OthersStay, IsOldOrNewValue, IsNewValue}
 use Rattle.ctr_log.specs.Logs.{batch, HasLog, Extends, IsBeforeOrAfter, IsAfter}
-use Rattle.ctr_log.specs.Fresh.{first_checkpoint, fresh_log, fresh_root, IsClosed, IsFresh, IsNoneOrFresh, IsReady, AreEmptied, SameRoot}
+use Rattle.ctr_log.specs.Fresh.{first_checkpoint, fresh_log, fresh_root, IsClosed, IsFresh, IsNoneOrFresh, LogsAreReady, AreEmptied, SameRoot}
 
 pub same_root_by_log_a : (at n : ℕ) (old d c : Image) → SameRoot old d → TornImage LogA at n d c → SameRoot old c
 same_root_by_log_a at n old d c same torn = (ap (λ i. i.root) torn.others ∙ same.0, ap (λ i. i.pages) torn.others ∙ same.1)
@@ -43,7 +43,7 @@ fresh_extends body bytes rest is empty = record {
 pub log_step : (old mid c : Image) → AreEmptied old mid → IsBeforeOrAfter LogA 1 [] (first_checkpoint ∷ []) mid c → SameRoot old c
 log_step old mid c empty step = (ap (λ i. i.root) step.0 ∙ empty.root, ap (λ i. i.pages) step.0 ∙ empty.pages)
 
-pub log_ready : (old mid new : Image) → AreEmptied old mid → IsAfter LogA 1 [] (first_checkpoint ∷ []) mid new → IsReady old new
+pub log_ready : (old mid new : Image) → AreEmptied old mid → IsAfter LogA 1 [] (first_checkpoint ∷ []) mid new → LogsAreReady old new
 log_ready old mid new empty after = record {
   root = ap (λ i. i.root) after.0 ∙ empty.root;
   log = record { some = omega arith; batches_are = after.1 };
@@ -56,7 +56,7 @@ module _ (old : Image) (none : root_value old.root ≡ None) where
   pub none_yet : (c : Image) → SameRoot old c → IsNoneOrFresh old c
   none_yet c same = inl (ap root_value same.0 ∙ none)
 
-  module _ (mid : Image) (ready : IsReady old mid) where
+  module _ (mid : Image) (ready : LogsAreReady old mid) where
     pub root_above : IsAbove 1 (root_value mid.root)
     root_above = subst (IsAbove 1) (sym (ap root_value ready.root ∙ none)) tt
 

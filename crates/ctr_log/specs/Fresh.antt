@@ -36,7 +36,7 @@ abbrev pub IsNoneOrFresh : Image → Image → Type 0
 IsNoneOrFresh old new = (root_value new.root ≡ None) ⊎ IsFresh old new
 
 -- what stands before the root is written: the logs of a database that was just made
-pub record IsReady (old new : Image) : Type 0 where
+pub record LogsAreReady (old new : Image) : Type 0 where
   pub root : new.root ≡ old.root
   pub log : HasLog 1 fresh_log new.log_a
   pub other_log : IsClosed new.log_b

@@ -5,7 +5,7 @@ ghost use Rattle.ctr_disk.specs.declared.fault.StoreFault.TheVariants.{Fault};
 ghost use Rattle.ctr_disk.specs.Device.{LeavesOnly, IsDurable, IsSettled, OnlyReads, Counts, CountsAs};
 ghost use Rattle.ctr_log.specs.declared.making.Making.TheVariants.{Made, Exists};
 ghost use Rattle.ctr_log.specs.Homes.{root_value};
-ghost use Rattle.ctr_log.specs.Fresh.{first_checkpoint, IsFresh, IsNoneOrFresh, IsReady, AreEmptied, SameRoot};
+ghost use Rattle.ctr_log.specs.Fresh.{first_checkpoint, IsFresh, IsNoneOrFresh, LogsAreReady, AreEmptied, SameRoot};
 
 use crate::log::write_batch;
 use ctr_disk::{Disk, Failed, Root, StoreFault};
@@ -78,7 +78,7 @@ fn make<D: Disk>(disk: &mut D) -> Result<(), StoreFault>
 // The logs of a new database.
 fn make_logs<D: Disk>(disk: &mut D) -> Result<(), Failed>
     ensures any_moment { IsSettled D.Disk disk.old → LeavesOnly D.Disk disk.old disk.new (SameRoot (D.reads disk.old)) }
-    ensures made { IsTrue D.tells → OnOk result (IsReady (D.reads disk.old) (D.reads disk.new)) }
+    ensures made { IsTrue D.tells → OnOk result (LogsAreReady (D.reads disk.old) (D.reads disk.new)) }
     ensures durable { OnOk result (IsDurable D.Disk disk.new) }
     ensures counts { Counts D.Disk disk.old disk.new result }
 {

@@ -5,7 +5,8 @@ use Rattle.ctr_types.specs.declared.value.Kind.TheVariants.{Int, Chars}
 use Rattle.ctr_bytes.specs.Fields.{field}
 use Rattle.ctr_value.specs.Payload.{field_width}
 use Rattle.ctr_records.specs.declared.decoding.BadRecord.{BadRecord}
-use Rattle.ctr_records.specs.Damage.{◌>>=◌, wrong, expect, at_most}
+use Rattle.ctr_bytes.specs.Following.{◌>>=◌}
+use Rattle.ctr_records.specs.Damage.{wrong, expect, at_most}
 use Rattle.ctr_page.specs.declared.checks.Chain.{Chain}
 use Rattle.ctr_page.specs.declared.checks.Chain.TheVariants.{Rows, Versions}
 use Rattle.ctr_page.specs.declared.table.TheConstants.{KIND_AT, OWNER_AT, BUCKET_AT, NEXT_AT, HEAD_AT, TOMBSTONE_AT, VERSION_SIZE, NAME_AT, NAME_MOST, COLUMNS_AT, COLUMN_SIZE, MOST_COLUMNS, FIRSTS_AT}
@@ -82,12 +83,14 @@ previous_check kinds start page =
     if has_previous (kinds_width kinds) then
     some_version_check kinds (start + previous_at (kinds_width kinds)) page else Ok tt
 
+-- a slot that is used: its pointer, its head, and the previous version where it has one
 unfoldable pub used_slot_check : List Kind → ℕ → ℕ → List ℕ → Result ⊤ BadRecord
 used_slot_check kinds counted start page = do
   pointer ← pointer_check counted (kinds_width kinds) (start + pointer_at (kinds_width kinds)) page
   head ← version_check kinds (start + HEAD_AT) page
   previous_check kinds start page
 
+-- a version entry that is used: its pointer and its version
 unfoldable pub used_kept_check : List Kind → ℕ → ℕ → List ℕ → Result ⊤ BadRecord
 used_kept_check kinds counted start page = do
   pointer ← pointer_check counted (kinds_width kinds) (start + kept_pointer_at (kinds_width kinds)) page

@@ -9,7 +9,7 @@ pub record HoldsStill {B : Type 0} (held : B → ℕ → PageHeld) (takes : B �
   pub still : (q since : ℕ) (v : PageHeld) → takes a q since v → takes b q since v
 
 -- One page is held as this now, and the others as they were.
-pub record Puts {B : Type 0} (held : B → ℕ → PageHeld) (takes : B → ℕ → ℕ → PageHeld → Type 0)
+pub record PutsPage {B : Type 0} (held : B → ℕ → PageHeld) (takes : B → ℕ → ℕ → PageHeld → Type 0)
     (p : ℕ) (v : PageHeld) (a b : B) : Type 0 where
   pub there : held b p ≡ v
   pub others : (q : ℕ) → q ≢ p → held b q ≡ held a q

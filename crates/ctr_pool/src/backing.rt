@@ -4,7 +4,7 @@ ghost use Rattle.ctr_types.specs.Faults.{HasFault};
 ghost use Rattle.ctr_disk.specs.declared.fault.StoreFault.{StoreFault as Wrong};
 ghost use Rattle.ctr_disk.specs.declared.fault.StoreFault.TheVariants.{Fault};
 ghost use Rattle.ctr_pool.specs.Pages.{PageHeld};
-ghost use Rattle.ctr_pool.specs.Below.{Puts, HoldsStill};
+ghost use Rattle.ctr_pool.specs.Below.{PutsPage, HoldsStill};
 
 use crate::Lsn;
 use ctr_disk::StoreFault;
@@ -54,7 +54,7 @@ pub trait Backing {
         requires whole { length body.now ≡ 4096 }
         requires takes { IsTrue tells → rests self.old × (since : ℕ) × takes self.old page since (record { lsn = lsn; body = body.now }) }
         ensures keeps { keeps self.old self.new }
-        ensures saved { IsTrue tells → OnOk result (Puts held takes page (record { lsn = lsn; body = body.now }) self.old self.new) }
+        ensures saved { IsTrue tells → OnOk result (PutsPage held takes page (record { lsn = lsn; body = body.now }) self.old self.new) }
         ensures goes { IsTrue tells → goes self.old self.new }
         ensures moves { IsTrue tells → OnOk result (moves self.old self.new × rests self.new) }
         ensures fails { IsTrue tells → IfErr result (fails self.old self.new) }

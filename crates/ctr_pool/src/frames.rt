@@ -3,7 +3,7 @@ ghost use Rattle.std.specs.Prelude.{◌≡◌, ◌==◌, ◌≤◌, ◌<◌, ◌
 ghost use Rattle.std.specs.Option.{option_map};
 ghost use Rattle.ctr_pool.specs.declared.frame.Frame.{Frame as Framed};
 ghost use Rattle.ctr_pool.specs.Frames.{frame_of, has_page, since_in, page_of, since_then, after_change, after_save, dirty_count};
-ghost use Rattle.ctr_pool.specs.Below.{Puts};
+ghost use Rattle.ctr_pool.specs.Below.{PutsPage};
 ghost use Rattle.ctr_types.specs.Faults.{HasFault};
 ghost use Rattle.ctr_disk.specs.declared.fault.StoreFault.TheVariants.{Fault};
 
@@ -170,7 +170,7 @@ impl Frames {
         requires takes { IsTrue B.tells → (f : Framed) → frame_of page self.now.frames ≡ Some f → B.rests backing.old × (since : ℕ) × B.takes backing.old page since (page_of f) }
         requires there { has_page page self.now.frames ≡ true }
         ensures keeps { B.keeps backing.old backing.new }
-        ensures saved { IsTrue B.tells → (f : Framed) → frame_of page self.now.frames ≡ Some f → OnOk result (Puts B.held B.takes page (page_of f) backing.old backing.new) }
+        ensures saved { IsTrue B.tells → (f : Framed) → frame_of page self.now.frames ≡ Some f → OnOk result (PutsPage B.held B.takes page (page_of f) backing.old backing.new) }
         ensures goes { IsTrue B.tells → B.goes backing.old backing.new }
         ensures moves { IsTrue B.tells → OnOk result (B.moves backing.old backing.new × B.rests backing.new) }
         ensures fails { IsTrue B.tells → IfErr result (B.fails backing.old backing.new) }

@@ -10,7 +10,7 @@ use Rattle.ctr_bytes.specs.Fields.{spelled, with_field}
 use Rattle.ctr_rec.specs.declared.item.Item.{Item}
 use Rattle.ctr_rec.specs.declared.item.Item.TheVariants.{Put, Remove, Create}
 use Rattle.ctr_rec.specs.Items.{item_table, ColumnFits, ColumnsFit, Fits}
-use Rattle.ctr_rec.specs.Encode.{name_bytes, zeros, kind_number, column_bytes, key_bytes, payload_bytes, body_bytes, item_bytes, record_bytes}
+use Rattle.ctr_rec.specs.Encode.{name_bytes, zeros, kind_number, column_bytes, key_bytes, payload_bytes, body_bytes, item_bytes, commit_bytes}
 use Rattle.ctr_bytes.proofs.FieldLaws.{length-spelled}
 
 pub length-zeros : (n : ℕ) → length (zeros n) ≡ n
@@ -51,7 +51,7 @@ column_parts c old named padded new n k e f g pad kind =
     ∙ append_assoc (old ++ name_bytes c.name) (zeros n) (k ∷ []) ∙ append_assoc old (name_bytes c.name) (zeros n ++ (k ∷ []))
     ∙ ap (λ (m : ℕ). old ++ (name_bytes c.name ++ (zeros m ++ (k ∷ [])))) pad ∙ ap (λ (m : ℕ). old ++ (name_bytes c.name ++ (zeros (16 - length c.name) ++ (m ∷ [])))) kind
 
-pub spelling_of : (is : List Item) → with_field 4 1 (length is) (32 ∷ (spelled 4 0 ++ flat_map item_bytes is)) ++ 0 ∷ [] ≡ record_bytes is
+pub spelling_of : (is : List Item) → with_field 4 1 (length is) (32 ∷ (spelled 4 0 ++ flat_map item_bytes is)) ++ 0 ∷ [] ≡ commit_bytes is
 spelling_of is =
     let rest : drop 4 (spelled 4 0 ++ flat_map item_bytes is) ≡ flat_map item_bytes is = drop_at (spelled 4 0) (flat_map item_bytes is) 4 (length-spelled 4 0) in
     ap (λ (l : List ℕ). 32 ∷ ((spelled 4 (length is) ++ l) ++ (0 ∷ []))) rest ∙ ap (λ (l : List ℕ). 32 ∷ l) (append_assoc (spelled 4 (length is)) (flat_map item_bytes is) (0 ∷ []))

@@ -9,7 +9,8 @@ use Rattle.ctr_rec.specs.declared.decoding.BadRecord.{BadRecord}
 use Rattle.ctr_rec.specs.declared.decoding.RecordError.{RecordError}
 use Rattle.ctr_rec.specs.declared.decoding.RecordError.TheVariants as errors
 use Rattle.std.specs.Prelude.{IfErr}
-use Rattle.ctr_rec.specs.Decode.{◌>>=◌, Decodes, IsNoRecord, short, wrong, with_earlier, decode_bytes, decode_number, decode_byte, decode_tag, decode_name, kind_numbered, decode_column, many, decode_text_column, decode_schema, decode_key, decode_payload, decode_put, decode_remove, decode_create, decode_body, least_body, decode_item, decode_next_item, decode_all}
+use Rattle.ctr_bytes.specs.Following.{◌>>=◌}
+use Rattle.ctr_rec.specs.Decode.{Decodes, IsNoRecord, short, unwanted, with_earlier, decode_bytes, decode_number, decode_byte, decode_tag, decode_name, kind_numbered, decode_column, many, decode_text_column, decode_schema, decode_key, decode_payload, decode_put, decode_remove, decode_create, decode_body, least_body, decode_item, decode_next_item, decode_all}
 use Rattle.ctr_bytes.proofs.FieldLaws.{AreBytes}
 use Rattle.ctr_rec.proofs.RecordLaws.{tag_takes}
 use Rattle.ctr_rec.proofs.ItemLaws.{all_again}
@@ -40,13 +41,13 @@ number_fair n after whole bytes = fair_bind (decode_bytes n after whole bytes) (
 byte_fair : (low under high after whole : ℕ) (bytes : List ℕ) → low ≤ under → Fair (decode_byte low under high after whole bytes)
 unfolding decode_byte
 byte_fair low under high after whole bytes le =
-    fair_bind (decode_number 1 after whole bytes) (λ b. cond (ltb b.0 low) (Err (wrong (whole - length bytes) under b.0)) (cond (ltb high b.0) (Err (wrong (whole - length bytes) high b.0)) (Ok (b.0, b.1)))) (number_fair 1 after whole bytes)
-    (λ b e. fair_if (ltb b.0 low) (wrong (whole - length bytes) under b.0) (cond (ltb high b.0) (Err (wrong (whole - length bytes) high b.0)) (Ok (b.0, b.1))) (λ t same. omega (arith, ltb-true _ _ t, same, le))
-    (fair_if (ltb high b.0) (wrong (whole - length bytes) high b.0) (Ok (b.0, b.1)) (λ t same. omega (arith, ltb-true _ _ t, same)) 0))
+    fair_bind (decode_number 1 after whole bytes) (λ b. cond (ltb b.0 low) (Err (unwanted (whole - length bytes) under b.0)) (cond (ltb high b.0) (Err (unwanted (whole - length bytes) high b.0)) (Ok (b.0, b.1)))) (number_fair 1 after whole bytes)
+    (λ b e. fair_if (ltb b.0 low) (unwanted (whole - length bytes) under b.0) (cond (ltb high b.0) (Err (unwanted (whole - length bytes) high b.0)) (Ok (b.0, b.1))) (λ t same. omega (arith, ltb-true _ _ t, same, le))
+    (fair_if (ltb high b.0) (unwanted (whole - length bytes) high b.0) (Ok (b.0, b.1)) (λ t same. omega (arith, ltb-true _ _ t, same)) 0))
 
 tag_fair : (whole : ℕ) (bytes : List ℕ) → Fair (decode_tag whole bytes)
 unfolding decode_tag
-tag_fair whole bytes = fair_if (eqb (length bytes) 0) (wrong 0 32 0) (decode_byte 32 32 32 5 whole bytes) (λ e same. omega (arith, same)) (byte_fair 32 32 32 5 whole bytes (omega arith))
+tag_fair whole bytes = fair_if (eqb (length bytes) 0) (unwanted 0 32 0) (decode_byte 32 32 32 5 whole bytes) (λ e same. omega (arith, same)) (byte_fair 32 32 32 5 whole bytes (omega arith))
 
 name_fair : (after whole : ℕ) (bytes : List ℕ) → Fair (decode_name after whole bytes)
 unfolding decode_name
@@ -102,18 +103,18 @@ fair_else : {A : Type 0} (b : Bool) (x : A) (d : BadRecord) → (b ≡ false →
 fair_else true x d h = 0
 fair_else false x d h = h refl
 
-fair_end : (whole left : ℕ) (is : List Item) → 0 < whole → Fair (cond (eqb left 0) (Ok is) (Err (wrong 0 (whole - left) whole)))
-fair_end whole left is some = fair_else (eqb left 0) is (wrong 0 (whole - left) whole) (λ t same. eqb-false left 0 t (omega (arith, same, some)))
+fair_end : (whole left : ℕ) (is : List Item) → 0 < whole → Fair (cond (eqb left 0) (Ok is) (Err (unwanted 0 (whole - left) whole)))
+fair_end whole left is some = fair_else (eqb left 0) is (unwanted 0 (whole - left) whole) (λ t same. eqb-false left 0 t (omega (arith, same, some)))
 
 all_fair : (bytes : List ℕ) → AreBytes bytes → Fair (decode_all (length bytes) bytes)
 unfolding decode_all
 all_fair bytes fits =
     let whole = length bytes in
-    fair_bind (decode_tag whole bytes) (λ tag. decode_number 4 1 whole tag.1 >>= λ count. many (decode_next_item whole) count.0 count.1 >>= λ items. decode_byte 0 0 0 0 whole items.1 >>= λ flag. cond (eqb (length flag.1) 0) (Ok items.0) (Err (wrong 0 (whole - length flag.1) whole))) (tag_fair whole bytes)
+    fair_bind (decode_tag whole bytes) (λ tag. decode_number 4 1 whole tag.1 >>= λ count. many (decode_next_item whole) count.0 count.1 >>= λ items. decode_byte 0 0 0 0 whole items.1 >>= λ flag. cond (eqb (length flag.1) 0) (Ok items.0) (Err (unwanted 0 (whole - length flag.1) whole))) (tag_fair whole bytes)
     (λ tag e. let some : 0 < whole = omega (arith, ap length (tag_takes whole bytes tag fits e).0.parts) in
-    fair_bind (decode_number 4 1 whole tag.1) (λ count. many (decode_next_item whole) count.0 count.1 >>= λ items. decode_byte 0 0 0 0 whole items.1 >>= λ flag. cond (eqb (length flag.1) 0) (Ok items.0) (Err (wrong 0 (whole - length flag.1) whole))) (number_fair 4 1 whole tag.1)
-    (λ count f. fair_bind (many (decode_next_item whole) count.0 count.1) (λ items. decode_byte 0 0 0 0 whole items.1 >>= λ flag. cond (eqb (length flag.1) 0) (Ok items.0) (Err (wrong 0 (whole - length flag.1) whole))) (many_fair (decode_next_item whole) (λ left. item_fair (3 * left + 1) whole) count.0 count.1)
-    (λ items g. fair_bind (decode_byte 0 0 0 0 whole items.1) (λ flag. cond (eqb (length flag.1) 0) (Ok items.0) (Err (wrong 0 (whole - length flag.1) whole))) (byte_fair 0 0 0 0 whole items.1 (omega arith))
+    fair_bind (decode_number 4 1 whole tag.1) (λ count. many (decode_next_item whole) count.0 count.1 >>= λ items. decode_byte 0 0 0 0 whole items.1 >>= λ flag. cond (eqb (length flag.1) 0) (Ok items.0) (Err (unwanted 0 (whole - length flag.1) whole))) (number_fair 4 1 whole tag.1)
+    (λ count f. fair_bind (many (decode_next_item whole) count.0 count.1) (λ items. decode_byte 0 0 0 0 whole items.1 >>= λ flag. cond (eqb (length flag.1) 0) (Ok items.0) (Err (unwanted 0 (whole - length flag.1) whole))) (many_fair (decode_next_item whole) (λ left. item_fair (3 * left + 1) whole) count.0 count.1)
+    (λ items g. fair_bind (decode_byte 0 0 0 0 whole items.1) (λ flag. cond (eqb (length flag.1) 0) (Ok items.0) (Err (unwanted 0 (whole - length flag.1) whole))) (byte_fair 0 0 0 0 whole items.1 (omega arith))
     (λ flag h. fair_end whole (length flag.1) items.0 some))))
 
 err_fair : {A : Type 0} (r : Result A BadRecord) (f : BadRecord) → r ≡ Err f → Fair r → f.want ≢ f.got

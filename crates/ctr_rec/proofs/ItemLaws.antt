@@ -17,8 +17,9 @@ use Rattle.ctr_rec.specs.declared.decoding.BadRecord.{BadRecord}
 use Rattle.std.specs.Prelude.{IfOk}
 use Rattle.ctr_rec.specs.declared.decoding.RecordError.{RecordError}
 use Rattle.ctr_rec.specs.Items.{item_table, ColumnFits, ColumnsFit, BodyFits, Fits, AreItems}
-use Rattle.ctr_rec.specs.Encode.{name_bytes, zeros, column_bytes, change_tag, key_bytes, payload_bytes, body_bytes, item_bytes, record_bytes, Spell, IsColumnBytes, IsSchemaBytes, IsBodyBytes, IsItemBytes, IsSpelled}
-use Rattle.ctr_rec.specs.Decode.{◌>>=◌, Decodes, wrong, with_earlier, decode_bytes, decode_number, decode_byte, decode_tag, decode_name, decode_column, many, decode_text_column, decode_schema, decode_key, decode_payload, decode_put, decode_remove, decode_create, decode_body, least_body, decode_item, decode_next_item, decode_all}
+use Rattle.ctr_rec.specs.Encode.{name_bytes, zeros, column_bytes, change_tag, key_bytes, payload_bytes, body_bytes, item_bytes, commit_bytes, Spell, IsColumnBytes, IsSchemaBytes, IsBodyBytes, IsItemBytes, IsSpelled}
+use Rattle.ctr_bytes.specs.Following.{◌>>=◌}
+use Rattle.ctr_rec.specs.Decode.{Decodes, unwanted, with_earlier, decode_bytes, decode_number, decode_byte, decode_tag, decode_name, decode_column, many, decode_text_column, decode_schema, decode_key, decode_payload, decode_put, decode_remove, decode_create, decode_body, least_body, decode_item, decode_next_item, decode_all}
 use Rattle.ctr_bytes.proofs.FieldLaws.{AreBytes, length-spelled, field_at}
 use Rattle.ctr_rec.proofs.EncodeLaws.{length-zeros}
 use Rattle.ctr_rec.proofs.RecordLaws.{bind_ok, ok_is, done, Took, Takes, Takes-then, bytes_take, bytes_again, number_takes, number_again, byte_takes, byte_again, tag_takes, tag_again, name_takes, name_again, column_takes, column_again, many_take, many_again}
@@ -196,11 +197,11 @@ guard_ended false d x y e = absurd cc
 pub all_take : (whole : ℕ) (bytes : List ℕ) (is : List Item) → AreBytes bytes → decode_all whole bytes ≡ Ok is → AreItems is × IsSpelled is bytes
 unfolding decode_all
 all_take whole bytes is fits e =
-    let a = bind_ok (decode_tag whole bytes) (λ tag. decode_number 4 1 whole tag.1 >>= λ count. many (decode_next_item whole) count.0 count.1 >>= λ items. decode_byte 0 0 0 0 whole items.1 >>= λ flag. cond (eqb (length flag.1) 0) (Ok items.0) (Err (wrong 0 (whole - length flag.1) whole))) is e in
-    let b = bind_ok (decode_number 4 1 whole a.0.1) (λ count. many (decode_next_item whole) count.0 count.1 >>= λ items. decode_byte 0 0 0 0 whole items.1 >>= λ flag. cond (eqb (length flag.1) 0) (Ok items.0) (Err (wrong 0 (whole - length flag.1) whole))) is a.2 in
-    let c = bind_ok (many (decode_next_item whole) b.0.0 b.0.1) (λ items. decode_byte 0 0 0 0 whole items.1 >>= λ flag. cond (eqb (length flag.1) 0) (Ok items.0) (Err (wrong 0 (whole - length flag.1) whole))) is b.2 in
-    let d = bind_ok (decode_byte 0 0 0 0 whole c.0.1) (λ flag. cond (eqb (length flag.1) 0) (Ok c.0.0) (Err (wrong 0 (whole - length flag.1) whole))) is c.2 in
-    let g = guard_ended (eqb (length d.0.1) 0) (wrong 0 (whole - length d.0.1) whole) c.0.0 is d.2 in
+    let a = bind_ok (decode_tag whole bytes) (λ tag. decode_number 4 1 whole tag.1 >>= λ count. many (decode_next_item whole) count.0 count.1 >>= λ items. decode_byte 0 0 0 0 whole items.1 >>= λ flag. cond (eqb (length flag.1) 0) (Ok items.0) (Err (unwanted 0 (whole - length flag.1) whole))) is e in
+    let b = bind_ok (decode_number 4 1 whole a.0.1) (λ count. many (decode_next_item whole) count.0 count.1 >>= λ items. decode_byte 0 0 0 0 whole items.1 >>= λ flag. cond (eqb (length flag.1) 0) (Ok items.0) (Err (unwanted 0 (whole - length flag.1) whole))) is a.2 in
+    let c = bind_ok (many (decode_next_item whole) b.0.0 b.0.1) (λ items. decode_byte 0 0 0 0 whole items.1 >>= λ flag. cond (eqb (length flag.1) 0) (Ok items.0) (Err (unwanted 0 (whole - length flag.1) whole))) is b.2 in
+    let d = bind_ok (decode_byte 0 0 0 0 whole c.0.1) (λ flag. cond (eqb (length flag.1) 0) (Ok c.0.0) (Err (unwanted 0 (whole - length flag.1) whole))) is c.2 in
+    let g = guard_ended (eqb (length d.0.1) 0) (unwanted 0 (whole - length d.0.1) whole) c.0.0 is d.2 in
     let t0 = tag_takes whole bytes a.0 fits a.1 in
     let t1 = number_takes 4 1 whole a.0.1 b.0 t0.0.rest_fits b.1 in
     let t2 = many_take (decode_next_item whole) IsItemBytes Fits (λ left. item_takes (3 * left + 1) whole) b.0.0 b.0.1 c.0 t1.0.rest_fits c.1 in
@@ -247,5 +248,5 @@ body_written (Remove t k) = refl
 body_written (Create t s) = (flat_map column_bytes s.columns, each_written column_bytes IsColumnBytes (λ c. (zeros (16 - length c.name), length-zeros (16 - length c.name), refl)) s.columns, refl)
 body_written (Drop t) = refl
 
-pub all_written : (is : List Item) → IsSpelled is (record_bytes is)
+pub all_written : (is : List Item) → IsSpelled is (commit_bytes is)
 all_written is = (flat_map item_bytes is, each_written item_bytes IsItemBytes (λ i. (body_bytes i, body_written i, refl)) is, refl)

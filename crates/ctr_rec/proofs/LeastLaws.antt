@@ -12,7 +12,8 @@ use Rattle.ctr_rec.specs.declared.decoding.BadRecord.{BadRecord}
 use Rattle.ctr_rec.specs.declared.decoding.RecordError.{RecordError}
 use Rattle.ctr_rec.specs.declared.decoding.RecordError.TheVariants as errors
 use Rattle.std.specs.Prelude.{IfErr}
-use Rattle.ctr_rec.specs.Decode.{◌>>=◌, Decodes, IsLeast, short, wrong, with_earlier, decode_bytes, decode_number, decode_byte, decode_tag, decode_name, kind_numbered, decode_column, many, decode_text_column, decode_schema, decode_key, decode_payload, decode_put, decode_remove, decode_create, decode_body, least_body, decode_item, decode_next_item, decode_all}
+use Rattle.ctr_bytes.specs.Following.{◌>>=◌}
+use Rattle.ctr_rec.specs.Decode.{Decodes, IsLeast, short, unwanted, with_earlier, decode_bytes, decode_number, decode_byte, decode_tag, decode_name, kind_numbered, decode_column, many, decode_text_column, decode_schema, decode_key, decode_payload, decode_put, decode_remove, decode_create, decode_body, least_body, decode_item, decode_next_item, decode_all}
 use Rattle.ctr_rec.proofs.RecordLaws.{bind_ok, guard_ok, ok_is}
 use Rattle.ctr_rec.proofs.ItemLaws.{all_again}
 
@@ -124,21 +125,21 @@ byte_reads low under high after whole =
     let number = number_reads 1 after whole in
     record {
       eats = λ bytes y e.
-          let b = bind_ok (decode_number 1 after whole bytes) (λ b. cond (ltb b.0 low) (Err (wrong (whole - length bytes) under b.0)) (cond (ltb high b.0) (Err (wrong (whole - length bytes) high b.0)) (Ok (b.0, b.1)))) y e in
-          let g = guard_ok (ltb b.0.0 low) (wrong (whole - length bytes) under b.0.0) (cond (ltb high b.0.0) (Err (wrong (whole - length bytes) high b.0.0)) (Ok (b.0.0, b.0.1))) y b.2 in
-          let h = guard_ok (ltb high b.0.0) (wrong (whole - length bytes) high b.0.0) (Ok (b.0.0, b.0.1)) y g.1 in
+          let b = bind_ok (decode_number 1 after whole bytes) (λ b. cond (ltb b.0 low) (Err (unwanted (whole - length bytes) under b.0)) (cond (ltb high b.0) (Err (unwanted (whole - length bytes) high b.0)) (Ok (b.0, b.1)))) y e in
+          let g = guard_ok (ltb b.0.0 low) (unwanted (whole - length bytes) under b.0.0) (cond (ltb high b.0.0) (Err (unwanted (whole - length bytes) high b.0.0)) (Ok (b.0.0, b.0.1))) y b.2 in
+          let h = guard_ok (ltb high b.0.0) (unwanted (whole - length bytes) high b.0.0) (Ok (b.0.0, b.0.1)) y g.1 in
           let same : both b.0.0 b.0.1 ≡ y = ok_is (both b.0.0 b.0.1) y h.1 in
           let first : b.0.0 ≡ y.0 = ap (λ (p : ℕ × List ℕ). p.0) same in
           let one = number.eats bytes b.0 b.1 in
           (omega (arith, one.0, ap (λ (p : ℕ × List ℕ). length p.1) same), (omega (arith, first, ltb-false _ _ g.0), omega (arith, first, ltb-false _ _ h.0)));
       meets = λ bytes more y e le.
           let all : List ℕ = bytes ++ more in
-          let b = bind_ok (decode_number 1 after whole (bytes ++ more)) (λ b. cond (ltb b.0 low) (Err (wrong (whole - length (bytes ++ more)) under b.0)) (cond (ltb high b.0) (Err (wrong (whole - length (bytes ++ more)) high b.0)) (Ok (b.0, b.1)))) y e in
-          let g = guard_ok (ltb b.0.0 low) (wrong (whole - length (bytes ++ more)) under b.0.0) (cond (ltb high b.0.0) (Err (wrong (whole - length (bytes ++ more)) high b.0.0)) (Ok (b.0.0, b.0.1))) y b.2 in
-          let h = guard_ok (ltb high b.0.0) (wrong (whole - length (bytes ++ more)) high b.0.0) (Ok (b.0.0, b.0.1)) y g.1 in
+          let b = bind_ok (decode_number 1 after whole (bytes ++ more)) (λ b. cond (ltb b.0 low) (Err (unwanted (whole - length (bytes ++ more)) under b.0)) (cond (ltb high b.0) (Err (unwanted (whole - length (bytes ++ more)) high b.0)) (Ok (b.0, b.1)))) y e in
+          let g = guard_ok (ltb b.0.0 low) (unwanted (whole - length (bytes ++ more)) under b.0.0) (cond (ltb high b.0.0) (Err (unwanted (whole - length (bytes ++ more)) high b.0.0)) (Ok (b.0.0, b.0.1))) y b.2 in
+          let h = guard_ok (ltb high b.0.0) (unwanted (whole - length (bytes ++ more)) high b.0.0) (Ok (b.0.0, b.0.1)) y g.1 in
           let same : both b.0.0 b.0.1 ≡ y = ok_is (both b.0.0 b.0.1) y h.1 in
           let behind : length b.0.1 ≡ length y.1 = ap (λ (p : ℕ × List ℕ). length p.1) same in
-          meets_then whole more (decode_number 1 after whole bytes) (λ b. cond (ltb b.0 low) (Err (wrong (whole - length bytes) under b.0)) (cond (ltb high b.0) (Err (wrong (whole - length bytes) high b.0)) (Ok (b.0, b.1)))) b.0 y (number.meets bytes more b.0 b.1 (omega arith)) (λ x is z.
+          meets_then whole more (decode_number 1 after whole bytes) (λ b. cond (ltb b.0 low) (Err (unwanted (whole - length bytes) under b.0)) (cond (ltb high b.0) (Err (unwanted (whole - length bytes) high b.0)) (Ok (b.0, b.1)))) b.0 y (number.meets bytes more b.0 b.1 (omega arith)) (λ x is z.
           let value : b.0.0 ≡ x.0 = ap (λ (p : ℕ × List ℕ). p.0) z in
           let above : ltb x.0 low ≡ false = ap (λ (k : ℕ). ltb k low) (sym value) ∙ g.0 in
           let below : ltb high x.0 ≡ false = ap (λ (k : ℕ). ltb high k) (sym value) ∙ h.0 in
@@ -233,34 +234,34 @@ ends_then : {A B : Type 0} (whole : ℕ) (more : List ℕ) (r : Result (A × Lis
 ends_then whole more (Ok x) f z m next = next x m
 ends_then whole more (Err e) f z m next = m
 
-ends_if : {A : Type 0} (whole left : ℕ) (more : List ℕ) (b : Bool) (x : A) → Ends whole more (cond b (Ok x) (Err (wrong 0 (whole - left) whole)))
+ends_if : {A : Type 0} (whole left : ℕ) (more : List ℕ) (b : Bool) (x : A) → Ends whole more (cond b (Ok x) (Err (unwanted 0 (whole - left) whole)))
 ends_if whole left more true x = tt
 ends_if whole left more false x = omega arith
 
 tag_meets : (whole : ℕ) (bytes more : List ℕ) (y : ℕ × List ℕ) → 0 < length bytes → decode_tag whole (bytes ++ more) ≡ Ok y → 5 ≤ length y.1 → Meets whole more y (decode_tag whole bytes)
 unfolding decode_tag
 tag_meets whole bytes more y some e le =
-    let g = guard_ok (eqb (length (bytes ++ more)) 0) (wrong 0 32 0) (decode_byte 32 32 32 5 whole (bytes ++ more)) y e in
+    let g = guard_ok (eqb (length (bytes ++ more)) 0) (unwanted 0 32 0) (decode_byte 32 32 32 5 whole (bytes ++ more)) y e in
     let there : eqb (length bytes) 0 ≡ false = ne_eqb (length bytes) 0 (λ none. omega (arith, none)) in
     rw there ((byte_reads 32 32 32 5 whole).meets bytes more y g.1 le)
 
 pub all_ends : (whole : ℕ) (bytes more : List ℕ) (is : List Item) → 0 < length bytes → decode_all whole (bytes ++ more) ≡ Ok is → Ends whole more (decode_all whole bytes)
 unfolding decode_all
 all_ends whole bytes more is some e =
-    let a = bind_ok (decode_tag whole (bytes ++ more)) (λ tag. decode_number 4 1 whole tag.1 >>= λ count. many (decode_next_item whole) count.0 count.1 >>= λ items. decode_byte 0 0 0 0 whole items.1 >>= λ flag. cond (eqb (length flag.1) 0) (Ok items.0) (Err (wrong 0 (whole - length flag.1) whole))) is e in
-    let b = bind_ok (decode_number 4 1 whole a.0.1) (λ count. many (decode_next_item whole) count.0 count.1 >>= λ items. decode_byte 0 0 0 0 whole items.1 >>= λ flag. cond (eqb (length flag.1) 0) (Ok items.0) (Err (wrong 0 (whole - length flag.1) whole))) is a.2 in
-    let c = bind_ok (many (decode_next_item whole) b.0.0 b.0.1) (λ items. decode_byte 0 0 0 0 whole items.1 >>= λ flag. cond (eqb (length flag.1) 0) (Ok items.0) (Err (wrong 0 (whole - length flag.1) whole))) is b.2 in
-    let d = bind_ok (decode_byte 0 0 0 0 whole c.0.1) (λ flag. cond (eqb (length flag.1) 0) (Ok c.0.0) (Err (wrong 0 (whole - length flag.1) whole))) is c.2 in
+    let a = bind_ok (decode_tag whole (bytes ++ more)) (λ tag. decode_number 4 1 whole tag.1 >>= λ count. many (decode_next_item whole) count.0 count.1 >>= λ items. decode_byte 0 0 0 0 whole items.1 >>= λ flag. cond (eqb (length flag.1) 0) (Ok items.0) (Err (unwanted 0 (whole - length flag.1) whole))) is e in
+    let b = bind_ok (decode_number 4 1 whole a.0.1) (λ count. many (decode_next_item whole) count.0 count.1 >>= λ items. decode_byte 0 0 0 0 whole items.1 >>= λ flag. cond (eqb (length flag.1) 0) (Ok items.0) (Err (unwanted 0 (whole - length flag.1) whole))) is a.2 in
+    let c = bind_ok (many (decode_next_item whole) b.0.0 b.0.1) (λ items. decode_byte 0 0 0 0 whole items.1 >>= λ flag. cond (eqb (length flag.1) 0) (Ok items.0) (Err (unwanted 0 (whole - length flag.1) whole))) is b.2 in
+    let d = bind_ok (decode_byte 0 0 0 0 whole c.0.1) (λ flag. cond (eqb (length flag.1) 0) (Ok c.0.0) (Err (unwanted 0 (whole - length flag.1) whole))) is c.2 in
     let number = number_reads 4 1 whole in
     let flag = byte_reads 0 0 0 0 whole in
     let items = many_read (decode_next_item whole) 3 1 whole (λ m. 3 * m) (omega arith) (λ m. omega arith) (λ left. item_reads (3 * left + 1) whole) in
     let flag_long = (flag.eats c.0.1 d.0 d.1).0 in
     let items_long = ((items b.0.0).eats b.0.1 c.0 c.1).0 in
     let number_long = (number.eats a.0.1 b.0 b.1).0 in
-    ends_then whole more (decode_tag whole bytes) (λ tag. decode_number 4 1 whole tag.1 >>= λ count. many (decode_next_item whole) count.0 count.1 >>= λ items. decode_byte 0 0 0 0 whole items.1 >>= λ flag. cond (eqb (length flag.1) 0) (Ok items.0) (Err (wrong 0 (whole - length flag.1) whole))) a.0 (tag_meets whole bytes more a.0 some a.1 (omega (arith, flag_long, items_long, number_long)))
-    (λ w p. ends_then whole more (decode_number 4 1 whole w.1) (λ count. many (decode_next_item whole) count.0 count.1 >>= λ items. decode_byte 0 0 0 0 whole items.1 >>= λ flag. cond (eqb (length flag.1) 0) (Ok items.0) (Err (wrong 0 (whole - length flag.1) whole))) b.0 (number.meets w.1 more b.0 (subst (λ (z : ℕ × List ℕ). decode_number 4 1 whole z.1 ≡ Ok b.0) p b.1) (omega (arith, flag_long, items_long)))
-    (λ x q. ends_then whole more (many (decode_next_item whole) x.0 x.1) (λ items. decode_byte 0 0 0 0 whole items.1 >>= λ flag. cond (eqb (length flag.1) 0) (Ok items.0) (Err (wrong 0 (whole - length flag.1) whole))) c.0 ((items x.0).meets x.1 more c.0 (subst (λ (z : ℕ × List ℕ). many (decode_next_item whole) z.0 z.1 ≡ Ok c.0) q c.1) (omega (arith, flag_long)))
-    (λ y r. ends_then whole more (decode_byte 0 0 0 0 whole y.1) (λ flag. cond (eqb (length flag.1) 0) (Ok y.0) (Err (wrong 0 (whole - length flag.1) whole))) d.0 (flag.meets y.1 more d.0 (subst (λ (z : List Item × List ℕ). decode_byte 0 0 0 0 whole z.1 ≡ Ok d.0) r d.1) (omega arith))
+    ends_then whole more (decode_tag whole bytes) (λ tag. decode_number 4 1 whole tag.1 >>= λ count. many (decode_next_item whole) count.0 count.1 >>= λ items. decode_byte 0 0 0 0 whole items.1 >>= λ flag. cond (eqb (length flag.1) 0) (Ok items.0) (Err (unwanted 0 (whole - length flag.1) whole))) a.0 (tag_meets whole bytes more a.0 some a.1 (omega (arith, flag_long, items_long, number_long)))
+    (λ w p. ends_then whole more (decode_number 4 1 whole w.1) (λ count. many (decode_next_item whole) count.0 count.1 >>= λ items. decode_byte 0 0 0 0 whole items.1 >>= λ flag. cond (eqb (length flag.1) 0) (Ok items.0) (Err (unwanted 0 (whole - length flag.1) whole))) b.0 (number.meets w.1 more b.0 (subst (λ (z : ℕ × List ℕ). decode_number 4 1 whole z.1 ≡ Ok b.0) p b.1) (omega (arith, flag_long, items_long)))
+    (λ x q. ends_then whole more (many (decode_next_item whole) x.0 x.1) (λ items. decode_byte 0 0 0 0 whole items.1 >>= λ flag. cond (eqb (length flag.1) 0) (Ok items.0) (Err (unwanted 0 (whole - length flag.1) whole))) c.0 ((items x.0).meets x.1 more c.0 (subst (λ (z : ℕ × List ℕ). many (decode_next_item whole) z.0 z.1 ≡ Ok c.0) q c.1) (omega (arith, flag_long)))
+    (λ y r. ends_then whole more (decode_byte 0 0 0 0 whole y.1) (λ flag. cond (eqb (length flag.1) 0) (Ok y.0) (Err (unwanted 0 (whole - length flag.1) whole))) d.0 (flag.meets y.1 more d.0 (subst (λ (z : List Item × List ℕ). decode_byte 0 0 0 0 whole z.1 ≡ Ok d.0) r d.1) (omega arith))
     (λ z s. ends_if whole (length z.1) more (eqb (length z.1) 0) y.0))))
 
 err_ends : {A : Type 0} (whole : ℕ) (more : List ℕ) (r : Result A BadRecord) (f : BadRecord) → r ≡ Err f → Ends whole more r → f.want ≤ whole + length more

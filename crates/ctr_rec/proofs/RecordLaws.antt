@@ -12,7 +12,8 @@ use Rattle.ctr_bytes.specs.Fields.{spelled, field}
 use Rattle.ctr_rec.specs.declared.decoding.BadRecord.{BadRecord}
 use Rattle.ctr_rec.specs.Items.{KindFits, ColumnFits}
 use Rattle.ctr_rec.specs.Encode.{name_bytes, kind_number, IsColumnBytes, Spell}
-use Rattle.ctr_rec.specs.Decode.{◌>>=◌, short, wrong, decode_bytes, decode_number, decode_byte, decode_tag, decode_name, kind_numbered, decode_column, many}
+use Rattle.ctr_bytes.specs.Following.{◌>>=◌}
+use Rattle.ctr_rec.specs.Decode.{short, unwanted, decode_bytes, decode_number, decode_byte, decode_tag, decode_name, kind_numbered, decode_column, many}
 use Rattle.ctr_bytes.proofs.FieldLaws.{AreBytes, length-spelled, field_at, spelled_field, field_fits}
 
 AreBytes-drop : (n : ℕ) (bytes : List ℕ) → AreBytes bytes → AreBytes (drop n bytes)
@@ -93,9 +94,9 @@ spelled_one b lt = let low : b % 256 ≡ b = omega arith in ap (λ (x : ℕ). x 
 pub byte_takes : (low under high after whole : ℕ) (bytes : List ℕ) (x : ℕ × List ℕ) → AreBytes bytes → decode_byte low under high after whole bytes ≡ Ok x → Takes bytes (x.0 ∷ []) x.1 × (low ≤ x.0) × (x.0 ≤ high)
 unfolding decode_byte
 byte_takes low under high after whole bytes x fits e =
-    let b = bind_ok (decode_number 1 after whole bytes) (λ b. cond (ltb b.0 low) (Err (wrong (whole - length bytes) under b.0)) (cond (ltb high b.0) (Err (wrong (whole - length bytes) high b.0)) (Ok (b.0, b.1)))) x e in
-    let g = guard_ok (ltb b.0.0 low) (wrong (whole - length bytes) under b.0.0) (cond (ltb high b.0.0) (Err (wrong (whole - length bytes) high b.0.0)) (Ok (b.0.0, b.0.1))) x b.2 in
-    let h = guard_ok (ltb high b.0.0) (wrong (whole - length bytes) high b.0.0) (Ok (b.0.0, b.0.1)) x g.1 in
+    let b = bind_ok (decode_number 1 after whole bytes) (λ b. cond (ltb b.0 low) (Err (unwanted (whole - length bytes) under b.0)) (cond (ltb high b.0) (Err (unwanted (whole - length bytes) high b.0)) (Ok (b.0, b.1)))) x e in
+    let g = guard_ok (ltb b.0.0 low) (unwanted (whole - length bytes) under b.0.0) (cond (ltb high b.0.0) (Err (unwanted (whole - length bytes) high b.0.0)) (Ok (b.0.0, b.0.1))) x b.2 in
+    let h = guard_ok (ltb high b.0.0) (unwanted (whole - length bytes) high b.0.0) (Ok (b.0.0, b.0.1)) x g.1 in
     let t = number_takes 1 after whole bytes b.0 fits b.1 in
     let small : b.0.0 < 256 = omega (arith, t.1) in
     let taken : Takes bytes (b.0.0 ∷ []) b.0.1 = subst (λ (l : List ℕ). Takes bytes l b.0.1) (spelled_one b.0.0 small) t.0 in
@@ -110,7 +111,7 @@ byte_again low under high after whole b rest small above below =
 pub tag_takes : (whole : ℕ) (bytes : List ℕ) (x : ℕ × List ℕ) → AreBytes bytes → decode_tag whole bytes ≡ Ok x → Takes bytes (x.0 ∷ []) x.1 × (x.0 ≡ 32)
 unfolding decode_tag
 tag_takes whole bytes x fits e =
-    let g = guard_ok (eqb (length bytes) 0) (wrong 0 32 0) (decode_byte 32 32 32 5 whole bytes) x e in
+    let g = guard_ok (eqb (length bytes) 0) (unwanted 0 32 0) (decode_byte 32 32 32 5 whole bytes) x e in
     let t = byte_takes 32 32 32 5 whole bytes x fits g.1 in
     (t.0, omega (arith, t.1, t.2))
 

@@ -4,7 +4,8 @@ use Rattle.std.proofs.lemmas.List.{append-nil}
 use Rattle.ctr_rec.specs.declared.decoding.BadRecord.{BadRecord}
 use Rattle.ctr_rec.specs.declared.decoding.RecordError.{RecordError}
 use Rattle.ctr_rec.specs.declared.decoding.RecordError.TheVariants as errors
-use Rattle.ctr_rec.specs.Decode.{◌>>=◌, IsFault, many, with_earlier}
+use Rattle.ctr_bytes.specs.Following.{◌>>=◌}
+use Rattle.ctr_rec.specs.Decode.{IsFault, many, with_earlier}
 
 regroup : {A : Type 0} (front : List A) (n : A) (read : Result (List A × List ℕ) BadRecord) → with_earlier front (read >>= λ x. Ok (n ∷ x.0, x.1)) ≡ with_earlier (front ++ n ∷ []) read
 regroup front n (Ok x) = ap (λ ns. Ok (ns, x.1)) (sym (append_assoc front (n ∷ []) x.0))

@@ -8,6 +8,7 @@ use Rattle.ctr_types.specs.declared.value.Kind.{Kind}
 use Rattle.ctr_types.specs.declared.value.Kind.TheVariants.{Int, Chars}
 use Rattle.ctr_types.specs.declared.value.Column.{Column}
 use Rattle.ctr_types.specs.declared.value.Schema.{Schema}
+use Rattle.ctr_bytes.specs.Following.{◌>>=◌}
 use Rattle.ctr_bytes.specs.Fields.{field}
 use Rattle.ctr_rec.specs.declared.item.Item.{Item}
 use Rattle.ctr_rec.specs.declared.item.Item.TheVariants.{Put, Remove, Create, Drop}
@@ -17,13 +18,6 @@ use Rattle.ctr_rec.specs.declared.decoding.RecordError.{RecordError}
 use Rattle.ctr_rec.specs.declared.decoding.RecordError.TheVariants as errors
 use Rattle.ctr_rec.specs.Items.{AreItems}
 use Rattle.ctr_rec.specs.Encode.{IsSpelled}
-
-infixl 10 ◌>>=◌
--- what follows from the first; a fault ends the reading
-abbrev pub ◌>>=◌ : {A B : Type 0} → Result A BadRecord → (A → Result B BadRecord)
-    → Result B BadRecord
-(Ok x) >>= f = f x
-(Err e) >>= f = Err e
 
 -- the fault that reading gives, unless memory ran out
 abbrev pub IsFault : {Y : Type 0} → RecordError → Result Y BadRecord → Type 0
@@ -42,8 +36,8 @@ short n after whole bytes =
     record { at = 0; want = whole + (n + after - length bytes); got = whole }
 
 -- a number at a place isn't the one that is wanted
-abbrev pub wrong : ℕ → ℕ → ℕ → BadRecord
-wrong at want got = record { at = at; want = want; got = got }
+abbrev pub unwanted : ℕ → ℕ → ℕ → BadRecord
+unwanted at want got = record { at = at; want = want; got = got }
 
 -- so many bytes; each reader is told how many bytes must follow its value at least
 abbrev pub decode_bytes : ℕ → ℕ → ℕ → List ℕ → Result (List ℕ × List ℕ) BadRecord
@@ -61,13 +55,13 @@ decode_number n after whole bytes = do
 unfoldable pub decode_byte : ℕ → ℕ → ℕ → ℕ → ℕ → List ℕ → Result (ℕ × List ℕ) BadRecord
 decode_byte low under high after whole bytes = do
   b ← decode_number 1 after whole bytes
-  if nat_lt b.0 low then Err (wrong (whole - length bytes) under b.0) else
-      if nat_lt high b.0 then Err (wrong (whole - length bytes) high b.0) else Ok (b.0, b.1)
+  if nat_lt b.0 low then Err (unwanted (whole - length bytes) under b.0) else
+      if nat_lt high b.0 then Err (unwanted (whole - length bytes) high b.0) else Ok (b.0, b.1)
 
 -- the tag; where nothing is, it is 0
 unfoldable pub decode_tag : ℕ → List ℕ → Result (ℕ × List ℕ) BadRecord
 decode_tag whole bytes =
-    if length bytes == 0 then Err (wrong 0 COMMIT_TAG 0) else
+    if length bytes == 0 then Err (unwanted 0 COMMIT_TAG 0) else
     decode_byte COMMIT_TAG COMMIT_TAG COMMIT_TAG 5 whole bytes
 
 -- a name, of at least 1 byte
@@ -178,7 +172,7 @@ decode_all whole bytes = do
   count ← decode_number 4 1 whole tag.1
   items ← many (decode_next_item whole) count.0 count.1
   flag ← decode_byte NO_OVERLAY NO_OVERLAY NO_OVERLAY 0 whole items.1
-  if length flag.1 == 0 then Ok items.0 else Err (wrong 0 (whole - length flag.1) whole)
+  if length flag.1 == 0 then Ok items.0 else Err (unwanted 0 (whole - length flag.1) whole)
 
 -- the bytes are no record, and what is wanted isn't what is there; or memory was refused
 abbrev pub IsNoRecord : List ℕ → RecordError → Type 0

@@ -47,8 +47,8 @@ abbrev pub item_bytes : Item → List ℕ
 item_bytes i = change_tag i ∷ (name_bytes (item_table i) ++ body_bytes i)
 
 -- the tag, the count of the items, the items, and the flag: no overlay
-abbrev pub record_bytes : List Item → List ℕ
-record_bytes is =
+abbrev pub commit_bytes : List Item → List ℕ
+commit_bytes is =
     COMMIT_TAG ∷ (spelled 4 (length is) ++ (flat_map item_bytes is ++ (NO_OVERLAY ∷ [])))
 
 -- what stands in a buffer while a record is written: these items, and no count yet

@@ -4,7 +4,7 @@ ghost use Rattle.ctr_rec.specs.declared.decoding.RecordError.TheVariants.{Bad};
 ghost use Rattle.ctr_rec.specs.declared.item.Item.{Item};
 ghost use Rattle.ctr_rec.specs.Items.{AreItems};
 ghost use Rattle.ctr_rec.specs.Encode.{IsSpelled};
-ghost use Rattle.ctr_rec.specs.Decode.{Decodes, short, wrong, decode_bytes, decode_number, decode_byte, decode_tag, decode_name, kind_numbered, decode_column, many, with_earlier, decode_text_column, decode_schema, decode_key, decode_payload, decode_put, decode_remove, decode_create, decode_body, least_body, decode_item, decode_next_item, decode_all, IsNoRecord, IsLeast};
+ghost use Rattle.ctr_rec.specs.Decode.{Decodes, short, unwanted, decode_bytes, decode_number, decode_byte, decode_tag, decode_name, kind_numbered, decode_column, many, with_earlier, decode_text_column, decode_schema, decode_key, decode_payload, decode_put, decode_remove, decode_create, decode_body, least_body, decode_item, decode_next_item, decode_all, IsNoRecord, IsLeast};
 ghost use Rattle.ctr_types.specs.Names.{IsName};
 
 use crate::Item;
@@ -50,7 +50,7 @@ impl<T: Drop> From<AllocFailed<T>> for RecordError {
 
 // Before the rest of a record of so many bytes a number isn't the one that is wanted.
 fn bad(whole: u64, rest: &[u8], want: u8, got: u8) -> RecordError
-    ensures { result ≡ Bad (wrong (whole - length rest.now) want got) }
+    ensures { result ≡ Bad (unwanted (whole - length rest.now) want got) }
 {
     RecordError::Bad(BadRecord {
         at: whole.saturating_sub(rest.len() as u64),

@@ -2,7 +2,7 @@
 ghost use Rattle.std.specs.Prelude.{◌≡◌, ◌≤◌, [], ◌∷◌, ◌++◌, ◌+◌, ◌*◌, ◌<◌, ◌^◌, length, vec_len, vec_capacity, List};
 ghost use Rattle.ctr_rec.specs.declared.item.Item.{Item};
 ghost use Rattle.ctr_rec.specs.Items.{Fits};
-ghost use Rattle.ctr_rec.specs.Encode.{name_bytes, zeros, kind_number, column_bytes, schema_bytes, key_bytes, payload_bytes, item_bytes, record_bytes, begun_bytes, IsSpelled};
+ghost use Rattle.ctr_rec.specs.Encode.{name_bytes, zeros, kind_number, column_bytes, schema_bytes, key_bytes, payload_bytes, item_bytes, commit_bytes, begun_bytes, IsSpelled};
 ghost use Rattle.ctr_bytes.specs.Fields.{spelled, with_field};
 ghost use Rattle.std.specs.List.{flat_map};
 
@@ -13,7 +13,7 @@ use ctr_types::{Column, Kind, Name, Schema, Text};
 
 /// What is written for items spells them.
 pub fn written()
-    ensures { (is : List Item) → IsSpelled is (record_bytes is) }
+    ensures { (is : List Item) → IsSpelled is (commit_bytes is) }
 {}
 
 /// The length of an item's spelling.
@@ -146,7 +146,7 @@ pub fn end(into: &mut Vec<u8>, count: u32)
     requires room { vec_len into.old < vec_capacity into.old }
     ensures items { into.new.items ≡ with_field 4 1 count into.old.items ++ 0 ∷ [] }
     // Of what was begun it is the spelling of the items that were put.
-    ensures ended { (is : List Item) → into.old.items ≡ begun_bytes is → count ≡ length is → into.new.items ≡ record_bytes is }
+    ensures ended { (is : List Item) → into.old.items ≡ begun_bytes is → count ≡ length is → into.new.items ≡ commit_bytes is }
     ensures long { vec_len into.new ≡ vec_len into.old + 1 }
     ensures capacity { vec_capacity into.old ≤ vec_capacity into.new }
 {
@@ -217,5 +217,5 @@ pub fn push_item(into: &mut Vec<u8>, change: &Item)
 
 /// What was begun, with the count of its items set and the flag after it, is their spelling.
 pub fn gathered()
-    ensures { (is : List Item) → with_field 4 1 (length is) (begun_bytes is) ++ 0 ∷ [] ≡ record_bytes is }
+    ensures { (is : List Item) → with_field 4 1 (length is) (begun_bytes is) ++ 0 ∷ [] ≡ commit_bytes is }
 {}

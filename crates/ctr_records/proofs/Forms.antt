@@ -12,10 +12,11 @@ use Rattle.ctr_records.specs.declared.table.Tag.{Tag}
 use Rattle.ctr_records.specs.declared.table.Tag.TheVariants as tag
 use Rattle.ctr_records.specs.declared.record.Overlay.{Overlay}
 use Rattle.ctr_records.specs.declared.record.Parts.{Parts}
-use Rattle.ctr_records.specs.Table.{width, most, layout, flag_at}
+use Rattle.ctr_records.specs.Table.{bytes_of_field, most, layout, flag_at}
 use Rattle.ctr_records.specs.Parts.{flag_of, OverlayFits, PartsFit}
 use Rattle.ctr_records.specs.Spelling.{field_bytes, place_bytes, with_overlay, parts_bytes}
-use Rattle.ctr_records.specs.Damage.{◌>>=◌, wrong, expect, flag_check, inside_check, overlay_check, length_wanted, overlay_in, at_most, bound_check, checks}
+use Rattle.ctr_bytes.specs.Following.{◌>>=◌}
+use Rattle.ctr_records.specs.Damage.{wrong, expect, flag_check, inside_check, overlay_check, length_wanted, overlay_in, at_most, bound_check, checks}
 use Rattle.ctr_records.proofs.Laws.{most-width, Begins, begins_whole, begins_less, field_last, length-fields, length-place, length-overlay}
 use Rattle.ctr_records.proofs.Reading.{parts_at, in_none, in_some}
 
@@ -81,24 +82,24 @@ begins_flag front flag (Some o) =
 -- the fields before the overlay
 record Stand (l : Layout) (a b : ℕ) (bytes : List ℕ) : Type 0 where
   pub number : field 1 0 bytes ≡ l.number
-  pub first : field (width l.first) 1 bytes ≡ a
-  pub second : field (width l.second) (1 + width l.first) bytes ≡ b
+  pub first : field (bytes_of_field l.first) 1 bytes ≡ a
+  pub second : field (bytes_of_field l.second) (1 + bytes_of_field l.first) bytes ≡ b
   pub flag : field 1 (flag_at l) bytes ≡ l.flag
 
 stand : (l : Layout) (a b : ℕ) (o : Option Overlay) → l.number < 256 → l.flag < 256 → a ≤ most l.first → b ≤ most l.second → Stand l a b (with_overlay (field_bytes l a b) l.flag o)
 stand l a b o number flag first second =
     let whole = with_overlay (field_bytes l a b) l.flag o in
     let x = spelled 1 l.number in
-    let y = x ++ spelled (width l.first) a in
+    let y = x ++ spelled (bytes_of_field l.first) a in
     let z = field_bytes l a b in
     let bf = begins_flag z l.flag o in
     let bz = begins_less z (spelled 1 l.flag) whole bf in
-    let by = begins_less y (spelled (width l.second) b) whole bz in
-    let bx = begins_less x (spelled (width l.first) a) whole by in
+    let by = begins_less y (spelled (bytes_of_field l.second) b) whole bz in
+    let bx = begins_less x (spelled (bytes_of_field l.first) a) whole by in
     record {
       number = field_last 1 l.number 0 [] whole refl (omega (arith, number)) bx;
-      first = field_last (width l.first) a 1 x whole (sym (length-spelled 1 l.number)) (omega (arith, first, most-width l.first)) by;
-      second = field_last (width l.second) b (1 + width l.first) y whole (omega (arith, length-append x (spelled (width l.first) a), length-spelled 1 l.number, length-spelled (width l.first) a)) (omega (arith, second, most-width l.second)) bz;
+      first = field_last (bytes_of_field l.first) a 1 x whole (sym (length-spelled 1 l.number)) (omega (arith, first, most-width l.first)) by;
+      second = field_last (bytes_of_field l.second) b (1 + bytes_of_field l.first) y whole (omega (arith, length-append x (spelled (bytes_of_field l.first) a), length-spelled 1 l.number, length-spelled (bytes_of_field l.first) a)) (omega (arith, second, most-width l.second)) bz;
       flag = field_last 1 l.flag (flag_at l) z whole (sym (length-fields l a b)) (omega (arith, flag)) bf;
     }
 
@@ -147,9 +148,9 @@ flag_passes : (l : Layout) (bytes : List ℕ) → field 1 (flag_at l) bytes ≡ 
 unfolding flag_check
 flag_passes l bytes e = either_ok (ltb (flag_at l) (length bytes)) (expect (flag_at l) l.flag (field 1 (flag_at l) bytes)) (expect_same (flag_at l) l.flag (field 1 (flag_at l) bytes) (sym e))
 
-bound_passes : (f : Field) (at : ℕ) (bytes : List ℕ) → field (width f) at bytes ≤ most f → bound_check f at bytes ≡ Ok tt
+bound_passes : (f : Field) (at : ℕ) (bytes : List ℕ) → field (bytes_of_field f) at bytes ≤ most f → bound_check f at bytes ≡ Ok tt
 unfolding bound_check at_most
-bound_passes f at bytes le = ap (λ (b : Bool). cond b (Err (wrong at (most f) (field (width f) at bytes))) (Ok tt)) (le-ltb _ _ le)
+bound_passes f at bytes le = ap (λ (b : Bool). cond b (Err (wrong at (most f) (field (bytes_of_field f) at bytes))) (Ok tt)) (le-ltb _ _ le)
 
 inside_passes : (at offset len : ℕ) → offset + len ≤ 4096 → 1 ≤ len → inside_check at offset len ≡ Ok tt
 unfolding inside_check
@@ -158,7 +159,7 @@ inside_passes at offset len le some =
     ∙ ap (λ (b : Bool). cond b (Err (wrong at 1 0)) (Ok tt)) (ne_eqb len 0 (λ e. omega (arith, e, some)))
 
 all_pass : (l : Layout) (bytes : List ℕ) → flag_check l bytes ≡ Ok tt → overlay_check l bytes ≡ Ok tt → length_wanted l bytes ≡ length bytes
-    → bound_check l.first 1 bytes ≡ Ok tt → bound_check l.second (1 + width l.first) bytes ≡ Ok tt → checks l bytes ≡ Ok tt
+    → bound_check l.first 1 bytes ≡ Ok tt → bound_check l.second (1 + bytes_of_field l.first) bytes ≡ Ok tt → checks l bytes ≡ Ok tt
 unfolding checks
 all_pass l bytes flag overlay whole first second =
     rw (flag, overlay, expect_same 0 (length_wanted l bytes) (length bytes) whole, first, second) refl
@@ -233,8 +234,8 @@ reads p fits =
     let o = over l p.first p.second p.overlay fits.overlay in
     record {
       number = s.number;
-      passes = all_pass l bytes (flag_passes l bytes s.flag) o.passes o.whole (bound_passes l.first 1 bytes (omega (arith, s.first, fits.first))) (bound_passes l.second (1 + width l.first) bytes (omega (arith, s.second, fits.second)));
-      read = same p.tag (field (width l.first) 1 bytes) p.first (field (width l.second) (1 + width l.first) bytes) p.second (overlay_in l bytes) p.overlay s.first s.second o.read;
+      passes = all_pass l bytes (flag_passes l bytes s.flag) o.passes o.whole (bound_passes l.first 1 bytes (omega (arith, s.first, fits.first))) (bound_passes l.second (1 + bytes_of_field l.first) bytes (omega (arith, s.second, fits.second)));
+      read = same p.tag (field (bytes_of_field l.first) 1 bytes) p.first (field (bytes_of_field l.second) (1 + bytes_of_field l.first) bytes) p.second (overlay_in l bytes) p.overlay s.first s.second o.read;
     }
   where
     made : Tag → ℕ → ℕ → Option Overlay → Parts
@@ -308,15 +309,15 @@ fair_overlay l bytes =
 
 fair_bound : (f : Field) (at : ℕ) (bytes : List ℕ) → Fair (bound_check f at bytes)
 unfolding bound_check at_most
-fair_bound f at bytes = fair_if (ltb (most f) (field (width f) at bytes)) (wrong at (most f) (field (width f) at bytes)) (Ok tt) (λ t same. omega (arith, ltb-true _ _ t, same)) 0
+fair_bound f at bytes = fair_if (ltb (most f) (field (bytes_of_field f) at bytes)) (wrong at (most f) (field (bytes_of_field f) at bytes)) (Ok tt) (λ t same. omega (arith, ltb-true _ _ t, same)) 0
 
 fair_checks : (l : Layout) (bytes : List ℕ) → Fair (checks l bytes)
 unfolding checks
 fair_checks l bytes =
-    fair_bind (flag_check l bytes) (λ _. overlay_check l bytes >>= λ _. expect 0 (length_wanted l bytes) (length bytes) >>= λ _. bound_check l.first 1 bytes >>= λ _. bound_check l.second (1 + width l.first) bytes) (fair_flag l bytes) (λ _.
-    fair_bind (overlay_check l bytes) (λ _. expect 0 (length_wanted l bytes) (length bytes) >>= λ _. bound_check l.first 1 bytes >>= λ _. bound_check l.second (1 + width l.first) bytes) (fair_overlay l bytes) (λ _.
-    fair_bind (expect 0 (length_wanted l bytes) (length bytes)) (λ _. bound_check l.first 1 bytes >>= λ _. bound_check l.second (1 + width l.first) bytes) (fair_expect 0 (length_wanted l bytes) (length bytes)) (λ _.
-    fair_bind (bound_check l.first 1 bytes) (λ _. bound_check l.second (1 + width l.first) bytes) (fair_bound l.first 1 bytes) (λ _. fair_bound l.second (1 + width l.first) bytes))))
+    fair_bind (flag_check l bytes) (λ _. overlay_check l bytes >>= λ _. expect 0 (length_wanted l bytes) (length bytes) >>= λ _. bound_check l.first 1 bytes >>= λ _. bound_check l.second (1 + bytes_of_field l.first) bytes) (fair_flag l bytes) (λ _.
+    fair_bind (overlay_check l bytes) (λ _. expect 0 (length_wanted l bytes) (length bytes) >>= λ _. bound_check l.first 1 bytes >>= λ _. bound_check l.second (1 + bytes_of_field l.first) bytes) (fair_overlay l bytes) (λ _.
+    fair_bind (expect 0 (length_wanted l bytes) (length bytes)) (λ _. bound_check l.first 1 bytes >>= λ _. bound_check l.second (1 + bytes_of_field l.first) bytes) (fair_expect 0 (length_wanted l bytes) (length bytes)) (λ _.
+    fair_bind (bound_check l.first 1 bytes) (λ _. bound_check l.second (1 + bytes_of_field l.first) bytes) (fair_bound l.first 1 bytes) (λ _. fair_bound l.second (1 + bytes_of_field l.first) bytes))))
 
 pub differs : (l : Layout) (bytes : List ℕ) (e : BadRecord) → checks l bytes ≡ Err e → e.want ≢ e.got
 differs l bytes e is = subst Fair is (fair_checks l bytes)

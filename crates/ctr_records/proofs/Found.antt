@@ -7,9 +7,10 @@ use Rattle.std.proofs.lemmas.List.{append-nil, drop_at, length-take-le}
 use Rattle.ctr_bytes.specs.Fields.{spelled, field}
 use Rattle.ctr_bytes.proofs.FieldLaws.{AreBytes, field_fits, side}
 use Rattle.ctr_records.specs.declared.decoding.BadRecord.{BadRecord}
-use Rattle.ctr_records.specs.Damage.{◌>>=◌, wrong, expect, at_most}
+use Rattle.ctr_bytes.specs.Following.{◌>>=◌}
+use Rattle.ctr_records.specs.Damage.{wrong, expect, at_most}
 use Rattle.ctr_records.specs.Checkpoint.{count_at, opens_in, aborted_in, items_at, items_in, end_at, xid_at, each, end_check, kind_check, kinds_in, item_most, item_check, next_check, heads_check, is_among, is_new, xid_check, list_checks, checkpoint_checks}
-use Rattle.ctr_records.specs.Members.{pair_bytes, item_kind, item_xid, item_number, item_bytes, lists_bytes, among, AreNew, HeadsFit, ItemFits, HasMembers, pairs_from, slog_item, items_from}
+use Rattle.ctr_records.specs.Members.{pair_bytes, item_kind, item_xid, item_number, slog_item_bytes, lists_bytes, among, AreNew, HeadsFit, ItemFits, HasMembers, pairs_from, slog_item, items_from}
 use Rattle.ctr_records.proofs.Laws.{grow}
 use Rattle.ctr_records.proofs.Reading.{bind_ok, guard_ok, expect_ok}
 use Rattle.ctr_records.proofs.MemberLaws.{Seen, seen_more, xid_before, xid_behind}
@@ -153,7 +154,7 @@ item_says base i bytes e =
 
 -- the items are spelled so, and fit
 items_say : (base : ℕ) (bytes : List ℕ) → AreBytes bytes → (n i at : ℕ) → at ≡ base + 13 * i → at + 13 * n ≤ length bytes → each (kind_check base bytes) i n ≡ Ok tt → each (item_check base bytes) i n ≡ Ok tt
-    → (take at bytes ++ flat_map item_bytes (items_from at n bytes) ≡ take (at + 13 * n) bytes) × AllByRecursion ItemFits (items_from at n bytes)
+    → (take at bytes ++ flat_map slog_item_bytes (items_from at n bytes) ≡ take (at + 13 * n) bytes) × AllByRecursion ItemFits (items_from at n bytes)
 unfolding items_from
 items_say base bytes fits zero i at here le ks is =
     (append-nil (take at bytes) ∙ ap (λ (k : ℕ). take k bytes) (let e : at ≡ at + 13 * 0 = omega arith in e), tt)
@@ -169,8 +170,8 @@ items_say base bytes fits (suc n) i at here le ks is =
     let item : (k ≡ 2 → x ≡ 0) × (m ≤ item_most k) = subst (λ (a : ℕ). (field 1 a bytes ≡ 2 → field 8 (a + 1) bytes ≡ 0) × (field 4 (a + 9) bytes ≤ item_most (field 1 a bytes))) (sym here) i0 in
     let one = item_is k x m kind.0 kind.1 item.0 in
     let rest = items_say base bytes fits n (i + 1) (at + 13) (omega (arith, here)) (omega (arith, le)) sk.2 si.2 in
-    let more = flat_map item_bytes (items_from (at + 13) n bytes) in
-    let head : item_bytes (slog_item k x m) ≡ spelled 1 k ++ spelled 8 x ++ spelled 4 m =
+    let more = flat_map slog_item_bytes (items_from (at + 13) n bytes) in
+    let head : slog_item_bytes (slog_item k x m) ≡ spelled 1 k ++ spelled 8 x ++ spelled 4 m =
     ap (λ (a : ℕ). spelled 1 a ++ spelled 8 (item_xid (slog_item k x m)) ++ spelled 4 (item_number (slog_item k x m))) one.kind
     ∙ ap (λ (a : ℕ). spelled 1 k ++ spelled 8 a ++ spelled 4 (item_number (slog_item k x m))) one.xid
     ∙ ap (λ (a : ℕ). spelled 1 k ++ spelled 8 x ++ spelled 4 a) one.number in
@@ -292,7 +293,7 @@ has_members bytes lists fits checked is =
     let c2 = spelled 8 (length aborted) in
     let m2 = flat_map pair_bytes aborted in
     let c3 = spelled 8 (length items) in
-    let m3 = flat_map item_bytes items in
+    let m3 = flat_map slog_item_bytes items in
     let h = take 9 bytes in
     let p1 : h ++ c1 ≡ take 17 bytes = ap (λ (k : ℕ). h ++ spelled 8 k) (na ∙ s.opens) ∙ grow 8 9 17 bytes (omega arith) (omega (arith, s.whole)) fits in
     let p2 : h ++ c1 ++ m1 ≡ take (17 + 16 * a) bytes = ap (λ (l : List ℕ). l ++ m1) p1 ∙ pairs_back 17 a bytes (omega (arith, s.whole)) fits in

@@ -8,11 +8,11 @@ use Rattle.ctr_records.specs.declared.table.Field.TheVariants.{Nothing, Entry, P
 use Rattle.ctr_records.specs.declared.table.Layout.{Layout}
 use Rattle.ctr_records.specs.declared.record.Overlay.{Overlay}
 use Rattle.ctr_records.specs.declared.record.Parts.{Parts}
-use Rattle.ctr_records.specs.Table.{width, most, layout, flag_at}
+use Rattle.ctr_records.specs.Table.{bytes_of_field, most, layout, flag_at}
 use Rattle.ctr_records.specs.Spelling.{field_bytes, place_bytes, with_overlay, overlay_len, parts_bytes}
 
 -- what a field may be has room in its bytes
-pub most-width : (f : Field) → most f < 256 ^ width f
+pub most-width : (f : Field) → most f < 256 ^ bytes_of_field f
 most-width Nothing = omega arith
 most-width Entry = omega arith
 most-width Page = omega arith
@@ -76,7 +76,7 @@ field_last n x at front bytes is fits b = ap (field n at) b.1 ∙ field_at n x a
 
 pub length-fields : (l : Layout) (a b : ℕ) → length (field_bytes l a b) ≡ flag_at l
 length-fields l a b =
-    omega (arith, length-append (spelled 1 l.number ++ spelled (width l.first) a) (spelled (width l.second) b), length-append (spelled 1 l.number) (spelled (width l.first) a), length-spelled 1 l.number, length-spelled (width l.first) a, length-spelled (width l.second) b)
+    omega (arith, length-append (spelled 1 l.number ++ spelled (bytes_of_field l.first) a) (spelled (bytes_of_field l.second) b), length-append (spelled 1 l.number) (spelled (bytes_of_field l.first) a), length-spelled 1 l.number, length-spelled (bytes_of_field l.first) a, length-spelled (bytes_of_field l.second) b)
 
 pub length-place : (front : List ℕ) (flag : ℕ) (o : Overlay) → length (place_bytes front flag o) ≡ length front + 9
 length-place front flag o =

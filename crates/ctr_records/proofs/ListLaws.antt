@@ -7,7 +7,8 @@ use Rattle.ctr_bytes.specs.Fields.{spelled, field}
 use Rattle.ctr_bytes.proofs.FieldLaws.{AreBytes, length-spelled, side}
 use Rattle.ctr_records.specs.declared.decoding.BadRecord.{BadRecord}
 use Rattle.ctr_records.specs.Spelling.{checkpoint_bytes}
-use Rattle.ctr_records.specs.Damage.{◌>>=◌, wrong, expect, at_most}
+use Rattle.ctr_bytes.specs.Following.{◌>>=◌}
+use Rattle.ctr_records.specs.Damage.{wrong, expect, at_most}
 use Rattle.ctr_records.specs.Checkpoint.{opens_in, aborted_in, items_at, items_in, end_at, xid_at, each, end_check, kind_check, kinds_in, item_most, item_check, next_check, heads_check, is_among, is_new, xid_check, list_checks, checkpoint_checks}
 use Rattle.ctr_records.proofs.Laws.{begins_whole, begins_less, field_last, grow}
 use Rattle.ctr_records.proofs.Reading.{bind_ok, expect_ok}

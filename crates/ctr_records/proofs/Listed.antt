@@ -5,7 +5,7 @@ use Rattle.ctr_bytes.specs.Fields.{spelled, field}
 use Rattle.ctr_bytes.proofs.FieldLaws.{length-spelled}
 use Rattle.ctr_records.specs.declared.record.SlogItem.{SlogItem}
 use Rattle.ctr_records.specs.declared.record.SlogItem.TheVariants.{AllocOf, FreeOf, CreateOf, DropOf}
-use Rattle.ctr_records.specs.Members.{pair_bytes, item_kind, item_xid, item_number, item_bytes, lists_bytes, AreNew, HeadsFit, ItemFits, MembersFit, pairs_from, slog_item, items_from, behind_pairs, opens_listed, aborted_listed, slog_at, items_listed, XidFits}
+use Rattle.ctr_records.specs.Members.{pair_bytes, item_kind, item_xid, item_number, slog_item_bytes, lists_bytes, AreNew, HeadsFit, ItemFits, MembersFit, pairs_from, slog_item, items_from, behind_pairs, opens_listed, aborted_listed, slog_at, items_listed, XidFits}
 use Rattle.ctr_records.proofs.Laws.{Begins, begins_whole, begins_less, field_last}
 use Rattle.ctr_records.proofs.MemberLaws.{pair_read, heads_read, kind_read, number_read, length-pairs, length-items}
 
@@ -47,11 +47,11 @@ last_fit next seen (p ∷ ps) qs le new heads = last_fit next (p.0 ∷ seen) ps 
 
 -- ---- items
 
-length-item : (front : List ℕ) (i : SlogItem) → length (front ++ item_bytes i) ≡ length front + 13
+length-item : (front : List ℕ) (i : SlogItem) → length (front ++ slog_item_bytes i) ≡ length front + 13
 length-item front i =
-    omega (arith, length-append front (item_bytes i), length-append (spelled 1 (item_kind i) ++ spelled 8 (item_xid i)) (spelled 4 (item_number i)), length-append (spelled 1 (item_kind i)) (spelled 8 (item_xid i)), length-spelled 1 (item_kind i), length-spelled 8 (item_xid i), length-spelled 4 (item_number i))
+    omega (arith, length-append front (slog_item_bytes i), length-append (spelled 1 (item_kind i) ++ spelled 8 (item_xid i)) (spelled 4 (item_number i)), length-append (spelled 1 (item_kind i)) (spelled 8 (item_xid i)), length-spelled 1 (item_kind i), length-spelled 8 (item_xid i), length-spelled 4 (item_number i))
 
-xid_read : (i : SlogItem) (at : ℕ) (front whole : List ℕ) → XidFits i → length front ≡ at → Begins (front ++ item_bytes i) whole → field 8 (at + 1) whole ≡ item_xid i
+xid_read : (i : SlogItem) (at : ℕ) (front whole : List ℕ) → XidFits i → length front ≡ at → Begins (front ++ slog_item_bytes i) whole → field 8 (at + 1) whole ≡ item_xid i
 xid_read i at front whole fits is b =
     let a = spelled 1 (item_kind i) in
     let b8 = spelled 8 (item_xid i) in
@@ -76,29 +76,29 @@ again_fits (FreeOf p) x fits = fits
 again_fits (CreateOf y e) x fits = fits
 again_fits (DropOf y e) x fits = fits
 
-items_fit : (is : List SlogItem) (at : ℕ) (front whole : List ℕ) → AllByRecursion ItemFits is → length front ≡ at → Begins (front ++ flat_map item_bytes is) whole → AllByRecursion ItemFits (items_from at (length is) whole)
+items_fit : (is : List SlogItem) (at : ℕ) (front whole : List ℕ) → AllByRecursion ItemFits is → length front ≡ at → Begins (front ++ flat_map slog_item_bytes is) whole → AllByRecursion ItemFits (items_from at (length is) whole)
 unfolding items_from
 items_fit [] at front whole fits is b = tt
 items_fit (i ∷ is) at front whole fits long b =
-    let on = next_one front (item_bytes i) (flat_map item_bytes is) whole b in
-    let here = begins_less (front ++ item_bytes i) (flat_map item_bytes is) whole on in
+    let on = next_one front (slog_item_bytes i) (flat_map slog_item_bytes is) whole b in
+    let here = begins_less (front ++ slog_item_bytes i) (flat_map slog_item_bytes is) whole on in
     let k = kind_read i at front whole long here in
     let n = number_read i at front whole fits.0 long here in
     let x = field 8 (at + 1) whole in (
       subst (λ (a : ℕ). ItemFits (slog_item a x (field 4 (at + 9) whole))) (sym k) (subst (λ (a : ℕ). ItemFits (slog_item (item_kind i) x a)) (sym n) (again_fits i x fits.0)),
-      items_fit is (at + 13) (front ++ item_bytes i) whole fits.1 (omega (arith, long, length-item front i)) on,
+      items_fit is (at + 13) (front ++ slog_item_bytes i) whole fits.1 (omega (arith, long, length-item front i)) on,
     )
 
-items_read : (is : List SlogItem) (at : ℕ) (front whole : List ℕ) → AllByRecursion ItemFits is → AllByRecursion XidFits is → length front ≡ at → Begins (front ++ flat_map item_bytes is) whole → items_from at (length is) whole ≡ is
+items_read : (is : List SlogItem) (at : ℕ) (front whole : List ℕ) → AllByRecursion ItemFits is → AllByRecursion XidFits is → length front ≡ at → Begins (front ++ flat_map slog_item_bytes is) whole → items_from at (length is) whole ≡ is
 unfolding items_from
 items_read [] at front whole fits xids long b = refl
 items_read (i ∷ is) at front whole fits xids long b =
-    let on = next_one front (item_bytes i) (flat_map item_bytes is) whole b in
-    let here = begins_less (front ++ item_bytes i) (flat_map item_bytes is) whole on in
+    let on = next_one front (slog_item_bytes i) (flat_map slog_item_bytes is) whole b in
+    let here = begins_less (front ++ slog_item_bytes i) (flat_map slog_item_bytes is) whole on in
     let k = kind_read i at front whole long here in
     let x = xid_read i at front whole xids.0 long here in
     let n = number_read i at front whole fits.0 long here in
-    let rest = items_read is (at + 13) (front ++ item_bytes i) whole fits.1 xids.1 (omega (arith, long, length-item front i)) on in
+    let rest = items_read is (at + 13) (front ++ slog_item_bytes i) whole fits.1 xids.1 (omega (arith, long, length-item front i)) on in
     ap (λ (a : ℕ). slog_item a (field 8 (at + 1) whole) (field 4 (at + 9) whole) ∷ items_from (at + 13) (length is) whole) k
     ∙ ap (λ (a : ℕ). slog_item (item_kind i) a (field 4 (at + 9) whole) ∷ items_from (at + 13) (length is) whole) x
     ∙ ap (λ (a : ℕ). slog_item (item_kind i) (item_xid i) a ∷ items_from (at + 13) (length is) whole) n
@@ -129,7 +129,7 @@ listed_members next opens aborted items fit =
     let c2 = spelled 8 (length aborted) in
     let m2 = flat_map pair_bytes aborted in
     let c3 = spelled 8 (length items) in
-    let m3 = flat_map item_bytes items in
+    let m3 = flat_map slog_item_bytes items in
     let is : whole ≡ ((((c1 ++ m1) ++ c2) ++ m2) ++ c3) ++ m3 = ap (λ (l : List ℕ). l ++ (c3 ++ m3)) (sym (append_assoc (c1 ++ m1) c2 m2)) ∙ sym (append_assoc (((c1 ++ m1) ++ c2) ++ m2) c3 m3) in
     let b6 : Begins (((((c1 ++ m1) ++ c2) ++ m2) ++ c3) ++ m3) whole = subst (λ (l : List ℕ). Begins l whole) is (begins_whole whole) in
     let b5 = begins_less ((((c1 ++ m1) ++ c2) ++ m2) ++ c3) m3 whole b6 in

@@ -11,7 +11,7 @@ use Rattle.ctr_records.specs.declared.record.SlogItem.TheVariants.{AllocOf, Free
 use Rattle.ctr_records.specs.Spelling.{checkpoint_bytes}
 use Rattle.ctr_records.specs.Damage.{wrong, expect, at_most}
 use Rattle.ctr_records.specs.Checkpoint.{count_at, opens_in, aborted_in, items_at, items_in, end_at, xid_at, each, end_check, kind_check, kinds_in, item_most, item_check, next_check, heads_check, is_among, is_new, xid_check, list_checks, checkpoint_checks}
-use Rattle.ctr_records.specs.Members.{pair_bytes, item_kind, item_xid, item_number, item_bytes, lists_bytes, among, AreNew, HeadsFit, ItemFits, MembersFit}
+use Rattle.ctr_records.specs.Members.{pair_bytes, item_kind, item_xid, item_number, slog_item_bytes, lists_bytes, among, AreNew, HeadsFit, ItemFits, MembersFit}
 use Rattle.ctr_records.proofs.Laws.{Begins, begins_whole, begins_less, field_last}
 use Rattle.std.proofs.lemmas.List.{append-nil}
 use Rattle.ctr_records.proofs.ListLaws.{checkpoint_next}
@@ -23,7 +23,7 @@ use Rattle.ctr_records.proofs.Forms.{expect_same, either_ok}
 length-pair : (p : ℕ × ℕ) → length (pair_bytes p) ≡ 16
 length-pair p = omega (arith, length-append (spelled 8 p.0) (spelled 8 p.1), length-spelled 8 p.0, length-spelled 8 p.1)
 
-length-item : (i : SlogItem) → length (item_bytes i) ≡ 13
+length-item : (i : SlogItem) → length (slog_item_bytes i) ≡ 13
 length-item i =
     let a = spelled 1 (item_kind i) in
     let b = spelled 8 (item_xid i) in
@@ -34,9 +34,9 @@ pub length-pairs : (ps : List (ℕ × ℕ)) → length (flat_map pair_bytes ps) 
 length-pairs [] = refl
 length-pairs (p ∷ ps) = omega (arith, length-append (pair_bytes p) (flat_map pair_bytes ps), length-pair p, length-pairs ps)
 
-pub length-items : (is : List SlogItem) → length (flat_map item_bytes is) ≡ 13 * length is
+pub length-items : (is : List SlogItem) → length (flat_map slog_item_bytes is) ≡ 13 * length is
 length-items [] = refl
-length-items (i ∷ is) = omega (arith, length-append (item_bytes i) (flat_map item_bytes is), length-item i, length-items is)
+length-items (i ∷ is) = omega (arith, length-append (slog_item_bytes i) (flat_map slog_item_bytes is), length-item i, length-items is)
 
 -- where the members of a list stand
 begins_next : {A : Type 0} (one : A → List ℕ) (x : A) (xs : List A) (front whole : List ℕ) → Begins (front ++ flat_map one (x ∷ xs)) whole → Begins ((front ++ one x) ++ flat_map one xs) whole
@@ -72,7 +72,7 @@ kind_small (FreeOf p) = (omega arith, omega arith)
 kind_small (CreateOf x e) = (omega arith, omega arith)
 kind_small (DropOf x e) = (omega arith, omega arith)
 
-pub kind_read : (i : SlogItem) (at : ℕ) (front whole : List ℕ) → length front ≡ at → Begins (front ++ item_bytes i) whole → field 1 at whole ≡ item_kind i
+pub kind_read : (i : SlogItem) (at : ℕ) (front whole : List ℕ) → length front ≡ at → Begins (front ++ slog_item_bytes i) whole → field 1 at whole ≡ item_kind i
 kind_read i at front whole is b =
     let a = spelled 1 (item_kind i) in
     let b8 = spelled 8 (item_xid i) in
@@ -83,7 +83,7 @@ kind_read i at front whole is b =
     let k = kind_small i in
     field_last 1 (item_kind i) at front whole (sym is) (omega (arith, k.1)) (begins_less (front ++ a) b8 whole first)
 
-free_read : (p at : ℕ) (front whole : List ℕ) → length front ≡ at → Begins (front ++ item_bytes (FreeOf p)) whole → field 8 (at + 1) whole ≡ 0
+free_read : (p at : ℕ) (front whole : List ℕ) → length front ≡ at → Begins (front ++ slog_item_bytes (FreeOf p)) whole → field 8 (at + 1) whole ≡ 0
 free_read p at front whole is b =
     let a = spelled 1 2 in
     let b8 = spelled 8 0 in
@@ -100,7 +100,7 @@ number_small k = small (ltb 2 k)
     small true = omega arith
     small false = omega arith
 
-pub number_read : (i : SlogItem) (at : ℕ) (front whole : List ℕ) → ItemFits i → length front ≡ at → Begins (front ++ item_bytes i) whole → field 4 (at + 9) whole ≡ item_number i
+pub number_read : (i : SlogItem) (at : ℕ) (front whole : List ℕ) → ItemFits i → length front ≡ at → Begins (front ++ slog_item_bytes i) whole → field 4 (at + 9) whole ≡ item_number i
 number_read i at front whole fits is b =
     let a = spelled 1 (item_kind i) in
     let b8 = spelled 8 (item_xid i) in
@@ -108,7 +108,7 @@ number_read i at front whole fits is b =
     let two : Begins ((front ++ (a ++ b8)) ++ b4) whole = (b.0, b.1 ∙ ap (λ (l : List ℕ). l ++ b.0) (sym (append_assoc front (a ++ b8) b4))) in
     field_last 4 (item_number i) (at + 9) (front ++ (a ++ b8)) whole (omega (arith, is, length-append front (a ++ b8), length-append a b8, length-spelled 1 (item_kind i), length-spelled 8 (item_xid i))) (omega (arith, fits, number_small (item_kind i))) two
 
-kind_ok : (base i : ℕ) (whole : List ℕ) (x : SlogItem) (front : List ℕ) → length front ≡ base + 13 * i → Begins (front ++ item_bytes x) whole → kind_check base whole i ≡ Ok tt
+kind_ok : (base i : ℕ) (whole : List ℕ) (x : SlogItem) (front : List ℕ) → length front ≡ base + 13 * i → Begins (front ++ slog_item_bytes x) whole → kind_check base whole i ≡ Ok tt
 unfolding kind_check
 kind_ok base i whole x front is b =
     let at = base + 13 * i in
@@ -117,13 +117,13 @@ kind_ok base i whole x front is b =
     ap (λ (c : Bool). cond c (Err (wrong at 4 0)) (at_most at 4 (field 1 at whole))) (ne_eqb (field 1 at whole) 0 (λ e. omega (arith, e, read, k.0)))
     ∙ most_ok at 4 (field 1 at whole) (omega (arith, read, k.1))
 
-free_ok : (x : SlogItem) (at : ℕ) (front whole : List ℕ) → length front ≡ at → Begins (front ++ item_bytes x) whole → cond (eqb (item_kind x) 2) (expect (at + 1) 0 (field 8 (at + 1) whole)) (Ok tt) ≡ Ok tt
+free_ok : (x : SlogItem) (at : ℕ) (front whole : List ℕ) → length front ≡ at → Begins (front ++ slog_item_bytes x) whole → cond (eqb (item_kind x) 2) (expect (at + 1) 0 (field 8 (at + 1) whole)) (Ok tt) ≡ Ok tt
 free_ok (AllocOf x p) at front whole is b = refl
 free_ok (FreeOf p) at front whole is b = expect_same (at + 1) 0 (field 8 (at + 1) whole) (sym (free_read p at front whole is b))
 free_ok (CreateOf x e) at front whole is b = refl
 free_ok (DropOf x e) at front whole is b = refl
 
-item_ok : (base i : ℕ) (whole : List ℕ) (x : SlogItem) (front : List ℕ) → ItemFits x → length front ≡ base + 13 * i → Begins (front ++ item_bytes x) whole → item_check base whole i ≡ Ok tt
+item_ok : (base i : ℕ) (whole : List ℕ) (x : SlogItem) (front : List ℕ) → ItemFits x → length front ≡ base + 13 * i → Begins (front ++ slog_item_bytes x) whole → item_check base whole i ≡ Ok tt
 unfolding item_check
 item_ok base i whole x front fits is b =
     let at = base + 13 * i in
@@ -220,7 +220,7 @@ upto_aborted next opens aborted = upto_opens next opens ++ flat_map pair_bytes o
 upto_items : ℕ → List (ℕ × ℕ) → List (ℕ × ℕ) → List SlogItem → List ℕ
 upto_items next opens aborted items = upto_aborted next opens aborted ++ flat_map pair_bytes aborted ++ spelled 8 (length items)
 
-whole_is : (next : ℕ) (opens aborted : List (ℕ × ℕ)) (items : List SlogItem) → checkpoint_bytes next (lists_bytes opens aborted items) ≡ (upto_items next opens aborted items ++ flat_map item_bytes items) ++ spelled 1 0
+whole_is : (next : ℕ) (opens aborted : List (ℕ × ℕ)) (items : List SlogItem) → checkpoint_bytes next (lists_bytes opens aborted items) ≡ (upto_items next opens aborted items ++ flat_map slog_item_bytes items) ++ spelled 1 0
 unfolding upto_head upto_opens upto_aborted upto_items
 whole_is next opens aborted items =
     let h = spelled 1 1 ++ spelled 8 next in
@@ -229,7 +229,7 @@ whole_is next opens aborted items =
     let c2 = spelled 8 (length aborted) in
     let m2 = flat_map pair_bytes aborted in
     let c3 = spelled 8 (length items) in
-    let m3 = flat_map item_bytes items in
+    let m3 = flat_map slog_item_bytes items in
     ap (λ (l : List ℕ). l ++ spelled 1 0)
     (sym (append_assoc h ((c1 ++ m1) ++ (c2 ++ m2)) (c3 ++ m3))
     ∙ ap (λ (l : List ℕ). l ++ (c3 ++ m3)) (sym (append_assoc h (c1 ++ m1) (c2 ++ m2)))
@@ -250,8 +250,8 @@ record Stands (next : ℕ) (opens aborted : List (ℕ × ℕ)) (items : List Slo
   pub aborted_count : Begins (upto_aborted next opens aborted) whole
   pub aborted_all : Begins (upto_aborted next opens aborted ++ flat_map pair_bytes aborted) whole
   pub items_count : Begins (upto_items next opens aborted items) whole
-  pub items_all : Begins (upto_items next opens aborted items ++ flat_map item_bytes items) whole
-  pub flag : Begins ((upto_items next opens aborted items ++ flat_map item_bytes items) ++ spelled 1 0) whole
+  pub items_all : Begins (upto_items next opens aborted items ++ flat_map slog_item_bytes items) whole
+  pub flag : Begins ((upto_items next opens aborted items ++ flat_map slog_item_bytes items) ++ spelled 1 0) whole
 
 stands : (next : ℕ) (opens aborted : List (ℕ × ℕ)) (items : List SlogItem) → Stands next opens aborted items (checkpoint_bytes next (lists_bytes opens aborted items))
 unfolding upto_head upto_opens upto_aborted upto_items
@@ -263,7 +263,7 @@ stands next opens aborted items =
     let c2 = spelled 8 (length aborted) in
     let m2 = flat_map pair_bytes aborted in
     let c3 = spelled 8 (length items) in
-    let m3 = flat_map item_bytes items in
+    let m3 = flat_map slog_item_bytes items in
     let l0 : length h ≡ 9 = omega (arith, length-append (spelled 1 1) (spelled 8 next), length-spelled 1 1, length-spelled 8 next) in
     let l1 : length (h ++ c1) ≡ 17 = omega (arith, l0, length-append h c1, length-spelled 8 (length opens)) in
     let l2 : length (h ++ c1 ++ m1 ++ c2) ≡ 25 + 16 * length opens = omega (arith, l1, length-append (h ++ c1) m1, length-append (h ++ c1 ++ m1) c2, length-pairs opens, length-spelled 8 (length aborted)) in
@@ -304,8 +304,8 @@ counts next opens aborted items whole s fo fa fi =
 end_passes : (next : ℕ) (opens aborted : List (ℕ × ℕ)) (items : List SlogItem) (whole : List ℕ) → Stands next opens aborted items whole → Counts (length opens) (length aborted) (length items) whole → end_check whole ≡ Ok tt
 unfolding end_check
 end_passes next opens aborted items whole s n =
-    let before = upto_items next opens aborted items ++ flat_map item_bytes items in
-    let at : end_at whole ≡ length before = omega (arith, n.end_place, s.len_items, length-append (upto_items next opens aborted items) (flat_map item_bytes items), length-items items) in
+    let before = upto_items next opens aborted items ++ flat_map slog_item_bytes items in
+    let at : end_at whole ≡ length before = omega (arith, n.end_place, s.len_items, length-append (upto_items next opens aborted items) (flat_map slog_item_bytes items), length-items items) in
     let zero : field 1 (end_at whole) whole ≡ 0 = field_last 1 0 (end_at whole) before whole at (omega arith) s.flag in
     either_ok (ltb (end_at whole) (length whole)) (expect (end_at whole) 0 (field 1 (end_at whole) whole)) (expect_same (end_at whole) 0 (field 1 (end_at whole) whole) (sym zero))
 
@@ -317,7 +317,7 @@ kinds_pass next opens aborted items whole s n fit =
     let many : min (items_in whole) ((length whole + 12 - (items_at whole + 8)) / 13) ≡ length items = omega (arith, n.items_place, n.items_read, s.len_whole) in
     ap (λ (k : ℕ). each (kind_check (items_at whole + 8) whole) 0 k) many
     ∙ ap (λ (b : ℕ). each (kind_check b whole) 0 (length items)) at
-    ∙ pass_all item_bytes 13 (length items) (λ i. base + 13 * i) whole ItemFits (kind_check base whole) length-item (λ i. omega arith) (λ i x front lt len b f. kind_ok base i whole x front len b) items 0 (upto_items next opens aborted items) (omega arith) (omega (arith, s.len_items)) s.items_all fit
+    ∙ pass_all slog_item_bytes 13 (length items) (λ i. base + 13 * i) whole ItemFits (kind_check base whole) length-item (λ i. omega arith) (λ i x front lt len b f. kind_ok base i whole x front len b) items 0 (upto_items next opens aborted items) (omega arith) (omega (arith, s.len_items)) s.items_all fit
 
 items_pass : (next : ℕ) (opens aborted : List (ℕ × ℕ)) (items : List SlogItem) (whole : List ℕ) → Stands next opens aborted items whole → Counts (length opens) (length aborted) (length items) whole → AllByRecursion ItemFits items → each (item_check (items_at whole + 8) whole) 0 (items_in whole) ≡ Ok tt
 items_pass next opens aborted items whole s n fit =
@@ -325,7 +325,7 @@ items_pass next opens aborted items whole s n fit =
     let at : items_at whole + 8 ≡ base = omega (arith, n.items_place) in
     ap (λ (k : ℕ). each (item_check (items_at whole + 8) whole) 0 k) n.items_read
     ∙ ap (λ (b : ℕ). each (item_check b whole) 0 (length items)) at
-    ∙ pass_all item_bytes 13 (length items) (λ i. base + 13 * i) whole ItemFits (item_check base whole) length-item (λ i. omega arith) (λ i x front lt len b f. item_ok base i whole x front f len b) items 0 (upto_items next opens aborted items) (omega arith) (omega (arith, s.len_items)) s.items_all fit
+    ∙ pass_all slog_item_bytes 13 (length items) (λ i. base + 13 * i) whole ItemFits (item_check base whole) length-item (λ i. omega arith) (λ i x front lt len b f. item_ok base i whole x front f len b) items 0 (upto_items next opens aborted items) (omega arith) (omega (arith, s.len_items)) s.items_all fit
 
 heads_pass : (next : ℕ) (opens aborted : List (ℕ × ℕ)) (items : List SlogItem) (whole : List ℕ) → Stands next opens aborted items whole → Counts (length opens) (length aborted) (length items) whole → AllByRecursion HeadsFit opens → AllByRecursion HeadsFit aborted
     → each (heads_check (opens_in whole) whole) 0 (opens_in whole + aborted_in whole) ≡ Ok tt

@@ -11,10 +11,11 @@ use Rattle.ctr_records.specs.declared.table.Tag.{Tag}
 use Rattle.ctr_records.specs.declared.table.Tag.TheVariants as tag
 use Rattle.ctr_records.specs.declared.record.Overlay.{Overlay}
 use Rattle.ctr_records.specs.declared.record.Parts.{Parts}
-use Rattle.ctr_records.specs.Table.{width, most, layout, flag_at}
+use Rattle.ctr_records.specs.Table.{bytes_of_field, most, layout, flag_at}
 use Rattle.ctr_records.specs.Parts.{flag_of, OverlayFits, PartsFit}
 use Rattle.ctr_records.specs.Spelling.{field_bytes, place_bytes, with_overlay, parts_bytes}
-use Rattle.ctr_records.specs.Damage.{◌>>=◌, wrong, expect, flag_check, inside_check, overlay_check, length_wanted, overlay_in, at_most, bound_check, checks}
+use Rattle.ctr_bytes.specs.Following.{◌>>=◌}
+use Rattle.ctr_records.specs.Damage.{wrong, expect, flag_check, inside_check, overlay_check, length_wanted, overlay_in, at_most, bound_check, checks}
 use Rattle.ctr_records.proofs.Laws.{grow}
 
 -- the value of a step that did not fail
@@ -40,15 +41,15 @@ pub record Passed (l : Layout) (bytes : List ℕ) : Type 0 where
   pub overlay : overlay_check l bytes ≡ Ok tt
   pub whole : length_wanted l bytes ≡ length bytes
   pub first : bound_check l.first 1 bytes ≡ Ok tt
-  pub second : bound_check l.second (1 + width l.first) bytes ≡ Ok tt
+  pub second : bound_check l.second (1 + bytes_of_field l.first) bytes ≡ Ok tt
 
 pub passed : (l : Layout) (bytes : List ℕ) → checks l bytes ≡ Ok tt → Passed l bytes
 unfolding checks
 passed l bytes e =
-    let b1 = bind_ok (flag_check l bytes) (λ _. overlay_check l bytes >>= λ _. expect 0 (length_wanted l bytes) (length bytes) >>= λ _. bound_check l.first 1 bytes >>= λ _. bound_check l.second (1 + width l.first) bytes) tt e in
-    let b2 = bind_ok (overlay_check l bytes) (λ _. expect 0 (length_wanted l bytes) (length bytes) >>= λ _. bound_check l.first 1 bytes >>= λ _. bound_check l.second (1 + width l.first) bytes) tt b1.2 in
-    let b3 = bind_ok (expect 0 (length_wanted l bytes) (length bytes)) (λ _. bound_check l.first 1 bytes >>= λ _. bound_check l.second (1 + width l.first) bytes) tt b2.2 in
-    let b4 = bind_ok (bound_check l.first 1 bytes) (λ _. bound_check l.second (1 + width l.first) bytes) tt b3.2 in
+    let b1 = bind_ok (flag_check l bytes) (λ _. overlay_check l bytes >>= λ _. expect 0 (length_wanted l bytes) (length bytes) >>= λ _. bound_check l.first 1 bytes >>= λ _. bound_check l.second (1 + bytes_of_field l.first) bytes) tt e in
+    let b2 = bind_ok (overlay_check l bytes) (λ _. expect 0 (length_wanted l bytes) (length bytes) >>= λ _. bound_check l.first 1 bytes >>= λ _. bound_check l.second (1 + bytes_of_field l.first) bytes) tt b1.2 in
+    let b3 = bind_ok (expect 0 (length_wanted l bytes) (length bytes)) (λ _. bound_check l.first 1 bytes >>= λ _. bound_check l.second (1 + bytes_of_field l.first) bytes) tt b2.2 in
+    let b4 = bind_ok (bound_check l.first 1 bytes) (λ _. bound_check l.second (1 + bytes_of_field l.first) bytes) tt b3.2 in
     record { flag = b1.1; overlay = b2.1; whole = expect_ok 0 (length_wanted l bytes) (length bytes) b3.1; first = b4.1; second = b4.2 }
 
 -- the flag stands before the end of what is wanted
@@ -61,9 +62,9 @@ wanted-flag l bytes = wanted (eqb l.flag 0) (ltb (length bytes) (flag_at l + 9))
     wanted false true = omega arith
     wanted false false = omega arith
 
-pub bound_ok : (f : Field) (at : ℕ) (bytes : List ℕ) → bound_check f at bytes ≡ Ok tt → field (width f) at bytes ≤ most f
+pub bound_ok : (f : Field) (at : ℕ) (bytes : List ℕ) → bound_check f at bytes ≡ Ok tt → field (bytes_of_field f) at bytes ≤ most f
 unfolding bound_check at_most
-bound_ok f at bytes e = ltb-false _ _ (guard_ok (ltb (most f) (field (width f) at bytes)) (wrong at (most f) (field (width f) at bytes)) (Ok tt) tt e).0
+bound_ok f at bytes e = ltb-false _ _ (guard_ok (ltb (most f) (field (bytes_of_field f) at bytes)) (wrong at (most f) (field (bytes_of_field f) at bytes)) (Ok tt) tt e).0
 
 pub flag_ok : (l : Layout) (bytes : List ℕ) → flag_at l < length bytes → flag_check l bytes ≡ Ok tt → l.flag ≡ field 1 (flag_at l) bytes
 unfolding flag_check
@@ -111,8 +112,8 @@ plain_ok l bytes none whole =
 abbrev pub parts_at : Tag → List ℕ → Parts
 parts_at t bytes = record {
   tag = t;
-  first = field (width (layout t).first) 1 bytes;
-  second = field (width (layout t).second) (1 + width (layout t).first) bytes;
+  first = field (bytes_of_field (layout t).first) 1 bytes;
+  second = field (bytes_of_field (layout t).second) (1 + bytes_of_field (layout t).first) bytes;
   overlay = overlay_in (layout t) bytes;
 }
 
@@ -153,10 +154,10 @@ unfolding overlay_in
 in_some l bytes some = ap (λ (b : Bool). cond b None (Some (laid_in l bytes))) some
 
 fields_back : (l : Layout) (bytes : List ℕ) → l.number ≡ field 1 0 bytes → flag_at l < length bytes → AreBytes bytes
-    → field_bytes l (field (width l.first) 1 bytes) (field (width l.second) (1 + width l.first) bytes) ≡ take (flag_at l) bytes
+    → field_bytes l (field (bytes_of_field l.first) 1 bytes) (field (bytes_of_field l.second) (1 + bytes_of_field l.first) bytes) ≡ take (flag_at l) bytes
 fields_back l bytes number lt fits =
-    let w1 = width l.first in
-    let w2 = width l.second in
+    let w1 = bytes_of_field l.first in
+    let w2 = bytes_of_field l.second in
     ap (λ (n : ℕ). spelled 1 n ++ spelled w1 (field w1 1 bytes) ++ spelled w2 (field w2 (1 + w1) bytes)) number
     ∙ ap (λ (x : List ℕ). x ++ spelled w1 (field w1 1 bytes) ++ spelled w2 (field w2 (1 + w1) bytes)) (grow 1 0 1 bytes refl (omega (arith, lt)) fits)
     ∙ ap (λ (x : List ℕ). x ++ spelled w2 (field w2 (1 + w1) bytes)) (grow w1 1 (1 + w1) bytes refl (omega (arith, lt)) fits)
@@ -199,7 +200,7 @@ read_back t bytes number checked fits =
     let flag = flag_ok l bytes lt p.flag in
     let front = ap (λ (x : List ℕ). with_overlay x l.flag (overlay_in l bytes)) (fields_back l bytes number lt fits) in
     let first = bound_ok l.first 1 bytes p.first in
-    let second = bound_ok l.second (1 + width l.first) bytes p.second in
+    let second = bound_ok l.second (1 + bytes_of_field l.first) bytes p.second in
     elim (cases_Bool (eqb l.flag 0)) [
       | inl y ↦
           let none : l.flag ≡ 0 = eqb-true _ _ y in

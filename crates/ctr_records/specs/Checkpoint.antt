@@ -2,7 +2,8 @@
 use Rattle.std.specs.Prelude.{ℕ, zero, suc, ◌+◌, ◌-◌, ◌*◌, ◌/◌, ◌^◌, min, Bool, true, false, List, length, Result, Ok, Err, nat_lt, ◌==◌, if◌then◌else◌, ⊤}
 use Rattle.ctr_bytes.specs.Fields.{field}
 use Rattle.ctr_records.specs.declared.decoding.BadRecord.{BadRecord}
-use Rattle.ctr_records.specs.Damage.{◌>>=◌, wrong, expect, at_most}
+use Rattle.ctr_bytes.specs.Following.{◌>>=◌}
+use Rattle.ctr_records.specs.Damage.{wrong, expect, at_most}
 
 -- ---- where the lists stand
 

@@ -1,19 +1,13 @@
 -- What is wrong with the bytes of a record but a Checkpoint: the first check that fails, in this
 -- order.
 use Rattle.std.specs.Prelude.{◌≡◌, ℕ, ◌+◌, List, length, drop, Option, None, Some, Result, Ok, Err, nat_lt, ◌==◌, if◌then◌else◌, ⊤}
+use Rattle.ctr_bytes.specs.Following.{◌>>=◌}
 use Rattle.ctr_bytes.specs.Fields.{field}
 use Rattle.ctr_records.specs.declared.decoding.BadRecord.{BadRecord}
 use Rattle.ctr_records.specs.declared.record.Overlay.{Overlay}
 use Rattle.ctr_records.specs.declared.table.Field.{Field}
 use Rattle.ctr_records.specs.declared.table.Layout.{Layout}
-use Rattle.ctr_records.specs.Table.{width, most, flag_at}
-
-infixl 10 ◌>>=◌
--- what follows from the first; damage ends the reading
-abbrev pub ◌>>=◌ : {A B : Type 0} → Result A BadRecord → (A → Result B BadRecord)
-    → Result B BadRecord
-(Ok x) >>= f = f x
-(Err e) >>= f = Err e
+use Rattle.ctr_records.specs.Table.{bytes_of_field, most, flag_at}
 
 -- a number at a place isn't the one that is wanted
 abbrev pub wrong : ℕ → ℕ → ℕ → BadRecord
@@ -66,7 +60,7 @@ at_most at bound got = if nat_lt bound got then Err (wrong at bound got) else Ok
 
 -- a field is at most what it may be
 unfoldable pub bound_check : Field → ℕ → List ℕ → Result ⊤ BadRecord
-bound_check f at bytes = at_most at (most f) (field (width f) at bytes)
+bound_check f at bytes = at_most at (most f) (field (bytes_of_field f) at bytes)
 
 -- the checks of a record of a row: flag, overlay, length, fields
 unfoldable pub checks : Layout → List ℕ → Result ⊤ BadRecord
@@ -75,7 +69,7 @@ checks l bytes = do
   overlay ← overlay_check l bytes
   whole ← expect 0 (length_wanted l bytes) (length bytes)
   first ← bound_check l.first 1 bytes
-  bound_check l.second (1 + width l.first) bytes
+  bound_check l.second (1 + bytes_of_field l.first) bytes
 
 -- an answer is Ok where these checks pass, and else the first that fails
 abbrev pub Answers : {A : Type 0} → Result A BadRecord → Result ⊤ BadRecord → Type 0

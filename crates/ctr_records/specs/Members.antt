@@ -34,8 +34,8 @@ item_number (CreateOf x e) = e
 item_number (DropOf x e) = e
 
 -- an item of the secondary log
-abbrev pub item_bytes : SlogItem → List ℕ
-item_bytes i = spelled 1 (item_kind i) ++ spelled 8 (item_xid i) ++ spelled 4 (item_number i)
+abbrev pub slog_item_bytes : SlogItem → List ℕ
+slog_item_bytes i = spelled 1 (item_kind i) ++ spelled 8 (item_xid i) ++ spelled 4 (item_number i)
 
 -- how many, and each
 abbrev pub list_bytes : {A : Type 0} → (A → List ℕ) → List A → List ℕ
@@ -44,7 +44,7 @@ list_bytes one xs = spelled 8 (length xs) ++ flat_map one xs
 -- the open transactions, the aborted ones, the items
 abbrev pub lists_bytes : List (ℕ × ℕ) → List (ℕ × ℕ) → List SlogItem → List ℕ
 lists_bytes opens aborted items =
-    list_bytes pair_bytes opens ++ list_bytes pair_bytes aborted ++ list_bytes item_bytes items
+    list_bytes pair_bytes opens ++ list_bytes pair_bytes aborted ++ list_bytes slog_item_bytes items
 
 -- ---- which members stand in lists
 

@@ -7,7 +7,7 @@ use Rattle.ctr_records.specs.declared.record.Record.{Record}
 use Rattle.ctr_records.specs.declared.record.Record.TheVariants.{Checkpoint, Begin, Commit, Abort, Forget, Alloc, Format, Link, Free, Unlink, Create, Uncreate, Drop, Undrop, Row, Keep, Revert, Trim}
 use Rattle.ctr_records.specs.declared.table.Tag.{Tag}
 use Rattle.ctr_records.specs.declared.table.Tag.TheVariants as tag
-use Rattle.ctr_records.specs.Table.{layout, width}
+use Rattle.ctr_records.specs.Table.{layout, bytes_of_field}
 use Rattle.ctr_records.specs.Damage.{overlay_in}
 
 -- the row of a number from 2 on
@@ -26,8 +26,8 @@ tag_numbered n =
 abbrev pub parts_read : Tag → List ℕ → Parts
 parts_read t bytes = record {
   tag = t;
-  first = field (width (layout t).first) 1 bytes;
-  second = field (width (layout t).second) (1 + width (layout t).first) bytes;
+  first = field (bytes_of_field (layout t).first) 1 bytes;
+  second = field (bytes_of_field (layout t).second) (1 + bytes_of_field (layout t).first) bytes;
   overlay = overlay_in (layout t) bytes;
 }
 

@@ -25,6 +25,6 @@ ListsAreMembers (Lists next lists) = HasMembers next lists
 ListsAreMembers (Fields p) = Unit {0}
 
 -- the bytes are no record, and what is wanted isn't what is there
-abbrev pub IsNoRecord : List ℕ → BadRecord → Type 0
-IsNoRecord bytes e =
+abbrev pub AreNoRecord : List ℕ → BadRecord → Type 0
+AreNoRecord bytes e =
     (e.want ≢ e.got) × ((r : Record) → IsRecord r → record_bytes r ≢ bytes)

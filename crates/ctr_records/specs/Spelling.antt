@@ -7,13 +7,13 @@ use Rattle.ctr_records.specs.declared.record.Parts.{Parts}
 use Rattle.ctr_records.specs.declared.record.Form.{Form}
 use Rattle.ctr_records.specs.declared.record.Form.TheVariants.{Lists, Fields}
 use Rattle.ctr_records.specs.declared.table.Layout.{Layout}
-use Rattle.ctr_records.specs.Table.{width, layout}
+use Rattle.ctr_records.specs.Table.{bytes_of_field, layout}
 use Rattle.ctr_records.specs.Parts.{form_of}
 
 -- the number and the two fields
 abbrev pub field_bytes : Layout → ℕ → ℕ → List ℕ
 field_bytes l first second =
-    spelled 1 l.number ++ spelled (width l.first) first ++ spelled (width l.second) second
+    spelled 1 l.number ++ spelled (bytes_of_field l.first) first ++ spelled (bytes_of_field l.second) second
 
 -- where an overlay lies: its page, its place in it, its length
 abbrev pub place_bytes : List ℕ → ℕ → Overlay → List ℕ

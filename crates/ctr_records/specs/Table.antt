@@ -7,11 +7,11 @@ use Rattle.ctr_records.specs.declared.table.Tag.{Tag}
 use Rattle.ctr_records.specs.declared.table.Tag.TheVariants.{Begin, Commit, Abort, Forget, Alloc, Format, Link, Free, Unlink, Create, Uncreate, Drop, Undrop, Row, Keep, Revert, Trim}
 
 -- how many bytes a field has
-abbrev pub width : Field → ℕ
-width Nothing = 0
-width Entry = 1
-width Page = 4
-width Xid = 8
+abbrev pub bytes_of_field : Field → ℕ
+bytes_of_field Nothing = 0
+bytes_of_field Entry = 1
+bytes_of_field Page = 4
+bytes_of_field Xid = 8
 
 -- the greatest number in it: 32 entries of the catalog, 30,000 pages
 abbrev pub most : Field → ℕ
@@ -47,4 +47,4 @@ layout Trim = row 18 Nothing Nothing 1
 
 -- where the flag stands: behind the number and the fields
 abbrev pub flag_at : Layout → ℕ
-flag_at l = 1 + width l.first + width l.second
+flag_at l = 1 + bytes_of_field l.first + bytes_of_field l.second

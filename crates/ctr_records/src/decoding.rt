@@ -7,7 +7,7 @@ ghost use Rattle.ctr_records.specs.Table.{layout};
 ghost use Rattle.ctr_records.specs.Spelling.{record_bytes};
 ghost use Rattle.ctr_records.specs.Damage.{wrong, checks, Answers};
 ghost use Rattle.ctr_records.specs.Checkpoint.{checkpoint_checks};
-ghost use Rattle.ctr_records.specs.Records.{IsRecord, IsNoRecord, ListsAreMembers};
+ghost use Rattle.ctr_records.specs.Records.{IsRecord, AreNoRecord, ListsAreMembers};
 ghost use Rattle.ctr_records.specs.Parts.{form_of};
 
 use crate::Record;
@@ -43,7 +43,7 @@ pub fn decode<'a>(bytes: &'a [u8]) -> Result<Record<'a>, BadRecord>
     // The record that they are is read.
     ensures only { (r : Record) → IsRecord r → record_bytes r ≡ bytes.now → result ≡ Ok r }
     // Bytes that are no record are refused, and only those.
-    ensures refused { IfErr result (IsNoRecord bytes.now) }
+    ensures refused { IfErr result (AreNoRecord bytes.now) }
     // No record begins with such a byte; of no bytes it is 0.
     ensures tag { (field 1 0 bytes.now ≡ 0) ⊎ (18 < field 1 0 bytes.now) → result ≡ Err (wrong 0 18 (field 1 0 bytes.now)) }
     // Of a Checkpoint the first check that fails.

@@ -2,7 +2,7 @@
 ghost use Rattle.std.specs.Prelude.{◌≡◌, ◌≤◌, ◌<◌, ◌+◌, ◌^◌, ◌++◌, List, ℕ, length, drop};
 ghost use Rattle.ctr_bytes.specs.Fields.{with_field};
 ghost use Rattle.ctr_records.specs.declared.record.Record.{Record};
-ghost use Rattle.ctr_records.specs.Table.{width, most, layout, flag_at};
+ghost use Rattle.ctr_records.specs.Table.{bytes_of_field, most, layout, flag_at};
 ghost use Rattle.ctr_records.specs.Parts.{OverlayFits, PartsFit};
 ghost use Rattle.ctr_records.specs.Read.{record_in};
 ghost use Rattle.ctr_records.specs.Records.{IsRecord};
@@ -13,9 +13,9 @@ use crate::{Field, Form, Overlay, Parts, Record};
 use ctr_bytes::{put_u8, put_u16, put_u32, put_u64};
 
 fn put(into: &mut [u8], at: usize, of: Field, number: u64)
-    requires room { at + width of ≤ length into.old }
+    requires room { at + bytes_of_field of ≤ length into.old }
     requires number { number ≤ most of }
-    ensures put { into.new ≡ with_field (width of) at number into.old }
+    ensures put { into.new ≡ with_field (bytes_of_field of) at number into.old }
     ensures long { length into.new ≡ length into.old }
 {
     match of {

@@ -3,7 +3,7 @@ ghost use Rattle.std.specs.Prelude.{◌≡◌, ◌≢◌, ◌≤◌, ◌<◌, �
 ghost use Rattle.ctr_bytes.specs.Fields.{field};
 ghost use Rattle.ctr_records.specs.declared.record.Parts.{Parts};
 ghost use Rattle.ctr_records.specs.declared.table.Tag.{Tag};
-ghost use Rattle.ctr_records.specs.Table.{width, most, layout, flag_at};
+ghost use Rattle.ctr_records.specs.Table.{bytes_of_field, most, layout, flag_at};
 ghost use Rattle.ctr_records.specs.Parts.{PartsFit};
 ghost use Rattle.ctr_records.specs.Spelling.{parts_bytes};
 ghost use Rattle.ctr_records.specs.Damage.{wrong, expect, at_most, flag_check, inside_check, overlay_check, length_wanted, overlay_in, bound_check, checks, Answers};
@@ -105,8 +105,8 @@ fn wanted(layout: &Layout, bytes: &[u8]) -> usize
 }
 
 fn number(of: Field, at: usize, bytes: &[u8]) -> u64
-    requires { at + width of ≤ length bytes.now }
-    ensures { result ≡ field (width of) at bytes.now }
+    requires { at + bytes_of_field of ≤ length bytes.now }
+    ensures { result ≡ field (bytes_of_field of) at bytes.now }
 {
     match of {
         Field::Nothing => 0,
@@ -118,7 +118,7 @@ fn number(of: Field, at: usize, bytes: &[u8]) -> u64
 
 #[tactic(auto, unfolding(crate::specs::Damage::bound_check))]
 fn check_bound(of: Field, at: usize, bytes: &[u8]) -> Result<(), BadRecord>
-    requires { at + width of ≤ length bytes.now }
+    requires { at + bytes_of_field of ≤ length bytes.now }
     ensures { result ≡ bound_check of at bytes.now }
 {
     at_most(at, of.most(), number(of, at, bytes))

@@ -5,7 +5,7 @@ ghost use Rattle.ctr_records.specs.declared.record.SlogItem.{SlogItem as Item};
 ghost use Rattle.ctr_bytes.specs.Fields.{spelled};
 ghost use Rattle.ctr_records.specs.declared.record.Record.TheVariants.{Checkpoint};
 ghost use Rattle.ctr_records.specs.Spelling.{checkpoint_bytes};
-ghost use Rattle.ctr_records.specs.Members.{item_kind, item_xid, item_number, pair_bytes, item_bytes, lists_bytes, MembersFit, XidFits, AreListed};
+ghost use Rattle.ctr_records.specs.Members.{item_kind, item_xid, item_number, pair_bytes, slog_item_bytes, lists_bytes, MembersFit, XidFits, AreListed};
 ghost use Rattle.ctr_records.specs.Records.{IsRecord};
 
 use crate::SlogItem;
@@ -96,7 +96,7 @@ impl SlogItem {
 }
 
 fn push_item(into: &mut Vec<u8>, item: SlogItem) -> Result<(), OutOfMemory>
-    ensures { OnOk result (into.new.items ≡ into.old.items ++ item_bytes item) }
+    ensures { OnOk result (into.new.items ≡ into.old.items ++ slog_item_bytes item) }
 {
     push_u8(into, item.kind())?;
     push_u64(into, item.xid())?;
@@ -104,7 +104,7 @@ fn push_item(into: &mut Vec<u8>, item: SlogItem) -> Result<(), OutOfMemory>
 }
 
 fn push_items(into: &mut Vec<u8>, items: &[SlogItem]) -> Result<(), OutOfMemory>
-    ensures { OnOk result (into.new.items ≡ into.old.items ++ flat_map item_bytes items.now) }
+    ensures { OnOk result (into.new.items ≡ into.old.items ++ flat_map slog_item_bytes items.now) }
 {
     for item in items {
         push_item(into, *item)?;

@@ -1,6 +1,6 @@
 // The table of the records: the number of each, its fields, and the flag of its overlay.
 ghost use Rattle.std.specs.Prelude.{◌≡◌, ◌≤◌, ◌↔◌, IfSome, IsSome};
-ghost use Rattle.ctr_records.specs.Table.{width, most, layout};
+ghost use Rattle.ctr_records.specs.Table.{bytes_of_field, most, layout};
 
 /// A field of a record.
 #[derive(Clone, Copy, Debug, PartialEq, Eq)]
@@ -18,7 +18,7 @@ pub enum Field {
 impl Field {
     /// How many bytes it has.
     pub fn width(self) -> usize
-        ensures { result ≡ width self }
+        ensures { result ≡ bytes_of_field self }
     {
         match self {
             Field::Nothing => 0,

@@ -8,14 +8,14 @@ use Rattle.std.specs.FinMap.Entries.{find}
 use Rattle.std.proofs.lemmas.Bool.{false≢true, eqb-true, eq-eqb}
 use Rattle.ctr_versions.specs.Heads.{count_up, count_down, is_of, moved_by, count_moved}
 use Rattle.ctr_versions.proofs.Keys.{known}
-use Rattle.ctr_rows.specs.Counted.{Counts, count_of, HasCount, CountSet}
+use Rattle.ctr_rows.specs.Counted.{HeadCounts, count_of, HasCount, CountSet}
 use Rattle.ctr_chains.proofs.Slots.{there_is}
 use Rattle.ctr_chains.proofs.Tables.{looked_up, id_apart}
 
 abbrev pub CountMap : Type 0
 CountMap = BTreeMap ℕ ℕ
 
-module _ (held : Counts) (old : CountMap) (view_is : old.entries ≡ held) (x : ℕ) where
+module _ (held : HeadCounts) (old : CountMap) (view_is : old.entries ≡ held) (x : ℕ) where
   -- what was found
   pub count_found : (o : Option ℕ) → o ≡ get_by (nat_cmp x) old → find nat_cmp x held ≡ o
   count_found o is = ap (find nat_cmp x) (sym view_is) ∙ sym (looked_up x old.entries) ∙ sym is
@@ -37,7 +37,7 @@ module _ (held : Counts) (old : CountMap) (view_is : old.entries ≡ held) (x : 
         (λ same. ap (λ b. cond b (Some w) (find nat_cmp y held)) same ∙ ap Some is ∙ sym (ap (option_map f) (ap (λ z. find nat_cmp z held) (eqb-true y x same) ∙ count_found (Some v) found)) ∙ sym (ap (λ b. cond b (option_map f (find nat_cmp y held)) (find nat_cmp y held)) same))
         (λ apart. ap (λ b. cond b (Some w) (find nat_cmp y held)) apart ∙ sym (ap (λ b. cond b (option_map f (find nat_cmp y held)) (find nat_cmp y held)) apart))
 
-    pub count_absent : (new : Counts) → new ≡ old.entries → None ≡ get_by (nat_cmp x) old → CountSet (Some x) f held new
+    pub count_absent : (new : HeadCounts) → new ≡ old.entries → None ≡ get_by (nat_cmp x) old → CountSet (Some x) f held new
     count_absent new same none y = ap (find nat_cmp y) (same ∙ view_is) ∙ known (y == x)
         (λ one. let absent = ap (λ z. find nat_cmp z held) (eqb-true y x one) ∙ count_found None none in
         absent ∙ sym (ap (option_map f) absent) ∙ sym (ap (λ b. cond b (option_map f (find nat_cmp y held)) (find nat_cmp y held)) one))
@@ -72,10 +72,10 @@ is_one : (x : ℕ) (o : Option ℕ) → is_of x o ≡ true → o ≡ Some x
 is_one x None is = absurd (false≢true is)
 is_one x (Some y) is = ap Some (sym (eqb-true x y is))
 
-has_one : (x : ℕ) (o : Option ℕ) (held : Counts) → IfSome o (λ y. HasCount y held) → is_of x o ≡ true → HasCount x held
+has_one : (x : ℕ) (o : Option ℕ) (held : HeadCounts) → IfSome o (λ y. HasCount y held) → is_of x o ≡ true → HasCount x held
 has_one x o held has_ is = subst (λ q. IfSome q (λ y. HasCount y held)) (is_one x o is) has_
 
-module _ (old mid new : Counts) (from to : Option ℕ) (lowered : CountSet from count_down old mid) (raised : CountSet to count_up mid new) where
+module _ (old mid new : HeadCounts) (from to : Option ℕ) (lowered : CountSet from count_down old mid) (raised : CountSet to count_up mid new) where
   mapped : (f : ℕ → ℕ) (b : Bool) (o : Option ℕ) → is_some o ≡ true → is_some (cond b (option_map f o) o) ≡ true
   mapped f true (Some v) is = refl
   mapped f true None is = is

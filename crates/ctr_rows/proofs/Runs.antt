@@ -16,7 +16,7 @@ use Rattle.ctr_versions.proofs.Chains.{with_number}
 use Rattle.ctr_versions.proofs.Xids.{has_there, has_minus, drawn_numbers, drawn_sound, asked_numbers, asked_sound, aborted_numbers, aborted_sound, aborted_none, forgotten_numbers, forgotten_sound}
 use Rattle.ctr_versions.proofs.Heads.{row_counted, name_counted, same_count, empty_counted, open_rows, open_names, open_still, headless_by}
 use Rattle.ctr_chains.specs.Stored.{HeldStore, versions_of}
-use Rattle.ctr_rows.specs.Counted.{Counts, count_of, HasCount}
+use Rattle.ctr_rows.specs.Counted.{HeadCounts, count_of, HasCount}
 use Rattle.ctr_versions.specs.Engine.{EngineHeld, AreBy}
 use Rattle.ctr_versions.specs.Laws.{me_found, me_of, IsOpenWriter}
 use Rattle.ctr_rows.specs.Running.{HeldEngine, engine_of, Runs}
@@ -34,10 +34,10 @@ with_none number x k y none = ⊎_elim
     (λ apart. (apart, sym (update_apart number x (Some k) y apart) ∙ none))
     (cases_eq y x)
 
-module _ (xids : Xids) (store : HeldStore) (answered : ℕ) (heads : Counts) (runs : Runs xids store answered heads) where
+module _ (xids : Xids) (store : HeldStore) (answered : ℕ) (heads : HeadCounts) (runs : Runs xids store answered heads) where
   -- ---- numbers
 
-  pub runs_drawn : (new : Counts) → ((x : ℕ) → count_of x new ≡ count_of x heads) → ((x : ℕ) → HasCount x heads → HasCount x new) → HasCount xids.next new → Runs (drawn xids) store answered new
+  pub runs_drawn : (new : HeadCounts) → ((x : ℕ) → count_of x new ≡ count_of x heads) → ((x : ℕ) → HasCount x heads → HasCount x new) → HasCount xids.next new → Runs (drawn xids) store answered new
   runs_drawn new same kept room = record {
     sound = drawn_sound xids runs.sound;
     asked = runs.asked;
@@ -47,7 +47,7 @@ module _ (xids : Xids) (store : HeldStore) (answered : ℕ) (heads : Counts) (ru
   }
 
   -- with more room for counts
-  pub runs_roomy : (new : Counts) → ((x : ℕ) → count_of x new ≡ count_of x heads) → ((x : ℕ) → HasCount x heads → HasCount x new) → Runs xids store answered new
+  pub runs_roomy : (new : HeadCounts) → ((x : ℕ) → count_of x new ≡ count_of x heads) → ((x : ℕ) → HasCount x heads → HasCount x new) → Runs xids store answered new
   runs_roomy new same kept = record {
     sound = runs.sound;
     asked = runs.asked;
@@ -59,7 +59,7 @@ module _ (xids : Xids) (store : HeldStore) (answered : ℕ) (heads : Counts) (ru
   pub runs_answered : answered < length xids.commits → Runs xids store (answered + 1) heads
   runs_answered lt = record { sound = runs.sound; asked = omega (arith, lt); only = runs.only; counted = runs.counted; room = runs.room }
 
-  module _ (x : ℕ) (new : Counts) (others : (y : ℕ) → (y == x) ≡ false → find nat_cmp y new ≡ find nat_cmp y heads) where
+  module _ (x : ℕ) (new : HeadCounts) (others : (y : ℕ) → (y == x) ≡ false → find nat_cmp y new ≡ find nat_cmp y heads) where
     left : (y : ℕ) → (y ≡ x → ⊥) → find nat_cmp y new ≡ find nat_cmp y heads
     left y apart = others y (ne_eqb y x apart)
 
@@ -101,7 +101,7 @@ module _ (xids : Xids) (store : HeldStore) (answered : ℕ) (heads : Counts) (ru
 
   -- ---- chains
 
-  module _ (new : HeldStore) (counts : Counts) (kept : (x : ℕ) → HasCount x heads → HasCount x counts) where
+  module _ (new : HeldStore) (counts : HeadCounts) (kept : (x : ℕ) → HasCount x heads → HasCount x counts) where
     pub runs_row : (id : ℕ) (key : ℤ) (chain : List (ℕ × Option Row)) → RowsSet (versions_of store) (versions_of new) id key chain → Behind (number_of xids) chain
         → ((x : ℕ) → count_of x counts ≡ count_moved (open_head (number_of xids) (rows_of (versions_of store) id key)) (open_head (number_of xids) chain) x (count_of x heads)) → Runs xids new answered counts
     runs_row id key chain set behind moved = record {
@@ -142,18 +142,18 @@ pub me_open : (h : HeldEngine) (xids : Xids) (s me : ℕ) → xids ≡ h.xids �
 me_open h xids s me same is writer = (λ i. has (is i) ((same i).live)) ∙ open_me s (engine_of h) writer
 
 -- one that was rolled back and has no head has no version
-pub unused_by : (xids : Xids) (store : HeldStore) (answered : ℕ) (heads : Counts) → Runs xids store answered heads → (x : ℕ) → has x xids.aborted ≡ true → count_of x heads ≡ 0 → AreBy (λ y. y ≡ x → ⊥) (versions_of store)
+pub unused_by : (xids : Xids) (store : HeldStore) (answered : ℕ) (heads : HeadCounts) → Runs xids store answered heads → (x : ℕ) → has x xids.aborted ≡ true → count_of x heads ≡ 0 → AreBy (λ y. y ≡ x → ⊥) (versions_of store)
 unused_by xids store answered heads runs x is_aborted zero_ =
     let none = aborted_none xids runs.sound x is_aborted in
     headless_by (number_of xids) x (versions_of store) none runs.only (subst (λ n. HeadsAre x n (versions_of store)) zero_ (runs.counted x none (subst (λ n. n < count_end) (sym zero_) (ltb-true 0 count_end refl))))
 
 -- ---- with nothing in it
 
-pub fresh_runs : (xids : Xids) (store : HeldStore) (heads : Counts) → xids ≡ record { next = 1; live = []; aborted = []; commits = [] } → versions_of store ≡ record { names = []; slots = [] } → heads ≡ [] → Runs xids store 0 heads
+pub fresh_runs : (xids : Xids) (store : HeldStore) (heads : HeadCounts) → xids ≡ record { next = 1; live = []; aborted = []; commits = [] } → versions_of store ≡ record { names = []; slots = [] } → heads ≡ [] → Runs xids store 0 heads
 fresh_runs xids store heads is empty none = record {
   sound = subst AreSound (sym is) (record { first = omega arith; gone = tt; live = tt; apart = λ x here. absurd (false≢true here); commits = tt; once = tt });
   asked = omega arith;
   only = subst (λ (v : Versions). OnlyHeadsAreOpen (number_of xids) v) (sym empty) (record { names = λ name. tt; rows = λ id key. tt });
-  counted = λ x open_ lt. subst (λ (v : Versions). HeadsAre x (count_of x heads) v) (sym empty) (subst (λ (cs : Counts). HeadsAre x (count_of x cs) (record { names = []; slots = [] })) (sym none) (empty_counted x));
+  counted = λ x open_ lt. subst (λ (v : Versions). HeadsAre x (count_of x heads) v) (sym empty) (subst (λ (cs : HeadCounts). HeadsAre x (count_of x cs) (record { names = []; slots = [] })) (sym none) (empty_counted x));
   room = λ x here. absurd (false≢true (ap (λ (xs : Xids). has x xs.live) (sym is) ∙ here));
 }

@@ -8,7 +8,7 @@ use Rattle.ctr_versions.specs.Versions.{IsOrdered, HaveOwnTables}
 use Rattle.ctr_versions.specs.Engine.{SessionHeld, EngineHeld, ShowsState}
 use Rattle.ctr_versions.specs.Heads.{IsCountOf, OnlyHeadsAreOpen}
 use Rattle.ctr_chains.specs.Stored.{HeldStore, versions_of}
-use Rattle.ctr_rows.specs.Counted.{Counts, count_of, HasCount}
+use Rattle.ctr_rows.specs.Counted.{HeadCounts, count_of, HasCount}
 use Rattle.ctr_rows.specs.declared.engine.Engine.TheInside.{Inside}
 
 -- the transactions, what is stored, the sessions in a transaction, how many commits are answered,
@@ -18,7 +18,7 @@ pub record HeldEngine : Type 0 where
   pub store : HeldStore
   pub sessions : List (ℕ × SessionHeld)
   pub answered : ℕ
-  pub heads : Counts
+  pub heads : HeadCounts
 
 -- the same of what the code has
 abbrev pub held_engine : Inside → HeldEngine
@@ -41,7 +41,7 @@ engine_of h = record {
 
 -- What is answered was asked; only heads are by those that aren't committed, each of which has its
 -- count, and those that are open room for it.
-pub record Runs (xids : Xids) (store : HeldStore) (answered : ℕ) (heads : Counts) : Type 0 where
+pub record Runs (xids : Xids) (store : HeldStore) (answered : ℕ) (heads : HeadCounts) : Type 0 where
   pub sound : AreSound xids
   pub asked : answered ≤ length xids.commits
   pub only : OnlyHeadsAreOpen (number_of xids) (versions_of store)

@@ -20,9 +20,9 @@ pub struct Heads {
 impl Model for Heads {
     ghost use Rattle.std.specs.Ordering.{nat_cmp};
     ghost use Rattle.std.specs.BTreeMap.{IsOrdered};
-    ghost use Rattle.ctr_rows.specs.Counted.{Counts};
+    ghost use Rattle.ctr_rows.specs.Counted.{HeadCounts};
 
-    ghost Value = { Counts };
+    ghost Value = { HeadCounts };
 
     ghost view = { λ a. a.counts.entries };
 

@@ -36,14 +36,14 @@ use Rattle.ctr_records.specs.Read.{record_in}
 use Rattle.ctr_redo.specs.States.{state_of, steps, next_of}
 use Rattle.ctr_redo.specs.Images.{records_in, stored_in, IsSound, FoldsFront, IsLogFile}
 use Rattle.ctr_base.specs.declared.base.Base.{Base}
-use Rattle.ctr_base.specs.Base.{stored_of, waiting_of, Rests, MovesBase}
+use Rattle.ctr_base.specs.Base.{stored_of, waiting_of, StandsQuiet, MovesBase}
 use Rattle.ctr_base.proofs.RootLaws.{one_root}
 use Rattle.ctr_store.proofs.PartsLaws.{goes_more, writes_more}
 use Rattle.ctr_store.specs.declared.parts.Parts.{Parts}
 use Rattle.ctr_store.specs.declared.opening.Found.{Found}
 use Rattle.ctr_store.specs.declared.opening.OpenError.{OpenError}
 use Rattle.ctr_store.specs.RecordChecks.{FailsAs, RefusesVisit, tables_seen}
-use Rattle.ctr_store.specs.Opening.{FindsFront, fault_told, read_told, LogPasses, RefusesLog, IsLater, Opens, AnswersOpen, RefusesAs, IsWornBy, worn_by, worn_in}
+use Rattle.ctr_store.specs.Opening.{FindsFront, fault_told, read_told, LogPasses, RefusesLog, IsLater, OpensParts, AnswersOpen, RefusesAs, IsWornBy, worn_by, worn_in}
 
 writer_is_log : (older : Bool) (file : ℕ) → IsLogFile (writer_file older file)
 writer_is_log false zero = tt
@@ -126,7 +126,7 @@ later_refused image root open_error.OutOfMemory says passes later = λ none. abs
 
 module _ {D O : Type 0} (first : Image) (g : Ghosts D) where
   pub rests_opened : (d : D) (root : Root) (f : Found) (durable : ℕ) → FindsFront first root f → IsDurable g d → g.reads d ≡ first → durable ≡ f.log.first + length f.log.buffered
-      → (b : Base D O) → b.disk ≡ d → b.log ≡ f.log → b.root ≡ root → b.durable ≡ durable → Rests first g b
+      → (b : Base D O) → b.disk ≡ d → b.log ≡ f.log → b.root ≡ root → b.durable ≡ durable → StandsQuiet first g b
   rests_opened d root f durable front only same next b disk_is log_is root_is durable_is =
       let kept = kept_log root.file root.first first in
       let found = front.log in
@@ -169,7 +169,7 @@ module _ {D O : Type 0} (first : Image) (g : Ghosts D) where
       ∙ ap (λ (r : Root). state_of (stored_in r (g.reads a.disk))) root_is ∙ ap (λ (i : Image). state_of (stored_in root i)) same
 
   -- what was opened is answered, or refused as worn
-  pub answered : (s : Parts D O) (root : Root) → SaysRootOf Paged (value_of RootBlock first) root → Opens first g root s → (r : Result (Parts D O) (OpenError × D)) → IfOk r (λ t. t ≡ s)
+  pub answered : (s : Parts D O) (root : Root) → SaysRootOf Paged (value_of RootBlock first) root → OpensParts first g root s → (r : Result (Parts D O) (OpenError × D)) → IfOk r (λ t. t ≡ s)
       → IsWornBy (worn_by (s.base.log.first + length s.base.log.buffered) s.meta.tables.next) r → AnswersOpen first g r
   answered s root says opens r same worn =
       by_worn r (worn_by (s.base.log.first + length s.base.log.buffered) s.meta.tables.next) same worn
@@ -177,8 +177,8 @@ module _ {D O : Type 0} (first : Image) (g : Ghosts D) where
     where
       by_worn : (x : Result (Parts D O) (OpenError × D)) (w : Option ℕ) → IfOk x (λ t. t ≡ s) → IsWornBy w x → worn_in root first ≡ w → AnswersOpen first g x
       by_worn (Ok t) None is told eq =
-          subst (λ (u : Parts D O). SaysRootOf Paged (value_of RootBlock first) u.base.root × Opens first g u.base.root u × (worn_in u.base.root first ≡ None)) (sym is)
-          (subst (λ (q : Root). SaysRootOf Paged (value_of RootBlock first) q × Opens first g q s × (worn_in q first ≡ None)) (sym opens.root_is) (says, opens, eq))
+          subst (λ (u : Parts D O). SaysRootOf Paged (value_of RootBlock first) u.base.root × OpensParts first g u.base.root u × (worn_in u.base.root first ≡ None)) (sym is)
+          (subst (λ (q : Root). SaysRootOf Paged (value_of RootBlock first) q × OpensParts first g q s × (worn_in q first ≡ None)) (sym opens.root_is) (says, opens, eq))
       by_worn (Ok t) (Some n) is told eq = absurd told
       by_worn (Err e) None is told eq = absurd told
       by_worn (Err e) (Some n) is told eq = subst (RefusesAs first) (sym told) (root, says, eq)

@@ -26,7 +26,7 @@ use Rattle.ctr_redo.specs.Images.{records_in, FoldsFront}
 use Rattle.ctr_redo.proofs.PageLaws.{stays_out, goes_in, below_next, overlaid-append}
 use Rattle.ctr_redo.proofs.StateLaws.{state_push, page_is, tables-push, below_more}
 use Rattle.ctr_base.specs.declared.base.Base.{Base}
-use Rattle.ctr_base.specs.Base.{stored_of, waiting_of, now_of, home_of, MaySave, MayPut, IsQuiet, IsSoundImage, Stands, Rests, LeavesIf, MovesBase, MovesIf, KeepsBase, backing_of}
+use Rattle.ctr_base.specs.Base.{stored_of, waiting_of, now_of, home_of, MaySave, MayPut, IsQuiet, IsSoundImage, StandsWell, StandsQuiet, LeavesIf, MovesBase, MovesIf, KeepsBase, backing_of}
 use Rattle.ctr_store.specs.declared.parts.Parts.{Parts}
 use Rattle.ctr_store.specs.Changes.{LiesInside}
 use Rattle.ctr_store.specs.Parts.{IsFold, AreLow, CanLog, AddsRecord, LogsRecord}
@@ -62,7 +62,7 @@ module _ {D O : Type 0} (first : Image) (g : Ghosts D) where
   is_held_same a b holds p v None is = is ∙ sym (holds.same p)
   is_held_same a b holds p v (Some s) may = holds.still p s v may
 
-  pub over_held : (fs : List Frame) (a b : Base D O) → HoldsStill (home_of g) (MayPut first g) a b → Rests first g b → IsOver (backing_of first g) fs a → IsOver (backing_of first g) fs b
+  pub over_held : (fs : List Frame) (a b : Base D O) → HoldsStill (home_of g) (MayPut first g) a b → StandsQuiet first g b → IsOver (backing_of first g) fs a → IsOver (backing_of first g) fs b
   over_held fs a b holds rests over = record { at_rest = rests; held = λ p f is. is_held_same a b holds p (page_of f) f.since (over.held p f is) }
 
   pub shows_held : (fs : List Frame) (a b : Base D O) → HoldsStill (home_of g) (MayPut first g) a b → ShowsSame (backing_of first g) fs a fs b
@@ -138,10 +138,10 @@ module _ {D O : Type 0} (first : Image) (g : Ghosts D) where
       first = ap (λ (l : Log). l.first) log_is ∙ quiet.first;
     }
 
-    push_stands : Stands g a → Stands g b
-    push_stands stands = subst (λ (l : Log). Stands g (record a { log = l })) (sym log_is) (record { file = stands.file; goes_on = goes_more (g.reads a.disk) a.log (a.log.buffered ++ bytes ∷ []) log.room stands.goes_on; size = stands.size })
+    push_stands : StandsWell g a → StandsWell g b
+    push_stands stands = subst (λ (l : Log). StandsWell g (record a { log = l })) (sym log_is) (record { file = stands.file; goes_on = goes_more (g.reads a.disk) a.log (a.log.buffered ++ bytes ∷ []) log.room stands.goes_on; size = stands.size })
 
-    pub push_rests : Rests first g a → Rests first g b
+    pub push_rests : StandsQuiet first g a → StandsQuiet first g b
     push_rests rests = record { stands = push_stands rests.stands; quiet = λ sound. push_quiet (rests.quiet sound) }
 
     pub push_state : IsQuiet g a → state_of (now_of g b) ≡ step r (state_of (now_of g a))

@@ -23,7 +23,7 @@ use Rattle.ctr_redo.specs.States.{Stored}
 use Rattle.ctr_redo.proofs.PageLaws.{stays_out, goes_in, overlaid-append, same_page, below_next, no_lower}
 use Rattle.ctr_redo.proofs.StateLaws.{tables-push}
 use Rattle.ctr_base.specs.declared.base.Base.{Base}
-use Rattle.ctr_base.specs.Base.{stored_of, waiting_of, home_of, MaySave, MayPut, IsSoundImage, Rests, MovesBase, MovesIf, KeepsBase, backing_of}
+use Rattle.ctr_base.specs.Base.{stored_of, waiting_of, home_of, MaySave, MayPut, IsSoundImage, StandsQuiet, MovesBase, MovesIf, KeepsBase, backing_of}
 use Rattle.ctr_base.specs.BaseLaws.{moves_joined, stands_still}
 use Rattle.ctr_store.specs.declared.parts.Parts.{Parts}
 use Rattle.ctr_store.specs.Parts.{IsFold, AreLow}
@@ -229,7 +229,7 @@ module _ {D O : Type 0} (first : Image) (g : Ghosts D) where
       }
 
   -- before the first record
-  pub redo_starts : (s : Parts D O) → Rests first g s.base → s.pool.frames ≡ [] → s.base.log.buffered ≡ [] → RedoesPages first g s.base 0 s
+  pub redo_starts : (s : Parts D O) → StandsQuiet first g s.base → s.pool.frames ≡ [] → s.base.log.buffered ≡ [] → RedoesPages first g s.base 0 s
   redo_starts s rests empty none = record {
     over = record { at_rest = rests; held = λ p f is. let none : None ≡ Some f = sym (ap (frame_of p) empty) ∙ is in absurd (cc none) };
     root = refl;

@@ -22,7 +22,7 @@ use Rattle.ctr_redo.proofs.StateLaws.{tables-push}
 use Rattle.ctr_base.specs.declared.base.Base.{Base}
 use Rattle.ctr_store.specs.Redo.{IsNextRecord}
 use Rattle.ctr_store.specs.Changes.{LiesInside}
-use Rattle.ctr_store.specs.RecordChecks.{counted_check, PassesAs, ArePassed, tables_seen}
+use Rattle.ctr_store.specs.RecordChecks.{overlay_page_check, PassesAs, AllPass, tables_seen}
 
 -- the record of a visit stands where the visit does
 pub get_record : (vs : List Visit) (i : ℕ) (v : Visit) → slice_get vs i ≡ Some v → slice_get (records_in (visit_bytes vs)) i ≡ Some (record_in v.bytes)
@@ -41,13 +41,13 @@ length_seen [] = refl
 length_seen (x ∷ vs) = ap suc (length_seen vs)
 
 -- an overlay that passes lies on a counted page
-pub counted_in : (pages len : ℕ) (o : Option Overlay) → counted_check pages len o ≡ Ok tt → LiesInside pages o
+pub counted_in : (pages len : ℕ) (o : Option Overlay) → overlay_page_check pages len o ≡ Ok tt → LiesInside pages o
 counted_in pages len None is = tt
 counted_in pages len (Some o) is = ⊎_elim (λ w. ltb-true o.page pages w) (λ w. absurd (none w)) (either (nat_lt o.page pages))
   where
     none : nat_lt o.page pages ≡ false → ⊥
     none w =
-        let refused : counted_check pages len (Some o) ≡ Err (wrong (len - length o.bytes - 9) (pages - 1) o.page) =
+        let refused : overlay_page_check pages len (Some o) ≡ Err (wrong (len - length o.bytes - 9) (pages - 1) o.page) =
         ap (λ (b : Bool). if b then Ok tt else Err (wrong (len - length o.bytes - 9) (pages - 1) o.page)) w in
         absurd (cc (refused, is))
 
@@ -71,7 +71,7 @@ get_last [] w = refl
 get_last (x ∷ vs) w = get_last vs w
 
 -- a visit more passes behind those that passed
-pub passed_more : (pages : ℕ) (vs : List Visit) (w : Visit) → ArePassed pages vs → (r : Record) → PassesAs pages w.at (tables_seen vs) w.bytes r → ArePassed pages (vs ++ w ∷ [])
+pub passed_more : (pages : ℕ) (vs : List Visit) (w : Visit) → AllPass pages vs → (r : Record) → PassesAs pages w.at (tables_seen vs) w.bytes r → AllPass pages (vs ++ w ∷ [])
 passed_more pages vs w passed r passes i v is = ⊎_elim front last (cases_lt i (length vs))
   where
     front : i < length vs → (s : Record) × PassesAs pages v.at (tables_seen (take i (vs ++ w ∷ []))) v.bytes s

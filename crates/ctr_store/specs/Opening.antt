@@ -28,7 +28,7 @@ use Rattle.ctr_base.specs.Opening.{IsRootDamage}
 use Rattle.ctr_store.specs.declared.opening.OpenError.{OpenError}
 use Rattle.ctr_store.specs.declared.opening.OpenError.TheVariants as open_error
 use Rattle.ctr_store.specs.declared.opening.Found.{Found}
-use Rattle.ctr_store.specs.RecordChecks.{FailsAs, ArePassed, tables_seen}
+use Rattle.ctr_store.specs.RecordChecks.{FailsAs, AllPass, tables_seen}
 
 -- how a fault below is told
 abbrev pub fault_told : StoreFault → OpenError
@@ -46,7 +46,7 @@ pub record FindsLog (image : Image) (root : Root) (f : Found) : Type 0 where
   pub kept : OpensKept root.file root.first image f.log
   pub none : f.log.buffered ≡ []
   pub visits_are : f.visits ≡ kept_visits root.file root.first image
-  pub passed : ArePassed root.pages f.visits
+  pub passed : AllPass root.pages f.visits
   pub sound : kept_damage root.file root.first image ≡ Ok tt
   pub tables : f.meta.tables ≡ tables_seen f.visits
   pub goes_on : (rs : List (List ℕ)) → HoldsLog root.file root.first rs image
@@ -78,7 +78,7 @@ RefusesLog root image read.OutOfMemory = Unit {0}
 -- all checks of the log pass
 abbrev pub LogPasses : Root → Image → Type 0
 LogPasses root image = (kept_damage root.file root.first image ≡ Ok tt)
-    × ArePassed root.pages (kept_visits root.file root.first image)
+    × AllPass root.pages (kept_visits root.file root.first image)
 
 -- Damage that an opening tells is of the root, or of the file of pages; else of the log; else all
 -- checks of these pass, and it is of a page that the log's records are on.
@@ -96,7 +96,7 @@ pub record FindsFront (image : Image) (root : Root) (f : Found) : Type 0 where
 
 -- What was opened stands over the pool, with this root; where the first image was sound it is the
 -- fold of its records, and none waits.
-pub record Opens {D O : Type 0} (first : Image) (g : Ghosts D) (root : Root) (s : Parts D O) : Type 0
+pub record OpensParts {D O : Type 0} (first : Image) (g : Ghosts D) (root : Root) (s : Parts D O) : Type 0
   where
     pub root_is : s.base.root ≡ root
     pub none : s.base.log.buffered ≡ []
@@ -155,7 +155,7 @@ RefusesAs image open_error.OutOfMemory = value_of RootBlock image ≢ None
 -- An opening answers with what stands on the first image, which isn't worn; or it refuses that.
 abbrev pub AnswersOpen : {D O : Type 0} → Image → Ghosts D → Result (Parts D O) (OpenError × D) → Type 0
 AnswersOpen first g (Ok s) = SaysRootOf Paged (value_of RootBlock first) s.base.root
-    × Opens first g s.base.root s × (worn_in s.base.root first ≡ None)
+    × OpensParts first g s.base.root s × (worn_in s.base.root first ≡ None)
 AnswersOpen first g (Err e) = RefusesAs first e.0
 
 -- What a crash in an opening leaves: what it might have left as it began, or an image that folds

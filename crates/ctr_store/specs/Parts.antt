@@ -26,8 +26,8 @@ pub record IsFold {D O : Type 0} (first : Image) (g : Ghosts D) (s : Parts D O) 
       ≡ overlaid p s.base.root.first (now_of g s.base).records (home_of g s.base p)
 
 -- a frame of a page has no record that the log lacks, with those that wait
-abbrev pub IsLow : {D O : Type 0} → ℕ → Parts D O → Type 0
-IsLow p s = (f : Frame) → frame_of p s.pool.frames ≡ Some f
+abbrev pub IsLowFrame : {D O : Type 0} → ℕ → Parts D O → Type 0
+IsLowFrame p s = (f : Frame) → frame_of p s.pool.frames ≡ Some f
     → f.lsn < s.base.log.first + length s.base.log.buffered
 
 -- no page has a record that the log lacks, with those that wait

@@ -32,8 +32,8 @@ abbrev pub first_record_at : ℕ
 first_record_at = 29
 
 -- The first record of a generation is a Checkpoint, and no other is: 18 is wanted at another place.
-abbrev pub place_check : ℕ → List ℕ → Result ⊤ BadRecord
-place_check at bytes =
+abbrev pub first_record_check : ℕ → List ℕ → Result ⊤ BadRecord
+first_record_check at bytes =
     if at == first_record_at then expect 0 1 (field 1 0 bytes) else
     if field 1 0 bytes == 1 then Err (wrong 0 18 1) else Ok tt
 
@@ -44,9 +44,9 @@ pub record IsRefusedBytes (bytes : List ℕ) (bad : BadRecord) : Type 0 where
   pub exact : (t : Tag) → (layout t).number ≡ field 1 0 bytes → checks (layout t) bytes ≡ Err bad
 
 -- a page is counted; where it isn't, the place is its overlay's
-abbrev pub counted_check : ℕ → ℕ → Option Overlay → Result ⊤ BadRecord
-counted_check pages len None = Ok tt
-counted_check pages len (Some o) =
+abbrev pub overlay_page_check : ℕ → ℕ → Option Overlay → Result ⊤ BadRecord
+overlay_page_check pages len None = Ok tt
+overlay_page_check pages len (Some o) =
     if nat_lt o.page pages then Ok tt else
     Err (wrong (len - length o.bytes - 9) (pages - 1) o.page)
 
@@ -55,25 +55,25 @@ counted_check pages len (Some o) =
 pub record PassesAs (pages at : ℕ) (t : Tables) (bytes : List ℕ) (r : Record) : Type 0 where
   pub logged : IsLogged r
   pub bytes_are : record_bytes r ≡ bytes
-  pub place : place_check at bytes ≡ Ok tt
-  pub counted : counted_check pages (length bytes) (overlay_of r) ≡ Ok tt
+  pub place : first_record_check at bytes ≡ Ok tt
+  pub counted : overlay_page_check pages (length bytes) (overlay_of r) ≡ Ok tt
   pub fits : needs r t ≡ Ok tt
 
 -- The first check that fails is one of the place, of the bytes, or of the record that they are.
 abbrev pub FailsAs : ℕ → ℕ → Tables → List ℕ → BadRecord → Type 0
-FailsAs pages at t bytes bad = (place_check at bytes ≡ Err bad)
-    ⊎ ((place_check at bytes ≡ Ok tt) × IsRefusedBytes bytes bad)
-    ⊎ ((r : Record) × IsLogged r × (record_bytes r ≡ bytes) × (place_check at bytes ≡ Ok tt)
-    × ((counted_check pages (length bytes) (overlay_of r) ≡ Err bad)
-    ⊎ ((counted_check pages (length bytes) (overlay_of r) ≡ Ok tt) × (needs r t ≡ Err bad))))
+FailsAs pages at t bytes bad = (first_record_check at bytes ≡ Err bad)
+    ⊎ ((first_record_check at bytes ≡ Ok tt) × IsRefusedBytes bytes bad)
+    ⊎ ((r : Record) × IsLogged r × (record_bytes r ≡ bytes) × (first_record_check at bytes ≡ Ok tt)
+    × ((overlay_page_check pages (length bytes) (overlay_of r) ≡ Err bad)
+    ⊎ ((overlay_page_check pages (length bytes) (overlay_of r) ≡ Ok tt) × (needs r t ≡ Err bad))))
 
 -- the tables that the records of visits leave
 abbrev pub tables_seen : List Visit → Tables
 tables_seen vs = tables_of (records_in (visit_bytes vs))
 
 -- each record of a log passes, behind those before it
-abbrev pub ArePassed : ℕ → List Visit → Type 0
-ArePassed pages vs = (i : ℕ) (v : Visit) → slice_get vs i ≡ Some v
+abbrev pub AllPass : ℕ → List Visit → Type 0
+AllPass pages vs = (i : ℕ) (v : Visit) → slice_get vs i ≡ Some v
     → (r : Record) × PassesAs pages v.at (tables_seen (take i vs)) v.bytes r
 
 -- so many pages are counted by the root that an image says

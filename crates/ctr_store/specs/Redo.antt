@@ -10,10 +10,10 @@ use Rattle.ctr_pool.specs.Frames.{page_shown}
 use Rattle.ctr_pool.specs.Over.{IsOver}
 use Rattle.ctr_redo.specs.Overlaid.{overlay_of, overlaid}
 use Rattle.ctr_base.specs.declared.base.Base.{Base}
-use Rattle.ctr_base.specs.Base.{stored_of, home_of, IsSoundImage, Rests, IsQuiet, MovesIf, backing_of}
+use Rattle.ctr_base.specs.Base.{stored_of, home_of, IsSoundImage, StandsQuiet, IsQuiet, MovesIf, backing_of}
 use Rattle.ctr_store.specs.Changes.{LiesInside}
 use Rattle.ctr_store.specs.declared.parts.Parts.{Parts}
-use Rattle.ctr_store.specs.RecordChecks.{ArePassed, tables_seen}
+use Rattle.ctr_store.specs.RecordChecks.{AllPass, tables_seen}
 
 -- Where the first image was sound, the pool shows what the first n records make of what was held
 -- at the start. What is held now doesn't matter: a page may have gone home on the way.
@@ -38,10 +38,10 @@ pub record IsNextRecord {D O : Type 0} (g : Ghosts D) (start : Base D O) (n : �
 -- theirs, and the pool has no page.
 pub record Begins {D O : Type 0} (first : Image) (g : Ghosts D) (vs : List Visit) (s : Parts D O)
     : Type 0 where
-  pub rests : Rests first g s.base
+  pub rests : StandsQuiet first g s.base
   pub empty : s.pool.frames ≡ []
   pub none : s.base.log.buffered ≡ []
   pub records : visit_bytes vs ≡ kept_log s.base.root.file s.base.root.first (g.reads s.base.disk)
   pub numbers : AreNumbered s.base.root.first vs
   pub tables : s.meta.tables ≡ tables_seen vs
-  pub passed : ArePassed s.base.root.pages vs
+  pub passed : AllPass s.base.root.pages vs

@@ -8,7 +8,7 @@ ghost use Rattle.ctr_redo.specs.States.{page_limit, page_at, state_of};
 ghost use Rattle.ctr_base.specs.Base.{now_of, IsSoundImage, LeavesIf, MovesIf, KeepsBase, backing_of};
 ghost use Rattle.ctr_pool.specs.Over.{IsOver, StaysOver};
 ghost use Rattle.ctr_disk.specs.Device.{OnlyReads};
-ghost use Rattle.ctr_store.specs.Parts.{IsFold, IsLow, AreLow, CanLog, AddsRecord, LogsRecord, LogsRoom};
+ghost use Rattle.ctr_store.specs.Parts.{IsFold, IsLowFrame, AreLow, CanLog, AddsRecord, LogsRecord, LogsRoom};
 
 use crate::spelling::{append_record, overlay_of};
 use ctr_base::{Base, Origin};
@@ -50,7 +50,7 @@ impl<D: Disk, O: Origin> Parts<D, O> {
     // The page that a frame has lacks no record of the log, with those that wait.
     fn check_low(&mut self, page: PageNo) -> Result<(), StoreFault>
         requires { has_page page self.old.pool.frames ≡ true }
-        ensures low { OnOk result (IsLow page self.old) }
+        ensures low { OnOk result (IsLowFrame page self.old) }
         ensures same { (self.new.pool ≡ self.old.pool) × (self.new.meta ≡ self.old.meta) }
         ensures read { OnlyReads D.Disk self.old.base.disk self.new.base.disk }
         ensures below { self.new.base ≡ record self.old.base { disk = self.new.base.disk } }
@@ -75,7 +75,7 @@ impl<D: Disk, O: Origin> Parts<D, O> {
     /// Brings a page into a frame. It has no record that the log lacks, or that is damage.
     pub fn bring(&mut self, page: PageNo) -> Result<(), StoreFault>
         requires { IsTrue D.tells → IsOver (backing_of O.first D.Disk) self.old.pool.frames self.old.base }
-        ensures there { OnOk result ((has_page page self.new.pool.frames ≡ true) × IsLow page self.new) }
+        ensures there { OnOk result ((has_page page self.new.pool.frames ≡ true) × IsLowFrame page self.new) }
         ensures keeps { KeepsBase self.old.base self.new.base × (self.new.meta ≡ self.old.meta) }
         ensures goes { IsTrue D.tells → LeavesIf O.first D.Disk self.old.base self.new.base }
         ensures moves { IsTrue D.tells → OnOk result (MovesIf O.first D.Disk self.old.base self.new.base) }
@@ -145,7 +145,7 @@ impl<D: Disk, O: Origin> Parts<D, O> {
     fn log_on(&mut self, rec: &Record, overlay: &Overlay) -> Lsn
         requires can { CanLog rec.now self.old }
         requires on { overlay_of rec.now ≡ Some overlay.now }
-        requires there { (has_page overlay.now.page self.old.pool.frames ≡ true) × IsLow overlay.now.page self.old }
+        requires there { (has_page overlay.now.page self.old.pool.frames ≡ true) × IsLowFrame overlay.now.page self.old }
         ensures number { result ≡ self.old.base.log.first + length self.old.base.log.buffered }
         ensures below { self.new.base.disk ≡ self.old.base.disk }
         ensures adds { IsTrue D.tells → IsFold O.first D.Disk self.old → IsSoundImage O.first → AddsRecord D.Disk rec.now self.old self.new }

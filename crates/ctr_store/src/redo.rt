@@ -6,7 +6,7 @@ ghost use Rattle.ctr_records.specs.declared.record.Record.{Record as Logged};
 ghost use Rattle.ctr_meta.specs.Tables.{Tables};
 ghost use Rattle.ctr_records.specs.Records.{IsRecord};
 ghost use Rattle.ctr_records.specs.Spelling.{record_bytes};
-ghost use Rattle.ctr_store.specs.RecordChecks.{PassesAs, ArePassed};
+ghost use Rattle.ctr_store.specs.RecordChecks.{PassesAs, AllPass};
 ghost use Rattle.ctr_pool.specs.Over.{IsOver};
 ghost use Rattle.ctr_redo.specs.Overlaid.{overlay_of};
 ghost use Rattle.ctr_base.specs.declared.base.Base.{Base as Under};
@@ -65,7 +65,7 @@ impl<D: Disk, O: Origin> Parts<D, O> {
     /// Brings the pages forward by the records of the log, in order, each page where it lacks one.
     pub fn redo(&mut self, visits: &[Visit]) -> Result<(), StoreFault>
         requires begins { IsTrue D.tells → Begins O.first D.Disk visits.now self.old }
-        requires passed { (pages : ℕ) × ArePassed pages visits.now }
+        requires passed { (pages : ℕ) × AllPass pages visits.now }
         ensures goes { IsTrue D.tells → LeavesIf O.first D.Disk self.old.base self.new.base }
         ensures fold { IsTrue D.tells → OnOk result (IsFold O.first D.Disk self.new) }
         ensures moves { IsTrue D.tells → OnOk result (MovesIf O.first D.Disk self.old.base self.new.base) }

@@ -7,7 +7,7 @@ ghost use Rattle.ctr_meta.specs.Kept.{IsLogged, MayApply};
 ghost use Rattle.ctr_redo.specs.Overlaid.{overlay_of};
 ghost use Rattle.ctr_disk.specs.declared.fault.StoreFault.TheVariants.{Damaged};
 ghost use Rattle.ctr_log.specs.declared.reading.ReadError.TheVariants.{Store, OutOfMemory as NoMemory};
-ghost use Rattle.ctr_store.specs.RecordChecks.{place_check, counted_check, PassesAs, FailsAs, ArePassed, CountsPages, tables_seen};
+ghost use Rattle.ctr_store.specs.RecordChecks.{first_record_check, overlay_page_check, PassesAs, FailsAs, AllPass, CountsPages, tables_seen};
 ghost use Rattle.ctr_log.specs.Visits.{visit_of};
 
 use crate::spelling::overlay_of;
@@ -58,7 +58,7 @@ fn first_byte(bytes: &[u8]) -> u8
 
 // A Checkpoint stands first in its file, and nowhere else.
 fn check_place(at: u64, bytes: &[u8]) -> Result<(), BadRecord>
-    ensures { result ≡ place_check at bytes.now }
+    ensures { result ≡ first_record_check at bytes.now }
 {
     let tag = first_byte(bytes);
     if at == FIRST_RECORD {
@@ -76,7 +76,7 @@ fn check_place(at: u64, bytes: &[u8]) -> Result<(), BadRecord>
 
 // A record's overlay is on a counted page.
 fn check_counted(pages: u32, len: usize, rec: &Record) -> Result<(), BadRecord>
-    ensures { result ≡ counted_check pages len (overlay_of rec.now) }
+    ensures { result ≡ overlay_page_check pages len (overlay_of rec.now) }
 {
     let Some(overlay) = overlay_of(rec) else {
         return Ok(());
@@ -142,7 +142,7 @@ impl<D: Disk, O: Origin> Seen<D, O> {
     pub fn into_parts(self) -> (Meta, List<Visit>)
         ensures tables { result.0.tables ≡ self.tables }
         ensures visits { result.1 ≡ self.visits }
-        ensures passed { ArePassed self.pages self.visits × (self.tables ≡ tables_seen self.visits) × (IsTrue D.tells → CountsPages O.first self.pages) }
+        ensures passed { AllPass self.pages self.visits × (self.tables ≡ tables_seen self.visits) × (IsTrue D.tells → CountsPages O.first self.pages) }
     {
         let Seen {
             alloc: _,

@@ -32,7 +32,7 @@ use Rattle.ctr_top.specs.declared.outcome.Outcome.{Outcome}
 use Rattle.ctr_top.specs.declared.ending.Ending.{Ending}
 use Rattle.ctr_top.specs.declared.ending.Ending.TheVariants as ending
 use Rattle.ctr_top.specs.Endings.{opened_as, read_as, stopped_as}
-use Rattle.ctr_top.specs.Top.{Ran, LinesCauses, RunCauses, DiskWhy, SourceWhy, IsRead, IsRefused, IsHindered, IsByScript, WantsScript, IsNoneOrEmpty}
+use Rattle.ctr_top.specs.Top.{Ran, LinesCauses, RunCauses, DiskWhy, SourceWhy, IsScriptRead, IsRefused, IsHindered, IsByScript, WantsScript, IsNoneOrEmpty}
 
 -- ---- why a database wasn't opened, and how a World ended
 
@@ -49,13 +49,13 @@ module _ {D : Type 0} (g : Ghosts D) (old new : D) where
   end_why (Some (stop.Damaged file at want got)) stops can_open = absurd stops
   end_why (Some (stop.Worn lsn)) stops can_open = absurd stops
 
-opened_well : (error : OpenError) → IsRead (opened_as error)
+opened_well : (error : OpenError) → IsScriptRead (opened_as error)
 opened_well open_error.NoDatabase = tt
 opened_well (open_error.Damaged file at want got) = tt
 opened_well open_error.Fault = tt
 opened_well open_error.OutOfMemory = tt
 
-stopped_well : (s : Option Stop) → IsRead (stopped_as s)
+stopped_well : (s : Option Stop) → IsScriptRead (stopped_as s)
 stopped_well None = tt
 stopped_well (Some stop.Fault) = tt
 stopped_well (Some (stop.Damaged file at want got)) = tt
@@ -66,14 +66,14 @@ module _ {D : Type 0} (g : Ghosts D) (old : D) (o : Outcome D) where
   pub open_causes : (error : OpenError) → o.ending ≡ opened_as error → OpenDiffers error → (IsTrue g.tells → Explains (g.reads old) error) → (error ≡ open_error.Fault → CountsFault (g.faults_of old) (g.faults_of o.disk)) → LinesCauses g old o
   open_causes error is differs explains fault = record {
     by_disk = subst (DiskWhy g old o.disk) (sym is) (open_why g old o.disk error differs explains fault);
-    is_read = subst IsRead (sym is) (opened_well error);
+    is_read = subst IsScriptRead (sym is) (opened_well error);
   }
 
   -- the cause of a World's end
   pub end_causes : (s : Option Stop) → o.ending ≡ stopped_as s → StopsBy s (g.faults_of old) (g.faults_of o.disk) → (IsTrue g.tells → CanOpen (g.reads old)) → LinesCauses g old o
   end_causes s is stops can_open = record {
     by_disk = subst (DiskWhy g old o.disk) (sym is) (end_why g old o.disk s stops can_open);
-    is_read = subst IsRead (sym is) (stopped_well s);
+    is_read = subst IsScriptRead (sym is) (stopped_well s);
   }
 
 -- nothing was opened, so nothing was finished
@@ -172,7 +172,7 @@ module _ {S : Type 0} (s : Source S) (source new : S) where
   source_why_read script_error.ReadFault reason counts = counts refl
   source_why_read script_error.OutOfMemory reason counts = tt
 
-  source_why : (e : Ending) → IsRead e → s.faults_of new ≡ s.faults_of source → SourceWhy s source new e
+  source_why : (e : Ending) → IsScriptRead e → s.faults_of new ≡ s.faults_of source → SourceWhy s source new e
   source_why ending.Finished read same = same
   source_why (ending.Refused line at) read same = absurd read
   source_why ending.TooLong read same = absurd read

@@ -148,24 +148,24 @@ SourceWhy s old new ending.Exists = Unit {0}
 SourceWhy s old new (ending.Worn number) = Unit {0}
 
 -- the script was read: the ending is none of one that wasn't
-abbrev pub IsRead : Ending → Type 0
-IsRead ending.Finished = Unit {0}
-IsRead (ending.Refused line at) = ⊥
-IsRead ending.TooLong = ⊥
-IsRead ending.Usage = Unit {0}
-IsRead ending.NoDatabase = Unit {0}
-IsRead (ending.Damaged file at want got) = Unit {0}
-IsRead ending.DiskFault = Unit {0}
-IsRead ending.ReadFault = ⊥
-IsRead ending.WriteFault = Unit {0}
-IsRead ending.OutOfMemory = Unit {0}
-IsRead ending.Exists = Unit {0}
-IsRead (ending.Worn number) = Unit {0}
+abbrev pub IsScriptRead : Ending → Type 0
+IsScriptRead ending.Finished = Unit {0}
+IsScriptRead (ending.Refused line at) = ⊥
+IsScriptRead ending.TooLong = ⊥
+IsScriptRead ending.Usage = Unit {0}
+IsScriptRead ending.NoDatabase = Unit {0}
+IsScriptRead (ending.Damaged file at want got) = Unit {0}
+IsScriptRead ending.DiskFault = Unit {0}
+IsScriptRead ending.ReadFault = ⊥
+IsScriptRead ending.WriteFault = Unit {0}
+IsScriptRead ending.OutOfMemory = Unit {0}
+IsScriptRead ending.Exists = Unit {0}
+IsScriptRead (ending.Worn number) = Unit {0}
 
 -- the cause of each ending of a script that was read
 pub record LinesCauses {D : Type 0} (g : Ghosts D) (old : D) (o : Outcome D) : Type 0 where
   pub by_disk : DiskWhy g old o.disk o.ending
-  pub is_read : IsRead o.ending
+  pub is_read : IsScriptRead o.ending
 
 -- what may come in place of any ending of reading
 abbrev pub IsHindered : Ending → Type 0
@@ -173,7 +173,7 @@ IsHindered e = (e ≡ ending.ReadFault) ⊎ (e ≡ ending.OutOfMemory)
 
 -- the bytes are a script, or the ending may come without one
 abbrev pub WantsScript : List ℕ → Ending → Type 0
-WantsScript bytes e = (IsRead e → ⊥)
+WantsScript bytes e = (IsScriptRead e → ⊥)
     ⊎ ((e ≡ ending.OutOfMemory) ⊎ ((lines : List Line) × IsWritten SpellsLine bytes lines))
 
 -- The script is read before the disk is touched, so the bytes decide first: what is refused is

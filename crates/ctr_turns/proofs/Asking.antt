@@ -15,7 +15,7 @@ use Rattle.ctr_legal.specs.Ready.{IsUnasked}
 use Rattle.ctr_legal.proofs.Keep.{turned}
 use Rattle.ctr_log.specs.Logs.{Log}
 use Rattle.ctr_rec.specs.declared.item.Item.{Item}
-use Rattle.ctr_rec.specs.Encode.{IsSpelled, record_bytes}
+use Rattle.ctr_rec.specs.Encode.{IsSpelled, commit_bytes}
 use Rattle.ctr_rec.specs.Fold.{FoldsRecord}
 use Rattle.ctr_acts.specs.Acts.{ActsHeld, ShowsActs, ActReplies, ActKeeps}
 use Rattle.ctr_gather.specs.Gathered.{rows_asked, IsGathered, OthersGather, AskedRowsAre, CommitFolds}
@@ -39,8 +39,8 @@ in_some s state k (inr may) = may
 
 module _ (s : ℕ) (old new : TurnsHeld) (log log_new : Log) (alike : OthersAlike s old.records new.records) (none : (record_at s new.records).most ≡ 0) where
   -- a writer asks
-  pub ask_turn : OthersGather → AskedRowsAre → CommitFolds → ((is : List Item) → IsSpelled is (record_bytes is)) → IsSession s old.records → (record_at s old.records).count < 2 ^ 32
-      → ((items : List Item) → IsRecordOf items (record_at s old.records) → log_new ≡ record log { buffered = log.buffered ++ record_bytes items ∷ []; room = log_new.room })
+  pub ask_turn : OthersGather → AskedRowsAre → CommitFolds → ((is : List Item) → IsSpelled is (commit_bytes is)) → IsSession s old.records → (record_at s old.records).count < 2 ^ 32
+      → ((items : List Item) → IsRecordOf items (record_at s old.records) → log_new ≡ record log { buffered = log.buffered ++ commit_bytes items ∷ []; room = log_new.room })
       → (k : ℕ) → ActKeeps s act.Ask st.Commit old.acts new.acts (reply.Asked k) → TurnKeeps s act.Ask st.Commit (with_log old log) (with_log new log_new) (reply.Asked k)
   ask_turn others rows folds spelled one few appended k keeps low from state shows kept ready turn = by_case (either_in (transaction_of state s))
     where
@@ -58,7 +58,7 @@ module _ (s : ℕ) (old new : TurnsHeld) (log log_new : Log) (alike : OthersAlik
           let items = held.0 in
           let counted = held.1.counted in
           let fit : length items < 2 ^ 32 = subst (λ n. n < 2 ^ 32) counted few in
-          let buffered : log_new.buffered ≡ log.buffered ++ record_bytes items ∷ [] = ap (λ (l : Log). l.buffered) (appended items held.1) in
+          let buffered : log_new.buffered ≡ log.buffered ++ commit_bytes items ∷ [] = ap (λ (l : Log). l.buffered) (appended items held.1) in
           record {
             allowed = replies.allowed;
             shows = subst (ShowsTurns low new from log_new.buffered) (sym next) (record {
@@ -68,8 +68,8 @@ module _ (s : ℕ) (old new : TurnsHeld) (log log_new : Log) (alike : OthersAlik
                   (λ r u their apart there unasked. let theirs = shows.gathers r u their there unasked in
                   (theirs.0, theirs.1, subst (λ d. IsGathered d u theirs.0) (sym (rows state me.own)) (others state s r me u theirs.0 kept (turned r s apart) at there theirs.2)));
               idle = put_idle s old.records new.records alike (record state { asked = state.asked ++ me.own ∷ [] }) (record me { asked = Some k }) shows.idle;
-              waits = subst (WaitFrom other from) (sym buffered) (waits_more state other me.own refl refl (record_bytes items)
-                  (subst (λ d. FoldsRecord (rows_asked state) (record_bytes items) d) (sym (rows state me.own)) (folds (rows_asked state) me items (record_bytes items) held.2 (fit, held.1.fit) (spelled items)))
+              waits = subst (WaitFrom other from) (sym buffered) (waits_more state other me.own refl refl (commit_bytes items)
+                  (subst (λ d. FoldsRecord (rows_asked state) (commit_bytes items) d) (sym (rows state me.own)) (folds (rows_asked state) me items (commit_bytes items) held.2 (fit, held.1.fit) (spelled items)))
                   from log.buffered shows.waits);
             });
           }

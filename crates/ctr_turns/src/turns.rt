@@ -6,7 +6,7 @@ ghost use Rattle.ctr_types.specs.declared.tape.Act.TheVariants as act;
 ghost use Rattle.ctr_types.specs.declared.tape.Reply.TheVariants as reply;
 ghost use Rattle.ctr_acts.specs.Writing.{OthersCanWrite};
 ghost use Rattle.ctr_rec.specs.declared.item.Item.{Item as HeldItem};
-ghost use Rattle.ctr_rec.specs.Encode.{record_bytes};
+ghost use Rattle.ctr_rec.specs.Encode.{commit_bytes};
 ghost use Rattle.ctr_gather.specs.Records.{room_kept, IsRecordOf, IsSession, record_at, OthersAlike};
 ghost use Rattle.ctr_model.specs.Database.{Database};
 ghost use Rattle.ctr_model.specs.State.{at_rest};
@@ -43,7 +43,7 @@ fn append(records: &mut Records, log: &mut LogFile, s: u8)
     requires one { IsSession s records.old }
     requires room { room_kept records.old ≤ log.old.room }
     requires numbers { HasNumbers log.old }
-    ensures appended { (items : List HeldItem) → IsRecordOf items (record_at s records.old) → log.new ≡ record log.old { buffered = log.old.buffered ++ record_bytes items ∷ []; room = log.new.room } }
+    ensures appended { (items : List HeldItem) → IsRecordOf items (record_at s records.old) → log.new ≡ record log.old { buffered = log.old.buffered ++ commit_bytes items ∷ []; room = log.new.room } }
     ensures room { room_kept records.new ≤ log.new.room }
     ensures idle { (record_at s records.new).most ≡ 0 }
     ensures log { AppendsAtMostOne log.old log.new }

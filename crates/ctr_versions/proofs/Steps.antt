@@ -18,7 +18,7 @@ use Rattle.ctr_versions.specs.Xids.{IsSnapshotOf, Xids, place_from, number_of, t
 use Rattle.ctr_snap.specs.Seeing.{SnapshotTaken, has}
 use Rattle.ctr_versions.specs.Changes.{write}
 use Rattle.ctr_versions.specs.Versions.{Made, Versions, names_at, rows_of, schemas, VersionsStand, Wrote, RowsSet, IsTableOf}
-use Rattle.ctr_versions.specs.Engine.{SessionHeld, EngineHeld, IsBy, AreBy, IsDrawn, IsSeenIfOld, IsCalm, ShowsSession, Inside, AreBelow, AreApart, ShowsState}
+use Rattle.ctr_versions.specs.Engine.{SessionHeld, EngineHeld, IsBy, AreBy, IsDrawn, IsSeenIfOld, IsCalm, ShowsSession, Inside, AreBelow, HaveOwnXids, ShowsState}
 use Rattle.ctr_versions.specs.Steps.{IsFreeKey, AreUntouched, engine_begun, engine_drawn}
 use Rattle.ctr_versions.proofs.Xids.{not_before, has_here, has-append, has-minus-other, taken_is_of, taken_old, drawn_numbers, drawn_snapshots, drawn_sound, live_none, asked_numbers, asked_old, asked_snapshots, asked_sound, aborted_numbers, aborted_snapshots, aborted_sound}
 use Rattle.ctr_versions.proofs.Engine.{renumbered_stands, renumbered_wrote, nothing_wrote}
@@ -69,7 +69,7 @@ module _ (low low' a a' : ℕ) (xids xids' : Xids) (versions versions' : Version
       (old.0, old.1, others r u old.0 apart before old.1 old.2))
 
 -- the session has another number, which no other has
-apart_put : (s : ℕ) (session : SessionHeld) (sessions : List (ℕ × SessionHeld)) → ((r : ℕ) (b : SessionHeld) → (r == s) ≡ false → find nat_cmp r sessions ≡ Some b → 0 < session.me → b.me ≡ session.me → ⊥) → AreApart sessions → AreApart (put nat_cmp s session sessions)
+apart_put : (s : ℕ) (session : SessionHeld) (sessions : List (ℕ × SessionHeld)) → ((r : ℕ) (b : SessionHeld) → (r == s) ≡ false → find nat_cmp r sessions ≡ Some b → 0 < session.me → b.me ≡ session.me → ⊥) → HaveOwnXids sessions → HaveOwnXids (put nat_cmp s session sessions)
 apart_put s session sessions free apart p q a b at_p at_q positive same =
     let found : (r : ℕ) (b : SessionHeld) → find nat_cmp r (put nat_cmp s session sessions) ≡ Some b → (r == s) ≡ true → b ≡ session = λ r b at one. some_is b session (sym at ∙ ap (λ q. find nat_cmp q (put nat_cmp s session sessions)) (eqb-true r s one) ∙ find-put-same s session sessions) in
     let other : (r : ℕ) (b : SessionHeld) → find nat_cmp r (put nat_cmp s session sessions) ≡ Some b → (r == s) ≡ false → find nat_cmp r sessions ≡ Some b = λ r b at two. sym (find-put-other r s session sessions two) ∙ at in
@@ -91,7 +91,7 @@ below_without s next sessions below r b at = known (r == s)
     (λ one. absurd (false≢true (ap is_some (sym (ap (λ q. find nat_cmp q (without nat_cmp s sessions)) (eqb-true r s one) ∙ find-without-same s sessions) ∙ at))))
     (λ two. below r b (sym (find-without-other r s sessions two) ∙ at))
 
-apart_without : (s : ℕ) (sessions : List (ℕ × SessionHeld)) → AreApart sessions → AreApart (without nat_cmp s sessions)
+apart_without : (s : ℕ) (sessions : List (ℕ × SessionHeld)) → HaveOwnXids sessions → HaveOwnXids (without nat_cmp s sessions)
 apart_without s sessions apart p q a b at_p at_q positive same =
     let other : (r : ℕ) (b : SessionHeld) → find nat_cmp r (without nat_cmp s sessions) ≡ Some b → find nat_cmp r sessions ≡ Some b = λ r b at. known (r == s)
     (λ one. absurd (false≢true (ap is_some (sym (ap (λ q. find nat_cmp q (without nat_cmp s sessions)) (eqb-true r s one) ∙ find-without-same s sessions) ∙ at))))
@@ -119,7 +119,7 @@ module _ (low : ℕ) (engine : EngineHeld) (state : State) (shows : ShowsState l
 
   -- the numbers of transactions are others, where each has the commit number that it had, and so are the sessions
   pub set_xids : (xids : Xids) (sessions : List (ℕ × SessionHeld)) (transactions : List (ℕ × Transaction)) → AreSound xids → xids.commits ≡ engine.xids.commits → ((x : ℕ) → number_of xids x ≡ number_of engine.xids x) → engine.xids.next ≤ xids.next
-      → Inside low state.answered xids engine.versions transactions sessions → AreBelow xids.next sessions → AreApart sessions → ShowsState low (record engine { xids = xids; sessions = sessions }) (record state { sessions = transactions })
+      → Inside low state.answered xids engine.versions transactions sessions → AreBelow xids.next sessions → HaveOwnXids sessions → ShowsState low (record engine { xids = xids; sessions = sessions }) (record state { sessions = transactions })
   set_xids xids sessions transactions sound commits numbers le inside below apart = record {
     sound = sound;
     counted = ap length commits ∙ shows.counted;
@@ -137,7 +137,7 @@ module _ (low : ℕ) (engine : EngineHeld) (state : State) (shows : ShowsState l
       later x lt = omega (arith, lt, le)
 
   -- the sessions are others
-  pub set_sessions : (sessions : List (ℕ × SessionHeld)) (transactions : List (ℕ × Transaction)) → Inside low state.answered engine.xids engine.versions transactions sessions → AreBelow engine.xids.next sessions → AreApart sessions
+  pub set_sessions : (sessions : List (ℕ × SessionHeld)) (transactions : List (ℕ × Transaction)) → Inside low state.answered engine.xids engine.versions transactions sessions → AreBelow engine.xids.next sessions → HaveOwnXids sessions
       → ShowsState low (record engine { sessions = sessions }) (record state { sessions = transactions })
   set_sessions sessions transactions inside below apart = set_xids engine.xids sessions transactions shows.sound refl (λ x. refl) (omega arith) inside below apart
 

@@ -76,8 +76,8 @@ AreBelow next sessions =
     (s : ℕ) (a : SessionHeld) → find nat_cmp s sessions ≡ Some a → a.me < next
 
 -- no two sessions have one number, but for 0
-abbrev pub AreApart : List (ℕ × SessionHeld) → Type 0
-AreApart sessions = (s r : ℕ) (a b : SessionHeld) → find nat_cmp s sessions ≡ Some a
+abbrev pub HaveOwnXids : List (ℕ × SessionHeld) → Type 0
+HaveOwnXids sessions = (s r : ℕ) (a b : SessionHeld) → find nat_cmp s sessions ≡ Some a
     → find nat_cmp r sessions ≡ Some b → 0 < a.me → a.me ≡ b.me → s ≡ r
 
 -- The engine shows the state. From the low number on, which is at most the count of answered
@@ -94,4 +94,4 @@ pub record ShowsState (low : ℕ) (engine : EngineHeld) (state : State) : Type 0
   pub drawn : AreBy (IsDrawn engine.xids.next) engine.versions
   pub inside : Inside low state.answered engine.xids engine.versions state.sessions engine.sessions
   pub below : AreBelow engine.xids.next engine.sessions
-  pub apart : AreApart engine.sessions
+  pub apart : HaveOwnXids engine.sessions

@@ -58,10 +58,11 @@ count_end = 2 ^ 64 - 1
 abbrev pub IsCountOf : ℕ → ℕ → Versions → Type 0
 IsCountOf x n versions = n < count_end → HeadsAre x n versions
 
--- one more, or one less
+-- one more, but for a count at the end of its type
 abbrev pub count_up : ℕ → ℕ
 count_up n = if nat_lt n count_end then n + 1 else n
 
+-- one less, but for a count at the end of its type
 abbrev pub count_down : ℕ → ℕ
 count_down n = if nat_lt n count_end then n - 1 else n
 

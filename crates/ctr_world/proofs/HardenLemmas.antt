@@ -27,7 +27,7 @@ use Rattle.ctr_world.specs.declared.parts.Parts.{Parts}
 use Rattle.ctr_world.specs.declared.opening.Opening.{Ghosts as Opening}
 use Rattle.ctr_world.specs.Crash.{reached, HasCommits, IsPrefixAt, Survives, Rests, HasLongLog, OnlyLogChanges}
 use Rattle.ctr_world.specs.Turns.{AnswersAll}
-use Rattle.ctr_world.specs.World.{Runs, state_of}
+use Rattle.ctr_world.specs.World.{RunsFrom, state_reached}
 use Rattle.ctr_world.proofs.AloneLemmas.{others_twice}
 use Rattle.ctr_world.proofs.CrashLemmas.{order, has_less, survives_call}
 use Rattle.ctr_world.proofs.RunLemmas.{Longer, longer, more_runs, rows_same}
@@ -98,10 +98,10 @@ long_log (suc n) place file c is high long = inr (omega (arith, high, long, ap (
 module _ {D : Type 0} (dev : Ghosts D)
     (earlier : (d : D) (s t : ℕ) (c : Image) → s ≤ t → dev.since d t c → dev.since d s c) (only_now : (d : D) (c : Image) → dev.since d (dev.moment_of d) c → dev.images d c)
     (by_records : ByRecords) (later_law : LaterWalks) {B : Type 0} (op : Opening B) (base : Database)
-    (w : Parts D) (runs : Runs dev op base w) (going : w.stop ≡ None) (later : op.start ≤ dev.moment_of w.disk)
+    (w : Parts D) (runs : RunsFrom dev op base w) (going : w.stop ≡ None) (later : op.start ≤ dev.moment_of w.disk)
     (grow : StatesGrow) where
   abbrev pub now_state : State
-  now_state = state_of op base w
+  now_state = state_reached op base w
 
   pub at_rest : Rests dev w.disk w.log now_state
   at_rest = runs.rests going
@@ -157,7 +157,7 @@ module _ {D : Type 0} (dev : Ghosts D)
   -- the flush failed
   pub fails_runs : (e : D) (log : Log) → dev.moment_of w.disk ≤ dev.moment_of e → Flushing e
       → (w.log.place + 2 ^ 61 < 2 ^ 63 → dev.strays_of e ≡ dev.strays_of w.disk) → log.file ≡ w.log.file
-      → Runs dev op base (record w { disk = e; log = log; stop = Some stop.Fault })
+      → RunsFrom dev op base (record w { disk = e; log = log; stop = Some stop.Fault })
   fails_runs e log on leaves stray file = record {
     waiting = w.log.buffered;
     walks = later_law (at_start op.start base []) w.steps.answered (dev.moment_of w.disk) (dev.moment_of e) w.steps w.log.buffered on old_walks;
@@ -246,7 +246,7 @@ module _ {D : Type 0} (dev : Ghosts D)
     pub hardened_walks : Walks start steps.answered steps log.buffered (dev.moment_of e)
     hardened_walks = subst (λ l. Walks start steps.answered steps l (dev.moment_of e)) (sym none) (subst (λ k. Walks start k steps [] (dev.moment_of e)) steps_is answered)
 
-    pub answers_runs : Runs dev op base hardened
+    pub answers_runs : RunsFrom dev op base hardened
     answers_runs = more_runs dev earlier only_now grow sound op base w hardened all.adds.entries all.adds.tape all.adds.moments script hardened_walks (survives_flush e leaves)
         (subst (λ es. Rests dev e log (reached lines op.start base es).state) (sym all.adds.tape) rests_again)
         (alone_after e leaves) (file ∙ runs.log_is) (others_after (dev.reads e) flushed.0)

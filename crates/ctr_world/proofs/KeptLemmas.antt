@@ -18,7 +18,7 @@ use Rattle.ctr_types.specs.declared.tape.Turn.{Turn}
 use Rattle.ctr_types.specs.declared.tape.Turn.TheVariants as turn
 use Rattle.ctr_disk.specs.declared.disk.Disk.{Ghosts}
 use Rattle.ctr_world.specs.declared.parts.Parts.{Parts}
-use Rattle.ctr_world.specs.Turns.{NoneFull, AddsMore, EndsTurn, HasLeft, IsAsking}
+use Rattle.ctr_world.specs.Turns.{NoneFull, AddsMore, EndsTurn, HasStatementLeft, IsAsking}
 use Rattle.ctr_world.specs.World.{WalksOn, StopsBy}
 use Rattle.ctr_world.proofs.HardenLemmas.{waits_some}
 
@@ -89,7 +89,7 @@ sound_state law steps waiting now w =
     (law lines start.moment start.state.base start.state.stuck steps.tape.items (subst (λ (p : Point). Legal lines p steps.tape.items) w.walks.starts w.walks.legal))
 
 -- no session waits for the answer of a commit
-pub none_asking : NumbersAreOwn → LegalStatesAreSound → (steps : Steps) (waiting : List (List ℕ)) (now s : ℕ) → WalksOn steps waiting now → AreAnswered steps → HasLeft s steps → IsAsking s steps → ⊥
+pub none_asking : NumbersAreOwn → LegalStatesAreSound → (steps : Steps) (waiting : List (List ℕ)) (now s : ℕ) → WalksOn steps waiting now → AreAnswered steps → HasStatementLeft s steps → IsAsking s steps → ⊥
 none_asking own sound steps waiting now s w all left asking =
     let state = (reached_by w.start steps).state in
     let for = w.walks.asking.who s asking.0 left.one asking.1 in

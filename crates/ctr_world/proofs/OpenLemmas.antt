@@ -27,8 +27,8 @@ use Rattle.ctr_steps.proofs.Places.{count_of, runner_of}
 use Rattle.ctr_world.specs.declared.parts.Parts.{Parts}
 use Rattle.ctr_world.specs.declared.opening.Opening.{Ghosts as Opening}
 use Rattle.ctr_world.specs.Crash.{reached, HasCommits, IsPrefixAt, Survives, Rests}
-use Rattle.ctr_world.specs.Turns.{HasLeft}
-use Rattle.ctr_world.specs.World.{IsRunLine, WalksOn, Runs, Kept, Ends, state_of}
+use Rattle.ctr_world.specs.Turns.{HasStatementLeft}
+use Rattle.ctr_world.specs.World.{IsRunLine, WalksOn, RunsFrom, Kept, Ends, state_reached}
 use Rattle.ctr_world.proofs.AloneLemmas.{others_same}
 use Rattle.ctr_world.proofs.CrashLemmas.{order}
 use Rattle.ctr_world.proofs.RunLemmas.{rests_has}
@@ -56,7 +56,7 @@ module _ {D : Type 0} (dev : Ghosts D)
   pub runs_new : (base : Database) (d : D) (w : Parts D) (o : Opened) → w.steps.tape.items ≡ [] → w.steps.answered ≡ 0 → Begins o.database w.steps → o.log ≡ w.log → Opens (dev.reads d) o
       → o.database ≡ base → dev.reads w.disk ≡ dev.reads d → IsDurable dev w.disk
       → LeavesOnly dev d w.disk (dev.images d) → ((c : Image) → dev.images d c → op.before c) → op.start ≡ dev.moment_of d → dev.strays_of w.disk ≡ op.strays → op.image ≡ dev.reads d
-      → Runs dev op base w
+      → RunsFrom dev op base w
   runs_new base d w o empty none_answered begins log opens is same only leaves within at_first no_stray image_is =
       let now = dev.moment_of w.disk in
       let opened : Opens (dev.reads w.disk) o = subst (λ i. Opens i o) (sym same) opens in
@@ -106,7 +106,7 @@ module _ {D : Type 0} (dev : Ghosts D)
     (only_now : (d : D) (c : Image) → dev.since d (dev.moment_of d) c → dev.images d c) (grow : StatesGrow) (sound : LegalStatesAreSound)
     {B : Type 0} (op : Opening B) (w : Parts D)
     (kept : Kept dev op w)
-    (over : w.stop ≡ None → (s : ℕ) → HasLeft s w.steps → ⊥) where
+    (over : w.stop ≡ None → (s : ℕ) → HasStatementLeft s w.steps → ⊥) where
   module _ (going : w.stop ≡ None) where
     bounds : HasBounds w.steps w.log
     bounds = kept.bounds going
@@ -125,7 +125,7 @@ module _ {D : Type 0} (dev : Ghosts D)
         let full : (runner_at s w.steps.runners.items).finished < length (runner_at s w.steps.runners.items).places → ⊥ = λ more. over going s (record { one = one; more = more }) in
         omega (arith, within, full, places)
 
-  whole_of : w.stop ≡ None → (base : Database) → Runs dev op base w → (s : ℕ) → (progress_of (reached w.steps.script.lines op.start base w.steps.tape.items) s).finished ≡ length (statements_of s w.steps.script.lines)
+  whole_of : w.stop ≡ None → (base : Database) → RunsFrom dev op base w → (s : ℕ) → (progress_of (reached w.steps.script.lines op.start base w.steps.tape.items) s).finished ≡ length (statements_of s w.steps.script.lines)
   whole_of going base runs s = ⊎_elim
       (λ least. ⊎_elim
       (λ most. let one : IsSession s w.steps.turns.records = (least, let long = records going in omega (arith, most, long)) in
@@ -140,11 +140,11 @@ module _ {D : Type 0} (dev : Ghosts D)
           ap (λ (q : Progress). q.finished) (runs.walks.none s (λ one. other one.0 (let long = records going in let most = one.1 in omega (arith, most, long))))
           ∙ sym (statements_none s other w.steps.script.lines (subst (AllByRecursion IsRunLine) (sym kept.lines_are) kept.each))
 
-  by_lines : (base : Database) → Runs dev op base w → Ends dev (record op { lines = w.steps.script.lines }) base w.steps.tape.items w.stop w.disk
+  by_lines : (base : Database) → RunsFrom dev op base w → Ends dev (record op { lines = w.steps.script.lines }) base w.steps.tape.items w.stop w.disk
   by_lines base runs =
       let start = at_start op.start base [] in
       let lines = w.steps.script.lines in
-      let state = state_of op base w in
+      let state = state_reached op base w in
       record {
         legal = runs.walks.legal;
         later = runs.walks.later;

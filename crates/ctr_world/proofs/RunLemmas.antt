@@ -25,7 +25,7 @@ use Rattle.ctr_steps.specs.Steps.{Walks, AddsEntry}
 use Rattle.ctr_world.specs.declared.parts.Parts.{Parts}
 use Rattle.ctr_world.specs.declared.opening.Opening.{Ghosts as Opening}
 use Rattle.ctr_world.specs.Crash.{reached, HasCommits, IsPrefixAt, Survives, Rests, OnlyLogChanges}
-use Rattle.ctr_world.specs.World.{Runs, state_of}
+use Rattle.ctr_world.specs.World.{RunsFrom, state_reached}
 use Rattle.ctr_world.proofs.TapeLemmas.{final_append, base_on, asked_on, answers_on}
 use Rattle.ctr_world.proofs.CrashLemmas.{survives_more}
 
@@ -105,10 +105,10 @@ module _ {D : Type 0} (dev : Ghosts D)
   pub more_runs : (entries : List Entry) → v.steps.tape.items ≡ w.steps.tape.items ++ entries → AllByRecursion (λ (e : Entry). e.moment ≡ dev.moment_of v.disk) entries
       → v.steps.script ≡ w.steps.script
       → Walks (at_start op.start base []) v.steps.answered v.steps v.log.buffered (dev.moment_of v.disk)
-      → Survives dev op.start v.disk (IsPrefixAt op.before base (state_of op base w).asked w.steps.tape.items)
+      → Survives dev op.start v.disk (IsPrefixAt op.before base (state_reached op base w).asked w.steps.tape.items)
       → Rests dev v.disk v.log then_state
       → (alone : OnlyLogChanges dev op.start op.before op.image v.disk) → v.log.file ≡ log_file alone.root.file → OtherFilesStay (log_file alone.root.file) op.image (dev.reads v.disk)
-      → dev.strays_of v.disk ≡ op.strays → Runs dev op base v
+      → dev.strays_of v.disk ≡ op.strays → RunsFrom dev op base v
   more_runs entries tape moments script walks survives rests alone log_is others stray =
       let lines : ◌≡◌ {A = List Line} v.steps.script.lines w.steps.script.lines = ap (λ (s : Script). s.lines) script in
       let long = longer grow sound w.steps.script.lines op.start base w.steps.tape.items entries v.steps.answered (dev.moment_of v.disk) v.steps v.log.buffered lines tape walks in
@@ -116,7 +116,7 @@ module _ {D : Type 0} (dev : Ghosts D)
       let has : (c : Image) → dev.since v.disk (dev.moment_of v.disk) c → HasCommits base (reached w.steps.script.lines op.start base (w.steps.tape.items ++ entries)).state.asked (answers (w.steps.tape.items ++ entries)) c =
       λ c left. subst (HasCommits base (reached w.steps.script.lines op.start base (w.steps.tape.items ++ entries)).state.asked (answers (w.steps.tape.items ++ entries))) (sym (rests.only c (only_now v.disk c left)))
       (rests_has dev v.disk v.log (reached w.steps.script.lines op.start base (w.steps.tape.items ++ entries)).state base (answers (w.steps.tape.items ++ entries)) at_rest long.base_is long.most (omega (arith, long.answers_are))) in
-      let survived = survives_more dev earlier op.start op.before base (state_of op base w).asked long.more (reached w.steps.script.lines op.start base (w.steps.tape.items ++ entries)).state.asked w.steps.tape.items entries v.disk survives moments long.asked has in
+      let survived = survives_more dev earlier op.start op.before base (state_reached op base w).asked long.more (reached w.steps.script.lines op.start base (w.steps.tape.items ++ entries)).state.asked w.steps.tape.items entries v.disk survives moments long.asked has in
       record {
         waiting = v.log.buffered;
         walks = walks;
@@ -135,10 +135,10 @@ pub act_runs : {D : Type 0} (dev : Ghosts D)
     (earlier : (d : D) (s t : ℕ) (c : Image) → s ≤ t → dev.since d t c → dev.since d s c) (only_now : (d : D) (c : Image) → dev.since d (dev.moment_of d) c → dev.images d c)
     (grow : StatesGrow) (sound : LegalStatesAreSound)
     {B : Type 0} (op : Opening B) (base : Database) (w : Parts D) (log : Log) (steps : Steps) (s : ℕ)
-    → Runs dev op base w → w.stop ≡ None → AppendsAtMostOne w.log log → AddsEntry s (dev.moment_of w.disk) w.steps steps
+    → RunsFrom dev op base w → w.stop ≡ None → AppendsAtMostOne w.log log → AddsEntry s (dev.moment_of w.disk) w.steps steps
     → steps.script ≡ w.steps.script → steps.answered ≡ w.steps.answered
     → ((start : Point) (from : ℕ) → Walks start from w.steps w.log.buffered (dev.moment_of w.disk) → Walks start from steps log.buffered (dev.moment_of w.disk))
-    → Runs dev op base (record w { log = log; steps = steps })
+    → RunsFrom dev op base (record w { log = log; steps = steps })
 act_runs dev earlier only_now grow sound op base w log steps s runs going appends entry script answered walks =
     let now = dev.moment_of w.disk in
     let v = record w { log = log; steps = steps } in

@@ -25,7 +25,7 @@ pub record AreEight (steps : Steps) : Type 0 where
   pub eight : length steps.runners.items ≡ 8
 
 -- a session of the script has a statement that isn't finished
-pub record HasLeft (s : ℕ) (steps : Steps) : Type 0 where
+pub record HasStatementLeft (s : ℕ) (steps : Steps) : Type 0 where
   pub one : IsSession s steps.turns.records
   pub more : (runner_at s steps.runners.items).finished
       < length (runner_at s steps.runners.items).places
@@ -58,7 +58,7 @@ pub record AnswersAll (moment : ℕ) (old new : Steps) : Type 0 where
 -- nothing is left to do for a session, whose statements are finished, or for undo, which has nothing
 -- to undo
 abbrev pub NoneLeft : {D : Type 0} → Actor → Parts D → Type 0
-NoneLeft (actor.Session s) w = HasLeft s w.steps → ⊥
+NoneLeft (actor.Session s) w = HasStatementLeft s w.steps → ⊥
 NoneLeft actor.Undo w = Unit {0}
 NoneLeft actor.Flusher w = ⊥
 NoneLeft actor.Cleaner w = ⊥
@@ -73,7 +73,7 @@ NoneDue actor.Cleaner w = Unit {0}
 -- Who did something, and what came on the tape. A session that waits for an answer flushes, as the
 -- flusher does where something waits in the log; another makes one act, which is one entry.
 abbrev pub Moves : {D : Type 0} → ℕ → Actor → Parts D → Parts D → Type 0
-Moves moment (actor.Session s) old new = HasLeft s old.steps
+Moves moment (actor.Session s) old new = HasStatementLeft s old.steps
     × ((IsAsking s old.steps × AnswersAll moment old.steps new.steps)
     ⊎ ((IsAsking s old.steps → ⊥) × AddsEntry s moment old.steps new.steps))
 Moves moment actor.Undo old new = ⊥

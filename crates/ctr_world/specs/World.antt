@@ -54,8 +54,8 @@ pub record CanRun (lines : List Line) : Type 0 where
 -- ---- what the World keeps
 
 -- the state to which the tape has led from this base
-abbrev pub state_of : {D B : Type 0} → Opening B → Database → Parts D → State
-state_of o base w = (reached w.steps.script.lines o.start base w.steps.tape.items).state
+abbrev pub state_reached : {D B : Type 0} → Opening B → Database → Parts D → State
+state_reached o base w = (reached w.steps.script.lines o.start base w.steps.tape.items).state
 
 -- From some start on the sessions walk along a legal tape, and the records of the commits that aren't
 -- answered wait. It holds whatever the disk tells.
@@ -66,14 +66,14 @@ pub record WalksOn (steps : Steps) (waiting : List (List ℕ)) (now : ℕ) : Typ
 -- Of a database that the first image stands for: the tape is legal from it on, and has led to what
 -- the sessions show; a crash leaves a prefix of the commits; between two turns the disk holds those
 -- that were answered, and the records of the others wait in the log.
-pub record Runs {D B : Type 0} (g : Ghosts D) (o : Opening B) (base : Database) (w : Parts D)
+pub record RunsFrom {D B : Type 0} (g : Ghosts D) (o : Opening B) (base : Database) (w : Parts D)
     : Type 0 where
   pub waiting : List (List ℕ)
   pub walks : Walks (at_start o.start base []) w.steps.answered w.steps waiting (g.moment_of w.disk)
   pub buffered : w.stop ≡ None → w.log.buffered ≡ waiting
   pub survives : Survives g o.start w.disk
-      (IsPrefixAt o.before base (state_of o base w).asked w.steps.tape.items)
-  pub rests : w.stop ≡ None → Rests g w.disk w.log (state_of o base w)
+      (IsPrefixAt o.before base (state_reached o base w).asked w.steps.tape.items)
+  pub rests : w.stop ≡ None → Rests g w.disk w.log (state_reached o base w)
   pub log_alone : OnlyLogChanges g o.start o.before o.image w.disk
   -- the writer's file is the one that the root names, and a read finds the others as they were
   pub log_is : w.log.file ≡ log_file log_alone.root.file
@@ -92,7 +92,7 @@ StopsBy (Some (stop.Worn lsn)) before now = ⊥
 
 -- since the World was opened on the disk and the script that its type names
 pub record Kept {D B : Type 0} (g : Ghosts D) (o : Opening B) (w : Parts D) : Type 0 where
-  pub runs : (base : Database) → IsTrue g.tells → StandsFor o.image base → Runs g o base w
+  pub runs : (base : Database) → IsTrue g.tells → StandsFor o.image base → RunsFrom g o base w
   pub walking : w.stop ≡ None → WalksOn w.steps w.log.buffered (g.moment_of w.disk)
   pub bounds : w.stop ≡ None → HasBounds w.steps w.log
   pub eight : AreEight w.steps

@@ -2,7 +2,7 @@
 ghost use Rattle.std.specs.Prelude.{◌≡◌, ◌≤◌, ◌<◌, ◌≢◌, ◌+◌, ◌↔◌, IsTrue, ℕ, length, true, false, None, IfSome};
 ghost use Rattle.ctr_steps.specs.Runners.{runner_at, MayStep};
 ghost use Rattle.ctr_world.specs.declared.left.Next.TheVariants as is;
-ghost use Rattle.ctr_world.specs.Turns.{AreEight, HasLeft, IsAsking, IsBetween};
+ghost use Rattle.ctr_world.specs.Turns.{AreEight, HasStatementLeft, IsAsking, IsBetween};
 
 use ctr_steps::{Stage, Steps};
 
@@ -20,9 +20,9 @@ pub enum Next {
 /// What a session's next turn is.
 pub fn next_of(steps: &Steps, s: u8) -> Next
     requires { AreEight steps.now }
-    ensures over { result ≡ is.Over → HasLeft s steps.now → ⊥ }
-    ensures acts { result ≡ is.Act → HasLeft s steps.now × MayStep (runner_at s steps.now.runners.items) × (IsAsking s steps.now → ⊥) }
-    ensures answer { result ≡ is.Answer → HasLeft s steps.now × IsAsking s steps.now }
+    ensures over { result ≡ is.Over → HasStatementLeft s steps.now → ⊥ }
+    ensures acts { result ≡ is.Act → HasStatementLeft s steps.now × MayStep (runner_at s steps.now.runners.items) × (IsAsking s steps.now → ⊥) }
+    ensures answer { result ≡ is.Answer → HasStatementLeft s steps.now × IsAsking s steps.now }
 {
     if !has_left(steps, s) {
         return Next::Over;
@@ -36,8 +36,8 @@ pub fn next_of(steps: &Steps, s: u8) -> Next
 // Whether a session has a statement that isn't finished.
 fn has_left(steps: &Steps, s: u8) -> bool
     requires { AreEight steps.now }
-    ensures yes { result ≡ true → HasLeft s steps.now }
-    ensures no { result ≡ false → HasLeft s steps.now → ⊥ }
+    ensures yes { result ≡ true → HasStatementLeft s steps.now }
+    ensures no { result ≡ false → HasStatementLeft s steps.now → ⊥ }
 {
     if s == 0 || s as usize > steps.runners.len() {
         return false;
@@ -50,8 +50,8 @@ fn has_left(steps: &Steps, s: u8) -> bool
 pub fn first_left(steps: &Steps, s: u8) -> Option<u8>
     requires eight { AreEight steps.now }
     requires small { s ≤ 9 }
-    ensures left { IfSome result (λ q. HasLeft q steps.now) }
-    ensures none { result ≡ None → (q : ℕ) → s ≤ q → HasLeft q steps.now → ⊥ }
+    ensures left { IfSome result (λ q. HasStatementLeft q steps.now) }
+    ensures none { result ≡ None → (q : ℕ) → s ≤ q → HasStatementLeft q steps.now → ⊥ }
 {
     if s > 8 {
         return None;

@@ -8,8 +8,8 @@ ghost use Rattle.ctr_model.specs.Database.{Database};
 ghost use Rattle.ctr_gather.specs.Records.{IsSession};
 ghost use Rattle.ctr_steps.specs.Runners.{runner_at, MayStep};
 ghost use Rattle.ctr_steps.specs.Steps.{HasBounds, AddsEntry};
-ghost use Rattle.ctr_world.specs.World.{WalksOn, Runs, Kept};
-ghost use Rattle.ctr_world.specs.Turns.{AnswersAll, AddsMore, HasLeft, EndsTurn, turns_left};
+ghost use Rattle.ctr_world.specs.World.{WalksOn, RunsFrom, Kept};
+ghost use Rattle.ctr_world.specs.Turns.{AnswersAll, AddsMore, HasStatementLeft, EndsTurn, turns_left};
 
 use crate::answers::answer_all;
 use crate::left::{Next, first_left, next_of};
@@ -44,7 +44,7 @@ impl<D: Disk> Parts<D> {
         requires next { MayStep (runner_at s self.old.steps.runners.items) }
         requires walking { WalksOn self.old.steps self.old.log.buffered (D.moment_of self.old.disk) }
         requires bounds { HasBounds self.old.steps self.old.log }
-        ensures runs { (base : Database) → Runs D.Disk B.Opening base self.old → Runs D.Disk B.Opening base self.new }
+        ensures runs { (base : Database) → RunsFrom D.Disk B.Opening base self.old → RunsFrom D.Disk B.Opening base self.new }
         ensures walking { WalksOn self.new.steps self.new.log.buffered (D.moment_of self.old.disk) }
         ensures bounds { HasBounds self.new.steps self.new.log }
         ensures entry { AddsEntry s (D.moment_of self.old.disk) self.old.steps self.new.steps }
@@ -151,7 +151,7 @@ impl<D: Disk> Parts<D> {
         requires kept { Kept D.Disk B.Opening self.old }
         ensures kept { Kept D.Disk B.Opening self.new }
         ensures adds { AddsMore self.old.steps self.new.steps }
-        ensures none { self.new.stop ≡ None → (s : ℕ) → HasLeft s self.new.steps → ⊥ }
+        ensures none { self.new.stop ≡ None → (s : ℕ) → HasStatementLeft s self.new.steps → ⊥ }
     {
         while let Turn::Went = self.step_first::<B>(alloc) {}
     }
@@ -162,7 +162,7 @@ impl<D: Disk> Parts<D> {
         ensures kept { Kept D.Disk B.Opening self.new }
         ensures adds { AddsMore self.old.steps self.new.steps }
         ensures fewer { result ≡ Went → turns_left self.new < turns_left self.old }
-        ensures none { result ≢ Went → self.new.stop ≡ None → (s : ℕ) → HasLeft s self.new.steps → ⊥ }
+        ensures none { result ≢ Went → self.new.stop ≡ None → (s : ℕ) → HasStatementLeft s self.new.steps → ⊥ }
     {
         if self.stop.is_some() {
             return Turn::Stopped;

@@ -5,7 +5,7 @@ ghost use Rattle.ctr_types.specs.declared.tape.Entry.{Entry as HeldEntry};
 ghost use Rattle.ctr_model.specs.Database.{Database};
 ghost use Rattle.ctr_thin.specs.Thin.{StandsFor, Explains, OpenDiffers};
 ghost use Rattle.ctr_world.specs.declared.parts.Parts.{Parts};
-ghost use Rattle.ctr_world.specs.Turns.{NoneFull, EndsTurn, HasLeft, IsBetween};
+ghost use Rattle.ctr_world.specs.Turns.{NoneFull, EndsTurn, HasStatementLeft, IsBetween};
 ghost use Rattle.ctr_world.specs.World.{IsOpenedOn, CanRun, CanOpen, Ends, StopsBy, RefusesWith};
 
 use crate::beginning::begin;
@@ -113,8 +113,8 @@ impl<D: Disk, B: Opening> World<D, B> {
 
     /// Every session's statements are finished.
     pub fn done(&self) -> bool
-        ensures yes { result ≡ true → (s : ℕ) → HasLeft s self.now.steps → ⊥ }
-        ensures no { result ≡ false → (s : ℕ) × HasLeft s self.now.steps }
+        ensures yes { result ≡ true → (s : ℕ) → HasStatementLeft s self.now.steps → ⊥ }
+        ensures no { result ≡ false → (s : ℕ) × HasStatementLeft s self.now.steps }
     {
         first_left(&self.parts.steps, 0).is_none()
     }

@@ -3,7 +3,7 @@ use Rattle.ctr_disk.specs.declared.disk.Image.{Image}
 use Rattle.ctr_types.specs.declared.file.File.TheVariants.{LogA}
 use Rattle.ctr_bytes.specs.Fields.{spelled}
 use Rattle.ctr_log.specs.Logs.{IsBeforeOrAfter}
-use Rattle.ctr_log.specs.Fresh.{SameRoot, IsReady, first_checkpoint}
+use Rattle.ctr_log.specs.Fresh.{SameRoot, LogsAreReady, first_checkpoint}
 use Rattle.ctr_disk.proofs.Moments.{weaker, joined, on_ok}
 use Rattle.ctr_disk.proofs.Moments.{settled_by}
 use Rattle.ctr_log.proofs.InitLemmas.{fresh_extends, log_step, log_ready}
@@ -32,4 +32,4 @@ returns-clause-made g c told =
     let new = d.reads c.write_batch.new.disk in
     let empty = c.in_ok-empty_logs.ensures.made told in
     let ext = fresh_extends _ mid.log_a empty.log.0 refl empty.log.1 in
-    on_ok c.write_batch.result _ (IsReady old new) (λ after. log_ready old mid new empty after) (c.write_batch.ensures.added 1 [] (first_checkpoint ∷ []) told ext)
+    on_ok c.write_batch.result _ (LogsAreReady old new) (λ after. log_ready old mid new empty after) (c.write_batch.ensures.added 1 [] (first_checkpoint ∷ []) told ext)

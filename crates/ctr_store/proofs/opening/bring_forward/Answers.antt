@@ -3,7 +3,7 @@ use Rattle.ctr_log.specs.Visits.{kept_visits, visit_bytes, AreNumbered}
 use Rattle.ctr_log.proofs.VisitLaws.{kept_bytes, kept_numbers}
 use Rattle.ctr_base.specs.declared.base.Base.{Base}
 use Rattle.ctr_base.specs.BaseLaws.{quiet_leaves}
-use Rattle.ctr_store.specs.RecordChecks.{ArePassed, tables_seen}
+use Rattle.ctr_store.specs.RecordChecks.{AllPass, tables_seen}
 use Rattle.ctr_store.proofs.OpenLaws.{rests_opened, leaves_first, state_first, none_left, tables_found}
 use Rattle.ctr_store.proofs.opening.bring_forward.Goals as goal
 
@@ -35,11 +35,11 @@ redo-requires-clause-begins g c told =
       records = ap visit_bytes kept ∙ kept_bytes root.file root.first (d.reads c.args.disk);
       numbers = subst (AreNumbered root.first) (sym kept) (kept_numbers root.file root.first (d.reads c.args.disk));
       tables = found.tables ∙ ap tables_seen (sym c.as_slice.ensures);
-      passed = subst (ArePassed root.pages) (sym c.as_slice.ensures) found.passed;
+      passed = subst (AllPass root.pages) (sym c.as_slice.ensures) found.passed;
     }
 
 pub redo-requires-clause-passed : goal.redo-requires-clause-passed
-redo-requires-clause-passed g c = let p = c.requires.passed in (p.0, subst (ArePassed p.0) (sym c.as_slice.ensures) p.1)
+redo-requires-clause-passed g c = let p = c.requires.passed in (p.0, subst (AllPass p.0) (sym c.as_slice.ensures) p.1)
 
 pub returns-in-Ok-redo-clause-opened : goal.returns-in-Ok-redo-clause-opened
 returns-in-Ok-redo-clause-opened g c told =
@@ -57,6 +57,6 @@ returns-in-Ok-redo-clause-opened g c told =
       fold = e.fold told;
       state = λ sound. state_first o d a c.redo.new.self.base c.args.root refl none r.2 (e.moves told sound);
       next = e.keeps.0.next ∙ omega (arith, r.0.log.kept.next_is, ap (λ (l : List (List ℕ)). length l) none);
-      passes = (r.0.log.sound, subst (ArePassed c.args.root.pages) r.0.log.visits_are r.0.log.passed);
+      passes = (r.0.log.sound, subst (AllPass c.args.root.pages) r.0.log.visits_are r.0.log.passed);
       tables = ap (λ t. t.tables) e.keeps.1 ∙ r.0.log.tables ∙ tables_found o c.args.root f.visits r.0.log.visits_are;
     }

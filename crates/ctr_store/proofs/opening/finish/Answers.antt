@@ -1,5 +1,5 @@
 use Rattle.std.proofs.Common.{subst}
-use Rattle.ctr_store.specs.RecordChecks.{ArePassed}
+use Rattle.ctr_store.specs.RecordChecks.{AllPass}
 use Rattle.ctr_store.proofs.OpenLaws.{answered, later_refused}
 use Rattle.ctr_store.proofs.opening.finish.Goals as goal
 
@@ -11,4 +11,4 @@ returns-in-Ok-clause-answer g c told =
 pub returns-in-Err-clause-answer : goal.returns-in-Err-clause-answer
 returns-in-Err-clause-answer g c told =
     let front = (c.requires.told told).0 in
-    later_refused g.O.Origin.first c.args.root c.in-Err.error.0 front.says (front.log.sound, subst (ArePassed c.args.root.pages) front.log.visits_are front.log.passed) c.in-Err.ensures.later
+    later_refused g.O.Origin.first c.args.root c.in-Err.error.0 front.says (front.log.sound, subst (AllPass c.args.root.pages) front.log.visits_are front.log.passed) c.in-Err.ensures.later

@@ -9,7 +9,7 @@ use Rattle.ctr_log.specs.Kept.{OpensKept, WritesBehind}
 use Rattle.ctr_log.specs.Visits.{kept_visits}
 use Rattle.ctr_base.proofs.RootLaws.{one_root}
 use Rattle.ctr_disk.specs.declared.fault.Root.{Root}
-use Rattle.ctr_store.specs.RecordChecks.{SeenLog, CountsPages, ArePassed, tables_seen}
+use Rattle.ctr_store.specs.RecordChecks.{SeenLog, CountsPages, AllPass, tables_seen}
 use Rattle.ctr_store.proofs.OpenLaws.{opens_room, writes_room, log_refused}
 use Rattle.ctr_store.proofs.opening.read_log.Goals as goal
 
@@ -32,7 +32,7 @@ returns-clause-found g c told =
       kept = subst (OpensKept root.file root.first image) (sym same) (opens_room root.file root.first image log room (e.found told));
       none = ap (λ (l : Log). l.buffered) same ∙ e.none;
       visits_are = parts.visits ∙ all;
-      passed = subst (λ (vs : List Visit). ArePassed root.pages vs) (sym parts.visits) (subst (λ (n : ℕ). ArePassed n seen.visits) counted parts.passed.0);
+      passed = subst (λ (vs : List Visit). AllPass root.pages vs) (sym parts.visits) (subst (λ (n : ℕ). AllPass n seen.visits) counted parts.passed.0);
       tables = parts.tables ∙ parts.passed.1 ∙ ap tables_seen (sym parts.visits);
       sound = e.sound told;
       goes_on = λ rs holds. subst (λ (l : Log). WritesBehind root.file root.first l image) (sym same) (writes_room root.file root.first image log room (e.goes_on rs told holds));
@@ -42,7 +42,7 @@ pub returns-clause-passed : goal.returns-clause-passed
 returns-clause-passed g c =
     let parts = c.into_parts-meta.ensures in
     let seen = c.read_all.new.visitor in
-    (seen.pages, subst (λ (vs : List Visit). ArePassed seen.pages vs) (sym parts.visits) parts.passed.0)
+    (seen.pages, subst (λ (vs : List Visit). AllPass seen.pages vs) (sym parts.visits) parts.passed.0)
 
 pub returns-in_err-log-clause-refused : goal.returns-in_err-log-clause-refused
 returns-in_err-log-clause-refused g c told =

@@ -1,6 +1,6 @@
 use Rattle.std.proofs.Common.{◌≡◌, ℕ, false, List, Some, is_some, sym, ap, subst, ◌∙◌, OnOk}
 use Rattle.ctr_pool.specs.Pages.{PageHeld}
-use Rattle.ctr_pool.specs.Below.{Puts}
+use Rattle.ctr_pool.specs.Below.{PutsPage}
 use Rattle.ctr_pool.specs.Frames.{frame_of, has_page, page_of}
 use Rattle.ctr_pool.specs.Kept.{FrameList}
 use Rattle.ctr_pool.proofs.FrameLaws.{stands, missing}
@@ -36,4 +36,4 @@ returns-clause-saved g c told f is =
     let both : Some x ≡ Some f = sym at_is.frame ∙ ap (frame_of c.args.page) to ∙ is in
     let one : x ≡ f = cc in
     let v : record { lsn = x.lsn; body = c.as_slice.result.now } ≡ page_of f = ap (λ (b : List ℕ). record { lsn = x.lsn; body = b }) c.as_slice.ensures.bytes ∙ ap page_of one in
-    subst (λ (h : PageHeld). OnOk c.save.result (Puts d.held d.takes c.args.page h c.args.backing.now c.save.new.self)) v (c.save.ensures.saved told)
+    subst (λ (h : PageHeld). OnOk c.save.result (PutsPage d.held d.takes c.args.page h c.args.backing.now c.save.new.self)) v (c.save.ensures.saved told)

@@ -1,6 +1,6 @@
 use Rattle.std.proofs.Common.{◌∙◌, sym, ap, subst}
 use Rattle.ctr_meta.specs.Effects.{effect}
-use Rattle.ctr_store.specs.RecordChecks.{SeenLog, PassesAs, ArePassed, tables_seen}
+use Rattle.ctr_store.specs.RecordChecks.{SeenLog, PassesAs, AllPass, tables_seen}
 use Rattle.ctr_store.proofs.SeenLaws.{passed_more, passed_is, tables_more}
 use Rattle.ctr_store.proofs.seen.Seen.add.Goals as goal
 
@@ -9,7 +9,7 @@ invariant_of-self-in_err-push g c =
     let inv = c.self.invariant in
     let same = c.in_err-push.ensures.err in
     record {
-      passed = subst (ArePassed c.self.inside.pages) (sym same) inv.passed;
+      passed = subst (AllPass c.self.inside.pages) (sym same) inv.passed;
       tables = c.reserve.ensures.same ∙ inv.tables ∙ ap tables_seen (sym same);
       counts = inv.counts;
     }
@@ -24,7 +24,7 @@ invariant_of-self-2 g c =
     let here : PassesAs c.self.inside.pages w.at c.self.inside.meta.tables w.bytes r = subst (λ (s : SeenLog). PassesAs s.pages w.at s.tables w.bytes r) (sym c.self.view_is) c.requires in
     let passes : PassesAs c.self.inside.pages w.at (tables_seen vs) w.bytes r = subst (λ t. PassesAs c.self.inside.pages w.at t w.bytes r) inv.tables here in
     record {
-      passed = subst (ArePassed c.self.inside.pages) (sym more) (passed_more c.self.inside.pages vs w inv.passed r passes);
+      passed = subst (AllPass c.self.inside.pages) (sym more) (passed_more c.self.inside.pages vs w inv.passed r passes);
       tables = c.apply.ensures.tables ∙ ap (effect r) (c.reserve.ensures.same ∙ inv.tables) ∙ sym (tables_more vs w r (passed_is r passes)) ∙ ap tables_seen (sym more);
       counts = inv.counts;
     }

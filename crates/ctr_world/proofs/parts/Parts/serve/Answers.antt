@@ -4,7 +4,7 @@ use Rattle.ctr_types.specs.declared.tape.Actor.TheVariants as who
 use Rattle.ctr_steps.specs.declared.steps.Steps.{Steps}
 use Rattle.ctr_steps.specs.Steps.{AreAnswered}
 use Rattle.ctr_world.specs.Turns.{NoneFull, EndsTurn}
-use Rattle.ctr_world.specs.World.{Runs, Kept}
+use Rattle.ctr_world.specs.World.{RunsFrom, Kept}
 use Rattle.ctr_world.specs.declared.parts.Parts.{Parts}
 use Rattle.ctr_world.proofs.KeptLemmas.{none_full_more, none_asking}
 use Rattle.ctr_world.proofs.parts.Parts.serve.Goals as goal
@@ -40,7 +40,7 @@ returns-in-Act-clause-kept g c =
     let made : Parts g.row.D.Denot = record w { log = v.log; steps = v.steps } in
     let held = a.bounds in
     let kept : Kept d b made = record {
-      runs = λ base told stands. subst (Runs d b base) a.same (a.runs base (k.runs base told stands));
+      runs = λ base told stands. subst (RunsFrom d b base) a.same (a.runs base (k.runs base told stands));
       walking = λ going. a.walking;
       bounds = λ going. a.bounds;
       eight = record { same = held.sessions; eight = held.eight };
