@@ -1,10 +1,9 @@
 // What the readers say of single lines and records.
 use crate::page::Page;
 use ctr_io::MemSource;
-use ctr_language::read_script;
 use ctr_lex::tokens;
 use ctr_rec::{RecordError, decode};
-use ctr_script::ScriptError;
+use ctr_script::{ScriptError, read_script};
 use ctr_types::{List, OutOfMemory, Text};
 use std::alloc::Global;
 

@@ -2,8 +2,8 @@
 use crate::bytes::unescaped;
 use crate::told::{Page, tell_lines, tell_statement};
 use ctr_io::MemSource;
-use ctr_language::{ParseRefusal, parse_statement, read_script};
-use ctr_script::ScriptError;
+use ctr_parse::{ParseRefusal, parse_statement};
+use ctr_script::{ScriptError, read_script};
 use ctr_types::{List, Text};
 use std::alloc::{AllocError, Global};
 

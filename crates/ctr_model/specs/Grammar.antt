@@ -1,11 +1,7 @@
--- The grammar of scripts, as a relation between bytes and scripts.
---
--- A form says how much of the language is taken. The first form is the one that the engine takes
--- today. What depends on it are keywords, statements, skipped lines, the ends of lines, and the
--- place of a refusal: `IsKeyword`, `FormTakes`, `IsSkipped`, `EndsLine` and `IsPlace`, with the
--- definitions that cite them. The whole language is a second form over the tokens, places of
--- statements and conditions that are defined here: Language.antt, Places.antt and Lines.antt.
-use Rattle.std.specs.Prelude.{◌≡◌, ◌≢◌, ◌⊎◌, ℕ, ◌+◌, ◌-◌, ◌<◌, ◌≤◌, ◌^◌, ℤ, pos, negsuc, false, List, [], ◌∷◌, ◌++◌, length, map, codes, Option, Some, None, ◌==◌, ◌&&◌, nat_le, if◌then◌else◌}
+-- The grammar of scripts: bytes, tokens, and the places for tokens in statements and lines, with what
+-- no token shows. How tokens are spelled at their places is Language.antt, where a text goes wrong
+-- Places.antt, and what the lines of a script are Lines.antt.
+use Rattle.std.specs.Prelude.{◌≡◌, ◌≢◌, ◌⊎◌, ℕ, ◌+◌, ◌-◌, ◌<◌, ◌≤◌, ◌^◌, ℤ, pos, negsuc, false, List, [], ◌∷◌, ◌++◌, length, map, codes, Option, Some, None, ◌&&◌, nat_le, if◌then◌else◌}
 use Rattle.std.specs.List.{AllByRecursion}
 use Rattle.std.specs.Str.Parse.{digits_value}
 use Rattle.ctr_types.specs.Names.{IsName}
@@ -104,10 +100,6 @@ Lexes bytes (t ∷ ts) =
 
 -- ---- what a token must be
 
--- how much of the language is taken
-pub data Form : Type 0 where
-  first : Form
-
 -- a place of a statement, for a token
 pub data Part : Type 0 where
   key : List ℕ → Part
@@ -133,26 +125,6 @@ capital c = if nat_le 97 c && nat_le c 122 then c - 32 else c
 -- a word of 1 to 16 bytes that is no keyword in any case
 abbrev pub IsNameSpelled : List ℕ → Type 0
 IsNameSpelled word = IsName word × IsWord word × (has_name (map capital word) keywords ≡ false)
-
--- how a keyword is spelled
-abbrev pub IsKeyword : Form → List ℕ → List ℕ → Type 0
-IsKeyword first keyword spelled = spelled ≡ keyword
-
--- the token stands at the place
-abbrev pub Matches : Form → Part → List ℕ → Type 0
-Matches form (key k) spelled = IsKeyword form k spelled
-Matches form (name n) spelled = (spelled ≡ n) × IsNameSpelled n
-Matches form (int z) spelled = IsInteger spelled z × IsWide z
-Matches form (text t) spelled = IsQuoted spelled t
-Matches form (sign c) spelled = spelled ≡ c ∷ []
-Matches form (session s) spelled = spelled ≡ (48 + s) ∷ []
-
--- as many tokens as places, each at its place
-abbrev pub AllMatch : Form → List Part → List (List ℕ) → Type 0
-AllMatch form [] [] = Unit {0}
-AllMatch form [] (t ∷ ts) = ⊥
-AllMatch form (p ∷ ps) [] = ⊥
-AllMatch form (p ∷ ps) (t ∷ ts) = Matches form p t × AllMatch form ps ts
 
 -- ---- statements
 
@@ -274,90 +246,15 @@ IsWithin (st.Select table at) = Unit {0}
 IsWithin (st.Update table sets at) = IsAmount sets
 IsWithin (st.Delete table at) = Unit {0}
 
--- The first form takes session 1, and BEGIN, COMMIT, CREATE, INSERT and SELECT without WHERE.
-abbrev pub FormTakes : Form → ℕ → Statement → Type 0
-FormTakes first s st.Begin = s ≡ 1
-FormTakes first s st.Commit = s ≡ 1
-FormTakes first s (st.Create table schema) = s ≡ 1
-FormTakes first s (st.Insert table values) = s ≡ 1
-FormTakes first s (st.Select table None) = s ≡ 1
-FormTakes first s (st.Select table (Some at)) = ⊥
-FormTakes first s st.Rollback = ⊥
-FormTakes first s (st.DropTable table) = ⊥
-FormTakes first s (st.Update table sets at) = ⊥
-FormTakes first s (st.Delete table at) = ⊥
-
 -- ---- lines
 
 -- the session's number, >, the statement and ;
 abbrev pub line_parts : Line → List Part
 line_parts l = session l.session ∷ sign 62 ∷ statement_parts l.statement ++ sign 59 ∷ []
 
--- the bytes of a line, without its end, are this statement
-pub record IsLine (form : Form) (bytes : List ℕ) (l : Line) : Type 0 where
-  pub takes : FormTakes form l.session l.statement
-  pub within : IsWithin l.statement
-  pub tokens : List (List ℕ)
-  pub lexes : Lexes bytes tokens
-  pub match : AllMatch form (line_parts l) tokens
-
--- a line that is skipped
-abbrev pub IsSkipped : Form → List ℕ → Type 0
-IsSkipped first bytes = AllByRecursion IsBlank bytes
-
--- What ends a line, before the bytes that follow: in the first form LF, which ends each line, the
--- last too.
-abbrev pub EndsLine : Form → List ℕ → List ℕ → Type 0
-EndsLine first end behind = end ≡ 10 ∷ []
-
 -- a line without its end has no LF
 abbrev pub HasNoEnd : List ℕ → Type 0
 HasNoEnd line = AllByRecursion (λ c. c ≢ 10) line
-
--- The bytes are these lines, with skipped lines between, and then this rest.
-pub data AreLines (form : Form) (rest : List ℕ) : List ℕ → List Line → Type 0 where
-  ends : AreLines form rest rest []
-  skips : {bytes : List ℕ} {ls : List Line} (line end behind : List ℕ)
-      → bytes ≡ line ++ end ++ behind → HasNoEnd line → EndsLine form end behind
-      → IsSkipped form line → AreLines form rest behind ls → AreLines form rest bytes ls
-  goes_on : {bytes : List ℕ} {ls : List Line} (line end behind : List ℕ) (l : Line)
-      → bytes ≡ line ++ end ++ behind → HasNoEnd line → EndsLine form end behind
-      → IsLine form line l → AreLines form rest behind ls → AreLines form rest bytes (l ∷ ls)
-
--- A script is lines to its end.
-abbrev pub IsScript : Form → List ℕ → List Line → Type 0
-IsScript form bytes lines = AreLines form [] bytes lines
-
--- ---- refusals
-
--- how many lines end in these bytes
-abbrev pub line_ends : List ℕ → ℕ
-line_ends [] = 0
-line_ends (c ∷ cs) = (if c == 10 then 1 else 0) + line_ends cs
-
--- no line that is skipped or is a statement begins the bytes
-abbrev pub NoLine : Form → List ℕ → Type 0
-NoLine form bytes =
-    (line end behind : List ℕ) → bytes ≡ line ++ end ++ behind → HasNoEnd line
-    → EndsLine form end behind → (IsSkipped form line ⊎ ((l : Line) × IsLine form line l)) → ⊥
-
--- The place in the line, from 1, at which bytes are refused that no line begins: in the first form
--- byte 1, wherever the line goes wrong.
-abbrev pub IsPlace : Form → List ℕ → ℕ → Type 0
-IsPlace first bytes at = at ≡ 1
-
--- Where a script is refused: at its first line that is none, which is told from 1, and a place in
--- it.
-pub record IsRefusedAt (form : Form) (bytes : List ℕ) (line at : ℕ) : Type 0 where
-  pub front : List ℕ
-  pub lines : List Line
-  pub rest : List ℕ
-  pub split : bytes ≡ front ++ rest
-  pub read : AreLines form rest bytes lines
-  pub more : rest ≢ []
-  pub refused : NoLine form rest
-  pub number : line ≡ line_ends front + 1
-  pub place : IsPlace form rest at
 
 -- the most bytes that a script has
 abbrev pub most_bytes : ℕ

@@ -1,4 +1,4 @@
--- The whole language: what tokens spell.
+-- The language: what tokens spell.
 --
 -- It is the second form of the grammar. Tokens, statements, their places and their conditions are
 -- those of the first (Grammar.antt); here keywords stand in any case, sessions are 1 to 8, and every

@@ -1,4 +1,4 @@
--- Scripts of a form of the grammar: lines, those that are skipped, and the line of a refusal.
+-- Scripts: lines, those that are skipped, and the line of a refusal.
 use Rattle.std.specs.Prelude.{◌≡◌, ◌⊎◌, ℕ, ◌+◌, Bool, false, List, [], ◌∷◌, ◌++◌, length, ◌==◌, ◌&&◌, if◌then◌else◌}
 use Rattle.std.specs.List.{AllByRecursion}
 use Rattle.ctr_types.specs.declared.statement.Line.{Line}

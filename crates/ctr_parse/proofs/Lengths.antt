@@ -12,9 +12,8 @@ use Rattle.ctr_types.specs.declared.statement.Set.{Set}
 use Rattle.ctr_types.specs.declared.statement.SetTo.{SetTo}
 use Rattle.ctr_types.specs.declared.statement.SetTo.TheVariants as to
 use Rattle.ctr_types.specs.declared.statement.Line.{Line}
-use Rattle.ctr_model.specs.Grammar.{first, Part, sign, comma, close_paren, literals, kind_parts, column_parts, schema_parts, where_parts, optional_where, set_parts, sets_parts, statement_parts, line_parts, IsWithin, AllMatch}
+use Rattle.ctr_model.specs.Grammar.{Part, sign, comma, close_paren, literals, kind_parts, column_parts, schema_parts, where_parts, optional_where, set_parts, sets_parts, statement_parts, line_parts, IsWithin}
 use Rattle.ctr_model.specs.Language.{MatchParts, SpellsStatement, SpellsLine}
-use Rattle.ctr_parse.specs.Lines.{IsLineOf}
 
 -- ---- places
 
@@ -73,17 +72,8 @@ as_many [] (p ∷ ps) h = absurd h
 as_many (t ∷ ts) [] h = absurd h
 as_many (t ∷ ts) (p ∷ ps) h = ap (λ n. suc n) (as_many ts ps h.1)
 
-as_many_first : (ps : List Part) (ts : List (List ℕ)) → AllMatch first ps ts → length ts ≡ length ps
-as_many_first [] [] h = refl
-as_many_first [] (t ∷ ts) h = absurd h
-as_many_first (p ∷ ps) [] h = absurd h
-as_many_first (p ∷ ps) (t ∷ ts) h = ap (λ n. suc n) (as_many_first ps ts h.1)
-
 pub few_alone : (ts : List (List ℕ)) (s : Statement) → SpellsStatement ts s → length ts ≤ 57
 few_alone ts s is = omega (arith, as_many ts (statement_parts s) is.spelled, statement_few s is.within)
 
 pub few_line : (ts : List (List ℕ)) (l : Line) → SpellsLine ts l → length ts ≤ 57
 few_line ts l is = omega (arith, as_many ts (line_parts l) is.spelled, line_few l is.within)
-
-pub few_first : (ts : List (List ℕ)) (l : Line) → IsLineOf ts l → length ts ≤ 57
-few_first ts l is = omega (arith, as_many_first (line_parts l) ts is.match, line_few l is.within)

@@ -3,7 +3,12 @@ pub mod Lengths
 pub mod Numerals
 pub mod Quotes
 pub mod Spellings
-pub mod Steps
-pub mod Values
-pub mod Columns
-pub mod Statements
+pub mod Trees
+pub mod Meanings
+pub mod Read
+pub mod ReadColumns
+pub mod ReadStatements
+pub mod Again
+pub mod Lives
+pub mod PlaceLemmas
+pub mod OnePlace

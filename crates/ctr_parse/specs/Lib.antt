@@ -1,3 +1,5 @@
-pub mod Lines
+pub mod Answers
 pub mod Reading
+pub mod Refusals
 pub mod Spelled
+pub mod Trees

@@ -1,13 +1,13 @@
-// Why a line isn't parsed.
+// Why a token doesn't spell a text.
 ghost use Rattle.std.specs.Prelude.{◌≡◌};
 
 use std::alloc::{AllocError, AllocFailed};
 
-/// Why there is no statement.
+/// Why there is no text.
 #[derive(Clone, Copy, Debug, PartialEq, Eq)]
 pub enum ParseError {
     OutOfMemory,
-    /// The tokens are no statement.
+    /// The bytes are no text.
     Refused,
 }
 

@@ -1,20 +1,21 @@
-//! The parser: the tokens of a line to its statement.
+//! The parser: the tokens of a text to its statement, those of a line to its session and statement, with the place
+//! of each refusal.
 #![tactic(auto)]
 
+mod clause;
+mod columns;
 mod cursor;
 mod error;
-mod line;
-mod longest;
+mod laws;
+mod names;
 mod numeral;
+mod parse;
 mod quoted;
-mod schema;
+mod refusal;
 mod statement;
-mod value;
+mod stop;
 mod word;
 
-pub use error::ParseError;
-pub use line::{one_line, parse_line};
-pub use longest::{MOST_TOKENS, few_tokens};
-pub use numeral::int_of;
-pub use quoted::text_of;
-pub use word::{is_name, is_spelled};
+pub use laws::{one_line, one_statement};
+pub use parse::{parse_line, parse_statement};
+pub use refusal::ParseRefusal;

@@ -1,11 +1,6 @@
 // Whole numbers.
 ghost use Rattle.std.specs.Prelude.{◌≡◌, ◌≢◌, slice_index};
-ghost use Rattle.ctr_lex.specs.Tokens.{texts_of as texts};
 ghost use Rattle.ctr_parse.specs.Spelled.{int_of as number_of};
-ghost use Rattle.ctr_parse.specs.Reading.{GivesSome, int_at};
-
-use crate::cursor::next;
-use ctr_lex::Token;
 
 // The number that digits after a sign spell. A + is none.
 fn parsed(text: &str) -> Option<i64>
@@ -28,13 +23,4 @@ pub fn int_of(token: &[u8]) -> Option<i64>
         return None;
     };
     parsed(text)
-}
-
-/// A number.
-pub fn int<'a>(tokens: &'a [Token<'a>]) -> Option<(i64, &'a [Token<'a>])>
-    ensures { GivesSome (λ x. (x.0, texts x.1.now)) result (int_at (texts tokens.now)) }
-{
-    let (token, rest) = next(tokens)?;
-    let number = int_of(token)?;
-    Some((number, rest))
 }

@@ -1,13 +1,10 @@
 // Texts between quotes.
 ghost use Rattle.std.specs.Prelude.{◌≡◌, ◌∷◌, List, ℕ, false, None, IfOk, IfErr};
 ghost use Rattle.ctr_parse.specs.declared.error.ParseError.TheVariants.{Refused};
-ghost use Rattle.ctr_lex.specs.Tokens.{texts_of as texts};
 ghost use Rattle.ctr_parse.specs.Spelled.{with_bytes, unquoted as text_behind, text_spelled};
-ghost use Rattle.ctr_parse.specs.Reading.{Gives, text_at};
+ghost use Rattle.ctr_parse.specs.Reading.{Gives};
 
-use crate::ParseError;
-use crate::cursor::next;
-use ctr_lex::Token;
+use crate::error::ParseError;
 use ctr_types::Text;
 use std::alloc::Global;
 
@@ -61,15 +58,4 @@ pub fn text_of(alloc: Global, token: &[u8]) -> Result<Text, ParseError>
         return Err(ParseError::Refused);
     }
     unquoted(alloc, rest)
-}
-
-/// A text.
-pub fn text<'a>(
-    alloc: Global,
-    tokens: &'a [Token<'a>],
-) -> Result<(Text, &'a [Token<'a>]), ParseError>
-    ensures { Gives (λ x. (x.0, texts x.1.now)) result (text_at (texts tokens.now)) }
-{
-    let (token, rest) = next(tokens).ok_or(ParseError::Refused)?;
-    Ok((text_of(alloc, token)?, rest))
 }

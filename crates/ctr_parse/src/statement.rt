@@ -1,82 +1,149 @@
-// Statements.
-ghost use Rattle.std.specs.Prelude.{◌≡◌};
-ghost use Rattle.ctr_lex.specs.Tokens.{texts_of as texts};
-ghost use Rattle.ctr_parse.specs.Reading.{Gives, create_at, insert_at, select_at, statement_at};
+// Statements and lines.
+ghost use Rattle.std.specs.Prelude.{◌≡◌, ℕ};
+ghost use Rattle.ctr_types.specs.declared.statement.Line.{Line};
+ghost use Rattle.ctr_types.specs.declared.statement.Statement.{Statement};
+ghost use Rattle.ctr_parse.specs.declared.word.Verb.{Verb};
+ghost use Rattle.ctr_parse.specs.Trees.{Tree, read, outcome, Follows, one_then, session_of as session_meant, verb_of as verb_meant, create_then, drop_then, insert_then, select_then, update_then, delete_then, verb_then, statement_then, alone as alone_tree, whole_line};
 
-use crate::ParseError;
-use crate::cursor::after;
-use crate::schema::schema;
-use crate::value::values;
-use crate::word::name;
+use crate::clause::{key_is, optional, sets, values};
+use crate::columns::schema;
+use crate::cursor::{end, keyword, name, next, sign};
+use crate::stop::Stop;
+use crate::word::{Verb, session_of, verb_of};
 use ctr_lex::Token;
-use ctr_types::Statement;
+use ctr_types::{Line, Statement};
 use std::alloc::Global;
 
-// What follows CREATE.
-#[tactic(auto, unfolding(crate::specs::Reading::create_at))]
-fn create<'a>(
-    alloc: Global,
-    tokens: &'a [Token<'a>],
-) -> Result<(Statement, &'a [Token<'a>]), ParseError>
-    ensures { Gives (λ x. (x.0, texts x.1.now)) result (create_at (texts tokens.now)) }
+// Behind CREATE.
+#[tactic(auto, unfolding(crate::specs::Trees::create_then))]
+fn create<'a>(alloc: Global, tokens: &'a [Token<'a>]) -> Result<(Statement, &'a [Token<'a>]), Stop>
+    ensures { (k : Statement → Tree Line) → Follows (λ x. outcome (k x.0) x.1.now) result (outcome (create_then k) tokens.now) }
 {
-    let rest = after(tokens, b"TABLE").ok_or(ParseError::Refused)?;
+    let rest = keyword(tokens, b"TABLE")?;
     let (table, rest) = name(alloc, rest)?;
-    let rest = after(rest, b"(").ok_or(ParseError::Refused)?;
+    let rest = sign(rest, b'(')?;
     let (schema, rest) = schema(alloc, rest)?;
     Ok((Statement::Create { table, schema }, rest))
 }
 
-// What follows INSERT.
-#[tactic(auto, unfolding(crate::specs::Reading::insert_at))]
-fn insert<'a>(
-    alloc: Global,
-    tokens: &'a [Token<'a>],
-) -> Result<(Statement, &'a [Token<'a>]), ParseError>
-    ensures { Gives (λ x. (x.0, texts x.1.now)) result (insert_at (texts tokens.now)) }
+// Behind DROP.
+#[tactic(auto, unfolding(crate::specs::Trees::drop_then))]
+fn drop<'a>(alloc: Global, tokens: &'a [Token<'a>]) -> Result<(Statement, &'a [Token<'a>]), Stop>
+    ensures { (k : Statement → Tree Line) → Follows (λ x. outcome (k x.0) x.1.now) result (outcome (drop_then k) tokens.now) }
 {
-    let rest = after(tokens, b"INTO").ok_or(ParseError::Refused)?;
+    let rest = keyword(tokens, b"TABLE")?;
     let (table, rest) = name(alloc, rest)?;
-    let rest = after(rest, b"VALUES").ok_or(ParseError::Refused)?;
-    let rest = after(rest, b"(").ok_or(ParseError::Refused)?;
+    Ok((Statement::DropTable { table }, rest))
+}
+
+// Behind INSERT.
+#[tactic(auto, unfolding(crate::specs::Trees::insert_then))]
+fn insert<'a>(alloc: Global, tokens: &'a [Token<'a>]) -> Result<(Statement, &'a [Token<'a>]), Stop>
+    ensures { (k : Statement → Tree Line) → Follows (λ x. outcome (k x.0) x.1.now) result (outcome (insert_then k) tokens.now) }
+{
+    let rest = keyword(tokens, b"INTO")?;
+    let (table, rest) = name(alloc, rest)?;
+    let rest = keyword(rest, b"VALUES")?;
+    let rest = sign(rest, b'(')?;
     let (values, rest) = values(alloc, rest)?;
     Ok((Statement::Insert { table, values }, rest))
 }
 
-// What follows SELECT.
-#[tactic(auto, unfolding(crate::specs::Reading::select_at))]
-fn select<'a>(
-    alloc: Global,
-    tokens: &'a [Token<'a>],
-) -> Result<(Statement, &'a [Token<'a>]), ParseError>
-    ensures { Gives (λ x. (x.0, texts x.1.now)) result (select_at (texts tokens.now)) }
+// Behind SELECT.
+#[tactic(auto, unfolding(crate::specs::Trees::select_then))]
+fn select<'a>(alloc: Global, tokens: &'a [Token<'a>]) -> Result<(Statement, &'a [Token<'a>]), Stop>
+    ensures { (k : Statement → Tree Line) → Follows (λ x. outcome (k x.0) x.1.now) result (outcome (select_then k) tokens.now) }
 {
-    let rest = after(tokens, b"*").ok_or(ParseError::Refused)?;
-    let rest = after(rest, b"FROM").ok_or(ParseError::Refused)?;
+    let rest = sign(tokens, b'*')?;
+    let rest = keyword(rest, b"FROM")?;
     let (table, rest) = name(alloc, rest)?;
-    Ok((Statement::Select { table, at: None }, rest))
+    let (at, rest) = optional(alloc, rest)?;
+    Ok((Statement::Select { table, at }, rest))
 }
 
-/// A statement.
-#[tactic(auto, unfolding(crate::specs::Reading::statement_at))]
-pub fn statement<'a>(
+// Behind UPDATE.
+#[tactic(auto, unfolding(crate::specs::Trees::update_then))]
+fn update<'a>(alloc: Global, tokens: &'a [Token<'a>]) -> Result<(Statement, &'a [Token<'a>]), Stop>
+    ensures { (k : Statement → Tree Line) → Follows (λ x. outcome (k x.0) x.1.now) result (outcome (update_then k) tokens.now) }
+{
+    let (table, rest) = name(alloc, tokens)?;
+    let rest = keyword(rest, b"SET")?;
+    let (sets, rest) = sets(alloc, rest)?;
+    let (at, rest) = key_is(alloc, rest)?;
+    Ok((Statement::Update { table, sets, at }, rest))
+}
+
+// Behind DELETE.
+#[tactic(auto, unfolding(crate::specs::Trees::delete_then))]
+fn delete<'a>(alloc: Global, tokens: &'a [Token<'a>]) -> Result<(Statement, &'a [Token<'a>]), Stop>
+    ensures { (k : Statement → Tree Line) → Follows (λ x. outcome (k x.0) x.1.now) result (outcome (delete_then k) tokens.now) }
+{
+    let rest = keyword(tokens, b"FROM")?;
+    let (table, rest) = name(alloc, rest)?;
+    let rest = keyword(rest, b"WHERE")?;
+    let (at, rest) = key_is(alloc, rest)?;
+    Ok((Statement::Delete { table, at }, rest))
+}
+
+// The word that begins a statement.
+fn verb<'a>(tokens: &'a [Token<'a>]) -> Result<(Verb, &'a [Token<'a>]), Stop>
+    ensures { (k : Verb → Tree Line) → Follows (λ x. outcome (k x.0) x.1.now) result (outcome (one_then verb_meant k) tokens.now) }
+{
+    let (token, rest) = next(tokens)?;
+    let verb = verb_of(token.text).ok_or(Stop::Wrong(token.at))?;
+    Ok((verb, rest))
+}
+
+// A statement.
+#[tactic(auto, unfolding(crate::specs::Trees::statement_then))]
+fn statement<'a>(
     alloc: Global,
     tokens: &'a [Token<'a>],
-) -> Result<(Statement, &'a [Token<'a>]), ParseError>
-    ensures { Gives (λ x. (x.0, texts x.1.now)) result (statement_at (texts tokens.now)) }
+) -> Result<(Statement, &'a [Token<'a>]), Stop>
+    ensures { (k : Statement → Tree Line) → Follows (λ x. outcome (k x.0) x.1.now) result (outcome (statement_then k) tokens.now) }
 {
-    if let Some(rest) = after(tokens, b"BEGIN") {
-        return Ok((Statement::Begin, rest));
+    let (verb, rest) = verb(tokens)?;
+    match verb {
+        Verb::Begin => Ok((Statement::Begin, rest)),
+        Verb::Commit => Ok((Statement::Commit, rest)),
+        Verb::Rollback => Ok((Statement::Rollback, rest)),
+        Verb::Create => create(alloc, rest),
+        Verb::Remove => drop(alloc, rest),
+        Verb::Insert => insert(alloc, rest),
+        Verb::Select => select(alloc, rest),
+        Verb::Update => update(alloc, rest),
+        Verb::Delete => delete(alloc, rest),
     }
-    if let Some(rest) = after(tokens, b"COMMIT") {
-        return Ok((Statement::Commit, rest));
-    }
-    if let Some(rest) = after(tokens, b"CREATE") {
-        return create(alloc, rest);
-    }
-    if let Some(rest) = after(tokens, b"INSERT") {
-        return insert(alloc, rest);
-    }
-    let rest = after(tokens, b"SELECT").ok_or(ParseError::Refused)?;
-    select(alloc, rest)
+}
+
+/// A statement alone.
+#[tactic(auto, unfolding(crate::specs::Trees::alone))]
+pub fn alone(alloc: Global, tokens: &[Token<'_>]) -> Result<Statement, Stop>
+    ensures { Follows (λ s. read (record { session = 1; statement = s })) result (outcome alone_tree tokens.now) }
+{
+    let (statement, rest) = statement(alloc, tokens)?;
+    end(rest)?;
+    Ok(statement)
+}
+
+// A session's number.
+fn session<'a>(tokens: &'a [Token<'a>]) -> Result<(u8, &'a [Token<'a>]), Stop>
+    ensures { (k : ℕ → Tree Line) → Follows (λ x. outcome (k x.0) x.1.now) result (outcome (one_then session_meant k) tokens.now) }
+{
+    let (token, rest) = next(tokens)?;
+    let session = session_of(token.text).ok_or(Stop::Wrong(token.at))?;
+    Ok((session, rest))
+}
+
+/// A session's number, >, a statement and ;.
+#[tactic(auto, unfolding(crate::specs::Trees::whole_line))]
+pub fn line(alloc: Global, tokens: &[Token<'_>]) -> Result<Line, Stop>
+    ensures { Follows (λ l. read l) result (outcome whole_line tokens.now) }
+{
+    let (session, rest) = session(tokens)?;
+    let rest = sign(rest, b'>')?;
+    let (statement, rest) = statement(alloc, rest)?;
+    let rest = sign(rest, b';')?;
+    end(rest)?;
+    Ok(Line { session, statement })
 }

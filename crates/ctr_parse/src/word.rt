@@ -1,130 +1,194 @@
-// Names and keywords.
-ghost use Rattle.std.specs.Prelude.{◌≡◌, map, IsTrue};
-ghost use Rattle.std.specs.List.{list_all};
-ghost use Rattle.ctr_types.specs.Names.{IsName};
-ghost use Rattle.ctr_model.specs.State.{same_name, has_name};
-ghost use Rattle.ctr_model.specs.Grammar.{capital as capital_of};
-ghost use Rattle.ctr_lex.specs.Tokens.{texts_of as texts};
-ghost use Rattle.ctr_parse.specs.Spelled.{is_letter as letter, is_word_byte as word_byte, is_word as word_of, is_keyword as keyword, is_name as name_of};
-ghost use Rattle.ctr_parse.specs.Reading.{Gives, name_at};
+// What a token means in its place.
+ghost use Rattle.std.specs.Prelude.{◌≡◌, map};
+ghost use Rattle.ctr_types.specs.declared.value.Column.{Column};
+ghost use Rattle.ctr_model.specs.State.{has_name as is_in};
+ghost use Rattle.ctr_parse.specs.Trees.{Means, name_of as name_meant, fresh_of, literal_of, right_of, comma_or_end as comma_or_closed, comma_or_where as comma_or_key, int_or_text as either_kind, room_of as room_meant, verb_of as verb_meant, session_of as session_meant};
 
-use crate::ParseError;
-use crate::cursor::next;
-use ctr_lex::Token;
-use ctr_types::{Name, Text};
+use crate::error::ParseError;
+use crate::names::{is_name, is_spelled};
+use crate::numeral::int_of;
+use crate::quoted::text_of;
+use crate::stop::Stop;
+use ctr_types::{Column, Name, Text, Value};
 use std::alloc::Global;
 
-/// The keywords. None is a name, in any case.
-static KEYWORDS: [&[u8]; 19] = [
-    b"CREATE",
-    b"TABLE",
-    b"DROP",
-    b"BEGIN",
-    b"COMMIT",
-    b"ROLLBACK",
-    b"INSERT",
-    b"INTO",
-    b"VALUES",
-    b"SELECT",
-    b"FROM",
-    b"WHERE",
-    b"UPDATE",
-    b"SET",
-    b"DELETE",
-    b"INT",
-    b"TEXT",
-    b"PRIMARY",
-    b"KEY",
-];
-
-// A letter or _.
-fn is_letter(byte: u8) -> bool
-    ensures { result ≡ letter byte }
-{
-    matches!(byte, b'A'..=b'Z' | b'a'..=b'z' | b'_')
+/// The word that begins a statement.
+#[derive(Clone, Copy, Debug, PartialEq, Eq)]
+pub enum Verb {
+    Begin,
+    Commit,
+    Rollback,
+    Create,
+    Remove,
+    Insert,
+    Select,
+    Update,
+    Delete,
 }
 
-fn is_word_byte(byte: u8) -> bool
-    ensures { result ≡ word_byte byte }
-{
-    is_letter(byte) || matches!(byte, b'0'..=b'9')
+/// What an assignment's right side begins with.
+#[derive(Debug, Drop)]
+pub enum Right {
+    Is(Value),
+    Of(Name),
 }
 
-fn are_word_bytes(bytes: &[u8]) -> bool
-    ensures { result ≡ list_all word_byte bytes.now }
+/// The name that a token at this place is.
+#[tactic(auto, unfolding(crate::specs::Trees::name_of))]
+pub fn name_in(alloc: Global, text: &[u8], at: usize) -> Result<Name, Stop>
+    ensures { Means (name_meant text.now) at result }
 {
-    bytes.iter().all(|byte| is_word_byte(*byte))
-}
-
-fn is_word(word: &[u8]) -> bool
-    ensures { result ≡ word_of word.now }
-{
-    let Some((first, rest)) = word.split_first() else {
-        return false;
-    };
-    is_letter(*first) && are_word_bytes(rest)
-}
-
-// A small letter as a capital.
-fn capital(byte: u8) -> u8
-    ensures { result ≡ capital_of byte }
-{
-    if matches!(byte, b'a'..=b'z') {
-        byte - 32
-    } else {
-        byte
+    if !is_name(text) {
+        return Err(Stop::Wrong(at));
     }
-}
-
-/// Whether the word is the keyword, in any case.
-pub fn is_spelled(keyword: &[u8], word: &[u8]) -> bool
-    ensures { result ≡ same_name keyword.now (map capital_of word.now) }
-{
-    if keyword.len() != word.len() {
-        return false;
-    }
-    for i in 0..word.len() {
-        if keyword[i] != capital(word[i]) {
-            return false;
-        }
-    }
-    true
-}
-
-fn is_one_of(keywords: &[&[u8]], word: &[u8]) -> bool
-    ensures { result ≡ has_name (map capital_of word.now) (map (λ k. k.now) keywords.now) }
-{
-    keywords.iter().any(|keyword| is_spelled(keyword, word))
-}
-
-fn is_keyword(word: &[u8]) -> bool
-    ensures { result ≡ keyword word.now }
-{
-    is_one_of(&KEYWORDS, word)
-}
-
-/// Whether a token is a name.
-#[tactic(auto, unfolding(crate::specs::Spelled::is_name))]
-pub fn is_name(word: &[u8]) -> bool
-    ensures value { result ≡ name_of word.now }
-    ensures length { IsTrue result → IsName word.now }
-{
-    is_word(word) && word.len() <= Name::MOST && !is_keyword(word)
-}
-
-/// A name.
-pub fn name<'a>(
-    alloc: Global,
-    tokens: &'a [Token<'a>],
-) -> Result<(Name, &'a [Token<'a>]), ParseError>
-    ensures { Gives (λ x. (x.0, texts x.1.now)) result (name_at (texts tokens.now)) }
-{
-    let (word, rest) = next(tokens).ok_or(ParseError::Refused)?;
-    if !is_name(word) {
-        return Err(ParseError::Refused);
-    }
-    let Some(name) = Name::new(Text::from_slice(alloc, word)?) else {
+    let Some(name) = Name::new(Text::from_slice(alloc, text)?) else {
         unreachable!()
     };
-    Ok((name, rest))
+    Ok(name)
+}
+
+/// Whether a column has this name.
+pub fn has_name(name: &[u8], columns: &[Column]) -> bool
+    ensures { result ≡ is_in name.now (map (λ c. c.name) columns.now) }
+{
+    columns.iter().any(|column| column.name.as_slice() == name)
+}
+
+/// A name that none of these columns has.
+#[tactic(auto, unfolding(crate::specs::Trees::fresh_of, crate::specs::Trees::name_of))]
+pub fn fresh_in(alloc: Global, columns: &[Column], text: &[u8], at: usize) -> Result<Name, Stop>
+    ensures { Means (fresh_of columns.now text.now) at result }
+{
+    if has_name(text, columns) {
+        return Err(Stop::Wrong(at));
+    }
+    name_in(alloc, text, at)
+}
+
+/// The value that a token at this place is.
+#[tactic(auto, unfolding(crate::specs::Trees::literal_of))]
+pub fn literal_in(alloc: Global, text: &[u8], at: usize) -> Result<Value, Stop>
+    ensures { Means (literal_of text.now) at result }
+{
+    if let Some(number) = int_of(text) {
+        return Ok(Value::Int(number));
+    }
+    match text_of(alloc, text) {
+        Ok(chars) => Ok(Value::Chars(chars)),
+        Err(ParseError::OutOfMemory) => Err(Stop::OutOfMemory),
+        Err(ParseError::Refused) => Err(Stop::Wrong(at)),
+    }
+}
+
+/// What the right side of an assignment begins with.
+#[tactic(auto, unfolding(crate::specs::Trees::right_of))]
+pub fn right_in(alloc: Global, text: &[u8], at: usize) -> Result<Right, Stop>
+    ensures { Means (right_of text.now) at result }
+{
+    match literal_in(alloc, text, at) {
+        Ok(value) => Ok(Right::Is(value)),
+        Err(Stop::OutOfMemory) => Err(Stop::OutOfMemory),
+        Err(_) => Ok(Right::Of(name_in(alloc, text, at)?)),
+    }
+}
+
+/// Whether a comma stands here, or a ).
+#[tactic(auto, unfolding(crate::specs::Trees::comma_or_end))]
+pub fn comma_or_end(text: &[u8]) -> Option<bool>
+    ensures { result ≡ comma_or_closed text.now }
+{
+    if text == b",".as_slice() {
+        return Some(true);
+    }
+    if text == b")".as_slice() {
+        return Some(false);
+    }
+    None
+}
+
+/// Whether a comma stands here, or WHERE.
+#[tactic(auto, unfolding(crate::specs::Trees::comma_or_where))]
+pub fn comma_or_where(text: &[u8]) -> Option<bool>
+    ensures { result ≡ comma_or_key text.now }
+{
+    if text == b",".as_slice() {
+        return Some(true);
+    }
+    if is_spelled(b"WHERE", text) {
+        return Some(false);
+    }
+    None
+}
+
+/// Whether INT stands here, or TEXT.
+#[tactic(auto, unfolding(crate::specs::Trees::int_or_text))]
+pub fn int_or_text(text: &[u8]) -> Option<bool>
+    ensures { result ≡ either_kind text.now }
+{
+    if is_spelled(b"INT", text) {
+        return Some(true);
+    }
+    if is_spelled(b"TEXT", text) {
+        return Some(false);
+    }
+    None
+}
+
+/// The room of a text column, 1 to 64 bytes.
+#[tactic(auto, unfolding(crate::specs::Trees::room_of))]
+pub fn room_of(text: &[u8]) -> Option<u8>
+    ensures { result ≡ room_meant text.now }
+{
+    let room = int_of(text)?;
+    if room < 1 || room > 64 {
+        return None;
+    }
+    Some(room as u8)
+}
+
+/// The word that begins a statement.
+#[tactic(auto, unfolding(crate::specs::Trees::verb_of))]
+pub fn verb_of(text: &[u8]) -> Option<Verb>
+    ensures { result ≡ verb_meant text.now }
+{
+    if is_spelled(b"BEGIN", text) {
+        return Some(Verb::Begin);
+    }
+    if is_spelled(b"COMMIT", text) {
+        return Some(Verb::Commit);
+    }
+    if is_spelled(b"ROLLBACK", text) {
+        return Some(Verb::Rollback);
+    }
+    if is_spelled(b"CREATE", text) {
+        return Some(Verb::Create);
+    }
+    if is_spelled(b"DROP", text) {
+        return Some(Verb::Remove);
+    }
+    if is_spelled(b"INSERT", text) {
+        return Some(Verb::Insert);
+    }
+    if is_spelled(b"SELECT", text) {
+        return Some(Verb::Select);
+    }
+    if is_spelled(b"UPDATE", text) {
+        return Some(Verb::Update);
+    }
+    if is_spelled(b"DELETE", text) {
+        return Some(Verb::Delete);
+    }
+    None
+}
+
+/// A session's number, 1 to 8 in one digit.
+#[tactic(auto, unfolding(crate::specs::Trees::session_of))]
+pub fn session_of(text: &[u8]) -> Option<u8>
+    ensures { result ≡ session_meant text.now }
+{
+    let (first, more) = text.split_first()?;
+    if !more.is_empty() || *first < b'1' || *first > b'8' {
+        return None;
+    }
+    Some(*first - b'0')
 }

@@ -1,2 +1,3 @@
-pub mod Scripts
-pub mod Refusals
+pub mod LineLemmas
+pub mod OneScript
+pub mod AllScripts

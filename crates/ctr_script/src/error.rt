@@ -8,7 +8,7 @@ use thiserror::Error;
 /// Why there is no script.
 #[derive(Clone, Copy, Debug, PartialEq, Eq, Error)]
 pub enum ScriptError {
-    /// The first line that is none, and a byte of it, both from 1. In the first form the byte is 1.
+    /// The first line that is none, and a byte of it, both from 1.
     #[error("line {line}: no statement at byte {at}")]
     Refused { line: u64, at: u64 },
     /// The source has more than 16,777,216 bytes.

@@ -1,29 +1,20 @@
 // What holds of the definitions, beside the program.
-ghost use Rattle.std.specs.Prelude.{◌≡◌, ℕ, List};
+ghost use Rattle.std.specs.Prelude.{◌≡◌, ◌⊎◌, ℕ, List};
 ghost use Rattle.ctr_types.specs.declared.statement.Line.{Line};
-ghost use Rattle.ctr_model.specs.Grammar.{first, IsScript, IsRefusedAt};
+ghost use Rattle.ctr_model.specs.Language.{SpellsLine};
+ghost use Rattle.ctr_model.specs.Lines.{IsWritten, IsRefusedIn};
 
 use ctr_lex::one_lexing;
 use ctr_parse::one_line;
 
-/// Two scripts of the same bytes are equal.
+/// Bytes are one script, or refused at one place, and never both.
 pub fn one_script()
-    ensures { (bytes : List ℕ) (ls ms : List Line) → IsScript first bytes ls → IsScript first bytes ms → ls ≡ ms }
+    ensures said { (bytes : List ℕ) (ls ms : List Line) → IsWritten SpellsLine bytes ls → IsWritten SpellsLine bytes ms → ls ≡ ms }
+    ensures place { (bytes : List ℕ) (line at other place : ℕ) → IsRefusedIn SpellsLine bytes line at
+        → IsRefusedIn SpellsLine bytes other place → (line ≡ other) × (at ≡ place) }
+    ensures never_both { (bytes : List ℕ) (ls : List Line) (line at : ℕ) → IsWritten SpellsLine bytes ls → IsRefusedIn SpellsLine bytes line at → ⊥ }
+    ensures one_of_both { (bytes : List ℕ) → ((ls : List Line) × IsWritten SpellsLine bytes ls) ⊎ ((line at : ℕ) × IsRefusedIn SpellsLine bytes line at) }
 {
     one_lexing();
     one_line();
 }
-
-/// A script isn't refused.
-pub fn no_script_is_refused()
-    ensures { (bytes : List ℕ) (ls : List Line) (line at : ℕ) → IsScript first bytes ls → IsRefusedAt first bytes line at → ⊥ }
-{
-    one_lexing();
-    one_line();
-}
-
-/// What is refused is refused at one place.
-pub fn one_refusal()
-    ensures { (bytes : List ℕ) (line at other place : ℕ) → IsRefusedAt first bytes line at → IsRefusedAt first bytes other place
-        → (line ≡ other) × (at ≡ place) }
-{}

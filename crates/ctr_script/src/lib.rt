@@ -9,8 +9,6 @@ mod laws;
 mod line;
 mod script;
 
-pub use bytes::{MOST_BYTES, read_bytes};
 pub use error::ScriptError;
-pub use laws::{no_script_is_refused, one_refusal, one_script};
-pub use line::is_skipped;
-pub use script::{line_len, read_script};
+pub use laws::one_script;
+pub use script::read_script;

@@ -1,7 +1,7 @@
 // Statements and their parts as text. A statement stands here without session and `;`, and a part is
 // read behind the words that make it a statement.
 use crate::trouble::Trouble;
-use ctr_language::parse_statement;
+use ctr_parse::parse_statement;
 use ctr_types::{Name, Statement};
 use std::alloc::Global;
 

@@ -2,7 +2,7 @@
 ghost use Rattle.std.specs.Prelude.{◌≡◌};
 ghost use Rattle.ctr_tapes.specs.declared.trouble.Trouble.TheVariants.{OutOfMemory};
 
-use ctr_language::ParseRefusal;
+use ctr_parse::ParseRefusal;
 use std::alloc::{AllocError, AllocFailed};
 
 /// Why a step can't be done.

@@ -7,7 +7,7 @@ use Rattle.ctr_io.specs.declared.edges.Source.{Ghosts as Source}
 use Rattle.ctr_types.specs.Faults.{CountsFault}
 use Rattle.ctr_model.specs.Language.{SpellsLine}
 use Rattle.ctr_model.specs.Lines.{IsWritten, IsRefusedIn}
-use Rattle.ctr_language.specs.Written.{IsShortText}
+use Rattle.ctr_script.specs.Written.{IsShortText}
 use Rattle.ctr_world.specs.World.{CanOpen}
 use Rattle.ctr_top.specs.declared.outcome.Outcome.{Outcome}
 use Rattle.ctr_top.specs.declared.ending.Ending.{Ending}

@@ -27,7 +27,7 @@ use Rattle.ctr_world.specs.Crash.{reached, HasCommits, IsPrefixAt, Survives}
 use Rattle.ctr_world.specs.World.{CanOpen, Ends, StopsBy, IsOpenedOn}
 use Rattle.ctr_script.specs.declared.error.ScriptError.{ScriptError}
 use Rattle.ctr_script.specs.declared.error.ScriptError.TheVariants as script_error
-use Rattle.ctr_language.specs.Written.{ErrorHasCause, MayHinder, IsShortText, DecideAnswer}
+use Rattle.ctr_script.specs.Written.{ErrorHasCause, MayHinder, IsShortText, DecideAnswer}
 use Rattle.ctr_top.specs.declared.outcome.Outcome.{Outcome}
 use Rattle.ctr_top.specs.declared.ending.Ending.{Ending}
 use Rattle.ctr_top.specs.declared.ending.Ending.TheVariants as ending

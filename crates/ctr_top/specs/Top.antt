@@ -18,7 +18,7 @@ use Rattle.ctr_model.specs.Tape.{Legal, at_start, IsWhole}
 use Rattle.ctr_model.specs.Texts.{answers, refusals, transcript, last_line}
 use Rattle.ctr_print.specs.Prints.{PutsOn}
 use Rattle.ctr_log.specs.Homes.{root_value}
-use Rattle.ctr_language.specs.Written.{IsShortRefusal}
+use Rattle.ctr_script.specs.Written.{IsShortRefusal}
 use Rattle.ctr_thin.specs.Thin.{StandsFor, StandsForNone}
 use Rattle.ctr_world.specs.Crash.{reached, HasCommits, IsPrefixAt, Survives, OnlyLogChanges, StraysOnlyLong}
 use Rattle.ctr_world.specs.Turns.{NoneFull}

@@ -11,7 +11,7 @@ use crate::ending::{not_opened, not_read, stopped};
 use crate::outcome::Outcome;
 use ctr_disk::Disk;
 use ctr_io::Source;
-use ctr_language::read_script;
+use ctr_script::read_script;
 use ctr_types::{Actor, Script, Turn};
 use ctr_world::{Opening, World};
 use std::alloc::Global;

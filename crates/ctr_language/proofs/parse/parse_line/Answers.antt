@@ -1,7 +1,0 @@
-use Rattle.ctr_model.specs.Language.{SpellsLine}
-use Rattle.ctr_language.proofs.OnePlace.{decided}
-use Rattle.ctr_language.proofs.parse.parse_line.Goals as goal
-
-pub returns-clause-only : goal.returns-clause-only
-returns-clause-only c =
-    decided SpellsLine c.args.line.now c.line_of.result (c.one_line.ensures.said c.args.line.now) (c.one_line.ensures.place c.args.line.now) (c.one_line.ensures.never_both c.args.line.now) c.line_of.ensures

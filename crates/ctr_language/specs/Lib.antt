@@ -1,4 +1,0 @@
-pub mod Trees
-pub mod Answers
-pub mod Refusals
-pub mod Written
