@@ -27,10 +27,10 @@ use Rattle.ctr_steps.specs.declared.runners.Stage.TheVariants as stage
 use Rattle.ctr_steps.specs.declared.acting.Acted.{Acted}
 use Rattle.ctr_steps.specs.declared.steps.Steps.{Steps}
 use Rattle.ctr_steps.specs.Runners.{made_at, runner_at, after_stage, finished_with, all_left}
-use Rattle.ctr_steps.specs.Steps.{Walks, Walking, HasBounds, AddsEntry, AskedFor, WaitsFor, AreAnswered, noted, reached_by}
+use Rattle.ctr_steps.specs.Steps.{Walks, Walking, HasBounds, AnswersOne, AskedFor, WaitsFor, AreAnswered, noted, reached_by}
 use Rattle.ctr_steps.proofs.Telling.{unasked_number, IsAsk}
 use Rattle.ctr_steps.proofs.ByKind.{last_act, not_locked, not_waiting}
-use Rattle.ctr_steps.proofs.Moving.{reached_of, walks_on}
+use Rattle.ctr_steps.proofs.Moving.{reached_of, walks_on, runner_same, runner_other}
 use Rattle.ctr_steps.proofs.Bounding.{bounds_on, fewer}
 use Rattle.ctr_steps.proofs.Needing.{more_asked}
 
@@ -193,13 +193,27 @@ module _ (old noted_new : Steps) (s moment : ℕ) (one : IsSession s old.turns.r
     pub answered_walks : LegalTapesAreReached → LegalTapesGrow → RepliesTell → (start : Point) (from : ℕ) (waiting : List (List ℕ)) → Walks start from old waiting moment → Walks start from new waiting moment
     answered_walks law grow tell start from waiting w = answer_walks law grow tell start from old waiting moment w s one asked turns r keeps others writes new turns_are script tape runners answered sessions
 
-    pub answered_entry : LegalTapesAreReached → LegalTapesGrow → RepliesTell → (waiting : List (List ℕ)) → Walking old waiting moment → AddsEntry s moment old new
-    answered_entry law grow tell waiting walking = record {
-      entry = noted s (runner_at s old.runners.items) (record { act = act.Answer; reply = r; stage = stage.Between }) moment;
-      tape = tape;
-      session = refl;
-      moment_is = refl;
-      not_full = answer_not_full law grow tell walking.start walking.from old waiting moment walking.walks s one asked turns r keeps others writes;
+    pub answered_entry : LegalTapesAreReached → LegalTapesGrow → RepliesTell → WaitsFor s (old.answered + 1) old.runners.items → (waiting : List (List ℕ)) → Walking old waiting moment → AnswersOne moment old new
+    answered_entry law grow tell waits waiting walking = record {
+      session = s;
+      waits = waits;
+      answer = refl;
+      adds = record {
+        entry = noted s (runner_at s old.runners.items) (record { act = act.Answer; reply = r; stage = stage.Between }) moment;
+        tape = tape;
+        is = record {
+          session = refl;
+          number = refl;
+          own = refl;
+          moment_is = refl;
+          not_full = answer_not_full law grow tell walking.start walking.from old waiting moment walking.walks s one asked turns r keeps others writes;
+        };
+        stage = stage.Between;
+        more = refl;
+        mine = ap (runner_at s) runners ∙ runner_same s old.runners.items (after_stage stage.Between (runner_at s old.runners.items)) one.0 (subst (λ n. s ≤ n) sessions one.1);
+        others = λ q low other. ap (runner_at q) runners ∙ runner_other s q old.runners.items (after_stage stage.Between (runner_at s old.runners.items)) one.0 low other;
+        script = script;
+      };
     }
 
     module _ (log : Log) (bounds : HasBounds old log) where

@@ -10,7 +10,8 @@ use Rattle.ctr_types.specs.declared.tape.Reply.TheVariants as reply
 use Rattle.ctr_model.specs.declared.state.State.{State}
 use Rattle.ctr_model.specs.declared.tape.Progress.{Progress}
 use Rattle.ctr_model.specs.State.{transaction_of}
-use Rattle.ctr_model.specs.Tape.{acts_of, advanced, goes_on}
+use Rattle.ctr_model.specs.Laws.{is_asked}
+use Rattle.ctr_model.specs.Tape.{acts_of, advanced, goes_on, is_release}
 use Rattle.ctr_log.specs.Logs.{Log}
 use Rattle.ctr_gather.specs.Records.{GatheredHeld, record_at, OthersAlike}
 use Rattle.ctr_acts.specs.Acts.{IsNotFull}
@@ -21,7 +22,7 @@ use Rattle.ctr_turns.specs.Locking.{LockReadies}
 use Rattle.ctr_steps.specs.declared.runners.Stage.{Stage}
 use Rattle.ctr_steps.specs.declared.runners.Stage.TheVariants as stage
 use Rattle.ctr_steps.specs.Runners.{made_at}
-use Rattle.ctr_steps.specs.Acting.{TurnsAndLog, LocksFirst, IsActOfTurn}
+use Rattle.ctr_steps.specs.Acting.{TurnsAndLog, LocksFirst, IsActOfTurn, has_more}
 use Rattle.ctr_steps.proofs.Telling.{IsAsk, not_asked}
 
 -- ---- acts apart
@@ -116,6 +117,19 @@ last_act acts r n made last = elim (goes_on r) as (λ b. one_on (b && nat_le (ma
 ended_act : (acts : List Act) (r : Reply) (n made : ℕ) → goes_on r ≡ false → advanced acts r (record { finished = n; made = made }) ≡ record { finished = n + 1; made = 0 }
 ended_act acts r n made ends = ap (λ b. one_on (b && nat_le (made + 2) (length acts)) n made) ends
 
+-- a reply that asks for no commit
+not_asked_reply : (r : Reply) → ((k : ℕ) → r ≡ reply.Asked k → ⊥) → is_asked r ≡ false
+not_asked_reply (reply.Began n) none = refl
+not_asked_reply reply.Granted none = refl
+not_asked_reply (reply.Rows rows) none = refl
+not_asked_reply reply.Done none = refl
+not_asked_reply (reply.Asked k) none = absurd (none k refl)
+not_asked_reply reply.ReadOnly none = refl
+not_asked_reply (reply.Answered k) none = refl
+not_asked_reply reply.RolledBack none = refl
+not_asked_reply reply.Released none = refl
+not_asked_reply (reply.Refused why) none = refl
+
 -- ---- each kind of act
 
 module _ (s : ℕ) (statement : Statement) (old new : TurnsAndLog) (alike : OthersAlike s old.turns.records new.turns.records) (log : AppendsAtMostOne old.log new.log) (room : HasRoom new.turns new.log) where
@@ -123,12 +137,14 @@ module _ (s : ℕ) (statement : Statement) (old new : TurnsAndLog) (alike : Othe
   adds_more none = let tables = none.tables in let items = none.items in record { tables = omega (arith, tables); items = omega (arith, items) }
 
   -- the one act of its statement
-  pub one_act : (a : Act) (r : Reply) → ((state : State) → acts_of state s statement ≡ a ∷ []) → a ≢ act.Answer → a ≢ act.Ask → a ≢ act.Write → OthersCanWrite s a statement old.turns.acts new.turns.acts → AddsAtMost 0 s old.turns new.turns
+  pub one_act : (a : Act) (r : Reply) → ((state : State) → acts_of state s statement ≡ a ∷ []) → is_release a ≡ false → has_more a r ≡ false → a ≢ act.Answer → a ≢ act.Ask → a ≢ act.Write → OthersCanWrite s a statement old.turns.acts new.turns.acts → AddsAtMost 0 s old.turns new.turns
       → IsActOfTurn 0 s statement old new (record { act = a; reply = r; stage = stage.Between })
-  one_act a r acts unanswered other unwritten writes adds = record {
+  one_act a r acts own last unanswered other unwritten writes adds = record {
     next_act = λ state. ap (λ xs. slice_get xs 0) (acts state);
     advances = λ state n tells. ap (λ xs. advanced xs r (record { finished = n; made = 0 })) (acts state) ∙ last_act (a ∷ []) r n 0 refl;
     unanswered = unanswered;
+    own = own;
+    more = last;
     not_full = λ is. absurd (unwritten is);
     others = alike;
     writes = writes;
@@ -149,6 +165,8 @@ module _ (s : ℕ) (statement : Statement) (old new : TurnsAndLog) (alike : Othe
     next_act = λ state. ap (λ xs. slice_get xs 0) (acts state);
     advances = λ state n tells. ap (λ xs. advanced xs (reply.Asked k) (record { finished = n; made = 0 })) (acts state);
     unanswered = no_answer act.Ask (λ is. is);
+    own = refl;
+    more = refl;
     not_full = λ is. absurd (no_write act.Ask (λ no. no) is);
     others = alike;
     writes = writes;
@@ -178,6 +196,8 @@ module _ (s : ℕ) (statement : Statement) (old new : TurnsAndLog) (alike : Othe
     next_act = λ state. ap (λ xs. slice_get xs 0) (acts state);
     advances = λ state n tells. ap (λ xs. advanced xs r (record { finished = n; made = 0 })) (acts state) ∙ ended_act (act.Ask ∷ act.Answer ∷ []) r n 0 (not_asked state s (transaction_of state s) statement r tells none);
     unanswered = no_answer act.Ask (λ is. is);
+    own = refl;
+    more = not_asked_reply r none;
     not_full = λ is. absurd (no_write act.Ask (λ no. no) is);
     others = alike;
     writes = writes;
@@ -198,6 +218,8 @@ module _ (s : ℕ) (statement : Statement) (old new : TurnsAndLog) (alike : Othe
     next_act = λ state. ap (λ xs. slice_get xs 0) (acts state s);
     advances = λ state n tells. ap (λ xs. advanced xs reply.Granted (record { finished = n; made = 0 })) (acts state s);
     unanswered = no_answer act.Lock (λ is. is);
+    own = refl;
+    more = refl;
     not_full = λ is. absurd (no_write act.Lock (λ no. no) is);
     others = alike;
     writes = writes;
@@ -221,6 +243,8 @@ module _ (s : ℕ) (statement : Statement) (old new : TurnsAndLog) (alike : Othe
     next_act = λ state. ap (λ xs. slice_get xs 0) (acts state s);
     advances = λ state n tells. ap (λ xs. advanced xs (reply.Refused why) (record { finished = n; made = 0 })) (acts state s);
     unanswered = no_answer act.Lock (λ is. is);
+    own = refl;
+    more = refl;
     not_full = λ is. absurd (no_write act.Lock (λ no. no) is);
     others = alike;
     writes = writes;
@@ -241,6 +265,8 @@ write_act s statement old new log alike room r not_full acts writes adds = recor
   next_act = λ state. ap (λ xs. slice_get xs 1) (acts state s);
   advances = λ state n tells. ap (λ xs. advanced xs r (record { finished = n; made = 1 })) (acts state s) ∙ last_act (act.Lock ∷ act.Write ∷ []) r n 1 refl;
   unanswered = no_answer act.Write (λ is. is);
+  own = refl;
+  more = refl;
   not_full = λ is. not_full;
   others = alike;
   writes = writes;

@@ -36,10 +36,10 @@ use Rattle.ctr_steps.proofs.Telling.{item_stays}
 
 -- ---- runners
 
-runner_same : (s : ℕ) (runners : List Runner) (x : Runner) → 1 ≤ s → s ≤ length runners → runner_at s (slice_set runners (s - 1) x) ≡ x
+pub runner_same : (s : ℕ) (runners : List Runner) (x : Runner) → 1 ≤ s → s ≤ length runners → runner_at s (slice_set runners (s - 1) x) ≡ x
 runner_same s runners x low high = get_or-set_same runners (s - 1) x vacant (omega (arith, low, high))
 
-runner_other : (s q : ℕ) (runners : List Runner) (x : Runner) → 1 ≤ s → 1 ≤ q → (q == s) ≡ false → runner_at q (slice_set runners (s - 1) x) ≡ runner_at q runners
+pub runner_other : (s q : ℕ) (runners : List Runner) (x : Runner) → 1 ≤ s → 1 ≤ q → (q == s) ≡ false → runner_at q (slice_set runners (s - 1) x) ≡ runner_at q runners
 runner_other s q runners x low one other = get_or-set_other runners (s - 1) (q - 1) x vacant (λ same. false≢true (sym other ∙ eq-eqb q s (two same)))
   where
     two : q - 1 ≡ s - 1 → q ≡ s

@@ -16,7 +16,7 @@ use Rattle.ctr_steps.specs.declared.steps.Steps.{Steps}
 use Rattle.ctr_steps.specs.Runners.{made_at, runner_at, after_stage, finished_with, all_left}
 use Rattle.ctr_steps.specs.Acting.{IsActOfTurn, StepKeeps, both}
 use Rattle.ctr_steps.specs.Steps.{Walks, Walking, HasBounds, AddsEntry, noted}
-use Rattle.ctr_steps.proofs.Moving.{taken_is, back_is}
+use Rattle.ctr_steps.proofs.Moving.{taken_is, back_is, runner_same, runner_other}
 use Rattle.ctr_steps.proofs.Walking.{act_walks, reply_not_full}
 use Rattle.ctr_steps.proofs.Bounding.{bounds_on, fewer}
 
@@ -93,9 +93,18 @@ module _ (old mid new : Steps) (log log' : Log) (s moment : ℕ) (one : IsSessio
     step_entry law grow tell walking = record {
       entry = noted s mine acted moment;
       tape = tape_is;
-      session = refl;
-      moment_is = refl;
-      not_full = reply_not_full law grow tell walking.start walking.from old log moment walking.walks s one statement named acted turns log' is_old keeps_old;
+      is = record {
+        session = refl;
+        number = refl;
+        own = is_old.own;
+        moment_is = refl;
+        not_full = reply_not_full law grow tell walking.start walking.from old log moment walking.walks s one statement named acted turns log' is_old keeps_old;
+      };
+      stage = acted.stage;
+      more = is_old.more;
+      mine = ap (runner_at s) runners_are ∙ runner_same s old.runners.items (after_stage acted.stage mine) one.0 high;
+      others = λ q low other. ap (runner_at q) runners_are ∙ runner_other s q old.runners.items (after_stage acted.stage mine) one.0 low other;
+      script = script;
     }
 
     pub step_fewer : all_left new.runners.items < all_left old.runners.items

@@ -1,14 +1,17 @@
 -- One act of a session's statement: what it is, what it was answered, and what the session is in the
 -- middle of after it.
-use Rattle.std.specs.Prelude.{◌≡◌, ◌≢◌, ◌≤◌, ℕ, List, [], ◌∷◌, Option, Some, slice_get}
+use Rattle.std.specs.Prelude.{◌≡◌, ◌≢◌, ◌≤◌, ℕ, Bool, true, false, List, [], ◌∷◌, Option, Some, slice_get}
 use Rattle.ctr_types.specs.declared.statement.Statement.{Statement}
 use Rattle.ctr_types.specs.declared.statement.Statement.TheVariants as st
 use Rattle.ctr_types.specs.declared.statement.KeyIs.{KeyIs}
+use Rattle.ctr_types.specs.declared.tape.Act.{Act}
 use Rattle.ctr_types.specs.declared.tape.Act.TheVariants as act
+use Rattle.ctr_types.specs.declared.tape.Reply.{Reply}
 use Rattle.ctr_types.specs.declared.tape.Reply.TheVariants as reply
 use Rattle.ctr_model.specs.declared.state.State.{State}
 use Rattle.ctr_model.specs.State.{transaction_of}
-use Rattle.ctr_model.specs.Tape.{acts_of, advanced, IsInTurn}
+use Rattle.ctr_model.specs.Laws.{is_asked}
+use Rattle.ctr_model.specs.Tape.{acts_of, advanced, is_release, IsInTurn}
 use Rattle.ctr_legal.specs.Kept.{IsKept}
 use Rattle.ctr_legal.specs.Ready.{TellsOf, IsReady}
 use Rattle.ctr_log.specs.Logs.{Log}
@@ -22,7 +25,7 @@ use Rattle.ctr_turns.specs.Locking.{LockReadies}
 use Rattle.ctr_steps.specs.declared.runners.Stage.{Stage}
 use Rattle.ctr_steps.specs.declared.runners.Stage.TheVariants as stage
 use Rattle.ctr_steps.specs.declared.acting.Acted.{Acted}
-use Rattle.ctr_steps.specs.Runners.{made_at, finished_with}
+use Rattle.ctr_steps.specs.Runners.{made_at, is_begun, finished_with}
 
 -- turns, with the log behind them
 pub record TurnsAndLog : Type 0 where
@@ -46,6 +49,23 @@ pub record LeavesReady (s : ℕ) (statement : Statement) (old new : TurnsHeld) (
   pub locks : LocksFirst statement
   pub readies : LockReadies s statement old new ready
 
+-- a lock was granted
+abbrev pub is_granted : Reply → Bool
+is_granted reply.Granted = true
+is_granted r = false
+
+-- After an act that was answered so comes another of the statement: a Write behind a lock that was
+-- granted, an Answer behind a commit that was asked for.
+abbrev pub has_more : Act → Reply → Bool
+has_more act.Begin r = false
+has_more act.Read r = false
+has_more act.Lock r = is_granted r
+has_more act.Write r = false
+has_more act.Ask r = is_asked r
+has_more act.Answer r = false
+has_more act.Rollback r = false
+has_more (act.Release name) r = false
+
 -- It is the act of the statement that comes after so many of it, and leaves the session where the
 -- model does, as it was answered. A Write isn't refused for want of room in the files. The others'
 -- records are as they were, whoever of them was granted a lock can write still, and a lock that was
@@ -58,6 +78,8 @@ pub record IsActOfTurn (made s : ℕ) (statement : Statement) (old new : TurnsAn
       → advanced (acts_of state s statement) made_act.reply (record { finished = n; made = made })
       ≡ record { finished = finished_with made_act.stage n; made = made_at made_act.stage }
   pub unanswered : made_act.act ≢ act.Answer
+  pub own : is_release made_act.act ≡ false
+  pub more : has_more made_act.act made_act.reply ≡ is_begun made_act.stage
   pub not_full : made_act.act ≡ act.Write → IsNotFull made_act.reply
   pub others : OthersAlike s old.turns.records new.turns.records
   pub writes : OthersCanWrite s made_act.act statement old.turns.acts new.turns.acts

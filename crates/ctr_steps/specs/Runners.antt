@@ -1,6 +1,6 @@
 -- Where each session of a script stands: its lines, the statements that are finished, and what it
 -- is in the middle of.
-use Rattle.std.specs.Prelude.{◌≡◌, ◌==◌, ◌≤◌, ◌<◌, ◌+◌, ◌-◌, ◌*◌, ℕ, List, [], ◌∷◌, length, Some, get_or, slice_get, if◌then◌else◌}
+use Rattle.std.specs.Prelude.{◌≡◌, ◌==◌, ◌≤◌, ◌<◌, ◌+◌, ◌-◌, ◌*◌, ℕ, Bool, true, false, List, [], ◌∷◌, length, Some, get_or, slice_get, if◌then◌else◌}
 use Rattle.std.specs.List.{sum_by}
 use Rattle.ctr_types.specs.declared.statement.Line.{Line}
 use Rattle.ctr_model.specs.declared.tape.Progress.{Progress}
@@ -20,6 +20,12 @@ abbrev pub made_at : Stage → ℕ
 made_at stage.Between = 0
 made_at (stage.Locked ready) = 1
 made_at (stage.Asked k) = 1
+
+-- a session is in the middle of a statement
+abbrev pub is_begun : Stage → Bool
+is_begun stage.Between = false
+is_begun (stage.Locked ready) = true
+is_begun (stage.Asked k) = true
 
 -- how far a session is
 abbrev pub progress_at : Runner → Progress

@@ -1,15 +1,16 @@
 -- What steps keep: a legal tape, whose state the turns show, each session as far as the tape says,
 -- and room.
-use Rattle.std.specs.Prelude.{◌≡◌, ◌≤◌, ◌<◌, ◌+◌, ◌*◌, ◌-◌, ◌^◌, ℕ, List, [], length, Some, vec_len, vec_capacity, ◌++◌, ◌∷◌}
+use Rattle.std.specs.Prelude.{◌≡◌, ◌≤◌, ◌<◌, ◌+◌, ◌*◌, ◌-◌, ◌^◌, ℕ, List, [], length, Some, ◌==◌, false, vec_len, vec_capacity, ◌++◌, ◌∷◌}
 use Rattle.std.specs.List.{AllByRecursion}
 use Rattle.ctr_types.specs.declared.statement.Statement.{Statement}
 use Rattle.ctr_types.specs.declared.statement.Line.{Line}
+use Rattle.ctr_types.specs.declared.tape.Act.TheVariants as act
 use Rattle.ctr_types.specs.declared.tape.Entry.{Entry}
 use Rattle.ctr_model.specs.declared.state.State.{State}
 use Rattle.ctr_model.specs.declared.state.Transaction.{Transaction}
 use Rattle.ctr_model.specs.declared.tape.Point.{Point}
 use Rattle.ctr_model.specs.State.{transaction_of}
-use Rattle.ctr_model.specs.Tape.{progress_of, statement_of, final, Legal, at_start}
+use Rattle.ctr_model.specs.Tape.{progress_of, statement_of, final, Legal, at_start, is_release}
 use Rattle.ctr_log.specs.Logs.{Log}
 use Rattle.ctr_gather.specs.Records.{IsSession, record_at}
 use Rattle.ctr_acts.specs.Acts.{IsNotFull}
@@ -17,12 +18,13 @@ use Rattle.ctr_turns.specs.declared.taking.Ready.{Ready}
 use Rattle.ctr_turns.specs.Items.{IsRecorded}
 use Rattle.ctr_turns.specs.Turns.{TurnsHeld, ShowsTurns, HasRoom}
 use Rattle.ctr_turns.specs.Locking.{IsLeft}
+use Rattle.ctr_steps.specs.declared.runners.Stage.{Stage}
 use Rattle.ctr_steps.specs.declared.runners.Stage.TheVariants as stage
 use Rattle.ctr_steps.specs.declared.runners.Runner.{Runner}
 use Rattle.ctr_steps.specs.declared.acting.Acted.{Acted}
 use Rattle.ctr_steps.specs.declared.steps.Steps.{Steps}
-use Rattle.ctr_steps.specs.Acting.{LocksFirst}
-use Rattle.ctr_steps.specs.Runners.{progress_at, runner_at, all_left, all_begun, AreRunners}
+use Rattle.ctr_steps.specs.Acting.{LocksFirst, has_more}
+use Rattle.ctr_steps.specs.Runners.{progress_at, runner_at, is_begun, after_stage, all_left, all_begun, AreRunners}
 
 -- where the tape has led
 abbrev pub reached_by : Point → Steps → Point
@@ -121,13 +123,27 @@ pub record StartsWithRoom (turns : TurnsHeld) (lines : List Line) (log : Log) : 
   pub none : log.buffered ≡ []
   pub next : log.first ≤ 2 ^ 62
 
--- one entry more, of this session and this moment; it is no refusal for want of room in the files
+-- The entry is an act of the session's next statement at this moment; it is no refusal for want of
+-- room in the files.
+pub record IsEntryOf (s moment : ℕ) (runner : Runner) (entry : Entry) : Type 0 where
+  pub session : entry.session ≡ s
+  pub number : entry.statement ≡ runner.finished + 1
+  pub own : is_release entry.act ≡ false
+  pub moment_is : entry.moment ≡ moment
+  pub not_full : IsNotFull entry.reply
+
+-- One entry more, of this session and this moment, and the session is in the middle of its statement
+-- exactly where another act of it comes; the other sessions are where they were.
 pub record AddsEntry (s moment : ℕ) (old new : Steps) : Type 0 where
   pub entry : Entry
   pub tape : new.tape.items ≡ old.tape.items ++ entry ∷ []
-  pub session : entry.session ≡ s
-  pub moment_is : entry.moment ≡ moment
-  pub not_full : IsNotFull entry.reply
+  pub is : IsEntryOf s moment (runner_at s old.runners.items) entry
+  pub stage : Stage
+  pub more : has_more entry.act entry.reply ≡ is_begun stage
+  pub mine : runner_at s new.runners.items ≡ after_stage stage (runner_at s old.runners.items)
+  pub others : (q : ℕ) → 1 ≤ q → (q == s) ≡ false
+      → runner_at q new.runners.items ≡ runner_at q old.runners.items
+  pub script : new.script ≡ old.script
 
 -- ---- answers
 
@@ -136,6 +152,13 @@ pub record WaitsFor (s k : ℕ) (runners : List Runner) : Type 0 where
   pub least : 1 ≤ s
   pub most : s ≤ length runners
   pub asked : (runner_at s runners).stage ≡ stage.Asked k
+
+-- one entry more, the answer of the commit that comes next, to the session that waits for it
+pub record AnswersOne (moment : ℕ) (old new : Steps) : Type 0 where
+  pub session : ℕ
+  pub waits : WaitsFor session (old.answered + 1) old.runners.items
+  pub adds : AddsEntry session moment old new
+  pub answer : adds.entry.act ≡ act.Answer
 
 -- every commit that was asked for is answered
 abbrev pub AreAnswered : Steps → Type 0

@@ -10,7 +10,7 @@ ghost use Rattle.ctr_gather.specs.Records.{IsSession};
 ghost use Rattle.ctr_turns.specs.Turns.{ShowsTurns, AppendsAtMostOne};
 ghost use Rattle.ctr_steps.specs.declared.runners.Stage.TheVariants as stages;
 ghost use Rattle.ctr_steps.specs.Runners.{vacant, runner_at, all_left, after_stage, MayStep, IsNextLine};
-ghost use Rattle.ctr_steps.specs.Steps.{Walks, Walking, HasBounds, StartsWithRoom, AddsEntry, WaitsFor, AreAnswered, noted};
+ghost use Rattle.ctr_steps.specs.Steps.{Walks, Walking, HasBounds, StartsWithRoom, AddsEntry, AnswersOne, WaitsFor, AreAnswered, noted};
 
 use crate::acting::{Acted, step};
 use crate::runners::{Runner, Stage, runners};
@@ -141,7 +141,7 @@ impl Steps {
         ensures walks { (start : Point) (from : ℕ) (waiting : List (List ℕ)) → Walks start from self.old waiting moment → Walks start from self.new waiting moment }
         ensures bounds { (log : Log) → HasBounds self.old log → HasBounds self.new log }
         ensures next { result ≡ true → (self.new.answered ≡ self.old.answered + 1) × (all_left self.new.runners.items < all_left self.old.runners.items) }
-        ensures entry { result ≡ true → (s : ℕ) × AddsEntry s moment self.old self.new }
+        ensures entry { result ≡ true → AnswersOne moment self.old self.new }
         ensures none { result ≡ false → (self.new ≡ self.old) × AreAnswered self.new }
         ensures same { self.new ≡ record self.old { turns = self.new.turns; runners = self.new.runners; tape = self.new.tape; answered = self.new.answered } }
     {

@@ -247,7 +247,7 @@ module _ {D : Type 0} (dev : Ghosts D)
     hardened_walks = subst (λ l. Walks start steps.answered steps l (dev.moment_of e)) (sym none) (subst (λ k. Walks start k steps [] (dev.moment_of e)) steps_is answered)
 
     pub answers_runs : RunsFrom dev op base hardened
-    answers_runs = more_runs dev earlier only_now grow sound op base w hardened all.adds.entries all.adds.tape all.adds.moments script hardened_walks (survives_flush e leaves)
+    answers_runs = more_runs dev earlier only_now grow sound op base w hardened all.adds.entries all.adds.tape (moments_of (dev.moment_of e) w.steps all.adds.entries all.adds.answers) script hardened_walks (survives_flush e leaves)
         (subst (λ es. Rests dev e log (reached lines op.start base es).state) (sym all.adds.tape) rests_again)
         (alone_after e leaves) (file ∙ runs.log_is) (others_after (dev.reads e) flushed.0)
         (strays ∙ ⊎_elim (λ same. same) (λ bad. absurd (bad.0 going)) runs.stray)

@@ -88,11 +88,18 @@ sound_state law steps waiting now w =
     subst (λ (p : Point). IsSoundState (final lines p steps.tape.items).state) (sym w.walks.starts)
     (law lines start.moment start.state.base start.state.stuck steps.tape.items (subst (λ (p : Point). Legal lines p steps.tape.items) w.walks.starts w.walks.legal))
 
+-- there are eight sessions at all times
+pub session_in : (steps : Steps) → AreEight steps → (s : ℕ) → IsSession s steps.turns.records → s ≤ 8
+session_in steps eight s one = let same = eight.same in let many = eight.eight in omega (arith, one.1, same, many)
+
+pub session_of : (steps : Steps) → AreEight steps → (s : ℕ) → 1 ≤ s → s ≤ 8 → IsSession s steps.turns.records
+session_of steps eight s least most = (least, let same = eight.same in let many = eight.eight in omega (arith, most, same, many))
+
 -- no session waits for the answer of a commit
-pub none_asking : NumbersAreOwn → LegalStatesAreSound → (steps : Steps) (waiting : List (List ℕ)) (now s : ℕ) → WalksOn steps waiting now → AreAnswered steps → HasStatementLeft s steps → IsAsking s steps → ⊥
-none_asking own sound steps waiting now s w all left asking =
+pub none_asking : NumbersAreOwn → LegalStatesAreSound → (steps : Steps) (waiting : List (List ℕ)) (now s : ℕ) → WalksOn steps waiting now → AreAnswered steps → IsSession s steps.turns.records → IsAsking s steps → ⊥
+none_asking own sound steps waiting now s w all one asking =
     let state = (reached_by w.start steps).state in
-    let for = w.walks.asking.who s asking.0 left.one asking.1 in
+    let for = w.walks.asking.who s asking.0 one asking.1 in
     let before = (own_numbers own steps waiting now w).waits s asking.0 for.me for.there for.asked in
     let within = subst (λ o. IfSome o (λ k. k ≤ length state.asked)) for.asked ((sound_state sound steps waiting now w).each s for.me for.there).1 in
     omega (arith, before, within, all w.start steps.answered waiting now w.walks)

@@ -153,6 +153,6 @@ act_runs dev earlier only_now grow sound op base w log steps s runs going append
     let most : state.answered ≤ length state.asked = (sound w.steps.script.lines op.start base [] w.steps.tape.items old_walks.legal).answered in
     let rests : Rests dev w.disk log then = subst (λ es. (reached w.steps.script.lines op.start base es).state.answered ≡ state.answered → Rests dev w.disk log (reached w.steps.script.lines op.start base es).state) (sym entry.tape)
     (λ same. rests_on dev w.disk w.log log state _ long.more (runs.rests going) long.same long.asked same most (ap (λ (l : Log). l.file) appends.same) (ap (λ (l : Log). l.place) appends.same) (ap (λ (l : Log). l.first) appends.same)) same_answered in
-    more_runs dev earlier only_now grow sound op base w v (entry.entry ∷ []) entry.tape (entry.moment_is, tt) script on
+    more_runs dev earlier only_now grow sound op base w v (entry.entry ∷ []) entry.tape (entry.is.moment_is, tt) script on
     runs.survives rests runs.log_alone (ap (λ (l : Log). l.file) appends.same ∙ runs.log_is) (runs.others going)
     (⊎_elim (λ same. same) (λ bad. absurd (bad.0 going)) runs.stray)

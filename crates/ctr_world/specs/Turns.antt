@@ -5,14 +5,16 @@ use Rattle.ctr_types.specs.declared.tape.Actor.{Actor}
 use Rattle.ctr_types.specs.declared.tape.Actor.TheVariants as actor
 use Rattle.ctr_types.specs.declared.tape.Turn.{Turn}
 use Rattle.ctr_types.specs.declared.tape.Turn.TheVariants as turn
+use Rattle.ctr_types.specs.declared.statement.Line.{Line}
+use Rattle.ctr_types.specs.declared.tape.Act.TheVariants as act
 use Rattle.ctr_types.specs.declared.tape.Entry.{Entry}
 use Rattle.ctr_disk.specs.declared.disk.Disk.{Ghosts}
 use Rattle.ctr_acts.specs.Acts.{IsNotFull}
 use Rattle.ctr_gather.specs.Records.{IsSession}
 use Rattle.ctr_steps.specs.declared.steps.Steps.{Steps}
 use Rattle.ctr_steps.specs.declared.runners.Stage.TheVariants as stage
-use Rattle.ctr_steps.specs.Runners.{runner_at, all_left}
-use Rattle.ctr_steps.specs.Steps.{AddsEntry, AreAnswered}
+use Rattle.ctr_steps.specs.Runners.{runner_at, after_stage, all_left, AreRunners, IsUnbegun}
+use Rattle.ctr_steps.specs.Steps.{IsEntryOf, AddsEntry, AreAnswered}
 use Rattle.ctr_world.specs.declared.parts.Parts.{Parts}
 
 -- no reply is a refusal for want of room in the files
@@ -23,6 +25,18 @@ NoneFull es = AllByRecursion (λ e. IsNotFull e.reply) es
 pub record AreEight (steps : Steps) : Type 0 where
   pub same : length steps.turns.records ≡ length steps.runners.items
   pub eight : length steps.runners.items ≡ 8
+
+-- the eight sessions of the script, each at its own lines
+pub record AreSessions (steps : Steps) : Type 0 where
+  pub eight : AreEight steps
+  pub own : AreRunners steps.script.lines 1 steps.runners.items
+
+-- They are so, and have begun nothing of this script.
+pub record AreUnbegun (lines : List Line) (steps : Steps) : Type 0 where
+  pub sessions : AreSessions steps
+  pub lines_are : steps.script.lines ≡ lines
+  pub tape : steps.tape.items ≡ []
+  pub none : (s : ℕ) → 1 ≤ s → s ≤ 8 → IsUnbegun (runner_at s steps.runners.items)
 
 -- a session of the script has a statement that isn't finished
 pub record HasStatementLeft (s : ℕ) (steps : Steps) : Type 0 where
@@ -43,12 +57,26 @@ IsBetween s steps = 1 ≤ s → s ≤ length steps.runners.items
 abbrev pub AddsMore : Steps → Steps → Type 0
 AddsMore old new = (more : List Entry) × (new.tape.items ≡ old.tape.items ++ more)
 
--- entries more, of this one moment, of which none is a refusal for want of room
+-- the entry is the answer, at this moment, to a session that waited for one
+pub record IsAnswerTo (moment : ℕ) (old : Steps) (e : Entry) : Type 0 where
+  pub least : 1 ≤ e.session
+  pub waits : IsAsking e.session old
+  pub is : IsEntryOf e.session moment (runner_at e.session old.runners.items) e
+  pub answer : e.act ≡ act.Answer
+
+-- Behind some answers a session is where it was, or it waited for one, and its statement is finished.
+abbrev pub IsMovedBy : List Entry → Steps → Steps → ℕ → Type 0
+IsMovedBy entries old new s = (runner_at s new.runners.items ≡ runner_at s old.runners.items)
+    ⊎ (IsAsking s old × (0 < length entries)
+    × (runner_at s new.runners.items ≡ after_stage stage.Between (runner_at s old.runners.items)))
+
+-- entries more, each the answer to a session that waited for it
 pub record AddsEntries (moment : ℕ) (old new : Steps) : Type 0 where
   pub entries : List Entry
   pub tape : new.tape.items ≡ old.tape.items ++ entries
-  pub moments : AllByRecursion (λ e. e.moment ≡ moment) entries
-  pub not_full : NoneFull entries
+  pub answers : AllByRecursion (IsAnswerTo moment old) entries
+  pub moved : (s : ℕ) → 1 ≤ s → IsMovedBy entries old new s
+  pub script : new.script ≡ old.script
 
 -- every commit that was asked for was made durable and is answered, at one moment
 pub record AnswersAll (moment : ℕ) (old new : Steps) : Type 0 where
@@ -63,6 +91,10 @@ NoneLeft actor.Undo w = Unit {0}
 NoneLeft actor.Flusher w = ⊥
 NoneLeft actor.Cleaner w = ⊥
 
+-- nothing is left to do for any session, or the World is stopped
+abbrev pub IsOver : {D : Type 0} → Parts D → Type 0
+IsOver w = (w.stop ≢ None) ⊎ ((s : ℕ) → HasStatementLeft s w.steps → ⊥)
+
 -- nothing is due for the flusher, where nothing waits in the log, or for the cleaner
 abbrev pub NoneDue : {D : Type 0} → Actor → Parts D → Type 0
 NoneDue (actor.Session s) w = ⊥
@@ -74,7 +106,7 @@ NoneDue actor.Cleaner w = Unit {0}
 -- flusher does where something waits in the log; another makes one act, which is one entry.
 abbrev pub Moves : {D : Type 0} → ℕ → Actor → Parts D → Parts D → Type 0
 Moves moment (actor.Session s) old new = HasStatementLeft s old.steps
-    × ((IsAsking s old.steps × AnswersAll moment old.steps new.steps)
+    × ((IsAsking s old.steps × AnswersAll moment old.steps new.steps × (IsAsking s new.steps → ⊥))
     ⊎ ((IsAsking s old.steps → ⊥) × AddsEntry s moment old.steps new.steps))
 Moves moment actor.Undo old new = ⊥
 Moves moment actor.Flusher old new = (0 < length old.log.buffered)

@@ -5,7 +5,7 @@ ghost use Rattle.ctr_types.specs.declared.tape.Entry.{Entry as HeldEntry};
 ghost use Rattle.ctr_model.specs.Database.{Database};
 ghost use Rattle.ctr_thin.specs.Thin.{StandsFor, Explains, OpenDiffers};
 ghost use Rattle.ctr_world.specs.declared.parts.Parts.{Parts};
-ghost use Rattle.ctr_world.specs.Turns.{NoneFull, EndsTurn, HasStatementLeft, IsBetween};
+ghost use Rattle.ctr_world.specs.Turns.{NoneFull, EndsTurn, AreSessions, AreUnbegun, IsOver, HasStatementLeft, IsBetween};
 ghost use Rattle.ctr_world.specs.World.{IsOpenedOn, CanRun, CanOpen, Ends, StopsBy, RefusesWith};
 
 use crate::beginning::begin;
@@ -57,7 +57,7 @@ impl<D: Disk, B: Opening> World<D, B> {
     pub fn open(alloc: Global, disk: D, script: Script) -> Result<World<D, B>, (OpenError, D)>
         requires named { IsOpenedOn B.Opening D.Disk disk script.lines }
         requires runs { CanRun script.lines }
-        ensures begins { IfOk result (λ w. (w.steps.tape.items ≡ []) × (w.stop ≡ None)) }
+        ensures begins { IfOk result (λ w. AreUnbegun script.lines w.steps × (w.stop ≡ None)) }
         ensures can_open { IsTrue D.tells → IfOk result (λ w. CanOpen (D.reads disk)) }
         ensures refused { IsTrue D.tells → IfErr result (λ e. Explains (D.reads disk) e.0) }
         ensures differs { IfErr result (λ e. OpenDiffers e.0) }
@@ -136,6 +136,7 @@ impl<D: Disk, B: Opening> World<D, B> {
     /// A turn of an actor. After a stop it does nothing.
     pub fn step(&mut self, alloc: Global, actor: Actor) -> Turn
         ensures says { EndsTurn D.Disk result actor self.old self.new }
+        ensures sessions { self.new.stop ≡ None → AreSessions self.new.steps }
     {
         self.parts.step::<B>(alloc, actor)
     }
@@ -146,6 +147,7 @@ impl<D: Disk, B: Opening> World<D, B> {
         ensures ends { (base : Database) → IsTrue D.tells → StandsFor B.image base → Ends D.Disk B.Opening base
             result.tape.entries result.stop result.disk }
         ensures tape { (more : List HeldEntry) × (result.tape.entries ≡ self.steps.tape.items ++ more) }
+        ensures over { IsOver self → result.tape.entries ≡ self.steps.tape.items }
         ensures not_full { NoneFull result.tape.entries }
         ensures later { B.start ≤ D.moment_of result.disk }
         ensures stops { StopsBy result.stop B.faults (D.faults_of result.disk) }

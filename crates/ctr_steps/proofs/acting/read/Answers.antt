@@ -13,4 +13,4 @@ returns-clause-keeps c = c.read.ensures.keeps c.requires.select.0 c.requires.sel
 pub returns-clause-is : goal.returns-clause-is
 returns-clause-is c = let room = c.requires.room in let same = ap room_kept c.read.ensures.records in
     one_act c.args.s c.args.statement.now (both c.args.turns.now c.args.log.now) (both c.read.new.self c.args.log.now) (same_records c.args.s c.args.turns.now.records c.read.new.self.records c.read.ensures.records) (record { more = omega arith; same = refl }) (omega (arith, room, same))
-    act.Read c.read.result (λ state. ap (λ (q : Statement). acts_of state c.args.s q) c.requires.select.2) (no_answer act.Read (λ no. no)) (no_ask act.Read (λ no. no)) (no_write act.Read (λ no. no)) c.read.ensures.writes c.read.ensures.adds
+    act.Read c.read.result (λ state. ap (λ (q : Statement). acts_of state c.args.s q) c.requires.select.2) refl refl (no_answer act.Read (λ no. no)) (no_ask act.Read (λ no. no)) (no_write act.Read (λ no. no)) c.read.ensures.writes c.read.ensures.adds

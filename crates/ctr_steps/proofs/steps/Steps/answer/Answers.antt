@@ -38,11 +38,8 @@ returns-clause-next c = λ is. (
 )
 
 pub returns-clause-entry : goal.returns-clause-entry
-returns-clause-entry c = λ is. (
-  c.in-Some.s,
-  answered_entry c.args.self.now c.note.new.self c.in-Some.s c.args.moment (one c) c.in-Some.ensures.found.asked c.requires.bounds.1.sessions c.answer-reply.new.self c.answer-reply.result c.answer-reply.ensures.keeps c.answer-reply.ensures.others c.answer-reply.ensures.writes c.answer-reply.ensures.adds c.answer-reply.ensures.needs
-      c.note.ensures.is c.note.ensures.tape c.note.ensures.len c.note.ensures.capacity c.note.ensures.runners c.legal_tapes_are_reached.ensures c.legal_tapes_grow.ensures c.replies_tell.ensures c.requires.walking.0 c.requires.walking.1,
-)
+returns-clause-entry c = λ is. answered_entry c.args.self.now c.note.new.self c.in-Some.s c.args.moment (one c) c.in-Some.ensures.found.asked c.requires.bounds.1.sessions c.answer-reply.new.self c.answer-reply.result c.answer-reply.ensures.keeps c.answer-reply.ensures.others c.answer-reply.ensures.writes c.answer-reply.ensures.adds c.answer-reply.ensures.needs
+    c.note.ensures.is c.note.ensures.tape c.note.ensures.len c.note.ensures.capacity c.note.ensures.runners c.legal_tapes_are_reached.ensures c.legal_tapes_grow.ensures c.replies_tell.ensures c.in-Some.ensures.found c.requires.walking.0 c.requires.walking.1
 
 pub next_asked-requires-clause-few : goal.next_asked-requires-clause-few
 next_asked-requires-clause-few c = let eight = c.requires.bounds.1.eight in omega (arith, eight)

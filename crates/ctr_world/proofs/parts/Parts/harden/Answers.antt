@@ -78,7 +78,7 @@ returns-clause-kept g c =
       walking = λ going. walking g here;
       bounds = λ going. bounds g here;
       eight = let held = bounds g here in record { same = held.sessions; eight = held.eight };
-      not_full = subst NoneFull (sym all.adds.tape) (none_full_more w.steps.tape.items all.adds.entries k.not_full all.adds.not_full);
+      not_full = subst NoneFull (sym all.adds.tape) (none_full_more w.steps.tape.items all.adds.entries k.not_full (none_full_of (d.moment_of c.flush.new.disk) w.steps all.adds.entries all.adds.answers));
       lines_are = ap (λ (s : Script). s.lines) c.answer_all.ensures.script ∙ k.lines_are;
       each = k.each;
       later = omega (arith, k.later, c.flush.ensures.later);
