@@ -1,5 +1,5 @@
 -- What an opening finds, and how it is refused.
-use Rattle.std.specs.Prelude.{◌≡◌, ◌≢◌, ◌⊎◌, ◌∷◌, ◌++◌, min, ◌+◌, ◌*◌, ◌≤◌, List, [], ℕ, length, nat_lt, if◌then◌else◌, Option, Some, None, Result, Ok, Err}
+use Rattle.std.specs.Prelude.{◌≡◌, ◌≢◌, ◌⊎◌, ◌∷◌, ◌++◌, ◌+◌, ◌*◌, ◌≤◌, List, [], ℕ, length, nat_lt, if◌then◌else◌, Option, Some, None, Result, Ok, Err}
 use Rattle.ctr_disk.specs.declared.disk.Image.{Image}
 use Rattle.ctr_disk.specs.declared.fault.Root.{Root}
 use Rattle.ctr_disk.specs.declared.fault.StoreFault.{StoreFault}
@@ -28,7 +28,7 @@ use Rattle.ctr_base.specs.Opening.{IsRootDamage}
 use Rattle.ctr_store.specs.declared.opening.OpenError.{OpenError}
 use Rattle.ctr_store.specs.declared.opening.OpenError.TheVariants as open_error
 use Rattle.ctr_store.specs.declared.opening.Found.{Found}
-use Rattle.ctr_store.specs.RecordChecks.{FailsAs, AllPass, tables_seen}
+use Rattle.ctr_store.specs.RecordChecks.{record_damage, FailsAs, AllPass, tables_seen}
 
 -- how a fault below is told
 abbrev pub fault_told : StoreFault → OpenError
@@ -52,8 +52,7 @@ pub record FindsLog (image : Image) (root : Root) (f : Found) : Type 0 where
   pub goes_on : (rs : List (List ℕ)) → HoldsLog root.file root.first rs image
       → WritesBehind root.file root.first f.log image
 
--- The first check that fails is one of a record of the log, behind those that pass; the damage
--- says at which byte of its file, as far as 64 bits tell it.
+-- the first check that fails is one of a record of the log, behind those that pass
 pub record IsRecordDamage (root : Root) (image : Image) (e : StoreFault) : Type 0 where
   pub given : List Visit
   pub v : Visit
@@ -61,7 +60,7 @@ pub record IsRecordDamage (root : Root) (image : Image) (e : StoreFault) : Type 
   pub all_are : kept_visits root.file root.first image ≡ given ++ v ∷ rest
   pub bad : BadRecord
   pub fails : FailsAs root.pages v.at (tables_seen given) v.bytes bad
-  pub told : e ≡ store.Damaged v.file (min (v.at + bad.at) 18446744073709551615) bad.want bad.got
+  pub told : e ≡ record_damage v.file v.at bad
 
 -- it is one of a batch, or of a record of a batch before that
 abbrev pub IsLogDamage : Root → Image → StoreFault → Type 0

@@ -1,5 +1,5 @@
 // The store: pages and tables are the fold of the log, at every moment.
-ghost use Rattle.std.specs.Prelude.{◌≡◌, ◌≤◌, ◌<◌, ◌+◌, ◌↔◌, IsTrue, true, false, [], ◌∷◌, Err, length, IfOk, IfErr, OnOk, OnErr};
+ghost use Rattle.std.specs.Prelude.{◌≡◌, ◌≤◌, ◌<◌, ◌+◌, ◌↔◌, IsTrue, true, false, [], ◌∷◌, Ok, Err, length, IfOk, IfErr, OnOk, OnErr};
 ghost use Rattle.ctr_types.specs.Faults.{HasFault};
 ghost use Rattle.ctr_disk.specs.declared.fault.StoreFault.TheVariants.{Fault};
 ghost use Rattle.ctr_meta.specs.Kept.{RoomLeft};
@@ -9,7 +9,7 @@ ghost use Rattle.std.specs.Io.BufRead.{Rests};
 ghost use Rattle.ctr_disk.specs.Device.{LeavesOnly};
 ghost use Rattle.ctr_redo.specs.States.{page_limit, page_at};
 ghost use Rattle.ctr_store.specs.Opening.{LeavesFirst};
-ghost use Rattle.ctr_store.specs.Store.{LeavesFront, LeavesPage, Logs, MayLog, TakesRecord, KeepsRoom};
+ghost use Rattle.ctr_store.specs.Store.{LeavesFront, LeavesPage, Logs, MayLog, unmet_need, RefusesUnfit, TakesRecord, KeepsRoom};
 ghost use Rattle.ctr_store.specs.StoreOpening.{AnswersStore, store_left};
 
 use crate::opening::OpenError;
@@ -101,17 +101,22 @@ impl<D: Disk, O: Origin> Store<D, O> {
         self.parts.meta.reserve(opens, items)
     }
 
-    /// Adds a record that can be logged, and answers its number. It isn't hardened yet.
+    /// Adds a record, and answers its number. It isn't hardened yet. A record that doesn't fit the tables is damage, by the
+    /// row that it fails, at the place in the log where it would stand; nothing is logged then, and nothing has changed.
     pub fn log(&mut self, rec: &Record) -> Result<Lsn, StoreFault>
-        requires goes { self.old.stopped ≡ false }
         requires may { MayLog rec.now self.old }
         ensures takes { IfOk result (λ lsn. TakesRecord rec.now lsn self.old self.new) }
         ensures any_moment { IsTrue D.tells → IsSoundImage O.first → LeavesFront D.Disk self.old self.new }
         ensures logs { IsTrue D.tells → IsSoundImage O.first → OnOk result (Logs (rec.now ∷ []) self.old self.new) }
-        ensures stopped { (OnOk result (self.new.stopped ≡ false)) × (OnErr result (self.new.stopped ≡ true)) }
-        ensures refused { IsTrue D.tells → IsSoundImage O.first → OnErr result (result ≡ Err Fault) }
+        ensures unfit { RefusesUnfit rec.now self.old self.new result }
+        ensures stopped { (OnOk result (self.new.stopped ≡ false)) × (unmet_need rec.now self.old ≡ Ok tt → OnErr result (self.new.stopped ≡ true)) }
+        ensures refused { IsTrue D.tells → IsSoundImage O.first → unmet_need rec.now self.old ≡ Ok tt → OnErr result (result ≡ Err Fault) }
         ensures faults { HasFault Fault (D.faults_of self.old.disk) (D.faults_of self.new.disk) result }
     {
+        match self.parts.check_fits(rec) {
+            Ok(()) => {}
+            Err(fault) => return Err(fault),
+        }
         let logged = self.parts.log(rec);
         self.stopped = logged.is_err();
         logged
@@ -133,9 +138,10 @@ impl<D: Disk, O: Origin> Store<D, O> {
         hardened
     }
 
-    /// Writes the page home that is changed the longest, or answers that none is changed.
+    /// Writes the page home that is changed the longest, or answers false, exactly where none is changed.
     pub fn write_one_dirty(&mut self) -> Result<bool, StoreFault>
         requires { self.old.stopped ≡ false }
+        ensures wrote { IfOk result (λ wrote. wrote ≡ self.old.dirty) }
         ensures any_moment { IsTrue D.tells → IsSoundImage O.first → LeavesFront D.Disk self.old self.new }
         ensures logs { IsTrue D.tells → IsSoundImage O.first → OnOk result (Logs [] self.old self.new) }
         ensures keeps { KeepsRoom self.old self.new }
