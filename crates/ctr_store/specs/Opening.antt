@@ -1,5 +1,5 @@
 -- What an opening finds, and how it is refused.
-use Rattle.std.specs.Prelude.{◌≡◌, ◌≢◌, ◌⊎◌, ◌∷◌, ◌++◌, ◌+◌, ◌*◌, ◌≤◌, List, [], ℕ, length, nat_lt, if◌then◌else◌, Option, Some, None, Result, Ok, Err}
+use Rattle.std.specs.Prelude.{◌≡◌, ◌≢◌, ◌⊎◌, ◌∷◌, ◌++◌, ◌+◌, ◌*◌, ◌≤◌, ◌<◌, List, [], ℕ, length, nat_lt, if◌then◌else◌, Option, Some, None, Result, Ok, Err}
 use Rattle.ctr_disk.specs.declared.disk.Image.{Image}
 use Rattle.ctr_disk.specs.declared.fault.Root.{Root}
 use Rattle.ctr_disk.specs.declared.fault.StoreFault.{StoreFault}
@@ -19,6 +19,7 @@ use Rattle.ctr_store.specs.declared.parts.Parts.{Parts}
 use Rattle.ctr_store.specs.Parts.{IsFold}
 use Rattle.ctr_log.specs.declared.reading.ReadError.{ReadError}
 use Rattle.ctr_log.specs.declared.reading.ReadError.TheVariants as read
+use Rattle.ctr_log.specs.Logs.{Log}
 use Rattle.ctr_log.specs.Kept.{kept_log, OpensKept, HoldsLog, WritesBehind}
 use Rattle.ctr_log.specs.LogChecks.{kept_damage}
 use Rattle.ctr_log.specs.Visits.{kept_visits}
@@ -131,6 +132,16 @@ abbrev pub worn_in : Root → Image → Option ℕ
 worn_in root image =
     let kept = kept_log root.file root.first image in
     worn_by (root.first + length kept) (tables_of (records_in kept)).next
+
+-- nothing waits in a log, and there is room for records
+abbrev pub HasRoom : Log → Type 0
+HasRoom log = (log.buffered ≡ []) × (65536 ≤ log.room)
+
+-- Whatever the disk tells, what was opened has nothing that waits, and no number is worn.
+pub record IsReady {D O : Type 0} (s : Parts D O) : Type 0 where
+  pub room : HasRoom s.base.log
+  pub next : s.base.log.first + length s.base.log.buffered < worn_at
+  pub xid : s.meta.tables.next < worn_at
 
 -- an error that comes behind the log's
 abbrev pub IsLater : OpenError → Type 0

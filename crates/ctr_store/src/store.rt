@@ -10,7 +10,7 @@ ghost use Rattle.ctr_disk.specs.Device.{LeavesOnly};
 ghost use Rattle.ctr_redo.specs.States.{page_limit, page_at};
 ghost use Rattle.ctr_store.specs.Opening.{LeavesFirst};
 ghost use Rattle.ctr_store.specs.Store.{LeavesFront, LeavesPage, Logs, MayLog, unmet_need, RefusesUnfit, TakesRecord, KeepsRoom};
-ghost use Rattle.ctr_store.specs.StoreOpening.{AnswersStore, store_left};
+ghost use Rattle.ctr_store.specs.StoreOpening.{AnswersStore, IsOpened, store_left};
 
 use crate::opening::OpenError;
 use crate::parts::Parts;
@@ -55,7 +55,7 @@ impl<D: Disk, O: Origin> Store<D, O> {
         requires named { O.first ≡ D.reads disk }
         requires frames { (8 ≤ frames) × (frames ≤ 4096) }
         ensures answer { IsTrue D.tells → AnswersStore O.first result }
-        ensures fresh { IfOk result (λ s. (s.stopped ≡ false) × (65536 ≤ s.room)) }
+        ensures fresh { IfOk result IsOpened }
         ensures any_moment { IsTrue D.tells → IsSoundImage O.first → LeavesOnly D.Disk disk (store_left result) (LeavesFirst O.first (D.images disk)) }
     {
         match Parts::<D, O>::open(alloc, disk, frames) {
@@ -81,6 +81,20 @@ impl<D: Disk, O: Origin> Store<D, O> {
             }
         }
         Ok(self.parts.bytes(page))
+    }
+
+    /// The number of the next record.
+    pub fn next(&self) -> Lsn
+        ensures { result ≡ self.now.next }
+    {
+        self.parts.base.next()
+    }
+
+    /// How many pages are counted.
+    pub fn counted(&self) -> u32
+        ensures { result ≡ self.now.now.counted }
+    {
+        self.parts.base.root.pages
     }
 
     /// Whether there is room for a turn: two frames that have nothing to be written home, and 5,000 bytes of records.
