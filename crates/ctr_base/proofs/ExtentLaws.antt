@@ -1,15 +1,13 @@
 -- What clearing pages leaves of the file of pages, and that cleared pages are blank.
-use Rattle.std.proofs.Common.{◌≡◌, ◌≢◌, ⊎_elim, ℕ, ◌+◌, ◌*◌, ◌-◌, ◌<◌, ◌≤◌, List, [], ◌∷◌, ◌++◌, length, take, drop, replicate, None, refl, sym, ◌∙◌, ap, subst, arith, length-append, length-drop, append_assoc, take-append-drop}
+use Rattle.std.proofs.Common.{◌≡◌, ℕ, ◌+◌, ◌*◌, ◌-◌, ◌<◌, ◌≤◌, List, ◌++◌, length, take, drop, replicate, None, refl, sym, ◌∙◌, ap, arith, length-append, append_assoc, take-append-drop}
 use Rattle.std.proofs.Math.Seq.{drop-append-add, take-append-add}
-use Rattle.std.proofs.lemmas.List.{append-nil, take_at, drop_at, drop-drop, drop-take, take-append-le, drop-append-le, length-take-le, length-replicate, drop-replicate, take-replicate, replicate-append-replicate}
+use Rattle.std.proofs.lemmas.List.{append-nil, take_at, drop-drop, take-append-le, drop-append-le, length-take-le, length-replicate, drop-replicate, take-replicate, replicate-append-replicate}
 use Rattle.ctr_types.specs.declared.file.File.TheVariants.{Pages}
 use Rattle.ctr_disk.specs.declared.disk.Image.{Image}
-use Rattle.ctr_disk.specs.Image.{write_of, written, TornImage, OtherFilesStay}
+use Rattle.ctr_disk.specs.Image.{write_of, TornImage}
 use Rattle.ctr_disk.proofs.Torn.{same_but}
 use Rattle.ctr_home.specs.declared.block.Block.TheVariants.{Page}
-use Rattle.ctr_home.specs.declared.block.Home.{Home}
-use Rattle.ctr_home.specs.declared.block.Home.TheVariants.{First, Second}
-use Rattle.ctr_home.specs.Blocks.{BlockValue, zero_bytes, home_place, home_bytes, held_at, opens_to, greater, value_of}
+use Rattle.ctr_home.specs.Blocks.{zero_bytes, opens_to, greater, value_of}
 use Rattle.ctr_home.proofs.HomeLemmas.{opened_shut}
 use Rattle.ctr_base.specs.Extent.{KeepsPages, AreCleared}
 
@@ -121,5 +119,5 @@ cleared_blank from to q old new inside was behind below =
     let long = length-take-le (8256 * from) old.pages inside in
     let shut : (place : ℕ) → 8256 * q ≤ place → place + 4128 ≤ 8256 * q + 8256 → opens_to (Page q) (take 4128 (drop place new.pages)) ≡ None =
     λ place low high.
-        ap (λ (l : List ℕ). opens_to (Page q) (take 4128 (drop place l))) was.pages ∙ ap (opens_to (Page q)) (home_blank place k kept rest (omega (arith, long, low, behind)) (omega (arith, long, high, behind, below))) ∙ zeros_shut q in
+    ap (λ (l : List ℕ). opens_to (Page q) (take 4128 (drop place l))) was.pages ∙ ap (opens_to (Page q)) (home_blank place k kept rest (omega (arith, long, low, behind)) (omega (arith, long, high, behind, below))) ∙ zeros_shut q in
     ap (λ o. greater o (opens_to (Page q) (take 4128 (drop (8256 * q + 4128) new.pages)))) (shut (8256 * q) (omega arith) (omega arith)) ∙ shut (8256 * q + 4128) (omega arith) (omega arith)

@@ -1,5 +1,4 @@
-use Rattle.std.proofs.Common.{◌≡◌, ◌∙◌, ◌*◌, ◌≤◌, ℕ, List, length, replicate, refl, ap, arith}
-use Rattle.std.specs.Prelude.{IsTrue}
+use Rattle.std.proofs.Common.{◌≡◌, ◌∙◌, ◌*◌, ℕ, replicate, refl, ap, arith}
 use Rattle.ctr_types.specs.declared.file.File.TheVariants.{Pages}
 use Rattle.ctr_disk.specs.declared.disk.Image.{Image}
 use Rattle.ctr_disk.specs.Image.{write_of}
@@ -7,7 +6,7 @@ use Rattle.ctr_disk.specs.Crash.{Within}
 use Rattle.ctr_disk.specs.Device.{LeavesOnly, IsSettled}
 use Rattle.ctr_disk.proofs.Moments.{starts, goes_on}
 use Rattle.ctr_home.specs.Blocks.{zero_bytes}
-use Rattle.ctr_base.specs.Extent.{KeepsPages, AreCleared}
+use Rattle.ctr_base.specs.Extent.{KeepsPages}
 use Rattle.ctr_base.proofs.ExtentLaws.{keeps_start, keeps_torn, cleared_start, cleared_more}
 use Rattle.ctr_base.proofs.extent.clear_pages.Given.{Over}
 use Rattle.ctr_base.proofs.extent.clear_pages.Goals.{After-write}
