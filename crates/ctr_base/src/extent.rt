@@ -1,6 +1,12 @@
 // Zeros over the homes of pages: before a root counts them they are blank.
-ghost use Rattle.std.specs.Prelude.{◌≡◌, ◌≤◌, ◌*◌, IsTrue, length, OnOk};
+ghost use Rattle.std.specs.Prelude.{◌≡◌, ◌≤◌, ◌*◌, ℕ, IsTrue, length, OnOk};
+ghost use Rattle.ctr_disk.specs.declared.disk.Image.{Image};
+ghost use Rattle.ctr_disk.specs.declared.fault.Root.{Root};
 ghost use Rattle.ctr_disk.specs.Device.{LeavesOnly, IsDurable, IsSettled, Counts};
+ghost use Rattle.ctr_home.specs.declared.root.Form.TheVariants.{Paged};
+ghost use Rattle.ctr_home.specs.Roots.{IsRootOf};
+ghost use Rattle.ctr_redo.specs.States.{state_of};
+ghost use Rattle.ctr_redo.specs.Images.{stored_in, IsSound, CanCount};
 ghost use Rattle.ctr_base.specs.Extent.{KeepsPages, AreCleared};
 
 use ctr_disk::{Disk, Failed};
@@ -24,3 +30,12 @@ pub fn clear_pages<D: Disk>(disk: &mut D, from: u32, to: u32) -> Result<(), Fail
     }
     disk.sync()
 }
+
+/// While pages behind the counted ones are cleared, whatever stands there then, an image stays sound and folds to the same
+/// state. Once they are, a root that says the rest as before can count them.
+pub fn clearing_leaves_the_state()
+    ensures same { (root : Root) (old new : Image) → IsSound root old → KeepsPages (8256 * root.pages) old new → IsSound root new × (state_of (stored_in root new) ≡ state_of (stored_in root old)) }
+    ensures keeps { (from to : ℕ) (old new : Image) → from ≤ to → 8256 * from ≤ length old.pages → AreCleared from to old new → KeepsPages (8256 * from) old new }
+    ensures counts { (root more : Root) (old new : Image) → IsSound root old → IsRootOf Paged more → more.file ≡ root.file → more.first ≡ root.first → root.pages ≤ more.pages
+        → AreCleared root.pages more.pages old new → CanCount root more new }
+{}
