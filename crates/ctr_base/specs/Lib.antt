@@ -1,3 +1,4 @@
 pub mod Base
 pub mod BaseLaws
 pub mod Opening
+pub mod Extent

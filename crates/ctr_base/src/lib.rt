@@ -5,9 +5,11 @@
 
 mod backed;
 mod base;
+mod extent;
 mod opening;
 mod origin;
 
 pub use base::Base;
+pub use extent::{clear_pages, clearing_leaves_the_state};
 pub use opening::find_root;
 pub use origin::Origin;

@@ -1,30 +1,30 @@
 -- More pages are counted, which were blank: the state is the same but for their number.
-use Rattle.std.proofs.Common.{◌≡◌, ◌≢◌, ◌⊎◌, inl, inr, ⊎_elim, ℕ, ◌+◌, ◌<◌, ◌≤◌, ◌*◌, Bool, true, false, nat_lt, if◌then◌else◌, List, length, Option, Some, None, refl, sym, ◌∙◌, ap, subst, arith}
+use Rattle.std.proofs.Common.{◌≡◌, ◌⊎◌, inl, inr, ⊎_elim, ℕ, ◌+◌, ◌<◌, ◌≤◌, ◌*◌, Bool, if◌then◌else◌, List, length, Option, Some, None, refl, sym, ◌∙◌, ap, subst, arith}
 use Rattle.std.proofs.lemmas.Bool.{lt-ltb, le-ltb, cases_lt}
-use Rattle.ctr_types.specs.declared.file.File.TheVariants.{Root as RootFile, Pages}
+use Rattle.ctr_types.specs.declared.file.File.TheVariants.{Pages}
 use Rattle.ctr_disk.specs.declared.disk.Image.{Image}
 use Rattle.ctr_disk.specs.declared.fault.Root.{Root}
 use Rattle.ctr_disk.specs.Image.{content}
 use Rattle.ctr_home.specs.declared.block.Block.TheVariants.{Page, Root as RootBlock}
 use Rattle.ctr_home.specs.declared.root.Form.TheVariants.{Paged}
 use Rattle.ctr_home.specs.Blocks.{BlockValue, value_of, page_with, blank_page}
-use Rattle.ctr_home.specs.Roots.{IsRootOf, SaysRootOf, root_block}
+use Rattle.ctr_home.specs.Roots.{SaysRootOf, root_block}
 use Rattle.ctr_home.specs.Writing.{OthersStay, IsOldOrNewValue}
 use Rattle.ctr_log.specs.Kept.{kept_log, HoldsLog}
 use Rattle.ctr_meta.specs.Effects.{tables_of}
 use Rattle.ctr_pool.specs.Pages.{PageHeld}
 use Rattle.ctr_redo.specs.Overlaid.{overlaid}
-use Rattle.ctr_redo.specs.States.{page_limit, State, Stored, pages_of, state_of, next_of, LieBelow}
+use Rattle.ctr_redo.specs.States.{page_limit, state_of, next_of, LieBelow}
 use Rattle.ctr_redo.specs.Images.{records_in, home_in, stored_in, IsSound, FoldsTo, CanCount}
-use Rattle.ctr_redo.proofs.StateLaws.{pages_same, below_more}
+use Rattle.ctr_redo.proofs.StateLaws.{pages_same}
 use Rattle.ctr_redo.proofs.ImageLaws.{KeepsLogs, root_apart, kept_same, holds_same}
 
-counted_page : (counted p : ℕ) (image : Image) (v : Option BlockValue) → p < counted → value_of (Page p) image ≡ v → home_in counted image p ≡ record { lsn = (page_with v).lsn; body = (page_with v).bytes }
+pub counted_page : (counted p : ℕ) (image : Image) (v : Option BlockValue) → p < counted → value_of (Page p) image ≡ v → home_in counted image p ≡ record { lsn = (page_with v).lsn; body = (page_with v).bytes }
 counted_page counted p image v inside is =
     ap (λ (b : Bool). record { lsn = (if b then page_with (value_of (Page p) image) else blank_page).lsn; body = (if b then page_with (value_of (Page p) image) else blank_page).bytes }) (lt-ltb p counted inside)
     ∙ ap (λ (o : Option BlockValue). record { lsn = (page_with o).lsn; body = (page_with o).bytes }) is
 
-blank_home : (counted p : ℕ) (image : Image) → counted ≤ p → home_in counted image p ≡ record { lsn = blank_page.lsn; body = blank_page.bytes }
+pub blank_home : (counted p : ℕ) (image : Image) → counted ≤ p → home_in counted image p ≡ record { lsn = blank_page.lsn; body = blank_page.bytes }
 blank_home counted p image outside =
     ap (λ (b : Bool). record { lsn = (if b then page_with (value_of (Page p) image) else blank_page).lsn; body = (if b then page_with (value_of (Page p) image) else blank_page).bytes }) (le-ltb p counted outside)
 

@@ -3,3 +3,4 @@ pub mod StateLaws
 pub mod Generations
 pub mod ImageLaws
 pub mod GrowthLaws
+pub mod NewLaws

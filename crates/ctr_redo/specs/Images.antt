@@ -1,5 +1,5 @@
 -- What of an image folds to a state, and which images are sound.
-use Rattle.std.specs.Prelude.{◌≡◌, ◌<◌, ◌≤◌, ◌*◌, ℕ, List, map, take, length, Some, None}
+use Rattle.std.specs.Prelude.{◌≡◌, ◌<◌, ◌≤◌, ◌*◌, ℕ, List, map, take, length, replicate, Some, None}
 use Rattle.ctr_types.specs.declared.file.File.{File}
 use Rattle.ctr_types.specs.declared.file.File.TheVariants.{Root as RootFile, LogA, LogB, Pages}
 use Rattle.ctr_disk.specs.declared.disk.Image.{Image}
@@ -7,14 +7,17 @@ use Rattle.ctr_disk.specs.declared.fault.Root.{Root}
 use Rattle.ctr_disk.specs.Image.{content}
 use Rattle.ctr_home.specs.declared.block.Block.TheVariants.{Page, Root as RootBlock}
 use Rattle.ctr_home.specs.declared.root.Form.TheVariants.{Paged}
-use Rattle.ctr_home.specs.Blocks.{BlockValue, value_of, page_at_home}
-use Rattle.ctr_home.specs.Roots.{IsRootOf, SaysRootOf}
+use Rattle.ctr_home.specs.Blocks.{BlockValue, zero_bytes, value_of, page_at_home}
+use Rattle.ctr_home.specs.Roots.{IsRootOf, SaysRootOf, root_block}
+use Rattle.ctr_log.specs.Logs.{HasLog}
+use Rattle.ctr_log.specs.Fresh.{fresh_log, IsClosed}
+use Rattle.ctr_meta.specs.Tables.{no_tables}
 use Rattle.ctr_log.specs.Kept.{kept_log, HoldsLog}
 use Rattle.ctr_records.specs.declared.record.Record.{Record}
 use Rattle.ctr_records.specs.Read.{record_in}
 use Rattle.ctr_pool.specs.Pages.{PageHeld}
 use Rattle.ctr_redo.specs.Overlaid.{overlaid}
-use Rattle.ctr_redo.specs.States.{State, Stored, state_of, steps, next_of, LieBelow}
+use Rattle.ctr_redo.specs.States.{page_limit, State, Stored, state_of, steps, next_of, LieBelow}
 
 -- the records that the bytes of a log tell
 abbrev pub records_in : List (List ℕ) → List Record
@@ -85,3 +88,25 @@ pub record CanCount (root more : Root) (image : Image) : Type 0 where
   pub grows : root.pages ≤ more.pages
   pub blank : (p : ℕ) → root.pages ≤ p → p < more.pages → value_of (Page p) image ≡ None
   pub size : 8256 * more.pages ≤ length (content Pages image)
+
+-- ---- a new database
+
+-- its root: written once, from LSN 1 of LogA on, 64 pages counted
+abbrev pub new_root : Root
+new_root = record { stamp = 1; format = 1; file = 0; first = 1; pages = 64 }
+
+-- its state: no page has anything, and no transaction was
+abbrev pub new_state : State
+new_state = record {
+  counted = 64;
+  pages = replicate page_limit (zero_bytes 4096);
+  tables = no_tables;
+}
+
+-- The files of a new database: its root, a log of one checkpoint of nothing, and 64 blank pages.
+pub record IsNewDatabase (image : Image) : Type 0 where
+  pub root : value_of RootBlock image ≡ Some (root_block new_root)
+  pub log : HasLog 1 fresh_log image.log_a
+  pub other_log : IsClosed image.log_b
+  pub blank : (p : ℕ) → p < 64 → value_of (Page p) image ≡ None
+  pub size : 528384 ≤ length image.pages

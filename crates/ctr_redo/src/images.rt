@@ -9,7 +9,7 @@ ghost use Rattle.ctr_home.specs.Blocks.{BlockValue};
 ghost use Rattle.ctr_home.specs.Writing.{IsOldOrNewValue};
 ghost use Rattle.ctr_log.specs.Kept.{KeepsPrefix};
 ghost use Rattle.ctr_redo.specs.States.{state_of};
-ghost use Rattle.ctr_redo.specs.Images.{records_in, stored_in, IsSound, FoldsTo, FoldsFront, IsLogFile, MayStand, CanCount};
+ghost use Rattle.ctr_redo.specs.Images.{records_in, stored_in, IsSound, FoldsTo, FoldsFront, IsLogFile, MayStand, CanCount, new_state, IsNewDatabase};
 
 /// A crash in a flush of the log leaves an image that is sound and folds to the state with a prefix of the records
 /// that waited.
@@ -30,4 +30,9 @@ pub fn a_writing_home_leaves_the_state()
 pub fn more_pages_can_be_counted()
     ensures { (root more : Root) (old new : Image) → IsSound root old → CanCount root more old → IsOldOrNewValue RootBlock (root_block more) old new
         → FoldsTo new (state_of (stored_in root old)) ⊎ FoldsTo new (record (state_of (stored_in root old)) { counted = more.pages }) }
+{}
+
+/// A new database is sound, and folds to the state in which no page has anything and no transaction was.
+pub fn a_new_database_is_empty()
+    ensures { (image : Image) → IsNewDatabase image → FoldsTo image new_state }
 {}

@@ -4,3 +4,4 @@ pub mod SeenLaws
 pub mod RedoLaws
 pub mod OpenLaws
 pub mod StoreLaws
+mod CreateLaws

@@ -7,3 +7,4 @@ pub mod Opening
 pub mod Store
 pub mod StoreInside
 pub mod StoreOpening
+pub mod Creating

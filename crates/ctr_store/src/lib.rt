@@ -1,6 +1,7 @@
 //! The store: pages and tables are the fold of the log.
 #![tactic(auto)]
 
+mod creating;
 mod laws;
 mod opening;
 mod parts;
@@ -9,6 +10,7 @@ mod seen;
 mod spelling;
 mod store;
 
+pub use creating::{CreateError, create};
 pub use laws::redo_makes_the_fold;
 pub use opening::OpenError;
 pub use parts::Parts;

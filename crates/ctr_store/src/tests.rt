@@ -1,7 +1,7 @@
 // Openings of images that are laid by hand: each is answered, or refused at its place.
 ghost use Rattle.std.specs.Prelude.{◌≡◌};
 
-use crate::{OpenError, Store};
+use crate::{CreateError, OpenError, Store, create};
 use ctr_base::Origin;
 use ctr_disk::{Disk, Image, MemDisk, SilentDisk};
 use ctr_types::{File, List};
@@ -163,5 +163,102 @@ fn worn_ones(rt: HostRuntime) -> Result<(), Fail> {
     assert!(rt; opened(alloc, &root, log.as_slice(), SIZE, &[]) == worn((1 << 62) + 1));
     let next = altered(altered(NOTHING, 1, 0), 8, 64);
     assert!(rt; logged(alloc, &[&next], &[]) == worn(1 << 62));
+    Ok(())
+}
+
+// LogA of a new database: one batch of the Checkpoint of nothing, and a closed gate.
+const FRESH: [u8; 64] = [
+    1, 42, 0, 0, 0, 0, 0, 0, 0, 1, 0, 0, 0, 0, 0, 0, 0, 1, 0, 0, 0, 34, 0, 0, 0, 0, 0, 0, 0, 1, 1,
+    0, 0, 0, 0, 0, 0, 0, 0, 0, 0, 0, 0, 0, 0, 0, 0, 0, 0, 0, 0, 0, 0, 0, 0, 0, 0, 0, 0, 0, 0, 0, 0,
+    0,
+];
+
+// A new database on an empty disk, of which these calls fail.
+fn made(alloc: Global, fails: List<u64>) -> Result<Result<SilentDisk, CreateError>, AllocError> {
+    let disk = MemDisk::new(alloc, Image::new(alloc), fails)?;
+    match create(SilentDisk { disk }) {
+        Ok(disk) => Ok(Ok(disk)),
+        Err((error, _disk)) => Ok(Err(error)),
+    }
+}
+
+// What is said where the nth call fails.
+fn made_failing(alloc: Global, n: u64) -> Result<Option<CreateError>, AllocError> {
+    let mut fails = List::new(alloc);
+    fails.push(n)?;
+    Ok(made(alloc, fails)?.err())
+}
+
+// How long the two logs and the pages of a new database are, and LogA's first bytes.
+fn files_made(alloc: Global) -> Result<Option<([u64; 3], [u8; 64])>, AllocError> {
+    let Ok(mut disk) = made(alloc, List::new(alloc))? else {
+        return Ok(None);
+    };
+    let mut bytes = [0; 64];
+    let Ok(()) = disk.read(File::LogA, 0, &mut bytes) else {
+        return Ok(None);
+    };
+    let log_a = disk.size(File::LogA).unwrap_or(0);
+    let log_b = disk.size(File::LogB).unwrap_or(0);
+    let pages = disk.size(File::Pages).unwrap_or(0);
+    Ok(Some(([log_a, log_b, pages], bytes)))
+}
+
+// What an opening answers on an image.
+fn opened_image(alloc: Global, image: Image) -> Answer {
+    let disk = MemDisk::new(alloc, image, List::new(alloc))?;
+    Ok(opened_on::<SilentDisk, Brand>(alloc, SilentDisk { disk }))
+}
+
+// Whether each image after so many calls is no database yet, or the empty one; and the empty one if it is whole.
+fn left_well(
+    alloc: Global,
+    disk: &SilentDisk,
+    count: usize,
+    whole: bool,
+) -> Result<bool, AllocError> {
+    for digits in 0..27 {
+        let answer = opened_image(alloc, disk.disk.image_after(count, digits)?)?;
+        if answer != Ok(1) && (whole || answer != Err(OpenError::NoDatabase)) {
+            return Ok(false);
+        }
+    }
+    Ok(true)
+}
+
+// Whether each moment of the making leaves no database or the empty one.
+fn makes_well(alloc: Global) -> Result<bool, AllocError> {
+    let Ok(disk) = made(alloc, List::new(alloc))? else {
+        return Ok(false);
+    };
+    let calls = disk.disk.calls().len();
+    for count in 0..calls {
+        if !left_well(alloc, &disk, count, false)? {
+            return Ok(false);
+        }
+    }
+    left_well(alloc, &disk, calls, true)
+}
+
+// What the making answers on a disk that has a database.
+fn made_again(alloc: Global) -> Result<Option<CreateError>, AllocError> {
+    let Ok(disk) = made(alloc, List::new(alloc))? else {
+        return Ok(None);
+    };
+    match create(disk) {
+        Ok(_disk) => Ok(None),
+        Err((error, _disk)) => Ok(Some(error)),
+    }
+}
+
+#[test]
+fn a_new_database(rt: HostRuntime) -> Result<(), Fail> {
+    let alloc = rt.alloc();
+    assert!(rt; files_made(alloc) == Ok(Some(([64, 1, SIZE], FRESH))));
+    assert!(rt; makes_well(alloc) == Ok(true));
+    assert!(rt; made_again(alloc) == Ok(Some(CreateError::Exists)));
+    for n in 1..80 {
+        assert!(rt; made_failing(alloc, n) == Ok(Some(CreateError::Fault)));
+    }
     Ok(())
 }

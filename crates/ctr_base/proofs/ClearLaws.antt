@@ -1,0 +1,81 @@
+-- Pages that are cleared behind the counted ones change no state, and can be counted then.
+use Rattle.std.proofs.Common.{◌≡◌, ⊎_elim, ℕ, ◌+◌, ◌*◌, ◌-◌, ◌≤◌, List, ◌++◌, length, take, drop, replicate, refl, sym, ◌∙◌, ap, subst, arith, length-append, length-drop, append_assoc}
+use Rattle.std.proofs.lemmas.Bool.{cases_lt}
+use Rattle.std.proofs.lemmas.List.{take_at, take-take, drop-take, length-take-le, length-replicate}
+use Rattle.ctr_disk.specs.declared.disk.Image.{Image}
+use Rattle.ctr_disk.specs.declared.fault.Root.{Root}
+use Rattle.ctr_home.specs.declared.block.Block.TheVariants.{Page}
+use Rattle.ctr_home.specs.declared.root.Form.TheVariants.{Paged}
+use Rattle.ctr_home.specs.Blocks.{zero_bytes, opens_to, greater, value_of}
+use Rattle.ctr_home.specs.Roots.{IsRootOf, SaysRootOf, root_value}
+use Rattle.ctr_log.specs.Kept.{kept_log, HoldsLog}
+use Rattle.ctr_pool.specs.Pages.{PageHeld}
+use Rattle.ctr_redo.specs.States.{state_of}
+use Rattle.ctr_redo.specs.Images.{home_in, stored_in, IsSound, CanCount}
+use Rattle.ctr_redo.proofs.ImageLaws.{KeepsLogs, pages_apart, kept_same, holds_same, next_same, state_with}
+use Rattle.ctr_redo.proofs.GrowthLaws.{counted_page, blank_home}
+use Rattle.ctr_base.specs.Extent.{KeepsPages, AreCleared}
+use Rattle.ctr_base.proofs.ExtentLaws.{cleared_blank, cleared_long}
+
+-- a home within a front that is the same
+same_home : (n place : ℕ) (a b : List ℕ) → take n a ≡ take n b → place + 4128 ≤ n → take 4128 (drop place a) ≡ take 4128 (drop place b)
+same_home n place a b same inside =
+    sym (drop-take place 4128 a)
+    ∙ ap (drop place) (sym (take-take (place + 4128) n a inside) ∙ ap (take (place + 4128)) same ∙ take-take (place + 4128) n b inside)
+    ∙ drop-take place 4128 b
+
+-- a page before those that are cleared has the value that it had
+value_same : (n q : ℕ) (old new : Image) → KeepsPages n old new → 8256 * q + 8256 ≤ n → value_of (Page q) new ≡ value_of (Page q) old
+value_same n q old new keeps inside =
+    let home : (place : ℕ) → place + 4128 ≤ n → opens_to (Page q) (take 4128 (drop place new.pages)) ≡ opens_to (Page q) (take 4128 (drop place old.pages)) =
+    λ place low. ap (opens_to (Page q)) (same_home n place new.pages old.pages keeps.front low) in
+    ap (λ o. greater o (opens_to (Page q) (take 4128 (drop (8256 * q + 4128) new.pages)))) (home (8256 * q) (omega (arith, inside)))
+    ∙ ap (greater (opens_to (Page q) (take 4128 (drop (8256 * q) old.pages)))) (home (8256 * q + 4128) (omega (arith, inside)))
+
+module _ (root : Root) (old new : Image) (sound : IsSound root old) (keeps : KeepsPages (8256 * root.pages) old new) where
+  logs : KeepsLogs old new
+  logs = pages_apart old new keeps.others
+
+  home_same : (q : ℕ) → home_in root.pages new q ≡ home_in root.pages old q
+  home_same q =
+      ⊎_elim
+      (λ inside. counted_page root.pages q new (value_of (Page q) old) inside (value_same (8256 * root.pages) q old new keeps (omega (arith, inside))) ∙ sym (counted_page root.pages q old (value_of (Page q) old) inside refl))
+      (λ outside. blank_home root.pages q new outside ∙ sym (blank_home root.pages q old outside))
+      (cases_lt q root.pages)
+
+  pub sound_cleared : IsSound root new
+  sound_cleared = record {
+    says = subst (λ (o : _). SaysRootOf Paged o root) (sym (ap (λ (i : Image). root_value i.root) keeps.others)) sound.says;
+    log = subst (λ (l : List (List ℕ)). HoldsLog root.file root.first l new) (sym (kept_same root.file root.first old new logs)) (holds_same root.file root.first (kept_log root.file root.first old) old new logs sound.log);
+    below = λ q. let low = sound.below q in omega (arith, low, next_same root old new logs, ap (λ (h : PageHeld). h.lsn) (home_same q));
+    numbered = λ q v inside has. sound.numbered q v inside (sym (value_same (8256 * root.pages) q old new keeps (omega (arith, inside))) ∙ has);
+    size = let size = sound.size in let longer = keeps.no_shorter in omega (arith, size, longer);
+  }
+
+  pub state_cleared : state_of (stored_in root new) ≡ state_of (stored_in root old)
+  state_cleared = state_with root (home_in root.pages old) old new logs home_same
+
+-- what is cleared stands behind the rest
+pub cleared_keeps : (from to : ℕ) (old new : Image) → from ≤ to → 8256 * from ≤ length old.pages → AreCleared from to old new → KeepsPages (8256 * from) old new
+unfolding zero_bytes
+cleared_keeps from to old new order inside was =
+    let kept = take (8256 * from) old.pages in
+    let k = 8256 * (to - from) in
+    let zeros : List ℕ = replicate k 0 in
+    let rest = drop (8256 * to) old.pages in
+    let long = length-take-le (8256 * from) old.pages inside in
+    record {
+      others = was.others;
+      front = ap (take (8256 * from)) (was.pages ∙ append_assoc kept zeros rest) ∙ take_at kept (zeros ++ rest) (8256 * from) long;
+      no_shorter = omega (arith, ap length was.pages, length-append (kept ++ zeros) rest, length-append kept zeros, long, length-replicate {A = ℕ} k 0, length-drop (8256 * to) old.pages, order);
+    }
+
+pub can_count : (root more : Root) (old new : Image) → IsSound root old → IsRootOf Paged more → more.file ≡ root.file → more.first ≡ root.first → root.pages ≤ more.pages → AreCleared root.pages more.pages old new → CanCount root more new
+can_count root more old new sound is_root file first grows was = record {
+  is_root = is_root;
+  file = file;
+  first = first;
+  grows = grows;
+  blank = λ p low high. cleared_blank root.pages more.pages p old new sound.size was low high;
+  size = cleared_long root.pages more.pages old new grows sound.size was;
+}

@@ -1,0 +1,88 @@
+-- What a new database folds to.
+use Rattle.std.proofs.Common.{◌≡◌, ◌≢◌, inl, ⊎_elim, ℕ, zero, suc, ◌+◌, List, [], ◌∷◌, ◌++◌, length, replicate, Some, None, refl, sym, ◌∙◌, ap, subst, arith}
+use Rattle.std.specs.Prelude.{slice_index}
+use Rattle.std.proofs.lemmas.Bool.{cases_lt}
+use Rattle.ctr_disk.specs.declared.disk.Image.{Image}
+use Rattle.ctr_home.specs.Blocks.{BlockValue, zero_bytes}
+use Rattle.ctr_bytes.specs.Fields.{spelled, field}
+use Rattle.ctr_records.specs.Members.{pairs_from, items_from}
+use Rattle.ctr_log.specs.Fresh.{first_checkpoint, fresh_log, IsClosed}
+use Rattle.ctr_log.specs.Kept.{kept_log, HoldsLog}
+use Rattle.ctr_log.proofs.KeptLaws.{holds_is}
+use Rattle.ctr_records.specs.declared.record.Record.{Record}
+use Rattle.ctr_records.specs.declared.record.Record.TheVariants.{Checkpoint}
+use Rattle.ctr_records.specs.Read.{record_in}
+use Rattle.ctr_meta.specs.Tables.{no_tables}
+use Rattle.ctr_meta.specs.Effects.{tables_of}
+use Rattle.ctr_pool.specs.Pages.{PageHeld}
+use Rattle.ctr_redo.specs.Overlaid.{overlaid}
+use Rattle.ctr_redo.specs.States.{page_limit, pages_of, state_of}
+use Rattle.ctr_redo.specs.Images.{records_in, home_in, IsSound, FoldsTo, new_root, new_state, IsNewDatabase}
+use Rattle.ctr_redo.proofs.GrowthLaws.{counted_page, blank_home}
+
+-- the record with which its log begins
+abbrev nothing : Record
+nothing = Checkpoint 1 (spelled 8 0 ++ spelled 8 0 ++ spelled 8 0)
+
+first_record : record_in first_checkpoint ≡ nothing
+unfolding record_in spelled field
+first_record = refl
+
+first_tables : tables_of (nothing ∷ []) ≡ no_tables
+unfolding spelled field pairs_from items_from
+first_tables = refl
+
+-- the first gate of a closed file isn't open
+shut : (l : List ℕ) → IsClosed l → slice_index l 0 ≢ 1
+shut [] closed = λ e. omega (arith, e)
+shut (x ∷ l) closed = closed
+
+abbrev blank : PageHeld
+blank = record { lsn = 0; body = zero_bytes 4096 }
+
+-- pages that are blank at home are blank with the first record
+untouched : (p : ℕ) (h : PageHeld) → overlaid p 1 (nothing ∷ []) h ≡ h
+untouched p h = refl
+
+pages_blank : (homes : ℕ → PageHeld) → ((p : ℕ) → homes p ≡ blank) → (p n : ℕ) → pages_of homes 1 (nothing ∷ []) p n ≡ replicate n (zero_bytes 4096)
+pages_blank homes each p zero = refl
+pages_blank homes each p (suc n) =
+    ap (λ (h : PageHeld). h.body ∷ pages_of homes 1 (nothing ∷ []) (p + 1) n) (untouched p (homes p) ∙ each p)
+    ∙ ap (λ (bs : List (List ℕ)). zero_bytes 4096 ∷ bs) (pages_blank homes each (p + 1) n)
+
+module _ (image : Image) (is : IsNewDatabase image) where
+  held : HoldsLog 0 1 (first_checkpoint ∷ []) image
+  unfolding spelled
+  held = inl (fresh_log, refl, record { named = is.log; short = (omega arith, tt); low = omega arith; dropped = inl (shut image.log_b is.other_log) })
+
+  log_is : kept_log 0 1 image ≡ first_checkpoint ∷ []
+  log_is = holds_is 0 1 image (first_checkpoint ∷ []) held
+
+  records_are : records_in (kept_log 0 1 image) ≡ nothing ∷ []
+  records_are = ap records_in log_is ∙ ap (λ (r : Record). r ∷ []) first_record
+
+  home_blank : (p : ℕ) → home_in 64 image p ≡ blank
+  home_blank p =
+      ⊎_elim (λ inside. counted_page 64 p image None inside (is.blank p inside)) (λ outside. blank_home 64 p image outside) (cases_lt p 64)
+
+  sound : IsSound new_root image
+  sound = record {
+    says = (is.root, record { format = refl; file = omega arith; first_low = omega arith; first_high = omega arith; pages_low = omega arith; pages_high = omega arith; stamp = omega arith });
+    log = subst (λ (l : List (List ℕ)). HoldsLog 0 1 l image) (sym log_is) held;
+    below = λ p. omega (arith, ap (λ (h : PageHeld). h.lsn) (home_blank p), ap (λ (rs : List Record). length rs) records_are);
+    numbered = λ p v inside has. absurd (none_some v (sym (is.blank p inside) ∙ has));
+    size = is.size;
+  }
+    where
+      none_some : (v : BlockValue) → None ≡ Some v → ⊥
+      none_some v e = cc e
+
+  pub folds_new : FoldsTo image new_state
+  folds_new = record {
+    root = new_root;
+    sound = sound;
+    state_is =
+        ap (λ (rs : List Record). state_of (record { counted = 64; homes = home_in 64 image; first = 1; records = rs })) records_are
+        ∙ ap (λ (ps : List (List ℕ)). record { counted = 64; pages = ps; tables = tables_of (nothing ∷ []) }) (pages_blank (home_in 64 image) home_blank 0 page_limit)
+        ∙ ap (λ t. record { counted = 64; pages = replicate page_limit (zero_bytes 4096); tables = t }) first_tables;
+  }
