@@ -99,7 +99,7 @@ module _ {image mid : Image} {r : Root} (root_is : FoundRoot image mid r) where
   pub log_refused : (e : ReadError) → RefusesOrFails (log_file r.file) (HasSome r.first (content (log_file r.file) mid)) e → Explains image (of_read e)
   log_refused read.OutOfMemory refused = tt
   log_refused (read.Store store.Fault) refused = tt
-  log_refused (read.Store (store.Damaged f at want got)) refused = (refused.0.1, not_none, λ db s low. refused.1 (s.bs, log_of_image db s))
+  log_refused (read.Store (store.Damaged f at want got)) refused = (refused.0.1, not_none, λ db s. refused.1 (s.bs, log_of_image db s))
 
   -- records of the log, where they were read
   module _ {rs : List (List ℕ)} (only : (bs : Batches) → HasLog r.first bs (content (log_file r.file) mid) → rs ≡ records bs) where
@@ -110,7 +110,8 @@ module _ {image mid : Image} {r : Root} (root_is : FoundRoot image mid r) where
     records_refused open_error.OutOfMemory refused = tt
     records_refused open_error.Fault refused = absurd refused
     records_refused open_error.NoDatabase refused = absurd refused
-    records_refused (open_error.Damaged f at want got) refused = (refused.0, not_none, λ db s low. refused.1 (db, (s.rs, records_of_image db s, s.folds)))
+    records_refused (open_error.Worn number) refused = absurd refused
+    records_refused (open_error.Damaged f at want got) refused = (refused.0, not_none, λ db s. refused.1 (db, (s.rs, records_of_image db s, s.folds)))
 
     pub only_database : OneFold → (made : Database) → MakesDatabase rs made → (db : Database) → StandsFor image db → made ≡ db
     only_database one made makes db s =
@@ -122,32 +123,41 @@ module _ {image mid : Image} {r : Root} (root_is : FoundRoot image mid r) where
       next_is_of : log.first + length log.buffered ≡ r.first + length rs
       next_is_of = omega (arith, opens.goes_on.first_is, ap length opens.none, ap length opens.records_are)
 
-      pub next_refused : (file : File) (next : ℕ) → next ≡ log.first + length log.buffered → 2 ^ 62 ≤ next → Explains image (open_error.Damaged file 0 (2 ^ 62 - 1) next)
-      next_refused file next is high = (
-        λ e. omega (arith, e),
-        not_none,
-        λ db s low.
-            let root : s.r ≡ r = one_root (root_value image.root) s.r r s.root says in
-            let long : length rs ≡ length (records s.bs) = ap length (only s.bs (log_of_image db s)) in
-            omega (arith, low, long, next_is_of, ap (λ (q : Root). q.first) root),
-      )
+    -- what the image stands for, where its records make it
+    abbrev stands_of : (made : Database) (bs : Batches) → MakesDatabase rs made → HasLog r.first bs (content (log_file r.file) mid) → rs ≡ records bs → StandsFor image made
+    stands_of made bs makes log_is records_are = record {
+      r = r;
+      bs = bs;
+      rs = makes.0;
+      root = says;
+      log = subst (λ (i : Image). HasLog r.first bs (content (log_file r.file) i)) same log_is;
+      begins = sym records_are ∙ makes.1;
+      folds = makes.2;
+    }
 
     pub was_opened : (o : Opened) → OpensLog r.first (log_file r.file) mid o.log rs → MakesDatabase rs o.database → o.log.first + length o.log.buffered < 2 ^ 62 → Opens image o
     was_opened o opens makes low = record {
-      stands = record {
-        r = r;
-        bs = opens.bs;
-        rs = makes.0;
-        root = says;
-        log = subst (λ (i : Image). HasLog r.first opens.bs (content (log_file r.file) i)) same (subst (λ (f : File). HasLog r.first opens.bs (content f mid)) opens.file_is opens.goes_on.log_is);
-        begins = sym opens.records_are ∙ makes.1;
-        folds = makes.2;
-      };
+      stands = stands_of o.database opens.bs makes (subst (λ (f : File). HasLog r.first opens.bs (content f mid)) opens.file_is opens.goes_on.log_is) opens.records_are;
       low = omega (arith, low, next_is_of opens, ap length opens.records_are);
       file = opens.file_is;
       goes_on = subst (λ (i : Image). GoesOn r.first opens.bs o.log i) same opens.goes_on;
       none = opens.none;
     }
+
+    -- the same, where no number is left
+    pub was_worn : OneFold → (log : Log) (made : Database) → OpensLog r.first (log_file r.file) mid log rs → MakesDatabase rs made → (next : ℕ) → next ≡ log.first + length log.buffered → 2 ^ 62 ≤ next
+        → Explains image (open_error.Worn next)
+    was_worn one log made opens makes next is high =
+        let there : StandsFor image made = stands_of made opens.bs makes (subst (λ (f : File). HasLog r.first opens.bs (content f mid)) opens.file_is opens.goes_on.log_is) opens.records_are in
+        record {
+          database = made;
+          stands = there;
+          worn = (high, omega (arith, is, next_is_of opens, ap length opens.records_are));
+          none_low = λ db s low.
+              let root : s.r ≡ r = one_root (root_value image.root) s.r r s.root says in
+              let long : length rs ≡ length (records s.bs) = ap length (only s.bs (log_of_image db s)) in
+              omega (arith, high, is, low, long, next_is_of opens, ap (λ (q : Root). q.first) root);
+        }
 
 -- ---- damage is told by numbers that differ
 
@@ -163,10 +173,8 @@ pub records_differ : (P : Type 0) (e : OpenError) → RefusesToOpen P e → Open
 records_differ P open_error.OutOfMemory is = tt
 records_differ P (open_error.Damaged f at want got) is = is.0
 records_differ P open_error.NoDatabase is = tt
+records_differ P (open_error.Worn number) is = absurd is
 records_differ P open_error.Fault is = tt
-
-pub next_differs : (file : File) (next : ℕ) → 2 ^ 62 ≤ next → OpenDiffers (open_error.Damaged file 0 (2 ^ 62 - 1) next)
-next_differs file next high same = omega (arith, high, same)
 
 -- ---- what was pending
 

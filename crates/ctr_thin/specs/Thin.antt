@@ -1,6 +1,6 @@
 -- Which database an image stands for in the thin form: the records of the log that its root names,
 -- from the checkpoint of an empty engine on, make it.
-use Rattle.std.specs.Prelude.{◌≡◌, ◌≢◌, ℕ, ◌+◌, ◌^◌, ◌<◌, IsTrue, List, [], ◌∷◌, length, None, Result, Ok, Err, IfErr}
+use Rattle.std.specs.Prelude.{◌≡◌, ◌≢◌, ℕ, ◌+◌, ◌^◌, ◌<◌, ◌≤◌, IsTrue, List, [], ◌∷◌, length, None, Result, Ok, Err, IfErr}
 use Rattle.ctr_disk.specs.declared.disk.Image.{Image}
 use Rattle.ctr_disk.specs.declared.fault.Root.{Root}
 use Rattle.ctr_disk.specs.declared.disk.Disk.{Ghosts}
@@ -17,7 +17,7 @@ use Rattle.ctr_rec.specs.declared.decoding.RecordError.TheVariants as record_err
 use Rattle.ctr_rec.specs.Fold.{Stands, Folds, FoldsRecord, FoldsRecords}
 use Rattle.ctr_thin.specs.declared.opening.Opened.{Opened}
 use Rattle.ctr_thin.specs.declared.opening.OpenError.{OpenError}
-use Rattle.ctr_thin.specs.declared.opening.OpenError.TheVariants.{NoDatabase, Damaged, Fault, OutOfMemory}
+use Rattle.ctr_thin.specs.declared.opening.OpenError.TheVariants.{NoDatabase, Damaged, Worn, Fault, OutOfMemory}
 
 -- ---- what an image stands for
 
@@ -38,8 +38,12 @@ abbrev pub next_lsn : Root → Batches → ℕ
 next_lsn r bs = r.first + length (records bs)
 
 -- it is below this bound, as at a database that can be opened
-abbrev pub IsLow : Root → Batches → Type 0
-IsLow r bs = next_lsn r bs < 2 ^ 62
+abbrev pub IsLow : {image : Image} {db : Database} → StandsFor image db → Type 0
+IsLow s = next_lsn s.r s.bs < 2 ^ 62
+
+-- it isn't, and is this
+abbrev pub IsWorn : {image : Image} {db : Database} → StandsFor image db → ℕ → Type 0
+IsWorn s number = (2 ^ 62 ≤ number) × (number ≡ next_lsn s.r s.bs)
 
 -- an image that stands for the database, by the same root and these batches
 abbrev pub StandsBy : Image → Database → Root → Batches → Type 0
@@ -88,33 +92,45 @@ abbrev pub RefusesToOpen : Type 0 → OpenError → Type 0
 RefusesToOpen P OutOfMemory = Unit {0}
 RefusesToOpen P (Damaged file at want got) = (want ≢ got) × (P → ⊥)
 RefusesToOpen P NoDatabase = ⊥
+RefusesToOpen P (Worn number) = ⊥
 RefusesToOpen P Fault = ⊥
 
 -- the database is the one that the image stands for, and the log's writer goes on behind the log
 -- with nothing to flush
 pub record Opens (image : Image) (o : Opened) : Type 0 where
   pub stands : StandsFor image o.database
-  pub low : IsLow stands.r stands.bs
+  pub low : IsLow stands
   pub file : o.log.file ≡ log_file stands.r.file
   pub goes_on : GoesOn stands.r.first stands.bs o.log image
   pub none : o.log.buffered ≡ []
 
--- the image stands for no database that can be opened
+-- the image stands for no database
 abbrev pub StandsForNone : Image → Type 0
-StandsForNone image = (db : Database) (s : StandsFor image db) → IsLow s.r s.bs → ⊥
+StandsForNone image = (db : Database) → StandsFor image db → ⊥
 
--- why nothing was opened: there is no root, or the image stands for no database that can be opened
+-- the image stands for a database whose numbers are worn, by this one; and for none that isn't
+pub record IsWornOut (image : Image) (number : ℕ) : Type 0 where
+  pub database : Database
+  pub stands : StandsFor image database
+  pub worn : IsWorn stands number
+  pub none_low : (db : Database) (s : StandsFor image db) → IsLow s → ⊥
+
+-- Why nothing was opened: there is no root, or the image stands for no database, or for one whose
+-- numbers are worn.
 abbrev pub Explains : Image → OpenError → Type 0
 Explains image NoDatabase = root_value image.root ≡ None
 Explains image (Damaged file at want got) = (want ≢ got) × (root_value image.root ≢ None)
     × StandsForNone image
+Explains image (Worn number) = IsWornOut image number
 Explains image Fault = Unit {0}
 Explains image OutOfMemory = Unit {0}
 
--- where it is damage, what is wanted differs from what is there
+-- where it is damage, what is wanted differs from what is there; a number that is worn is at least
+-- 2^62
 abbrev pub OpenDiffers : OpenError → Type 0
 OpenDiffers NoDatabase = Unit {0}
 OpenDiffers (Damaged file at want got) = want ≢ got
+OpenDiffers (Worn number) = 2 ^ 62 ≤ number
 OpenDiffers Fault = Unit {0}
 OpenDiffers OutOfMemory = Unit {0}
 
@@ -123,6 +139,7 @@ abbrev pub FindsNone : Result Opened OpenError → Type 0
 FindsNone (Ok o) = ⊥
 FindsNone (Err NoDatabase) = Unit {0}
 FindsNone (Err (Damaged file at want got)) = ⊥
+FindsNone (Err (Worn number)) = ⊥
 FindsNone (Err Fault) = Unit {0}
 FindsNone (Err OutOfMemory) = Unit {0}
 

@@ -4,7 +4,7 @@ ghost use Rattle.ctr_disk.specs.Device.{OnlyReads, Counts, CountsAs, IsDurableFr
 ghost use Rattle.ctr_log.specs.Homes.{IsRoot};
 ghost use Rattle.ctr_log.specs.Reading.{log_file};
 ghost use Rattle.ctr_model.specs.Database.{Database};
-ghost use Rattle.ctr_thin.specs.declared.opening.OpenError.TheVariants.{Damaged, Fault};
+ghost use Rattle.ctr_thin.specs.declared.opening.OpenError.TheVariants.{Damaged, Worn, Fault};
 ghost use Rattle.ctr_thin.specs.Opening.{of_record};
 ghost use Rattle.ctr_thin.specs.Thin.{StandsFor, Opens, Explains, OpenDiffers, IsExplained, MakesDatabase, MakesSomeDatabase, RefusesToOpen};
 
@@ -39,6 +39,10 @@ pub enum OpenError {
         at: u64,
         want: u128,
         got: u128,
+    },
+    /// The next LSN of the log is at least 2^62: it is this.
+    Worn {
+        number: u64,
     },
     /// As in `StoreFault`.
     Fault,
@@ -178,16 +182,11 @@ fn load(alloc: Global, file: File, records: &[Text]) -> Result<Loader, OpenError
 }
 
 // Numbers are left for further records.
-fn check_next(file: File, next: Lsn) -> Result<(), OpenError>
-    ensures { MatchResult result (λ _. next < 2 ^ 62) (λ e. (2 ^ 62 ≤ next) × (e ≡ Damaged file 0 (2 ^ 62 - 1) next)) }
+fn check_next(next: Lsn) -> Result<(), OpenError>
+    ensures { MatchResult result (λ _. next < 2 ^ 62) (λ e. (2 ^ 62 ≤ next) × (e ≡ Worn next)) }
 {
     if next >= LSN_END {
-        return Err(OpenError::Damaged {
-            file,
-            at: 0,
-            want: (LSN_END - 1) as u128,
-            got: next as u128,
-        });
+        return Err(OpenError::Worn { number: next });
     }
     Ok(())
 }
@@ -210,7 +209,7 @@ fn read_database<D: Disk>(alloc: Global, disk: &mut D) -> Result<Opened, OpenErr
     let (log, records) = read_named(alloc, disk, &root)?;
     let file = named_file(&root);
     let database = load(alloc, file, records.as_slice())?;
-    check_next(file, log.next())?;
+    check_next(log.next())?;
     Ok(Opened { log, database })
 }
 

@@ -1,7 +1,7 @@
 use Rattle.std.proofs.Common.{◌<◌, ◌^◌, List, ℕ, subst}
 use Rattle.std.proofs.lemmas.Result.{err_from_is_err_and}
 use Rattle.ctr_thin.specs.Thin.{MakesDatabase, MakesSomeDatabase, RefusesToOpen}
-use Rattle.ctr_thin.proofs.OpenLemmas.{found, log_refused, records_refused, next_refused, was_opened, only_database, store_differs, log_differs, records_differ, next_differs}
+use Rattle.ctr_thin.proofs.OpenLemmas.{found, log_refused, records_refused, was_worn, was_opened, only_database, store_differs, log_differs, records_differ}
 use Rattle.ctr_thin.proofs.opening.read_database.Goals as goal
 
 pub returns-in_err-log-clause-refused : goal.returns-in_err-log-clause-refused
@@ -20,8 +20,9 @@ pub returns-in_err-check_next-clause-refused : goal.returns-in_err-check_next-cl
 returns-in_err-check_next-clause-refused g c told =
     let p = err_from_is_err_and c.from_residual-in_err-check_next.result c.from_residual-in_err-check_next.ensures.1 in
     let fails = c.in_err-check_next.ensures in
-    rw (p.1, p.2, fails.1) (next_refused (found c.in-Some.is (c.in_ok-root.ensures.answer told) c.in_ok-root.ensures.quiet.same) (λ bs log. c.in_ok-log.ensures.only bs told log) (c.in_ok-log.ensures.found told)
-    c.named_file-file.result c.next.result c.next.ensures fails.0)
+    let made = c.in_ok-database.database in
+    rw (p.1, p.2, fails.1) (was_worn (found c.in-Some.is (c.in_ok-root.ensures.answer told) c.in_ok-root.ensures.quiet.same) (λ bs log. c.in_ok-log.ensures.only bs told log) c.fold_is_one.ensures c.in_ok-log.log made (c.in_ok-log.ensures.found told)
+    (subst (λ (l : List (List ℕ)). MakesDatabase l made) c.as_slice.ensures c.in_ok-database.ensures.found) c.next.result c.next.ensures fails.0)
 
 pub returns-clause-opened : goal.returns-clause-opened
 returns-clause-opened g c told =
@@ -55,4 +56,4 @@ pub returns-in_err-check_next-clause-differs : goal.returns-in_err-check_next-cl
 returns-in_err-check_next-clause-differs g c =
     let p = err_from_is_err_and c.from_residual-in_err-check_next.result c.from_residual-in_err-check_next.ensures.1 in
     let fails = c.in_err-check_next.ensures in
-    rw (p.1, p.2, fails.1) (next_differs c.named_file-file.result c.next.result fails.0)
+    rw (p.1, p.2, fails.1) fails.0
