@@ -11,7 +11,11 @@ use Rattle.ctr_log.proofs.LogLemmas.{length-batch, records-push}
 use Rattle.ctr_log.proofs.ReadLemmas.{batch_same, length-frames-le}
 use Rattle.ctr_model.specs.Database.{Database}
 use Rattle.ctr_rec.specs.Fold.{FoldsRecord, FoldsRecords}
-use Rattle.ctr_thin.specs.Thin.{StandsFor, StandsBy}
+use Rattle.std.specs.Prelude.{Ok}
+use Rattle.ctr_bytes.specs.Fields.{field, spelled}
+use Rattle.ctr_records.specs.Damage.{at_most}
+use Rattle.ctr_records.specs.Checkpoint.{count_at, opens_in, aborted_in, items_at, items_in, end_at, end_check, kind_check, kinds_in, item_check, next_check, heads_check, xid_check, list_checks, checkpoint_checks}
+use Rattle.ctr_thin.specs.Thin.{StandsFor, StandsBy, first_checks}
 use Rattle.ctr_thin.proofs.ReplayLemmas.{OneFold}
 use Rattle.ctr_thin.proofs.OpenLemmas.{one_root}
 
@@ -45,7 +49,7 @@ stands_for_one one image a b s t few =
     let high = s.root.1.first_high in
     let log : HasLog s.r.first t.bs (content (log_file s.r.file) image) = subst (λ (q : Root). HasLog q.first t.bs (content (log_file q.file) image)) (sym root) t.log in
     let logs : s.bs ≡ t.bs = same_logs s.r.first s.bs t.bs (content (log_file s.r.file) image) s.log log (omega (arith, high, few)) in
-    let heads : first_checkpoint ∷ s.rs ≡ first_checkpoint ∷ t.rs = sym s.begins ∙ ap records logs ∙ t.begins in
+    let heads : s.head ∷ s.rs ≡ t.head ∷ t.rs = sym s.begins ∙ ap records logs ∙ t.begins in
     let rests : s.rs ≡ t.rs = cc in
     (one [] t.rs a b (subst (λ (l : List (List ℕ)). FoldsRecords [] l a) rests s.folds) t.folds, root, logs)
 
@@ -54,10 +58,12 @@ stands_by_same old new db s root log =
     let t : StandsFor new db = record {
       r = s.r;
       bs = s.bs;
+      head = s.head;
       rs = s.rs;
       root = subst (λ (l : List ℕ). SaysRoot (root_value l) s.r) (sym root) s.root;
       log = subst (λ (l : List ℕ). HasLog s.r.first s.bs l) (sym log) s.log;
       begins = s.begins;
+      checked = s.checked;
       folds = s.folds;
     } in
     (t, refl, refl)
@@ -73,10 +79,12 @@ stands_by_records old new db next more bs s root log all folds =
     let t : StandsFor new next = record {
       r = s.r;
       bs = bs;
+      head = s.head;
       rs = s.rs ++ more;
       root = subst (λ (l : List ℕ). SaysRoot (root_value l) s.r) (sym root) s.root;
       log = log;
       begins = all ∙ ap (λ (l : List (List ℕ)). l ++ more) s.begins;
+      checked = s.checked;
       folds = folds_behind [] s.rs more db next s.folds folds;
     } in
     (t, refl, refl)
@@ -86,15 +94,22 @@ pub stands_by_record : (old new : Image) (db next : Database) (bytes : List ℕ)
 stands_by_record old new db next bytes s root log folds =
     stands_by_records old new db next (bytes ∷ []) (s.bs ++ (bytes ∷ []) ∷ []) s root log (records-push s.bs (bytes ∷ [])) (next, folds, refl)
 
+-- the first record of a new database passes
+first_passes : first_checks first_checkpoint ≡ Ok tt
+unfolding count_at opens_in aborted_in items_at items_in end_at end_check kind_check kinds_in item_check next_check heads_check xid_check list_checks checkpoint_checks at_most field spelled
+first_passes = refl
+
 pub stands_fresh : (old new : Image) → IsFresh old new → StandsBy new [] fresh_root fresh_log
 stands_fresh old new fresh =
     let t : StandsFor new [] = record {
       r = fresh_root;
       bs = fresh_log;
+      head = first_checkpoint;
       rs = [];
       root = (fresh.root, record { format = refl; file = omega arith; first_low = omega arith; first_high = omega arith; pages_low = omega arith; pages_high = omega arith; stamp = omega arith });
       log = fresh.log;
       begins = refl;
+      checked = first_passes;
       folds = refl;
     } in
     (t, refl, refl)

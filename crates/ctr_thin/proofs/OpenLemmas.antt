@@ -1,5 +1,5 @@
 -- What the root and the log that it names say of the image.
-use Rattle.std.proofs.Common.{◌≡◌, ◌≢◌, ◌+◌, ◌<◌, ◌≤◌, ◌^◌, ◌-◌, ℕ, List, [], ◌∷◌, ◌++◌, length, sym, ◌∙◌, ap, subst, arith, Option, Some, None, append_assoc, length-append}
+use Rattle.std.proofs.Common.{◌≡◌, ◌≢◌, ◌+◌, ◌<◌, ◌≤◌, ◌^◌, ℕ, List, [], ◌∷◌, ◌++◌, length, inl, inr, ⊎_elim, refl, sym, ◌∙◌, ap, subst, arith, Option, Some, None, append_assoc, length-append}
 use Rattle.std.specs.Prelude.{codes, Result, Ok, Err, OnOk}
 use Rattle.ctr_bytes.specs.Fields.{spelled, field}
 use Rattle.ctr_bytes.proofs.FieldLaws.{field_at, length-spelled}
@@ -15,19 +15,19 @@ use Rattle.ctr_disk.specs.Image.{content}
 use Rattle.ctr_log.specs.declared.reading.ReadError.{ReadError}
 use Rattle.ctr_log.specs.declared.reading.ReadError.TheVariants as read
 use Rattle.ctr_log.specs.Damage.{Differs}
+use Rattle.ctr_log.specs.LogChecks.{file_damage, IsThisDamage}
 use Rattle.ctr_log.specs.Homes.{BlockValue, root_block, root_value, IsRoot, SaysRoot}
 use Rattle.ctr_home.specs.declared.root.Form.TheVariants.{Thin}
 use Rattle.ctr_home.specs.Roots.{ReadsRoot}
 use Rattle.ctr_log.specs.Logs.{Batches, records, HasLog, Log, GoesOn}
 use Rattle.ctr_log.specs.Reading.{log_file, HasSome, RefusesOrFails, ReadDiffers, OpensLog}
-use Rattle.ctr_log.specs.Fresh.{first_checkpoint}
 use Rattle.ctr_model.specs.Database.{Database}
 use Rattle.ctr_rec.specs.Fold.{FoldsRecords}
 use Rattle.ctr_thin.specs.declared.opening.Opened.{Opened}
 use Rattle.ctr_thin.specs.declared.opening.OpenError.{OpenError}
 use Rattle.ctr_thin.specs.declared.opening.OpenError.TheVariants as open_error
 use Rattle.ctr_thin.specs.Opening.{of_read, of_store}
-use Rattle.ctr_thin.specs.Thin.{StandsFor, MakesDatabase, MakesSomeDatabase, RefusesToOpen, Opens, Explains, OpenDiffers}
+use Rattle.ctr_thin.specs.Thin.{StandsFor, MakesDatabase, RefusesRecords, IsRecordsDamage, IsWornNumber, next_xid, Opens, Explains, OpenDiffers}
 use Rattle.ctr_thin.proofs.ReplayLemmas.{OneFold}
 
 -- ---- a block says one root at most
@@ -96,54 +96,86 @@ module _ {image mid : Image} {r : Root} (root_is : FoundRoot image mid r) where
       let root : s.r ≡ r = one_root (root_value image.root) s.r r s.root says in
       subst (λ (i : Image). HasLog r.first s.bs (content (log_file r.file) i)) (sym same) (subst (λ (q : Root). HasLog q.first s.bs (content (log_file q.file) image)) root s.log)
 
-  pub log_refused : (e : ReadError) → RefusesOrFails (log_file r.file) (HasSome r.first (content (log_file r.file) mid)) e → Explains image (of_read e)
-  log_refused read.OutOfMemory refused = tt
-  log_refused (read.Store store.Fault) refused = tt
-  log_refused (read.Store (store.Damaged f at want got)) refused = (refused.0.1, not_none, λ db s low. refused.1 (s.bs, log_of_image db s))
+  pub log_refused : (e : ReadError) → RefusesOrFails (log_file r.file) (HasSome r.first (content (log_file r.file) mid)) e → IsThisDamage (file_damage (log_file r.file) r.first (content (log_file r.file) mid)) e → Explains image (of_read e)
+  log_refused read.OutOfMemory refused is = tt
+  log_refused (read.Store store.Fault) refused is = tt
+  log_refused (read.Store (store.Damaged f at want got)) refused is = (
+    refused.0.1,
+    not_none,
+    (λ db s. refused.1 (s.bs, log_of_image db s)),
+    inr (r, says, inl (subst (λ (i : Image). file_damage (log_file r.file) r.first (content (log_file r.file) i) ≡ Err (store.Damaged f at want got)) same is)),
+  )
 
   -- records of the log, where they were read
   module _ {rs : List (List ℕ)} (only : (bs : Batches) → HasLog r.first bs (content (log_file r.file) mid) → rs ≡ records bs) where
-    records_of_image : (db : Database) (s : StandsFor image db) → rs ≡ first_checkpoint ∷ s.rs
+    records_of_image : (db : Database) (s : StandsFor image db) → rs ≡ s.head ∷ s.rs
     records_of_image db s = only s.bs (log_of_image db s) ∙ s.begins
 
-    pub records_refused : (e : OpenError) → RefusesToOpen (MakesSomeDatabase rs) e → Explains image e
-    records_refused open_error.OutOfMemory refused = tt
-    records_refused open_error.Fault refused = absurd refused
-    records_refused open_error.NoDatabase refused = absurd refused
-    records_refused (open_error.Damaged f at want got) refused = (refused.0, not_none, λ db s low. refused.1 (db, (s.rs, records_of_image db s, s.folds)))
+    -- they make what the image stands for
+    makes_of : (db : Database) (s : StandsFor image db) → MakesDatabase rs db (next_xid s.head)
+    makes_of db s = record { head = s.head; rs = s.rs; all_are = records_of_image db s; checked = s.checked; xid_is = refl; folds = s.folds }
 
-    pub only_database : OneFold → (made : Database) → MakesDatabase rs made → (db : Database) → StandsFor image db → made ≡ db
-    only_database one made makes db s =
-        let heads : first_checkpoint ∷ makes.0 ≡ first_checkpoint ∷ s.rs = sym makes.1 ∙ records_of_image db s in
-        let rests : makes.0 ≡ s.rs = cc in
-        one [] s.rs made db (subst (λ (l : List (List ℕ)). FoldsRecords [] l made) rests makes.2) s.folds
+    pub only_database : OneFold → (made : Database) (xid : ℕ) → MakesDatabase rs made xid → (db : Database) → StandsFor image db → made ≡ db
+    only_database one made xid makes db s =
+        let heads : makes.head ∷ makes.rs ≡ s.head ∷ s.rs = sym makes.all_are ∙ records_of_image db s in
+        let rests : makes.rs ≡ s.rs = cc in
+        one [] s.rs made db (subst (λ (l : List (List ℕ)). FoldsRecords [] l made) rests makes.folds) s.folds
+
+    -- what the image stands for, where its records make it
+    abbrev stands_of : (made : Database) (xid : ℕ) (bs : Batches) → MakesDatabase rs made xid → HasLog r.first bs (content (log_file r.file) mid) → rs ≡ records bs → StandsFor image made
+    stands_of made xid bs makes log_is records_are = record {
+      r = r;
+      bs = bs;
+      head = makes.head;
+      rs = makes.rs;
+      root = says;
+      log = subst (λ (i : Image). HasLog r.first bs (content (log_file r.file) i)) same log_is;
+      begins = sym records_are ∙ makes.all_are;
+      checked = makes.checked;
+      folds = makes.folds;
+    }
 
     module _ {log : Log} (opens : OpensLog r.first (log_file r.file) mid log rs) where
-      next_is_of : log.first + length log.buffered ≡ r.first + length rs
+      log_there : HasLog r.first opens.bs (content (log_file r.file) mid)
+      log_there = subst (λ (f : File). HasLog r.first opens.bs (content f mid)) opens.file_is opens.goes_on.log_is
+
+      next_is_of : log.first + length log.buffered ≡ r.first + length (records opens.bs)
       next_is_of = omega (arith, opens.goes_on.first_is, ap length opens.none, ap length opens.records_are)
 
-      pub next_refused : (file : File) (next : ℕ) → next ≡ log.first + length log.buffered → 2 ^ 62 ≤ next → Explains image (open_error.Damaged file 0 (2 ^ 62 - 1) next)
-      next_refused file next is high = (
-        λ e. omega (arith, e),
-        not_none,
-        λ db s low.
-            let root : s.r ≡ r = one_root (root_value image.root) s.r r s.root says in
-            let long : length rs ≡ length (records s.bs) = ap length (only s.bs (log_of_image db s)) in
-            omega (arith, low, long, next_is_of, ap (λ (q : Root). q.first) root),
-      )
+      pub records_refused : file_damage (log_file r.file) r.first (content (log_file r.file) mid) ≡ Ok tt → (e : OpenError) → RefusesRecords (log_file r.file) rs e → Explains image e
+      records_refused fine open_error.OutOfMemory refused = tt
+      records_refused fine open_error.Fault refused = absurd refused
+      records_refused fine open_error.NoDatabase refused = absurd refused
+      records_refused fine (open_error.Worn number) refused = absurd refused
+      records_refused fine (open_error.Damaged f at want got) refused =
+          let fine_now : file_damage (log_file r.file) r.first (content (log_file r.file) image) ≡ Ok tt = subst (λ (i : Image). file_damage (log_file r.file) r.first (content (log_file r.file) i) ≡ Ok tt) same fine in
+          let log_now : HasLog r.first opens.bs (content (log_file r.file) image) = subst (λ (i : Image). HasLog r.first opens.bs (content (log_file r.file) i)) same log_there in
+          let damage : IsRecordsDamage (log_file r.file) (records opens.bs) (store.Damaged f at want got) = subst (λ (l : List (List ℕ)). IsRecordsDamage (log_file r.file) l (store.Damaged f at want got)) opens.records_are refused.2 in
+          (refused.0, not_none, (λ db s. refused.1 (db, next_xid s.head, makes_of db s)), inr (r, says, inr (fine_now, opens.bs, log_now, damage)))
 
-    pub was_opened : (o : Opened) → OpensLog r.first (log_file r.file) mid o.log rs → MakesDatabase rs o.database → o.log.first + length o.log.buffered < 2 ^ 62 → Opens image o
-    was_opened o opens makes low = record {
-      stands = record {
-        r = r;
-        bs = opens.bs;
-        rs = makes.0;
-        root = says;
-        log = subst (λ (i : Image). HasLog r.first opens.bs (content (log_file r.file) i)) same (subst (λ (f : File). HasLog r.first opens.bs (content f mid)) opens.file_is opens.goes_on.log_is);
-        begins = sym opens.records_are ∙ makes.1;
-        folds = makes.2;
-      };
-      low = omega (arith, low, next_is_of opens, ap length opens.records_are);
+      -- no number is left
+      pub was_worn : (made : Database) (xid next n : ℕ) → MakesDatabase rs made xid → next ≡ log.first + length log.buffered → IsWornNumber next xid n → Explains image (open_error.Worn n)
+      was_worn made xid next n makes is worn =
+          let next_now : next ≡ r.first + length (records opens.bs) = is ∙ next_is_of in
+          record {
+            database = made;
+            stands = stands_of made xid opens.bs makes log_there opens.records_are;
+            worn = subst (λ (x : ℕ). IsWornNumber x (next_xid makes.head) n) next_now (subst (λ (x : ℕ). IsWornNumber next x n) makes.xid_is worn);
+            none_low = λ db s low.
+                let root : s.r ≡ r = one_root (root_value image.root) s.r r s.root says in
+                let long : length rs ≡ length (records s.bs) = ap length (only s.bs (log_of_image db s)) in
+                let all_long : length rs ≡ length (records opens.bs) = ap length opens.records_are in
+                let next_low : next < 2 ^ 62 = omega (arith, low.0, long, all_long, next_now, ap (λ (q : Root). q.first) root) in
+                let heads : makes.head ∷ makes.rs ≡ s.head ∷ s.rs = sym makes.all_are ∙ records_of_image db s in
+                let head : makes.head ≡ s.head = cc in
+                let xid_low : xid < 2 ^ 62 = omega (arith, low.1, makes.xid_is, ap next_xid head) in
+                ⊎_elim (λ e. omega (arith, worn.0, e, next_low)) (λ e. omega (arith, worn.0, e.1, xid_low)) worn.1;
+          }
+
+    pub was_opened : (o : Opened) (xid : ℕ) → OpensLog r.first (log_file r.file) mid o.log rs → MakesDatabase rs o.database xid → o.log.first + length o.log.buffered < 2 ^ 62 → xid < 2 ^ 62 → Opens image o
+    was_opened o xid opens makes low xid_low = record {
+      stands = stands_of o.database xid opens.bs makes (log_there opens) opens.records_are;
+      low = (omega (arith, low, next_is_of opens), omega (arith, xid_low, makes.xid_is));
       file = opens.file_is;
       goes_on = subst (λ (i : Image). GoesOn r.first opens.bs o.log i) same opens.goes_on;
       none = opens.none;
@@ -159,14 +191,12 @@ pub log_differs : (e : ReadError) → ReadDiffers e → OpenDiffers (of_read e)
 log_differs read.OutOfMemory is = tt
 log_differs (read.Store e) is = store_differs e is
 
-pub records_differ : (P : Type 0) (e : OpenError) → RefusesToOpen P e → OpenDiffers e
-records_differ P open_error.OutOfMemory is = tt
-records_differ P (open_error.Damaged f at want got) is = is.0
-records_differ P open_error.NoDatabase is = tt
-records_differ P open_error.Fault is = tt
-
-pub next_differs : (file : File) (next : ℕ) → 2 ^ 62 ≤ next → OpenDiffers (open_error.Damaged file 0 (2 ^ 62 - 1) next)
-next_differs file next high same = omega (arith, high, same)
+pub records_differ : (file : File) (all : List (List ℕ)) (e : OpenError) → RefusesRecords file all e → OpenDiffers e
+records_differ file all open_error.OutOfMemory is = tt
+records_differ file all (open_error.Damaged f at want got) is = is.0
+records_differ file all open_error.NoDatabase is = tt
+records_differ file all (open_error.Worn number) is = absurd is
+records_differ file all open_error.Fault is = tt
 
 -- ---- what was pending
 

@@ -1,24 +1,31 @@
 // Opening a database: the root, the log that it names, and the database that its records make.
-ghost use Rattle.std.specs.Prelude.{◌≡◌, ◌≢◌, ◌≤◌, ◌<◌, ◌-◌, ◌^◌, IsTrue, ℕ, [], None, Err, IfOk, IfErr, OnOk, MatchResult};
+ghost use Rattle.std.specs.Prelude.{◌≡◌, ◌≢◌, ◌≤◌, ◌<◌, ◌+◌, ◌^◌, min, IsTrue, ℕ, [], None, Ok, Err, IfOk, IfErr, OnOk, MatchResult};
 ghost use Rattle.ctr_disk.specs.Device.{OnlyReads, Counts, CountsAs, IsDurableFrom};
 ghost use Rattle.ctr_log.specs.Homes.{IsRoot};
 ghost use Rattle.ctr_log.specs.Reading.{log_file};
 ghost use Rattle.ctr_model.specs.Database.{Database};
-ghost use Rattle.ctr_thin.specs.declared.opening.OpenError.TheVariants.{Damaged, Fault};
+ghost use Rattle.ctr_thin.specs.declared.opening.OpenError.TheVariants.{Damaged, Worn, Fault};
 ghost use Rattle.ctr_thin.specs.Opening.{of_record};
-ghost use Rattle.ctr_thin.specs.Thin.{StandsFor, Opens, Explains, OpenDiffers, IsExplained, MakesDatabase, MakesSomeDatabase, RefusesToOpen};
+ghost use Rattle.ctr_bytes.specs.Fields.{field};
+ghost use Rattle.ctr_rec.specs.Fold.{FoldsRecords};
+ghost use Rattle.ctr_thin.specs.Thin.{first_checks, next_xid, StandsFor, Opens, Explains, OpenDiffers, IsExplained, IsWornNumber, MakesDatabase, RefusesRecords, RefusesOthers};
 
 use crate::replay::replay;
+use ctr_bytes::{get_u8, get_u64};
 use ctr_disk::{Disk, Failed, Root, StoreFault};
 use ctr_home::read_thin_root;
-use ctr_log::{LogFile, Lsn, ReadError, is_first_checkpoint, read_named};
+use ctr_log::{LogFile, Lsn, ReadError, read_named};
 use ctr_rec::{RecordError, fold_is_one};
+use ctr_records::{BadRecord, decode};
 use ctr_rows::Loader;
-use ctr_types::{File, OutOfMemory, Text};
+use ctr_types::{File, OutOfMemory, Text, Xid};
 use std::alloc::Global;
 
-/// The first number that no record of a database that can be opened has: 2^62.
-const LSN_END: Lsn = 1 << 62;
+/// The first number that no record and no transaction of a database that can be opened has: 2^62.
+const NUMBERS_END: u64 = 1 << 62;
+
+/// Where the first record of a file stands: behind a gate, the head of a batch, and a length.
+const FIRST_RECORD: u64 = 29;
 
 /// A database that was opened: the writer of its log, and what its records make.
 #[derive(Drop)]
@@ -39,6 +46,10 @@ pub enum OpenError {
         at: u64,
         want: u128,
         got: u128,
+    },
+    /// The next LSN of the log is at least 2^62, or else the next transaction of its Checkpoint: it is this.
+    Worn {
+        number: u64,
     },
     /// As in `StoreFault`.
     Fault,
@@ -132,7 +143,7 @@ fn named_file(root: &Root) -> File
     }
 }
 
-// The first record isn't the checkpoint: 1 stands for the checkpoint, 0 for another or none.
+// A log has no record: 1 stands for the Checkpoint that is wanted.
 fn no_checkpoint(file: File) -> OpenError
     ensures { result ≡ Damaged file 0 1 0 }
 {
@@ -141,6 +152,44 @@ fn no_checkpoint(file: File) -> OpenError
         at: 0,
         want: 1,
         got: 0,
+    }
+}
+
+// The first byte of a record; of none it is 0.
+fn first_byte(bytes: &[u8]) -> u8
+    ensures { result ≡ field 1 0 bytes.now }
+{
+    if bytes.is_empty() {
+        return 0;
+    }
+    get_u8(bytes, 0)
+}
+
+// The next transaction of the first record, which is a Checkpoint that passes its checks.
+fn check_first(bytes: &[u8]) -> Result<Xid, BadRecord>
+    ensures { MatchResult result (λ x. (first_checks bytes.now ≡ Ok tt) × (x ≡ next_xid bytes.now)) (λ bad. (bad.want ≢ bad.got) × (first_checks bytes.now ≡ Err bad)) }
+{
+    let tag = first_byte(bytes);
+    if tag == 1 {
+        decode(bytes)?;
+        return Ok(get_u64(bytes, 1));
+    }
+    Err(BadRecord {
+        at: 0,
+        want: 1,
+        got: tag as u128,
+    })
+}
+
+// What the first record of a file is refused for.
+fn bad_first(file: File, bad: BadRecord) -> OpenError
+    ensures { result ≡ Damaged file (min (29 + bad.at) 18446744073709551615) bad.want bad.got }
+{
+    OpenError::Damaged {
+        file,
+        at: FIRST_RECORD.saturating_add(bad.at),
+        want: bad.want,
+        got: bad.got,
     }
 }
 
@@ -159,17 +208,11 @@ fn bad_record(file: File, error: RecordError) -> OpenError
     }
 }
 
-// The database that a log's records make.
-fn load(alloc: Global, file: File, records: &[Text]) -> Result<Loader, OpenError>
-    ensures found { IfOk result (MakesDatabase records.now) }
-    ensures refused { IfErr result (RefusesToOpen (MakesSomeDatabase records.now)) }
+// The database that the records behind the first make.
+fn load_others(alloc: Global, file: File, others: &[Text]) -> Result<Loader, OpenError>
+    ensures found { IfOk result (FoldsRecords [] others.now) }
+    ensures refused { IfErr result (RefusesOthers file others.now) }
 {
-    let Some((first, others)) = records.split_first() else {
-        return Err(no_checkpoint(file));
-    };
-    if !is_first_checkpoint(first.as_slice()) {
-        return Err(no_checkpoint(file));
-    }
     let mut database = Loader::new(alloc)?;
     match replay(alloc, &mut database, others) {
         Ok(()) => Ok(database),
@@ -177,17 +220,31 @@ fn load(alloc: Global, file: File, records: &[Text]) -> Result<Loader, OpenError
     }
 }
 
-// Numbers are left for further records.
-fn check_next(file: File, next: Lsn) -> Result<(), OpenError>
-    ensures { MatchResult result (λ _. next < 2 ^ 62) (λ e. (2 ^ 62 ≤ next) × (e ≡ Damaged file 0 (2 ^ 62 - 1) next)) }
+// The database that a log's records make, and the next transaction that the first of them says.
+fn load(alloc: Global, file: File, records: &[Text]) -> Result<(Loader, Xid), OpenError>
+    ensures found { IfOk result (λ r. MakesDatabase records.now r.0 r.1) }
+    ensures refused { IfErr result (RefusesRecords file records.now) }
 {
-    if next >= LSN_END {
-        return Err(OpenError::Damaged {
-            file,
-            at: 0,
-            want: (LSN_END - 1) as u128,
-            got: next as u128,
-        });
+    let Some((first, others)) = records.split_first() else {
+        return Err(no_checkpoint(file));
+    };
+    let xid = match check_first(first.as_slice()) {
+        Ok(xid) => xid,
+        Err(bad) => return Err(bad_first(file, bad)),
+    };
+    let database = load_others(alloc, file, others)?;
+    Ok((database, xid))
+}
+
+// Numbers are left for further records and transactions.
+fn check_numbers(next: Lsn, xid: Xid) -> Result<(), OpenError>
+    ensures { MatchResult result (λ _. (next < 2 ^ 62) × (xid < 2 ^ 62)) (λ e. (n : ℕ) × IsWornNumber next xid n × (e ≡ Worn n)) }
+{
+    if next >= NUMBERS_END {
+        return Err(OpenError::Worn { number: next });
+    }
+    if xid >= NUMBERS_END {
+        return Err(OpenError::Worn { number: xid });
     }
     Ok(())
 }
@@ -209,8 +266,8 @@ fn read_database<D: Disk>(alloc: Global, disk: &mut D) -> Result<Opened, OpenErr
     check_root(&root)?;
     let (log, records) = read_named(alloc, disk, &root)?;
     let file = named_file(&root);
-    let database = load(alloc, file, records.as_slice())?;
-    check_next(file, log.next())?;
+    let (database, xid) = load(alloc, file, records.as_slice())?;
+    check_numbers(log.next(), xid)?;
     Ok(Opened { log, database })
 }
 

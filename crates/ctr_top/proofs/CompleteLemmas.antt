@@ -43,13 +43,13 @@ module _ {D S : Type 0} (law : NoScriptIsRefused) (g : Ghosts D) (old : D) (s : 
   each ending.TooLong disk from = absurd (omega (arith, script.few, from source_told))
   each ending.Usage disk from = absurd disk
   each ending.NoDatabase disk from = absurd (cc (disk told, can_open.1.0.root.0))
-  each (ending.Damaged file at want got) disk from = absurd ((disk.1 told).1 can_open.0 can_open.1.0 can_open.1.1)
+  each (ending.Damaged file at want got) disk from = absurd ((disk.1 told).1 can_open.0 can_open.1.0)
   each ending.DiskFault disk from = absurd (no_disk disk)
   each ending.ReadFault disk from = absurd (no_source from)
   each ending.WriteFault disk from = absurd disk
   each ending.OutOfMemory disk from = inr refl
   each ending.Exists disk from = absurd disk
-  each (ending.Worn number) disk from = absurd disk
+  each (ending.Worn number) disk from = absurd ((disk.1 told).none_low can_open.0 can_open.1.0 can_open.1.1)
 
   pub complete_of : (o.ending ≡ ending.Finished) ⊎ ((o.ending ≡ ending.OutOfMemory) × (o.tape.entries ≡ []))
   complete_of = ⊎_elim (λ is. inl is) (λ is. inr (is, (leaves.nothing (inl (subst IsRefused (sym is) tt))).tape)) (each o.ending h.by_disk h.by_source)

@@ -40,6 +40,7 @@ module _ {D : Type 0} (g : Ghosts D) (old new : D) where
   open_why : (error : OpenError) → OpenDiffers error → (IsTrue g.tells → Explains (g.reads old) error) → (error ≡ open_error.Fault → CountsFault (g.faults_of old) (g.faults_of new)) → DiskWhy g old new (opened_as error)
   open_why open_error.NoDatabase differs explains fault = explains
   open_why (open_error.Damaged file at want got) differs explains fault = (differs, λ told. let e = explains told in (e.1, e.2))
+  open_why (open_error.Worn number) differs explains fault = (differs, explains)
   open_why open_error.Fault differs explains fault = fault refl
   open_why open_error.OutOfMemory differs explains fault = tt
 
@@ -52,6 +53,7 @@ module _ {D : Type 0} (g : Ghosts D) (old new : D) where
 opened_well : (error : OpenError) → IsScriptRead (opened_as error)
 opened_well open_error.NoDatabase = tt
 opened_well (open_error.Damaged file at want got) = tt
+opened_well (open_error.Worn number) = tt
 opened_well open_error.Fault = tt
 opened_well open_error.OutOfMemory = tt
 
@@ -80,6 +82,7 @@ module _ {D : Type 0} (g : Ghosts D) (old : D) (o : Outcome D) where
 pub not_fine : (error : OpenError) → opened_as error ≢ ending.Finished
 not_fine open_error.NoDatabase is = absurd (cc is)
 not_fine (open_error.Damaged file at want got) is = absurd (cc is)
+not_fine (open_error.Worn number) is = absurd (cc is)
 not_fine open_error.Fault is = absurd (cc is)
 not_fine open_error.OutOfMemory is = absurd (cc is)
 

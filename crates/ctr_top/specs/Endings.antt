@@ -65,6 +65,7 @@ work (ending.Worn number) = ending.Worn number
 abbrev pub opened_as : OpenError → Ending
 opened_as open_error.NoDatabase = ending.NoDatabase
 opened_as (open_error.Damaged file at want got) = ending.Damaged file at want got
+opened_as (open_error.Worn number) = ending.Worn number
 opened_as open_error.Fault = ending.DiskFault
 opened_as open_error.OutOfMemory = ending.OutOfMemory
 

@@ -1,5 +1,5 @@
 -- What a command promises: what a crash leaves, the tape, the text, and the cause of each ending.
-use Rattle.std.specs.Prelude.{◌≡◌, ◌≢◌, ◌⊎◌, ◌≤◌, ◌<◌, ℕ, ◌+◌, pos, Bool, true, false, IsTrue, IsSome, List, [], ◌++◌, length, None}
+use Rattle.std.specs.Prelude.{◌≡◌, ◌≢◌, ◌⊎◌, ◌≤◌, ◌<◌, ℕ, ◌+◌, ◌^◌, pos, Bool, true, false, IsTrue, IsSome, List, [], ◌++◌, length, None}
 use Rattle.ctr_types.specs.declared.statement.Line.{Line}
 use Rattle.ctr_types.specs.declared.tape.Entry.{Entry}
 use Rattle.ctr_disk.specs.declared.disk.Image.{Image}
@@ -19,7 +19,7 @@ use Rattle.ctr_model.specs.Texts.{answers, refusals, transcript, last_line}
 use Rattle.ctr_print.specs.Prints.{PutsOn}
 use Rattle.ctr_log.specs.Homes.{root_value}
 use Rattle.ctr_script.specs.Written.{IsShortRefusal}
-use Rattle.ctr_thin.specs.Thin.{StandsFor, StandsForNone}
+use Rattle.ctr_thin.specs.Thin.{StandsFor, StandsForNone, IsWornOut}
 use Rattle.ctr_world.specs.Crash.{reached, HasCommits, IsPrefixAt, Survives, OnlyLogChanges, StraysOnlyLong}
 use Rattle.ctr_world.specs.Turns.{NoneFull}
 use Rattle.ctr_world.specs.World.{CanOpen}
@@ -80,7 +80,7 @@ IsRefused ending.ReadFault = Unit {0}
 IsRefused ending.WriteFault = ⊥
 IsRefused ending.OutOfMemory = Unit {0}
 IsRefused ending.Exists = ⊥
-IsRefused (ending.Worn number) = ⊥
+IsRefused (ending.Worn number) = Unit {0}
 
 -- nothing is run: by the ending, or, whatever that is, where no database is there that can be opened
 abbrev pub RunsNothing : {D : Type 0} → Ghosts D → D → Ending → Type 0
@@ -109,7 +109,7 @@ pub record GoesForward {D S : Type 0} (g : Ghosts D) (s : Source S) (old new : D
 
 -- ---- the cause of each ending
 
--- the root is there, but the image stands for no database that can be opened
+-- the root is there, but the image stands for no database
 abbrev pub IsBroken : Image → Type 0
 IsBroken image = (root_value image.root ≢ None) × StandsForNone image
 
@@ -129,7 +129,8 @@ DiskWhy g old new ending.ReadFault = Unit {0}
 DiskWhy g old new ending.WriteFault = ⊥
 DiskWhy g old new ending.OutOfMemory = Unit {0}
 DiskWhy g old new ending.Exists = ⊥
-DiskWhy g old new (ending.Worn number) = ⊥
+DiskWhy g old new (ending.Worn number) = (2 ^ 62 ≤ number)
+    × (IsTrue g.tells → IsWornOut (g.reads old) number)
 
 -- What each ending says of the source: a script that was read, one that is none or is too long, or a
 -- fault.

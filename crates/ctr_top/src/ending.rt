@@ -108,6 +108,7 @@ pub fn not_opened(error: OpenError) -> Ending
             want,
             got,
         },
+        OpenError::Worn { number } => Ending::Worn { number },
         OpenError::Fault => Ending::DiskFault,
         OpenError::OutOfMemory => Ending::OutOfMemory,
     }

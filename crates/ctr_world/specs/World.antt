@@ -105,7 +105,7 @@ pub record Kept {D B : Type 0} (g : Ghosts D) (o : Opening B) (w : Parts D) : Ty
 
 -- some database is there that can be opened
 abbrev pub CanOpen : Image → Type 0
-CanOpen image = (base : Database) × ((s : StandsFor image base) × IsLow s.r s.bs)
+CanOpen image = (base : Database) × ((s : StandsFor image base) × IsLow s)
 
 -- ---- how a World ends
 

@@ -1,40 +1,46 @@
 use Rattle.std.proofs.Common.{◌<◌, ◌^◌, List, ℕ, subst}
 use Rattle.std.proofs.lemmas.Result.{err_from_is_err_and}
-use Rattle.ctr_thin.specs.Thin.{MakesDatabase, MakesSomeDatabase, RefusesToOpen}
-use Rattle.ctr_thin.proofs.OpenLemmas.{found, log_refused, records_refused, next_refused, was_opened, only_database, store_differs, log_differs, records_differ, next_differs}
+use Rattle.ctr_types.specs.declared.file.File.{File}
+use Rattle.ctr_thin.specs.Thin.{MakesDatabase, RefusesRecords}
+use Rattle.ctr_thin.proofs.OpenLemmas.{found, log_refused, records_refused, was_worn, was_opened, only_database, store_differs, log_differs, records_differ}
 use Rattle.ctr_thin.proofs.opening.read_database.Goals as goal
 
 pub returns-in_err-log-clause-refused : goal.returns-in_err-log-clause-refused
 returns-in_err-log-clause-refused g c told =
     let p = err_from_is_err_and c.from_residual-in_err-log.result c.from_residual-in_err-log.ensures.1 in
-    rw (p.1, p.2) (log_refused (found c.in-Some.is (c.in_ok-root.ensures.answer told) c.in_ok-root.ensures.quiet.same) c.in_err-log.field-0.0 (c.in_err-log.ensures.refused told))
+    rw (p.1, p.2) (log_refused (found c.in-Some.is (c.in_ok-root.ensures.answer told) c.in_ok-root.ensures.quiet.same) c.in_err-log.field-0.0 (c.in_err-log.ensures.refused told) (c.in_err-log.ensures.damage told))
 
 pub returns-in_err-database-clause-refused : goal.returns-in_err-database-clause-refused
 returns-in_err-database-clause-refused g c told =
     let p = err_from_is_err_and c.from_residual-in_err-database.result c.from_residual-in_err-database.ensures.1 in
     let e = c.in_err-database.field-0.0 in
-    rw (p.1, p.2) (records_refused (found c.in-Some.is (c.in_ok-root.ensures.answer told) c.in_ok-root.ensures.quiet.same) (λ bs log. c.in_ok-log.ensures.only bs told log) e
-    (subst (λ (l : List (List ℕ)). RefusesToOpen (MakesSomeDatabase l) e) c.as_slice.ensures c.in_err-database.ensures.refused))
+    let refused = subst (λ (l : List (List ℕ)). RefusesRecords c.named_file-file.result l e) c.as_slice.ensures c.in_err-database.ensures.refused in
+    rw (p.1, p.2) (records_refused (found c.in-Some.is (c.in_ok-root.ensures.answer told) c.in_ok-root.ensures.quiet.same) (λ bs log. c.in_ok-log.ensures.only bs told log) (c.in_ok-log.ensures.found told) (c.in_ok-log.ensures.damage told) e
+    (subst (λ (f : File). RefusesRecords f c.in_ok-log.records e) c.named_file-file.ensures refused))
 
-pub returns-in_err-check_next-clause-refused : goal.returns-in_err-check_next-clause-refused
-returns-in_err-check_next-clause-refused g c told =
-    let p = err_from_is_err_and c.from_residual-in_err-check_next.result c.from_residual-in_err-check_next.ensures.1 in
-    let fails = c.in_err-check_next.ensures in
-    rw (p.1, p.2, fails.1) (next_refused (found c.in-Some.is (c.in_ok-root.ensures.answer told) c.in_ok-root.ensures.quiet.same) (λ bs log. c.in_ok-log.ensures.only bs told log) (c.in_ok-log.ensures.found told)
-    c.named_file-file.result c.next.result c.next.ensures fails.0)
+pub returns-in_err-check_numbers-clause-refused : goal.returns-in_err-check_numbers-clause-refused
+returns-in_err-check_numbers-clause-refused g c told =
+    let p = err_from_is_err_and c.from_residual-in_err-check_numbers.result c.from_residual-in_err-check_numbers.ensures.1 in
+    let fails = c.in_err-check_numbers.ensures in
+    let made = c.in_ok-database.database in
+    let xid = c.in_ok-database.xid in
+    rw (p.1, p.2, fails.2) (was_worn (found c.in-Some.is (c.in_ok-root.ensures.answer told) c.in_ok-root.ensures.quiet.same) (λ bs log. c.in_ok-log.ensures.only bs told log) (c.in_ok-log.ensures.found told) made xid c.next.result fails.0
+    (subst (λ (l : List (List ℕ)). MakesDatabase l made xid) c.as_slice.ensures c.in_ok-database.ensures.found) c.next.ensures fails.1)
 
 pub returns-clause-opened : goal.returns-clause-opened
 returns-clause-opened g c told =
     let database = c.in_ok-database.database in
-    was_opened (found c.in-Some.is (c.in_ok-root.ensures.answer told) c.in_ok-root.ensures.quiet.same) (λ bs log. c.in_ok-log.ensures.only bs told log) (record { log = c.in_ok-log.log; database = database }) (c.in_ok-log.ensures.found told)
-    (subst (λ (l : List (List ℕ)). MakesDatabase l database) c.as_slice.ensures c.in_ok-database.ensures.found)
-    (subst (λ (n : ℕ). n < 2 ^ 62) c.next.ensures c.in_ok-check_next.ensures)
+    let xid = c.in_ok-database.xid in
+    was_opened (found c.in-Some.is (c.in_ok-root.ensures.answer told) c.in_ok-root.ensures.quiet.same) (λ bs log. c.in_ok-log.ensures.only bs told log) (record { log = c.in_ok-log.log; database = database }) xid (c.in_ok-log.ensures.found told)
+    (subst (λ (l : List (List ℕ)). MakesDatabase l database xid) c.as_slice.ensures c.in_ok-database.ensures.found)
+    (subst (λ (n : ℕ). n < 2 ^ 62) c.next.ensures c.in_ok-check_numbers.ensures.0) c.in_ok-check_numbers.ensures.1
 
 pub returns-clause-only : goal.returns-clause-only
 returns-clause-only g c db told =
     let made = c.in_ok-database.database in
-    only_database (found c.in-Some.is (c.in_ok-root.ensures.answer told) c.in_ok-root.ensures.quiet.same) (λ bs log. c.in_ok-log.ensures.only bs told log) c.fold_is_one.ensures made
-    (subst (λ (l : List (List ℕ)). MakesDatabase l made) c.as_slice.ensures c.in_ok-database.ensures.found) db
+    let xid = c.in_ok-database.xid in
+    only_database (found c.in-Some.is (c.in_ok-root.ensures.answer told) c.in_ok-root.ensures.quiet.same) (λ bs log. c.in_ok-log.ensures.only bs told log) c.fold_is_one.ensures made xid
+    (subst (λ (l : List (List ℕ)). MakesDatabase l made xid) c.as_slice.ensures c.in_ok-database.ensures.found) db
 
 pub returns-in_err-root-clause-differs : goal.returns-in_err-root-clause-differs
 returns-in_err-root-clause-differs g c =
@@ -49,10 +55,10 @@ returns-in_err-log-clause-differs g c =
 pub returns-in_err-database-clause-differs : goal.returns-in_err-database-clause-differs
 returns-in_err-database-clause-differs g c =
     let p = err_from_is_err_and c.from_residual-in_err-database.result c.from_residual-in_err-database.ensures.1 in
-    rw (p.1, p.2) (records_differ _ c.in_err-database.field-0.0 c.in_err-database.ensures.refused)
+    rw (p.1, p.2) (records_differ _ _ c.in_err-database.field-0.0 c.in_err-database.ensures.refused)
 
-pub returns-in_err-check_next-clause-differs : goal.returns-in_err-check_next-clause-differs
-returns-in_err-check_next-clause-differs g c =
-    let p = err_from_is_err_and c.from_residual-in_err-check_next.result c.from_residual-in_err-check_next.ensures.1 in
-    let fails = c.in_err-check_next.ensures in
-    rw (p.1, p.2, fails.1) (next_differs c.named_file-file.result c.next.result fails.0)
+pub returns-in_err-check_numbers-clause-differs : goal.returns-in_err-check_numbers-clause-differs
+returns-in_err-check_numbers-clause-differs g c =
+    let p = err_from_is_err_and c.from_residual-in_err-check_numbers.result c.from_residual-in_err-check_numbers.ensures.1 in
+    let fails = c.in_err-check_numbers.ensures in
+    rw (p.1, p.2, fails.2) fails.1.0

@@ -17,7 +17,7 @@ returns-in-Answer-clause-says g c =
     let f = c.flush.ensures in
     let mine = c.in-Answer.ensures.answer refl in
     let unasked : (v.stop ≡ None) × AnswersAll (d.moment_of v.disk) w.steps v.steps × ((v.steps ≡ w.steps) ⊎ (turns_left v < turns_left w)) → IsAsking c.args.s v.steps → ⊥ =
-        λ done. none_asking c.numbers_are_own.ensures c.legal_states_are_sound.ensures v.steps v.log.buffered (d.moment_of v.disk) c.args.s (f.kept.walking done.0) done.1.all (session_of v.steps f.kept.eight c.args.s mine.0.one.0 (session_in w.steps c.requires.kept.eight c.args.s mine.0.one)) in
+    λ done. none_asking c.numbers_are_own.ensures c.legal_states_are_sound.ensures v.steps v.log.buffered (d.moment_of v.disk) c.args.s (f.kept.walking done.0) done.1.all (session_of v.steps f.kept.eight c.args.s mine.0.one.0 (session_in w.steps c.requires.kept.eight c.args.s mine.0.one)) in
     ⊎_elim
     (λ went.
     let done = f.went went in
