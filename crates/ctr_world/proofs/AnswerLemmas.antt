@@ -1,15 +1,22 @@
 -- The answers of a flush, one after another.
 use Rattle.std.proofs.Common.{◌≡◌, ◌⊎◌, inl, inr, ⊎_elim, ℕ, ◌<◌, List, [], ◌∷◌, ◌++◌, refl, sym, ◌∙◌, ap, subst, arith}
+use Rattle.ctr_types.specs.declared.tape.Act.TheVariants as act
+use Rattle.ctr_steps.specs.declared.runners.Runner.{Runner}
+use Rattle.ctr_steps.specs.declared.runners.Stage.{Stage}
+use Rattle.ctr_steps.specs.declared.runners.Stage.TheVariants as stage
+use Rattle.ctr_steps.specs.Acting.{has_more}
+use Rattle.std.proofs.lemmas.List.{length-append}
+use Rattle.std.proofs.Common.{Bool, true, false, ◌==◌, ◌≤◌, ◌+◌, length}
+use Rattle.std.proofs.lemmas.Bool.{false≢true, eqb-true}
 use Rattle.std.specs.List.{AllByRecursion}
 use Rattle.std.proofs.lemmas.List.{append-nil, append_assoc}
 use Rattle.ctr_types.specs.declared.tape.Entry.{Entry}
 use Rattle.ctr_model.specs.declared.tape.Point.{Point}
 use Rattle.ctr_log.specs.Logs.{Log}
 use Rattle.ctr_steps.specs.declared.steps.Steps.{Steps}
-use Rattle.ctr_steps.specs.Runners.{all_left}
-use Rattle.ctr_steps.specs.Steps.{Walks, HasBounds, AddsEntry}
-use Rattle.ctr_world.specs.Turns.{AddsEntries}
-use Rattle.ctr_world.proofs.KeptLemmas.{none_full_more}
+use Rattle.ctr_steps.specs.Runners.{runner_at, made_at, is_begun, after_stage, all_left}
+use Rattle.ctr_steps.specs.Steps.{Walks, HasBounds, IsEntryOf, AnswersOne}
+use Rattle.ctr_world.specs.Turns.{AddsEntries, IsAsking, IsAnswerTo, IsMovedBy}
 
 -- what some answers leave
 pub record Going (moment : ℕ) (old new : Steps) : Type 0 where
@@ -70,17 +77,16 @@ module _ (moment : ℕ) (old mid new : Steps) (going : Going moment old mid) (on
   some_more = omega (arith, length-append going.adds.entries (one.adds.entry ∷ []))
 
   moved_more : (s : ℕ) → 1 ≤ s → IsMovedBy more old new s
-  moved_more s least = elim (s == q) keep same [
-    | true ↦
-        let is : s ≡ q = eqb-true s q same in
-        subst (IsMovedBy more old new) (sym is) (inr (same_mine.1, (some_more, mine_new)))
-    | false ↦
-        let kept = one.adds.others s least same in
-        ⊎_elim
-        (λ stays. inl (kept ∙ stays))
-        (λ moved. inr (moved.0, (some_more, kept ∙ moved.2)))
-        (going.adds.moved s least)
-  ]
+  moved_more s least = by (s == q) refl
+    where
+      by : (b : Bool) → (s == q) ≡ b → IsMovedBy more old new s
+      by true same = subst (IsMovedBy more old new) (sym (eqb-true s q same)) (inr (same_mine.1, (some_more, mine_new)))
+      by false same =
+          let kept = one.adds.others s least same in
+          ⊎_elim
+          (λ stays. inl (kept ∙ stays))
+          (λ moved. inr (moved.0, (some_more, kept ∙ moved.2)))
+          (going.adds.moved s least)
 
   answer_to : IsAnswerTo moment old one.adds.entry
   answer_to =
@@ -110,12 +116,3 @@ module _ (moment : ℕ) (old mid new : Steps) (going : Going moment old mid) (on
         going.fewer;
     script = one.adds.script ∙ going.script;
   }
-
--- each answer has this moment, and none is a refusal for want of room in the files
-pub moments_of : (moment : ℕ) (old : Steps) (es : List Entry) → AllByRecursion (IsAnswerTo moment old) es → AllByRecursion (λ (e : Entry). e.moment ≡ moment) es
-moments_of moment old [] all = tt
-moments_of moment old (e ∷ es) all = (all.0.is.moment_is, moments_of moment old es all.1)
-
-pub none_full_of : (moment : ℕ) (old : Steps) (es : List Entry) → AllByRecursion (IsAnswerTo moment old) es → NoneFull es
-none_full_of moment old [] all = tt
-none_full_of moment old (e ∷ es) all = (all.0.is.not_full, none_full_of moment old es all.1)

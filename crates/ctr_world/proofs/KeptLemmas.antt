@@ -1,5 +1,6 @@
 -- What a World keeps over its calls.
 use Rattle.std.proofs.Common.{◌≡◌, ◌⊎◌, inl, inr, ⊎_elim, ℕ, ◌+◌, ◌<◌, ◌≤◌, List, [], ◌∷◌, ◌++◌, length, Option, Some, None, sym, ◌∙◌, ap, subst, arith}
+use Rattle.ctr_gather.specs.Records.{IsSession}
 use Rattle.std.specs.Prelude.{IfSome}
 use Rattle.ctr_types.specs.Faults.{CountsFault}
 use Rattle.ctr_types.specs.declared.tape.Entry.{Entry}
@@ -18,7 +19,7 @@ use Rattle.ctr_types.specs.declared.tape.Turn.{Turn}
 use Rattle.ctr_types.specs.declared.tape.Turn.TheVariants as turn
 use Rattle.ctr_disk.specs.declared.disk.Disk.{Ghosts}
 use Rattle.ctr_world.specs.declared.parts.Parts.{Parts}
-use Rattle.ctr_world.specs.Turns.{NoneFull, AddsMore, EndsTurn, HasStatementLeft, IsAsking}
+use Rattle.ctr_world.specs.Turns.{NoneFull, AreEight, AddsMore, EndsTurn, IsAsking}
 use Rattle.ctr_world.specs.World.{WalksOn, StopsBy}
 use Rattle.ctr_world.proofs.HardenLemmas.{waits_some}
 

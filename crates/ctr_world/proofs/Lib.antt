@@ -6,3 +6,4 @@ pub mod KeptLemmas
 pub mod OpenLemmas
 pub mod RunLemmas
 pub mod TapeLemmas
+pub mod SessionLemmas

@@ -13,7 +13,7 @@ use Rattle.ctr_acts.specs.Acts.{IsNotFull}
 use Rattle.ctr_gather.specs.Records.{IsSession}
 use Rattle.ctr_steps.specs.declared.steps.Steps.{Steps}
 use Rattle.ctr_steps.specs.declared.runners.Stage.TheVariants as stage
-use Rattle.ctr_steps.specs.Runners.{runner_at, after_stage, all_left, AreRunners, IsUnbegun}
+use Rattle.ctr_steps.specs.Runners.{runner_at, after_stage, all_left, session_places, IsUnbegun}
 use Rattle.ctr_steps.specs.Steps.{IsEntryOf, AddsEntry, AreAnswered}
 use Rattle.ctr_world.specs.declared.parts.Parts.{Parts}
 
@@ -29,7 +29,8 @@ pub record AreEight (steps : Steps) : Type 0 where
 -- the eight sessions of the script, each at its own lines
 pub record AreSessions (steps : Steps) : Type 0 where
   pub eight : AreEight steps
-  pub own : AreRunners steps.script.lines 1 steps.runners.items
+  pub own : (s : ℕ) → 1 ≤ s → s ≤ 8 → (runner_at s steps.runners.items).places
+      ≡ session_places s 0 steps.script.lines
 
 -- They are so, and have begun nothing of this script.
 pub record AreUnbegun (lines : List Line) (steps : Steps) : Type 0 where
@@ -120,7 +121,7 @@ turns_left w = all_left w.steps.runners.items
 -- How a turn ended: a World that stops has added nothing, and a turn after a stop does nothing.
 abbrev pub EndsTurn : {D : Type 0} → Ghosts D → Turn → Actor → Parts D → Parts D → Type 0
 EndsTurn g turn.Went a old new = (new.stop ≡ None) × Moves (g.moment_of new.disk) a old new
-    × (turns_left new < turns_left old)
+    × (turns_left new < turns_left old) × (old.stop ≡ None)
 EndsTurn g turn.Idle a old new = (old.stop ≡ None) × NoneDue a old × (new ≡ old)
 EndsTurn g turn.Short a old new = ⊥
 EndsTurn g turn.Over a old new = (old.stop ≡ None) × NoneLeft a old × (new ≡ old)

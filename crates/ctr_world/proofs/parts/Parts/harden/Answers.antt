@@ -1,4 +1,5 @@
 use Rattle.std.proofs.Common.{ℕ, List, sym, ◌∙◌, ap, subst, arith, length}
+use Rattle.ctr_world.proofs.TapeLemmas.{none_full_of}
 use Rattle.ctr_types.specs.declared.statement.Script.{Script}
 use Rattle.ctr_model.specs.declared.tape.Point.{Point}
 use Rattle.ctr_disk.specs.Device.{IsSettled}

@@ -1,9 +1,10 @@
 use Rattle.std.proofs.Common.{inl, ⊎_elim, refl, sym, ◌∙◌, ap, subst, [], ◌∷◌}
+use Rattle.std.proofs.Common.{◌≡◌, ◌⊎◌, ◌<◌, None}
 use Rattle.ctr_types.specs.declared.statement.Script.{Script}
 use Rattle.ctr_types.specs.declared.tape.Actor.TheVariants as who
 use Rattle.ctr_steps.specs.declared.steps.Steps.{Steps}
 use Rattle.ctr_steps.specs.Steps.{AreAnswered}
-use Rattle.ctr_world.specs.Turns.{NoneFull, EndsTurn}
+use Rattle.ctr_world.specs.Turns.{NoneFull, EndsTurn, IsAsking, AnswersAll, turns_left}
 use Rattle.ctr_world.specs.World.{RunsFrom, Kept}
 use Rattle.ctr_world.specs.declared.parts.Parts.{Parts}
 use Rattle.ctr_world.proofs.KeptLemmas.{none_full_more, none_asking, session_in, session_of}
@@ -25,7 +26,7 @@ returns-in-Answer-clause-says g c =
     (λ same. absurd (none_asking c.numbers_are_own.ensures c.legal_states_are_sound.ensures w.steps w.log.buffered (d.moment_of w.disk) c.args.s (c.requires.kept.walking c.requires.going)
     (subst (λ (h : Steps). AreAnswered h) same done.1.all) mine.0.one mine.1))
     (λ less. less) done.2 in
-    subst (λ r. EndsTurn d r (who.Session c.args.s) w v) (sym went) (done.0, (mine.0, inl (mine.1, (done.1, unasked done))), less))
+    subst (λ r. EndsTurn d r (who.Session c.args.s) w v) (sym went) (done.0, (mine.0, inl (mine.1, (done.1, unasked done))), less, c.requires.going))
     (λ stopped.
     let done = f.stopped stopped in
     subst (λ r. EndsTurn d r (who.Session c.args.s) w v) (sym stopped) (done.0, done.1, λ bad. absurd (bad c.requires.going)))

@@ -19,7 +19,7 @@ returns-clause-says g c =
     let less = ⊎_elim
     (λ same. absurd (none_waits w.steps w.log.buffered (d.moment_of w.disk) (c.requires.kept.walking c.requires.going) (subst (λ (h : Steps). AreAnswered h) same done.1.all) some))
     (λ less. less) done.2 in
-    subst (λ r. EndsTurn d r who.Flusher w v) (sym went) (done.0, (some, done.1), less))
+    subst (λ r. EndsTurn d r who.Flusher w v) (sym went) (done.0, (some, done.1), less, c.requires.going))
     (λ stopped.
     let done = f.stopped stopped in
     subst (λ r. EndsTurn d r who.Flusher w v) (sym stopped) (done.0, done.1, λ bad. absurd (bad c.requires.going)))

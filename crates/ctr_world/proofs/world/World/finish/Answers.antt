@@ -1,5 +1,6 @@
-use Rattle.std.proofs.Common.{sym, subst}
+use Rattle.std.proofs.Common.{sym, subst, ap, ◌∙◌}
 use Rattle.ctr_world.specs.World.{Ends}
+use Rattle.ctr_world.specs.declared.parts.Parts.{Parts}
 use Rattle.ctr_world.proofs.OpenLemmas.{ended}
 use Rattle.ctr_world.proofs.world.World.finish.Goals as goal
 
@@ -10,3 +11,6 @@ returns-clause-ends g c = λ base told stands.
     let w = c.run.new.self in
     subst (λ es. Ends d b base es w.stop w.disk) (sym c.from_vec.ensures)
     (ended d g.met.D.Disk.only_now c.states_grow.ensures c.legal_states_are_sound.ensures b w c.run.ensures.kept c.run.ensures.none base told stands)
+
+pub returns-clause-over : goal.returns-clause-over
+returns-clause-over g c = λ over. c.from_vec.ensures ∙ ap (λ (w : Parts g.row.D.Denot). w.steps.tape.items) (c.run.ensures.over over)

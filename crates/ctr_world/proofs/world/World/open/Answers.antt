@@ -5,6 +5,7 @@ use Rattle.ctr_thin.specs.Thin.{StandsFor}
 use Rattle.ctr_world.specs.Turns.{NoneFull}
 use Rattle.ctr_world.specs.World.{IsRunLine}
 use Rattle.ctr_world.proofs.OpenLemmas.{runs_new, walking_new}
+use Rattle.ctr_world.proofs.SessionLemmas.{unbegun_by}
 use Rattle.ctr_world.proofs.world.World.open.Goals as goal
 
 pub invariant_of-result : goal.invariant_of-result
@@ -32,3 +33,10 @@ invariant_of-result g c =
 
 pub returns-clause-can_open : goal.returns-clause-can_open
 returns-clause-can_open g c = λ told. let o = c.in-Ok.ensures.opened told in (_, (o.stands, o.low))
+
+pub returns-clause-begins : goal.returns-clause-begins
+returns-clause-begins g c =
+    let o = c.in-Ok.ensures in
+    let h = c.in-Ok-begin.ensures in
+    let held = h.bounds c.in-Ok.opened.log o.next.1 (omega (arith, o.next.0)) in
+    (unbegun_by c.args.script.lines c.in-Ok.opened.database c.in-Ok-begin.steps c.in-Ok.opened.log (record { same = held.sessions; eight = held.eight }) held (ap (λ (s : Script). s.lines) h.is.0) h.is.1 h.walks, refl)
