@@ -130,8 +130,8 @@ RefusesOthers file rs NoDatabase = ⊥
 RefusesOthers file rs (Worn number) = ⊥
 RefusesOthers file rs Fault = ⊥
 
--- Damage of the records of a file: there is none; or the first fails a check, told at its place, which
--- is byte 29; or one behind it can't be replayed, and its place isn't told.
+-- Damage of the records of a file: there is none; or the first fails a check, told at its place,
+-- which is byte 29; or one behind it can't be replayed, and its place isn't told.
 abbrev pub IsRecordsDamage : File → List (List ℕ) → StoreFault → Type 0
 IsRecordsDamage file [] e = e ≡ store.Damaged file 0 1 0
 IsRecordsDamage file (head ∷ rs) e =
@@ -174,7 +174,8 @@ pub record IsWornOut (image : Image) (number : ℕ) : Type 0 where
 abbrev pub IsThinDamage : Image → StoreFault → Type 0
 IsThinDamage image e = ((v : BlockValue) × (root_value image.root ≡ Some v)
     × (judged RootFile (root_checks Thin (value_place RootBlock image) v) ≡ Err e))
-    ⊎ ((r : Root) × SaysRoot (root_value image.root) r × (let bytes = content (log_file r.file) image in
+    ⊎ ((r : Root) × SaysRoot (root_value image.root) r
+    × (let bytes = content (log_file r.file) image in
     let damage = file_damage (log_file r.file) r.first bytes in (damage ≡ Err e)
     ⊎ ((damage ≡ Ok tt) × (bs : Batches) × HasLog r.first bs bytes
     × IsRecordsDamage (log_file r.file) (records bs) e)))

@@ -1,6 +1,7 @@
 pub mod AloneLemmas
 pub mod AnswerLemmas
 pub mod CrashLemmas
+pub mod CreateLemmas
 pub mod HardenLemmas
 pub mod KeptLemmas
 pub mod OpenLemmas

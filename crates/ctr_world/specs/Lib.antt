@@ -1,3 +1,4 @@
 pub mod Crash
+pub mod Creating
 pub mod Turns
 pub mod World

@@ -4,11 +4,13 @@
 
 mod answers;
 mod beginning;
+mod creating;
 mod left;
 mod opening;
 mod parts;
 mod world;
 
+pub use creating::CreateError;
 pub use opening::Opening;
 pub use parts::Parts;
 pub use world::{Finished, World};

@@ -1,14 +1,19 @@
 // The World: its type names what it was opened on, and keeps the tape legal and the disk's images in order.
-ghost use Rattle.std.specs.Prelude.{◌≡◌, ◌↔◌, ◌≤◌, ℕ, List, [], ◌++◌, None, IsTrue, true, false, length, slice_get, IfOk, IfErr};
+ghost use Rattle.std.specs.Prelude.{◌≡◌, ◌⊎◌, ◌↔◌, ◌≤◌, ℕ, List, [], ◌++◌, None, IsTrue, IsSome, true, false, length, slice_get, IfOk, IfErr};
 ghost use Rattle.std.specs.Option.{option_map};
 ghost use Rattle.ctr_types.specs.declared.tape.Entry.{Entry as HeldEntry};
+ghost use Rattle.ctr_disk.specs.declared.disk.Image.{Image};
+ghost use Rattle.ctr_disk.specs.Device.{LeavesOnly, OnlyReads};
+ghost use Rattle.ctr_log.specs.Homes.{root_value};
 ghost use Rattle.ctr_model.specs.Database.{Database};
+ghost use Rattle.ctr_world.specs.Creating.{disk_made, IsUnmadeOrEmpty, CreateEnds, CreateCounts};
 ghost use Rattle.ctr_thin.specs.Thin.{StandsFor, Explains, OpenDiffers};
 ghost use Rattle.ctr_world.specs.declared.parts.Parts.{Parts};
 ghost use Rattle.ctr_world.specs.Turns.{NoneFull, EndsTurn, AreSessions, AreUnbegun, IsOver, HasStatementLeft, IsBetween};
 ghost use Rattle.ctr_world.specs.World.{IsOpenedOn, CanRun, CanOpen, Ends, StopsBy, RefusesWith};
 
 use crate::beginning::begin;
+use crate::creating::{CreateError, create};
 use crate::left::{first_left, is_between};
 use crate::opening::Opening;
 use crate::parts::Parts;
@@ -52,6 +57,18 @@ pub struct Finished<D> {
 }
 
 impl<D: Disk, B: Opening> World<D, B> {
+    /// Makes the empty database on a disk that has none. The disk comes back.
+    pub fn create(disk: D) -> Result<D, (CreateError, D)>
+        // From its first sync on a crash leaves no open root home, or a database without tables.
+        ensures any_moment { IsTrue D.tells → root_value (D.reads disk).root ≡ None → LeavesOnly D.Disk disk (disk_made result) (λ c. D.images disk c ⊎ IsUnmadeOrEmpty c) }
+        ensures made { IsTrue D.tells → IfOk result (λ d. (c : Image) → D.since d (D.moment_of d) c → StandsFor c []) }
+        ensures untouched { IsTrue D.tells → IsSome (root_value (D.reads disk).root) → OnlyReads D.Disk disk (disk_made result) }
+        ensures causes { CreateEnds D.Disk disk result }
+        ensures counts { CreateCounts D.Disk disk (disk_made result) }
+    {
+        create(disk)
+    }
+
     /// Opens the database of a disk for a script. Room for the whole tape is taken. A refusal gives the disk
     /// back.
     pub fn open(alloc: Global, disk: D, script: Script) -> Result<World<D, B>, (OpenError, D)>
