@@ -1,0 +1,17 @@
+use Rattle.std.proofs.Common.{◌≡◌, List, ℕ, ◌<◌, ap, sym, subst}
+use Rattle.ctr_redo.specs.States.{page_limit, page_at}
+use Rattle.ctr_alloc.specs.Free.{AreTakenBelow, IsNextFree, taken_in}
+use Rattle.ctr_alloc.proofs.FirstPage.{first_page_there}
+use Rattle.ctr_alloc.proofs.store.next_free.Goals as goal
+
+pub returns-clause-next : goal.returns-clause-next
+returns-clause-next g c = λ told sound.
+    let shown : c.in_ok-page.page.now ≡ page_at 0 c.args.store.now.now.pages = c.in_ok-page.ensures.shown told sound first_page_there in
+    subst (λ l. IsNextFree c.args.counted (taken_in l) c.next_free.result) shown
+    (c.next_free.ensures.next (subst (λ l. AreTakenBelow c.args.search.now.from (taken_in l)) (sym shown) (c.requires.right told sound)))
+
+pub returns-clause-right : goal.returns-clause-right
+returns-clause-right g c = λ told sound.
+    let shown : c.in_ok-page.page.now ≡ page_at 0 c.args.store.now.now.pages = c.in_ok-page.ensures.shown told sound first_page_there in
+    subst (λ l. AreTakenBelow c.next_free.new.self.from (taken_in l)) shown
+    (c.next_free.ensures.right (subst (λ l. AreTakenBelow c.args.search.now.from (taken_in l)) (sym shown) (c.requires.right told sound)))
