@@ -1,5 +1,5 @@
 -- There is a page 0.
-use Rattle.std.proofs.Common.{ℕ, ◌<◌, arith}
+use Rattle.std.proofs.Common.{◌<◌, arith}
 use Rattle.ctr_redo.specs.States.{page_limit}
 
 pub first_page_there : 0 < page_limit

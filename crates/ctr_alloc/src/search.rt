@@ -39,7 +39,11 @@ pub(crate) fn byte_at(page: &[u8], at: usize) -> u8
 fn marks(page: &[u8], at: usize) -> u8
     ensures { result ≡ marks_in page.now at }
 {
-    if at == 0 { byte_at(page, at) | 7 } else { byte_at(page, at) }
+    if at == 0 {
+        byte_at(page, at) | 7
+    } else {
+        byte_at(page, at)
+    }
 }
 
 /// The first byte, from one on and before an end, in which a bit is 0.

@@ -1,5 +1,5 @@
-use Rattle.std.proofs.Common.{◌≡◌, List, ℕ, ◌<◌, ap, sym, subst}
-use Rattle.ctr_redo.specs.States.{page_limit, page_at}
+use Rattle.std.proofs.Common.{◌≡◌, sym, subst}
+use Rattle.ctr_redo.specs.States.{page_at}
 use Rattle.ctr_alloc.specs.Free.{AreTakenBelow, IsNextFree, taken_in}
 use Rattle.ctr_alloc.proofs.FirstPage.{first_page_there}
 use Rattle.ctr_alloc.proofs.store.next_free.Goals as goal
