@@ -1,2 +1,4 @@
 pub mod Sought
 pub mod Keyed
+pub mod Reading
+pub mod Along
