@@ -1,5 +1,6 @@
 pub mod LogLemmas
 pub mod FlushLemmas
+mod NextPlace
 pub mod ReadLemmas
 mod DamageLaws
 pub mod BatchLemmas

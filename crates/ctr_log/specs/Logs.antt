@@ -91,6 +91,11 @@ pub record GoesOn (first : ℕ) (bs : Batches) (log : Log) (image : Image) : Typ
   pub place : log.place ≡ length (batches first bs)
   pub first_is : log.first ≡ first + length (records bs)
 
+-- the place in its file of the next record that a writer is given: behind the gate, a batch's first
+-- fields, the frames that wait, and the 8 bytes of its own length
+abbrev pub next_place : Log → ℕ
+next_place log = log.place + 29 + length (frames log.buffered)
+
 -- the batches with one of these records behind them, where there are any
 abbrev pub with_batch : Batches → List (List ℕ) → Batches
 with_batch bs [] = bs

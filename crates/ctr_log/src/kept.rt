@@ -62,16 +62,16 @@ pub fn read_all<D: Disk, V: Visitor>(
     ensures found { IsTrue D.tells → IfOk result (OpensKept root.now.file root.now.first (D.reads disk.old)) }
     ensures goes_on { (rs : List (List ℕ)) → IsTrue D.tells → HoldsLog root.now.file root.now.first rs (D.reads disk.old)
         → IfOk result (λ log. WritesBehind root.now.file root.now.first log (D.reads disk.old)) }
-    // The visitor has been given the records of the image's log and no others.
-    ensures visited { IsTrue D.tells → OnOk result (V.seen visitor.new ≡ V.seen visitor.old ++ kept_visits root.now.file root.now.first (D.reads disk.old)) }
-    // The cause is damage, a fault of the disk, want of memory, or a record that the visitor refused.
+    // The visitor has been given the records of the image's log and no others, and no check of it fails.
+    ensures visited { IsTrue D.tells → OnOk result ((V.seen visitor.new ≡ V.seen visitor.old ++ kept_visits root.now.file root.now.first (D.reads disk.old))
+        × (kept_damage root.now.file root.now.first (D.reads disk.old) ≡ Ok tt)) }
+    // The cause is damage, told by the first check of the log that fails, a fault of the disk, want of memory, or a record
+    // that the visitor refused.
     ensures refused { IfErr result (λ e. (cause : VisitError V.E) × IsToldBy V.E.From-1.from_gives V.E.From-2.from_gives cause e
         × (let ended : Result ℕ (VisitError V.E) = Err cause in CountsAs D.Disk (Read (Store Fault)) disk.old disk.new ended) × EndsEarly V.refuses cause
         × (IsTrue D.tells → OnRead (RefusesKept root.now.file root.now.first (D.reads disk.old)) cause)
         × (IsTrue D.tells → StopsAt V.refuses (V.seen visitor.old) (V.seen visitor.new) (kept_visits root.now.file root.now.first (D.reads disk.old)) cause)
         × (IsTrue D.tells → OnRead (IsThisDamage (kept_damage root.now.file root.now.first (D.reads disk.old))) cause)) }
-    // Damage is told by the first check of the log that fails, and where one fails the answer isn't Ok.
-    ensures sound { IsTrue D.tells → OnOk result (kept_damage root.now.file root.now.first (D.reads disk.old) ≡ Ok tt) }
     ensures none { IfOk result (λ log. log.buffered ≡ []) }
     ensures quiet { OnlyReads D.Disk disk.old disk.new }
     ensures counts { OnOk result (D.faults_of disk.new ≡ D.faults_of disk.old) × (D.strays_of disk.new ≡ D.strays_of disk.old) }

@@ -2,13 +2,14 @@
 ghost use Rattle.std.specs.Prelude.{◌≡◌, ◌≢◌, ◌≤◌, ◌<◌, ◌↔◌, false, slice_index, ◌+◌, ◌-◌, ◌^◌, IsTrue, ℕ, List, [], ◌∷◌, ◌++◌, length, take, drop, vec_len, vec_capacity, ◌⊎◌, Err, IfOk, IfErr, OnOk, OnErr};
 ghost use Rattle.ctr_types.specs.declared.file.File.TheVariants.{LogA};
 ghost use Rattle.ctr_disk.specs.declared.fault.StoreFault.TheVariants.{Fault};
+ghost use Rattle.ctr_disk.specs.declared.disk.Image.{Image};
 ghost use Rattle.ctr_disk.specs.Image.{content, OtherFilesStay};
 ghost use Rattle.ctr_types.specs.Faults.{HasCause, HasFault};
 ghost use Rattle.ctr_disk.specs.Crash.{Only, StraysOnlyPast};
 ghost use Rattle.ctr_disk.specs.Device.{LeavesOnly, IsDurable, IsSettled, OnlyReads, Counts, CountsAs};
 ghost use Rattle.ctr_bytes.specs.Fields.{spelled};
 ghost use Rattle.ctr_log.specs.Reading.{IsEmptyAt};
-ghost use Rattle.ctr_log.specs.Logs.{Batches, headed, sealed, frame, frames, records, HasLog, HasBatches, GoesOn, Extends, IsBeforeOrAfter, IsAfter, IsFlushing, IsEmptied, with_batch};
+ghost use Rattle.ctr_log.specs.Logs.{Batches, headed, sealed, frame, frames, records, HasLog, HasBatches, GoesOn, next_place, Extends, IsBeforeOrAfter, IsAfter, IsFlushing, IsEmptied, with_batch};
 ghost use Rattle.ctr_log.specs.Kept.{next_file, StaysDropped, CanStart, CanBegin, IsStarted, HoldsPrefix, GoesOnBehind, WritesBehind, KeepsPrefix, GoesOnWith};
 
 use ctr_bytes::{put_u32, put_u64};
@@ -85,6 +86,23 @@ impl LogFile {
         ensures { result ≡ self.now.first + length self.now.buffered }
     {
         self.first + self.count as u64
+    }
+
+    /// The file of the log in which it writes.
+    pub fn file(&self) -> File
+        ensures { result ≡ self.now.file }
+    {
+        self.file
+    }
+
+    /// The byte of its file at which the next record would stand, once it is flushed.
+    pub fn place_of_next(&self) -> u64
+        ensures place { result ≡ next_place self.now }
+        // It stands there in each file that has one batch more, with the records that wait and this one.
+        ensures stands { (first : ℕ) (bs : Batches) (image : Image) (r bytes : List ℕ) → GoesOn first bs self.now image
+            → HasLog first (with_batch bs (self.now.buffered ++ r ∷ [])) bytes → take (length r) (drop result bytes) ≡ r }
+    {
+        self.place + 9 + self.buffer.len() as u64
     }
 
     /// For how many bytes of frames more there is room: a record's length, and 8 for each record.

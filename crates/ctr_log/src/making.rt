@@ -75,8 +75,9 @@ fn make<D: Disk>(disk: &mut D) -> Result<(), StoreFault>
     write_root(disk, &root)
 }
 
-// The logs of a new database.
-fn make_logs<D: Disk>(disk: &mut D) -> Result<(), Failed>
+/// Makes the logs of a new database, before its root: LogA with the one batch of the first checkpoint, and
+/// LogB with none. A crash at any moment leaves the root and the pages as they were.
+pub fn make_logs<D: Disk>(disk: &mut D) -> Result<(), Failed>
     ensures any_moment { IsSettled D.Disk disk.old → LeavesOnly D.Disk disk.old disk.new (SameRoot (D.reads disk.old)) }
     ensures made { IsTrue D.tells → OnOk result (LogsAreReady (D.reads disk.old) (D.reads disk.new)) }
     ensures durable { OnOk result (IsDurable D.Disk disk.new) }

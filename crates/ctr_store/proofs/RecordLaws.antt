@@ -1,6 +1,7 @@
--- How long a record is, and where its overlay lies.
-use Rattle.std.proofs.Common.{◌≡◌, ◌≢◌, ⊎_elim, ℕ, ◌+◌, ◌<◌, ◌≤◌, ◌==◌, true, false, length, Option, Some, None, refl, sym, ◌∙◌, ap, subst, arith}
-use Rattle.std.specs.Prelude.{is_some}
+-- How long a record is, and where its overlay lies; which pages are changed.
+use Rattle.std.proofs.Common.{◌≡◌, ◌≢◌, ⊎_elim, ℕ, ◌+◌, ◌<◌, ◌≤◌, ◌==◌, Bool, true, false, if◌then◌else◌, List, [], ◌∷◌, length, Option, Some, None, refl, sym, ◌∙◌, ap, subst, arith}
+use Rattle.std.specs.Prelude.{is_some, ◌||◌}
+use Rattle.std.specs.List.{list_any}
 use Rattle.std.proofs.lemmas.Bool.Decides.{eqb_tells}
 use Rattle.ctr_records.specs.declared.record.Overlay.{Overlay}
 use Rattle.ctr_records.specs.declared.record.Record.{Record}
@@ -16,7 +17,8 @@ use Rattle.ctr_records.specs.Read.{record_in}
 use Rattle.ctr_records.proofs.ReadBack.{record_read}
 use Rattle.ctr_records.proofs.Laws.{length-parts}
 use Rattle.ctr_pool.specs.declared.frame.Frame.{Frame}
-use Rattle.ctr_pool.specs.Frames.{frame_of, has_page}
+use Rattle.ctr_pool.specs.Frames.{frame_of, has_page, change_of, since_in, IsOldest, AreClean}
+use Rattle.ctr_store.specs.Parts.{has_change, some_dirty}
 use Rattle.ctr_redo.specs.Overlaid.{form_overlay, overlay_of, lies_on, touches}
 use Rattle.ctr_store.specs.Changes.{HasFields, IsChange, LiesInside}
 
@@ -88,3 +90,52 @@ page_of_touch r o q is on =
 -- one spelling is of one record
 pub same_record : (a b : Record) → IsRecord a → IsRecord b → record_bytes a ≡ record_bytes b → a ≡ b
 same_record a b is_a is_b same = sym (record_read a is_a) ∙ ap record_in same ∙ record_read b is_b
+
+-- ---- pages that are changed
+
+none_any : {A : Type 0} (P : A → Bool) → ((x : A) → P x ≡ false) → (l : List A) → list_any P l ≡ false
+none_any P none [] = refl
+none_any P none (x ∷ l) = ap (λ b. b || list_any P l) (none x) ∙ none_any P none l
+
+-- one that passes is among them
+found_any : (P : Frame → Bool) (q : ℕ) (f : Frame) (fs : List Frame) → frame_of q fs ≡ Some f → P f ≡ true → list_any P fs ≡ true
+found_any P q f [] is passes = absurd (cc is)
+found_any P q f (g ∷ fs) is passes =
+    ⊎_elim
+    (λ w. ap (λ x. P x || list_any P fs) (one g f (sym (ap (λ b. if b then Some g else frame_of q fs) w.0) ∙ is)) ∙ ap (λ b. b || list_any P fs) passes)
+    (λ w. some_or (P g) (found_any P q f fs (sym (ap (λ b. if b then Some g else frame_of q fs) w.0) ∙ is) passes))
+    (eqb_tells g.page q)
+  where
+    one : (a b : Frame) → Some a ≡ Some b → a ≡ b
+    one a b e = cc e
+
+    some_or : (b : Bool) → list_any P fs ≡ true → (b || list_any P fs) ≡ true
+    some_or true is = refl
+    some_or false is = is
+
+-- a frame that was found has the page
+page_found : (q : ℕ) (f : Frame) (fs : List Frame) → frame_of q fs ≡ Some f → f.page ≡ q
+page_found q f [] is = absurd (cc is)
+page_found q f (g ∷ fs) is =
+    ⊎_elim
+    (λ w. ap (λ (x : Frame). x.page) (sym (one g f (sym (ap (λ b. if b then Some g else frame_of q fs) w.0) ∙ is))) ∙ w.1)
+    (λ w. page_found q f fs (sym (ap (λ b. if b then Some g else frame_of q fs) w.0) ∙ is))
+    (eqb_tells g.page q)
+  where
+    one : (a b : Frame) → Some a ≡ Some b → a ≡ b
+    one a b e = cc e
+
+pub none_dirty : (fs : List Frame) → AreClean fs → some_dirty fs ≡ false
+none_dirty fs clean = none_any (has_change fs) (λ f. ap is_some (clean f.page)) fs
+
+pub one_dirty : (fs : List Frame) (p s : ℕ) → IsOldest p s fs → some_dirty fs ≡ true
+one_dirty fs p s oldest = by (frame_of p fs) refl
+  where
+    by : (o : Option Frame) → frame_of p fs ≡ o → some_dirty fs ≡ true
+    by None is = absurd (cc (sym oldest.some ∙ ap change_of is))
+    by (Some f) is = found_any (has_change fs) p f fs is (ap (λ q. is_some (since_in q fs)) (page_found p f fs is) ∙ ap is_some oldest.some)
+
+-- how a call that saves the oldest answers
+pub wrote_is : (fs : List Frame) (wrote : Bool) → (wrote ≡ false → AreClean fs) → (wrote ≡ true → (p : ℕ) × (s : ℕ) × IsOldest p s fs) → wrote ≡ some_dirty fs
+wrote_is fs true none some = let o = some refl in sym (one_dirty fs o.0 o.1 o.2)
+wrote_is fs false none some = sym (none_dirty fs (none refl))

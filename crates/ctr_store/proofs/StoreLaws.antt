@@ -10,6 +10,7 @@ use Rattle.ctr_disk.specs.declared.fault.StoreFault.TheVariants.{Fault}
 use Rattle.ctr_log.proofs.VisitLemmas.{ok_isnt}
 use Rattle.ctr_records.specs.declared.record.Record.{Record}
 use Rattle.ctr_records.specs.Read.{record_in}
+use Rattle.ctr_meta.specs.Needs.{needs}
 use Rattle.ctr_base.specs.Base.{waiting_of, IsSoundImage, LeavesIf, MovesBase, MovesIf, KeepsBase}
 use Rattle.ctr_store.specs.declared.parts.Parts.{Parts}
 use Rattle.ctr_store.specs.Parts.{CanLog}
@@ -27,15 +28,15 @@ module _ {D O : Type 0} (g : Ghosts D) where
   logs_moved s t b c m = record { j = m.j; waiting = m.waiting ∙ sym (append-nil (drop m.j (waiting_of s.base))); hardened = m.hardened; now = m.now }
 
   -- what callers see is enough for a record
-  pub can_of : (r : Record) (s : Parts D O) (b : Bool) → MayLog r (view_of g s b) → CanLog r s
-  can_of r s b may =
+  pub can_of : (r : Record) (s : Parts D O) (b : Bool) → MayLog r (view_of g s b) → needs r s.meta.tables ≡ Ok tt → CanLog r s
+  can_of r s b may fits =
       let room = may.room in
       let few = may.few in
       record {
         logged = may.logged;
         change = may.change;
         counted = may.counted;
-        may = may.may;
+        may = record { fits = fits; opens_fit = may.opens; items_fit = may.items; numbers_fit = may.numbers };
         room = omega (arith, room, record_short r may.logged.record_is may.change);
         few = omega (arith, few, length-map s.base.log.buffered record_in);
         number = may.number;

@@ -1,5 +1,5 @@
 -- What an opening finds, and how it is refused.
-use Rattle.std.specs.Prelude.{◌≡◌, ◌≢◌, ◌⊎◌, ◌∷◌, ◌++◌, min, ◌+◌, ◌*◌, ◌≤◌, List, [], ℕ, length, nat_lt, if◌then◌else◌, Option, Some, None, Result, Ok, Err}
+use Rattle.std.specs.Prelude.{◌≡◌, ◌≢◌, ◌⊎◌, ◌∷◌, ◌++◌, ◌+◌, ◌*◌, ◌≤◌, ◌<◌, List, [], ℕ, length, nat_lt, if◌then◌else◌, Option, Some, None, Result, Ok, Err}
 use Rattle.ctr_disk.specs.declared.disk.Image.{Image}
 use Rattle.ctr_disk.specs.declared.fault.Root.{Root}
 use Rattle.ctr_disk.specs.declared.fault.StoreFault.{StoreFault}
@@ -19,6 +19,7 @@ use Rattle.ctr_store.specs.declared.parts.Parts.{Parts}
 use Rattle.ctr_store.specs.Parts.{IsFold}
 use Rattle.ctr_log.specs.declared.reading.ReadError.{ReadError}
 use Rattle.ctr_log.specs.declared.reading.ReadError.TheVariants as read
+use Rattle.ctr_log.specs.Logs.{Log}
 use Rattle.ctr_log.specs.Kept.{kept_log, OpensKept, HoldsLog, WritesBehind}
 use Rattle.ctr_log.specs.LogChecks.{kept_damage}
 use Rattle.ctr_log.specs.Visits.{kept_visits}
@@ -28,7 +29,7 @@ use Rattle.ctr_base.specs.Opening.{IsRootDamage}
 use Rattle.ctr_store.specs.declared.opening.OpenError.{OpenError}
 use Rattle.ctr_store.specs.declared.opening.OpenError.TheVariants as open_error
 use Rattle.ctr_store.specs.declared.opening.Found.{Found}
-use Rattle.ctr_store.specs.RecordChecks.{FailsAs, AllPass, tables_seen}
+use Rattle.ctr_store.specs.RecordChecks.{record_damage, FailsAs, AllPass, tables_seen}
 
 -- how a fault below is told
 abbrev pub fault_told : StoreFault → OpenError
@@ -52,8 +53,7 @@ pub record FindsLog (image : Image) (root : Root) (f : Found) : Type 0 where
   pub goes_on : (rs : List (List ℕ)) → HoldsLog root.file root.first rs image
       → WritesBehind root.file root.first f.log image
 
--- The first check that fails is one of a record of the log, behind those that pass; the damage
--- says at which byte of its file, as far as 64 bits tell it.
+-- the first check that fails is one of a record of the log, behind those that pass
 pub record IsRecordDamage (root : Root) (image : Image) (e : StoreFault) : Type 0 where
   pub given : List Visit
   pub v : Visit
@@ -61,7 +61,7 @@ pub record IsRecordDamage (root : Root) (image : Image) (e : StoreFault) : Type 
   pub all_are : kept_visits root.file root.first image ≡ given ++ v ∷ rest
   pub bad : BadRecord
   pub fails : FailsAs root.pages v.at (tables_seen given) v.bytes bad
-  pub told : e ≡ store.Damaged v.file (min (v.at + bad.at) 18446744073709551615) bad.want bad.got
+  pub told : e ≡ record_damage v.file v.at bad
 
 -- it is one of a batch, or of a record of a batch before that
 abbrev pub IsLogDamage : Root → Image → StoreFault → Type 0
@@ -132,6 +132,16 @@ abbrev pub worn_in : Root → Image → Option ℕ
 worn_in root image =
     let kept = kept_log root.file root.first image in
     worn_by (root.first + length kept) (tables_of (records_in kept)).next
+
+-- nothing waits in a log, and there is room for records
+abbrev pub HasRoom : Log → Type 0
+HasRoom log = (log.buffered ≡ []) × (65536 ≤ log.room)
+
+-- Whatever the disk tells, what was opened has nothing that waits, and no number is worn.
+pub record IsReady {D O : Type 0} (s : Parts D O) : Type 0 where
+  pub room : HasRoom s.base.log
+  pub next : s.base.log.first + length s.base.log.buffered < worn_at
+  pub xid : s.meta.tables.next < worn_at
 
 -- an error that comes behind the log's
 abbrev pub IsLater : OpenError → Type 0

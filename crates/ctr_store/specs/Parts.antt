@@ -1,5 +1,6 @@
 -- What the parts of a store keep, and what a record adds.
-use Rattle.std.specs.Prelude.{◌≡◌, ℕ, ◌+◌, ◌-◌, ◌^◌, ◌<◌, ◌≤◌, [], ◌∷◌, ◌++◌, length, take, drop, Some}
+use Rattle.std.specs.Prelude.{◌≡◌, ℕ, ◌+◌, ◌-◌, ◌^◌, ◌<◌, ◌≤◌, Bool, List, [], ◌∷◌, ◌++◌, length, take, drop, Some, is_some}
+use Rattle.std.specs.List.{list_any}
 use Rattle.ctr_disk.specs.declared.disk.Disk.{Ghosts}
 use Rattle.ctr_disk.specs.declared.disk.Image.{Image}
 use Rattle.ctr_records.specs.declared.record.Record.{Record}
@@ -7,7 +8,7 @@ use Rattle.ctr_records.specs.Spelling.{record_bytes}
 use Rattle.ctr_meta.specs.Effects.{tables_of}
 use Rattle.ctr_meta.specs.Kept.{IsLogged, MayApply, RoomLeft, opens_added, items_added}
 use Rattle.ctr_pool.specs.declared.frame.Frame.{Frame}
-use Rattle.ctr_pool.specs.Frames.{frame_of, page_shown}
+use Rattle.ctr_pool.specs.Frames.{frame_of, page_shown, since_in}
 use Rattle.ctr_pool.specs.Over.{IsOver}
 use Rattle.ctr_redo.specs.Overlaid.{overlay_of, overlaid}
 use Rattle.ctr_redo.specs.States.{state_of, step, steps}
@@ -24,6 +25,14 @@ pub record IsFold {D O : Type 0} (first : Image) (g : Ghosts D) (s : Parts D O) 
   pub tables : IsSoundImage first → s.meta.tables ≡ tables_of (now_of g s.base).records
   pub current : IsSoundImage first → (p : ℕ) → page_shown s.pool.frames p (home_of g s.base p)
       ≡ overlaid p s.base.root.first (now_of g s.base).records (home_of g s.base p)
+
+-- a frame's page has changes that aren't home
+abbrev pub has_change : List Frame → Frame → Bool
+has_change fs f = is_some (since_in f.page fs)
+
+-- some page has
+abbrev pub some_dirty : List Frame → Bool
+some_dirty fs = list_any (has_change fs) fs
 
 -- a frame of a page has no record that the log lacks, with those that wait
 abbrev pub IsLowFrame : {D O : Type 0} → ℕ → Parts D O → Type 0

@@ -1,5 +1,7 @@
 -- What is wrong with a record where it stands in a log: the first check that fails, in this order.
 use Rattle.std.specs.Prelude.{◌≡◌, ◌⊎◌, ◌<◌, ◌+◌, ◌-◌, ◌==◌, ℕ, min, if◌then◌else◌, nat_lt, List, length, take, Option, Some, None, Result, Ok, Err, ⊤, slice_get}
+use Rattle.ctr_types.specs.declared.file.File.{File}
+use Rattle.ctr_disk.specs.declared.fault.StoreFault.{StoreFault}
 use Rattle.ctr_disk.specs.declared.fault.StoreFault.TheVariants.{Damaged}
 use Rattle.ctr_disk.specs.declared.disk.Image.{Image}
 use Rattle.ctr_disk.specs.declared.fault.Root.{Root}
@@ -59,6 +61,11 @@ pub record PassesAs (pages at : ℕ) (t : Tables) (bytes : List ℕ) (r : Record
   pub counted : overlay_page_check pages (length bytes) (overlay_of r) ≡ Ok tt
   pub fits : needs r t ≡ Ok tt
 
+-- damage of a record that stands at a place of a file: it says the byte there, as far as 64 bits tell
+-- it
+abbrev pub record_damage : File → ℕ → BadRecord → StoreFault
+record_damage file at bad = Damaged file (min (at + bad.at) 18446744073709551615) bad.want bad.got
+
 -- The first check that fails is one of the place, of the bytes, or of the record that they are.
 abbrev pub FailsAs : ℕ → ℕ → Tables → List ℕ → BadRecord → Type 0
 FailsAs pages at t bytes bad = (first_record_check at bytes ≡ Err bad)
@@ -80,12 +87,11 @@ AllPass pages vs = (i : ℕ) (v : Visit) → slice_get vs i ≡ Some v
 abbrev pub CountsPages : Image → ℕ → Type 0
 CountsPages image pages = (r : Root) → SaysRootOf Paged (value_of RootBlock image) r → pages ≡ r.pages
 
--- Memory was refused; or a record is refused where so many pages are counted, and the damage says
--- at which byte of its file, as far as 64 bits tell it.
+-- memory was refused; or a record is refused where so many pages are counted
 abbrev pub RefusesVisit : (ℕ → Type 0) → List Visit → Visit → ReadError → Type 0
 RefusesVisit counts seen v e = (e ≡ OutOfMemory)
     ⊎ ((pages : ℕ) × counts pages × ((bad : BadRecord) × FailsAs pages v.at (tables_seen seen) v.bytes bad
-    × (e ≡ Store (Damaged v.file (min (v.at + bad.at) 18446744073709551615) bad.want bad.got))))
+    × (e ≡ Store (record_damage v.file v.at bad))))
 
 -- What a visitor of a log has seen: the records in their places, the tables that they leave, and
 -- for how many pages they were checked.

@@ -1,32 +1,40 @@
 -- What callers see of a store, and how its calls change that.
-use Rattle.std.specs.Prelude.{◌≡◌, ◌-◌, ◌^◌, ◌<◌, ◌≤◌, ℕ, Bool, true, false, IsTrue, List, [], ◌++◌, length, take, drop, Result, Err, OnOk, OnErr, ◌+◌}
+use Rattle.std.specs.Prelude.{◌≡◌, ◌-◌, ◌^◌, ◌<◌, ◌≤◌, ℕ, Bool, true, false, IsTrue, List, [], ◌++◌, length, take, drop, Result, Err, OnOk, OnErr, ◌+◌, ⊤}
 use Rattle.ctr_disk.specs.declared.disk.Disk.{Ghosts}
 use Rattle.ctr_types.specs.Faults.{HasFault}
+use Rattle.ctr_types.specs.declared.file.File.{File}
 use Rattle.ctr_disk.specs.declared.disk.Image.{Image}
 use Rattle.ctr_disk.specs.declared.fault.StoreFault.{StoreFault}
 use Rattle.ctr_disk.specs.declared.fault.StoreFault.TheVariants.{Fault}
 use Rattle.ctr_disk.specs.Device.{LeavesOnly}
 use Rattle.ctr_records.specs.declared.record.Record.{Record}
 use Rattle.ctr_records.specs.Spelling.{record_bytes}
-use Rattle.ctr_meta.specs.Kept.{TablesKept, IsLogged, MayApply, RoomLeft, opens_added, items_added}
+use Rattle.ctr_records.specs.declared.decoding.BadRecord.{BadRecord}
+use Rattle.ctr_meta.specs.Kept.{TablesKept, IsLogged, NumbersFit, RoomLeft, opens_added, items_added}
+use Rattle.ctr_meta.specs.Needs.{needs}
 use Rattle.ctr_redo.specs.Overlaid.{overlay_of}
 use Rattle.ctr_redo.specs.States.{State, steps}
 use Rattle.ctr_redo.specs.Images.{FoldsFront}
 use Rattle.ctr_base.specs.Base.{IsSoundImage}
 use Rattle.ctr_store.specs.Changes.{IsChange, LiesInside}
+use Rattle.ctr_store.specs.RecordChecks.{record_damage}
 
 -- The disk; what it folds to; the records that aren't hardened, in order; pages and tables with
--- these; the number of the next record; how many bytes of records may wait besides; how many
--- frames have nothing to be written home; the tables as they are kept; whether a call was answered
--- an error, after which no more can be asked.
+-- these; the number of the next record, and the file and the byte where it would stand in the log;
+-- how many bytes of records may wait besides; how many frames have nothing to be written home, and
+-- whether a page is to be; the tables as they are kept; whether a call was answered an error, after
+-- which no more can be asked.
 pub record View (D : Type 0) : Type 0 where
   pub disk : D
   pub hardened : State
   pub waiting : List Record
   pub now : State
   pub next : ℕ
+  pub file : File
+  pub place : ℕ
   pub room : ℕ
   pub frames : ℕ
+  pub dirty : Bool
   pub meta : TablesKept
   pub stopped : Bool
 
@@ -42,16 +50,30 @@ pub record Logs {D : Type 0} (rs : List Record) (a b : View D) : Type 0 where
   pub hardened : b.hardened ≡ steps (take j a.waiting) a.hardened
   pub now : b.now ≡ steps rs a.now
 
--- A record can be logged: it is one and no Checkpoint, its overlay lies on a counted page, the
--- tables meet its needs and have room for what it adds; there is room for it, and a number.
+-- A record may be given to the log: no call was answered an error, it is a record and no Checkpoint,
+-- its overlay lies on a counted page, and there is room for it and for what it adds to the tables,
+-- and a number. Whether it fits the tables is no condition.
 pub record MayLog {D : Type 0} (r : Record) (v : View D) : Type 0 where
+  pub going : v.stopped ≡ false
   pub logged : IsLogged r
   pub change : IsChange r
   pub counted : LiesInside v.now.counted (overlay_of r)
-  pub may : MayApply r v.meta
+  pub opens : opens_added r ≤ v.meta.opens_room
+  pub items : items_added r ≤ v.meta.items_room
+  pub numbers : NumbersFit r v.meta.tables
   pub room : 5000 ≤ v.room
   pub few : length v.waiting < 2 ^ 32 - 1
   pub number : v.next < 2 ^ 63 - 1
+
+-- what a record needs of the tables: the first need that isn't met is a row of damage
+abbrev pub unmet_need : {D : Type 0} → Record → View D → Result ⊤ BadRecord
+unmet_need r v = needs r v.meta.tables
+
+-- where a record doesn't fit it is refused by the row that it fails, at the place where it would
+-- stand, and nothing has changed
+abbrev pub RefusesUnfit : {D T : Type 0} → Record → View D → View D → Result T StoreFault → Type 0
+RefusesUnfit r a b result = (bad : BadRecord) → unmet_need r a ≡ Err bad
+    → (result ≡ Err (record_damage a.file a.place bad)) × (b ≡ a)
 
 -- A record has this number, the next one is one more, and this room is left.
 pub record TakesRecord {D : Type 0} (r : Record) (lsn : ℕ) (a b : View D) : Type 0 where

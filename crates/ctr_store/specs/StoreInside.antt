@@ -2,12 +2,13 @@
 use Rattle.std.specs.Prelude.{◌≡◌, ◌+◌, Bool, false, IsTrue, length}
 use Rattle.ctr_disk.specs.declared.disk.Disk.{Ghosts}
 use Rattle.ctr_disk.specs.declared.disk.Image.{Image}
+use Rattle.ctr_log.specs.Logs.{next_place}
 use Rattle.ctr_pool.specs.Over.{unchanged}
 use Rattle.ctr_redo.specs.States.{state_of}
 use Rattle.ctr_base.specs.Base.{stored_of, waiting_of, now_of}
 use Rattle.ctr_store.specs.declared.parts.Parts.{Parts}
 use Rattle.ctr_store.specs.declared.store.Store.TheInside.{Inside}
-use Rattle.ctr_store.specs.Parts.{IsFold}
+use Rattle.ctr_store.specs.Parts.{IsFold, some_dirty}
 use Rattle.ctr_store.specs.Store.{View}
 
 -- what callers see of the parts
@@ -18,8 +19,11 @@ view_of g s stopped = record {
   waiting = waiting_of s.base;
   now = state_of (now_of g s.base);
   next = s.base.log.first + length s.base.log.buffered;
+  file = s.base.log.file;
+  place = next_place s.base.log;
   room = s.base.log.room;
   frames = unchanged s.pool;
+  dirty = some_dirty s.pool.frames;
   meta = s.meta;
   stopped = stopped;
 }

@@ -1,5 +1,5 @@
 -- What callers see of an opening.
-use Rattle.std.specs.Prelude.{◌≡◌, ◌+◌, [], length, None, Result, Ok, Err}
+use Rattle.std.specs.Prelude.{◌≡◌, ◌+◌, ◌≤◌, ◌<◌, ◌^◌, false, [], length, None, Result, Ok, Err}
 use Rattle.ctr_disk.specs.declared.disk.Image.{Image}
 use Rattle.ctr_disk.specs.declared.fault.Root.{Root}
 use Rattle.ctr_home.specs.declared.block.Block.TheVariants.{Root as RootBlock}
@@ -28,6 +28,15 @@ pub record OpensStore {D : Type 0} (image : Image) (v : View D) : Type 0 where
   pub hardened : IsSoundImage image → v.hardened ≡ state_of (stored_in root image)
   pub now : IsSoundImage image → v.now ≡ state_of (stored_in root image)
   pub passes : LogPasses root image
+
+-- Whatever the disk tells: what was opened can go on, nothing waits, there is room for records, and
+-- the next LSN and the next transaction are below 2 ^ 62.
+pub record IsOpened {D : Type 0} (v : View D) : Type 0 where
+  pub going : v.stopped ≡ false
+  pub none : v.waiting ≡ []
+  pub room : 65536 ≤ v.room
+  pub next : v.next < 2 ^ 62
+  pub xid : v.meta.tables.next < 2 ^ 62
 
 -- an opening answers with it, or refuses the image
 abbrev pub AnswersStore : {D : Type 0} → Image → Result (View D) (OpenError × D) → Type 0

@@ -1,15 +1,21 @@
 // The parts of a store. Each call is one statement on what a crash leaves, and one on what it answers.
-ghost use Rattle.std.specs.Prelude.{◌≡◌, ◌<◌, ◌≤◌, ◌+◌, true, false, IsTrue, ℕ, [], Err, None, Some, length, IfOk, OnOk, OnErr, IfErr};
+ghost use Rattle.std.specs.Prelude.{◌≡◌, ◌<◌, ◌≤◌, ◌+◌, true, false, IsTrue, ℕ, [], Ok, Err, None, Some, length, IfOk, OnOk, OnErr, IfErr, MatchResult};
 ghost use Rattle.ctr_types.specs.Faults.{HasFault};
 ghost use Rattle.ctr_disk.specs.declared.fault.StoreFault.TheVariants.{Fault};
 ghost use Rattle.ctr_redo.specs.Overlaid.{overlay_of};
-ghost use Rattle.ctr_pool.specs.Frames.{has_page, AreClean};
+ghost use Rattle.ctr_pool.specs.Frames.{has_page};
 ghost use Rattle.ctr_redo.specs.States.{page_limit, page_at, state_of};
 ghost use Rattle.ctr_base.specs.Base.{now_of, IsSoundImage, LeavesIf, MovesIf, KeepsBase, backing_of};
 ghost use Rattle.ctr_pool.specs.Over.{IsOver, StaysOver};
 ghost use Rattle.ctr_disk.specs.Device.{OnlyReads};
-ghost use Rattle.ctr_store.specs.Parts.{IsFold, IsLowFrame, AreLow, CanLog, AddsRecord, LogsRecord, LogsRoom};
+ghost use Rattle.ctr_log.specs.Logs.{next_place};
+ghost use Rattle.ctr_records.specs.declared.decoding.BadRecord.{BadRecord};
+ghost use Rattle.ctr_meta.specs.Kept.{IsLogged};
+ghost use Rattle.ctr_meta.specs.Needs.{needs};
+ghost use Rattle.ctr_store.specs.RecordChecks.{record_damage};
+ghost use Rattle.ctr_store.specs.Parts.{IsFold, some_dirty, IsLowFrame, AreLow, CanLog, AddsRecord, LogsRecord, LogsRoom};
 
+use crate::seen::damage_at;
 use crate::spelling::{append_record, overlay_of};
 use ctr_base::{Base, Origin};
 use ctr_disk::{Disk, StoreFault};
@@ -111,10 +117,10 @@ impl<D: Disk, O: Origin> Parts<D, O> {
         Ok(())
     }
 
-    /// Writes the page home that is changed the longest, or answers that none is changed.
+    /// Writes the page home that is changed the longest, or answers false, exactly where none is changed.
     pub fn write_one_dirty(&mut self) -> Result<bool, StoreFault>
         requires { IsTrue D.tells → IsFold O.first D.Disk self.old }
-        ensures none { IfOk result (λ wrote. wrote ≡ false → AreClean self.old.pool.frames) }
+        ensures wrote { IfOk result (λ wrote. wrote ≡ some_dirty self.old.pool.frames) }
         ensures keeps { KeepsBase self.old.base self.new.base × (self.new.meta ≡ self.old.meta) }
         ensures goes { IsTrue D.tells → LeavesIf O.first D.Disk self.old.base self.new.base }
         ensures moves { IsTrue D.tells → OnOk result (MovesIf O.first D.Disk self.old.base self.new.base) }
@@ -124,6 +130,21 @@ impl<D: Disk, O: Origin> Parts<D, O> {
     {
         let wrote = self.pool.write_one(&mut self.base)?;
         Ok(wrote)
+    }
+
+    /// What the record needs of the tables is there; or else the damage that it would be, at the place in the log where it
+    /// would stand.
+    pub fn check_fits(&self, rec: &Record) -> Result<(), StoreFault>
+        requires { IsLogged rec.now }
+        ensures { MatchResult result (λ _. needs rec.now self.now.meta.tables ≡ Ok tt) (λ e. (bad : BadRecord) × (needs rec.now self.now.meta.tables ≡ Err bad) × (e ≡ record_damage self.now.base.log.file (next_place self.now.base.log) bad)) }
+    {
+        match self.meta.check(rec) {
+            Ok(()) => Ok(()),
+            Err(bad) => {
+                let at = self.base.log.place_of_next();
+                Err(damage_at(self.base.log.file(), at, bad))
+            }
+        }
     }
 
     // Adds a record that is on no page.

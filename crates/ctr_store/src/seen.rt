@@ -7,7 +7,7 @@ ghost use Rattle.ctr_meta.specs.Kept.{IsLogged, MayApply};
 ghost use Rattle.ctr_redo.specs.Overlaid.{overlay_of};
 ghost use Rattle.ctr_disk.specs.declared.fault.StoreFault.TheVariants.{Damaged};
 ghost use Rattle.ctr_log.specs.declared.reading.ReadError.TheVariants.{Store, OutOfMemory as NoMemory};
-ghost use Rattle.ctr_store.specs.RecordChecks.{first_record_check, overlay_page_check, PassesAs, FailsAs, AllPass, CountsPages, tables_seen};
+ghost use Rattle.ctr_store.specs.RecordChecks.{first_record_check, overlay_page_check, record_damage, PassesAs, FailsAs, AllPass, CountsPages, tables_seen};
 ghost use Rattle.ctr_log.specs.Visits.{visit_of};
 
 use crate::spelling::overlay_of;
@@ -109,16 +109,16 @@ fn read_record<'a>(
     Ok(rec)
 }
 
-// Damage of a record that stands at a place of a file.
-fn damage_at(file: File, at: u64, bad: BadRecord) -> ReadError
-    ensures { result ≡ Store (Damaged file (min (at + bad.at) 18446744073709551615) bad.want bad.got) }
+/// Damage of a record that stands at a place of a file.
+pub fn damage_at(file: File, at: u64, bad: BadRecord) -> StoreFault
+    ensures { result ≡ record_damage file at bad }
 {
-    ReadError::Store(StoreFault::Damaged {
+    StoreFault::Damaged {
         file,
         at: at.saturating_add(bad.at),
         want: bad.want,
         got: bad.got,
-    })
+    }
 }
 
 impl<D: Disk, O: Origin> Seen<D, O> {
@@ -213,7 +213,7 @@ impl<D: Disk, O: Origin> Visitor for Seen<D, O> {
     fn visit(&mut self, lsn: Lsn, file: File, at: u64, bytes: &[u8]) -> Result<(), ReadError> {
         match read_record(&self.meta, self.pages, at, bytes) {
             Ok(rec) => self.keep(lsn, file, at, bytes, &rec),
-            Err(bad) => Err(damage_at(file, at, bad)),
+            Err(bad) => Err(ReadError::Store(damage_at(file, at, bad))),
         }
     }
 }

@@ -1,5 +1,5 @@
 // The store: pages and tables are the fold of the log, at every moment.
-ghost use Rattle.std.specs.Prelude.{◌≡◌, ◌≤◌, ◌<◌, ◌+◌, ◌↔◌, IsTrue, true, false, [], ◌∷◌, Err, length, IfOk, IfErr, OnOk, OnErr};
+ghost use Rattle.std.specs.Prelude.{◌≡◌, ◌≤◌, ◌<◌, ◌+◌, ◌↔◌, IsTrue, true, false, [], ◌∷◌, Ok, Err, length, IfOk, IfErr, OnOk, OnErr};
 ghost use Rattle.ctr_types.specs.Faults.{HasFault};
 ghost use Rattle.ctr_disk.specs.declared.fault.StoreFault.TheVariants.{Fault};
 ghost use Rattle.ctr_meta.specs.Kept.{RoomLeft};
@@ -9,8 +9,8 @@ ghost use Rattle.std.specs.Io.BufRead.{Rests};
 ghost use Rattle.ctr_disk.specs.Device.{LeavesOnly};
 ghost use Rattle.ctr_redo.specs.States.{page_limit, page_at};
 ghost use Rattle.ctr_store.specs.Opening.{LeavesFirst};
-ghost use Rattle.ctr_store.specs.Store.{LeavesFront, LeavesPage, Logs, MayLog, TakesRecord, KeepsRoom};
-ghost use Rattle.ctr_store.specs.StoreOpening.{AnswersStore, store_left};
+ghost use Rattle.ctr_store.specs.Store.{LeavesFront, LeavesPage, Logs, MayLog, unmet_need, RefusesUnfit, TakesRecord, KeepsRoom};
+ghost use Rattle.ctr_store.specs.StoreOpening.{AnswersStore, IsOpened, store_left};
 
 use crate::opening::OpenError;
 use crate::parts::Parts;
@@ -55,7 +55,7 @@ impl<D: Disk, O: Origin> Store<D, O> {
         requires named { O.first ≡ D.reads disk }
         requires frames { (8 ≤ frames) × (frames ≤ 4096) }
         ensures answer { IsTrue D.tells → AnswersStore O.first result }
-        ensures fresh { IfOk result (λ s. (s.stopped ≡ false) × (65536 ≤ s.room)) }
+        ensures fresh { IfOk result IsOpened }
         ensures any_moment { IsTrue D.tells → IsSoundImage O.first → LeavesOnly D.Disk disk (store_left result) (LeavesFirst O.first (D.images disk)) }
     {
         match Parts::<D, O>::open(alloc, disk, frames) {
@@ -83,6 +83,20 @@ impl<D: Disk, O: Origin> Store<D, O> {
         Ok(self.parts.bytes(page))
     }
 
+    /// The number of the next record.
+    pub fn next(&self) -> Lsn
+        ensures { result ≡ self.now.next }
+    {
+        self.parts.base.next()
+    }
+
+    /// How many pages are counted.
+    pub fn counted(&self) -> u32
+        ensures { result ≡ self.now.now.counted }
+    {
+        self.parts.base.root.pages
+    }
+
     /// Whether there is room for a turn: two frames that have nothing to be written home, and 5,000 bytes of records.
     pub fn room(&self) -> bool
         ensures { IsTrue result ↔ ((2 ≤ self.now.frames) × (5000 ≤ self.now.room)) }
@@ -101,17 +115,22 @@ impl<D: Disk, O: Origin> Store<D, O> {
         self.parts.meta.reserve(opens, items)
     }
 
-    /// Adds a record that can be logged, and answers its number. It isn't hardened yet.
+    /// Adds a record, and answers its number. It isn't hardened yet. A record that doesn't fit the tables is damage, by the
+    /// row that it fails, at the place in the log where it would stand; nothing is logged then, and nothing has changed.
     pub fn log(&mut self, rec: &Record) -> Result<Lsn, StoreFault>
-        requires goes { self.old.stopped ≡ false }
         requires may { MayLog rec.now self.old }
         ensures takes { IfOk result (λ lsn. TakesRecord rec.now lsn self.old self.new) }
         ensures any_moment { IsTrue D.tells → IsSoundImage O.first → LeavesFront D.Disk self.old self.new }
         ensures logs { IsTrue D.tells → IsSoundImage O.first → OnOk result (Logs (rec.now ∷ []) self.old self.new) }
-        ensures stopped { (OnOk result (self.new.stopped ≡ false)) × (OnErr result (self.new.stopped ≡ true)) }
-        ensures refused { IsTrue D.tells → IsSoundImage O.first → OnErr result (result ≡ Err Fault) }
+        ensures unfit { RefusesUnfit rec.now self.old self.new result }
+        ensures stopped { (OnOk result (self.new.stopped ≡ false)) × (unmet_need rec.now self.old ≡ Ok tt → OnErr result (self.new.stopped ≡ true)) }
+        ensures refused { IsTrue D.tells → IsSoundImage O.first → unmet_need rec.now self.old ≡ Ok tt → OnErr result (result ≡ Err Fault) }
         ensures faults { HasFault Fault (D.faults_of self.old.disk) (D.faults_of self.new.disk) result }
     {
+        match self.parts.check_fits(rec) {
+            Ok(()) => {}
+            Err(fault) => return Err(fault),
+        }
         let logged = self.parts.log(rec);
         self.stopped = logged.is_err();
         logged
@@ -133,9 +152,10 @@ impl<D: Disk, O: Origin> Store<D, O> {
         hardened
     }
 
-    /// Writes the page home that is changed the longest, or answers that none is changed.
+    /// Writes the page home that is changed the longest, or answers false, exactly where none is changed.
     pub fn write_one_dirty(&mut self) -> Result<bool, StoreFault>
         requires { self.old.stopped ≡ false }
+        ensures wrote { IfOk result (λ wrote. wrote ≡ self.old.dirty) }
         ensures any_moment { IsTrue D.tells → IsSoundImage O.first → LeavesFront D.Disk self.old self.new }
         ensures logs { IsTrue D.tells → IsSoundImage O.first → OnOk result (Logs [] self.old self.new) }
         ensures keeps { KeepsRoom self.old self.new }

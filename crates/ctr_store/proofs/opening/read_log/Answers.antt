@@ -23,7 +23,7 @@ returns-clause-found g c told =
     let e = c.in_ok-log.ensures in
     let parts = c.into_parts-meta.ensures in
     let seen = c.read_all.new.visitor in
-    let all : seen.visits ≡ kept_visits root.file root.first image = e.visited told ∙ ap (λ (s : SeenLog). s.visits ++ kept_visits root.file root.first image) c.new-seen.ensures in
+    let all : seen.visits ≡ kept_visits root.file root.first image = (e.visited told).0 ∙ ap (λ (s : SeenLog). s.visits ++ kept_visits root.file root.first image) c.new-seen.ensures in
     let counted : seen.pages ≡ root.pages = parts.passed.2 told root (c.requires.says told) in
     let log = c.in_ok-log.log in
     let same = c.reserve.ensures.same in
@@ -34,7 +34,7 @@ returns-clause-found g c told =
       visits_are = parts.visits ∙ all;
       passed = subst (λ (vs : List Visit). AllPass root.pages vs) (sym parts.visits) (subst (λ (n : ℕ). AllPass n seen.visits) counted parts.passed.0);
       tables = parts.tables ∙ parts.passed.1 ∙ ap tables_seen (sym parts.visits);
-      sound = e.sound told;
+      sound = (e.visited told).1;
       goes_on = λ rs holds. subst (λ (l : Log). WritesBehind root.file root.first l image) (sym same) (writes_room root.file root.first image log room (e.goes_on rs told holds));
     }
 
