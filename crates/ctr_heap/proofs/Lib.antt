@@ -2,3 +2,4 @@ pub mod Sought
 pub mod Keyed
 pub mod Reading
 pub mod Along
+pub mod Telling

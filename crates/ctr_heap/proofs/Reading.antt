@@ -1,17 +1,15 @@
 -- Pages of a store, read one behind another.
-use Rattle.std.proofs.Common.{◌≡◌, ◌≢◌, ◌⊎◌, inl, inr, ℕ, ◌<◌, ◌≤◌, ◌-◌, Bool, false, List, [], Result, Ok, Err, refl, sym, ◌∙◌, ap, subst, arith}
+use Rattle.std.proofs.Common.{◌≡◌, ◌⊎◌, inl, inr, ℕ, ◌<◌, ◌≤◌, ◌-◌, false, List, Result, Ok, Err, ◌∙◌, ap, subst, arith}
 use Rattle.std.specs.Prelude.{IsTrue, ⊤}
 use Rattle.std.proofs.lemmas.Bool.{ltb-false}
-use Rattle.ctr_types.specs.Faults.{HasFault}
 use Rattle.ctr_bytes.specs.Fields.{field}
 use Rattle.ctr_bytes.specs.Following.{◌>>=◌}
 use Rattle.ctr_disk.specs.declared.disk.Disk.{Ghosts}
 use Rattle.ctr_disk.specs.declared.disk.Image.{Image}
 use Rattle.ctr_disk.specs.declared.fault.StoreFault.{StoreFault}
-use Rattle.ctr_disk.specs.declared.fault.StoreFault.TheVariants.{Fault}
 use Rattle.ctr_records.specs.Damage.{wrong, expect, at_most}
 use Rattle.ctr_records.proofs.Reading.{bind_ok, guard_ok}
-use Rattle.ctr_redo.specs.States.{State, page_limit}
+use Rattle.ctr_redo.specs.States.{page_limit}
 use Rattle.ctr_base.specs.Base.{IsSoundImage}
 use Rattle.ctr_page.specs.declared.checks.Chain.{Chain}
 use Rattle.ctr_page.specs.Reading.{header_in}

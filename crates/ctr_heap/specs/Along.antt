@@ -1,6 +1,6 @@
 -- A search for a slot along a chain of pages of rows: each page is checked as it is read, and the
 -- search ends at the first slot that is sought, or at the first damage.
-use Rattle.std.specs.Prelude.{◌≡◌, ◌≢◌, ◌⊎◌, ℕ, zero, suc, List, length, Option, None, Some, Result, Ok, Err}
+use Rattle.std.specs.Prelude.{◌≡◌, ◌≢◌, ◌⊎◌, ℕ, zero, suc, ℤ, List, length, Option, None, Some, Result, Ok, Err}
 use Rattle.ctr_types.specs.declared.value.Kind.{Kind}
 use Rattle.ctr_records.specs.declared.decoding.BadRecord.{BadRecord}
 use Rattle.ctr_records.specs.Damage.{wrong}
@@ -9,13 +9,17 @@ use Rattle.ctr_page.specs.declared.walk.BadChain.{BadChain}
 use Rattle.ctr_page.specs.declared.walk.BadChain.TheVariants.{OnPage, TooLong}
 use Rattle.ctr_page.specs.declared.rows.Place.{Place}
 use Rattle.ctr_page.specs.declared.table.TheConstants.{PAGE_SIZE}
-use Rattle.ctr_page.specs.Places.{slot_size, room_for}
+use Rattle.ctr_page.specs.declared.checks.Chain.TheVariants.{Rows}
+use Rattle.ctr_page.specs.Places.{slot_size, room_for, bucket_of}
 use Rattle.ctr_page.specs.Reading.{header_in}
 use Rattle.ctr_page.specs.Columns.{kinds_width}
 use Rattle.ctr_page.specs.Damage.{header_check}
 use Rattle.ctr_page.specs.Searching.{EndsSearch}
 use Rattle.ctr_page.specs.Walking.{most_in_chain}
+use Rattle.ctr_area.specs.Reading.{area_of}
+use Rattle.ctr_area.specs.Checked.{kinds_at}
 use Rattle.ctr_heap.specs.declared.slots.SlotSought.{SlotSought}
+use Rattle.ctr_heap.specs.declared.slots.SlotSought.TheVariants.{Key}
 use Rattle.ctr_heap.specs.Slots.{checks_slot, seeks_slot}
 
 -- What is sought: in which chain, where so many pages are counted, in rows whose columns behind the
@@ -61,3 +65,14 @@ EndsAlong s pages (suc n) last p result =
     × (result ≡ Ok (Some (record { page = p; slot = k }))))
     ⊎ (((bad : BadRecord) × EndsPage s (pages p) (Err bad) × (result ≡ Err (OnPage p bad)))
     ⊎ (EndsPage s (pages p) (Ok None) × EndsAlong s pages n p (header_in (pages p)).next result))))
+
+-- ---- in the area
+
+-- the slot of a key of a table: in the chain of the key's bucket, by the columns of the table
+abbrev pub key_sought : (ℕ → List ℕ) → ℕ → ℕ → ℤ → ChainSought
+key_sought pages counted e key = record {
+  chain = Rows e (bucket_of key);
+  counted = counted;
+  kinds = kinds_at (area_of pages) e;
+  sought = Key key;
+}

@@ -7,9 +7,11 @@ mod found;
 mod slots;
 mod store;
 
-pub use found::a_key_is_in_its_bucket;
+pub use found::{a_key_is_in_its_bucket, a_search_tells_the_key};
 pub use slots::{SlotSought, found_in_area, search_slots};
 pub use store::search_chain;
 
+#[cfg(test)]
+mod store_tests;
 #[cfg(test)]
 mod tests;

@@ -1,4 +1,4 @@
-use Rattle.std.proofs.Common.{ℕ, ◌<◌, sym, ap, subst}
+use Rattle.std.proofs.Common.{◌<◌, sym, ap, subst}
 use Rattle.ctr_page.specs.declared.header.Header.{Header}
 use Rattle.ctr_heap.proofs.Reading.{next_counted}
 use Rattle.ctr_heap.proofs.store.look_at.Goals as goal

@@ -1,14 +1,13 @@
-use Rattle.std.proofs.Common.{◌≡◌, inr, ℕ, ◌-◌, ◌<◌, suc, Option, None, Some, Ok, Err, sym, ◌∙◌, subst, arith}
+use Rattle.std.proofs.Common.{◌≡◌, inr, ◌-◌, ◌<◌, suc, None, Some, Ok, Err, sym, ◌∙◌, subst, arith}
 use Rattle.std.specs.Prelude.{IfOk}
 use Rattle.std.proofs.lemmas.Result.{err_from_is_err_and}
-use Rattle.ctr_records.specs.declared.decoding.BadRecord.{BadRecord}
 use Rattle.ctr_redo.specs.States.{State}
 use Rattle.ctr_page.specs.declared.walk.BadChain.TheVariants.{OnPage, TooLong}
 use Rattle.ctr_page.specs.declared.rows.Place.{Place}
 use Rattle.ctr_changes.specs.States.{pages_in}
 use Rattle.ctr_heap.specs.Along.{ChainSought, EndsPage, LooksAt, EndsAlong}
-use Rattle.ctr_heap.proofs.Reading.{HasRead, answers_ok, answers_err, reads_on, same_now, was_read}
-use Rattle.ctr_heap.proofs.Along.{found_here, bad_here, none_here, at_end, too_long}
+use Rattle.ctr_heap.proofs.Reading.{answers_ok, answers_err, reads_on, same_now, was_read}
+use Rattle.ctr_heap.proofs.Along.{found_here, bad_here, none_here, at_end}
 use Rattle.ctr_heap.proofs.store.search_chain.Goals as goal
 
 pub returns-then-left-eq0-clause-leaves : goal.returns-then-left-eq0-clause-leaves
@@ -63,7 +62,7 @@ loop-at-preserved g c =
     let pages = pages_in c.args.store.now.now in
     let goes : c.loop-at.left ≡ suc (c.loop-at.left - 1) = omega (arith, c.if-left-eq0.false) in (
       inr (answers_ok g.O.Origin.first g.D.Disk c.in_ok-bad.field-0 tt c.args.store.now c.look.new.store
-      (reads_on g.O.Origin.first g.D.Disk _ c.args.store.now c.loop-at.store c.look.new.store (Ok c.in_ok-bad.field-0) c.loop-at.invariant.0 c.in_ok-bad.ensures.leaves)),
+          (reads_on g.O.Origin.first g.D.Disk _ c.args.store.now c.loop-at.store c.look.new.store (Ok c.in_ok-bad.field-0) c.loop-at.invariant.0 c.in_ok-bad.ensures.leaves)),
       subst (λ r. IfOk r (λ x. x.1 < c.args.counted)) c.in-Ok-None-default.is c.in_ok-bad.ensures.next,
       λ told sound r ends.
           let same = same_now g.O.Origin.first g.D.Disk _ c.args.store.now c.loop-at.store c.loop-at.invariant.0 told sound in

@@ -1,4 +1,4 @@
-use Rattle.std.proofs.Common.{◌≡◌, ◌<◌, ◌-◌, Option, Result}
+use Rattle.std.proofs.Common.{◌≡◌, ◌<◌, Option, Result}
 use Rattle.std.specs.Prelude.{IsTrue}
 use Rattle.ctr_base.specs.Base.{IsSoundImage}
 use Rattle.ctr_page.specs.declared.rows.Place.{Place}
