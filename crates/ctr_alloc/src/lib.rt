@@ -13,3 +13,6 @@ pub use store::next_free;
 
 #[cfg(test)]
 mod tests;
+
+#[cfg(test)]
+mod store_tests;

@@ -1,6 +1,6 @@
 -- What a search along the chain of a bucket has found, in the area.
-use Rattle.std.proofs.Common.{◌≡◌, ◌≢◌, inl, inr, ℕ, zero, suc, ◌+◌, ◌-◌, ◌≤◌, ℤ, cond, List, [], ◌∷◌, slice_index, Option, None, Some, Ok, refl, sym, ◌∙◌, ap, subst, arith}
-use Rattle.std.specs.Prelude.{nat_lt}
+use Rattle.std.proofs.Common.{◌≡◌, ◌≢◌, inl, inr, ℕ, zero, suc, ◌+◌, ◌-◌, ◌≤◌, ℤ, Bool, true, false, cond, List, [], ◌∷◌, slice_index, Option, None, Some, Ok, refl, sym, ◌∙◌, ap, subst, arith}
+use Rattle.std.specs.Prelude.{nat_lt, not}
 use Rattle.std.specs.List.{AllByRecursion}
 use Rattle.std.proofs.lemmas.Bool.{ne_eqb}
 use Rattle.ctr_versions.proofs.Keys.{known}
@@ -13,11 +13,13 @@ use Rattle.ctr_page.specs.Searching.{EndsSearch, IsFirst}
 use Rattle.ctr_page.specs.Walking.{most_in_chain}
 use Rattle.ctr_area.specs.Areas.{Area}
 use Rattle.ctr_area.specs.Reading.{no_header, entry_bytes, area_of}
-use Rattle.ctr_area.specs.Chains.{pages_bound, pages_from, bucket_first}
+use Rattle.ctr_area.specs.Chains.{pages_bound, pages_from, places_from, bucket_first}
 use Rattle.ctr_area.specs.Sound.{IsAmong, IsUsedSlot, IsOfRows, AreBuckets, AreReadable, AreKeyed}
 use Rattle.ctr_area.specs.Checked.{kinds_at}
 use Rattle.ctr_heap.specs.Slots.{checks_slot, seeks_slot, seeks_in}
-use Rattle.ctr_heap.specs.Along.{ChainSought, EndsSlots, EndsPage, EndsAlong, key_sought}
+use Rattle.ctr_area.proofs.Buckets.{each_of, on_chain, in_chain}
+use Rattle.ctr_heap.specs.declared.slots.SlotSought.TheVariants.{Free}
+use Rattle.ctr_heap.specs.Along.{ChainSought, EndsSlots, EndsPage, EndsAlong, key_sought, free_sought, first_of_bucket}
 use Rattle.ctr_heap.proofs.Sought.{first_in_area}
 use Rattle.ctr_heap.proofs.Keyed.{key_found, key_absent}
 
@@ -128,3 +130,35 @@ module _ (pages : ℕ → List ℕ) (e counted last : ℕ) (key : ℤ) where
       let area = area_of pages in
       let told = absent pages e (bucket_of key) (key_sought pages counted e key) refl (most_in_chain counted) pages_bound last (bucket_first area e key) (few_steps counted pages_bound few) (key_pages area e key readable) ends in
       key_absent area e key readable keyed told
+
+not_used : (b : Bool) → not b ≡ true → b ≡ false
+not_used true is = absurd cc
+not_used false is = refl
+
+not_free : (b : Bool) → not b ≡ false → b ≡ true
+not_free true is = refl
+not_free false is = absurd cc
+
+module _ (pages : ℕ → List ℕ) (e bucket counted last : ℕ) where
+  free_pages : AreReadable (area_of pages) → AllByRecursion (λ q. IsOfRows e bucket ((area_of pages).header q)) (pages_from pages_bound (area_of pages).header (first_of_bucket (area_of pages) e bucket))
+  free_pages readable =
+      let area = area_of pages in
+      let plain : 0 + bucket ≡ bucket = omega arith in
+      subst (λ k. AllByRecursion (λ q. IsOfRows e k (area.header q)) (pages_from pages_bound area.header (first_of_bucket area e bucket))) plain (bucket_pages area e 0 bucket (area.firsts e).buckets (readable.rows e))
+
+  pub free_told : (at : Place) → AreReadable (area_of pages) → counted ≤ pages_bound → EndsAlong (free_sought pages counted e bucket) pages (most_in_chain counted) last (first_of_bucket (area_of pages) e bucket) (Ok (Some at))
+      → IsAmong at (places_from (area_of pages) (first_of_bucket (area_of pages) e bucket)) × (((area_of pages).slot at).used ≡ false)
+  free_told at readable few ends =
+      let area = area_of pages in
+      let first = first_of_bucket area e bucket in
+      let told = found pages e bucket (free_sought pages counted e bucket) refl (most_in_chain counted) pages_bound last first at (few_steps counted pages_bound few) (free_pages readable) ends in
+      (in_chain area first at.page at.slot told.0 told.1.1, not_used (area.slot at).used told.1.2)
+
+  pub none_told : AreReadable (area_of pages) → counted ≤ pages_bound → EndsAlong (free_sought pages counted e bucket) pages (most_in_chain counted) last (first_of_bucket (area_of pages) e bucket) (Ok None)
+      → (at : Place) → IsAmong at (places_from (area_of pages) (first_of_bucket (area_of pages) e bucket)) → ((area_of pages).slot at).used ≡ true
+  none_told readable few ends at in_ =
+      let area = area_of pages in
+      let first = first_of_bucket area e bucket in
+      let told = absent pages e bucket (free_sought pages counted e bucket) refl (most_in_chain counted) pages_bound last first (few_steps counted pages_bound few) (free_pages readable) ends in
+      let there = on_chain area first at in_ in
+      not_free (area.slot at).used (each_of (λ q. IsFirst (seeks_in area q Free) 0 (area.room q) None) at.page (pages_from pages_bound area.header first) told there.0 at.slot (omega arith) there.1)

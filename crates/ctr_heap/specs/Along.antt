@@ -1,6 +1,6 @@
 -- A search for a slot along a chain of pages of rows: each page is checked as it is read, and the
 -- search ends at the first slot that is sought, or at the first damage.
-use Rattle.std.specs.Prelude.{◌≡◌, ◌≢◌, ◌⊎◌, ℕ, zero, suc, ℤ, List, length, Option, None, Some, Result, Ok, Err}
+use Rattle.std.specs.Prelude.{◌≡◌, ◌≢◌, ◌⊎◌, ℕ, zero, suc, ℤ, List, length, slice_index, Option, None, Some, Result, Ok, Err}
 use Rattle.ctr_types.specs.declared.value.Kind.{Kind}
 use Rattle.ctr_records.specs.declared.decoding.BadRecord.{BadRecord}
 use Rattle.ctr_records.specs.Damage.{wrong}
@@ -16,10 +16,11 @@ use Rattle.ctr_page.specs.Columns.{kinds_width}
 use Rattle.ctr_page.specs.Damage.{header_check}
 use Rattle.ctr_page.specs.Searching.{EndsSearch}
 use Rattle.ctr_page.specs.Walking.{most_in_chain}
+use Rattle.ctr_area.specs.Areas.{Area}
 use Rattle.ctr_area.specs.Reading.{area_of}
 use Rattle.ctr_area.specs.Checked.{kinds_at}
 use Rattle.ctr_heap.specs.declared.slots.SlotSought.{SlotSought}
-use Rattle.ctr_heap.specs.declared.slots.SlotSought.TheVariants.{Key}
+use Rattle.ctr_heap.specs.declared.slots.SlotSought.TheVariants.{Key, Free}
 use Rattle.ctr_heap.specs.Slots.{checks_slot, seeks_slot}
 
 -- What is sought: in which chain, where so many pages are counted, in rows whose columns behind the
@@ -76,3 +77,16 @@ key_sought pages counted e key = record {
   kinds = kinds_at (area_of pages) e;
   sought = Key key;
 }
+
+-- a free slot in a bucket of a table
+abbrev pub free_sought : (ℕ → List ℕ) → ℕ → ℕ → ℕ → ChainSought
+free_sought pages counted e bucket = record {
+  chain = Rows e bucket;
+  counted = counted;
+  kinds = kinds_at (area_of pages) e;
+  sought = Free;
+}
+
+-- the first page of a bucket, by its number; 0 for none
+abbrev pub first_of_bucket : Area → ℕ → ℕ → ℕ
+first_of_bucket area e bucket = slice_index (area.firsts e).buckets bucket
