@@ -31,6 +31,38 @@ front_widens j ws s c (k, folds) = (
   record { root = folds.root; sound = folds.sound; state_is = folds.state_is ∙ steps_joined j k ws s },
 )
 
+-- a call that answers with this fault
+abbrev fails_with : (T : Type 0) → StoreFault → Result T StoreFault
+fails_with T e = Err e
+
+module _ {D : Type 0} (first : Image) (g : Ghosts D) where
+  -- what a page that was read leaves doesn't depend on what is answered of it
+  pub answers_ok : {S T : Type 0} (x : S) (y : T) (a b : View D) → LeavesPage {T = S} first g a b (Ok x) → LeavesPage {T = T} first g a b (Ok y)
+  answers_ok x y a b one = record {
+    any_moment = one.any_moment;
+    logs = one.logs;
+    keeps = one.keeps;
+    going = one.going;
+    stopped = tt;
+    refused = λ told sound. tt;
+    faults = record { later = one.faults.later; failed = λ is. absurd cc; fine = λ isnt. one.faults.fine (λ is. absurd cc) };
+  }
+
+  -- nor what a fault leaves
+  pub answers_err : {S T : Type 0} (e : StoreFault) (a b : View D) → LeavesPage {T = S} first g a b (Err e) → LeavesPage {T = T} first g a b (Err e)
+  answers_err {S} {T} e a b one = record {
+    any_moment = one.any_moment;
+    logs = λ told sound. tt;
+    keeps = one.keeps;
+    going = tt;
+    stopped = one.stopped;
+    refused = λ told sound. same (one.refused told sound);
+    faults = record { later = one.faults.later; failed = λ is. one.faults.failed (same is); fine = λ isnt. one.faults.fine (λ is. isnt (same is)) };
+  }
+    where
+      same : {A B : Type 0} {f : StoreFault} → fails_with A e ≡ fails_with A f → fails_with B e ≡ fails_with B f
+      same {A} {B} is = ap (fails_with B) (cc is)
+
 module _ {D : Type 0} (g : Ghosts D) (a b c : View D) where
   rest_waits : (logs : Logs [] a b) → b.waiting ≡ drop logs.j a.waiting
   rest_waits logs = logs.waiting ∙ append-nil (drop logs.j a.waiting)

@@ -1,5 +1,5 @@
 -- Pages of a store, read one behind another.
-use Rattle.std.proofs.Common.{◌≡◌, ◌⊎◌, inl, inr, ℕ, ◌<◌, ◌≤◌, ◌-◌, false, List, Result, Ok, Err, ◌∙◌, ap, subst, arith}
+use Rattle.std.proofs.Common.{◌≡◌, ◌⊎◌, inl, inr, ℕ, ◌<◌, ◌≤◌, ◌-◌, false, List, Result, Ok, ◌∙◌, ap, subst, arith}
 use Rattle.std.specs.Prelude.{IsTrue, ⊤}
 use Rattle.std.proofs.lemmas.Bool.{ltb-false}
 use Rattle.ctr_bytes.specs.Fields.{field}
@@ -38,38 +38,7 @@ pub below_limit : (p counted : ℕ) → p < counted → counted ≤ 30000 → p 
 unfolding page_limit
 below_limit p counted lt few = omega (arith, lt, few)
 
--- a call that answers with this fault
-abbrev fails_with : (T : Type 0) → StoreFault → Result T StoreFault
-fails_with T e = Err e
-
 module _ {D : Type 0} (first : Image) (g : Ghosts D) where
-  -- what a page that was read leaves doesn't depend on what is answered of it
-  pub answers_ok : {S T : Type 0} (x : S) (y : T) (a b : View D) → LeavesPage {T = S} first g a b (Ok x) → LeavesPage {T = T} first g a b (Ok y)
-  answers_ok x y a b one = record {
-    any_moment = one.any_moment;
-    logs = one.logs;
-    keeps = one.keeps;
-    going = one.going;
-    stopped = tt;
-    refused = λ told sound. tt;
-    faults = record { later = one.faults.later; failed = λ is. absurd cc; fine = λ isnt. one.faults.fine (λ is. absurd cc) };
-  }
-
-  -- nor what a fault leaves
-  pub answers_err : {S T : Type 0} (e : StoreFault) (a b : View D) → LeavesPage {T = S} first g a b (Err e) → LeavesPage {T = T} first g a b (Err e)
-  answers_err {S} {T} e a b one = record {
-    any_moment = one.any_moment;
-    logs = λ told sound. tt;
-    keeps = one.keeps;
-    going = tt;
-    stopped = one.stopped;
-    refused = λ told sound. same (one.refused told sound);
-    faults = record { later = one.faults.later; failed = λ is. one.faults.failed (same is); fine = λ isnt. one.faults.fine (λ is. isnt (same is)) };
-  }
-    where
-      same : {A B : Type 0} {f : StoreFault} → fails_with A e ≡ fails_with A f → fails_with B e ≡ fails_with B f
-      same {A} {B} is = ap (fails_with B) (cc is)
-
   -- no page was read yet, or some were
   abbrev pub HasRead : Type 0 → View D → View D → Type 0
   HasRead Untouched a b = ((b ≡ a) × Untouched) ⊎ LeavesPage {T = ⊤} first g a b (Ok tt)
