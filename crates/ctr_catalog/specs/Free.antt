@@ -1,5 +1,5 @@
 -- A search for a free entry through the two pages of the catalog.
-use Rattle.std.specs.Prelude.{◌≡◌, ◌≢◌, ◌⊎◌, ℕ, ◌+◌, ◌==◌, ◌<◌, Bool, List, length, Option, None, Some, Result, Ok, Err}
+use Rattle.std.specs.Prelude.{◌≡◌, ◌≢◌, ◌⊎◌, ℕ, ◌+◌, ◌==◌, Bool, List, length, Option, None, Some, Result, Ok, Err}
 use Rattle.ctr_records.specs.Damage.{wrong}
 use Rattle.ctr_page.specs.declared.table.TheConstants.{PAGE_SIZE}
 use Rattle.ctr_page.specs.Columns.{entry_at}

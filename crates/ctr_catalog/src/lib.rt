@@ -10,7 +10,6 @@ pub use entries::{ENTRIES_ON_PAGE, find_free, find_named, found_in_area};
 pub use store::{BadEntry, a_free_entry_is_the_lowest, free_entry};
 
 #[cfg(test)]
-mod tests;
-
-#[cfg(test)]
 mod store_tests;
+#[cfg(test)]
+mod tests;

@@ -1,5 +1,5 @@
--- The records that change pages, each with the bytes that it lays. x is a transaction, p a page, e an
--- entry of the catalog.
+-- The records that change pages, each with the bytes that it lays. x is a transaction, p a page, e
+-- an entry of the catalog.
 use Rattle.std.specs.Prelude.{◌≡◌, ℕ, ◌+◌, ◌*◌, ◌/◌, ◌%◌, true, false, List, [], ◌∷◌, Some}
 use Rattle.ctr_bytes.specs.Fields.{spelled}
 use Rattle.ctr_records.specs.declared.record.Overlay.{Overlay}
