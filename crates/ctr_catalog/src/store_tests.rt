@@ -1,5 +1,5 @@
 //! Free entries of the catalog of a store that is opened on bytes made by hand.
-ghost use Rattle.std.specs.Prelude.{◌≡◌, ◌<◌};
+ghost use Rattle.std.specs.Prelude.{◌≡◌};
 
 use crate::*;
 use ctr_base::Origin;
@@ -37,22 +37,29 @@ fn found<D: Disk + Drop, O: Origin>(alloc: Global, disk: D) -> Option<Found>
     }
 }
 
-// The same where so many entries of page 1 have these bytes at home, and a name, a column.
-fn seek(alloc: Global, entries: u64, state: u8) -> Result<Option<Found>, AllocError>
-    requires { entries < 17 }
-{
+// The entry of a table of one column, as it begins; and the page 1 at home, with this state in its first entry.
+fn first_page(state: u8) -> [u8; 50] {
+    let mut page = [0; 50];
+    page[0] = 1;
+    page[1] = 1;
+    page[5] = 1;
+    page[13] = state;
+    page[30] = 1;
+    page[31] = b't';
+    page[47] = 1;
+    page[48] = 1;
+    page[49] = b'k';
+    page
+}
+
+// What is found where page 1 begins with these bytes at home.
+fn seek(alloc: Global, page: &[u8]) -> Result<Option<Found>, AllocError> {
     let mut image = Image::new(alloc);
     image.write(alloc, File::Root, 0, &ROOT)?;
     image.set_len(alloc, File::Root, 64)?;
     image.write(alloc, File::LogA, 0, &LOG)?;
     image.set_len(alloc, File::Pages, 528_384)?;
-    image.write(alloc, File::Pages, 8_256, b"\x01\x01\0\0\0\x01")?;
-    for entry in 0..entries {
-        let at = 8_269 + 256 * entry;
-        image.write(alloc, File::Pages, at, &[state])?;
-        image.write(alloc, File::Pages, at + 17, b"\x01t")?;
-        image.write(alloc, File::Pages, at + 34, b"\x01\x01k")?;
-    }
+    image.write(alloc, File::Pages, 8_256, page)?;
     let disk = MemDisk::new(alloc, image, List::new(alloc))?;
     Ok(found::<SilentDisk, Brand>(alloc, SilentDisk { disk }))
 }
@@ -60,14 +67,13 @@ fn seek(alloc: Global, entries: u64, state: u8) -> Result<Option<Found>, AllocEr
 #[test]
 fn the_lowest_free_entry(rt: HostRuntime) -> Result<(), Fail> {
     let alloc = rt.alloc();
-    assert!(rt; seek(alloc, 0, 1)? == Some(Ok(Some(0))));
-    assert!(rt; seek(alloc, 3, 2)? == Some(Ok(Some(3))));
-    assert!(rt; seek(alloc, 16, 1)? == Some(Ok(Some(16))));
+    assert!(rt; seek(alloc, &first_page(0))? == Some(Ok(Some(0))));
+    assert!(rt; seek(alloc, &first_page(2))? == Some(Ok(Some(1))));
     let bad = BadPage {
         at: 0,
         want: 2,
         got: 3,
     };
-    assert!(rt; seek(alloc, 1, 3)? == Some(Err(BadEntry { page: 1, bad })));
+    assert!(rt; seek(alloc, &first_page(3))? == Some(Err(BadEntry { page: 1, bad })));
     Ok(())
 }
