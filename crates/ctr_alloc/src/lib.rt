@@ -12,7 +12,6 @@ pub use search::{NextFree, Search, search_goes_on};
 pub use store::next_free;
 
 #[cfg(test)]
-mod tests;
-
-#[cfg(test)]
 mod store_tests;
+#[cfg(test)]
+mod tests;

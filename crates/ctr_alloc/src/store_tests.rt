@@ -11,10 +11,12 @@ use std::marker::Brand;
 use std::test::Fail;
 
 // The root, written once: LogA from LSN 1 on, 64 pages.
-const ROOT: [u8; 38] = *b"\x01\0\0\0\0\x01\0\0\0\0\0\0\0CTRDB001\x01\0\0\0\0\x01\0\0\0\0\0\0\0\x40\0\0\0";
+const ROOT: [u8; 38] =
+    *b"\x01\0\0\0\0\x01\0\0\0\0\0\0\0CTRDB001\x01\0\0\0\0\x01\0\0\0\0\0\0\0\x40\0\0\0";
 
 // The Checkpoint of nothing, in a batch of its own.
-const LOG: [u8; 64] = *b"\x01\x2a\0\0\0\0\0\0\0\x01\0\0\0\0\0\0\0\x01\0\0\0\x22\0\0\0\0\0\0\0\x01\x01\0\0\0\0\0\0\0\0\0\0\0\0\0\0\0\0\0\0\0\0\0\0\0\0\0\0\0\0\0\0\0\0\0";
+const LOG: [u8; 64] =
+    *b"\x01\x2a\0\0\0\0\0\0\0\x01\0\0\0\0\0\0\0\x01\0\0\0\x22\0\0\0\0\0\0\0\x01\x01\0\0\0\0\0\0\0\0\0\0\0\0\0\0\0\0\0\0\0\0\0\0\0\0\0\0\0\0\0\0\0\0\0";
 
 // The next free page, from the first on.
 fn next<D: Disk + Drop, O: Origin>(alloc: Global, disk: D) -> Option<NextFree>
