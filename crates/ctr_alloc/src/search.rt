@@ -1,5 +1,5 @@
 // The lowest free page. The search looks at bytes, and begins where the last one ended.
-ghost use Rattle.std.specs.Prelude.{◌≡◌, ◌≤◌, ◌<◌, ◌/◌, ◌%◌, ℕ, Bool, true, false, List, [], ◌∷◌, length, slice_index, IfSome, MatchOption};
+ghost use Rattle.std.specs.Prelude.{◌≡◌, ◌≤◌, ◌<◌, ◌/◌, ◌%◌, ℕ, true, false, List, [], ◌∷◌, length, slice_index, IfSome, MatchOption};
 ghost use Rattle.std.specs.Int.{bit_at};
 ghost use Rattle.ctr_page.specs.Reading.{put_over};
 ghost use Rattle.ctr_area.specs.Areas.{Area};
@@ -86,7 +86,7 @@ fn lowest(from: PageNo, end: PageNo, page: &[u8]) -> PageNo
 impl Search {
     /// A search that begins at the first page that can be free.
     pub fn new() -> Search
-        ensures { (taken : ℕ → Bool) → AreTakenBelow result.from taken }
+        ensures { (page : List ℕ) → AreTakenBelow result.from (taken_in page) }
     {
         Search { from: 3 }
     }

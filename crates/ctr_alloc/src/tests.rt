@@ -7,6 +7,7 @@ use std::test::Fail;
 
 // Finds the next free page, and allocates it.
 fn take_next(search: &mut Search, counted: u32, page: &mut [u8]) -> NextFree
+    requires few { counted ≤ 30000 }
     requires whole { length page.old ≡ 4096 }
     requires right { AreTakenBelow search.old.from (taken_in page.old) }
     ensures whole { length page.new ≡ 4096 }
