@@ -11,7 +11,7 @@ use Rattle.ctr_page.specs.Reading.{put_over}
 use Rattle.ctr_area.specs.Reading.{has_bit, is_taken, area_of}
 use Rattle.ctr_area.specs.Changes.{IsBitSet, with_taken, with_byte_of}
 use Rattle.ctr_area.proofs.Marked.{taken_after, bit_written}
-use Rattle.ctr_alloc.specs.Free.{marks_in, AreFullBetween, AreTakenBelow, IsFree}
+use Rattle.ctr_alloc.specs.Free.{marks_in, AreFullBetween, AreTakenBelow, IsFree, taken_in}
 
 -- one bit is as wanted, the others are as before
 pub bit_set : (k : ℕ) (taken : Bool) (old new : ℕ) → has_bit k new ≡ taken → ((i : ℕ) → i < 8 → i ≢ k → bit_at new i ≡ bit_at old i) → IsBitSet k taken old new
@@ -55,7 +55,7 @@ low_mark page k low = bit_at_or (slice_index page 0) 7 k ∙ omega (arith, bit_a
 pub taken_by : (page : List ℕ) (q : ℕ) → 3 ≤ q → bit_at (marks_in page (q / 8)) (q % 8) ≡ 1 → is_taken q page ≡ true
 taken_by page q third one = ap (λ n. n == 1) (sym (same_mark page q third) ∙ one)
 
-pub free_by : (page : List ℕ) (q : ℕ) → bit_at (marks_in page (q / 8)) (q % 8) ≡ 0 → IsFree page q
+pub free_by : (page : List ℕ) (q : ℕ) → bit_at (marks_in page (q / 8)) (q % 8) ≡ 0 → IsFree (taken_in page) q
 free_by page q none = (third, ap (λ n. n == 1) (sym (same_mark page q third) ∙ none))
   where
     third : 3 ≤ q
@@ -73,8 +73,8 @@ full_byte page q third full = taken_by page q third (ap (λ b. bit_at b (q % 8))
 -- ---- a search
 
 -- no page below a byte's lowest 0 is free
-pub taken_to : (page : List ℕ) (from at p : ℕ) → AreTakenBelow from page → AreFullBetween page (from / 8) at → p / 8 ≡ at
-    → ((k : ℕ) → k < p % 8 → bit_at (marks_in page at) k ≡ 1) → AreTakenBelow p page
+pub taken_to : (page : List ℕ) (from at p : ℕ) → AreTakenBelow from (taken_in page) → AreFullBetween page (from / 8) at → p / 8 ≡ at
+    → ((k : ℕ) → k < p % 8 → bit_at (marks_in page at) k ≡ 1) → AreTakenBelow p (taken_in page)
 taken_to page from at p right full place first = λ q third lt. ⊎_elim (right q third)
     (λ le. ⊎_elim
     (λ before. full_byte page q third (full (q / 8) (omega (arith, le)) before))
@@ -86,7 +86,7 @@ taken_to page from at p right full place first = λ q third lt. ⊎_elim (right 
     same q lt last = omega (arith, lt, last, place)
 
 -- nor below an end where all bytes before it are full
-pub taken_all : (page : List ℕ) (from end bytes : ℕ) → AreTakenBelow from page → bytes ≡ (end + 7) / 8 → AreFullBetween page (from / 8) bytes → AreTakenBelow end page
+pub taken_all : (page : List ℕ) (from end bytes : ℕ) → AreTakenBelow from (taken_in page) → bytes ≡ (end + 7) / 8 → AreFullBetween page (from / 8) bytes → AreTakenBelow end (taken_in page)
 taken_all page from end bytes right is full = λ q third lt. ⊎_elim (right q third)
     (λ le. full_byte page q third (full (q / 8) (omega (arith, le)) (omega (arith, lt, is)))) (cases_lt q from)
 
@@ -98,11 +98,11 @@ set_over at byte page inside = sym (take-append-drop at (set page at byte)) ∙ 
 
 module _ (page : List ℕ) (p byte : ℕ) (inside : p / 8 < length page) where
   -- a page is allocated
-  pub taken_on : IsBitSet (p % 8) true (slice_index page (p / 8)) byte → (from : ℕ) → AreTakenBelow from page → AreTakenBelow from (put_over (p / 8) (byte ∷ []) page)
+  pub taken_on : IsBitSet (p % 8) true (slice_index page (p / 8)) byte → (from : ℕ) → AreTakenBelow from (taken_in page) → AreTakenBelow from (taken_in (put_over (p / 8) (byte ∷ []) page))
   taken_on set from right = λ q third lt. taken_after (λ n. page) p byte true inside set q ∙ known (q == p)
       (λ is. ap (λ b. cond b true (is_taken q page)) is) (λ isnt. ap (λ b. cond b true (is_taken q page)) isnt ∙ right q third lt)
 
   -- a page is free again
-  pub taken_below : IsBitSet (p % 8) false (slice_index page (p / 8)) byte → (from next : ℕ) → next ≤ from → next ≤ p → AreTakenBelow from page → AreTakenBelow next (put_over (p / 8) (byte ∷ []) page)
+  pub taken_below : IsBitSet (p % 8) false (slice_index page (p / 8)) byte → (from next : ℕ) → next ≤ from → next ≤ p → AreTakenBelow from (taken_in page) → AreTakenBelow next (taken_in (put_over (p / 8) (byte ∷ []) page))
   taken_below set from next less before right = λ q third lt. taken_after (λ n. page) p byte false inside set q
       ∙ ap (λ b. cond b false (is_taken q page)) (ne_eqb q p (λ is. omega (arith, is, lt, before))) ∙ right q third (omega (arith, lt, less))

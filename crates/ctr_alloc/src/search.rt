@@ -1,11 +1,11 @@
 // The lowest free page. The search looks at bytes, and begins where the last one ended.
 ghost use Rattle.std.specs.Prelude.{◌≡◌, ◌≤◌, ◌<◌, ◌/◌, ◌%◌, ℕ, true, false, List, [], ◌∷◌, length, slice_index, IfSome, MatchOption};
 ghost use Rattle.std.specs.Int.{bit_at};
-ghost use Rattle.ctr_page.specs.declared.table.TheConstants.{PAGE_SIZE};
 ghost use Rattle.ctr_page.specs.Reading.{put_over};
-ghost use Rattle.ctr_area.specs.Changes.{IsBitSet};
+ghost use Rattle.ctr_area.specs.Areas.{Area};
+ghost use Rattle.ctr_area.specs.Changes.{IsBitSet, with_taken};
 ghost use Rattle.ctr_model.specs.declared.limits.TheConstants.{MOST_PAGES};
-ghost use Rattle.ctr_alloc.specs.Free.{marks_in, AreFullBetween, AreTakenBelow, IsFree, IsNextFree, search_end};
+ghost use Rattle.ctr_alloc.specs.Free.{marks_in, AreFullBetween, AreTakenBelow, IsFree, IsNextFree, search_end, taken_in};
 
 use ctr_model::MOST_PAGES;
 use ctr_records::PageNo;
@@ -28,17 +28,26 @@ pub struct Search {
     pub from: PageNo,
 }
 
+/// A byte of a page; behind its end there are zeros.
+pub(crate) fn byte_at(page: &[u8], at: usize) -> u8
+    ensures { result ≡ slice_index page.now at }
+{
+    if at < page.len() { page[at] } else { 0 }
+}
+
 /// A byte of page 0, in which the pages 0, 1 and 2 count as allocated.
 fn marks(page: &[u8], at: usize) -> u8
-    requires { at < length page.now }
     ensures { result ≡ marks_in page.now at }
 {
-    if at == 0 { page[at] | 7 } else { page[at] }
+    if at == 0 {
+        byte_at(page, at) | 7
+    } else {
+        byte_at(page, at)
+    }
 }
 
 /// The first byte, from one on and before an end, in which a bit is 0.
 fn first_open(page: &[u8], from: usize, end: usize) -> Option<usize>
-    requires { end ≤ length page.now }
     ensures found { IfSome result (λ at. (at < end) × AreFullBetween page.now from at × (marks_in page.now at < 255)) }
     ensures none { result ≡ None → AreFullBetween page.now from end }
 {
@@ -52,7 +61,6 @@ fn first_open(page: &[u8], from: usize, end: usize) -> Option<usize>
 
 /// The page of the lowest bit that is 0 in a byte.
 fn first_in(page: &[u8], at: usize) -> PageNo
-    requires inside { at < length page.now }
     requires small { at < 4096 }
     requires some { marks_in page.now at < 255 }
     ensures place { result / 8 ≡ at }
@@ -65,11 +73,9 @@ fn first_in(page: &[u8], at: usize) -> PageNo
 /// The lowest free page, or the end where none before it is free.
 fn lowest(from: PageNo, end: PageNo, page: &[u8]) -> PageNo
     requires few { end ≤ MOST_PAGES }
-    requires whole { length page.now ≡ PAGE_SIZE }
-    requires right { AreTakenBelow from page.now }
-    ensures taken { AreTakenBelow result page.now }
+    ensures taken { AreTakenBelow from (taken_in page.now) → AreTakenBelow result (taken_in page.now) }
     ensures small { result ≤ end }
-    ensures free { result < end → IsFree page.now result }
+    ensures free { result < end → IsFree (taken_in page.now) result }
 {
     match first_open(page, from as usize / 8, (end as usize + 7) / 8) {
         None => end,
@@ -80,7 +86,7 @@ fn lowest(from: PageNo, end: PageNo, page: &[u8]) -> PageNo
 impl Search {
     /// A search that begins at the first page that can be free.
     pub fn new() -> Search
-        ensures { (page : List ℕ) → AreTakenBelow result.from page }
+        ensures { (page : List ℕ) → AreTakenBelow result.from (taken_in page) }
     {
         Search { from: 3 }
     }
@@ -88,16 +94,15 @@ impl Search {
     /// The next free page, by the bytes of page 0, where so many pages are counted. The next search
     /// begins where this one ended. It takes no memory.
     pub fn next_free(&mut self, counted: u32, page: &[u8]) -> NextFree
-        requires few { counted ≤ MOST_PAGES }
-        requires whole { length page.now ≡ PAGE_SIZE }
-        requires right { AreTakenBelow self.old.from page.now }
-        ensures next { IsNextFree counted page.now result }
-        ensures right { AreTakenBelow self.new.from page.now }
+        // It is the lowest where no page is free below the first that is looked at.
+        ensures next { AreTakenBelow self.old.from (taken_in page.now) → IsNextFree counted (taken_in page.now) result }
+        ensures right { AreTakenBelow self.old.from (taken_in page.now) → AreTakenBelow self.new.from (taken_in page.now) }
         ensures ended { self.new.from ≡ search_end counted result }
     {
-        let found = lowest(self.from, counted, page);
+        let end = counted.min(MOST_PAGES);
+        let found = lowest(self.from, end, page);
         self.from = found;
-        if found < counted {
+        if found < end {
             return NextFree::Page(found);
         }
         if counted < MOST_PAGES {
@@ -108,8 +113,10 @@ impl Search {
 
     /// A page is free again: the next search begins no later than there.
     pub fn freed(&mut self, p: PageNo)
-        ensures { (page : List ℕ) (byte : ℕ) → p / 8 < length page → IsBitSet (p % 8) false (slice_index page (p / 8)) byte
-            → AreTakenBelow self.old.from page → AreTakenBelow self.new.from (put_over (p / 8) (byte ∷ []) page) }
+        ensures bytes { (page : List ℕ) (byte : ℕ) → p / 8 < length page → IsBitSet (p % 8) false (slice_index page (p / 8)) byte
+            → AreTakenBelow self.old.from (taken_in page) → AreTakenBelow self.new.from (taken_in (put_over (p / 8) (byte ∷ []) page)) }
+        // The same of an area.
+        ensures area { (area : Area) → AreTakenBelow self.old.from area.taken → AreTakenBelow self.new.from (with_taken p false area).taken }
     {
         self.from = self.from.min(p);
     }
@@ -118,6 +125,8 @@ impl Search {
 /// Where a page is allocated, no page below is free that wasn't: a search may begin where the last one
 /// ended.
 pub fn search_goes_on()
-    ensures { (page : List ℕ) (from p byte : ℕ) → p / 8 < length page → IsBitSet (p % 8) true (slice_index page (p / 8)) byte
-        → AreTakenBelow from page → AreTakenBelow from (put_over (p / 8) (byte ∷ []) page) }
+    ensures bytes { (page : List ℕ) (from p byte : ℕ) → p / 8 < length page → IsBitSet (p % 8) true (slice_index page (p / 8)) byte
+        → AreTakenBelow from (taken_in page) → AreTakenBelow from (taken_in (put_over (p / 8) (byte ∷ []) page)) }
+    // The same of an area.
+    ensures area { (area : Area) (from p : ℕ) → AreTakenBelow from area.taken → AreTakenBelow from (with_taken p true area).taken }
 {}

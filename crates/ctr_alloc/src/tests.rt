@@ -1,6 +1,6 @@
 //! The pages of a new database, one after another; pages that are given back; and no page left.
 ghost use Rattle.std.specs.Prelude.{◌≡◌, ◌≤◌, ◌<◌, length};
-ghost use Rattle.ctr_alloc.specs.Free.{AreTakenBelow};
+ghost use Rattle.ctr_alloc.specs.Free.{AreTakenBelow, taken_in};
 
 use crate::*;
 use std::test::Fail;
@@ -9,9 +9,9 @@ use std::test::Fail;
 fn take_next(search: &mut Search, counted: u32, page: &mut [u8]) -> NextFree
     requires few { counted ≤ 30000 }
     requires whole { length page.old ≡ 4096 }
-    requires right { AreTakenBelow search.old.from page.old }
+    requires right { AreTakenBelow search.old.from (taken_in page.old) }
     ensures whole { length page.new ≡ 4096 }
-    ensures right { AreTakenBelow search.new.from page.new }
+    ensures right { AreTakenBelow search.new.from (taken_in page.new) }
 {
     let next = search.next_free(counted, page);
     if let NextFree::Page(p) = next {
@@ -24,9 +24,9 @@ fn take_next(search: &mut Search, counted: u32, page: &mut [u8]) -> NextFree
 fn give_back(search: &mut Search, p: u32, page: &mut [u8])
     requires there { p < 32768 }
     requires whole { length page.old ≡ 4096 }
-    requires right { AreTakenBelow search.old.from page.old }
+    requires right { AreTakenBelow search.old.from (taken_in page.old) }
     ensures whole { length page.new ≡ 4096 }
-    ensures right { AreTakenBelow search.new.from page.new }
+    ensures right { AreTakenBelow search.new.from (taken_in page.new) }
 {
     page[p as usize / 8] = with_free(page, p);
     search.freed(p);

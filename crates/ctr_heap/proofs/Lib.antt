@@ -1,2 +1,5 @@
 pub mod Sought
 pub mod Keyed
+pub mod Reading
+pub mod Along
+pub mod Telling

@@ -1,13 +1,16 @@
 // What searches of the pages of a chain have found, of all the area.
-ghost use Rattle.std.specs.Prelude.{◌≡◌, ℕ, ℤ, None, Some};
+ghost use Rattle.std.specs.Prelude.{◌≡◌, ◌≤◌, ℕ, ℤ, true, false, List, Ok, None, Some};
 ghost use Rattle.std.specs.List.{AllByRecursion};
 ghost use Rattle.ctr_page.specs.declared.rows.Place.{Place};
 ghost use Rattle.ctr_page.specs.Searching.{IsFirst};
 ghost use Rattle.ctr_area.specs.Areas.{Area};
-ghost use Rattle.ctr_area.specs.Chains.{pages_bound, pages_from, bucket_first};
+ghost use Rattle.ctr_area.specs.Chains.{pages_bound, pages_from, places_from, bucket_first};
 ghost use Rattle.ctr_area.specs.Sound.{IsAmong, IsUsedSlot, AreReadable, AreKeyed};
 ghost use Rattle.ctr_heap.specs.declared.slots.SlotSought.TheVariants.{Key};
+ghost use Rattle.ctr_page.specs.Walking.{most_in_chain};
+ghost use Rattle.ctr_area.specs.Reading.{area_of};
 ghost use Rattle.ctr_heap.specs.Slots.{seeks_in};
+ghost use Rattle.ctr_heap.specs.Along.{key_sought, free_sought, first_of_bucket, EndsAlong};
 
 /// The slot of a key of a table is looked for in the chain of the key's bucket alone.
 pub fn a_key_is_in_its_bucket()
@@ -19,4 +22,29 @@ pub fn a_key_is_in_its_bucket()
     ensures absent { (area : Area) (e : ℕ) (key : ℤ) → AreReadable area → AreKeyed area
         → AllByRecursion (λ p. IsFirst (seeks_in area p (Key key)) 0 (area.room p) None) (pages_from pages_bound area.header (bucket_first area e key))
         → (at : Place) → IsUsedSlot area e at → (area.slot at).key ≡ key → ⊥ }
+{}
+
+/// The search for a key along the chain of its bucket, which ends without damage, over pages whose chains are those of
+/// their tables.
+pub fn a_search_tells_the_key()
+    // A slot that it has found is a used one of the table, and of the key.
+    ensures found { (pages : ℕ → List ℕ) (e counted last : ℕ) (key : ℤ) (at : Place) → AreReadable (area_of pages) → counted ≤ pages_bound
+        → EndsAlong (key_sought pages counted e key) pages (most_in_chain counted) last (bucket_first (area_of pages) e key) (Ok (Some at))
+        → IsUsedSlot (area_of pages) e at × (((area_of pages).slot at).key ≡ key) }
+    // Where it has found none, no used slot of the table has the key, if each is in its bucket.
+    ensures absent { (pages : ℕ → List ℕ) (e counted last : ℕ) (key : ℤ) → AreReadable (area_of pages) → AreKeyed (area_of pages) → counted ≤ pages_bound
+        → EndsAlong (key_sought pages counted e key) pages (most_in_chain counted) last (bucket_first (area_of pages) e key) (Ok None)
+        → (at : Place) → IsUsedSlot (area_of pages) e at → ((area_of pages).slot at).key ≡ key → ⊥ }
+{}
+
+/// The search for a free slot along the chain of a bucket, which ends without damage, over such pages.
+pub fn a_search_tells_a_free_slot()
+    // What it has found stands on a page of the chain, and isn't used.
+    ensures found { (pages : ℕ → List ℕ) (e bucket counted last : ℕ) (at : Place) → AreReadable (area_of pages) → counted ≤ pages_bound
+        → EndsAlong (free_sought pages counted e bucket) pages (most_in_chain counted) last (first_of_bucket (area_of pages) e bucket) (Ok (Some at))
+        → IsAmong at (places_from (area_of pages) (first_of_bucket (area_of pages) e bucket)) × (((area_of pages).slot at).used ≡ false) }
+    // Where it has found none, all slots on the pages of the chain are used.
+    ensures none { (pages : ℕ → List ℕ) (e bucket counted last : ℕ) → AreReadable (area_of pages) → counted ≤ pages_bound
+        → EndsAlong (free_sought pages counted e bucket) pages (most_in_chain counted) last (first_of_bucket (area_of pages) e bucket) (Ok None)
+        → (at : Place) → IsAmong at (places_from (area_of pages) (first_of_bucket (area_of pages) e bucket)) → ((area_of pages).slot at).used ≡ true }
 {}

@@ -1,13 +1,17 @@
-//! Rows by key: the search through the slots of a page.
+//! Rows by key: the search through the slots of a page, and along a chain of pages.
 //!
-//! The bytes of the page are lent. Nothing here takes memory.
+//! Nothing here takes memory.
 #![tactic(auto)]
 
 mod found;
 mod slots;
+mod store;
 
-pub use found::a_key_is_in_its_bucket;
+pub use found::{a_key_is_in_its_bucket, a_search_tells_a_free_slot, a_search_tells_the_key};
 pub use slots::{SlotSought, found_in_area, search_slots};
+pub use store::search_chain;
 
+#[cfg(test)]
+mod store_tests;
 #[cfg(test)]
 mod tests;

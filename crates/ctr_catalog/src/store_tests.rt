@@ -1,0 +1,79 @@
+//! Free entries of the catalog of a store that is opened on bytes made by hand.
+ghost use Rattle.std.specs.Prelude.{◌≡◌};
+
+use crate::*;
+use ctr_base::Origin;
+use ctr_disk::{Disk, Image, MemDisk, SilentDisk};
+use ctr_page::BadPage;
+use ctr_store::Store;
+use ctr_types::{File, List};
+use std::alloc::{AllocError, Global};
+use std::marker::Brand;
+use std::test::Fail;
+
+// The root, written once: LogA from LSN 1 on, 64 pages.
+const ROOT: [u8; 38] =
+    *b"\x01\0\0\0\0\x01\0\0\0\0\0\0\0CTRDB001\x01\0\0\0\0\x01\0\0\0\0\0\0\0\x40\0\0\0";
+
+// The Checkpoint of nothing, in a batch of its own.
+const LOG: [u8; 64] =
+    *b"\x01\x2a\0\0\0\0\0\0\0\x01\0\0\0\0\0\0\0\x01\0\0\0\x22\0\0\0\0\0\0\0\x01\x01\0\0\0\0\0\0\0\0\0\0\0\0\0\0\0\0\0\0\0\0\0\0\0\0\0\0\0\0\0\0\0\0\0";
+
+type Found = Result<Option<u8>, BadEntry>;
+
+// What is found in the catalog.
+fn found<D: Disk + Drop, O: Origin>(alloc: Global, disk: D) -> Option<Found>
+    requires { O.first ≡ D.reads disk }
+{
+    match Store::<D, O>::open(alloc, disk, 8) {
+        Ok(store) => {
+            let mut store = store;
+            if store.counted() == 0 {
+                return None;
+            }
+            free_entry(&mut store).ok()
+        }
+        Err(_) => None,
+    }
+}
+
+// The entry of a table of one column, as it begins; and the page 1 at home, with this state in its first entry.
+fn first_page(state: u8) -> [u8; 50] {
+    let mut page = [0; 50];
+    page[0] = 1;
+    page[1] = 1;
+    page[5] = 1;
+    page[13] = state;
+    page[30] = 1;
+    page[31] = b't';
+    page[47] = 1;
+    page[48] = 1;
+    page[49] = b'k';
+    page
+}
+
+// What is found where page 1 begins with these bytes at home.
+fn seek(alloc: Global, page: &[u8]) -> Result<Option<Found>, AllocError> {
+    let mut image = Image::new(alloc);
+    image.write(alloc, File::Root, 0, &ROOT)?;
+    image.set_len(alloc, File::Root, 64)?;
+    image.write(alloc, File::LogA, 0, &LOG)?;
+    image.set_len(alloc, File::Pages, 528_384)?;
+    image.write(alloc, File::Pages, 8_256, page)?;
+    let disk = MemDisk::new(alloc, image, List::new(alloc))?;
+    Ok(found::<SilentDisk, Brand>(alloc, SilentDisk { disk }))
+}
+
+#[test]
+fn the_lowest_free_entry(rt: HostRuntime) -> Result<(), Fail> {
+    let alloc = rt.alloc();
+    assert!(rt; seek(alloc, &first_page(0))? == Some(Ok(Some(0))));
+    assert!(rt; seek(alloc, &first_page(2))? == Some(Ok(Some(1))));
+    let bad = BadPage {
+        at: 0,
+        want: 2,
+        got: 3,
+    };
+    assert!(rt; seek(alloc, &first_page(3))? == Some(Err(BadEntry { page: 1, bad })));
+    Ok(())
+}

@@ -1,0 +1,86 @@
+-- The records that change pages, each with the bytes that it lays. x is a transaction, p a page, e
+-- an entry of the catalog.
+use Rattle.std.specs.Prelude.{◌≡◌, ℕ, ◌+◌, ◌*◌, ◌/◌, ◌%◌, true, false, List, [], ◌∷◌, Some}
+use Rattle.ctr_bytes.specs.Fields.{spelled}
+use Rattle.ctr_records.specs.declared.record.Overlay.{Overlay}
+use Rattle.ctr_records.specs.declared.record.Record.{Record}
+use Rattle.ctr_records.specs.declared.record.Record.TheVariants.{Alloc, Format, Link, Free, Unlink, Create, Uncreate, Drop, Undrop}
+use Rattle.ctr_redo.specs.Overlaid.{overlay_of}
+use Rattle.ctr_types.specs.declared.value.Column.{Column}
+use Rattle.ctr_page.specs.declared.header.Header.{Header}
+use Rattle.ctr_page.specs.declared.rows.Place.{Place}
+use Rattle.ctr_page.specs.declared.table.TheConstants.{ENTRY_SIZE, DROPPER_AT, FIRSTS_AT, VERSIONS_AT}
+use Rattle.ctr_page.specs.Places.{start_of}
+use Rattle.ctr_page.specs.Making.{header_bytes}
+use Rattle.ctr_page.specs.Columns.{new_entry_bytes}
+
+-- bytes over those of a page from a place on
+abbrev pub laid_at : ℕ → ℕ → List ℕ → Overlay
+laid_at p at bytes = record { page = p; clear = false; offset = at; bytes = bytes }
+
+-- bytes on a page that is cleared first
+abbrev pub laid_clear : ℕ → List ℕ → Overlay
+laid_clear p bytes = record { page = p; clear = true; offset = 0; bytes = bytes }
+
+-- bytes over those of an entry of the catalog from a place in it on
+abbrev pub laid_in_entry : ℕ → ℕ → List ℕ → Overlay
+laid_in_entry e at bytes = laid_at (1 + e / 16) (ENTRY_SIZE * (e % 16) + at) bytes
+
+-- ---- pages: allocated, made empty, at the front of a chain, and free again
+
+-- the byte of page 0 in which the page has its bit
+abbrev pub alloc_record : ℕ → ℕ → ℕ → Record
+alloc_record x p byte = Alloc x p (laid_at 0 (p / 8) (byte ∷ []))
+
+-- the same of a page that is free again
+abbrev pub free_record : ℕ → ℕ → Record
+free_record p byte = Free p (laid_at 0 (p / 8) (byte ∷ []))
+
+-- the header of an empty page
+abbrev pub format_record : ℕ → ℕ → Header → Record
+format_record x p h = Format x p (laid_clear p (header_bytes h))
+
+-- a bucket's chain begins with the page
+abbrev pub link_record : ℕ → ℕ → ℕ → ℕ → Record
+link_record x p e bucket = Link x p (laid_in_entry e (FIRSTS_AT + 4 * bucket) (spelled 4 p))
+
+-- the chain of versions begins with the page
+abbrev pub link_older_record : ℕ → ℕ → ℕ → Record
+link_older_record x p e = Link x p (laid_in_entry e VERSIONS_AT (spelled 4 p))
+
+-- a bucket's chain begins with the next page of the one that leaves it
+abbrev pub unlink_record : ℕ → ℕ → ℕ → ℕ → Record
+unlink_record p next e bucket = Unlink p (laid_in_entry e (FIRSTS_AT + 4 * bucket) (spelled 4 next))
+
+-- and the chain of versions
+abbrev pub unlink_older_record : ℕ → ℕ → ℕ → Record
+unlink_older_record p next e = Unlink p (laid_in_entry e VERSIONS_AT (spelled 4 next))
+
+-- ---- tables
+
+-- the entry of a new table
+abbrev pub create_record : ℕ → ℕ → List ℕ → List Column → Record
+create_record x e name columns =
+    Create x e (laid_at (1 + e / 16) (ENTRY_SIZE * (e % 16)) (new_entry_bytes x name columns))
+
+-- it is dead
+abbrev pub uncreate_record : ℕ → Record
+uncreate_record e = Uncreate e (laid_in_entry e 0 (2 ∷ []))
+
+-- who dropped it
+abbrev pub drop_record : ℕ → ℕ → Record
+drop_record x e = Drop x e (laid_in_entry e DROPPER_AT (spelled 8 x))
+
+-- nobody did
+abbrev pub undrop_record : ℕ → Record
+undrop_record e = Undrop e (laid_in_entry e DROPPER_AT (spelled 8 0))
+
+-- ---- what stands at a place of a page
+
+-- bytes over what stands at a place, where what stands on the page has this size
+abbrev pub laid_on_place : Place → ℕ → List ℕ → Overlay
+laid_on_place at size bytes = laid_at at.page (start_of size at.slot) bytes
+
+-- The record lays this.
+abbrev pub Lays : Record → Overlay → Type 0
+Lays r o = overlay_of r ≡ Some o

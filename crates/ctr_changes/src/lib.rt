@@ -1,0 +1,17 @@
+//! What each record of the log makes of the pages: one place of the area changes. Definitions, and laws of
+//! them. No program computes them.
+#![tactic(auto)]
+
+mod catalog;
+mod pages;
+mod places;
+
+pub use catalog::{
+    a_drop_changes_its_title, a_new_table_has_its_entry, an_uncreate_changes_its_title,
+    an_undrop_changes_its_title,
+};
+pub use pages::{
+    a_format_clears_its_page, a_free_changes_its_bit, a_link_changes_its_chain,
+    an_alloc_changes_its_bit, an_unlink_changes_its_chain,
+};
+pub use places::{a_slot_is_laid, a_version_is_laid};
