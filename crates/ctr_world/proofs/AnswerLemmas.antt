@@ -80,12 +80,12 @@ module _ (moment : ℕ) (old mid new : Steps) (going : Going moment old mid) (on
   moved_more s least = by (s == q) refl
     where
       by : (b : Bool) → (s == q) ≡ b → IsMovedBy more old new s
-      by true same = subst (IsMovedBy more old new) (sym (eqb-true s q same)) (inr (same_mine.1, (some_more, mine_new)))
+      by true same = subst (IsMovedBy more old new) (sym (eqb-true s q same)) (inr (same_mine.1, some_more, mine_new))
       by false same =
           let kept = one.adds.others s least same in
           ⊎_elim
           (λ stays. inl (kept ∙ stays))
-          (λ moved. inr (moved.0, (some_more, kept ∙ moved.2)))
+          (λ moved. inr (moved.0, some_more, kept ∙ moved.2))
           (going.adds.moved s least)
 
   answer_to : IsAnswerTo moment old one.adds.entry

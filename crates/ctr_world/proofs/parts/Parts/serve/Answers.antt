@@ -26,7 +26,7 @@ returns-in-Answer-clause-says g c =
     (λ same. absurd (none_asking c.numbers_are_own.ensures c.legal_states_are_sound.ensures w.steps w.log.buffered (d.moment_of w.disk) c.args.s (c.requires.kept.walking c.requires.going)
     (subst (λ (h : Steps). AreAnswered h) same done.1.all) mine.0.one mine.1))
     (λ less. less) done.2 in
-    subst (λ r. EndsTurn d r (who.Session c.args.s) w v) (sym went) (done.0, (mine.0, inl (mine.1, (done.1, unasked done))), less, c.requires.going))
+    subst (λ r. EndsTurn d r (who.Session c.args.s) w v) (sym went) (done.0, (mine.0, inl (mine.1, done.1, unasked done)), less, c.requires.going))
     (λ stopped.
     let done = f.stopped stopped in
     subst (λ r. EndsTurn d r (who.Session c.args.s) w v) (sym stopped) (done.0, done.1, λ bad. absurd (bad c.requires.going)))

@@ -1,4 +1,5 @@
 use Rattle.std.proofs.Common.{sym, subst, ap, ◌∙◌}
+use Rattle.ctr_world.specs.Turns.{IsOver}
 use Rattle.ctr_world.specs.World.{Ends}
 use Rattle.ctr_world.specs.declared.parts.Parts.{Parts}
 use Rattle.ctr_world.proofs.OpenLemmas.{ended}
@@ -13,4 +14,7 @@ returns-clause-ends g c = λ base told stands.
     (ended d g.met.D.Disk.only_now c.states_grow.ensures c.legal_states_are_sound.ensures b w c.run.ensures.kept c.run.ensures.none base told stands)
 
 pub returns-clause-over : goal.returns-clause-over
-returns-clause-over g c = λ over. c.from_vec.ensures ∙ ap (λ (w : Parts g.row.D.Denot). w.steps.tape.items) (c.run.ensures.over over)
+returns-clause-over g c = λ over.
+    c.from_vec.ensures
+    ∙ ap (λ (w : Parts g.row.D.Denot). w.steps.tape.items) (c.run.ensures.over (subst IsOver (sym c.self.view_is) over))
+    ∙ ap (λ (w : Parts g.row.D.Denot). w.steps.tape.items) c.self.view_is

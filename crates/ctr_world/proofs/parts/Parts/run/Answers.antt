@@ -1,0 +1,14 @@
+use Rattle.std.proofs.Common.{sym, ◌∙◌, subst}
+use Rattle.ctr_world.specs.Turns.{IsOver}
+use Rattle.ctr_world.proofs.KeptLemmas.{more_more}
+use Rattle.ctr_world.proofs.parts.Parts.run.Goals as goal
+
+pub returns : goal.returns
+returns g c = record {
+  kept = c.step_first.ensures.kept;
+  adds = more_more c.args.self.now.steps c.loop.self.steps c.step_first.new.self.steps c.loop.invariant.1 c.step_first.ensures.adds;
+  none = c.step_first.ensures.none c.in_default.not-Went;
+  over = λ over.
+      let same = c.loop.invariant.2 over in
+      (c.step_first.ensures.over (subst IsOver (sym same) over)).1 ∙ same;
+}
