@@ -1,5 +1,4 @@
+mod WordLemmas
 mod RunLemmas
 mod ScriptLemmas
 mod CompleteLemmas
-mod SerialLemmas
-mod SerialTurns

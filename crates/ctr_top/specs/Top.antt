@@ -1,5 +1,5 @@
 -- What a command promises: what a crash leaves, the tape, the text, and the cause of each ending.
-use Rattle.std.specs.Prelude.{◌≡◌, ◌≢◌, ◌⊎◌, ◌≤◌, ◌<◌, ℕ, ◌+◌, ◌^◌, pos, Bool, true, false, IsTrue, IsSome, List, [], ◌++◌, length, Option, None, Some}
+use Rattle.std.specs.Prelude.{◌≡◌, ◌≢◌, ◌⊎◌, ◌≤◌, ◌<◌, ℕ, ◌+◌, ◌^◌, pos, Bool, true, false, IsTrue, IsSome, List, [], ◌++◌, length, None}
 use Rattle.ctr_types.specs.declared.statement.Line.{Line}
 use Rattle.ctr_types.specs.declared.tape.Entry.{Entry}
 use Rattle.ctr_disk.specs.declared.disk.Image.{Image}
@@ -9,7 +9,6 @@ use Rattle.ctr_io.specs.declared.edges.Sink.{Ghosts as Sink}
 use Rattle.ctr_types.specs.Faults.{CountsFault}
 use Rattle.ctr_disk.specs.Device.{LeavesOnly, OnlyReads}
 use Rattle.ctr_model.specs.declared.tape.Command.{Command}
-use Rattle.ctr_model.specs.declared.tape.Command.TheVariants as command
 use Rattle.ctr_model.specs.declared.tape.Report.{Report}
 use Rattle.ctr_model.specs.Database.{Database}
 use Rattle.ctr_model.specs.Grammar.{most_bytes}
@@ -193,17 +192,6 @@ pub record RunCauses {D S : Type 0} (g : Ghosts D) (old : D) (s : Source S)
   pub by_source : SourceWhy s source source_new o.ending
   pub by_script : IsTrue s.tells → IsByScript (s.left source) o.ending
 
--- ---- the words
-
--- Words that are no command end as Usage, unless memory is refused; then, and nowhere else, and then
--- neither disk nor source is touched. Only a run reads the source.
-pub record IsByWords {D S : Type 0} (asked : Option Command) (old : D) (source source_new : S)
-    (e : Ended D) : Type 0 where
-  pub usage : e.ending ≡ ending.Usage → asked ≡ None
-  pub refused : asked ≡ None → (e.ending ≡ ending.Usage) ⊎ (e.ending ≡ ending.OutOfMemory)
-  pub untouched : asked ≡ None → (e.disk ≡ old) × (e.tape.entries ≡ [])
-  pub unread : (asked ≡ Some command.Run → ⊥) → source_new ≡ source
-
 -- ---- init
 
 -- it stands for a database without tables
@@ -226,7 +214,7 @@ MakeWhy g old new (ending.Damaged file at want got) = ⊥
 MakeWhy g old new ending.DiskFault = CountsFault (g.faults_of old) (g.faults_of new)
 MakeWhy g old new ending.ReadFault = ⊥
 MakeWhy g old new ending.WriteFault = ⊥
-MakeWhy g old new ending.OutOfMemory = Unit {0}
+MakeWhy g old new ending.OutOfMemory = ⊥
 MakeWhy g old new ending.Exists = IsTrue g.tells → root_value (g.reads old).root ≢ None
 MakeWhy g old new (ending.Worn number) = ⊥
 

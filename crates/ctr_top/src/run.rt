@@ -5,17 +5,14 @@ ghost use Rattle.ctr_types.specs.declared.statement.Line.{Line};
 ghost use Rattle.ctr_model.specs.declared.tape.Command.{Command};
 ghost use Rattle.ctr_model.specs.declared.tape.Command.TheVariants.{Init, Run};
 ghost use Rattle.ctr_model.specs.Database.{Database};
-ghost use Rattle.ctr_model.specs.Language.{SpellsLine};
-ghost use Rattle.ctr_model.specs.Lines.{IsWritten};
-ghost use Rattle.ctr_model.specs.Tape.{IsSerial};
 ghost use Rattle.ctr_model.specs.Texts.{transcript, last_line};
 ghost use Rattle.ctr_script.specs.Written.{IsShortText};
 ghost use Rattle.ctr_thin.specs.Thin.{StandsFor};
 ghost use Rattle.ctr_world.specs.World.{CanOpen};
 ghost use Rattle.ctr_top.specs.declared.ending.Ending.TheVariants.{Finished, Usage, WriteFault, OutOfMemory};
 ghost use Rattle.ctr_top.specs.Endings.{status_of, cause_of, work};
-ghost use Rattle.ctr_top.specs.Words.{IsCommand, asked_by};
-ghost use Rattle.ctr_top.specs.Top.{IsByWords, RanScript, RunCauses, RunLeaves, Makes, GoesForward, PutsText, NoneFailed, IsReported, printed_text, work_of, report_of, faults_of};
+ghost use Rattle.ctr_top.specs.Words.{IsCommand};
+ghost use Rattle.ctr_top.specs.Top.{RanScript, RunCauses, RunLeaves, Makes, GoesForward, PutsText, NoneFailed, IsReported, printed_text, work_of, report_of, faults_of};
 
 use crate::ending::Ending;
 use crate::making::make;
@@ -90,20 +87,19 @@ pub fn run_serial<D: Disk, S: Source, K: Sink>(
     sink: &mut K,
 ) -> Ended<D>
     // The text of the tape and the ending was put, or a prefix of it where the sink failed.
-    ensures printed { (command : Command) → IsCommand (map string_bytes words.now) command ⊎ (asked_by (map string_bytes words.now) ≡ None)
+    ensures printed { (command : Command) → (IsCommand (map string_bytes words.now) command) ⊎ (result.ending ≡ Usage)
         → PutsText K.Sink sink.old (printed_text command result) sink.new result.ending }
     ensures tape { IsReported result.tape.entries result.report }
-    // Usage comes exactly for words that are no command, unless memory is refused, and nothing else is touched then.
-    ensures words { IsByWords (asked_by (map string_bytes words.now)) disk source.old source.new result }
+    // Usage comes exactly for words that are no command, and nothing else is touched then.
+    ensures usage { (result.ending ≡ Usage) ↔ ((command : Command) → IsCommand (map string_bytes words.now) command → ⊥) }
+    ensures usage_touches { result.ending ≡ Usage → (result.disk ≡ disk) × (result.tape.entries ≡ []) }
+    ensures only_run_reads { (IsCommand (map string_bytes words.now) Run → ⊥) → source.new ≡ source.old }
     // A run's tape is legal over the database that the disk holds, and a crash at any moment from the
     // call's start to its end leaves a prefix of the commit order with every commit answered by then.
     ensures ran { IsCommand (map string_bytes words.now) Run → (base : Database) → IsTrue D.tells → StandsFor (D.reads disk) base
         → RanScript D.Disk disk base S.Source source.old (work_of result) }
     ensures run_causes { IsCommand (map string_bytes words.now) Run → RunCauses D.Disk disk S.Source source.old source.new (work_of result) }
     ensures run_leaves { IsCommand (map string_bytes words.now) Run → RunLeaves D.Disk disk (work_of result) }
-    // The statements stand on the tape in the order of the script's lines, each one's entries together.
-    ensures serial { IsCommand (map string_bytes words.now) Run → IsTrue S.tells → (lines : List Line) → IsWritten SpellsLine (S.left source.old) lines
-        → IsSerial lines result.tape.entries }
     // Where nothing fails a script runs to its end, or memory was refused before its first entry.
     ensures complete { IsCommand (map string_bytes words.now) Run → IsTrue D.tells → IsTrue S.tells
         → (lines : List Line) → IsShortText (S.left source.old) lines → CanOpen (D.reads disk)
@@ -116,16 +112,9 @@ pub fn run_serial<D: Disk, S: Source, K: Sink>(
     ensures forward { GoesForward D.Disk S.Source disk result.disk source.old source.new }
 {
     one_script();
-    let command = match command(alloc, words) {
-        Ok(Some(command)) => command,
-        Ok(None) => {
-            let outcome = Outcome::without_tape(alloc, Ending::Usage, disk);
-            return ending(sink, &Command::Run, outcome);
-        }
-        Err(_) => {
-            let outcome = Outcome::without_tape(alloc, Ending::OutOfMemory, disk);
-            return ending(sink, &Command::Run, outcome);
-        }
+    let Some(command) = command(words) else {
+        let outcome = Outcome::without_tape(alloc, Ending::Usage, disk);
+        return ending(sink, &Command::Run, outcome);
     };
     if let Command::Init = command {
         let outcome = make(alloc, disk);
