@@ -7,9 +7,9 @@ use crate::run::play;
 use crate::setup::{Ask, Ran, plain_run};
 use ctr_disk::Image;
 use ctr_io::MemSource;
-use ctr_script::read_script;
 use ctr_machine::is_legal;
 use ctr_model::{Map, Point, State, Table};
+use ctr_script::read_script;
 use ctr_types::{Entry, Line, List, Name, OutOfMemory, Plain, Reply, Script, Text};
 use std::alloc::Global;
 

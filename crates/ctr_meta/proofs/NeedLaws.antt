@@ -4,7 +4,6 @@ use Rattle.std.specs.Prelude.{unwrap_or}
 use Rattle.std.proofs.lemmas.Bool.{lt-ltb}
 use Rattle.std.proofs.lemmas.Bool.Decides.{eqb_tells}
 use Rattle.ctr_bytes.specs.Following.{◌>>=◌}
-
 use Rattle.ctr_records.specs.Spelling.{checkpoint_bytes}
 use Rattle.ctr_records.specs.Checkpoint.{each, items_in, items_at, end_at, kinds_in, end_check, kind_check, item_check, list_checks, checkpoint_checks}
 use Rattle.ctr_records.specs.Damage.{expect}

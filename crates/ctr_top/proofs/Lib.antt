@@ -2,3 +2,5 @@ mod WordLemmas
 mod RunLemmas
 mod ScriptLemmas
 mod CompleteLemmas
+mod SerialLemmas
+mod SerialTurns

@@ -1,3 +1,4 @@
 pub mod Words
 pub mod Endings
 pub mod Top
+pub mod Serial

@@ -5,6 +5,9 @@ ghost use Rattle.ctr_types.specs.declared.statement.Line.{Line};
 ghost use Rattle.ctr_model.specs.declared.tape.Command.{Command};
 ghost use Rattle.ctr_model.specs.declared.tape.Command.TheVariants.{Init, Run};
 ghost use Rattle.ctr_model.specs.Database.{Database};
+ghost use Rattle.ctr_model.specs.Language.{SpellsLine};
+ghost use Rattle.ctr_model.specs.Lines.{IsWritten};
+ghost use Rattle.ctr_model.specs.Tape.{IsSerial};
 ghost use Rattle.ctr_model.specs.Texts.{transcript, last_line};
 ghost use Rattle.ctr_script.specs.Written.{IsShortText};
 ghost use Rattle.ctr_thin.specs.Thin.{StandsFor};
@@ -21,9 +24,9 @@ use crate::script::{Schedule, run_script};
 use crate::words::command;
 use ctr_disk::Disk;
 use ctr_io::{Sink, Source};
-use ctr_script::one_script;
 use ctr_model::{Command, Report};
 use ctr_print::{count_answers, count_refusals, put_run};
+use ctr_script::one_script;
 use ctr_types::Tape;
 use std::alloc::Global;
 
@@ -91,8 +94,8 @@ pub fn run_serial<D: Disk, S: Source, K: Sink>(
         → PutsText K.Sink sink.old (printed_text command result) sink.new result.ending }
     ensures tape { IsReported result.tape.entries result.report }
     // Usage comes exactly for words that are no command, and nothing else is touched then.
-    ensures usage { (result.ending ≡ Usage) ↔ ((command : Command) → IsCommand (map string_bytes words.now) command → ⊥) }
-    ensures usage_touches { result.ending ≡ Usage → (result.disk ≡ disk) × (result.tape.entries ≡ []) }
+    ensures usage { ((result.ending ≡ Usage) ↔ ((command : Command) → IsCommand (map string_bytes words.now) command → ⊥))
+        × (result.ending ≡ Usage → (result.disk ≡ disk) × (result.tape.entries ≡ [])) }
     ensures only_run_reads { (IsCommand (map string_bytes words.now) Run → ⊥) → source.new ≡ source.old }
     // A run's tape is legal over the database that the disk holds, and a crash at any moment from the
     // call's start to its end leaves a prefix of the commit order with every commit answered by then.
@@ -100,6 +103,9 @@ pub fn run_serial<D: Disk, S: Source, K: Sink>(
         → RanScript D.Disk disk base S.Source source.old (work_of result) }
     ensures run_causes { IsCommand (map string_bytes words.now) Run → RunCauses D.Disk disk S.Source source.old source.new (work_of result) }
     ensures run_leaves { IsCommand (map string_bytes words.now) Run → RunLeaves D.Disk disk (work_of result) }
+    // The statements stand on the tape in the order of the script's lines, each one's entries together.
+    ensures serial { IsCommand (map string_bytes words.now) Run → IsTrue S.tells → (lines : List Line) → IsWritten SpellsLine (S.left source.old) lines
+        → IsSerial lines result.tape.entries }
     // Where nothing fails a script runs to its end, or memory was refused before its first entry.
     ensures complete { IsCommand (map string_bytes words.now) Run → IsTrue D.tells → IsTrue S.tells
         → (lines : List Line) → IsShortText (S.left source.old) lines → CanOpen (D.reads disk)

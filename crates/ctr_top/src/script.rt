@@ -1,10 +1,19 @@
 // Runs a script over a database.
-ghost use Rattle.std.specs.Prelude.{◌≤◌, IsTrue};
+ghost use Rattle.std.specs.Prelude.{◌≡◌, ◌≤◌, ◌+◌, ◌++◌, ◌∷◌, [], ℕ, List, length, slice_get, Some, None, IsTrue};
+ghost use Rattle.std.specs.List.{AllByRecursion};
+ghost use Rattle.ctr_types.specs.declared.statement.Line.{Line as HeldLine};
+ghost use Rattle.ctr_types.specs.declared.tape.Entry.{Entry as HeldEntry};
+ghost use Rattle.ctr_model.specs.Language.{SpellsLine};
+ghost use Rattle.ctr_model.specs.Lines.{IsWritten};
+ghost use Rattle.ctr_model.specs.Tape.{IsSerial};
+ghost use Rattle.ctr_steps.specs.Acting.{has_more as more_of};
+ghost use Rattle.ctr_top.specs.declared.script.Schedule.TheVariants.{Serial};
+ghost use Rattle.ctr_top.specs.Serial.{RanLines, RanOrStopped};
 ghost use Rattle.ctr_disk.specs.Crash.{Within};
 ghost use Rattle.ctr_model.specs.Database.{Database};
 ghost use Rattle.ctr_thin.specs.Thin.{StandsFor};
 ghost use Rattle.ctr_world.specs.Turns.{NoneFull};
-ghost use Rattle.ctr_world.specs.World.{IsOpenedOn, CanRun};
+ghost use Rattle.ctr_world.specs.World.{IsOpenedOn, IsRunLine, CanRun};
 ghost use Rattle.ctr_top.specs.Top.{Ran, RanScript, RunCauses, LinesCauses, RunLeaves, GoesForward};
 
 use crate::ending::{not_opened, not_read, stopped};
@@ -12,7 +21,7 @@ use crate::outcome::Outcome;
 use ctr_disk::Disk;
 use ctr_io::Source;
 use ctr_script::read_script;
-use ctr_types::{Actor, Script, Turn};
+use ctr_types::{Act, Actor, Entry, Reply, Script, Turn};
 use ctr_world::{Opening, World};
 use std::alloc::Global;
 use std::marker::Brand;
@@ -27,20 +36,57 @@ pub enum Schedule<'a> {
     Turns(&'a [Actor]),
 }
 
-// Turns of a session until its statement is finished, and then one each of undo, flusher and cleaner.
-fn run_line<D: Disk, B: Opening>(alloc: Global, world: &mut World<D, B>, session: u8) {
-    while let Turn::Went = world.step(alloc, Actor::Session(session)) {
-        if world.is_between(session) {
-            break;
+// Whether another act of the statement comes behind an entry.
+fn has_more(entry: &Entry) -> bool
+    ensures { result ≡ more_of entry.now.act entry.now.reply }
+{
+    match &entry.act {
+        Act::Lock => matches!(&entry.reply, Reply::Granted),
+        Act::Ask => matches!(&entry.reply, Reply::Asked { .. }),
+        Act::Begin | Act::Read | Act::Write | Act::Answer | Act::Rollback | Act::Release { .. } => {
+            false
         }
     }
+}
+
+// The same of the last entry of a tape.
+fn goes_on(tape: &[Entry]) -> bool
+    ensures { (front : List HeldEntry) (e : HeldEntry) → tape.now ≡ front ++ e ∷ [] → result ≡ more_of e.act e.reply }
+{
+    match tape.split_last() {
+        Some((entry, _)) => has_more(entry),
+        None => false,
+    }
+}
+
+// Turns of a session until its statement is finished, or the World stops.
+fn run_statement<D: Disk, B: Opening>(alloc: Global, world: &mut World<D, B>, session: u8)
+    ensures { (lines : List HeldLine) (k : ℕ) (l : HeldLine) → slice_get lines k ≡ Some l → l.session ≡ session → IsRunLine l
+        → RanOrStopped lines k world.old → RanOrStopped lines (k + 1) world.new }
+{
+    while let Turn::Went = world.step(alloc, Actor::Session(session)) {
+        if !goes_on(world.tape()) {
+            return;
+        }
+    }
+}
+
+// Turns of a line's session until its statement is finished, and then one each of undo, flusher and cleaner.
+fn run_line<D: Disk, B: Opening>(alloc: Global, world: &mut World<D, B>, session: u8)
+    ensures { (lines : List HeldLine) (k : ℕ) (l : HeldLine) → slice_get lines k ≡ Some l → l.session ≡ session → IsRunLine l
+        → RanOrStopped lines k world.old → RanOrStopped lines (k + 1) world.new }
+{
+    run_statement(alloc, world, session);
     let _ = world.step(alloc, Actor::Undo);
     let _ = world.step(alloc, Actor::Flusher);
     let _ = world.step(alloc, Actor::Cleaner);
 }
 
 // The script's lines in order.
-fn run_lines<D: Disk, B: Opening>(alloc: Global, world: &mut World<D, B>) {
+fn run_lines<D: Disk, B: Opening>(alloc: Global, world: &mut World<D, B>)
+    ensures { (lines : List HeldLine) → AllByRecursion IsRunLine lines → world.old.stop ≡ None → RanLines lines 0 world.old.steps
+        → RanOrStopped lines (length lines) world.new }
+{
     for line in 0..world.lines() {
         if let Some(session) = world.session_of(line) {
             run_line(alloc, world, session);
@@ -56,7 +102,10 @@ fn run_actors<D: Disk, B: Opening>(alloc: Global, world: &mut World<D, B>, actor
 }
 
 // The turns of a schedule.
-fn run_turns<D: Disk, B: Opening>(alloc: Global, world: &mut World<D, B>, schedule: Schedule<'_>) {
+fn run_turns<D: Disk, B: Opening>(alloc: Global, world: &mut World<D, B>, schedule: Schedule<'_>)
+    ensures { schedule.entry ≡ Serial → (lines : List HeldLine) → AllByRecursion IsRunLine lines → world.old.stop ≡ None
+        → RanLines lines 0 world.old.steps → RanOrStopped lines (length lines) world.new }
+{
     match schedule {
         Schedule::Serial => run_lines(alloc, world),
         Schedule::Turns(actors) => run_actors(alloc, world, actors),
@@ -77,6 +126,7 @@ fn run_opened<D: Disk, B: Opening>(
     ensures causes { LinesCauses D.Disk disk result }
     ensures leaves { RunLeaves D.Disk disk result }
     ensures not_full { NoneFull result.tape.entries }
+    ensures serial { schedule.entry ≡ Serial → IsSerial script.lines result.tape.entries }
     ensures faults { D.faults_of disk ≤ D.faults_of result.disk }
     ensures later { D.moment_of disk ≤ D.moment_of result.disk }
 {
@@ -107,6 +157,9 @@ pub fn run_script<D: Disk, S: Source>(
     ensures causes { RunCauses D.Disk disk S.Source source.old source.new result }
     ensures leaves { RunLeaves D.Disk disk result }
     ensures not_full { NoneFull result.tape.entries }
+    // In the serial order the statements stand on the tape in the order of the script's lines.
+    ensures serial { schedule.entry ≡ Serial → IsTrue S.tells → (lines : List HeldLine) → IsWritten SpellsLine (S.left source.old) lines
+        → IsSerial lines result.tape.entries }
     ensures forward { GoesForward D.Disk S.Source disk result.disk source.old source.new }
 {
     match read_script(alloc, source) {

@@ -1,3 +1,5 @@
+use Rattle.ctr_model.specs.Tape.{IsSerial}
+use Rattle.std.proofs.Common.{refl}
 use Rattle.std.proofs.Common.{◌≢◌, ◌≡◌, ◌∙◌, ⊎_elim, inl, inr, sym, ap, subst}
 use Rattle.ctr_types.specs.Faults.{CountsFault}
 use Rattle.ctr_model.specs.declared.tape.Command.TheVariants.{Init, Run}
@@ -52,3 +54,10 @@ returns-clause-calm g c = λ is.
     let disk = ap (λ o. d.faults_of o.disk) e.ensures.outcome ∙ from_disk.1 in
     let sink = e.ensures.printed.put.calm (e.ensures.printed.fine is) in
     λ i. record { disk = disk i; source = from_source i; sink = sink i }
+
+pub returns-in_default-clause-serial : goal.returns-in_default-clause-serial
+returns-in_default-clause-serial g c = λ is. absurd (c.in_default.ensures.none Run is)
+
+pub returns-clause-serial : goal.returns-clause-serial
+returns-clause-serial g c = λ is told lines written.
+    subst (IsSerial lines) (sym (ap (λ o. o.tape.entries) c.ending-2.ensures.outcome)) (c.run_script-outcome.ensures.serial refl told lines written)

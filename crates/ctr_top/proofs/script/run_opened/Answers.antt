@@ -1,3 +1,7 @@
+use Rattle.ctr_model.specs.Tape.{statements_on, IsSerial}
+use Rattle.ctr_top.proofs.SerialLemmas.{serial_front}
+use Rattle.ctr_top.proofs.SerialTurns.{ran_none as ran_no_line, over_at_end}
+use Rattle.std.proofs.Common.{ap}
 use Rattle.std.proofs.Common.{◌∙◌, ⊎_elim, sym, subst}
 use Rattle.ctr_disk.specs.Device.{OnlyReads}
 use Rattle.ctr_types.specs.Faults.{CountsFault}
@@ -53,3 +57,13 @@ returns-clause-leaves g c =
           let ends = f.ensures.ends can.0 told (subst (λ i. StandsFor i can.0) (sym named.image) can.1.0) in
           subst (λ n. StraysOnlyLong d n f.result.disk) named.strays ends.stray;
     }
+
+pub returns-in-Err-clause-serial : goal.returns-in-Err-clause-serial
+returns-in-Err-clause-serial g c = λ is. serial_front c.args.script.lines 0 c.without_tape.result.tape.entries (ap statements_on c.without_tape.ensures.tape)
+
+pub returns-clause-serial : goal.returns-clause-serial
+returns-clause-serial g c = λ is.
+    let lines = c.args.script.lines in
+    let begins = c.in-Ok.ensures.begins in
+    let end = over_at_end lines c.run_turns.new.world (c.run_turns.ensures is lines c.requires.runs.each begins.1 (ran_no_line lines _ begins.0)) in
+    subst (IsSerial lines) (sym (c.finish-finished.ensures.over end.0)) end.1

@@ -1,3 +1,5 @@
+use Rattle.ctr_model.specs.Tape.{statements_on, IsSerial}
+use Rattle.ctr_top.proofs.SerialLemmas.{serial_front}
 use Rattle.std.proofs.Common.{◌≡◌, ◌≢◌, ◌∙◌, inl, inr, [], refl, sym, subst, ap, arith}
 use Rattle.ctr_disk.specs.Device.{OnlyReads}
 use Rattle.ctr_top.specs.declared.ending.Ending.TheVariants as ending
@@ -58,3 +60,12 @@ returns-in-Err-clause-leaves g c =
       nothing = λ is. record { tape = t.tape; left = subst (OnlyReads d c.args.disk) (sym t.disk) (only_reads_same d c.args.disk (g.met.D.Disk.only_now c.args.disk)); stray = stray };
       stray = λ told. inl stray;
     }
+
+pub returns-in-Ok-clause-serial : goal.returns-in-Ok-clause-serial
+returns-in-Ok-clause-serial g c = λ is told lines written.
+    let r = c.in-Ok.ensures in
+    let same = (r.only told).script lines (record { written = written; few = (r.read told).few }) in
+    subst (λ ls. IsSerial ls c.run_opened.result.tape.entries) same (c.run_opened.ensures.serial is)
+
+pub returns-in-Err-clause-serial : goal.returns-in-Err-clause-serial
+returns-in-Err-clause-serial g c = λ is told lines written. serial_front lines 0 c.without_tape.result.tape.entries (ap statements_on c.without_tape.ensures.tape)
