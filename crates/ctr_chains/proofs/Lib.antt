@@ -3,3 +3,4 @@ pub mod Slots
 pub mod Tables
 pub mod Named
 pub mod Seen
+pub mod Counting

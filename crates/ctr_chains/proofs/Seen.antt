@@ -1,5 +1,6 @@
 -- What a listing has, chain by chain.
-use Rattle.std.proofs.Common.{◌≡◌, ℕ, Bool, List, [], ◌∷◌, ◌++◌, map, Some, None, refl, ap}
+use Rattle.std.proofs.Common.{◌≡◌, ℕ, ◌≤◌, Bool, List, [], ◌∷◌, ◌++◌, length, map, Some, None, refl, sym, ◌∙◌, ap, arith}
+use Rattle.std.proofs.lemmas.List.{length-map}
 use Rattle.std.specs.Option.{option_map_or}
 use Rattle.ctr_versions.specs.Chains.{value_seen}
 use Rattle.ctr_versions.specs.Listing.{entries_seen}
@@ -16,3 +17,14 @@ listed sees (e ∷ es) = elim (value_seen sees e.1.chain) as (λ o. map (λ e. e
   | Some v ↦ ap (λ vs. v ∷ vs) (listed sees es)
   | None ↦ listed sees es
 ]
+
+-- how many of them there are is not more than there are chains
+pub few_seen : {V : Type 0} (sees : ℕ → Bool) (ks : List (KeptChain V)) → length (values_seen sees ks) ≤ length ks
+few_seen sees [] = omega arith
+few_seen sees (k ∷ ks) = elim (value_seen sees k.chain) as (λ o. length (value_list o ++ values_seen sees ks) ≤ length (k ∷ ks)) [
+  | Some v ↦ omega (arith, few_seen sees ks)
+  | None ↦ omega (arith, few_seen sees ks)
+]
+
+pub counted : {K V : Type 0} (sees : ℕ → Bool) (es : List (K × KeptChain V)) → length (entries_seen sees (chains_of es)) ≡ length (values_seen sees (map (λ e. e.1) es))
+counted sees es = sym (length-map (entries_seen sees (chains_of es)) (λ e. e.1)) ∙ ap (λ vs. length vs) (listed sees es)

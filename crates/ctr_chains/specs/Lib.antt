@@ -1,3 +1,4 @@
+pub mod Counting
 pub mod Kept
 pub mod Numbered
 pub mod Stored

@@ -1,12 +1,13 @@
 // Chains by key.
-ghost use Rattle.std.specs.Prelude.{◌≡◌, [], ◌++◌, map, IfOk, OnOk, option_copied};
+ghost use Rattle.std.specs.Map.Iter.{ShowsInOrder, deref};
+ghost use Rattle.std.specs.Prelude.{◌≡◌, [], ◌++◌, map, length, IfOk, OnOk, option_copied};
 ghost use Rattle.ctr_versions.specs.Chains.{value_seen, newest};
 ghost use Rattle.ctr_versions.specs.Changes.{write, revert, cut, without_tombstone};
 ghost use Rattle.ctr_versions.specs.Heads.{open_head};
 ghost use Rattle.ctr_versions.specs.Listing.{chain_at, entries_seen};
 ghost use Rattle.ctr_versions.specs.Xids.{number_of, below_mark};
 ghost use Rattle.ctr_versions.specs.Engine.{session_sees};
-ghost use Rattle.ctr_chains.specs.Kept.{chains_of, value_list, HasRoomFor, KeysStay, ChainSet};
+ghost use Rattle.ctr_chains.specs.Kept.{KeptChain, chains_of, value_list, HasRoomFor, KeysStay, ChainSet};
 
 use crate::chain::Chain;
 use crate::session::Session;
@@ -14,6 +15,7 @@ use crate::transactions::Transactions;
 use ctr_types::{List, OutOfMemory, Plain, Xid};
 use std::alloc::Global;
 use std::collections::BTreeMap;
+use std::collections::btree_map::Values;
 use std::marker::Model;
 
 /// Chains by key, in the order of the keys. A look-up takes time that grows with the logarithm of their
@@ -91,6 +93,27 @@ impl<K: Ord, V> Chains<K, V> {
             push_seen(alloc, &mut values, chain, xids, session)?;
         }
         Ok(values)
+    }
+
+    /// How many keys have a value that the session sees.
+    pub fn count(&self, xids: &Transactions, session: &Session) -> u64
+        ensures { result ≡ length (entries_seen (session_sees xids.now session.now) (chains_of self.now)) }
+    {
+        let mut count = 0;
+        for chain in self.chains.values() {
+            if chain.seen(xids, session).is_some() {
+                count += 1;
+            }
+        }
+        count
+    }
+
+    /// The chains, in the order of their keys.
+    pub fn chains(&self) -> Values<'_, K, Chain<V>>
+        ensures chains { result ≡ map (λ e. e.1) self.now }
+        ensures in_order { ShowsInOrder (deref {X = KeptChain V}) }
+    {
+        self.chains.values()
     }
 
     /// The number of the newest committed version of a key.

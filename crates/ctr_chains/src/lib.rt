@@ -10,5 +10,5 @@ mod transactions;
 pub use chain::{Chain, Version};
 pub use chains::Chains;
 pub use session::Session;
-pub use store::{Made, Store};
+pub use store::{Counts, Made, Store};
 pub use transactions::Transactions;

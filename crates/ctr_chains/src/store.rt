@@ -1,13 +1,14 @@
 // Tables by name and rows by table and key, each with its chain.
-ghost use Rattle.std.specs.Prelude.{◌≡◌, ◌+◌, ◌-◌, ◌<◌, ◌^◌, [], Some, None, IfSome, IfOk, OnOk, map, option_copied};
+ghost use Rattle.std.specs.Prelude.{◌≡◌, ◌+◌, ◌-◌, ◌<◌, ◌^◌, [], Some, None, IfSome, IfOk, OnOk, map, length, option_copied};
 ghost use Rattle.ctr_model.specs.State.{same_name};
 ghost use Rattle.ctr_versions.specs.Chains.{value_seen, newest};
 ghost use Rattle.ctr_versions.specs.Changes.{write, revert, cut, without_tombstone};
 ghost use Rattle.ctr_versions.specs.Heads.{open_head};
 ghost use Rattle.ctr_versions.specs.Listing.{entries_seen};
 ghost use Rattle.ctr_versions.specs.Xids.{number_of, below_mark};
-ghost use Rattle.ctr_versions.specs.Versions.{names_at, slots_of, rows_of, RowsSet, NamesSet, IsUnmadeTable, is_slot};
+ghost use Rattle.ctr_versions.specs.Versions.{names_at, slots_of, rows_of, database_seen, RowsSet, NamesSet, IsUnmadeTable, is_slot};
 ghost use Rattle.ctr_versions.specs.Engine.{session_sees};
+ghost use Rattle.ctr_chains.specs.Counting.{row_count, counted_to_end};
 ghost use Rattle.ctr_chains.specs.Stored.{versions_of, HasVersionRoom, HasNameRoom, RoomsStay, no_row, no_name};
 
 use crate::chains::Chains;
@@ -32,6 +33,13 @@ impl Model for Made {
     ghost Value = { versions.Made };
 
     ghost view = { λ m. record { id = m.id; schema = m.schema } };
+}
+
+/// How many tables there are, and how many rows in all of them.
+#[derive(Clone, Copy, Debug, PartialEq, Eq)]
+pub struct Counts {
+    pub tables: u64,
+    pub rows: u64,
 }
 
 /// The versions of a database. A look-up takes time that grows with the logarithm of its size.
@@ -109,6 +117,34 @@ impl Store {
         match self.tables.get(&id) {
             Some(rows) => rows.listing(alloc, xids, session),
             None => Ok(List::new(alloc)),
+        }
+    }
+
+    /// How many rows of a table the session sees.
+    pub fn count_rows(&self, id: u64, xids: &Transactions, session: &Session) -> u64
+        ensures { result ≡ length (entries_seen (session_sees xids.now session.now) (slots_of (versions_of self.now) id)) }
+    {
+        match self.tables.get(&id) {
+            Some(rows) => rows.count(xids, session),
+            None => 0,
+        }
+    }
+
+    /// How many tables the session sees, and how many rows in all of them. Of more than `u64::MAX` rows so
+    /// many are told.
+    pub fn counts(&self, xids: &Transactions, session: &Session) -> Counts
+        ensures tables { result.tables ≡ length (database_seen (session_sees xids.now session.now) (versions_of self.now)) }
+        ensures rows { result.rows ≡ counted_to_end (row_count (database_seen (session_sees xids.now session.now) (versions_of self.now))) }
+    {
+        let mut rows = 0u64;
+        for chain in self.names.chains() {
+            if let Some(made) = chain.seen(xids, session) {
+                rows = rows.saturating_add(self.count_rows(made.id, xids, session));
+            }
+        }
+        Counts {
+            tables: self.names.count(xids, session),
+            rows,
         }
     }
 

@@ -11,7 +11,7 @@ use Rattle.ctr_versions.specs.Chains.{value_seen}
 use Rattle.ctr_versions.specs.Changes.{write}
 use Rattle.ctr_versions.specs.Keys.{row_written, schema_named}
 use Rattle.ctr_versions.specs.Xids.{Xids, number_of, settled}
-use Rattle.ctr_versions.specs.Versions.{Made, Versions, names_at, rows_of, name_written, RowsSet, NamesSet, IsUnmadeTable}
+use Rattle.ctr_versions.specs.Versions.{Made, Versions, names_at, rows_of, database_seen, name_written, RowsSet, NamesSet, IsUnmadeTable}
 use Rattle.ctr_versions.specs.Engine.{session_sees, ShowsState}
 use Rattle.ctr_versions.specs.Loading.{loader, loading_xids, opened_xids, is_loader}
 use Rattle.ctr_versions.proofs.Changes.{write_seen}
@@ -37,6 +37,10 @@ module _ (a : Inside) (inv : IsLoading a) where
   -- the session sees what was loaded
   pub sees_loaded : {V : Type 0} (chain : List (ℕ × Option V)) → value_seen (session_sees a.xids a.session) chain ≡ value_seen is_loader chain
   sees_loaded chain = (λ i. value_seen (session_sees (inv.xids i) (inv.session i)) chain) ∙ (λ i. value_seen (λ x. loader_sees x i) chain)
+
+  -- so it sees the database that was loaded
+  pub shown_loaded : database_seen (session_sees a.xids a.session) old ≡ loaded_database a
+  shown_loaded = (λ i. database_seen (session_sees (inv.xids i) (inv.session i)) old) ∙ (λ i. database_seen (λ x. loader_sees x i) old)
 
   pub schema_found : (name : List ℕ) → option_map (λ (m : Made). m.schema) (value_seen (session_sees a.xids a.session) (names_at old name)) ≡ schema_named (loaded_database a) name
   schema_found name = ap (option_map (λ (m : Made). m.schema)) (sees_loaded (names_at old name)) ∙ schema_read is_loader old name inv.are.sorted

@@ -1,5 +1,5 @@
 // A database that is loaded before an engine is opened over it.
-ghost use Rattle.std.specs.Prelude.{◌≡◌, ◌<◌, List, ℕ, [], IfOk, OnOk, OnErr, IfSome, option_copied};
+ghost use Rattle.std.specs.Prelude.{◌≡◌, ◌<◌, List, ℕ, [], length, IfOk, OnOk, OnErr, IfSome, option_copied};
 ghost use Rattle.std.specs.Option.{option_map};
 ghost use Rattle.ctr_model.specs.declared.database.Change.TheVariants as change;
 ghost use Rattle.ctr_model.specs.Database.{changed};
@@ -7,11 +7,12 @@ ghost use Rattle.ctr_versions.specs.Chains.{value_seen};
 ghost use Rattle.ctr_versions.specs.Keys.{schema_named};
 ghost use Rattle.ctr_versions.specs.Versions.{names_at};
 ghost use Rattle.ctr_versions.specs.Engine.{session_sees};
+ghost use Rattle.ctr_chains.specs.Counting.{row_count, counted_to_end};
 ghost use Rattle.ctr_chains.specs.Stored.{versions_of};
 ghost use Rattle.ctr_rows.specs.Running.{IsAtRest};
 
 use crate::engine::Engine;
-use ctr_chains::{Session, Store, Transactions};
+use ctr_chains::{Counts, Session, Store, Transactions};
 use ctr_model::Key;
 use ctr_snap::Snapshot;
 use ctr_types::{Name, OutOfMemory, Plain, Row, Schema, Xid};
@@ -69,6 +70,15 @@ impl Loader {
             Some(made) => Some(&made.schema),
             None => None,
         }
+    }
+
+    /// How many tables there are, and how many rows in all of them. Of more than `u64::MAX` rows so many are
+    /// told.
+    pub fn counts(&self) -> Counts
+        ensures tables { result.tables ≡ length self.now }
+        ensures rows { result.rows ≡ counted_to_end (row_count self.now) }
+    {
+        self.store.counts(&self.xids, &self.session)
     }
 
     /// An empty table of this name, new or in place of the one before. Where memory is refused the database
