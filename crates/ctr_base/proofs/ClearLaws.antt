@@ -10,9 +10,11 @@ use Rattle.ctr_home.specs.Blocks.{zero_bytes, opens_to, greater, value_of}
 use Rattle.ctr_home.specs.Roots.{IsRootOf, SaysRootOf, root_value}
 use Rattle.ctr_log.specs.Kept.{kept_log, HoldsLog}
 use Rattle.ctr_pool.specs.Pages.{PageHeld}
+use Rattle.ctr_meta.specs.Tables.{no_tables}
+use Rattle.ctr_redo.specs.Fitting.{EachFits}
 use Rattle.ctr_redo.specs.States.{state_of}
 use Rattle.ctr_redo.specs.Images.{home_in, stored_in, IsSound, CanCount}
-use Rattle.ctr_redo.proofs.ImageLaws.{KeepsLogs, pages_apart, kept_same, holds_same, next_same, state_with}
+use Rattle.ctr_redo.proofs.ImageLaws.{KeepsLogs, pages_apart, kept_same, holds_same, begins_same, next_same, state_with}
 use Rattle.ctr_redo.proofs.GrowthLaws.{counted_page, blank_home}
 use Rattle.ctr_base.specs.Extent.{KeepsPages, AreCleared}
 use Rattle.ctr_base.proofs.ExtentLaws.{cleared_blank, cleared_long}
@@ -32,21 +34,27 @@ value_same n q old new keeps inside =
     ap (λ o. greater o (opens_to (Page q) (take 4128 (drop (8256 * q + 4128) new.pages)))) (home (8256 * q) (omega (arith, inside)))
     ∙ ap (greater (opens_to (Page q) (take 4128 (drop (8256 * q) old.pages)))) (home (8256 * q + 4128) (omega (arith, inside)))
 
+-- the counted pages at home are as they were
+pub home_cleared : (counted : ℕ) (old new : Image) → KeepsPages (8256 * counted) old new → (q : ℕ) → home_in counted new q ≡ home_in counted old q
+home_cleared counted old new keeps q =
+    ⊎_elim
+    (λ inside. counted_page counted q new (value_of (Page q) old) inside (value_same (8256 * counted) q old new keeps (omega (arith, inside))) ∙ sym (counted_page counted q old (value_of (Page q) old) inside refl))
+    (λ outside. blank_home counted q new outside ∙ sym (blank_home counted q old outside))
+    (cases_lt q counted)
+
 module _ (root : Root) (old new : Image) (sound : IsSound root old) (keeps : KeepsPages (8256 * root.pages) old new) where
   logs : KeepsLogs old new
   logs = pages_apart old new keeps.others
 
   home_same : (q : ℕ) → home_in root.pages new q ≡ home_in root.pages old q
-  home_same q =
-      ⊎_elim
-      (λ inside. counted_page root.pages q new (value_of (Page q) old) inside (value_same (8256 * root.pages) q old new keeps (omega (arith, inside))) ∙ sym (counted_page root.pages q old (value_of (Page q) old) inside refl))
-      (λ outside. blank_home root.pages q new outside ∙ sym (blank_home root.pages q old outside))
-      (cases_lt q root.pages)
+  home_same q = home_cleared root.pages old new keeps q
 
   pub sound_cleared : IsSound root new
   sound_cleared = record {
     says = subst (λ (o : _). SaysRootOf Paged o root) (sym (ap (λ (i : Image). root_value i.root) keeps.others)) sound.says;
     log = subst (λ (l : List (List ℕ)). HoldsLog root.file root.first l new) (sym (kept_same root.file root.first old new logs)) (holds_same root.file root.first (kept_log root.file root.first old) old new logs sound.log);
+    fits = subst (EachFits root.pages no_tables) (sym (kept_same root.file root.first old new logs)) sound.fits;
+    begins = begins_same root.file root.first old new logs sound.begins;
     below = λ q. let low = sound.below q in omega (arith, low, next_same root old new logs, ap (λ (h : PageHeld). h.lsn) (home_same q));
     numbered = λ q v inside has. sound.numbered q v inside (sym (value_same (8256 * root.pages) q old new keeps (omega (arith, inside))) ∙ has);
     size = let size = sound.size in let longer = keeps.no_shorter in omega (arith, size, longer);

@@ -13,6 +13,11 @@ use Rattle.ctr_disk.specs.declared.fault.StoreFault.TheVariants.{Fault}
 use Rattle.ctr_pool.specs.Pages.{PageHeld}
 use Rattle.ctr_pool.specs.declared.backing.Backing.{Ghosts as BackingGhosts}
 use Rattle.ctr_redo.specs.Overlaid.{overlaid}
+use Rattle.ctr_home.specs.declared.block.Block.TheVariants.{Root as RootBlock}
+use Rattle.ctr_home.specs.declared.root.Form.TheVariants.{Paged}
+use Rattle.ctr_home.specs.Blocks.{value_of}
+use Rattle.ctr_home.specs.Roots.{SaysRootOf}
+use Rattle.ctr_redo.specs.Fitting.{MayFollow}
 use Rattle.ctr_redo.specs.States.{Stored, state_of, steps, with_more, next_of}
 use Rattle.ctr_redo.specs.Images.{records_in, home_in, stored_in, IsSound, FoldsFront, IsLogFile}
 use Rattle.ctr_base.specs.declared.base.Base.{Base}
@@ -43,11 +48,13 @@ pub record MaySave {D O : Type 0} (g : Ghosts D) (b : Base D O) (p since : ℕ) 
   pub is : (v ≡ overlaid p b.root.first (now_of g b).records (home_of g b p))
       ⊎ (overlaid p b.root.first (stored_of g b).records v ≡ overlaid p b.root.first (stored_of g b).records (home_of g b p))
 
--- Nothing is pending on the disk, which is sound, and the log goes on behind what it holds.
+-- Nothing is pending on the disk, which is sound; the log goes on behind what it holds, and the records
+-- that wait may follow there.
 pub record IsQuiet {D O : Type 0} (g : Ghosts D) (b : Base D O) : Type 0 where
   pub only : IsDurable g b.disk
   pub sound : IsSound b.root (g.reads b.disk)
   pub writes : WritesBehind b.root.file b.root.first b.log (g.reads b.disk)
+  pub follows : MayFollow b.root b.log.file b.log.buffered (g.reads b.disk)
   pub durable : b.durable ≡ next_of (stored_of g b)
   pub first : b.log.first ≡ next_of (stored_of g b)
 
@@ -82,9 +89,10 @@ pub record KeepsBase {D O : Type 0} (a b : Base D O) : Type 0 where
 abbrev pub IsSoundImage : Image → Type 0
 IsSoundImage image = (root : Root) × IsSound root image
 
--- Whatever the disk holds: the log's writer goes on behind the batches of its file, and the file of
--- pages has all that are counted.
+-- Whatever the disk holds: it says the root, the log's writer goes on behind the batches of its file,
+-- and the file of pages has all that are counted.
 pub record StandsWell {D O : Type 0} (g : Ghosts D) (b : Base D O) : Type 0 where
+  pub says : SaysRootOf Paged (value_of RootBlock (g.reads b.disk)) b.root
   pub file : IsLogFile b.log.file
   pub goes_on : (oldest : ℕ) × (bs : Batches) × GoesOn oldest bs b.log (g.reads b.disk)
   pub size : 8256 * b.root.pages ≤ length (content Pages (g.reads b.disk))

@@ -8,9 +8,11 @@ use Rattle.ctr_disk.specs.declared.disk.Image.{Image}
 use Rattle.ctr_disk.specs.declared.disk.Disk.{Ghosts}
 use Rattle.ctr_disk.specs.declared.fault.Root.{Root}
 use Rattle.ctr_disk.specs.Device.{LeavesOnly, OnlyReads, IsDurable}
-use Rattle.ctr_disk.specs.Image.{content}
+use Rattle.ctr_disk.specs.Image.{content, OtherFilesStay}
 use Rattle.ctr_disk.proofs.Moments.{starts, joined, weaker, still_only}
-use Rattle.ctr_home.specs.declared.block.Block.TheVariants.{Page}
+use Rattle.ctr_home.specs.declared.block.Block.TheVariants.{Page, Root as RootBlock}
+use Rattle.ctr_home.specs.declared.root.Form.TheVariants.{Paged}
+use Rattle.ctr_home.specs.Roots.{SaysRootOf}
 use Rattle.ctr_home.specs.Blocks.{BlockValue, value_of, value_in, page_with, blank_page}
 use Rattle.ctr_home.specs.Writing.{IsOldOrNewValue, with_body, OthersStay}
 use Rattle.ctr_log.specs.Logs.{Log, Batches, HasLog, GoesOn, records}
@@ -24,9 +26,12 @@ use Rattle.ctr_pool.specs.Below.{PutsPage, HoldsStill}
 use Rattle.ctr_redo.specs.Overlaid.{overlaid}
 use Rattle.ctr_redo.specs.States.{State, Stored, state_of, steps, with_more, home_put, next_of}
 use Rattle.ctr_redo.specs.Images.{records_in, home_in, stored_in, IsSound, FoldsFront, IsLogFile, MayStand}
+use Rattle.ctr_meta.specs.Tables.{no_tables}
+use Rattle.ctr_redo.specs.Fitting.{EachFits, MayFollow}
+use Rattle.ctr_redo.proofs.FitLaws.{begin_flushed, last_written}
 use Rattle.ctr_redo.proofs.PageLaws.{again, durable_alone, overlaid-append}
 use Rattle.ctr_redo.proofs.StateLaws.{state_more, state_swapped, page_swapped, steps-append, put_there, put_elsewhere}
-use Rattle.ctr_redo.proofs.ImageLaws.{KeepsHomes, KeepsLogs, logs_apart, pages_apart, kept_same, named_same, other_same, more_stored, sound_flushed, folds_flushed, folds_written, sound_written, state_written, state_with_more, home_written, next_same}
+use Rattle.ctr_redo.proofs.ImageLaws.{KeepsHomes, KeepsLogs, logs_apart, pages_apart, kept_same, named_same, other_same, more_stored, sound_flushed, folds_flushed, folds_written, sound_written, state_written, state_with_more, home_written, next_same, follows_same}
 use Rattle.ctr_base.specs.declared.base.Base.{Base}
 use Rattle.ctr_base.specs.Base.{stored_of, waiting_of, now_of, home_of, MaySave, MayPut, IsQuiet, IsSoundImage, StandsWell, StandsQuiet, LeavesBase, LeavesIf, MovesBase, KeepsBase, IsHome}
 
@@ -58,18 +63,18 @@ other_is_log : (n : ℕ) → IsLogFile (other_file n)
 other_is_log zero = tt
 other_is_log (suc n) = tt
 
-by_is_log : (older : Bool) (file first : ℕ) (log : Log) (image : Image) → WritesBy older file first log image → IsLogFile log.file
+pub by_is_log : (older : Bool) (file first : ℕ) (log : Log) (image : Image) → WritesBy older file first log image → IsLogFile log.file
 by_is_log false file first log image w = subst IsLogFile (sym w.file_is) (file_is_log file)
 by_is_log true file first log image w = subst IsLogFile (sym w.file_is) (other_is_log file)
 
 -- what the writer goes on behind is held
-writes_holds : (file first : ℕ) (log : Log) (image : Image) → WritesBehind file first log image → HoldsLog file first (kept_log file first image) image
+pub writes_holds : (file first : ℕ) (log : Log) (image : Image) → WritesBehind file first log image → HoldsLog file first (kept_log file first image) image
 writes_holds file first log image w =
     let same = front_same file first log image [] log.older w.by in
     subst (λ (l : List (List ℕ)). HoldsLog file first l image) (ap (λ (l : List (List ℕ)). kept_log file first image ++ l) (take-nil same.count) ∙ append-nil (kept_log file first image)) same.holds
 
 -- the writer goes on where the files of the log are as they were
-goes_on_same : (first : ℕ) (bs : List (List (List ℕ))) (log : Log) (old new : Image) → content log.file new ≡ content log.file old → GoesOn first bs log old → GoesOn first bs log new
+pub goes_on_same : (first : ℕ) (bs : List (List (List ℕ))) (log : Log) (old new : Image) → content log.file new ≡ content log.file old → GoesOn first bs log old → GoesOn first bs log new
 goes_on_same first bs log old new same goes = record { log_is = subst (HasLog first bs) (sym same) goes.log_is; place = goes.place; first_is = goes.first_is }
 
 by_same : (older : Bool) (file first : ℕ) (log : Log) (old new : Image) → KeepsLogs old new → WritesBy older file first log old → WritesBy older file first log new
@@ -103,11 +108,11 @@ by_same true file first log old new same w =
       };
     }
 
-writes_same : (file first : ℕ) (log : Log) (old new : Image) → KeepsLogs old new → WritesBehind file first log old → WritesBehind file first log new
+pub writes_same : (file first : ℕ) (log : Log) (old new : Image) → KeepsLogs old new → WritesBehind file first log old → WritesBehind file first log new
 writes_same file first log old new same w = record { numbered = w.numbered; by = by_same log.older file first log old new same w.by }
 
 -- a file of the log is as it was, where both are
-log_content : (f : File) (old new : Image) → IsLogFile f → KeepsLogs old new → content f new ≡ content f old
+pub log_content : (f : File) (old new : Image) → IsLogFile f → KeepsLogs old new → content f new ≡ content f old
 log_content RootFile old new is same = absurd is
 log_content LogA old new is same = same.log_a
 log_content LogB old new is same = same.log_b
@@ -198,6 +203,7 @@ module _ {D O : Type 0} (g : Ghosts D) where
         only = still_only g a.disk d reads quiet.only;
         sound = subst (IsSound a.root) (sym same) quiet.sound;
         writes = subst (WritesBehind a.root.file a.root.first a.log) (sym same) quiet.writes;
+        follows = subst (MayFollow a.root a.log.file a.log.buffered) (sym same) quiet.follows;
         durable = quiet.durable ∙ ap (λ (i : Image). next_of (stored_in a.root i)) (sym same);
         first = quiet.first ∙ ap (λ (i : Image). next_of (stored_in a.root i)) (sym same);
       }
@@ -221,100 +227,6 @@ module _ {D O : Type 0} (g : Ghosts D) where
         same = λ q. ap (λ (s : Stored). s.homes q) stored;
         still = λ q since v may. saves_same a (record a { disk = d }) q since v refl stored refl may;
       }
-
-  -- ---- a flush
-
-  pub flush_leaves : (a : Base D O) (d : D) → IsQuiet g a → LeavesOnly g a.disk d (KeepsPrefix a.log.file a.root.file a.root.first a.log.buffered (g.reads a.disk))
-      → LeavesOnly g a.disk d (FoldsFront (state_of (stored_of g a)) (waiting_of a))
-  flush_leaves a d quiet crash =
-      let w = quiet.writes in
-      weaker g a.disk d (KeepsPrefix a.log.file a.root.file a.root.first a.log.buffered (g.reads a.disk)) (FoldsFront (state_of (stored_of g a)) (waiting_of a)) crash
-      (λ c keeps. folds_flushed a.root a.log.file a.log.buffered (g.reads a.disk) c quiet.sound (by_is_log a.log.older a.root.file a.root.first a.log (g.reads a.disk) w.by) keeps)
-
-  -- what a flush that was answered Ok made
-  pub record Flushed (a b : Base D O) : Type 0 where
-    pub root : b.root ≡ a.root
-    pub file : b.log.file ≡ a.log.file
-    pub none : b.log.buffered ≡ []
-    pub next : b.log.first ≡ a.log.first + length a.log.buffered
-    pub durable : b.durable ≡ b.log.first + length b.log.buffered
-    pub goes_on : GoesOnWith a.root.file a.root.first a.log.buffered b.log (g.reads a.disk) (g.reads b.disk)
-
-  homes_kept : (a b : Base D O) → IsQuiet g a → Flushed a b → KeepsHomes (g.reads a.disk) (g.reads b.disk)
-  homes_kept a b quiet f =
-      let w = quiet.writes in
-      logs_apart b.log.file (g.reads a.disk) (g.reads b.disk) (subst IsLogFile (sym f.file) (by_is_log a.log.older a.root.file a.root.first a.log (g.reads a.disk) w.by)) f.goes_on.others
-
-  stored_flushed : (a b : Base D O) → IsQuiet g a → Flushed a b → stored_of g b ≡ with_more (waiting_of a) (stored_of g a)
-  stored_flushed a b quiet f =
-      ap (λ (r : Root). stored_in r (g.reads b.disk)) f.root ∙ more_stored a.root a.log.buffered (g.reads a.disk) (g.reads b.disk) (homes_kept a b quiet f) f.goes_on.log_is
-
-  now_flushed : (a b : Base D O) → IsQuiet g a → Flushed a b → now_of g b ≡ now_of g a
-  now_flushed a b quiet f =
-      ap (λ (l : List (List ℕ)). with_more (records_in l) (stored_of g b)) f.none ∙ ap (with_more []) (stored_flushed a b quiet f)
-      ∙ ap (λ (l : List Record). record (stored_of g a) { records = l }) (append-nil ((stored_of g a).records ++ waiting_of a))
-
-  pub flush_moves : (a b : Base D O) → IsQuiet g a → Flushed a b → MovesBase g a b
-  flush_moves a b quiet f =
-      let ws = waiting_of a in
-      let s = stored_of g a in
-      let both = now_flushed a b quiet f in
-      record {
-        j = length ws;
-        at_most = omega arith;
-        waiting = ap records_in f.none ∙ sym (drop_all (length ws) ws (omega arith));
-        hardened = ap state_of (stored_flushed a b quiet f) ∙ state_more ws s quiet.sound.below ∙ ap (λ (l : List Record). steps l (state_of s)) (sym (take_all (length ws) ws (omega arith)));
-        now = ap state_of both;
-        root = f.root;
-        all = ap (λ (x : Stored). x.records) both;
-        pages = λ q. ap (λ (x : Stored). overlaid q x.first x.records (x.homes q)) both;
-      }
-
-  pub flush_quiet : (a b : Base D O) → IsQuiet g a → Flushed a b → IsDurable g b.disk → IsQuiet g b
-  flush_quiet a b quiet f only =
-      let old = g.reads a.disk in
-      let new = g.reads b.disk in
-      let first = quiet.first in
-      let writes = f.goes_on.writes in
-      let holds = writes_holds a.root.file a.root.first b.log new writes in
-      let all : HoldsLog a.root.file a.root.first (kept_log a.root.file a.root.first old ++ a.log.buffered) new = subst (λ (l : List (List ℕ)). HoldsLog a.root.file a.root.first l new) f.goes_on.log_is holds in
-      let next : next_of (stored_of g b) ≡ next_of (stored_of g a) + length a.log.buffered =
-      ap next_of (stored_flushed a b quiet f) ∙ omega (arith, length-append (stored_of g a).records (waiting_of a), length-map a.log.buffered record_in) in
-      record {
-        only = only;
-        sound = subst (λ (r : Root). IsSound r new) (sym f.root) (sound_flushed a.root a.log.buffered old new quiet.sound (homes_kept a b quiet f) all);
-        writes = subst (λ (r : Root). WritesBehind r.file r.first b.log new) (sym f.root) writes;
-        durable = omega (arith, f.durable, ap (λ (l : List (List ℕ)). length l) f.none, f.next, first, next);
-        first = omega (arith, f.next, first, next);
-      }
-
-  pub flush_holds : (a b : Base D O) → IsQuiet g a → Flushed a b → HoldsStill (home_of g) (MaySave g) a b
-  flush_holds a b quiet f =
-      let stored = stored_flushed a b quiet f in
-      let both = now_flushed a b quiet f in
-      let s = stored_of g a in
-      let ws = waiting_of a in
-      record {
-        same = λ q. ap (λ (x : Stored). x.homes q) stored;
-        still = λ q since v may.
-            record {
-              counted = subst (λ (x : Stored). q < x.counted) (sym stored) may.counted;
-              above = subst (λ (x : Stored). (x.homes q).lsn < v.lsn) (sym stored) may.above;
-              low = subst (λ (x : Stored). v.lsn < next_of x) (sym both) may.low;
-              is = ⊎_elim (λ all. inl (subst (λ (x : Stored). v ≡ overlaid q x.first x.records (x.homes q)) (sym both) all))
-                  (λ same.
-                  inr (subst (λ (x : Stored). overlaid q x.first x.records v ≡ overlaid q x.first x.records (x.homes q)) (sym stored)
-                  (overlaid-append q s.first s.records ws v ∙ ap (overlaid q (s.first + length s.records) ws) same ∙ sym (overlaid-append q s.first s.records ws (s.homes q)))))
-                  may.is;
-            };
-      }
-
-  -- what may be saved is durable behind a flush
-  pub flush_durable : (a b : Base D O) (p since : ℕ) (v : PageHeld) → IsQuiet g a → Flushed a b → IsQuiet g b → MaySave g a p since v → v.lsn < b.durable
-  flush_durable a b p since v quiet f quiet_b may =
-      let low = may.low in
-      let durable = quiet_b.durable in
-      omega (arith, low, durable, ap next_of (stored_flushed a b quiet f))
 
   -- ---- a page's writing
 
@@ -367,6 +279,7 @@ module _ {D O : Type 0} (g : Ghosts D) where
         let more = others.no_shorter in
         let size = stands.size in
         record {
+          says = subst (λ o. SaysRootOf Paged o a.root) (sym (others.blocks RootBlock (λ same. absurd (cc same)))) stands.says;
           file = stands.file;
           goes_on = (goes.0, goes.1, goes_on_same goes.0 goes.1 a.log (g.reads a.disk) (g.reads d) (log_content a.log.file (g.reads a.disk) (g.reads d) stands.file same_logs) goes.2);
           size = omega (arith, more, size);
@@ -408,6 +321,7 @@ module _ {D O : Type 0} (g : Ghosts D) where
           only = only;
           sound = sound_written a.root p (value p v) (g.reads a.disk) (g.reads d) quiet.sound stands others is;
           writes = writes_same a.root.file a.root.first a.log (g.reads a.disk) (g.reads d) logs quiet.writes;
+          follows = follows_same a.root a.log.file a.log.buffered (g.reads a.disk) (g.reads d) logs quiet.follows;
           durable = quiet.durable ∙ sym next;
           first = quiet.first ∙ sym next;
         }
@@ -465,6 +379,7 @@ module _ {D O : Type 0} (g : Ghosts D) where
   -- what a read leaves
   pub stands_read : (a : Base D O) (d : D) → g.reads d ≡ g.reads a.disk → StandsWell g a → StandsWell g (record a { disk = d })
   stands_read a d same stands = record {
+    says = subst (λ (i : Image). SaysRootOf Paged (value_of RootBlock i) a.root) (sym same) stands.says;
     file = stands.file;
     goes_on = subst (λ (i : Image). (oldest : ℕ) × (bs : Batches) × GoesOn oldest bs a.log i) (sym same) stands.goes_on;
     size = subst (λ (i : Image). 8256 * a.root.pages ≤ length (content Pages i)) (sym same) stands.size;
@@ -475,6 +390,8 @@ module _ {D O : Type 0} (g : Ghosts D) where
   stands_flushed a b stands root file kept oldest bs goes =
       let size = stands.size in
       record {
+        says = subst (λ (r : Root). SaysRootOf Paged (value_of RootBlock (g.reads b.disk)) r) (sym root)
+            (subst (λ (bytes : List ℕ). SaysRootOf Paged (value_of RootBlock (record (g.reads a.disk) { root = bytes })) a.root) (sym kept.root) stands.says);
         file = subst IsLogFile (sym file) stands.file;
         goes_on = (oldest, bs, goes);
         size = omega (arith, size, ap (λ (r : Root). r.pages) root, ap (λ (l : List ℕ). length l) kept.pages);

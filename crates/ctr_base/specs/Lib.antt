@@ -2,3 +2,4 @@ pub mod Base
 pub mod BaseLaws
 pub mod Opening
 pub mod Extent
+pub mod Growth

@@ -1,5 +1,5 @@
 -- What calls of the log and of the homes leave folds to the same state, or to one with more records.
-use Rattle.std.proofs.Common.{◌≡◌, ◌≢◌, inl, inr, ⊎_elim, ℕ, zero, suc, ◌+◌, ◌<◌, ◌≤◌, ◌*◌, Bool, nat_lt, if◌then◌else◌, List, ◌++◌, length, take, Option, Some, sym, ◌∙◌, ap, subst, arith, length-append}
+use Rattle.std.proofs.Common.{◌≡◌, ◌≢◌, inl, inr, ⊎_elim, ℕ, zero, suc, ◌+◌, ◌<◌, ◌≤◌, ◌*◌, Bool, true, false, nat_lt, if◌then◌else◌, List, ◌++◌, length, take, Option, Some, sym, ◌∙◌, ap, subst, arith, length-append}
 use Rattle.std.proofs.lemmas.List.{map-append, take-map}
 use Rattle.std.proofs.lemmas.Bool.{lt-ltb}
 use Rattle.std.proofs.lemmas.Bool.Decides.{eqb_tells}
@@ -16,13 +16,16 @@ use Rattle.ctr_home.specs.Roots.{SaysRootOf}
 use Rattle.ctr_home.specs.Writing.{OthersStay, IsOldOrNewValue}
 use Rattle.ctr_log.specs.Logs.{HasLog, records}
 use Rattle.ctr_log.specs.Reading.{log_file}
-use Rattle.ctr_log.specs.Kept.{kept_in, kept_log, other_file, IsDropped, HoldsLog, KeepsPrefix}
+use Rattle.ctr_log.specs.Kept.{log_in, kept_in, kept_log, other_file, writer_file, has_newer, IsDropped, HoldsLog, KeepsPrefix}
 use Rattle.ctr_log.proofs.KeptLaws.{holds_is}
 use Rattle.ctr_records.specs.declared.record.Record.{Record}
 use Rattle.ctr_records.specs.Read.{record_in}
 use Rattle.ctr_pool.specs.Pages.{PageHeld}
+use Rattle.ctr_meta.specs.Tables.{no_tables}
+use Rattle.ctr_redo.specs.Fitting.{EachFits, BeginsOnce, FilesBegin, last_file, MayFollow}
 use Rattle.ctr_redo.specs.States.{Stored, state_of, steps, with_more, home_put, next_of, LieBelow}
 use Rattle.ctr_redo.specs.Images.{records_in, home_in, stored_in, IsSound, FoldsTo, FoldsFront, IsLogFile, held_by, MayStand}
+use Rattle.ctr_redo.proofs.FitLaws.{each_prefix, none_prefix, begin_flushed}
 use Rattle.ctr_redo.proofs.StateLaws.{state_more, state_same, state_swapped_now, below_more, put_there, put_elsewhere}
 
 -- ---- one file changes
@@ -85,7 +88,31 @@ holds_same file first rs old new same (inr (bs, cs, are, h)) = inr (
   },
 )
 
+pub begins_same : (file first : ℕ) (old new : Image) → KeepsLogs old new → FilesBegin file first old → FilesBegin file first new
+begins_same file first old new same begun = record {
+  named = subst (λ (l : List ℕ). BeginsOnce (log_in l)) (sym (named_same file old new same)) begun.named;
+  newer = λ is.
+      subst (λ (l : List ℕ). BeginsOnce (log_in l)) (sym (other_same file old new same))
+      (begun.newer (sym (ap (λ (l : List ℕ). has_newer first l (content (other_file file) new)) (named_same file old new same) ∙ ap (has_newer first (content (log_file file) old)) (other_same file old new same)) ∙ is));
+}
+
+-- what may follow the log may still, where that is as it was
+pub follows_same : (root : Root) (f : File) (more : List (List ℕ)) (old new : Image) → KeepsLogs old new → MayFollow root f more old → MayFollow root f more new
+follows_same root f more old new same may = record {
+  file_is = may.file_is
+      ∙ ap (λ (l : List ℕ). writer_file (has_newer root.first l (content (other_file root.file) old)) root.file) (sym (named_same root.file old new same))
+      ∙ ap (λ (l : List ℕ). writer_file (has_newer root.first (content (log_file root.file) new) l) root.file) (sym (other_same root.file old new same));
+  fits = subst (λ (l : List (List ℕ)). EachFits root.pages no_tables (l ++ more)) (sym (kept_same root.file root.first old new same)) may.fits;
+  changes = may.changes;
+}
+
 -- ---- a flush
+
+pub last_is_log : (newer : Bool) (file : ℕ) → IsLogFile (writer_file newer file)
+last_is_log false zero = tt
+last_is_log false (suc n) = tt
+last_is_log true zero = tt
+last_is_log true (suc n) = tt
 
 -- the log with more records behind it, and the homes as they were
 pub more_stored : (root : Root) (more : List (List ℕ)) (old new : Image) → KeepsHomes old new → kept_log root.file root.first new ≡ kept_log root.file root.first old ++ more
@@ -101,14 +128,16 @@ more_stored root more old new same log =
     homes_same counted old new same = ap (λ (bytes : List ℕ). home_in counted (record old { pages = bytes })) same
 
 pub sound_flushed : (root : Root) (more : List (List ℕ)) (old new : Image) → IsSound root old → KeepsHomes old new → HoldsLog root.file root.first (kept_log root.file root.first old ++ more) new
-    → IsSound root new
-sound_flushed root more old new sound same holds =
+    → EachFits root.pages no_tables (kept_log root.file root.first old ++ more) → FilesBegin root.file root.first new → IsSound root new
+sound_flushed root more old new sound same holds fits begun =
     let log : kept_log root.file root.first new ≡ kept_log root.file root.first old ++ more = holds_is root.file root.first new (kept_log root.file root.first old ++ more) holds in
     let stored = more_stored root more old new same log in
     let later : next_of (stored_in root old) ≤ next_of (stored_in root new) = omega (arith, ap (λ (s : Stored). next_of s) stored, length-append (stored_in root old).records (records_in more)) in
     record {
       says = subst (λ (bytes : List ℕ). SaysRootOf Paged (value_of RootBlock (record old { root = bytes })) root) (sym same.root) sound.says;
       log = subst (λ (l : List (List ℕ)). HoldsLog root.file root.first l new) (sym log) holds;
+      fits = subst (EachFits root.pages no_tables) (sym log) fits;
+      begins = begun;
       below = subst (λ (h : ℕ → PageHeld). LieBelow (next_of (stored_in root new)) h) (sym (ap (λ (s : Stored). s.homes) stored)) (below_more (next_of (stored_in root old)) (next_of (stored_in root new)) (home_in root.pages old) later sound.below);
       numbered = λ p v inside is. sound.numbered p v inside (sym (ap (λ (bytes : List ℕ). value_of (Page p) (record old { pages = bytes })) same.pages) ∙ is);
       size = subst (λ (bytes : List ℕ). 8256 * root.pages ≤ length bytes) (sym same.pages) sound.size;
@@ -119,16 +148,20 @@ pub state_flushed : (root : Root) (more : List (List ℕ)) (old new : Image) →
 state_flushed root more old new sound same log = ap state_of (more_stored root more old new same log) ∙ state_more (records_in more) (stored_in root old) sound.below
 
 -- a crash in a flush
-pub folds_flushed : (root : Root) (f : File) (more : List (List ℕ)) (old new : Image) → IsSound root old → IsLogFile f → KeepsPrefix f root.file root.first more old new
+pub folds_flushed : (root : Root) (f : File) (more : List (List ℕ)) (old new : Image) → IsSound root old → MayFollow root f more old → KeepsPrefix f root.file root.first more old new
     → FoldsFront (state_of (stored_in root old)) (records_in more) new
-folds_flushed root f more old new sound is keeps =
-    let same = logs_apart f old new is keeps.others in
+folds_flushed root f more old new sound follows keeps =
+    let others = subst (λ (x : File). OtherFilesStay x old new) follows.file_is keeps.others in
+    let newer = has_newer root.first (content (log_file root.file) old) (content (other_file root.file) old) in
+    let same = logs_apart (last_file root.file root.first old) old new (last_is_log newer root.file) others in
     let front = take keeps.count more in
-    let log = holds_is root.file root.first new (kept_log root.file root.first old ++ front) keeps.holds in (
+    let log = holds_is root.file root.first new (kept_log root.file root.first old ++ front) keeps.holds in
+    let fits = each_prefix root.pages keeps.count no_tables (kept_log root.file root.first old) more follows.fits in
+    let begun = begin_flushed root.file root.first front old new sound.log log (none_prefix keeps.count more follows.changes) sound.begins others in (
       keeps.count,
       record {
         root = root;
-        sound = sound_flushed root front old new sound same keeps.holds;
+        sound = sound_flushed root front old new sound same keeps.holds fits begun;
         state_is = state_flushed root front old new sound same log ∙ ap (λ (l : List Record). steps l (state_of (stored_in root old))) (sym (take-map record_in keeps.count more));
       },
     )
@@ -198,6 +231,8 @@ sound_page root p old new sound others below numbered =
     let next = next_same root old new same in record {
       says = subst (λ (o : Option BlockValue). SaysRootOf Paged o root) (sym (root_stays p old new others)) sound.says;
       log = subst (λ (l : List (List ℕ)). HoldsLog root.file root.first l new) (sym (kept_same root.file root.first old new same)) (holds_same root.file root.first (kept_log root.file root.first old) old new same sound.log);
+      fits = subst (EachFits root.pages no_tables) (sym (kept_same root.file root.first old new same)) sound.fits;
+      begins = begins_same root.file root.first old new same sound.begins;
       below = below_more (next_of (stored_in root old)) (next_of (stored_in root new)) (home_in root.pages new) (omega (arith, next)) below;
       numbered = λ q v inside is.
           ⊎_elim

@@ -1,5 +1,6 @@
 pub mod PageLaws
 pub mod StateLaws
+pub mod FitLaws
 pub mod Generations
 pub mod ImageLaws
 pub mod GrowthLaws

@@ -1,21 +1,29 @@
 -- What a new database folds to.
-use Rattle.std.proofs.Common.{◌≡◌, ◌≢◌, inl, ⊎_elim, ℕ, zero, suc, ◌+◌, List, [], ◌∷◌, ◌++◌, length, replicate, Some, None, refl, sym, ◌∙◌, ap, subst, arith}
+use Rattle.std.proofs.Common.{◌≡◌, ◌≢◌, inl, ⊎_elim, ℕ, zero, suc, ◌+◌, ◌<◌, ◌^◌, Bool, false, List, [], ◌∷◌, ◌++◌, length, replicate, Some, None, Ok, refl, sym, ◌∙◌, ap, subst, arith}
 use Rattle.std.specs.Prelude.{slice_index}
 use Rattle.std.proofs.lemmas.Bool.{cases_lt}
 use Rattle.ctr_disk.specs.declared.disk.Image.{Image}
 use Rattle.ctr_home.specs.Blocks.{BlockValue, zero_bytes}
 use Rattle.ctr_bytes.specs.Fields.{spelled, field}
-use Rattle.ctr_records.specs.Members.{pairs_from, items_from}
+use Rattle.ctr_records.specs.Checkpoint.{checkpoint_checks}
+use Rattle.ctr_records.specs.Members.{pairs_from, items_from, lists_bytes, MembersFit}
+use Rattle.ctr_records.specs.Spelling.{checkpoint_bytes, record_bytes}
+use Rattle.ctr_records.proofs.MemberLaws.{members_pass}
 use Rattle.ctr_log.specs.Fresh.{first_checkpoint, fresh_log, IsClosed}
-use Rattle.ctr_log.specs.Kept.{kept_log, HoldsLog}
+use Rattle.ctr_log.specs.Kept.{log_in, kept_log, has_newer, HoldsLog}
 use Rattle.ctr_log.proofs.KeptLaws.{holds_is}
 use Rattle.ctr_records.specs.declared.record.Record.{Record}
 use Rattle.ctr_records.specs.declared.record.Record.TheVariants.{Checkpoint}
 use Rattle.ctr_records.specs.Read.{record_in}
 use Rattle.ctr_meta.specs.Tables.{no_tables}
+use Rattle.ctr_meta.specs.Kept.{IsLogged}
+use Rattle.ctr_meta.specs.Needs.{needs}
+use Rattle.ctr_meta.proofs.NeedLaws.{list_needs_met}
 use Rattle.ctr_meta.specs.Effects.{tables_of}
 use Rattle.ctr_pool.specs.Pages.{PageHeld}
-use Rattle.ctr_redo.specs.Overlaid.{overlaid}
+use Rattle.ctr_redo.specs.Overlaid.{overlay_of, overlaid}
+use Rattle.ctr_redo.specs.Fitting.{LiesInside, EachFits, BeginsOnce}
+use Rattle.ctr_redo.proofs.FitLaws.{newer_out, choose_no}
 use Rattle.ctr_redo.specs.States.{page_limit, pages_of, state_of}
 use Rattle.ctr_redo.specs.Images.{records_in, home_in, IsSound, FoldsTo, new_root, new_state, IsNewDatabase}
 use Rattle.ctr_redo.proofs.GrowthLaws.{counted_page, blank_home}
@@ -31,6 +39,40 @@ first_record = refl
 first_tables : tables_of (nothing ∷ []) ≡ no_tables
 unfolding spelled field pairs_from items_from
 first_tables = refl
+
+empty_lists : spelled 8 0 ++ spelled 8 0 ++ spelled 8 0 ≡ lists_bytes [] [] []
+unfolding spelled
+empty_lists = refl
+
+no_members : MembersFit 1 [] [] []
+no_members = record { some = omega arith; next_fits = omega arith; opens_fit = (omega arith, tt); aborted_fit = (omega arith, tt); once = tt; items_fit = (omega arith, tt) }
+
+nothing_passes : (1 < 2 ^ 64) × (checkpoint_checks (checkpoint_bytes 1 (spelled 8 0 ++ spelled 8 0 ++ spelled 8 0)) ≡ Ok tt)
+nothing_passes =
+    let pass = members_pass 1 [] [] [] no_members in
+    (omega arith, subst (λ (l : List ℕ). checkpoint_checks (checkpoint_bytes 1 l) ≡ Ok tt) (sym empty_lists) pass.1)
+
+first_logged : IsLogged nothing
+first_logged = record { record_is = nothing_passes; members = ([], [], [], no_members, empty_lists) }
+
+first_bytes : record_bytes nothing ≡ first_checkpoint
+unfolding spelled
+first_bytes = refl
+
+first_fits : EachFits 64 no_tables (first_checkpoint ∷ [])
+first_fits = (
+  record {
+    logged = subst IsLogged (sym first_record) first_logged;
+    bytes_are = ap record_bytes first_record ∙ first_bytes;
+    inside = subst (λ (r : Record). LiesInside 64 (overlay_of r)) (sym first_record) tt;
+    needed = subst (λ (r : Record). needs r no_tables ≡ Ok tt) (sym first_record) (list_needs_met 1 (spelled 8 0 ++ spelled 8 0 ++ spelled 8 0) (omega arith) nothing_passes.1);
+  },
+  tt,
+)
+
+first_alone : BeginsOnce (first_checkpoint ∷ [])
+unfolding spelled field
+first_alone = (refl, tt)
 
 -- the first gate of a closed file isn't open
 shut : (l : List ℕ) → IsClosed l → slice_index l 0 ≢ 1
@@ -58,6 +100,12 @@ module _ (image : Image) (is : IsNewDatabase image) where
   log_is : kept_log 0 1 image ≡ first_checkpoint ∷ []
   log_is = holds_is 0 1 image (first_checkpoint ∷ []) held
 
+  none_newer : has_newer 1 image.log_a image.log_b ≡ false
+  none_newer = newer_out 1 image.log_a image.log_b (inl (shut image.log_b is.other_log))
+
+  named_is : log_in image.log_a ≡ first_checkpoint ∷ []
+  named_is = sym (choose_no (has_newer 1 image.log_a image.log_b) (log_in image.log_a ++ log_in image.log_b) (log_in image.log_a) none_newer) ∙ log_is
+
   records_are : records_in (kept_log 0 1 image) ≡ nothing ∷ []
   records_are = ap records_in log_is ∙ ap (λ (r : Record). r ∷ []) first_record
 
@@ -69,6 +117,8 @@ module _ (image : Image) (is : IsNewDatabase image) where
   sound = record {
     says = (is.root, record { format = refl; file = omega arith; first_low = omega arith; first_high = omega arith; pages_low = omega arith; pages_high = omega arith; stamp = omega arith });
     log = subst (λ (l : List (List ℕ)). HoldsLog 0 1 l image) (sym log_is) held;
+    fits = subst (EachFits 64 no_tables) (sym log_is) first_fits;
+    begins = record { named = subst BeginsOnce (sym named_is) first_alone; newer = λ is. absurd (cc (is, none_newer)) };
     below = λ p. omega (arith, ap (λ (h : PageHeld). h.lsn) (home_blank p), ap (λ (rs : List Record). length rs) records_are);
     numbered = λ p v inside has. absurd (none_some v (sym (is.blank p inside) ∙ has));
     size = is.size;

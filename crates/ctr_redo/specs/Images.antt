@@ -1,5 +1,5 @@
 -- What of an image folds to a state, and which images are sound.
-use Rattle.std.specs.Prelude.{◌≡◌, ◌<◌, ◌≤◌, ◌*◌, ℕ, List, map, take, length, replicate, Some, None}
+use Rattle.std.specs.Prelude.{◌≡◌, ◌⊎◌, ◌<◌, ◌≤◌, ◌*◌, ℕ, List, map, take, length, replicate, Some, None}
 use Rattle.ctr_types.specs.declared.file.File.{File}
 use Rattle.ctr_types.specs.declared.file.File.TheVariants.{Root as RootFile, LogA, LogB, Pages}
 use Rattle.ctr_disk.specs.declared.disk.Image.{Image}
@@ -17,7 +17,8 @@ use Rattle.ctr_records.specs.declared.record.Record.{Record}
 use Rattle.ctr_records.specs.Read.{record_in}
 use Rattle.ctr_pool.specs.Pages.{PageHeld}
 use Rattle.ctr_redo.specs.Overlaid.{overlaid}
-use Rattle.ctr_redo.specs.States.{page_limit, State, Stored, state_of, steps, next_of, LieBelow}
+use Rattle.ctr_redo.specs.Fitting.{EachFits, FilesBegin}
+use Rattle.ctr_redo.specs.States.{page_limit, State, Stored, state_of, steps, counting, grown, next_of, LieBelow}
 
 -- the records that the bytes of a log tell
 abbrev pub records_in : List (List ℕ) → List Record
@@ -40,11 +41,14 @@ stored_in root image = record {
   records = records_in (kept_log root.file root.first image);
 }
 
--- The image says this root, its log is whole, its pages have their numbers and no record that the
--- log lacks, and the file of pages has all that are counted.
+-- The image says this root, its log is whole, each of its records fits behind those before it, and a
+-- Checkpoint begins each of its files; its pages have their numbers and no record that the log lacks,
+-- and the file of pages has all that are counted.
 pub record IsSound (root : Root) (image : Image) : Type 0 where
   pub says : SaysRootOf Paged (value_of RootBlock image) root
   pub log : HoldsLog root.file root.first (kept_log root.file root.first image) image
+  pub fits : EachFits root.pages no_tables (kept_log root.file root.first image)
+  pub begins : FilesBegin root.file root.first image
   pub below : LieBelow (next_of (stored_in root image)) (home_in root.pages image)
   pub numbered : (p : ℕ) (v : BlockValue) → p < root.pages → value_of (Page p) image ≡ Some v → v.number ≡ p
   pub size : 8256 * root.pages ≤ length (content Pages image)
@@ -58,6 +62,10 @@ pub record FoldsTo (image : Image) (s : State) : Type 0 where
 -- the image folds to a state with a prefix of these records
 abbrev pub FoldsFront : State → List Record → Image → Type 0
 FoldsFront s rs image = (k : ℕ) × FoldsTo image (steps (take k rs) s)
+
+-- the image folds to a state, with the count of pages of before a growth or of behind it
+abbrev pub FoldsGrown : State → Image → Type 0
+FoldsGrown s image = FoldsTo image s ⊎ FoldsTo image (counting (grown s.counted) s)
 
 -- a file of the log
 abbrev pub IsLogFile : File → Type 0

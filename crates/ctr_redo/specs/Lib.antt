@@ -1,3 +1,4 @@
 pub mod Overlaid
 pub mod States
+pub mod Fitting
 pub mod Images

@@ -1,5 +1,5 @@
 -- The state that pages at home and the records of a log fold to.
-use Rattle.std.specs.Prelude.{◌≡◌, ℕ, zero, suc, ◌+◌, ◌<◌, ◌==◌, if◌then◌else◌, List, [], ◌∷◌, ◌++◌, length}
+use Rattle.std.specs.Prelude.{◌≡◌, ℕ, min, zero, suc, ◌+◌, ◌<◌, ◌==◌, if◌then◌else◌, List, [], ◌∷◌, ◌++◌, length}
 use Rattle.ctr_records.specs.declared.record.Record.{Record}
 use Rattle.ctr_pool.specs.Pages.{PageHeld}
 use Rattle.ctr_meta.specs.Tables.{Tables}
@@ -59,6 +59,16 @@ step r s = record {
 abbrev pub steps : List Record → State → State
 steps [] s = s
 steps (r ∷ rs) s = steps rs (step r s)
+
+-- ---- growth
+
+-- how many pages are counted behind a growth: 64 more, and 30,000 at most
+abbrev pub grown : ℕ → ℕ
+grown n = min (n + 64) 30000
+
+-- the state where so many pages are counted
+abbrev pub counting : ℕ → State → State
+counting n s = record s { counted = n }
 
 -- ---- how what is stored changes
 

@@ -1,20 +1,21 @@
 // What a crash leaves of calls of the log and of the homes. A call does nothing: what it ensures is the law.
-ghost use Rattle.std.specs.Prelude.{◌⊎◌, ℕ, List};
+ghost use Rattle.std.specs.Prelude.{◌≡◌, ◌≤◌, ◌<◌, ◌⊎◌, ℕ, List};
 ghost use Rattle.ctr_types.specs.declared.file.File.{File as FileOf};
 ghost use Rattle.ctr_disk.specs.declared.disk.Image.{Image};
 ghost use Rattle.ctr_disk.specs.declared.fault.Root.{Root};
 ghost use Rattle.ctr_home.specs.declared.block.Block.TheVariants.{Page, Root as RootBlock};
 ghost use Rattle.ctr_home.specs.Roots.{root_block};
-ghost use Rattle.ctr_home.specs.Blocks.{BlockValue};
+ghost use Rattle.ctr_home.specs.Blocks.{BlockValue, zero_bytes};
 ghost use Rattle.ctr_home.specs.Writing.{IsOldOrNewValue};
 ghost use Rattle.ctr_log.specs.Kept.{KeepsPrefix};
-ghost use Rattle.ctr_redo.specs.States.{state_of};
-ghost use Rattle.ctr_redo.specs.Images.{records_in, stored_in, IsSound, FoldsTo, FoldsFront, IsLogFile, MayStand, CanCount, new_state, IsNewDatabase};
+ghost use Rattle.ctr_redo.specs.States.{page_limit, state_of, with_more, page_at};
+ghost use Rattle.ctr_redo.specs.Fitting.{MayFollow};
+ghost use Rattle.ctr_redo.specs.Images.{records_in, stored_in, IsSound, FoldsTo, FoldsFront, MayStand, CanCount, new_state, IsNewDatabase};
 
-/// A crash in a flush of the log leaves an image that is sound and folds to the state with a prefix of the records
-/// that waited.
+/// A crash in a flush of records that may follow the log leaves an image that is sound and folds to the state with a
+/// prefix of them.
 pub fn a_flush_leaves_a_prefix()
-    ensures { (root : Root) (file : FileOf) (waiting : List (List ℕ)) (old new : Image) → IsSound root old → IsLogFile file → KeepsPrefix file root.file root.first waiting old new
+    ensures { (root : Root) (file : FileOf) (waiting : List (List ℕ)) (old new : Image) → IsSound root old → MayFollow root file waiting old → KeepsPrefix file root.file root.first waiting old new
         → FoldsFront (state_of (stored_in root old)) (records_in waiting) new }
 {}
 
@@ -35,4 +36,10 @@ pub fn more_pages_can_be_counted()
 /// A new database is sound, and folds to the state in which no page has anything and no transaction was.
 pub fn a_new_database_is_empty()
     ensures { (image : Image) → IsNewDatabase image → FoldsTo image new_state }
+{}
+
+/// A page that isn't counted has nothing, whatever records may follow the log.
+pub fn a_page_that_isnt_counted_is_blank()
+    ensures { (root : Root) (file : FileOf) (waiting : List (List ℕ)) (image : Image) (p : ℕ) → MayFollow root file waiting image → root.pages ≤ p → p < page_limit
+        → page_at p (state_of (with_more (records_in waiting) (stored_in root image))).pages ≡ zero_bytes 4096 }
 {}

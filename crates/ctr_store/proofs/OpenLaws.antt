@@ -1,8 +1,8 @@
 -- What is opened stands over the pool, and nothing is pending where the disk was sound.
-use Rattle.std.proofs.Common.{◌≡◌, ◌≢◌, inl, inr, ⊎_elim, ◌++◌, ℕ, zero, suc, ◌+◌, ◌*◌, ◌≤◌, Bool, true, false, List, [], ◌∷◌, length, take, Option, Some, None, Result, Ok, Err, refl, sym, ◌∙◌, ap, subst, arith}
-use Rattle.std.specs.Prelude.{IfOk}
+use Rattle.std.proofs.Common.{◌≡◌, ◌≢◌, ◌⊎◌, inl, inr, ⊎_elim, ◌++◌, ℕ, zero, suc, ◌+◌, ◌*◌, ◌≤◌, Bool, true, false, List, [], ◌∷◌, length, take, Option, Some, None, Result, Ok, Err, refl, sym, ◌∙◌, ap, subst, arith}
+use Rattle.std.specs.Prelude.{max, IfOk, IfErr}
 use Rattle.std.proofs.Math.Seq.{take-nil}
-use Rattle.std.proofs.lemmas.List.{length-map}
+use Rattle.std.proofs.lemmas.List.{append-nil, length-map}
 use Rattle.ctr_types.specs.declared.file.File.{File}
 use Rattle.ctr_types.specs.declared.file.File.TheVariants.{Pages}
 use Rattle.ctr_types.specs.declared.memory.OutOfMemory.{OutOfMemory as WantOfMemory}
@@ -24,17 +24,23 @@ use Rattle.ctr_disk.specs.Image.{content}
 use Rattle.ctr_home.specs.declared.block.Block.TheVariants.{Root as RootBlock}
 use Rattle.ctr_home.specs.declared.root.Form.TheVariants.{Paged}
 use Rattle.ctr_home.specs.Blocks.{value_of}
-use Rattle.ctr_home.specs.Roots.{SaysRootOf}
+use Rattle.ctr_home.specs.Roots.{SaysRootOf, root_block}
 use Rattle.ctr_log.specs.declared.visitor.Visit.{Visit}
 use Rattle.ctr_log.specs.Visits.{kept_visits, StopsAt, OnRead, IsToldBy}
 use Rattle.ctr_log.proofs.VisitLaws.{kept_bytes}
+use Rattle.ctr_home.specs.Checks.{check_of, judged}
+use Rattle.ctr_log.proofs.KeptLaws.{picks}
 use Rattle.ctr_meta.specs.Effects.{tables_of}
 use Rattle.ctr_log.specs.Logs.{Log, Batches, GoesOn}
-use Rattle.ctr_log.specs.Kept.{kept_log, writer_file, OpensKept, WritesBehind}
+use Rattle.ctr_log.specs.Kept.{kept_log, OpensKept, WritesBehind}
 use Rattle.ctr_records.specs.declared.record.Record.{Record}
 use Rattle.ctr_records.specs.Read.{record_in}
 use Rattle.ctr_redo.specs.States.{state_of, steps, next_of}
 use Rattle.ctr_redo.specs.Images.{records_in, stored_in, IsSound, FoldsFront, IsLogFile}
+use Rattle.ctr_meta.specs.Tables.{no_tables}
+use Rattle.ctr_redo.specs.Fitting.{EachFits, MayFollow}
+use Rattle.ctr_redo.proofs.FitLaws.{last_written}
+use Rattle.ctr_redo.proofs.ImageLaws.{last_is_log}
 use Rattle.ctr_base.specs.declared.base.Base.{Base}
 use Rattle.ctr_base.specs.Base.{stored_of, waiting_of, StandsQuiet, MovesBase}
 use Rattle.ctr_base.proofs.RootLaws.{one_root}
@@ -43,13 +49,7 @@ use Rattle.ctr_store.specs.declared.parts.Parts.{Parts}
 use Rattle.ctr_store.specs.declared.opening.Found.{Found}
 use Rattle.ctr_store.specs.declared.opening.OpenError.{OpenError}
 use Rattle.ctr_store.specs.RecordChecks.{FailsAs, RefusesVisit, tables_seen}
-use Rattle.ctr_store.specs.Opening.{FindsFront, fault_told, read_told, LogPasses, RefusesLog, IsLater, OpensParts, AnswersOpen, RefusesAs, IsWornBy, worn_by, worn_in}
-
-writer_is_log : (older : Bool) (file : ℕ) → IsLogFile (writer_file older file)
-writer_is_log false zero = tt
-writer_is_log false (suc n) = tt
-writer_is_log true zero = tt
-writer_is_log true (suc n) = tt
+use Rattle.ctr_store.specs.Opening.{FindsFront, fault_told, read_told, LogPasses, RefusesLog, IsLater, IsUndamaged, OpensParts, AnswersOpen, RefusesAs, IsWornBy, worn_by, worn_in}
 
 -- there is none where there are none at most
 pub none_left : {A : Type 0} (l : List A) → length l ≤ 0 → l ≡ []
@@ -110,6 +110,45 @@ pub root_refused : (image : Image) (e : StoreFault) → IsFaultOr (IsRootDamage 
 root_refused image store.Fault is = tt
 root_refused image (store.Damaged file at want got) is = (root_there image file at want got is, inl is)
 
+-- one check fails only where what is there isn't what is wanted
+one_fails : (file : File) (at want got : ℕ) (e : StoreFault) → judged file (check_of at want got ∷ []) ≡ Err e → want ≢ got
+one_fails file at want got e failed same =
+    let passed : judged file (check_of at want got ∷ []) ≡ Ok tt = picks want got (Ok tt) (Err (store.Damaged file at want got)) same in
+    absurd (cc (failed, passed))
+
+-- a sound image has no such damage
+pub root_undamaged : (image : Image) (e : StoreFault) (root : Root) → IsSound root image → IsFaultOr (IsRootDamage image) e → IsUndamaged (fault_told e)
+root_undamaged image store.Fault root sound is = tt
+root_undamaged image (store.Damaged file at want got) root sound is =
+    ⊎_elim
+    (λ w.
+    let value = w.0 in
+    let same : Some value ≡ Some (root_block root) = sym w.1 ∙ sound.says.0 in
+    let block : value ≡ root_block root = cc same in
+    absurd (w.2.1 root block sound.says.1))
+    (λ w.
+    let r = w.0 in
+    let one : r ≡ root = one_root (value_of RootBlock image) r root w.1 sound.says in
+    let len = length (content Pages image) in
+    let size = sound.size in
+    absurd (one_fails Pages 0 (max len (r.pages * 8256)) len (store.Damaged file at want got) w.2 (omega (arith, size, ap (λ (x : Root). x.pages) one))))
+    is
+
+pub read_undamaged : (e : ReadError) → (e ≡ read.Store store.Fault) ⊎ (e ≡ read.OutOfMemory) → IsUndamaged (read_told e)
+read_undamaged e (inl is) = subst (λ (x : ReadError). IsUndamaged (read_told x)) (sym is) tt
+read_undamaged e (inr is) = subst (λ (x : ReadError). IsUndamaged (read_told x)) (sym is) tt
+
+-- behind the log
+pub later_undamaged : (e : OpenError) → (e ≡ open_error.Fault) ⊎ (e ≡ open_error.OutOfMemory) → IsUndamaged e
+later_undamaged e (inl is) = subst IsUndamaged (sym is) tt
+later_undamaged e (inr is) = subst IsUndamaged (sym is) tt
+
+-- a refusal as worn
+pub worn_undamaged : {T D : Type 0} (w : Option ℕ) (r : Result T (OpenError × D)) → IsWornBy w r → IfErr r (λ e. IsUndamaged e.0)
+worn_undamaged w (Ok t) is = tt
+worn_undamaged None (Err e) is = absurd is
+worn_undamaged (Some n) (Err e) is = subst IsUndamaged (sym is) tt
+
 -- of the log
 pub read_refused : (image : Image) (root : Root) (e : ReadError) → SaysRootOf Paged (value_of RootBlock image) root → RefusesLog root image e → RefusesAs image (read_told e)
 read_refused image root (read.Store store.Fault) says refused = tt
@@ -135,7 +174,8 @@ module _ {D O : Type 0} (first : Image) (g : Ghosts D) where
       let stored : next_of (stored_of g b) ≡ next_of (stored_in root first) = ap (λ (r : Root). next_of (stored_in r (g.reads b.disk))) root_is ∙ ap (λ (i : Image). next_of (stored_in root i)) here in
       record {
         stands = record {
-          file = subst (λ l. IsLogFile l.file) (sym log_is) (subst IsLogFile (sym found.kept.file_is) (writer_is_log f.log.older root.file));
+          says = subst (λ (i : Image). SaysRootOf Paged (value_of RootBlock i) b.root) (sym here) (subst (SaysRootOf Paged (value_of RootBlock first)) (sym root_is) front.says);
+          file = subst (λ l. IsLogFile l.file) (sym log_is) (subst IsLogFile (sym found.kept.file_is) (last_is_log f.log.older root.file));
           goes_on = subst (λ l. (oldest : ℕ) × (bs : Batches) × GoesOn oldest bs l (g.reads b.disk)) (sym log_is)
               (subst (λ (i : Image). (oldest : ℕ) × (bs : Batches) × GoesOn oldest bs f.log i) (sym here) found.kept.goes_on);
           size = subst (λ (r : Root). 8256 * r.pages ≤ length (content Pages (g.reads b.disk))) (sym root_is) (subst (λ (i : Image). 8256 * root.pages ≤ length (content Pages i)) (sym here) front.size);
@@ -148,6 +188,15 @@ module _ {D O : Type 0} (first : Image) (g : Ghosts D) where
               sound = subst (λ (r : Root). IsSound r (g.reads b.disk)) (sym root_is) (subst (IsSound root) (sym here) s);
               writes = subst (λ l. WritesBehind b.root.file b.root.first l (g.reads b.disk)) (sym log_is)
                   (subst (λ (r : Root). WritesBehind r.file r.first f.log (g.reads b.disk)) (sym root_is) (subst (WritesBehind root.file root.first f.log) (sym here) writes));
+              follows = subst (λ l. MayFollow b.root l.file l.buffered (g.reads b.disk)) (sym log_is)
+                  (subst (λ (r : Root). MayFollow r f.log.file f.log.buffered (g.reads b.disk)) (sym root_is)
+                  (subst (λ (i : Image). MayFollow root f.log.file f.log.buffered i) (sym here)
+                  (subst (λ (l : List (List ℕ)). MayFollow root f.log.file l first) (sym found.none)
+                  (record {
+                    file_is = last_written root.file root.first first f.log.older f.log writes.by;
+                    fits = subst (EachFits root.pages no_tables) (sym (append-nil kept)) s.fits;
+                    changes = tt;
+                  }))));
               durable = durable_is ∙ next ∙ omega (arith, next_is, ap (λ (l : List (List ℕ)). length l) found.none) ∙ sym stored;
               first = ap (λ l. l.first) log_is ∙ next_is ∙ sym stored;
             };

@@ -1,18 +1,23 @@
 -- How the parts of a store go on.
-use Rattle.std.proofs.Common.{◌≡◌, ◌≢◌, inl, inr, ⊎_elim, ℕ, ◌+◌, ◌<◌, ◌≤◌, ◌==◌, if◌then◌else◌, Bool, true, false, List, [], ◌∷◌, ◌++◌, length, Option, Some, None, refl, sym, ◌∙◌, ap, subst, arith, length-append, append_assoc}
+use Rattle.std.proofs.Common.{◌≡◌, ◌≢◌, inl, inr, ⊎_elim, ℕ, ◌+◌, ◌<◌, ◌≤◌, ◌==◌, if◌then◌else◌, Bool, true, false, List, [], ◌∷◌, ◌++◌, length, Option, Some, None, Ok, refl, sym, ◌∙◌, ap, subst, arith, length-append, append_assoc}
 use Rattle.std.proofs.lemmas.List.{map-append, length-map}
 use Rattle.std.proofs.lemmas.Bool.Decides.{eqb_tells}
 use Rattle.std.specs.Option.{option_map}
 use Rattle.ctr_disk.specs.declared.disk.Disk.{Ghosts}
 use Rattle.ctr_disk.specs.declared.disk.Image.{Image}
 use Rattle.ctr_log.specs.Logs.{Log, Batches, GoesOn}
-use Rattle.ctr_log.specs.Kept.{WritesBehind, WritesBy}
 use Rattle.ctr_records.specs.declared.record.Record.{Record}
 use Rattle.ctr_records.specs.declared.record.Overlay.{Overlay}
 use Rattle.ctr_records.specs.Read.{record_in}
 use Rattle.ctr_disk.specs.declared.fault.Root.{Root}
 use Rattle.ctr_meta.specs.Effects.{effect, tables_of}
-use Rattle.ctr_meta.specs.Kept.{MayApply}
+use Rattle.ctr_meta.specs.Kept.{IsLogged, MayApply}
+use Rattle.ctr_meta.specs.Needs.{needs}
+use Rattle.ctr_meta.specs.Tables.{Tables, no_tables}
+use Rattle.ctr_bytes.specs.Fields.{field}
+use Rattle.ctr_log.specs.Kept.{kept_log, WritesBehind, WritesBy}
+use Rattle.ctr_records.specs.Spelling.{record_bytes}
+use Rattle.ctr_records.proofs.ReadBack.{record_read}
 use Rattle.ctr_pool.specs.declared.frame.Frame.{Frame}
 use Rattle.ctr_pool.specs.Pages.{PageHeld, overlaid_by}
 use Rattle.ctr_pool.specs.Below.{HoldsStill}
@@ -26,9 +31,12 @@ use Rattle.ctr_redo.specs.Images.{records_in, FoldsFront}
 use Rattle.ctr_redo.proofs.PageLaws.{stays_out, goes_in, below_next, overlaid-append}
 use Rattle.ctr_redo.proofs.StateLaws.{state_push, page_is, tables-push, below_more}
 use Rattle.ctr_base.specs.declared.base.Base.{Base}
+use Rattle.ctr_base.specs.Growth.{GrowsBase}
 use Rattle.ctr_base.specs.Base.{stored_of, waiting_of, now_of, home_of, MaySave, MayPut, IsQuiet, IsSoundImage, StandsWell, StandsQuiet, LeavesIf, MovesBase, MovesIf, KeepsBase, backing_of}
 use Rattle.ctr_store.specs.declared.parts.Parts.{Parts}
-use Rattle.ctr_store.specs.Changes.{LiesInside}
+use Rattle.ctr_redo.specs.Fitting.{LiesInside, FitsBehind, EachFits, MayFollow}
+use Rattle.ctr_redo.proofs.FitLaws.{tables_behind, tables_behind_is, each_append, none_append}
+use Rattle.ctr_store.proofs.RecordLaws.{change_number}
 use Rattle.ctr_store.specs.Parts.{IsFold, AreLow, CanLog, AddsRecord, LogsRecord}
 
 -- a writer with more that waits goes on behind the same log
@@ -76,6 +84,19 @@ module _ {D O : Type 0} (first : Image) (g : Ghosts D) where
     tables = λ sound. tables ∙ fold.tables sound ∙ ap tables_of (sym (m sound).all);
     current = λ sound p. shows p ∙ fold.current sound p ∙ sym ((m sound).pages p);
   }
+
+  -- more pages are counted below the pool
+  pub fold_grown : (s : Parts D O) (b : Base D O) → IsFold first g s → GrowsBase g s.base b → HoldsStill (home_of g) (MayPut first g) s.base b → StandsQuiet first g b → IsFold first g (record s { base = b })
+  fold_grown s b fold grows holds rests =
+      let fs = s.pool.frames in
+      let more = ap (λ (r : Root). r.first) grows.root in
+      let all : (now_of g b).records ≡ (now_of g s.base).records = ap (λ (l : List Record). l ++ waiting_of b) grows.records ∙ ap (λ (l : Log). (stored_of g s.base).records ++ records_in l.buffered) grows.log in
+      record {
+        over = over_held fs s.base b holds rests fold.over;
+        tables = λ sound. fold.tables sound ∙ ap tables_of (sym all);
+        current = λ sound p. shows_held fs s.base b holds p ∙ fold.current sound p
+            ∙ sym (ap (λ (n : ℕ). overlaid p n (now_of g b).records (home_of g b p)) more ∙ ap (λ (l : List Record). overlaid p s.base.root.first l (home_of g b p)) all ∙ ap (overlaid p s.base.root.first (now_of g s.base).records) (grows.homes p));
+      }
 
   -- what a page shows is what the state has of it
   pub page_is_shown : (s : Parts D O) (p : ℕ) → IsSoundImage first → IsFold first g s → p < page_limit → (page_shown s.pool.frames p (home_of g s.base p)).body ≡ page_at p (state_of (now_of g s.base)).pages
@@ -128,10 +149,28 @@ module _ {D O : Type 0} (first : Image) (g : Ghosts D) where
     pub push_other : (q : ℕ) (h : PageHeld) → touches r q ≡ false → overlaid q a.root.first (now_of g b).records h ≡ overlaid q a.root.first (now_of g a).records h
     push_other q h off = push_page q h ∙ stays_out q (next_of (now_of g a)) r (overlaid q a.root.first (now_of g a).records h) (λ is_on. absurd (cc (off, is_on)))
 
-    push_quiet : IsQuiet g a → IsQuiet g b
-    push_quiet quiet = record {
+    -- it fits behind those so far, and is no Checkpoint
+    abbrev pub Fits : Type 0
+    Fits = (IsSoundImage first → FitsBehind a.root.pages (tables_of (now_of g a).records) bytes) × (field 1 0 bytes ≢ 1)
+
+    push_follows : IsQuiet g a → FitsBehind a.root.pages (tables_of (now_of g a).records) bytes → field 1 0 bytes ≢ 1 → MayFollow a.root log.file log.buffered (g.reads a.disk)
+    push_follows quiet fits change =
+        let kept = kept_log a.root.file a.root.first (g.reads a.disk) in
+        let so_far = kept ++ a.log.buffered in
+        let tables : tables_of (now_of g a).records ≡ tables_behind no_tables so_far = ap tables_of (sym (map-append record_in kept a.log.buffered)) ∙ sym (tables_behind_is no_tables so_far) in
+        let behind = subst (λ (t : Tables). FitsBehind a.root.pages t bytes) tables fits in
+        subst (λ (l : Log). MayFollow a.root l.file l.buffered (g.reads a.disk)) (sym log_is)
+        (record {
+          file_is = quiet.follows.file_is;
+          fits = subst (EachFits a.root.pages no_tables) (append_assoc kept a.log.buffered (bytes ∷ [])) (each_append a.root.pages no_tables so_far (bytes ∷ []) quiet.follows.fits (behind, tt));
+          changes = none_append a.log.buffered (bytes ∷ []) quiet.follows.changes (change, tt);
+        })
+
+    push_quiet : IsQuiet g a → FitsBehind a.root.pages (tables_of (now_of g a).records) bytes → field 1 0 bytes ≢ 1 → IsQuiet g b
+    push_quiet quiet fits change = record {
       only = quiet.only;
       sound = quiet.sound;
+      follows = push_follows quiet fits change;
       writes = subst (λ (l : Log). WritesBehind a.root.file a.root.first l (g.reads a.disk)) (sym log_is)
           (record { numbered = quiet.writes.numbered; by = writes_more a.log.older a.root.file a.root.first a.log (g.reads a.disk) (a.log.buffered ++ bytes ∷ []) log.room quiet.writes.by });
       durable = quiet.durable;
@@ -139,10 +178,10 @@ module _ {D O : Type 0} (first : Image) (g : Ghosts D) where
     }
 
     push_stands : StandsWell g a → StandsWell g b
-    push_stands stands = subst (λ (l : Log). StandsWell g (record a { log = l })) (sym log_is) (record { file = stands.file; goes_on = goes_more (g.reads a.disk) a.log (a.log.buffered ++ bytes ∷ []) log.room stands.goes_on; size = stands.size })
+    push_stands stands = subst (λ (l : Log). StandsWell g (record a { log = l })) (sym log_is) (record { says = stands.says; file = stands.file; goes_on = goes_more (g.reads a.disk) a.log (a.log.buffered ++ bytes ∷ []) log.room stands.goes_on; size = stands.size })
 
-    pub push_rests : StandsQuiet first g a → StandsQuiet first g b
-    push_rests rests = record { stands = push_stands rests.stands; quiet = λ sound. push_quiet (rests.quiet sound) }
+    pub push_rests : Fits → StandsQuiet first g a → StandsQuiet first g b
+    push_rests may rests = record { stands = push_stands rests.stands; quiet = λ sound. push_quiet (rests.quiet sound) (may.0 sound) may.1 }
 
     pub push_state : IsQuiet g a → state_of (now_of g b) ≡ step r (state_of (now_of g a))
     push_state quiet =
@@ -166,8 +205,8 @@ module _ {D O : Type 0} (first : Image) (g : Ghosts D) where
     still_held q v (Some s) off may = record { counted = may.counted; above = may.above; sound = λ sound. still_saves q s v off (may.sound sound) }
 
     -- a record on no page
-    pub off_over : (fs : List Frame) → ((q : ℕ) → touches r q ≡ false) → IsOver (backing_of first g) fs a → IsOver (backing_of first g) fs b
-    off_over fs off over = record { at_rest = push_rests over.at_rest; held = λ q f is. still_held q (page_of f) f.since (off q) (over.held q f is) }
+    pub off_over : Fits → (fs : List Frame) → ((q : ℕ) → touches r q ≡ false) → IsOver (backing_of first g) fs a → IsOver (backing_of first g) fs b
+    off_over may fs off over = record { at_rest = push_rests may over.at_rest; held = λ q f is. still_held q (page_of f) f.since (off q) (over.held q f is) }
 
     pub off_current : (fs : List Frame) → ((q : ℕ) → touches r q ≡ false) → ((q : ℕ) → page_shown fs q (home_of g a q) ≡ overlaid q a.root.first (now_of g a).records (home_of g a q))
         → (q : ℕ) → page_shown fs q (home_of g b q) ≡ overlaid q a.root.first (now_of g b).records (home_of g b q)
@@ -221,8 +260,8 @@ module _ {D O : Type 0} (first : Image) (g : Ghosts D) where
       one : {A : Type 0} (x y : A) → Some x ≡ Some y → x ≡ y
       one x y e = cc e
 
-      pub on_over : IsOver (backing_of first g) gs b
-      on_over = record { at_rest = push_rests over.at_rest; held = λ q h is. ⊎_elim (λ w. at_page q h is w.1) (λ w. beside q h is w.1) (eqb_tells q p) }
+      pub on_over : Fits → IsOver (backing_of first g) gs b
+      on_over may = record { at_rest = push_rests may over.at_rest; held = λ q h is. ⊎_elim (λ w. at_page q h is w.1) (λ w. beside q h is w.1) (eqb_tells q p) }
         where
           at_page : (q : ℕ) (h : Frame) → frame_of q gs ≡ Some h → q ≡ p → IsHeld (backing_of first g) b q (page_of h) h.since
           at_page q h is same =
@@ -243,6 +282,20 @@ module _ {D O : Type 0} (first : Image) (g : Ghosts D) where
           (eqb_tells q p)
 
   -- ---- the whole call
+
+  -- what can be logged fits behind what is there
+  pub can_follow : (r : Record) (s : Parts D O) → CanLog r s → (IsSoundImage first → s.meta.tables ≡ tables_of (now_of g s.base).records)
+      → (IsSoundImage first → FitsBehind s.base.root.pages (tables_of (now_of g s.base).records) (record_bytes r)) × (field 1 0 (record_bytes r) ≢ 1)
+  can_follow r s can tables =
+      let tells = record_read r can.logged.record_is in (
+        λ sound. record {
+          logged = subst IsLogged (sym tells) can.logged;
+          bytes_are = ap record_bytes tells;
+          inside = subst (λ (x : Record). LiesInside s.base.root.pages (overlay_of x)) (sym tells) can.counted;
+          needed = subst (λ (x : Record). needs x (tables_of (now_of g s.base).records) ≡ Ok tt) (sym tells) (subst (λ (t : Tables). needs r t ≡ Ok tt) (tables sound) can.may.fits);
+        },
+        change_number r can.logged.record_is can.change,
+      )
 
   -- what can be logged can still be, where room isn't lost below
   pub can_still : (r : Record) (s t : Parts D O) → KeepsBase s.base t.base → t.meta ≡ s.meta → CanLog r s → CanLog r t

@@ -11,16 +11,19 @@ use Rattle.ctr_records.specs.declared.table.Tag.{Tag}
 use Rattle.ctr_records.specs.declared.table.Tag.TheVariants as tag
 use Rattle.ctr_records.specs.Table.{layout, flag_at}
 use Rattle.ctr_records.specs.Parts.{form_of, OverlayFits}
-use Rattle.ctr_records.specs.Spelling.{record_bytes, form_bytes, overlay_len}
+use Rattle.ctr_records.specs.Spelling.{record_bytes, form_bytes, parts_bytes, overlay_len}
 use Rattle.ctr_records.specs.Records.{FormFits, IsRecord}
 use Rattle.ctr_records.specs.Read.{record_in}
 use Rattle.ctr_records.proofs.ReadBack.{record_read}
+use Rattle.ctr_bytes.specs.Fields.{field}
+use Rattle.ctr_records.proofs.Forms.{begins_so}
 use Rattle.ctr_records.proofs.Laws.{length-parts}
 use Rattle.ctr_pool.specs.declared.frame.Frame.{Frame}
 use Rattle.ctr_pool.specs.Frames.{frame_of, has_page, change_of, since_in, IsOldest, AreClean}
 use Rattle.ctr_store.specs.Parts.{has_change, some_dirty}
 use Rattle.ctr_redo.specs.Overlaid.{form_overlay, overlay_of, lies_on, touches}
-use Rattle.ctr_store.specs.Changes.{HasFields, IsChange, LiesInside}
+use Rattle.ctr_redo.specs.Fitting.{LiesInside}
+use Rattle.ctr_store.specs.Changes.{HasFields, IsChange}
 
 flag_low : (t : Tag) → flag_at (layout t) ≤ 17
 flag_low tag.Begin = omega arith
@@ -139,3 +142,11 @@ one_dirty fs p s oldest = by (frame_of p fs) refl
 pub wrote_is : (fs : List Frame) (wrote : Bool) → (wrote ≡ false → AreClean fs) → (wrote ≡ true → (p : ℕ) × (s : ℕ) × IsOldest p s fs) → wrote ≡ some_dirty fs
 wrote_is fs true none some = let o = some refl in sym (one_dirty fs o.0 o.1 o.2)
 wrote_is fs false none some = sym (none_dirty fs (none refl))
+
+-- the number of a record that is no Checkpoint isn't a Checkpoint's
+pub change_number : (r : Record) → IsRecord r → IsChange r → field 1 0 (record_bytes r) ≢ 1
+change_number r fits change = by_form (form_of r) fits change
+  where
+    by_form : (f : Form) → FormFits f → HasFields f → field 1 0 (form_bytes f) ≢ 1
+    by_form (Lists next lists) fits change is = absurd change
+    by_form (Fields p) fits change is = let n = begins_so p (parts_bytes p) fits refl in omega (arith, is, n.0)

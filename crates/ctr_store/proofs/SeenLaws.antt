@@ -21,7 +21,7 @@ use Rattle.ctr_redo.proofs.PageLaws.{either}
 use Rattle.ctr_redo.proofs.StateLaws.{tables-push}
 use Rattle.ctr_base.specs.declared.base.Base.{Base}
 use Rattle.ctr_store.specs.Redo.{IsNextRecord}
-use Rattle.ctr_store.specs.Changes.{LiesInside}
+use Rattle.ctr_redo.specs.Fitting.{LiesInside}
 use Rattle.ctr_store.specs.RecordChecks.{overlay_page_check, PassesAs, AllPass, tables_seen}
 
 -- the record of a visit stands where the visit does

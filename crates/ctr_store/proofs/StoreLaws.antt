@@ -1,6 +1,6 @@
 -- What callers see of a call on the parts.
-use Rattle.std.proofs.Common.{◌≡◌, ◌∙◌, Bool, true, false, [], drop, Result, Ok, Err, refl, sym, ap, subst, arith}
-use Rattle.std.specs.Prelude.{IsTrue}
+use Rattle.std.proofs.Common.{◌≡◌, ◌∙◌, ◌<◌, Bool, true, false, [], drop, Result, Ok, Err, refl, sym, ap, subst, arith}
+use Rattle.std.specs.Prelude.{IsTrue, OnOk, is_err}
 use Rattle.std.proofs.lemmas.List.{append-nil, length-map}
 use Rattle.ctr_disk.specs.declared.disk.Disk.{Ghosts}
 use Rattle.ctr_types.specs.Faults.{HasFault}
@@ -12,16 +12,29 @@ use Rattle.ctr_log.proofs.VisitLemmas.{ok_isnt}
 use Rattle.ctr_records.specs.declared.record.Record.{Record}
 use Rattle.ctr_records.specs.Read.{record_in}
 use Rattle.ctr_meta.specs.Needs.{needs}
-use Rattle.ctr_base.specs.Base.{waiting_of, IsSoundImage, LeavesIf, MovesBase, MovesIf, KeepsBase}
+use Rattle.ctr_base.specs.Base.{waiting_of, now_of, IsSoundImage, LeavesIf, MovesBase, MovesIf, KeepsBase}
 use Rattle.ctr_store.specs.declared.parts.Parts.{Parts}
-use Rattle.ctr_store.specs.Parts.{CanLog}
-use Rattle.ctr_store.specs.Store.{View, Logs, LeavesPage, MayLog, KeepsRoom}
+use Rattle.ctr_base.specs.Growth.{GrowsBase, AreBlank}
+use Rattle.ctr_base.specs.BaseLaws.{rests_leaves}
+use Rattle.ctr_redo.specs.States.{State, state_of, grown, page_at}
+use Rattle.ctr_store.specs.Parts.{IsFold, CanLog}
+use Rattle.ctr_store.specs.Store.{View, Logs, LeavesPage, MayLog, KeepsRoom, Grows}
 use Rattle.ctr_store.specs.StoreInside.{view_of}
 use Rattle.ctr_store.proofs.RecordLaws.{record_short}
 
 -- a call that answers with this fault
 abbrev failed_with : (T : Type 0) → StoreFault → Result T StoreFault
 failed_with T e = Err e
+
+-- what holds of an answer that is no error
+pub of_ok : {T E P : Type 0} (r : Result T E) → is_err r ≡ false → OnOk r P → P
+of_ok (Ok x) is p = p
+of_ok (Err e) is p = absurd (cc is)
+
+-- two things hold where a call was answered Ok
+pub on_ok_both : {T E P Q R : Type 0} (r : Result T E) → (P → Q → R) → OnOk r P → OnOk r Q → OnOk r R
+on_ok_both (Ok x) f p q = f p q
+on_ok_both (Err e) f p q = tt
 
 module _ {D O : Type 0} (g : Ghosts D) where
   -- a call that logs nothing
@@ -54,6 +67,17 @@ module _ {D O : Type 0} (g : Ghosts D) where
         meta = meta;
         counted = ap (λ (r : Root). r.pages) keeps.root;
       }
+
+  -- a growth
+  pub grows_seen : (first : Image) → ((d : D) (c : Image) → g.since d (g.moment_of d) c → g.images d c) → (s t : Parts D O) (b c : Bool) → IsFold first g t → IsSoundImage first → GrowsBase g s.base t.base
+      → AreBlank s.base.root.pages (grown s.base.root.pages) (state_of (now_of g s.base)) → Grows g (view_of g s b) (view_of g t c)
+  grows_seen first only_now s t b c fold sound grows blank = record {
+    hardened = grows.hardened;
+    now = grows.now;
+    blank = λ p low high inside.
+        ap (λ (x : State). page_at p x.pages) grows.now ∙ blank p low (subst (λ (r : Root). p < r.pages) grows.root high) inside;
+    durable = rests_leaves g first only_now t.base fold.over.at_rest sound;
+  }
 
   -- a page that is lent, or a call for one that was refused
   module _ (first : Image) (s t : Parts D O) (b : Bool) (old : View D) (is : view_of g s b ≡ old) (goes : IsTrue g.tells → LeavesIf first g s.base t.base) (keeps : KeepsBase s.base t.base) (meta : t.meta ≡ s.meta) where

@@ -151,6 +151,14 @@ IsLater (open_error.Worn n) = ⊥
 IsLater open_error.Fault = Unit {0}
 IsLater open_error.OutOfMemory = Unit {0}
 
+-- an error that says of an image neither that it has no database nor that it is damaged
+abbrev pub IsUndamaged : OpenError → Type 0
+IsUndamaged open_error.NoDatabase = ⊥
+IsUndamaged (open_error.Damaged file at want got) = ⊥
+IsUndamaged (open_error.Worn n) = Unit {0}
+IsUndamaged open_error.Fault = Unit {0}
+IsUndamaged open_error.OutOfMemory = Unit {0}
+
 -- An image is refused so: as no database exactly where no root home is open, as damaged by the
 -- first check that fails, as worn by its number.
 abbrev pub RefusesAs : Image → OpenError → Type 0

@@ -14,7 +14,8 @@ use Rattle.ctr_redo.specs.Overlaid.{overlay_of, overlaid}
 use Rattle.ctr_redo.specs.States.{state_of, step, steps}
 use Rattle.ctr_base.specs.declared.base.Base.{Base}
 use Rattle.ctr_base.specs.Base.{stored_of, waiting_of, now_of, home_of, IsSoundImage, backing_of}
-use Rattle.ctr_store.specs.Changes.{IsChange, LiesInside}
+use Rattle.ctr_redo.specs.Fitting.{LiesInside}
+use Rattle.ctr_store.specs.Changes.{IsChange}
 use Rattle.ctr_store.specs.declared.parts.Parts.{Parts}
 
 -- The pool stands over the log and the homes. Where the first image was sound, nothing is pending,
@@ -63,12 +64,13 @@ pub record AddsRecord {D O : Type 0} (g : Ghosts D) (r : Record) (s t : Parts D 
   pub root : t.base.root ≡ s.base.root
   pub now : state_of (now_of g t.base) ≡ step r (state_of (now_of g s.base))
 
--- the room that is left in the log's buffer and in the tables, the number of the next record, and how
--- many pages are counted
+-- the room that is left in the log's buffer and in the tables, the number of the next record, how many
+-- records wait at most, and how many pages are counted
 abbrev pub LogsRoom : {D O : Type 0} → Record → Parts D O → Parts D O → Type 0
 LogsRoom r s t = (s.base.log.room ≤ t.base.log.room + (8 + length (record_bytes r)))
     × RoomLeft (opens_added r) (items_added r) s.meta t.meta
     × (t.base.log.first + length t.base.log.buffered ≡ s.base.log.first + length s.base.log.buffered + 1)
+    × (length t.base.log.buffered ≤ length s.base.log.buffered + 1)
     × (t.base.root.pages ≡ s.base.root.pages)
 
 -- The first of what waited is durable now, and a record more waits behind the rest.

@@ -11,7 +11,7 @@ use Rattle.ctr_pool.specs.Over.{IsOver}
 use Rattle.ctr_redo.specs.Overlaid.{overlay_of, overlaid}
 use Rattle.ctr_base.specs.declared.base.Base.{Base}
 use Rattle.ctr_base.specs.Base.{stored_of, home_of, IsSoundImage, StandsQuiet, IsQuiet, MovesIf, backing_of}
-use Rattle.ctr_store.specs.Changes.{LiesInside}
+use Rattle.ctr_redo.specs.Fitting.{LiesInside}
 use Rattle.ctr_store.specs.declared.parts.Parts.{Parts}
 use Rattle.ctr_store.specs.RecordChecks.{AllPass, tables_seen}
 

@@ -13,10 +13,12 @@ use Rattle.ctr_records.specs.declared.decoding.BadRecord.{BadRecord}
 use Rattle.ctr_meta.specs.Kept.{TablesKept, IsLogged, NumbersFit, RoomLeft, opens_added, items_added}
 use Rattle.ctr_meta.specs.Needs.{needs}
 use Rattle.ctr_redo.specs.Overlaid.{overlay_of}
-use Rattle.ctr_redo.specs.States.{State, steps}
-use Rattle.ctr_redo.specs.Images.{FoldsFront}
+use Rattle.ctr_redo.specs.States.{State, steps, counting, grown}
+use Rattle.ctr_redo.specs.Images.{FoldsFront, FoldsGrown}
 use Rattle.ctr_base.specs.Base.{IsSoundImage}
-use Rattle.ctr_store.specs.Changes.{IsChange, LiesInside}
+use Rattle.ctr_base.specs.Growth.{AreBlank}
+use Rattle.ctr_redo.specs.Fitting.{LiesInside}
+use Rattle.ctr_store.specs.Changes.{IsChange}
 use Rattle.ctr_store.specs.RecordChecks.{record_damage}
 
 -- The disk; what it folds to; the records that aren't hardened, in order; pages and tables with
@@ -75,13 +77,14 @@ abbrev pub RefusesUnfit : {D T : Type 0} → Record → View D → View D → Re
 RefusesUnfit r a b result = (bad : BadRecord) → unmet_need r a ≡ Err bad
     → (result ≡ Err (record_damage a.file a.place bad)) × (b ≡ a)
 
--- A record has this number, the next one is one more, this room is left, and as many pages are
--- counted.
+-- A record has this number, the next one is one more, this room is left, one record more waits at most,
+-- and as many pages are counted.
 pub record TakesRecord {D : Type 0} (r : Record) (lsn : ℕ) (a b : View D) : Type 0 where
   pub number : lsn ≡ a.next
   pub next : b.next ≡ a.next + 1
   pub room : a.room ≤ b.room + (8 + length (record_bytes r))
   pub left : RoomLeft (opens_added r) (items_added r) a.meta b.meta
+  pub few : length b.waiting ≤ length a.waiting + 1
   pub counted : b.now.counted ≡ a.now.counted
 
 -- However a call ends, the number of the next record is that of before, as many pages are counted,
@@ -103,3 +106,23 @@ pub record LeavesPage {D T : Type 0} (first : Image) (g : Ghosts D) (old new : V
   pub stopped : OnErr result (new.stopped ≡ true)
   pub refused : IsTrue g.tells → IsSoundImage first → OnErr result (result ≡ Err Fault)
   pub faults : HasFault Fault (g.faults_of old.disk) (g.faults_of new.disk) result
+
+-- ---- growth
+
+-- At each moment of a growth a crash leaves what was hardened, with the old count of pages or the new
+-- one.
+abbrev pub LeavesGrowing : {D : Type 0} → Ghosts D → View D → View D → Type 0
+LeavesGrowing g a b = LeavesOnly g a.disk b.disk (FoldsGrown a.hardened)
+
+-- More pages are counted, each of which has nothing; pages and tables are those of before, of what is
+-- hardened and of all. That is durable: a crash leaves the new count with a prefix of what waits.
+pub record Grows {D : Type 0} (g : Ghosts D) (a b : View D) : Type 0 where
+  pub hardened : b.hardened ≡ counting (grown a.now.counted) a.hardened
+  pub now : b.now ≡ counting (grown a.now.counted) a.now
+  pub blank : AreBlank a.now.counted b.now.counted b.now
+  pub durable : LeavesFront g b b
+
+-- all but the disk, what it folds to, and whether a call was answered an error is as it was
+abbrev pub StaysBeside : {D : Type 0} → View D → View D → Type 0
+StaysBeside a b =
+    b ≡ record a { disk = b.disk; hardened = b.hardened; now = b.now; stopped = b.stopped }

@@ -6,10 +6,12 @@ ghost use Rattle.ctr_home.specs.declared.root.Form.TheVariants.{Paged};
 ghost use Rattle.ctr_home.specs.Blocks.{value_of};
 ghost use Rattle.ctr_home.specs.Roots.{IsRootOf, SaysRootOf};
 ghost use Rattle.ctr_store.specs.RecordChecks.{AllPass};
-ghost use Rattle.ctr_store.specs.Opening.{HasRoom, IsReady, FindsLog, FindsFront, RefusesLog, RefusesAs, OpensParts, disk_left, worn_by, IsWornBy, IsLater, AnswersOpen, LeavesFirst};
+ghost use Rattle.ctr_store.specs.Opening.{HasRoom, IsReady, FindsLog, FindsFront, RefusesLog, RefusesAs, OpensParts, disk_left, worn_by, IsWornBy, IsLater, IsUndamaged, AnswersOpen, LeavesFirst};
 ghost use Rattle.ctr_store.specs.declared.opening.OpenError.TheVariants.{Fault, OutOfMemory as NoMemory};
 ghost use Rattle.ctr_redo.specs.States.{state_of};
-ghost use Rattle.ctr_redo.specs.Images.{stored_in, FoldsFront};
+ghost use Rattle.ctr_redo.specs.Images.{stored_in, IsSound, FoldsFront};
+ghost use Rattle.ctr_disk.specs.declared.fault.StoreFault.TheVariants.{Fault as StoreFailed};
+ghost use Rattle.ctr_log.specs.declared.reading.ReadError.TheVariants.{Store as ReadStore, OutOfMemory as ReadMemory};
 ghost use Rattle.ctr_base.specs.Base.{IsSoundImage};
 
 use crate::parts::Parts;
@@ -107,6 +109,7 @@ fn read_log<D: Disk, O: Origin>(
     ensures passed { IfOk result (λ f. (pages : ℕ) × AllPass pages f.visits) }
     ensures room { IfOk result (λ f. HasRoom f.log) }
     ensures refused { IsTrue D.tells → IfErr result (RefusesLog root.now (D.reads disk.old)) }
+    ensures undamaged { IsTrue D.tells → IsSound root.now (D.reads disk.old) → IfErr result (λ e. (e ≡ ReadStore StoreFailed) ⊎ (e ≡ ReadMemory)) }
     ensures quiet { OnlyReads D.Disk disk.old disk.new }
 {
     let mut seen = Seen::<D, O>::new(alloc, root.pages);
@@ -122,6 +125,7 @@ fn read_front<D: Disk, O: Origin>(alloc: Global, disk: &mut D) -> Result<(Root, 
     ensures found { IsTrue D.tells → IfOk result (λ r. FindsFront O.first r.0 r.1) }
     ensures passed { IfOk result (λ r. ((pages : ℕ) × AllPass pages r.1.visits) × HasRoom r.1.log) }
     ensures refused { IsTrue D.tells → IfErr result (RefusesAs O.first) }
+    ensures undamaged { IsTrue D.tells → IsSoundImage O.first → IfErr result IsUndamaged }
     ensures quiet { OnlyReads D.Disk disk.old disk.new }
     ensures durable { OnOk result (IsDurable D.Disk disk.new) }
 {
@@ -209,6 +213,7 @@ fn finish<D: Disk, O: Origin>(
     requires passed { (pages : ℕ) × AllPass pages found.visits }
     requires room { HasRoom found.log }
     ensures answer { IsTrue D.tells → AnswersOpen O.first D.Disk result }
+    ensures undamaged { IsTrue D.tells → IsSoundImage O.first → IfErr result (λ e. IsUndamaged e.0) }
     ensures ready { IfOk result IsReady }
     ensures goes { IsTrue D.tells → IsSoundImage O.first → LeavesOnly D.Disk disk (disk_left result) (FoldsFront (state_of (stored_in root O.first)) []) }
 {
@@ -225,6 +230,7 @@ impl<D: Disk, O: Origin> Parts<D, O> {
         requires named { O.first ≡ D.reads disk }
         requires frames { (8 ≤ frames) × (frames ≤ 4096) }
         ensures answer { IsTrue D.tells → AnswersOpen O.first D.Disk result }
+        ensures undamaged { IsTrue D.tells → IsSoundImage O.first → IfErr result (λ e. IsUndamaged e.0) }
         ensures ready { IfOk result IsReady }
         ensures any_moment { IsTrue D.tells → IsSoundImage O.first → LeavesOnly D.Disk disk (disk_left result) (LeavesFirst O.first (D.images disk)) }
     {

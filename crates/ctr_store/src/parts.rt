@@ -4,7 +4,8 @@ ghost use Rattle.ctr_types.specs.Faults.{HasFault};
 ghost use Rattle.ctr_disk.specs.declared.fault.StoreFault.TheVariants.{Fault};
 ghost use Rattle.ctr_redo.specs.Overlaid.{overlay_of};
 ghost use Rattle.ctr_pool.specs.Frames.{has_page};
-ghost use Rattle.ctr_redo.specs.States.{page_limit, page_at, state_of};
+ghost use Rattle.ctr_redo.specs.States.{page_limit, page_at, state_of, grown};
+ghost use Rattle.ctr_base.specs.Growth.{LeavesGrown, GrowsBase, AreBlank};
 ghost use Rattle.ctr_base.specs.Base.{now_of, IsSoundImage, LeavesIf, MovesIf, KeepsBase, backing_of};
 ghost use Rattle.ctr_pool.specs.Over.{IsOver, StaysOver};
 ghost use Rattle.ctr_disk.specs.Device.{OnlyReads};
@@ -131,6 +132,23 @@ impl<D: Disk, O: Origin> Parts<D, O> {
     {
         let wrote = self.pool.write_one(&mut self.base)?;
         Ok(wrote)
+    }
+
+    /// Counts 64 pages more, or as many as there may be, which have nothing.
+    pub fn grow(&mut self) -> Result<(), StoreFault>
+        requires few { self.old.base.root.pages < 30000 }
+        requires fold { IsTrue D.tells → IsFold O.first D.Disk self.old }
+        ensures any_moment { IsTrue D.tells → IsSoundImage O.first → LeavesGrown D.Disk self.old.base self.new.base }
+        ensures grows { IsTrue D.tells → OnOk result (GrowsBase D.Disk self.old.base self.new.base) }
+        ensures fold { IsTrue D.tells → OnOk result (IsFold O.first D.Disk self.new) }
+        ensures blank { IsTrue D.tells → IsSoundImage O.first → AreBlank self.old.base.root.pages (grown self.old.base.root.pages) (state_of (now_of D.Disk self.old.base)) }
+        ensures counted { OnOk result (self.new.base.root.pages ≡ grown self.old.base.root.pages) × OnErr result (self.new.base.root.pages ≡ self.old.base.root.pages) }
+        ensures same { self.new ≡ record self.old { base = record self.old.base { disk = self.new.base.disk; root = self.new.base.root } } }
+        ensures refused { OnErr result (result ≡ Err Fault) }
+        ensures faults { HasFault Fault (D.faults_of self.old.base.disk) (D.faults_of self.new.base.disk) result }
+    {
+        self.base.grow()?;
+        Ok(())
     }
 
     /// What the record needs of the tables is there; or else the damage that it would be, at the place in the log where it

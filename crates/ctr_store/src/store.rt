@@ -7,9 +7,9 @@ ghost use Rattle.ctr_base.specs.Base.{IsSoundImage};
 ghost use Rattle.std.specs.Borrow.{sem};
 ghost use Rattle.std.specs.Io.BufRead.{Rests};
 ghost use Rattle.ctr_disk.specs.Device.{LeavesOnly};
-ghost use Rattle.ctr_redo.specs.States.{page_limit, page_at};
-ghost use Rattle.ctr_store.specs.Opening.{LeavesFirst};
-ghost use Rattle.ctr_store.specs.Store.{LeavesFront, LeavesPage, Logs, MayLog, unmet_need, RefusesUnfit, TakesRecord, KeepsRoom};
+ghost use Rattle.ctr_redo.specs.States.{page_limit, page_at, grown};
+ghost use Rattle.ctr_store.specs.Opening.{LeavesFirst, IsUndamaged};
+ghost use Rattle.ctr_store.specs.Store.{LeavesFront, LeavesPage, Logs, MayLog, unmet_need, RefusesUnfit, TakesRecord, KeepsRoom, LeavesGrowing, Grows, StaysBeside};
 ghost use Rattle.ctr_store.specs.StoreOpening.{AnswersStore, IsOpened, store_left};
 
 use crate::opening::OpenError;
@@ -55,6 +55,8 @@ impl<D: Disk, O: Origin> Store<D, O> {
         requires named { O.first ≡ D.reads disk }
         requires frames { (8 ≤ frames) × (frames ≤ 4096) }
         ensures answer { IsTrue D.tells → AnswersStore O.first result }
+        // A sound image is refused as worn by its number, for a fault or for want of memory, and for nothing else.
+        ensures undamaged { IsTrue D.tells → IsSoundImage O.first → IfErr result (λ e. IsUndamaged e.0) }
         ensures fresh { IfOk result IsOpened }
         ensures any_moment { IsTrue D.tells → IsSoundImage O.first → LeavesOnly D.Disk disk (store_left result) (LeavesFirst O.first (D.images disk)) }
     {
@@ -167,6 +169,24 @@ impl<D: Disk, O: Origin> Store<D, O> {
         let wrote = self.parts.write_one_dirty();
         self.stopped = wrote.is_err();
         wrote
+    }
+
+    /// Counts 64 pages more, or as many as there may be, 30,000; they have nothing. A crash at any moment leaves the old
+    /// count or the new one.
+    pub fn grow_extent(&mut self) -> Result<(), StoreFault>
+        requires going { self.old.stopped ≡ false }
+        requires few { self.old.now.counted < 30000 }
+        ensures any_moment { IsTrue D.tells → IsSoundImage O.first → LeavesGrowing D.Disk self.old self.new }
+        ensures grows { IsTrue D.tells → IsSoundImage O.first → OnOk result (Grows D.Disk self.old self.new) }
+        ensures counted { OnOk result (self.new.now.counted ≡ grown self.old.now.counted) × OnErr result (self.new.now.counted ≡ self.old.now.counted) }
+        ensures same { StaysBeside self.old self.new }
+        ensures stopped { (OnOk result (self.new.stopped ≡ false)) × (OnErr result (self.new.stopped ≡ true)) }
+        ensures refused { OnErr result (result ≡ Err Fault) }
+        ensures faults { HasFault Fault (D.faults_of self.old.disk) (D.faults_of self.new.disk) result }
+    {
+        let counted = self.parts.grow();
+        self.stopped = counted.is_err();
+        counted
     }
 
     /// The tables of transactions.

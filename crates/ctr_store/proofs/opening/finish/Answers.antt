@@ -1,6 +1,7 @@
-use Rattle.std.proofs.Common.{subst}
+use Rattle.std.proofs.Common.{◌+◌, length, subst}
+use Rattle.ctr_store.specs.Opening.{worn_by}
 use Rattle.ctr_store.specs.RecordChecks.{AllPass}
-use Rattle.ctr_store.proofs.OpenLaws.{answered, later_refused}
+use Rattle.ctr_store.proofs.OpenLaws.{answered, later_refused, later_undamaged, worn_undamaged}
 use Rattle.ctr_store.proofs.opening.finish.Goals as goal
 
 pub returns-in-Ok-clause-answer : goal.returns-in-Ok-clause-answer
@@ -12,3 +13,11 @@ pub returns-in-Err-clause-answer : goal.returns-in-Err-clause-answer
 returns-in-Err-clause-answer g c told =
     let front = (c.requires.told told).0 in
     later_refused g.O.Origin.first c.args.root c.in-Err.error.0 front.says (front.log.sound, subst (AllPass c.args.root.pages) front.log.visits_are front.log.passed) c.in-Err.ensures.later
+
+pub returns-in-Err-clause-undamaged : goal.returns-in-Err-clause-undamaged
+returns-in-Err-clause-undamaged g c told sound = later_undamaged c.in-Err.error.0 (c.in-Err.ensures.refused told sound)
+
+pub returns-in-Ok-clause-undamaged : goal.returns-in-Ok-clause-undamaged
+returns-in-Ok-clause-undamaged g c told sound =
+    let s = c.in-Ok.parts in
+    worn_undamaged (worn_by (s.base.log.first + length s.base.log.buffered) s.meta.tables.next) c.refuse_worn.result c.refuse_worn.ensures.worn

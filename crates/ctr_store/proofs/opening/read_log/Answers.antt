@@ -11,6 +11,7 @@ use Rattle.ctr_base.proofs.RootLaws.{one_root}
 use Rattle.ctr_disk.specs.declared.fault.Root.{Root}
 use Rattle.ctr_store.specs.RecordChecks.{SeenLog, CountsPages, AllPass, tables_seen}
 use Rattle.ctr_store.proofs.OpenLaws.{opens_room, writes_room, log_refused}
+use Rattle.ctr_store.proofs.SoundLaws.{log_undamaged}
 use Rattle.ctr_store.proofs.opening.read_log.Goals as goal
 
 pub new-seen-requires : goal.new-seen-requires
@@ -53,3 +54,13 @@ returns-in_err-log-clause-refused g c told =
     rw (p.1, p.2)
     (log_refused (λ n. IsTrue g.D.Disk.tells → CountsPages g.O.Origin.first n) root image c.new-seen.result.visits c.read_all.new.visitor.visits r.0 c.in_err-log.field-0.0
     (λ n counts. counts told root (c.requires.says told)) (ap (λ (s : SeenLog). s.visits) c.new-seen.ensures) r.1 (r.5 told) (r.6 told))
+
+pub returns-in_err-log-clause-undamaged : goal.returns-in_err-log-clause-undamaged
+returns-in_err-log-clause-undamaged g c told sound =
+    let p = err_from_is_err_and c.from_residual.result c.from_residual.ensures.1 in
+    let root = c.args.root.now in
+    let image = g.D.Disk.reads c.args.disk.now in
+    let r = c.in_err-log.ensures.refused in
+    rw (p.1, p.2)
+    (log_undamaged (λ n. IsTrue g.D.Disk.tells → CountsPages g.O.Origin.first n) root image c.new-seen.result.visits c.read_all.new.visitor.visits r.0 c.in_err-log.field-0.0 sound
+    (λ n counts. counts told root (c.requires.says told)) (ap (λ (s : SeenLog). s.visits) c.new-seen.ensures) r.1 (r.5 told) (r.4 told))

@@ -2,7 +2,8 @@ use Rattle.std.proofs.Common.{refl}
 use Rattle.ctr_log.specs.Logs.{with_batch}
 use Rattle.ctr_redo.proofs.ImageLaws.{logs_apart}
 use Rattle.ctr_base.specs.declared.base.Base.{Base}
-use Rattle.ctr_base.specs.BaseLaws.{flush_leaves, flush_moves, flush_quiet, flush_holds, Flushed, holds_if, stands_flushed, homes_flushed}
+use Rattle.ctr_base.specs.BaseLaws.{holds_if, stands_flushed, homes_flushed}
+use Rattle.ctr_base.proofs.FlushLaws.{flush_leaves, flush_moves, flush_quiet, flush_holds, Flushed}
 use Rattle.ctr_base.proofs.base.Base.flush.Goals as goal
 
 pub returns-in_err-flush-clause-goes : goal.returns-in_err-flush-clause-goes

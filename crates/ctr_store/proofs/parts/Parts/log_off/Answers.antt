@@ -3,7 +3,7 @@ use Rattle.ctr_meta.specs.Effects.{effect}
 use Rattle.ctr_records.proofs.ReadBack.{record_read}
 use Rattle.ctr_records.specs.Spelling.{record_bytes}
 use Rattle.ctr_store.proofs.RecordLaws.{off_all}
-use Rattle.ctr_store.proofs.PartsLaws.{waits, push_state, push_tables, off_over, off_current}
+use Rattle.ctr_store.proofs.PartsLaws.{can_follow, waits, push_state, push_tables, off_over, off_current}
 use Rattle.ctr_store.proofs.parts.Parts.log_off.Goals as goal
 
 pub returns-clause-adds : goal.returns-clause-adds
@@ -34,7 +34,7 @@ returns-clause-fold g c told fold =
     let added = c.append_record-lsn.ensures.added in
     let off = off_all r c.requires.off in
     record {
-      over = off_over o d s.base log (record_bytes r) r added tells s.pool.frames off fold.over;
+      over = off_over o d s.base log (record_bytes r) r added tells (can_follow o d r s c.requires.can fold.tables) s.pool.frames off fold.over;
       tables = λ sound. c.apply.ensures.tables ∙ ap (effect r) (fold.tables sound) ∙ sym (push_tables o d s.base log (record_bytes r) r added tells);
       current = λ sound. off_current o d s.base log (record_bytes r) r added tells s.pool.frames off (fold.current sound);
     }

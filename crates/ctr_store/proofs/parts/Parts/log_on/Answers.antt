@@ -3,7 +3,7 @@ use Rattle.ctr_meta.specs.Effects.{effect}
 use Rattle.ctr_records.proofs.ReadBack.{record_read}
 use Rattle.ctr_records.specs.Spelling.{record_bytes}
 use Rattle.ctr_store.proofs.RecordLaws.{on_page, off_page, overlay_inside, frame_there, inside_of}
-use Rattle.ctr_store.proofs.PartsLaws.{waits, push_state, push_tables, on_over, on_current}
+use Rattle.ctr_store.proofs.PartsLaws.{can_follow, waits, push_state, push_tables, on_over, on_current}
 use Rattle.ctr_store.proofs.parts.Parts.log_on.Goals as goal
 
 pub change-requires-clause-inside : goal.change-requires-clause-inside
@@ -45,7 +45,7 @@ returns-clause-fold g c told fold =
     let inside = inside_of s.base.root.pages r o c.requires.on c.requires.can.counted in
     let lower : frame.0.lsn < lsn = omega (arith, low, e.number) in
     record {
-      over = on_over i d s.base log (record_bytes r) r e.added tells o.page o frame.0 fs gs lsn e.number c.requires.on (on_page o) others inside fold.over fold.current frame.1 lower c.change.ensures.frames;
+      over = on_over i d s.base log (record_bytes r) r e.added tells o.page o frame.0 fs gs lsn e.number c.requires.on (on_page o) others inside fold.over fold.current frame.1 lower c.change.ensures.frames (can_follow i d r s c.requires.can fold.tables);
       tables = λ sound. c.apply.ensures.tables ∙ ap (effect r) (fold.tables sound) ∙ sym (push_tables i d s.base log (record_bytes r) r e.added tells);
       current = on_current i d s.base log (record_bytes r) r e.added tells o.page o frame.0 fs gs lsn e.number c.requires.on (on_page o) others inside fold.over fold.current frame.1 lower c.change.ensures.frames;
     }

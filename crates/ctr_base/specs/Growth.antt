@@ -1,0 +1,50 @@
+-- How more pages are counted, below the pool.
+use Rattle.std.specs.Prelude.{◌≡◌, ◌⊎◌, ℕ, ◌+◌, ◌*◌, ◌≤◌, ◌<◌}
+use Rattle.ctr_disk.specs.declared.disk.Disk.{Ghosts}
+use Rattle.ctr_disk.specs.declared.disk.Image.{Image}
+use Rattle.ctr_disk.specs.declared.fault.Root.{Root}
+use Rattle.ctr_disk.specs.Device.{LeavesOnly}
+use Rattle.ctr_home.specs.declared.block.Block.TheVariants.{Root as RootBlock}
+use Rattle.ctr_home.specs.Blocks.{zero_bytes}
+use Rattle.ctr_home.specs.Roots.{root_block}
+use Rattle.ctr_home.specs.Writing.{IsOldOrNewValue, IsNewValue}
+use Rattle.ctr_redo.specs.States.{State, state_of, counting, grown, page_limit, page_at}
+use Rattle.ctr_redo.specs.Images.{FoldsGrown}
+use Rattle.ctr_base.specs.declared.base.Base.{Base}
+use Rattle.ctr_base.specs.Base.{stored_of, now_of, home_of}
+use Rattle.ctr_base.specs.Extent.{KeepsPages, AreCleared}
+
+-- Homes behind the counted pages are being cleared, or they are, and the root has its old value or the
+-- one that counts them.
+abbrev pub IsGrowing : ℕ → Root → Image → Image → Type 0
+IsGrowing from more old new = KeepsPages (8256 * from) old new
+    ⊎ ((mid : Image) × AreCleared from more.pages old mid × IsOldOrNewValue RootBlock (root_block more) mid new)
+
+-- they are cleared, and the root counts them
+abbrev pub HasGrown : ℕ → Root → Image → Image → Type 0
+HasGrown from more old new = (mid : Image)
+    × AreCleared from more.pages old mid × IsNewValue RootBlock (root_block more) mid new
+
+-- the root that counts more pages, and says the rest as before
+abbrev pub grown_root : Root → Root
+grown_root r = record r { stamp = r.stamp + 1; pages = grown r.pages }
+
+-- At each moment of a growth a crash leaves what was hardened, with the old count of pages or the new
+-- one.
+abbrev pub LeavesGrown : {D O : Type 0} → Ghosts D → Base D O → Base D O → Type 0
+LeavesGrown g a b = LeavesOnly g a.disk b.disk (FoldsGrown (state_of (stored_of g a)))
+
+-- More pages are counted; the pages at home, the records and the log are as they were.
+pub record GrowsBase {D O : Type 0} (g : Ghosts D) (a b : Base D O) : Type 0 where
+  pub root : b.root ≡ grown_root a.root
+  pub log : b.log ≡ a.log
+  pub homes : (q : ℕ) → home_of g b q ≡ home_of g a q
+  pub records : (stored_of g b).records ≡ (stored_of g a).records
+  pub hardened :
+      state_of (stored_of g b) ≡ counting (grown a.root.pages) (state_of (stored_of g a))
+  pub now : state_of (now_of g b) ≡ counting (grown a.root.pages) (state_of (now_of g a))
+
+-- each page of a state from one to below another has nothing
+abbrev pub AreBlank : ℕ → ℕ → State → Type 0
+AreBlank from to s =
+    (p : ℕ) → from ≤ p → p < to → p < page_limit → page_at p s.pages ≡ zero_bytes 4096

@@ -1,0 +1,64 @@
+// Counting more pages: their homes are cleared first.
+ghost use Rattle.std.specs.Prelude.{◌≡◌, ◌≤◌, ◌<◌, ◌*◌, IsTrue, Err, length, OnOk, OnErr};
+ghost use Rattle.ctr_types.specs.Faults.{HasFault};
+ghost use Rattle.ctr_disk.specs.declared.fault.StoreFault.TheVariants.{Fault};
+ghost use Rattle.ctr_disk.specs.Device.{LeavesOnly, IsDurable, IsSettled, CountsAs};
+ghost use Rattle.ctr_home.specs.declared.block.Block.TheVariants.{Root as RootBlock};
+ghost use Rattle.ctr_home.specs.Blocks.{value_of};
+ghost use Rattle.ctr_home.specs.Writing.{IsAbove};
+ghost use Rattle.ctr_pool.specs.Below.{HoldsStill};
+ghost use Rattle.ctr_redo.specs.States.{grown, state_of};
+ghost use Rattle.ctr_base.specs.Base.{now_of, home_of, MayPut, IsSoundImage, StandsQuiet};
+ghost use Rattle.ctr_base.specs.Growth.{IsGrowing, HasGrown, LeavesGrown, GrowsBase, AreBlank};
+
+use crate::base::Base;
+use crate::extent::clear_pages;
+use crate::origin::Origin;
+use ctr_disk::{Disk, Root, StoreFault};
+use ctr_home::write_root;
+
+/// How many pages are counted more at a time.
+const EXTENT: u32 = 64;
+
+/// How many pages are counted at most.
+const MOST_PAGES: u32 = 30_000;
+
+// Clears the homes of the pages from one on that a root counts, and writes that root.
+fn count_pages<D: Disk>(disk: &mut D, from: u32, more: &Root) -> Result<(), StoreFault>
+    requires order { from ≤ more.now.pages }
+    requires low { more.now.pages ≤ 30000 }
+    requires long { IsTrue D.tells → 8256 * from ≤ length (D.reads disk.old).pages }
+    requires above { IsTrue D.tells → IsAbove more.now.stamp (value_of RootBlock (D.reads disk.old)) }
+    ensures any_moment { IsSettled D.Disk disk.old → LeavesOnly D.Disk disk.old disk.new (IsGrowing from more.now (D.reads disk.old)) }
+    ensures grown { IsTrue D.tells → OnOk result (HasGrown from more.now (D.reads disk.old) (D.reads disk.new)) }
+    ensures durable { OnOk result (IsDurable D.Disk disk.new) }
+    ensures refused { OnErr result (result ≡ Err Fault) }
+    ensures counts { CountsAs D.Disk Fault disk.old disk.new result }
+{
+    clear_pages(disk, from, more.pages)?;
+    write_root(disk, more)
+}
+
+impl<D: Disk, O: Origin> Base<D, O> {
+    /// Counts 64 pages more, or as many as there may be, which have nothing. The root is written once their zeros are
+    /// durable.
+    pub fn grow(&mut self) -> Result<(), StoreFault>
+        requires few { self.old.root.pages < 30000 }
+        requires rests { IsTrue D.tells → StandsQuiet O.first D.Disk self.old }
+        ensures any_moment { IsTrue D.tells → IsSoundImage O.first → LeavesGrown D.Disk self.old self.new }
+        ensures grows { IsTrue D.tells → OnOk result (GrowsBase D.Disk self.old self.new × StandsQuiet O.first D.Disk self.new) }
+        ensures holds { IsTrue D.tells → OnOk result (HoldsStill (home_of D.Disk) (MayPut O.first D.Disk) self.old self.new) }
+        ensures blank { IsTrue D.tells → IsSoundImage O.first → AreBlank self.old.root.pages (grown self.old.root.pages) (state_of (now_of D.Disk self.old)) }
+        ensures counted { OnOk result (self.new.root.pages ≡ grown self.old.root.pages) }
+        ensures same { (self.new ≡ record self.old { disk = self.new.disk; root = self.new.root }) × OnErr result (self.new.root ≡ self.old.root) }
+        ensures refused { OnErr result (result ≡ Err Fault) }
+        ensures faults { HasFault Fault (D.faults_of self.old.disk) (D.faults_of self.new.disk) result }
+    {
+        let mut more = self.root;
+        more.stamp = more.stamp.saturating_add(1);
+        more.pages = (more.pages + EXTENT).min(MOST_PAGES);
+        count_pages(&mut self.disk, self.root.pages, &more)?;
+        self.root = more;
+        Ok(())
+    }
+}
