@@ -31,7 +31,7 @@ front_widens j ws s c (k, folds) = (
 )
 
 -- a call that answers with this fault
-abbrev fails_with : (T : Type 0) → StoreFault → Result T StoreFault
+abbrev pub fails_with : (T : Type 0) → StoreFault → Result T StoreFault
 fails_with T e = Err e
 
 module _ {D : Type 0} (first : Image) (g : Ghosts D) where

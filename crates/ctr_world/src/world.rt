@@ -6,7 +6,7 @@ ghost use Rattle.ctr_disk.specs.declared.disk.Image.{Image};
 ghost use Rattle.ctr_disk.specs.Device.{LeavesOnly, OnlyReads};
 ghost use Rattle.ctr_log.specs.Homes.{root_value};
 ghost use Rattle.ctr_model.specs.Database.{Database};
-ghost use Rattle.ctr_world.specs.Creating.{disk_made, IsUnmadeOrEmpty, CreateEnds, CreateCounts};
+ghost use Rattle.ctr_world.specs.Creating.{disk_after_making, IsUnmadeOrEmpty, CreateEnds, CreateCounts};
 ghost use Rattle.ctr_thin.specs.Thin.{StandsFor, Explains, OpenDiffers};
 ghost use Rattle.ctr_world.specs.declared.parts.Parts.{Parts};
 ghost use Rattle.ctr_world.specs.Turns.{NoneFull, EndsTurn, AreSessions, AreUnbegun, IsOver, HasStatementLeft, IsBetween};
@@ -60,11 +60,11 @@ impl<D: Disk, B: Opening> World<D, B> {
     /// Makes the empty database on a disk that has none. The disk comes back.
     pub fn create(disk: D) -> Result<D, (CreateError, D)>
         // From its first sync on a crash leaves no open root home, or a database without tables.
-        ensures any_moment { IsTrue D.tells → root_value (D.reads disk).root ≡ None → LeavesOnly D.Disk disk (disk_made result) (λ c. D.images disk c ⊎ IsUnmadeOrEmpty c) }
+        ensures any_moment { IsTrue D.tells → root_value (D.reads disk).root ≡ None → LeavesOnly D.Disk disk (disk_after_making result) (λ c. D.images disk c ⊎ IsUnmadeOrEmpty c) }
         ensures made { IsTrue D.tells → IfOk result (λ d. (c : Image) → D.since d (D.moment_of d) c → StandsFor c []) }
-        ensures untouched { IsTrue D.tells → IsSome (root_value (D.reads disk).root) → OnlyReads D.Disk disk (disk_made result) }
+        ensures untouched { IsTrue D.tells → IsSome (root_value (D.reads disk).root) → OnlyReads D.Disk disk (disk_after_making result) }
         ensures causes { CreateEnds D.Disk disk result }
-        ensures counts { CreateCounts D.Disk disk (disk_made result) }
+        ensures counts { CreateCounts D.Disk disk (disk_after_making result) }
     {
         create(disk)
     }
