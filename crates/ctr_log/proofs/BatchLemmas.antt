@@ -1,5 +1,6 @@
 -- A file of the log that was read up to a gate.
 use Rattle.std.proofs.Common.{◌≡◌, ◌≢◌, ◌⊎◌, inl, inr, ℕ, zero, suc, ◌+◌, ◌-◌, ◌*◌, ◌^◌, ◌≤◌, ◌<◌, List, [], ◌∷◌, ◌++◌, length, take, drop, get_or, refl, sym, ◌∙◌, ap, subst, arith, length-drop, append_assoc, Option, Some, None, Ok, Err}
+use Rattle.std.specs.Prelude.{Result, ⊤}
 use Rattle.std.proofs.lemmas.Bool.{cases_eq}
 use Rattle.std.proofs.lemmas.List.{append-nil, drop-drop, get_or-drop}
 use Rattle.ctr_types.specs.declared.file.File.{File}
@@ -13,20 +14,16 @@ use Rattle.ctr_log.specs.Damage.{IsDamageOf}
 use Rattle.ctr_log.specs.Logs.{Batches, frames, records, HasLog}
 use Rattle.ctr_log.specs.Reading.{ReadsLog, RefusesOrFails, AreFrames, HasFrames, ReadsFrames, HasSome}
 use Rattle.ctr_home.specs.Checks.{check_of, judged}
-use Rattle.ctr_home.proofs.CheckLemmas.{judged_same}
-use Rattle.ctr_log.specs.Kept.{log_in}
-use Rattle.ctr_log.specs.LogChecks.{frame_bytes, batch_checks, gate_checks, log_checks, file_damage, IsThisDamage}
+use Rattle.ctr_home.proofs.CheckLemmas.{judged_same, pass_all}
+use Rattle.ctr_log.specs.LogChecks.{frame_bytes, batch_checks, gate_checks, log_checks, file_damage, if_passed, sound_batch_visits, sound_visits, IsThisDamage}
 use Rattle.ctr_log.specs.Batch.{FindsBatch, HeadFits, CountFits, IsRead, OpensBatch, EndsLog}
-use Rattle.ctr_log.specs.Visits.{frame_visits, batch_visits, file_visits, RefusesOne}
-use Rattle.ctr_log.specs.declared.visitor.VisitError.TheVariants.{Refused}
-use Rattle.ctr_log.proofs.VisitLemmas.{stops_more, stops_behind}
+use Rattle.ctr_log.specs.Visits.{frame_visits}
 use Rattle.ctr_log.specs.declared.batches.Batch.{Batch}
 use Rattle.ctr_log.specs.declared.visitor.Visit.{Visit}
 use Rattle.ctr_log.specs.declared.reading.ReadError.{ReadError}
 use Rattle.ctr_log.specs.declared.reading.ReadError.TheVariants.{Store, OutOfMemory}
-use Rattle.ctr_log.proofs.KeptLaws.{picks, passes, log_in_is}
-use Rattle.ctr_log.proofs.KeptReading.{shorts}
-use Rattle.ctr_log.proofs.DamageLaws.{length_read, judged-append, judged-front, this_more}
+use Rattle.ctr_log.proofs.KeptLaws.{picks, passes}
+use Rattle.ctr_log.proofs.DamageLaws.{length_read, judged-append, judged-front, none_told, this_more}
 use Rattle.ctr_log.proofs.ReadLemmas.{Done, LeftOf, done_none, done_more, done_all, left_at_start, left_batch, left_more, left_none, front_length, front_count, front_frames, front_behind, front_long, spelled_head, begins_room, begins_first, begins_count, begins_frames, begins_records, batch_read, length-frames-le}
 
 -- the first gate is open, so there is one
@@ -51,23 +48,40 @@ module _ (file : File) (next gate k : ℕ) (rest : List ℕ) (b : Batch) (r : Is
   pub read_long : length rest ≡ 21 + field 8 1 rest + length r.behind
   read_long = front_long next r.rs r.behind rest r.bytes_are short low r.is_batch
 
-  pub batch_step : batch_visits file next gate (suc k) rest ≡ frame_visits file next (gate + 21) b.count b.frames.items ++ batch_visits file (next + b.count) (gate + (21 + length b.frames.items)) k r.behind
-  batch_step =
+  pub batch_step : judged file (batch_checks next gate rest) ≡ Ok tt → sound_batch_visits file next gate (suc k) rest ≡ frame_visits file next (gate + 21) b.count b.frames.items ++ sound_batch_visits file (next + b.count) (gate + (21 + length b.frames.items)) k r.behind
+  batch_step passed =
       let n = field 8 1 rest in
-      let whole = frame_visits file next (gate + 21) (field 4 17 rest) (take n (drop 21 rest)) ++ batch_visits file (next + field 4 17 rest) (gate + (21 + n)) k (drop (21 + n) rest) in
-      picks (get_or rest 0 0) 1 whole [] (ap (λ (l : List ℕ). get_or l 0 0) r.bytes_are)
-      ∙ ap (λ (m : ℕ). frame_visits file next (gate + 21) m (take n (drop 21 rest)) ++ batch_visits file (next + m) (gate + (21 + n)) k (drop (21 + n) rest)) read_count
-      ∙ ap (λ (l : List ℕ). frame_visits file next (gate + 21) b.count l ++ batch_visits file (next + b.count) (gate + (21 + n)) k (drop (21 + n) rest)) read_frames
-      ∙ ap (λ (l : List ℕ). frame_visits file next (gate + 21) b.count b.frames.items ++ batch_visits file (next + b.count) (gate + (21 + n)) k l) read_behind
-      ∙ ap (λ (m : ℕ). frame_visits file next (gate + 21) b.count b.frames.items ++ batch_visits file (next + b.count) (gate + (21 + m)) k r.behind) read_length
+      let whole = frame_visits file next (gate + 21) (field 4 17 rest) (take n (drop 21 rest)) ++ sound_batch_visits file (next + field 4 17 rest) (gate + (21 + n)) k (drop (21 + n) rest) in
+      picks (get_or rest 0 0) 1 (if_passed (judged file (batch_checks next gate rest)) whole) [] (ap (λ (l : List ℕ). get_or l 0 0) r.bytes_are)
+      ∙ ap (λ (d : Result ⊤ StoreFault). if_passed d whole) passed
+      ∙ ap (λ (m : ℕ). frame_visits file next (gate + 21) m (take n (drop 21 rest)) ++ sound_batch_visits file (next + m) (gate + (21 + n)) k (drop (21 + n) rest)) read_count
+      ∙ ap (λ (l : List ℕ). frame_visits file next (gate + 21) b.count l ++ sound_batch_visits file (next + b.count) (gate + (21 + n)) k (drop (21 + n) rest)) read_frames
+      ∙ ap (λ (l : List ℕ). frame_visits file next (gate + 21) b.count b.frames.items ++ sound_batch_visits file (next + b.count) (gate + (21 + n)) k l) read_behind
+      ∙ ap (λ (m : ℕ). frame_visits file next (gate + 21) b.count b.frames.items ++ sound_batch_visits file (next + b.count) (gate + (21 + m)) k r.behind) read_length
 
-batch_none : (file : File) (next gate n : ℕ) (rest : List ℕ) → get_or rest 0 0 ≢ 1 → batch_visits file next gate n rest ≡ []
-batch_none file next gate zero rest shut = refl
-batch_none file next gate (suc n) rest shut =
-    passes (get_or rest 0 0) 1 (frame_visits file next (gate + 21) (field 4 17 rest) (take (field 8 1 rest) (drop 21 rest)) ++ batch_visits file (next + field 4 17 rest) (gate + (21 + field 8 1 rest)) n (drop (21 + field 8 1 rest) rest)) [] shut
+-- behind a closed gate nothing stands
+pub sound_none : (file : File) (next gate n : ℕ) (rest : List ℕ) → get_or rest 0 0 ≢ 1 → sound_batch_visits file next gate n rest ≡ []
+sound_none file next gate zero rest shut = refl
+sound_none file next gate (suc n) rest shut =
+    passes (get_or rest 0 0) 1 (if_passed (judged file (batch_checks next gate rest)) (frame_visits file next (gate + 21) (field 4 17 rest) (frame_bytes rest) ++ sound_batch_visits file (next + field 4 17 rest) (gate + (21 + field 8 1 rest)) n (drop (21 + field 8 1 rest) rest))) [] shut
 
--- Up to this gate the bytes are batches, of which these visits were given; what is left of a log is
--- behind it.
+-- nor at a batch that is damaged
+module _ (file : File) (next gate n : ℕ) (rest : List ℕ) where
+  abbrev there : List Visit
+  there = frame_visits file next (gate + 21) (field 4 17 rest) (frame_bytes rest) ++ sound_batch_visits file (next + field 4 17 rest) (gate + (21 + field 8 1 rest)) n (drop (21 + field 8 1 rest) rest)
+
+  damaged_by : (d : StoreFault) → judged file (gate_checks next gate rest) ≡ Err d → (get_or rest 0 0 ≡ 1) ⊎ (get_or rest 0 0 ≢ 1) → sound_batch_visits file next gate (suc n) rest ≡ []
+  damaged_by d fails (inl open_) =
+      picks (get_or rest 0 0) 1 (if_passed (judged file (batch_checks next gate rest)) there) [] open_
+      ∙ ap (λ (x : Result ⊤ StoreFault). if_passed x there) (ap (judged file) (sym (picks (get_or rest 0 0) 1 (batch_checks next gate rest) [] open_)) ∙ fails)
+  damaged_by d fails (inr shut) = sound_none file next gate (suc n) rest shut
+
+sound_damaged : (file : File) (next gate n : ℕ) (rest : List ℕ) (d : StoreFault) → judged file (gate_checks next gate rest) ≡ Err d → sound_batch_visits file next gate n rest ≡ []
+sound_damaged file next gate zero rest d fails = refl
+sound_damaged file next gate (suc n) rest d fails = damaged_by file next gate n rest d fails (cases_eq (get_or rest 0 0) 1)
+
+-- Up to this gate the bytes are batches without damage, of which these visits were given; what is left
+-- of a log is behind it.
 pub record SoFar (file : File) (first : ℕ) (bytes : List ℕ) (gate next : ℕ) (given : List Visit) : Type 0 where
   pub rs : List (List ℕ)
   pub done : Done first bytes (drop gate bytes) rs next
@@ -75,7 +89,7 @@ pub record SoFar (file : File) (first : ℕ) (bytes : List ℕ) (gate next : ℕ
   pub inside : gate < length bytes
   pub more : ℕ
   pub enough : length bytes ≤ gate + more
-  pub visits_are : file_visits file first bytes ≡ given ++ batch_visits file next gate more (drop gate bytes)
+  pub visits_are : sound_visits file first bytes ≡ given ++ sound_batch_visits file next gate more (drop gate bytes)
   pub damage_is : file_damage file first bytes ≡ judged file (log_checks next gate more (drop gate bytes))
 
 pub so_far_start : (file : File) (first : ℕ) (bytes : List ℕ) → get_or bytes 0 0 ≡ 1 → SoFar file first bytes 0 first []
@@ -110,17 +124,17 @@ module _ (file : File) (first : ℕ) (bytes : List ℕ) (gate next : ℕ) (given
         ap (λ (n : ℕ). drop (gate + (21 + n)) bytes) (sym (read_length file next gate 0 rest b r (short_rest few) low))
         ∙ sym (drop-drop (21 + field 8 1 rest) gate bytes) ∙ read_behind file next gate 0 rest b r (short_rest few) low
 
-    left_more_visits : (k : ℕ) → file_visits file first bytes ≡ given ++ batch_visits file next gate (suc k) rest → file_visits file first bytes ≡ given_more ++ batch_visits file (next + b.count) gate_more k (drop gate_more bytes)
-    left_more_visits k is =
-        is ∙ ap (λ (l : List Visit). given ++ l) (batch_step file next gate k rest b r (short_rest few) low)
-        ∙ sym (append_assoc given (frame_visits file next (gate + 21) b.count b.frames.items) (batch_visits file (next + b.count) gate_more k r.behind))
-        ∙ ap (λ (l : List ℕ). given_more ++ batch_visits file (next + b.count) gate_more k l) (sym behind_is)
-
     is_open : get_or rest 0 0 ≡ 1
     is_open = ap (λ (l : List ℕ). get_or l 0 0) r.bytes_are
 
     batch_passes : judged file (batch_checks next gate rest) ≡ Ok tt
     batch_passes = ap (judged file) (sym (picks (get_or rest 0 0) 1 (batch_checks next gate rest) [] is_open)) ∙ passed
+
+    left_more_visits : (k : ℕ) → sound_visits file first bytes ≡ given ++ sound_batch_visits file next gate (suc k) rest → sound_visits file first bytes ≡ given_more ++ sound_batch_visits file (next + b.count) gate_more k (drop gate_more bytes)
+    left_more_visits k is =
+        is ∙ ap (λ (l : List Visit). given ++ l) (batch_step file next gate k rest b r (short_rest few) low batch_passes)
+        ∙ sym (append_assoc given (frame_visits file next (gate + 21) b.count b.frames.items) (sound_batch_visits file (next + b.count) gate_more k r.behind))
+        ∙ ap (λ (l : List ℕ). given_more ++ sound_batch_visits file (next + b.count) gate_more k l) (sym behind_is)
 
     -- its checks are passed over
     checks_more : (k : ℕ) → judged file (log_checks next gate (suc k) rest) ≡ judged file (log_checks (next + b.count) gate_more k (drop gate_more bytes))
@@ -133,7 +147,7 @@ module _ (file : File) (first : ℕ) (bytes : List ℕ) (gate next : ℕ) (given
         ∙ ap (λ (m : ℕ). judged file (log_checks (next + b.count) (gate + (21 + m)) k r.behind)) (read_length file next gate 0 rest b r (short_rest few) low)
         ∙ ap (λ (l : List ℕ). judged file (log_checks (next + b.count) gate_more k l)) (sym behind_is)
 
-    step : (more : ℕ) → length bytes ≤ gate + more → file_visits file first bytes ≡ given ++ batch_visits file next gate more rest → file_damage file first bytes ≡ judged file (log_checks next gate more rest) → SoFar file first bytes gate_more (next + b.count) given_more
+    step : (more : ℕ) → length bytes ≤ gate + more → sound_visits file first bytes ≡ given ++ sound_batch_visits file next gate more rest → file_damage file first bytes ≡ judged file (log_checks next gate more rest) → SoFar file first bytes gate_more (next + b.count) given_more
     step zero enough is damage = absurd (omega (arith, enough, s.inside))
     step (suc k) enough is damage = record {
       rs = s.rs ++ r.rs;
@@ -155,14 +169,10 @@ module _ (file : File) (first : ℕ) (bytes : List ℕ) (gate next : ℕ) (given
         subst (λ (n : ℕ). SoFar file first bytes n next2 given_more) (sym gate_is) (
         subst (λ (n : ℕ). SoFar file first bytes gate_more n given_more) (sym next_is) (step s.more s.enough s.visits_are s.damage_is))
 
-  -- a front of the file's visits was given
-  pub so_far_part : file_visits file first bytes ≡ given ++ batch_visits file next gate s.more rest
-  so_far_part = s.visits_are
-
   -- behind a closed gate nothing is left
   module _ (shut : get_or rest 0 0 ≢ 1) where
-    pub so_far_all : file_visits file first bytes ≡ given
-    so_far_all = s.visits_are ∙ ap (λ (l : List Visit). given ++ l) (batch_none file next gate s.more rest shut) ∙ append-nil given
+    pub so_far_all : sound_visits file first bytes ≡ given
+    so_far_all = s.visits_are ∙ ap (λ (l : List Visit). given ++ l) (sound_none file next gate s.more rest shut) ∙ append-nil given
 
     so_far_reads : get_or bytes 0 0 ≡ 1 → ReadsLog first bytes s.rs gate next
     so_far_reads open_ = done_all first bytes rest s.rs next gate s.done (omega (arith, s.inside, length-drop gate bytes)) shut open_ (omega (arith, s.inside, length-drop gate bytes))
@@ -173,13 +183,6 @@ module _ (file : File) (first : ℕ) (bytes : List ℕ) (gate next : ℕ) (given
     pub so_far_only : (cs : Batches) → HasLog first cs bytes → next ≡ first + length (records cs)
     so_far_only cs log =
         omega (arith, ap length (left_none next rest (records cs) s.rs (s.left cs log) shut), ap length s.done.records_are, s.done.next_is)
-
-    -- the records of a log that stands there are those of the bytes
-    pub so_far_records : get_or bytes 0 0 ≡ 1 → gate < 2 ^ 63 → next < 2 ^ 64 → (cs : Batches) → HasLog first cs bytes → log_in bytes ≡ records cs
-    so_far_records open_ low low_next cs log =
-        let read = so_far_reads open_ in
-        log_in_is first read.bs bytes read.log_is.batches_are (shorts first read.bs (omega (arith, read.place_is, low))) (omega (arith, read.next_is, low_next))
-        ∙ sym read.records_are ∙ sym (left_none next rest (records cs) s.rs (s.left cs log) shut)
 
     -- and no check failed
     pub so_far_passes : file_damage file first bytes ≡ Ok tt
@@ -205,9 +208,18 @@ module _ (file : File) (first : ℕ) (bytes : List ℕ) (gate next : ℕ) (given
   pub so_far_tells : (e : ReadError) → IsThisDamage (judged file (gate_checks next gate rest)) e → IsThisDamage (file_damage file first bytes) e
   so_far_tells e told = this_more (judged file (gate_checks next gate rest)) (file_damage file first bytes) so_far_fails e told
 
+  -- where one fails there, nothing is left
+  pub so_far_rest : (d : StoreFault) → judged file (gate_checks next gate rest) ≡ Err d → sound_batch_visits file next gate s.more rest ≡ []
+  so_far_rest d fails = sound_damaged file next gate s.more rest d fails
+
   -- where a log stands, a batch stands behind an open gate
   pub so_far_opens : HasSome first bytes → OpensBatch next rest
   so_far_opens has open_ = left_batch next rest (records has.0) s.rs (s.left has.0 has.1) open_
+
+-- where the first gate isn't open, nothing is read
+pub gate_none : (file : File) (first : ℕ) (bytes : List ℕ) (d : StoreFault) → judged file (check_of 0 1 (get_or bytes 0 0) ∷ []) ≡ Err d → sound_visits file first bytes ≡ []
+gate_none file first bytes d fails =
+    sound_none file first 0 (length bytes) bytes (λ open_. absurd (none_told file (check_of 0 1 (get_or bytes 0 0) ∷ []) d fails (pass_all file (check_of 0 1 (get_or bytes 0 0) ∷ []) (sym open_, tt))))
 
 -- what isn't there isn't part of more
 pub fails_more : (file : File) (P Q : Type 0) → (Q → P) → (e : ReadError) → RefusesOrFails file P e → RefusesOrFails file Q e
@@ -306,11 +318,6 @@ module _ (size gate next : ℕ) (bytes head : List ℕ) (head_is : head ≡ sect
 pub no_batch : (next : ℕ) (tail : List ℕ) (o : Option Batch) → ((b : Batch) → o ≡ Some b → ⊥) → FindsBatch next tail o → get_or tail 0 0 ≢ 1
 no_batch next tail None none finds = finds
 no_batch next tail (Some b) none finds = absurd (none b refl)
-
--- a record of a batch was refused
-pub refused_there : {E : Type 0} (refuses : List Visit → Visit → E → Type 0) (old mid new given more later whole : List Visit) (e : E) → mid ≡ old ++ given → whole ≡ (given ++ more) ++ later → RefusesOne refuses mid new more e → RefusesOne refuses old new whole e
-refused_there refuses old mid new given more later whole e seen is one =
-    stops_more refuses old new (given ++ more) later whole is (Refused e) (stops_behind refuses old mid new given more (given ++ more) seen refl (Refused e) one)
 
 -- each record takes 8 bytes at least
 pub few_more : (first gate next n count : ℕ) (frames_ : List ℕ) → n ≡ length frames_ → HasFrames frames_ count → 8 * next ≤ 8 * first + gate → 8 * (next + count) ≤ 8 * first + (gate + (21 + n))

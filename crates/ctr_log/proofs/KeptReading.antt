@@ -1,5 +1,5 @@
 -- What reading two generations finds is the log of the image.
-use Rattle.std.proofs.Common.{◌≡◌, ◌⊎◌, inl, inr, ℕ, ◌+◌, ◌^◌, ◌<◌, ◌≤◌, ◌==◌, Bool, true, false, if◌then◌else◌, List, [], ◌∷◌, ◌++◌, length, drop, get_or, refl, sym, ◌∙◌, ap, subst, arith, length-append, append_assoc, Ok}
+use Rattle.std.proofs.Common.{◌≡◌, ◌⊎◌, inl, inr, ℕ, ◌+◌, ◌^◌, ◌<◌, ◌≤◌, ◌==◌, Bool, true, false, if◌then◌else◌, List, [], ◌∷◌, ◌++◌, length, drop, get_or, refl, sym, ◌∙◌, ap, subst, arith, length-append, Ok, Err}
 use Rattle.std.specs.Prelude.{Result, ⊤}
 use Rattle.std.proofs.lemmas.Bool.{false≢true}
 use Rattle.std.proofs.lemmas.Bool.Decides.{nat_tests}
@@ -17,9 +17,9 @@ use Rattle.ctr_log.specs.Logs.{Batches, batch, batches, records, HasLog, Log, Go
 use Rattle.ctr_log.specs.Reading.{log_file, ReadsLog, HasSome, IsEmptyAt, RefusesOrFails}
 use Rattle.ctr_log.specs.Kept.{NamesKept, log_in, begins_at, kept_log, other_file, next_file, IsDropped, AreShort, RefusesKept, HoldsTwo, HoldsLog, StandsLog, OpensKept, WritesBy, WritesBehind, writer_file, has_newer}
 use Rattle.ctr_disk.specs.declared.fault.StoreFault.{StoreFault}
-use Rattle.ctr_log.specs.LogChecks.{file_damage, damage_or, kept_damage, IsThisDamage}
+use Rattle.ctr_log.specs.LogChecks.{file_damage, damage_or, kept_damage, if_passed, sound_visits, sound_kept_visits, IsThisDamage}
 use Rattle.ctr_log.specs.Batch.{EndsLog}
-use Rattle.ctr_log.specs.Visits.{visit_bytes, file_visits, kept_visits, GivesPart, StopsAt, OnRead}
+use Rattle.ctr_log.specs.Visits.{visit_bytes, file_visits, IsGiven, GivesPart, StopsAt, OnRead}
 use Rattle.ctr_log.specs.declared.visitor.Visit.{Visit}
 use Rattle.ctr_log.specs.declared.visitor.VisitError.{VisitError}
 use Rattle.ctr_log.specs.declared.visitor.VisitError.TheVariants.{Read, Refused}
@@ -28,7 +28,8 @@ use Rattle.ctr_log.proofs.KeptLaws.{log_in_is, begins}
 use Rattle.ctr_log.proofs.StartLemmas.{next_other}
 use Rattle.ctr_log.proofs.DamageLaws.{section-drop, this_more}
 use Rattle.ctr_log.proofs.VisitLaws.{file_bytes}
-use Rattle.ctr_log.proofs.VisitLemmas.{stops_more, stops_behind, part_given}
+use Rattle.ctr_log.proofs.ReadLemmas.{length-records-le}
+use Rattle.ctr_log.proofs.VisitLemmas.{given_same, given_both, stops_more, stops_behind, part_given}
 
 -- a number where a read gives it, past the end too
 number_read : (bytes : List ℕ) → field 8 0 (section 0 8 bytes) ≡ field 8 0 bytes
@@ -39,11 +40,19 @@ pub first_read : (bytes : List ℕ) → field 8 9 (section 0 17 bytes) ≡ field
 first_read bytes =
     sym (field-drop 8 0 9 (section 0 17 bytes)) ∙ ap (λ (l : List ℕ). field 8 0 l) (sym (section-drop 9 0 8 bytes)) ∙ number_read (drop 9 bytes) ∙ field-drop 8 0 9 bytes
 
-pub shorts : (first : ℕ) (bs : Batches) → length (batches first bs) < 2 ^ 63 → AreShort bs
+pub shorts : (first : ℕ) (bs : Batches) → length (batches first bs) < 2 ^ 64 → AreShort bs
 shorts first [] low = tt
 shorts first (rs ∷ bs) low =
     let total = length-append (batch first rs) (batches (first + length rs) bs) in
     (omega (arith, low, total, length-batch first rs), shorts (first + length rs) bs (omega (arith, low, total)))
+
+-- the records of a log that stands in a file that a disk can hold
+pub log_read : (first : ℕ) (bs : Batches) (bytes : List ℕ) → HasLog first bs bytes → length bytes < 2 ^ 64 → first ≤ 2 ^ 63 + 2 ^ 60 → log_in bytes ≡ records bs
+log_read first bs bytes log few low =
+    let has = log.batches_are in
+    let long = length-append (batches first bs) (has.gate ∷ has.rest) in
+    let each = length-records-le first bs in
+    log_in_is first bs bytes has (shorts first bs (omega (arith, few, ap length has.bytes_are, long))) (omega (arith, few, low, ap length has.bytes_are, long, each))
 
 -- a generation that begins at a number not below the oldest isn't dropped
 not_dropped : (first next : ℕ) (bytes : List ℕ) → first ≤ next → begins_at next bytes ≡ true → IsDropped first bytes → ⊥
@@ -80,23 +89,31 @@ kept_refused {file} {first} {image} is part (Store (Damaged f at want got)) refu
 pub older_refused : (file first : ℕ) (image : Image) (g : File) → g ≡ log_file file → (e : ReadError) → RefusesOrFails g (HasSome first (content g image)) e → RefusesKept file first image e
 older_refused file first image g is e refused = kept_refused (inl is) (λ (stands : StandsLog file first image). (stands.bs, subst (λ (k : File). HasLog first stands.bs (content k image)) (sym is) stands.named)) e refused
 
-by_newer : (b : Bool) (x y : List Visit) → (more : List Visit) × ((if b then x ++ y else x) ≡ x ++ more)
-by_newer true x y = (y, refl)
-by_newer false x y = ([], sym (append-nil x))
+-- what is sound of the log begins with what is sound of the named file; where that is damaged, it is all
+module _ {V : Type 0} (has_seen : V → List Visit → Type 0) (file first : ℕ) (image : Image) (f : File) (is : f ≡ log_file file) where
+  abbrev newer_part : List Visit
+  newer_part =
+      let named = content (log_file file) image in
+      let other = content (other_file file) image in
+      if_passed (file_damage (log_file file) first named) (if has_newer first named other then sound_visits (other_file file) (first + length (log_in named)) other else [])
 
--- the visits of the log begin with those of the named file
-module _ (file first : ℕ) (image : Image) (f : File) (is : f ≡ log_file file) where
-  named_first : (more : List Visit) × (kept_visits file first image ≡ file_visits f first (content f image) ++ more)
-  named_first =
-      let k = by_newer (has_newer first (content (log_file file) image) (content (other_file file) image)) (file_visits (log_file file) first (content (log_file file) image)) (file_visits (other_file file) (first + length (log_in (content (log_file file) image))) (content (other_file file) image)) in
-      (k.0, k.1 ∙ ap (λ (g : File). file_visits g first (content g image) ++ k.0) (sym is))
+  named_first : sound_kept_visits file first image ≡ sound_visits f first (content f image) ++ newer_part
+  named_first = ap (λ (g : File). sound_visits g first (content g image) ++ newer_part) (sym is)
 
-  module _ (old new : List Visit) where
-    pub stops_older : {E : Type 0} (refuses : List Visit → Visit → E → Type 0) (e : VisitError E) → StopsAt refuses old new (file_visits f first (content f image)) e → StopsAt refuses old new (kept_visits file first image) e
-    stops_older refuses e stops = stops_more refuses old new (file_visits f first (content f image)) named_first.0 (kept_visits file first image) named_first.1 e stops
+  none_newer : (d : StoreFault) → file_damage f first (content f image) ≡ Err d → newer_part ≡ []
+  none_newer d fails =
+      let named = content (log_file file) image in
+      let other = content (other_file file) image in
+      ap (λ (x : Result ⊤ StoreFault). if_passed x (if has_newer first named other then sound_visits (other_file file) (first + length (log_in named)) other else [])) (ap (λ (g : File). file_damage g first (content g image)) (sym is) ∙ fails)
 
-    pub part_older : new ≡ old ++ file_visits f first (content f image) → GivesPart old new (kept_visits file first image)
-    part_older seen = part_given (file_visits f first (content f image)) named_first.0 seen named_first.1
+  module _ (old new : V) where
+    pub stops_older : {E : Type 0} (refuses : List Visit → Visit → E → Type 0) (e : VisitError E) → OnRead (IsThisDamage (file_damage f first (content f image))) e → StopsAt has_seen refuses old new (sound_visits f first (content f image)) e
+        → StopsAt has_seen refuses old new (sound_kept_visits file first image) e
+    stops_older refuses e told stops =
+        stops_more has_seen refuses old new (sound_visits f first (content f image)) newer_part (sound_kept_visits file first image) named_first (file_damage f first (content f image)) none_newer e told stops
+
+    pub part_older : IsGiven has_seen old new (sound_visits f first (content f image)) → GivesPart has_seen old new (sound_kept_visits file first image)
+    part_older gives = part_given has_seen old new (sound_visits f first (content f image)) newer_part gives named_first
 
 pub older_refused_by : {E : Type 0} (file first : ℕ) (image : Image) (g : File) → g ≡ log_file file → (e : VisitError E) → OnRead (RefusesOrFails g (HasSome first (content g image))) e → OnRead (RefusesKept file first image) e
 older_refused_by file first image g is (Read e) refused = older_refused file first image g is e refused
@@ -169,11 +186,13 @@ module _ {r : Root} {image mid : Image} {f h : File} {rs : List (List ℕ)} {pla
       ap (λ (t : Bool). if t then log_in named ++ log_in other else log_in named) looked
       ∙ ap (λ (l : List (List ℕ)). if b then l ++ log_in other else l) named_read
 
-  -- the visits are those of the named file, and those of the other where it was found to go on
-  visits_by : kept_visits r.file r.first image ≡ (if b then file_visits (log_file r.file) r.first named ++ file_visits (other_file r.file) next other else file_visits (log_file r.file) r.first named)
-  visits_by =
-      ap (λ (t : Bool). if t then file_visits (log_file r.file) r.first named ++ file_visits (other_file r.file) (r.first + length (log_in named)) other else file_visits (log_file r.file) r.first named) looked
-      ∙ ap (λ (n : ℕ). if b then file_visits (log_file r.file) r.first named ++ file_visits (other_file r.file) n other else file_visits (log_file r.file) r.first named) next_read
+  -- what is sound is that of the named file, and that of the other where it was found to go on
+  sound_by : file_damage f r.first (content f image) ≡ Ok tt → sound_kept_visits r.file r.first image ≡ sound_visits f r.first (content f image) ++ (if b then sound_visits (other_file r.file) next other else [])
+  sound_by passed =
+      ap (λ (t : Bool). sound_visits (log_file r.file) r.first named ++ if_passed (file_damage (log_file r.file) r.first named) (if t then sound_visits (other_file r.file) (r.first + length (log_in named)) other else [])) looked
+      ∙ ap (λ (n : ℕ). sound_visits (log_file r.file) r.first named ++ if_passed (file_damage (log_file r.file) r.first named) (if b then sound_visits (other_file r.file) n other else [])) next_read
+      ∙ ap (λ (k : File). sound_visits k r.first (content k image) ++ if_passed (file_damage k r.first (content k image)) (if b then sound_visits (other_file r.file) next other else [])) (sym w.named_is)
+      ∙ ap (λ (d : Result ⊤ StoreFault). sound_visits f r.first (content f image) ++ if_passed d (if b then sound_visits (other_file r.file) next other else [])) passed
 
   -- the damage is that of the named file, and then of the other where it was found to go on
   damage_by : kept_damage r.file r.first image ≡ damage_or (file_damage f r.first (content f image)) (if b then file_damage (other_file r.file) next other else Ok tt)
@@ -223,10 +242,10 @@ module _ {r : Root} {image mid : Image} {f h : File} {rs : List (List ℕ)} {pla
       goes_on = (r.first, read.bs, goes_one);
     }
 
-    pub visited_one : (old new : List Visit) → new ≡ old ++ file_visits f r.first (content f image) → new ≡ old ++ kept_visits r.file r.first image
-    visited_one old new seen =
-        seen ∙ ap (λ (k : File). old ++ file_visits k r.first (content k image)) w.named_is
-        ∙ ap (λ (l : List Visit). old ++ l) (sym (visits_by ∙ ap (λ (t : Bool). if t then file_visits (log_file r.file) r.first named ++ file_visits (other_file r.file) next other else file_visits (log_file r.file) r.first named) alone))
+    pub visited_one : {V : Type 0} (has_seen : V → List Visit → Type 0) (old new : V) → file_damage f r.first (content f image) ≡ Ok tt → IsGiven has_seen old new (sound_visits f r.first (content f image)) → IsGiven has_seen old new (sound_kept_visits r.file r.first image)
+    visited_one has_seen old new passed gives =
+        let here = sound_visits f r.first (content f image) in
+        given_same has_seen old new (sound_by passed ∙ ap (λ (t : Bool). here ++ (if t then sound_visits (other_file r.file) next other else [])) alone ∙ append-nil here) gives
 
     pub writes_one : (all : List (List ℕ)) → HoldsLog r.file r.first all image → WritesBehind r.file r.first log image
     writes_one all (inr two) = absurd (false≢true (sym (tells ∙ alone) ∙ begins_two two.0 two.1 two.3))
@@ -266,22 +285,18 @@ module _ {r : Root} {image mid : Image} {f h : File} {rs : List (List ℕ)} {pla
     newer_told passed (Refused own) told = tt
     newer_told passed (Read e) told = this_more (file_damage h next (content h late)) (kept_damage r.file r.first image) (λ d here. damage_two passed ∙ here) e told
 
-    visits_two : kept_visits r.file r.first image ≡ file_visits f r.first (content f image) ++ file_visits h next (content h late)
-    visits_two =
-        visits_by ∙ ap (λ (t : Bool). if t then file_visits (log_file r.file) r.first named ++ file_visits (other_file r.file) next other else file_visits (log_file r.file) r.first named) there
-        ∙ ap (λ (k : File). file_visits k r.first (content k image) ++ file_visits (other_file r.file) next other) (sym w.named_is)
-        ∙ ap (λ (k : File). file_visits f r.first (content f image) ++ file_visits k next other) (sym behind_is)
-        ∙ ap (λ (l : List ℕ). file_visits f r.first (content f image) ++ file_visits h next l) (sym bytes_are)
+    visits_two : file_damage f r.first (content f image) ≡ Ok tt → sound_kept_visits r.file r.first image ≡ sound_visits f r.first (content f image) ++ sound_visits h next (content h late)
+    visits_two passed =
+        sound_by passed ∙ ap (λ (t : Bool). sound_visits f r.first (content f image) ++ (if t then sound_visits (other_file r.file) next other else [])) there
+        ∙ ap (λ (k : File). sound_visits f r.first (content f image) ++ sound_visits k next other) (sym behind_is)
+        ∙ ap (λ (l : List ℕ). sound_visits f r.first (content f image) ++ sound_visits h next l) (sym bytes_are)
 
-    module _ (old mid_seen new : List Visit) (seen : mid_seen ≡ old ++ file_visits f r.first (content f image)) where
-      pub stops_newer : {E : Type 0} (refuses : List Visit → Visit → E → Type 0) (e : VisitError E) → StopsAt refuses mid_seen new (file_visits h next (content h late)) e → StopsAt refuses old new (kept_visits r.file r.first image) e
-      stops_newer refuses e stops = stops_behind refuses old mid_seen new (file_visits f r.first (content f image)) (file_visits h next (content h late)) (kept_visits r.file r.first image) seen visits_two e stops
+    module _ {V : Type 0} (has_seen : V → List Visit → Type 0) (old between new : V) (passed : file_damage f r.first (content f image) ≡ Ok tt) (seen : IsGiven has_seen old between (sound_visits f r.first (content f image))) where
+      pub stops_newer : {E : Type 0} (refuses : List Visit → Visit → E → Type 0) (e : VisitError E) → StopsAt has_seen refuses between new (sound_visits h next (content h late)) e → StopsAt has_seen refuses old new (sound_kept_visits r.file r.first image) e
+      stops_newer refuses e stops = stops_behind has_seen refuses old between new (sound_visits f r.first (content f image)) (sound_visits h next (content h late)) (sound_kept_visits r.file r.first image) seen (visits_two passed) e stops
 
-      pub visited_two : new ≡ mid_seen ++ file_visits h next (content h late) → new ≡ old ++ kept_visits r.file r.first image
-      visited_two given =
-          given ∙ ap (λ (l : List Visit). l ++ file_visits h next (content h late)) seen
-          ∙ append_assoc old (file_visits f r.first (content f image)) (file_visits h next (content h late))
-          ∙ ap (λ (l : List Visit). old ++ l) (sym visits_two)
+      pub visited_two : IsGiven has_seen between new (sound_visits h next (content h late)) → IsGiven has_seen old new (sound_kept_visits r.file r.first image)
+      visited_two gives = given_same has_seen old new (visits_two passed) (given_both has_seen old between new (sound_visits f r.first (content f image)) (sound_visits h next (content h late)) seen gives)
 
     -- and was read
     module _ {qs : List (List ℕ)} {place2 next2 : ℕ} (found : ReadsLog next (content h late) qs place2 next2) (low_place2 : place2 < 2 ^ 63) (low2 : next2 < 2 ^ 64) {log : Log} (at : IsEmptyAt h true place2 next2 log) where

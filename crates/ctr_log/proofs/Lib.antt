@@ -6,6 +6,7 @@ mod DamageLaws
 pub mod BatchLemmas
 pub mod VisitLemmas
 pub mod VisitLaws
+pub mod SoundLaws
 pub mod InitLemmas
 pub mod KeptLaws
 pub mod StartLemmas

@@ -1,4 +1,5 @@
--- The checks of a file of the log, in their order. The first that fails is the damage that is told.
+-- The checks of a file of the log, in their order. The first that fails is the damage that is told; the
+-- records of the batches before it are what is read.
 use Rattle.std.specs.Prelude.{◌≡◌, ◌==◌, ◌+◌, ◌-◌, if◌then◌else◌, ℕ, zero, suc, min, max, List, [], ◌∷◌, ◌++◌, length, take, drop, slice_index, Result, Ok, Err, MatchResult, ⊤}
 use Rattle.ctr_types.specs.declared.file.File.{File}
 use Rattle.ctr_disk.specs.declared.disk.Image.{Image}
@@ -10,7 +11,8 @@ use Rattle.ctr_home.specs.declared.checks.Check.{Check}
 use Rattle.ctr_home.specs.Checks.{check_of, judged}
 use Rattle.ctr_log.specs.Reading.{log_file}
 use Rattle.ctr_log.specs.Kept.{log_in, other_file, has_newer}
-use Rattle.ctr_log.specs.Visits.{OnRead}
+use Rattle.ctr_log.specs.Visits.{frame_visits, OnRead}
+use Rattle.ctr_log.specs.declared.visitor.Visit.{Visit}
 use Rattle.ctr_log.specs.declared.reading.ReadError.{ReadError}
 use Rattle.ctr_log.specs.declared.reading.ReadError.TheVariants.{Store, OutOfMemory}
 use Rattle.ctr_log.specs.declared.visitor.VisitError.{VisitError}
@@ -78,6 +80,22 @@ file_checks first bytes = check_of 0 1 (slice_index bytes 0) ∷ log_checks firs
 abbrev pub file_damage : File → ℕ → List ℕ → Result ⊤ StoreFault
 file_damage file first bytes = judged file (file_checks first bytes)
 
+-- these, where no check failed
+abbrev pub if_passed : Result ⊤ StoreFault → List Visit → List Visit
+if_passed (Ok _) visits = visits
+if_passed (Err e) visits = []
+
+-- The records of the batches before the first that is damaged, from a gate of a file on, numbered from
+-- this LSN on: of n open batches at most, and up to the first closed gate.
+abbrev pub sound_batch_visits : File → ℕ → ℕ → ℕ → List ℕ → List Visit
+sound_batch_visits file lsn gate zero bytes = []
+sound_batch_visits file lsn gate (suc n) bytes =
+    if slice_index bytes 0 == 1 then if_passed (judged file (batch_checks lsn gate bytes)) (frame_visits file lsn (gate + 21) (field 4 17 bytes) (frame_bytes bytes) ++ sound_batch_visits file (lsn + field 4 17 bytes) (gate + (21 + field 8 1 bytes)) n (drop (21 + field 8 1 bytes) bytes)) else []
+
+-- the same of a whole file: its records come before the damage that is told of it
+abbrev pub sound_visits : File → ℕ → List ℕ → List Visit
+sound_visits file first bytes = sound_batch_visits file first 0 (length bytes) bytes
+
 -- damage of the one, or else of the other
 abbrev pub damage_or : Result ⊤ StoreFault → Result ⊤ StoreFault → Result ⊤ StoreFault
 damage_or (Err e) damage = Err e
@@ -90,6 +108,14 @@ kept_damage file first image =
     let named = content (log_file file) image in
     let other = content (other_file file) image in
     damage_or (file_damage (log_file file) first named) (if has_newer first named other then file_damage (other_file file) (first + length (log_in named)) other else Ok tt)
+
+-- The same of the log of an image: those of the named file, and where it has no damage, those of the
+-- other one where it goes on from that.
+abbrev pub sound_kept_visits : ℕ → ℕ → Image → List Visit
+sound_kept_visits file first image =
+    let named = content (log_file file) image in
+    let other = content (other_file file) image in
+    sound_visits (log_file file) first named ++ if_passed (file_damage (log_file file) first named) (if has_newer first named other then sound_visits (other_file file) (first + length (log_in named)) other else [])
 
 -- damage that was told is this; or the disk failed, or memory was refused
 abbrev pub IsThisDamage : Result ⊤ StoreFault → ReadError → Type 0

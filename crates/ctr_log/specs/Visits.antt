@@ -1,10 +1,11 @@
 -- The records of a log where they stand, and what a visitor is given of them.
-use Rattle.std.specs.Prelude.{◌≡◌, ◌==◌, ◌+◌, if◌then◌else◌, ℕ, zero, suc, List, [], ◌∷◌, ◌++◌, length, take, drop, slice_index, Result, MatchResult}
+use Rattle.std.specs.Prelude.{◌≡◌, ◌==◌, ◌+◌, if◌then◌else◌, ℕ, zero, suc, List, [], ◌∷◌, ◌++◌, length, take, drop, slice_index, Result, Ok, Err, MatchResult}
 use Rattle.ctr_types.specs.declared.file.File.{File}
 use Rattle.ctr_types.specs.declared.memory.OutOfMemory.{OutOfMemory as WantOfMemory}
 use Rattle.ctr_disk.specs.declared.disk.Image.{Image}
 use Rattle.ctr_disk.specs.Image.{content}
 use Rattle.ctr_disk.specs.declared.fault.StoreFault.{StoreFault}
+use Rattle.ctr_disk.specs.declared.fault.StoreFault.TheVariants.{Fault, Damaged}
 use Rattle.ctr_bytes.specs.Fields.{field}
 use Rattle.ctr_log.specs.Reading.{log_file, ReadDiffers}
 use Rattle.ctr_log.specs.Kept.{log_in, other_file, has_newer}
@@ -59,44 +60,69 @@ abbrev pub AreNumbered : ℕ → List Visit → Type 0
 AreNumbered lsn [] = Unit {0}
 AreNumbered lsn (v ∷ vs) = (v.lsn ≡ lsn) × AreNumbered (lsn + 1) vs
 
--- a visitor that had seen the old ones has been given the first of all these too, in order
-pub record GivesPart (old new all : List Visit) : Type 0 where
+-- the first of all these
+abbrev pub IsFront : List Visit → List Visit → Type 0
+IsFront front all = (rest : List Visit) × (all ≡ front ++ rest)
+
+-- a visitor was given these: whatever it had seen before, it has seen them behind that
+abbrev pub IsGiven : {V : Type 0} → (V → List Visit → Type 0) → V → V → List Visit → Type 0
+IsGiven has_seen old new given =
+    (before : List Visit) → has_seen old before → has_seen new (before ++ given)
+
+-- it was given some
+abbrev pub GivesSome : {V : Type 0} → (V → List Visit → Type 0) → V → V → Type 0
+GivesSome has_seen old new = (given : List Visit) × IsGiven has_seen old new given
+
+-- it was given the first of all these, in order
+pub record GivesPart {V : Type 0} (has_seen : V → List Visit → Type 0) (old new : V) (all : List Visit)
+    : Type 0 where
   pub given : List Visit
   pub rest : List Visit
   pub all_are : all ≡ given ++ rest
-  pub seen : new ≡ old ++ given
+  pub gives : IsGiven has_seen old new given
 
--- it refused one of them with this, and was given those before it
-pub record RefusesOne {E : Type 0} (refuses : List Visit → Visit → E → Type 0)
-    (old new all : List Visit) (e : E) : Type 0 where
+-- it refused one of them with this, when it had been given those before it
+pub record RefusesOne {V E : Type 0} (has_seen : V → List Visit → Type 0)
+    (refuses : List Visit → Visit → E → Type 0) (old : V) (all : List Visit) (e : E) : Type 0 where
   pub given : List Visit
   pub refused : Visit
   pub rest : List Visit
   pub all_are : all ≡ given ++ refused ∷ rest
-  pub seen : new ≡ old ++ given
-  pub because : refuses new refused e
+  pub because : (before : List Visit) → has_seen old before → refuses (before ++ given) refused e
 
--- what it has been given where reading ended early: a front of them, and where it refused one, those
--- before that
-abbrev pub StopsAt : {E : Type 0} → (List Visit → Visit → E → Type 0) → List Visit → List Visit
-    → List Visit → VisitError E → Type 0
-StopsAt refuses old new all (Read e) = GivesPart old new all
-StopsAt refuses old new all (Refused e) = RefusesOne refuses old new all e
+-- What it has been given where reading ended early: at damage all of these, which are the records of
+-- the batches before that; where it refused one, those before that; else a front of them.
+abbrev pub StopsAt : {V E : Type 0} → (V → List Visit → Type 0)
+    → (List Visit → Visit → E → Type 0) → V → V → List Visit → VisitError E → Type 0
+StopsAt has_seen refuses old new sound (Read OutOfMemory) = GivesPart has_seen old new sound
+StopsAt has_seen refuses old new sound (Read (Store Fault)) = GivesPart has_seen old new sound
+StopsAt has_seen refuses old new sound (Read (Store (Damaged file at want got))) =
+    IsGiven has_seen old new sound
+StopsAt has_seen refuses old new sound (Refused e) = RefusesOne has_seen refuses old sound e
 
 -- it is given all of them; or reading ends early
-abbrev pub Visits : {T E : Type 0} → (List Visit → Visit → E → Type 0) → List Visit → List Visit
-    → List Visit → Result T (VisitError E) → Type 0
-Visits refuses old new all result = MatchResult result (λ _. new ≡ old ++ all) (StopsAt refuses old new all)
+abbrev pub Visits : {V T E : Type 0} → (V → List Visit → Type 0)
+    → (List Visit → Visit → E → Type 0) → V → V → List Visit → Result T (VisitError E) → Type 0
+Visits has_seen refuses old new sound result =
+    MatchResult result (λ _. IsGiven has_seen old new sound) (StopsAt has_seen refuses old new sound)
 
 -- where reading ended without a refusal, it ended so
 abbrev pub OnRead : {E : Type 0} → (ReadError → Type 0) → VisitError E → Type 0
 OnRead P (Read e) = P e
 OnRead P (Refused e) = Unit {0}
 
+-- this holds, unless reading itself ended early
+abbrev pub UnlessRead : {T E : Type 0} → Type 0 → Result T (VisitError E) → Type 0
+UnlessRead P (Ok x) = P
+UnlessRead P (Err (Read e)) = Unit {0}
+UnlessRead P (Err (Refused e)) = P
+
 -- Whatever the disk tells: damage says what differs, and a refusal is one that the visitor may answer.
-abbrev pub EndsEarly : {E : Type 0} → (List Visit → Visit → E → Type 0) → VisitError E → Type 0
-EndsEarly refuses (Read e) = ReadDiffers e
-EndsEarly refuses (Refused e) = (seen : List Visit) × (v : Visit) × refuses seen v e
+abbrev pub EndsEarly : {V E : Type 0} → (V → List Visit → Type 0)
+    → (List Visit → Visit → E → Type 0) → V → VisitError E → Type 0
+EndsEarly has_seen refuses old (Read e) = ReadDiffers e
+EndsEarly has_seen refuses old (Refused e) =
+    (all : List Visit) × RefusesOne has_seen refuses old all e
 
 -- the error by which a visitor tells how reading ended: its own refusal is handed on
 abbrev pub IsToldBy : {E : Type 0} → (StoreFault → E → Type 0) → (WantOfMemory → E → Type 0)

@@ -12,9 +12,9 @@ ghost use Rattle.ctr_log.specs.Damage.{IsDamageOf};
 ghost use Rattle.ctr_log.specs.Logs.{Batches, frame, records, HasLog};
 ghost use Rattle.ctr_log.specs.Reading.{RefusesOrFails, ReadDiffers, AreFrames, HasFrames, HasSome, FitsFile};
 ghost use Rattle.ctr_log.specs.Kept.{log_in};
-ghost use Rattle.ctr_log.specs.LogChecks.{head_checks, count_checks, frames_in, frame_checks, gate_checks, file_damage, IsThisDamage, TellsDamage, VisitsDamage};
+ghost use Rattle.ctr_log.specs.LogChecks.{head_checks, count_checks, frames_in, frame_checks, gate_checks, file_damage, sound_visits, IsThisDamage, TellsDamage, VisitsDamage};
 ghost use Rattle.ctr_log.specs.Batch.{HeadFits, CountFits, FindsBatch, IsWholeBatch, OpensBatch, EndsLog};
-ghost use Rattle.ctr_log.specs.Visits.{frame_visits, file_visits, RefusesOne, Visits, OnRead, EndsEarly};
+ghost use Rattle.ctr_log.specs.Visits.{frame_visits, IsGiven, GivesSome, RefusesOne, Visits, OnRead, UnlessRead, EndsEarly};
 
 use crate::damage::{at_least, at_most, same};
 use crate::log::Lsn;
@@ -158,7 +158,7 @@ fn give<V: Visitor>(
     requires counted { HasFrames frames.now count }
     requires place { at + length frames.now < 2 ^ 63 }
     requires number { first + count < 2 ^ 64 }
-    ensures { MatchResult result (λ _. V.seen visitor.new ≡ V.seen visitor.old ++ frame_visits file first at count frames.now) (RefusesOne V.refuses (V.seen visitor.old) (V.seen visitor.new) (frame_visits file first at count frames.now)) }
+    ensures { MatchResult result (λ _. IsGiven V.has_seen visitor.old visitor.new (frame_visits file first at count frames.now)) (RefusesOne V.has_seen V.refuses visitor.old (frame_visits file first at count frames.now)) }
 {
     let mut rest = frames;
     for lsn in first..first + count {
@@ -199,11 +199,11 @@ pub fn visit_file<D: Disk, V: Visitor>(
 ) -> Result<End, VisitError<V::E>>
     requires low { first ≤ 2 ^ 63 + 2 ^ 60 }
     ensures found { IsTrue D.tells → IfOk result (λ end. EndsLog first (content file (D.reads disk.old)) end.place end.next) }
-    ensures only { (bs : Batches) → IsTrue D.tells → HasLog first bs (content file (D.reads disk.old)) → IfOk result (λ end. (end.next ≡ first + length (records bs)) × (log_in (content file (D.reads disk.old)) ≡ records bs)) }
-    ensures visits { IsTrue D.tells → Visits V.refuses (V.seen visitor.old) (V.seen visitor.new) (file_visits file first (content file (D.reads disk.old))) result }
+    ensures only { (bs : Batches) → IsTrue D.tells → HasLog first bs (content file (D.reads disk.old)) → IfOk result (λ end. end.next ≡ first + length (records bs)) × UnlessRead (log_in (content file (D.reads disk.old)) ≡ records bs) result }
+    ensures visits { IsTrue D.tells → Visits V.has_seen V.refuses visitor.old visitor.new (sound_visits file first (content file (D.reads disk.old))) result }
     ensures refused { IsTrue D.tells → IfErr result (OnRead (RefusesOrFails file (HasSome first (content file (D.reads disk.old))))) }
     ensures damage { IsTrue D.tells → VisitsDamage (file_damage file first (content file (D.reads disk.old))) result }
-    ensures early { IfErr result (EndsEarly V.refuses) }
+    ensures always { MatchResult result (λ _. GivesSome V.has_seen visitor.old visitor.new) (EndsEarly V.has_seen V.refuses visitor.old) }
     ensures low { IfOk result (λ end. FitsFile first end.place end.next) }
     ensures quiet { OnlyReads D.Disk disk.old disk.new }
     ensures counts { CountsAs D.Disk (Read (Store Fault)) disk.old disk.new result }

@@ -44,7 +44,7 @@ impl Visitor for Gathered {
 
     type E = ReadError;
 
-    ghost seen = { λ g. g.visits };
+    ghost has_seen = { λ g visits. g.visits ≡ visits };
 
     ghost refuses = { λ _ _ e. e ≡ OutOfMemory };
 

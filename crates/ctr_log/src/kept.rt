@@ -1,6 +1,6 @@
 // Reads the log that is kept: the generation that the root names, and behind it the one in the other
 // file where that goes on from it.
-ghost use Rattle.std.specs.Prelude.{◌≡◌, ◌+◌, IsTrue, ℕ, List, [], ◌++◌, length, Result, IfOk, IfErr, OnOk, Ok, Err};
+ghost use Rattle.std.specs.Prelude.{◌≡◌, ◌+◌, IsTrue, ℕ, List, [], ◌++◌, length, Result, MatchResult, IfOk, IfErr, OnOk, Ok, Err};
 ghost use Rattle.ctr_disk.specs.declared.fault.StoreFault.TheVariants.{Fault};
 ghost use Rattle.ctr_disk.specs.Image.{content};
 ghost use Rattle.ctr_disk.specs.Device.{OnlyReads, Counts, CountsAs};
@@ -9,9 +9,9 @@ ghost use Rattle.ctr_log.specs.declared.visitor.VisitError.{VisitError};
 ghost use Rattle.ctr_log.specs.declared.visitor.VisitError.TheVariants.{Read};
 ghost use Rattle.ctr_log.specs.Logs.{Batches, records, HasLog};
 ghost use Rattle.ctr_log.specs.Reading.{RefusesOrFails, ReadDiffers, HasSome, OpensLog, NamesLog, log_file};
-ghost use Rattle.ctr_log.specs.Kept.{begins_at, NamesKept, HoldsLog, RefusesKept, OpensKept, WritesBehind};
-ghost use Rattle.ctr_log.specs.LogChecks.{file_damage, kept_damage, IsThisDamage, TellsDamage, VisitsDamage};
-ghost use Rattle.ctr_log.specs.Visits.{kept_visits, Visits, StopsAt, OnRead, EndsEarly, IsToldBy};
+ghost use Rattle.ctr_log.specs.Kept.{log_in, begins_at, NamesKept, HoldsLog, RefusesKept, OpensKept, WritesBehind};
+ghost use Rattle.ctr_log.specs.LogChecks.{file_damage, kept_damage, sound_visits, sound_kept_visits, IsThisDamage, TellsDamage, VisitsDamage};
+ghost use Rattle.ctr_log.specs.Visits.{kept_visits, IsGiven, Visits, StopsAt, OnRead, UnlessRead, EndsEarly, IsToldBy};
 
 use crate::batches::visit_file;
 use crate::log::{LogFile, Lsn, next_file};
@@ -48,6 +48,35 @@ pub fn read_named<D: Disk>(
     Ok((log, found.records))
 }
 
+/// Gives the records of the one generation that the root of a database without pages names to a visitor, one
+/// after another, and answers the writer behind the last of them. It holds no more than a batch, and takes
+/// time linear in the log. Where the disk tells what it holds, damage is told by the first check of the file
+/// that fails, and the visitor has then been given the records of all batches before that.
+pub fn visit_named<D: Disk, V: Visitor>(
+    alloc: Global,
+    disk: &mut D,
+    root: &Root,
+    visitor: &mut V,
+) -> Result<LogFile, VisitError<V::E>>
+    requires names { NamesLog root.now }
+    ensures found { IsTrue D.tells → IfOk result (λ log. OpensLog root.now.first (log_file root.now.file) (D.reads disk.old) log (log_in (content (log_file root.now.file) (D.reads disk.old)))) }
+    // A log that stands there has the records that are read, and no others.
+    ensures only { (bs : Batches) → IsTrue D.tells → HasLog root.now.first bs (content (log_file root.now.file) (D.reads disk.old))
+        → UnlessRead (log_in (content (log_file root.now.file) (D.reads disk.old)) ≡ records bs) result }
+    ensures visits { IsTrue D.tells → Visits V.has_seen V.refuses visitor.old visitor.new (sound_visits (log_file root.now.file) root.now.first (content (log_file root.now.file) (D.reads disk.old))) result }
+    ensures refused { IsTrue D.tells → IfErr result (OnRead (RefusesOrFails (log_file root.now.file) (HasSome root.now.first (content (log_file root.now.file) (D.reads disk.old))))) }
+    ensures damage { IsTrue D.tells → VisitsDamage (file_damage (log_file root.now.file) root.now.first (content (log_file root.now.file) (D.reads disk.old))) result }
+    // Whatever the disk tells.
+    ensures always { MatchResult result (λ log. log.buffered ≡ []) (EndsEarly V.has_seen V.refuses visitor.old) }
+    ensures quiet { OnlyReads D.Disk disk.old disk.new }
+    ensures counts { CountsAs D.Disk (Read (Store Fault)) disk.old disk.new result }
+{
+    let file = named_file(root);
+    let end = visit_file(alloc, disk, file, root.first, visitor)?;
+    let log = LogFile::behind(alloc, file, false, end.place, end.next)?;
+    Ok(log)
+}
+
 /// Gives the records of the log that is kept to a visitor, one after another, the older generation
 /// first, and answers the writer behind the last of them. It holds no more than a batch, and takes time
 /// linear in the log. Where the disk tells what it holds, damage is told exactly where no log stands in
@@ -63,14 +92,15 @@ pub fn read_all<D: Disk, V: Visitor>(
     ensures goes_on { (rs : List (List ℕ)) → IsTrue D.tells → HoldsLog root.now.file root.now.first rs (D.reads disk.old)
         → IfOk result (λ log. WritesBehind root.now.file root.now.first log (D.reads disk.old)) }
     // The visitor has been given the records of the image's log and no others, and no check of it fails.
-    ensures visited { IsTrue D.tells → OnOk result ((V.seen visitor.new ≡ V.seen visitor.old ++ kept_visits root.now.file root.now.first (D.reads disk.old))
+    ensures visited { IsTrue D.tells → OnOk result (IsGiven V.has_seen visitor.old visitor.new (kept_visits root.now.file root.now.first (D.reads disk.old))
         × (kept_damage root.now.file root.now.first (D.reads disk.old) ≡ Ok tt)) }
     // The cause is damage, told by the first check of the log that fails, a fault of the disk, want of memory, or a record
-    // that the visitor refused.
+    // that the visitor refused. At damage it has been given the records of all batches before, and what it refuses is one of
+    // these.
     ensures refused { IfErr result (λ e. (cause : VisitError V.E) × IsToldBy V.E.From-1.from_gives V.E.From-2.from_gives cause e
-        × (let ended : Result ℕ (VisitError V.E) = Err cause in CountsAs D.Disk (Read (Store Fault)) disk.old disk.new ended) × EndsEarly V.refuses cause
+        × (let ended : Result ℕ (VisitError V.E) = Err cause in CountsAs D.Disk (Read (Store Fault)) disk.old disk.new ended) × EndsEarly V.has_seen V.refuses visitor.old cause
         × (IsTrue D.tells → OnRead (RefusesKept root.now.file root.now.first (D.reads disk.old)) cause)
-        × (IsTrue D.tells → StopsAt V.refuses (V.seen visitor.old) (V.seen visitor.new) (kept_visits root.now.file root.now.first (D.reads disk.old)) cause)
+        × (IsTrue D.tells → StopsAt V.has_seen V.refuses visitor.old visitor.new (sound_kept_visits root.now.file root.now.first (D.reads disk.old)) cause)
         × (IsTrue D.tells → OnRead (IsThisDamage (kept_damage root.now.file root.now.first (D.reads disk.old))) cause)) }
     ensures none { IfOk result (λ log. log.buffered ≡ []) }
     ensures quiet { OnlyReads D.Disk disk.old disk.new }
@@ -99,10 +129,10 @@ fn read_kept<D: Disk, V: Visitor>(
     ensures found { IsTrue D.tells → IfOk result (OpensKept root.now.file root.now.first (D.reads disk.old)) }
     ensures goes_on { (rs : List (List ℕ)) → IsTrue D.tells → HoldsLog root.now.file root.now.first rs (D.reads disk.old)
         → IfOk result (λ log. WritesBehind root.now.file root.now.first log (D.reads disk.old)) }
-    ensures visits { IsTrue D.tells → Visits V.refuses (V.seen visitor.old) (V.seen visitor.new) (kept_visits root.now.file root.now.first (D.reads disk.old)) result }
+    ensures visits { IsTrue D.tells → Visits V.has_seen V.refuses visitor.old visitor.new (sound_kept_visits root.now.file root.now.first (D.reads disk.old)) result }
     ensures refused { IsTrue D.tells → IfErr result (OnRead (RefusesKept root.now.file root.now.first (D.reads disk.old))) }
     ensures damage { IsTrue D.tells → VisitsDamage (kept_damage root.now.file root.now.first (D.reads disk.old)) result }
-    ensures early { IfErr result (EndsEarly V.refuses) }
+    ensures early { IfErr result (EndsEarly V.has_seen V.refuses visitor.old) }
     ensures none { IfOk result (λ log. log.buffered ≡ []) }
     ensures quiet { OnlyReads D.Disk disk.old disk.new }
     ensures counts { CountsAs D.Disk (Read (Store Fault)) disk.old disk.new result }

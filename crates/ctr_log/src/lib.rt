@@ -13,8 +13,8 @@ mod reading;
 mod visitor;
 
 pub use gathered::Gathered;
-pub use kept::{read_all, read_named};
-pub use laws::{the_newer_is_kept_alone, visits_are_the_log};
+pub use kept::{read_all, read_named, visit_named};
+pub use laws::{sound_visits_are_first, the_newer_is_kept_alone, visits_are_the_log};
 pub use log::{LogFile, Lsn};
 pub use making::{Making, init, is_first_checkpoint, make_logs};
 pub use reading::ReadError;

@@ -1,7 +1,7 @@
 // Two generations, byte by byte: what is read of them, and each moment of their making.
 ghost use Rattle.ctr_log.specs.Kept.{NamesKept};
 
-use crate::{Gathered, ReadError, read_all};
+use crate::{Gathered, ReadError, VisitError, read_all, visit_named};
 use ctr_disk::{Call, Image, MemDisk, Recorded, Root, SilentDisk, StoreFault};
 use ctr_home::{read_root, write_root};
 use ctr_types::{File, List};
@@ -117,6 +117,43 @@ fn damaged(at: u64, want: u128, got: u128) -> Result<Kept, ReadError> {
         want,
         got,
     }))
+}
+
+// The batch of "a" in LogA, and behind it one of "b" whose count is given.
+fn two_batches(count: u8) -> [u8; 61] {
+    let mut log = [0; 61];
+    log[..30].copy_from_slice(&OLDER[..30]);
+    log[30..].copy_from_slice(&newer(1, 2, count));
+    log
+}
+
+// How reading LogA alone ended, with the next number, and the first two records that were given.
+type Named = (Result<u64, ReadError>, [Given; 2]);
+
+fn named(alloc: Global, log: &[u8]) -> Result<Named, ReadError> {
+    let mut disk = disk_of(alloc, log, &[])?;
+    let mut gathered = Gathered::new(alloc);
+    let ended = match visit_named(alloc, &mut disk, &ROOT, &mut gathered) {
+        Ok(log) => Ok(log.next()),
+        Err(VisitError::Read(error)) => Err(error),
+        Err(VisitError::Refused(error)) => Err(error),
+    };
+    Ok((ended, [given_at(&gathered, 0), given_at(&gathered, 1)]))
+}
+
+#[test]
+fn records_before_a_damaged_batch_are_given(rt: HostRuntime) -> Result<(), Fail> {
+    let alloc = rt.alloc();
+    let behind = Given(2, File::LogA, 59, b'b');
+    assert!(rt; named(alloc, &two_batches(1)) == Ok((Ok(3), [FIRST, behind])));
+    let damage = ReadError::Store(StoreFault::Damaged {
+        file: File::LogA,
+        at: 47,
+        want: 1,
+        got: 2,
+    });
+    assert!(rt; named(alloc, &two_batches(2)) == Ok((Err(damage), [FIRST, NONE])));
+    Ok(())
 }
 
 #[test]

@@ -1,7 +1,7 @@
 // Who reads the log: a visitor is given its records one after another.
-ghost use Rattle.std.specs.Prelude.{◌≡◌, List, [], ◌∷◌, ◌++◌, IfErr, OnOk, OnErr};
+ghost use Rattle.std.specs.Prelude.{◌≡◌, List, [], ◌∷◌, IfErr, OnOk};
 ghost use Rattle.ctr_log.specs.declared.visitor.Visit.{Visit};
-ghost use Rattle.ctr_log.specs.Visits.{visit_of};
+ghost use Rattle.ctr_log.specs.Visits.{visit_of, IsGiven};
 
 use crate::log::Lsn;
 use crate::reading::ReadError;
@@ -24,18 +24,17 @@ pub trait Visitor {
     /// How it tells that reading ended early.
     type E: From<StoreFault> + From<OutOfMemory>;
 
-    /// What it has been given, in order.
-    ghost seen: { Self → List Visit };
+    /// It may have been given these, in order, where it stands so.
+    ghost has_seen: { Self → List Visit → Type 0 };
 
     /// What it may refuse a record with, behind those that it has been given.
     ghost refuses: { List Visit → Visit → Self.E → Type 0 };
 
     /// Is given a record: its number, the file and the place of its first byte, its bytes. A record
-    /// that it refuses ends the reading.
+    /// that it refuses ends the reading, and leaves the visitor in any state.
     fn visit(&mut self, lsn: Lsn, file: File, at: u64, bytes: &[u8]) -> Result<(), Self::E>
-        ensures given { OnOk result (seen self.new ≡ seen self.old ++ visit_of lsn file at bytes.now ∷ []) }
-        ensures left { OnErr result (seen self.new ≡ seen self.old) }
-        ensures because { IfErr result (refuses (seen self.old) (visit_of lsn file at bytes.now)) };
+        ensures given { OnOk result (IsGiven has_seen self.old self.new (visit_of lsn file at bytes.now ∷ [])) }
+        ensures because { (before : List Visit) → has_seen self.old before → IfErr result (refuses before (visit_of lsn file at bytes.now)) };
 }
 
 /// Reading for a visitor ended early.

@@ -13,7 +13,7 @@ use Rattle.ctr_log.specs.declared.reading.ReadError.{ReadError}
 use Rattle.ctr_log.specs.declared.reading.ReadError.TheVariants as read
 use Rattle.ctr_log.specs.declared.visitor.VisitError.{VisitError}
 use Rattle.ctr_log.specs.declared.visitor.VisitError.TheVariants as visit
-use Rattle.ctr_log.specs.LogChecks.{kept_damage, IsThisDamage}
+use Rattle.ctr_log.specs.LogChecks.{kept_damage, sound_kept_visits, IsThisDamage}
 use Rattle.ctr_base.specs.Opening.{IsRootDamage}
 use Rattle.ctr_store.specs.declared.opening.OpenError.TheVariants as open_error
 use Rattle.ctr_disk.specs.declared.disk.Image.{Image}
@@ -31,6 +31,7 @@ use Rattle.ctr_log.proofs.VisitLaws.{kept_bytes}
 use Rattle.ctr_home.specs.Checks.{check_of, judged}
 use Rattle.ctr_log.proofs.KeptLaws.{picks}
 use Rattle.ctr_meta.specs.Effects.{tables_of}
+use Rattle.ctr_meta.specs.Tables.{no_tables}
 use Rattle.ctr_log.specs.Logs.{Log, Batches, GoesOn}
 use Rattle.ctr_log.specs.Kept.{kept_log, OpensKept, WritesBehind}
 use Rattle.ctr_records.specs.declared.record.Record.{Record}
@@ -48,7 +49,7 @@ use Rattle.ctr_store.proofs.PartsLaws.{goes_more, writes_more}
 use Rattle.ctr_store.specs.declared.parts.Parts.{Parts}
 use Rattle.ctr_store.specs.declared.opening.Found.{Found}
 use Rattle.ctr_store.specs.declared.opening.OpenError.{OpenError}
-use Rattle.ctr_store.specs.RecordChecks.{FailsAs, RefusesVisit, tables_seen}
+use Rattle.ctr_store.specs.RecordChecks.{SeenLog, FailsAs, AllPass, RefusesVisit, HasSeen, tables_seen}
 use Rattle.ctr_store.specs.Opening.{FindsFront, fault_told, read_told, LogPasses, RefusesLog, IsLater, IsUndamaged, OpensParts, AnswersOpen, RefusesAs, IsWornBy, worn_by, worn_in}
 
 -- there is none where there are none at most
@@ -74,32 +75,44 @@ writes_room file first image log room w = record { numbered = w.numbered; by = w
 pub tables_found : (image : Image) (root : Root) (vs : List Visit) → vs ≡ kept_visits root.file root.first image → tables_seen vs ≡ tables_of (records_in (kept_log root.file root.first image))
 tables_found image root vs is = ap tables_seen is ∙ ap (λ (l : List (List ℕ)). tables_of (records_in l)) (kept_bytes root.file root.first image)
 
+-- a visitor that was given nothing yet
+pub fresh_seen : (counts : ℕ → Type 0) (pages : ℕ) (s : SeenLog) → s ≡ record { visits = []; tables = no_tables; pages = pages } → counts pages → HasSeen counts s []
+fresh_seen counts pages s is counted = (
+  ap (λ (x : SeenLog). x.visits) is,
+  λ i v there. absurd (cc there),
+  subst counts (sym (ap (λ (x : SeenLog). x.pages) is)) counted,
+)
+
 -- how the reading of a log is refused
-pub log_refused : (counts : ℕ → Type 0) (root : Root) (image : Image) (old new : List Visit) (cause : VisitError ReadError) (e : ReadError) → ((n : ℕ) → counts n → n ≡ root.pages) → old ≡ []
+pub log_refused : (counts : ℕ → Type 0) (root : Root) (image : Image) (old new : SeenLog) (cause : VisitError ReadError) (e : ReadError) → ((n : ℕ) → counts n → n ≡ root.pages) → HasSeen counts old []
     → IsToldBy (λ (s : StoreFault) (x : ReadError). x ≡ read.Store s) (λ (w : WantOfMemory) (x : ReadError). x ≡ read.OutOfMemory) cause e
-    → StopsAt (RefusesVisit counts) old new (kept_visits root.file root.first image) cause → OnRead (IsThisDamage (kept_damage root.file root.first image)) cause → RefusesLog root image e
+    → StopsAt (HasSeen counts) (RefusesVisit counts) old new (sound_kept_visits root.file root.first image) cause → OnRead (IsThisDamage (kept_damage root.file root.first image)) cause → RefusesLog root image e
 log_refused counts root image old new (visit.Read (read.Store store.Fault)) e pages none told stops damage = subst (RefusesLog root image) (sym told) tt
-log_refused counts root image old new (visit.Read (read.Store (store.Damaged file at want got))) e pages none told stops damage = subst (RefusesLog root image) (sym told) (inl damage)
+log_refused counts root image old new (visit.Read (read.Store (store.Damaged file at want got))) e pages none told stops damage =
+    let sound = sound_kept_visits root.file root.first image in
+    let seen = stops [] none in
+    subst (RefusesLog root image) (sym told) (inl (damage, subst (λ (n : ℕ). AllPass n sound) (pages new.pages seen.2) seen.1))
 log_refused counts root image old new (visit.Read read.OutOfMemory) e pages none told stops damage = subst (RefusesLog root image) (sym told.1) tt
 log_refused counts root image old new (visit.Refused r) e pages none told stops damage =
-    let front : new ≡ stops.given = stops.seen ∙ ap (λ (l : List Visit). l ++ stops.given) none in
+    let given = stops.given in
+    let v = stops.refused in
     subst (RefusesLog root image) (sym told)
     (⊎_elim (λ is. subst (RefusesLog root image) (sym is) tt)
     (λ w.
-    let bad = w.2.0 in
-    let v = stops.refused in
-    let counted : FailsAs root.pages v.at (tables_seen new) v.bytes bad = subst (λ (n : ℕ). FailsAs n v.at (tables_seen new) v.bytes bad) (pages w.0 w.1) w.2.1 in
-    subst (RefusesLog root image) (sym w.2.2)
+    let bad = w.3.0 in
+    let counted = pages w.0 w.1 in
+    subst (RefusesLog root image) (sym w.3.2)
     (inr (record {
-      given = stops.given;
+      given = given;
       v = v;
       rest = stops.rest;
       all_are = stops.all_are;
+      passed = subst (λ (n : ℕ). AllPass n given) counted w.2;
       bad = bad;
-      fails = subst (λ (l : List Visit). FailsAs root.pages v.at (tables_seen l) v.bytes bad) front counted;
+      fails = subst (λ (n : ℕ). FailsAs n v.at (tables_seen given) v.bytes bad) counted w.3.1;
       told = refl;
     })))
-    stops.because)
+    (stops.because [] none))
 
 -- a root that is damaged is there
 root_there : (image : Image) (file : File) (at want got : ℕ) → IsRootDamage image (store.Damaged file at want got) → value_of RootBlock image ≢ None

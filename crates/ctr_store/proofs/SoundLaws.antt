@@ -23,7 +23,9 @@ use Rattle.ctr_log.specs.declared.visitor.VisitError.TheVariants as visit
 use Rattle.ctr_log.specs.declared.reading.ReadError.{ReadError}
 use Rattle.ctr_log.specs.declared.reading.ReadError.TheVariants as read
 use Rattle.ctr_log.proofs.KeptLaws.{picks, passes, begins}
+use Rattle.ctr_log.specs.LogChecks.{sound_kept_visits}
 use Rattle.ctr_log.proofs.LogLemmas.{batch_count}
+use Rattle.ctr_log.proofs.SoundLaws.{kept_front}
 use Rattle.ctr_log.proofs.VisitLaws.{file_bytes, kept_bytes}
 use Rattle.ctr_records.specs.declared.decoding.BadRecord.{BadRecord}
 use Rattle.ctr_records.specs.declared.record.Overlay.{Overlay}
@@ -45,7 +47,7 @@ use Rattle.ctr_redo.specs.Fitting.{LiesInside, EachFits, HaveNoCheckpoint, Begin
 use Rattle.ctr_redo.specs.Images.{IsSound}
 use Rattle.ctr_redo.proofs.PageLaws.{either}
 use Rattle.ctr_redo.proofs.FitLaws.{tables_behind, tables_behind_is, newer_out, choose_yes, choose_no}
-use Rattle.ctr_store.specs.RecordChecks.{first_record_check, overlay_page_check, IsRefusedBytes, PassesAs, FailsAs, AllPass, RefusesVisit, tables_seen}
+use Rattle.ctr_store.specs.RecordChecks.{SeenLog, first_record_check, overlay_page_check, IsRefusedBytes, PassesAs, FailsAs, AllPass, RefusesVisit, HasSeen, tables_seen}
 
 -- ---- places
 
@@ -226,9 +228,9 @@ get_behind [] ys v = refl
 get_behind (x ∷ xs) ys v = get_behind xs ys v
 
 -- the log of a sound image is refused for a fault or want of memory alone
-pub log_undamaged : (counts : ℕ → Type 0) (root : Root) (image : Image) (old new : List Visit) (cause : VisitError ReadError) (e : ReadError) → IsSound root image → ((n : ℕ) → counts n → n ≡ root.pages) → old ≡ []
+pub log_undamaged : (counts : ℕ → Type 0) (root : Root) (image : Image) (old new : SeenLog) (cause : VisitError ReadError) (e : ReadError) → IsSound root image → ((n : ℕ) → counts n → n ≡ root.pages) → HasSeen counts old []
     → IsToldBy (λ (s : StoreFault) (x : ReadError). x ≡ read.Store s) (λ (w : WantOfMemory) (x : ReadError). x ≡ read.OutOfMemory) cause e
-    → StopsAt (RefusesVisit counts) old new (kept_visits root.file root.first image) cause → OnRead (RefusesKept root.file root.first image) cause → (e ≡ read.Store store.Fault) ⊎ (e ≡ read.OutOfMemory)
+    → StopsAt (HasSeen counts) (RefusesVisit counts) old new (sound_kept_visits root.file root.first image) cause → OnRead (RefusesKept root.file root.first image) cause → (e ≡ read.Store store.Fault) ⊎ (e ≡ read.OutOfMemory)
 log_undamaged counts root image old new (visit.Read (read.Store store.Fault)) e sound pages none told stops refused = inl told
 log_undamaged counts root image old new (visit.Read (read.Store (store.Damaged file at want got))) e sound pages none told stops refused = absurd (refused.holds (kept_log root.file root.first image) sound.log)
 log_undamaged counts root image old new (visit.Read read.OutOfMemory) e sound pages none told stops refused = inr told.1
@@ -236,13 +238,14 @@ log_undamaged counts root image old new (visit.Refused r) e sound pages none tol
     let given = stops.given in
     let v = stops.refused in
     let vs = kept_visits root.file root.first image in
-    let front : new ≡ given = stops.seen ∙ ap (λ (l : List Visit). l ++ given) none in
+    let front = kept_front root.file root.first image in
+    let all : vs ≡ given ++ v ∷ (stops.rest ++ front.0) = front.1 ∙ ap (λ (l : List Visit). l ++ front.0) stops.all_are ∙ append_assoc given (v ∷ stops.rest) front.0 in
     ⊎_elim (λ memory. inr (told ∙ memory))
     (λ w.
-    let there : slice_get vs (length given) ≡ Some v = ap (λ (l : List Visit). slice_get l (length given)) stops.all_are ∙ get_behind given stops.rest v in
-    let before : take (length given) vs ≡ new = ap (take (length given)) stops.all_are ∙ take_at given (v ∷ stops.rest) (length given) refl ∙ sym front in
+    let there : slice_get vs (length given) ≡ Some v = ap (λ (l : List Visit). slice_get l (length given)) all ∙ get_behind given (stops.rest ++ front.0) v in
+    let before : take (length given) vs ≡ given = ap (take (length given)) all ∙ take_at given (v ∷ (stops.rest ++ front.0)) (length given) refl in
     let passed = sound_passes root image sound (length given) v there in
     let passes = subst (λ (l : List Visit). PassesAs root.pages v.at (tables_seen l) v.bytes passed.0) before passed.1 in
-    let fails = subst (λ (n : ℕ). FailsAs n v.at (tables_seen new) v.bytes w.2.0) (pages w.0 w.1) w.2.1 in
-    absurd (passes_not_fails root.pages v.at (tables_seen new) v.bytes passed.0 w.2.0 passes fails))
-    stops.because
+    let fails = subst (λ (n : ℕ). FailsAs n v.at (tables_seen given) v.bytes w.3.0) (pages w.0 w.1) w.3.1 in
+    absurd (passes_not_fails root.pages v.at (tables_seen given) v.bytes passed.0 w.3.0 passes fails))
+    (stops.because [] none)

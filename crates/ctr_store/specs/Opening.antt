@@ -21,7 +21,7 @@ use Rattle.ctr_log.specs.declared.reading.ReadError.{ReadError}
 use Rattle.ctr_log.specs.declared.reading.ReadError.TheVariants as read
 use Rattle.ctr_log.specs.Logs.{Log}
 use Rattle.ctr_log.specs.Kept.{kept_log, OpensKept, HoldsLog, WritesBehind}
-use Rattle.ctr_log.specs.LogChecks.{kept_damage}
+use Rattle.ctr_log.specs.LogChecks.{kept_damage, sound_kept_visits}
 use Rattle.ctr_log.specs.Visits.{kept_visits}
 use Rattle.ctr_log.specs.declared.visitor.Visit.{Visit}
 use Rattle.ctr_records.specs.declared.decoding.BadRecord.{BadRecord}
@@ -53,19 +53,22 @@ pub record FindsLog (image : Image) (root : Root) (f : Found) : Type 0 where
   pub goes_on : (rs : List (List ℕ)) → HoldsLog root.file root.first rs image
       → WritesBehind root.file root.first f.log image
 
--- the first check that fails is one of a record of the log, behind those that pass
+-- the first check that fails is one of a record of the log, behind those that pass; the batches up to
+-- and with its own have no damage
 pub record IsRecordDamage (root : Root) (image : Image) (e : StoreFault) : Type 0 where
   pub given : List Visit
   pub v : Visit
   pub rest : List Visit
-  pub all_are : kept_visits root.file root.first image ≡ given ++ v ∷ rest
+  pub all_are : sound_kept_visits root.file root.first image ≡ given ++ v ∷ rest
+  pub passed : AllPass root.pages given
   pub bad : BadRecord
   pub fails : FailsAs root.pages v.at (tables_seen given) v.bytes bad
   pub told : e ≡ record_damage v.file v.at bad
 
--- it is one of a batch, or of a record of a batch before that
+-- it is one of a batch, where the records of the batches before pass; or of a record of these
 abbrev pub IsLogDamage : Root → Image → StoreFault → Type 0
-IsLogDamage root image e = (kept_damage root.file root.first image ≡ Err e)
+IsLogDamage root image e = ((kept_damage root.file root.first image ≡ Err e)
+    × AllPass root.pages (sound_kept_visits root.file root.first image))
     ⊎ IsRecordDamage root image e
 
 -- the reading of a log was refused: where it is damage, by the first check that fails

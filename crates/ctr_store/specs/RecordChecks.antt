@@ -87,10 +87,11 @@ AllPass pages vs = (i : ℕ) (v : Visit) → slice_get vs i ≡ Some v
 abbrev pub CountsPages : Image → ℕ → Type 0
 CountsPages image pages = (r : Root) → SaysRootOf Paged (value_of RootBlock image) r → pages ≡ r.pages
 
--- memory was refused; or a record is refused where so many pages are counted
+-- memory was refused; or where so many pages are counted, a record is refused behind those that pass
 abbrev pub RefusesVisit : (ℕ → Type 0) → List Visit → Visit → ReadError → Type 0
 RefusesVisit counts seen v e = (e ≡ OutOfMemory)
-    ⊎ ((pages : ℕ) × counts pages × ((bad : BadRecord) × FailsAs pages v.at (tables_seen seen) v.bytes bad
+    ⊎ ((pages : ℕ) × counts pages × AllPass pages seen
+    × ((bad : BadRecord) × FailsAs pages v.at (tables_seen seen) v.bytes bad
     × (e ≡ Store (record_damage v.file v.at bad))))
 
 -- What a visitor of a log has seen: the records in their places, the tables that they leave, and
@@ -99,3 +100,7 @@ pub record SeenLog : Type 0 where
   pub visits : List Visit
   pub tables : Tables
   pub pages : ℕ
+
+-- it has seen these, each of which passes where so many pages are counted
+abbrev pub HasSeen : (ℕ → Type 0) → SeenLog → List Visit → Type 0
+HasSeen counts s visits = (s.visits ≡ visits) × AllPass s.pages visits × counts s.pages

@@ -201,12 +201,12 @@ impl<D: Disk, O: Origin> Seen<D, O> {
 }
 
 impl<D: Disk, O: Origin> Visitor for Seen<D, O> {
-    ghost use Rattle.ctr_store.specs.RecordChecks.{RefusesVisit, CountsPages};
+    ghost use Rattle.ctr_store.specs.RecordChecks.{HasSeen, RefusesVisit, CountsPages};
     ghost use Rattle.std.specs.Prelude.{IsTrue};
 
     type E = ReadError;
 
-    ghost seen = { λ s. s.visits };
+    ghost has_seen = { HasSeen (λ pages. IsTrue D.tells → CountsPages O.first pages) };
 
     ghost refuses = { RefusesVisit (λ pages. IsTrue D.tells → CountsPages O.first pages) };
 

@@ -4,18 +4,18 @@ use Rattle.ctr_log.proofs.VisitLemmas.{given_start, frame_left, given_more, give
 use Rattle.ctr_log.proofs.batches.give.Goals as goal
 
 pub loop-lsn-init : goal.loop-lsn-init
-loop-lsn-init g c = given_start c.args.file c.args.first c.args.at c.args.count c.args.frames.now (g.V.Visitor.seen c.args.visitor.now) c.requires.counted
+loop-lsn-init g c = given_start g.V.Visitor.has_seen c.args.file c.args.first c.args.at c.args.count c.args.frames.now c.args.visitor.now c.requires.counted
 
 pub unreachable-requires : goal.unreachable-requires
-unreachable-requires g c = c.in_default.ensures.found.1 (frame_left c.args.file c.args.first c.args.at c.args.count c.args.frames.now c.loop-lsn.rest.now c.loop-lsn.lsn (g.V.Visitor.seen c.args.visitor.now) (g.V.Visitor.seen c.loop-lsn.visitor) c.loop-lsn.invariant c.loop-lsn-test.true (omega (arith, c.requires.place)))
+unreachable-requires g c = c.in_default.ensures.found.1 (frame_left g.V.Visitor.has_seen c.args.file c.args.first c.args.at c.args.count c.args.frames.now c.loop-lsn.rest.now c.loop-lsn.lsn c.args.visitor.now c.loop-lsn.visitor c.loop-lsn.invariant c.loop-lsn-test.true (omega (arith, c.requires.place)))
 
 pub returns-in_err-visit : goal.returns-in_err-visit
 returns-in_err-visit g c =
     let p = err_from_is_err_and c.from_residual.result c.from_residual.ensures.1 in
-    rw (p.1, p.2) (given_refused c.args.file c.args.first c.args.at c.args.count c.args.frames.now c.loop-lsn.rest.now c.loop-lsn.lsn (g.V.Visitor.seen c.args.visitor.now) (g.V.Visitor.seen c.loop-lsn.visitor) c.loop-lsn.invariant c.loop-lsn-test.true (omega (arith, c.requires.place)) c.in-Ok.record.now c.in-Ok.behind.now c.in-Ok.ensures.found
-    g.V.Visitor.refuses (g.V.Visitor.seen c.visit.new.self) c.in_err-visit.field-0.0 c.in_err-visit.ensures.left c.in_err-visit.ensures.because)
+    rw (p.1, p.2) (given_refused g.V.Visitor.has_seen c.args.file c.args.first c.args.at c.args.count c.args.frames.now c.loop-lsn.rest.now c.loop-lsn.lsn c.args.visitor.now c.loop-lsn.visitor c.loop-lsn.invariant c.loop-lsn-test.true (omega (arith, c.requires.place)) c.in-Ok.record.now c.in-Ok.behind.now c.in-Ok.ensures.found
+    g.V.Visitor.refuses c.in_err-visit.field-0.0 c.in_err-visit.ensures.because)
 
 pub loop-lsn-preserved : goal.loop-lsn-preserved
 loop-lsn-preserved g c =
-    given_more c.args.file c.args.first c.args.at c.args.count c.args.frames.now c.loop-lsn.rest.now c.loop-lsn.lsn (g.V.Visitor.seen c.args.visitor.now) (g.V.Visitor.seen c.loop-lsn.visitor) c.loop-lsn.invariant c.loop-lsn-test.true (omega (arith, c.requires.place)) c.in-Ok.record.now c.in-Ok.behind.now c.in-Ok.ensures.found
-    (g.V.Visitor.seen c.visit.new.self) c.in_ok-visit.ensures.given
+    given_more g.V.Visitor.has_seen c.args.file c.args.first c.args.at c.args.count c.args.frames.now c.loop-lsn.rest.now c.loop-lsn.lsn c.args.visitor.now c.loop-lsn.visitor c.loop-lsn.invariant c.loop-lsn-test.true (omega (arith, c.requires.place)) c.in-Ok.record.now c.in-Ok.behind.now c.in-Ok.ensures.found
+    c.visit.new.self c.in_ok-visit.ensures.given

@@ -1,8 +1,9 @@
-use Rattle.std.proofs.Common.{◌≡◌, ◌*◌, ◌+◌, ◌-◌, ◌^◌, ◌≤◌, ◌<◌, ◌++◌, List, length, get_or}
+use Rattle.std.proofs.Common.{◌≡◌, ◌*◌, ◌+◌, ◌-◌, ◌^◌, ◌≤◌, ◌<◌, List, length, get_or}
 use Rattle.std.specs.Prelude.{IsTrue}
 use Rattle.ctr_disk.specs.Image.{content}
 use Rattle.ctr_disk.specs.Device.{OnlyReads}
 use Rattle.ctr_log.specs.declared.visitor.Visit.{Visit}
+use Rattle.ctr_log.specs.Visits.{IsGiven, GivesSome}
 use Rattle.ctr_log.proofs.BatchLemmas.{SoFar}
 use Rattle.ctr_log.proofs.batches.visit_file.Given as goal
 
@@ -17,9 +18,10 @@ invariant-loop-gate g l =
       strays : d.strays_of l.disk ≡ d.strays_of l.fn.disk;
       few : 8 * l.next ≤ 8 * l.first + l.gate;
       low : l.gate < 2 ^ 63;
+      some : GivesSome g.V.Visitor.has_seen l.fn.visitor l.visitor;
       size : IsTrue d.tells → l.size ≡ length bytes;
       opened : IsTrue d.tells → get_or bytes 0 0 ≡ 1;
-      told : IsTrue d.tells → (given : List Visit) × SoFar l.file l.first bytes l.gate l.next given × (g.V.Visitor.seen l.visitor ≡ g.V.Visitor.seen l.fn.visitor ++ given);
+      told : IsTrue d.tells → (given : List Visit) × SoFar l.file l.first bytes l.gate l.next given × IsGiven g.V.Visitor.has_seen l.fn.visitor l.visitor given;
     }
 
 abbrev pub decreases-loop-gate : goal.decreases-loop-gate

@@ -1,7 +1,7 @@
 use Rattle.std.proofs.Common.{◌≡◌, ◌∙◌, true, false, arith}
 use Rattle.std.proofs.lemmas.Result.{err_from_is_err_and}
 use Rattle.ctr_log.proofs.KeptReading.{was_read, opens_one, opens_two, writes_one, writes_two, older_refused_by, newer_refused_by, stops_older, part_older, visited_one, stops_newer, visited_two, older_told, passed_one, newer_told, damage_two}
-use Rattle.ctr_log.proofs.VisitLemmas.{part_all}
+use Rattle.ctr_log.proofs.VisitLemmas.{part_all, early_behind}
 use Rattle.ctr_log.proofs.kept.read_kept.Goals as goal
 
 -- ---- the named file
@@ -14,22 +14,22 @@ returns-in_err-older-clause-refused g c told =
 pub returns-in_err-older-clause-visits : goal.returns-in_err-older-clause-visits
 returns-in_err-older-clause-visits g c told =
     let p = err_from_is_err_and c.from_residual.result c.from_residual.ensures.1 in
-    let seen = g.V.Visitor.seen in
-    rw (p.1, p.2) (stops_older c.args.root.now.file c.args.root.now.first (g.D.Disk.reads c.args.disk.now) c.named_file-named.result c.named_file-named.ensures (seen c.args.visitor.now) (seen c.visit_file.new.visitor) g.V.Visitor.refuses c.in_err-older.field-0.0 (c.in_err-older.ensures.visits told))
+    let seen = g.V.Visitor.has_seen in
+    rw (p.1, p.2) (stops_older seen c.args.root.now.file c.args.root.now.first (g.D.Disk.reads c.args.disk.now) c.named_file-named.result c.named_file-named.ensures c.args.visitor.now c.visit_file.new.visitor g.V.Visitor.refuses c.in_err-older.field-0.0 (c.in_err-older.ensures.damage told) (c.in_err-older.ensures.visits told))
 
 pub returns-in_err-begins_at-clause-visits : goal.returns-in_err-begins_at-clause-visits
 returns-in_err-begins_at-clause-visits g c told =
     let p = err_from_is_err_and c.from_residual-in_err-begins_at.result c.from_residual-in_err-begins_at.ensures.1 in
-    let seen = g.V.Visitor.seen in
-    rw (p.1, p.2) (part_older c.args.root.now.file c.args.root.now.first (g.D.Disk.reads c.args.disk.now) c.named_file-named.result c.named_file-named.ensures (seen c.args.visitor.now) (seen c.visit_file.new.visitor) (c.in_ok-older.ensures.visits told))
+    let seen = g.V.Visitor.has_seen in
+    rw (p.1, p.2) (part_older seen c.args.root.now.file c.args.root.now.first (g.D.Disk.reads c.args.disk.now) c.named_file-named.result c.named_file-named.ensures c.args.visitor.now c.visit_file.new.visitor (c.in_ok-older.ensures.visits told))
 
 -- ---- it alone is kept
 
 pub returns-in_err-log-clause-visits : goal.returns-in_err-log-clause-visits
 returns-in_err-log-clause-visits g c told =
     let p = err_from_is_err_and c.from_residual-in_err-log.result c.from_residual-in_err-log.ensures.1 in
-    let seen = g.V.Visitor.seen in
-    rw (p.1, p.2) (part_older c.args.root.now.file c.args.root.now.first (g.D.Disk.reads c.args.disk.now) c.named_file-named.result c.named_file-named.ensures (seen c.args.visitor.now) (seen c.visit_file.new.visitor) (c.in_ok-older.ensures.visits told))
+    let seen = g.V.Visitor.has_seen in
+    rw (p.1, p.2) (part_older seen c.args.root.now.file c.args.root.now.first (g.D.Disk.reads c.args.disk.now) c.named_file-named.result c.named_file-named.ensures c.args.visitor.now c.visit_file.new.visitor (c.in_ok-older.ensures.visits told))
 
 pub returns-then-not-branch-clause-found : goal.returns-then-not-branch-clause-found
 returns-then-not-branch-clause-found g c told =
@@ -44,8 +44,8 @@ returns-then-not-branch-clause-goes_on g c rs told holds =
 pub returns-then-not-branch-clause-visits : goal.returns-then-not-branch-clause-visits
 returns-then-not-branch-clause-visits g c told =
     let alone : c.in_ok-begins_at.field-0 ≡ false = grind arith in
-    let seen = g.V.Visitor.seen in
-    visited_one (was_read c.requires.names c.named_file-named.ensures c.next_file-other.ensures c.in_ok-older.ensures.quiet.same (c.in_ok-older.ensures.found told).1 (λ bs log. (c.in_ok-older.ensures.only bs told log).0) c.in_ok-older.ensures.low.place_low) (omega (arith, c.requires.names.names.first, c.in_ok-older.ensures.low.few)) (c.in_ok-begins_at.ensures.told told) alone c.in_ok-log.ensures (seen c.args.visitor.now) (seen c.visit_file.new.visitor) (c.in_ok-older.ensures.visits told)
+    let seen = g.V.Visitor.has_seen in
+    visited_one (was_read c.requires.names c.named_file-named.ensures c.next_file-other.ensures c.in_ok-older.ensures.quiet.same (c.in_ok-older.ensures.found told).1 (λ bs log. (c.in_ok-older.ensures.only bs told log).0) c.in_ok-older.ensures.low.place_low) (omega (arith, c.requires.names.names.first, c.in_ok-older.ensures.low.few)) (c.in_ok-begins_at.ensures.told told) alone c.in_ok-log.ensures seen c.args.visitor.now c.visit_file.new.visitor (c.in_ok-older.ensures.damage told) (c.in_ok-older.ensures.visits told)
 
 -- ---- and the newer generation behind it
 
@@ -59,15 +59,15 @@ pub returns-in_err-newer-clause-visits : goal.returns-in_err-newer-clause-visits
 returns-in_err-newer-clause-visits g c told =
     let p = err_from_is_err_and c.from_residual-in_err-newer.result c.from_residual-in_err-newer.ensures.1 in
     let open_ : c.in_ok-begins_at.field-0 ≡ true = grind arith in
-    let seen = g.V.Visitor.seen in
-    rw (p.1, p.2) (stops_newer (was_read c.requires.names c.named_file-named.ensures c.next_file-other.ensures c.in_ok-older.ensures.quiet.same (c.in_ok-older.ensures.found told).1 (λ bs log. (c.in_ok-older.ensures.only bs told log).0) c.in_ok-older.ensures.low.place_low) (omega (arith, c.requires.names.names.first, c.in_ok-older.ensures.low.few)) (c.in_ok-begins_at.ensures.told told) open_ c.in_ok-begins_at.ensures.quiet.same (seen c.args.visitor.now) (seen c.visit_file.new.visitor) (seen c.visit_file-2.new.visitor) (c.in_ok-older.ensures.visits told) g.V.Visitor.refuses c.in_err-newer.field-0.0 (c.in_err-newer.ensures.visits told))
+    let seen = g.V.Visitor.has_seen in
+    rw (p.1, p.2) (stops_newer (was_read c.requires.names c.named_file-named.ensures c.next_file-other.ensures c.in_ok-older.ensures.quiet.same (c.in_ok-older.ensures.found told).1 (λ bs log. (c.in_ok-older.ensures.only bs told log).0) c.in_ok-older.ensures.low.place_low) (omega (arith, c.requires.names.names.first, c.in_ok-older.ensures.low.few)) (c.in_ok-begins_at.ensures.told told) open_ c.in_ok-begins_at.ensures.quiet.same seen c.args.visitor.now c.visit_file.new.visitor c.visit_file-2.new.visitor (c.in_ok-older.ensures.damage told) (c.in_ok-older.ensures.visits told) g.V.Visitor.refuses c.in_err-newer.field-0.0 (c.in_err-newer.ensures.visits told))
 
 pub returns-in_err-log-2-clause-visits : goal.returns-in_err-log-2-clause-visits
 returns-in_err-log-2-clause-visits g c told =
     let p = err_from_is_err_and c.from_residual-in_err-log-2.result c.from_residual-in_err-log-2.ensures.1 in
     let there : c.in_ok-begins_at.field-0 ≡ true = grind arith in
-    let seen = g.V.Visitor.seen in
-    rw (p.1, p.2) (part_all (visited_two (was_read c.requires.names c.named_file-named.ensures c.next_file-other.ensures c.in_ok-older.ensures.quiet.same (c.in_ok-older.ensures.found told).1 (λ bs log. (c.in_ok-older.ensures.only bs told log).0) c.in_ok-older.ensures.low.place_low) (omega (arith, c.requires.names.names.first, c.in_ok-older.ensures.low.few)) (c.in_ok-begins_at.ensures.told told) there c.in_ok-begins_at.ensures.quiet.same (seen c.args.visitor.now) (seen c.visit_file.new.visitor) (seen c.visit_file-2.new.visitor) (c.in_ok-older.ensures.visits told) (c.in_ok-newer.ensures.visits told)))
+    let seen = g.V.Visitor.has_seen in
+    rw (p.1, p.2) (part_all seen c.args.visitor.now c.visit_file-2.new.visitor (visited_two (was_read c.requires.names c.named_file-named.ensures c.next_file-other.ensures c.in_ok-older.ensures.quiet.same (c.in_ok-older.ensures.found told).1 (λ bs log. (c.in_ok-older.ensures.only bs told log).0) c.in_ok-older.ensures.low.place_low) (omega (arith, c.requires.names.names.first, c.in_ok-older.ensures.low.few)) (c.in_ok-begins_at.ensures.told told) there c.in_ok-begins_at.ensures.quiet.same seen c.args.visitor.now c.visit_file.new.visitor c.visit_file-2.new.visitor (c.in_ok-older.ensures.damage told) (c.in_ok-older.ensures.visits told) (c.in_ok-newer.ensures.visits told)))
 
 pub returns-clause-found : goal.returns-clause-found
 returns-clause-found g c told =
@@ -84,8 +84,8 @@ returns-clause-goes_on g c rs told holds =
 pub returns-clause-visits : goal.returns-clause-visits
 returns-clause-visits g c told =
     let there : c.in_ok-begins_at.field-0 ≡ true = grind arith in
-    let seen = g.V.Visitor.seen in
-    visited_two (was_read c.requires.names c.named_file-named.ensures c.next_file-other.ensures c.in_ok-older.ensures.quiet.same (c.in_ok-older.ensures.found told).1 (λ bs log. (c.in_ok-older.ensures.only bs told log).0) c.in_ok-older.ensures.low.place_low) (omega (arith, c.requires.names.names.first, c.in_ok-older.ensures.low.few)) (c.in_ok-begins_at.ensures.told told) there c.in_ok-begins_at.ensures.quiet.same (seen c.args.visitor.now) (seen c.visit_file.new.visitor) (seen c.visit_file-2.new.visitor) (c.in_ok-older.ensures.visits told) (c.in_ok-newer.ensures.visits told)
+    let seen = g.V.Visitor.has_seen in
+    visited_two (was_read c.requires.names c.named_file-named.ensures c.next_file-other.ensures c.in_ok-older.ensures.quiet.same (c.in_ok-older.ensures.found told).1 (λ bs log. (c.in_ok-older.ensures.only bs told log).0) c.in_ok-older.ensures.low.place_low) (omega (arith, c.requires.names.names.first, c.in_ok-older.ensures.low.few)) (c.in_ok-begins_at.ensures.told told) there c.in_ok-begins_at.ensures.quiet.same seen c.args.visitor.now c.visit_file.new.visitor c.visit_file-2.new.visitor (c.in_ok-older.ensures.damage told) (c.in_ok-older.ensures.visits told) (c.in_ok-newer.ensures.visits told)
 
 -- ---- the first check that fails
 
@@ -109,3 +109,10 @@ pub returns-clause-damage : goal.returns-clause-damage
 returns-clause-damage g c told =
     let there : c.in_ok-begins_at.field-0 ≡ true = grind arith in
     damage_two (was_read c.requires.names c.named_file-named.ensures c.next_file-other.ensures c.in_ok-older.ensures.quiet.same (c.in_ok-older.ensures.found told).1 (λ bs log. (c.in_ok-older.ensures.only bs told log).0) c.in_ok-older.ensures.low.place_low) (omega (arith, c.requires.names.names.first, c.in_ok-older.ensures.low.few)) (c.in_ok-begins_at.ensures.told told) there c.in_ok-begins_at.ensures.quiet.same (c.in_ok-older.ensures.damage told) ∙ c.in_ok-newer.ensures.damage told
+
+-- ---- whatever the disk tells
+
+pub returns-in_err-newer-clause-early : goal.returns-in_err-newer-clause-early
+returns-in_err-newer-clause-early g c =
+    let p = err_from_is_err_and c.from_residual-in_err-newer.result c.from_residual-in_err-newer.ensures.1 in
+    rw (p.1, p.2) (early_behind g.V.Visitor.has_seen g.V.Visitor.refuses c.args.visitor.now c.visit_file.new.visitor c.in_ok-older.ensures.always c.in_err-newer.field-0.0 c.in_err-newer.ensures.always)

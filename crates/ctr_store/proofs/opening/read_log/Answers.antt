@@ -1,4 +1,4 @@
-use Rattle.std.proofs.Common.{◌≡◌, ◌∙◌, ◌++◌, ℕ, List, sym, ap, subst}
+use Rattle.std.proofs.Common.{◌≡◌, ◌∙◌, ℕ, List, [], sym, ap, subst}
 use Rattle.std.specs.Prelude.{IsTrue}
 use Rattle.std.proofs.lemmas.Result.{err_from_is_err_and}
 use Rattle.ctr_home.specs.declared.block.Block.TheVariants.{Root as RootBlock}
@@ -9,8 +9,8 @@ use Rattle.ctr_log.specs.Kept.{OpensKept, WritesBehind}
 use Rattle.ctr_log.specs.Visits.{kept_visits}
 use Rattle.ctr_base.proofs.RootLaws.{one_root}
 use Rattle.ctr_disk.specs.declared.fault.Root.{Root}
-use Rattle.ctr_store.specs.RecordChecks.{SeenLog, CountsPages, AllPass, tables_seen}
-use Rattle.ctr_store.proofs.OpenLaws.{opens_room, writes_room, log_refused}
+use Rattle.ctr_store.specs.RecordChecks.{CountsPages, AllPass, tables_seen}
+use Rattle.ctr_store.proofs.OpenLaws.{opens_room, writes_room, fresh_seen, log_refused}
 use Rattle.ctr_store.proofs.SoundLaws.{log_undamaged}
 use Rattle.ctr_store.proofs.opening.read_log.Goals as goal
 
@@ -24,7 +24,7 @@ returns-clause-found g c told =
     let e = c.in_ok-log.ensures in
     let parts = c.into_parts-meta.ensures in
     let seen = c.read_all.new.visitor in
-    let all : seen.visits ≡ kept_visits root.file root.first image = (e.visited told).0 ∙ ap (λ (s : SeenLog). s.visits ++ kept_visits root.file root.first image) c.new-seen.ensures in
+    let all : seen.visits ≡ kept_visits root.file root.first image = ((e.visited told).0 [] (fresh_seen (λ n. IsTrue g.D.Disk.tells → CountsPages g.O.Origin.first n) root.pages c.new-seen.result c.new-seen.ensures (λ t r says. ap (λ (x : Root). x.pages) (one_root (value_of RootBlock g.O.Origin.first) c.args.root.now r (c.requires.says t) says)))).0 in
     let counted : seen.pages ≡ root.pages = parts.passed.2 told root (c.requires.says told) in
     let log = c.in_ok-log.log in
     let same = c.reserve.ensures.same in
@@ -52,8 +52,8 @@ returns-in_err-log-clause-refused g c told =
     let image = g.D.Disk.reads c.args.disk.now in
     let r = c.in_err-log.ensures.refused in
     rw (p.1, p.2)
-    (log_refused (λ n. IsTrue g.D.Disk.tells → CountsPages g.O.Origin.first n) root image c.new-seen.result.visits c.read_all.new.visitor.visits r.0 c.in_err-log.field-0.0
-    (λ n counts. counts told root (c.requires.says told)) (ap (λ (s : SeenLog). s.visits) c.new-seen.ensures) r.1 (r.5 told) (r.6 told))
+    (log_refused (λ n. IsTrue g.D.Disk.tells → CountsPages g.O.Origin.first n) root image c.new-seen.result c.read_all.new.visitor r.0 c.in_err-log.field-0.0
+    (λ n counts. counts told root (c.requires.says told)) (fresh_seen (λ n. IsTrue g.D.Disk.tells → CountsPages g.O.Origin.first n) root.pages c.new-seen.result c.new-seen.ensures (λ t r says. ap (λ (x : Root). x.pages) (one_root (value_of RootBlock g.O.Origin.first) c.args.root.now r (c.requires.says t) says))) r.1 (r.5 told) (r.6 told))
 
 pub returns-in_err-log-clause-undamaged : goal.returns-in_err-log-clause-undamaged
 returns-in_err-log-clause-undamaged g c told sound =
@@ -62,5 +62,5 @@ returns-in_err-log-clause-undamaged g c told sound =
     let image = g.D.Disk.reads c.args.disk.now in
     let r = c.in_err-log.ensures.refused in
     rw (p.1, p.2)
-    (log_undamaged (λ n. IsTrue g.D.Disk.tells → CountsPages g.O.Origin.first n) root image c.new-seen.result.visits c.read_all.new.visitor.visits r.0 c.in_err-log.field-0.0 sound
-    (λ n counts. counts told root (c.requires.says told)) (ap (λ (s : SeenLog). s.visits) c.new-seen.ensures) r.1 (r.5 told) (r.4 told))
+    (log_undamaged (λ n. IsTrue g.D.Disk.tells → CountsPages g.O.Origin.first n) root image c.new-seen.result c.read_all.new.visitor r.0 c.in_err-log.field-0.0 sound
+    (λ n counts. counts told root (c.requires.says told)) (fresh_seen (λ n. IsTrue g.D.Disk.tells → CountsPages g.O.Origin.first n) root.pages c.new-seen.result c.new-seen.ensures (λ t r says. ap (λ (x : Root). x.pages) (one_root (value_of RootBlock g.O.Origin.first) c.args.root.now r (c.requires.says t) says))) r.1 (r.5 told) (r.4 told))
