@@ -1,18 +1,16 @@
 -- What a growth leaves, at each moment and behind it.
-use Rattle.std.proofs.Common.{◌≡◌, ◌⊎◌, inl, inr, ⊎_elim, ℕ, ◌+◌, ◌*◌, ◌^◌, ◌<◌, ◌≤◌, List, [], ◌++◌, length, Some, None, refl, sym, ◌∙◌, ap, subst, arith}
+use Rattle.std.proofs.Common.{◌≡◌, ◌⊎◌, inl, inr, ⊎_elim, ℕ, ◌+◌, ◌*◌, ◌<◌, ◌≤◌, List, ◌++◌, length, None, refl, sym, ◌∙◌, ap, subst, arith}
 use Rattle.std.specs.Prelude.{min}
 use Rattle.ctr_disk.specs.declared.disk.Disk.{Ghosts}
 use Rattle.ctr_disk.specs.declared.disk.Image.{Image}
 use Rattle.ctr_disk.specs.declared.fault.Root.{Root}
 use Rattle.ctr_disk.specs.Device.{LeavesOnly, IsDurable}
-use Rattle.ctr_disk.specs.Image.{content}
 use Rattle.ctr_disk.proofs.Moments.{weaker}
-use Rattle.ctr_types.specs.declared.file.File.TheVariants.{Pages}
 use Rattle.ctr_home.specs.declared.block.Block.TheVariants.{Page, Root as RootBlock}
 use Rattle.ctr_home.specs.declared.root.Form.TheVariants.{Paged}
-use Rattle.ctr_home.specs.Blocks.{BlockValue, value_of}
-use Rattle.ctr_home.specs.Roots.{IsRootOf, SaysRootOf, root_block, root_value}
-use Rattle.ctr_home.specs.Writing.{IsAbove, OthersStay, IsOldOrNewValue}
+use Rattle.ctr_home.specs.Blocks.{value_of}
+use Rattle.ctr_home.specs.Roots.{IsRootOf}
+use Rattle.ctr_home.specs.Writing.{OthersStay}
 use Rattle.ctr_log.specs.Kept.{kept_log}
 use Rattle.ctr_records.specs.declared.record.Record.{Record}
 use Rattle.ctr_meta.specs.Tables.{no_tables}
@@ -20,17 +18,16 @@ use Rattle.ctr_meta.specs.Effects.{tables_of}
 use Rattle.ctr_pool.specs.Pages.{PageHeld}
 use Rattle.ctr_pool.specs.Below.{HoldsStill}
 use Rattle.ctr_redo.specs.Overlaid.{overlaid}
-use Rattle.ctr_redo.specs.States.{State, Stored, page_limit, state_of, counting, grown, next_of}
-use Rattle.ctr_redo.specs.Fitting.{EachFits, MayFollow}
-use Rattle.ctr_redo.specs.Images.{records_in, home_in, stored_in, IsSound, FoldsTo, FoldsGrown, CanCount}
+use Rattle.ctr_redo.specs.States.{State, page_limit, state_of, counting, grown}
+use Rattle.ctr_redo.specs.Images.{records_in, home_in, stored_in, IsSound, FoldsTo, FoldsGrown}
 use Rattle.ctr_redo.proofs.StateLaws.{pages_same}
 use Rattle.ctr_redo.proofs.FitLaws.{each_more}
 use Rattle.ctr_redo.proofs.ImageLaws.{KeepsLogs, pages_apart, root_apart, kept_same, next_same, follows_same}
 use Rattle.ctr_redo.proofs.GrowthLaws.{home_counted, folds_counted, sound_behind, page_blank}
 use Rattle.ctr_base.specs.declared.base.Base.{Base}
-use Rattle.ctr_base.specs.Base.{stored_of, waiting_of, now_of, home_of, MaySave, MayPut, IsQuiet, IsSoundImage, StandsWell, StandsQuiet}
-use Rattle.ctr_base.specs.Extent.{KeepsPages, AreCleared}
-use Rattle.ctr_base.specs.Growth.{IsGrowing, HasGrown, grown_root, LeavesGrown, GrowsBase, AreBlank}
+use Rattle.ctr_base.specs.Base.{stored_of, waiting_of, now_of, home_of, MaySave, MayPut, IsQuiet, StandsWell}
+use Rattle.ctr_base.specs.Extent.{KeepsPages}
+use Rattle.ctr_base.specs.Growth.{IsGrowing, HasGrown, grown_root, GrowsBase, AreBlank}
 use Rattle.ctr_base.specs.BaseLaws.{goes_on_same, log_content, writes_same}
 use Rattle.ctr_base.proofs.ExtentLaws.{cleared_blank, cleared_long}
 use Rattle.ctr_base.proofs.ClearLaws.{home_cleared, sound_cleared, state_cleared, cleared_keeps, can_count}

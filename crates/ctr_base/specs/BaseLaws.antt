@@ -1,14 +1,14 @@
 -- How the log and the homes go on under a pool.
-use Rattle.std.proofs.Common.{◌≡◌, ◌≢◌, inl, inr, ⊎_elim, ℕ, zero, suc, ◌+◌, ◌*◌, ◌<◌, ◌≤◌, nat_lt, if◌then◌else◌, Bool, true, false, List, [], ◌∷◌, ◌++◌, length, take, drop, refl, sym, ◌∙◌, ap, subst, arith, length-append, length-drop, Some}
+use Rattle.std.proofs.Common.{◌≡◌, ◌≢◌, inl, inr, ⊎_elim, ℕ, zero, suc, ◌+◌, ◌*◌, ◌<◌, ◌≤◌, nat_lt, if◌then◌else◌, Bool, true, false, List, [], ◌∷◌, ◌++◌, length, take, drop, refl, sym, ◌∙◌, ap, subst, arith, length-drop, Some}
 use Rattle.std.proofs.Math.Seq.{take-nil}
-use Rattle.std.proofs.lemmas.List.{append-nil, take_all, drop_all, drop-drop, length-map}
+use Rattle.std.proofs.lemmas.List.{append-nil, drop-drop}
 use Rattle.ctr_types.specs.declared.file.File.{File}
 use Rattle.ctr_types.specs.declared.file.File.TheVariants.{Root as RootFile, LogA, LogB, Pages}
 use Rattle.ctr_disk.specs.declared.disk.Image.{Image}
 use Rattle.ctr_disk.specs.declared.disk.Disk.{Ghosts}
 use Rattle.ctr_disk.specs.declared.fault.Root.{Root}
 use Rattle.ctr_disk.specs.Device.{LeavesOnly, OnlyReads, IsDurable}
-use Rattle.ctr_disk.specs.Image.{content, OtherFilesStay}
+use Rattle.ctr_disk.specs.Image.{content}
 use Rattle.ctr_disk.proofs.Moments.{starts, joined, weaker, still_only}
 use Rattle.ctr_home.specs.declared.block.Block.TheVariants.{Page, Root as RootBlock}
 use Rattle.ctr_home.specs.declared.root.Form.TheVariants.{Paged}
@@ -17,21 +17,18 @@ use Rattle.ctr_home.specs.Blocks.{BlockValue, value_of, value_in, page_with, bla
 use Rattle.ctr_home.specs.Writing.{IsOldOrNewValue, with_body, OthersStay}
 use Rattle.ctr_log.specs.Logs.{Log, Batches, HasLog, GoesOn, records}
 use Rattle.ctr_log.specs.Reading.{log_file}
-use Rattle.ctr_log.specs.Kept.{kept_log, other_file, IsDropped, HoldsLog, WritesBy, WritesBehind, KeepsPrefix, GoesOnWith}
+use Rattle.ctr_log.specs.Kept.{kept_log, other_file, IsDropped, HoldsLog, WritesBy, WritesBehind}
 use Rattle.ctr_log.proofs.KeptLaws.{front_same}
 use Rattle.ctr_records.specs.declared.record.Record.{Record}
-use Rattle.ctr_records.specs.Read.{record_in}
 use Rattle.ctr_pool.specs.Pages.{PageHeld}
 use Rattle.ctr_pool.specs.Below.{PutsPage, HoldsStill}
 use Rattle.ctr_redo.specs.Overlaid.{overlaid}
 use Rattle.ctr_redo.specs.States.{State, Stored, state_of, steps, with_more, home_put, next_of}
 use Rattle.ctr_redo.specs.Images.{records_in, home_in, stored_in, IsSound, FoldsFront, IsLogFile, MayStand}
-use Rattle.ctr_meta.specs.Tables.{no_tables}
-use Rattle.ctr_redo.specs.Fitting.{EachFits, MayFollow}
-use Rattle.ctr_redo.proofs.FitLaws.{begin_flushed, last_written}
-use Rattle.ctr_redo.proofs.PageLaws.{again, durable_alone, overlaid-append}
-use Rattle.ctr_redo.proofs.StateLaws.{state_more, state_swapped, page_swapped, steps-append, put_there, put_elsewhere}
-use Rattle.ctr_redo.proofs.ImageLaws.{KeepsHomes, KeepsLogs, logs_apart, pages_apart, kept_same, named_same, other_same, more_stored, sound_flushed, folds_flushed, folds_written, sound_written, state_written, state_with_more, home_written, next_same, follows_same}
+use Rattle.ctr_redo.specs.Fitting.{MayFollow}
+use Rattle.ctr_redo.proofs.PageLaws.{again, durable_alone}
+use Rattle.ctr_redo.proofs.StateLaws.{state_swapped, page_swapped, steps-append, put_there, put_elsewhere}
+use Rattle.ctr_redo.proofs.ImageLaws.{KeepsHomes, KeepsLogs, pages_apart, kept_same, named_same, other_same, folds_written, sound_written, state_written, state_with_more, home_written, next_same, follows_same}
 use Rattle.ctr_base.specs.declared.base.Base.{Base}
 use Rattle.ctr_base.specs.Base.{stored_of, waiting_of, now_of, home_of, MaySave, MayPut, IsQuiet, IsSoundImage, StandsWell, StandsQuiet, LeavesBase, LeavesIf, MovesBase, KeepsBase, IsHome}
 

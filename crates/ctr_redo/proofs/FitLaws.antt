@@ -1,26 +1,23 @@
 -- Records that fit, one behind another.
-use Rattle.std.proofs.Common.{◌≡◌, ◌≢◌, inl, inr, ⊎_elim, ℕ, zero, suc, ◌+◌, ◌<◌, ◌≤◌, Bool, true, false, if◌then◌else◌, List, [], ◌∷◌, ◌++◌, length, take, drop, get_or, Option, Some, None, refl, sym, ◌∙◌, ap, subst, arith, append_assoc}
+use Rattle.std.proofs.Common.{◌≡◌, inl, inr, ℕ, zero, suc, ◌+◌, ◌≤◌, Bool, true, false, if◌then◌else◌, List, [], ◌∷◌, ◌++◌, length, take, drop, get_or, Option, Some, None, refl, sym, ◌∙◌, ap, subst, arith, append_assoc}
 use Rattle.std.proofs.lemmas.List.{take-append-drop, append_cancel_left}
 use Rattle.std.specs.Prelude.{fold}
 use Rattle.std.proofs.lemmas.Bool.Decides.{nat_tests}
-use Rattle.ctr_types.specs.declared.file.File.{File}
-use Rattle.ctr_types.specs.declared.file.File.TheVariants.{LogA, LogB}
 use Rattle.ctr_disk.specs.declared.disk.Image.{Image}
-use Rattle.ctr_disk.specs.declared.fault.Root.{Root}
 use Rattle.ctr_disk.specs.Image.{content, OtherFilesStay}
 use Rattle.ctr_bytes.specs.Fields.{field}
 use Rattle.ctr_log.specs.Logs.{Batches, Log, records}
 use Rattle.ctr_log.specs.Reading.{log_file}
-use Rattle.ctr_log.specs.Kept.{log_in, kept_in, kept_log, other_file, writer_file, has_newer, IsDropped, HoldsTwo, HoldsLog, WritesBy}
+use Rattle.ctr_log.specs.Kept.{log_in, kept_log, other_file, writer_file, has_newer, IsDropped, HoldsTwo, HoldsLog, WritesBy}
 use Rattle.ctr_log.proofs.KeptLaws.{log_in_is, begins}
 use Rattle.ctr_records.specs.declared.record.Overlay.{Overlay}
 use Rattle.ctr_records.specs.Read.{record_in}
-use Rattle.ctr_meta.specs.Tables.{Tables, no_tables}
+use Rattle.ctr_meta.specs.Tables.{Tables}
 use Rattle.ctr_meta.specs.Effects.{effect}
 use Rattle.ctr_pool.specs.Pages.{PageHeld}
-use Rattle.ctr_redo.specs.Overlaid.{overlay_of, lies_on, touches, overlaid}
+use Rattle.ctr_redo.specs.Overlaid.{overlay_of, lies_on, overlaid}
 use Rattle.ctr_redo.specs.Images.{records_in}
-use Rattle.ctr_redo.specs.Fitting.{LiesInside, FitsBehind, EachFits, HaveNoCheckpoint, BeginsOnce, FilesBegin, last_file, MayFollow}
+use Rattle.ctr_redo.specs.Fitting.{LiesInside, EachFits, HaveNoCheckpoint, BeginsOnce, FilesBegin, last_file}
 use Rattle.ctr_redo.proofs.PageLaws.{stays_out}
 
 -- the tables that records leave, behind these

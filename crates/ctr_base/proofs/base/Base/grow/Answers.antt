@@ -1,10 +1,10 @@
-use Rattle.std.proofs.Common.{◌≡◌, sym, subst}
+use Rattle.std.proofs.Common.{sym, subst}
 use Rattle.ctr_disk.specs.declared.fault.Root.{Root}
 use Rattle.ctr_disk.specs.Device.{LeavesOnly}
 use Rattle.ctr_pool.specs.Below.{HoldsStill}
 use Rattle.ctr_base.specs.declared.base.Base.{Base}
 use Rattle.ctr_base.specs.Base.{home_of, MayPut, StandsQuiet}
-use Rattle.ctr_base.specs.Growth.{IsGrowing, HasGrown, grown_root, GrowsBase}
+use Rattle.ctr_base.specs.Growth.{IsGrowing, HasGrown, GrowsBase}
 use Rattle.ctr_base.proofs.GrowLaws.{is_grown_root, growing_leaves, growth_blank, grows_base, grows_stands, grows_quiet, grows_holds}
 use Rattle.ctr_base.proofs.base.Base.grow.Goals as goal
 
