@@ -1,6 +1,6 @@
 // The parts of a record, for who replays it over the tables that are there: each is read and checked by itself, so
 // that a change is done before the next one is read.
-ghost use Rattle.std.specs.Prelude.{◌<◌, ◌^◌, length, ◌≡◌};
+ghost use Rattle.std.specs.Prelude.{◌≡◌, ◌<◌, ◌^◌, length, IfOk, OnOk};
 ghost use Rattle.ctr_rec.specs.Decode.{Decodes, decode_key, decode_schema};
 ghost use Rattle.ctr_rec.specs.Replay.{read_count, read_head, read_wide, read_end, wanted_at};
 
@@ -13,7 +13,8 @@ use std::alloc::Global;
 
 /// A number that is wanted at a place of a record, and the one that is there.
 pub fn expect_at(at: u64, want: u64, got: u64) -> Result<(), RecordError>
-    ensures { Decodes (λ x. x) result (wanted_at at want got) }
+    ensures gives { Decodes (λ x. x) result (wanted_at at want got) }
+    ensures same { OnOk result (want ≡ got) }
 {
     if want == got {
         return Ok(());
@@ -59,7 +60,8 @@ pub fn read_wide(
     want: u64,
     after: u64,
 ) -> Result<(&[u8], &[u8]), RecordError>
-    ensures { Decodes (λ x. (x.0.now, x.1.now)) result (read_wide want after whole bytes.now) }
+    ensures gives { Decodes (λ x. (x.0.now, x.1.now)) result (read_wide want after whole bytes.now) }
+    ensures wide { IfOk result (λ x. length x.0.now ≡ want) }
 {
     let (len, rest) = u16_of(whole, bytes, after)?;
     expect_at(whole.saturating_sub(bytes.len() as u64), want, len as u64)?;
