@@ -139,37 +139,16 @@ module _ (on : FoldsOn) (one : OneFold) (s : Loaded) (v : Visit) (laws : Laws s.
     λ t loaded. none_loaded (visit_bytes before) fails.0 t has.1 fails.1 (subst (λ (l : List (List ℕ)). MakeLoaded l t) (bytes-append before (v ∷ [])) loaded),
   )
 
--- one that is loaded, and one that isn't
+-- a first record that isn't loaded
 module _ (s : Loaded) (file : File) (at : ℕ) (bytes : List ℕ) where
   abbrev pub here : Visit
   here = visit_of 0 file at bytes
-
-  pub begins : (xid : ℕ) → s.xid ≡ None → first_checks bytes ≡ Ok tt → xid ≡ next_xid bytes → load_visit s here ≡ Ok (record { xid = Some xid; database = s.database })
-  begins xid none checks is =
-      ap (λ (o : Option ℕ). load_behind o s.database file at bytes) none
-      ∙ ap (λ (r : Result ⊤ BadCheckpoint). first_told file at r >>= λ _. Ok (record { xid = Some (next_xid bytes); database = s.database })) checks
-      ∙ ap (λ (n : ℕ). let l : Result Loaded StoreFault = Ok (record { xid = Some n; database = s.database }) in l) (sym is)
 
   pub begins_not : (bad : BadCheckpoint) (e : OpenError) → s.xid ≡ None → bad.want ≢ bad.got → first_checks bytes ≡ Err bad → e ≡ open_error.Damaged file (min (at + bad.at) 18446744073709551615) bad.want bad.got → FailsLoad file (load_visit s here) e
   begins_not bad e none differ checks is = inr (
     store.Damaged file (min (at + bad.at) 18446744073709551615) bad.want bad.got,
     ap (λ (o : Option ℕ). load_behind o s.database file at bytes) none
         ∙ ap (λ (r : Result ⊤ BadCheckpoint). first_told file at r >>= λ _. Ok (record { xid = Some (next_xid bytes); database = s.database })) checks,
-    is,
-    (refl, differ),
-  )
-
-  pub replays : (xid : ℕ) (new : Database) → s.xid ≡ Some xid → replay_record s.database bytes ≡ Ok new → load_visit s here ≡ Ok (record { xid = s.xid; database = new })
-  replays xid new some replayed =
-      ap (λ (o : Option ℕ). load_behind o s.database file at bytes) some
-      ∙ ap (λ (r : Result Database BadRecord). record_told file at r >>= λ db. Ok (record { xid = Some xid; database = db })) replayed
-      ∙ ap (λ (o : Option ℕ). let l : Result Loaded StoreFault = Ok (record { xid = o; database = new }) in l) (sym some)
-
-  pub replays_not : (xid : ℕ) (bad : BadRecord) (e : OpenError) → s.xid ≡ Some xid → bad.want ≢ bad.got → replay_record s.database bytes ≡ Err bad → e ≡ open_error.Damaged file (min (at + bad.at) 18446744073709551615) bad.want bad.got → FailsLoad file (load_visit s here) e
-  replays_not xid bad e some differ replayed is = inr (
-    store.Damaged file (min (at + bad.at) 18446744073709551615) bad.want bad.got,
-    ap (λ (o : Option ℕ). load_behind o s.database file at bytes) some
-        ∙ ap (λ (r : Result Database BadRecord). record_told file at r >>= λ db. Ok (record { xid = Some xid; database = db })) replayed,
     is,
     (refl, differ),
   )
