@@ -18,8 +18,7 @@ use Rattle.ctr_log.specs.Reading.{log_file, ReadsLog, HasSome, IsEmptyAt, Refuse
 use Rattle.ctr_log.specs.Kept.{NamesKept, log_in, begins_at, kept_log, other_file, next_file, IsDropped, AreShort, RefusesKept, HoldsTwo, HoldsLog, StandsLog, OpensKept, WritesBy, WritesBehind, writer_file, has_newer}
 use Rattle.ctr_disk.specs.declared.fault.StoreFault.{StoreFault}
 use Rattle.ctr_log.specs.LogChecks.{file_damage, damage_or, kept_damage, if_passed, sound_visits, sound_kept_visits, IsThisDamage}
-use Rattle.ctr_log.specs.Batch.{EndsLog}
-use Rattle.ctr_log.specs.Visits.{visit_bytes, file_visits, IsGiven, GivesPart, StopsAt, OnRead}
+use Rattle.ctr_log.specs.Visits.{IsGiven, GivesPart, StopsAt, OnRead}
 use Rattle.ctr_log.specs.declared.visitor.Visit.{Visit}
 use Rattle.ctr_log.specs.declared.visitor.VisitError.{VisitError}
 use Rattle.ctr_log.specs.declared.visitor.VisitError.TheVariants.{Read, Refused}
@@ -27,7 +26,6 @@ use Rattle.ctr_log.proofs.LogLemmas.{length-batch}
 use Rattle.ctr_log.proofs.KeptLaws.{log_in_is, begins}
 use Rattle.ctr_log.proofs.StartLemmas.{next_other}
 use Rattle.ctr_log.proofs.DamageLaws.{section-drop, this_more}
-use Rattle.ctr_log.proofs.VisitLaws.{file_bytes}
 use Rattle.ctr_log.proofs.ReadLemmas.{length-records-le}
 use Rattle.ctr_log.proofs.VisitLemmas.{given_same, given_both, stops_more, stops_behind, part_given}
 
@@ -349,22 +347,4 @@ module _ {r : Root} {image mid : Image} {f h : File} {rs : List (List ℕ)} {pla
             low = omega (arith, newer.next_is, number_is, low2);
           };
         });
-      }
-
--- ---- one file's log as a list
-
--- what a visitor that keeps all was given of a file that was read to its end
-module _ (file : File) (first : ℕ) (bytes : List ℕ) (rs : List (List ℕ)) (visits : List Visit) (all : visits ≡ file_visits file first bytes) (rs_are : rs ≡ visit_bytes visits) where
-  pub gathered_records : rs ≡ log_in bytes
-  gathered_records = rs_are ∙ ap visit_bytes all ∙ file_bytes file first bytes
-
-  pub gathered_log : (place next : ℕ) → EndsLog first bytes place next → place < 2 ^ 63 → next < 2 ^ 64 → ReadsLog first bytes rs place next
-  gathered_log place next found low low_next =
-      let read = found.1 in
-      record {
-        bs = read.bs;
-        log_is = read.log_is;
-        records_are = gathered_records ∙ log_in_is first read.bs bytes read.log_is.batches_are (shorts first read.bs (omega (arith, read.place_is, low))) (omega (arith, read.next_is, low_next));
-        place_is = read.place_is;
-        next_is = read.next_is;
       }

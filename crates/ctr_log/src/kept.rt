@@ -8,45 +8,19 @@ ghost use Rattle.ctr_log.specs.declared.reading.ReadError.TheVariants.{Store};
 ghost use Rattle.ctr_log.specs.declared.visitor.VisitError.{VisitError};
 ghost use Rattle.ctr_log.specs.declared.visitor.VisitError.TheVariants.{Read};
 ghost use Rattle.ctr_log.specs.Logs.{Batches, records, HasLog};
-ghost use Rattle.ctr_log.specs.Reading.{RefusesOrFails, ReadDiffers, HasSome, OpensLog, NamesLog, log_file};
+ghost use Rattle.ctr_log.specs.Reading.{RefusesOrFails, HasSome, OpensLog, NamesLog, log_file};
 ghost use Rattle.ctr_log.specs.Kept.{log_in, begins_at, NamesKept, HoldsLog, RefusesKept, OpensKept, WritesBehind};
-ghost use Rattle.ctr_log.specs.LogChecks.{file_damage, kept_damage, sound_visits, sound_kept_visits, IsThisDamage, TellsDamage, VisitsDamage};
+ghost use Rattle.ctr_log.specs.LogChecks.{file_damage, kept_damage, sound_visits, sound_kept_visits, IsThisDamage, VisitsDamage};
 ghost use Rattle.ctr_log.specs.Visits.{kept_visits, IsGiven, Visits, StopsAt, OnRead, UnlessRead, EndsEarly, IsToldBy};
 
 use crate::batches::visit_file;
 use crate::log::{LogFile, Lsn, next_file};
-use crate::named::find_log;
 use crate::reading::ReadError;
 use crate::visitor::{VisitError, Visitor};
 use ctr_bytes::get_u64;
 use ctr_disk::{Disk, Failed, Root, StoreFault};
-use ctr_types::{File, List, OutOfMemory, Text};
+use ctr_types::{File, OutOfMemory};
 use std::alloc::Global;
-
-/// Reads the one generation that the root of a database without pages names, and answers its writer
-/// and its records. Where the disk tells what it holds, these are the records of the file's log and
-/// no others, and damage is told exactly where no log stands in the file.
-pub fn read_named<D: Disk>(
-    alloc: Global,
-    disk: &mut D,
-    root: &Root,
-) -> Result<(LogFile, List<Text>), ReadError>
-    requires names { NamesLog root.now }
-    ensures found { IsTrue D.tells → IfOk result (λ r. OpensLog root.now.first (log_file root.now.file) (D.reads disk.old) r.0 r.1) }
-    ensures only { (bs : Batches) → IsTrue D.tells → HasLog root.now.first bs (content (log_file root.now.file) (D.reads disk.old)) → IfOk result (λ r. r.1 ≡ records bs) }
-    ensures refused { IsTrue D.tells → IfErr result (RefusesOrFails (log_file root.now.file) (HasSome root.now.first (content (log_file root.now.file) (D.reads disk.old)))) }
-    // Damage is told by the first check of the file that fails, and exactly where one fails.
-    ensures damage { IsTrue D.tells → TellsDamage (file_damage (log_file root.now.file) root.now.first (content (log_file root.now.file) (D.reads disk.old))) result }
-    ensures differs { IfErr result ReadDiffers }
-    ensures none { IfOk result (λ r. r.0.buffered ≡ []) }
-    ensures quiet { OnlyReads D.Disk disk.old disk.new }
-    ensures counts { CountsAs D.Disk (Store Fault) disk.old disk.new result }
-{
-    let file = named_file(root);
-    let found = find_log(alloc, disk, file, root.first)?;
-    let log = LogFile::behind(alloc, file, false, found.place, found.next)?;
-    Ok((log, found.records))
-}
 
 /// Gives the records of the one generation that the root of a database without pages names to a visitor, one
 /// after another, and answers the writer behind the last of them. It holds no more than a batch, and takes

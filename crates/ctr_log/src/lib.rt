@@ -8,12 +8,11 @@ mod kept;
 mod laws;
 mod log;
 mod making;
-mod named;
 mod reading;
 mod visitor;
 
 pub use gathered::Gathered;
-pub use kept::{read_all, read_named, visit_named};
+pub use kept::{read_all, visit_named};
 pub use laws::{sound_visits_are_first, the_newer_is_kept_alone, visits_are_the_log};
 pub use log::{LogFile, Lsn};
 pub use making::{Making, init, is_first_checkpoint, make_logs};

@@ -15,41 +15,41 @@ use Rattle.ctr_bytes.proofs.FieldLaws.{AreBytes}
 use Rattle.ctr_rec.proofs.RecordLaws.{tag_takes}
 use Rattle.ctr_rec.proofs.ItemLaws.{all_again}
 
-abbrev Fair : {A : Type 0} → Result A BadRecord → Type 0
+abbrev pub Fair : {A : Type 0} → Result A BadRecord → Type 0
 Fair (Ok x) = ℕ
 Fair (Err f) = f.want ≢ f.got
 
-fair_bind : {A B : Type 0} (r : Result A BadRecord) (f : A → Result B BadRecord) → Fair r → ((x : A) → r ≡ Ok x → Fair (f x)) → Fair (r >>= f)
+pub fair_bind : {A B : Type 0} (r : Result A BadRecord) (f : A → Result B BadRecord) → Fair r → ((x : A) → r ≡ Ok x → Fair (f x)) → Fair (r >>= f)
 fair_bind (Ok x) f p q = q x refl
 fair_bind (Err e) f p q = p
 
-fair_if : {A : Type 0} (b : Bool) (d : BadRecord) (r : Result A BadRecord) → (b ≡ true → d.want ≢ d.got) → Fair r → Fair (cond b (Err d) r)
+pub fair_if : {A : Type 0} (b : Bool) (d : BadRecord) (r : Result A BadRecord) → (b ≡ true → d.want ≢ d.got) → Fair r → Fair (cond b (Err d) r)
 fair_if true d r h f = h refl
 fair_if false d r h f = f
 
-fair_both : {A : Type 0} (b : Bool) (r s : Result A BadRecord) → Fair r → Fair s → Fair (cond b r s)
+pub fair_both : {A : Type 0} (b : Bool) (r s : Result A BadRecord) → Fair r → Fair s → Fair (cond b r s)
 fair_both true r s p q = p
 fair_both false r s p q = q
 
-bytes_fair : (n after whole : ℕ) (bytes : List ℕ) → Fair (decode_bytes n after whole bytes)
+pub bytes_fair : (n after whole : ℕ) (bytes : List ℕ) → Fair (decode_bytes n after whole bytes)
 bytes_fair n after whole bytes = fair_if (ltb (length bytes) n) (short n after whole bytes) (Ok (take n bytes, drop n bytes)) (λ e same. omega (arith, ltb-true _ _ e, same)) 0
 
-number_fair : (n after whole : ℕ) (bytes : List ℕ) → Fair (decode_number n after whole bytes)
+pub number_fair : (n after whole : ℕ) (bytes : List ℕ) → Fair (decode_number n after whole bytes)
 unfolding decode_number
 number_fair n after whole bytes = fair_bind (decode_bytes n after whole bytes) (λ b. Ok (field n 0 b.0, b.1)) (bytes_fair n after whole bytes) (λ b e. 0)
 
-byte_fair : (low under high after whole : ℕ) (bytes : List ℕ) → low ≤ under → Fair (decode_byte low under high after whole bytes)
+pub byte_fair : (low under high after whole : ℕ) (bytes : List ℕ) → low ≤ under → Fair (decode_byte low under high after whole bytes)
 unfolding decode_byte
 byte_fair low under high after whole bytes le =
     fair_bind (decode_number 1 after whole bytes) (λ b. cond (ltb b.0 low) (Err (unwanted (whole - length bytes) under b.0)) (cond (ltb high b.0) (Err (unwanted (whole - length bytes) high b.0)) (Ok (b.0, b.1)))) (number_fair 1 after whole bytes)
     (λ b e. fair_if (ltb b.0 low) (unwanted (whole - length bytes) under b.0) (cond (ltb high b.0) (Err (unwanted (whole - length bytes) high b.0)) (Ok (b.0, b.1))) (λ t same. omega (arith, ltb-true _ _ t, same, le))
     (fair_if (ltb high b.0) (unwanted (whole - length bytes) high b.0) (Ok (b.0, b.1)) (λ t same. omega (arith, ltb-true _ _ t, same)) 0))
 
-tag_fair : (whole : ℕ) (bytes : List ℕ) → Fair (decode_tag whole bytes)
+pub tag_fair : (whole : ℕ) (bytes : List ℕ) → Fair (decode_tag whole bytes)
 unfolding decode_tag
 tag_fair whole bytes = fair_if (eqb (length bytes) 0) (unwanted 0 32 0) (decode_byte 32 32 32 5 whole bytes) (λ e same. omega (arith, same)) (byte_fair 32 32 32 5 whole bytes (omega arith))
 
-name_fair : (after whole : ℕ) (bytes : List ℕ) → Fair (decode_name after whole bytes)
+pub name_fair : (after whole : ℕ) (bytes : List ℕ) → Fair (decode_name after whole bytes)
 unfolding decode_name
 name_fair after whole bytes =
     fair_bind (decode_byte 1 1 16 (1 + after) whole bytes) (λ len. decode_bytes len.0 after whole len.1) (byte_fair 1 1 16 (1 + after) whole bytes (omega arith)) (λ len e. bytes_fair len.0 after whole len.1)
@@ -68,7 +68,7 @@ many_fair one law (suc n) bytes =
     fair_bind (one n bytes) (λ first. many one n first.1 >>= λ others. Ok (first.0 ∷ others.0, others.1)) (law n bytes)
     (λ first e. fair_bind (many one n first.1) (λ others. Ok (first.0 ∷ others.0, others.1)) (many_fair one law n first.1) (λ others f. 0))
 
-schema_fair : (after whole : ℕ) (bytes : List ℕ) → Fair (decode_schema after whole bytes)
+pub schema_fair : (after whole : ℕ) (bytes : List ℕ) → Fair (decode_schema after whole bytes)
 unfolding decode_schema
 schema_fair after whole bytes =
     fair_bind (decode_byte 1 1 8 (18 + after) whole bytes) (λ n. decode_column 0 (18 * (n.0 - 1) + after) whole n.1 >>= λ first. with_earlier (first.0 ∷ []) (many (decode_text_column after whole) (n.0 - 1) first.1) >>= λ columns. Ok (record { columns = columns.0 }, columns.1)) (byte_fair 1 1 8 (18 + after) whole bytes (omega arith))
@@ -76,7 +76,7 @@ schema_fair after whole bytes =
     (λ first f. fair_bind (with_earlier (first.0 ∷ []) (many (decode_text_column after whole) (n.0 - 1) first.1)) (λ columns. Ok (record { columns = columns.0 }, columns.1))
     (fair_bind (many (decode_text_column after whole) (n.0 - 1) first.1) (λ others. Ok (first.0 ∷ others.0, others.1)) (many_fair (decode_text_column after whole) (λ left. column_fair 64 (18 * left + after) whole) (n.0 - 1) first.1) (λ others g. 0)) (λ columns g. 0)))
 
-key_fair : (after whole : ℕ) (bytes : List ℕ) → Fair (decode_key after whole bytes)
+pub key_fair : (after whole : ℕ) (bytes : List ℕ) → Fair (decode_key after whole bytes)
 unfolding decode_key
 key_fair after whole bytes = fair_bind (decode_bytes 8 after whole bytes) (λ b. Ok (cast_signed w64 (field 8 0 b.0), b.1)) (bytes_fair 8 after whole bytes) (λ b e. 0)
 
@@ -99,7 +99,7 @@ item_fair after whole bytes =
     fair_bind (decode_byte 1 4 4 (2 + after) whole bytes) (λ number. decode_name (least_body number.0 + after) whole number.1 >>= λ t. decode_body number.0 t.0 after whole t.1) (byte_fair 1 4 4 (2 + after) whole bytes (omega arith))
     (λ number e. fair_bind (decode_name (least_body number.0 + after) whole number.1) (λ t. decode_body number.0 t.0 after whole t.1) (name_fair (least_body number.0 + after) whole number.1) (λ t f. body_fair number.0 t.0 after whole t.1))
 
-fair_else : {A : Type 0} (b : Bool) (x : A) (d : BadRecord) → (b ≡ false → d.want ≢ d.got) → Fair (cond b (Ok x) (Err d))
+pub fair_else : {A : Type 0} (b : Bool) (x : A) (d : BadRecord) → (b ≡ false → d.want ≢ d.got) → Fair (cond b (Ok x) (Err d))
 fair_else true x d h = 0
 fair_else false x d h = h refl
 
@@ -117,7 +117,7 @@ all_fair bytes fits =
     (λ items g. fair_bind (decode_byte 0 0 0 0 whole items.1) (λ flag. cond (eqb (length flag.1) 0) (Ok items.0) (Err (unwanted 0 (whole - length flag.1) whole))) (byte_fair 0 0 0 0 whole items.1 (omega arith))
     (λ flag h. fair_end whole (length flag.1) items.0 some))))
 
-err_fair : {A : Type 0} (r : Result A BadRecord) (f : BadRecord) → r ≡ Err f → Fair r → f.want ≢ f.got
+pub err_fair : {A : Type 0} (r : Result A BadRecord) (f : BadRecord) → r ≡ Err f → Fair r → f.want ≢ f.got
 err_fair {A = A} r f e fair = subst (λ (s : Result A BadRecord). Fair s) e fair
 
 no_err : (is : List Item) (f : BadRecord) (r : Result (List Item) BadRecord) → r ≡ Ok is → r ≡ Err f → ⊥

@@ -65,7 +65,7 @@ number_read : (after whole : ℕ) (bytes : List ℕ) (b : List ℕ × List ℕ) 
 unfolding decode_number
 number_read after whole bytes b e = rw e refl
 
-key_takes : (after whole : ℕ) (bytes : List ℕ) (x : ℤ × List ℕ) → AreBytes bytes → decode_key after whole bytes ≡ Ok x → Takes bytes (key_bytes x.0) x.1 × FitsSigned w64 x.0
+pub key_takes : (after whole : ℕ) (bytes : List ℕ) (x : ℤ × List ℕ) → AreBytes bytes → decode_key after whole bytes ≡ Ok x → Takes bytes (key_bytes x.0) x.1 × FitsSigned w64 x.0
 unfolding decode_key
 key_takes after whole bytes x fits e =
     let n = bind_ok (decode_bytes 8 after whole bytes) (λ b. Ok (cast_signed w64 (field 8 0 b.0), b.1)) x e in
@@ -155,7 +155,7 @@ body_again (Remove t k) after whole text rest fits is = ap (λ (l : List ℕ). d
 body_again (Create t s) after whole text rest fits is = rw (schema_again after whole s text rest fits is) refl
 body_again (Drop t) after whole text rest fits is = ap (λ (l : List ℕ). done (Drop t, l ++ rest)) is
 
-item_takes : (after whole : ℕ) (bytes : List ℕ) (x : Item × List ℕ) → AreBytes bytes → decode_item after whole bytes ≡ Ok x → Took (IsItemBytes x.0) bytes x.1 × Fits x.0
+pub item_takes : (after whole : ℕ) (bytes : List ℕ) (x : Item × List ℕ) → AreBytes bytes → decode_item after whole bytes ≡ Ok x → Took (IsItemBytes x.0) bytes x.1 × Fits x.0
 unfolding decode_item
 item_takes after whole bytes x fits e =
     let a = bind_ok (decode_byte 1 4 4 (2 + after) whole bytes) (λ number. decode_name (least_body number.0 + after) whole number.1 >>= λ t. decode_body number.0 t.0 after whole t.1) x e in

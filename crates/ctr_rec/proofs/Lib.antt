@@ -6,3 +6,4 @@ pub mod EncodeLaws
 pub mod FoldLaws
 pub mod LeastLaws
 pub mod SchemaLaws
+pub mod ReplayLaws

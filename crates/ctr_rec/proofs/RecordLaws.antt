@@ -16,7 +16,7 @@ use Rattle.ctr_bytes.specs.Following.{◌>>=◌}
 use Rattle.ctr_rec.specs.Decode.{short, unwanted, decode_bytes, decode_number, decode_byte, decode_tag, decode_name, kind_numbered, decode_column, many}
 use Rattle.ctr_bytes.proofs.FieldLaws.{AreBytes, length-spelled, field_at, spelled_field, field_fits}
 
-AreBytes-drop : (n : ℕ) (bytes : List ℕ) → AreBytes bytes → AreBytes (drop n bytes)
+pub AreBytes-drop : (n : ℕ) (bytes : List ℕ) → AreBytes bytes → AreBytes (drop n bytes)
 AreBytes-drop n bytes h i = rw (get_or-drop n bytes i 0) (h (n + i))
 
 AreBytes-take : (n : ℕ) (bytes : List ℕ) → AreBytes bytes → AreBytes (take n bytes)

@@ -49,7 +49,7 @@ impl<T: Drop> From<AllocFailed<T>> for RecordError {
 }
 
 // Before the rest of a record of so many bytes a number isn't the one that is wanted.
-fn bad(whole: u64, rest: &[u8], want: u8, got: u8) -> RecordError
+pub fn bad(whole: u64, rest: &[u8], want: u8, got: u8) -> RecordError
     ensures { result ≡ Bad (unwanted (whole - length rest.now) want got) }
 {
     RecordError::Bad(BadRecord {
@@ -60,7 +60,12 @@ fn bad(whole: u64, rest: &[u8], want: u8, got: u8) -> RecordError
 }
 
 // The next bytes, after which so many must follow at least.
-fn bytes_of(whole: u64, bytes: &[u8], n: usize, after: u64) -> Result<(&[u8], &[u8]), RecordError>
+pub fn bytes_of(
+    whole: u64,
+    bytes: &[u8],
+    n: usize,
+    after: u64,
+) -> Result<(&[u8], &[u8]), RecordError>
     ensures gives { Decodes (λ x. (x.0.now, x.1.now)) result (decode_bytes n after whole bytes.now) }
     ensures long { IfOk result (λ x. length x.0.now ≡ n) }
 {
@@ -83,7 +88,7 @@ fn u8_of(whole: u64, bytes: &[u8], after: u64) -> Result<(u8, &[u8]), RecordErro
 }
 
 #[tactic(auto, unfolding(crate::specs::Decode::decode_byte))]
-fn byte_of(
+pub fn byte_of(
     whole: u64,
     bytes: &[u8],
     low: u8,
@@ -105,7 +110,7 @@ fn byte_of(
 }
 
 #[tactic(auto, unfolding(crate::specs::Decode::decode_tag))]
-fn tag_of(whole: u64, bytes: &[u8]) -> Result<(u8, &[u8]), RecordError>
+pub fn tag_of(whole: u64, bytes: &[u8]) -> Result<(u8, &[u8]), RecordError>
     ensures { Decodes (λ x. (x.0, x.1.now)) result (decode_tag whole bytes.now) }
 {
     if bytes.is_empty() {
@@ -119,7 +124,7 @@ fn tag_of(whole: u64, bytes: &[u8]) -> Result<(u8, &[u8]), RecordError>
 }
 
 #[tactic(auto, unfolding(crate::specs::Decode::decode_number))]
-fn u16_of(whole: u64, bytes: &[u8], after: u64) -> Result<(u16, &[u8]), RecordError>
+pub fn u16_of(whole: u64, bytes: &[u8], after: u64) -> Result<(u16, &[u8]), RecordError>
     ensures { Decodes (λ x. (x.0, x.1.now)) result (decode_number 2 after whole bytes.now) }
 {
     let (front, rest) = bytes_of(whole, bytes, 2, after)?;
@@ -127,15 +132,16 @@ fn u16_of(whole: u64, bytes: &[u8], after: u64) -> Result<(u16, &[u8]), RecordEr
 }
 
 #[tactic(auto, unfolding(crate::specs::Decode::decode_number))]
-fn u32_of(whole: u64, bytes: &[u8], after: u64) -> Result<(u32, &[u8]), RecordError>
+pub fn u32_of(whole: u64, bytes: &[u8], after: u64) -> Result<(u32, &[u8]), RecordError>
     ensures { Decodes (λ x. (x.0, x.1.now)) result (decode_number 4 after whole bytes.now) }
 {
     let (front, rest) = bytes_of(whole, bytes, 4, after)?;
     Ok((get_u32(front, 0), rest))
 }
 
+/// A key, and what follows. So many bytes must follow it at least.
 #[tactic(auto, unfolding(crate::specs::Decode::decode_key))]
-fn key_of(whole: u64, bytes: &[u8], after: u64) -> Result<(i64, &[u8]), RecordError>
+pub fn key_of(whole: u64, bytes: &[u8], after: u64) -> Result<(i64, &[u8]), RecordError>
     ensures { Decodes (λ x. (x.0, x.1.now)) result (decode_key after whole bytes.now) }
 {
     let (front, rest) = bytes_of(whole, bytes, 8, after)?;
@@ -168,7 +174,7 @@ fn named(alloc: Global, bytes: &[u8]) -> Result<Name, RecordError>
 }
 
 #[tactic(auto, unfolding(crate::specs::Decode::decode_name))]
-fn name_of(
+pub fn name_of(
     alloc: Global,
     whole: u64,
     bytes: &[u8],
@@ -239,8 +245,9 @@ fn columns_of(
     Ok((columns, rest))
 }
 
+/// A schema, and what follows. So many bytes must follow it at least.
 #[tactic(auto, unfolding(crate::specs::Decode::decode_schema))]
-fn schema_of(
+pub fn schema_of(
     alloc: Global,
     whole: u64,
     bytes: &[u8],
@@ -331,7 +338,7 @@ fn body_of(
 }
 
 // The bytes that the body of a change of this tag has at least.
-fn least(tag: u8) -> u64
+pub fn least(tag: u8) -> u64
     ensures { result ≡ least_body tag }
 {
     match tag {

@@ -15,8 +15,9 @@ use Rattle.std.specs.Prelude.{Ok}
 use Rattle.ctr_bytes.specs.Fields.{field, spelled}
 use Rattle.ctr_records.specs.Damage.{at_most}
 use Rattle.ctr_records.specs.Checkpoint.{count_at, opens_in, aborted_in, items_at, items_in, end_at, end_check, kind_check, kinds_in, item_check, next_check, heads_check, xid_check, list_checks, checkpoint_checks}
-use Rattle.ctr_thin.specs.Thin.{StandsFor, StandsBy, first_checks}
-use Rattle.ctr_thin.proofs.ReplayLemmas.{OneFold}
+use Rattle.ctr_thin.specs.Checks.{first_checks}
+use Rattle.ctr_thin.specs.Thin.{StandsFor, StandsBy}
+use Rattle.ctr_thin.proofs.LoadLemmas.{OneFold}
 use Rattle.ctr_thin.proofs.OpenLemmas.{one_root}
 
 -- the batches of a log are one list, where the file isn't too long for lengths of 8 bytes

@@ -1,3 +1,4 @@
 pub mod ReplayLemmas
+pub mod LoadLemmas
 pub mod OpenLemmas
 pub mod LawLemmas

@@ -12,23 +12,21 @@ use Rattle.ctr_disk.specs.declared.disk.Disk.{Ghosts}
 use Rattle.ctr_disk.specs.Crash.{Only}
 use Rattle.ctr_disk.specs.Device.{OnlyReads, IsDurableFrom}
 use Rattle.ctr_disk.specs.Image.{content}
-use Rattle.ctr_log.specs.declared.reading.ReadError.{ReadError}
-use Rattle.ctr_log.specs.declared.reading.ReadError.TheVariants as read
 use Rattle.ctr_log.specs.Damage.{Differs}
-use Rattle.ctr_log.specs.LogChecks.{file_damage, IsThisDamage}
 use Rattle.ctr_log.specs.Homes.{BlockValue, root_block, root_value, IsRoot, SaysRoot}
 use Rattle.ctr_home.specs.declared.root.Form.TheVariants.{Thin}
 use Rattle.ctr_home.specs.Roots.{ReadsRoot}
 use Rattle.ctr_log.specs.Logs.{Batches, records, HasLog, Log, GoesOn}
-use Rattle.ctr_log.specs.Reading.{log_file, HasSome, RefusesOrFails, ReadDiffers, OpensLog}
+use Rattle.ctr_log.specs.Reading.{log_file, OpensLog}
 use Rattle.ctr_model.specs.Database.{Database}
 use Rattle.ctr_rec.specs.Fold.{FoldsRecords}
 use Rattle.ctr_thin.specs.declared.opening.Opened.{Opened}
 use Rattle.ctr_thin.specs.declared.opening.OpenError.{OpenError}
 use Rattle.ctr_thin.specs.declared.opening.OpenError.TheVariants as open_error
-use Rattle.ctr_thin.specs.Opening.{of_read, of_store}
-use Rattle.ctr_thin.specs.Thin.{StandsFor, MakesDatabase, RefusesRecords, IsRecordsDamage, IsWornNumber, next_xid, Opens, Explains, OpenDiffers}
-use Rattle.ctr_thin.proofs.ReplayLemmas.{OneFold}
+use Rattle.ctr_thin.specs.Opening.{of_store}
+use Rattle.ctr_thin.specs.Checks.{next_xid}
+use Rattle.ctr_thin.specs.Thin.{StandsFor, MakesDatabase, RefusesLogOf, log_damage, IsWornNumber, Opens, Explains, OpenDiffers}
+use Rattle.ctr_thin.proofs.LoadLemmas.{OneFold}
 
 -- ---- a block says one root at most
 
@@ -96,15 +94,17 @@ module _ {image mid : Image} {r : Root} (root_is : FoundRoot image mid r) where
       let root : s.r ≡ r = one_root (root_value image.root) s.r r s.root says in
       subst (λ (i : Image). HasLog r.first s.bs (content (log_file r.file) i)) (sym same) (subst (λ (q : Root). HasLog q.first s.bs (content (log_file q.file) image)) root s.log)
 
-  pub log_refused : (e : ReadError) → RefusesOrFails (log_file r.file) (HasSome r.first (content (log_file r.file) mid)) e → IsThisDamage (file_damage (log_file r.file) r.first (content (log_file r.file) mid)) e → Explains image (of_read e)
-  log_refused read.OutOfMemory refused is = tt
-  log_refused (read.Store store.Fault) refused is = tt
-  log_refused (read.Store (store.Damaged f at want got)) refused is = (
-    refused.0.1,
+  pub log_refused : (e : OpenError) → RefusesLogOf r mid e → Explains image e
+  log_refused open_error.NoDatabase refused = absurd refused
+  log_refused (open_error.Damaged f at want got) refused = (
+    refused.0,
     not_none,
-    (λ db s. refused.1 (s.bs, log_of_image db s)),
-    inr (r, says, inl (subst (λ (i : Image). file_damage (log_file r.file) r.first (content (log_file r.file) i) ≡ Err (store.Damaged f at want got)) same is)),
+    (λ db s. refused.2 s.bs db (next_xid s.head) (log_of_image db s) (record { head = s.head; rs = s.rs; all_are = s.begins; checked = s.checked; xid_is = refl; folds = s.folds })),
+    inr (r, says, subst (λ (i : Image). log_damage (log_file r.file) r.first (content (log_file r.file) i) ≡ Err (store.Damaged f at want got)) same refused.1),
   )
+  log_refused (open_error.Worn number) refused = absurd refused
+  log_refused open_error.Fault refused = tt
+  log_refused open_error.OutOfMemory refused = tt
 
   -- records of the log, where they were read
   module _ {rs : List (List ℕ)} (only : (bs : Batches) → HasLog r.first bs (content (log_file r.file) mid) → rs ≡ records bs) where
@@ -142,17 +142,6 @@ module _ {image mid : Image} {r : Root} (root_is : FoundRoot image mid r) where
       next_is_of : log.first + length log.buffered ≡ r.first + length (records opens.bs)
       next_is_of = omega (arith, opens.goes_on.first_is, ap length opens.none, ap length opens.records_are)
 
-      pub records_refused : file_damage (log_file r.file) r.first (content (log_file r.file) mid) ≡ Ok tt → (e : OpenError) → RefusesRecords (log_file r.file) rs e → Explains image e
-      records_refused fine open_error.OutOfMemory refused = tt
-      records_refused fine open_error.Fault refused = absurd refused
-      records_refused fine open_error.NoDatabase refused = absurd refused
-      records_refused fine (open_error.Worn number) refused = absurd refused
-      records_refused fine (open_error.Damaged f at want got) refused =
-          let fine_now : file_damage (log_file r.file) r.first (content (log_file r.file) image) ≡ Ok tt = subst (λ (i : Image). file_damage (log_file r.file) r.first (content (log_file r.file) i) ≡ Ok tt) same fine in
-          let log_now : HasLog r.first opens.bs (content (log_file r.file) image) = subst (λ (i : Image). HasLog r.first opens.bs (content (log_file r.file) i)) same log_there in
-          let damage : IsRecordsDamage (log_file r.file) (records opens.bs) (store.Damaged f at want got) = subst (λ (l : List (List ℕ)). IsRecordsDamage (log_file r.file) l (store.Damaged f at want got)) opens.records_are refused.2 in
-          (refused.0, not_none, (λ db s. refused.1 (db, next_xid s.head, makes_of db s)), inr (r, says, inr (fine_now, opens.bs, log_now, damage)))
-
       -- no number is left
       pub was_worn : (made : Database) (xid next n : ℕ) → MakesDatabase rs made xid → next ≡ log.first + length log.buffered → IsWornNumber next xid n → Explains image (open_error.Worn n)
       was_worn made xid next n makes is worn =
@@ -186,17 +175,6 @@ module _ {image mid : Image} {r : Root} (root_is : FoundRoot image mid r) where
 pub store_differs : (e : StoreFault) → Differs e → OpenDiffers (of_store e)
 store_differs store.Fault is = tt
 store_differs (store.Damaged f at want got) is = is
-
-pub log_differs : (e : ReadError) → ReadDiffers e → OpenDiffers (of_read e)
-log_differs read.OutOfMemory is = tt
-log_differs (read.Store e) is = store_differs e is
-
-pub records_differ : (file : File) (all : List (List ℕ)) (e : OpenError) → RefusesRecords file all e → OpenDiffers e
-records_differ file all open_error.OutOfMemory is = tt
-records_differ file all (open_error.Damaged f at want got) is = is.0
-records_differ file all open_error.NoDatabase is = tt
-records_differ file all (open_error.Worn number) is = absurd is
-records_differ file all open_error.Fault is = tt
 
 -- ---- what was pending
 

@@ -1,112 +1,147 @@
--- What applying an item, items and records makes of a database.
-use Rattle.std.proofs.Common.{◌≡◌, ◌+◌, ◌<◌, ℕ, ℤ, List, [], ◌∷◌, length, drop, get_or, refl, sym, ◌∙◌, ap, subst, Option, Some, None}
-use Rattle.std.proofs.lemmas.List.{drop_more}
+-- What replaying a change finds of the tables, and makes of them.
+use Rattle.std.proofs.Common.{◌≡◌, ◌+◌, ◌-◌, ◌*◌, ◌^◌, ◌<◌, ◌≤◌, ℕ, ℤ, List, [], ◌∷◌, length, drop, min, refl, sym, ◌∙◌, ap, subst, arith, Option, Some, None, Result, Ok, Err, suc, FitsSigned}
+use borrow.Author.Gap.{read_sfits}
+use Rattle.std.specs.Int.{w64, cast_signed}
+use Rattle.ctr_bytes.specs.Fields.{field}
 use Rattle.std.specs.Option.{option_map}
+use Rattle.std.specs.Prelude.{OnErr, slice_index}
+use Rattle.ctr_types.specs.declared.value.Column.{Column}
 use Rattle.ctr_types.specs.declared.value.Row.{Row}
 use Rattle.ctr_types.specs.declared.value.Schema.{Schema}
 use Rattle.ctr_model.specs.declared.database.Table.{Table}
-use Rattle.ctr_model.specs.declared.database.Change.{Change}
-use Rattle.ctr_model.specs.declared.database.Change.TheVariants as change
-use Rattle.ctr_model.specs.Database.{Database, table_at, changed, after}
-use Rattle.ctr_rec.specs.declared.item.Item.{Item}
-use Rattle.ctr_rec.specs.declared.item.Item.TheVariants as item
+use Rattle.ctr_model.specs.Database.{Database, table_at}
+use Rattle.ctr_model.specs.Refusals.{columns_of}
 use Rattle.ctr_rec.specs.declared.decoding.RecordError.{RecordError}
 use Rattle.ctr_rec.specs.declared.decoding.RecordError.TheVariants as record_error
+use Rattle.ctr_rec.specs.declared.decoding.BadRecord.{BadRecord}
+use Rattle.ctr_rec.specs.Decode.{IsFault, Decodes, unwanted, decode_bytes, decode_key}
+use Rattle.ctr_rec.specs.Fold.{HasTable, IsThere, HasSchemas}
+use Rattle.ctr_rec.specs.Items.{ColumnsFit}
+use Rattle.ctr_rec.specs.Replay.{wanted_at, number_there, check_table, check_texts, read_head, read_wide, row_told, replay_row, replay_body, replay_item, replay_items}
+use Rattle.ctr_value.specs.Payload.{width, IsNoPayload as RefusesPayload}
+use Rattle.ctr_value.specs.Values.{row_values}
+use Rattle.ctr_types.specs.declared.value.Value.{Value}
+use Rattle.ctr_model.specs.Database.{changed}
+use Rattle.ctr_model.specs.declared.database.Change.TheVariants as change
+use Rattle.ctr_thin.specs.Opening.{of_payload}
+use Rattle.std.specs.Prelude.{⊤}
 use Rattle.ctr_value.specs.declared.payload.PayloadError.{PayloadError}
 use Rattle.ctr_value.specs.declared.payload.PayloadError.TheVariants as payload
-use Rattle.ctr_value.specs.Payload.{IsRowOf, IsNoPayload as RefusesPayload}
-use Rattle.ctr_versions.specs.Keys.{schema_named}
-use Rattle.ctr_rec.specs.Items.{Fits, ColumnsFit}
-use Rattle.ctr_rec.specs.Fold.{HasTable, HasSchemas, Stands, StandAll, Folds, FoldsRecord, FoldsRecords}
-use Rattle.ctr_thin.specs.Opening.{of_payload}
-use Rattle.ctr_thin.specs.Thin.{Applies, CanApply, RefusesRecord}
-
--- what is left of a list, from an item on
-pub next_is : {A : Type 0} (xs : List A) (i : ℕ) (x : A) → x ≡ get_or xs i x → i < length xs → drop i xs ≡ x ∷ drop (i + 1) xs
-next_is xs i x is low = drop_more xs i x low ∙ ap (λ y. y ∷ drop (i + 1) xs) (sym is)
-
--- ---- one item
+use Rattle.ctr_bytes.specs.Following.{◌>>=◌}
 
 -- the schema that was found is a table's
-table_has : (found : Option Table) (s : Schema) → Some s ≡ option_map (λ (t : Table). t.schema) found → (table : Table) × (found ≡ Some table) × (table.schema ≡ s)
-table_has None s is = cc
+pub table_has : (found : Option Table) (s : Schema) → Some s ≡ option_map (λ (t : Table). t.schema) found → (table : Table) × (found ≡ Some table) × (table.schema ≡ s)
+table_has None s is = absurd cc
 table_has (Some table) s is = (table, refl, cc)
 
-pub put_done : (old new : Database) (t p : List ℕ) (k read wrote : ℤ) (row : Row) (s : Schema) → read ≡ k → wrote ≡ k → Some s ≡ schema_named old t → IsRowOf s.columns read p row.values
-    → new ≡ changed (change.Put t wrote row) old → Applies old (item.Put t k p) new
-put_done old new t p k read wrote row s read_is wrote_is found is put =
-    let table = table_has (table_at old t) s found in
-    let there : HasTable old t (λ (u : Table). IsRowOf u.schema.columns k p row.values) = (table.0, table.1, subst (λ (z : Schema). IsRowOf z.columns k p row.values) (sym table.2) (subst (λ (z : ℤ). IsRowOf s.columns z p row.values) read_is is)) in
-    (change.Put t k row, (row, refl, there), put ∙ ap (λ (z : ℤ). changed (change.Put t z row) old) wrote_is)
+pub columns_found : (found : Option Table) (s : Schema) → Some s ≡ option_map (λ (t : Table). t.schema) found → columns_of found ≡ s.columns
+columns_found found s is = let table = table_has found s is in ap columns_of table.1 ∙ ap (λ (z : Schema). z.columns) table.2
 
--- the columns of a table that was found are those of rows that can be read
-pub columns_of_found : (db : Database) (t : List ℕ) (s : Schema) → ((name : List ℕ) (table : Table) → table_at db name ≡ Some table → ColumnsFit table.schema.columns) → Some s ≡ schema_named db t → ColumnsFit s.columns
-columns_of_found db t s fit found = let table = table_has (table_at db t) s found in subst (λ (z : Schema). ColumnsFit z.columns) table.2 (fit t table.0 table.1)
+-- one is there, where none was found
+pub not_there : (found : Option Table) (table : Table) → found ≡ Some table → (o : Option Schema) → o ≡ option_map (λ (t : Table). t.schema) found → o ≡ None → ⊥
+not_there None table there o is none = absurd cc
+not_there (Some u) table there o is none = absurd (cc (is, none))
 
--- no row has a payload that was refused
-pub put_refused : (db : Database) (t p : List ℕ) (k read : ℤ) (s : Schema) (Bad : ℕ → ℕ → ℕ → Type 0) → read ≡ k → Some s ≡ option_map (λ (u : Table). u.schema) (table_at db t) → (e : PayloadError)
-    → RefusesPayload Bad e → ((row : Row) → IsRowOf s.columns read p row.values → e ≡ payload.OutOfMemory) → (r : RecordError) → r ≡ of_payload e → RefusesRecord (CanApply db (item.Put t k p)) r
-put_refused db t p k read s Bad read_is found payload.OutOfMemory refused only r is = subst (RefusesRecord (CanApply db (item.Put t k p))) (sym is) tt
-put_refused db t p k read s Bad read_is found (payload.Bad at want got) refused only r is =
-    let table = table_has (table_at db t) s found in
-    let none : CanApply db (item.Put t k p) → ⊥ = λ a.
-    let stands = a.1.1 in
-    let same : stands.2.0 ≡ table.0 = cc (stands.2.1, table.1) in
-    let row : IsRowOf s.columns k p stands.0.values = subst (λ (z : Schema). IsRowOf z.columns k p stands.0.values) (ap (λ (u : Table). u.schema) same ∙ table.2) stands.2.2 in
-    let never : payload.Bad at want got ≡ payload.OutOfMemory = only stands.0 (subst (λ (z : ℤ). IsRowOf s.columns z p stands.0.values) (sym read_is) row) in
-    cc in
-    subst (RefusesRecord (CanApply db (item.Put t k p))) (sym is) (refused.1, none)
+pub columns_fit : ((db : Database) (t : List ℕ) (table : Table) → HasSchemas db → table_at db t ≡ Some table → ColumnsFit table.schema.columns) → (db : Database) (t : List ℕ) (s : Schema) → HasSchemas db → Some s ≡ option_map (λ (u : Table). u.schema) (table_at db t) → ColumnsFit s.columns
+columns_fit fit db t s has found = let table = table_has (table_at db t) s found in subst (λ (z : Schema). ColumnsFit z.columns) table.2 (fit db t table.0 has table.1)
 
--- ---- items
+-- whether it is there
+pub some_number : (found : Option Table) (s : Schema) → Some s ≡ option_map (λ (t : Table). t.schema) found → 1 ≡ number_there found
+some_number None s is = absurd cc
+some_number (Some table) s is = refl
 
--- the tables keep such schemas
-pub schemas_applied : ((db : Database) (i : Item) (c : Change) → Fits i → Stands db i c → HasSchemas db → HasSchemas (changed c db)) → (db : Database) (i : Item) (new : Database) → Fits i → HasSchemas db → Applies db i new → HasSchemas new
-schemas_applied stay db i new fits has a = subst HasSchemas (sym a.2) (stay db i a.0 fits a.1 has)
+abbrev pub no_schema : Option Schema
+no_schema = None
 
--- items stand for one list of changes at most
-abbrev pub OneMeaning : Type 0
-OneMeaning = (db : Database) (is : List Item) (cs ds : List Change) → StandAll db is cs → StandAll db is ds → cs ≡ ds
+pub none_number : (found : Option Table) → no_schema ≡ option_map (λ (t : Table). t.schema) found → 0 ≡ number_there found
+none_number None is = refl
+none_number (Some table) is = absurd cc
 
-pub items_on : (db : Database) (i : Item) (is : List Item) (mid new : Database) → Applies db i mid → Folds mid is new → Folds db (i ∷ is) new
-items_on db i is mid new a f = (a.0 ∷ f.0, (a.1, subst (λ (d : Database). StandAll d is f.0) a.2 f.1), f.2 ∙ ap (after f.0) a.2)
+there_in : (at : ℕ) (found : Option Table) → wanted_at at 1 (number_there found) ≡ Ok tt → (table : Table) × (found ≡ Some table)
+there_in at None e = absurd cc
+there_in at (Some table) e = (table, refl)
 
--- the first item was applied, and its change is the one that it stands for
-behind_first : OneMeaning → (db : Database) (i : Item) (is : List Item) (mid new : Database) → Applies db i mid → (cs : List Change) → StandAll db (i ∷ is) cs → new ≡ after cs db → Folds mid is new
-behind_first one db i is mid new a [] s e = absurd s
-behind_first one db i is mid new a (c ∷ cs) s e =
-    let lists : c ∷ [] ≡ a.0 ∷ [] = one db (i ∷ []) (c ∷ []) (a.0 ∷ []) (s.0, tt) (a.1, tt) in
-    let same : c ≡ a.0 = cc in
-    let left : changed c db ≡ mid = ap (λ (d : Change). changed d db) same ∙ sym a.2 in
-    (cs, subst (λ (d : Database). StandAll d is cs) left s.1, e ∙ ap (after cs) left)
+pub there_of : (db : Database) (t : List ℕ) (kind at : ℕ) → check_table kind (table_at db t) at ≡ Ok tt → kind ≡ 1 → IsThere db t
+there_of db t kind at e is =
+    let table = there_in at (table_at db t) (ap (λ (k : ℕ). check_table k (table_at db t) at) (sym is) ∙ e) in
+    (table.0, table.1, tt)
 
-pub items_left : OneMeaning → (db : Database) (i : Item) (is : List Item) (mid new : Database) → Applies db i mid → Folds db (i ∷ is) new → Folds mid is new
-items_left one db i is mid new a f = behind_first one db i is mid new a f.0 f.1 f.2
+item_behind : (db : Database) (after whole : ℕ) (bytes : List ℕ) (h : (ℕ × List ℕ) × List ℕ) → read_head after whole bytes ≡ Ok h → check_table h.0.0 (table_at db h.0.1) (whole - length bytes) ≡ Ok tt → replay_item db after whole bytes ≡ replay_body db h.0.0 h.0.1 after whole h.1
+unfolding replay_item
+item_behind db after whole bytes h head there = rw (head, there) refl
 
--- where items fold, the first can be applied
-first_of_all : (db : Database) (i : Item) (is : List Item) (cs : List Change) → StandAll db (i ∷ is) cs → CanApply db i
-first_of_all db i is [] s = absurd s
-first_of_all db i is (c ∷ cs) s = (changed c db, (c, s.0, refl))
+-- a change whose head was read, and whose table is there as it is wanted
+pub item_reads : (db : Database) (after whole place : ℕ) (bytes : List ℕ) (h : (ℕ × List ℕ) × List ℕ) → read_head after whole bytes ≡ Ok h → place ≡ whole - length bytes → check_table h.0.0 (table_at db h.0.1) place ≡ Ok tt → replay_item db after whole bytes ≡ replay_body db h.0.0 h.0.1 after whole h.1
+item_reads db after whole place bytes h head place_is there = item_behind db after whole bytes h head (subst (λ (n : ℕ). check_table h.0.0 (table_at db h.0.1) n ≡ Ok tt) place_is there)
 
-pub first_applies : (db : Database) (i : Item) (is : List Item) (new : Database) → Folds db (i ∷ is) new → CanApply db i
-first_applies db i is new f = first_of_all db i is f.0 f.1
+-- the tables keep their schemas, whether a change was done or not
+abbrev pub KeepSchemas : Type 0
+KeepSchemas = (db : Database) (after whole : ℕ) (bytes : List ℕ) (x : Database × List ℕ) → HasSchemas db → ((i : ℕ) → slice_index bytes i < 256) → replay_item db after whole bytes ≡ Ok x → HasSchemas x.0
 
--- ---- records
+pub item_schemas : {T : Type 0} → KeepSchemas → (db new : Database) (after whole : ℕ) (bytes : List ℕ) (behind : T → List ℕ) (r : Result T RecordError) → HasSchemas db → ((i : ℕ) → slice_index bytes i < 256) → Decodes (λ x. (new, behind x)) r (replay_item db after whole bytes) → OnErr r (new ≡ db) → HasSchemas new
+item_schemas keep db new after whole bytes behind (Ok x) has below gives left = keep db after whole bytes (new, behind x) has below gives
+item_schemas keep db new after whole bytes behind (Err e) has below gives left = subst HasSchemas (sym left) has
 
--- records leave one database at most
-abbrev pub OneFold : Type 0
-OneFold = (db : Database) (rs : List (List ℕ)) (a b : Database) → FoldsRecords db rs a → FoldsRecords db rs b → a ≡ b
+-- ---- changes one after another
 
-pub schemas_folded : ((db : Database) (rs : List (List ℕ)) (new : Database) → FoldsRecords db rs new → HasSchemas db → HasSchemas new) → (db : Database) (r : List ℕ) (new : Database) → HasSchemas db → FoldsRecord db r new → HasSchemas new
-schemas_folded keep db r new has f = keep db (r ∷ []) new (new, f, refl) has
+module _ (first : Database) (whole count : ℕ) (bytes : List ℕ) where
+  -- what is left is what all makes
+  pub items_more : (now next : Database) (i : ℕ) (rest behind : List ℕ) → i < count → replay_items now whole (count - i) rest ≡ replay_items first whole count bytes → replay_item now (3 * (count - (i + 1)) + 1) whole rest ≡ Ok (next, behind)
+      → replay_items next whole (count - (i + 1)) behind ≡ replay_items first whole count bytes
+  unfolding replay_items
+  items_more now next i rest behind below so_far one =
+      let k : count - i ≡ suc (count - (i + 1)) = omega arith in
+      let step : replay_items now whole (count - i) rest ≡ replay_items next whole (count - (i + 1)) behind = rw (k, one) refl in
+      sym step ∙ so_far
 
-pub records_left : OneFold → (db : Database) (r : List ℕ) (rs : List (List ℕ)) (mid new : Database) → FoldsRecord db r mid → FoldsRecords db (r ∷ rs) new → FoldsRecords mid rs new
-records_left one db r rs mid new a f =
-    let same : f.0 ≡ mid = one db (r ∷ []) f.0 mid (f.0, f.1, refl) (mid, a, refl) in
-    subst (λ (d : Database). FoldsRecords d rs new) same f.2
+  pub items_stop : (now : Database) (i : ℕ) (rest : List ℕ) (e : RecordError) → i < count → replay_items now whole (count - i) rest ≡ replay_items first whole count bytes → IsFault e (replay_item now (3 * (count - (i + 1)) + 1) whole rest) → IsFault e (replay_items first whole count bytes)
+  unfolding replay_items
+  items_stop now i rest record_error.OutOfMemory below so_far one = tt
+  items_stop now i rest (record_error.Bad bad) below so_far one =
+      let k : count - i ≡ suc (count - (i + 1)) = omega arith in
+      let step : replay_items now whole (count - i) rest ≡ Err bad = rw (k, one) refl in
+      sym so_far ∙ step
 
--- ---- what is refused
+  pub items_end : (now : Database) (i : ℕ) (rest : List ℕ) → count ≤ i → replay_items now whole (count - i) rest ≡ replay_items first whole count bytes → replay_items first whole count bytes ≡ Ok (now, rest)
+  unfolding replay_items
+  items_end now i rest done so_far =
+      let k : count - i ≡ 0 = omega arith in
+      let step : replay_items now whole (count - i) rest ≡ Ok (now, rest) = rw k refl in
+      sym so_far ∙ step
 
--- what was refused for one is refused for what needs it
-pub refuses_more : (P Q : Type 0) (e : RecordError) → (Q → P) → RefusesRecord P e → RefusesRecord Q e
-refuses_more P Q record_error.OutOfMemory so r = tt
-refuses_more P Q (record_error.Bad f) so r = (r.0, λ q. r.1 (so q))
+-- ---- a row
+
+-- what is bad in a payload is told at its place in the record
+pub payload_told : (base : ℕ) (Bad : ℕ → ℕ → ℕ → Type 0) (e : PayloadError) (read : Result ⊤ BadRecord) (long : ℕ) → RefusesPayload Bad e → ((place want got : ℕ) → Bad place want got → (read ≡ Err (unwanted (base + place) want got)) × (place < long)) → base + long < 2 ^ 64 → IsFault (of_payload base e) read
+payload_told base Bad payload.OutOfMemory read long refused tells low = tt
+payload_told base Bad (payload.Bad at want got) read long refused tells low =
+    let told = tells at want got refused.0 in
+    let capped : min (base + at) 18446744073709551615 ≡ base + at = omega (arith, told.1, low) in
+    told.0 ∙ ap (λ (n : ℕ). let r : Result ⊤ BadRecord = Err (unwanted n want got) in r) (sym capped)
+
+-- a row was read to its payload
+module _ (cs : List Column) (db : Database) (t : List ℕ) (after whole : ℕ) (bytes : List ℕ) (k : ℤ × List ℕ) (p : List ℕ × List ℕ) (key_is : decode_key (2 + after) whole bytes ≡ Ok k) (payload_is : read_wide (width (drop 1 cs)) after whole k.1 ≡ Ok p) where
+  pub row_fails : (e : RecordError) → IsFault e (check_texts (drop 1 cs) (whole - (length p.0 + length p.1)) p.0) → IsFault e (replay_row cs db t after whole bytes)
+  unfolding replay_row
+  row_fails record_error.OutOfMemory fails = tt
+  row_fails (record_error.Bad bad) fails = rw (key_is, payload_is, fails) refl
+
+  pub row_done : check_texts (drop 1 cs) (whole - (length p.0 + length p.1)) p.0 ≡ Ok tt → replay_row cs db t after whole bytes ≡ Ok (changed (change.Put t k.0 (row_told cs k.0 p.0)) db, p.1)
+  unfolding replay_row
+  row_done passes = rw (key_is, payload_is, passes) refl
+
+-- the row of a payload is the one that it tells
+pub row_is : (cs : List Column) (k : ℤ) (payload_ : List ℕ) (row : Row) → row.values ≡ row_values cs k payload_ → row ≡ row_told cs k payload_
+row_is cs k payload_ row is = ap (λ (vs : List Value). let r : Row = record { values = vs } in r) is
+
+key_of_bytes : (k : ℤ × List ℕ) (r : Result (List ℕ × List ℕ) BadRecord) → (r >>= λ b. Ok (cast_signed w64 (field 8 0 b.0), b.1)) ≡ Ok k → FitsSigned w64 k.0
+key_of_bytes k (Ok b) e =
+    let made : ℤ × List ℕ = (cast_signed w64 (field 8 0 b.0), b.1) in
+    let same : made ≡ k = cc e in
+    subst (λ (y : ℤ × List ℕ). FitsSigned w64 y.0) same (read_sfits w64 (field 8 0 b.0))
+key_of_bytes k (Err d) e = absurd cc
+
+-- a key that was read has 64 bits
+pub key_fits : (after whole : ℕ) (bytes : List ℕ) (k : ℤ × List ℕ) → decode_key after whole bytes ≡ Ok k → FitsSigned w64 k.0
+unfolding decode_key
+key_fits after whole bytes k e = key_of_bytes k (decode_bytes 8 after whole bytes) e

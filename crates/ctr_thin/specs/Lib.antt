@@ -1,2 +1,4 @@
 pub mod Opening
+pub mod Checks
 pub mod Thin
+pub mod Inside

@@ -1,9 +1,11 @@
 -- How errors below are told by opening.
-use Rattle.ctr_types.specs.declared.file.File.{File}
+use Rattle.std.specs.Prelude.{ℕ, min, ◌+◌}
 use Rattle.ctr_disk.specs.declared.fault.StoreFault.{StoreFault}
 use Rattle.ctr_disk.specs.declared.fault.StoreFault.TheVariants as store
 use Rattle.ctr_log.specs.declared.reading.ReadError.{ReadError}
 use Rattle.ctr_log.specs.declared.reading.ReadError.TheVariants as read
+use Rattle.ctr_log.specs.declared.visitor.VisitError.{VisitError}
+use Rattle.ctr_log.specs.declared.visitor.VisitError.TheVariants.{Read, Refused}
 use Rattle.ctr_value.specs.declared.payload.PayloadError.{PayloadError}
 use Rattle.ctr_value.specs.declared.payload.PayloadError.TheVariants as payload
 use Rattle.ctr_rec.specs.declared.decoding.RecordError.{RecordError}
@@ -21,12 +23,13 @@ abbrev pub of_read : ReadError → OpenError
 of_read (read.Store e) = of_store e
 of_read read.OutOfMemory = OutOfMemory
 
--- in a record of this file, whose place isn't known
-abbrev pub of_record : File → RecordError → OpenError
-of_record file record_error.OutOfMemory = OutOfMemory
-of_record file (record_error.Bad f) = Damaged file 0 f.want f.got
+-- the same; and what a record was refused for is handed on
+abbrev pub of_visit : VisitError OpenError → OpenError
+of_visit (Read e) = of_read e
+of_visit (Refused e) = e
 
--- a payload's, as one of its record
-abbrev pub of_payload : PayloadError → RecordError
-of_payload payload.OutOfMemory = record_error.OutOfMemory
-of_payload (payload.Bad at want got) = record_error.Bad (record { at = at; want = want; got = got })
+-- a payload's, at its place in the record that the payload stands in
+abbrev pub of_payload : ℕ → PayloadError → RecordError
+of_payload place payload.OutOfMemory = record_error.OutOfMemory
+of_payload place (payload.Bad at want got) =
+    record_error.Bad (record { at = min (place + at) 18446744073709551615; want = want; got = got })

@@ -1,9 +1,8 @@
 -- Which database an image stands for in the thin form: the records of the log that its root names,
 -- behind a Checkpoint that passes its checks, make it.
-use Rattle.std.specs.Prelude.{◌≡◌, ◌≢◌, ◌⊎◌, ◌==◌, if◌then◌else◌, ℕ, min, ◌+◌, ◌^◌, ◌<◌, ◌≤◌, IsTrue, List, [], ◌∷◌, length, Some, None, Result, Ok, Err, IfErr, ⊤}
+use Rattle.std.specs.Prelude.{◌≡◌, ◌≢◌, ◌⊎◌, ℕ, min, ◌+◌, ◌^◌, ◌<◌, ◌≤◌, IsTrue, List, [], ◌∷◌, ◌++◌, length, Option, Some, None, Result, Ok, Err, IfErr, ⊤}
 use Rattle.ctr_types.specs.declared.file.File.{File}
 use Rattle.ctr_types.specs.declared.file.File.TheVariants.{Root as RootFile}
-use Rattle.ctr_bytes.specs.Fields.{field}
 use Rattle.ctr_disk.specs.declared.disk.Image.{Image}
 use Rattle.ctr_disk.specs.declared.fault.Root.{Root}
 use Rattle.ctr_disk.specs.declared.disk.Disk.{Ghosts}
@@ -16,32 +15,25 @@ use Rattle.ctr_home.specs.Blocks.{value_place}
 use Rattle.ctr_home.specs.Checks.{judged}
 use Rattle.ctr_home.specs.Roots.{root_checks}
 use Rattle.ctr_log.specs.Homes.{BlockValue, root_value, SaysRoot}
-use Rattle.ctr_log.specs.LogChecks.{file_damage}
+use Rattle.ctr_log.specs.Damage.{IsDamageOf}
+use Rattle.ctr_log.specs.LogChecks.{file_damage, sound_visits}
+use Rattle.ctr_log.specs.Visits.{visit_bytes}
+use Rattle.ctr_log.specs.declared.visitor.Visit.{Visit}
 use Rattle.ctr_log.specs.Logs.{Batches, records, HasLog, GoesOn}
 use Rattle.ctr_log.specs.Reading.{log_file}
 use Rattle.ctr_records.specs.declared.decoding.BadRecord.{BadRecord as BadCheckpoint}
-use Rattle.ctr_records.specs.Damage.{wrong}
-use Rattle.ctr_records.specs.Checkpoint.{checkpoint_checks}
-use Rattle.ctr_model.specs.declared.database.Change.{Change}
-use Rattle.ctr_model.specs.Database.{Database, changed}
-use Rattle.ctr_rec.specs.declared.item.Item.{Item}
-use Rattle.ctr_rec.specs.declared.decoding.RecordError.{RecordError}
-use Rattle.ctr_rec.specs.declared.decoding.RecordError.TheVariants as record_error
-use Rattle.ctr_rec.specs.Fold.{Stands, Folds, FoldsRecord, FoldsRecords}
+pub use Rattle.ctr_thin.specs.Checks.{first_checks, next_xid}
+use Rattle.ctr_model.specs.Database.{Database}
+use Rattle.ctr_bytes.specs.Following.{◌>>=◌}
+use Rattle.ctr_rec.specs.declared.decoding.BadRecord.{BadRecord}
+use Rattle.ctr_rec.specs.Fold.{FoldsRecords}
+use Rattle.ctr_rec.specs.Replay.{replay_record}
+use Rattle.ctr_thin.specs.Opening.{of_store}
 use Rattle.ctr_thin.specs.declared.opening.Opened.{Opened}
 use Rattle.ctr_thin.specs.declared.opening.OpenError.{OpenError}
 use Rattle.ctr_thin.specs.declared.opening.OpenError.TheVariants.{NoDatabase, Damaged, Worn, Fault, OutOfMemory}
 
 -- ---- what an image stands for
-
--- what the first record of a log is checked for: it is a Checkpoint, and then those of a Checkpoint
-abbrev pub first_checks : List ℕ → Result ⊤ BadCheckpoint
-first_checks bytes =
-    if field 1 0 bytes == 1 then checkpoint_checks bytes else Err (wrong 0 1 (field 1 0 bytes))
-
--- the next transaction of a Checkpoint
-abbrev pub next_xid : List ℕ → ℕ
-next_xid bytes = field 8 1 bytes
 
 -- The root's value says a root whose checks hold, and the file that it names has a log of batches
 -- from its first LSN on. The first record is a Checkpoint that passes its checks, whatever it says,
@@ -78,32 +70,76 @@ IsWorn s number = IsWornNumber (next_lsn s.r s.bs) (next_xid s.head) number
 abbrev pub StandsBy : Image → Database → Root → Batches → Type 0
 StandsBy image db r bs = (s : StandsFor image db) × (s.r ≡ r) × (s.bs ≡ bs)
 
--- ---- what applying finds
+-- ---- what loading finds
 
--- what was to be applied can't be, and the numbers that tell it differ; or memory was refused
-abbrev pub RefusesRecord : Type 0 → RecordError → Type 0
-RefusesRecord P record_error.OutOfMemory = Unit {0}
-RefusesRecord P (record_error.Bad f) = (f.want ≢ f.got) × (P → ⊥)
+-- What was loaded of a log: the next transaction that its first record says, once that was read, and
+-- the database that the others make.
+pub record Loaded : Type 0 where
+  pub xid : Option ℕ
+  pub database : Database
 
--- the item stands for a change of the first database that leaves the second
-abbrev pub Applies : Database → Item → Database → Type 0
-Applies old item new = (c : Change) × Stands old item c × (new ≡ changed c old)
+-- nothing was read yet
+abbrev pub nothing_loaded : Loaded
+nothing_loaded = record { xid = None; database = [] }
 
--- some database is left
-abbrev pub CanApply : Database → Item → Type 0
-CanApply old item = (new : Database) × Applies old item new
+-- damage of a record that stands at a place of a file, as far as 64 bits tell the byte there
+abbrev pub told_in : {A : Type 0} → File → ℕ → ℕ → ℕ → ℕ → Result A StoreFault
+told_in file record_ at want got =
+    Err (store.Damaged file (min (record_ + at) 18446744073709551615) want got)
 
--- some database is left after the items
-abbrev pub CanApplyItems : Database → List Item → Type 0
-CanApplyItems old is = (new : Database) × Folds old is new
+-- by what its bytes fail
+abbrev pub first_told : File → ℕ → Result ⊤ BadCheckpoint → Result ⊤ StoreFault
+first_told file at (Ok _) = Ok tt
+first_told file at (Err bad) = told_in file at bad.at bad.want bad.got
 
--- the record can be replayed
-abbrev pub CanReplayRecord : Database → List ℕ → Type 0
-CanReplayRecord old bytes = (new : Database) × FoldsRecord old bytes new
+-- the same of a record of changes
+abbrev pub record_told : File → ℕ → Result Database BadRecord → Result Database StoreFault
+record_told file at (Ok db) = Ok db
+record_told file at (Err bad) = told_in file at bad.at bad.want bad.got
 
--- the records can be replayed
-abbrev pub CanReplay : Database → List (List ℕ) → Type 0
-CanReplay old rs = (new : Database) × FoldsRecords old rs new
+-- A record more, at a place of a file: the first is a Checkpoint that passes its checks; another is
+-- replayed.
+abbrev pub load_behind : Option ℕ → Database → File → ℕ → List ℕ → Result Loaded StoreFault
+load_behind None db file at bytes =
+    first_told file at (first_checks bytes) >>= λ _. Ok (record { xid = Some (next_xid bytes); database = db })
+load_behind (Some xid) db file at bytes =
+    record_told file at (replay_record db bytes) >>= λ new. Ok (record { xid = Some xid; database = new })
+
+-- the same behind what was loaded
+abbrev pub load_visit : Loaded → Visit → Result Loaded StoreFault
+load_visit s v = load_behind s.xid s.database v.file v.at v.bytes
+
+-- one record after another; or the first check of them that fails
+abbrev pub load_visits : Loaded → List Visit → Result Loaded StoreFault
+load_visits s [] = Ok s
+load_visits s (v ∷ vs) = load_visit s v >>= λ t. load_visits t vs
+
+-- The first check of a file of the log that fails, batch by batch: one of a batch comes behind those of
+-- the records of the batches before it.
+abbrev pub log_damage : File → ℕ → List ℕ → Result ⊤ StoreFault
+log_damage file first bytes =
+    load_visits nothing_loaded (sound_visits file first bytes) >>= λ _. file_damage file first bytes
+
+-- these records, the first of them a Checkpoint, were loaded
+abbrev pub MakeLoaded : List (List ℕ) → Loaded → Type 0
+MakeLoaded [] s = s ≡ nothing_loaded
+MakeLoaded (head ∷ rs) s =
+    (first_checks head ≡ Ok tt) × (s.xid ≡ Some (next_xid head)) × FoldsRecords [] rs s.database
+
+-- what has loaded these records, where they stand
+abbrev pub HasLoaded : Loaded → List Visit → Type 0
+HasLoaded s visits = (load_visits nothing_loaded visits ≡ Ok s) × MakeLoaded (visit_bytes visits) s
+
+-- why a record of a file isn't loaded: memory was refused, or this check of it fails
+abbrev pub FailsLoad : File → Result Loaded StoreFault → OpenError → Type 0
+FailsLoad file loaded e = (e ≡ OutOfMemory)
+    ⊎ ((d : StoreFault) × (loaded ≡ Err d) × (e ≡ of_store d) × IsDamageOf file d)
+
+-- memory was refused; or a record fails a check behind these, and then these aren't loaded with it
+abbrev pub RefusesLoad : List Visit → Visit → OpenError → Type 0
+RefusesLoad before v e = (e ≡ OutOfMemory)
+    ⊎ ((s : Loaded) × HasLoaded s before × FailsLoad v.file (load_visit s v) e
+    × ((t : Loaded) → MakeLoaded (visit_bytes (before ++ v ∷ [])) t → ⊥))
 
 -- ---- what opening finds
 
@@ -116,38 +152,6 @@ pub record MakesDatabase (all : List (List ℕ)) (db : Database) (xid : ℕ) : T
   pub checked : first_checks head ≡ Ok tt
   pub xid_is : xid ≡ next_xid head
   pub folds : FoldsRecords [] rs db
-
--- it makes some database
-abbrev pub MakesSomeDatabase : List (List ℕ) → Type 0
-MakesSomeDatabase all = (db : Database) × (xid : ℕ) × MakesDatabase all db xid
-
--- damage of the records behind the first, whose place isn't told; or memory was refused
-abbrev pub RefusesOthers : File → List (List ℕ) → OpenError → Type 0
-RefusesOthers file rs OutOfMemory = Unit {0}
-RefusesOthers file rs (Damaged f at want got) = (f ≡ file) × (at ≡ 0) × (want ≢ got)
-    × (CanReplay [] rs → ⊥)
-RefusesOthers file rs NoDatabase = ⊥
-RefusesOthers file rs (Worn number) = ⊥
-RefusesOthers file rs Fault = ⊥
-
--- Damage of the records of a file: there is none; or the first fails a check, told at its place,
--- which is byte 29; or one behind it can't be replayed, and its place isn't told.
-abbrev pub IsRecordsDamage : File → List (List ℕ) → StoreFault → Type 0
-IsRecordsDamage file [] e = e ≡ store.Damaged file 0 1 0
-IsRecordsDamage file (head ∷ rs) e =
-    ((bad : BadCheckpoint) × (first_checks head ≡ Err bad)
-    × (e ≡ store.Damaged file (min (29 + bad.at) 18446744073709551615) bad.want bad.got))
-    ⊎ ((first_checks head ≡ Ok tt) × (CanReplay [] rs → ⊥)
-    × (want : ℕ) × (got : ℕ) × (e ≡ store.Damaged file 0 want got))
-
--- damage of these records of a file, where they make no database; or memory was refused
-abbrev pub RefusesRecords : File → List (List ℕ) → OpenError → Type 0
-RefusesRecords file all OutOfMemory = Unit {0}
-RefusesRecords file all (Damaged f at want got) = (want ≢ got) × (MakesSomeDatabase all → ⊥)
-    × IsRecordsDamage file all (store.Damaged f at want got)
-RefusesRecords file all NoDatabase = ⊥
-RefusesRecords file all (Worn number) = ⊥
-RefusesRecords file all Fault = ⊥
 
 -- the database is the one that the image stands for, and the log's writer goes on behind the log
 -- with nothing to flush
@@ -162,6 +166,18 @@ pub record Opens (image : Image) (o : Opened) : Type 0 where
 abbrev pub StandsForNone : Image → Type 0
 StandsForNone image = (db : Database) → StandsFor image db → ⊥
 
+-- damage of the log of an image whose root is this, by the first check that fails, and then no log of
+-- it makes a database; or the disk failed, or memory was refused
+abbrev pub RefusesLogOf : Root → Image → OpenError → Type 0
+RefusesLogOf r image NoDatabase = ⊥
+RefusesLogOf r image (Damaged file at want got) =
+    let bytes = content (log_file r.file) image in
+    (want ≢ got) × (log_damage (log_file r.file) r.first bytes ≡ Err (store.Damaged file at want got))
+    × ((bs : Batches) (db : Database) (xid : ℕ) → HasLog r.first bs bytes → MakesDatabase (records bs) db xid → ⊥)
+RefusesLogOf r image (Worn number) = ⊥
+RefusesLogOf r image Fault = Unit {0}
+RefusesLogOf r image OutOfMemory = Unit {0}
+
 -- the image stands for a database whose numbers are worn, by this one; and for none that isn't
 pub record IsWornOut (image : Image) (number : ℕ) : Type 0 where
   pub database : Database
@@ -169,16 +185,13 @@ pub record IsWornOut (image : Image) (number : ℕ) : Type 0 where
   pub worn : IsWorn stands number
   pub none_low : (db : Database) (s : StandsFor image db) → IsLow s → ⊥
 
--- Damage of an image in the thin form, by the first check that fails: of the root; or of the log's
--- batches, in the file that it names; or of the records of a log without such damage.
+-- Damage of an image in the thin form, by the first check that fails: of the root; or of the file of the
+-- log that it names.
 abbrev pub IsThinDamage : Image → StoreFault → Type 0
 IsThinDamage image e = ((v : BlockValue) × (root_value image.root ≡ Some v)
     × (judged RootFile (root_checks Thin (value_place RootBlock image) v) ≡ Err e))
     ⊎ ((r : Root) × SaysRoot (root_value image.root) r
-    × (let bytes = content (log_file r.file) image in
-    let damage = file_damage (log_file r.file) r.first bytes in (damage ≡ Err e)
-    ⊎ ((damage ≡ Ok tt) × (bs : Batches) × HasLog r.first bs bytes
-    × IsRecordsDamage (log_file r.file) (records bs) e)))
+    × (log_damage (log_file r.file) r.first (content (log_file r.file) image) ≡ Err e))
 
 -- Why nothing was opened: there is no root, or the image stands for no database, or for one whose
 -- numbers are worn.

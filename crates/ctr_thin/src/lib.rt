@@ -2,6 +2,7 @@
 #![tactic(auto)]
 
 mod laws;
+mod loading;
 mod opening;
 mod replay;
 

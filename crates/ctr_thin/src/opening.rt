@@ -1,31 +1,27 @@
 // Opening a database: the root, the log that it names, and the database that its records make.
-ghost use Rattle.std.specs.Prelude.{◌≡◌, ◌≢◌, ◌≤◌, ◌<◌, ◌+◌, ◌^◌, min, IsTrue, ℕ, [], None, Ok, Err, IfOk, IfErr, OnOk, MatchResult};
+ghost use Rattle.std.specs.Prelude.{◌≡◌, ◌≢◌, ◌≤◌, ◌<◌, ◌^◌, IsTrue, ℕ, [], None, Ok, Err, IfOk, IfErr, OnOk, MatchResult};
 ghost use Rattle.ctr_disk.specs.Device.{OnlyReads, Counts, CountsAs, IsDurableFrom};
 ghost use Rattle.ctr_log.specs.Homes.{IsRoot};
-ghost use Rattle.ctr_log.specs.Reading.{log_file};
+ghost use Rattle.ctr_log.specs.Reading.{log_file, NamesLog, OpensLog};
 ghost use Rattle.ctr_model.specs.Database.{Database};
 ghost use Rattle.ctr_thin.specs.declared.opening.OpenError.TheVariants.{Damaged, Worn, Fault};
-ghost use Rattle.ctr_thin.specs.Opening.{of_record};
-ghost use Rattle.ctr_bytes.specs.Fields.{field};
-ghost use Rattle.ctr_rec.specs.Fold.{FoldsRecords};
-ghost use Rattle.ctr_thin.specs.Thin.{first_checks, next_xid, StandsFor, Opens, Explains, OpenDiffers, IsExplained, IsWornNumber, MakesDatabase, RefusesRecords, RefusesOthers};
+ghost use Rattle.ctr_disk.specs.Image.{content};
+ghost use Rattle.ctr_log.specs.Logs.{Batches, records, HasLog};
+ghost use Rattle.ctr_log.specs.Kept.{log_in};
+ghost use Rattle.ctr_thin.specs.Opening.{of_visit};
+ghost use Rattle.ctr_thin.specs.Thin.{StandsFor, Opens, Explains, OpenDiffers, IsExplained, IsWornNumber, MakesDatabase, RefusesLogOf};
 
-use crate::replay::replay;
-use ctr_bytes::{get_u8, get_u64};
+use crate::loading::Loading;
 use ctr_disk::{Disk, Failed, Root, StoreFault};
 use ctr_home::read_thin_root;
-use ctr_log::{LogFile, Lsn, ReadError, read_named};
-use ctr_rec::{RecordError, fold_is_one};
-use ctr_records::{BadRecord, decode};
+use ctr_log::{LogFile, Lsn, ReadError, VisitError, sound_visits_are_first, visit_named};
+use ctr_rec::{fold_is_one, replay_is_fold};
 use ctr_rows::Loader;
-use ctr_types::{File, OutOfMemory, Text, Xid};
+use ctr_types::{File, OutOfMemory, Xid};
 use std::alloc::Global;
 
 /// The first number that no record and no transaction of a database that can be opened has: 2^62.
 const NUMBERS_END: u64 = 1 << 62;
-
-/// Where the first record of a file stands: behind a gate, the head of a batch, and a length.
-const FIRST_RECORD: u64 = 29;
 
 /// A database that was opened: the writer of its log, and what its records make.
 #[derive(Drop)]
@@ -39,8 +35,8 @@ pub struct Opened {
 pub enum OpenError {
     /// No home of the root is open.
     NoDatabase,
-    /// The file in which a check failed, the byte at which it did, or 0 where that isn't known, what the
-    /// check wants and what is there. The last two differ.
+    /// The file in which the first check failed, the byte at which it did, what the check wants and what is there.
+    /// The last two differ.
     Damaged {
         file: File,
         at: u64,
@@ -155,85 +151,45 @@ fn no_checkpoint(file: File) -> OpenError
     }
 }
 
-// The first byte of a record; of none it is 0.
-fn first_byte(bytes: &[u8]) -> u8
-    ensures { result ≡ field 1 0 bytes.now }
-{
-    if bytes.is_empty() {
-        return 0;
-    }
-    get_u8(bytes, 0)
-}
-
-// The next transaction of the first record, which is a Checkpoint that passes its checks.
-fn check_first(bytes: &[u8]) -> Result<Xid, BadRecord>
-    ensures { MatchResult result (λ x. (first_checks bytes.now ≡ Ok tt) × (x ≡ next_xid bytes.now)) (λ bad. (bad.want ≢ bad.got) × (first_checks bytes.now ≡ Err bad)) }
-{
-    let tag = first_byte(bytes);
-    if tag == 1 {
-        decode(bytes)?;
-        return Ok(get_u64(bytes, 1));
-    }
-    Err(BadRecord {
-        at: 0,
-        want: 1,
-        got: tag as u128,
-    })
-}
-
-// What the first record of a file is refused for.
-fn bad_first(file: File, bad: BadRecord) -> OpenError
-    ensures { result ≡ Damaged file (min (29 + bad.at) 18446744073709551615) bad.want bad.got }
-{
-    OpenError::Damaged {
-        file,
-        at: FIRST_RECORD.saturating_add(bad.at),
-        want: bad.want,
-        got: bad.got,
-    }
-}
-
-// What a record of the log is refused for.
-fn bad_record(file: File, error: RecordError) -> OpenError
-    ensures { result ≡ of_record file error }
+// How reading ended early: what a record is refused for is handed on.
+fn read_told(error: VisitError<OpenError>) -> OpenError
+    ensures { result ≡ of_visit error }
 {
     match error {
-        RecordError::OutOfMemory => OpenError::OutOfMemory,
-        RecordError::Bad(bad) => OpenError::Damaged {
-            file,
-            at: 0,
-            want: bad.want,
-            got: bad.got,
-        },
+        VisitError::Read(error) => OpenError::from(error),
+        VisitError::Refused(error) => error,
     }
 }
 
-// The database that the records behind the first make.
-fn load_others(alloc: Global, file: File, others: &[Text]) -> Result<Loader, OpenError>
-    ensures found { IfOk result (FoldsRecords [] others.now) }
-    ensures refused { IfErr result (RefusesOthers file others.now) }
+// The log that the root names: its writer, the next transaction that its first record says, and the database that
+// the others make.
+fn read_log<D: Disk>(
+    alloc: Global,
+    disk: &mut D,
+    root: &Root,
+) -> Result<(LogFile, Xid, Loader), OpenError>
+    requires names { NamesLog root.now }
+    ensures found { IsTrue D.tells → IfOk result (λ r. MakesDatabase (log_in (content (log_file root.now.file) (D.reads disk.old))) r.2 r.1
+        × OpensLog root.now.first (log_file root.now.file) (D.reads disk.old) r.0 (log_in (content (log_file root.now.file) (D.reads disk.old)))) }
+    ensures only { (bs : Batches) → IsTrue D.tells → HasLog root.now.first bs (content (log_file root.now.file) (D.reads disk.old)) → IfOk result (λ _. log_in (content (log_file root.now.file) (D.reads disk.old)) ≡ records bs) }
+    ensures refused { IsTrue D.tells → IfErr result (RefusesLogOf root.now (D.reads disk.old)) }
+    ensures differs { IfErr result OpenDiffers }
+    ensures none { IfOk result (λ r. r.0.buffered ≡ []) }
+    ensures quiet { OnlyReads D.Disk disk.old disk.new }
+    ensures counts { CountsAs D.Disk Fault disk.old disk.new result }
 {
-    let mut database = Loader::new(alloc)?;
-    match replay(alloc, &mut database, others) {
-        Ok(()) => Ok(database),
-        Err(error) => Err(bad_record(file, error)),
-    }
-}
-
-// The database that a log's records make, and the next transaction that the first of them says.
-fn load(alloc: Global, file: File, records: &[Text]) -> Result<(Loader, Xid), OpenError>
-    ensures found { IfOk result (λ r. MakesDatabase records.now r.0 r.1) }
-    ensures refused { IfErr result (RefusesRecords file records.now) }
-{
-    let Some((first, others)) = records.split_first() else {
-        return Err(no_checkpoint(file));
+    replay_is_fold();
+    sound_visits_are_first();
+    let mut loading = Loading::new(alloc)?;
+    let log = match visit_named(alloc, disk, root, &mut loading) {
+        Ok(log) => log,
+        Err(error) => return Err(read_told(error)),
     };
-    let xid = match check_first(first.as_slice()) {
-        Ok(xid) => xid,
-        Err(bad) => return Err(bad_first(file, bad)),
+    let (xid, database) = loading.into_parts();
+    let Some(xid) = xid else {
+        return Err(no_checkpoint(named_file(root)));
     };
-    let database = load_others(alloc, file, others)?;
-    Ok((database, xid))
+    Ok((log, xid, database))
 }
 
 // Numbers are left for further records and transactions.
@@ -264,9 +220,7 @@ fn read_database<D: Disk>(alloc: Global, disk: &mut D) -> Result<Opened, OpenErr
         return Err(OpenError::NoDatabase);
     };
     check_root(&root)?;
-    let (log, records) = read_named(alloc, disk, &root)?;
-    let file = named_file(&root);
-    let (database, xid) = load(alloc, file, records.as_slice())?;
+    let (log, xid, database) = read_log(alloc, disk, &root)?;
     check_numbers(log.next(), xid)?;
     Ok(Opened { log, database })
 }
