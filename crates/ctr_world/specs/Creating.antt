@@ -9,9 +9,9 @@ use Rattle.ctr_world.specs.declared.creating.CreateError.{CreateError}
 use Rattle.ctr_world.specs.declared.creating.CreateError.TheVariants.{Exists, Fault}
 
 -- the disk that a making leaves
-abbrev pub disk_made : {D : Type 0} → Result D (CreateError × D) → D
-disk_made (Ok d) = d
-disk_made (Err e) = e.1
+abbrev pub disk_after_making : {D : Type 0} → Result D (CreateError × D) → D
+disk_after_making (Ok d) = d
+disk_after_making (Err e) = e.1
 
 -- no root home is open, or it stands for a database without tables
 abbrev pub IsUnmadeOrEmpty : Image → Type 0

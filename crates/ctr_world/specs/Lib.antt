@@ -1,4 +1,5 @@
 pub mod Crash
 pub mod Creating
+pub mod Surveying
 pub mod Turns
 pub mod World

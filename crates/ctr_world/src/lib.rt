@@ -8,9 +8,11 @@ mod creating;
 mod left;
 mod opening;
 mod parts;
+mod surveying;
 mod world;
 
 pub use creating::CreateError;
 pub use opening::Opening;
 pub use parts::Parts;
+pub use surveying::survey;
 pub use world::{Finished, World};

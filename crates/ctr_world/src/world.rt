@@ -1,20 +1,19 @@
 // The World: its type names what it was opened on, and keeps the tape legal and the disk's images in order.
-ghost use Rattle.std.specs.Prelude.{◌≡◌, ◌⊎◌, ◌↔◌, ◌≤◌, ℕ, List, [], ◌++◌, None, IsTrue, IsSome, true, false, length, slice_get, IfOk, IfErr};
-ghost use Rattle.std.specs.Option.{option_map};
+ghost use Rattle.std.specs.Prelude.{◌≡◌, ◌⊎◌, ◌≤◌, ℕ, List, [], ◌++◌, None, IsTrue, IsSome, true, false, IfOk, IfErr};
 ghost use Rattle.ctr_types.specs.declared.tape.Entry.{Entry as HeldEntry};
 ghost use Rattle.ctr_disk.specs.declared.disk.Image.{Image};
 ghost use Rattle.ctr_disk.specs.Device.{LeavesOnly, OnlyReads};
 ghost use Rattle.ctr_log.specs.Homes.{root_value};
 ghost use Rattle.ctr_model.specs.Database.{Database};
-ghost use Rattle.ctr_world.specs.Creating.{disk_made, IsUnmadeOrEmpty, CreateEnds, CreateCounts};
+ghost use Rattle.ctr_world.specs.Creating.{disk_after_making, IsUnmadeOrEmpty, CreateEnds, CreateCounts};
 ghost use Rattle.ctr_thin.specs.Thin.{StandsFor, Explains, OpenDiffers};
 ghost use Rattle.ctr_world.specs.declared.parts.Parts.{Parts};
-ghost use Rattle.ctr_world.specs.Turns.{NoneFull, EndsTurn, AreSessions, AreUnbegun, IsOver, HasStatementLeft, IsBetween};
+ghost use Rattle.ctr_world.specs.Turns.{NoneFull, EndsTurn, AreSessions, AreUnbegun, IsOver, HasStatementLeft};
 ghost use Rattle.ctr_world.specs.World.{IsOpenedOn, CanRun, CanOpen, Ends, StopsBy, RefusesWith};
 
 use crate::beginning::begin;
 use crate::creating::{CreateError, create};
-use crate::left::{first_left, is_between};
+use crate::left::first_left;
 use crate::opening::Opening;
 use crate::parts::Parts;
 use ctr_disk::{Disk, Stop};
@@ -60,11 +59,11 @@ impl<D: Disk, B: Opening> World<D, B> {
     /// Makes the empty database on a disk that has none. The disk comes back.
     pub fn create(disk: D) -> Result<D, (CreateError, D)>
         // From its first sync on a crash leaves no open root home, or a database without tables.
-        ensures any_moment { IsTrue D.tells → root_value (D.reads disk).root ≡ None → LeavesOnly D.Disk disk (disk_made result) (λ c. D.images disk c ⊎ IsUnmadeOrEmpty c) }
+        ensures any_moment { IsTrue D.tells → root_value (D.reads disk).root ≡ None → LeavesOnly D.Disk disk (disk_after_making result) (λ c. D.images disk c ⊎ IsUnmadeOrEmpty c) }
         ensures made { IsTrue D.tells → IfOk result (λ d. (c : Image) → D.since d (D.moment_of d) c → StandsFor c []) }
-        ensures untouched { IsTrue D.tells → IsSome (root_value (D.reads disk).root) → OnlyReads D.Disk disk (disk_made result) }
+        ensures untouched { IsTrue D.tells → IsSome (root_value (D.reads disk).root) → OnlyReads D.Disk disk (disk_after_making result) }
         ensures causes { CreateEnds D.Disk disk result }
-        ensures counts { CreateCounts D.Disk disk (disk_made result) }
+        ensures counts { CreateCounts D.Disk disk (disk_after_making result) }
     {
         create(disk)
     }
@@ -99,33 +98,6 @@ impl<D: Disk, B: Opening> World<D, B> {
             },
             of: PhantomData,
         })
-    }
-
-    /// How many lines the script has.
-    pub fn lines(&self) -> usize
-        ensures { result ≡ length self.now.steps.script.lines }
-    {
-        self.parts.steps.script.lines.len()
-    }
-
-    /// The session of a line of the script, by its index.
-    pub fn session_of(&self, line: usize) -> Option<u8>
-        ensures { result ≡ option_map (λ l. l.session) (slice_get self.now.steps.script.lines line) }
-    {
-        self.parts
-            .steps
-            .script
-            .lines
-            .as_slice()
-            .get(line)
-            .map(|l| l.session)
-    }
-
-    /// The session has begun no statement that it hasn't finished.
-    pub fn is_between(&self, session: u8) -> bool
-        ensures { IsTrue result ↔ IsBetween session self.now.steps }
-    {
-        is_between(&self.parts.steps, session)
     }
 
     /// Every session's statements are finished.
