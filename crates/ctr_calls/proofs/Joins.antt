@@ -31,7 +31,7 @@ front_widens j ws s c (k, folds) = (
 )
 
 -- a call that answers with this fault
-abbrev fails_with : (T : Type 0) → StoreFault → Result T StoreFault
+abbrev pub fails_with : (T : Type 0) → StoreFault → Result T StoreFault
 fails_with T e = Err e
 
 module _ {D : Type 0} (first : Image) (g : Ghosts D) where
@@ -89,7 +89,7 @@ module _ {D : Type 0} (g : Ghosts D) (a b c : View D) where
       let two = n.room in
       let few = m.few in
       let fewer = n.few in
-      record { next = n.next ∙ m.next; room = omega (arith, one, two); few = omega (arith, few, fewer); meta = n.meta ∙ m.meta }
+      record { next = n.next ∙ m.next; room = omega (arith, one, two); few = omega (arith, few, fewer); meta = n.meta ∙ m.meta; counted = n.counted ∙ m.counted }
 
   pub pages_join : (first : Image) (S T : Type 0) (x : S) (result : Result T StoreFault) → LeavesPage {T = S} first g a b (Ok x) → LeavesPage {T = T} first g b c result → LeavesPage {T = T} first g a c result
   pages_join first S T x result one two = record {

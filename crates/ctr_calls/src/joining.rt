@@ -1,9 +1,10 @@
 // A page that is read, and a call behind it.
-ghost use Rattle.std.specs.Prelude.{[], Ok, Result, List};
+ghost use Rattle.std.specs.Prelude.{◌≡◌, false, [], Ok, Err, Result, List, ℕ};
 ghost use Rattle.ctr_disk.specs.declared.disk.Image.{Image};
 ghost use Rattle.ctr_disk.specs.declared.fault.StoreFault.{StoreFault};
 ghost use Rattle.ctr_records.specs.declared.record.Record.{Record};
-ghost use Rattle.ctr_store.specs.Store.{View, LeavesFront, Logs, KeepsRoom, LeavesPage};
+ghost use Rattle.ctr_store.specs.Store.{View, LeavesFront, Logs, MayLog, KeepsRoom, LeavesPage};
+ghost use Rattle.ctr_calls.specs.OneRecord.{LogsOne, AnswersLog};
 
 use ctr_disk::Disk;
 
@@ -16,4 +17,17 @@ pub fn pages_read_join<D: Disk, S, T>()
     // Another page that is read, or isn't.
     ensures pages { (first : Image) (x : S) (a b c : View D) (result : Result T StoreFault)
         → LeavesPage first D.Disk a b (Ok x) → LeavesPage first D.Disk b c result → LeavesPage first D.Disk a c result }
+{}
+
+/// A record that is logged behind a page that was read: what may be logged before the reading may be logged behind it, and
+/// what both calls leave together is one record, or why there is none.
+pub fn a_record_behind_a_page<D: Disk, S, T>()
+    ensures may { (r : Record) (a b : View D) → KeepsRoom a b → b.stopped ≡ false → MayLog r a → MayLog r b }
+    ensures logged { (first : Image) (r : Record) (a b c : View D) (x : S) (y : T) (lsn : ℕ)
+        → LeavesPage first D.Disk a b (Ok x) → AnswersLog first D.Disk r b c (Ok lsn) → LogsOne first D.Disk r a c (Ok y) }
+    ensures refused { (first : Image) (r : Record) (a b c : View D) (x : S) (e : StoreFault) (result : Result T StoreFault)
+        → LeavesPage first D.Disk a b (Ok x) → AnswersLog first D.Disk r b c (Err e) → result ≡ Err e → LogsOne first D.Disk r a c result }
+    // Where the page wasn't read nothing is logged.
+    ensures unread { (first : Image) (r : Record) (a b : View D) (e : StoreFault) (page : Result S StoreFault) (result : Result T StoreFault)
+        → LeavesPage first D.Disk a b page → page ≡ Err e → result ≡ Err e → LogsOne first D.Disk r a b result }
 {}

@@ -80,7 +80,8 @@ impl Frames {
 
     /// The bytes of a page that a frame has.
     pub fn body(&self, page: PageNo) -> &[u8]
-        ensures { (f : Framed) → frame_of page self.now.frames ≡ Some f → result.now ≡ f.body }
+        ensures shown { (f : Framed) → frame_of page self.now.frames ≡ Some f → result.now ≡ f.body }
+        ensures whole { has_page page self.now.frames ≡ true → length result.now ≡ 4096 }
     {
         match find(&self.items, page) {
             Ok(at) => self.items[at].body.as_slice(),

@@ -228,7 +228,8 @@ impl Pool {
 
     /// The bytes of a page that a frame has.
     pub fn bytes(&self, page: PageNo) -> &[u8]
-        ensures { (f : Framed) → frame_of page self.now.frames ≡ Some f → result.now ≡ f.body }
+        ensures shown { (f : Framed) → frame_of page self.now.frames ≡ Some f → result.now ≡ f.body }
+        ensures whole { has_page page self.now.frames ≡ true → length result.now ≡ 4096 }
     {
         self.frames.body(page)
     }

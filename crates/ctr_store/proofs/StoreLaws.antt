@@ -5,6 +5,7 @@ use Rattle.std.proofs.lemmas.List.{append-nil, length-map}
 use Rattle.ctr_disk.specs.declared.disk.Disk.{Ghosts}
 use Rattle.ctr_types.specs.Faults.{HasFault}
 use Rattle.ctr_disk.specs.declared.disk.Image.{Image}
+use Rattle.ctr_disk.specs.declared.fault.Root.{Root}
 use Rattle.ctr_disk.specs.declared.fault.StoreFault.{StoreFault}
 use Rattle.ctr_disk.specs.declared.fault.StoreFault.TheVariants.{Fault}
 use Rattle.ctr_log.proofs.VisitLemmas.{ok_isnt}
@@ -51,6 +52,7 @@ module _ {D O : Type 0} (g : Ghosts D) where
         room = keeps.room;
         few = omega (arith, few, length-map s.base.log.buffered record_in, length-map t.base.log.buffered record_in);
         meta = meta;
+        counted = ap (λ (r : Root). r.pages) keeps.root;
       }
 
   -- a page that is lent, or a call for one that was refused

@@ -63,11 +63,13 @@ pub record AddsRecord {D O : Type 0} (g : Ghosts D) (r : Record) (s t : Parts D 
   pub root : t.base.root ≡ s.base.root
   pub now : state_of (now_of g t.base) ≡ step r (state_of (now_of g s.base))
 
--- the room that is left in the log's buffer and in the tables, and the number of the next record
+-- the room that is left in the log's buffer and in the tables, the number of the next record, and how
+-- many pages are counted
 abbrev pub LogsRoom : {D O : Type 0} → Record → Parts D O → Parts D O → Type 0
 LogsRoom r s t = (s.base.log.room ≤ t.base.log.room + (8 + length (record_bytes r)))
     × RoomLeft (opens_added r) (items_added r) s.meta t.meta
     × (t.base.log.first + length t.base.log.buffered ≡ s.base.log.first + length s.base.log.buffered + 1)
+    × (t.base.root.pages ≡ s.base.root.pages)
 
 -- The first of what waited is durable now, and a record more waits behind the rest.
 pub record LogsRecord {D O : Type 0} (g : Ghosts D) (r : Record) (a b : Base D O) : Type 0 where

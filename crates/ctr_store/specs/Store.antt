@@ -75,20 +75,23 @@ abbrev pub RefusesUnfit : {D T : Type 0} → Record → View D → View D → Re
 RefusesUnfit r a b result = (bad : BadRecord) → unmet_need r a ≡ Err bad
     → (result ≡ Err (record_damage a.file a.place bad)) × (b ≡ a)
 
--- A record has this number, the next one is one more, and this room is left.
+-- A record has this number, the next one is one more, this room is left, and as many pages are
+-- counted.
 pub record TakesRecord {D : Type 0} (r : Record) (lsn : ℕ) (a b : View D) : Type 0 where
   pub number : lsn ≡ a.next
   pub next : b.next ≡ a.next + 1
   pub room : a.room ≤ b.room + (8 + length (record_bytes r))
   pub left : RoomLeft (opens_added r) (items_added r) a.meta b.meta
+  pub counted : b.now.counted ≡ a.now.counted
 
--- However a call ends, the number of the next record is that of before, and room for records isn't
--- lost.
+-- However a call ends, the number of the next record is that of before, as many pages are counted,
+-- and room for records isn't lost.
 pub record KeepsRoom {D : Type 0} (a b : View D) : Type 0 where
   pub next : b.next ≡ a.next
   pub room : a.room ≤ b.room
   pub few : length b.waiting ≤ length a.waiting
   pub meta : b.meta ≡ a.meta
+  pub counted : b.now.counted ≡ a.now.counted
 
 -- What a call that lends a page leaves once the loan is over.
 pub record LeavesPage {D T : Type 0} (first : Image) (g : Ghosts D) (old new : View D)

@@ -96,8 +96,9 @@ impl<D: Disk, O: Origin> Parts<D, O> {
 
     /// The bytes of a page that a frame has.
     pub fn bytes(&self, page: PageNo) -> &[u8]
-        ensures { IsTrue D.tells → IsSoundImage O.first → IsFold O.first D.Disk self.now → has_page page self.now.pool.frames ≡ true → page < page_limit
+        ensures shown { IsTrue D.tells → IsSoundImage O.first → IsFold O.first D.Disk self.now → has_page page self.now.pool.frames ≡ true → page < page_limit
             → result.now ≡ page_at page (state_of (now_of D.Disk self.now.base)).pages }
+        ensures whole { has_page page self.now.pool.frames ≡ true → length result.now ≡ 4096 }
     {
         self.pool.bytes(page)
     }

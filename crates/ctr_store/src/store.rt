@@ -71,6 +71,7 @@ impl<D: Disk, O: Origin> Store<D, O> {
     pub fn page(&mut self, page: PageNo) -> Result<&[u8], StoreFault>
         requires { self.old.stopped ≡ false }
         ensures shown { IsTrue D.tells → IsSoundImage O.first → page < page_limit → IfOk result (λ b. b.now ≡ page_at page self.old.now.pages) }
+        ensures whole { IfOk result (λ b. length b.now ≡ 4096) }
         ensures* after { sem 𝓛 (Rests (store-row D.row O.row D.Disk O.Origin) self.entry (λ new. LeavesPage O.first D.Disk self.old new result)) }
     {
         match self.parts.bring(page) {
