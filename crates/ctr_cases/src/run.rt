@@ -46,6 +46,19 @@ pub fn disk_of(alloc: Global, setup: &Setup) -> Result<MemDisk, AllocError> {
     Ok(disk.counted(setup.faults, setup.strays))
 }
 
+// The command whose last line was to be printed.
+fn command_of(setup: &Setup, ended: &Ended<MemDisk>) -> Command {
+    if setup.is_command("init") {
+        return Command::Init;
+    }
+    if setup.is_command("report") {
+        return Command::Survey {
+            start: ended.survey,
+        };
+    }
+    Command::Run
+}
+
 // What a run's end shows.
 fn seen_of(
     alloc: Global,
@@ -53,14 +66,9 @@ fn seen_of(
     ended: &Ended<MemDisk>,
     ask: Ask,
 ) -> Result<Seen, AllocError> {
-    let command = if setup.is_command("init") {
-        Command::Init
-    } else {
-        Command::Run
-    };
     let printing = printing_of(
         alloc,
-        &command,
+        &command_of(setup, ended),
         ended.ending.status(),
         &ended.ending.cause(),
         &ended.tape,

@@ -1,6 +1,9 @@
 mod WordLemmas
 mod RunLemmas
+mod NothingDone
+mod ReportLemmas
 mod ScriptLemmas
 mod CompleteLemmas
+mod EndLemmas
 mod SerialLemmas
 mod SerialTurns

@@ -1,14 +1,14 @@
 -- Turns of a serial run: those of a line's session, and those between two lines.
-use Rattle.std.proofs.Common.{◌≡◌, ◌≢◌, ◌∙◌, ◌⊎◌, inl, inr, ⊎_elim, ℕ, zero, suc, ◌+◌, ◌-◌, ◌<◌, ◌≤◌, ◌==◌, Bool, true, false, cond, List, [], ◌∷◌, ◌++◌, length, Option, Some, None, refl, sym, ap, subst, arith, append_assoc}
+use Rattle.std.proofs.Common.{◌≡◌, ◌≢◌, ◌∙◌, ◌⊎◌, inl, inr, ⊎_elim, ℕ, zero, suc, ◌+◌, ◌-◌, ◌<◌, ◌≤◌, ◌==◌, Bool, true, false, cond, List, [], ◌∷◌, ◌++◌, length, map, Option, Some, None, refl, sym, ap, subst, arith, append_assoc}
 use Rattle.std.specs.Prelude.{take, slice_get, get_or, is_some, unwrap_or}
 use Rattle.std.specs.Option.{option_map}
 use Rattle.std.specs.List.{AllByRecursion}
-use Rattle.std.proofs.lemmas.List.{append-nil, length-append}
+use Rattle.std.proofs.lemmas.List.{append-nil, length-append, length-map, map-append, take_more}
+use Rattle.std.proofs.lemmas.Option.{slice_get-get_or, slice_get-map}
 use Rattle.std.proofs.Math.Seq.{take-length}
 use Rattle.std.proofs.lemmas.Bool.{false≢true, eqb-true, eq-eqb, cases_lt}
 use Rattle.ctr_types.specs.declared.statement.Line.{Line}
 use Rattle.ctr_types.specs.declared.statement.Script.{Script}
-use Rattle.ctr_types.specs.declared.tape.Act.{Act}
 use Rattle.ctr_types.specs.declared.tape.Act.TheVariants as act
 use Rattle.ctr_types.specs.declared.tape.Actor.{Actor}
 use Rattle.ctr_types.specs.declared.tape.Actor.TheVariants as actor
@@ -16,16 +16,16 @@ use Rattle.ctr_types.specs.declared.tape.Entry.{Entry}
 use Rattle.ctr_types.specs.declared.tape.Turn.{Turn}
 use Rattle.ctr_types.specs.declared.tape.Turn.TheVariants as turn
 use Rattle.ctr_disk.specs.declared.disk.Disk.{Ghosts}
-use Rattle.ctr_model.specs.Tape.{statements_of, statements_on, numbered, is_release, IsSerial}
+use Rattle.ctr_model.specs.Tape.{statements_on, numbered, IsSerial}
 use Rattle.ctr_steps.specs.declared.runners.Runner.{Runner}
 use Rattle.ctr_steps.specs.declared.runners.Stage.{Stage}
 use Rattle.ctr_steps.specs.declared.runners.Stage.TheVariants as stage
 use Rattle.ctr_steps.specs.declared.steps.Steps.{Steps}
 use Rattle.ctr_steps.specs.Acting.{has_more}
 use Rattle.ctr_steps.specs.Runners.{runner_at, vacant, made_at, is_begun, after_stage, finished_with, session_places}
-use Rattle.ctr_steps.specs.Steps.{IsEntryOf, AddsEntry}
+use Rattle.ctr_steps.specs.Steps.{AddsEntry}
 use Rattle.ctr_world.specs.declared.parts.Parts.{Parts}
-use Rattle.ctr_world.specs.Turns.{AreSessions, AreUnbegun, HasStatementLeft, IsAsking, IsOver, IsAnswerTo, AddsEntries, AnswersAll, Moves, EndsTurn}
+use Rattle.ctr_world.specs.Turns.{AreSessions, AreUnbegun, HasStatementLeft, IsAsking, IsOver, IsAnswerTo, AnswersAll, EndsTurn}
 use Rattle.ctr_top.specs.Serial.{HasFinished, count_in, RanLines, RanOrStopped, IsEntryOfLine, InLine}
 use Rattle.ctr_top.proofs.SerialLemmas.{count_of, count_cons, one_of, serial_front, line_more, count_mine, count_other, count_front}
 
@@ -364,17 +364,26 @@ over_at_end lines w (inl going) =
 
 -- ---- from line to line
 
--- the lines that a World has, whether it goes on or was stopped
-pub script_of : {D : Type 0} (lines : List Line) (k : ℕ) (w : Parts D) → RanOrStopped lines k w → w.steps.script.lines ≡ lines
-script_of lines k w ran = ⊎_elim (λ going. going.1.script) (λ stopped. stopped.2) ran
-
 -- the line of a session that was found at a place
-pub line_found : (lines found : List Line) (k session : ℕ) → found ≡ lines → Some session ≡ option_map (λ (l : Line). l.session) (slice_get found k) → (l : Line) × (slice_get lines k ≡ Some l) × (l.session ≡ session)
-line_found lines found k session same is = subst (λ ls. (l : Line) × (slice_get ls k ≡ Some l) × (l.session ≡ session)) same (by (slice_get found k) refl is)
-  where
-    by : (o : Option Line) → slice_get found k ≡ o → Some session ≡ option_map (λ (l : Line). l.session) o → (l : Line) × (slice_get found k ≡ Some l) × (l.session ≡ session)
-    by None there is = absurd (false≢true (sym (ap is_some is)))
-    by (Some l) there is = (l, there, ap (λ o. unwrap_or o session) (sym is))
+line_found : (lines : List Line) (k session : ℕ) (o : Option Line) → slice_get lines k ≡ o → Some session ≡ option_map (λ (l : Line). l.session) o → (l : Line) × (slice_get lines k ≡ Some l) × (l.session ≡ session)
+line_found lines k session None there is = absurd (false≢true (sym (ap is_some is)))
+line_found lines k session (Some l) there is = (l, there, ap (λ o. unwrap_or o session) (sym is))
+
+-- the line of a session, by its place among all lines' sessions
+pub line_there : (lines : List Line) (sessions : List ℕ) (k : ℕ) → sessions ≡ map (λ (l : Line). l.session) lines → k < length sessions → (l : Line) × (slice_get lines k ≡ Some l) × (l.session ≡ get_or sessions k 0)
+line_there lines sessions k same below =
+    line_found lines k (get_or sessions k 0) (slice_get lines k) refl (sym (slice_get-get_or sessions k 0 below) ∙ ap (λ ss. slice_get ss k) same ∙ slice_get-map (λ (l : Line). l.session) lines k)
+
+-- the sessions of one line more
+pub session_next : (lines : List Line) (k : ℕ) (l : Line) (before sessions : List ℕ) → before ≡ map (λ (x : Line). x.session) (take k lines) → sessions ≡ before ++ l.session ∷ [] → l ≡ get_or lines k l → k < length lines
+    → sessions ≡ map (λ (x : Line). x.session) (take (k + 1) lines)
+session_next lines k l before sessions was is at below =
+    is ∙ ap (λ ss. ss ++ l.session ∷ []) was ∙ ap (λ (x : Line). map (λ (y : Line). y.session) (take k lines) ++ x.session ∷ []) at ∙ sym (map-append (λ (x : Line). x.session) (take k lines) (get_or lines k l ∷ []))
+    ∙ sym (ap (map (λ (x : Line). x.session)) (take_more lines k l below))
+
+-- there are as many sessions as lines
+pub as_many : (lines : List Line) (sessions : List ℕ) → sessions ≡ map (λ (l : Line). l.session) lines → length sessions ≡ length lines
+as_many lines sessions same = ap length same ∙ length-map lines (λ (l : Line). l.session)
 
 -- each line of a list that has a property has it
 pub line_has : (P : Line → Type 0) (lines : List Line) (k : ℕ) (l : Line) → AllByRecursion P lines → slice_get lines k ≡ Some l → P l
@@ -382,12 +391,3 @@ line_has P [] zero l all is = absurd (false≢true (ap is_some is))
 line_has P [] (suc k) l all is = absurd (false≢true (ap is_some is))
 line_has P (x ∷ xs) zero l all is = subst P (ap (λ o. unwrap_or o x) is) all.0
 line_has P (x ∷ xs) (suc k) l all is = line_has P xs k l all.1 is
-
--- where none is found, no line is at the place
-pub none_found : (lines found : List Line) (k : ℕ) → found ≡ lines → None ≡ option_map (λ (l : Line). l.session) (slice_get found k) → length lines ≤ k
-none_found lines found k same is = subst (λ (ls : List Line). length ls ≤ k) same (by found k is)
-  where
-    by : (ls : List Line) (k : ℕ) → None ≡ option_map (λ (l : Line). l.session) (slice_get ls k) → length ls ≤ k
-    by [] k is = omega arith
-    by (x ∷ xs) zero is = absurd (false≢true (ap is_some is))
-    by (x ∷ xs) (suc k) is = let rest = by xs k is in omega (arith, rest)

@@ -1,16 +1,44 @@
--- Two words.
-use Rattle.std.proofs.Common.{◌≡◌, ℕ, List, [], ◌∷◌, length, map, get_or, sym, ◌∙◌, ap, arith, Global}
-use Rattle.std.specs.Prelude.{String}
-use Rattle.std.specs.String.{string_bytes}
-use Rattle.ctr_top.specs.Words.{IsFolder}
+-- What a command line asks for.
+use Rattle.std.proofs.Common.{◌≡◌, ◌∙◌, inl, inr, List, [], ◌∷◌, Bool, true, Option, Some, None, refl, sym, ap, ap₂}
+use Rattle.std.specs.Prelude.{if◌then◌else◌, option_map, option_and_then}
+use Rattle.clap.specs.Words.{Text, Kinds, IsAmong, fault_of, subcommand_of, subcommand_rows_of}
+use Rattle.clap.specs.Matches.{subcommand_name_of}
+use Rattle.clap.specs.declared.error.kind.ErrorKind.{ErrorKind}
+use Rattle.clap.specs.declared.parser.matches.ArgMatches.{ArgMatches}
+use Rattle.ctr_top.specs.declared.ending.Ending.{Ending}
+use Rattle.ctr_top.specs.declared.ending.Ending.TheVariants as ending
+use Rattle.ctr_top.specs.declared.words.Subcommand.{Subcommand}
+use Rattle.ctr_top.specs.Words.{command_asked, has_folder, command_named, simple_command, unless_fault, AsksNothing}
 
-two : {X : Type 0} (l : List X) (x y : X) → length l ≡ 2 → x ≡ get_or l 0 x → y ≡ get_or l 1 y → l ≡ x ∷ y ∷ []
-two [] x y long first second = absurd (omega (arith, long))
-two (a ∷ []) x y long first second = absurd (omega (arith, long))
-two (a ∷ b ∷ []) x y long first second = λ i. sym first i ∷ sym second i ∷ []
-two (a ∷ b ∷ c ∷ l) x y long first second = absurd (omega (arith, long))
+firsts : {X Y Z : Type 0} (f : X → Y × Z) (o : Option X) → option_map (λ p. p.0) (option_map f o) ≡ option_map (λ x. (f x).0) o
+firsts f None = refl
+firsts f (Some x) = refl
 
-pub command_of : (words : List (String Global)) (word folder : String Global) (name : List ℕ) → length words ≡ 2 → word ≡ get_or words 0 word → folder ≡ get_or words 1 folder → string_bytes word ≡ name → IsFolder (string_bytes folder)
-    → (d : List ℕ) × (map string_bytes words ≡ name ∷ d ∷ []) × IsFolder d
-command_of words word folder name long first second is not =
-    (string_bytes folder, ap (map string_bytes) (two words word folder long first second) ∙ ap (λ (n : List ℕ). n ∷ string_bytes folder ∷ []) is, not)
+name_of : (m : ArgMatches) → option_map (λ p. p.0) (subcommand_rows_of m) ≡ subcommand_name_of m
+name_of m = firsts _ _
+
+abbrev name_in : List Text → Option Text
+name_in words = option_map (λ p. p.0) (subcommand_of simple_command words)
+
+abbrev wanted : Option Text → Bool → Kinds → Option Subcommand
+wanted name folder kinds = if folder then unless_fault kinds name else None
+
+wanted_none : (name : Option Text) (kind : ErrorKind) (kinds : Kinds) → IsAmong kind kinds → None ≡ wanted name true kinds
+wanted_none name kind [] among = absurd among
+wanted_none name kind (k ∷ kinds) among = refl
+
+-- what is taken is the command of its subcommand's name
+pub taken : (words : List Text) (m : ArgMatches) → has_folder words ≡ true → fault_of simple_command words ≡ [] → subcommand_rows_of m ≡ subcommand_of simple_command words
+    → option_and_then command_named (subcommand_name_of m) ≡ command_asked words
+taken words m folder fine rows =
+    ap (option_and_then command_named) (sym (name_of m) ∙ ap (option_map (λ p. p.0)) rows) ∙ sym (ap₂ (wanted (name_in words)) folder fine)
+
+-- what is refused by one of the kinds is none
+pub refused : (words : List Text) (kind : ErrorKind) → has_folder words ≡ true → IsAmong kind (fault_of simple_command words) → None ≡ command_asked words
+refused words kind folder among =
+    wanted_none (name_in words) kind (fault_of simple_command words) among ∙ sym (ap (λ b. wanted (name_in words) b (fault_of simple_command words)) folder)
+
+-- a command that isn't begun was refused memory
+pub memory_only : (asked : Option Subcommand) (why : Ending) → AsksNothing asked why → (s : Subcommand) → asked ≡ Some s → why ≡ ending.OutOfMemory
+memory_only asked why (inl none) s is = absurd (cc (none.1, is))
+memory_only asked why (inr memory) s is = memory

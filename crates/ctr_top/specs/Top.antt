@@ -1,5 +1,5 @@
 -- What a command promises: what a crash leaves, the tape, the text, and the cause of each ending.
-use Rattle.std.specs.Prelude.{◌≡◌, ◌≢◌, ◌⊎◌, ◌≤◌, ◌<◌, ℕ, ◌+◌, ◌^◌, pos, Bool, true, false, IsTrue, IsSome, List, [], ◌++◌, length, None}
+use Rattle.std.specs.Prelude.{◌≡◌, ◌≢◌, ◌⊎◌, ◌≤◌, ◌<◌, ℕ, ◌+◌, ◌^◌, pos, Bool, true, false, IsTrue, IsSome, List, [], ◌++◌, length, Option, None, Some}
 use Rattle.ctr_types.specs.declared.statement.Line.{Line}
 use Rattle.ctr_types.specs.declared.tape.Entry.{Entry}
 use Rattle.ctr_disk.specs.declared.disk.Image.{Image}
@@ -21,12 +21,15 @@ use Rattle.ctr_log.specs.Homes.{root_value}
 use Rattle.ctr_script.specs.Written.{IsShortRefusal}
 use Rattle.ctr_thin.specs.Thin.{StandsFor, StandsForNone, IsWornOut}
 use Rattle.ctr_world.specs.Crash.{reached, HasCommits, IsPrefixAt, Survives, OnlyLogChanges, StraysOnlyLong}
+use Rattle.ctr_world.specs.Surveying.{survey_of}
 use Rattle.ctr_world.specs.Turns.{NoneFull}
 use Rattle.ctr_world.specs.World.{CanOpen}
 use Rattle.ctr_top.specs.declared.outcome.Outcome.{Outcome}
 use Rattle.ctr_top.specs.declared.run.Ended.{Ended}
 use Rattle.ctr_top.specs.declared.ending.Ending.{Ending}
 use Rattle.ctr_top.specs.declared.ending.Ending.TheVariants as ending
+use Rattle.ctr_top.specs.declared.words.Subcommand.{Subcommand}
+use Rattle.ctr_top.specs.declared.words.Subcommand.TheVariants as subcommand
 use Rattle.ctr_top.specs.Endings.{status_of, cause_of, work}
 
 -- ---- the work, and what it leaves
@@ -214,7 +217,7 @@ MakeWhy g old new (ending.Damaged file at want got) = ⊥
 MakeWhy g old new ending.DiskFault = CountsFault (g.faults_of old) (g.faults_of new)
 MakeWhy g old new ending.ReadFault = ⊥
 MakeWhy g old new ending.WriteFault = ⊥
-MakeWhy g old new ending.OutOfMemory = ⊥
+MakeWhy g old new ending.OutOfMemory = Unit {0}
 MakeWhy g old new ending.Exists = IsTrue g.tells → root_value (g.reads old).root ≢ None
 MakeWhy g old new (ending.Worn number) = ⊥
 
@@ -233,6 +236,37 @@ pub record Makes {D : Type 0} (g : Ghosts D) (old : D) (o : Outcome D) : Type 0 
   pub causes : MakeCauses g old o
   pub tape : o.tape.entries ≡ []
   pub stray : g.strays_of o.disk ≡ g.strays_of old
+
+-- ---- report
+
+-- A report has no entries, and leaves the disk as it was, at each moment and however it ends. Its
+-- endings are those of a run whose script was read; where nothing fails it is finished, or memory was
+-- refused.
+pub record ReportLeaves {D : Type 0} (g : Ghosts D) (old : D) (o : Outcome D) : Type 0 where
+  pub tape : o.tape.entries ≡ []
+  pub left : OnlyReads g old o.disk
+  pub stray : g.strays_of o.disk ≡ g.strays_of old
+  pub causes : LinesCauses g old o
+  pub complete : IsTrue g.tells → CanOpen (g.reads old)
+      → (CountsFault (g.faults_of old) (g.faults_of o.disk) → ⊥)
+      → (o.ending ≡ ending.Finished) ⊎ (o.ending ≡ ending.OutOfMemory)
+
+-- what it tells are the counts of the database that the disk held at the start
+pub record Reports {D : Type 0} (g : Ghosts D) (old : D) (e : Ended D) : Type 0 where
+  pub leaves : ReportLeaves g old (work_of e)
+  pub counts : (base : Database) → IsTrue g.tells → StandsFor (g.reads old) base
+      → work e.ending ≡ ending.Finished → e.survey ≡ survey_of base
+
+-- ---- the words
+
+-- Usage comes exactly for words that ask for no command, unless memory is refused. Nothing else is
+-- touched then, and the source only by a run.
+pub record MindsWords {D S : Type 0} (s : Source S) (asked : Option Subcommand) (old : D)
+    (e : Ended D) (source source_new : S) : Type 0 where
+  pub usage : e.ending ≡ ending.Usage → asked ≡ None
+  pub none : asked ≡ None → (e.ending ≡ ending.Usage) ⊎ (e.ending ≡ ending.OutOfMemory)
+  pub untouched : asked ≡ None → (e.disk ≡ old) × (e.tape.entries ≡ [])
+  pub only_run_reads : (asked ≡ Some subcommand.Run → ⊥) → source_new ≡ source
 
 -- ---- the text
 

@@ -4,6 +4,7 @@
 mod ending;
 mod making;
 mod outcome;
+mod report;
 mod run;
 mod script;
 mod words;

@@ -1,9 +1,7 @@
 // The commands from words to a last line.
-ghost use Rattle.std.specs.Prelude.{◌≡◌, ◌≢◌, true, false, ◌⊎◌, ◌↔◌, ◌++◌, IsTrue, ℕ, Bool, [], List, map};
+ghost use Rattle.std.specs.Prelude.{◌≡◌, ◌≢◌, true, false, ◌⊎◌, ◌++◌, IsTrue, [], List, Some, map};
 ghost use Rattle.std.specs.String.{string_bytes};
 ghost use Rattle.ctr_types.specs.declared.statement.Line.{Line};
-ghost use Rattle.ctr_model.specs.declared.tape.Command.{Command};
-ghost use Rattle.ctr_model.specs.declared.tape.Command.TheVariants.{Init, Run};
 ghost use Rattle.ctr_model.specs.Database.{Database};
 ghost use Rattle.ctr_model.specs.Language.{SpellsLine};
 ghost use Rattle.ctr_model.specs.Lines.{IsWritten};
@@ -12,19 +10,20 @@ ghost use Rattle.ctr_model.specs.Texts.{transcript, last_line};
 ghost use Rattle.ctr_script.specs.Written.{IsShortText};
 ghost use Rattle.ctr_thin.specs.Thin.{StandsFor};
 ghost use Rattle.ctr_world.specs.World.{CanOpen};
-ghost use Rattle.ctr_top.specs.declared.ending.Ending.TheVariants.{Finished, Usage, WriteFault, OutOfMemory};
+ghost use Rattle.ctr_top.specs.declared.ending.Ending.TheVariants.{Finished, WriteFault, OutOfMemory};
 ghost use Rattle.ctr_top.specs.Endings.{status_of, cause_of, work};
-ghost use Rattle.ctr_top.specs.Words.{IsCommand};
-ghost use Rattle.ctr_top.specs.Top.{RanScript, RunCauses, RunLeaves, Makes, GoesForward, PutsText, NoneFailed, IsReported, printed_text, work_of, report_of, faults_of};
+ghost use Rattle.ctr_top.specs.Words.{command_asked, command_told};
+ghost use Rattle.ctr_top.specs.Top.{RanScript, RunCauses, RunLeaves, Makes, GoesForward, MindsWords, PutsText, NoneFailed, IsReported, Reports, printed_text, work_of, report_of, faults_of};
 
 use crate::ending::Ending;
 use crate::making::make;
 use crate::outcome::Outcome;
+use crate::report::{UNCOUNTED, report};
 use crate::script::{Schedule, run_script};
-use crate::words::command;
+use crate::words::{Subcommand, command};
 use ctr_disk::Disk;
 use ctr_io::{Sink, Source};
-use ctr_model::{Command, Report};
+use ctr_model::{Command, Report, Survey};
 use ctr_print::{count_answers, count_refusals, put_run};
 use ctr_script::one_script;
 use ctr_types::Tape;
@@ -36,6 +35,8 @@ pub struct Ended<D> {
     pub ending: Ending,
     pub tape: Tape,
     pub report: Report,
+    /// What a report that is finished has counted.
+    pub survey: Survey,
     pub disk: D,
 }
 
@@ -58,6 +59,7 @@ fn ending<D, K: Sink>(sink: &mut K, command: &Command, outcome: Outcome<D>) -> E
     ensures printed { PutsText K.Sink sink.old (transcript outcome.tape.entries ++ last_line command.now (status_of outcome.ending) (cause_of outcome.ending) outcome.tape.entries (report_of outcome.tape.entries)) sink.new result.ending }
     ensures outcome { work_of result ≡ outcome }
     ensures report { result.report ≡ report_of outcome.tape.entries }
+    ensures survey { (counts : Survey) → command.now ≡ Command.Survey counts → result.survey ≡ counts }
 {
     let report = Report {
         commits: count_answers(&outcome.tape),
@@ -70,18 +72,24 @@ fn ending<D, K: Sink>(sink: &mut K, command: &Command, outcome: Outcome<D>) -> E
     let status = ending.status();
     let cause = ending.cause();
     let fine = put_run(sink, command, status, &cause, &tape, &report);
+    let survey = match command {
+        Command::Survey { start } => *start,
+        Command::Init | Command::Run | Command::Load { .. } => UNCOUNTED,
+    };
     Ended {
         ending: after_put(ending, fine),
         tape,
         report,
+        survey,
         disk,
     }
 }
 
 /// Runs a command: the words behind the program's name, over a disk, from a source to a sink.
 ///
-/// `init DIR` makes the empty database; `run DIR` runs the script of the source. DIR doesn't begin with
-/// `-`, and the disk is that of the folder. How it ends, and by which status, is an `Ending`.
+/// `init DIR` makes the empty database; `run DIR` runs the script of the source; `report DIR` counts what
+/// the database holds. DIR doesn't begin with `-`, and the disk is that of the folder. How it ends, and by
+/// which status, is an `Ending`.
 pub fn run_serial<D: Disk, S: Source, K: Sink>(
     alloc: Global,
     words: &[String],
@@ -90,42 +98,49 @@ pub fn run_serial<D: Disk, S: Source, K: Sink>(
     sink: &mut K,
 ) -> Ended<D>
     // The text of the tape and the ending was put, or a prefix of it where the sink failed.
-    ensures printed { (command : Command) → (IsCommand (map string_bytes words.now) command) ⊎ (result.ending ≡ Usage)
-        → PutsText K.Sink sink.old (printed_text command result) sink.new result.ending }
+    ensures printed { PutsText K.Sink sink.old (printed_text (command_told (command_asked (map string_bytes words.now)) result.survey) result) sink.new result.ending }
     ensures tape { IsReported result.tape.entries result.report }
-    // Usage comes exactly for words that are no command, and nothing else is touched then.
-    ensures usage { ((result.ending ≡ Usage) ↔ ((command : Command) → IsCommand (map string_bytes words.now) command → ⊥))
-        × (result.ending ≡ Usage → (result.disk ≡ disk) × (result.tape.entries ≡ [])) }
-    ensures only_run_reads { (IsCommand (map string_bytes words.now) Run → ⊥) → source.new ≡ source.old }
+    // Usage comes exactly for words that are no command, unless memory is refused.
+    ensures usage { MindsWords S.Source (command_asked (map string_bytes words.now)) disk result source.old source.new }
     // A run's tape is legal over the database that the disk holds, and a crash at any moment from the
     // call's start to its end leaves a prefix of the commit order with every commit answered by then.
-    ensures ran { IsCommand (map string_bytes words.now) Run → (base : Database) → IsTrue D.tells → StandsFor (D.reads disk) base
+    ensures ran { command_asked (map string_bytes words.now) ≡ Some Subcommand.Run → (base : Database) → IsTrue D.tells → StandsFor (D.reads disk) base
         → RanScript D.Disk disk base S.Source source.old (work_of result) }
-    ensures run_causes { IsCommand (map string_bytes words.now) Run → RunCauses D.Disk disk S.Source source.old source.new (work_of result) }
-    ensures run_leaves { IsCommand (map string_bytes words.now) Run → RunLeaves D.Disk disk (work_of result) }
+    ensures run_causes { command_asked (map string_bytes words.now) ≡ Some Subcommand.Run → RunCauses D.Disk disk S.Source source.old source.new (work_of result) }
+    ensures run_leaves { command_asked (map string_bytes words.now) ≡ Some Subcommand.Run → RunLeaves D.Disk disk (work_of result) }
     // The statements stand on the tape in the order of the script's lines, each one's entries together.
-    ensures serial { IsCommand (map string_bytes words.now) Run → IsTrue S.tells → (lines : List Line) → IsWritten SpellsLine (S.left source.old) lines
+    ensures serial { command_asked (map string_bytes words.now) ≡ Some Subcommand.Run → IsTrue S.tells → (lines : List Line) → IsWritten SpellsLine (S.left source.old) lines
         → IsSerial lines result.tape.entries }
     // Where nothing fails a script runs to its end, or memory was refused before its first entry.
-    ensures complete { IsCommand (map string_bytes words.now) Run → IsTrue D.tells → IsTrue S.tells
+    ensures complete { command_asked (map string_bytes words.now) ≡ Some Subcommand.Run → IsTrue D.tells → IsTrue S.tells
         → (lines : List Line) → IsShortText (S.left source.old) lines → CanOpen (D.reads disk)
         → NoneFailed (faults_of D.Disk S.Source K.Sink disk source.old sink.old) (faults_of D.Disk S.Source K.Sink result.disk source.new sink.new)
         → (result.ending ≡ Finished) ⊎ ((result.ending ≡ OutOfMemory) × (result.tape.entries ≡ [])) }
-    ensures init { IsCommand (map string_bytes words.now) Init → Makes D.Disk disk (work_of result) }
+    ensures init { command_asked (map string_bytes words.now) ≡ Some Subcommand.Init → Makes D.Disk disk (work_of result) }
+    // A report changes nothing, at any moment, and tells what the disk held at the start.
+    ensures report { command_asked (map string_bytes words.now) ≡ Some Subcommand.Report → Reports D.Disk disk result }
     // A command that is finished has met no fault.
     ensures calm { result.ending ≡ Finished
         → faults_of D.Disk S.Source K.Sink result.disk source.new sink.new ≡ faults_of D.Disk S.Source K.Sink disk source.old sink.old }
     ensures forward { GoesForward D.Disk S.Source disk result.disk source.old source.new }
 {
     one_script();
-    let Some(command) = command(words) else {
-        let outcome = Outcome::without_tape(alloc, Ending::Usage, disk);
-        return ending(sink, &Command::Run, outcome);
+    let subcommand = match command(alloc, words) {
+        Ok(subcommand) => subcommand,
+        Err(why) => {
+            let outcome = Outcome::without_tape(alloc, why, disk);
+            return ending(sink, &Command::Run, outcome);
+        }
     };
-    if let Command::Init = command {
-        let outcome = make(alloc, disk);
-        return ending(sink, &command, outcome);
+    match subcommand {
+        Subcommand::Init => ending(sink, &Command::Init, make(alloc, disk)),
+        Subcommand::Report => {
+            let (start, outcome) = report(alloc, disk);
+            ending(sink, &Command::Survey { start }, outcome)
+        }
+        Subcommand::Run => {
+            let outcome = run_script(alloc, disk, source, Schedule::Serial);
+            ending(sink, &Command::Run, outcome)
+        }
     }
-    let outcome = run_script(alloc, disk, source, Schedule::Serial);
-    ending(sink, &command, outcome)
 }

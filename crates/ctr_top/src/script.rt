@@ -1,5 +1,5 @@
 // Runs a script over a database.
-ghost use Rattle.std.specs.Prelude.{◌≡◌, ◌≤◌, ◌+◌, ◌++◌, ◌∷◌, [], ℕ, List, length, slice_get, Some, None, IsTrue};
+ghost use Rattle.std.specs.Prelude.{◌≡◌, ◌≤◌, ◌+◌, ◌++◌, ◌∷◌, [], ℕ, List, length, map, slice_get, Some, None, IsTrue, IfOk};
 ghost use Rattle.std.specs.List.{AllByRecursion};
 ghost use Rattle.ctr_types.specs.declared.statement.Line.{Line as HeldLine};
 ghost use Rattle.ctr_types.specs.declared.tape.Entry.{Entry as HeldEntry};
@@ -16,14 +16,14 @@ ghost use Rattle.ctr_world.specs.Turns.{NoneFull};
 ghost use Rattle.ctr_world.specs.World.{IsOpenedOn, IsRunLine, CanRun};
 ghost use Rattle.ctr_top.specs.Top.{Ran, RanScript, RunCauses, LinesCauses, RunLeaves, GoesForward};
 
-use crate::ending::{not_opened, not_read, stopped};
+use crate::ending::{Ending, not_opened, not_read, stopped};
 use crate::outcome::Outcome;
 use ctr_disk::Disk;
 use ctr_io::Source;
 use ctr_script::read_script;
 use ctr_types::{Act, Actor, Entry, Reply, Script, Turn};
 use ctr_world::{Opening, World};
-use std::alloc::Global;
+use std::alloc::{AllocError, Global};
 use std::marker::Brand;
 
 /// In which order the sessions of a script take their turns.
@@ -82,15 +82,24 @@ fn run_line<D: Disk, B: Opening>(alloc: Global, world: &mut World<D, B>, session
     let _ = world.step(alloc, Actor::Cleaner);
 }
 
-// The script's lines in order.
-fn run_lines<D: Disk, B: Opening>(alloc: Global, world: &mut World<D, B>)
-    ensures { (lines : List HeldLine) → AllByRecursion IsRunLine lines → world.old.stop ≡ None → RanLines lines 0 world.old.steps
-        → RanOrStopped lines (length lines) world.new }
+// The sessions of a script's lines, in order.
+fn sessions_of(alloc: Global, script: &Script) -> Result<Vec<u8>, AllocError>
+    ensures { IfOk result (λ sessions. sessions.items ≡ map (λ l. l.session) script.now.lines) }
 {
-    for line in 0..world.lines() {
-        if let Some(session) = world.session_of(line) {
-            run_line(alloc, world, session);
-        }
+    let mut sessions = Vec::new(alloc);
+    for line in script.lines.as_slice() {
+        sessions.push(line.session)?;
+    }
+    Ok(sessions)
+}
+
+// The lines of these sessions, in order.
+fn run_lines<D: Disk, B: Opening>(alloc: Global, world: &mut World<D, B>, sessions: &[u8])
+    ensures { (lines : List HeldLine) → sessions.now ≡ map (λ l. l.session) lines → AllByRecursion IsRunLine lines → world.old.stop ≡ None
+        → RanLines lines 0 world.old.steps → RanOrStopped lines (length lines) world.new }
+{
+    for session in sessions {
+        run_line(alloc, world, *session);
     }
 }
 
@@ -102,12 +111,17 @@ fn run_actors<D: Disk, B: Opening>(alloc: Global, world: &mut World<D, B>, actor
 }
 
 // The turns of a schedule.
-fn run_turns<D: Disk, B: Opening>(alloc: Global, world: &mut World<D, B>, schedule: Schedule<'_>)
-    ensures { schedule.entry ≡ Serial → (lines : List HeldLine) → AllByRecursion IsRunLine lines → world.old.stop ≡ None
-        → RanLines lines 0 world.old.steps → RanOrStopped lines (length lines) world.new }
+fn run_turns<D: Disk, B: Opening>(
+    alloc: Global,
+    world: &mut World<D, B>,
+    schedule: Schedule<'_>,
+    sessions: &[u8],
+)
+    ensures { schedule.entry ≡ Serial → (lines : List HeldLine) → sessions.now ≡ map (λ l. l.session) lines → AllByRecursion IsRunLine lines
+        → world.old.stop ≡ None → RanLines lines 0 world.old.steps → RanOrStopped lines (length lines) world.new }
 {
     match schedule {
-        Schedule::Serial => run_lines(alloc, world),
+        Schedule::Serial => run_lines(alloc, world, sessions),
         Schedule::Turns(actors) => run_actors(alloc, world, actors),
     }
 }
@@ -130,13 +144,16 @@ fn run_opened<D: Disk, B: Opening>(
     ensures faults { D.faults_of disk ≤ D.faults_of result.disk }
     ensures later { D.moment_of disk ≤ D.moment_of result.disk }
 {
+    let Ok(sessions) = sessions_of(alloc, &script) else {
+        return Outcome::without_tape(alloc, Ending::OutOfMemory, disk);
+    };
     let mut world = match World::<D, B>::open(alloc, disk, script) {
         Ok(world) => world,
         Err((error, disk)) => {
             return Outcome::without_tape(alloc, not_opened(error), disk);
         }
     };
-    run_turns(alloc, &mut world, schedule);
+    run_turns(alloc, &mut world, schedule, sessions.as_slice());
     let finished = world.finish(alloc);
     Outcome {
         ending: stopped(finished.stop),

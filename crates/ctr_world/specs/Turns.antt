@@ -49,11 +49,6 @@ pub record HasStatementLeft (s : ℕ) (steps : Steps) : Type 0 where
 abbrev pub IsAsking : ℕ → Steps → Type 0
 IsAsking s steps = (k : ℕ) × ((runner_at s steps.runners.items).stage ≡ stage.Asked k)
 
--- it has begun no statement that it hasn't finished; so it is with one that there isn't
-abbrev pub IsBetween : ℕ → Steps → Type 0
-IsBetween s steps = 1 ≤ s → s ≤ length steps.runners.items
-    → (runner_at s steps.runners.items).stage ≡ stage.Between
-
 -- entries more behind those that are there
 abbrev pub AddsMore : Steps → Steps → Type 0
 AddsMore old new = (more : List Entry) × (new.tape.items ≡ old.tape.items ++ more)

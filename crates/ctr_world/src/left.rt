@@ -1,8 +1,8 @@
 // What a session's next turn is.
-ghost use Rattle.std.specs.Prelude.{◌≡◌, ◌≤◌, ◌<◌, ◌≢◌, ◌+◌, ◌↔◌, IsTrue, ℕ, length, true, false, None, IfSome};
+ghost use Rattle.std.specs.Prelude.{◌≡◌, ◌≤◌, ◌<◌, ◌≢◌, ◌+◌, ℕ, length, true, false, None, IfSome};
 ghost use Rattle.ctr_steps.specs.Runners.{runner_at, MayStep};
 ghost use Rattle.ctr_world.specs.declared.left.Next.TheVariants as is;
-ghost use Rattle.ctr_world.specs.Turns.{AreEight, HasStatementLeft, IsAsking, IsBetween};
+ghost use Rattle.ctr_world.specs.Turns.{AreEight, HasStatementLeft, IsAsking};
 
 use ctr_steps::{Stage, Steps};
 
@@ -60,17 +60,4 @@ pub fn first_left(steps: &Steps, s: u8) -> Option<u8>
         return Some(s);
     }
     first_left(steps, s + 1)
-}
-
-/// Whether a session has begun no statement that it hasn't finished.
-pub fn is_between(steps: &Steps, s: u8) -> bool
-    ensures { IsTrue result ↔ IsBetween s steps.now }
-{
-    if s == 0 || s as usize > steps.runners.len() {
-        return true;
-    }
-    match &steps.runners[s as usize - 1].stage {
-        Stage::Between => true,
-        Stage::Locked { .. } | Stage::Asked { .. } => false,
-    }
 }

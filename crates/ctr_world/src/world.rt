@@ -1,6 +1,5 @@
 // The World: its type names what it was opened on, and keeps the tape legal and the disk's images in order.
-ghost use Rattle.std.specs.Prelude.{◌≡◌, ◌⊎◌, ◌↔◌, ◌≤◌, ℕ, List, [], ◌++◌, None, IsTrue, IsSome, true, false, length, slice_get, IfOk, IfErr};
-ghost use Rattle.std.specs.Option.{option_map};
+ghost use Rattle.std.specs.Prelude.{◌≡◌, ◌⊎◌, ◌≤◌, ℕ, List, [], ◌++◌, None, IsTrue, IsSome, true, false, IfOk, IfErr};
 ghost use Rattle.ctr_types.specs.declared.tape.Entry.{Entry as HeldEntry};
 ghost use Rattle.ctr_disk.specs.declared.disk.Image.{Image};
 ghost use Rattle.ctr_disk.specs.Device.{LeavesOnly, OnlyReads};
@@ -9,12 +8,12 @@ ghost use Rattle.ctr_model.specs.Database.{Database};
 ghost use Rattle.ctr_world.specs.Creating.{disk_after_making, IsUnmadeOrEmpty, CreateEnds, CreateCounts};
 ghost use Rattle.ctr_thin.specs.Thin.{StandsFor, Explains, OpenDiffers};
 ghost use Rattle.ctr_world.specs.declared.parts.Parts.{Parts};
-ghost use Rattle.ctr_world.specs.Turns.{NoneFull, EndsTurn, AreSessions, AreUnbegun, IsOver, HasStatementLeft, IsBetween};
+ghost use Rattle.ctr_world.specs.Turns.{NoneFull, EndsTurn, AreSessions, AreUnbegun, IsOver, HasStatementLeft};
 ghost use Rattle.ctr_world.specs.World.{IsOpenedOn, CanRun, CanOpen, Ends, StopsBy, RefusesWith};
 
 use crate::beginning::begin;
 use crate::creating::{CreateError, create};
-use crate::left::{first_left, is_between};
+use crate::left::first_left;
 use crate::opening::Opening;
 use crate::parts::Parts;
 use ctr_disk::{Disk, Stop};
@@ -99,33 +98,6 @@ impl<D: Disk, B: Opening> World<D, B> {
             },
             of: PhantomData,
         })
-    }
-
-    /// How many lines the script has.
-    pub fn lines(&self) -> usize
-        ensures { result ≡ length self.now.steps.script.lines }
-    {
-        self.parts.steps.script.lines.len()
-    }
-
-    /// The session of a line of the script, by its index.
-    pub fn session_of(&self, line: usize) -> Option<u8>
-        ensures { result ≡ option_map (λ l. l.session) (slice_get self.now.steps.script.lines line) }
-    {
-        self.parts
-            .steps
-            .script
-            .lines
-            .as_slice()
-            .get(line)
-            .map(|l| l.session)
-    }
-
-    /// The session has begun no statement that it hasn't finished.
-    pub fn is_between(&self, session: u8) -> bool
-        ensures { IsTrue result ↔ IsBetween session self.now.steps }
-    {
-        is_between(&self.parts.steps, session)
     }
 
     /// Every session's statements are finished.
