@@ -3,8 +3,8 @@ ghost use Rattle.std.specs.Prelude.{◌≡◌, ◌<◌, ◌/◌, ◌%◌, ℕ, I
 ghost use Rattle.ctr_model.specs.declared.limits.TheConstants.{MOST_PAGES};
 ghost use Rattle.ctr_area.specs.Changes.{with_taken as area_with_taken, IsBitSet};
 ghost use Rattle.ctr_base.specs.Base.{IsSoundImage};
-ghost use Rattle.ctr_store.specs.Store.{MayLog, LeavesPage};
-ghost use Rattle.ctr_calls.specs.OneRecord.{LogsOne};
+ghost use Rattle.ctr_store.specs.Store.{LeavesPage};
+ghost use Rattle.ctr_calls.specs.OneRecord.{HasRoomForOne, LogsOne};
 ghost use Rattle.ctr_changes.specs.States.{pages_in, area_in, IsWholePage};
 ghost use Rattle.ctr_changes.specs.Changing.{alloc_record, free_record};
 
@@ -55,7 +55,8 @@ pub fn alloc<D: Disk, O: Origin>(
     x: Xid,
     p: PageNo,
 ) -> Result<(), StoreFault>
-    requires may { (byte : ℕ) → byte < 256 → MayLog (alloc_record x p byte) store.old }
+    requires room { HasRoomForOne 0 1 store.old }
+    requires counted { 0 < store.old.now.counted }
     requires small { p < MOST_PAGES }
     ensures one { (byte : ℕ) × LogsOne O.first D.Disk (alloc_record x p byte) store.old store.new result }
     // The page is allocated, and nothing else in the pages changes.
@@ -78,7 +79,8 @@ pub fn alloc<D: Disk, O: Origin>(
 
 /// Gives a page back, by one record, which isn't hardened yet.
 pub fn free<D: Disk, O: Origin>(store: &mut Store<D, O>, p: PageNo) -> Result<(), StoreFault>
-    requires may { (byte : ℕ) → byte < 256 → MayLog (free_record p byte) store.old }
+    requires room { HasRoomForOne 0 0 store.old }
+    requires counted { 0 < store.old.now.counted }
     requires small { p < MOST_PAGES }
     ensures one { (byte : ℕ) × LogsOne O.first D.Disk (free_record p byte) store.old store.new result }
     // The page is free, and nothing else in the pages changes.

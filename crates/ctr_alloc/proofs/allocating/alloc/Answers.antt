@@ -1,4 +1,4 @@
-use Rattle.std.proofs.Common.{ℕ, Ok, Err, Result, ap, ◌∙◌, subst}
+use Rattle.std.proofs.Common.{ℕ, Ok, Err, Result, sym, ap, ◌∙◌, subst}
 use Rattle.std.proofs.lemmas.Result.{err_from_is_err_and}
 use Rattle.ctr_disk.specs.declared.fault.StoreFault.{StoreFault}
 use Rattle.ctr_records.specs.declared.record.Overlay.{Overlay}
@@ -6,9 +6,16 @@ use Rattle.ctr_records.specs.declared.record.Record.{Record}
 use Rattle.ctr_records.specs.declared.record.Record.TheVariants.{Alloc}
 use Rattle.ctr_changes.specs.States.{area_in}
 use Rattle.ctr_changes.specs.Changing.{alloc_record}
+use Rattle.ctr_store.specs.Store.{MayLog}
 use Rattle.ctr_calls.specs.OneRecord.{AnswersLog}
-use Rattle.ctr_calls.proofs.Records.{unread, logged_behind, refused_behind}
+use Rattle.ctr_calls.proofs.Records.{may_still, unread, logged_behind, refused_behind}
+use Rattle.ctr_alloc.proofs.OneRecord.{alloc_may}
 use Rattle.ctr_alloc.proofs.allocating.alloc.Goals as goal
+
+pub log_record-requires : goal.log_record-requires
+log_record-requires g c =
+    subst (λ (r : Record). MayLog r c.byte_with.new.store) (sym (ap (λ (o : Overlay). Alloc c.args.x c.args.p o) c.over_bits.ensures))
+    (may_still (alloc_record c.args.x c.args.p c.in_ok-byte.byte) c.args.store.now c.byte_with.new.store c.in_ok-byte.ensures.leaves.keeps c.in_ok-byte.ensures.leaves.going (alloc_may c.args.store.now c.args.p c.in_ok-byte.byte c.requires.small c.requires.counted c.args.x c.ranges.x.fits c.requires.room))
 
 pub returns-in_err-byte-clause-one : goal.returns-in_err-byte-clause-one
 returns-in_err-byte-clause-one g c =
