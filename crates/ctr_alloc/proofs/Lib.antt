@@ -1,2 +1,3 @@
+pub mod OneRecord
 pub mod BitLaws
 pub mod FirstPage

@@ -3,10 +3,12 @@
 //! Nothing here takes memory.
 #![tactic(auto)]
 
+mod allocating;
 mod bits;
 mod search;
 mod store;
 
+pub use allocating::{alloc, free};
 pub use bits::{with_free, with_taken};
 pub use search::{NextFree, Search, search_goes_on};
 pub use store::next_free;

@@ -1,12 +1,11 @@
 -- A record that is logged behind a page that was read.
-use Rattle.std.proofs.Common.{◌≡◌, ℕ, ◌+◌, ◌-◌, ◌^◌, ◌≤◌, ◌<◌, inl, inr, List, [], ◌∷◌, Result, Ok, Err, false, sym, ◌∙◌, ap, subst, refl, arith}
-use Rattle.std.specs.Prelude.{⊤, ◌⊎◌, IsTrue}
+use Rattle.std.proofs.Common.{◌≡◌, ℕ, ◌+◌, ◌-◌, ◌^◌, ◌≤◌, ◌<◌, inl, inr, [], ◌∷◌, Result, Ok, Err, false, sym, ◌∙◌, ap, subst, refl, arith}
+use Rattle.std.specs.Prelude.{IsTrue}
 use Rattle.ctr_base.specs.Base.{IsSoundImage}
-use Rattle.ctr_types.specs.Faults.{HasFault, CountsFault}
+use Rattle.ctr_types.specs.Faults.{CountsFault}
 use Rattle.ctr_disk.specs.declared.disk.Disk.{Ghosts}
 use Rattle.ctr_disk.specs.declared.disk.Image.{Image}
 use Rattle.ctr_disk.specs.declared.fault.StoreFault.{StoreFault}
-use Rattle.ctr_disk.specs.declared.fault.StoreFault.TheVariants.{Fault}
 use Rattle.ctr_records.specs.declared.record.Record.{Record}
 use Rattle.ctr_records.specs.declared.decoding.BadRecord.{BadRecord}
 use Rattle.ctr_meta.specs.Kept.{TablesKept, NumbersFit, RoomLeft, opens_added, items_added}
@@ -88,7 +87,7 @@ module _ {D : Type 0} (first : Image) (g : Ghosts D) (r : Record) (a b : View D)
     logged_behind lsn y log = record {
       any_moment = λ told sound. fronts_join g a b c (page.logs told sound) (page.any_moment told sound) (log.any_moment told sound);
       logs = λ told sound. logs_join g a b c (r ∷ []) (page.logs told sound) (log.logs told sound);
-      takes = taken_behind r a b page.keeps lsn c (log.takes lsn refl);
+      takes = taken_behind r a b page.keeps lsn c log.takes;
       fits = same_need r a b page.keeps ∙ by_result {P = unmet_need r b ≡ Ok tt} (unmet_need r b) (λ u is. is) (λ bad is. absurd (cc (log.unfit bad is).0));
       going = log.going;
       refused = λ told sound. tt;
@@ -108,7 +107,7 @@ module _ {D : Type 0} (first : Image) (g : Ghosts D) (r : Record) (a b : View D)
       fits = tt;
       going = tt;
       refused = λ told sound. by_result {P = RefusesOne r a c e} (unmet_need r b)
-          (λ u is. inr (log.refused told sound is e refl, log.stopped is e refl))
+          (λ u is. inr (error (log.refused told sound is), log.stopped is))
           (λ bad is. inl (unfit bad is told sound));
       faults = record {
         later = omega (arith, page.faults.later, log.faults.later);
@@ -119,6 +118,9 @@ module _ {D : Type 0} (first : Image) (g : Ghosts D) (r : Record) (a b : View D)
       where
         same : {A B : Type 0} {f : StoreFault} → fails_with A e ≡ fails_with A f → fails_with B e ≡ fails_with B f
         same {A} {B} is = ap (fails_with B) (cc is)
+
+        error : {f : StoreFault} → fails_with ℕ e ≡ fails_with ℕ f → e ≡ f
+        error is = cc is
 
         unfit : (bad : BadRecord) → unmet_need r b ≡ Err bad → IsTrue g.tells → IsSoundImage first → IsUnfit r a c e
         unfit bad is told sound =

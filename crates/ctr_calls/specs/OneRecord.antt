@@ -1,5 +1,5 @@
 -- A call that reads pages of a store and then logs one record.
-use Rattle.std.specs.Prelude.{◌≡◌, ◌⊎◌, ℕ, false, true, IsTrue, [], ◌∷◌, Result, Ok, Err, IfErr, OnOk}
+use Rattle.std.specs.Prelude.{◌≡◌, ◌⊎◌, ◌-◌, ◌^◌, ◌<◌, ◌≤◌, ℕ, length, false, true, IsTrue, [], ◌∷◌, Result, Ok, Err, IfOk, IfErr, OnOk, OnErr}
 use Rattle.ctr_types.specs.Faults.{HasFault}
 use Rattle.ctr_disk.specs.declared.disk.Disk.{Ghosts}
 use Rattle.ctr_disk.specs.declared.disk.Image.{Image}
@@ -10,6 +10,15 @@ use Rattle.ctr_records.specs.declared.decoding.BadRecord.{BadRecord}
 use Rattle.ctr_base.specs.Base.{IsSoundImage}
 use Rattle.ctr_store.specs.RecordChecks.{record_damage}
 use Rattle.ctr_store.specs.Store.{View, LeavesFront, Logs, unmet_need, RefusesUnfit, TakesRecord}
+
+-- There is room for one record more, and for the transactions and items that it adds to the tables.
+pub record HasRoomForOne {D : Type 0} (opens items : ℕ) (v : View D) : Type 0 where
+  pub going : v.stopped ≡ false
+  pub opens_fit : opens ≤ v.meta.opens_room
+  pub items_fit : items ≤ v.meta.items_room
+  pub room : 5000 ≤ v.room
+  pub few : length v.waiting < 2 ^ 32 - 1
+  pub number : v.next < 2 ^ 63 - 1
 
 -- the record doesn't fit the tables: that is told by the row that it fails, at the place in the log
 -- where it would stand, and nothing is logged
@@ -41,10 +50,10 @@ pub record AnswersLog {D : Type 0} (first : Image) (g : Ghosts D) (r : Record) (
     (result : Result ℕ StoreFault) : Type 0 where
   pub any_moment : IsTrue g.tells → IsSoundImage first → LeavesFront g a b
   pub logs : IsTrue g.tells → IsSoundImage first → OnOk result (Logs (r ∷ []) a b)
-  pub takes : (lsn : ℕ) → result ≡ Ok lsn → TakesRecord r lsn a b
+  pub takes : IfOk result (λ lsn. TakesRecord r lsn a b)
   pub unfit : RefusesUnfit r a b result
   pub going : OnOk result (b.stopped ≡ false)
-  pub stopped : unmet_need r a ≡ Ok tt → (e : StoreFault) → result ≡ Err e → b.stopped ≡ true
+  pub stopped : unmet_need r a ≡ Ok tt → OnErr result (b.stopped ≡ true)
   pub refused : IsTrue g.tells → IsSoundImage first → unmet_need r a ≡ Ok tt
-      → (e : StoreFault) → result ≡ Err e → e ≡ Fault
+      → OnErr result (result ≡ Err Fault)
   pub faults : HasFault Fault (g.faults_of a.disk) (g.faults_of b.disk) result

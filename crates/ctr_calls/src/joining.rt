@@ -6,7 +6,11 @@ ghost use Rattle.ctr_records.specs.declared.record.Record.{Record};
 ghost use Rattle.ctr_store.specs.Store.{View, LeavesFront, Logs, MayLog, KeepsRoom, LeavesPage};
 ghost use Rattle.ctr_calls.specs.OneRecord.{LogsOne, AnswersLog};
 
-use ctr_disk::Disk;
+use ctr_base::Origin;
+use ctr_disk::{Disk, StoreFault};
+use ctr_log::Lsn;
+use ctr_records::Record as LogRecord;
+use ctr_store::Store;
 
 /// Behind a page that was read another call goes on from what stood before: what a crash leaves, what is logged, and
 /// the room that is kept are those of both together.
@@ -31,3 +35,14 @@ pub fn a_record_behind_a_page<D: Disk, S, T>()
     ensures unread { (first : Image) (r : Record) (a b : View D) (e : StoreFault) (page : Result S StoreFault) (result : Result T StoreFault)
         → LeavesPage first D.Disk a b page → page ≡ Err e → result ≡ Err e → LogsOne first D.Disk r a b result }
 {}
+
+/// Adds a record to a store, and answers its number: all that is answered of it is one fact.
+pub fn log_record<D: Disk, O: Origin>(
+    store: &mut Store<D, O>,
+    rec: &LogRecord,
+) -> Result<Lsn, StoreFault>
+    requires { MayLog rec.now store.old }
+    ensures { AnswersLog O.first D.Disk rec.now store.old store.new result }
+{
+    store.log(rec)
+}

@@ -3,4 +3,4 @@
 
 mod joining;
 
-pub use joining::{a_record_behind_a_page, pages_read_join};
+pub use joining::{a_record_behind_a_page, log_record, pages_read_join};

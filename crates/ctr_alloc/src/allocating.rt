@@ -1,0 +1,101 @@
+// One record allocates a page of a store, or gives it back.
+ghost use Rattle.std.specs.Prelude.{◌≡◌, ◌<◌, ◌/◌, ◌%◌, ℕ, IsTrue, true, false, slice_index, IfOk, OnOk};
+ghost use Rattle.ctr_model.specs.declared.limits.TheConstants.{MOST_PAGES};
+ghost use Rattle.ctr_area.specs.Changes.{with_taken as area_with_taken, IsBitSet};
+ghost use Rattle.ctr_base.specs.Base.{IsSoundImage};
+ghost use Rattle.ctr_store.specs.Store.{LeavesPage};
+ghost use Rattle.ctr_calls.specs.OneRecord.{HasRoomForOne, LogsOne};
+ghost use Rattle.ctr_changes.specs.States.{pages_in, area_in, IsWholePage};
+ghost use Rattle.ctr_changes.specs.Changing.{alloc_record, free_record};
+
+use crate::bits::{with_free, with_taken};
+use ctr_base::Origin;
+use ctr_calls::{a_record_behind_a_page, log_record};
+use ctr_changes::{a_free_changes_its_bit, an_alloc_changes_its_bit};
+use ctr_disk::{Disk, StoreFault};
+use ctr_records::{Bytes, Overlay, PageNo, Record};
+use ctr_store::Store;
+use ctr_types::Xid;
+
+// The byte of page 0 in which a page has its bit, where this page is allocated, or free.
+fn byte_with<D: Disk, O: Origin>(
+    store: &mut Store<D, O>,
+    p: PageNo,
+    taken: bool,
+) -> Result<u8, StoreFault>
+    requires going { store.old.stopped ≡ false }
+    requires small { p < MOST_PAGES }
+    ensures byte { IsTrue D.tells → IsSoundImage O.first → IfOk result (λ b. IsBitSet (p % 8) taken (slice_index (pages_in store.old.now 0) (p / 8)) b) }
+    ensures whole { IsTrue D.tells → IsSoundImage O.first → OnOk result (IsWholePage 0 store.old.now) }
+    ensures leaves { LeavesPage O.first D.Disk store.old store.new result }
+{
+    let page = store.page(0)?;
+    if taken {
+        return Ok(with_taken(page, p));
+    }
+    Ok(with_free(page, p))
+}
+
+// Bytes over one of page 0.
+fn over_bits<'a>(p: PageNo, bytes: &'a [u8]) -> Overlay<'a>
+    requires { p < MOST_PAGES }
+    ensures { result ≡ record { page = 0; clear = false; offset = p / 8; bytes = bytes.now } }
+{
+    Overlay {
+        page: 0,
+        clear: false,
+        offset: (p / 8) as u16,
+        bytes: Bytes::new(bytes),
+    }
+}
+
+/// Allocates a page for a transaction, by one record, which isn't hardened yet.
+pub fn alloc<D: Disk, O: Origin>(
+    store: &mut Store<D, O>,
+    x: Xid,
+    p: PageNo,
+) -> Result<(), StoreFault>
+    requires room { HasRoomForOne 0 1 store.old }
+    requires counted { 0 < store.old.now.counted }
+    requires small { p < MOST_PAGES }
+    ensures one { (byte : ℕ) × LogsOne O.first D.Disk (alloc_record x p byte) store.old store.new result }
+    // The page is allocated, and nothing else in the pages changes.
+    ensures taken { IsTrue D.tells → IsSoundImage O.first → OnOk result (area_in store.new.now ≡ area_with_taken p true (area_in store.old.now)) }
+{
+    a_record_behind_a_page::<D, u8, ()>();
+    an_alloc_changes_its_bit();
+    let byte = byte_with(store, p, true)?;
+    let bytes = [byte];
+    let rec = Record::Alloc {
+        x,
+        p,
+        overlay: over_bits(p, &bytes),
+    };
+    match log_record(store, &rec) {
+        Ok(_) => Ok(()),
+        Err(fault) => Err(fault),
+    }
+}
+
+/// Gives a page back, by one record, which isn't hardened yet.
+pub fn free<D: Disk, O: Origin>(store: &mut Store<D, O>, p: PageNo) -> Result<(), StoreFault>
+    requires room { HasRoomForOne 0 0 store.old }
+    requires counted { 0 < store.old.now.counted }
+    requires small { p < MOST_PAGES }
+    ensures one { (byte : ℕ) × LogsOne O.first D.Disk (free_record p byte) store.old store.new result }
+    // The page is free, and nothing else in the pages changes.
+    ensures freed { IsTrue D.tells → IsSoundImage O.first → OnOk result (area_in store.new.now ≡ area_with_taken p false (area_in store.old.now)) }
+{
+    a_record_behind_a_page::<D, u8, ()>();
+    a_free_changes_its_bit();
+    let byte = byte_with(store, p, false)?;
+    let bytes = [byte];
+    let rec = Record::Free {
+        p,
+        overlay: over_bits(p, &bytes),
+    };
+    match log_record(store, &rec) {
+        Ok(_) => Ok(()),
+        Err(fault) => Err(fault),
+    }
+}
