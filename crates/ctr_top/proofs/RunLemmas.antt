@@ -39,7 +39,7 @@ use Rattle.ctr_top.specs.Top.{Ran, LinesCauses, RunCauses, DiskWhy, SourceWhy, I
 module _ {D : Type 0} (g : Ghosts D) (old new : D) where
   open_why : (error : OpenError) → OpenDiffers error → (IsTrue g.tells → Explains (g.reads old) error) → (error ≡ open_error.Fault → CountsFault (g.faults_of old) (g.faults_of new)) → DiskWhy g old new (opened_as error)
   open_why open_error.NoDatabase differs explains fault = explains
-  open_why (open_error.Damaged file at want got) differs explains fault = (differs, λ told. let e = explains told in (e.1, e.2))
+  open_why (open_error.Damaged file at want got) differs explains fault = (differs, λ told. let e = explains told in (e.1, e.2, e.3))
   open_why (open_error.Worn number) differs explains fault = (differs, explains)
   open_why open_error.Fault differs explains fault = fault refl
   open_why open_error.OutOfMemory differs explains fault = tt

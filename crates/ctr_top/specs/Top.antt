@@ -19,7 +19,9 @@ use Rattle.ctr_model.specs.Texts.{answers, refusals, transcript, last_line}
 use Rattle.ctr_print.specs.Prints.{PutsOn}
 use Rattle.ctr_log.specs.Homes.{root_value}
 use Rattle.ctr_script.specs.Written.{IsShortRefusal}
-use Rattle.ctr_thin.specs.Thin.{StandsFor, StandsForNone, IsWornOut}
+use Rattle.ctr_thin.specs.Thin.{StandsFor, StandsForNone, IsThinDamage, IsWornOut}
+use Rattle.ctr_disk.specs.declared.fault.StoreFault.{StoreFault}
+use Rattle.ctr_disk.specs.declared.fault.StoreFault.TheVariants as store
 use Rattle.ctr_world.specs.Crash.{reached, HasCommits, IsPrefixAt, Survives, OnlyLogChanges, StraysOnlyLong}
 use Rattle.ctr_world.specs.Surveying.{survey_of}
 use Rattle.ctr_world.specs.Turns.{NoneFull}
@@ -112,9 +114,9 @@ pub record GoesForward {D S : Type 0} (g : Ghosts D) (s : Source S) (old new : D
 
 -- ---- the cause of each ending
 
--- the root is there, but the image stands for no database
-abbrev pub IsBroken : Image → Type 0
-IsBroken image = (root_value image.root ≢ None) × StandsForNone image
+-- the root is there, but the image stands for no database, and this is the first check of it that fails
+abbrev pub IsBroken : Image → StoreFault → Type 0
+IsBroken image e = (root_value image.root ≢ None) × StandsForNone image × IsThinDamage image e
 
 -- What each ending of a run says of the disk. What is said of content holds where the disk tells it;
 -- the numbers that tell damage differ always. A run has no other endings.
@@ -126,7 +128,7 @@ DiskWhy g old new ending.TooLong = Unit {0}
 DiskWhy g old new ending.Usage = ⊥
 DiskWhy g old new ending.NoDatabase = IsTrue g.tells → root_value (g.reads old).root ≡ None
 DiskWhy g old new (ending.Damaged file at want got) = (want ≢ got)
-    × (IsTrue g.tells → IsBroken (g.reads old))
+    × (IsTrue g.tells → IsBroken (g.reads old) (store.Damaged file at want got))
 DiskWhy g old new ending.DiskFault = CountsFault (g.faults_of old) (g.faults_of new)
 DiskWhy g old new ending.ReadFault = Unit {0}
 DiskWhy g old new ending.WriteFault = ⊥
