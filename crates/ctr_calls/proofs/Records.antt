@@ -14,7 +14,7 @@ use Rattle.ctr_redo.specs.Overlaid.{overlay_of}
 use Rattle.ctr_store.specs.Changes.{LiesInside}
 use Rattle.ctr_store.specs.RecordChecks.{record_damage}
 use Rattle.ctr_store.specs.Store.{View, Logs, MayLog, unmet_need, TakesRecord, KeepsRoom, LeavesPage}
-use Rattle.ctr_calls.specs.OneRecord.{IsUnfit, RefusesOne, LogsOne, AnswersLog}
+use Rattle.ctr_calls.specs.OneRecord.{IsUnfit, WhyNotLogged, LogsOne, AnswersLog}
 use Rattle.ctr_calls.proofs.Joins.{fails_with, fronts_join, logs_join}
 
 -- a result is one or the other
@@ -106,7 +106,7 @@ module _ {D : Type 0} (first : Image) (g : Ghosts D) (r : Record) (a b : View D)
       takes = tt;
       fits = tt;
       going = tt;
-      refused = λ told sound. by_result {P = RefusesOne r a c e} (unmet_need r b)
+      refused = λ told sound. by_result {P = WhyNotLogged r a c e} (unmet_need r b)
           (λ u is. inr (error (log.refused told sound is), log.stopped is))
           (λ bad is. inl (unfit bad is told sound));
       faults = record {

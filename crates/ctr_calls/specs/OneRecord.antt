@@ -30,8 +30,8 @@ pub record IsUnfit {D : Type 0} (r : Record) (a b : View D) (e : StoreFault) : T
   pub none : Logs [] a b
 
 -- Why the record wasn't logged: it doesn't fit, or the disk failed, after which the store is stopped.
-abbrev pub RefusesOne : {D : Type 0} → Record → View D → View D → StoreFault → Type 0
-RefusesOne r a b e = IsUnfit r a b e ⊎ ((e ≡ Fault) × (b.stopped ≡ true))
+abbrev pub WhyNotLogged : {D : Type 0} → Record → View D → View D → StoreFault → Type 0
+WhyNotLogged r a b e = IsUnfit r a b e ⊎ ((e ≡ Fault) × (b.stopped ≡ true))
 
 -- After Ok the record waits behind the others, and it fits; after an error it isn't logged. At each
 -- moment a crash leaves what was hardened with a prefix of what wasn't.
@@ -42,7 +42,7 @@ pub record LogsOne {D T : Type 0} (first : Image) (g : Ghosts D) (r : Record) (a
   pub takes : OnOk result (TakesRecord r a.next a b)
   pub fits : OnOk result (unmet_need r a ≡ Ok tt)
   pub going : OnOk result (b.stopped ≡ false)
-  pub refused : IsTrue g.tells → IsSoundImage first → IfErr result (RefusesOne r a b)
+  pub refused : IsTrue g.tells → IsSoundImage first → IfErr result (WhyNotLogged r a b)
   pub faults : HasFault Fault (g.faults_of a.disk) (g.faults_of b.disk) result
 
 -- what a store answers to a record that it is given

@@ -18,7 +18,7 @@ use Rattle.ctr_base.specs.Growth.{GrowsBase, AreBlank}
 use Rattle.ctr_base.specs.BaseLaws.{rests_leaves}
 use Rattle.ctr_redo.specs.States.{State, state_of, grown, page_at}
 use Rattle.ctr_store.specs.Parts.{IsFold, CanLog}
-use Rattle.ctr_store.specs.Store.{View, Logs, LeavesPage, MayLog, KeepsRoom, Grows}
+use Rattle.ctr_store.specs.Store.{View, Logs, LeavesPage, MayLog, KeepsRoom, GrowsByExtent}
 use Rattle.ctr_store.specs.StoreInside.{view_of}
 use Rattle.ctr_store.proofs.RecordLaws.{record_short}
 
@@ -70,7 +70,7 @@ module _ {D O : Type 0} (g : Ghosts D) where
 
   -- a growth
   pub grows_seen : (first : Image) → ((d : D) (c : Image) → g.since d (g.moment_of d) c → g.images d c) → (s t : Parts D O) (b c : Bool) → IsFold first g t → IsSoundImage first → GrowsBase g s.base t.base
-      → AreBlank s.base.root.pages (grown s.base.root.pages) (state_of (now_of g s.base)) → Grows g (view_of g s b) (view_of g t c)
+      → AreBlank s.base.root.pages (grown s.base.root.pages) (state_of (now_of g s.base)) → GrowsByExtent g (view_of g s b) (view_of g t c)
   grows_seen first only_now s t b c fold sound grows blank = record {
     hardened = grows.hardened;
     now = grows.now;

@@ -137,12 +137,12 @@ worn_in root image =
     worn_by (root.first + length kept) (tables_of (records_in kept)).next
 
 -- nothing waits in a log, and there is room for records
-abbrev pub HasRoom : Log → Type 0
-HasRoom log = (log.buffered ≡ []) × (65536 ≤ log.room)
+abbrev pub IsEmptyWithRoom : Log → Type 0
+IsEmptyWithRoom log = (log.buffered ≡ []) × (65536 ≤ log.room)
 
 -- Whatever the disk tells, what was opened has nothing that waits, and no number is worn.
-pub record IsReady {D O : Type 0} (s : Parts D O) : Type 0 where
-  pub room : HasRoom s.base.log
+pub record IsNewlyOpened {D O : Type 0} (s : Parts D O) : Type 0 where
+  pub room : IsEmptyWithRoom s.base.log
   pub next : s.base.log.first + length s.base.log.buffered < worn_at
   pub xid : s.meta.tables.next < worn_at
 

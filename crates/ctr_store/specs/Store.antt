@@ -116,7 +116,7 @@ LeavesGrowing g a b = LeavesOnly g a.disk b.disk (FoldsGrown a.hardened)
 
 -- More pages are counted, each of which has nothing; pages and tables are those of before, of what is
 -- hardened and of all. That is durable: a crash leaves the new count with a prefix of what waits.
-pub record Grows {D : Type 0} (g : Ghosts D) (a b : View D) : Type 0 where
+pub record GrowsByExtent {D : Type 0} (g : Ghosts D) (a b : View D) : Type 0 where
   pub hardened : b.hardened ≡ counting (grown a.now.counted) a.hardened
   pub now : b.now ≡ counting (grown a.now.counted) a.now
   pub blank : AreBlank a.now.counted b.now.counted b.now

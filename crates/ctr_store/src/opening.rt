@@ -6,7 +6,7 @@ ghost use Rattle.ctr_home.specs.declared.root.Form.TheVariants.{Paged};
 ghost use Rattle.ctr_home.specs.Blocks.{value_of};
 ghost use Rattle.ctr_home.specs.Roots.{IsRootOf, SaysRootOf};
 ghost use Rattle.ctr_store.specs.RecordChecks.{AllPass};
-ghost use Rattle.ctr_store.specs.Opening.{HasRoom, IsReady, FindsLog, FindsFront, RefusesLog, RefusesAs, OpensParts, disk_left, worn_by, IsWornBy, IsLater, IsUndamaged, AnswersOpen, LeavesFirst};
+ghost use Rattle.ctr_store.specs.Opening.{IsEmptyWithRoom, IsNewlyOpened, FindsLog, FindsFront, RefusesLog, RefusesAs, OpensParts, disk_left, worn_by, IsWornBy, IsLater, IsUndamaged, AnswersOpen, LeavesFirst};
 ghost use Rattle.ctr_store.specs.declared.opening.OpenError.TheVariants.{Fault, OutOfMemory as NoMemory};
 ghost use Rattle.ctr_redo.specs.States.{state_of};
 ghost use Rattle.ctr_redo.specs.Images.{stored_in, IsSound, FoldsFront};
@@ -107,7 +107,7 @@ fn read_log<D: Disk, O: Origin>(
     requires says { IsTrue D.tells → SaysRootOf Paged (value_of RootBlock O.first) root.now }
     ensures found { IsTrue D.tells → IfOk result (FindsLog (D.reads disk.old) root.now) }
     ensures passed { IfOk result (λ f. (pages : ℕ) × AllPass pages f.visits) }
-    ensures room { IfOk result (λ f. HasRoom f.log) }
+    ensures room { IfOk result (λ f. IsEmptyWithRoom f.log) }
     ensures refused { IsTrue D.tells → IfErr result (RefusesLog root.now (D.reads disk.old)) }
     ensures undamaged { IsTrue D.tells → IsSound root.now (D.reads disk.old) → IfErr result (λ e. (e ≡ ReadStore StoreFailed) ⊎ (e ≡ ReadMemory)) }
     ensures quiet { OnlyReads D.Disk disk.old disk.new }
@@ -123,7 +123,7 @@ fn read_log<D: Disk, O: Origin>(
 fn read_front<D: Disk, O: Origin>(alloc: Global, disk: &mut D) -> Result<(Root, Found), OpenError>
     requires named { O.first ≡ D.reads disk.old }
     ensures found { IsTrue D.tells → IfOk result (λ r. FindsFront O.first r.0 r.1) }
-    ensures passed { IfOk result (λ r. ((pages : ℕ) × AllPass pages r.1.visits) × HasRoom r.1.log) }
+    ensures passed { IfOk result (λ r. ((pages : ℕ) × AllPass pages r.1.visits) × IsEmptyWithRoom r.1.log) }
     ensures refused { IsTrue D.tells → IfErr result (RefusesAs O.first) }
     ensures undamaged { IsTrue D.tells → IsSoundImage O.first → IfErr result IsUndamaged }
     ensures quiet { OnlyReads D.Disk disk.old disk.new }
@@ -147,12 +147,12 @@ fn bring_forward<D: Disk, O: Origin>(
     requires frames { (8 ≤ frames) × (frames ≤ 4096) }
     requires told { IsTrue D.tells → FindsFront O.first root found × IsDurable D.Disk disk × (D.reads disk ≡ O.first) }
     requires passed { (pages : ℕ) × AllPass pages found.visits }
-    requires room { HasRoom found.log }
+    requires room { IsEmptyWithRoom found.log }
     ensures opened { IsTrue D.tells → IfOk result (OpensParts O.first D.Disk root) }
     ensures goes { IsTrue D.tells → IsSoundImage O.first → LeavesOnly D.Disk disk (disk_left result) (FoldsFront (state_of (stored_in root O.first)) []) }
     ensures refused { IsTrue D.tells → IfErr result (λ e. IsSoundImage O.first → (e.0 ≡ Fault) ⊎ (e.0 ≡ NoMemory)) }
     ensures later { IfErr result (λ e. IsLater e.0) }
-    ensures room { IfOk result (λ s. HasRoom s.base.log) }
+    ensures room { IfOk result (λ s. IsEmptyWithRoom s.base.log) }
 {
     let Found { log, meta, visits } = found;
     let Ok(pool) = Pool::new(alloc, frames) else {
@@ -211,10 +211,10 @@ fn finish<D: Disk, O: Origin>(
     requires frames { (8 ≤ frames) × (frames ≤ 4096) }
     requires told { IsTrue D.tells → FindsFront O.first root found × IsDurable D.Disk disk × (D.reads disk ≡ O.first) }
     requires passed { (pages : ℕ) × AllPass pages found.visits }
-    requires room { HasRoom found.log }
+    requires room { IsEmptyWithRoom found.log }
     ensures answer { IsTrue D.tells → AnswersOpen O.first D.Disk result }
     ensures undamaged { IsTrue D.tells → IsSoundImage O.first → IfErr result (λ e. IsUndamaged e.0) }
-    ensures ready { IfOk result IsReady }
+    ensures ready { IfOk result IsNewlyOpened }
     ensures goes { IsTrue D.tells → IsSoundImage O.first → LeavesOnly D.Disk disk (disk_left result) (FoldsFront (state_of (stored_in root O.first)) []) }
 {
     match bring_forward::<D, O>(alloc, disk, frames, root, found) {
@@ -231,7 +231,7 @@ impl<D: Disk, O: Origin> Parts<D, O> {
         requires frames { (8 ≤ frames) × (frames ≤ 4096) }
         ensures answer { IsTrue D.tells → AnswersOpen O.first D.Disk result }
         ensures undamaged { IsTrue D.tells → IsSoundImage O.first → IfErr result (λ e. IsUndamaged e.0) }
-        ensures ready { IfOk result IsReady }
+        ensures ready { IfOk result IsNewlyOpened }
         ensures any_moment { IsTrue D.tells → IsSoundImage O.first → LeavesOnly D.Disk disk (disk_left result) (LeavesFirst O.first (D.images disk)) }
     {
         let mut disk = disk;

@@ -9,7 +9,7 @@ ghost use Rattle.std.specs.Io.BufRead.{Rests};
 ghost use Rattle.ctr_disk.specs.Device.{LeavesOnly};
 ghost use Rattle.ctr_redo.specs.States.{page_limit, page_at, grown};
 ghost use Rattle.ctr_store.specs.Opening.{LeavesFirst, IsUndamaged};
-ghost use Rattle.ctr_store.specs.Store.{LeavesFront, LeavesPage, Logs, MayLog, unmet_need, RefusesUnfit, TakesRecord, KeepsRoom, LeavesGrowing, Grows, StaysBeside};
+ghost use Rattle.ctr_store.specs.Store.{LeavesFront, LeavesPage, Logs, MayLog, unmet_need, RefusesUnfit, TakesRecord, KeepsRoom, LeavesGrowing, GrowsByExtent, StaysBeside};
 ghost use Rattle.ctr_store.specs.StoreOpening.{AnswersStore, IsOpened, store_left};
 
 use crate::opening::OpenError;
@@ -177,7 +177,7 @@ impl<D: Disk, O: Origin> Store<D, O> {
         requires going { self.old.stopped ≡ false }
         requires few { self.old.now.counted < 30000 }
         ensures any_moment { IsTrue D.tells → IsSoundImage O.first → LeavesGrowing D.Disk self.old self.new }
-        ensures grows { IsTrue D.tells → IsSoundImage O.first → OnOk result (Grows D.Disk self.old self.new) }
+        ensures grows { IsTrue D.tells → IsSoundImage O.first → OnOk result (GrowsByExtent D.Disk self.old self.new) }
         ensures counted { OnOk result (self.new.now.counted ≡ grown self.old.now.counted) × OnErr result (self.new.now.counted ≡ self.old.now.counted) }
         ensures same { StaysBeside self.old self.new }
         ensures stopped { (OnOk result (self.new.stopped ≡ false)) × (OnErr result (self.new.stopped ≡ true)) }

@@ -15,7 +15,7 @@ use Rattle.ctr_top.specs.declared.run.Ended.{Ended}
 use Rattle.ctr_top.specs.declared.words.Subcommand.{Subcommand}
 use Rattle.ctr_top.specs.declared.words.Subcommand.TheVariants as subcommand
 use Rattle.ctr_top.specs.Endings.{status_of, cause_of, work}
-use Rattle.ctr_top.specs.Words.{AsksNothing}
+use Rattle.ctr_top.specs.Words.{AsksForNothing}
 use Rattle.ctr_top.specs.Top.{MindsWords, PutsText, printed_text, report_of, work_of}
 use Rattle.ctr_top.proofs.CompleteLemmas.{work_is}
 
@@ -24,7 +24,7 @@ pub work_back : (e why : Ending) → work e ≡ why → why ≢ ending.Finished 
 work_back e why is other = sym (work_is e (λ fault. other (sym is ∙ ap work fault))) ∙ is
 
 -- the last line of work that wasn't begun is the same for each command
-line_any : (asked : Option Subcommand) (why : Ending) → AsksNothing asked why → (a b : Command) (cause : Cause) (es : List Entry) (r : Report) → last_line a (status_of why) cause es r ≡ last_line b (status_of why) cause es r
+line_any : (asked : Option Subcommand) (why : Ending) → AsksForNothing asked why → (a b : Command) (cause : Cause) (es : List Entry) (r : Report) → last_line a (status_of why) cause es r ≡ last_line b (status_of why) cause es r
 line_any asked why (inl none) a b cause es r = subst (λ w. last_line a (status_of w) cause es r ≡ last_line b (status_of w) cause es r) (sym none.0) refl
 line_any asked why (inr memory) a b cause es r = subst (λ w. last_line a (status_of w) cause es r ≡ last_line b (status_of w) cause es r) (sym memory) refl
 
@@ -40,13 +40,13 @@ module _ {D K : Type 0} (k : Sink K) (old new : K) (e : Ended D) (o : Outcome D)
   prints command told is puts = subst (λ t. PutsText k old t new e.ending) (same_text command ∙ ap (λ c. printed_text c e) is) puts
 
   -- the text of one that wasn't
-  pub prints_any : (asked : Option Subcommand) → AsksNothing asked o.ending → (command told : Command) → PutsText k old (text_of command o) new e.ending → PutsText k old (printed_text told e) new e.ending
+  pub prints_any : (asked : Option Subcommand) → AsksForNothing asked o.ending → (command told : Command) → PutsText k old (text_of command o) new e.ending → PutsText k old (printed_text told e) new e.ending
   prints_any asked none command told puts =
       subst (λ t. PutsText k old t new e.ending) (ap (λ l. transcript o.tape.entries ++ l) (line_any asked o.ending none command told (cause_of o.ending) o.tape.entries (report_of o.tape.entries)) ∙ same_text told) puts
 
 module _ {D S : Type 0} (s : Source S) (asked : Option Subcommand) (old : D) (e : Ended D) where
   -- a command that wasn't begun
-  pub minds_none : (source : S) (why : Ending) → AsksNothing asked why → work e.ending ≡ why → e.disk ≡ old → e.tape.entries ≡ [] → MindsWords s asked old e source source
+  pub minds_none : (source : S) (why : Ending) → AsksForNothing asked why → work e.ending ≡ why → e.disk ≡ old → e.tape.entries ≡ [] → MindsWords s asked old e source source
   minds_none source why none is disk tape = record {
     usage = λ usage. ⊎_elim (λ n. n.1) (λ memory. absurd (cc (sym (ap work usage) ∙ is ∙ memory))) none;
     none = λ _. ⊎_elim (λ n. inl (work_back e.ending ending.Usage (is ∙ n.0) (λ fine. absurd (cc fine)))) (λ memory. inr (work_back e.ending ending.OutOfMemory (is ∙ memory) (λ fine. absurd (cc fine)))) none;

@@ -25,7 +25,7 @@ use Rattle.ctr_steps.specs.Acting.{has_more}
 use Rattle.ctr_steps.specs.Runners.{runner_at, vacant, made_at, is_begun, after_stage, finished_with, session_places}
 use Rattle.ctr_steps.specs.Steps.{AddsEntry}
 use Rattle.ctr_world.specs.declared.parts.Parts.{Parts}
-use Rattle.ctr_world.specs.Turns.{AreSessions, AreUnbegun, HasStatementLeft, IsAsking, IsOver, IsAnswerTo, AnswersAll, EndsTurn}
+use Rattle.ctr_world.specs.Turns.{AreSessions, AreUnbegun, HasStatementLeft, IsAsking, NoneIsLeft, IsAnswerTo, AnswersAll, EndsTurn}
 use Rattle.ctr_top.specs.Serial.{HasFinished, count_in, RanLines, RanOrStopped, IsEntryOfLine, InLine}
 use Rattle.ctr_top.proofs.SerialLemmas.{count_of, count_cons, one_of, serial_front, line_more, count_mine, count_other, count_front}
 
@@ -348,7 +348,7 @@ ran_none lines h un = record {
 }
 
 -- behind the last line nothing is left
-pub over_at_end : {D : Type 0} (lines : List Line) (w : Parts D) → RanOrStopped lines (length lines) w → IsOver w × IsSerial lines w.steps.tape.items
+pub over_at_end : {D : Type 0} (lines : List Line) (w : Parts D) → RanOrStopped lines (length lines) w → NoneIsLeft w × IsSerial lines w.steps.tape.items
 over_at_end lines w (inr stopped) = (inl stopped.0, stopped.1)
 over_at_end lines w (inl going) =
     let ran = going.1 in (

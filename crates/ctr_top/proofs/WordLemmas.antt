@@ -8,7 +8,7 @@ use Rattle.clap.specs.declared.parser.matches.ArgMatches.{ArgMatches}
 use Rattle.ctr_top.specs.declared.ending.Ending.{Ending}
 use Rattle.ctr_top.specs.declared.ending.Ending.TheVariants as ending
 use Rattle.ctr_top.specs.declared.words.Subcommand.{Subcommand}
-use Rattle.ctr_top.specs.Words.{command_asked, has_folder, command_named, simple_command, unless_fault, AsksNothing}
+use Rattle.ctr_top.specs.Words.{command_asked, has_folder, command_named, simple_command, unless_fault, AsksForNothing}
 
 firsts : {X Y Z : Type 0} (f : X → Y × Z) (o : Option X) → option_map (λ p. p.0) (option_map f o) ≡ option_map (λ x. (f x).0) o
 firsts f None = refl
@@ -39,6 +39,6 @@ refused words kind folder among =
     wanted_none (name_in words) kind (fault_of simple_command words) among ∙ sym (ap (λ b. wanted (name_in words) b (fault_of simple_command words)) folder)
 
 -- a command that isn't begun was refused memory
-pub memory_only : (asked : Option Subcommand) (why : Ending) → AsksNothing asked why → (s : Subcommand) → asked ≡ Some s → why ≡ ending.OutOfMemory
+pub memory_only : (asked : Option Subcommand) (why : Ending) → AsksForNothing asked why → (s : Subcommand) → asked ≡ Some s → why ≡ ending.OutOfMemory
 memory_only asked why (inl none) s is = absurd (cc (none.1, is))
 memory_only asked why (inr memory) s is = memory

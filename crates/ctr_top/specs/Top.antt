@@ -114,7 +114,8 @@ pub record GoesForward {D S : Type 0} (g : Ghosts D) (s : Source S) (old new : D
 
 -- ---- the cause of each ending
 
--- the root is there, but the image stands for no database, and this is the first check of it that fails
+-- the root is there, but the image stands for no database, and this is the first check of it that
+-- fails
 abbrev pub IsBroken : Image → StoreFault → Type 0
 IsBroken image e = (root_value image.root ≢ None) × StandsForNone image × IsThinDamage image e
 

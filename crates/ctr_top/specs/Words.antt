@@ -60,8 +60,8 @@ command_asked words = if has_folder words
     (option_map (λ named. named.0) (subcommand_of simple_command words)) else None
 
 -- The ending of words that aren't run: they are no command, or memory was refused.
-abbrev pub AsksNothing : Option Subcommand → Ending → Type 0
-AsksNothing asked e = ((e ≡ ending.Usage) × (asked ≡ None)) ⊎ (e ≡ ending.OutOfMemory)
+abbrev pub AsksForNothing : Option Subcommand → Ending → Type 0
+AsksForNothing asked e = ((e ≡ ending.Usage) × (asked ≡ None)) ⊎ (e ≡ ending.OutOfMemory)
 
 -- The command whose last line is printed, with the counts that a report tells. Words that ask for
 -- none end with a line that is the same for each.

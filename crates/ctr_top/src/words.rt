@@ -2,7 +2,7 @@
 ghost use Rattle.std.specs.Prelude.{◌≡◌, map, IfOk, IfErr, Some, option_map, option_and_then};
 ghost use Rattle.std.specs.String.{string_bytes};
 ghost use Rattle.clap.specs.Words.{app_of};
-ghost use Rattle.ctr_top.specs.Words.{command_asked, has_folder, command_named, simple_command, AsksNothing};
+ghost use Rattle.ctr_top.specs.Words.{command_asked, has_folder, command_named, simple_command, AsksForNothing};
 
 use crate::ending::Ending;
 use clap::error::ErrorKind;
@@ -77,7 +77,7 @@ fn parse(alloc: Global, words: &[String]) -> Result<Option<Subcommand>, AllocErr
 /// What the words behind the program's name ask for. Words that are no command end with `Usage`.
 pub fn command(alloc: Global, words: &[String]) -> Result<Subcommand, Ending>
     ensures asked { IfOk result (λ s. command_asked (map string_bytes words.now) ≡ Some s) }
-    ensures unasked { IfErr result (AsksNothing (command_asked (map string_bytes words.now))) }
+    ensures unasked { IfErr result (AsksForNothing (command_asked (map string_bytes words.now))) }
 {
     match parse(alloc, words) {
         Ok(Some(subcommand)) => Ok(subcommand),

@@ -88,8 +88,8 @@ NoneLeft actor.Flusher w = ⊥
 NoneLeft actor.Cleaner w = ⊥
 
 -- nothing is left to do for any session, or the World is stopped
-abbrev pub IsOver : {D : Type 0} → Parts D → Type 0
-IsOver w = (w.stop ≢ None) ⊎ ((s : ℕ) → HasStatementLeft s w.steps → ⊥)
+abbrev pub NoneIsLeft : {D : Type 0} → Parts D → Type 0
+NoneIsLeft w = (w.stop ≢ None) ⊎ ((s : ℕ) → HasStatementLeft s w.steps → ⊥)
 
 -- nothing is due for the flusher, where nothing waits in the log, or for the cleaner
 abbrev pub NoneDue : {D : Type 0} → Actor → Parts D → Type 0

@@ -9,7 +9,7 @@ ghost use Rattle.ctr_gather.specs.Records.{IsSession};
 ghost use Rattle.ctr_steps.specs.Runners.{runner_at, MayStep};
 ghost use Rattle.ctr_steps.specs.Steps.{HasBounds, AddsEntry};
 ghost use Rattle.ctr_world.specs.World.{WalksOn, RunsFrom, Kept};
-ghost use Rattle.ctr_world.specs.Turns.{AnswersAll, AddsMore, HasStatementLeft, EndsTurn, IsOver, turns_left};
+ghost use Rattle.ctr_world.specs.Turns.{AnswersAll, AddsMore, HasStatementLeft, EndsTurn, NoneIsLeft, turns_left};
 
 use crate::answers::answer_all;
 use crate::left::{Next, first_left, next_of};
@@ -152,7 +152,7 @@ impl<D: Disk> Parts<D> {
         ensures kept { Kept D.Disk B.Opening self.new }
         ensures adds { AddsMore self.old.steps self.new.steps }
         ensures none { self.new.stop ≡ None → (s : ℕ) → HasStatementLeft s self.new.steps → ⊥ }
-        ensures over { IsOver self.old → self.new ≡ self.old }
+        ensures over { NoneIsLeft self.old → self.new ≡ self.old }
     {
         while let Turn::Went = self.step_first::<B>(alloc) {}
     }
@@ -164,7 +164,7 @@ impl<D: Disk> Parts<D> {
         ensures adds { AddsMore self.old.steps self.new.steps }
         ensures fewer { result ≡ Went → turns_left self.new < turns_left self.old }
         ensures none { result ≢ Went → self.new.stop ≡ None → (s : ℕ) → HasStatementLeft s self.new.steps → ⊥ }
-        ensures over { IsOver self.old → (result ≢ Went) × (self.new ≡ self.old) }
+        ensures over { NoneIsLeft self.old → (result ≢ Went) × (self.new ≡ self.old) }
     {
         if self.stop.is_some() {
             return Turn::Stopped;

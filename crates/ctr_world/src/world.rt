@@ -8,7 +8,7 @@ ghost use Rattle.ctr_model.specs.Database.{Database};
 ghost use Rattle.ctr_world.specs.Creating.{disk_after_making, IsUnmadeOrEmpty, CreateEnds, CreateCounts};
 ghost use Rattle.ctr_thin.specs.Thin.{StandsFor, Explains, OpenDiffers};
 ghost use Rattle.ctr_world.specs.declared.parts.Parts.{Parts};
-ghost use Rattle.ctr_world.specs.Turns.{NoneFull, EndsTurn, AreSessions, AreUnbegun, IsOver, HasStatementLeft};
+ghost use Rattle.ctr_world.specs.Turns.{NoneFull, EndsTurn, AreSessions, AreUnbegun, NoneIsLeft, HasStatementLeft};
 ghost use Rattle.ctr_world.specs.World.{IsOpenedOn, CanRun, CanOpen, Ends, StopsBy, RefusesWith};
 
 use crate::beginning::begin;
@@ -136,7 +136,7 @@ impl<D: Disk, B: Opening> World<D, B> {
         ensures ends { (base : Database) → IsTrue D.tells → StandsFor B.image base → Ends D.Disk B.Opening base
             result.tape.entries result.stop result.disk }
         ensures tape { (more : List HeldEntry) × (result.tape.entries ≡ self.steps.tape.items ++ more) }
-        ensures over { IsOver self → result.tape.entries ≡ self.steps.tape.items }
+        ensures over { NoneIsLeft self → result.tape.entries ≡ self.steps.tape.items }
         ensures not_full { NoneFull result.tape.entries }
         ensures later { B.start ≤ D.moment_of result.disk }
         ensures stops { StopsBy result.stop B.faults (D.faults_of result.disk) }

@@ -5,7 +5,7 @@ use Rattle.ctr_types.specs.Faults.{CountsFault}
 use Rattle.ctr_model.specs.declared.tape.Command.TheVariants as command
 use Rattle.ctr_top.specs.declared.ending.Ending.TheVariants as ending
 use Rattle.ctr_top.specs.declared.words.Subcommand.TheVariants.{Init, Run, Report}
-use Rattle.ctr_top.specs.Words.{command_told, AsksNothing}
+use Rattle.ctr_top.specs.Words.{command_told, AsksForNothing}
 use Rattle.ctr_top.specs.Top.{RanScript, RunCauses, RunLeaves, ReportLeaves, Makes}
 use Rattle.ctr_top.proofs.CompleteLemmas.{complete_of, work_is}
 use Rattle.ctr_top.proofs.EndLemmas.{prints, prints_any, minds_none, work_back}
@@ -18,7 +18,7 @@ use Rattle.ctr_top.proofs.run.run_serial.Goals as goal
 
 pub returns-in-Err-clause-printed : goal.returns-in-Err-clause-printed
 returns-in-Err-clause-printed g c =
-    let none = subst (AsksNothing _) (sym c.without_tape-outcome.ensures.ending) c.in-Err.ensures.unasked in
+    let none = subst (AsksForNothing _) (sym c.without_tape-outcome.ensures.ending) c.in-Err.ensures.unasked in
     prints_any g.K.Sink c.args.sink.now c.ending.new.sink c.ending.result c.without_tape-outcome.result c.ending.ensures.outcome c.ending.ensures.report _ none command.Run _ c.ending.ensures.printed
 
 pub returns-in-Err-clause-usage : goal.returns-in-Err-clause-usage

@@ -1,5 +1,5 @@
 use Rattle.std.proofs.Common.{subst}
-use Rattle.ctr_store.specs.Store.{View, Grows}
+use Rattle.ctr_store.specs.Store.{View, GrowsByExtent}
 use Rattle.ctr_store.specs.StoreInside.{view_of}
 use Rattle.ctr_store.proofs.StoreLaws.{on_ok_both, grows_seen}
 use Rattle.ctr_store.proofs.store.Store.grow_extent.Goals as goal
@@ -13,5 +13,5 @@ returns-clause-grows g c told sound =
     let new = c.is_err-self-inside.result in
     let e = c.grow-counted.ensures in
     on_ok_both c.grow-counted.result
-    (λ grows fold. subst (λ (v : View g.row.D.Denot). Grows d v (view_of d t new)) c.self.view_is (grows_seen d g.O.Origin.first g.met.D.Disk.only_now s t old new fold sound grows (e.blank told sound)))
+    (λ grows fold. subst (λ (v : View g.row.D.Denot). GrowsByExtent d v (view_of d t new)) c.self.view_is (grows_seen d g.O.Origin.first g.met.D.Disk.only_now s t old new fold sound grows (e.blank told sound)))
     (e.grows told) (e.fold told)

@@ -1,5 +1,5 @@
 use Rattle.std.proofs.Common.{sym, subst, ap, ◌∙◌}
-use Rattle.ctr_world.specs.Turns.{IsOver}
+use Rattle.ctr_world.specs.Turns.{NoneIsLeft}
 use Rattle.ctr_world.specs.World.{Ends}
 use Rattle.ctr_world.specs.declared.parts.Parts.{Parts}
 use Rattle.ctr_world.proofs.OpenLemmas.{ended}
@@ -16,5 +16,5 @@ returns-clause-ends g c = λ base told stands.
 pub returns-clause-over : goal.returns-clause-over
 returns-clause-over g c = λ over.
     c.from_vec.ensures
-    ∙ ap (λ (w : Parts g.row.D.Denot). w.steps.tape.items) (c.run.ensures.over (subst IsOver (sym c.self.view_is) over))
+    ∙ ap (λ (w : Parts g.row.D.Denot). w.steps.tape.items) (c.run.ensures.over (subst NoneIsLeft (sym c.self.view_is) over))
     ∙ ap (λ (w : Parts g.row.D.Denot). w.steps.tape.items) c.self.view_is
