@@ -1,4 +1,4 @@
-//! Calls on a store, one behind another: what they leave together. Laws alone.
+//! Calls on a store, one behind another: what they leave together. Laws, and a record that is logged.
 #![tactic(auto)]
 
 mod joining;
