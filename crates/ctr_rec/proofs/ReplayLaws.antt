@@ -1,12 +1,12 @@
 -- A record that is replayed folds, and one that folds is replayed; where a check fails, what is wanted
 -- isn't what is there.
-use Rattle.std.proofs.Common.{◌≡◌, ◌≢◌, inl, inr, ℕ, zero, suc, ◌+◌, ◌-◌, ◌*◌, ◌^◌, ◌<◌, ◌≤◌, ℤ, Bool, true, false, cond, eqb, ltb, List, [], ◌∷◌, ◌++◌, length, take, drop, slice_index, Option, Some, None, Result, Ok, Err, refl, sym, ◌∙◌, ap, subst, arith, FitsSigned, take-append-drop}
+use Rattle.std.proofs.Common.{◌≡◌, ◌≢◌, inl, inr, ℕ, zero, suc, ◌+◌, ◌-◌, ◌*◌, ◌<◌, ◌≤◌, ℤ, Bool, true, cond, eqb, ltb, List, [], ◌∷◌, ◌++◌, length, take, drop, slice_index, Option, Some, None, Result, Ok, Err, refl, sym, ◌∙◌, ap, subst, arith, FitsSigned, take-append-drop}
 use Rattle.std.specs.Prelude.{⊤}
-use Rattle.std.specs.Int.{w64, cast_signed}
+use Rattle.std.specs.Int.{w64}
 use Rattle.std.proofs.Math.Facts.{sfits_to_z}
 use Rattle.std.proofs.lemmas.Int.{of_z-to_z}
 use Rattle.std.proofs.lemmas.Bool.{ltb-true, ltb-false, le-ltb, lt-ltb, eqb-true, eqb-false}
-use Rattle.std.proofs.lemmas.List.{append-nil, length-drop, length-take-le, get_or-drop, drop_at, drop-drop}
+use Rattle.std.proofs.lemmas.List.{length-drop, get_or-drop, drop_at, drop-drop}
 use Rattle.ctr_types.specs.declared.value.Column.{Column}
 use Rattle.ctr_types.specs.declared.value.Kind.{Kind}
 use Rattle.ctr_types.specs.declared.value.Kind.TheVariants as kind
@@ -30,13 +30,12 @@ use Rattle.ctr_value.proofs.ValueLaws.{row_said}
 use Rattle.ctr_rec.specs.declared.item.Item.{Item}
 use Rattle.ctr_rec.specs.declared.item.Item.TheVariants.{Put, Remove, Create, Drop}
 use Rattle.ctr_rec.specs.declared.decoding.BadRecord.{BadRecord}
-use Rattle.ctr_rec.specs.Items.{Fits, AreItems, KindFits, ColumnsFit}
+use Rattle.ctr_rec.specs.Items.{KindFits, ColumnsFit}
 use Rattle.ctr_rec.proofs.SchemaLaws.{one_schema, change_keeps}
-use Rattle.ctr_rec.specs.Encode.{IsSpelled, IsItemBytes}
 use Rattle.ctr_rec.specs.Fold.{IsThere, Stands, StandAll, Folds, FoldsRecord, HasSchemas}
 use Rattle.ctr_rec.specs.Decode.{unwanted, decode_bytes, decode_number, decode_byte, decode_tag, decode_name, many, decode_schema, decode_key, decode_payload, decode_put, decode_remove, decode_create, decode_body, least_body, decode_item, decode_next_item, decode_all}
 use Rattle.ctr_rec.specs.Replay.{wanted_at, read_count, read_head, number_there, check_table, check_text, check_texts, read_wide, row_told, replay_row, replay_put, replay_remove, replay_create, replay_body, replay_item, replay_items, read_end, replay_record}
-use Rattle.ctr_rec.proofs.RecordLaws.{AreBytes-drop, bind_ok, guard_ok, done, ok_is, Takes, bytes_take, number_takes, byte_takes, tag_takes, name_takes, many_take}
+use Rattle.ctr_rec.proofs.RecordLaws.{AreBytes-drop, bind_ok, guard_ok, done, ok_is, bytes_take, number_takes, byte_takes, tag_takes, name_takes}
 use Rattle.ctr_rec.proofs.ItemLaws.{key_takes, item_takes, guard_ended, all_take, all_again}
 use Rattle.ctr_rec.proofs.FairLaws.{Fair, fair_bind, fair_if, fair_both, fair_else, err_fair, bytes_fair, number_fair, byte_fair, tag_fair, name_fair, key_fair, schema_fair}
 

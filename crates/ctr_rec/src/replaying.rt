@@ -1,7 +1,7 @@
 // The parts of a record, for who replays it over the tables that are there: each is read and checked by itself, so
 // that a change is done before the next one is read.
 ghost use Rattle.std.specs.Prelude.{◌≡◌, ◌<◌, ◌^◌, length, IfOk, OnOk};
-ghost use Rattle.ctr_rec.specs.Decode.{Decodes, decode_key, decode_schema};
+ghost use Rattle.ctr_rec.specs.Decode.{Decodes};
 ghost use Rattle.ctr_rec.specs.Replay.{read_count, read_head, read_wide, read_end, wanted_at};
 
 use crate::decoding::{

@@ -1,5 +1,5 @@
 -- Records that are loaded one after another, and where that ends.
-use Rattle.std.proofs.Common.{◌≡◌, ◌≢◌, inl, inr, ℕ, ◌+◌, ◌^◌, ◌<◌, min, List, [], ◌∷◌, ◌++◌, length, Option, Some, None, Result, Ok, Err, refl, sym, ◌∙◌, ap, subst, arith, append_assoc, length-append}
+use Rattle.std.proofs.Common.{◌≡◌, ◌≢◌, inl, inr, ℕ, ◌+◌, ◌<◌, min, List, [], ◌∷◌, ◌++◌, length, Option, Some, None, Result, Ok, Err, refl, sym, ◌∙◌, ap, subst, arith, append_assoc, length-append}
 use Rattle.std.specs.Prelude.{⊤, MatchResult, OnOk, IfErr}
 use Rattle.ctr_types.specs.declared.file.File.{File}
 use Rattle.ctr_disk.specs.declared.disk.Image.{Image}
@@ -23,7 +23,7 @@ use Rattle.ctr_log.proofs.VisitLaws.{bytes-append}
 use Rattle.ctr_model.specs.Database.{Database}
 use Rattle.ctr_records.specs.declared.decoding.BadRecord.{BadRecord as BadCheckpoint}
 use Rattle.ctr_rec.specs.declared.decoding.BadRecord.{BadRecord}
-use Rattle.ctr_rec.specs.Fold.{FoldsRecord, FoldsRecords, HasSchemas}
+use Rattle.ctr_rec.specs.Fold.{FoldsRecord, FoldsRecords}
 use Rattle.ctr_rec.specs.Replay.{replay_record}
 use Rattle.ctr_thin.specs.declared.opening.OpenError.{OpenError}
 use Rattle.ctr_thin.specs.declared.opening.OpenError.TheVariants as open_error

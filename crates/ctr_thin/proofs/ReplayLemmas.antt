@@ -1,5 +1,5 @@
 -- What replaying a change finds of the tables, and makes of them.
-use Rattle.std.proofs.Common.{◌≡◌, ◌+◌, ◌-◌, ◌*◌, ◌^◌, ◌<◌, ◌≤◌, ℕ, ℤ, List, [], ◌∷◌, length, drop, min, refl, sym, ◌∙◌, ap, subst, arith, Option, Some, None, Result, Ok, Err, suc, FitsSigned}
+use Rattle.std.proofs.Common.{◌≡◌, ◌+◌, ◌-◌, ◌*◌, ◌^◌, ◌<◌, ◌≤◌, ℕ, ℤ, List, length, drop, min, refl, sym, ◌∙◌, ap, subst, arith, Option, Some, None, Result, Ok, Err, suc, FitsSigned}
 use borrow.Author.Gap.{read_sfits}
 use Rattle.std.specs.Int.{w64, cast_signed}
 use Rattle.ctr_bytes.specs.Fields.{field}
@@ -15,7 +15,7 @@ use Rattle.ctr_rec.specs.declared.decoding.RecordError.{RecordError}
 use Rattle.ctr_rec.specs.declared.decoding.RecordError.TheVariants as record_error
 use Rattle.ctr_rec.specs.declared.decoding.BadRecord.{BadRecord}
 use Rattle.ctr_rec.specs.Decode.{IsFault, Decodes, unwanted, decode_bytes, decode_key}
-use Rattle.ctr_rec.specs.Fold.{HasTable, IsThere, HasSchemas}
+use Rattle.ctr_rec.specs.Fold.{IsThere, HasSchemas}
 use Rattle.ctr_rec.specs.Items.{ColumnsFit}
 use Rattle.ctr_rec.specs.Replay.{wanted_at, number_there, check_table, check_texts, read_head, read_wide, row_told, replay_row, replay_body, replay_item, replay_items}
 use Rattle.ctr_value.specs.Payload.{width, IsNoPayload as RefusesPayload}

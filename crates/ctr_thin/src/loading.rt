@@ -1,5 +1,5 @@
 // A visitor of a log that checks each record as it is given, and loads it.
-ghost use Rattle.std.specs.Prelude.{◌≡◌, ◌≢◌, ◌+◌, ℕ, min, [], Some, None, Ok, Err, IfOk, MatchResult};
+ghost use Rattle.std.specs.Prelude.{◌≡◌, ◌≢◌, ◌+◌, ℕ, min, Some, None, Ok, Err, IfOk, MatchResult};
 ghost use Rattle.ctr_log.specs.Visits.{visit_of};
 ghost use Rattle.ctr_rec.specs.Fold.{HasSchemas};
 ghost use Rattle.ctr_thin.specs.declared.opening.OpenError.TheVariants.{Damaged};

@@ -1,6 +1,6 @@
 // A record is replayed over the database that is loaded: each of its changes is read, checked and done before the
 // next one is read.
-ghost use Rattle.std.specs.Prelude.{◌≡◌, ◌≢◌, ◌+◌, ◌-◌, ◌<◌, ◌^◌, length, drop, Some, Ok, Err, OnOk, OnErr};
+ghost use Rattle.std.specs.Prelude.{◌≡◌, ◌+◌, ◌-◌, ◌<◌, ◌^◌, Some, Ok, Err, OnErr};
 ghost use Rattle.ctr_model.specs.Database.{table_at};
 ghost use Rattle.ctr_rec.specs.declared.decoding.RecordError.TheVariants.{Bad};
 ghost use Rattle.ctr_rec.specs.Decode.{Decodes};

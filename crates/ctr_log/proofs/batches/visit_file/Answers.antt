@@ -1,4 +1,4 @@
-use Rattle.std.proofs.Common.{◌≡◌, ◌∙◌, ◌+◌, ◌++◌, [], ◌∷◌, ◌^◌, ◌<◌, ℕ, List, length, drop, get_or, ap, subst, sym, refl, arith, append_assoc, Ok}
+use Rattle.std.proofs.Common.{◌≡◌, ◌∙◌, ◌+◌, ◌++◌, [], ◌∷◌, ◌^◌, ◌<◌, ℕ, List, length, drop, get_or, ap, subst, sym, refl, arith, Ok}
 use Rattle.std.proofs.lemmas.Result.{err_from_is_err_and}
 use Rattle.ctr_disk.specs.Image.{content}
 use Rattle.ctr_disk.specs.declared.fault.StoreFault.TheVariants.{Fault}
@@ -7,7 +7,6 @@ use Rattle.ctr_disk.proofs.Moments.{reads_joined}
 use Rattle.ctr_log.specs.Reading.{HasSome, HasFrames, RefusesOrFails}
 use Rattle.ctr_log.specs.Batch.{FindsBatch, OpensBatch, IsRead, IsWholeBatch}
 use Rattle.ctr_log.specs.Visits.{frame_visits, RefusesOne}
-use Rattle.ctr_log.specs.declared.visitor.Visit.{Visit}
 use Rattle.ctr_home.specs.Checks.{check_of, judged}
 use Rattle.ctr_log.specs.LogChecks.{log_checks, gate_checks, file_damage, sound_batch_visits, sound_visits, IsThisDamage}
 use Rattle.ctr_log.proofs.ReadLemmas.{first_gate}

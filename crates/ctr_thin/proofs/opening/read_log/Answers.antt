@@ -1,10 +1,9 @@
-use Rattle.std.proofs.Common.{◌≡◌, ◌∙◌, List, ℕ, [], ap, sym, subst, refl}
+use Rattle.std.proofs.Common.{◌∙◌, [], sym, subst, refl}
 use Rattle.ctr_disk.specs.Image.{content}
 use Rattle.ctr_log.specs.Logs.{Log}
 use Rattle.ctr_log.specs.Kept.{log_in}
 use Rattle.ctr_log.specs.Reading.{log_file}
 use Rattle.ctr_model.specs.Database.{Database}
-use Rattle.ctr_thin.specs.declared.opening.OpenError.{OpenError}
 use Rattle.ctr_thin.specs.Thin.{Loaded, HasLoaded, MakesDatabase, RefusesLogOf, OpenDiffers}
 use Rattle.ctr_thin.proofs.LoadLemmas.{nothing_has, none_of, log_ended, log_made, log_begun, early_differs, early_faults, ended_counts}
 use Rattle.ctr_thin.proofs.opening.read_log.Goals as goal
