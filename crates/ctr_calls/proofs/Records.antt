@@ -11,7 +11,7 @@ use Rattle.ctr_records.specs.declared.decoding.BadRecord.{BadRecord}
 use Rattle.ctr_meta.specs.Kept.{TablesKept, NumbersFit, RoomLeft, opens_added, items_added}
 use Rattle.ctr_meta.specs.Needs.{needs}
 use Rattle.ctr_redo.specs.Overlaid.{overlay_of}
-use Rattle.ctr_store.specs.Changes.{LiesInside}
+use Rattle.ctr_redo.specs.Fitting.{LiesInside}
 use Rattle.ctr_store.specs.RecordChecks.{record_damage}
 use Rattle.ctr_store.specs.Store.{View, Logs, MayLog, unmet_need, TakesRecord, KeepsRoom, LeavesPage}
 use Rattle.ctr_calls.specs.OneRecord.{IsUnfit, WhyNotLogged, LogsOne, AnswersLog}
@@ -54,11 +54,14 @@ module _ {D : Type 0} (r : Record) (a b : View D) (keeps : KeepsRoom a b) where
   taken_behind lsn c takes =
       let room = takes.room in
       let more = keeps.room in
+      let fewer = keeps.few in
+      let one_more = takes.few in
       record {
         number = refl;
         next = takes.next ∙ ap (λ (n : ℕ). n + 1) keeps.next;
         room = omega (arith, room, more);
         left = subst (λ (m : TablesKept). RoomLeft (opens_added r) (items_added r) m c.meta) keeps.meta takes.left;
+        few = omega (arith, fewer, one_more);
         counted = takes.counted ∙ keeps.counted;
       }
 
