@@ -60,6 +60,7 @@ other_is_log : (n : ℕ) → IsLogFile (other_file n)
 other_is_log zero = tt
 other_is_log (suc n) = tt
 
+-- the file that a writer goes on in is one of the log
 pub by_is_log : (older : Bool) (file first : ℕ) (log : Log) (image : Image) → WritesBy older file first log image → IsLogFile log.file
 by_is_log false file first log image w = subst IsLogFile (sym w.file_is) (file_is_log file)
 by_is_log true file first log image w = subst IsLogFile (sym w.file_is) (other_is_log file)
@@ -105,6 +106,7 @@ by_same true file first log old new same w =
       };
     }
 
+-- it goes on behind what is held where the files of the log are as they were
 pub writes_same : (file first : ℕ) (log : Log) (old new : Image) → KeepsLogs old new → WritesBehind file first log old → WritesBehind file first log new
 writes_same file first log old new same w = record { numbered = w.numbered; by = by_same log.older file first log old new same w.by }
 
