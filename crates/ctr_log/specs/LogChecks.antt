@@ -1,6 +1,6 @@
 -- The checks of a file of the log, in their order. The first that fails is the damage that is told; the
 -- records of the batches before it are what is read.
-use Rattle.std.specs.Prelude.{◌≡◌, ◌==◌, ◌+◌, ◌-◌, if◌then◌else◌, ℕ, zero, suc, min, max, List, [], ◌∷◌, ◌++◌, length, take, drop, slice_index, Result, Ok, Err, MatchResult, ⊤}
+use Rattle.std.specs.Prelude.{◌≡◌, ◌==◌, ◌+◌, ◌-◌, if◌then◌else◌, ℕ, zero, suc, min, max, List, [], ◌∷◌, ◌++◌, length, take, drop, slice_index, Result, Ok, Err, IfErr, MatchResult, ⊤}
 use Rattle.ctr_types.specs.declared.file.File.{File}
 use Rattle.ctr_disk.specs.declared.disk.Image.{Image}
 use Rattle.ctr_disk.specs.Image.{content}
@@ -9,7 +9,7 @@ use Rattle.ctr_disk.specs.declared.fault.StoreFault.TheVariants.{Fault, Damaged}
 use Rattle.ctr_bytes.specs.Fields.{field}
 use Rattle.ctr_home.specs.declared.checks.Check.{Check}
 use Rattle.ctr_home.specs.Checks.{check_of, judged}
-use Rattle.ctr_log.specs.Reading.{log_file}
+use Rattle.ctr_log.specs.Reading.{log_file, RefusesOrFails, HasSome}
 use Rattle.ctr_log.specs.Kept.{log_in, other_file, has_newer}
 use Rattle.ctr_log.specs.Visits.{frame_visits, OnRead}
 use Rattle.ctr_log.specs.declared.visitor.Visit.{Visit}
@@ -130,3 +130,10 @@ TellsDamage damage result = MatchResult result (λ _. damage ≡ Ok tt) (IsThisD
 -- the same where a visitor may refuse a record before that
 abbrev pub VisitsDamage : {T E : Type 0} → Result ⊤ StoreFault → Result T (VisitError E) → Type 0
 VisitsDamage damage result = MatchResult result (λ _. damage ≡ Ok tt) (OnRead (IsThisDamage damage))
+
+-- What is said of a file whose bytes are told: where a check failed, no log stands there, and the first that
+-- fails is told; what was read to its end has no damage.
+pub record TellsFile {T E : Type 0} (file : File) (first : ℕ) (bytes : List ℕ) (result : Result T (VisitError E))
+    : Type 0 where
+  pub refused : IfErr result (OnRead (RefusesOrFails file (HasSome first bytes)))
+  pub damage : VisitsDamage (file_damage file first bytes) result

@@ -1,7 +1,12 @@
 -- A file of the log: batches of records, each behind a gate, up to the first closed gate.
-use Rattle.std.specs.Prelude.{◌≡◌, ◌≢◌, ◌⊎◌, ℕ, zero, suc, Bool, ◌+◌, ◌^◌, ◌<◌, List, [], ◌∷◌, ◌++◌, length, take, drop, Result, OnOk, ◌≤◌}
+use Rattle.std.specs.Prelude.{◌≡◌, ◌≢◌, ◌⊎◌, ℕ, zero, suc, Bool, ◌+◌, ◌^◌, ◌<◌, List, [], ◌∷◌, ◌++◌, length, take, drop, Result, Err, OnOk, OnErr, ◌≤◌}
 use Rattle.ctr_disk.specs.declared.disk.Image.{Image}
 use Rattle.ctr_types.specs.declared.file.File.{File}
+use Rattle.ctr_types.specs.Faults.{HasFault}
+use Rattle.ctr_disk.specs.declared.disk.Disk.{Ghosts}
+use Rattle.ctr_disk.specs.declared.fault.StoreFault.{StoreFault}
+use Rattle.ctr_disk.specs.declared.fault.StoreFault.TheVariants.{Fault}
+use Rattle.ctr_disk.specs.Crash.{StraysOnlyPast}
 use Rattle.ctr_disk.specs.Image.{content, OtherFilesStay}
 use Rattle.ctr_bytes.specs.Fields.{spelled, field}
 
@@ -122,6 +127,15 @@ pub record IsEmptied {T E : Type 0} (old new : Log) (result : Result T E) : Type
   pub room : old.room ≤ new.room
   pub number : new.first + length new.buffered ≡ old.first + length old.buffered
   pub later : old.first ≤ new.first
+
+-- What a flush counts at a place of its file: the clock doesn't go back, the one error is a fault of the
+-- disk, which is counted, and only a batch at the last places of a file counts as a stray.
+pub record CountsFlush {D T : Type 0} (g : Ghosts D) (place : ℕ) (old new : D) (result : Result T StoreFault)
+    : Type 0 where
+  pub refused : OnErr result (result ≡ Err Fault)
+  pub later : g.moment_of old ≤ g.moment_of new
+  pub faults : HasFault Fault (g.faults_of old) (g.faults_of new) result
+  pub stray : StraysOnlyPast (g.strays_of old) (g.strays_of new) (place + 2 ^ 61) result
 
 -- a batch that is to stand at the closed gate behind the log, with a closed gate behind it
 pub record Extends (first : ℕ) (bs : Batches) (rs : List (List ℕ)) (place : ℕ) (body bytes : List ℕ)

@@ -12,7 +12,7 @@ ghost use Rattle.ctr_log.specs.Damage.{IsDamageOf};
 ghost use Rattle.ctr_log.specs.Logs.{Batches, frame, records, HasLog};
 ghost use Rattle.ctr_log.specs.Reading.{RefusesOrFails, ReadDiffers, AreFrames, HasFrames, HasSome, FitsFile};
 ghost use Rattle.ctr_log.specs.Kept.{log_in};
-ghost use Rattle.ctr_log.specs.LogChecks.{head_checks, count_checks, frames_in, frame_checks, gate_checks, file_damage, sound_visits, IsThisDamage, TellsDamage, VisitsDamage};
+ghost use Rattle.ctr_log.specs.LogChecks.{head_checks, count_checks, frames_in, frame_checks, gate_checks, file_damage, sound_visits, IsThisDamage, TellsDamage, TellsFile};
 ghost use Rattle.ctr_log.specs.Batch.{HeadFits, CountFits, FindsBatch, IsWholeBatch, OpensBatch, EndsLog};
 ghost use Rattle.ctr_log.specs.Visits.{frame_visits, IsGiven, GivesSome, RefusesOne, Visits, OnRead, UnlessRead, EndsEarly};
 
@@ -201,10 +201,8 @@ pub fn visit_file<D: Disk, V: Visitor>(
     ensures found { IsTrue D.tells → IfOk result (λ end. EndsLog first (content file (D.reads disk.old)) end.place end.next) }
     ensures only { (bs : Batches) → IsTrue D.tells → HasLog first bs (content file (D.reads disk.old)) → IfOk result (λ end. end.next ≡ first + length (records bs)) × UnlessRead (log_in (content file (D.reads disk.old)) ≡ records bs) result }
     ensures visits { IsTrue D.tells → Visits V.has_seen V.refuses visitor.old visitor.new (sound_visits file first (content file (D.reads disk.old))) result }
-    ensures refused { IsTrue D.tells → IfErr result (OnRead (RefusesOrFails file (HasSome first (content file (D.reads disk.old))))) }
-    ensures damage { IsTrue D.tells → VisitsDamage (file_damage file first (content file (D.reads disk.old))) result }
-    ensures always { MatchResult result (λ _. GivesSome V.has_seen visitor.old visitor.new) (EndsEarly V.has_seen V.refuses visitor.old) }
-    ensures low { IfOk result (λ end. FitsFile first end.place end.next) }
+    ensures damage { IsTrue D.tells → TellsFile file first (content file (D.reads disk.old)) result }
+    ensures always { MatchResult result (λ end. GivesSome V.has_seen visitor.old visitor.new × FitsFile first end.place end.next) (EndsEarly V.has_seen V.refuses visitor.old) }
     ensures quiet { OnlyReads D.Disk disk.old disk.new }
     ensures counts { CountsAs D.Disk (Read (Store Fault)) disk.old disk.new result }
 {

@@ -10,7 +10,7 @@ ghost use Rattle.ctr_log.specs.declared.visitor.VisitError.TheVariants.{Read};
 ghost use Rattle.ctr_log.specs.Logs.{Batches, records, HasLog};
 ghost use Rattle.ctr_log.specs.Reading.{RefusesOrFails, HasSome, OpensLog, NamesLog, log_file};
 ghost use Rattle.ctr_log.specs.Kept.{log_in, begins_at, NamesKept, HoldsLog, RefusesKept, OpensKept, WritesBehind};
-ghost use Rattle.ctr_log.specs.LogChecks.{file_damage, kept_damage, sound_visits, sound_kept_visits, IsThisDamage, VisitsDamage};
+ghost use Rattle.ctr_log.specs.LogChecks.{file_damage, kept_damage, sound_visits, sound_kept_visits, IsThisDamage, VisitsDamage, TellsFile};
 ghost use Rattle.ctr_log.specs.Visits.{kept_visits, IsGiven, Visits, StopsAt, OnRead, UnlessRead, EndsEarly, IsToldBy};
 
 use crate::batches::visit_file;
@@ -38,8 +38,7 @@ pub fn visit_named<D: Disk, V: Visitor>(
     ensures only { (bs : Batches) → IsTrue D.tells → HasLog root.now.first bs (content (log_file root.now.file) (D.reads disk.old))
         → UnlessRead (log_in (content (log_file root.now.file) (D.reads disk.old)) ≡ records bs) result }
     ensures visits { IsTrue D.tells → Visits V.has_seen V.refuses visitor.old visitor.new (sound_visits (log_file root.now.file) root.now.first (content (log_file root.now.file) (D.reads disk.old))) result }
-    ensures refused { IsTrue D.tells → IfErr result (OnRead (RefusesOrFails (log_file root.now.file) (HasSome root.now.first (content (log_file root.now.file) (D.reads disk.old))))) }
-    ensures damage { IsTrue D.tells → VisitsDamage (file_damage (log_file root.now.file) root.now.first (content (log_file root.now.file) (D.reads disk.old))) result }
+    ensures damage { IsTrue D.tells → TellsFile (log_file root.now.file) root.now.first (content (log_file root.now.file) (D.reads disk.old)) result }
     // Whatever the disk tells.
     ensures always { MatchResult result (λ log. log.buffered ≡ []) (EndsEarly V.has_seen V.refuses visitor.old) }
     ensures quiet { OnlyReads D.Disk disk.old disk.new }

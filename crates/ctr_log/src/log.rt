@@ -9,7 +9,7 @@ ghost use Rattle.ctr_disk.specs.Crash.{Only, StraysOnlyPast};
 ghost use Rattle.ctr_disk.specs.Device.{LeavesOnly, IsDurable, IsSettled, OnlyReads, Counts, CountsAs};
 ghost use Rattle.ctr_bytes.specs.Fields.{spelled};
 ghost use Rattle.ctr_log.specs.Reading.{IsEmptyAt};
-ghost use Rattle.ctr_log.specs.Logs.{Batches, headed, sealed, frame, frames, records, HasLog, HasBatches, GoesOn, next_place, Extends, IsBeforeOrAfter, IsAfter, IsFlushing, IsEmptied, with_batch};
+ghost use Rattle.ctr_log.specs.Logs.{Batches, headed, sealed, frame, frames, records, HasLog, HasBatches, GoesOn, next_place, Extends, IsBeforeOrAfter, IsAfter, IsFlushing, IsEmptied, CountsFlush, with_batch};
 ghost use Rattle.ctr_log.specs.Kept.{next_file, StaysDropped, CanStart, CanBegin, IsStarted, HoldsPrefix, GoesOnBehind, WritesBehind, KeepsPrefix, GoesOnWith};
 
 use ctr_bytes::{put_u32, put_u64};
@@ -172,11 +172,7 @@ impl LogFile {
             → OnOk result (GoesOnWith named oldest self.old.buffered self.new (D.reads disk.old) (D.reads disk.new)) }
         ensures emptied { IsEmptied self.old self.new result }
         ensures durable { IsDurable D.Disk disk.old → OnOk result (IsDurable D.Disk disk.new) }
-        ensures refused { OnErr result (result ≡ Err Fault) }
-        ensures later { D.moment_of disk.old ≤ D.moment_of disk.new }
-        ensures faults { HasFault Fault (D.faults_of disk.old) (D.faults_of disk.new) result }
-        // Only a write at the last places counts as a stray.
-        ensures stray { StraysOnlyPast (D.strays_of disk.old) (D.strays_of disk.new) (self.old.place + 2 ^ 61) result }
+        ensures counts { CountsFlush D.Disk self.old.place disk.old disk.new result }
     {
         if self.count == 0 {
             return Ok(());
@@ -209,11 +205,7 @@ impl LogFile {
             → OnOk result (GoesOnBehind named oldest (self.old.buffered ++ first.now ∷ []) self.new (D.reads disk.old) (D.reads disk.new)) }
         ensures writer { OnOk result (IsStarted self.old self.new) }
         ensures durable { OnOk result (IsDurable D.Disk disk.new) }
-        ensures refused { OnErr result (result ≡ Err Fault) }
-        ensures later { D.moment_of disk.old ≤ D.moment_of disk.new }
-        ensures faults { HasFault Fault (D.faults_of disk.old) (D.faults_of disk.new) result }
-        // Only a write at the last places counts as a stray.
-        ensures stray { StraysOnlyPast (D.strays_of disk.old) (D.strays_of disk.new) (self.old.place + 2 ^ 61) result }
+        ensures counts { CountsFlush D.Disk self.old.place disk.old disk.new result }
     {
         match self.flush_before(disk, first) {
             Ok(()) => self.begin(disk, first),
@@ -229,10 +221,7 @@ impl LogFile {
             → OnOk result (GoesOnWith named oldest self.old.buffered self.new (D.reads disk.old) (D.reads disk.new)) }
         ensures emptied { IsEmptied self.old self.new result }
         ensures durable { IsDurable D.Disk disk.old → OnOk result (IsDurable D.Disk disk.new) }
-        ensures refused { OnErr result (result ≡ Err Fault) }
-        ensures later { D.moment_of disk.old ≤ D.moment_of disk.new }
-        ensures faults { HasFault Fault (D.faults_of disk.old) (D.faults_of disk.new) result }
-        ensures stray { StraysOnlyPast (D.strays_of disk.old) (D.strays_of disk.new) (self.old.place + 2 ^ 61) result }
+        ensures counts { CountsFlush D.Disk self.old.place disk.old disk.new result }
     {
         self.flush(disk)
     }

@@ -1,14 +1,31 @@
 use Rattle.std.proofs.Common.{◌≡◌, ◌∙◌, ◌+◌, ◌^◌, ◌<◌, length, drop, ap, sym, refl, arith}
+use Rattle.std.specs.Prelude.{IsTrue}
 use Rattle.std.proofs.lemmas.Result.{err_from_is_err_and}
 use Rattle.ctr_disk.specs.declared.disk.Image.{Image}
 use Rattle.ctr_disk.specs.Image.{content, section}
 use Rattle.ctr_bytes.proofs.FieldLaws.{field_fits}
 use Rattle.ctr_log.specs.Batch.{OpensBatch}
 use Rattle.ctr_home.specs.Checks.{judged}
-use Rattle.ctr_log.specs.LogChecks.{gate_checks}
+use Rattle.ctr_log.specs.LogChecks.{gate_checks, frame_bytes}
 use Rattle.ctr_log.proofs.DamageLaws.{this_damage, this_undamaged, shut_passes, head_told, frames_told, count_told}
 use Rattle.ctr_log.proofs.BatchLemmas.{part_whole, refuses_store, refuses_undamaged, gate_read, head_lacks, frames_lack, count_lacks, batch_found, frames_low}
+use Rattle.ctr_log.proofs.batches.read_batch.Given.{Over}
+use Rattle.ctr_log.proofs.batches.read_batch.Goals.{After-deref}
 use Rattle.ctr_log.proofs.batches.read_batch.Goals as goal
+
+-- the frames that were read are this part of the file
+part : (g : Over) (c : After-deref g) → IsTrue g.D.Disk.tells → c.deref.result.now ≡ section (c.args.gate + 21) c.in_ok-len.len (content c.args.file (g.D.Disk.reads c.args.disk.now))
+part g c told =
+    c.deref.ensures.value ∙ c.in_ok-frames.ensures.told told ∙ ap (λ (i : Image). section (c.args.gate + 21) c.in_ok-len.len (content c.args.file i)) c.in_ok-read.ensures.same.0
+
+-- and all of the batch's frames
+whole : (g : Over) (c : After-deref g) → IsTrue g.D.Disk.tells → c.args.size ≡ length (content c.args.file (g.D.Disk.reads c.args.disk.now))
+    → c.deref.result.now ≡ frame_bytes (drop c.args.gate (content c.args.file (g.D.Disk.reads c.args.disk.now)))
+whole g c told size =
+    part_whole c.args.size c.args.gate c.args.next (content c.args.file (g.D.Disk.reads c.args.disk.now)) c.read.new.into (c.in_ok-read.ensures.told told) size (omega (arith, size)) (omega arith) c.if-head-ne1.false c.in_ok-len.len c.deref.result.now c.in_ok-len.ensures.fits.0 c.in_ok-len.ensures.fits.1 (part g c told)
+
+few : (g : Over) (c : After-deref g) → length c.deref.result.now < 2 ^ 64
+few g c = omega (arith, ap length c.deref.ensures.value, c.in_ok-frames.ensures.long.0, c.in_ok-frames.ensures.long.1)
 
 pub returns-then-head-ne1-clause-found : goal.returns-then-head-ne1-clause-found
 returns-then-head-ne1-clause-found g c told size =
@@ -34,33 +51,28 @@ returns-in_err-count-clause-refused g c told size =
     let bytes = content c.args.file (g.D.Disk.reads c.args.disk.now) in
     let p = err_from_is_err_and c.from_residual-in_err-count.result c.from_residual-in_err-count.ensures.1 in
     let fails = c.in_err-count.ensures.found in
-    let part : c.deref.result.now ≡ section (c.args.gate + 21) c.in_ok-len.len bytes =
-    c.deref.ensures.value ∙ c.in_ok-frames.ensures.told told ∙ ap (λ (i : Image). section (c.args.gate + 21) c.in_ok-len.len (content c.args.file i)) c.in_ok-read.ensures.same.0 in
+    let at = (goal.at.returns-in_err-count-clause-refused g c).After-deref in
     rw (p.1, p.2) (refuses_store c.args.file (OpensBatch c.args.next (drop c.args.gate bytes)) c.in_err-count.field-0.0 fails.0
     (frames_lack c.args.size c.args.gate c.args.next bytes c.read.new.into (c.in_ok-read.ensures.told told) size (omega (arith, size)) (omega arith) c.if-head-ne1.false c.in_ok-len.len c.deref.result.now c.in_ok-len.ensures.fits.0
-    c.in_ok-len.ensures.fits.1 part fails.1))
+    c.in_ok-len.ensures.fits.1 (part g at told) fails.1))
 
 pub returns-in_err-check_count-clause-refused : goal.returns-in_err-check_count-clause-refused
 returns-in_err-check_count-clause-refused g c told size =
     let bytes = content c.args.file (g.D.Disk.reads c.args.disk.now) in
     let p = err_from_is_err_and c.from_residual-in_err-check_count.result c.from_residual-in_err-check_count.ensures.1 in
     let fails = c.in_err-check_count.ensures.fits in
-    let part : c.deref.result.now ≡ section (c.args.gate + 21) c.in_ok-len.len bytes =
-    c.deref.ensures.value ∙ c.in_ok-frames.ensures.told told ∙ ap (λ (i : Image). section (c.args.gate + 21) c.in_ok-len.len (content c.args.file i)) c.in_ok-read.ensures.same.0 in
-    let few : length c.deref.result.now < 2 ^ 64 = omega (arith, ap length c.deref.ensures.value, c.in_ok-frames.ensures.long.0, c.in_ok-frames.ensures.long.1) in
+    let at = (goal.at.returns-in_err-check_count-clause-refused g c).After-deref in
     rw (p.1, p.2) (refuses_store c.args.file (OpensBatch c.args.next (drop c.args.gate bytes)) c.in_err-check_count.field-0.0 fails.0
     (count_lacks c.args.size c.args.gate c.args.next bytes c.read.new.into (c.in_ok-read.ensures.told told) size (omega (arith, size)) (omega arith) c.if-head-ne1.false c.in_ok-len.len c.deref.result.now c.in_ok-len.ensures.fits.0
-    c.in_ok-len.ensures.fits.1 part c.in_ok-count.count c.in_ok-count.ensures.found few fails.1))
+    c.in_ok-len.ensures.fits.1 (part g at told) c.in_ok-count.count c.in_ok-count.ensures.found (few g at) fails.1))
 
 pub returns-clause-found : goal.returns-clause-found
 returns-clause-found g c told size =
     let bytes = content c.args.file (g.D.Disk.reads c.args.disk.now) in
-    let part : c.deref.result.now ≡ section (c.args.gate + 21) c.in_ok-len.len bytes =
-    c.deref.ensures.value ∙ c.in_ok-frames.ensures.told told ∙ ap (λ (i : Image). section (c.args.gate + 21) c.in_ok-len.len (content c.args.file i)) c.in_ok-read.ensures.same.0 in
-    let few : length c.deref.result.now < 2 ^ 64 = omega (arith, ap length c.deref.ensures.value, c.in_ok-frames.ensures.long.0, c.in_ok-frames.ensures.long.1) in
+    let at = (goal.at.returns-clause-found g c).After-deref in
     let counts = c.in_ok-check_count.ensures.fits in
     batch_found c.args.size c.args.gate c.args.next bytes c.read.new.into (c.in_ok-read.ensures.told told) size (omega (arith, size)) (omega arith) c.if-head-ne1.false c.in_ok-len.len c.deref.result.now c.in_ok-len.ensures.fits.0
-    c.in_ok-len.ensures.fits.1 part c.in_ok-count.count c.in_ok-count.ensures.found few c.in_ok-len.ensures.bytes (field_fits 4 17 c.read.new.into c.in_ok-len.ensures.bytes) counts (record { frames = c.in_ok-frames.frames; count = c.in_ok-count.count }) (sym c.deref.ensures.value) refl
+    c.in_ok-len.ensures.fits.1 (part g at told) c.in_ok-count.count c.in_ok-count.ensures.found (few g at) c.in_ok-len.ensures.bytes (field_fits 4 17 c.read.new.into c.in_ok-len.ensures.bytes) counts (record { frames = c.in_ok-frames.frames; count = c.in_ok-count.count }) (sym c.deref.ensures.value) refl
 
 pub returns-clause-small : goal.returns-clause-small
 returns-clause-small g c =
@@ -91,24 +103,18 @@ pub returns-in_err-count-clause-damage : goal.returns-in_err-count-clause-damage
 returns-in_err-count-clause-damage g c told size =
     let bytes = content c.args.file (g.D.Disk.reads c.args.disk.now) in
     let p = err_from_is_err_and c.from_residual-in_err-count.result c.from_residual-in_err-count.ensures.1 in
-    let part : c.deref.result.now ≡ section (c.args.gate + 21) c.in_ok-len.len bytes =
-    c.deref.ensures.value ∙ c.in_ok-frames.ensures.told told ∙ ap (λ (i : Image). section (c.args.gate + 21) c.in_ok-len.len (content c.args.file i)) c.in_ok-read.ensures.same.0 in
-    let whole = part_whole c.args.size c.args.gate c.args.next bytes c.read.new.into (c.in_ok-read.ensures.told told) size (omega (arith, size)) (omega arith) c.if-head-ne1.false c.in_ok-len.len c.deref.result.now c.in_ok-len.ensures.fits.0 c.in_ok-len.ensures.fits.1 part in
-    rw (p.1, p.2) (this_damage (judged c.args.file (gate_checks c.args.next c.args.gate (drop c.args.gate bytes))) c.in_err-count.field-0.0 (frames_told c.args.size c.args.gate c.args.next bytes c.read.new.into (c.in_ok-read.ensures.told told) size c.args.file c.if-head-ne1.false c.in_ok-len.ensures.damage c.deref.result.now whole c.in_err-count.field-0.0 c.in_err-count.ensures.damage))
+    let at = (goal.at.returns-in_err-count-clause-damage g c).After-deref in
+    rw (p.1, p.2) (this_damage (judged c.args.file (gate_checks c.args.next c.args.gate (drop c.args.gate bytes))) c.in_err-count.field-0.0 (frames_told c.args.size c.args.gate c.args.next bytes c.read.new.into (c.in_ok-read.ensures.told told) size c.args.file c.if-head-ne1.false c.in_ok-len.ensures.damage c.deref.result.now (whole g at told size) c.in_err-count.field-0.0 c.in_err-count.ensures.damage))
 
 pub returns-in_err-check_count-clause-damage : goal.returns-in_err-check_count-clause-damage
 returns-in_err-check_count-clause-damage g c told size =
     let bytes = content c.args.file (g.D.Disk.reads c.args.disk.now) in
     let p = err_from_is_err_and c.from_residual-in_err-check_count.result c.from_residual-in_err-check_count.ensures.1 in
-    let part : c.deref.result.now ≡ section (c.args.gate + 21) c.in_ok-len.len bytes =
-    c.deref.ensures.value ∙ c.in_ok-frames.ensures.told told ∙ ap (λ (i : Image). section (c.args.gate + 21) c.in_ok-len.len (content c.args.file i)) c.in_ok-read.ensures.same.0 in
-    let whole = part_whole c.args.size c.args.gate c.args.next bytes c.read.new.into (c.in_ok-read.ensures.told told) size (omega (arith, size)) (omega arith) c.if-head-ne1.false c.in_ok-len.len c.deref.result.now c.in_ok-len.ensures.fits.0 c.in_ok-len.ensures.fits.1 part in
-    rw (p.1, p.2) (this_damage (judged c.args.file (gate_checks c.args.next c.args.gate (drop c.args.gate bytes))) c.in_err-check_count.field-0.0 (count_told c.args.size c.args.gate c.args.next bytes c.read.new.into (c.in_ok-read.ensures.told told) size c.args.file c.if-head-ne1.false c.in_ok-len.ensures.damage c.deref.result.now whole c.in_ok-count.ensures.damage c.in_ok-count.count c.in_ok-count.ensures.count ∙ sym c.in_err-check_count.ensures.damage))
+    let at = (goal.at.returns-in_err-check_count-clause-damage g c).After-deref in
+    rw (p.1, p.2) (this_damage (judged c.args.file (gate_checks c.args.next c.args.gate (drop c.args.gate bytes))) c.in_err-check_count.field-0.0 (count_told c.args.size c.args.gate c.args.next bytes c.read.new.into (c.in_ok-read.ensures.told told) size c.args.file c.if-head-ne1.false c.in_ok-len.ensures.damage c.deref.result.now (whole g at told size) c.in_ok-count.ensures.damage c.in_ok-count.count c.in_ok-count.ensures.count ∙ sym c.in_err-check_count.ensures.damage))
 
 pub returns-clause-damage : goal.returns-clause-damage
 returns-clause-damage g c told size =
     let bytes = content c.args.file (g.D.Disk.reads c.args.disk.now) in
-    let part : c.deref.result.now ≡ section (c.args.gate + 21) c.in_ok-len.len bytes =
-    c.deref.ensures.value ∙ c.in_ok-frames.ensures.told told ∙ ap (λ (i : Image). section (c.args.gate + 21) c.in_ok-len.len (content c.args.file i)) c.in_ok-read.ensures.same.0 in
-    let whole = part_whole c.args.size c.args.gate c.args.next bytes c.read.new.into (c.in_ok-read.ensures.told told) size (omega (arith, size)) (omega arith) c.if-head-ne1.false c.in_ok-len.len c.deref.result.now c.in_ok-len.ensures.fits.0 c.in_ok-len.ensures.fits.1 part in
-    count_told c.args.size c.args.gate c.args.next bytes c.read.new.into (c.in_ok-read.ensures.told told) size c.args.file c.if-head-ne1.false c.in_ok-len.ensures.damage c.deref.result.now whole c.in_ok-count.ensures.damage c.in_ok-count.count c.in_ok-count.ensures.count ∙ sym c.in_ok-check_count.ensures.damage
+    let at = (goal.at.returns-clause-damage g c).After-deref in
+    count_told c.args.size c.args.gate c.args.next bytes c.read.new.into (c.in_ok-read.ensures.told told) size c.args.file c.if-head-ne1.false c.in_ok-len.ensures.damage c.deref.result.now (whole g at told size) c.in_ok-count.ensures.damage c.in_ok-count.count c.in_ok-count.ensures.count ∙ sym c.in_ok-check_count.ensures.damage

@@ -1,10 +1,12 @@
-use Rattle.std.proofs.Common.{◌≡◌, ◌∙◌, ◌+◌, ◌++◌, [], ◌∷◌, ◌^◌, ◌<◌, ℕ, List, length, drop, get_or, ap, subst, sym, refl, arith, Ok}
+use Rattle.std.proofs.Common.{◌≡◌, ◌≢◌, ◌∙◌, ◌+◌, ◌++◌, [], ◌∷◌, ℕ, List, length, drop, get_or, ap, subst, sym, refl, arith, Ok}
+use Rattle.std.specs.Prelude.{IsTrue, Some}
 use Rattle.std.proofs.lemmas.Result.{err_from_is_err_and}
 use Rattle.ctr_disk.specs.Image.{content}
 use Rattle.ctr_disk.specs.declared.fault.StoreFault.TheVariants.{Fault}
 use Rattle.ctr_log.specs.declared.reading.ReadError.TheVariants.{Store}
 use Rattle.ctr_disk.proofs.Moments.{reads_joined}
 use Rattle.ctr_log.specs.Reading.{HasSome, HasFrames, RefusesOrFails}
+use Rattle.ctr_log.specs.declared.batches.Batch.{Batch}
 use Rattle.ctr_log.specs.Batch.{FindsBatch, OpensBatch, IsRead, IsWholeBatch}
 use Rattle.ctr_log.specs.Visits.{frame_visits, RefusesOne}
 use Rattle.ctr_home.specs.Checks.{check_of, judged}
@@ -15,7 +17,38 @@ use Rattle.ctr_log.proofs.DamageLaws.{judged-front, this_more}
 use Rattle.ctr_log.specs.declared.visitor.VisitError.TheVariants.{Read}
 use Rattle.ctr_log.proofs.VisitLemmas.{given_none, given_same, given_both, given_stops, stops_more, refused_more, refused_behind, part_given, ok_isnt}
 use Rattle.ctr_log.proofs.BatchLemmas.{so_far_start, so_far_more, so_far_all, so_far_end, so_far_only, so_far_passes, so_far_tells, so_far_rest, so_far_opens, gate_none, fails_more, no_batch, few_more, low_more, place_low, next_low}
+use Rattle.ctr_log.proofs.batches.visit_file.Given.{Over}
+use Rattle.ctr_log.proofs.batches.visit_file.Goals.{In_ok-batch, In_err-batch}
 use Rattle.ctr_log.proofs.batches.visit_file.Goals as goal
+
+-- what a read of the loop's file finds, it finds in the file as the call found it
+as_at_first : (g : Over) (c : In_ok-batch g) (P : List ℕ → Type 0) → P (content c.args.file (g.D.Disk.reads c.loop-gate.disk)) → P (content c.args.file (g.D.Disk.reads c.args.disk.now))
+as_at_first g c P = subst P (ap (content c.args.file) c.loop-gate.invariant.quiet.same)
+
+-- the size that the loop knows is that of the file as it is read
+sized : (g : Over) (c : In_ok-batch g) → IsTrue g.D.Disk.tells → c.in_ok-size.size ≡ length (content c.args.file (g.D.Disk.reads c.loop-gate.disk))
+sized g c told = c.loop-gate.invariant.size told ∙ sym (ap (λ i. length (content c.args.file i)) c.loop-gate.invariant.quiet.same)
+
+-- a batch, or none, as it stands in the file
+finds : (g : Over) (c : In_ok-batch g) → IsTrue g.D.Disk.tells → FindsBatch c.loop-gate.next (drop c.loop-gate.gate (content c.args.file (g.D.Disk.reads c.args.disk.now))) c.in_ok-batch.field-0
+finds g c told =
+    as_at_first g c (λ l. FindsBatch c.loop-gate.next (drop c.loop-gate.gate l) c.in_ok-batch.field-0) (c.in_ok-batch.ensures.found told (sized g c told))
+
+-- and no check of it failed
+passes : (g : Over) (c : In_ok-batch g) → IsTrue g.D.Disk.tells → judged c.args.file (gate_checks c.loop-gate.next c.loop-gate.gate (drop c.loop-gate.gate (content c.args.file (g.D.Disk.reads c.args.disk.now)))) ≡ Ok tt
+passes g c told =
+    as_at_first g c (λ l. judged c.args.file (gate_checks c.loop-gate.next c.loop-gate.gate (drop c.loop-gate.gate l)) ≡ Ok tt) (c.in_ok-batch.ensures.damage told (sized g c told))
+
+-- no gate is open where no batch was found
+shut : (g : Over) (c : In_ok-batch g) → IsTrue g.D.Disk.tells → ((b : Batch) → c.in_ok-batch.field-0 ≡ Some b → ⊥) → get_or (drop c.loop-gate.gate (content c.args.file (g.D.Disk.reads c.args.disk.now))) 0 0 ≢ 1
+shut g c told none =
+    no_batch c.loop-gate.next (drop c.loop-gate.gate (content c.args.file (g.D.Disk.reads c.args.disk.now))) c.in_ok-batch.field-0 none (finds g c told)
+
+-- the check of a batch that failed is one of the file as the call found it
+fails : (g : Over) (c : In_err-batch g) → IsTrue g.D.Disk.tells → IsThisDamage (judged c.args.file (gate_checks c.loop-gate.next c.loop-gate.gate (drop c.loop-gate.gate (content c.args.file (g.D.Disk.reads c.args.disk.now))))) c.in_err-batch.field-0.0
+fails g c told =
+    let same = ap (content c.args.file) c.loop-gate.invariant.quiet.same in
+    subst (λ (l : List ℕ). IsThisDamage (judged c.args.file (gate_checks c.loop-gate.next c.loop-gate.gate (drop c.loop-gate.gate l))) c.in_err-batch.field-0.0) same (c.in_err-batch.ensures.damage told (c.loop-gate.invariant.size told ∙ sym (ap length same)))
 
 pub returns-in_err-size-clause-visits : goal.returns-in_err-size-clause-visits
 returns-in_err-size-clause-visits g c told =
@@ -28,83 +61,42 @@ returns-in_err-size-clause-visits g c told =
     (stops_more seen g.V.Visitor.refuses c.args.visitor.now c.args.visitor.now [] sound sound refl (judged c.args.file (gate ∷ [])) (gate_none c.args.file c.args.first bytes) (Read c.in_err-size.field-0.0) (c.in_err-size.ensures.damage told)
     (given_stops seen g.V.Visitor.refuses c.args.visitor.now c.args.visitor.now [] (given_none seen c.args.visitor.now) c.in_err-size.field-0.0))
 
-pub returns-in_err-size-clause-refused : goal.returns-in_err-size-clause-refused
-returns-in_err-size-clause-refused g c told =
-    let p = err_from_is_err_and c.from_residual.result c.from_residual.ensures.1 in
-    let bytes = content c.args.file (g.D.Disk.reads c.args.disk.now) in
-    rw (p.1, p.2) (fails_more c.args.file (get_or bytes 0 0 ≡ 1) (HasSome c.args.first bytes) (λ h. first_gate c.args.first h.0 bytes h.1) c.in_err-size.field-0.0 (c.in_err-size.ensures.refused told))
-
 pub returns-in_err-batch-clause-visits : goal.returns-in_err-batch-clause-visits
 returns-in_err-batch-clause-visits g c told =
-    let p = err_from_is_err_and c.from_residual-in_err-batch.result c.from_residual-in_err-batch.ensures.1 in
-    let bytes = content c.args.file (g.D.Disk.reads c.args.disk.now) in
-    let here = content c.args.file (g.D.Disk.reads c.loop-gate.disk) in
-    let same : here ≡ bytes = ap (content c.args.file) c.loop-gate.invariant.quiet.same in
-    let size = c.loop-gate.invariant.size told in
-    let t = c.loop-gate.invariant.told told in
-    let gate = c.loop-gate.gate in
-    let next = c.loop-gate.next in
-    let checks = judged c.args.file (gate_checks next gate (drop gate bytes)) in
-    let seen = g.V.Visitor.has_seen in
-    let damage : IsThisDamage checks c.in_err-batch.field-0.0 = subst (λ (l : List ℕ). IsThisDamage (judged c.args.file (gate_checks next gate (drop gate l))) c.in_err-batch.field-0.0) same (c.in_err-batch.ensures.damage told (size ∙ sym (ap length same))) in
-    rw (p.1, p.2)
-    (stops_more seen g.V.Visitor.refuses c.args.visitor.now c.loop-gate.visitor t.0 (sound_batch_visits c.args.file next gate t.1.more (drop gate bytes)) (sound_visits c.args.file c.args.first bytes) t.1.visits_are checks
-    (so_far_rest c.args.file c.args.first bytes gate next t.0 t.1) (Read c.in_err-batch.field-0.0) damage (given_stops seen g.V.Visitor.refuses c.args.visitor.now c.loop-gate.visitor t.0 t.2 c.in_err-batch.field-0.0))
-
-pub returns-in_err-batch-clause-refused : goal.returns-in_err-batch-clause-refused
-returns-in_err-batch-clause-refused g c told =
-    let p = err_from_is_err_and c.from_residual-in_err-batch.result c.from_residual-in_err-batch.ensures.1 in
-    let bytes = content c.args.file (g.D.Disk.reads c.args.disk.now) in
-    let here = content c.args.file (g.D.Disk.reads c.loop-gate.disk) in
-    let same : here ≡ bytes = ap (content c.args.file) c.loop-gate.invariant.quiet.same in
-    let size = c.loop-gate.invariant.size told in
-    let t = c.loop-gate.invariant.told told in
-    rw (p.1, p.2) (fails_more c.args.file (OpensBatch c.loop-gate.next (drop c.loop-gate.gate bytes)) (HasSome c.args.first bytes) (so_far_opens c.args.file c.args.first bytes c.loop-gate.gate c.loop-gate.next t.0 t.1) c.in_err-batch.field-0.0
-    (subst (λ (l : List ℕ). RefusesOrFails c.args.file (OpensBatch c.loop-gate.next (drop c.loop-gate.gate l)) c.in_err-batch.field-0.0) same (c.in_err-batch.ensures.refused told (size ∙ sym (ap length same)))))
+    let q = err_from_is_err_and c.from_residual-in_err-batch.result c.from_residual-in_err-batch.ensures.1 in
+    let v = g.V.Visitor in
+    let read = content c.args.file (g.D.Disk.reads c.args.disk.now) in
+    let s = (c.loop-gate.invariant.told told).1 in
+    let front = (c.loop-gate.invariant.told told).0 in
+    rw (q.1, q.2)
+    (stops_more v.has_seen v.refuses c.args.visitor.now c.loop-gate.visitor front (sound_batch_visits c.args.file c.loop-gate.next c.loop-gate.gate s.more (drop c.loop-gate.gate read)) (sound_visits c.args.file c.args.first read) s.visits_are
+    (judged c.args.file (gate_checks c.loop-gate.next c.loop-gate.gate (drop c.loop-gate.gate read))) (so_far_rest c.args.file c.args.first read c.loop-gate.gate c.loop-gate.next front s) (Read c.in_err-batch.field-0.0)
+    (fails g (goal.at.returns-in_err-batch-clause-visits g c).In_err-batch told) (given_stops v.has_seen v.refuses c.args.visitor.now c.loop-gate.visitor front (c.loop-gate.invariant.told told).2 c.in_err-batch.field-0.0))
 
 pub returns-in_default-clause-visits : goal.returns-in_default-clause-visits
 returns-in_default-clause-visits g c told =
-    let bytes = content c.args.file (g.D.Disk.reads c.args.disk.now) in
-    let here = content c.args.file (g.D.Disk.reads c.loop-gate.disk) in
-    let same : here ≡ bytes = ap (content c.args.file) c.loop-gate.invariant.quiet.same in
-    let size = c.loop-gate.invariant.size told in
-    let t = c.loop-gate.invariant.told told in
-    let gate = c.loop-gate.gate in
-    let next = c.loop-gate.next in
-    let finds : FindsBatch next (drop gate bytes) c.in_ok-batch.field-0 = subst (λ (l : List ℕ). FindsBatch next (drop gate l) c.in_ok-batch.field-0) same (c.in_ok-batch.ensures.found told (size ∙ sym (ap length same))) in
-    let shut = no_batch next (drop gate bytes) c.in_ok-batch.field-0 (λ b is. c.in_default.not-Some b is) finds in
-    given_same g.V.Visitor.has_seen c.args.visitor.now c.loop-gate.visitor (so_far_all c.args.file c.args.first bytes gate next t.0 t.1 shut) t.2
+    let known = c.loop-gate.invariant.told told in
+    given_same g.V.Visitor.has_seen c.args.visitor.now c.loop-gate.visitor (so_far_all c.args.file c.args.first (content c.args.file (g.D.Disk.reads c.args.disk.now)) c.loop-gate.gate c.loop-gate.next known.0 known.1
+    (shut g (goal.at.returns-in_default-clause-visits g c).In_ok-batch told (λ b is. c.in_default.not-Some b is))) known.2
 
 pub returns-in_default-clause-found : goal.returns-in_default-clause-found
 returns-in_default-clause-found g c told =
-    let bytes = content c.args.file (g.D.Disk.reads c.args.disk.now) in
-    let here = content c.args.file (g.D.Disk.reads c.loop-gate.disk) in
-    let same : here ≡ bytes = ap (content c.args.file) c.loop-gate.invariant.quiet.same in
-    let size = c.loop-gate.invariant.size told in
-    let t = c.loop-gate.invariant.told told in
-    let gate = c.loop-gate.gate in
-    let next = c.loop-gate.next in
-    let finds : FindsBatch next (drop gate bytes) c.in_ok-batch.field-0 = subst (λ (l : List ℕ). FindsBatch next (drop gate l) c.in_ok-batch.field-0) same (c.in_ok-batch.ensures.found told (size ∙ sym (ap length same))) in
-    let shut = no_batch next (drop gate bytes) c.in_ok-batch.field-0 (λ b is. c.in_default.not-Some b is) finds in
-    so_far_end c.args.file c.args.first bytes gate next t.0 t.1 shut (c.loop-gate.invariant.opened told)
+    let known = (c.loop-gate.invariant.told told).1 in
+    so_far_end c.args.file c.args.first (content c.args.file (g.D.Disk.reads c.args.disk.now)) c.loop-gate.gate c.loop-gate.next (c.loop-gate.invariant.told told).0 known
+    (shut g (goal.at.returns-in_default-clause-found g c).In_ok-batch told (λ b is. c.in_default.not-Some b is)) (c.loop-gate.invariant.opened told)
 
 pub returns-in_default-clause-only : goal.returns-in_default-clause-only
 returns-in_default-clause-only g c bs told log =
-    let bytes = content c.args.file (g.D.Disk.reads c.args.disk.now) in
-    let here = content c.args.file (g.D.Disk.reads c.loop-gate.disk) in
-    let same : here ≡ bytes = ap (content c.args.file) c.loop-gate.invariant.quiet.same in
-    let size = c.loop-gate.invariant.size told in
-    let t = c.loop-gate.invariant.told told in
-    let gate = c.loop-gate.gate in
-    let next = c.loop-gate.next in
-    let finds : FindsBatch next (drop gate bytes) c.in_ok-batch.field-0 = subst (λ (l : List ℕ). FindsBatch next (drop gate l) c.in_ok-batch.field-0) same (c.in_ok-batch.ensures.found told (size ∙ sym (ap length same))) in
-    let shut = no_batch next (drop gate bytes) c.in_ok-batch.field-0 (λ b is. c.in_default.not-Some b is) finds in
-    (so_far_only c.args.file c.args.first bytes gate next t.0 t.1 shut bs log, log_read c.args.first bs bytes log (omega (arith, size)) c.requires.low)
+    let known = (c.loop-gate.invariant.told told).1 in
+    let all = content c.args.file (g.D.Disk.reads c.args.disk.now) in (
+      so_far_only c.args.file c.args.first all c.loop-gate.gate c.loop-gate.next (c.loop-gate.invariant.told told).0 known
+          (shut g (goal.at.returns-in_default-clause-only g c).In_ok-batch told (λ b is. c.in_default.not-Some b is)) bs log,
+      log_read c.args.first bs all log (omega (arith, c.loop-gate.invariant.size told)) c.requires.low,
+    )
 
 pub returns-in-Err-clause-only : goal.returns-in-Err-clause-only
 returns-in-Err-clause-only g c bs told log =
-    let size = c.loop-gate.invariant.size told in
-    (tt, log_read c.args.first bs (content c.args.file (g.D.Disk.reads c.args.disk.now)) log (omega (arith, size)) c.requires.low)
+    (tt, log_read c.args.first bs (content c.args.file (g.D.Disk.reads c.args.disk.now)) log (omega (arith, c.loop-gate.invariant.size told)) c.requires.low)
 
 pub returns-in_err-size-clause-only : goal.returns-in_err-size-clause-only
 returns-in_err-size-clause-only g c bs told log = let p = err_from_is_err_and c.from_residual.result c.from_residual.ensures.1 in rw (p.1, p.2) (tt, tt)
@@ -114,56 +106,55 @@ returns-in_err-batch-clause-only g c bs told log = let p = err_from_is_err_and c
 
 pub returns-in_err-size-clause-damage : goal.returns-in_err-size-clause-damage
 returns-in_err-size-clause-damage g c told =
-    let p = err_from_is_err_and c.from_residual.result c.from_residual.ensures.1 in
-    let bytes = content c.args.file (g.D.Disk.reads c.args.disk.now) in
-    let gate = check_of 0 1 (get_or bytes 0 0) in
-    rw (p.1, p.2) (this_more (judged c.args.file (gate ∷ [])) (file_damage c.args.file c.args.first bytes) (λ e is. judged-front c.args.file (gate ∷ []) (log_checks c.args.first 0 (length bytes) bytes) e is) c.in_err-size.field-0.0 (c.in_err-size.ensures.damage told))
+    let is = err_from_is_err_and c.from_residual.result c.from_residual.ensures.1 in
+    let read = content c.args.file (g.D.Disk.reads c.args.disk.now) in
+    let first = check_of 0 1 (get_or read 0 0) ∷ [] in
+    let why = c.in_err-size.field-0.0 in
+    rw (is.1, is.2)
+    (record {
+      refused = fails_more c.args.file (get_or read 0 0 ≡ 1) (HasSome c.args.first read) (λ h. first_gate c.args.first h.0 read h.1) why (c.in_err-size.ensures.refused told);
+      damage = this_more (judged c.args.file first) (file_damage c.args.file c.args.first read) (λ e is. judged-front c.args.file first (log_checks c.args.first 0 (length read) read) e is) why (c.in_err-size.ensures.damage told);
+    })
 
 pub returns-in_err-batch-clause-damage : goal.returns-in_err-batch-clause-damage
 returns-in_err-batch-clause-damage g c told =
-    let p = err_from_is_err_and c.from_residual-in_err-batch.result c.from_residual-in_err-batch.ensures.1 in
-    let bytes = content c.args.file (g.D.Disk.reads c.args.disk.now) in
-    let here = content c.args.file (g.D.Disk.reads c.loop-gate.disk) in
-    let same : here ≡ bytes = ap (content c.args.file) c.loop-gate.invariant.quiet.same in
-    let size = c.loop-gate.invariant.size told in
-    let t = c.loop-gate.invariant.told told in
-    rw (p.1, p.2) (so_far_tells c.args.file c.args.first bytes c.loop-gate.gate c.loop-gate.next t.0 t.1 c.in_err-batch.field-0.0
-    (subst (λ (l : List ℕ). IsThisDamage (judged c.args.file (gate_checks c.loop-gate.next c.loop-gate.gate (drop c.loop-gate.gate l))) c.in_err-batch.field-0.0) same (c.in_err-batch.ensures.damage told (size ∙ sym (ap length same)))))
+    let is = err_from_is_err_and c.from_residual-in_err-batch.result c.from_residual-in_err-batch.ensures.1 in
+    let read = content c.args.file (g.D.Disk.reads c.args.disk.now) in
+    let same = ap (content c.args.file) c.loop-gate.invariant.quiet.same in
+    let sized = c.loop-gate.invariant.size told ∙ sym (ap length same) in
+    let why = c.in_err-batch.field-0.0 in
+    let known = c.loop-gate.invariant.told told in
+    rw (is.1, is.2)
+    (record {
+      refused = fails_more c.args.file (OpensBatch c.loop-gate.next (drop c.loop-gate.gate read)) (HasSome c.args.first read) (so_far_opens c.args.file c.args.first read c.loop-gate.gate c.loop-gate.next known.0 known.1) why
+          (subst (λ (l : List ℕ). RefusesOrFails c.args.file (OpensBatch c.loop-gate.next (drop c.loop-gate.gate l)) why) same (c.in_err-batch.ensures.refused told sized));
+      damage = so_far_tells c.args.file c.args.first read c.loop-gate.gate c.loop-gate.next known.0 known.1 why (fails g (goal.at.returns-in_err-batch-clause-damage g c).In_err-batch told);
+    })
 
 pub returns-in_default-clause-damage : goal.returns-in_default-clause-damage
 returns-in_default-clause-damage g c told =
-    let bytes = content c.args.file (g.D.Disk.reads c.args.disk.now) in
-    let here = content c.args.file (g.D.Disk.reads c.loop-gate.disk) in
-    let same : here ≡ bytes = ap (content c.args.file) c.loop-gate.invariant.quiet.same in
-    let size = c.loop-gate.invariant.size told in
-    let t = c.loop-gate.invariant.told told in
-    let gate = c.loop-gate.gate in
-    let next = c.loop-gate.next in
-    let finds : FindsBatch next (drop gate bytes) c.in_ok-batch.field-0 = subst (λ (l : List ℕ). FindsBatch next (drop gate l) c.in_ok-batch.field-0) same (c.in_ok-batch.ensures.found told (size ∙ sym (ap length same))) in
-    let shut = no_batch next (drop gate bytes) c.in_ok-batch.field-0 (λ b is. c.in_default.not-Some b is) finds in
-    so_far_passes c.args.file c.args.first bytes gate next t.0 t.1 shut
+    let known = (c.loop-gate.invariant.told told).1 in
+    record {
+      refused = tt;
+      damage = so_far_passes c.args.file c.args.first (content c.args.file (g.D.Disk.reads c.args.disk.now)) c.loop-gate.gate c.loop-gate.next (c.loop-gate.invariant.told told).0 known
+          (shut g (goal.at.returns-in_default-clause-damage g c).In_ok-batch told (λ b is. c.in_default.not-Some b is));
+    }
 
 pub returns-in-Err-clause-visits : goal.returns-in-Err-clause-visits
 returns-in-Err-clause-visits g c told =
-    let bytes = content c.args.file (g.D.Disk.reads c.args.disk.now) in
-    let here = content c.args.file (g.D.Disk.reads c.loop-gate.disk) in
-    let same : here ≡ bytes = ap (content c.args.file) c.loop-gate.invariant.quiet.same in
-    let size = c.loop-gate.invariant.size told in
-    let t = c.loop-gate.invariant.told told in
+    let at = (goal.at.returns-in-Err-clause-visits g c).In_ok-batch in
+    let read = content c.args.file (g.D.Disk.reads c.args.disk.now) in
     let gate = c.loop-gate.gate in
     let next = c.loop-gate.next in
-    let finds : FindsBatch next (drop gate bytes) c.in_ok-batch.field-0 = subst (λ (l : List ℕ). FindsBatch next (drop gate l) c.in_ok-batch.field-0) same (c.in_ok-batch.ensures.found told (size ∙ sym (ap length same))) in
-    let few : length bytes < 2 ^ 64 = omega (arith, size) in
+    let t = c.loop-gate.invariant.told told in
     let b = c.in-Some.batch in
-    let read : IsRead next (drop gate bytes) b = subst (FindsBatch next (drop gate bytes)) c.in-Some.is finds in
-    let front = c.deref.ensures.value in
-    let passed : judged c.args.file (gate_checks next gate (drop gate bytes)) ≡ Ok tt = subst (λ (l : List ℕ). judged c.args.file (gate_checks next gate (drop gate l)) ≡ Ok tt) same (c.in_ok-batch.ensures.damage told (size ∙ sym (ap length same))) in
-    let more = so_far_more c.args.file c.args.first bytes gate next t.0 t.1 b read few (omega arith) passed (gate + (21 + length b.frames.items)) (next + b.count) refl refl in
-    let seen = g.V.Visitor.has_seen in
+    let whole : IsRead next (drop gate read) b = subst (FindsBatch next (drop gate read)) c.in-Some.is (finds g at told) in
+    let more = so_far_more c.args.file c.args.first read gate next t.0 t.1 b whole (omega (arith, c.loop-gate.invariant.size told)) (omega arith) (passes g at told) (gate + (21 + length b.frames.items)) (next + b.count) refl refl in
+    let v = g.V.Visitor in
     let here_are = frame_visits c.args.file next (gate + 21) b.count b.frames.items in
-    let one : RefusesOne seen g.V.Visitor.refuses c.loop-gate.visitor here_are c.in-Err.error = subst (λ (l : List ℕ). RefusesOne seen g.V.Visitor.refuses c.loop-gate.visitor (frame_visits c.args.file next (gate + 21) b.count l) c.in-Err.error) front c.in-Err.ensures in
-    refused_more seen g.V.Visitor.refuses c.args.visitor.now (t.0 ++ here_are) _ (sound_visits c.args.file c.args.first bytes) c.in-Err.error more.visits_are
-    (refused_behind seen g.V.Visitor.refuses c.args.visitor.now c.loop-gate.visitor t.0 here_are (t.0 ++ here_are) c.in-Err.error t.2 refl one)
+    let one : RefusesOne v.has_seen v.refuses c.loop-gate.visitor here_are c.in-Err.error = subst (λ (l : List ℕ). RefusesOne v.has_seen v.refuses c.loop-gate.visitor (frame_visits c.args.file next (gate + 21) b.count l) c.in-Err.error) c.deref.ensures.value c.in-Err.ensures in
+    refused_more v.has_seen v.refuses c.args.visitor.now (t.0 ++ here_are) _ (sound_visits c.args.file c.args.first read) c.in-Err.error more.visits_are
+    (refused_behind v.has_seen v.refuses c.args.visitor.now c.loop-gate.visitor t.0 here_are (t.0 ++ here_are) c.in-Err.error t.2 refl one)
 
 pub returns-in-Err-clause-always : goal.returns-in-Err-clause-always
 returns-in-Err-clause-always g c =
@@ -181,7 +172,7 @@ returns-clause-visits g c told =
 
 pub loop-gate-preserved : goal.loop-gate-preserved
 loop-gate-preserved g c =
-    let d = g.D.Disk in
+    let at = (goal.at.loop-gate-preserved g c).In_ok-batch in
     let seen = g.V.Visitor.has_seen in
     let before = c.loop-gate.invariant in
     let gate = c.loop-gate.gate in
@@ -190,7 +181,7 @@ loop-gate-preserved g c =
     let small = subst IsWholeBatch c.in-Some.is c.in_ok-batch.ensures.small in
     let long : c.len.result ≡ length b.frames.items = c.len.ensures ∙ sym c.deref.ensures.len ∙ ap length c.deref.ensures.value in
     record {
-      quiet = reads_joined d c.args.disk.now c.loop-gate.disk c.read_batch.new.disk before.quiet c.read_batch.ensures.quiet;
+      quiet = reads_joined g.D.Disk c.args.disk.now c.loop-gate.disk c.read_batch.new.disk before.quiet c.read_batch.ensures.quiet;
       faults = c.in_ok-batch.ensures.counts.faults.fine (ok_isnt c.in_ok-batch.field-0 (Store Fault)) ∙ before.faults;
       strays = c.in_ok-batch.ensures.counts.stray ∙ before.strays;
       few = few_more c.args.first gate next c.len.result b.count b.frames.items long small.1 before.few;
@@ -202,18 +193,12 @@ loop-gate-preserved g c =
       size = before.size;
       opened = before.opened;
       told = λ told.
-          let bytes = content c.args.file (d.reads c.args.disk.now) in
-          let here = content c.args.file (d.reads c.loop-gate.disk) in
-          let same : here ≡ bytes = ap (content c.args.file) before.quiet.same in
-          let size = before.size told in
+          let read = content c.args.file (g.D.Disk.reads c.args.disk.now) in
           let t = before.told told in
-          let finds : FindsBatch next (drop gate bytes) c.in_ok-batch.field-0 = subst (λ (l : List ℕ). FindsBatch next (drop gate l) c.in_ok-batch.field-0) same (c.in_ok-batch.ensures.found told (size ∙ sym (ap length same))) in
-          let few : length bytes < 2 ^ 64 = omega (arith, size) in
-          let read : IsRead next (drop gate bytes) b = subst (FindsBatch next (drop gate bytes)) c.in-Some.is finds in
-          let passed : judged c.args.file (gate_checks next gate (drop gate bytes)) ≡ Ok tt = subst (λ (l : List ℕ). judged c.args.file (gate_checks next gate (drop gate l)) ≡ Ok tt) same (c.in_ok-batch.ensures.damage told (size ∙ sym (ap length same))) in
+          let whole : IsRead next (drop gate read) b = subst (FindsBatch next (drop gate read)) c.in-Some.is (finds g at told) in
           let more = frame_visits c.args.file next (gate + 21) b.count b.frames.items in (
             t.0 ++ more,
-            so_far_more c.args.file c.args.first bytes gate next t.0 t.1 b read few (omega arith) passed (gate + (21 + c.len.result)) (next + b.count) (ap (λ (n : ℕ). gate + (21 + n)) long) refl,
+            so_far_more c.args.file c.args.first read gate next t.0 t.1 b whole (omega (arith, before.size told)) (omega arith) (passes g at told) (gate + (21 + c.len.result)) (next + b.count) (ap (λ (n : ℕ). gate + (21 + n)) long) refl,
             given_both seen c.args.visitor.now c.loop-gate.visitor c.give.new.visitor t.0 more t.2 (given_same seen c.loop-gate.visitor c.give.new.visitor (ap (λ (l : List ℕ). frame_visits c.args.file next (gate + 21) b.count l) (sym c.deref.ensures.value)) c.in_default-give.ensures),
           );
     }

@@ -15,12 +15,5 @@ returns-clause-place c =
 
 pub returns-clause-stands : goal.returns-clause-stands
 returns-clause-stands c first bs image r bytes goes has =
-    let a = c.self.inside in
-    let held = length-drop 20 a.buffer.items in
-    let are = ap length c.self.invariant.frames_are in
-    let head = c.self.invariant.head in
-    let long = a.buffer.ok.0 in
-    let shown = ap next_place c.self.view_is in
-    let place = goes.place in
-    let at : a.place + 9 + c.len.result ≡ length (batches first bs) + 29 + length (frames c.args.self.now.buffered) = omega arith in
+    let at : c.self.inside.place + 9 + c.len.result ≡ length (batches first bs) + 29 + length (frames c.args.self.now.buffered) = omega (arith, returns-clause-place c, goes.place) in
     ap (λ (n : ℕ). take (length r) (drop n bytes)) at ∙ stands_next first bs c.args.self.now.buffered r bytes has
