@@ -5,3 +5,4 @@ pub mod Needs
 pub mod Kept
 pub mod XidList
 pub mod Inside
+pub mod Lists

@@ -2,9 +2,10 @@
 ghost use Rattle.std.specs.Prelude.{◌≡◌, ◌≤◌, ◌<◌, ◌+◌, ◌*◌, ◌^◌, [], length, vec_len, vec_capacity};
 ghost use Rattle.ctr_bytes.specs.Fields.{field};
 ghost use Rattle.std.specs.List.{AllByRecursion};
-ghost use Rattle.ctr_records.specs.Members.{pairs_from, slog_item, items_from, ItemFits, HasMembers, opens_listed, aborted_listed, items_listed};
+ghost use Rattle.ctr_records.specs.Members.{pairs_from, slog_item, items_from, ItemFits, HasMembers, items_listed};
 ghost use Rattle.ctr_meta.specs.Kept.{EachOnce, XidsFit};
 ghost use Rattle.ctr_meta.specs.Effects.{listed};
+ghost use Rattle.ctr_meta.specs.Lists.{CountsMembers};
 
 use crate::xids::Xids;
 use ctr_bytes::{get_u8, get_u32, get_u64};
@@ -22,10 +23,7 @@ pub struct Counts {
 /// How many members lists have, which are those of members.
 pub fn counts_in(next: Xid, lists: &[u8]) -> Counts
     requires { HasMembers next lists.now }
-    ensures opens { pairs_from 8 result.opens lists.now ≡ opens_listed lists.now }
-    ensures aborted { pairs_from (16 + 16 * result.opens) result.aborted lists.now ≡ aborted_listed lists.now }
-    ensures items { items_from (24 + 16 * (result.opens + result.aborted)) result.items lists.now ≡ items_listed lists.now }
-    ensures lengths { (length (opens_listed lists.now) ≡ result.opens) × (length (aborted_listed lists.now) ≡ result.aborted) × (length (items_listed lists.now) ≡ result.items) }
+    ensures counts { CountsMembers lists.now result }
     ensures long { length lists.now ≡ 24 + 16 * (result.opens + result.aborted) + 13 * result.items }
     ensures small { length lists.now < 2 ^ 63 }
     ensures fit { AllByRecursion ItemFits (items_listed lists.now) }

@@ -16,8 +16,9 @@ use Rattle.ctr_log.specs.Logs.{Log}
 use Rattle.ctr_rec.specs.declared.item.Item.{Item}
 use Rattle.ctr_rec.specs.Fold.{FoldsRecord}
 use Rattle.ctr_acts.specs.Acts.{ActsHeld, ShowsActs}
+use Rattle.ctr_acts.specs.Writing.{OthersCanWrite}
 use Rattle.ctr_gather.specs.Gathered.{rows_asked, IsGathered}
-use Rattle.ctr_gather.specs.Records.{GatheredHeld, room_kept, IsRecordOf, IsSession, record_at}
+use Rattle.ctr_gather.specs.Records.{GatheredHeld, room_kept, IsRecordOf, IsSession, record_at, OthersAlike}
 
 -- the acts, and the records that sessions gather
 pub record TurnsHeld : Type 0 where
@@ -80,6 +81,12 @@ pub record AddsAtMost (n : ℕ) (s : ℕ) (old new : TurnsHeld) : Type 0 where
   pub tables : new.acts.engine.store.next ≤ old.acts.engine.store.next + n
   pub items : (record_at s new.records).count ≤ (record_at s old.records).count + n
 
+-- What an act of a session leaves to the others: what each gathers is as it was, and whoever of them was
+-- granted a lock can write still.
+pub record OthersStay (s : ℕ) (a : Act) (statement : Statement) (old new : TurnsHeld) : Type 0 where
+  pub alike : OthersAlike s old.records new.records
+  pub writes : OthersCanWrite s a statement old.acts new.acts
+
 -- behind what waits in the log there is a record more at most; beside its room nothing else changes
 pub record AppendsAtMostOne (old new : Log) : Type 0 where
   pub more : length new.buffered ≤ length old.buffered + 1
@@ -89,3 +96,8 @@ pub record AppendsAtMostOne (old new : Log) : Type 0 where
 pub record HasNumbers (log : Log) : Type 0 where
   pub few : length log.buffered < 2 ^ 32 - 1
   pub next : log.first + length log.buffered < 2 ^ 63 - 1
+
+-- a record that is ended has its room in the log, and its number
+pub record MayAppend (h : TurnsHeld) (log : Log) : Type 0 where
+  pub room : HasRoom h log
+  pub numbers : HasNumbers log

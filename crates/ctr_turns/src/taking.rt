@@ -4,10 +4,10 @@ ghost use Rattle.ctr_types.specs.declared.tape.Act.TheVariants as act;
 ghost use Rattle.ctr_rec.specs.declared.item.Item.{Item as HeldItem};
 ghost use Rattle.ctr_rec.specs.Items.{Fits};
 ghost use Rattle.ctr_acts.specs.Acts.{IsNotFull};
-ghost use Rattle.ctr_acts.specs.Writing.{IsPrepared, OthersCanWrite};
+ghost use Rattle.ctr_acts.specs.Writing.{IsPrepared};
 ghost use Rattle.ctr_gather.specs.Records.{room_kept, IsRecordOf, HasRoomForItem, IsSession, record_at, OthersAlike};
 ghost use Rattle.ctr_turns.specs.Items.{IsRecorded};
-ghost use Rattle.ctr_turns.specs.Turns.{TurnKeeps, with_log, HasRoom, AddsAtMost};
+ghost use Rattle.ctr_turns.specs.Turns.{TurnKeeps, with_log, HasRoom, AddsAtMost, OthersStay};
 ghost use Rattle.ctr_turns.specs.Locking.{HasItemBy, lock_reply, LockReadies, LogKeeps, HasLeft, HasCounts, WriteTurnKeeps};
 
 use crate::items::item;
@@ -79,8 +79,7 @@ impl Turns {
         ensures keeps { TurnKeeps s act.Lock statement.now (with_log self.old log.old) (with_log self.new log.new) (lock_reply result) }
         ensures ready { IfOk result (LockReadies s statement.now self.old self.new) }
         ensures log { LogKeeps self.new log.old log.new }
-        ensures others { OthersAlike s self.old.records self.new.records }
-        ensures writes { OthersCanWrite s act.Lock statement.now self.old.acts self.new.acts }
+        ensures others { OthersStay s act.Lock statement.now self.old self.new }
         ensures adds { AddsAtMost 0 s self.old self.new }
     {
         records_are_gathered();
@@ -109,8 +108,7 @@ impl Turns {
         ensures keeps { WriteTurnKeeps s statement.now ready.item self.old self.new result }
         ensures not_full { IsNotFull result }
         ensures room { room_kept self.new.records ≡ room_kept self.old.records }
-        ensures others { OthersAlike s self.old.records self.new.records }
-        ensures writes { OthersCanWrite s act.Write statement.now self.old.acts self.new.acts }
+        ensures others { OthersStay s act.Write statement.now self.old self.new }
         ensures adds { AddsAtMost 1 s self.old self.new }
     {
         records_are_gathered();

@@ -55,10 +55,14 @@ returns c =
     let two = second c.args.next lists o a r one c.get_u64-aborted.ensures.got in
     let three = third c.args.next lists o a i r one two c.get_u64-items.ensures.got in
     record {
-      opens = ap (λ (k : ℕ). pairs_from 8 k lists) one ∙ r.opens;
-      aborted = ap (λ (k : ℕ). pairs_from (16 + 16 * o) k lists) two ∙ ap (λ (k : ℕ). pairs_from k (field 8 (behind_pairs 0 lists) lists) lists) (let e : 16 + 16 * o ≡ behind_pairs 0 lists + 8 = omega (arith, one, r.aborted_place) in e);
-      items = ap (λ (k : ℕ). items_from (24 + 16 * (o + a)) k lists) three ∙ ap (λ (k : ℕ). items_from k (field 8 (slog_at lists) lists) lists) (let e : 24 + 16 * (o + a) ≡ slog_at lists + 8 = omega (arith, one, two, r.aborted_place) in e);
-      lengths = (r.opens_len ∙ sym one, r.aborted_len ∙ sym two, r.items_len ∙ sym three);
+      counts = record {
+        opens = ap (λ (k : ℕ). pairs_from 8 k lists) one ∙ r.opens;
+        aborted = ap (λ (k : ℕ). pairs_from (16 + 16 * o) k lists) two ∙ ap (λ (k : ℕ). pairs_from k (field 8 (behind_pairs 0 lists) lists) lists) (let e : 16 + 16 * o ≡ behind_pairs 0 lists + 8 = omega (arith, one, r.aborted_place) in e);
+        items = ap (λ (k : ℕ). items_from (24 + 16 * (o + a)) k lists) three ∙ ap (λ (k : ℕ). items_from k (field 8 (slog_at lists) lists) lists) (let e : 24 + 16 * (o + a) ≡ slog_at lists + 8 = omega (arith, one, two, r.aborted_place) in e);
+        opens_len = r.opens_len ∙ sym one;
+        aborted_len = r.aborted_len ∙ sym two;
+        items_len = r.items_len ∙ sym three;
+      };
       long = omega (arith, r.long, one, two, three);
       small = search rules;
       fit = r.items_fit;

@@ -1,11 +1,10 @@
 use Rattle.std.proofs.Common.{ap, subst, arith}
 use Rattle.ctr_types.specs.declared.statement.Statement.TheVariants as st
 use Rattle.ctr_types.specs.declared.tape.Act.TheVariants as act
-use Rattle.ctr_acts.specs.Writing.{OthersCanWrite}
-use Rattle.ctr_gather.specs.Records.{room_kept, OthersAlike}
+use Rattle.ctr_gather.specs.Records.{room_kept}
 use Rattle.ctr_turns.specs.Turns.{TurnsHeld, TurnKeeps}
 use Rattle.ctr_turns.proofs.Ends.{answer_turn}
-use Rattle.ctr_turns.proofs.Adding.{adds_none}
+use Rattle.ctr_turns.proofs.Adding.{adds_none, others_stay}
 use Rattle.ctr_turns.proofs.turns.Turns.answer.Goals as goal
 
 pub returns : goal.returns
@@ -16,7 +15,6 @@ returns c =
       keeps = λ waiting. subst (λ o. TurnKeeps c.args.s act.Answer st.Commit (record { turns = o; waiting = waiting }) (record { turns = new; waiting = waiting }) c.answer.result) c.self.view_is
           (answer_turn c.args.s old new waiting c.forget.ensures.others c.forget.ensures.none c.answer.result c.answer.ensures.keeps);
       needs = let kept = c.forget.ensures.needs in let before = ap (λ (o : TurnsHeld). room_kept o.records) c.self.view_is in omega (arith, kept, before);
-      others = subst (λ (o : TurnsHeld). OthersAlike c.args.s o.records new.records) c.self.view_is c.forget.ensures.others;
+      others = others_stay c.args.s act.Answer st.Commit old new c.forget.ensures.others c.answer.ensures.others c.args.self.now c.self.view_is;
       adds = let few = c.forget.ensures.count in adds_none c.args.s old new c.answer.ensures.store (omega (arith, few)) c.args.self.now c.self.view_is;
-      writes = subst (λ (o : TurnsHeld). OthersCanWrite c.args.s act.Answer st.Commit o.acts new.acts) c.self.view_is c.answer.ensures.others;
     }

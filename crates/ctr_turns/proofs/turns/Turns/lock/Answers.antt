@@ -2,7 +2,7 @@ use Rattle.std.proofs.Common.{refl, sym, subst, arith}
 use Rattle.ctr_types.specs.declared.tape.Act.TheVariants as act
 use Rattle.ctr_types.specs.declared.tape.Reply.TheVariants as reply
 use Rattle.ctr_types.specs.declared.tape.Refusal.TheVariants as refusal
-use Rattle.ctr_acts.specs.Writing.{IsPrepared, OthersCanWrite}
+use Rattle.ctr_acts.specs.Writing.{IsPrepared}
 use Rattle.ctr_legal.specs.Ready.{IsUnasked}
 use Rattle.ctr_acts.specs.Acts.{ShowsActs}
 use Rattle.ctr_acts.specs.Locking.{MayTake}
@@ -10,7 +10,7 @@ use Rattle.ctr_turns.specs.Turns.{TurnsHeld, TurnKeeps, with_log}
 use Rattle.ctr_turns.proofs.Standing.{item_kept}
 use Rattle.ctr_turns.proofs.Reading.{itself}
 use Rattle.ctr_turns.proofs.LockTurns.{lock_turn, memory_not, granted_not}
-use Rattle.ctr_turns.proofs.Adding.{adds}
+use Rattle.ctr_turns.proofs.Adding.{adds, others_stay}
 use Rattle.ctr_turns.proofs.turns.Turns.lock.Goals as goal
 
 pub returns-in-Some-clause-keeps : goal.returns-in-Some-clause-keeps
@@ -64,11 +64,15 @@ returns-clause-ready c low state shows kept ready =
       room = c.in-Ok-reserve.ensures.item;
     }
 
-pub returns-in_default-take-clause-writes : goal.returns-in_default-take-clause-writes
-returns-in_default-take-clause-writes c = subst (λ (o : TurnsHeld). OthersCanWrite c.args.s act.Lock c.args.statement.now o.acts c.take.new.self) c.self.view_is c.take.ensures.others
+pub returns-in_default-take-clause-others : goal.returns-in_default-take-clause-others
+returns-in_default-take-clause-others c =
+    let old : TurnsHeld = record { acts = c.self.inside.acts; records = c.self.inside.records } in
+    others_stay c.args.s act.Lock c.args.statement.now old (record { acts = c.take.new.self; records = c.reserve.new.records }) c.reserve.ensures.others c.take.ensures.others c.args.self.now c.self.view_is
 
-pub returns-clause-writes : goal.returns-clause-writes
-returns-clause-writes c = subst (λ (o : TurnsHeld). OthersCanWrite c.args.s act.Lock c.args.statement.now o.acts c.take.new.self) c.self.view_is c.take.ensures.others
+pub returns-clause-others : goal.returns-clause-others
+returns-clause-others c =
+    let old : TurnsHeld = record { acts = c.self.inside.acts; records = c.self.inside.records } in
+    others_stay c.args.s act.Lock c.args.statement.now old (record { acts = c.take.new.self; records = c.reserve.new.records }) c.reserve.ensures.others c.take.ensures.others c.args.self.now c.self.view_is
 
 pub returns-in_default-take-clause-adds : goal.returns-in_default-take-clause-adds
 returns-in_default-take-clause-adds c =
