@@ -7,3 +7,4 @@ pub mod FoldLaws
 pub mod LeastLaws
 pub mod SchemaLaws
 pub mod ReplayLaws
+pub mod ReplayFair

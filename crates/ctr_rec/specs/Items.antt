@@ -1,11 +1,8 @@
 -- The items of a record, and which of them have a spelling. A payload is bytes here.
-use Rattle.std.specs.Prelude.{ℕ, ◌^◌, ◌<◌, ◌≤◌, FitsSigned, List, [], ◌∷◌, length}
+use Rattle.std.specs.Prelude.{ℕ, ◌^◌, ◌<◌, FitsSigned, List, length}
 use Rattle.std.specs.List.{AllByRecursion}
 use Rattle.std.specs.Int.{w64}
 use Rattle.ctr_types.specs.Names.{IsName}
-use Rattle.ctr_types.specs.declared.value.Kind.{Kind}
-use Rattle.ctr_types.specs.declared.value.Kind.TheVariants.{Int, Chars}
-use Rattle.ctr_types.specs.declared.value.Column.{Column}
 pub use Rattle.ctr_value.specs.Columns.{KindFits, ColumnFits, ColumnsFit}
 use Rattle.ctr_rec.specs.declared.item.Item.{Item}
 use Rattle.ctr_rec.specs.declared.item.Item.TheVariants.{Put, Remove, Create, Drop}

@@ -21,7 +21,7 @@ use Rattle.ctr_acts.specs.Writing.{OthersCanWrite}
 use Rattle.ctr_turns.specs.declared.taking.Ready.{Ready}
 use Rattle.ctr_turns.specs.Turns.{TurnsHeld, ShowsTurns, TurnReplies, with_log, HasRoom, AddsAtMost, AppendsAtMostOne}
 use Rattle.ctr_turns.specs.Items.{HasItem}
-use Rattle.ctr_turns.specs.Locking.{LockReadies}
+use Rattle.ctr_turns.specs.Locking.{LockReadies, HasLeft}
 use Rattle.ctr_steps.specs.declared.runners.Stage.{Stage}
 use Rattle.ctr_steps.specs.declared.runners.Stage.TheVariants as stage
 use Rattle.ctr_steps.specs.declared.acting.Acted.{Acted}
@@ -98,6 +98,13 @@ pub record IsActOfTurn (made s : ℕ) (statement : Statement) (old new : TurnsAn
 -- the two of them
 abbrev pub both : TurnsHeld → Log → TurnsAndLog
 both turns log = record { turns = turns; log = log }
+
+-- Where the session is in its statement, an act of its own comes next: a lock that it was granted left what its
+-- Write wants, and it waits for no answer.
+pub record MayAct (g : Stage) (s : ℕ) (statement : Statement) (turns : TurnsHeld) : Type 0 where
+  pub left : (ready : Ready) → g ≡ stage.Locked ready
+      → LocksFirst statement × HasLeft turns s statement ready
+  pub unasked : (k : ℕ) → g ≡ stage.Asked k → ⊥
 
 -- Of a session in the middle of this: whatever state is shown, to which a legal tape may have led
 -- with the act next, and where a Write has the item that its lock left, the reply is the model's or

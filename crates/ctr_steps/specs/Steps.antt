@@ -145,6 +145,13 @@ pub record AddsEntry (s moment : ℕ) (old new : Steps) : Type 0 where
       → runner_at q new.runners.items ≡ runner_at q old.runners.items
   pub script : new.script ≡ old.script
 
+-- What an act of a session's next statement does: its entry comes, fewer acts are left, and of the rest only the
+-- turns, where each session is, and the tape change.
+pub record ActsOn (s moment : ℕ) (old new : Steps) : Type 0 where
+  pub entry : AddsEntry s moment old new
+  pub fewer : all_left new.runners.items < all_left old.runners.items
+  pub same : new ≡ record old { turns = new.turns; runners = new.runners; tape = new.tape }
+
 -- ---- answers
 
 -- the session waits for the answer of the commit of this number

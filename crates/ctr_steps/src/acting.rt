@@ -6,10 +6,8 @@ ghost use Rattle.ctr_gather.specs.Records.{IsSession, record_at};
 ghost use Rattle.ctr_turns.specs.Items.{IsRecorded};
 ghost use Rattle.ctr_turns.specs.Turns.{TurnKeeps, with_log, HasRoom, HasNumbers};
 ghost use Rattle.ctr_turns.specs.Locking.{HasLeft, HasCounts, WriteTurnKeeps};
-ghost use Rattle.ctr_turns.specs.declared.taking.Ready.{Ready as HeldReady};
-ghost use Rattle.ctr_steps.specs.declared.runners.Stage.TheVariants as stages;
 ghost use Rattle.ctr_steps.specs.Runners.{made_at};
-ghost use Rattle.ctr_steps.specs.Acting.{IsActOfTurn, StepKeeps, both, LocksFirst, IsSelect};
+ghost use Rattle.ctr_steps.specs.Acting.{IsActOfTurn, StepKeeps, both, LocksFirst, MayAct, IsSelect};
 
 use crate::runners::Stage;
 use ctr_log::LogFile;
@@ -170,8 +168,7 @@ pub fn step(
     requires recorded { IsRecorded statement.now }
     requires counts { HasCounts turns.old s }
     requires numbers { HasNumbers log.old }
-    requires left { (ready : HeldReady) → stage ≡ stages.Locked ready → LocksFirst statement.now × HasLeft turns.old s statement.now ready }
-    requires unasked { (k : ℕ) → stage ≡ stages.Asked k → ⊥ }
+    requires stage { MayAct stage s statement.now turns.old }
     ensures keeps { StepKeeps stage s statement.now (both turns.old log.old) (both turns.new log.new) result }
     ensures is { IsActOfTurn (made_at stage) s statement.now (both turns.old log.old) (both turns.new log.new) result }
 {

@@ -10,7 +10,7 @@ ghost use Rattle.ctr_gather.specs.Records.{IsSession};
 ghost use Rattle.ctr_turns.specs.Turns.{ShowsTurns, AppendsAtMostOne};
 ghost use Rattle.ctr_steps.specs.declared.runners.Stage.TheVariants as stages;
 ghost use Rattle.ctr_steps.specs.Runners.{vacant, runner_at, all_left, after_stage, MayStep, IsNextLine};
-ghost use Rattle.ctr_steps.specs.Steps.{Walks, Walking, HasBounds, StartsWithRoom, AddsEntry, AnswersOne, WaitsFor, AreAnswered, noted};
+ghost use Rattle.ctr_steps.specs.Steps.{Walks, Walking, HasBounds, StartsWithRoom, AddsEntry, ActsOn, AnswersOne, WaitsFor, AreAnswered, noted};
 
 use crate::acting::{Acted, step};
 use crate::runners::{Runner, Stage, runners};
@@ -110,9 +110,7 @@ impl Steps {
         ensures walks { (start : Point) (from : ℕ) → Walks start from self.old log.old.buffered moment → Walks start from self.new log.new.buffered moment }
         ensures bounds { HasBounds self.new log.new }
         ensures log { AppendsAtMostOne log.old log.new }
-        ensures entry { AddsEntry s moment self.old self.new }
-        ensures fewer { all_left self.new.runners.items < all_left self.old.runners.items }
-        ensures same { self.new ≡ record self.old { turns = self.new.turns; runners = self.new.runners; tape = self.new.tape } }
+        ensures acted { ActsOn s moment self.old self.new }
     {
         replies_tell();
         legal_tapes_are_reached();

@@ -1,4 +1,5 @@
-use Rattle.ctr_rec.proofs.ReplayLaws.{record_does, record_redone, record_tells}
+use Rattle.ctr_rec.proofs.ReplayLaws.{record_does, record_redone}
+use Rattle.ctr_rec.proofs.ReplayFair.{record_tells}
 use Rattle.ctr_rec.proofs.fold.replay_is_fold.Goals as goal
 
 pub returns-clause-folds : goal.returns-clause-folds

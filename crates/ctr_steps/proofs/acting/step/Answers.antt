@@ -5,10 +5,10 @@ use Rattle.ctr_turns.specs.Turns.{TurnReplies, with_log}
 use Rattle.ctr_steps.proofs.acting.step.Goals as goal
 
 pub write-requires-clause-left : goal.write-requires-clause-left
-write-requires-clause-left c = (c.requires.left c.in-Locked.ready c.in-Locked.is).1
+write-requires-clause-left c = (c.requires.stage.left c.in-Locked.ready c.in-Locked.is).1
 
 pub write-requires-clause-locks : goal.write-requires-clause-locks
-write-requires-clause-locks c = (c.requires.left c.in-Locked.ready c.in-Locked.is).0
+write-requires-clause-locks c = (c.requires.stage.left c.in-Locked.ready c.in-Locked.is).0
 
 pub returns-in-Locked-clause-keeps : goal.returns-in-Locked-clause-keeps
 returns-in-Locked-clause-keeps c low from state shows kept ready in_turn item =
@@ -19,4 +19,4 @@ pub returns-in-Between-clause-keeps : goal.returns-in-Between-clause-keeps
 returns-in-Between-clause-keeps c low from state shows kept ready in_turn item = c.first.ensures.keeps low from state shows kept ready in_turn
 
 pub returns-in-Asked : goal.returns-in-Asked
-returns-in-Asked c = absurd (c.requires.unasked c.in-Asked.k c.in-Asked.is)
+returns-in-Asked c = absurd (c.requires.stage.unasked c.in-Asked.k c.in-Asked.is)

@@ -17,7 +17,7 @@ returns-in-Err-clause-refused g c told =
     let front = laws.file (log_file root.file) root.first bytes in
     let ends = c.in-Err.ensures in
     subst (RefusesLogOf root image) (sym c.read_told.ensures)
-    (log_ended root image Log front.0 front.1 (laws.bytes (log_file root.file) root.first bytes) c.in_ok-loading.loading c.visit_named.new.visitor c.in-Err.error c.in_ok-loading.ensures (ends.visits told) (ends.refused told) (ends.damage told) (λ bs log. ends.only bs told log))
+    (log_ended root image Log front.0 front.1 (laws.bytes (log_file root.file) root.first bytes) c.in_ok-loading.loading c.visit_named.new.visitor c.in-Err.error c.in_ok-loading.ensures (ends.visits told) (ends.damage told).refused (ends.damage told).damage (λ bs log. ends.only bs told log))
 
 pub returns-in-Err-clause-differs : goal.returns-in-Err-clause-differs
 returns-in-Err-clause-differs g c = subst OpenDiffers (sym c.read_told.ensures) (early_differs c.in_ok-loading.loading c.in-Err.error c.in_ok-loading.ensures c.in-Err.ensures.always)
@@ -35,7 +35,7 @@ returns-in_default-clause-refused g c told =
     let ends = c.in-Ok.ensures in
     let new = c.visit_named.new.visitor in
     let has = ends.visits told [] (subst (λ (s : Loaded). HasLoaded s []) (sym c.in_ok-loading.ensures) nothing_has) in
-    absurd (log_begun root image new has (laws.all (log_file root.file) root.first bytes (ends.damage told)) (laws.bytes (log_file root.file) root.first bytes) c.in-Ok.log (ends.found told) (sym c.into_parts-xid.ensures.xid ∙ none_of c.into_parts-xid.result.0 c.in_default.not-Some))
+    absurd (log_begun root image new has (laws.all (log_file root.file) root.first bytes (ends.damage told).damage) (laws.bytes (log_file root.file) root.first bytes) c.in-Ok.log (ends.found told) (sym c.into_parts-xid.ensures.xid ∙ none_of c.into_parts-xid.result.0 c.in_default.not-Some))
 
 pub returns-clause-found : goal.returns-clause-found
 returns-clause-found g c told =
@@ -46,5 +46,5 @@ returns-clause-found g c told =
     let ends = c.in-Ok.ensures in
     let new = c.visit_named.new.visitor in
     let has = ends.visits told [] (subst (λ (s : Loaded). HasLoaded s []) (sym c.in_ok-loading.ensures) nothing_has) in
-    let made = log_made root image new has (laws.all (log_file root.file) root.first bytes (ends.damage told)) (laws.bytes (log_file root.file) root.first bytes) c.in-Some.xid (sym c.into_parts-xid.ensures.xid ∙ c.in-Some.is) in
+    let made = log_made root image new has (laws.all (log_file root.file) root.first bytes (ends.damage told).damage) (laws.bytes (log_file root.file) root.first bytes) c.in-Some.xid (sym c.into_parts-xid.ensures.xid ∙ c.in-Some.is) in
     (subst (λ (db : Database). MakesDatabase (log_in bytes) db c.in-Some.xid) (sym c.into_parts-xid.ensures.database) made, ends.found told)

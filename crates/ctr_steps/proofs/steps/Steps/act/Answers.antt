@@ -23,10 +23,13 @@ step-acted-requires-clause-counts c = subst (λ t. HasCounts t c.args.s) (sym (a
 pub step-acted-requires-clause-numbers : goal.step-acted-requires-clause-numbers
 step-acted-requires-clause-numbers c = numbers c.args.self.now c.args.log.now c.requires.bounds c.args.s c.requires.one
 
-pub step-acted-requires-clause-left : goal.step-acted-requires-clause-left
-step-acted-requires-clause-left c ready is =
-    subst (λ t. LocksFirst c.statement_at-statement.result.now × HasLeft t c.args.s c.statement_at-statement.result.now ready) (sym (ap (λ (h : Steps). h.turns) c.take-place.ensures.same))
-    (left_for c.args.self.now c.args.log.now.buffered c.args.moment c.args.s c.statement_at-statement.result.now c.requires.walking c.requires.one (named c) ready (sym c.take-place.ensures.stage ∙ is))
+pub step-acted-requires-clause-stage : goal.step-acted-requires-clause-stage
+step-acted-requires-clause-stage c = record {
+  left = λ ready is.
+      subst (λ t. LocksFirst c.statement_at-statement.result.now × HasLeft t c.args.s c.statement_at-statement.result.now ready) (sym (ap (λ (h : Steps). h.turns) c.take-place.ensures.same))
+      (left_for c.args.self.now c.args.log.now.buffered c.args.moment c.args.s c.statement_at-statement.result.now c.requires.walking c.requires.one (named c) ready (sym c.take-place.ensures.stage ∙ is));
+  unasked = λ k is. c.requires.next.unasked k (sym c.take-place.ensures.stage ∙ is);
+}
 
 pub note-requires-clause-small : goal.note-requires-clause-small
 note-requires-clause-small c =
@@ -50,12 +53,16 @@ returns-clause-bounds c = step_bounds c.args.self.now c.take-place.new.self c.no
     c.statement_at-statement.result.now (named_after c) c.take-place.result.1 c.take-place.ensures.stage c.step-acted.result c.step-acted.new.turns c.take-place.ensures.same c.take-place.ensures.runners c.step-acted.ensures.keeps c.step-acted.ensures.is
     c.note.ensures.is c.note.ensures.tape c.note.ensures.len c.note.ensures.capacity c.note.ensures.runners
 
-pub returns-clause-fewer : goal.returns-clause-fewer
-returns-clause-fewer c = step_fewer c.args.self.now c.take-place.new.self c.note.new.self c.args.log.now c.step-acted.new.log c.args.s c.args.moment c.requires.one c.requires.bounds c.requires.next.more
-    c.statement_at-statement.result.now (named_after c) c.take-place.result.1 c.take-place.ensures.stage c.step-acted.result c.step-acted.new.turns c.take-place.ensures.same c.take-place.ensures.runners c.step-acted.ensures.keeps c.step-acted.ensures.is
-    c.note.ensures.is c.note.ensures.tape c.note.ensures.len c.note.ensures.capacity c.note.ensures.runners
-
-pub returns-clause-entry : goal.returns-clause-entry
-returns-clause-entry c = step_entry c.args.self.now c.take-place.new.self c.note.new.self c.args.log.now c.step-acted.new.log c.args.s c.args.moment c.requires.one c.requires.bounds c.requires.next.more
-    c.statement_at-statement.result.now (named_after c) c.take-place.result.1 c.take-place.ensures.stage c.step-acted.result c.step-acted.new.turns c.take-place.ensures.same c.take-place.ensures.runners c.step-acted.ensures.keeps c.step-acted.ensures.is
-    c.note.ensures.is c.note.ensures.tape c.note.ensures.len c.note.ensures.capacity c.note.ensures.runners c.legal_tapes_are_reached.ensures c.legal_tapes_grow.ensures c.replies_tell.ensures c.requires.walking
+pub returns-clause-acted : goal.returns-clause-acted
+returns-clause-acted c = record {
+  entry = step_entry c.args.self.now c.take-place.new.self c.note.new.self c.args.log.now c.step-acted.new.log c.args.s c.args.moment c.requires.one c.requires.bounds c.requires.next.more
+      c.statement_at-statement.result.now (named_after c) c.take-place.result.1 c.take-place.ensures.stage c.step-acted.result c.step-acted.new.turns c.take-place.ensures.same c.take-place.ensures.runners c.step-acted.ensures.keeps c.step-acted.ensures.is
+      c.note.ensures.is c.note.ensures.tape c.note.ensures.len c.note.ensures.capacity c.note.ensures.runners c.legal_tapes_are_reached.ensures c.legal_tapes_grow.ensures c.replies_tell.ensures c.requires.walking;
+  fewer = step_fewer c.args.self.now c.take-place.new.self c.note.new.self c.args.log.now c.step-acted.new.log c.args.s c.args.moment c.requires.one c.requires.bounds c.requires.next.more
+      c.statement_at-statement.result.now (named_after c) c.take-place.result.1 c.take-place.ensures.stage c.step-acted.result c.step-acted.new.turns c.take-place.ensures.same c.take-place.ensures.runners c.step-acted.ensures.keeps c.step-acted.ensures.is
+      c.note.ensures.is c.note.ensures.tape c.note.ensures.len c.note.ensures.capacity c.note.ensures.runners;
+  same =
+      let new = c.note.new.self in
+      let onto = λ (h : Steps). record h { turns = c.step-acted.new.turns; runners = new.runners; tape = new.tape } in
+      c.note.ensures.is ∙ ap onto c.take-place.ensures.same ∙ ap (λ t. record c.args.self.now { turns = t; runners = new.runners; tape = new.tape }) (sym (ap (λ (h : Steps). h.turns) c.note.ensures.is));
+}

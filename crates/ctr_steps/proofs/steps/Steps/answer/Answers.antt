@@ -23,22 +23,22 @@ one : (c : goal.After-self-1) → IsSession c.in-Some.s c.args.self.now.turns.re
 one c = let found = c.in-Some.ensures.found in (found.least, subst (λ n. c.in-Some.s ≤ n) (sym c.requires.bounds.1.sessions) found.most)
 
 pub returns-clause-walks : goal.returns-clause-walks
-returns-clause-walks c = answered_walks c.args.self.now c.note.new.self c.in-Some.s c.args.moment (one c) c.in-Some.ensures.found.asked c.requires.bounds.1.sessions c.answer-reply.new.self c.answer-reply.result c.answer-reply.ensures.keeps c.answer-reply.ensures.others c.answer-reply.ensures.writes c.answer-reply.ensures.adds c.answer-reply.ensures.needs
+returns-clause-walks c = answered_walks c.args.self.now c.note.new.self c.in-Some.s c.args.moment (one c) c.in-Some.ensures.found.asked c.requires.bounds.1.sessions c.answer-reply.new.self c.answer-reply.result c.answer-reply.ensures.keeps c.answer-reply.ensures.others.alike c.answer-reply.ensures.others.writes c.answer-reply.ensures.adds c.answer-reply.ensures.needs
     c.note.ensures.is c.note.ensures.tape c.note.ensures.len c.note.ensures.capacity c.note.ensures.runners c.legal_tapes_are_reached.ensures c.legal_tapes_grow.ensures c.replies_tell.ensures
 
 pub returns-clause-bounds : goal.returns-clause-bounds
-returns-clause-bounds c = answered_bounds c.args.self.now c.note.new.self c.in-Some.s c.args.moment (one c) c.in-Some.ensures.found.asked c.requires.bounds.1.sessions c.answer-reply.new.self c.answer-reply.result c.answer-reply.ensures.keeps c.answer-reply.ensures.others c.answer-reply.ensures.writes c.answer-reply.ensures.adds c.answer-reply.ensures.needs
+returns-clause-bounds c = answered_bounds c.args.self.now c.note.new.self c.in-Some.s c.args.moment (one c) c.in-Some.ensures.found.asked c.requires.bounds.1.sessions c.answer-reply.new.self c.answer-reply.result c.answer-reply.ensures.keeps c.answer-reply.ensures.others.alike c.answer-reply.ensures.others.writes c.answer-reply.ensures.adds c.answer-reply.ensures.needs
     c.note.ensures.is c.note.ensures.tape c.note.ensures.len c.note.ensures.capacity c.note.ensures.runners
 
 pub returns-clause-next : goal.returns-clause-next
 returns-clause-next c = λ is. (
   ap (λ (h : Steps). h.answered + 1) c.note.ensures.is,
-  answered_fewer c.args.self.now c.note.new.self c.in-Some.s c.args.moment (one c) c.in-Some.ensures.found.asked c.requires.bounds.1.sessions c.answer-reply.new.self c.answer-reply.result c.answer-reply.ensures.keeps c.answer-reply.ensures.others c.answer-reply.ensures.writes c.answer-reply.ensures.adds c.answer-reply.ensures.needs
+  answered_fewer c.args.self.now c.note.new.self c.in-Some.s c.args.moment (one c) c.in-Some.ensures.found.asked c.requires.bounds.1.sessions c.answer-reply.new.self c.answer-reply.result c.answer-reply.ensures.keeps c.answer-reply.ensures.others.alike c.answer-reply.ensures.others.writes c.answer-reply.ensures.adds c.answer-reply.ensures.needs
       c.note.ensures.is c.note.ensures.tape c.note.ensures.len c.note.ensures.capacity c.note.ensures.runners c.requires.bounds.0 c.requires.bounds.1,
 )
 
 pub returns-clause-entry : goal.returns-clause-entry
-returns-clause-entry c = λ is. answered_entry c.args.self.now c.note.new.self c.in-Some.s c.args.moment (one c) c.in-Some.ensures.found.asked c.requires.bounds.1.sessions c.answer-reply.new.self c.answer-reply.result c.answer-reply.ensures.keeps c.answer-reply.ensures.others c.answer-reply.ensures.writes c.answer-reply.ensures.adds c.answer-reply.ensures.needs
+returns-clause-entry c = λ is. answered_entry c.args.self.now c.note.new.self c.in-Some.s c.args.moment (one c) c.in-Some.ensures.found.asked c.requires.bounds.1.sessions c.answer-reply.new.self c.answer-reply.result c.answer-reply.ensures.keeps c.answer-reply.ensures.others.alike c.answer-reply.ensures.others.writes c.answer-reply.ensures.adds c.answer-reply.ensures.needs
     c.note.ensures.is c.note.ensures.tape c.note.ensures.len c.note.ensures.capacity c.note.ensures.runners c.legal_tapes_are_reached.ensures c.legal_tapes_grow.ensures c.replies_tell.ensures c.in-Some.ensures.found c.requires.walking.0 c.requires.walking.1
 
 pub next_asked-requires-clause-few : goal.next_asked-requires-clause-few

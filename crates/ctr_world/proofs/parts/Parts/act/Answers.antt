@@ -21,12 +21,12 @@ act-requires-clause-walking g c =
 pub returns-clause-runs : goal.returns-clause-runs
 returns-clause-runs g c = λ base runs.
     let a = c.act.ensures in
-    let entry = subst (λ (t : ℕ). AddsEntry c.args.s t c.args.self.now.steps c.act.new.self) c.moment-moment.ensures a.entry in
+    let entry = subst (λ (t : ℕ). AddsEntry c.args.s t c.args.self.now.steps c.act.new.self) c.moment-moment.ensures a.acted.entry in
     act_runs g.D.Disk g.met.D.Disk.earlier g.met.D.Disk.only_now c.states_grow.ensures c.legal_states_are_sound.ensures g.B.Opening base c.args.self.now c.act.new.log c.act.new.self c.args.s
-    runs c.requires.going a.log entry (ap (λ (h : Steps). h.script) a.same) (ap (λ (h : Steps). h.answered) a.same) (walks g (goal.at.returns-clause-runs g c).After-act)
+    runs c.requires.going a.log entry (ap (λ (h : Steps). h.script) a.acted.same) (ap (λ (h : Steps). h.answered) a.acted.same) (walks g (goal.at.returns-clause-runs g c).After-act)
 
 pub returns-clause-walking : goal.returns-clause-walking
 returns-clause-walking g c =
     let w = c.requires.walking in
     let on = walks g (goal.at.returns-clause-walking g c).After-act w.start c.args.self.now.steps.answered w.walks in
-    record { start = w.start; walks = subst (λ (n : ℕ). Walks w.start n c.act.new.self c.act.new.log.buffered (g.D.Disk.moment_of c.args.self.now.disk)) (sym (ap (λ (h : Steps). h.answered) c.act.ensures.same)) on }
+    record { start = w.start; walks = subst (λ (n : ℕ). Walks w.start n c.act.new.self c.act.new.log.buffered (g.D.Disk.moment_of c.args.self.now.disk)) (sym (ap (λ (h : Steps). h.answered) c.act.ensures.acted.same)) on }

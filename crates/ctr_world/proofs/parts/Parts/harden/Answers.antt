@@ -25,16 +25,16 @@ returns-in_default-clause-kept g c =
           let rests = at_rest d g.met.D.Disk.earlier g.met.D.Disk.only_now c.goes_on_by_records.ensures c.later_walks.ensures b base w runs c.requires.going k.later c.states_grow.ensures in
           let settled : IsSettled d w.disk = record { told = told; only = rests.only } in
           fails_runs d g.met.D.Disk.earlier g.met.D.Disk.only_now c.goes_on_by_records.ensures c.later_walks.ensures b base w runs c.requires.going k.later c.states_grow.ensures
-          c.flush.new.disk c.flush.new.self f.later (f.any_moment rests.stands.r.first rests.stands.bs settled rests.goes_on) f.stray.below f.emptied.file;
+          c.flush.new.disk c.flush.new.self f.counts.later (f.any_moment rests.stands.r.first rests.stands.bs settled rests.goes_on) f.counts.stray.below f.emptied.file;
       walking = λ bad. absurd (cc bad);
       bounds = λ bad. absurd (cc bad);
       eight = k.eight;
       not_full = k.not_full;
       lines_are = k.lines_are;
       each = k.each;
-      later = omega (arith, k.later, f.later);
-      faults_later = omega (arith, k.faults_later, f.faults.later);
-      stops = rose_before b.faults (d.faults_of w.disk) (d.faults_of c.flush.new.disk) k.faults_later (f.faults.failed (c.in_default.is ∙ c.in_default.ensures.refused));
+      later = omega (arith, k.later, f.counts.later);
+      faults_later = omega (arith, k.faults_later, f.counts.faults.later);
+      stops = rose_before b.faults (d.faults_of w.disk) (d.faults_of c.flush.new.disk) k.faults_later (f.counts.faults.failed (c.in_default.is ∙ c.in_default.ensures.counts.refused));
     }
 
 module _ (g : Over) (c : After-answer_all g) where
@@ -54,7 +54,7 @@ module _ (g : Over) (c : After-answer_all g) where
       let w = c.args.self.now in
       let log = c.flush.new.self in
       let now = g.D.Disk.moment_of c.flush.new.disk in
-      let before : Walking w.steps log.buffered now = durable_walking c.durable_walks.ensures c.later_walks.ensures w.steps w.log.buffered log.buffered (g.D.Disk.moment_of w.disk) now c.flush.ensures.later c.in-Ok.ensures.emptied.none (c.requires.kept.walking c.requires.going) in
+      let before : Walking w.steps log.buffered now = durable_walking c.durable_walks.ensures c.later_walks.ensures w.steps w.log.buffered log.buffered (g.D.Disk.moment_of w.disk) now c.flush.ensures.counts.later c.in-Ok.ensures.emptied.none (c.requires.kept.walking c.requires.going) in
       answered_walking c.answer_all.new.steps log.buffered now c.in-Ok.ensures.emptied.none at_moment.all
       (record { start = before.start; from = before.from; walks = walks before.start before.from log.buffered before.walks })
 
@@ -73,17 +73,17 @@ returns-clause-kept g c =
           let rests = at_rest d g.met.D.Disk.earlier g.met.D.Disk.only_now c.goes_on_by_records.ensures c.later_walks.ensures b base w runs c.requires.going k.later c.states_grow.ensures in
           let settled : IsSettled d w.disk = record { told = told; only = rests.only } in
           answers_runs d g.met.D.Disk.earlier g.met.D.Disk.only_now c.goes_on_by_records.ensures c.later_walks.ensures b base w runs c.requires.going k.later c.states_grow.ensures
-          c.legal_states_are_sound.ensures c.durable_walks.ensures c.flush.new.disk c.flush.new.self c.answer_all.new.steps c.flush.ensures.later
+          c.legal_states_are_sound.ensures c.durable_walks.ensures c.flush.new.disk c.flush.new.self c.answer_all.new.steps c.flush.ensures.counts.later
           (c.flush.ensures.any_moment rests.stands.r.first rests.stands.bs settled rests.goes_on) (f.flushed rests.stands.r.first rests.stands.bs told rests.goes_on)
-          c.flush.ensures.emptied.file f.emptied.none (f.durable rests.only) f.stray.fine c.answer_all.ensures.script all (walks g here);
+          c.flush.ensures.emptied.file f.emptied.none (f.durable rests.only) f.counts.stray.fine c.answer_all.ensures.script all (walks g here);
       walking = λ going. walking g here;
       bounds = λ going. bounds g here;
       eight = let held = bounds g here in record { same = held.sessions; eight = held.eight };
       not_full = subst NoneFull (sym all.adds.tape) (none_full_more w.steps.tape.items all.adds.entries k.not_full (none_full_of (d.moment_of c.flush.new.disk) w.steps all.adds.entries all.adds.answers));
       lines_are = ap (λ (s : Script). s.lines) c.answer_all.ensures.script ∙ k.lines_are;
       each = k.each;
-      later = omega (arith, k.later, c.flush.ensures.later);
-      faults_later = omega (arith, k.faults_later, c.flush.ensures.faults.later);
+      later = omega (arith, k.later, c.flush.ensures.counts.later);
+      faults_later = omega (arith, k.faults_later, c.flush.ensures.counts.faults.later);
       stops = subst (λ s. StopsBy s b.faults (d.faults_of c.flush.new.disk)) (sym c.requires.going)
-          (f.faults.fine (λ is. absurd (cc is)) ∙ subst (λ s. StopsBy s b.faults (d.faults_of w.disk)) c.requires.going k.stops);
+          (f.counts.faults.fine (λ is. absurd (cc is)) ∙ subst (λ s. StopsBy s b.faults (d.faults_of w.disk)) c.requires.going k.stops);
     }
