@@ -177,6 +177,11 @@ module _ (h : HeldStore) (a : Inside) (view_is : held_store a ≡ h) (inv : IsSt
       same_key : (k : ℤ) → int_eq k key ≡ true → k ≡ key
       same_key k is = (signed_Decides k key).0 is
 
+  -- a table that was lent and left alone has the chains that it had
+  pub set_stays : (v w : Rows) → Some v ≡ get_by (nat_cmp id) a.tables → w ≡ v → ChainSet int_cmp (chains_of v) (chains_of w) key (chain_at int_cmp key (chains_of v))
+  set_stays v w there same = subst (λ (r : Rows). ChainSet int_cmp (chains_of v) (chains_of r) key (chain_at int_cmp key (chains_of v))) (sym same)
+      (record { here = refl; others = λ k apart. refl; sorted = subst (λ es. T (is_sorted int_cmp es)) (slots_found (held_store a) a.tables id (Some v) refl there) (inv.sorted id) })
+
   module _ (v w : Rows) (there : Some v ≡ get_by (nat_cmp id) a.tables) (writes : WritesThrough nat_cmp (nat_cmp id) a.tables w new) where
     -- a chain gave way to one that is empty where it was
     pub stored_through : (f : List (ℕ × Option Row) → List (ℕ × Option Row)) → f [] ≡ [] → ChainSet int_cmp (chains_of v) (chains_of w) key (f (chain_at int_cmp key (chains_of v))) → IsStored b

@@ -1,5 +1,5 @@
 // A chain of versions.
-ghost use Rattle.std.specs.Prelude.{◌≡◌, ◌<◌, ◌≤◌, true, length, drop, [], reverse, if◌then◌else◌, OnOk, option_copied};
+ghost use Rattle.std.specs.Prelude.{◌≡◌, ◌<◌, ◌≤◌, true, length, drop, [], ◌∷◌, reverse, if◌then◌else◌, IfOk, OnOk, option_copied};
 ghost use Rattle.ctr_versions.specs.Chains.{value_seen, newest};
 ghost use Rattle.ctr_versions.specs.Changes.{write, revert, cut, without_tombstone};
 ghost use Rattle.ctr_versions.specs.Heads.{open_head};
@@ -49,6 +49,17 @@ impl<V> Chain<V> {
         Chain {
             versions: Vec::new(alloc),
         }
+    }
+
+    /// One version, or a tombstone, with room for no other.
+    pub fn of(alloc: Global, xid: Xid, value: Option<V>) -> Result<Self, OutOfMemory>
+    where
+        V: Drop,
+        ensures { IfOk result (λ a. a.chain ≡ (xid, value) ∷ []) }
+    {
+        let mut versions = Vec::with_capacity(alloc, 1)?;
+        versions.push_reserved(Version { xid, value });
+        Ok(Chain { versions })
     }
 
     /// Takes room for one version more.

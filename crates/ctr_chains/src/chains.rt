@@ -1,6 +1,6 @@
 // Chains by key.
 ghost use Rattle.std.specs.Map.Iter.{ShowsInOrder, deref};
-ghost use Rattle.std.specs.Prelude.{◌≡◌, [], ◌++◌, map, length, IfOk, OnOk, option_copied};
+ghost use Rattle.std.specs.Prelude.{◌≡◌, [], ◌∷◌, ◌++◌, map, length, IfOk, OnOk, OnErr, option_copied};
 ghost use Rattle.ctr_versions.specs.Chains.{value_seen, newest};
 ghost use Rattle.ctr_versions.specs.Changes.{write, revert, cut, without_tombstone};
 ghost use Rattle.ctr_versions.specs.Heads.{open_head};
@@ -63,6 +63,25 @@ impl<K: Ord, V> Chains<K, V> {
         }
         let mut chain = Chain::new(alloc);
         chain.make_room()?;
+        self.chains.insert(key, chain)?;
+        Ok(())
+    }
+
+    /// A key has this version alone, whatever it had. Where memory is refused nothing changes.
+    pub fn load(
+        &mut self,
+        alloc: Global,
+        key: K,
+        xid: Xid,
+        value: Option<V>,
+    ) -> Result<(), OutOfMemory>
+    where
+        K: Drop,
+        V: Drop,
+        ensures set { OnOk result (ChainSet K.cmp (chains_of self.old) (chains_of self.new) key ((xid, value) ∷ [])) }
+        ensures err { OnErr result (self.new ≡ self.old) }
+    {
+        let chain = Chain::of(alloc, xid, value)?;
         self.chains.insert(key, chain)?;
         Ok(())
     }

@@ -1,5 +1,5 @@
 // Tables by name and rows by table and key, each with its chain.
-ghost use Rattle.std.specs.Prelude.{◌≡◌, ◌+◌, ◌-◌, ◌<◌, ◌^◌, [], Some, None, IfSome, IfOk, OnOk, map, length, option_copied};
+ghost use Rattle.std.specs.Prelude.{◌≡◌, ◌+◌, ◌-◌, ◌<◌, ◌^◌, [], ◌∷◌, Some, None, IfSome, IfOk, OnOk, OnErr, map, length, option_copied};
 ghost use Rattle.ctr_model.specs.State.{same_name};
 ghost use Rattle.ctr_versions.specs.Chains.{value_seen, newest};
 ghost use Rattle.ctr_versions.specs.Changes.{write, revert, cut, without_tombstone};
@@ -266,6 +266,31 @@ impl Store {
         }
         let mut rows = Chains::new(alloc);
         rows.make_room(alloc, key)?;
+        self.tables.insert(id, rows)?;
+        Ok(())
+    }
+
+    /// A key of a table that was made has this version alone, whatever it had. Where memory is refused
+    /// nothing changes.
+    pub fn load_row(
+        &mut self,
+        alloc: Global,
+        id: u64,
+        key: Key,
+        xid: Xid,
+        value: Option<Row>,
+    ) -> Result<(), OutOfMemory>
+        requires { id < self.old.next }
+        ensures set { OnOk result (RowsSet (versions_of self.old) (versions_of self.new) id key ((xid, value) ∷ [])) }
+        ensures same { OnErr result (RowsSet (versions_of self.old) (versions_of self.new) id key (rows_of (versions_of self.old) id key)) }
+        ensures next { self.new.next ≡ self.old.next }
+    {
+        if let Some(rows) = self.tables.get_mut(&id) {
+            rows.load(alloc, key, xid, value)?;
+            return Ok(());
+        }
+        let mut rows = Chains::new(alloc);
+        rows.load(alloc, key, xid, value)?;
         self.tables.insert(id, rows)?;
         Ok(())
     }

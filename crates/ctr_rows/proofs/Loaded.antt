@@ -1,5 +1,5 @@
 -- What a loader keeps, and the database that it shows, after each change.
-use Rattle.std.proofs.Common.{◌≡◌, ℕ, ℤ, List, [], Option, Some, None, refl, sym, ◌∙◌, ap, subst, arith}
+use Rattle.std.proofs.Common.{◌≡◌, ℕ, ℤ, List, [], ◌∷◌, Option, Some, None, refl, sym, ◌∙◌, ap, subst, arith}
 use Rattle.std.specs.Prelude.{is_some, unwrap_or, Result, Ok, Err, OnErr}
 use Rattle.std.specs.Option.{option_map}
 use Rattle.std.proofs.lemmas.Bool.{false≢true}
@@ -70,20 +70,12 @@ module _ (a : Inside) (inv : IsLoading a) where
       pub row_room_same : loaded_database (with_store mid) ≡ loaded_database a
       row_room_same = row_room_loads old (versions_of mid) inv.are id key (rows_of old id key) room refl
 
-      module _ (new : HeldStore) (v : Option Row) (set : RowsSet (versions_of mid) (versions_of new) id key (write (number_of a.xids) loader v (rows_of (versions_of mid) id key))) where
-        abbrev chain : List (ℕ × Option Row)
-        chain = write (number_of loading_xids) loader v (rows_of (versions_of mid) id key)
+    module _ (new : HeldStore) (v : Option Row) (set : RowsSet old (versions_of new) id key ((loader, v) ∷ [])) where
+      pub row_put_holds : IsLoading (with_store new)
+      row_put_holds = record { xids = inv.xids; session = inv.session; are = row_kept old (versions_of new) inv.are id key ((loader, v) ∷ []) set (refl, refl) }
 
-        set_is : RowsSet (versions_of mid) (versions_of new) id key chain
-        set_is = subst (RowsSet (versions_of mid) (versions_of new) id key) (λ i. write (number_of (inv.xids i)) loader v (rows_of (versions_of mid) id key)) set
-
-        pub row_written_holds : IsLoading (with_store new)
-        row_written_holds = record { xids = inv.xids; session = inv.session; are = row_kept (versions_of mid) (versions_of new) row_room_holds.are id key chain set_is (single_write v (rows_of (versions_of mid) id key) (row_room_holds.are.rows id key)) }
-
-        pub row_written_loads : loaded_database (with_store new) ≡ changed (row_written name key v) (loaded_database a)
-        row_written_loads = row_loads (versions_of mid) (versions_of new) row_room_holds.are id key chain set_is name table_found.0 v
-            (ap (λ ns. value_seen is_loader (chain_at name_cmp name ns)) room.names ∙ table_found.1) table_found.2 (write_seen (number_of loading_xids) loader v (rows_of (versions_of mid) id key))
-            ∙ ap (changed (row_written name key v)) row_room_same
+      pub row_put_loads : loaded_database (with_store new) ≡ changed (row_written name key v) (loaded_database a)
+      row_put_loads = row_loads old (versions_of new) inv.are id key ((loader, v) ∷ []) set name table_found.0 v table_found.1 table_found.2 refl
 
   -- no table of the name is there
   pub absent_stays : (name : List ℕ) (key : ℤ) (v : Option Row) → None ≡ option_map (λ (m : Made). m.id) (value_seen (session_sees a.xids a.session) (names_at old name)) → loaded_database a ≡ changed (row_written name key v) (loaded_database a)

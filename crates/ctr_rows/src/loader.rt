@@ -117,8 +117,7 @@ impl Loader {
         let Some(id) = id_of(&self.store, name, &self.xids, &self.session) else {
             return Ok(());
         };
-        self.store.make_row_room(alloc, id, key)?;
-        self.store.write_row(id, key, &self.xids, LOADER, Some(row));
+        self.store.load_row(alloc, id, key, LOADER, Some(row))?;
         Ok(())
     }
 

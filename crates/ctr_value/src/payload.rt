@@ -207,7 +207,7 @@ pub fn decode_row(
             got: payload.len(),
         });
     }
-    let mut values = Vec::new(alloc);
+    let mut values = Vec::with_capacity(alloc, schema.columns.len())?;
     values.push(Value::Int(key))?;
     read_values(alloc, columns, payload, &mut values)?;
     Ok(Row {

@@ -24,7 +24,7 @@ returns-clause-only c = λ vs row.
     let columns : c.behind_key-columns.result.now ≡ drop 1 c.args.schema.now.columns = c.behind_key-columns.ensures ∙ ap (drop 1) c.as_slice.ensures in
     let found = c.in_ok-read_values.ensures.found in
     let values : c.from_vec.result ≡ value.Int c.args.key ∷ found.0 =
-    c.from_vec.ensures ∙ found.1 ∙ ap (λ l. l ++ found.0) (c.in_ok-push.ensures.items ∙ ap (λ l. l ++ value.Int (to_z w64 (of_z w64 c.args.key)) ∷ []) c.new-values.ensures.items)
+    c.from_vec.ensures ∙ found.1 ∙ ap (λ l. l ++ found.0) (c.in_ok-push.ensures.items ∙ ap (λ l. l ++ value.Int (to_z w64 (of_z w64 c.args.key)) ∷ []) c.in_ok-values.ensures.items)
     ∙ ap (λ z. value.Int z ∷ found.0) (to_z-of_z w64 c.args.key c.ranges.key) in
     let read = row_read c.args.schema.now.columns c.args.key c.from_vec.result found.0 c.args.payload.now c.requires.keyed c.ranges.key values (subst (λ l. AreOf l found.0) columns found.2) (subst (λ l. IsPayload l found.0 c.args.payload.now) columns found.3) in
     one_row c.args.schema.now.columns c.args.key c.args.payload.now c.from_vec.result vs read row
