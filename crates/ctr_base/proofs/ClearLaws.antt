@@ -27,7 +27,7 @@ same_home n place a b same inside =
     ∙ drop-take place 4128 b
 
 -- a page before those that are cleared has the value that it had
-value_same : (n q : ℕ) (old new : Image) → KeepsPages n old new → 8256 * q + 8256 ≤ n → value_of (Page q) new ≡ value_of (Page q) old
+pub value_same : (n q : ℕ) (old new : Image) → KeepsPages n old new → 8256 * q + 8256 ≤ n → value_of (Page q) new ≡ value_of (Page q) old
 value_same n q old new keeps inside =
     let home : (place : ℕ) → place + 4128 ≤ n → opens_to (Page q) (take 4128 (drop place new.pages)) ≡ opens_to (Page q) (take 4128 (drop place old.pages)) =
     λ place low. ap (opens_to (Page q)) (same_home n place new.pages old.pages keeps.front low) in

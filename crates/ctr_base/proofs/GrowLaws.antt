@@ -25,11 +25,13 @@ use Rattle.ctr_redo.proofs.FitLaws.{each_more}
 use Rattle.ctr_redo.proofs.ImageLaws.{KeepsLogs, pages_apart, root_apart, kept_same, next_same, follows_same}
 use Rattle.ctr_redo.proofs.GrowthLaws.{home_counted, folds_counted, sound_behind, page_blank}
 use Rattle.ctr_base.specs.declared.base.Base.{Base}
-use Rattle.ctr_base.specs.Base.{stored_of, waiting_of, now_of, home_of, MaySave, MayPut, IsQuiet, StandsWell}
+use Rattle.ctr_base.specs.Base.{stored_of, waiting_of, now_of, home_of, MaySave, MayPut, IsQuiet, StandsWell, StandsQuiet}
+use Rattle.ctr_base.specs.Homes.{HomesSince}
 use Rattle.ctr_base.specs.Extent.{KeepsPages}
-use Rattle.ctr_base.specs.Growth.{IsGrowing, HasGrown, grown_root, GrowsBase, AreBlank}
+use Rattle.ctr_base.specs.Growth.{IsGrowing, HasGrown, grown_root, GrowsBase, GrowsOver, AreBlank}
 use Rattle.ctr_base.specs.BaseLaws.{goes_on_same, log_content, writes_same}
 use Rattle.ctr_base.proofs.ExtentLaws.{cleared_blank, cleared_long}
+use Rattle.ctr_base.proofs.HomeLaws.{since_grown}
 use Rattle.ctr_base.proofs.ClearLaws.{home_cleared, sound_cleared, state_cleared, cleared_keeps, can_count}
 
 pub grown_more : (n : ℕ) → n < 30000 → n + 1 ≤ grown n
@@ -147,7 +149,7 @@ module _ {D O : Type 0} (g : Ghosts D) where
         record {
           says = (has.2.1, grown_is_root a.root stands.says.1 few);
           file = stands.file;
-          goes_on = (goes.0, goes.1, goes_on_same goes.0 goes.1 a.log old new (log_content a.log.file old new stands.file logs) goes.2);
+          goes_on = (goes.0, goes.1, goes_on_same a.log old new (log_content a.log.file old new stands.file logs) goes.2);
           size = subst (λ (bytes : List ℕ). 8256 * more.pages ≤ length bytes) (sym (ap (λ (i : Image). i.pages) others.files)) (cleared_long a.root.pages more.pages old mid order stands.size has.1);
         }
 
@@ -160,7 +162,7 @@ module _ {D O : Type 0} (g : Ghosts D) where
         record {
           only = only;
           sound = sound_behind a.root more mid new mid_sound can others has.2.1;
-          writes = writes_same a.root.file a.root.first a.log old new logs quiet.writes;
+          writes = writes_same a.root a.log old new logs quiet.writes;
           follows = record {
             file_is = follows.file_is;
             fits = each_more a.root.pages more.pages no_tables (kept_log a.root.file a.root.first new ++ a.log.buffered) order follows.fits;
@@ -169,6 +171,9 @@ module _ {D O : Type 0} (g : Ghosts D) where
           durable = quiet.durable ∙ sym next;
           first = quiet.first ∙ sym next;
         }
+
+    pub grows_since : (first : Image) → HomesSince first a.root.pages old → HomesSince first more.pages new
+    grows_since first since = since_grown first a.root.pages more.pages old mid new order keeps others since
 
     saves_grown : (q since : ℕ) (v : PageHeld) → MaySave g a q since v → MaySave g b q since v
     saves_grown q since v may =
@@ -191,4 +196,11 @@ module _ {D O : Type 0} (g : Ghosts D) where
         above = subst (λ (h : PageHeld). h.lsn < v.lsn) (sym (homes q)) may.above;
         sound = λ s. saves_grown q since v (may.sound s);
       };
+    }
+
+    pub grows_over : (first : Image) → StandsQuiet first g a → IsDurable g d → GrowsOver first g a b
+    grows_over first rests only = record {
+      base = grows_base;
+      rests = record { stands = grows_stands; since = grows_since first rests.since; quiet = λ sound. grows_quiet (rests.quiet sound) only };
+      holds = grows_holds first;
     }

@@ -1,5 +1,5 @@
 -- The log and the homes below a pool, on which nothing is pending, and how they change.
-use Rattle.std.specs.Prelude.{◌≡◌, ◌≢◌, ◌⊎◌, ℕ, ◌+◌, ◌*◌, ◌<◌, ◌≤◌, List, length, take, drop}
+use Rattle.std.specs.Prelude.{◌≡◌, ◌≢◌, ◌⊎◌, ℕ, ◌+◌, ◌*◌, ◌<◌, ◌≤◌, List, length, take, drop, Result, Ok, Err, Some, ⊤}
 use Rattle.ctr_disk.specs.declared.disk.Disk.{Ghosts}
 use Rattle.ctr_disk.specs.declared.disk.Image.{Image}
 use Rattle.ctr_disk.specs.Device.{LeavesOnly, IsDurable}
@@ -9,18 +9,21 @@ use Rattle.ctr_disk.specs.declared.fault.Root.{Root}
 use Rattle.ctr_log.specs.Kept.{WritesBehind}
 use Rattle.ctr_log.specs.Logs.{Batches, GoesOn}
 use Rattle.ctr_records.specs.declared.record.Record.{Record}
+use Rattle.ctr_disk.specs.declared.fault.StoreFault.{StoreFault}
 use Rattle.ctr_disk.specs.declared.fault.StoreFault.TheVariants.{Fault}
 use Rattle.ctr_pool.specs.Pages.{PageHeld}
 use Rattle.ctr_pool.specs.declared.backing.Backing.{Ghosts as BackingGhosts}
 use Rattle.ctr_redo.specs.Overlaid.{overlaid}
-use Rattle.ctr_home.specs.declared.block.Block.TheVariants.{Root as RootBlock}
+use Rattle.ctr_home.specs.declared.block.Block.TheVariants.{Page, Root as RootBlock}
 use Rattle.ctr_home.specs.declared.root.Form.TheVariants.{Paged}
-use Rattle.ctr_home.specs.Blocks.{value_of}
+use Rattle.ctr_home.specs.Blocks.{BlockValue, value_of}
+use Rattle.ctr_home.specs.Reading.{IsMisnumbered}
 use Rattle.ctr_home.specs.Roots.{SaysRootOf}
 use Rattle.ctr_redo.specs.Fitting.{MayFollow}
 use Rattle.ctr_redo.specs.States.{Stored, state_of, steps, with_more, next_of}
 use Rattle.ctr_redo.specs.Images.{records_in, home_in, stored_in, IsSound, FoldsFront, IsLogFile}
 use Rattle.ctr_base.specs.declared.base.Base.{Base}
+use Rattle.ctr_base.specs.Homes.{HomesSince}
 
 -- what stands on the disk
 abbrev pub stored_of : {D O : Type 0} → Ghosts D → Base D O → Stored
@@ -97,9 +100,11 @@ pub record StandsWell {D O : Type 0} (g : Ghosts D) (b : Base D O) : Type 0 wher
   pub goes_on : (oldest : ℕ) × (bs : Batches) × GoesOn oldest bs b.log (g.reads b.disk)
   pub size : 8256 * b.root.pages ≤ length (content Pages (g.reads b.disk))
 
--- it stands so; and where the first image was sound nothing is pending
+-- it stands so; each page is at home as in the first image, or was written since; and where that was
+-- sound nothing is pending
 pub record StandsQuiet {D O : Type 0} (first : Image) (g : Ghosts D) (b : Base D O) : Type 0 where
   pub stands : StandsWell g b
+  pub since : HomesSince first b.root.pages (g.reads b.disk)
   pub quiet : IsSoundImage first → IsQuiet g b
 
 -- what a crash leaves, where the first image was sound
@@ -127,6 +132,22 @@ pub record IsHome {D O : Type 0} (g : Ghosts D) (p : ℕ) (v : PageHeld) (a b : 
     pub log : b.log ≡ a.log
     pub root : b.root ≡ a.root
 
+-- A page goes home: it may, and where the first image was sound its records are durable.
+pub record GoesHome {D O : Type 0} (first : Image) (g : Ghosts D) (b : Base D O) (p : ℕ)
+    (v : PageHeld) : Type 0 where
+  pub rests : StandsQuiet first g b
+  pub since : ℕ
+  pub may : MayPut first g b p since v
+  pub durable : IsSoundImage first → v.lsn < b.durable
+
+-- What the reading of a page at home found: that a counted page has its number there, or that it has
+-- another one.
+abbrev pub FindsNumber : {D O : Type 0} → Image → Ghosts D → Base D O → ℕ → Result ⊤ StoreFault → Type 0
+FindsNumber first g b p (Ok t) = p < b.root.pages
+    → (v : BlockValue) → value_of (Page p) (g.reads b.disk) ≡ Some v → v.number ≡ p
+FindsNumber first g b p (Err e) =
+    StandsQuiet first g b × IsMisnumbered (Page p) (g.reads b.disk) e
+
 -- the log and the homes as the backing of a pool, whose first image was this
 abbrev pub backing_of : {D O : Type 0} → Image → Ghosts D → BackingGhosts (Base D O)
 backing_of first g = record {
@@ -138,5 +159,6 @@ backing_of first g = record {
   moves = MovesIf first g;
   keeps = KeepsBase;
   fails = λ a b e. IsSoundImage first → e ≡ Fault;
+  finds = FindsNumber first g;
   faults_of = λ b. g.faults_of b.disk;
 }

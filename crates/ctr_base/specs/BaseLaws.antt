@@ -30,6 +30,7 @@ use Rattle.ctr_redo.proofs.PageLaws.{again, durable_alone}
 use Rattle.ctr_redo.proofs.StateLaws.{state_swapped, page_swapped, steps-append, put_there, put_elsewhere}
 use Rattle.ctr_redo.proofs.ImageLaws.{KeepsHomes, KeepsLogs, pages_apart, kept_same, named_same, other_same, folds_written, sound_written, state_written, state_with_more, home_written, next_same, follows_same}
 use Rattle.ctr_base.specs.declared.base.Base.{Base}
+use Rattle.ctr_base.specs.Homes.{HomesSince}
 use Rattle.ctr_base.specs.Base.{stored_of, waiting_of, now_of, home_of, MaySave, MayPut, IsQuiet, IsSoundImage, StandsWell, StandsQuiet, LeavesBase, LeavesIf, MovesBase, KeepsBase, IsHome}
 
 take_split : {A : Type 0} (j k : ℕ) (l : List A) → take j l ++ take k (drop j l) ≡ take (j + k) l
@@ -72,8 +73,8 @@ writes_holds file first log image w =
     subst (λ (l : List (List ℕ)). HoldsLog file first l image) (ap (λ (l : List (List ℕ)). kept_log file first image ++ l) (take-nil same.count) ∙ append-nil (kept_log file first image)) same.holds
 
 -- the writer goes on where the files of the log are as they were
-pub goes_on_same : (first : ℕ) (bs : List (List (List ℕ))) (log : Log) (old new : Image) → content log.file new ≡ content log.file old → GoesOn first bs log old → GoesOn first bs log new
-goes_on_same first bs log old new same goes = record { log_is = subst (HasLog first bs) (sym same) goes.log_is; place = goes.place; first_is = goes.first_is }
+pub goes_on_same : {first : ℕ} {bs : Batches} (log : Log) (old new : Image) → content log.file new ≡ content log.file old → GoesOn first bs log old → GoesOn first bs log new
+goes_on_same {first} {bs} log old new same goes = record { log_is = subst (HasLog first bs) (sym same) goes.log_is; place = goes.place; first_is = goes.first_is }
 
 by_same : (older : Bool) (file first : ℕ) (log : Log) (old new : Image) → KeepsLogs old new → WritesBy older file first log old → WritesBy older file first log new
 by_same false file first log old new same w =
@@ -81,7 +82,7 @@ by_same false file first log old new same w =
     record {
       bs = w.bs;
       file_is = w.file_is;
-      goes_on = goes_on_same first w.bs log old new here w.goes_on;
+      goes_on = goes_on_same log old new here w.goes_on;
       holds = record {
         named = subst (HasLog first w.bs) (sym (named_same file old new same)) w.holds.named;
         short = w.holds.short;
@@ -96,7 +97,7 @@ by_same true file first log old new same w =
       bs = w.bs;
       cs = w.cs;
       file_is = w.file_is;
-      goes_on = goes_on_same next w.cs log old new here w.goes_on;
+      goes_on = goes_on_same log old new here w.goes_on;
       holds = record {
         named = subst (HasLog first w.bs) (sym (named_same file old new same)) w.holds.named;
         short = w.holds.short;
@@ -107,8 +108,8 @@ by_same true file first log old new same w =
     }
 
 -- it goes on behind what is held where the files of the log are as they were
-pub writes_same : (file first : ℕ) (log : Log) (old new : Image) → KeepsLogs old new → WritesBehind file first log old → WritesBehind file first log new
-writes_same file first log old new same w = record { numbered = w.numbered; by = by_same log.older file first log old new same w.by }
+pub writes_same : (root : Root) (log : Log) (old new : Image) → KeepsLogs old new → WritesBehind root.file root.first log old → WritesBehind root.file root.first log new
+writes_same root log old new same w = record { numbered = w.numbered; by = by_same log.older root.file root.first log old new same w.by }
 
 -- a file of the log is as it was, where both are
 pub log_content : (f : File) (old new : Image) → IsLogFile f → KeepsLogs old new → content f new ≡ content f old
@@ -280,7 +281,7 @@ module _ {D O : Type 0} (g : Ghosts D) where
         record {
           says = subst (λ o. SaysRootOf Paged o a.root) (sym (others.blocks RootBlock (λ same. absurd (cc same)))) stands.says;
           file = stands.file;
-          goes_on = (goes.0, goes.1, goes_on_same goes.0 goes.1 a.log (g.reads a.disk) (g.reads d) (log_content a.log.file (g.reads a.disk) (g.reads d) stands.file same_logs) goes.2);
+          goes_on = (goes.0, goes.1, goes_on_same a.log (g.reads a.disk) (g.reads d) (log_content a.log.file (g.reads a.disk) (g.reads d) stands.file same_logs) goes.2);
           size = omega (arith, more, size);
         }
 
@@ -319,7 +320,7 @@ module _ {D O : Type 0} (g : Ghosts D) where
         record {
           only = only;
           sound = sound_written a.root p (value p v) (g.reads a.disk) (g.reads d) quiet.sound stands others is;
-          writes = writes_same a.root.file a.root.first a.log (g.reads a.disk) (g.reads d) logs quiet.writes;
+          writes = writes_same a.root a.log (g.reads a.disk) (g.reads d) logs quiet.writes;
           follows = follows_same a.root a.log.file a.log.buffered (g.reads a.disk) (g.reads d) logs quiet.follows;
           durable = quiet.durable ∙ sym next;
           first = quiet.first ∙ sym next;
@@ -382,6 +383,13 @@ module _ {D O : Type 0} (g : Ghosts D) where
     file = stands.file;
     goes_on = subst (λ (i : Image). (oldest : ℕ) × (bs : Batches) × GoesOn oldest bs a.log i) (sym same) stands.goes_on;
     size = subst (λ (i : Image). 8256 * a.root.pages ≤ length (content Pages i)) (sym same) stands.size;
+  }
+
+  pub read_rests : (first : Image) (a : Base D O) (d : D) → OnlyReads g a.disk d → StandsQuiet first g a → StandsQuiet first g (record a { disk = d })
+  read_rests first a d reads rests = record {
+    stands = stands_read a d reads.same rests.stands;
+    since = subst (HomesSince first a.root.pages) (sym reads.same) rests.since;
+    quiet = λ sound. read_quiet a d (rests.quiet sound) reads;
   }
 
   -- what a flush leaves, that changes one file of the log

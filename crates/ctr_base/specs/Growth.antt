@@ -1,5 +1,5 @@
 -- How more pages are counted, below the pool.
-use Rattle.std.specs.Prelude.{◌≡◌, ◌⊎◌, ℕ, ◌+◌, ◌*◌, ◌≤◌, ◌<◌}
+use Rattle.std.specs.Prelude.{◌≡◌, ◌⊎◌, ℕ, ◌+◌, ◌*◌, ◌≤◌, ◌<◌, Result, OnOk, OnErr}
 use Rattle.ctr_disk.specs.declared.disk.Disk.{Ghosts}
 use Rattle.ctr_disk.specs.declared.disk.Image.{Image}
 use Rattle.ctr_disk.specs.declared.fault.Root.{Root}
@@ -11,7 +11,9 @@ use Rattle.ctr_home.specs.Writing.{IsOldOrNewValue, IsNewValue}
 use Rattle.ctr_redo.specs.States.{State, state_of, counting, grown, page_limit, page_at}
 use Rattle.ctr_redo.specs.Images.{FoldsGrown}
 use Rattle.ctr_base.specs.declared.base.Base.{Base}
-use Rattle.ctr_base.specs.Base.{stored_of, now_of, home_of}
+use Rattle.ctr_base.specs.Base.{stored_of, now_of, home_of, MayPut, StandsQuiet}
+use Rattle.ctr_pool.specs.Below.{HoldsStill}
+use Rattle.ctr_disk.specs.declared.fault.StoreFault.{StoreFault}
 use Rattle.ctr_base.specs.Extent.{KeepsPages, AreCleared}
 
 -- Homes behind the counted pages are being cleared, or they are, and the root has its old value or the
@@ -43,6 +45,18 @@ pub record GrowsBase {D O : Type 0} (g : Ghosts D) (a b : Base D O) : Type 0 whe
   pub hardened :
       state_of (stored_of g b) ≡ counting (grown a.root.pages) (state_of (stored_of g a))
   pub now : state_of (now_of g b) ≡ counting (grown a.root.pages) (state_of (now_of g a))
+
+-- So it grows, and stands over the same pages, of which may be saved what might be.
+pub record GrowsOver {D O : Type 0} (first : Image) (g : Ghosts D) (a b : Base D O) : Type 0 where
+  pub base : GrowsBase g a b
+  pub rests : StandsQuiet first g b
+  pub holds : HoldsStill (home_of g) (MayPut first g) a b
+
+-- All but the disk and the root is as it was. The root counts more pages behind an Ok, and else is the
+-- same.
+abbrev pub CountsMore : {D O T : Type 0} → Base D O → Base D O → Result T StoreFault → Type 0
+CountsMore a b result = (b ≡ record a { disk = b.disk; root = b.root })
+    × OnOk result (b.root.pages ≡ grown a.root.pages) × OnErr result (b.root ≡ a.root)
 
 -- each page of a state from one to below another has nothing
 abbrev pub AreBlank : ℕ → ℕ → State → Type 0

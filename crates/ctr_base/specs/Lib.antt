@@ -1,3 +1,4 @@
+pub mod Homes
 pub mod Base
 pub mod BaseLaws
 pub mod Opening

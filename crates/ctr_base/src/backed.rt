@@ -11,7 +11,7 @@ use ctr_records::PageNo;
 impl<D: Disk, O: Origin> Backing for Base<D, O> {
     ghost use Rattle.ctr_disk.specs.declared.fault.StoreFault.TheVariants.{Fault};
     ghost use Rattle.std.specs.Prelude.{◌≡◌};
-    ghost use Rattle.ctr_base.specs.Base.{home_of, MayPut, IsSoundImage, StandsQuiet, LeavesIf, MovesIf, KeepsBase};
+    ghost use Rattle.ctr_base.specs.Base.{home_of, MayPut, IsSoundImage, StandsQuiet, LeavesIf, MovesIf, KeepsBase, FindsNumber};
     ghost use Rattle.ctr_base.specs.BaseLaws.{rests_leaves, stands_still, base_kept, base_kept_on, leaves_joined, moves_joined};
 
     ghost tells = { D.tells };
@@ -29,6 +29,8 @@ impl<D: Disk, O: Origin> Backing for Base<D, O> {
     ghost keeps = { KeepsBase };
 
     ghost fails = { λ _ _ e. IsSoundImage O.first → e ≡ Fault };
+
+    ghost finds = { FindsNumber O.first D.Disk };
 
     ghost faults_of = { λ b. D.faults_of b.disk };
 

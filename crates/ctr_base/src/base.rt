@@ -5,9 +5,10 @@ ghost use Rattle.ctr_disk.specs.Device.{OnlyReads};
 ghost use Rattle.ctr_disk.specs.declared.fault.StoreFault.TheVariants.{Fault};
 
 use crate::origin::Origin;
+use crate::reading::read_numbered;
 use ctr_bytes::get_u64;
 use ctr_disk::{Disk, Root, StoreFault};
-use ctr_home::{Block, Home, read_page, write_home};
+use ctr_home::{Block, Home, write_home};
 use ctr_log::{LogFile, Lsn};
 use ctr_records::PageNo;
 use ctr_types::File;
@@ -27,7 +28,8 @@ pub struct Base<D, O> {
 impl<D: Disk, O: Origin> Base<D, O> {
     ghost use Rattle.ctr_pool.specs.Pages.{PageHeld};
     ghost use Rattle.ctr_pool.specs.Below.{HoldsStill};
-    ghost use Rattle.ctr_base.specs.Base.{home_of, MaySave, MayPut, IsSoundImage, StandsQuiet, LeavesIf, MovesIf, KeepsBase, IsHome};
+    ghost use Rattle.ctr_base.specs.Base.{home_of, MaySave, MayPut, IsSoundImage, StandsQuiet, LeavesIf, MovesIf, KeepsBase, IsHome, GoesHome, FindsNumber};
+    ghost use Rattle.ctr_pool.specs.Below.{IsFound};
 
     /// Makes what waits durable.
     pub fn flush(&mut self) -> Result<(), StoreFault>
@@ -66,8 +68,7 @@ impl<D: Disk, O: Origin> Base<D, O> {
     // Writes a page home whose records are durable.
     pub(crate) fn put_home(&mut self, page: PageNo, lsn: Lsn, body: &[u8]) -> Result<(), StoreFault>
         requires whole { length body.now ≡ 4096 }
-        requires told { IsTrue D.tells → StandsQuiet O.first D.Disk self.old × ((since : ℕ) × MayPut O.first D.Disk self.old page since (record { lsn = lsn; body = body.now })) }
-        requires durable { IsTrue D.tells → IsSoundImage O.first → lsn < self.old.durable }
+        requires goes { IsTrue D.tells → GoesHome O.first D.Disk self.old page (record { lsn = lsn; body = body.now }) }
         ensures keeps { KeepsBase self.old self.new }
         ensures goes { IsTrue D.tells → LeavesIf O.first D.Disk self.old self.new }
         ensures moves { IsTrue D.tells → OnOk result (MovesIf O.first D.Disk self.old self.new × StandsQuiet O.first D.Disk self.new) }
@@ -85,16 +86,21 @@ impl<D: Disk, O: Origin> Base<D, O> {
         ensures keeps { KeepsBase self.old self.new }
         ensures told { IsTrue D.tells → IfOk result (λ lsn. home_of D.Disk self.old page ≡ record { lsn = lsn; body = into.new }) }
         ensures holds { IsTrue D.tells → HoldsStill (home_of D.Disk) (MayPut O.first D.Disk) self.old self.new }
-        ensures goes { IsTrue D.tells → StandsQuiet O.first D.Disk self.old → LeavesIf O.first D.Disk self.old self.new }
-        ensures moves { IsTrue D.tells → StandsQuiet O.first D.Disk self.old → MovesIf O.first D.Disk self.old self.new × StandsQuiet O.first D.Disk self.new }
+        ensures rests { IsTrue D.tells → StandsQuiet O.first D.Disk self.old → LeavesIf O.first D.Disk self.old self.new × MovesIf O.first D.Disk self.old self.new × StandsQuiet O.first D.Disk self.new }
+        ensures finds { IsTrue D.tells → StandsQuiet O.first D.Disk self.old → IsFound (FindsNumber O.first D.Disk self.new page) result }
         ensures refused { IsTrue D.tells → StandsQuiet O.first D.Disk self.old → IfErr result (λ e. IsSoundImage O.first → e ≡ Fault) }
         ensures faults { HasFault Fault (D.faults_of self.old.disk) (D.faults_of self.new.disk) result }
     {
-        read_page(&mut self.disk, self.root.pages, page, into)
+        read_numbered(&mut self.disk, self.root.pages, page, into)
     }
 
-    /// Where the stamp of a page's value stands in the file of pages, which is this one.
+    ghost use Rattle.ctr_home.specs.declared.block.Home.{Home as At};
+    ghost use Rattle.ctr_home.specs.declared.block.Block.TheVariants.{Page};
+    ghost use Rattle.ctr_home.specs.Blocks.{home_place};
+
+    /// Where the stamp of a page's value stands in the file of pages, which is this one: in one of its homes.
     pub fn stamp_place(&mut self, page: PageNo, stamp: u64) -> Result<u64, StoreFault>
+        ensures place { IfOk result (λ at. (home : At) × (at ≡ home_place (Page page) home + 5)) }
         ensures read { OnlyReads D.Disk self.old.disk self.new.disk }
         ensures same { self.new ≡ record self.old { disk = self.new.disk } }
         ensures refused { OnErr result (result ≡ Err Fault) }

@@ -6,10 +6,9 @@ ghost use Rattle.ctr_disk.specs.Device.{LeavesOnly, IsDurable, IsSettled, Counts
 ghost use Rattle.ctr_home.specs.declared.block.Block.TheVariants.{Root as RootBlock};
 ghost use Rattle.ctr_home.specs.Blocks.{value_of};
 ghost use Rattle.ctr_home.specs.Writing.{IsAbove};
-ghost use Rattle.ctr_pool.specs.Below.{HoldsStill};
 ghost use Rattle.ctr_redo.specs.States.{grown, state_of};
-ghost use Rattle.ctr_base.specs.Base.{now_of, home_of, MayPut, IsSoundImage, StandsQuiet};
-ghost use Rattle.ctr_base.specs.Growth.{IsGrowing, HasGrown, LeavesGrown, GrowsBase, AreBlank};
+ghost use Rattle.ctr_base.specs.Base.{now_of, IsSoundImage, StandsQuiet};
+ghost use Rattle.ctr_base.specs.Growth.{IsGrowing, HasGrown, LeavesGrown, GrowsOver, CountsMore, AreBlank};
 
 use crate::base::Base;
 use crate::extent::clear_pages;
@@ -46,11 +45,9 @@ impl<D: Disk, O: Origin> Base<D, O> {
         requires few { self.old.root.pages < 30000 }
         requires rests { IsTrue D.tells → StandsQuiet O.first D.Disk self.old }
         ensures any_moment { IsTrue D.tells → IsSoundImage O.first → LeavesGrown D.Disk self.old self.new }
-        ensures grows { IsTrue D.tells → OnOk result (GrowsBase D.Disk self.old self.new × StandsQuiet O.first D.Disk self.new) }
-        ensures holds { IsTrue D.tells → OnOk result (HoldsStill (home_of D.Disk) (MayPut O.first D.Disk) self.old self.new) }
+        ensures grows { IsTrue D.tells → OnOk result (GrowsOver O.first D.Disk self.old self.new) }
         ensures blank { IsTrue D.tells → IsSoundImage O.first → AreBlank self.old.root.pages (grown self.old.root.pages) (state_of (now_of D.Disk self.old)) }
-        ensures counted { OnOk result (self.new.root.pages ≡ grown self.old.root.pages) }
-        ensures same { (self.new ≡ record self.old { disk = self.new.disk; root = self.new.root }) × OnErr result (self.new.root ≡ self.old.root) }
+        ensures counted { CountsMore self.old self.new result }
         ensures refused { OnErr result (result ≡ Err Fault) }
         ensures faults { HasFault Fault (D.faults_of self.old.disk) (D.faults_of self.new.disk) result }
     {

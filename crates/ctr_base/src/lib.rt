@@ -9,6 +9,7 @@ mod extent;
 mod growing;
 mod opening;
 mod origin;
+mod reading;
 
 pub use base::Base;
 pub use extent::{clear_pages, clearing_leaves_the_state};

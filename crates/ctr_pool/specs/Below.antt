@@ -1,5 +1,7 @@
 -- What changes below a pool.
-use Rattle.std.specs.Prelude.{◌≡◌, ◌≢◌, ℕ}
+use Rattle.std.specs.Prelude.{◌≡◌, ◌≢◌, ℕ, Result, Ok, Err, ⊤}
+use Rattle.ctr_disk.specs.declared.fault.StoreFault.{StoreFault}
+use Rattle.ctr_disk.specs.declared.fault.StoreFault.TheVariants.{Fault, Damaged}
 use Rattle.ctr_pool.specs.Pages.{PageHeld}
 
 -- All is held as it was, and what might be saved of a page may be saved.
@@ -14,3 +16,10 @@ pub record PutsPage {B : Type 0} (held : B → ℕ → PageHeld) (takes : B → 
   pub there : held b p ≡ v
   pub others : (q : ℕ) → q ≢ p → held b q ≡ held a q
   pub still : (q since : ℕ) (w : PageHeld) → q ≢ p → takes a q since w → takes b q since w
+
+-- What a load found of a page: it was given, so that the page is well; or this is wrong with it. Of a
+-- fault nothing is known.
+abbrev pub IsFound : {T : Type 0} → (Result ⊤ StoreFault → Type 0) → Result T StoreFault → Type 0
+IsFound P (Ok t) = P (Ok tt)
+IsFound P (Err Fault) = Unit {0}
+IsFound P (Err (Damaged file at want got)) = P (Err (Damaged file at want got))

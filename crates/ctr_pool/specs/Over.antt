@@ -1,5 +1,5 @@
 -- A pool over what is held below it.
-use Rattle.std.specs.Prelude.{◌≡◌, ◌==◌, ◌-◌, ℕ, ◌<◌, Bool, true, false, IsTrue, List, Option, None, Some, Result, IfErr, OnOk, if◌then◌else◌}
+use Rattle.std.specs.Prelude.{◌≡◌, ◌≢◌, ◌==◌, ◌-◌, ℕ, ◌<◌, Bool, true, false, IsTrue, List, Option, None, Some, Result, IfErr, OnOk, if◌then◌else◌}
 use Rattle.ctr_types.specs.Faults.{HasFault}
 use Rattle.ctr_disk.specs.declared.fault.StoreFault.{StoreFault}
 use Rattle.ctr_disk.specs.declared.fault.StoreFault.TheVariants.{Fault}
@@ -57,10 +57,15 @@ pub record SavesForRoom (old new : Pooled) : Type 0 where
   pub kept : 0 < unchanged old → (q : ℕ) → since_in q new.frames ≡ since_in q old.frames
   pub oldest : unchanged old ≡ 0 → OldestSaved old new
 
--- A page is there now. It was, and nothing changed; or it was loaded, into a frame for which at
+-- a page is there now, and no other one that wasn't
+abbrev pub AddsPage : ℕ → List Frame → List Frame → Type 0
+AddsPage p old new = (has_page p new ≡ true)
+    × ((q : ℕ) → q ≢ p → has_page q old ≡ false → has_page q new ≡ false)
+
+-- A page is there now, and no other one that wasn't. It was, and nothing changed; or it was loaded, into a frame for which at
 -- most the oldest page was saved.
 pub record BringsIn (p : ℕ) (old new : Pooled) : Type 0 where
-  pub there : has_page p new.frames ≡ true
+  pub adds : AddsPage p old.frames new.frames
   pub most : new.most ≡ old.most
   pub hit : has_page p old.frames ≡ true → new ≡ old
   pub miss : has_page p old.frames ≡ false → SavesForRoom old new

@@ -1,10 +1,10 @@
 // What stands below a pool.
-ghost use Rattle.std.specs.Prelude.{◌≡◌, ◌≤◌, ◌<◌, Bool, IsTrue, ℕ, length, IfOk, IfErr, OnOk};
+ghost use Rattle.std.specs.Prelude.{◌≡◌, ◌≤◌, ◌<◌, Bool, IsTrue, ℕ, ⊤, Result, Err, length, IfOk, IfErr, OnOk, OnErr};
 ghost use Rattle.ctr_types.specs.Faults.{HasFault};
 ghost use Rattle.ctr_disk.specs.declared.fault.StoreFault.{StoreFault as Wrong};
 ghost use Rattle.ctr_disk.specs.declared.fault.StoreFault.TheVariants.{Fault};
 ghost use Rattle.ctr_pool.specs.Pages.{PageHeld};
-ghost use Rattle.ctr_pool.specs.Below.{PutsPage, HoldsStill};
+ghost use Rattle.ctr_pool.specs.Below.{PutsPage, HoldsStill, IsFound};
 
 use crate::Lsn;
 use ctr_disk::StoreFault;
@@ -36,6 +36,9 @@ pub trait Backing {
     /// What an error says of the change at whose end it came.
     ghost fails: { Self → Self → Wrong → Type 0 };
 
+    /// What a load found of a page, at whose end this is what is below: that it is well, or what is wrong with it.
+    ghost finds: { Self → ℕ → Result ⊤ Wrong → Type 0 };
+
     ghost faults_of: { Self → ℕ };
 
     /// Reads a page, and answers its LSN. Nothing that is held changes.
@@ -47,6 +50,7 @@ pub trait Backing {
         ensures goes { IsTrue tells → rests self.old → goes self.old self.new }
         ensures moves { IsTrue tells → rests self.old → OnOk result (moves self.old self.new × rests self.new) }
         ensures fails { IsTrue tells → rests self.old → IfErr result (fails self.old self.new) }
+        ensures finds { IsTrue tells → rests self.old → IsFound (finds self.new page) result }
         ensures faults { HasFault Fault (faults_of self.old) (faults_of self.new) result };
 
     /// Writes a page. The others stay.
@@ -58,6 +62,7 @@ pub trait Backing {
         ensures goes { IsTrue tells → goes self.old self.new }
         ensures moves { IsTrue tells → OnOk result (moves self.old self.new × rests self.new) }
         ensures fails { IsTrue tells → IfErr result (fails self.old self.new) }
+        ensures fault { OnErr result (result ≡ Err Fault) }
         ensures faults { HasFault Fault (faults_of self.old) (faults_of self.new) result };
 
     /// How many calls have failed. It never falls, and stands still at the last value of its type.

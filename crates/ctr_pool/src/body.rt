@@ -1,7 +1,7 @@
 // The bytes of a page.
 ghost use Rattle.std.specs.Prelude.{◌≡◌, ◌≤◌, ◌+◌, ◌++◌, ℕ, List, length, take, drop, replicate, IsTrue, IfOk, IfErr, OnOk};
 ghost use Rattle.ctr_pool.specs.Pages.{PageHeld, overlaid_by};
-ghost use Rattle.ctr_pool.specs.Below.{HoldsStill};
+ghost use Rattle.ctr_pool.specs.Below.{HoldsStill, IsFound};
 ghost use Rattle.ctr_types.specs.Faults.{HasFault};
 ghost use Rattle.ctr_disk.specs.declared.fault.StoreFault.TheVariants.{Fault};
 
@@ -57,6 +57,7 @@ impl Body {
         ensures goes { IsTrue B.tells → B.rests backing.old → B.goes backing.old backing.new }
         ensures moves { IsTrue B.tells → B.rests backing.old → OnOk result (B.moves backing.old backing.new × B.rests backing.new) }
         ensures fails { IsTrue B.tells → B.rests backing.old → IfErr result (B.fails backing.old backing.new) }
+        ensures finds { IsTrue B.tells → B.rests backing.old → IsFound (B.finds backing.new page) result }
         ensures faults { HasFault Fault (B.faults_of backing.old) (B.faults_of backing.new) result }
     {
         backing.load(page, &mut self.bytes)

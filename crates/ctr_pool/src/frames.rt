@@ -1,5 +1,5 @@
 // Frames in order of their pages.
-ghost use Rattle.std.specs.Prelude.{◌≡◌, ◌==◌, ◌≤◌, ◌<◌, ◌+◌, ◌⊎◌, ℕ, [], Some, None, true, Option, length, is_some, if◌then◌else◌, IsTrue, IfOk, IfSome, IfNone, OnOk, IfErr};
+ghost use Rattle.std.specs.Prelude.{◌≡◌, ◌==◌, ◌≤◌, ◌<◌, ◌+◌, ◌⊎◌, ℕ, [], Some, None, true, Option, length, is_some, if◌then◌else◌, IsTrue, Err, IfOk, IfSome, IfNone, OnOk, OnErr, IfErr};
 ghost use Rattle.std.specs.Option.{option_map};
 ghost use Rattle.ctr_pool.specs.declared.frame.Frame.{Frame as Framed};
 ghost use Rattle.ctr_pool.specs.Frames.{frame_of, has_page, since_in, page_of, since_then, after_change, after_save, dirty_count};
@@ -174,7 +174,7 @@ impl Frames {
         ensures saved { IsTrue B.tells → (f : Framed) → frame_of page self.now.frames ≡ Some f → OnOk result (PutsPage B.held B.takes page (page_of f) backing.old backing.new) }
         ensures goes { IsTrue B.tells → B.goes backing.old backing.new }
         ensures moves { IsTrue B.tells → OnOk result (B.moves backing.old backing.new × B.rests backing.new) }
-        ensures fails { IsTrue B.tells → IfErr result (B.fails backing.old backing.new) }
+        ensures fails { (IsTrue B.tells → IfErr result (B.fails backing.old backing.new)) × OnErr result (result ≡ Err Fault) }
         ensures faults { HasFault Fault (B.faults_of backing.old) (B.faults_of backing.new) result }
     {
         match find(&self.items, page) {

@@ -83,6 +83,8 @@ impl Backing for Memory {
 
     ghost fails = { λ a b e. Unit {0} };
 
+    ghost finds = { λ b p r. Unit {0} };
+
     ghost faults_of = { λ b. b.faults };
 
     fn load(&mut self, page: PageNo, into: &mut [u8]) -> Result<Lsn, StoreFault> {

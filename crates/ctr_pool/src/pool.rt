@@ -1,11 +1,13 @@
 // Pages in frames, over a backing.
-ghost use Rattle.std.specs.Prelude.{◌≡◌, ◌==◌, ◌≤◌, ◌<◌, ◌+◌, ◌-◌, ℕ, [], Some, None, true, false, length, is_some, if◌then◌else◌, vec_len, vec_capacity, IsTrue, IfOk, IfErr, IfSome, IfNone, OnOk};
+ghost use Rattle.std.specs.Prelude.{◌≡◌, ◌==◌, ◌≤◌, ◌<◌, ◌+◌, ◌-◌, ℕ, [], Some, None, true, false, length, is_some, if◌then◌else◌, vec_len, vec_capacity, IsTrue, Ok, Err, IfOk, IfErr, IfSome, IfNone, OnOk, OnErr};
 ghost use Rattle.std.specs.Option.{option_map};
 ghost use Rattle.std.specs.Borrow.{sem};
 ghost use Rattle.std.specs.Io.BufRead.{Rests};
 ghost use Rattle.ctr_pool.specs.declared.frame.Frame.{Frame as Framed};
 ghost use Rattle.ctr_pool.specs.Frames.{frame_of, has_page, since_in, page_shown, after_change, IsOldest, AreClean, dirty_count};
-ghost use Rattle.ctr_pool.specs.Over.{unchanged, IsOver, StaysOver, WorksBelow, SavesForRoom, BringsIn, SavesOldest, Fetches};
+ghost use Rattle.ctr_pool.specs.Below.{IsFound};
+ghost use Rattle.ctr_pool.specs.Over.{unchanged, IsOver, StaysOver, WorksBelow, SavesForRoom, AddsPage, BringsIn, SavesOldest, Fetches};
+ghost use Rattle.ctr_disk.specs.declared.fault.StoreFault.TheVariants.{Fault};
 
 use crate::ages::Ages;
 use crate::frames::Frames;
@@ -97,7 +99,7 @@ impl Pool {
         ensures page { IfOk result (λ o. IfSome o (λ p. (has_page p self.new.frames ≡ true) × (since_in p self.new.frames ≡ None))) }
         ensures none { IfOk result (λ o. IfNone o (dirty_count self.old.frames ≡ 0)) }
         ensures same { ((q : ℕ) → has_page q self.new.frames ≡ has_page q self.old.frames) × (length self.new.frames ≡ length self.old.frames) × (self.new.most ≡ self.old.most) }
-        ensures failed { IfErr result (λ e. self.new ≡ self.old) }
+        ensures failed { IfErr result (λ e. (self.new ≡ self.old) × (e ≡ Fault)) }
         ensures works { WorksBelow B.Backing backing.old backing.new result }
     {
         let Some((page, _)) = self.ages.first() else {
@@ -129,6 +131,7 @@ impl Pool {
         ensures clean { IfOk result (λ p. (has_page p self.new.frames ≡ true) × (since_in p self.new.frames ≡ None)) }
         ensures saves { OnOk result (SavesForRoom self.old self.new) }
         ensures same { ((q : ℕ) → has_page q self.new.frames ≡ has_page q self.old.frames) × (length self.new.frames ≡ length self.old.frames) × (self.new.most ≡ self.old.most) }
+        ensures fault { OnErr result (result ≡ Err Fault) }
         ensures works { WorksBelow B.Backing backing.old backing.new result }
     {
         if let Some(page) = self.frames.clean_behind(self.hand) {
@@ -163,6 +166,7 @@ impl Pool {
         ensures fewer { (q : ℕ) → has_page q self.old.frames ≡ false → has_page q self.new.frames ≡ false }
         ensures saves { OnOk result (SavesForRoom self.old self.new) }
         ensures most { self.new.most ≡ self.old.most }
+        ensures fault { OnErr result (result ≡ Err Fault) }
         ensures works { WorksBelow B.Backing backing.old backing.new result }
     {
         if !self.bodies.is_empty() {
@@ -179,7 +183,8 @@ impl Pool {
         requires new { has_page page self.old.frames ≡ false }
         requires room { length self.old.frames < self.old.most }
         ensures stays { IsTrue B.tells → OnOk result (StaysOver B.Backing self.old.frames backing.old self.new.frames backing.new) }
-        ensures there { OnOk result (has_page page self.new.frames ≡ true) }
+        ensures adds { OnOk result (AddsPage page self.old.frames self.new.frames) }
+        ensures finds { IsTrue B.tells → IsFound (B.finds backing.new page) result }
         ensures kept { (q : ℕ) → since_in q self.new.frames ≡ since_in q self.old.frames }
         ensures most { self.new.most ≡ self.old.most }
         ensures works { WorksBelow B.Backing backing.old backing.new result }
@@ -203,7 +208,8 @@ impl Pool {
         requires over { IsTrue B.tells → IsOver B.Backing self.old.frames backing.old }
         ensures stays { IsTrue B.tells → OnOk result (StaysOver B.Backing self.old.frames backing.old self.new.frames backing.new) }
         ensures brings { OnOk result (BringsIn page self.old self.new) }
-        ensures quiet { has_page page self.old.frames ≡ true → backing.new ≡ backing.old }
+        ensures quiet { has_page page self.old.frames ≡ true → (backing.new ≡ backing.old) × (result ≡ Ok tt) }
+        ensures finds { IsTrue B.tells → has_page page self.old.frames ≡ false → IsFound (B.finds backing.new page) result }
         ensures most { self.new.most ≡ self.old.most }
         ensures works { WorksBelow B.Backing backing.old backing.new result }
     {

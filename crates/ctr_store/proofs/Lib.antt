@@ -1,7 +1,10 @@
 pub mod RecordLaws
 pub mod PartsLaws
 pub mod SeenLaws
+pub mod PageCheckLaws
+pub mod BringLaws
 pub mod RedoLaws
+pub mod RedoFinds
 pub mod SoundLaws
 pub mod OpenLaws
 pub mod StoreLaws

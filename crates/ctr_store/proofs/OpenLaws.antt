@@ -1,5 +1,5 @@
 -- What is opened stands over the pool, and nothing is pending where the disk was sound.
-use Rattle.std.proofs.Common.{◌≡◌, ◌≢◌, ◌⊎◌, inl, inr, ⊎_elim, ◌++◌, ℕ, zero, suc, ◌+◌, ◌*◌, ◌≤◌, Bool, true, false, List, [], ◌∷◌, length, take, Option, Some, None, Result, Ok, Err, refl, sym, ◌∙◌, ap, subst, arith}
+use Rattle.std.proofs.Common.{◌≡◌, ◌≢◌, ◌⊎◌, inl, inr, ⊎_elim, ℕ, ◌+◌, ◌*◌, ◌≤◌, List, [], ◌∷◌, length, take, Option, Some, None, Result, Ok, Err, refl, sym, ◌∙◌, ap, subst, arith}
 use Rattle.std.specs.Prelude.{max, IfOk, IfErr}
 use Rattle.std.proofs.Math.Seq.{take-nil}
 use Rattle.std.proofs.lemmas.List.{append-nil, length-map}
@@ -50,7 +50,11 @@ use Rattle.ctr_store.specs.declared.parts.Parts.{Parts}
 use Rattle.ctr_store.specs.declared.opening.Found.{Found}
 use Rattle.ctr_store.specs.declared.opening.OpenError.{OpenError}
 use Rattle.ctr_store.specs.RecordChecks.{SeenLog, FailsAs, AllPass, RefusesVisit, HasSeen, tables_seen}
-use Rattle.ctr_store.specs.Opening.{FindsFront, fault_told, read_told, LogPasses, RefusesLog, IsLater, IsUndamaged, OpensParts, AnswersOpen, RefusesAs, IsWornBy, worn_by, worn_in}
+use Rattle.ctr_base.specs.Homes.{HomesSince}
+use Rattle.ctr_base.proofs.HomeLaws.{since_first}
+use Rattle.ctr_store.specs.PageChecks.{PagesPass}
+use Rattle.ctr_store.specs.Redo.{StartsRedo}
+use Rattle.ctr_store.specs.Opening.{FindsFront, fault_told, read_told, LogPasses, OverlaidPass, RefusesLog, IsLater, IsUndamaged, OpensParts, AnswersOpen, RefusesAs, IsWornBy, worn_by, worn_in}
 
 -- there is none where there are none at most
 pub none_left : {A : Type 0} (l : List A) → length l ≤ 0 → l ≡ []
@@ -169,9 +173,9 @@ read_refused image root (read.Store (store.Damaged file at want got)) says refus
 read_refused image root read.OutOfMemory says refused = λ none. absurd (cc (says.0, none))
 
 -- and behind it
-pub later_refused : (image : Image) (root : Root) (e : OpenError) → SaysRootOf Paged (value_of RootBlock image) root → LogPasses root image → IsLater e → RefusesAs image e
+pub later_refused : (image : Image) (root : Root) (e : OpenError) → SaysRootOf Paged (value_of RootBlock image) root → LogPasses root image → IsLater root image e → RefusesAs image e
 later_refused image root open_error.NoDatabase says passes later = absurd later
-later_refused image root (open_error.Damaged file at want got) says passes later = ((λ none. absurd (cc (says.0, none))), inr (root, says, inr passes))
+later_refused image root (open_error.Damaged file at want got) says passes later = ((λ none. absurd (cc (says.0, none))), inr (root, says, inr (passes, later)))
 later_refused image root (open_error.Worn n) says passes later = absurd later
 later_refused image root open_error.Fault says passes later = tt
 later_refused image root open_error.OutOfMemory says passes later = λ none. absurd (cc (says.0, none))
@@ -193,6 +197,7 @@ module _ {D O : Type 0} (first : Image) (g : Ghosts D) where
               (subst (λ (i : Image). (oldest : ℕ) × (bs : Batches) × GoesOn oldest bs f.log i) (sym here) found.kept.goes_on);
           size = subst (λ (r : Root). 8256 * r.pages ≤ length (content Pages (g.reads b.disk))) (sym root_is) (subst (λ (i : Image). 8256 * root.pages ≤ length (content Pages i)) (sym here) front.size);
         };
+        since = subst (λ (r : Root). HomesSince first r.pages (g.reads b.disk)) (sym root_is) (since_first first root (g.reads b.disk) front.says here);
         quiet = λ sound.
             let s : IsSound root first = subst (λ (r : Root). IsSound r first) (one_root (value_of RootBlock first) sound.0 root sound.1.says front.says) sound.1 in
             let writes = found.goes_on kept s.log in
@@ -214,6 +219,24 @@ module _ {D O : Type 0} (first : Image) (g : Ghosts D) where
               first = ap (λ l. l.first) log_is ∙ next_is ∙ sym stored;
             };
       }
+
+  -- redo starts on it
+  pub starts_opened : (root : Root) (f : Found) → FindsFront first root f → {d : D} → g.reads d ≡ first → (b : Base D O) → b.disk ≡ d → b.log ≡ f.log → b.root ≡ root → StartsRedo first g b
+  starts_opened root f front {d} same b disk_is log_is root_is =
+      let kept = kept_log root.file root.first first in
+      let here : g.reads b.disk ≡ first = ap (λ (x : D). g.reads x) disk_is ∙ same in
+      let next_is : f.log.first ≡ next_of (stored_in root first) = front.log.kept.next_is ∙ omega (arith, length-map kept record_in) in
+      record {
+        says = subst (SaysRootOf Paged (value_of RootBlock first)) (sym root_is) front.says;
+        reads = here;
+        next = ap (λ l. l.first) log_is ∙ next_is ∙ sym (ap (λ (r : Root). next_of (stored_in r (g.reads b.disk))) root_is ∙ ap (λ (i : Image). next_of (stored_in root i)) here);
+      }
+
+  -- the pages that its log's records are on pass
+  pub pages_opened : (a : Base D O) (root : Root) → a.root ≡ root → g.reads a.disk ≡ first → PagesPass (next_of (stored_of g a)) first (stored_of g a).records → OverlaidPass root first
+  pages_opened a root root_is same pages =
+      subst (λ (i : Image). PagesPass (next_of (stored_in root i)) first (stored_in root i).records) same
+      (subst (λ (r : Root). PagesPass (next_of (stored_in r (g.reads a.disk))) first (stored_in r (g.reads a.disk)).records) root_is pages)
 
   -- what a crash leaves of a call, where none waits and the disk reads as the first image
   pub leaves_first : (b : Base D O) (d : D) (root : Root) → b.root ≡ root → b.log.buffered ≡ [] → g.reads b.disk ≡ first
@@ -243,4 +266,4 @@ module _ {D O : Type 0} (first : Image) (g : Ghosts D) where
           (subst (λ (q : Root). SaysRootOf Paged (value_of RootBlock first) q × OpensParts first g q s × (worn_in q first ≡ None)) (sym opens.root_is) (says, opens, eq))
       by_worn (Ok t) (Some n) is told eq = absurd told
       by_worn (Err e) None is told eq = absurd told
-      by_worn (Err e) (Some n) is told eq = subst (RefusesAs first) (sym told) (root, says, eq)
+      by_worn (Err e) (Some n) is told eq = subst (RefusesAs first) (sym told) (root, says, opens.passes, opens.pages, eq)

@@ -181,7 +181,7 @@ module _ {D O : Type 0} (first : Image) (g : Ghosts D) where
     push_stands stands = subst (λ (l : Log). StandsWell g (record a { log = l })) (sym log_is) (record { says = stands.says; file = stands.file; goes_on = goes_more (g.reads a.disk) a.log (a.log.buffered ++ bytes ∷ []) log.room stands.goes_on; size = stands.size })
 
     pub push_rests : Fits → StandsQuiet first g a → StandsQuiet first g b
-    push_rests may rests = record { stands = push_stands rests.stands; quiet = λ sound. push_quiet (rests.quiet sound) (may.0 sound) may.1 }
+    push_rests may rests = record { stands = push_stands rests.stands; since = rests.since; quiet = λ sound. push_quiet (rests.quiet sound) (may.0 sound) may.1 }
 
     pub push_state : IsQuiet g a → state_of (now_of g b) ≡ step r (state_of (now_of g a))
     push_state quiet =

@@ -14,12 +14,12 @@ use Rattle.ctr_meta.specs.Effects.{effect, tables_of}
 use Rattle.ctr_meta.specs.Kept.{TablesKept}
 use Rattle.ctr_pool.specs.declared.frame.Frame.{Frame}
 use Rattle.ctr_pool.specs.Pages.{PageHeld, overlaid_by}
-use Rattle.ctr_pool.specs.Frames.{frame_of, page_of, kept_or, page_shown, after_change, since_then}
+use Rattle.ctr_pool.specs.Frames.{frame_of, has_page, page_of, kept_or, page_shown, after_change, since_then}
 use Rattle.ctr_pool.specs.Over.{IsHeld, IsOver, ShowsSame}
 use Rattle.ctr_pool.proofs.FrameLaws.{yes, no}
 use Rattle.ctr_redo.specs.Overlaid.{overlay_of, lies_on, laid_over, touches, with_record, overlaid}
 use Rattle.ctr_redo.specs.Images.{records_in}
-use Rattle.ctr_redo.specs.States.{Stored}
+use Rattle.ctr_redo.specs.States.{Stored, next_of}
 use Rattle.ctr_redo.proofs.PageLaws.{stays_out, goes_in, overlaid-append, same_page, below_next, no_lower}
 use Rattle.ctr_redo.proofs.StateLaws.{tables-push}
 use Rattle.ctr_base.specs.declared.base.Base.{Base}
@@ -27,9 +27,13 @@ use Rattle.ctr_base.specs.Base.{stored_of, waiting_of, home_of, MaySave, MayPut,
 use Rattle.ctr_base.specs.BaseLaws.{moves_joined, stands_still}
 use Rattle.ctr_store.specs.declared.parts.Parts.{Parts}
 use Rattle.ctr_store.specs.Parts.{IsFold, AreLow}
-use Rattle.ctr_store.specs.Redo.{RedoesPages, IsNextRecord}
+use Rattle.ctr_base.specs.Homes.{PassesHome}
+use Rattle.ctr_store.specs.PageChecks.{PagePasses, PagesPass}
+use Rattle.ctr_store.specs.Redo.{StartsRedo, RedoesPages, IsNextRecord}
 use Rattle.ctr_store.proofs.RecordLaws.{inside_of}
 use Rattle.ctr_store.proofs.PartsLaws.{held_high}
+use Rattle.ctr_store.proofs.PageCheckLaws.{pass_more}
+use Rattle.std.specs.Prelude.{is_some}
 
 take_next : (l : List Record) (j : ℕ) (r : Record) → slice_get l j ≡ Some r → take (j + 1) l ≡ take j l ++ r ∷ []
 take_next [] j r is = absurd (cc is)
@@ -45,37 +49,56 @@ module _ {D O : Type 0} (first : Image) (g : Ghosts D) where
   -- ---- a call below on the way
 
   pub redo_moved : (start : Base D O) (n : ℕ) (s t : Parts D O) → RedoesPages first g start n s → MovesIf first g s.base t.base → KeepsBase s.base t.base → ShowsSame (backing_of first g) s.pool.frames s.base t.pool.frames t.base
-      → IsOver (backing_of first g) t.pool.frames t.base → RedoesPages first g start n t
-  redo_moved start n s t doing m keeps shows over = record {
+      → IsOver (backing_of first g) t.pool.frames t.base → ((p : ℕ) → has_page p t.pool.frames ≡ true → PassesHome (next_of (stored_of g start)) p first) → RedoesPages first g start n t
+  redo_moved start n s t doing m keeps shows over seen = record {
     over = over;
     root = keeps.root ∙ doing.root;
     moves = λ sound. moves_joined g start s.base t.base (doing.moves sound) (m sound);
     sound = doing.sound;
     none = doing.none;
     next = keeps.next ∙ doing.next;
-    current = λ sound p. shows p ∙ doing.current sound p;
+    current = λ p. shows p ∙ doing.current p;
+    starts = doing.starts;
+    checked = doing.checked;
+    seen = seen;
   }
 
   -- other tables
   pub with_meta : (start : Base D O) (n : ℕ) (s : Parts D O) (m : TablesKept) → RedoesPages first g start n s → RedoesPages first g start n (record s { meta = m })
-  with_meta start n s m doing = record { over = doing.over; root = doing.root; moves = doing.moves; sound = doing.sound; none = doing.none; next = doing.next; current = doing.current }
+  with_meta start n s m doing = record {
+    over = doing.over;
+    root = doing.root;
+    moves = doing.moves;
+    sound = doing.sound;
+    none = doing.none;
+    next = doing.next;
+    current = doing.current;
+    starts = doing.starts;
+    checked = doing.checked;
+    seen = doing.seen;
+  }
+
+  -- a page at home that has no record that the log lacks has none with the first records
+  pub prefix_low : (start : Base D O) (n p : ℕ) (h : PageHeld) → h.lsn < next_of (stored_of g start)
+      → (overlaid p (stored_of g start).first (take n (stored_of g start).records) h).lsn < next_of (stored_of g start)
+  prefix_low start n p h low =
+      let i = stored_of g start in
+      let rs = take n i.records in
+      let es = drop n i.records in
+      let below = below_next p i.first i.records h low in
+      let more = no_lower p (i.first + length rs) es (overlaid p i.first rs h) in
+      let split : overlaid p i.first i.records h ≡ overlaid p (i.first + length rs) es (overlaid p i.first rs h) =
+      ap (λ (l : List Record). overlaid p i.first l h) (sym (take-append-drop n i.records)) ∙ overlaid-append p i.first rs es h in
+      omega (arith, below, more, ap (λ (v : PageHeld). v.lsn) split)
 
   -- no page has a record that the log lacks
   pub redo_low : (start : Base D O) (n : ℕ) (s : Parts D O) → RedoesPages first g start n s → IsSoundImage first → AreLow g s
   redo_low start n s doing sound p =
-      let i = stored_of g start in
       let quiet = doing.sound sound in
-      let h = home_of g start p in
-      let rs = take n i.records in
-      let es = drop n i.records in
-      let at_home = quiet.sound.below p in
+      let low = prefix_low start n p (home_of g start p) (quiet.sound.below p) in
       let next = quiet.first in
       let behind = doing.next in
-      let below = below_next p i.first i.records h at_home in
-      let more = no_lower p (i.first + length rs) es (overlaid p i.first rs h) in
-      let split : overlaid p i.first i.records h ≡ overlaid p (i.first + length rs) es (overlaid p i.first rs h) =
-      ap (λ (l : List Record). overlaid p i.first l h) (sym (take-append-drop n i.records)) ∙ overlaid-append p i.first rs es h in
-      omega (arith, below, more, next, behind, ap (λ (v : PageHeld). v.lsn) split, ap (λ (v : PageHeld). v.lsn) (doing.current sound p))
+      omega (arith, low, next, behind, ap (λ (v : PageHeld). v.lsn) (doing.current p))
 
   module _ (start : Base D O) (n : ℕ) (r : Record) (next : IsNextRecord g start n r) where
     abbrev i : Stored
@@ -98,21 +121,27 @@ module _ {D O : Type 0} (first : Image) (g : Ghosts D) where
     pub tables_next : effect r (tables_of (take n i.records)) ≡ tables_of (take (n + 1) i.records)
     tables_next = sym (ap tables_of (take_next i.records n r next.there) ∙ tables-push (take n i.records) r)
 
+    checked_more : PagesPass (next_of i) first (take n i.records) → PagePasses (next_of i) first (overlay_of r) → PagesPass (next_of i) first (take (n + 1) i.records)
+    checked_more checked passes = subst (PagesPass (next_of i) first) (sym (take_next i.records n r next.there)) (pass_more (next_of i) first (take n i.records) r checked passes)
+
     -- a record that changes no page, or was in its page before
-    pub redo_off : (s : Parts D O) → RedoesPages first g start n s → ((q : ℕ) → touches r q ≡ true → lsn ≤ (page_shown s.pool.frames q (home_of g s.base q)).lsn) → RedoesPages first g start (n + 1) s
-    redo_off s doing out = record {
+    pub redo_off : (s : Parts D O) → RedoesPages first g start n s → PagePasses (next_of i) first (overlay_of r) → ((q : ℕ) → touches r q ≡ true → lsn ≤ (page_shown s.pool.frames q (home_of g s.base q)).lsn) → RedoesPages first g start (n + 1) s
+    redo_off s doing passes out = record {
       over = doing.over;
       root = doing.root;
       moves = doing.moves;
       sound = doing.sound;
       none = doing.none;
       next = doing.next;
-      current = λ sound q. doing.current sound q ∙ page_off q (home_of g start q) (λ on. subst (λ (h : PageHeld). lsn ≤ h.lsn) (doing.current sound q) (out q on));
+      current = λ q. doing.current q ∙ page_off q (home_of g start q) (λ on. subst (λ (h : PageHeld). lsn ≤ h.lsn) (doing.current q) (out q on));
+      starts = doing.starts;
+      checked = checked_more doing.checked passes;
+      seen = doing.seen;
     }
 
     -- a record that goes into the frame of its page
     module _ (s : Parts D O) (doing : RedoesPages first g start n s) (o : Overlay) (f : Frame) (gs : List Frame) (is_over : overlay_of r ≡ Some o) (others : (q : ℕ) → q ≢ o.page → touches r q ≡ false) (on : (o.page == o.page) ≡ true)
-        (there : frame_of o.page s.pool.frames ≡ Some f) (lower : f.lsn < lsn) (changed : (q : ℕ) → frame_of q gs ≡ (if o.page == q then option_map (after_change o lsn) (frame_of q s.pool.frames) else frame_of q s.pool.frames)) where
+        (there : frame_of o.page s.pool.frames ≡ Some f) (lower : f.lsn < lsn) (passes : PagePasses (next_of i) first (overlay_of r)) (changed : (q : ℕ) → frame_of q gs ≡ (if o.page == q then option_map (after_change o lsn) (frame_of q s.pool.frames) else frame_of q s.pool.frames)) where
       abbrev p : ℕ
       p = o.page
 
@@ -137,18 +166,18 @@ module _ {D O : Type 0} (first : Image) (g : Ghosts D) where
       above : (home_of g b p).lsn < v.lsn
       above = let high = held_high first g b p (page_of f) f.since (doing.over.held p f there) in omega (arith, high, lower)
 
+      was_is : page_of f ≡ was
+      was_is = ap (kept_or (home_of g b p)) (sym there) ∙ doing.current p
+
+      v_is : v ≡ overlaid p i.first (take (n + 1) i.records) (home_of g start p)
+      v_is =
+          ap (λ (h : PageHeld). record { lsn = lsn; body = overlaid_by o h.body }) was_is
+          ∙ ap (λ x. record { lsn = lsn; body = laid_over x was.body }) (sym is_over)
+          ∙ sym (goes_in p lsn r was touched (subst (λ (h : PageHeld). h.lsn < lsn) was_is lower)) ∙ sym (page_next p (home_of g start p))
+
       module _ (sound : IsSoundImage first) where
         abbrev m : MovesBase g start b
         m = doing.moves sound
-
-        was_is : page_of f ≡ was
-        was_is = ap (kept_or (home_of g b p)) (sym there) ∙ doing.current sound p
-
-        v_is : v ≡ overlaid p i.first (take (n + 1) i.records) (home_of g start p)
-        v_is =
-            ap (λ (h : PageHeld). record { lsn = lsn; body = overlaid_by o h.body }) was_is
-            ∙ ap (λ x. record { lsn = lsn; body = laid_over x was.body }) (sym is_over)
-            ∙ sym (goes_in p lsn r was touched (subst (λ (h : PageHeld). h.lsn < lsn) was_is lower)) ∙ sym (page_next p (home_of g start p))
 
         waits_none : waiting_of b ≡ []
         waits_none = m.waiting ∙ ap (λ (l : List (List ℕ)). drop m.j (records_in l)) doing.none ∙ drop-nil m.j
@@ -216,28 +245,37 @@ module _ {D O : Type 0} (first : Image) (g : Ghosts D) where
         sound = doing.sound;
         none = doing.none;
         next = ap (λ (k : Base D O). k.log.first + length k.log.buffered) base ∙ doing.next;
-        current = λ sound q.
+        starts = doing.starts;
+        checked = checked_more doing.checked passes;
+        seen = λ q has. ⊎_elim
+            (λ w. subst (λ (m : ℕ). PassesHome (next_of i) m first) (sym w.1) (subst (PagePasses (next_of i) first) is_over passes))
+            (λ w. doing.seen q (sym (ap is_some (elsewhere q w.1)) ∙ sym (ap (λ (l : List Frame). has_page q l) frames) ∙ has))
+            (eqb_tells q p);
+        current = λ q.
             ap (λ (k : Base D O). page_shown t.pool.frames q (home_of g k q)) base ∙ ap (λ (l : List Frame). page_shown l q (home_of g b q)) frames
             ∙ ⊎_elim
             (λ w.
             let P : ℕ → Type 0 = λ k. page_shown gs k (home_of g b k) ≡ overlaid k i.first (take (n + 1) i.records) (home_of g start k) in
-            subst P (sym w.1) (ap (kept_or (home_of g b p)) here ∙ v_is sound))
+            subst P (sym w.1) (ap (kept_or (home_of g b p)) here ∙ v_is))
             (λ w.
-            ap (kept_or (home_of g b q)) (elsewhere q w.1) ∙ doing.current sound q
+            ap (kept_or (home_of g b q)) (elsewhere q w.1) ∙ doing.current q
             ∙ page_off q (home_of g start q) (λ is_q. let off = others q w.1 in absurd (cc (off, is_q))))
             (eqb_tells q p);
       }
 
   -- before the first record
-  pub redo_starts : (s : Parts D O) → StandsQuiet first g s.base → s.pool.frames ≡ [] → s.base.log.buffered ≡ [] → RedoesPages first g s.base 0 s
-  redo_starts s rests empty none = record {
+  pub redo_starts : (s : Parts D O) → StandsQuiet first g s.base → StartsRedo first g s.base → s.pool.frames ≡ [] → s.base.log.buffered ≡ [] → RedoesPages first g s.base 0 s
+  redo_starts s rests starts empty none = record {
     over = record { at_rest = rests; held = λ p f is. let none : None ≡ Some f = sym (ap (frame_of p) empty) ∙ is in absurd (cc none) };
     root = refl;
     moves = λ sound. stands_still g s.base;
     sound = rests.quiet;
     none = none;
     next = omega (arith, ap (λ (l : List (List ℕ)). length l) none);
-    current = λ sound p. ap (λ (l : List Frame). page_shown l p (home_of g s.base p)) empty;
+    current = λ p. ap (λ (l : List Frame). page_shown l p (home_of g s.base p)) empty;
+    starts = starts;
+    checked = tt;
+    seen = λ p has. let none : false ≡ true = sym (ap (λ (l : List Frame). has_page p l) empty) ∙ has in absurd (cc none);
   }
 
   -- behind the last
@@ -250,5 +288,5 @@ module _ {D O : Type 0} (first : Image) (g : Ghosts D) where
       record {
         over = doing.over;
         tables = λ sound. tables sound ∙ ap tables_of (whole sound ∙ sym (doing.moves sound).all);
-        current = λ sound p. doing.current sound p ∙ ap (λ (l : List Record). overlaid p start.root.first l (home_of g start p)) (whole sound) ∙ sym ((doing.moves sound).pages p);
+        current = λ sound p. doing.current p ∙ ap (λ (l : List Record). overlaid p start.root.first l (home_of g start p)) (whole sound) ∙ sym ((doing.moves sound).pages p);
       }

@@ -1,5 +1,5 @@
 -- The log of a sound image passes all checks.
-use Rattle.std.proofs.Common.{◌≡◌, ◌≢◌, ◌⊎◌, inl, inr, ⊎_elim, ℕ, zero, suc, ◌+◌, ◌-◌, ◌^◌, ◌<◌, ◌≤◌, ◌==◌, Bool, true, false, nat_lt, if◌then◌else◌, List, [], ◌∷◌, ◌++◌, length, take, drop, get_or, slice_get, Option, Some, None, Result, Ok, Err, refl, sym, ◌∙◌, ap, subst, arith, append_assoc}
+use Rattle.std.proofs.Common.{◌≡◌, ◌≢◌, ◌⊎◌, inl, inr, ⊎_elim, ℕ, zero, suc, ◌+◌, ◌-◌, ◌^◌, ◌<◌, ◌≤◌, ◌==◌, Bool, true, false, if◌then◌else◌, List, [], ◌∷◌, ◌++◌, length, take, drop, get_or, slice_get, Option, Some, None, Result, Ok, Err, refl, sym, ◌∙◌, ap, subst, arith, append_assoc}
 use Rattle.std.specs.Prelude.{⊤}
 use Rattle.std.proofs.lemmas.Bool.{lt-ltb}
 use Rattle.std.proofs.lemmas.Bool.Decides.{eqb_tells}
@@ -16,7 +16,7 @@ use Rattle.ctr_bytes.proofs.FieldLaws.{field-drop}
 use Rattle.ctr_log.specs.Logs.{Batches, frames, batch, batches, records, AreBatches, HasLog}
 use Rattle.ctr_log.specs.Reading.{log_file}
 use Rattle.ctr_log.specs.Kept.{AreShort, log_in, kept_log, other_file, has_newer, HoldsLog, RefusesKept}
-use Rattle.ctr_log.specs.Visits.{visit_of, frame_visits, batch_visits, file_visits, kept_visits, visit_bytes, StopsAt, OnRead, IsToldBy}
+use Rattle.ctr_log.specs.Visits.{frame_visits, batch_visits, file_visits, kept_visits, visit_bytes, StopsAt, OnRead, IsToldBy}
 use Rattle.ctr_log.specs.declared.visitor.Visit.{Visit}
 use Rattle.ctr_log.specs.declared.visitor.VisitError.{VisitError}
 use Rattle.ctr_log.specs.declared.visitor.VisitError.TheVariants as visit
@@ -40,7 +40,7 @@ use Rattle.ctr_records.specs.Read.{record_in}
 use Rattle.ctr_records.proofs.Forms.{reads, parts_pass}
 use Rattle.ctr_records.proofs.RecordForms.{one_record, is_checkpoint, is_fields}
 use Rattle.ctr_meta.specs.Tables.{Tables, no_tables}
-use Rattle.ctr_meta.specs.Effects.{effect, tables_of}
+use Rattle.ctr_meta.specs.Effects.{effect}
 use Rattle.ctr_meta.specs.Needs.{needs}
 use Rattle.ctr_redo.specs.Overlaid.{overlay_of}
 use Rattle.ctr_redo.specs.Fitting.{LiesInside, EachFits, HaveNoCheckpoint, BeginsOnce}

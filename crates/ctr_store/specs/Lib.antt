@@ -1,5 +1,6 @@
 pub mod Changes
 pub mod Parts
+pub mod PageChecks
 pub mod Redo
 pub mod RecordChecks
 pub mod Inside

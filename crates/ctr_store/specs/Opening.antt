@@ -11,7 +11,7 @@ use Rattle.ctr_home.specs.declared.block.Block.TheVariants.{Root as RootBlock}
 use Rattle.ctr_home.specs.declared.root.Form.TheVariants.{Paged}
 use Rattle.ctr_home.specs.Blocks.{value_of}
 use Rattle.ctr_home.specs.Roots.{SaysRootOf}
-use Rattle.ctr_redo.specs.States.{state_of}
+use Rattle.ctr_redo.specs.States.{state_of, next_of}
 use Rattle.ctr_redo.specs.Images.{records_in, stored_in, FoldsFront}
 use Rattle.ctr_meta.specs.Effects.{tables_of}
 use Rattle.ctr_base.specs.Base.{stored_of, IsSoundImage}
@@ -29,6 +29,7 @@ use Rattle.ctr_base.specs.Opening.{IsRootDamage}
 use Rattle.ctr_store.specs.declared.opening.OpenError.{OpenError}
 use Rattle.ctr_store.specs.declared.opening.OpenError.TheVariants as open_error
 use Rattle.ctr_store.specs.declared.opening.Found.{Found}
+use Rattle.ctr_store.specs.PageChecks.{PagesPass, FirstPageFails}
 use Rattle.ctr_store.specs.RecordChecks.{record_damage, FailsAs, AllPass, tables_seen}
 
 -- how a fault below is told
@@ -83,12 +84,24 @@ abbrev pub LogPasses : Root → Image → Type 0
 LogPasses root image = (kept_damage root.file root.first image ≡ Ok tt)
     × AllPass root.pages (kept_visits root.file root.first image)
 
+-- the pages that the log's records are on pass their checks
+abbrev pub OverlaidPass : Root → Image → Type 0
+OverlaidPass root image =
+    let stored = stored_in root image in
+    PagesPass (next_of stored) image stored.records
+
+-- the first check that fails is one of these pages, in order of the records
+abbrev pub IsPageDamage : Root → Image → StoreFault → Type 0
+IsPageDamage root image e =
+    let stored = stored_in root image in
+    FirstPageFails (next_of stored) image stored.records e
+
 -- Damage that an opening tells is of the root, or of the file of pages; else of the log; else all
 -- checks of these pass, and it is of a page that the log's records are on.
 abbrev pub IsOpenDamage : Image → StoreFault → Type 0
 IsOpenDamage image e = IsRootDamage image e
     ⊎ ((root : Root) × SaysRootOf Paged (value_of RootBlock image) root
-    × (IsLogDamage root image e ⊎ LogPasses root image))
+    × (IsLogDamage root image e ⊎ (LogPasses root image × IsPageDamage root image e)))
 
 -- What stands on an image that can be opened: a root whose file of pages has all that are counted,
 -- and its log.
@@ -109,6 +122,7 @@ pub record OpensParts {D O : Type 0} (first : Image) (g : Ghosts D) (root : Root
         ≡ root.first + length (kept_log root.file root.first first)
     pub tables : s.meta.tables ≡ tables_of (records_in (kept_log root.file root.first first))
     pub passes : LogPasses root first
+    pub pages : OverlaidPass root first
 
 -- the disk that an opening leaves
 abbrev pub disk_left : {D O : Type 0} → Result (Parts D O) (OpenError × D) → D
@@ -146,13 +160,14 @@ pub record IsNewlyOpened {D O : Type 0} (s : Parts D O) : Type 0 where
   pub next : s.base.log.first + length s.base.log.buffered < worn_at
   pub xid : s.meta.tables.next < worn_at
 
--- an error that comes behind the log's
-abbrev pub IsLater : OpenError → Type 0
-IsLater open_error.NoDatabase = ⊥
-IsLater (open_error.Damaged file at want got) = Unit {0}
-IsLater (open_error.Worn n) = ⊥
-IsLater open_error.Fault = Unit {0}
-IsLater open_error.OutOfMemory = Unit {0}
+-- an error that comes behind the log's: damage is of a page
+abbrev pub IsLater : Root → Image → OpenError → Type 0
+IsLater root image open_error.NoDatabase = ⊥
+IsLater root image (open_error.Damaged file at want got) =
+    IsPageDamage root image (store.Damaged file at want got)
+IsLater root image (open_error.Worn n) = ⊥
+IsLater root image open_error.Fault = Unit {0}
+IsLater root image open_error.OutOfMemory = Unit {0}
 
 -- an error that says of an image neither that it has no database nor that it is damaged
 abbrev pub IsUndamaged : OpenError → Type 0
@@ -163,13 +178,14 @@ IsUndamaged open_error.Fault = Unit {0}
 IsUndamaged open_error.OutOfMemory = Unit {0}
 
 -- An image is refused so: as no database exactly where no root home is open, as damaged by the
--- first check that fails, as worn by its number.
+-- first check that fails, as worn by its number where all checks pass.
 abbrev pub RefusesAs : Image → OpenError → Type 0
 RefusesAs image open_error.NoDatabase = value_of RootBlock image ≡ None
 RefusesAs image (open_error.Damaged file at want got) = (value_of RootBlock image ≢ None)
     × IsOpenDamage image (store.Damaged file at want got)
 RefusesAs image (open_error.Worn n) = (root : Root)
-    × SaysRootOf Paged (value_of RootBlock image) root × (worn_in root image ≡ Some n)
+    × SaysRootOf Paged (value_of RootBlock image) root × LogPasses root image
+    × OverlaidPass root image × (worn_in root image ≡ Some n)
 RefusesAs image open_error.Fault = Unit {0}
 RefusesAs image open_error.OutOfMemory = value_of RootBlock image ≢ None
 

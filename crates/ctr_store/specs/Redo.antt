@@ -1,22 +1,37 @@
 -- Bringing pages and tables forward by the records of a log.
-use Rattle.std.specs.Prelude.{◌≡◌, ℕ, ◌+◌, List, [], length, take, Some, slice_get}
+use Rattle.std.specs.Prelude.{◌≡◌, ℕ, true, ◌+◌, List, [], length, take, Some, slice_get}
 use Rattle.ctr_disk.specs.declared.disk.Disk.{Ghosts}
 use Rattle.ctr_disk.specs.declared.disk.Image.{Image}
 use Rattle.ctr_log.specs.declared.visitor.Visit.{Visit}
 use Rattle.ctr_log.specs.Kept.{kept_log}
 use Rattle.ctr_log.specs.Visits.{visit_bytes, AreNumbered}
 use Rattle.ctr_records.specs.declared.record.Record.{Record}
-use Rattle.ctr_pool.specs.Frames.{page_shown}
+use Rattle.ctr_pool.specs.Frames.{has_page, page_shown}
 use Rattle.ctr_pool.specs.Over.{IsOver}
 use Rattle.ctr_redo.specs.Overlaid.{overlay_of, overlaid}
+use Rattle.ctr_home.specs.declared.block.Block.TheVariants.{Root as RootBlock}
+use Rattle.ctr_home.specs.declared.root.Form.TheVariants.{Paged}
+use Rattle.ctr_home.specs.Blocks.{value_of}
+use Rattle.ctr_home.specs.Roots.{SaysRootOf}
+use Rattle.ctr_redo.specs.States.{next_of}
 use Rattle.ctr_base.specs.declared.base.Base.{Base}
+use Rattle.ctr_base.specs.Homes.{PassesHome}
+use Rattle.ctr_store.specs.PageChecks.{PagesPass}
 use Rattle.ctr_base.specs.Base.{stored_of, home_of, IsSoundImage, StandsQuiet, IsQuiet, MovesIf, backing_of}
 use Rattle.ctr_redo.specs.Fitting.{LiesInside}
 use Rattle.ctr_store.specs.declared.parts.Parts.{Parts}
 use Rattle.ctr_store.specs.RecordChecks.{AllPass, tables_seen}
 
--- Where the first image was sound, the pool shows what the first n records make of what was held
--- at the start. What is held now doesn't matter: a page may have gone home on the way.
+-- Redo starts on the first image, whose root this is, and the writer is behind its log.
+pub record StartsRedo {D O : Type 0} (first : Image) (g : Ghosts D) (start : Base D O) : Type 0
+  where
+    pub says : SaysRootOf Paged (value_of RootBlock first) start.root
+    pub reads : g.reads start.disk ≡ first
+    pub next : start.log.first ≡ next_of (stored_of g start)
+
+-- The pool shows what the first n records make of what was held at the start. What is held now doesn't
+-- matter: a page may have gone home on the way. The pages of these records have passed their checks on the
+-- first image, and so has each page that has a frame.
 pub record RedoesPages {D O : Type 0} (first : Image) (g : Ghosts D) (start : Base D O) (n : ℕ)
     (s : Parts D O) : Type 0 where
   pub over : IsOver (backing_of first g) s.pool.frames s.base
@@ -25,8 +40,12 @@ pub record RedoesPages {D O : Type 0} (first : Image) (g : Ghosts D) (start : Ba
   pub sound : IsSoundImage first → IsQuiet g start
   pub none : start.log.buffered ≡ []
   pub next : s.base.log.first + length s.base.log.buffered ≡ start.log.first
-  pub current : IsSoundImage first → (p : ℕ) → page_shown s.pool.frames p (home_of g s.base p)
+  pub current : (p : ℕ) → page_shown s.pool.frames p (home_of g s.base p)
       ≡ overlaid p start.root.first (take n (stored_of g start).records) (home_of g start p)
+  pub starts : StartsRedo first g start
+  pub checked : PagesPass (next_of (stored_of g start)) first (take n (stored_of g start).records)
+  pub seen : (p : ℕ) → has_page p s.pool.frames ≡ true
+      → PassesHome (next_of (stored_of g start)) p first
 
 -- the record behind the first n of the log
 pub record IsNextRecord {D O : Type 0} (g : Ghosts D) (start : Base D O) (n : ℕ) (r : Record)
@@ -39,6 +58,7 @@ pub record IsNextRecord {D O : Type 0} (g : Ghosts D) (start : Base D O) (n : �
 pub record Begins {D O : Type 0} (first : Image) (g : Ghosts D) (vs : List Visit) (s : Parts D O)
     : Type 0 where
   pub rests : StandsQuiet first g s.base
+  pub starts : StartsRedo first g s.base
   pub empty : s.pool.frames ≡ []
   pub none : s.base.log.buffered ≡ []
   pub records : visit_bytes vs ≡ kept_log s.base.root.file s.base.root.first (g.reads s.base.disk)

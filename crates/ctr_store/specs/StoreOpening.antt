@@ -13,11 +13,11 @@ use Rattle.ctr_redo.specs.Images.{records_in, stored_in}
 use Rattle.ctr_base.specs.Base.{IsSoundImage}
 use Rattle.ctr_store.specs.declared.opening.OpenError.{OpenError}
 use Rattle.ctr_store.specs.Store.{View}
-use Rattle.ctr_store.specs.Opening.{LogPasses, RefusesAs, worn_in}
+use Rattle.ctr_store.specs.Opening.{LogPasses, OverlaidPass, RefusesAs, worn_in}
 
 -- A store stands on an image that says a root and isn't worn. Nothing waits, the next record comes
 -- behind the image's, and the tables are theirs. Where the image is sound, pages and tables are
--- what it folds to. All checks of the log pass.
+-- what it folds to. All checks of the log pass, and those of the pages that its records are on.
 pub record OpensStore {D : Type 0} (image : Image) (v : View D) : Type 0 where
   pub root : Root
   pub says : SaysRootOf Paged (value_of RootBlock image) root
@@ -28,6 +28,7 @@ pub record OpensStore {D : Type 0} (image : Image) (v : View D) : Type 0 where
   pub hardened : IsSoundImage image → v.hardened ≡ state_of (stored_in root image)
   pub now : IsSoundImage image → v.now ≡ state_of (stored_in root image)
   pub passes : LogPasses root image
+  pub pages : OverlaidPass root image
 
 -- Whatever the disk tells: what was opened can go on, nothing waits, there is room for records, and
 -- the next LSN and the next transaction are below 2 ^ 62.

@@ -9,7 +9,7 @@ ghost use Rattle.ctr_base.specs.declared.base.Base.{Base as Under};
 ghost use Rattle.ctr_base.specs.Base.{stored_of, IsSoundImage, StandsQuiet};
 ghost use Rattle.ctr_store.specs.declared.parts.Parts.{Parts as Whole};
 ghost use Rattle.ctr_store.specs.Parts.{IsFold};
-ghost use Rattle.ctr_store.specs.Redo.{RedoesPages, IsNextRecord};
+ghost use Rattle.ctr_store.specs.Redo.{StartsRedo, RedoesPages, IsNextRecord};
 
 use ctr_base::Origin;
 use ctr_disk::Disk;
@@ -17,7 +17,7 @@ use ctr_disk::Disk;
 /// Over a log and homes on which nothing is pending, a pool without a page has redone none of the log's records. Once it has
 /// redone all of them, and the tables are theirs, pages and tables are the fold of the log; each record takes the tables on by its effect.
 pub fn redo_makes_the_fold<D: Disk, O: Origin>()
-    ensures begins { (s : Whole D O) → StandsQuiet O.first D.Disk s.base → s.pool.frames ≡ [] → s.base.log.buffered ≡ [] → RedoesPages O.first D.Disk s.base 0 s }
+    ensures begins { (s : Whole D O) → StandsQuiet O.first D.Disk s.base → StartsRedo O.first D.Disk s.base → s.pool.frames ≡ [] → s.base.log.buffered ≡ [] → RedoesPages O.first D.Disk s.base 0 s }
     ensures tables { (start : Under D O) (n : ℕ) (r : Record) → IsNextRecord D.Disk start n r
         → effect r (tables_of (take n (stored_of D.Disk start).records)) ≡ tables_of (take (n + 1) (stored_of D.Disk start).records) }
     ensures ends { (start : Under D O) (n : ℕ) (s : Whole D O) → RedoesPages O.first D.Disk start n s → (IsSoundImage O.first → n ≡ length (stored_of D.Disk start).records)

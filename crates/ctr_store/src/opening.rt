@@ -151,7 +151,7 @@ fn bring_forward<D: Disk, O: Origin>(
     ensures opened { IsTrue D.tells → IfOk result (OpensParts O.first D.Disk root) }
     ensures goes { IsTrue D.tells → IsSoundImage O.first → LeavesOnly D.Disk disk (disk_left result) (FoldsFront (state_of (stored_in root O.first)) []) }
     ensures refused { IsTrue D.tells → IfErr result (λ e. IsSoundImage O.first → (e.0 ≡ Fault) ⊎ (e.0 ≡ NoMemory)) }
-    ensures later { IfErr result (λ e. IsLater e.0) }
+    ensures later { IsTrue D.tells → IfErr result (λ e. IsLater root O.first e.0) }
     ensures room { IfOk result (λ s. IsEmptyWithRoom s.base.log) }
 {
     let Found { log, meta, visits } = found;

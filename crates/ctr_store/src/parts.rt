@@ -5,7 +5,7 @@ ghost use Rattle.ctr_disk.specs.declared.fault.StoreFault.TheVariants.{Fault};
 ghost use Rattle.ctr_redo.specs.Overlaid.{overlay_of};
 ghost use Rattle.ctr_pool.specs.Frames.{has_page};
 ghost use Rattle.ctr_redo.specs.States.{page_limit, page_at, state_of, grown};
-ghost use Rattle.ctr_base.specs.Growth.{LeavesGrown, GrowsBase, AreBlank};
+ghost use Rattle.ctr_base.specs.Growth.{LeavesGrown, GrowsBase, CountsMore, AreBlank};
 ghost use Rattle.ctr_base.specs.Base.{now_of, IsSoundImage, LeavesIf, MovesIf, KeepsBase, backing_of};
 ghost use Rattle.ctr_pool.specs.Over.{IsOver, StaysOver};
 ghost use Rattle.ctr_disk.specs.Device.{OnlyReads};
@@ -14,6 +14,8 @@ ghost use Rattle.ctr_records.specs.declared.decoding.BadRecord.{BadRecord};
 ghost use Rattle.ctr_meta.specs.Kept.{IsLogged};
 ghost use Rattle.ctr_meta.specs.Needs.{needs};
 ghost use Rattle.ctr_store.specs.RecordChecks.{record_damage};
+ghost use Rattle.ctr_home.specs.Reading.{IsFaultOr};
+ghost use Rattle.ctr_store.specs.PageChecks.{IsHighFrame, FindsPage};
 ghost use Rattle.ctr_store.specs.Parts.{IsFold, some_dirty, IsLowFrame, AreLow, CanLog, AddsRecord, LogsRecord, LogsRoom};
 
 use crate::seen::damage_at;
@@ -62,7 +64,7 @@ impl<D: Disk, O: Origin> Parts<D, O> {
         ensures read { OnlyReads D.Disk self.old.base.disk self.new.base.disk }
         ensures below { self.new.base ≡ record self.old.base { disk = self.new.base.disk } }
         ensures quiet { OnOk result (self.new ≡ self.old) }
-        ensures refused { IfErr result (λ e. AreLow D.Disk self.old → e ≡ Fault) }
+        ensures refused { IfErr result (IsFaultOr (IsHighFrame page self.old)) }
         ensures faults { HasFault Fault (D.faults_of self.old.base.disk) (D.faults_of self.new.base.disk) result }
     {
         let stamp = self.pool.lsn(page);
@@ -88,6 +90,7 @@ impl<D: Disk, O: Origin> Parts<D, O> {
         ensures moves { IsTrue D.tells → OnOk result (MovesIf O.first D.Disk self.old.base self.new.base) }
         ensures stays { IsTrue D.tells → OnOk result (StaysOver (backing_of O.first D.Disk) self.old.pool.frames self.old.base self.new.pool.frames self.new.base) }
         ensures refused { IsTrue D.tells → (IsSoundImage O.first → AreLow D.Disk self.old) → IfErr result (λ e. IsSoundImage O.first → e ≡ Fault) }
+        ensures finds { IsTrue D.tells → FindsPage O.first D.Disk page self.old self.new result }
         ensures faults { HasFault Fault (D.faults_of self.old.base.disk) (D.faults_of self.new.base.disk) result }
     {
         self.pool.bring(page, &mut self.base)?;
@@ -139,11 +142,9 @@ impl<D: Disk, O: Origin> Parts<D, O> {
         requires few { self.old.base.root.pages < 30000 }
         requires fold { IsTrue D.tells → IsFold O.first D.Disk self.old }
         ensures any_moment { IsTrue D.tells → IsSoundImage O.first → LeavesGrown D.Disk self.old.base self.new.base }
-        ensures grows { IsTrue D.tells → OnOk result (GrowsBase D.Disk self.old.base self.new.base) }
-        ensures fold { IsTrue D.tells → OnOk result (IsFold O.first D.Disk self.new) }
+        ensures grows { IsTrue D.tells → OnOk result (GrowsBase D.Disk self.old.base self.new.base × IsFold O.first D.Disk self.new) }
         ensures blank { IsTrue D.tells → IsSoundImage O.first → AreBlank self.old.base.root.pages (grown self.old.base.root.pages) (state_of (now_of D.Disk self.old.base)) }
-        ensures counted { OnOk result (self.new.base.root.pages ≡ grown self.old.base.root.pages) × OnErr result (self.new.base.root.pages ≡ self.old.base.root.pages) }
-        ensures same { self.new ≡ record self.old { base = record self.old.base { disk = self.new.base.disk; root = self.new.base.root } } }
+        ensures counted { CountsMore self.old.base self.new.base result × (self.new.pool ≡ self.old.pool) × (self.new.meta ≡ self.old.meta) }
         ensures refused { OnErr result (result ≡ Err Fault) }
         ensures faults { HasFault Fault (D.faults_of self.old.base.disk) (D.faults_of self.new.base.disk) result }
     {
@@ -204,8 +205,7 @@ impl<D: Disk, O: Origin> Parts<D, O> {
         requires can { CanLog rec.now self.old }
         ensures number { IfOk result (λ lsn. lsn ≡ self.old.base.log.first + length self.old.base.log.buffered) }
         ensures goes { IsTrue D.tells → LeavesIf O.first D.Disk self.old.base self.new.base }
-        ensures logs { IsTrue D.tells → OnOk result (IsSoundImage O.first → LogsRecord D.Disk rec.now self.old.base self.new.base) }
-        ensures fold { IsTrue D.tells → OnOk result (IsFold O.first D.Disk self.new) }
+        ensures logs { IsTrue D.tells → OnOk result ((IsSoundImage O.first → LogsRecord D.Disk rec.now self.old.base self.new.base) × IsFold O.first D.Disk self.new) }
         ensures room { OnOk result (LogsRoom rec.now self.old self.new) }
         ensures refused { IsTrue D.tells → IfErr result (λ e. IsSoundImage O.first → e ≡ Fault) }
         ensures faults { HasFault Fault (D.faults_of self.old.base.disk) (D.faults_of self.new.base.disk) result }

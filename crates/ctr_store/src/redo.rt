@@ -1,5 +1,5 @@
 // Opening: pages and tables are brought forward by the log's records. A page may go home on the way.
-ghost use Rattle.std.specs.Prelude.{◌≡◌, ◌≤◌, ◌<◌, ◌+◌, IsTrue, ℕ, Err, Some, length, IfOk, IfErr, OnOk, OnErr};
+ghost use Rattle.std.specs.Prelude.{◌≡◌, ◌≤◌, ◌<◌, ◌+◌, IsTrue, ℕ, Err, Some, length, IfOk, IfErr, OnOk, OnErr, MatchResult};
 ghost use Rattle.ctr_types.specs.Faults.{HasFault};
 ghost use Rattle.ctr_disk.specs.declared.fault.StoreFault.TheVariants.{Fault};
 ghost use Rattle.ctr_records.specs.declared.record.Record.{Record as Logged};
@@ -10,7 +10,10 @@ ghost use Rattle.ctr_store.specs.RecordChecks.{PassesAs, AllPass};
 ghost use Rattle.ctr_pool.specs.Over.{IsOver};
 ghost use Rattle.ctr_redo.specs.Overlaid.{overlay_of};
 ghost use Rattle.ctr_base.specs.declared.base.Base.{Base as Under};
-ghost use Rattle.ctr_base.specs.Base.{IsSoundImage, LeavesIf, MovesIf, KeepsBase, backing_of};
+ghost use Rattle.ctr_base.specs.Base.{stored_of, IsSoundImage, LeavesIf, MovesIf, KeepsBase, backing_of};
+ghost use Rattle.ctr_redo.specs.States.{next_of};
+ghost use Rattle.ctr_home.specs.Reading.{IsFaultOr};
+ghost use Rattle.ctr_store.specs.PageChecks.{PageFails, PagesPass, FirstPageFails};
 ghost use Rattle.ctr_store.specs.Parts.{IsFold, AreLow};
 ghost use Rattle.ctr_store.specs.Redo.{RedoesPages, IsNextRecord, Begins};
 
@@ -29,6 +32,8 @@ impl<D: Disk, O: Origin> Parts<D, O> {
         ensures goes { IsTrue D.tells → LeavesIf O.first D.Disk self.old.base self.new.base }
         ensures redone { (start : Under D O) (n : ℕ) (r : Logged) → IsTrue D.tells → RedoesPages O.first D.Disk start n self.old → IsNextRecord D.Disk start n r → overlay_of r ≡ Some overlay.now → lsn ≡ start.root.first + n
             → OnOk result (RedoesPages O.first D.Disk start (n + 1) self.new) }
+        ensures fails { (start : Under D O) (n : ℕ) (r : Logged) → IsTrue D.tells → RedoesPages O.first D.Disk start n self.old → IsNextRecord D.Disk start n r → overlay_of r ≡ Some overlay.now
+            → IfErr result (IsFaultOr (PageFails (next_of (stored_of D.Disk start)) O.first (overlay_of r))) }
         ensures keeps { KeepsBase self.old.base self.new.base × (self.new.meta ≡ self.old.meta) }
         ensures refused { IsTrue D.tells → (IsSoundImage O.first → AreLow D.Disk self.old) → IfErr result (λ e. IsSoundImage O.first → e ≡ Fault) }
         ensures faults { HasFault Fault (D.faults_of self.old.base.disk) (D.faults_of self.new.base.disk) result }
@@ -48,6 +53,8 @@ impl<D: Disk, O: Origin> Parts<D, O> {
         ensures goes { IsTrue D.tells → LeavesIf O.first D.Disk self.old.base self.new.base }
         ensures redone { (start : Under D O) (n : ℕ) (r : Logged) → IsTrue D.tells → RedoesPages O.first D.Disk start n self.old → IsNextRecord D.Disk start n r → IsRecord r → record_bytes r ≡ visit.now.bytes → visit.now.lsn ≡ start.root.first + n
             → OnOk result (RedoesPages O.first D.Disk start (n + 1) self.new) }
+        ensures fails { (start : Under D O) (n : ℕ) (r : Logged) → IsTrue D.tells → RedoesPages O.first D.Disk start n self.old → IsNextRecord D.Disk start n r → IsRecord r → record_bytes r ≡ visit.now.bytes
+            → IfErr result (IsFaultOr (PageFails (next_of (stored_of D.Disk start)) O.first (overlay_of r))) }
         ensures keeps { KeepsBase self.old.base self.new.base × (self.new.meta ≡ self.old.meta) }
         ensures refused { IsTrue D.tells → (IsSoundImage O.first → AreLow D.Disk self.old) → IfErr result (λ e. IsSoundImage O.first → e ≡ Fault) }
         ensures faults { HasFault Fault (D.faults_of self.old.base.disk) (D.faults_of self.new.base.disk) result }
@@ -67,8 +74,9 @@ impl<D: Disk, O: Origin> Parts<D, O> {
         requires begins { IsTrue D.tells → Begins O.first D.Disk visits.now self.old }
         requires passed { (pages : ℕ) × AllPass pages visits.now }
         ensures goes { IsTrue D.tells → LeavesIf O.first D.Disk self.old.base self.new.base }
-        ensures fold { IsTrue D.tells → OnOk result (IsFold O.first D.Disk self.new) }
-        ensures moves { IsTrue D.tells → OnOk result (MovesIf O.first D.Disk self.old.base self.new.base) }
+        ensures fold { IsTrue D.tells → OnOk result (IsFold O.first D.Disk self.new × MovesIf O.first D.Disk self.old.base self.new.base) }
+        ensures pages { IsTrue D.tells → MatchResult result (λ _. PagesPass (next_of (stored_of D.Disk self.old.base)) O.first (stored_of D.Disk self.old.base).records)
+            (IsFaultOr (FirstPageFails (next_of (stored_of D.Disk self.old.base)) O.first (stored_of D.Disk self.old.base).records)) }
         ensures keeps { KeepsBase self.old.base self.new.base × (self.new.meta ≡ self.old.meta) }
         ensures refused { IsTrue D.tells → IfErr result (λ e. IsSoundImage O.first → e ≡ Fault) }
         ensures faults { HasFault Fault (D.faults_of self.old.base.disk) (D.faults_of self.new.base.disk) result }

@@ -4,7 +4,7 @@ use Rattle.ctr_log.proofs.VisitLaws.{kept_bytes, kept_numbers}
 use Rattle.ctr_base.specs.declared.base.Base.{Base}
 use Rattle.ctr_base.specs.BaseLaws.{quiet_leaves}
 use Rattle.ctr_store.specs.RecordChecks.{AllPass, tables_seen}
-use Rattle.ctr_store.proofs.OpenLaws.{rests_opened, leaves_first, state_first, none_left, tables_found}
+use Rattle.ctr_store.proofs.OpenLaws.{rests_opened, starts_opened, pages_opened, leaves_first, state_first, none_left, tables_found}
 use Rattle.ctr_store.proofs.opening.bring_forward.Goals as goal
 
 pub returns-in_default-clause-goes : goal.returns-in_default-clause-goes
@@ -30,6 +30,7 @@ redo-requires-clause-begins g c told =
     let kept : vs ≡ kept_visits root.file root.first (d.reads c.args.disk) = c.as_slice.ensures ∙ found.visits_are ∙ ap (kept_visits root.file root.first) (sym r.2) in
     record {
       rests = rests_opened o d c.args.disk root f c.next-durable.result r.0 r.1 r.2 c.next-durable.ensures b refl refl refl refl;
+      starts = starts_opened o d root f r.0 r.2 b refl refl refl;
       empty = c.in-Ok.ensures.0;
       none = found.none;
       records = ap visit_bytes kept ∙ kept_bytes root.file root.first (d.reads c.args.disk);
@@ -54,9 +55,10 @@ returns-in-Ok-redo-clause-opened g c told =
     record {
       root_is = e.keeps.0.root;
       none = none_left c.redo.new.self.base.log.buffered (omega (arith, few, ap (λ (l : List (List ℕ)). length l) none));
-      fold = e.fold told;
-      state = λ sound. state_first o d a c.redo.new.self.base c.args.root refl none r.2 (e.moves told sound);
+      fold = (e.fold told).0;
+      state = λ sound. state_first o d a c.redo.new.self.base c.args.root refl none r.2 ((e.fold told).1 sound);
       next = e.keeps.0.next ∙ omega (arith, r.0.log.kept.next_is, ap (λ (l : List (List ℕ)). length l) none);
       passes = (r.0.log.sound, subst (AllPass c.args.root.pages) r.0.log.visits_are r.0.log.passed);
+      pages = pages_opened o d a c.args.root refl r.2 (e.pages told);
       tables = ap (λ t. t.tables) e.keeps.1 ∙ r.0.log.tables ∙ tables_found o c.args.root f.visits r.0.log.visits_are;
     }

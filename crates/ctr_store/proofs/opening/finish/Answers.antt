@@ -12,7 +12,7 @@ returns-in-Ok-clause-answer g c told =
 pub returns-in-Err-clause-answer : goal.returns-in-Err-clause-answer
 returns-in-Err-clause-answer g c told =
     let front = (c.requires.told told).0 in
-    later_refused g.O.Origin.first c.args.root c.in-Err.error.0 front.says (front.log.sound, subst (AllPass c.args.root.pages) front.log.visits_are front.log.passed) c.in-Err.ensures.later
+    later_refused g.O.Origin.first c.args.root c.in-Err.error.0 front.says (front.log.sound, subst (AllPass c.args.root.pages) front.log.visits_are front.log.passed) (c.in-Err.ensures.later told)
 
 pub returns-in-Err-clause-undamaged : goal.returns-in-Err-clause-undamaged
 returns-in-Err-clause-undamaged g c told sound = later_undamaged c.in-Err.error.0 (c.in-Err.ensures.refused told sound)

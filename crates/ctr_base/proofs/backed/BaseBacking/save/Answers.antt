@@ -3,18 +3,17 @@ use Rattle.std.proofs.Common.{refl}
 use Rattle.ctr_base.specs.BaseLaws.{leaves_joined, moves_joined, puts_home}
 use Rattle.ctr_base.proofs.backed.BaseBacking.save.Goals as goal
 
-pub put_home-requires-clause-told : goal.put_home-requires-clause-told
-put_home-requires-clause-told g c told =
+pub put_home-requires-clause-goes : goal.put_home-requires-clause-goes
+put_home-requires-clause-goes g c told =
     let r = c.requires.takes told in
     let e = c.in_ok-make_durable.ensures in
     let v : PageHeld = record { lsn = c.args.lsn; body = c.args.body.now } in
-    ((e.moves told).1, (r.1, (e.holds told).still c.args.page r.1 v r.2))
-
-pub put_home-requires-clause-durable : goal.put_home-requires-clause-durable
-put_home-requires-clause-durable g c told sound =
-    let r = c.requires.takes told in
-    let v : PageHeld = record { lsn = c.args.lsn; body = c.args.body.now } in
-    c.in_ok-make_durable.ensures.durable told c.args.page r.1 v sound (r.2.sound sound) refl
+    record {
+      rests = (e.moves told).1;
+      since = r.1;
+      may = (e.holds told).still c.args.page r.1 v r.2;
+      durable = λ sound. e.durable told c.args.page r.1 v sound (r.2.sound sound) refl;
+    }
 
 pub returns-in_err-put_home-clause-goes : goal.returns-in_err-put_home-clause-goes
 returns-in_err-put_home-clause-goes g c told sound =

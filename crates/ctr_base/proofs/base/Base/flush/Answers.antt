@@ -3,6 +3,7 @@ use Rattle.ctr_log.specs.Logs.{with_batch}
 use Rattle.ctr_redo.proofs.ImageLaws.{logs_apart}
 use Rattle.ctr_base.specs.declared.base.Base.{Base}
 use Rattle.ctr_base.specs.BaseLaws.{holds_if, stands_flushed, homes_flushed}
+use Rattle.ctr_base.proofs.HomeLaws.{since_still}
 use Rattle.ctr_base.proofs.FlushLaws.{flush_leaves, flush_moves, flush_quiet, flush_holds, Flushed}
 use Rattle.ctr_base.proofs.base.Base.flush.Goals as goal
 
@@ -36,6 +37,7 @@ returns-clause-moves g c told =
       λ sound. flush_moves d a b (rests.quiet sound) (f sound),
       record {
         stands = stands_flushed d a b rests.stands refl file kept goes.0 (with_batch goes.1 a.log.buffered) flushed.1;
+        since = since_still g.O.Origin.first a.root.pages (d.reads a.disk) (d.reads c.flush.new.disk) kept.pages rests.since;
         quiet = λ sound. flush_quiet d a b (rests.quiet sound) (f sound) (e.durable (rests.quiet sound).only);
       },
     )

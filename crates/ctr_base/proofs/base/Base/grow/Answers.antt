@@ -1,11 +1,9 @@
 use Rattle.std.proofs.Common.{sym, subst}
 use Rattle.ctr_disk.specs.declared.fault.Root.{Root}
 use Rattle.ctr_disk.specs.Device.{LeavesOnly}
-use Rattle.ctr_pool.specs.Below.{HoldsStill}
 use Rattle.ctr_base.specs.declared.base.Base.{Base}
-use Rattle.ctr_base.specs.Base.{home_of, MayPut, StandsQuiet}
-use Rattle.ctr_base.specs.Growth.{IsGrowing, HasGrown, GrowsBase}
-use Rattle.ctr_base.proofs.GrowLaws.{is_grown_root, growing_leaves, growth_blank, grows_base, grows_stands, grows_quiet, grows_holds}
+use Rattle.ctr_base.specs.Growth.{IsGrowing, HasGrown, GrowsOver}
+use Rattle.ctr_base.proofs.GrowLaws.{is_grown_root, growing_leaves, growth_blank, grows_over}
 use Rattle.ctr_base.proofs.base.Base.grow.Goals as goal
 
 pub returns-in_err-count_pages-clause-any_moment : goal.returns-in_err-count_pages-clause-any_moment
@@ -47,18 +45,4 @@ returns-clause-grows g c told =
     let same = is_grown_root a.root c.saturating_add.result c.min.result rests.stands.says.1 c.saturating_add.ensures c.min.ensures in
     let has = subst (λ (r : Root). HasGrown a.root.pages r (d.reads a.disk) (d.reads new)) same (e.grown told) in
     let b : Root → Base g.row.D.Denot g.row.O.Denot = λ r. record a { disk = new; root = r } in
-    subst (λ (r : Root). GrowsBase d a (b r) × StandsQuiet o d (b r)) (sym same) (
-      grows_base d a new rests.stands c.requires.few has,
-      record { stands = grows_stands d a new rests.stands c.requires.few has; quiet = λ sound. grows_quiet d a new rests.stands c.requires.few has (rests.quiet sound) e.durable },
-    )
-
-pub returns-clause-holds : goal.returns-clause-holds
-returns-clause-holds g c told =
-    let d = g.D.Disk in
-    let o = g.O.Origin.first in
-    let a = c.args.self.now in
-    let rests = c.requires.rests told in
-    let new = c.count_pages.new.disk in
-    let same = is_grown_root a.root c.saturating_add.result c.min.result rests.stands.says.1 c.saturating_add.ensures c.min.ensures in
-    let has = subst (λ (r : Root). HasGrown a.root.pages r (d.reads a.disk) (d.reads new)) same (c.in_ok-count_pages.ensures.grown told) in
-    subst (λ (r : Root). HoldsStill (home_of d) (MayPut o d) a (record a { disk = new; root = r })) (sym same) (grows_holds d a new rests.stands c.requires.few has o)
+    subst (λ (r : Root). GrowsOver o d a (b r)) (sym same) (grows_over d a new rests.stands c.requires.few has o rests e.durable)

@@ -12,7 +12,11 @@ returns-in_default-clause-goes g c told =
     leaves_same o d a a c.log_off.new.self.base c.log_off.ensures.below (rests_leaves d o g.met.D.Disk.only_now a (c.requires.fold told).over.at_rest)
 
 pub returns-in_default-clause-logs : goal.returns-in_default-clause-logs
-returns-in_default-clause-logs g c told sound = logs_now g.O.Origin.first g.D.Disk c.args.rec.now c.args.self.now c.log_off.new.self (c.log_off.ensures.adds told (c.requires.fold told) sound)
+returns-in_default-clause-logs g c told =
+    let fold = c.requires.fold told in (
+      λ sound. logs_now g.O.Origin.first g.D.Disk c.args.rec.now c.args.self.now c.log_off.new.self (c.log_off.ensures.adds told fold sound),
+      c.log_off.ensures.fold told fold,
+    )
 
 pub log_on-requires-clause-can : goal.log_on-requires-clause-can
 log_on-requires-clause-can g c = let keeps = c.bring.ensures.keeps in can_still g.O.Origin.first g.D.Disk c.args.rec.now c.args.self.now c.bring.new.self keeps.0 keeps.1 c.requires.can
@@ -24,7 +28,7 @@ returns-clause-goes g c told =
     leaves_same g.O.Origin.first d a c.bring.new.self.base c.log_on.new.self.base c.log_on.ensures.below (c.bring.ensures.goes told)
 
 pub returns-clause-logs : goal.returns-clause-logs
-returns-clause-logs g c told sound =
+returns-clause-logs g c told =
     let d = g.D.Disk in
     let o = g.O.Origin.first in
     let e = c.in_ok-bring.ensures in
@@ -32,17 +36,7 @@ returns-clause-logs g c told sound =
     let m = c.bring.new.self in
     let stays = e.stays told in
     let fold = fold_moved o d s m (c.requires.fold told) (e.moves told) (let keeps = c.bring.ensures.keeps in ap (λ x. x.tables) keeps.1) stays.shows stays.over in
-    logs_behind o d c.args.rec.now s m c.log_on.new.self (e.moves told sound) (c.log_on.ensures.adds told fold sound)
-
-pub returns-clause-fold : goal.returns-clause-fold
-returns-clause-fold g c told =
-    let d = g.D.Disk in
-    let o = g.O.Origin.first in
-    let e = c.in_ok-bring.ensures in
-    let s = c.args.self.now in
-    let m = c.bring.new.self in
-    let stays = e.stays told in
-    c.log_on.ensures.fold told (fold_moved o d s m (c.requires.fold told) (e.moves told) (let keeps = c.bring.ensures.keeps in ap (λ x. x.tables) keeps.1) stays.shows stays.over)
+    (λ sound. logs_behind o d c.args.rec.now s m c.log_on.new.self (e.moves told sound) (c.log_on.ensures.adds told fold sound), c.log_on.ensures.fold told fold)
 
 pub returns-in_err-bring-clause-refused : goal.returns-in_err-bring-clause-refused
 returns-in_err-bring-clause-refused g c told =

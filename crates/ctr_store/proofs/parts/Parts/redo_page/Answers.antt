@@ -1,9 +1,14 @@
 use Rattle.std.proofs.Common.{◌≡◌, ◌∙◌, ◌==◌, ◌≤◌, ◌+◌, if◌then◌else◌, ℕ, refl, sym, ap, subst, arith}
 use Rattle.std.specs.Option.{option_map}
 use Rattle.ctr_pool.specs.Frames.{frame_of, after_change, page_shown, kept_or}
-use Rattle.ctr_base.specs.Base.{home_of}
+use Rattle.ctr_redo.specs.States.{next_of}
+use Rattle.ctr_base.specs.Base.{stored_of, home_of}
+use Rattle.ctr_store.specs.PageChecks.{PagePasses, PageFails}
+use Rattle.ctr_home.specs.Reading.{IsFaultOr}
+use Rattle.std.proofs.lemmas.Result.{err_from_is_err_and}
 use Rattle.ctr_store.specs.declared.parts.Parts.{Parts}
-use Rattle.ctr_store.proofs.RecordLaws.{on_page, off_page, frame_there, page_of_touch}
+use Rattle.ctr_store.proofs.RecordLaws.{on_page, off_page, frame_there, inside_of, page_of_touch}
+use Rattle.ctr_store.proofs.RedoFinds.{finds_passes, finds_fails, finds_seen}
 use Rattle.ctr_store.proofs.RedoLaws.{redo_moved, redo_off, redo_on}
 use Rattle.ctr_store.proofs.parts.Parts.redo_page.Goals as goal
 
@@ -16,10 +21,14 @@ returns-then-lsn-clause-redone g c start n r told doing next is at =
     let e = c.in_ok-bring.ensures in
     let stays = e.stays told in
     let o = c.args.overlay.now in
-    let mid = redo_moved i d start n s t doing (e.moves told) c.bring.ensures.keeps.0 stays.shows stays.over in
+    let keeps = c.bring.ensures.keeps.0 in
+    let inside = inside_of start.root.pages r o is next.counted in
+    let found = e.finds told in
+    let mid = redo_moved i d start n s t doing (e.moves told) keeps stays.shows stays.over (finds_seen i d start n o.page s t doing inside keeps found stays.over.at_rest) in
+    let passes = subst (PagePasses (next_of (stored_of d start)) i) (sym is) (finds_passes i d start n o.page s t doing inside keeps found stays.over.at_rest) in
     let frame = frame_there o.page t.pool.frames e.there.0 in
     let low = c.lsn.ensures frame.0 frame.1 in
-    redo_off i d start n r next t mid
+    redo_off i d start n r next t mid passes
     (λ q on.
     let same = page_of_touch r o q is on in
     subst (λ (m : ℕ). start.root.first + n ≤ (page_shown t.pool.frames m (home_of d t.base m)).lsn) (sym same)
@@ -35,11 +44,27 @@ returns-clause-redone g c start n r told doing next is at =
     let e = c.in_ok-bring.ensures in
     let stays = e.stays told in
     let o = c.args.overlay.now in
-    let mid = redo_moved i d start n s m doing (e.moves told) c.bring.ensures.keeps.0 stays.shows stays.over in
+    let keeps = c.bring.ensures.keeps.0 in
+    let inside = inside_of start.root.pages r o is next.counted in
+    let found = e.finds told in
+    let mid = redo_moved i d start n s m doing (e.moves told) keeps stays.shows stays.over (finds_seen i d start n o.page s m doing inside keeps found stays.over.at_rest) in
+    let passes = subst (PagePasses (next_of (stored_of d start)) i) (sym is) (finds_passes i d start n o.page s m doing inside keeps found stays.over.at_rest) in
     let fs = m.pool.frames in
     let frame = frame_there o.page fs e.there.0 in
     let low = c.lsn.ensures frame.0 frame.1 in
     let gs = c.change.new.self.frames in
     let changed : (q : ℕ) → frame_of q gs ≡ (if o.page == q then option_map (after_change o (start.root.first + n)) (frame_of q fs) else frame_of q fs) = λ q.
     c.change.ensures.frames q ∙ ap (λ (k : ℕ). if o.page == q then option_map (after_change o k) (frame_of q fs) else frame_of q fs) at in
-    redo_on i d start n r next m mid o frame.0 gs is (off_page r o is) (on_page o) frame.1 (omega (arith, low, at)) changed t refl refl
+    redo_on i d start n r next m mid o frame.0 gs is (off_page r o is) (on_page o) frame.1 (omega (arith, low, at)) passes changed t refl refl
+
+pub returns-in_err-bring-clause-fails : goal.returns-in_err-bring-clause-fails
+returns-in_err-bring-clause-fails g c start n r told doing next is =
+    let d = g.D.Disk in
+    let i = g.O.Origin.first in
+    let p = err_from_is_err_and c.from_residual.result c.from_residual.ensures.1 in
+    let o = c.args.overlay.now in
+    let e = c.in_err-bring.field-0.0 in
+    let inside = inside_of start.root.pages r o is next.counted in
+    rw (p.1, p.2)
+    (subst (λ x. IsFaultOr (PageFails (next_of (stored_of d start)) i x) e) (sym is)
+    (finds_fails i d start n o.page c.args.self.now c.bring.new.self doing inside c.bring.ensures.keeps.0 e (c.in_err-bring.ensures.finds told)))

@@ -13,5 +13,5 @@ returns-clause-grows g c told sound =
     let new = c.is_err-self-inside.result in
     let e = c.grow-counted.ensures in
     on_ok_both c.grow-counted.result
-    (λ grows fold. subst (λ (v : View g.row.D.Denot). GrowsByExtent d v (view_of d t new)) c.self.view_is (grows_seen d g.O.Origin.first g.met.D.Disk.only_now s t old new fold sound grows (e.blank told sound)))
-    (e.grows told) (e.fold told)
+    (λ both yes. let grows = both.0 in let fold = both.1 in subst (λ (v : View g.row.D.Denot). GrowsByExtent d v (view_of d t new)) c.self.view_is (grows_seen d g.O.Origin.first g.met.D.Disk.only_now s t old new fold sound grows (e.blank told sound)))
+    (e.grows told) (e.grows told)

@@ -16,4 +16,4 @@ returns-in-Err-clause-any_moment g c told sound =
     subst (λ (v : View g.row.D.Denot). LeavesFront d v v) c.self.view_is (rests_leaves d g.O.Origin.first g.met.D.Disk.only_now a.parts.base fold.over.at_rest sound)
 
 pub invariant_of-self : goal.invariant_of-self
-invariant_of-self g c told going = of_ok c.log-logged.result (sym c.is_err-self-inside.ensures.value ∙ going) (c.log-logged.ensures.fold told)
+invariant_of-self g c told going = (of_ok c.log-logged.result (sym c.is_err-self-inside.ensures.value ∙ going) (c.log-logged.ensures.logs told)).1

@@ -1,0 +1,87 @@
+-- Pages at home since the first image of an opening.
+use Rattle.std.proofs.Common.{◌≡◌, ◌≢◌, inl, inr, ⊎_elim, ℕ, ◌+◌, ◌*◌, ◌<◌, ◌≤◌, Bool, if◌then◌else◌, List, Result, Ok, Err, Option, Some, refl, sym, ◌∙◌, ap, subst, arith}
+use Rattle.std.specs.Prelude.{IfErr, OnOk}
+use Rattle.std.proofs.lemmas.Bool.{lt-ltb}
+use Rattle.std.proofs.lemmas.Bool.Decides.{eqb_tells}
+use Rattle.ctr_types.specs.declared.file.File.TheVariants.{Pages}
+use Rattle.ctr_disk.specs.declared.disk.Disk.{Ghosts}
+use Rattle.ctr_disk.specs.declared.disk.Image.{Image}
+use Rattle.ctr_disk.specs.declared.fault.Root.{Root}
+use Rattle.ctr_disk.specs.declared.fault.StoreFault.{StoreFault}
+use Rattle.ctr_disk.specs.declared.fault.StoreFault.TheVariants.{Fault, Damaged}
+use Rattle.ctr_disk.specs.Image.{content}
+use Rattle.ctr_home.specs.declared.block.Block.TheVariants.{Page, Root as RootBlock}
+use Rattle.ctr_home.specs.declared.root.Form.TheVariants.{Paged}
+use Rattle.ctr_home.specs.Blocks.{BlockValue, value_of, value_in, page_with, blank_page}
+use Rattle.ctr_home.specs.Reading.{IsMisnumbered, IsFaultOr}
+use Rattle.ctr_home.specs.Roots.{SaysRootOf}
+use Rattle.ctr_home.specs.Writing.{OthersStay, with_body}
+use Rattle.ctr_pool.specs.Below.{IsFound}
+use Rattle.ctr_redo.specs.Images.{home_in}
+use Rattle.ctr_base.specs.declared.base.Base.{Base}
+use Rattle.ctr_base.specs.Homes.{IsSince, HomesSince}
+use Rattle.ctr_base.specs.Base.{StandsQuiet, FindsNumber}
+use Rattle.ctr_base.specs.Extent.{KeepsPages}
+use Rattle.ctr_base.proofs.RootLaws.{one_root}
+use Rattle.ctr_base.proofs.ClearLaws.{value_same}
+
+-- where the file of pages is as it was
+pub since_still : (first : Image) (counted : ℕ) (old new : Image) → content Pages new ≡ content Pages old → HomesSince first counted old → HomesSince first counted new
+since_still first counted old new same since = record {
+  more = since.more;
+  homes = λ r says p inside. subst (λ (bytes : List ℕ). IsSince p (value_of (Page p) first) (value_in (Page p) bytes)) (sym same) (since.homes r says p inside);
+}
+
+-- of the first image itself
+pub since_first : (first : Image) (root : Root) (image : Image) → SaysRootOf Paged (value_of RootBlock first) root → image ≡ first → HomesSince first root.pages image
+since_first first root image says same = record {
+  more = λ r told. omega (arith, ap (λ (x : Root). x.pages) (one_root (value_of RootBlock first) r root told says));
+  homes = λ r told p inside. inl (ap (λ (i : Image). value_of (Page p) i) same);
+}
+
+-- the stamp of a counted page's value
+raw_lower : (counted p : ℕ) (image : Image) (lsn : ℕ) → p < counted → (home_in counted image p).lsn < lsn → (page_with (value_of (Page p) image)).lsn < lsn
+raw_lower counted p image lsn inside low = subst (λ (b : Bool). (if b then page_with (value_of (Page p) image) else blank_page).lsn < lsn) (lt-ltb p counted inside) low
+
+-- behind the writing of a page
+pub since_written : (first : Image) (counted p stamp : ℕ) (body : List ℕ) (old new : Image) → p < counted → (home_in counted old p).lsn < stamp → OthersStay (Page p) old new → value_of (Page p) new ≡ Some (with_body (Page p) stamp body)
+    → HomesSince first counted old → HomesSince first counted new
+since_written first counted p stamp body old new inside above others is since = record {
+  more = since.more;
+  homes = λ r says q low. ⊎_elim (λ w. subst (λ (n : ℕ). IsSince n (value_of (Page n) first) (value_of (Page n) new)) (sym w.1) (here r says (subst (λ (n : ℕ). n < r.pages) w.1 low)))
+      (λ w. subst (λ o. IsSince q (value_of (Page q) first) o) (sym (others.blocks (Page q) (λ e. w.1 (number_of q e)))) (since.homes r says q low))
+      (eqb_tells q p);
+}
+  where
+    number_of : (q : ℕ) → Page q ≡ Page p → q ≡ p
+    number_of q e = cc e
+
+    here : (r : Root) → SaysRootOf Paged (value_of RootBlock first) r → p < r.pages → IsSince p (value_of (Page p) first) (value_of (Page p) new)
+    here r says low =
+        let lower = raw_lower counted p old stamp inside above in
+        inr (record {
+          value = with_body (Page p) stamp body;
+          is = is;
+          number = refl;
+          later = ⊎_elim (λ same. subst (λ o. (page_with o).lsn < stamp) same lower)
+              (λ w. let one = w.later in let two : w.value.stamp < stamp = subst (λ o. (page_with o).lsn < stamp) w.is lower in omega (arith, one, two))
+              (since.homes r says p low);
+        })
+
+-- behind a growth
+pub since_grown : (first : Image) (from to : ℕ) (old mid new : Image) → from ≤ to → KeepsPages (8256 * from) old mid → OthersStay RootBlock mid new → HomesSince first from old → HomesSince first to new
+since_grown first from to old mid new order keeps others since = record {
+  more = λ r says. let low = since.more r says in omega (arith, low, order);
+  homes = λ r says p inside.
+      let low = since.more r says in
+      let same : value_of (Page p) new ≡ value_of (Page p) old = others.blocks (Page p) (λ e. absurd (cc e)) ∙ value_same (8256 * from) p old mid keeps (omega (arith, low, inside)) in
+      subst (λ o. IsSince p (value_of (Page p) first) o) (sym same) (since.homes r says p inside);
+}
+
+-- what the reading of a page found
+pub found_number : {D O : Type 0} (first : Image) (g : Ghosts D) (b : Base D O) (p : ℕ) (image : Image) → g.reads b.disk ≡ image → StandsQuiet first g b → (r : Result ℕ StoreFault)
+    → (p < b.root.pages → OnOk r ((v : BlockValue) → value_of (Page p) image ≡ Some v → v.number ≡ p)) → IfErr r (IsFaultOr (IsMisnumbered (Page p) image)) → IsFound (FindsNumber first g b p) r
+found_number first g b p image same rests (Ok n) numbered refused = λ inside v is. numbered inside v (ap (λ (i : Image). value_of (Page p) i) (sym same) ∙ is)
+found_number first g b p image same rests (Err Fault) numbered refused = tt
+found_number first g b p image same rests (Err (Damaged file at want got)) numbered refused =
+    (rests, subst (λ (i : Image). IsMisnumbered (Page p) i (Damaged file at want got)) (sym same) refused)
