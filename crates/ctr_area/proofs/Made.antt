@@ -50,7 +50,7 @@ module _ (creator : ℕ) (name : List ℕ) (cs : List Column) (drawn : creator <
       ) in
       omega (arith, length-append (head ++ text_bytes 16 name) (columns_bytes cs), length-append head (text_bytes 16 name), three, named, columns)
 
-  length-new : length new ≡ 256
+  pub length-new : length new ≡ 256
   length-new = omega (arith, length-append front (replicate 77 0), length-front, length-replicate {A = ℕ} 77 0)
 
   read : NewEntry creator name cs new

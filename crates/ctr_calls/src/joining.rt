@@ -34,6 +34,9 @@ pub fn a_record_behind_a_page<D: Disk, S, T>()
     // Where the page wasn't read nothing is logged.
     ensures unread { (first : Image) (r : Record) (a b : View D) (e : StoreFault) (page : Result S StoreFault) (result : Result T StoreFault)
         → LeavesPage first D.Disk a b page → page ≡ Err e → result ≡ Err e → LogsOne first D.Disk r a b result }
+    // A call that logs one record, behind a page that was read, leaves one record.
+    ensures behind { (first : Image) (r : Record) (a b c : View D) (x : S) (result : Result T StoreFault)
+        → LeavesPage first D.Disk a b (Ok x) → LogsOne first D.Disk r b c result → LogsOne first D.Disk r a c result }
 {}
 
 /// Adds a record to a store, and answers its number: all that is answered of it is one fact.

@@ -2,5 +2,7 @@
 #![tactic(auto)]
 
 mod joining;
+mod on_page;
 
 pub use joining::{a_record_behind_a_page, log_record, pages_read_join};
+pub use on_page::{a_record_may_be_logged, log_on_page};

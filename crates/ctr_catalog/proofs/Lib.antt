@@ -1,2 +1,4 @@
 pub mod Titles
 pub mod Lowest
+pub mod OneRecord
+pub mod Made

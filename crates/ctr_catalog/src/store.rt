@@ -71,6 +71,7 @@ pub fn free_entry<D: Disk, O: Origin>(
     requires going { store.old.stopped ≡ false }
     requires some { 0 < store.old.now.counted }
     ensures ends { IsTrue D.tells → IsSoundImage O.first → IfOk result (λ r. EndsCatalog store.old.now.counted (pages_in store.old.now) r) }
+    ensures few { IfOk result (λ r. IfOk r (λ found. IfSome found (λ n. n < 32))) }
     ensures leaves { LeavesPage O.first D.Disk store.old store.new result }
 {
     let counted = store.counted();

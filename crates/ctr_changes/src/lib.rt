@@ -1,8 +1,9 @@
 //! What each record of the log makes of the pages: one place of the area changes. Definitions, and laws of
-//! them. No program computes them.
+//! them; and the overlays that records have.
 #![tactic(auto)]
 
 mod catalog;
+mod overlays;
 mod pages;
 mod places;
 
@@ -10,6 +11,7 @@ pub use catalog::{
     a_drop_changes_its_title, a_new_table_has_its_entry, an_uncreate_changes_its_title,
     an_undrop_changes_its_title,
 };
+pub use overlays::{over_cleared, over_entry, over_page, over_place};
 pub use pages::{
     a_format_clears_its_page, a_free_changes_its_bit, a_link_changes_its_chain,
     an_alloc_changes_its_bit, an_unlink_changes_its_chain,

@@ -3,3 +3,5 @@ pub mod Keyed
 pub mod Reading
 pub mod Along
 pub mod Telling
+pub mod OneRecord
+pub mod Said

@@ -1,2 +1,4 @@
 pub mod Slots
 pub mod Along
+pub mod Writing
+pub mod Finding

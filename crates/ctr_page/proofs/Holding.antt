@@ -1,5 +1,5 @@
 -- What passes its checks holds rows that can be read.
-use Rattle.std.proofs.Common.{◌≡◌, inl, inr, ℕ, ◌+◌, ◌-◌, ◌*◌, ◌≤◌, ℤ, Bool, true, false, cond, ltb, List, [], ◌∷◌, map, length, take, drop, slice_index, Some, None, Result, Ok, Err, refl, sym, ◌∙◌, ap, subst, arith, take-append-drop, zero, suc}
+use Rattle.std.proofs.Common.{◌≡◌, inl, inr, ℕ, ◌+◌, ◌-◌, ◌*◌, ◌<◌, ◌≤◌, ℤ, Bool, true, false, cond, ltb, List, [], ◌∷◌, map, length, take, drop, slice_index, Some, None, Result, Ok, Err, refl, sym, ◌∙◌, ap, subst, arith, take-append-drop, zero, suc}
 use Rattle.std.specs.Prelude.{⊤, IfSome, FitsSigned, ◌==◌}
 use Rattle.std.specs.Int.{w64, cast_signed}
 use Rattle.std.proofs.Math.Facts.{sfits_to_z}
@@ -21,9 +21,9 @@ use Rattle.ctr_records.specs.Damage.{wrong, at_most}
 use Rattle.ctr_records.proofs.Reading.{guard_ok}
 use Rattle.ctr_page.specs.Places.{has_previous, previous_at, pointer_at, kept_pointer_at, slot_size, kept_size}
 use Rattle.ctr_page.specs.Reading.{piece, version_in, if_there, previous_in, slot_at, older_at}
-use Rattle.ctr_page.specs.Columns.{entry_at, column_kind_at, kinds_of, kinds_width, slot_start, kept_start}
-use Rattle.ctr_page.specs.Damage.{text_check, texts_check, version_check, some_version_check, previous_check, pointer_check, used_slot_check, used_kept_check, slot_check, kept_check, from_1_check, firsts_check, column_check, columns_check, used_entry_check, entry_check}
-use Rattle.ctr_page.specs.Readable.{HoldsRow, HoldsRows, HoldsOlder, NamesFit, HasParts}
+use Rattle.ctr_page.specs.Columns.{entry_at, column_kind_at, kind_said, columns_from, first_in, kinds_of, kinds_width, slot_start, kept_start}
+use Rattle.ctr_page.specs.Damage.{counted_check, text_check, texts_check, version_check, some_version_check, previous_check, pointer_check, used_slot_check, used_kept_check, slot_check, kept_check, from_1_check, firsts_check, column_check, columns_check, used_entry_check, entry_check}
+use Rattle.ctr_page.specs.Readable.{HoldsRow, HoldsRows, HoldsOlder, NamesFit, HasParts, FirstsAreCounted}
 use Rattle.ctr_page.proofs.Passing.{from_1_holds}
 
 -- ---- checks that pass
@@ -236,3 +236,41 @@ entry_parts counted n page inside e = λ used.
       few = subst (λ x. x ≤ 8) (sym same) number.1;
       columns = subst (λ n. NamesFit n 35 (piece start 256 page)) one_more (key, others);
     }
+
+-- ---- the first pages of an entry
+
+firsts_hold : (n counted at k : ℕ) (page : List ℕ) → k < n → firsts_check n counted at page ≡ Ok tt → field 4 (at + 4 * k) page ≤ counted - 1
+unfolding counted_check
+firsts_hold zero counted at k page lt e = absurd (omega (arith, lt))
+firsts_hold (suc n) counted at zero page lt e =
+    let both = then_ok (counted_check counted at page) (firsts_check n counted (at + 4) page) e in
+    subst (λ j. field 4 j page ≤ counted - 1) (let z : at ≡ at + 4 * 0 = omega arith in z) (most_ok at (counted - 1) (field 4 at page) both.0)
+firsts_hold (suc n) counted at (suc k) page lt e =
+    let both = then_ok (counted_check counted at page) (firsts_check n counted (at + 4) page) e in
+    subst (λ j. field 4 j page ≤ counted - 1) (let z : at + 4 + 4 * k ≡ at + 4 * suc k = omega arith in z) (firsts_hold n counted (at + 4) k page (omega (arith, lt)) both.1)
+
+pub entry_firsts : (counted n : ℕ) (page : List ℕ) → 0 < counted → 256 * n + 256 ≤ length page → entry_check counted (256 * n) page ≡ Ok tt → FirstsAreCounted counted (entry_at n page)
+unfolding entry_check used_entry_check
+entry_firsts counted n page some inside e = λ used b few.
+    let start = 256 * n in
+    let state : field 1 start page ≡ (entry_at n page).state = ap (λ k. field 1 k page) (let z : start ≡ start + 0 = omega arith in z) ∙ sym (piece_field 1 0 start 256 page (omega arith) inside) in
+    let checked : used_entry_check counted start page ≡ Ok tt =
+    ap (λ b. cond b (Ok tt) (used_entry_check counted start page)) (sym (ne_eqb (field 1 start page) 0 (λ none. used (sym state ∙ none)))) ∙ e in
+    let first = then_ok (firsts_check 9 counted (start + 179) page) _ checked in
+    let small = firsts_hold 9 counted (start + 179) b page (omega (arith, few)) first.0 in
+    let same : first_in b (piece start 256 page) ≡ field 4 (start + 179 + 4 * b) page =
+    piece_field 4 (179 + 4 * b) start 256 page (omega (arith, few)) inside ∙ ap (λ k. field 4 k page) (let z : start + (179 + 4 * b) ≡ start + 179 + 4 * b = omega arith in z) in
+    subst (λ x. x < counted) (sym same) (omega (arith, small, some))
+
+-- ---- the columns behind the key
+
+first_columns : (n k at : ℕ) (bytes : List ℕ) → n ≤ k → take n (map (λ (c : Column). c.kind) (columns_from k at bytes)) ≡ map (λ (c : Column). c.kind) (columns_from n at bytes)
+first_columns zero k at bytes le = refl
+first_columns (suc n) zero at bytes le = absurd (omega (arith, le))
+first_columns (suc n) (suc k) at bytes le = ap (λ ks. kind_said (field 1 (column_kind_at at) bytes) ∷ ks) (first_columns n k (at + 18) bytes (omega (arith, le)))
+
+pub kinds_behind : (n : ℕ) (bytes : List ℕ) → 1 ≤ n → n ≤ 8 → take (n - 1) (map (λ (c : Column). c.kind) (columns_from 7 53 bytes)) ≡ kinds_of (columns_from n 35 bytes)
+kinds_behind zero bytes some few = absurd (omega (arith, some))
+kinds_behind (suc n) bytes some few =
+    let same : suc n - 1 ≡ n = omega arith in
+    ap (λ k. take k (map (λ (c : Column). c.kind) (columns_from 7 53 bytes))) same ∙ first_columns n 7 53 bytes (omega (arith, few))

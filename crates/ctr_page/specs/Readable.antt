@@ -1,11 +1,12 @@
 -- What can be read where no check fails: which rows stand in a slot or a version entry, by the
 -- columns of their table, and the parts of an entry of the catalog.
-use Rattle.std.specs.Prelude.{◌≡◌, ◌≢◌, ℕ, zero, suc, ◌+◌, ◌≤◌, ℤ, List, IfSome}
+use Rattle.std.specs.Prelude.{◌≡◌, ◌≢◌, ℕ, zero, suc, ◌+◌, ◌<◌, ◌≤◌, ℤ, List, IfSome}
 use Rattle.ctr_types.specs.declared.value.Column.{Column}
 use Rattle.ctr_value.specs.Payload.{IsRowOf}
 use Rattle.ctr_value.specs.Values.{row_values}
 use Rattle.ctr_bytes.specs.Fields.{field}
 use Rattle.ctr_page.specs.declared.entry.CatalogEntry.{CatalogEntry}
+use Rattle.ctr_page.specs.Columns.{first_in}
 use Rattle.ctr_page.specs.declared.table.TheConstants.{NAME_AT, NAME_MOST, COLUMNS_AT, COLUMN_SIZE, MOST_COLUMNS}
 use Rattle.ctr_page.specs.declared.rows.Version.{Version}
 use Rattle.ctr_page.specs.declared.rows.RowSlot.{RowSlot}
@@ -41,3 +42,8 @@ pub record PartsHaveRoom (bytes : List ℕ) : Type 0 where
 -- an entry that isn't free has them
 abbrev pub HasParts : CatalogEntry → Type 0
 HasParts entry = entry.state ≢ 0 → PartsHaveRoom entry.bytes
+
+-- the first pages of the buckets of an entry that isn't free are counted
+abbrev pub FirstsAreCounted : ℕ → CatalogEntry → Type 0
+FirstsAreCounted counted entry =
+    entry.state ≢ 0 → (b : ℕ) → b < 8 → first_in b entry.bytes < counted

@@ -7,7 +7,7 @@ ghost use Rattle.ctr_page.specs.Places.{slot_size as size_of_slot, kept_size as 
 ghost use Rattle.ctr_value.specs.Payload.{IsKeyed};
 ghost use Rattle.ctr_page.specs.Reading.{slot_at, older_at};
 ghost use Rattle.ctr_page.specs.Columns.{entry_at as entry_of, kinds_of, slot_start, kept_start, kinds_width as width_of_kinds};
-ghost use Rattle.ctr_page.specs.Readable.{HoldsRows, HoldsOlder, HasParts};
+ghost use Rattle.ctr_page.specs.Readable.{HoldsRows, HoldsOlder, HasParts, FirstsAreCounted};
 ghost use Rattle.ctr_page.specs.Damage.{chain_kind, chain_entry, chain_bucket, counted_check, header_check, place_check, pointer_check, text_check, texts_check, version_check, some_version_check, previous_check, used_slot_check, used_kept_check, slot_check, kept_check, from_1_check, firsts_check, column_check, columns_check, used_entry_check, entry_check, DamageDiffers};
 
 use crate::table::{
@@ -362,6 +362,7 @@ pub fn check_entry(counted: u32, at: u8, page: &[u8]) -> Result<(), BadPage>
     ensures checked { result ≡ entry_check counted (ENTRY_SIZE * at) page.now }
     // What passes has a name and columns that can be read.
     ensures parts { result ≡ Ok tt → HasParts (entry_of at page.now) }
+    ensures firsts { result ≡ Ok tt → FirstsAreCounted counted (entry_of at page.now) }
 {
     check_entry_at(counted, ENTRY_SIZE * at as usize, page)
 }

@@ -1,9 +1,9 @@
 // Entries of the catalog.
-ghost use Rattle.std.specs.Prelude.{◌≡◌, ◌≤◌, ◌<◌, ◌+◌, ◌*◌, ◌++◌, [], length, drop};
+ghost use Rattle.std.specs.Prelude.{◌≡◌, ◌≤◌, ◌<◌, ◌+◌, ◌-◌, ◌*◌, ◌++◌, [], length, drop, take};
 ghost use Rattle.std.specs.List.{flat_map};
 ghost use Rattle.ctr_bytes.specs.Fields.{field};
 ghost use Rattle.ctr_value.specs.Columns.{ColumnsFit, column_bytes};
-ghost use Rattle.ctr_page.specs.Columns.{entry_at as entry_of, kind_said, table_name_in, first_in, versions_first_in, column_kind_at, columns_in, columns_bytes, text_bytes, new_entry_bytes};
+ghost use Rattle.ctr_page.specs.Columns.{entry_at as entry_of, kind_said, table_name_in, first_in, versions_first_in, column_kind_at, columns_in, kinds_of, columns_bytes, text_bytes, new_entry_bytes};
 ghost use Rattle.ctr_page.specs.Making.{PutsBytes};
 ghost use Rattle.ctr_types.specs.Names.{IsName};
 
@@ -84,6 +84,24 @@ impl<'a> CatalogEntry<'a> {
     {
         let at = COLUMNS_AT + 1 + COLUMN_SIZE * column as usize;
         kind_said(get_u8(self.bytes.as_slice(), at + COLUMN_SIZE - 1))
+    }
+
+    /// What the columns behind the key hold, in an entry that passes its checks: the first of these, one fewer than it has
+    /// columns.
+    pub fn kinds(&self) -> [Kind; 7]
+        requires whole { length self.now.bytes ≡ ENTRY_SIZE }
+        ensures { 1 ≤ field 1 COLUMNS_AT self.now.bytes → field 1 COLUMNS_AT self.now.bytes ≤ MOST_COLUMNS
+            → take (field 1 COLUMNS_AT self.now.bytes - 1) result ≡ kinds_of (columns_in self.now.bytes) }
+    {
+        [
+            self.kind(1),
+            self.kind(2),
+            self.kind(3),
+            self.kind(4),
+            self.kind(5),
+            self.kind(6),
+            self.kind(7),
+        ]
     }
 
     /// The first page of a bucket; 0 for none.

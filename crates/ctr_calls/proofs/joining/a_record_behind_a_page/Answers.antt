@@ -1,7 +1,7 @@
 use Rattle.std.proofs.Common.{sym, subst}
 use Rattle.ctr_store.specs.Store.{LeavesPage}
 use Rattle.ctr_calls.specs.OneRecord.{LogsOne}
-use Rattle.ctr_calls.proofs.Records.{may_still, unread, logged_behind, refused_behind}
+use Rattle.ctr_calls.proofs.Records.{may_still, unread, logged_behind, refused_behind, one_behind}
 use Rattle.ctr_calls.proofs.joining.a_record_behind_a_page.Goals as goal
 
 pub returns-clause-may : goal.returns-clause-may
@@ -17,3 +17,6 @@ returns-clause-refused g c = λ first r a b d x e result page log is.
 pub returns-clause-unread : goal.returns-clause-unread
 returns-clause-unread g c = λ first r a b e page result left was is.
     subst (λ t. LogsOne first g.D.Disk r a b t) (sym is) (unread first g.D.Disk r a b e (subst (λ p. LeavesPage first g.D.Disk a b p) was left))
+
+pub returns-clause-behind : goal.returns-clause-behind
+returns-clause-behind g c = λ first r a b d x result page one. one_behind first g.D.Disk r a b d x page result one

@@ -7,7 +7,7 @@ use Rattle.ctr_page.specs.declared.rows.Place.{Place}
 use Rattle.ctr_changes.specs.States.{pages_in}
 use Rattle.ctr_heap.specs.Along.{ChainSought, EndsPage, LooksAt, EndsAlong}
 use Rattle.ctr_calls.proofs.Joins.{answers_ok, answers_err}
-use Rattle.ctr_heap.proofs.Reading.{reads_on, same_now, was_read}
+use Rattle.ctr_calls.proofs.PagesRead.{reads_on, same_now, was_read}
 use Rattle.ctr_heap.proofs.Along.{found_here, bad_here, none_here, at_end}
 use Rattle.ctr_heap.proofs.store.search_chain.Goals as goal
 

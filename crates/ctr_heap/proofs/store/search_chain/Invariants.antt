@@ -5,7 +5,7 @@ use Rattle.ctr_page.specs.declared.rows.Place.{Place}
 use Rattle.ctr_page.specs.declared.walk.BadChain.{BadChain}
 use Rattle.ctr_changes.specs.States.{pages_in}
 use Rattle.ctr_heap.specs.Along.{EndsAlong}
-use Rattle.ctr_heap.proofs.Reading.{HasRead}
+use Rattle.ctr_calls.proofs.PagesRead.{HasRead}
 use Rattle.ctr_heap.proofs.store.search_chain.Given as goal
 
 abbrev pub invariant-loop-at : goal.invariant-loop-at

@@ -1,0 +1,38 @@
+use Rattle.std.proofs.Common.{◌≡◌, ℕ, ◌+◌, ◌/◌, ◌<◌, ◌^◌, [], ◌∷◌, length, sym, ap, ◌∙◌, subst, arith}
+use Rattle.std.specs.Prelude.{OnOk}
+use Rattle.ctr_records.specs.declared.record.Overlay.{Overlay}
+use Rattle.ctr_records.specs.declared.record.Record.{Record}
+use Rattle.ctr_records.specs.declared.record.Record.TheVariants.{Uncreate}
+use Rattle.ctr_redo.specs.States.{page_limit, page_at}
+use Rattle.ctr_area.specs.Changes.{with_title}
+use Rattle.ctr_changes.specs.Changing.{uncreate_record}
+use Rattle.ctr_changes.specs.States.{area_in}
+use Rattle.ctr_store.specs.Store.{MayLog, Logs}
+use Rattle.ctr_calls.specs.OneRecord.{LogsOne}
+use Rattle.ctr_calls.proofs.Records.{both_ok}
+use Rattle.ctr_catalog.proofs.OneRecord.{catalog_in_limit, uncreate_may}
+use Rattle.ctr_catalog.proofs.writing.uncreate.Goals as goal
+
+pub log_on_page-requires-clause-may : goal.log_on_page-requires-clause-may
+log_on_page-requires-clause-may g c =
+    subst (λ (r : Record). MayLog r c.args.store.now) (sym (ap (λ (o : Overlay). Uncreate c.args.entry o) (c.over_entry.ensures)))
+    (uncreate_may c.args.store.now c.args.entry c.requires.there c.requires.counted c.requires.room)
+
+pub log_on_page-requires-clause-there : goal.log_on_page-requires-clause-there
+log_on_page-requires-clause-there g c = subst (λ (p : ℕ). p < page_limit) (sym c.page_of.ensures) (catalog_in_limit c.args.entry c.requires.there)
+
+pub returns-clause-one : goal.returns-clause-one
+returns-clause-one g c =
+    subst (λ (r : Record). LogsOne g.O.Origin.first g.D.Disk r c.args.store.now c.log_on_page.new.store c.log_on_page.result)
+    (ap (λ (o : Overlay). Uncreate c.args.entry o) (c.over_entry.ensures)) c.log_on_page.ensures.one
+
+pub returns-clause-dead : goal.returns-clause-dead
+unfolding returns-clause-one
+returns-clause-dead g c = λ told sound used.
+    let e = c.args.entry in
+    let s = c.args.store.now.now in
+    both_ok c.log_on_page.result (Logs (uncreate_record e ∷ []) c.args.store.now c.log_on_page.new.store) (length (page_at (1 + e / 16) s.pages) ≡ 4096)
+    (area_in c.log_on_page.new.store.now ≡ with_title e (record ((area_in s).title e) { state = 2 }) (area_in s))
+    (λ logs whole. ap area_in logs.now ∙ c.an_uncreate_changes_its_title.ensures s e whole c.requires.there used)
+    ((returns-clause-one g c).logs told sound)
+    (subst (λ (p : ℕ). OnOk c.log_on_page.result (length (page_at p s.pages) ≡ 4096)) c.page_of.ensures (c.log_on_page.ensures.whole told sound))

@@ -1,0 +1,67 @@
+-- What makes a table leaves, and what undoes an item of the secondary log.
+use Rattle.std.specs.Prelude.{◌≢◌, ℕ, ◌<◌, false, List, ⊤, Option, None, Some, Result, Ok, Err}
+use Rattle.ctr_disk.specs.declared.disk.Disk.{Ghosts}
+use Rattle.ctr_disk.specs.declared.disk.Image.{Image}
+use Rattle.ctr_records.specs.declared.record.Record.{Record}
+use Rattle.ctr_records.specs.declared.record.SlogItem.{SlogItem}
+use Rattle.ctr_records.specs.declared.record.SlogItem.TheVariants.{AllocOf, FreeOf, CreateOf, DropOf}
+use Rattle.ctr_page.specs.Searching.{IsFirst}
+use Rattle.ctr_area.specs.Areas.{Area}
+use Rattle.ctr_area.specs.Reading.{area_of}
+use Rattle.ctr_area.specs.Changes.{with_taken, with_title}
+use Rattle.ctr_store.specs.Store.{View, LeavesPage}
+use Rattle.ctr_calls.specs.OneRecord.{LogsOne}
+use Rattle.ctr_changes.specs.Changing.{free_record, uncreate_record, undrop_record}
+use Rattle.ctr_catalog.specs.declared.writing.CatalogRefusal.{CatalogRefusal}
+use Rattle.ctr_catalog.specs.declared.writing.CatalogRefusal.TheVariants.{CatalogFull, Damaged, Store}
+use Rattle.ctr_catalog.specs.Free.{EndsCatalog, is_free_entry}
+
+-- ---- a new table
+
+-- Where the making of a table ends, by the entries of the catalog: it has the lowest free one; or none
+-- is free; or one is damaged; or the disk failed, of which they say nothing.
+abbrev pub EndsMaking : ℕ → (ℕ → List ℕ) → Result ℕ CatalogRefusal → Type 0
+EndsMaking counted pages (Ok e) = IsFirst (is_free_entry (area_of pages)) 0 32 (Some e)
+EndsMaking counted pages (Err CatalogFull) = IsFirst (is_free_entry (area_of pages)) 0 32 None
+EndsMaking counted pages (Err (Damaged bad)) = EndsCatalog counted pages (Err bad)
+EndsMaking counted pages (Err (Store fault)) = Unit {0}
+
+-- Its record is logged, by the entry; where no entry is free, or one is damaged, pages were read; where
+-- the store refused, nothing is logged.
+abbrev pub MakesTable : {D : Type 0} → Image → Ghosts D → (ℕ → Record) → View D → View D
+    → Result ℕ CatalogRefusal → Type 0
+MakesTable first g made a b (Ok e) = LogsOne {T = ℕ} first g (made e) a b (Ok e)
+MakesTable first g made a b (Err CatalogFull) = LeavesPage {T = ⊤} first g a b (Ok tt)
+MakesTable first g made a b (Err (Damaged bad)) = LeavesPage {T = ⊤} first g a b (Ok tt)
+MakesTable first g made a b (Err (Store fault)) =
+    (e : ℕ) × LogsOne {T = ℕ} first g (made e) a b (Err fault)
+
+-- ---- an item
+
+-- its page or its entry is one that there may be
+abbrev pub ItemFits : SlogItem → Type 0
+ItemFits (AllocOf x p) = p < 30000
+ItemFits (FreeOf p) = p < 30000
+ItemFits (CreateOf x e) = e < 32
+ItemFits (DropOf x e) = e < 32
+
+-- the record that undoes it; of a page, with the byte in which the page has its bit
+abbrev pub undo_record : SlogItem → ℕ → Record
+undo_record (AllocOf x p) byte = free_record p byte
+undo_record (FreeOf p) byte = free_record p byte
+undo_record (CreateOf x e) byte = uncreate_record e
+undo_record (DropOf x e) byte = undrop_record e
+
+-- a table that was made has an entry
+abbrev pub IsItemOf : SlogItem → Area → Type 0
+IsItemOf (AllocOf x p) area = Unit {0}
+IsItemOf (FreeOf p) area = Unit {0}
+IsItemOf (CreateOf x e) area = (area.title e).state ≢ 0
+IsItemOf (DropOf x e) area = Unit {0}
+
+-- a page is free; a table is dead, or isn't dropped
+abbrev pub area_undone : SlogItem → Area → Area
+area_undone (AllocOf x p) area = with_taken p false area
+area_undone (FreeOf p) area = with_taken p false area
+area_undone (CreateOf x e) area = with_title e (record (area.title e) { state = 2 }) area
+area_undone (DropOf x e) area = with_title e (record (area.title e) { dropper = 0 }) area

@@ -1,0 +1,216 @@
+// One record makes a table, drops one, or undoes an item of the secondary log.
+ghost use Rattle.std.specs.Prelude.{◌≡◌, ◌≢◌, ◌<◌, ◌+◌, ◌/◌, ℕ, IsTrue, IfOk, OnOk};
+ghost use Rattle.ctr_bytes.specs.Fields.{spelled};
+ghost use Rattle.ctr_types.specs.Names.{IsName};
+ghost use Rattle.ctr_value.specs.Columns.{ColumnsFit};
+ghost use Rattle.ctr_base.specs.Base.{IsSoundImage};
+ghost use Rattle.ctr_page.specs.Columns.{new_entry_bytes};
+ghost use Rattle.ctr_area.specs.Changes.{new_title, empty_chains, with_title, ChangesEntry};
+ghost use Rattle.ctr_calls.specs.OneRecord.{HasRoomForOne, LogsOne};
+ghost use Rattle.ctr_changes.specs.States.{pages_in, area_in};
+ghost use Rattle.ctr_changes.specs.Changing.{create_record, drop_record, uncreate_record, undrop_record};
+ghost use Rattle.ctr_catalog.specs.Writing.{EndsMaking, MakesTable, ItemFits, undo_record, IsItemOf, area_undone};
+
+use crate::store::{BadEntry, free_entry};
+use ctr_alloc::free;
+use ctr_base::Origin;
+use ctr_bytes::put_u64;
+use ctr_calls::{a_record_behind_a_page, log_on_page};
+use ctr_changes::{
+    a_drop_changes_its_title, a_new_table_has_its_entry, an_uncreate_changes_its_title,
+    an_undrop_changes_its_title, over_entry, over_page,
+};
+use ctr_disk::{Disk, StoreFault};
+use ctr_page::make_entry;
+use ctr_records::{PageNo, Record, SlogItem};
+use ctr_store::Store;
+use ctr_types::{Name, Schema, Xid};
+
+/// Why no table was made.
+#[derive(Clone, Copy, Debug, PartialEq, Eq)]
+pub enum CatalogRefusal {
+    /// No entry of the catalog is free.
+    CatalogFull,
+    /// An entry of the catalog is damaged.
+    Damaged(BadEntry),
+    /// The store refused.
+    Store(StoreFault),
+}
+
+/// The bytes of an entry.
+const ENTRY: usize = 256;
+
+/// Where an entry has its dropper.
+const DROPPER_AT: u8 = 9;
+
+/// The page of the catalog that an entry stands on.
+fn page_of(entry: u8) -> PageNo
+    ensures { result ≡ 1 + entry / 16 }
+{
+    1 + (entry / 16) as PageNo
+}
+
+/// The bytes of the entry of a new table.
+fn entry_made(x: Xid, name: &Name, schema: &Schema) -> [u8; ENTRY]
+    requires { ColumnsFit schema.now.columns }
+    ensures { result ≡ new_entry_bytes x name.now schema.now.columns }
+{
+    let mut bytes = [0; ENTRY];
+    let _ = make_entry(x, name, schema, &mut bytes);
+    bytes
+}
+
+/// A name has 1 to 16 bytes.
+fn has_room(name: &Name)
+    ensures { IsName name.now }
+{
+    let _bytes = name.as_slice();
+}
+
+/// The record of a new table.
+fn log_created<D: Disk, O: Origin>(
+    store: &mut Store<D, O>,
+    x: Xid,
+    entry: u8,
+    name: &Name,
+    schema: &Schema,
+) -> Result<(), StoreFault>
+    requires room { HasRoomForOne 0 1 store.old }
+    requires counted { 2 < store.old.now.counted }
+    requires there { entry < 32 }
+    requires fits { ColumnsFit schema.now.columns }
+    ensures one { LogsOne O.first D.Disk (create_record x entry name.now schema.now.columns) store.old store.new result }
+    ensures made { IsTrue D.tells → IsSoundImage O.first
+        → OnOk result (ChangesEntry entry (new_title x name.now schema.now.columns) empty_chains (area_in store.old.now) (area_in store.new.now)) }
+{
+    a_new_table_has_its_entry();
+    has_room(name);
+    let bytes = entry_made(x, name, schema);
+    let rec = Record::Create {
+        x,
+        e: entry,
+        overlay: over_page(page_of(entry), 256 * (entry % 16) as u16, &bytes),
+    };
+    log_on_page(store, page_of(entry), &rec)
+}
+
+/// Makes a table for a transaction, in the lowest free entry of the catalog, by one record, which isn't hardened yet; it answers the
+/// entry.
+pub fn create<D: Disk, O: Origin>(
+    store: &mut Store<D, O>,
+    x: Xid,
+    name: &Name,
+    schema: &Schema,
+) -> Result<u8, CatalogRefusal>
+    requires room { HasRoomForOne 0 1 store.old }
+    requires counted { 2 < store.old.now.counted }
+    requires fits { ColumnsFit schema.now.columns }
+    // CatalogFull comes exactly where no entry is free.
+    ensures ends { IsTrue D.tells → IsSoundImage O.first → EndsMaking store.old.now.counted (pages_in store.old.now) result }
+    ensures one { MakesTable O.first D.Disk (λ e. create_record x e name.now schema.now.columns) store.old store.new result }
+    // The entry has the title of the new table and no page; other entries and what stands on their pages stay.
+    ensures made { IsTrue D.tells → IsSoundImage O.first
+        → IfOk result (λ e. ChangesEntry e (new_title x name.now schema.now.columns) empty_chains (area_in store.old.now) (area_in store.new.now)) }
+{
+    a_record_behind_a_page::<D, (), u8>();
+    let entry = match free_entry(store) {
+        Err(fault) => return Err(CatalogRefusal::Store(fault)),
+        Ok(Err(bad)) => return Err(CatalogRefusal::Damaged(bad)),
+        Ok(Ok(None)) => return Err(CatalogRefusal::CatalogFull),
+        Ok(Ok(Some(entry))) => entry,
+    };
+    match log_created(store, x, entry, name, schema) {
+        Ok(()) => Ok(entry),
+        Err(fault) => Err(CatalogRefusal::Store(fault)),
+    }
+}
+
+/// The bytes of a transaction's number.
+fn number_made(x: Xid) -> [u8; 8]
+    ensures { result ≡ spelled 8 x }
+{
+    let mut bytes = [0; 8];
+    put_u64(&mut bytes, 0, x);
+    bytes
+}
+
+/// Drops the table of an entry for a transaction, by one record, which isn't hardened yet.
+pub fn drop_table<D: Disk, O: Origin>(
+    store: &mut Store<D, O>,
+    x: Xid,
+    entry: u8,
+) -> Result<(), StoreFault>
+    requires room { HasRoomForOne 0 1 store.old }
+    requires counted { 2 < store.old.now.counted }
+    requires there { entry < 32 }
+    ensures one { LogsOne O.first D.Disk (drop_record x entry) store.old store.new result }
+    // The transaction is its dropper, and nothing else in the pages changes.
+    ensures dropped { IsTrue D.tells → IsSoundImage O.first
+        → OnOk result (area_in store.new.now ≡ with_title entry (record ((area_in store.old.now).title entry) { dropper = x }) (area_in store.old.now)) }
+{
+    a_drop_changes_its_title();
+    let bytes = number_made(x);
+    let rec = Record::Drop {
+        x,
+        e: entry,
+        overlay: over_entry(entry, DROPPER_AT, &bytes),
+    };
+    log_on_page(store, page_of(entry), &rec)
+}
+
+/// The table of an entry was never made: it is dead.
+fn uncreate<D: Disk, O: Origin>(store: &mut Store<D, O>, entry: u8) -> Result<(), StoreFault>
+    requires room { HasRoomForOne 0 0 store.old }
+    requires counted { 2 < store.old.now.counted }
+    requires there { entry < 32 }
+    ensures one { LogsOne O.first D.Disk (uncreate_record entry) store.old store.new result }
+    ensures dead { IsTrue D.tells → IsSoundImage O.first → ((area_in store.old.now).title entry).state ≢ 0
+        → OnOk result (area_in store.new.now ≡ with_title entry (record ((area_in store.old.now).title entry) { state = 2 }) (area_in store.old.now)) }
+{
+    an_uncreate_changes_its_title();
+    let rec = Record::Uncreate {
+        e: entry,
+        overlay: over_entry(entry, 0, &[2]),
+    };
+    log_on_page(store, page_of(entry), &rec)
+}
+
+/// Nobody dropped the table of an entry.
+fn undrop<D: Disk, O: Origin>(store: &mut Store<D, O>, entry: u8) -> Result<(), StoreFault>
+    requires room { HasRoomForOne 0 0 store.old }
+    requires counted { 2 < store.old.now.counted }
+    requires there { entry < 32 }
+    ensures one { LogsOne O.first D.Disk (undrop_record entry) store.old store.new result }
+    ensures kept { IsTrue D.tells → IsSoundImage O.first
+        → OnOk result (area_in store.new.now ≡ with_title entry (record ((area_in store.old.now).title entry) { dropper = 0 }) (area_in store.old.now)) }
+{
+    an_undrop_changes_its_title();
+    let bytes = number_made(0);
+    let rec = Record::Undrop {
+        e: entry,
+        overlay: over_entry(entry, DROPPER_AT, &bytes),
+    };
+    log_on_page(store, page_of(entry), &rec)
+}
+
+/// Undoes an item of the secondary log, by one record, which isn't hardened yet: a page is free again, a table that was made is dead, one
+/// that was dropped isn't.
+pub fn undo_item<D: Disk, O: Origin>(
+    store: &mut Store<D, O>,
+    item: &SlogItem,
+) -> Result<(), StoreFault>
+    requires room { HasRoomForOne 0 0 store.old }
+    requires counted { 2 < store.old.now.counted }
+    requires fits { ItemFits item.now }
+    ensures one { (byte : ℕ) × LogsOne O.first D.Disk (undo_record item.now byte) store.old store.new result }
+    // What the item says of one page or one title is undone, and nothing else in the pages changes.
+    ensures undone { IsTrue D.tells → IsSoundImage O.first → IsItemOf item.now (area_in store.old.now)
+        → OnOk result (area_in store.new.now ≡ area_undone item.now (area_in store.old.now)) }
+{
+    match *item {
+        SlogItem::AllocOf(_, p) => free(store, p),
+        SlogItem::FreeOf(p) => free(store, p),
+        SlogItem::CreateOf(_, entry) => uncreate(store, entry),
+        SlogItem::DropOf(_, entry) => undrop(store, entry),
+    }
+}

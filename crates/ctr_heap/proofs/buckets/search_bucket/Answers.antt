@@ -1,0 +1,21 @@
+use Rattle.std.proofs.Common.{◌+◌, ◌/◌, ◌%◌, Option, None, Some, Result, Ok, subst}
+use Rattle.std.specs.Prelude.{IfOk}
+use Rattle.ctr_redo.specs.States.{State}
+use Rattle.ctr_changes.specs.States.{pages_in}
+use Rattle.ctr_calls.proofs.Joins.{pages_join}
+use Rattle.ctr_heap.specs.Finding.{BucketSaid, EndsBucket}
+use Rattle.ctr_heap.proofs.Said.{no_page, bucket_ends}
+use Rattle.ctr_heap.proofs.buckets.search_bucket.Goals as goal
+
+pub returns-in-Ok-None-clause-ends : goal.returns-in-Ok-None-clause-ends
+returns-in-Ok-None-clause-ends g c = λ told sound.
+    let e = c.args.entry in
+    let pages = pages_in c.args.store.now.now in
+    subst (λ n. EndsBucket n pages e c.args.bucket c.args.sought (Ok None)) c.counted-counted.ensures
+    (no_page c.counted-counted.result pages e c.args.bucket c.args.sought c.requires.there.0
+    (subst (λ o. BucketSaid c.counted-counted.result (e % 16) c.args.bucket (pages (1 + e / 16)) (Ok o)) c.in-Ok-None.field-0-is
+    (subst (λ r. BucketSaid c.counted-counted.result (e % 16) c.args.bucket (pages (1 + e / 16)) r) c.in-Ok-None.is (c.in_ok-bad.ensures.said told sound))))
+
+pub returns-clause-leaves : goal.returns-clause-leaves
+returns-clause-leaves g c =
+    pages_join g.D.Disk c.args.store.now c.bucket_said.new.store c.search_chain.new.store g.O.Origin.first _ _ c.in_ok-bad.field-0 c.search_chain.result c.in_ok-bad.ensures.leaves c.search_chain.ensures.leaves

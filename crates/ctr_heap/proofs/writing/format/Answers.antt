@@ -1,0 +1,38 @@
+use Rattle.std.proofs.Common.{◌≡◌, ℕ, [], ◌∷◌, length, sym, ap, ◌∙◌, subst}
+use Rattle.ctr_records.specs.declared.record.Overlay.{Overlay}
+use Rattle.ctr_records.specs.declared.record.Record.{Record}
+use Rattle.ctr_records.specs.declared.record.Record.TheVariants.{Format}
+use Rattle.ctr_redo.specs.States.{page_at}
+use Rattle.ctr_area.specs.Changes.{with_blank}
+use Rattle.ctr_changes.specs.States.{area_in}
+use Rattle.ctr_changes.specs.Changing.{laid_clear, format_record}
+use Rattle.ctr_store.specs.Store.{MayLog, Logs}
+use Rattle.ctr_calls.specs.OneRecord.{LogsOne}
+use Rattle.ctr_calls.proofs.Records.{both_ok}
+use Rattle.ctr_heap.proofs.OneRecord.{in_limit, format_may}
+use Rattle.ctr_heap.proofs.writing.format.Goals as goal
+
+pub log_on_page-requires-clause-may : goal.log_on_page-requires-clause-may
+log_on_page-requires-clause-may g c =
+    subst (λ (r : Record). MayLog r c.args.store.now) (sym (ap (λ (o : Overlay). Format c.args.x c.args.p o) (c.over_cleared.ensures ∙ ap (laid_clear c.args.p) c.header_made-bytes.ensures)))
+    (format_may c.args.store.now c.args.x c.ranges.x.fits c.args.p c.args.header.now c.requires.small c.requires.counted c.requires.room)
+
+pub log_on_page-requires-clause-there : goal.log_on_page-requires-clause-there
+log_on_page-requires-clause-there g c = in_limit c.args.p c.requires.small
+
+pub returns-clause-one : goal.returns-clause-one
+returns-clause-one g c =
+    subst (λ (r : Record). LogsOne g.O.Origin.first g.D.Disk r c.args.store.now c.log_on_page.new.store c.log_on_page.result)
+    (ap (λ (o : Overlay). Format c.args.x c.args.p o) (c.over_cleared.ensures ∙ ap (laid_clear c.args.p) c.header_made-bytes.ensures)) c.log_on_page.ensures.one
+
+pub returns-clause-empty : goal.returns-clause-empty
+unfolding returns-clause-one
+returns-clause-empty g c = λ told sound third.
+    let x = c.args.x in
+    let p = c.args.p in
+    let h = c.args.header.now in
+    let s = c.args.store.now.now in
+    both_ok c.log_on_page.result (Logs (format_record x p h ∷ []) c.args.store.now c.log_on_page.new.store) (length (page_at p s.pages) ≡ 4096)
+    (area_in c.log_on_page.new.store.now ≡ with_blank p h (area_in s))
+    (λ logs whole. ap area_in logs.now ∙ c.a_format_clears_its_page.ensures s x p h whole third c.requires.fits)
+    ((returns-clause-one g c).logs told sound) (c.log_on_page.ensures.whole told sound)

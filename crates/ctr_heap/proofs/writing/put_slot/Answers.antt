@@ -1,0 +1,33 @@
+use Rattle.std.proofs.Common.{◌≡◌, ℕ, [], ◌∷◌, length, drop, replicate, Some, sym, ap, ◌∙◌, subst}
+use Rattle.ctr_records.specs.declared.record.Record.{Record}
+use Rattle.ctr_records.specs.declared.record.Record.TheVariants.{Row}
+use Rattle.ctr_redo.specs.States.{page_at}
+use Rattle.ctr_page.specs.Places.{slot_size}
+use Rattle.ctr_page.specs.Making.{slot_bytes, IsSlot}
+use Rattle.ctr_area.specs.Reading.{slot_said, columns_on}
+use Rattle.ctr_area.specs.Changes.{with_slot}
+use Rattle.ctr_changes.specs.States.{pages_in, area_in}
+use Rattle.ctr_changes.specs.Changing.{laid_on_place}
+use Rattle.ctr_store.specs.Store.{Logs}
+use Rattle.ctr_calls.proofs.Records.{both_ok}
+use Rattle.ctr_heap.proofs.OneRecord.{in_limit, slot_laid}
+use Rattle.ctr_heap.proofs.writing.put_slot.Goals as goal
+
+pub log_on_page-requires-clause-there : goal.log_on_page-requires-clause-there
+log_on_page-requires-clause-there g c = in_limit c.args.place.page c.requires.counted.1
+
+pub returns-clause-laid : goal.returns-clause-laid
+returns-clause-laid g c = λ told sound place.
+    let at = c.args.place in
+    let slot = c.args.slot.now in
+    let s = c.args.store.now.now in
+    let r : Record = Row c.args.x c.args.over c.over_place.result in
+    let size = c.slot_size.ensures.value ∙ ap (λ l. slot_size (length l)) c.as_slice-w.ensures in
+    let bytes = slot_laid slot c.as_slice-w.result.now c.make_slot-size.result c.make_slot-size.new.into _ c.as_slice-w.ensures c.requires.lies.is c.make_slot-size.ensures.number c.make_slot-size.ensures.bytes in
+    let laid = c.over_place.ensures ∙ (λ i. laid_on_place at (size i) (bytes i)) in
+    both_ok c.log_on_page.result (Logs (r ∷ []) c.args.store.now c.log_on_page.new.store) (length (page_at at.page s.pages) ≡ 4096)
+    (area_in c.log_on_page.new.store.now ≡ with_slot at (slot_said (columns_on (pages_in s) at.page) slot) (area_in s))
+    (λ logs whole. ap area_in logs.now
+    ∙ c.a_slot_is_laid.ensures s r at slot whole place.0 (subst (λ w. IsSlot w slot) (sym place.1) c.requires.lies.is)
+    (ap Some laid ∙ sym (ap (λ w. Some (laid_on_place at (slot_size w) (slot_bytes w slot))) place.1)))
+    (c.log_on_page.ensures.one.logs told sound) (c.log_on_page.ensures.whole told sound)

@@ -1,0 +1,154 @@
+// One record lays a slot, makes a page empty, or puts one at the front of a chain.
+ghost use Rattle.std.specs.Prelude.{◌≡◌, ◌≤◌, ◌<◌, ◌+◌, ◌/◌, ◌-◌, ◌^◌, IsTrue, IfSome, OnOk};
+ghost use Rattle.ctr_model.specs.declared.limits.TheConstants.{MOST_PAGES};
+ghost use Rattle.ctr_meta.specs.Tables.{heads_in};
+ghost use Rattle.ctr_base.specs.Base.{IsSoundImage};
+ghost use Rattle.ctr_bytes.specs.Fields.{spelled};
+ghost use Rattle.ctr_page.specs.Making.{IsHeader, header_bytes};
+ghost use Rattle.ctr_area.specs.Reading.{slot_said, columns_on};
+ghost use Rattle.ctr_area.specs.Changes.{with_blank, with_slot, with_firsts};
+ghost use Rattle.ctr_calls.specs.OneRecord.{HasRoomForOne, LogsOne};
+ghost use Rattle.ctr_changes.specs.States.{pages_in, area_in};
+ghost use Rattle.ctr_changes.specs.Changing.{format_record};
+ghost use Rattle.ctr_heap.specs.Writing.{LiesOnPage, row_record, HasPlaceFor, front_place, front_record, with_front, IsOfTable};
+
+use ctr_base::Origin;
+use ctr_bytes::put_u32;
+use ctr_calls::log_on_page;
+use ctr_changes::{
+    a_format_clears_its_page, a_link_changes_its_chain, a_slot_is_laid, over_cleared, over_entry,
+    over_place,
+};
+use ctr_disk::{Disk, StoreFault};
+use ctr_page::{Header, Place, RowSlot, make_header, make_slot, slot_size};
+use ctr_records::{PageNo, Record};
+use ctr_store::Store;
+use ctr_types::Xid;
+
+/// The bytes of a header.
+const HEADER: usize = 16;
+
+/// The most bytes of a slot.
+const SLOT_MOST: usize = 2_072;
+
+/// Where the first pages of an entry of the catalog stand in it.
+const FIRSTS_AT: u8 = 179;
+
+/// And that of its versions.
+const VERSIONS_AT: u8 = 211;
+
+// The bytes of a header.
+fn header_made(header: &Header) -> [u8; HEADER]
+    requires { IsHeader header.now }
+    ensures { result ≡ header_bytes header.now }
+{
+    let mut bytes = [0; HEADER];
+    let _ = make_header(header, &mut bytes);
+    bytes
+}
+
+/// Makes a page empty for a transaction that has allocated it, by one record, which isn't hardened yet: nothing stands on it but its
+/// header.
+pub fn format<D: Disk, O: Origin>(
+    store: &mut Store<D, O>,
+    x: Xid,
+    p: PageNo,
+    header: &Header,
+) -> Result<(), StoreFault>
+    requires room { HasRoomForOne 0 0 store.old }
+    requires counted { p < store.old.now.counted }
+    requires small { p < MOST_PAGES }
+    requires fits { IsHeader header.now }
+    ensures one { LogsOne O.first D.Disk (format_record x p header.now) store.old store.new result }
+    // It has the header, nothing is used on it, and nothing else in the pages changes.
+    ensures empty { IsTrue D.tells → IsSoundImage O.first → 3 ≤ p → OnOk result (area_in store.new.now ≡ with_blank p header.now (area_in store.old.now)) }
+{
+    a_format_clears_its_page();
+    let bytes = header_made(header);
+    let rec = Record::Format {
+        x,
+        p,
+        overlay: over_cleared(p, &bytes),
+    };
+    log_on_page(store, p, &rec)
+}
+
+/// Lays a slot for a transaction, by one record, which isn't hardened yet. Its head replaces that of another transaction, or of
+/// none, 0.
+pub fn put_slot<D: Disk, O: Origin>(
+    store: &mut Store<D, O>,
+    x: Xid,
+    over: Xid,
+    place: Place,
+    slot: &RowSlot,
+) -> Result<(), StoreFault>
+    requires room { HasRoomForOne 0 0 store.old }
+    requires heads { heads_in x store.old.meta.tables.opens < 2 ^ 64 - 1 }
+    requires counted { (place.page < store.old.now.counted) × (place.page < MOST_PAGES) }
+    requires lies { LiesOnPage place slot.now }
+    ensures one { LogsOne O.first D.Disk (row_record x over place slot.now) store.old store.new result }
+    // The slot at the place is this one, and nothing else in the pages changes.
+    ensures laid { IsTrue D.tells → IsSoundImage O.first → HasPlaceFor (pages_in store.old.now) place slot.now
+        → OnOk result (area_in store.new.now ≡ with_slot place (slot_said (columns_on (pages_in store.old.now) place.page) slot.now) (area_in store.old.now)) }
+{
+    a_slot_is_laid();
+    let w = slot.head.payload.as_slice().len();
+    let mut bytes = [0; SLOT_MOST];
+    let size = make_slot(w, slot, &mut bytes);
+    let rec = Record::Row {
+        x,
+        over,
+        overlay: over_place(place, slot_size(w), &bytes[..size]),
+    };
+    log_on_page(store, place.page, &rec)
+}
+
+// The bytes of a page's number.
+fn number_made(p: PageNo) -> [u8; 4]
+    ensures { result ≡ spelled 4 p }
+{
+    let mut bytes = [0; 4];
+    put_u32(&mut bytes, 0, p);
+    bytes
+}
+
+// Where an entry of the catalog has the first page of a chain: that of a bucket, or of the versions.
+fn front_at(bucket: Option<u8>) -> u8
+    requires { IfSome bucket (λ b. b < 8) }
+    ensures place { result ≡ front_place bucket }
+    ensures small { result ≤ 252 }
+{
+    match bucket {
+        Some(bucket) => FIRSTS_AT + 4 * bucket,
+        None => VERSIONS_AT,
+    }
+}
+
+/// Puts a page at the front of a chain of an entry of the catalog, that of a bucket or of the versions, for the transaction that
+/// has allocated it, by one record, which isn't hardened yet. The page itself has to lead on to the one that was the first.
+pub fn link<D: Disk, O: Origin>(
+    store: &mut Store<D, O>,
+    x: Xid,
+    p: PageNo,
+    entry: u8,
+    bucket: Option<u8>,
+) -> Result<(), StoreFault>
+    requires room { HasRoomForOne 0 0 store.old }
+    requires counted { 2 < store.old.now.counted }
+    requires small { p < MOST_PAGES }
+    requires entry { entry < 32 }
+    requires bucket { IfSome bucket (λ b. b < 8) }
+    ensures one { LogsOne O.first D.Disk (front_record x p entry bucket) store.old store.new result }
+    // The chain begins with the page, and nothing else in the pages changes.
+    ensures front { IsTrue D.tells → IsSoundImage O.first → IsOfTable (pages_in store.old.now) entry
+        → OnOk result (area_in store.new.now ≡ with_firsts entry (with_front bucket p ((area_in store.old.now).firsts entry)) (area_in store.old.now)) }
+{
+    a_link_changes_its_chain();
+    let bytes = number_made(p);
+    let rec = Record::Link {
+        x,
+        p,
+        overlay: over_entry(entry, front_at(bucket), &bytes),
+    };
+    log_on_page(store, 1 + (entry / 16) as PageNo, &rec)
+}
