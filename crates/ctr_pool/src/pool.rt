@@ -226,7 +226,7 @@ impl Pool {
         ensures shown { IsTrue B.tells → IfOk result (λ bytes. bytes.now ≡ (page_shown self.old.frames page (B.held backing.old page)).body) }
         ensures quiet { has_page page self.old.frames ≡ true → backing.new ≡ backing.old }
         ensures works { WorksBelow B.Backing backing.old backing.new result }
-        ensures* after { sem 𝓛 (Rests the_row self.entry (λ new. Fetches B.Backing page self.old backing.old new backing.new result)) }
+        ensures* after { sem 𝓛 (Rests the_row self.entry (λ new. Fetches B.Backing page (record { pool = self.old; below = backing.old }) (record { pool = new; below = backing.new }) result)) }
     {
         self.bring(page, backing)?;
         Ok(self.frames.body(page))

@@ -5,7 +5,7 @@ use Rattle.ctr_types.specs.declared.tape.Act.{Act}
 use Rattle.ctr_chains.specs.Stored.{HeldStore}
 use Rattle.ctr_acts.specs.Writing.{OthersCanWrite}
 use Rattle.ctr_gather.specs.Records.{record_at, OthersAlike}
-use Rattle.ctr_turns.specs.Turns.{TurnsHeld, AddsAtMost, OthersStay}
+use Rattle.ctr_turns.specs.Turns.{TurnsHeld, AddsAtMost, OthersGoOn}
 
 -- over what was held, where the tables and the items are so many more at most
 pub adds : (n s : ℕ) (held new : TurnsHeld) → new.acts.engine.store.next ≤ held.acts.engine.store.next + n → (record_at s new.records).count ≤ (record_at s held.records).count + n
@@ -21,5 +21,5 @@ adds_none s held new same few =
 
 -- the others stay, over what was held
 pub others_stay : (s : ℕ) (a : Act) (statement : Statement) (held new : TurnsHeld) → OthersAlike s held.records new.records → OthersCanWrite s a statement held.acts new.acts
-    → (old : TurnsHeld) → held ≡ old → OthersStay s a statement old new
-others_stay s a statement held new alike writes old is = subst (λ (o : TurnsHeld). OthersStay s a statement o new) is (record { alike = alike; writes = writes })
+    → (old : TurnsHeld) → held ≡ old → OthersGoOn s a statement old new
+others_stay s a statement held new alike writes old is = subst (λ (o : TurnsHeld). OthersGoOn s a statement o new) is (record { alike = alike; writes = writes })

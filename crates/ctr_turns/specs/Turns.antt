@@ -83,7 +83,7 @@ pub record AddsAtMost (n : ℕ) (s : ℕ) (old new : TurnsHeld) : Type 0 where
 
 -- What an act of a session leaves to the others: what each gathers is as it was, and whoever of them was
 -- granted a lock can write still.
-pub record OthersStay (s : ℕ) (a : Act) (statement : Statement) (old new : TurnsHeld) : Type 0 where
+pub record OthersGoOn (s : ℕ) (a : Act) (statement : Statement) (old new : TurnsHeld) : Type 0 where
   pub alike : OthersAlike s old.records new.records
   pub writes : OthersCanWrite s a statement old.acts new.acts
 

@@ -7,7 +7,7 @@ ghost use Rattle.ctr_acts.specs.Acts.{IsNotFull};
 ghost use Rattle.ctr_acts.specs.Writing.{IsPrepared};
 ghost use Rattle.ctr_gather.specs.Records.{room_kept, IsRecordOf, HasRoomForItem, IsSession, record_at, OthersAlike};
 ghost use Rattle.ctr_turns.specs.Items.{IsRecorded};
-ghost use Rattle.ctr_turns.specs.Turns.{TurnKeeps, with_log, HasRoom, AddsAtMost, OthersStay};
+ghost use Rattle.ctr_turns.specs.Turns.{TurnKeeps, with_log, HasRoom, AddsAtMost, OthersGoOn};
 ghost use Rattle.ctr_turns.specs.Locking.{HasItemBy, lock_reply, LockReadies, LogKeeps, HasLeft, HasCounts, WriteTurnKeeps};
 
 use crate::items::item;
@@ -79,7 +79,7 @@ impl Turns {
         ensures keeps { TurnKeeps s act.Lock statement.now (with_log self.old log.old) (with_log self.new log.new) (lock_reply result) }
         ensures ready { IfOk result (LockReadies s statement.now self.old self.new) }
         ensures log { LogKeeps self.new log.old log.new }
-        ensures others { OthersStay s act.Lock statement.now self.old self.new }
+        ensures others { OthersGoOn s act.Lock statement.now self.old self.new }
         ensures adds { AddsAtMost 0 s self.old self.new }
     {
         records_are_gathered();
@@ -108,7 +108,7 @@ impl Turns {
         ensures keeps { WriteTurnKeeps s statement.now ready.item self.old self.new result }
         ensures not_full { IsNotFull result }
         ensures room { room_kept self.new.records ≡ room_kept self.old.records }
-        ensures others { OthersStay s act.Write statement.now self.old self.new }
+        ensures others { OthersGoOn s act.Write statement.now self.old self.new }
         ensures adds { AddsAtMost 1 s self.old self.new }
     {
         records_are_gathered();

@@ -13,7 +13,7 @@ ghost use Rattle.ctr_model.specs.State.{at_rest};
 ghost use Rattle.ctr_versions.specs.Laws.{IsOpenWriter};
 ghost use Rattle.ctr_rows.specs.Running.{engine_of};
 ghost use Rattle.ctr_acts.specs.Acts.{ShowsActs, IsMarked};
-ghost use Rattle.ctr_turns.specs.Turns.{ShowsTurns, TurnKeeps, with_log, HasRoom, HasNumbers, MayAppend, AddsAtMost, OthersStay, AppendsAtMostOne};
+ghost use Rattle.ctr_turns.specs.Turns.{ShowsTurns, TurnKeeps, with_log, HasRoom, HasNumbers, MayAppend, AddsAtMost, OthersGoOn, AppendsAtMostOne};
 
 use ctr_acts::Acts;
 use ctr_gather::{Records, commits_fold, records_are_gathered};
@@ -108,7 +108,7 @@ impl Turns {
         ensures keeps { TurnKeeps s act.Begin st.Begin (with_log self.old log.old) (with_log self.new log.new) result }
         ensures room { HasRoom self.new log.new }
         ensures log { log.new ≡ record log.old { room = log.new.room } }
-        ensures others { OthersStay s act.Begin st.Begin self.old self.new }
+        ensures others { OthersGoOn s act.Begin st.Begin self.old self.new }
         ensures adds { AddsAtMost 0 s self.old self.new }
     {
         records_are_gathered();
@@ -146,7 +146,7 @@ impl Turns {
         ensures keeps { TurnKeeps s act.Ask st.Commit (with_log self.old log.old) (with_log self.new log.new) result }
         ensures room { HasRoom self.new log.new }
         ensures log { AppendsAtMostOne log.old log.new }
-        ensures others { OthersStay s act.Ask st.Commit self.old self.new }
+        ensures others { OthersGoOn s act.Ask st.Commit self.old self.new }
         ensures adds { AddsAtMost 0 s self.old self.new }
     {
         written();
@@ -169,7 +169,7 @@ impl Turns {
         requires { IsSession s self.old.records }
         ensures keeps { (waiting : List (List ℕ)) → TurnKeeps s act.Answer st.Commit (record { turns = self.old; waiting = waiting }) (record { turns = self.new; waiting = waiting }) result }
         ensures needs { room_kept self.new.records ≤ room_kept self.old.records }
-        ensures others { OthersStay s act.Answer st.Commit self.old self.new }
+        ensures others { OthersGoOn s act.Answer st.Commit self.old self.new }
         ensures adds { AddsAtMost 0 s self.old self.new }
     {
         self.records.forget(s);
@@ -182,7 +182,7 @@ impl Turns {
         ensures keeps { (waiting : List (List ℕ)) → TurnKeeps s act.Rollback st.Rollback (record { turns = self.old; waiting = waiting }) (record { turns = self.new; waiting = waiting }) result }
         ensures mark { result ≡ reply.RolledBack → IsOpenWriter s (engine_of self.old.acts.engine) → IsMarked s self.old.acts self.new.acts }
         ensures needs { room_kept self.new.records ≤ room_kept self.old.records }
-        ensures others { OthersStay s act.Rollback st.Rollback self.old self.new }
+        ensures others { OthersGoOn s act.Rollback st.Rollback self.old self.new }
         ensures adds { AddsAtMost 0 s self.old self.new }
     {
         self.records.forget(s);

@@ -1,19 +1,26 @@
-use Rattle.std.proofs.Common.{◌⊎◌, ap, Ok, ◌∙◌}
+use Rattle.std.specs.Prelude.{IsTrue}
+use Rattle.std.proofs.Common.{◌≡◌, ◌⊎◌, None, ap, Ok, ◌∙◌}
+use Rattle.ctr_disk.specs.Device.{LeavesOnly}
 use Rattle.ctr_disk.specs.declared.disk.Image.{Image}
 use Rattle.ctr_disk.proofs.Moments.{weaker}
 use Rattle.ctr_log.specs.Fresh.{IsNoneOrFresh}
 use Rattle.ctr_log.specs.Homes.{root_value}
 use Rattle.ctr_world.specs.Creating.{IsUnmadeOrEmpty}
 use Rattle.ctr_world.proofs.CreateLemmas.{unmade_or_empty, left_empty, none_was}
+use Rattle.ctr_world.proofs.creating.create.Given.{Over}
+use Rattle.ctr_world.proofs.creating.create.Goals.{After-init}
 use Rattle.ctr_world.proofs.creating.create.Goals as goal
 
-pub returns-in-Ok-Made-clause-any_moment : goal.returns-in-Ok-Made-clause-any_moment
-returns-in-Ok-Made-clause-any_moment g c = λ told none.
+-- however the making ended, a crash leaves no database or an empty one, or what it might have left before
+left : (g : Over) (c : After-init g) → IsTrue g.D.Disk.tells → root_value (g.D.Disk.reads c.args.disk).root ≡ None → LeavesOnly g.D.Disk c.args.disk c.init.new.disk (λ i. g.D.Disk.images c.args.disk i ⊎ IsUnmadeOrEmpty i)
+left g c told none =
     let d = g.D.Disk in
-    let old = c.args.disk in
-    let P : Image → Type 0 = λ i. d.images old i ⊎ IsNoneOrFresh (d.reads old) i in
-    let Q : Image → Type 0 = λ i. d.images old i ⊎ IsUnmadeOrEmpty i in
-    weaker d old c.init.new.disk P Q (c.init.ensures.any_moment told none) (unmade_or_empty d.images old c.fresh_stands.ensures.stands (d.reads old))
+    let P : Image → Type 0 = λ i. d.images c.args.disk i ⊎ IsNoneOrFresh (d.reads c.args.disk) i in
+    let Q : Image → Type 0 = λ i. d.images c.args.disk i ⊎ IsUnmadeOrEmpty i in
+    weaker d c.args.disk c.init.new.disk P Q (c.init.ensures.any_moment told none) (unmade_or_empty d.images c.args.disk c.fresh_stands.ensures.stands (d.reads c.args.disk))
+
+pub returns-in-Ok-Made-clause-any_moment : goal.returns-in-Ok-Made-clause-any_moment
+returns-in-Ok-Made-clause-any_moment g c = left g (goal.at.returns-in-Ok-Made-clause-any_moment g c).After-init
 
 pub returns-in-Ok-Made-clause-made : goal.returns-in-Ok-Made-clause-made
 returns-in-Ok-Made-clause-made g c = λ told i left.
@@ -28,9 +35,4 @@ returns-in-Ok-Made-clause-causes g c = (
 )
 
 pub returns-in-Err-clause-any_moment : goal.returns-in-Err-clause-any_moment
-returns-in-Err-clause-any_moment g c = λ told none.
-    let d = g.D.Disk in
-    let old = c.args.disk in
-    let P : Image → Type 0 = λ i. d.images old i ⊎ IsNoneOrFresh (d.reads old) i in
-    let Q : Image → Type 0 = λ i. d.images old i ⊎ IsUnmadeOrEmpty i in
-    weaker d old c.init.new.disk P Q (c.init.ensures.any_moment told none) (unmade_or_empty d.images old c.fresh_stands.ensures.stands (d.reads old))
+returns-in-Err-clause-any_moment g c = left g (goal.at.returns-in-Err-clause-any_moment g c).After-init

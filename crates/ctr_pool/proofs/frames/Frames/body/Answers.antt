@@ -1,8 +1,9 @@
 use Rattle.std.proofs.Common.{◌≡◌, true, false, is_some, get_or, Some, None, sym, ap, ◌∙◌}
 use Rattle.ctr_pool.specs.declared.frame.Frame.{Frame}
-use Rattle.ctr_pool.specs.Frames.{frame_of, has_page}
+use Rattle.ctr_pool.specs.Frames.{frame_of}
 use Rattle.ctr_pool.specs.Kept.{FrameList}
 use Rattle.ctr_pool.proofs.FrameLaws.{found, missing}
+use Rattle.ctr_pool.proofs.frames.Frames.body.Goals.{In-Err}
 use Rattle.ctr_pool.proofs.frames.Frames.body.Goals as goal
 
 pub returns-in-Ok-clause-shown : goal.returns-in-Ok-clause-shown
@@ -15,18 +16,13 @@ returns-in-Ok-clause-shown c f is =
     let one : x ≡ f = c.index.ensures ∙ (let e : get_or fs c.in-Ok.at x ≡ f = cc in e) in
     c.as_slice.ensures.bytes ∙ ap (λ (g : Frame). g.body) one
 
+-- the page has no frame
+none : (c : In-Err) → frame_of c.args.page c.args.self.now.frames ≡ None
+none c =
+    ap (frame_of c.args.page) (sym (ap (λ (v : FrameList). v.frames) c.self.view_is)) ∙ missing c.self.inside.items.items c.deref.result.now c.in-Err.field-0 c.args.page c.deref.ensures.value c.in-Err.ensures.below c.in-Err.ensures.above
+
 pub returns-in-Err-clause-shown : goal.returns-in-Err-clause-shown
-returns-in-Err-clause-shown c f is =
-    let fs = c.self.inside.items.items in
-    let to : fs ≡ c.args.self.now.frames = ap (λ (v : FrameList). v.frames) c.self.view_is in
-    let none = missing fs c.deref.result.now c.in-Err.field-0 c.args.page c.deref.ensures.value c.in-Err.ensures.below c.in-Err.ensures.above in
-    let no : None ≡ Some f = sym none ∙ ap (frame_of c.args.page) to ∙ is in
-    absurd cc
+returns-in-Err-clause-shown c f is = let no : None ≡ Some f = sym (none (goal.at.returns-in-Err-clause-shown c).In-Err) ∙ is in absurd cc
 
 pub returns-in-Err-clause-whole : goal.returns-in-Err-clause-whole
-returns-in-Err-clause-whole c has =
-    let fs = c.self.inside.items.items in
-    let to : fs ≡ c.args.self.now.frames = ap (λ (v : FrameList). v.frames) c.self.view_is in
-    let none = missing fs c.deref.result.now c.in-Err.field-0 c.args.page c.deref.ensures.value c.in-Err.ensures.below c.in-Err.ensures.above in
-    let no : false ≡ true = sym (ap is_some none) ∙ ap (has_page c.args.page) to ∙ has in
-    absurd cc
+returns-in-Err-clause-whole c has = let no : false ≡ true = sym (ap is_some (none (goal.at.returns-in-Err-clause-whole c).In-Err)) ∙ has in absurd cc
