@@ -12,6 +12,7 @@ use ctr_top::Ended;
 use std::alloc::{AllocError, Global};
 use std::env;
 use std::io::{self, ErrorKind};
+use std::mem::forget;
 use std::process::ExitCode;
 
 /// The status of a faulty command line.
@@ -65,5 +66,9 @@ fn main(rt: HostRuntime) -> ExitCode {
     let mut source = ReadSource::new(rt.stdin());
     let mut sink = WriteSink::new(io::writer(&rt));
     let ended = ctr_top::run_serial(rt.alloc(), &words, disk, &mut source, &mut sink);
-    exit_code(&ended)
+    let code = exit_code(&ended);
+    // The process ends here, and its memory with it: rows and a long tape aren't freed one by one.
+    forget(ended.tape);
+    forget(ended.rest);
+    code
 }

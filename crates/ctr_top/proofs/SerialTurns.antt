@@ -24,7 +24,7 @@ use Rattle.ctr_steps.specs.declared.steps.Steps.{Steps}
 use Rattle.ctr_steps.specs.Acting.{has_more}
 use Rattle.ctr_steps.specs.Runners.{runner_at, vacant, made_at, is_begun, after_stage, finished_with, session_places}
 use Rattle.ctr_steps.specs.Steps.{AddsEntry}
-use Rattle.ctr_world.specs.declared.parts.Parts.{Parts}
+use Rattle.ctr_world.specs.Held.{Held}
 use Rattle.ctr_world.specs.Turns.{AreSessions, AreUnbegun, HasStatementLeft, IsAsking, NoneIsLeft, IsAnswerTo, AnswersAll, EndsTurn}
 use Rattle.ctr_top.specs.Serial.{HasFinished, count_in, RanLines, RanOrStopped, IsEntryOfLine, InLine}
 use Rattle.ctr_top.proofs.SerialLemmas.{count_of, count_cons, one_of, serial_front, line_more, count_mine, count_other, count_front}
@@ -240,14 +240,14 @@ module _ (lines : List Line) (k : ℕ) (l : Line) (there : slice_get lines k ≡
             (subst (λ m. HasFinished (m + 1) (runner_at s new.runners.items)) at.finished (record { finished = ap (λ (r : Runner). r.finished) moved.2; between = ap (λ (r : Runner). r.stage) moved.2 }));
       }
 
-  pub stepped : {D : Type 0} (g : Ghosts D) (old new : Parts D) → InLine lines k l old.steps → AreSessions new.steps → EndsTurn g turn.Went (actor.Session s) old new → Stepped new.steps
+  pub stepped : {D : Type 0} (g : Ghosts D) (old new : Held D) → InLine lines k l old.steps → AreSessions new.steps → EndsTurn g turn.Went (actor.Session s) old new → Stepped new.steps
   stepped g old new at sessions says = ⊎_elim
       (λ asks. answered (g.moment_of new.disk) old.steps new.steps at sessions asks.1 asks.2 asks.0)
       (λ acts. acted (g.moment_of new.disk) old.steps new.steps at sessions acts.1)
       says.1.1
 
   -- any other end of its turn is a stop
-  pub not_over : {D : Type 0} (g : Ghosts D) (r : Turn) (old new : Parts D) → InLine lines k l old.steps → r ≢ turn.Went → EndsTurn g r (actor.Session s) old new → (new.stop ≢ None) × IsSerial lines new.steps.tape.items × (new.steps.script.lines ≡ lines)
+  pub not_over : {D : Type 0} (g : Ghosts D) (r : Turn) (old new : Held D) → InLine lines k l old.steps → r ≢ turn.Went → EndsTurn g r (actor.Session s) old new → (new.stop ≢ None) × IsSerial lines new.steps.tape.items × (new.steps.script.lines ≡ lines)
   not_over g turn.Went old new at other says = absurd (other refl)
   not_over g turn.Idle old new at other says = absurd says.1
   not_over g turn.Short old new at other says = absurd says
@@ -255,14 +255,14 @@ module _ (lines : List Line) (k : ℕ) (l : Line) (there : slice_get lines k ≡
   not_over g turn.Stopped old new at other says = (says.0, subst (λ (h : Steps). IsSerial lines h.tape.items) (sym says.1) (serial_in old.steps at), ap (λ (h : Steps). h.script.lines) says.1 ∙ at.script)
 
   -- the line goes on, or the World was stopped
-  abbrev pub GoesOrStopped : {D : Type 0} → Parts D → Type 0
+  abbrev pub GoesOrStopped : {D : Type 0} → Held D → Type 0
   GoesOrStopped w = ((w.stop ≡ None) × InLine lines k l w.steps) ⊎ ((w.stop ≢ None) × IsSerial lines w.steps.tape.items × (w.steps.script.lines ≡ lines))
 
-  pub starts_line : {D : Type 0} (w : Parts D) → RanOrStopped lines k w → GoesOrStopped w
+  pub starts_line : {D : Type 0} (w : Held D) → RanOrStopped lines k w → GoesOrStopped w
   starts_line w ran = ⊎_elim (λ going. inl (going.0, begins_line w.steps going.1)) inr ran
 
   -- its turns end
-  pub ended : {D : Type 0} (g : Ghosts D) (r : Turn) (old new : Parts D) → r ≢ turn.Went → GoesOrStopped old → EndsTurn g r (actor.Session s) old new → RanOrStopped lines (k + 1) new
+  pub ended : {D : Type 0} (g : Ghosts D) (r : Turn) (old new : Held D) → r ≢ turn.Went → GoesOrStopped old → EndsTurn g r (actor.Session s) old new → RanOrStopped lines (k + 1) new
   ended g r old new other goes says = ⊎_elim
       (λ going. inr (not_over g r old new going.1 other says))
       (λ stopped. stays r other stopped says)
@@ -279,7 +279,7 @@ module _ (lines : List Line) (k : ℕ) (l : Line) (there : slice_get lines k ≡
       stays turn.Stopped other stopped says = same stopped (says.2 stopped.0)
 
   -- a turn that went, of a World that wasn't stopped
-  pub went_on : {D : Type 0} (g : Ghosts D) (old new : Parts D) → GoesOrStopped old → AreSessions new.steps → EndsTurn g turn.Went (actor.Session s) old new → Stepped new.steps
+  pub went_on : {D : Type 0} (g : Ghosts D) (old new : Held D) → GoesOrStopped old → AreSessions new.steps → EndsTurn g turn.Went (actor.Session s) old new → Stepped new.steps
   went_on g old new goes sessions says = ⊎_elim
       (λ going. stepped g old new going.1 sessions says)
       (λ stopped. absurd (stopped.0 says.3))
@@ -293,7 +293,7 @@ IsBetweenLines actor.Undo = Unit {0}
 IsBetweenLines actor.Flusher = Unit {0}
 IsBetweenLines actor.Cleaner = Unit {0}
 
-module _ {D : Type 0} (g : Ghosts D) (lines : List Line) (k : ℕ) (old new : Parts D) where
+module _ {D : Type 0} (g : Ghosts D) (lines : List Line) (k : ℕ) (old new : Held D) where
   no_answers : (moment : ℕ) → RanLines lines k old.steps → (es : List Entry) → AllByRecursion (IsAnswerTo moment old.steps) es → es ≡ []
   no_answers moment ran [] all = refl
   no_answers moment ran (e ∷ es) all = ⊎_elim
@@ -348,7 +348,7 @@ ran_none lines h un = record {
 }
 
 -- behind the last line nothing is left
-pub over_at_end : {D : Type 0} (lines : List Line) (w : Parts D) → RanOrStopped lines (length lines) w → NoneIsLeft w × IsSerial lines w.steps.tape.items
+pub over_at_end : {D : Type 0} (lines : List Line) (w : Held D) → RanOrStopped lines (length lines) w → NoneIsLeft w × IsSerial lines w.steps.tape.items
 over_at_end lines w (inr stopped) = (inl stopped.0, stopped.1)
 over_at_end lines w (inl going) =
     let ran = going.1 in (

@@ -8,7 +8,7 @@ use Rattle.ctr_steps.specs.declared.runners.Runner.{Runner}
 use Rattle.ctr_steps.specs.declared.runners.Stage.TheVariants as stage
 use Rattle.ctr_steps.specs.declared.steps.Steps.{Steps}
 use Rattle.ctr_steps.specs.Runners.{runner_at}
-use Rattle.ctr_world.specs.declared.parts.Parts.{Parts}
+use Rattle.ctr_world.specs.Held.{Held}
 use Rattle.ctr_world.specs.Turns.{AreSessions}
 
 -- the session has finished so many statements, and is in the middle of none
@@ -29,7 +29,7 @@ pub record RanLines (lines : List Line) (k : ℕ) (h : Steps) : Type 0 where
       → HasFinished (count_in lines k s) (runner_at s h.runners.items)
 
 -- they were, or the World was stopped, with a tape in the order of the lines
-abbrev pub RanOrStopped : {D : Type 0} → List Line → ℕ → Parts D → Type 0
+abbrev pub RanOrStopped : {D : Type 0} → List Line → ℕ → Held D → Type 0
 RanOrStopped lines k w = ((w.stop ≡ None) × RanLines lines k w.steps)
     ⊎ ((w.stop ≢ None) × IsSerial lines w.steps.tape.items × (w.steps.script.lines ≡ lines))
 

@@ -38,7 +38,7 @@ use Rattle.ctr_top.specs.Endings.{status_of, cause_of, work}
 
 -- what the work of a command left
 abbrev pub work_of : {D : Type 0} → Ended D → Outcome D
-work_of e = record { ending = work e.ending; tape = e.tape; disk = e.disk }
+work_of e = record { ending = work e.ending; tape = e.tape; disk = e.disk; rest = e.rest }
 
 -- every statement is finished, recovery holds no name, and a crash at the end leaves every commit
 pub record IsComplete {D : Type 0} (g : Ghosts D) (start : ℕ) (base : Database) (lines : List Line) (es : List Entry) (disk : D)

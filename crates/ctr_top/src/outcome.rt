@@ -2,6 +2,7 @@
 ghost use Rattle.std.specs.Prelude.{◌≡◌, []};
 
 use crate::ending::Ending;
+use ctr_turns::Turns;
 use ctr_types::{List, Tape};
 use std::alloc::Global;
 
@@ -11,6 +12,8 @@ pub struct Outcome<D> {
     pub ending: Ending,
     pub tape: Tape,
     pub disk: D,
+    /// What a run's sessions have in memory.
+    pub rest: Option<Turns>,
 }
 
 impl<D> Outcome<D> {
@@ -26,6 +29,7 @@ impl<D> Outcome<D> {
                 entries: List::new(alloc),
             },
             disk,
+            rest: None,
         }
     }
 }

@@ -26,6 +26,7 @@ use ctr_io::{Sink, Source};
 use ctr_model::{Command, Report, Survey};
 use ctr_print::{count_answers, count_refusals, put_run};
 use ctr_script::one_script;
+use ctr_turns::Turns;
 use ctr_types::Tape;
 use std::alloc::Global;
 
@@ -38,6 +39,8 @@ pub struct Ended<D> {
     /// What a report that is finished has counted.
     pub survey: Survey,
     pub disk: D,
+    /// What a run's sessions have in memory still. A program that ends needn't free it.
+    pub rest: Option<Turns>,
 }
 
 // The ending of work whose text was put, or not.
@@ -68,7 +71,12 @@ fn ending<D, K: Sink>(sink: &mut K, command: &Command, outcome: Outcome<D>) -> E
         rows: 0,
         sum: 0,
     };
-    let Outcome { ending, tape, disk } = outcome;
+    let Outcome {
+        ending,
+        tape,
+        disk,
+        rest,
+    } = outcome;
     let status = ending.status();
     let cause = ending.cause();
     let fine = put_run(sink, command, status, &cause, &tape, &report);
@@ -82,6 +90,7 @@ fn ending<D, K: Sink>(sink: &mut K, command: &Command, outcome: Outcome<D>) -> E
         report,
         survey,
         disk,
+        rest,
     }
 }
 

@@ -159,6 +159,7 @@ fn run_opened<D: Disk, B: Opening>(
         ending: stopped(finished.stop),
         tape: finished.tape,
         disk: finished.disk,
+        rest: Some(finished.rest),
     }
 }
 

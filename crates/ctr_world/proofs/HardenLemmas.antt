@@ -24,7 +24,7 @@ use Rattle.ctr_thin.specs.Thin.{StandsFor, StandsBy}
 use Rattle.ctr_turns.specs.Turns.{WaitFrom}
 use Rattle.ctr_steps.specs.declared.steps.Steps.{Steps}
 use Rattle.ctr_steps.specs.Steps.{Walks, DurableWalks, LaterWalks, reached_by}
-use Rattle.ctr_world.specs.declared.parts.Parts.{Parts}
+use Rattle.ctr_world.specs.Held.{Held}
 use Rattle.ctr_world.specs.declared.opening.Opening.{Ghosts as Opening}
 use Rattle.ctr_world.specs.Crash.{reached, HasCommits, IsPrefixAt, Survives, Rests, HasLongLog, OnlyLogChanges}
 use Rattle.ctr_world.specs.Turns.{AnswersAll}
@@ -99,7 +99,7 @@ long_log (suc n) place file c is high long = inr (omega (arith, high, long, ap (
 module _ {D : Type 0} (dev : Ghosts D)
     (earlier : (d : D) (s t : ℕ) (c : Image) → s ≤ t → dev.since d t c → dev.since d s c) (only_now : (d : D) (c : Image) → dev.since d (dev.moment_of d) c → dev.images d c)
     (by_records : ByRecords) (later_law : LaterWalks) {B : Type 0} (op : Opening B) (base : Database)
-    (w : Parts D) (runs : RunsFrom dev op base w) (going : w.stop ≡ None) (later : op.start ≤ dev.moment_of w.disk)
+    (w : Held D) (runs : RunsFrom dev op base w) (going : w.stop ≡ None) (later : op.start ≤ dev.moment_of w.disk)
     (grow : StatesGrow) where
   abbrev pub now_state : State
   now_state = state_reached op base w
@@ -241,7 +241,7 @@ module _ {D : Type 0} (dev : Ghosts D)
           goes_on = subst (λ (q : Batches). GoesOn by.0.r.first q log (dev.reads e)) (sym by.2) (subst (λ r. GoesOn r.first bs log (dev.reads e)) (sym by.1) flushed.1);
         }
 
-    abbrev pub hardened : Parts D
+    abbrev pub hardened : Held D
     hardened = record w { disk = e; log = log; steps = steps }
 
     pub hardened_walks : Walks start steps.answered steps log.buffered (dev.moment_of e)

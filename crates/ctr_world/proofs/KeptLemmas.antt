@@ -18,7 +18,7 @@ use Rattle.ctr_types.specs.declared.tape.Actor.TheVariants as actor
 use Rattle.ctr_types.specs.declared.tape.Turn.{Turn}
 use Rattle.ctr_types.specs.declared.tape.Turn.TheVariants as turn
 use Rattle.ctr_disk.specs.declared.disk.Disk.{Ghosts}
-use Rattle.ctr_world.specs.declared.parts.Parts.{Parts}
+use Rattle.ctr_world.specs.Held.{Held}
 use Rattle.ctr_world.specs.Turns.{NoneFull, AreEight, AddsMore, EndsTurn, IsAsking}
 use Rattle.ctr_world.specs.World.{WalksOn, StopsBy}
 use Rattle.ctr_world.proofs.HardenLemmas.{waits_some}
@@ -121,7 +121,7 @@ more_more old mid new first second =
     (first.0 ++ second.0, second.1 ∙ ap (λ (l : List Entry). l ++ second.0) first.1 ∙ append_assoc old.tape.items first.0 second.0)
 
 -- however a turn of a session ended
-pub says_more : {D : Type 0} (dev : Ghosts D) (s : ℕ) (r : Turn) (old new : Parts D) → EndsTurn dev r (actor.Session s) old new → AddsMore old.steps new.steps
+pub says_more : {D : Type 0} (dev : Ghosts D) (s : ℕ) (r : Turn) (old new : Held D) → EndsTurn dev r (actor.Session s) old new → AddsMore old.steps new.steps
 says_more dev s turn.Went old new says = ⊎_elim
     (λ all. (all.1.adds.entries, all.1.adds.tape))
     (λ one. (one.1.entry ∷ [], one.1.tape))

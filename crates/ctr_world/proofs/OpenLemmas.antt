@@ -24,7 +24,7 @@ use Rattle.ctr_steps.specs.declared.steps.Steps.{Steps}
 use Rattle.ctr_steps.specs.Runners.{runner_at}
 use Rattle.ctr_steps.specs.Steps.{Walks, HasBounds, LaterWalks}
 use Rattle.ctr_steps.proofs.Places.{count_of, runner_of}
-use Rattle.ctr_world.specs.declared.parts.Parts.{Parts}
+use Rattle.ctr_world.specs.Held.{Held}
 use Rattle.ctr_world.specs.declared.opening.Opening.{Ghosts as Opening}
 use Rattle.ctr_world.specs.Crash.{reached, HasCommits, IsPrefixAt, Survives, Rests}
 use Rattle.ctr_world.specs.Turns.{HasStatementLeft}
@@ -49,11 +49,11 @@ walking_new db steps waiting now begins none_answered none = record {
 module _ {D : Type 0} (dev : Ghosts D)
     (earlier : (d : D) (s t : ℕ) (c : Image) → s ≤ t → dev.since d t c → dev.since d s c) (later_law : LaterWalks) {B : Type 0} (op : Opening B) where
   -- what a database that was opened keeps
-  record NewBy (base : Database) (w : Parts D) (es : List Entry) : Type 0 where
+  record NewBy (base : Database) (w : Held D) (es : List Entry) : Type 0 where
     pub survives : Survives dev op.start w.disk (IsPrefixAt op.before base (reached w.steps.script.lines op.start base es).state.asked es)
     pub rests : Rests dev w.disk w.log (reached w.steps.script.lines op.start base es).state
 
-  pub runs_new : (base : Database) (d : D) (w : Parts D) (o : Opened) → w.steps.tape.items ≡ [] → w.steps.answered ≡ 0 → Begins o.database w.steps → o.log ≡ w.log → Opens (dev.reads d) o
+  pub runs_new : (base : Database) (d : D) (w : Held D) (o : Opened) → w.steps.tape.items ≡ [] → w.steps.answered ≡ 0 → Begins o.database w.steps → o.log ≡ w.log → Opens (dev.reads d) o
       → o.database ≡ base → dev.reads w.disk ≡ dev.reads d → IsDurable dev w.disk
       → LeavesOnly dev d w.disk (dev.images d) → ((c : Image) → dev.images d c → op.before c) → op.start ≡ dev.moment_of d → dev.strays_of w.disk ≡ op.strays → op.image ≡ dev.reads d
       → RunsFrom dev op base w
@@ -104,7 +104,7 @@ statements_none s other (l ∷ ls) all =
 
 module _ {D : Type 0} (dev : Ghosts D)
     (only_now : (d : D) (c : Image) → dev.since d (dev.moment_of d) c → dev.images d c) (grow : StatesGrow) (sound : LegalStatesAreSound)
-    {B : Type 0} (op : Opening B) (w : Parts D)
+    {B : Type 0} (op : Opening B) (w : Held D)
     (kept : Kept dev op w)
     (over : w.stop ≡ None → (s : ℕ) → HasStatementLeft s w.steps → ⊥) where
   module _ (going : w.stop ≡ None) where

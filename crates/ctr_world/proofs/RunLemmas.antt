@@ -22,7 +22,7 @@ use Rattle.ctr_thin.specs.Thin.{StandsFor}
 use Rattle.ctr_turns.specs.Turns.{AppendsAtMostOne}
 use Rattle.ctr_steps.specs.declared.steps.Steps.{Steps}
 use Rattle.ctr_steps.specs.Steps.{Walks, AddsEntry}
-use Rattle.ctr_world.specs.declared.parts.Parts.{Parts}
+use Rattle.ctr_world.specs.Held.{Held}
 use Rattle.ctr_world.specs.declared.opening.Opening.{Ghosts as Opening}
 use Rattle.ctr_world.specs.Crash.{reached, HasCommits, IsPrefixAt, Survives, Rests, OnlyLogChanges}
 use Rattle.ctr_world.specs.World.{RunsFrom, state_reached}
@@ -97,7 +97,7 @@ module _ (grow : StatesGrow) (sound : LegalStatesAreSound) (lines : List Line) (
 module _ {D : Type 0} (dev : Ghosts D)
     (earlier : (d : D) (s t : ℕ) (c : Image) → s ≤ t → dev.since d t c → dev.since d s c) (only_now : (d : D) (c : Image) → dev.since d (dev.moment_of d) c → dev.images d c)
     (grow : StatesGrow) (sound : LegalStatesAreSound)
-    {B : Type 0} (op : Opening B) (base : Database) (w v : Parts D) where
+    {B : Type 0} (op : Opening B) (base : Database) (w v : Held D) where
   -- the state that the old lines reach by the new tape
   abbrev then_state : State
   then_state = (reached w.steps.script.lines op.start base v.steps.tape.items).state
@@ -134,7 +134,7 @@ module _ {D : Type 0} (dev : Ghosts D)
 pub act_runs : {D : Type 0} (dev : Ghosts D)
     (earlier : (d : D) (s t : ℕ) (c : Image) → s ≤ t → dev.since d t c → dev.since d s c) (only_now : (d : D) (c : Image) → dev.since d (dev.moment_of d) c → dev.images d c)
     (grow : StatesGrow) (sound : LegalStatesAreSound)
-    {B : Type 0} (op : Opening B) (base : Database) (w : Parts D) (log : Log) (steps : Steps) (s : ℕ)
+    {B : Type 0} (op : Opening B) (base : Database) (w : Held D) (log : Log) (steps : Steps) (s : ℕ)
     → RunsFrom dev op base w → w.stop ≡ None → AppendsAtMostOne w.log log → AddsEntry s (dev.moment_of w.disk) w.steps steps
     → steps.script ≡ w.steps.script → steps.answered ≡ w.steps.answered
     → ((start : Point) (from : ℕ) → Walks start from w.steps w.log.buffered (dev.moment_of w.disk) → Walks start from steps log.buffered (dev.moment_of w.disk))

@@ -15,7 +15,7 @@ use Rattle.ctr_steps.specs.declared.steps.Steps.{Steps}
 use Rattle.ctr_steps.specs.declared.runners.Stage.TheVariants as stage
 use Rattle.ctr_steps.specs.Runners.{runner_at, after_stage, all_left, session_places, IsUnbegun}
 use Rattle.ctr_steps.specs.Steps.{IsEntryOf, AddsEntry, AreAnswered}
-use Rattle.ctr_world.specs.declared.parts.Parts.{Parts}
+use Rattle.ctr_world.specs.Held.{Held}
 
 -- no reply is a refusal for want of room in the files
 abbrev pub NoneFull : List Entry → Type 0
@@ -81,18 +81,18 @@ pub record AnswersAll (moment : ℕ) (old new : Steps) : Type 0 where
 
 -- nothing is left to do for a session, whose statements are finished, or for undo, which has nothing
 -- to undo
-abbrev pub NoneLeft : {D : Type 0} → Actor → Parts D → Type 0
+abbrev pub NoneLeft : {D : Type 0} → Actor → Held D → Type 0
 NoneLeft (actor.Session s) w = HasStatementLeft s w.steps → ⊥
 NoneLeft actor.Undo w = Unit {0}
 NoneLeft actor.Flusher w = ⊥
 NoneLeft actor.Cleaner w = ⊥
 
 -- nothing is left to do for any session, or the World is stopped
-abbrev pub NoneIsLeft : {D : Type 0} → Parts D → Type 0
+abbrev pub NoneIsLeft : {D : Type 0} → Held D → Type 0
 NoneIsLeft w = (w.stop ≢ None) ⊎ ((s : ℕ) → HasStatementLeft s w.steps → ⊥)
 
 -- nothing is due for the flusher, where nothing waits in the log, or for the cleaner
-abbrev pub NoneDue : {D : Type 0} → Actor → Parts D → Type 0
+abbrev pub NoneDue : {D : Type 0} → Actor → Held D → Type 0
 NoneDue (actor.Session s) w = ⊥
 NoneDue actor.Undo w = ⊥
 NoneDue actor.Flusher w = w.log.buffered ≡ []
@@ -100,7 +100,7 @@ NoneDue actor.Cleaner w = Unit {0}
 
 -- Who did something, and what came on the tape. A session that waits for an answer flushes, as the
 -- flusher does where something waits in the log; another makes one act, which is one entry.
-abbrev pub Moves : {D : Type 0} → ℕ → Actor → Parts D → Parts D → Type 0
+abbrev pub Moves : {D : Type 0} → ℕ → Actor → Held D → Held D → Type 0
 Moves moment (actor.Session s) old new = HasStatementLeft s old.steps
     × ((IsAsking s old.steps × AnswersAll moment old.steps new.steps × (IsAsking s new.steps → ⊥))
     ⊎ ((IsAsking s old.steps → ⊥) × AddsEntry s moment old.steps new.steps))
@@ -110,11 +110,11 @@ Moves moment actor.Flusher old new = (0 < length old.log.buffered)
 Moves moment actor.Cleaner old new = ⊥
 
 -- how many acts of the sessions are left at most
-abbrev pub turns_left : {D : Type 0} → Parts D → ℕ
+abbrev pub turns_left : {D : Type 0} → Held D → ℕ
 turns_left w = all_left w.steps.runners.items
 
 -- How a turn ended: a World that stops has added nothing, and a turn after a stop does nothing.
-abbrev pub EndsTurn : {D : Type 0} → Ghosts D → Turn → Actor → Parts D → Parts D → Type 0
+abbrev pub EndsTurn : {D : Type 0} → Ghosts D → Turn → Actor → Held D → Held D → Type 0
 EndsTurn g turn.Went a old new = (new.stop ≡ None) × Moves (g.moment_of new.disk) a old new
     × (turns_left new < turns_left old) × (old.stop ≡ None)
 EndsTurn g turn.Idle a old new = (old.stop ≡ None) × NoneDue a old × (new ≡ old)

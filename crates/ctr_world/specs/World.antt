@@ -23,7 +23,7 @@ use Rattle.ctr_thin.specs.Thin.{StandsFor, IsLow}
 use Rattle.ctr_turns.specs.Items.{IsRecorded}
 use Rattle.ctr_steps.specs.declared.steps.Steps.{Steps}
 use Rattle.ctr_steps.specs.Steps.{Walks, HasBounds}
-use Rattle.ctr_world.specs.declared.parts.Parts.{Parts}
+use Rattle.ctr_world.specs.Held.{Held}
 use Rattle.ctr_world.specs.declared.opening.Opening.{Ghosts as Opening}
 use Rattle.ctr_world.specs.Crash.{reached, HasCommits, IsPrefixAt, Survives, Rests, HasLongLog, StraysOnlyLong, OnlyLogChanges}
 use Rattle.ctr_world.specs.Turns.{NoneFull, AreEight}
@@ -54,7 +54,7 @@ pub record CanRun (lines : List Line) : Type 0 where
 -- ---- what the World keeps
 
 -- the state to which the tape has led from this base
-abbrev pub state_reached : {D B : Type 0} → Opening B → Database → Parts D → State
+abbrev pub state_reached : {D B : Type 0} → Opening B → Database → Held D → State
 state_reached o base w = (reached w.steps.script.lines o.start base w.steps.tape.items).state
 
 -- From some start on the sessions walk along a legal tape, and the records of the commits that aren't
@@ -66,7 +66,7 @@ pub record WalksOn (steps : Steps) (waiting : List (List ℕ)) (now : ℕ) : Typ
 -- Of a database that the first image stands for: the tape is legal from it on, and has led to what
 -- the sessions show; a crash leaves a prefix of the commits; between two turns the disk holds those
 -- that were answered, and the records of the others wait in the log.
-pub record RunsFrom {D B : Type 0} (g : Ghosts D) (o : Opening B) (base : Database) (w : Parts D)
+pub record RunsFrom {D B : Type 0} (g : Ghosts D) (o : Opening B) (base : Database) (w : Held D)
     : Type 0 where
   pub waiting : List (List ℕ)
   pub walks : Walks (at_start o.start base []) w.steps.answered w.steps waiting (g.moment_of w.disk)
@@ -91,7 +91,7 @@ StopsBy (Some (stop.Damaged file at want got)) before now = ⊥
 StopsBy (Some (stop.Worn lsn)) before now = ⊥
 
 -- since the World was opened on the disk and the script that its type names
-pub record Kept {D B : Type 0} (g : Ghosts D) (o : Opening B) (w : Parts D) : Type 0 where
+pub record Kept {D B : Type 0} (g : Ghosts D) (o : Opening B) (w : Held D) : Type 0 where
   pub runs : (base : Database) → IsTrue g.tells → StandsFor o.image base → RunsFrom g o base w
   pub walking : w.stop ≡ None → WalksOn w.steps w.log.buffered (g.moment_of w.disk)
   pub bounds : w.stop ≡ None → HasBounds w.steps w.log

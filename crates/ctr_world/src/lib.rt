@@ -13,6 +13,5 @@ mod world;
 
 pub use creating::CreateError;
 pub use opening::Opening;
-pub use parts::Parts;
 pub use surveying::survey;
 pub use world::{Finished, World};

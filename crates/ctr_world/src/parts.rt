@@ -8,6 +8,7 @@ ghost use Rattle.ctr_model.specs.Database.{Database};
 ghost use Rattle.ctr_gather.specs.Records.{IsSession};
 ghost use Rattle.ctr_steps.specs.Runners.{runner_at, MayStep};
 ghost use Rattle.ctr_steps.specs.Steps.{HasBounds, AddsEntry};
+ghost use Rattle.ctr_world.specs.Held.{held};
 ghost use Rattle.ctr_world.specs.World.{WalksOn, RunsFrom, Kept};
 ghost use Rattle.ctr_world.specs.Turns.{AnswersAll, AddsMore, HasStatementLeft, EndsTurn, NoneIsLeft, turns_left};
 
@@ -25,15 +26,15 @@ use std::alloc::Global;
 
 /// What a World is made of.
 #[derive(Drop)]
-pub struct Parts<D: Disk> {
+pub(crate) struct Parts<D: Disk> {
     /// What the database stands on.
-    pub disk: D,
+    pub(crate) disk: D,
     /// The records of commits that were asked for wait here until they are flushed.
-    pub log: LogFile,
+    pub(crate) log: LogFile,
     /// The sessions at the statements of the script, with the tape.
-    pub steps: Steps,
+    pub(crate) steps: Steps,
     /// Why it stopped, if it did.
-    pub stop: Option<Stop>,
+    pub(crate) stop: Option<Stop>,
 }
 
 impl<D: Disk> Parts<D> {
@@ -44,11 +45,11 @@ impl<D: Disk> Parts<D> {
         requires next { MayStep (runner_at s self.old.steps.runners.items) }
         requires walking { WalksOn self.old.steps self.old.log.buffered (D.moment_of self.old.disk) }
         requires bounds { HasBounds self.old.steps self.old.log }
-        ensures runs { (base : Database) → RunsFrom D.Disk B.Opening base self.old → RunsFrom D.Disk B.Opening base self.new }
+        ensures runs { (base : Database) → RunsFrom D.Disk B.Opening base (held self.old) → RunsFrom D.Disk B.Opening base (held self.new) }
         ensures walking { WalksOn self.new.steps self.new.log.buffered (D.moment_of self.old.disk) }
         ensures bounds { HasBounds self.new.steps self.new.log }
         ensures entry { AddsEntry s (D.moment_of self.old.disk) self.old.steps self.new.steps }
-        ensures fewer { turns_left self.new < turns_left self.old }
+        ensures fewer { turns_left (held self.new) < turns_left (held self.old) }
         ensures script { self.new.steps.script ≡ self.old.steps.script }
         ensures same { self.new ≡ record self.old { log = self.new.log; steps = self.new.steps } }
     {
@@ -61,10 +62,10 @@ impl<D: Disk> Parts<D> {
     // Makes all commits durable that were asked for, and answers them. A fault of the disk is a stop.
     fn harden<B: Opening>(&mut self)
         requires going { self.old.stop ≡ None }
-        requires kept { Kept D.Disk B.Opening self.old }
-        ensures kept { Kept D.Disk B.Opening self.new }
+        requires kept { Kept D.Disk B.Opening (held self.old) }
+        ensures kept { Kept D.Disk B.Opening (held self.new) }
         ensures answers { self.new.stop ≡ None → AnswersAll (D.moment_of self.new.disk) self.old.steps self.new.steps }
-        ensures fewer { self.new.stop ≡ None → (self.new.steps ≡ self.old.steps) ⊎ (turns_left self.new < turns_left self.old) }
+        ensures fewer { self.new.stop ≡ None → (self.new.steps ≡ self.old.steps) ⊎ (turns_left (held self.new) < turns_left (held self.old)) }
         ensures stopped { self.new.stop ≢ None → self.new.steps ≡ self.old.steps }
     {
         states_grow();
@@ -83,9 +84,9 @@ impl<D: Disk> Parts<D> {
     // Flushes for an actor, where a commit waits for its answer.
     fn flush<B: Opening>(&mut self) -> Turn
         requires going { self.old.stop ≡ None }
-        requires kept { Kept D.Disk B.Opening self.old }
-        ensures kept { Kept D.Disk B.Opening self.new }
-        ensures went { result ≡ Went → (self.new.stop ≡ None) × AnswersAll (D.moment_of self.new.disk) self.old.steps self.new.steps × ((self.new.steps ≡ self.old.steps) ⊎ (turns_left self.new < turns_left self.old)) }
+        requires kept { Kept D.Disk B.Opening (held self.old) }
+        ensures kept { Kept D.Disk B.Opening (held self.new) }
+        ensures went { result ≡ Went → (self.new.stop ≡ None) × AnswersAll (D.moment_of self.new.disk) self.old.steps self.new.steps × ((self.new.steps ≡ self.old.steps) ⊎ (turns_left (held self.new) < turns_left (held self.old))) }
         ensures stopped { result ≡ Stopped → (self.new.stop ≢ None) × (self.new.steps ≡ self.old.steps) }
         ensures one_of { (result ≡ Went) ⊎ (result ≡ Stopped) }
     {
@@ -99,9 +100,9 @@ impl<D: Disk> Parts<D> {
     // A turn of a session.
     fn serve<B: Opening>(&mut self, alloc: Global, s: u8) -> Turn
         requires going { self.old.stop ≡ None }
-        requires kept { Kept D.Disk B.Opening self.old }
-        ensures kept { Kept D.Disk B.Opening self.new }
-        ensures says { EndsTurn D.Disk result (who.Session s) self.old self.new }
+        requires kept { Kept D.Disk B.Opening (held self.old) }
+        ensures kept { Kept D.Disk B.Opening (held self.new) }
+        ensures says { EndsTurn D.Disk result (who.Session s) (held self.old) (held self.new) }
     {
         numbers_are_own();
         legal_states_are_sound();
@@ -118,9 +119,9 @@ impl<D: Disk> Parts<D> {
     // A turn of the flusher.
     fn serve_flusher<B: Opening>(&mut self) -> Turn
         requires going { self.old.stop ≡ None }
-        requires kept { Kept D.Disk B.Opening self.old }
-        ensures kept { Kept D.Disk B.Opening self.new }
-        ensures says { EndsTurn D.Disk result who.Flusher self.old self.new }
+        requires kept { Kept D.Disk B.Opening (held self.old) }
+        ensures kept { Kept D.Disk B.Opening (held self.new) }
+        ensures says { EndsTurn D.Disk result who.Flusher (held self.old) (held self.new) }
     {
         if self.log.waiting() == 0 {
             return Turn::Idle;
@@ -130,9 +131,9 @@ impl<D: Disk> Parts<D> {
 
     /// A turn of an actor. After a stop it does nothing.
     pub(crate) fn step<B: Opening>(&mut self, alloc: Global, actor: Actor) -> Turn
-        requires kept { Kept D.Disk B.Opening self.old }
-        ensures kept { Kept D.Disk B.Opening self.new }
-        ensures says { EndsTurn D.Disk result actor self.old self.new }
+        requires kept { Kept D.Disk B.Opening (held self.old) }
+        ensures kept { Kept D.Disk B.Opening (held self.new) }
+        ensures says { EndsTurn D.Disk result actor (held self.old) (held self.new) }
     {
         if self.stop.is_some() {
             return Turn::Stopped;
@@ -148,23 +149,23 @@ impl<D: Disk> Parts<D> {
     /// Steps each session whose statements aren't finished, in order of number, until they are, or the World
     /// stops.
     pub(crate) fn run<B: Opening>(&mut self, alloc: Global)
-        requires kept { Kept D.Disk B.Opening self.old }
-        ensures kept { Kept D.Disk B.Opening self.new }
+        requires kept { Kept D.Disk B.Opening (held self.old) }
+        ensures kept { Kept D.Disk B.Opening (held self.new) }
         ensures adds { AddsMore self.old.steps self.new.steps }
         ensures none { self.new.stop ≡ None → (s : ℕ) → HasStatementLeft s self.new.steps → ⊥ }
-        ensures over { NoneIsLeft self.old → self.new ≡ self.old }
+        ensures over { NoneIsLeft (held self.old) → self.new ≡ self.old }
     {
         while let Turn::Went = self.step_first::<B>(alloc) {}
     }
 
     // A turn of the first session whose statements aren't finished.
     fn step_first<B: Opening>(&mut self, alloc: Global) -> Turn
-        requires kept { Kept D.Disk B.Opening self.old }
-        ensures kept { Kept D.Disk B.Opening self.new }
+        requires kept { Kept D.Disk B.Opening (held self.old) }
+        ensures kept { Kept D.Disk B.Opening (held self.new) }
         ensures adds { AddsMore self.old.steps self.new.steps }
-        ensures fewer { result ≡ Went → turns_left self.new < turns_left self.old }
+        ensures fewer { result ≡ Went → turns_left (held self.new) < turns_left (held self.old) }
         ensures none { result ≢ Went → self.new.stop ≡ None → (s : ℕ) → HasStatementLeft s self.new.steps → ⊥ }
-        ensures over { NoneIsLeft self.old → (result ≢ Went) × (self.new ≡ self.old) }
+        ensures over { NoneIsLeft (held self.old) → (result ≢ Went) × (self.new ≡ self.old) }
     {
         if self.stop.is_some() {
             return Turn::Stopped;

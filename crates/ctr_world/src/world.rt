@@ -7,7 +7,6 @@ ghost use Rattle.ctr_log.specs.Homes.{root_value};
 ghost use Rattle.ctr_model.specs.Database.{Database};
 ghost use Rattle.ctr_world.specs.Creating.{disk_after_making, IsUnmadeOrEmpty, CreateEnds, CreateCounts};
 ghost use Rattle.ctr_thin.specs.Thin.{StandsFor, Explains, OpenDiffers};
-ghost use Rattle.ctr_world.specs.declared.parts.Parts.{Parts};
 ghost use Rattle.ctr_world.specs.Turns.{NoneFull, EndsTurn, AreSessions, AreUnbegun, NoneIsLeft, HasStatementLeft};
 ghost use Rattle.ctr_world.specs.World.{IsOpenedOn, CanRun, CanOpen, Ends, StopsBy, RefusesWith};
 
@@ -20,6 +19,7 @@ use ctr_disk::{Disk, Stop};
 use ctr_model::{legal_states_are_sound, states_grow};
 use ctr_steps::{Steps, later_walks};
 use ctr_thin::{OpenError, Opened, open};
+use ctr_turns::Turns;
 use ctr_types::{Actor, Entry, List, Script, Tape, Turn};
 use std::alloc::Global;
 use std::marker::{Model, PhantomData};
@@ -33,15 +33,15 @@ pub struct World<D: Disk, B: Opening> {
 }
 
 impl<D: Disk, B: Opening> Model for World<D, B> {
-    ghost use Rattle.ctr_world.specs.declared.parts.Parts.{Parts};
+    ghost use Rattle.ctr_world.specs.Held.{Held, held};
 
-    ghost Value = { Parts D };
+    ghost Value = { Held D };
 
-    ghost view = { λ w. w.parts };
+    ghost view = { λ w. held w.parts };
 
     ghost use Rattle.ctr_world.specs.World.{Kept};
 
-    ghost invariant = { λ w. Kept D.Disk B.Opening w.parts };
+    ghost invariant = { λ w. Kept D.Disk B.Opening (held w.parts) };
 }
 
 /// What a World leaves at its end.
@@ -53,6 +53,8 @@ pub struct Finished<D> {
     pub stop: Option<Stop>,
     /// The disk that it was opened on.
     pub disk: D,
+    /// What its sessions have in memory. A program that ends needn't free it.
+    pub rest: Turns,
 }
 
 impl<D: Disk, B: Opening> World<D, B> {
@@ -153,13 +155,14 @@ impl<D: Disk, B: Opening> World<D, B> {
             steps,
             stop,
         } = parts;
-        let Steps { tape, .. } = steps;
+        let Steps { tape, turns, .. } = steps;
         Finished {
             tape: Tape {
                 entries: List::from_vec(tape),
             },
             stop,
             disk,
+            rest: turns,
         }
     }
 }

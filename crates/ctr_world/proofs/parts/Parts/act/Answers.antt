@@ -2,6 +2,7 @@ use Rattle.std.proofs.Common.{ℕ, ap, sym, subst}
 use Rattle.ctr_model.specs.declared.tape.Point.{Point}
 use Rattle.ctr_steps.specs.declared.steps.Steps.{Steps}
 use Rattle.ctr_steps.specs.Steps.{Walks, Walking, AddsEntry}
+use Rattle.ctr_world.specs.Held.{held}
 use Rattle.ctr_world.proofs.KeptLemmas.{as_walking}
 use Rattle.ctr_world.proofs.RunLemmas.{act_runs}
 use Rattle.ctr_world.proofs.parts.Parts.act.Given.{Over}
@@ -22,7 +23,7 @@ pub returns-clause-runs : goal.returns-clause-runs
 returns-clause-runs g c = λ base runs.
     let a = c.act.ensures in
     let entry = subst (λ (t : ℕ). AddsEntry c.args.s t c.args.self.now.steps c.act.new.self) c.moment-moment.ensures a.acted.entry in
-    act_runs g.D.Disk g.met.D.Disk.earlier g.met.D.Disk.only_now c.states_grow.ensures c.legal_states_are_sound.ensures g.B.Opening base c.args.self.now c.act.new.log c.act.new.self c.args.s
+    act_runs g.D.Disk g.met.D.Disk.earlier g.met.D.Disk.only_now c.states_grow.ensures c.legal_states_are_sound.ensures g.B.Opening base (held c.args.self.now) c.act.new.log c.act.new.self c.args.s
     runs c.requires.going a.log entry (ap (λ (h : Steps). h.script) a.acted.same) (ap (λ (h : Steps). h.answered) a.acted.same) (walks g (goal.at.returns-clause-runs g c).After-act)
 
 pub returns-clause-walking : goal.returns-clause-walking

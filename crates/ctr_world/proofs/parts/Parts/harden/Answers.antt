@@ -4,6 +4,7 @@ use Rattle.ctr_types.specs.declared.statement.Script.{Script}
 use Rattle.ctr_model.specs.declared.tape.Point.{Point}
 use Rattle.ctr_disk.specs.Device.{IsSettled}
 use Rattle.ctr_steps.specs.Steps.{Walks, Walking, HasBounds}
+use Rattle.ctr_world.specs.Held.{held}
 use Rattle.ctr_world.specs.Turns.{NoneFull, AnswersAll}
 use Rattle.ctr_world.specs.World.{WalksOn, StopsBy}
 use Rattle.ctr_world.proofs.HardenLemmas.{at_rest, fails_runs, answers_runs}
@@ -16,7 +17,7 @@ pub returns-in_default-clause-kept : goal.returns-in_default-clause-kept
 returns-in_default-clause-kept g c =
     let d = g.D.Disk in
     let b = g.B.Opening in
-    let w = c.args.self.now in
+    let w = held c.args.self.now in
     let k = c.requires.kept in
     let f = c.flush.ensures in
     record {
@@ -51,7 +52,7 @@ module _ (g : Over) (c : After-answer_all g) where
 
   walking : WalksOn c.answer_all.new.steps c.flush.new.self.buffered (g.D.Disk.moment_of c.flush.new.disk)
   walking =
-      let w = c.args.self.now in
+      let w = held c.args.self.now in
       let log = c.flush.new.self in
       let now = g.D.Disk.moment_of c.flush.new.disk in
       let before : Walking w.steps log.buffered now = durable_walking c.durable_walks.ensures c.later_walks.ensures w.steps w.log.buffered log.buffered (g.D.Disk.moment_of w.disk) now c.flush.ensures.counts.later c.in-Ok.ensures.emptied.none (c.requires.kept.walking c.requires.going) in
@@ -62,7 +63,7 @@ pub returns-clause-kept : goal.returns-clause-kept
 returns-clause-kept g c =
     let d = g.D.Disk in
     let b = g.B.Opening in
-    let w = c.args.self.now in
+    let w = held c.args.self.now in
     let k = c.requires.kept in
     let f = c.in-Ok.ensures in
     let here = (goal.at.returns-clause-kept g c).After-answer_all in

@@ -1,4 +1,6 @@
 use Rattle.std.proofs.Common.{sym, ◌∙◌, subst}
+use Rattle.ctr_world.specs.declared.parts.Parts.{Parts}
+use Rattle.ctr_world.specs.Held.{held}
 use Rattle.ctr_world.specs.Turns.{NoneIsLeft}
 use Rattle.ctr_world.proofs.KeptLemmas.{more_more}
 use Rattle.ctr_world.proofs.parts.Parts.run.Goals as goal
@@ -10,5 +12,5 @@ returns g c = record {
   none = c.step_first.ensures.none c.in_default.not-Went;
   over = λ over.
       let same = c.loop.invariant.2 over in
-      (c.step_first.ensures.over (subst NoneIsLeft (sym same) over)).1 ∙ same;
+      (c.step_first.ensures.over (subst (λ (w : Parts g.row.D.Denot). NoneIsLeft (held w)) (sym same) over)).1 ∙ same;
 }

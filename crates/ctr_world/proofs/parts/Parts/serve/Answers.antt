@@ -6,15 +6,15 @@ use Rattle.ctr_steps.specs.declared.steps.Steps.{Steps}
 use Rattle.ctr_steps.specs.Steps.{AreAnswered}
 use Rattle.ctr_world.specs.Turns.{NoneFull, EndsTurn, IsAsking, AnswersAll, turns_left}
 use Rattle.ctr_world.specs.World.{RunsFrom, Kept}
-use Rattle.ctr_world.specs.declared.parts.Parts.{Parts}
+use Rattle.ctr_world.specs.Held.{Held, held}
 use Rattle.ctr_world.proofs.KeptLemmas.{none_full_more, none_asking, session_in, session_of}
 use Rattle.ctr_world.proofs.parts.Parts.serve.Goals as goal
 
 pub returns-in-Answer-clause-says : goal.returns-in-Answer-clause-says
 returns-in-Answer-clause-says g c =
     let d = g.D.Disk in
-    let w = c.args.self.now in
-    let v = c.flush.new.self in
+    let w = held c.args.self.now in
+    let v = held c.flush.new.self in
     let f = c.flush.ensures in
     let mine = c.in-Answer.ensures.answer refl in
     let unasked : (v.stop ≡ None) × AnswersAll (d.moment_of v.disk) w.steps v.steps × ((v.steps ≡ w.steps) ⊎ (turns_left v < turns_left w)) → IsAsking c.args.s v.steps → ⊥ =
@@ -36,17 +36,17 @@ pub returns-in-Act-clause-kept : goal.returns-in-Act-clause-kept
 returns-in-Act-clause-kept g c =
     let d = g.D.Disk in
     let b = g.B.Opening in
-    let w = c.args.self.now in
-    let v = c.act.new.self in
+    let w = held c.args.self.now in
+    let v = held c.act.new.self in
     let k = c.requires.kept in
     let a = c.act.ensures in
-    let made : Parts g.row.D.Denot = record w { log = v.log; steps = v.steps } in
-    let held = a.bounds in
+    let made : Held g.row.D.Denot = record w { log = v.log; steps = v.steps } in
+    let has = a.bounds in
     let kept : Kept d b made = record {
-      runs = λ base told stands. subst (RunsFrom d b base) a.same (a.runs base (k.runs base told stands));
+      runs = λ base told stands. subst (RunsFrom d b base) (ap held a.same) (a.runs base (k.runs base told stands));
       walking = λ going. a.walking;
       bounds = λ going. a.bounds;
-      eight = record { same = held.sessions; eight = held.eight };
+      eight = record { same = has.sessions; eight = has.eight };
       not_full = subst NoneFull (sym a.entry.tape) (none_full_more w.steps.tape.items (a.entry.entry ∷ []) k.not_full (a.entry.is.not_full, tt));
       lines_are = ap (λ (s : Script). s.lines) a.script ∙ k.lines_are;
       each = k.each;
@@ -54,4 +54,4 @@ returns-in-Act-clause-kept g c =
       faults_later = k.faults_later;
       stops = k.stops;
     } in
-    subst (Kept d b) (sym a.same) kept
+    subst (Kept d b) (sym (ap held a.same)) kept

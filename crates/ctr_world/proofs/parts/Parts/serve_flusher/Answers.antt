@@ -2,6 +2,7 @@ use Rattle.std.proofs.Common.{⊎_elim, ◌<◌, length, sym, subst, arith}
 use Rattle.ctr_types.specs.declared.tape.Actor.TheVariants as who
 use Rattle.ctr_steps.specs.declared.steps.Steps.{Steps}
 use Rattle.ctr_steps.specs.Steps.{AreAnswered}
+use Rattle.ctr_world.specs.Held.{held}
 use Rattle.ctr_world.specs.Turns.{EndsTurn}
 use Rattle.ctr_world.proofs.KeptLemmas.{none_waits}
 use Rattle.ctr_world.proofs.parts.Parts.serve_flusher.Goals as goal
@@ -9,8 +10,8 @@ use Rattle.ctr_world.proofs.parts.Parts.serve_flusher.Goals as goal
 pub returns-clause-says : goal.returns-clause-says
 returns-clause-says g c =
     let d = g.D.Disk in
-    let w = c.args.self.now in
-    let v = c.flush.new.self in
+    let w = held c.args.self.now in
+    let v = held c.flush.new.self in
     let f = c.flush.ensures in
     let some : 0 < length w.log.buffered = omega (arith, c.if-waiting-eq0.false, c.waiting.ensures) in
     ⊎_elim
