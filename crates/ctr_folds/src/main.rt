@@ -6,6 +6,8 @@
 #![tactic(auto)]
 
 mod cases;
+mod generation;
+mod patches;
 mod plain;
 mod run;
 mod steps;

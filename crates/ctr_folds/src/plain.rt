@@ -85,6 +85,17 @@ impl Plain {
         }
     }
 
+    /// How many records, of those that may be, make this state: the most.
+    pub fn records_of(&self, told: Told, from: usize) -> Option<usize> {
+        let mut found = None;
+        for count in from..self.count().saturating_add(1) {
+            if self.state(count) == Some(told) {
+                found = Some(count);
+            }
+        }
+        found
+    }
+
     /// A Begin.
     pub fn begin(&mut self) -> Result<(), AllocError> {
         let mut told = self.last();

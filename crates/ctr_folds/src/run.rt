@@ -4,6 +4,7 @@ ghost use Rattle.ctr_redo.specs.Overlaid.{overlay_of};
 ghost use Rattle.ctr_redo.specs.Fitting.{LiesInside};
 ghost use Rattle.ctr_store.specs.Changes.{IsChange};
 
+use crate::generation;
 use crate::plain::Plain;
 use crate::steps::Step;
 use ctr_disk::{Image, MemDisk, SilentDisk, StoreFault};
@@ -207,20 +208,103 @@ pub fn made(alloc: Global, growths: u64) -> Option<Image> {
     grown(alloc, disk, growths)
 }
 
-/// Takes steps on a store over these files, of whose disk these calls fail; none where it can't be opened.
-pub fn play(alloc: Global, files: &Image, steps: &[Step], fails: List<u64>) -> Option<Played> {
-    let disk = MemDisk::new(alloc, files.copy().ok()?, fails).ok()?;
-    let mut plain = Plain::new(alloc, PAGES).ok()?;
-    let Ok(mut store) = Mem::open(alloc, SilentDisk { disk }, FRAMES) else {
-        return None;
-    };
-    let (durable, failed) = do_steps(alloc, &mut store, &mut plain, steps);
-    let pages = store.counted();
-    Some(Played {
-        disk: store.into_disk().disk,
+// Goes on with a run by opening its files and taking steps on the store, up to one that is answered an error.
+fn go_on(alloc: Global, run: Played, steps: &[Step]) -> Played {
+    let Played {
+        disk,
         plain,
         durable,
         pages,
+        failed: _,
+    } = run;
+    match Mem::open(alloc, SilentDisk { disk }, FRAMES) {
+        Ok(store) => take_steps(alloc, store, plain, durable, steps),
+        Err((_error, disk)) => Played {
+            disk: disk.disk,
+            plain,
+            durable,
+            pages,
+            failed: true,
+        },
+    }
+}
+
+// Takes steps on a store that was opened, in which so many records are durable.
+fn take_steps(
+    alloc: Global,
+    store: Mem,
+    plain: Plain,
+    durable: usize,
+    steps: &[Step],
+) -> Played
+    requires going { store.stopped ≡ false }
+    requires none { store.waiting ≡ [] }
+{
+    let mut store = store;
+    let mut plain = plain;
+    let (hardened, failed) = do_steps(alloc, &mut store, &mut plain, steps);
+    let pages = store.counted();
+    Played {
+        disk: store.into_disk().disk,
+        plain,
+        durable: durable.max(hardened),
+        pages,
         failed,
+    }
+}
+
+// Begins a second generation behind a run, all of whose records are durable.
+fn begin_generation(alloc: Global, run: Played) -> Played {
+    let Played {
+        disk,
+        plain,
+        durable,
+        pages,
+        failed: _,
+    } = run;
+    let mut disk = SilentDisk { disk };
+    let begun = durable == plain.count() && generation::begin(alloc, &mut disk, &plain);
+    Played {
+        disk: disk.disk,
+        plain,
+        durable,
+        pages,
+        failed: !begun,
+    }
+}
+
+// A run that has opened nothing yet.
+fn begun(alloc: Global, files: &Image, pages: u32, fails: List<u64>) -> Option<Played> {
+    let disk = MemDisk::new(alloc, files.copy().ok()?, fails).ok()?;
+    let plain = Plain::new(alloc, PAGES).ok()?;
+    Some(Played {
+        disk,
+        plain,
+        durable: 0,
+        pages,
+        failed: false,
     })
+}
+
+/// Takes steps on a store over these files, in which so many pages are counted, and of whose disk these calls fail; up to
+/// one that is answered an error. A generation is begun between two stores.
+pub fn play(
+    alloc: Global,
+    files: &Image,
+    pages: u32,
+    steps: &[Step],
+    fails: List<u64>,
+) -> Option<Played> {
+    let mut run = begun(alloc, files, pages, fails)?;
+    let mut first = true;
+    for part in steps.split(|step| *step == Step::Generation) {
+        if !first && !run.failed {
+            run = begin_generation(alloc, run);
+        }
+        if !run.failed {
+            run = go_on(alloc, run, part);
+        }
+        first = false;
+    }
+    Some(run)
 }

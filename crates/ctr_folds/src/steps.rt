@@ -16,6 +16,8 @@ pub enum Step {
     Harden,
     Write,
     Grow,
+    /// Begins a second generation behind records that are all hardened.
+    Generation,
 }
 
 // The page, the place and the byte of a record, from three words.
@@ -33,6 +35,7 @@ fn step_of(word: &[u8], rest: &[u8]) -> Option<Step> {
         b"harden" => Some(Step::Harden),
         b"write" => Some(Step::Write),
         b"grow" => Some(Step::Grow),
+        b"generation" => Some(Step::Generation),
         _ => None,
     }
 }
@@ -63,7 +66,7 @@ fn step_by(n: u64) -> Step {
     }
 }
 
-/// So many steps from a number: a Begin first, and a growth in the middle.
+/// So many steps from a number: a Begin first, a growth in the middle, and at the end a hardening.
 pub fn random_steps(alloc: Global, from: u64, count: u64) -> Result<Vec<Step>, AllocError> {
     let mut rng = Xoshiro256PlusPlus::seed_from_u64(from);
     let mut steps = Vec::new(alloc);
@@ -74,5 +77,6 @@ pub fn random_steps(alloc: Global, from: u64, count: u64) -> Result<Vec<Step>, A
         }
         steps.push(step_by(rng.next_u64()))?;
     }
+    steps.push(Step::Harden)?;
     Ok(steps)
 }

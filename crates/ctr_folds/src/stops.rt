@@ -1,9 +1,10 @@
 // What the stops of a run leave, each opened and read.
 ghost use Rattle.std.specs.Prelude.{◌≡◌, false, OnOk};
 
-use crate::plain::{Plain, Told};
+use crate::plain::Told;
 use crate::run::{FRAMES, Mem, PAGES, Played};
 use ctr_disk::{Image, MemDisk, SilentDisk, StoreFault};
+use ctr_store::OpenError;
 use ctr_types::List;
 use std::alloc::{AllocError, Global};
 
@@ -46,6 +47,15 @@ pub struct Bounds {
     pub pages: (u32, u32),
 }
 
+/// What an opening found: the state that an image folds to and how many pages it counts; why it isn't opened; or what was
+/// wrong with a page that was read then.
+#[derive(Clone, Copy, Debug, PartialEq, Eq, Drop)]
+pub enum Finding {
+    Folds(Told, u32),
+    Refused(OpenError),
+    Broken(StoreFault),
+}
+
 // Reads a page.
 fn add_page(store: &mut Mem, told: &mut Told, page: u32) -> Result<(), StoreFault>
     requires { store.old.stopped ≡ false }
@@ -57,39 +67,37 @@ fn add_page(store: &mut Mem, told: &mut Told, page: u32) -> Result<(), StoreFaul
 }
 
 // The state of a store, read page by page.
-fn told_of(store: &mut Mem) -> Option<Told>
+fn told_of(store: &mut Mem) -> Result<Told, StoreFault>
     requires { store.old.stopped ≡ false }
 {
     let mut told = Told::new();
     told.next = store.meta().next();
     let pages = PAGES.min(store.counted());
     for page in 0..pages {
-        if add_page(store, &mut told, page).is_err() {
-            return None;
-        }
+        add_page(store, &mut told, page)?;
     }
-    Some(told)
+    Ok(told)
 }
 
-// The state that an image folds to, and how many pages it counts.
-fn opened(alloc: Global, image: Image) -> Result<Option<(Told, u32)>, AllocError> {
-    let disk = MemDisk::new(alloc, image, List::new(alloc))?;
-    let Ok(mut store) = Mem::open(alloc, SilentDisk { disk }, FRAMES) else {
-        return Ok(None);
-    };
+// What a store that was opened has.
+fn read(store: Mem) -> Finding
+    requires { store.stopped ≡ false }
+{
+    let mut store = store;
     let counted = store.counted();
-    Ok(told_of(&mut store).map(|told| (told, counted)))
+    match told_of(&mut store) {
+        Ok(told) => Finding::Folds(told, counted),
+        Err(fault) => Finding::Broken(fault),
+    }
 }
 
-// How many records, of those that may be, make this state: the most.
-fn records_of(plain: &Plain, told: Told, from: usize) -> Option<usize> {
-    let mut found = None;
-    for count in from..plain.count().saturating_add(1) {
-        if plain.state(count) == Some(told) {
-            found = Some(count);
-        }
+/// Opens an image, and reads it.
+pub fn opened(alloc: Global, image: Image) -> Result<Finding, AllocError> {
+    let disk = MemDisk::new(alloc, image, List::new(alloc))?;
+    match Mem::open(alloc, SilentDisk { disk }, FRAMES) {
+        Ok(store) => Ok(read(store)),
+        Err((error, _disk)) => Ok(Finding::Refused(error)),
     }
-    found
 }
 
 // How many records an image of a stop has, where it has its bounds.
@@ -99,13 +107,13 @@ fn found_in(
     bounds: Bounds,
     image: Image,
 ) -> Result<Option<usize>, AllocError> {
-    let Some((told, counted)) = opened(alloc, image)? else {
+    let Finding::Folds(told, counted) = opened(alloc, image)? else {
         return Ok(None);
     };
     if counted != bounds.pages.0 && counted != bounds.pages.1 {
         return Ok(None);
     }
-    Ok(records_of(&run.plain, told, bounds.durable))
+    Ok(run.plain.records_of(told, bounds.durable))
 }
 
 /// Looks at what a crash may leave after the calls of a run from one number to another: so many images of each stop.
@@ -123,5 +131,17 @@ pub fn look(
             seen.add(found_in(alloc, run, bounds, image)?);
         }
     }
+    Ok(())
+}
+
+/// Opens the files as they read behind a run, and looks at what they fold to.
+pub fn look_again(
+    alloc: Global,
+    run: &Played,
+    bounds: Bounds,
+    seen: &mut Seen,
+) -> Result<(), AllocError> {
+    let image = run.disk.image_now().copy()?;
+    seen.add(found_in(alloc, run, bounds, image)?);
     Ok(())
 }

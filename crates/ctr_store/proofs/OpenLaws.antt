@@ -14,7 +14,7 @@ use Rattle.ctr_log.specs.declared.reading.ReadError.TheVariants as read
 use Rattle.ctr_log.specs.declared.visitor.VisitError.{VisitError}
 use Rattle.ctr_log.specs.declared.visitor.VisitError.TheVariants as visit
 use Rattle.ctr_log.specs.LogChecks.{kept_damage, sound_kept_visits, IsThisDamage}
-use Rattle.ctr_base.specs.Opening.{IsRootDamage}
+use Rattle.ctr_base.specs.Opening.{FindsRoot, IsRootDamage}
 use Rattle.ctr_store.specs.declared.opening.OpenError.TheVariants as open_error
 use Rattle.ctr_disk.specs.declared.disk.Image.{Image}
 use Rattle.ctr_disk.specs.declared.disk.Disk.{Ghosts}
@@ -167,18 +167,18 @@ worn_undamaged None (Err e) is = absurd is
 worn_undamaged (Some n) (Err e) is = subst IsUndamaged (sym is) tt
 
 -- of the log
-pub read_refused : (image : Image) (root : Root) (e : ReadError) → SaysRootOf Paged (value_of RootBlock image) root → RefusesLog root image e → RefusesAs image (read_told e)
+pub read_refused : (image : Image) (root : Root) (e : ReadError) → FindsRoot image (Some root) → RefusesLog root image e → RefusesAs image (read_told e)
 read_refused image root (read.Store store.Fault) says refused = tt
-read_refused image root (read.Store (store.Damaged file at want got)) says refused = ((λ none. absurd (cc (says.0, none))), inr (root, says, inl refused))
-read_refused image root read.OutOfMemory says refused = λ none. absurd (cc (says.0, none))
+read_refused image root (read.Store (store.Damaged file at want got)) says refused = ((λ none. absurd (cc (says.0.0, none))), inr (root, says, inl refused))
+read_refused image root read.OutOfMemory says refused = λ none. absurd (cc (says.0.0, none))
 
 -- and behind it
-pub later_refused : (image : Image) (root : Root) (e : OpenError) → SaysRootOf Paged (value_of RootBlock image) root → LogPasses root image → IsLater root image e → RefusesAs image e
+pub later_refused : (image : Image) (root : Root) (e : OpenError) → FindsRoot image (Some root) → LogPasses root image → IsLater root image e → RefusesAs image e
 later_refused image root open_error.NoDatabase says passes later = absurd later
-later_refused image root (open_error.Damaged file at want got) says passes later = ((λ none. absurd (cc (says.0, none))), inr (root, says, inr (passes, later)))
+later_refused image root (open_error.Damaged file at want got) says passes later = ((λ none. absurd (cc (says.0.0, none))), inr (root, says, inr (passes, later)))
 later_refused image root (open_error.Worn n) says passes later = absurd later
 later_refused image root open_error.Fault says passes later = tt
-later_refused image root open_error.OutOfMemory says passes later = λ none. absurd (cc (says.0, none))
+later_refused image root open_error.OutOfMemory says passes later = λ none. absurd (cc (says.0.0, none))
 
 module _ {D O : Type 0} (first : Image) (g : Ghosts D) where
   pub rests_opened : (d : D) (root : Root) (f : Found) (durable : ℕ) → FindsFront first root f → IsDurable g d → g.reads d ≡ first → durable ≡ f.log.first + length f.log.buffered
@@ -191,15 +191,15 @@ module _ {D O : Type 0} (first : Image) (g : Ghosts D) where
       let stored : next_of (stored_of g b) ≡ next_of (stored_in root first) = ap (λ (r : Root). next_of (stored_in r (g.reads b.disk))) root_is ∙ ap (λ (i : Image). next_of (stored_in root i)) here in
       record {
         stands = record {
-          says = subst (λ (i : Image). SaysRootOf Paged (value_of RootBlock i) b.root) (sym here) (subst (SaysRootOf Paged (value_of RootBlock first)) (sym root_is) front.says);
+          says = subst (λ (i : Image). SaysRootOf Paged (value_of RootBlock i) b.root) (sym here) (subst (SaysRootOf Paged (value_of RootBlock first)) (sym root_is) front.stands.0);
           file = subst (λ l. IsLogFile l.file) (sym log_is) (subst IsLogFile (sym found.kept.file_is) (last_is_log f.log.older root.file));
           goes_on = subst (λ l. (oldest : ℕ) × (bs : Batches) × GoesOn oldest bs l (g.reads b.disk)) (sym log_is)
               (subst (λ (i : Image). (oldest : ℕ) × (bs : Batches) × GoesOn oldest bs f.log i) (sym here) found.kept.goes_on);
-          size = subst (λ (r : Root). 8256 * r.pages ≤ length (content Pages (g.reads b.disk))) (sym root_is) (subst (λ (i : Image). 8256 * root.pages ≤ length (content Pages i)) (sym here) front.size);
+          size = subst (λ (r : Root). 8256 * r.pages ≤ length (content Pages (g.reads b.disk))) (sym root_is) (subst (λ (i : Image). 8256 * root.pages ≤ length (content Pages i)) (sym here) front.stands.1);
         };
-        since = subst (λ (r : Root). HomesSince first r.pages (g.reads b.disk)) (sym root_is) (since_first first root (g.reads b.disk) front.says here);
+        since = subst (λ (r : Root). HomesSince first r.pages (g.reads b.disk)) (sym root_is) (since_first first root (g.reads b.disk) front.stands.0 here);
         quiet = λ sound.
-            let s : IsSound root first = subst (λ (r : Root). IsSound r first) (one_root (value_of RootBlock first) sound.0 root sound.1.says front.says) sound.1 in
+            let s : IsSound root first = subst (λ (r : Root). IsSound r first) (one_root (value_of RootBlock first) sound.0 root sound.1.says front.stands.0) sound.1 in
             let writes = found.goes_on kept s.log in
             record {
               only = subst (λ (x : D). IsDurable g x) (sym disk_is) only;
@@ -227,7 +227,7 @@ module _ {D O : Type 0} (first : Image) (g : Ghosts D) where
       let here : g.reads b.disk ≡ first = ap (λ (x : D). g.reads x) disk_is ∙ same in
       let next_is : f.log.first ≡ next_of (stored_in root first) = front.log.kept.next_is ∙ omega (arith, length-map kept record_in) in
       record {
-        says = subst (SaysRootOf Paged (value_of RootBlock first)) (sym root_is) front.says;
+        says = subst (SaysRootOf Paged (value_of RootBlock first)) (sym root_is) front.stands.0;
         reads = here;
         next = ap (λ l. l.first) log_is ∙ next_is ∙ sym (ap (λ (r : Root). next_of (stored_in r (g.reads b.disk))) root_is ∙ ap (λ (i : Image). next_of (stored_in root i)) here);
       }
@@ -254,7 +254,7 @@ module _ {D O : Type 0} (first : Image) (g : Ghosts D) where
       ∙ ap (λ (r : Root). state_of (stored_in r (g.reads a.disk))) root_is ∙ ap (λ (i : Image). state_of (stored_in root i)) same
 
   -- what was opened is answered, or refused as worn
-  pub answered : (s : Parts D O) (root : Root) → SaysRootOf Paged (value_of RootBlock first) root → OpensParts first g root s → (r : Result (Parts D O) (OpenError × D)) → IfOk r (λ t. t ≡ s)
+  pub answered : (s : Parts D O) (root : Root) → FindsRoot first (Some root) → OpensParts first g root s → (r : Result (Parts D O) (OpenError × D)) → IfOk r (λ t. t ≡ s)
       → IsWornBy (worn_by (s.base.log.first + length s.base.log.buffered) s.meta.tables.next) r → AnswersOpen first g r
   answered s root says opens r same worn =
       by_worn r (worn_by (s.base.log.first + length s.base.log.buffered) s.meta.tables.next) same worn
@@ -262,8 +262,8 @@ module _ {D O : Type 0} (first : Image) (g : Ghosts D) where
     where
       by_worn : (x : Result (Parts D O) (OpenError × D)) (w : Option ℕ) → IfOk x (λ t. t ≡ s) → IsWornBy w x → worn_in root first ≡ w → AnswersOpen first g x
       by_worn (Ok t) None is told eq =
-          subst (λ (u : Parts D O). SaysRootOf Paged (value_of RootBlock first) u.base.root × OpensParts first g u.base.root u × (worn_in u.base.root first ≡ None)) (sym is)
-          (subst (λ (q : Root). SaysRootOf Paged (value_of RootBlock first) q × OpensParts first g q s × (worn_in q first ≡ None)) (sym opens.root_is) (says, opens, eq))
+          subst (λ (u : Parts D O). FindsRoot first (Some u.base.root) × OpensParts first g u.base.root u × (worn_in u.base.root first ≡ None)) (sym is)
+          (subst (λ (q : Root). FindsRoot first (Some q) × OpensParts first g q s × (worn_in q first ≡ None)) (sym opens.root_is) (says, opens, eq))
       by_worn (Ok t) (Some n) is told eq = absurd told
       by_worn (Err e) None is told eq = absurd told
       by_worn (Err e) (Some n) is told eq = subst (RefusesAs first) (sym told) (root, says, opens.passes, opens.pages, eq)

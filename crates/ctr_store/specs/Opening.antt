@@ -1,12 +1,10 @@
 -- What an opening finds, and how it is refused.
-use Rattle.std.specs.Prelude.{◌≡◌, ◌≢◌, ◌⊎◌, ◌∷◌, ◌++◌, ◌+◌, ◌*◌, ◌≤◌, ◌<◌, List, [], ℕ, length, nat_lt, if◌then◌else◌, Option, Some, None, Result, Ok, Err}
+use Rattle.std.specs.Prelude.{◌≡◌, ◌≢◌, ◌⊎◌, ◌∷◌, ◌++◌, ◌+◌, ◌≤◌, ◌<◌, List, [], ℕ, length, nat_lt, if◌then◌else◌, Option, Some, None, Result, Ok, Err}
 use Rattle.ctr_disk.specs.declared.disk.Image.{Image}
 use Rattle.ctr_disk.specs.declared.fault.Root.{Root}
 use Rattle.ctr_disk.specs.declared.fault.StoreFault.{StoreFault}
 use Rattle.ctr_disk.specs.declared.fault.StoreFault.TheVariants as store
-use Rattle.ctr_types.specs.declared.file.File.TheVariants.{Pages}
 use Rattle.ctr_disk.specs.declared.disk.Disk.{Ghosts}
-use Rattle.ctr_disk.specs.Image.{content}
 use Rattle.ctr_home.specs.declared.block.Block.TheVariants.{Root as RootBlock}
 use Rattle.ctr_home.specs.declared.root.Form.TheVariants.{Paged}
 use Rattle.ctr_home.specs.Blocks.{value_of}
@@ -25,7 +23,7 @@ use Rattle.ctr_log.specs.LogChecks.{kept_damage, sound_kept_visits}
 use Rattle.ctr_log.specs.Visits.{kept_visits}
 use Rattle.ctr_log.specs.declared.visitor.Visit.{Visit}
 use Rattle.ctr_records.specs.declared.decoding.BadRecord.{BadRecord}
-use Rattle.ctr_base.specs.Opening.{IsRootDamage}
+use Rattle.ctr_base.specs.Opening.{FindsRoot, IsRootDamage}
 use Rattle.ctr_store.specs.declared.opening.OpenError.{OpenError}
 use Rattle.ctr_store.specs.declared.opening.OpenError.TheVariants as open_error
 use Rattle.ctr_store.specs.declared.opening.Found.{Found}
@@ -96,18 +94,16 @@ IsPageDamage root image e =
     let stored = stored_in root image in
     FirstPageFails (next_of stored) image stored.records e
 
--- Damage that an opening tells is of the root, or of the file of pages; else of the log; else all
--- checks of these pass, and it is of a page that the log's records are on.
+-- Damage that an opening tells is of the root, or of the file of pages; where these pass it is of the
+-- log; and where all checks of that pass, of a page that the log's records are on.
 abbrev pub IsOpenDamage : Image → StoreFault → Type 0
-IsOpenDamage image e = IsRootDamage image e
-    ⊎ ((root : Root) × SaysRootOf Paged (value_of RootBlock image) root
+IsOpenDamage image e = IsRootDamage image e ⊎ ((root : Root) × FindsRoot image (Some root)
     × (IsLogDamage root image e ⊎ (LogPasses root image × IsPageDamage root image e)))
 
 -- What stands on an image that can be opened: a root whose file of pages has all that are counted,
 -- and its log.
 pub record FindsFront (image : Image) (root : Root) (f : Found) : Type 0 where
-  pub says : SaysRootOf Paged (value_of RootBlock image) root
-  pub size : 8256 * root.pages ≤ length (content Pages image)
+  pub stands : FindsRoot image (Some root)
   pub log : FindsLog image root f
 
 -- What was opened stands over the pool, with this root; where the first image was sound it is the
@@ -183,15 +179,14 @@ abbrev pub RefusesAs : Image → OpenError → Type 0
 RefusesAs image open_error.NoDatabase = value_of RootBlock image ≡ None
 RefusesAs image (open_error.Damaged file at want got) = (value_of RootBlock image ≢ None)
     × IsOpenDamage image (store.Damaged file at want got)
-RefusesAs image (open_error.Worn n) = (root : Root)
-    × SaysRootOf Paged (value_of RootBlock image) root × LogPasses root image
+RefusesAs image (open_error.Worn n) = (root : Root) × FindsRoot image (Some root) × LogPasses root image
     × OverlaidPass root image × (worn_in root image ≡ Some n)
 RefusesAs image open_error.Fault = Unit {0}
 RefusesAs image open_error.OutOfMemory = value_of RootBlock image ≢ None
 
 -- An opening answers with what stands on the first image, which isn't worn; or it refuses that.
 abbrev pub AnswersOpen : {D O : Type 0} → Image → Ghosts D → Result (Parts D O) (OpenError × D) → Type 0
-AnswersOpen first g (Ok s) = SaysRootOf Paged (value_of RootBlock first) s.base.root
+AnswersOpen first g (Ok s) = FindsRoot first (Some s.base.root)
     × OpensParts first g s.base.root s × (worn_in s.base.root first ≡ None)
 AnswersOpen first g (Err e) = RefusesAs first e.0
 

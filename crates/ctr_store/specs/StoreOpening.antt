@@ -1,11 +1,7 @@
 -- What callers see of an opening.
-use Rattle.std.specs.Prelude.{◌≡◌, ◌+◌, ◌≤◌, ◌<◌, ◌^◌, false, [], length, None, Result, Ok, Err}
+use Rattle.std.specs.Prelude.{◌≡◌, ◌+◌, ◌≤◌, ◌<◌, ◌^◌, false, [], length, None, Some, Result, Ok, Err}
 use Rattle.ctr_disk.specs.declared.disk.Image.{Image}
 use Rattle.ctr_disk.specs.declared.fault.Root.{Root}
-use Rattle.ctr_home.specs.declared.block.Block.TheVariants.{Root as RootBlock}
-use Rattle.ctr_home.specs.declared.root.Form.TheVariants.{Paged}
-use Rattle.ctr_home.specs.Blocks.{value_of}
-use Rattle.ctr_home.specs.Roots.{SaysRootOf}
 use Rattle.ctr_log.specs.Kept.{kept_log}
 use Rattle.ctr_meta.specs.Effects.{tables_of}
 use Rattle.ctr_redo.specs.States.{state_of}
@@ -13,6 +9,7 @@ use Rattle.ctr_redo.specs.Images.{records_in, stored_in}
 use Rattle.ctr_base.specs.Base.{IsSoundImage}
 use Rattle.ctr_store.specs.declared.opening.OpenError.{OpenError}
 use Rattle.ctr_store.specs.Store.{View}
+use Rattle.ctr_base.specs.Opening.{FindsRoot}
 use Rattle.ctr_store.specs.Opening.{LogPasses, OverlaidPass, RefusesAs, worn_in}
 
 -- A store stands on an image that says a root and isn't worn. Nothing waits, the next record comes
@@ -20,7 +17,7 @@ use Rattle.ctr_store.specs.Opening.{LogPasses, OverlaidPass, RefusesAs, worn_in}
 -- what it folds to. All checks of the log pass, and those of the pages that its records are on.
 pub record OpensStore {D : Type 0} (image : Image) (v : View D) : Type 0 where
   pub root : Root
-  pub says : SaysRootOf Paged (value_of RootBlock image) root
+  pub stands : FindsRoot image (Some root)
   pub fresh : worn_in root image ≡ None
   pub none : v.waiting ≡ []
   pub next : v.next ≡ root.first + length (kept_log root.file root.first image)

@@ -6,13 +6,13 @@ use Rattle.ctr_store.proofs.opening.finish.Goals as goal
 
 pub returns-in-Ok-clause-answer : goal.returns-in-Ok-clause-answer
 returns-in-Ok-clause-answer g c told =
-    let says = (c.requires.told told).0.says in
+    let says = (c.requires.told told).0.stands in
     answered g.O.Origin.first g.D.Disk c.in-Ok.parts c.args.root says (c.in-Ok.ensures.opened told) c.refuse_worn.result c.refuse_worn.ensures.same c.refuse_worn.ensures.worn
 
 pub returns-in-Err-clause-answer : goal.returns-in-Err-clause-answer
 returns-in-Err-clause-answer g c told =
     let front = (c.requires.told told).0 in
-    later_refused g.O.Origin.first c.args.root c.in-Err.error.0 front.says (front.log.sound, subst (AllPass c.args.root.pages) front.log.visits_are front.log.passed) (c.in-Err.ensures.later told)
+    later_refused g.O.Origin.first c.args.root c.in-Err.error.0 front.stands (front.log.sound, subst (AllPass c.args.root.pages) front.log.visits_are front.log.passed) (c.in-Err.ensures.later told)
 
 pub returns-in-Err-clause-undamaged : goal.returns-in-Err-clause-undamaged
 returns-in-Err-clause-undamaged g c told sound = later_undamaged c.in-Err.error.0 (c.in-Err.ensures.refused told sound)

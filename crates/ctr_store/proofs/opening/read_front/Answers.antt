@@ -19,7 +19,7 @@ returns-in_err-found-clause-refused g c told =
     let root = c.in-Some.root in
     let e = c.in_err-found.field-0.0 in
     let here = sym c.requires.named in
-    let says = (subst (FindsRoot first) c.in-Some.is (subst (λ (i : Image). FindsRoot i c.in_ok-root.field-0) here (c.in_ok-root.ensures.found told))).0 in
+    let says = subst (FindsRoot first) c.in-Some.is (subst (λ (i : Image). FindsRoot i c.in_ok-root.field-0) here (c.in_ok-root.ensures.found told)) in
     rw (p.1, p.2) (read_refused first root e says (subst (λ (i : Image). RefusesLog root i e) (c.find_root.ensures.quiet.same ∙ here) (c.in_err-found.ensures.refused told)))
 
 pub returns-in_err-root-clause-undamaged : goal.returns-in_err-root-clause-undamaged

@@ -1,0 +1,52 @@
+// A second generation of the log, begun by hand: no call of a store begins one yet.
+use crate::plain::Plain;
+use ctr_disk::{Disk, Failed, SilentDisk};
+use ctr_types::File;
+use std::alloc::{AllocError, Global};
+
+// The bytes of a Checkpoint: the next transaction, and all below it open with no heads.
+fn checkpoint_bytes(alloc: Global, next: u64) -> Result<Vec<u8>, AllocError> {
+    let mut bytes = Vec::new(alloc);
+    bytes.push(1)?;
+    bytes.extend_from_slice(&next.to_le_bytes())?;
+    bytes.extend_from_slice(&next.saturating_sub(1).to_le_bytes())?;
+    for xid in 1..next {
+        bytes.extend_from_slice(&xid.to_le_bytes())?;
+        bytes.extend_from_slice(&[0; 8])?;
+    }
+    bytes.extend_from_slice(&[0; 17])?;
+    Ok(bytes)
+}
+
+// What stands behind the first gate of a file whose one record this is.
+fn batch_bytes(alloc: Global, lsn: u64, record: &[u8]) -> Result<Vec<u8>, AllocError> {
+    let mut bytes = Vec::new(alloc);
+    let len = record.len() as u64;
+    bytes.extend_from_slice(&len.wrapping_add(8).to_le_bytes())?;
+    bytes.extend_from_slice(&lsn.to_le_bytes())?;
+    bytes.extend_from_slice(&1u32.to_le_bytes())?;
+    bytes.extend_from_slice(&len.to_le_bytes())?;
+    bytes.extend_from_slice(record)?;
+    bytes.push(0)?;
+    Ok(bytes)
+}
+
+// Writes a batch behind the closed first gate of LogB, and opens that.
+fn write_batch(disk: &mut SilentDisk, bytes: &[u8]) -> Result<(), Failed> {
+    disk.write(File::LogB, 1, bytes)?;
+    disk.sync()?;
+    disk.write(File::LogB, 0, &[1])?;
+    disk.sync()
+}
+
+/// Begins a generation in LogB behind so many records, all of which are durable in LogA; it says whether that went well.
+pub fn begin(alloc: Global, disk: &mut SilentDisk, plain: &Plain) -> bool {
+    let lsn = (plain.count() as u64).wrapping_add(2);
+    let Ok(record) = checkpoint_bytes(alloc, plain.last().next) else {
+        return false;
+    };
+    let Ok(bytes) = batch_bytes(alloc, lsn, &record) else {
+        return false;
+    };
+    write_batch(disk, &bytes).is_ok()
+}
