@@ -1,0 +1,81 @@
+// Steps on whole pages.
+ghost use Rattle.std.specs.Prelude.{◌≡◌, false, OnOk};
+
+use crate::turns::{Mem, Told, ready};
+use ctr_alloc::{NextFree, Search, alloc, free, next_free};
+use ctr_disk::StoreFault;
+use ctr_heap::{format, link};
+use ctr_page::Header;
+
+/// The next free page, and its allocation.
+pub fn take(store: &mut Mem, search: &mut Search, x: u64) -> Result<Told, StoreFault>
+    requires going { store.old.stopped ≡ false }
+    ensures going { OnOk result (store.new.stopped ≡ false) }
+{
+    let p = match next_free(store, search)? {
+        NextFree::Page(p) => p,
+        NextFree::Grow => return Ok(Told::Grow),
+        NextFree::Full => return Ok(Told::Full),
+    };
+    if !ready(store, 0, 1)? || p >= 30_000 || store.counted() == 0 {
+        return Ok(Told::NotAsked);
+    }
+    alloc(store, x, p)?;
+    Ok(Told::Number(p as u64))
+}
+
+/// A page is free again.
+pub fn give_back(store: &mut Mem, search: &mut Search, page: u32) -> Result<Told, StoreFault>
+    requires going { store.old.stopped ≡ false }
+    ensures going { OnOk result (store.new.stopped ≡ false) }
+{
+    if !ready(store, 0, 0)? || page >= 30_000 || store.counted() == 0 {
+        return Ok(Told::NotAsked);
+    }
+    free(store, page)?;
+    search.freed(page);
+    Ok(Told::Done)
+}
+
+/// More pages are counted, so many times.
+pub fn grow(store: &mut Mem, count: u64) -> Result<Told, StoreFault>
+    requires going { store.old.stopped ≡ false }
+    ensures going { OnOk result (store.new.stopped ≡ false) }
+{
+    if count == 0 || store.counted() >= 30_000 {
+        return Ok(Told::Number(store.counted() as u64));
+    }
+    store.grow_extent()?;
+    grow(store, count - 1)
+}
+
+/// A page is empty, with this header.
+pub fn make_empty(store: &mut Mem, x: u64, page: u32, header: Header) -> Result<Told, StoreFault>
+    requires going { store.old.stopped ≡ false }
+    ensures going { OnOk result (store.new.stopped ≡ false) }
+{
+    if !ready(store, 0, 0)? || page >= 30_000 || page >= store.counted() {
+        return Ok(Told::NotAsked);
+    }
+    format(store, x, page, &header)?;
+    Ok(Told::Done)
+}
+
+/// A page is at the front of a bucket's chain.
+pub fn put_in_front(
+    store: &mut Mem,
+    x: u64,
+    page: u32,
+    entry: u8,
+    bucket: u8,
+) -> Result<Told, StoreFault>
+    requires going { store.old.stopped ≡ false }
+    ensures going { OnOk result (store.new.stopped ≡ false) }
+{
+    let fits = page < 30_000 && entry < 32 && bucket < 8;
+    if !fits || !ready(store, 0, 0)? || store.counted() <= 2 {
+        return Ok(Told::NotAsked);
+    }
+    link(store, x, page, entry, Some(bucket))?;
+    Ok(Told::Done)
+}

@@ -1,0 +1,165 @@
+// Steps on rows.
+ghost use Rattle.std.specs.Prelude.{◌≡◌, ◌≤◌, ◌<◌, ◌+◌, false, IsTrue, OnOk, length};
+ghost use Rattle.ctr_page.specs.Places.{start_of, slot_size as size_of_slot};
+
+use crate::pages::{make_empty, put_in_front, take};
+use crate::turns::{Mem, Told, ready};
+use ctr_alloc::Search;
+use ctr_disk::StoreFault;
+use ctr_heap::{find, free_slot, put_slot};
+use ctr_page::{Header, Place, RowSlot, Version, bucket_of, read_entry, slot_size};
+use ctr_records::Bytes;
+
+/// The widest payload.
+const WIDEST: usize = 512;
+
+/// Whether a place on a page has a slot of rows so wide.
+fn lies(place: Place, width: usize) -> bool
+    ensures { IsTrue result → (width ≤ WIDEST) × (start_of (size_of_slot width) place.slot + size_of_slot width ≤ 4096) }
+{
+    if width > WIDEST {
+        return false;
+    }
+    let size = slot_size(width);
+    16 + place.slot as usize * size + size <= 4_096
+}
+
+/// A slot of a key and zeros, which replaces that of the same transaction, or none.
+fn lay(
+    store: &mut Mem,
+    x: u64,
+    over: u64,
+    place: Place,
+    width: usize,
+    key: i64,
+) -> Result<Told, StoreFault>
+    requires going { store.old.stopped ≡ false }
+    ensures going { OnOk result (store.new.stopped ≡ false) }
+{
+    let zeros = [0; WIDEST];
+    if !lies(place, width) || !ready(store, 0, 0)? || store.meta().heads(x) == u64::MAX {
+        return Ok(Told::NotAsked);
+    }
+    if place.page >= 30_000 || place.page >= store.counted() {
+        return Ok(Told::NotAsked);
+    }
+    let slot = RowSlot {
+        used: 1,
+        key,
+        head: Version {
+            xid: x,
+            tombstone: 0,
+            payload: Bytes::new(&zeros[..width]),
+        },
+        previous: None,
+        older: Place { page: 0, slot: 0 },
+    };
+    put_slot(store, x, over, place, &slot)?;
+    Ok(Told::At(place))
+}
+
+/// Whether the calls of an entry may be made.
+fn may_ask(store: &Mem, entry: u8) -> bool
+    ensures { IsTrue result → (entry < 32) × (64 ≤ store.now.now.counted) × (store.now.now.counted ≤ 30000) }
+{
+    entry < 32 && store.counted() >= 64 && store.counted() <= 30_000
+}
+
+/// The slot of a key.
+pub fn found(store: &mut Mem, entry: u8, key: i64) -> Result<Told, StoreFault>
+    requires going { store.old.stopped ≡ false }
+    ensures going { OnOk result (store.new.stopped ≡ false) }
+{
+    if !may_ask(store, entry) {
+        return Ok(Told::NotAsked);
+    }
+    match find(store, entry, key)? {
+        Ok(Some(place)) => Ok(Told::At(place)),
+        Ok(None) => Ok(Told::None),
+        Err(bad) => Ok(Told::chain(bad)),
+    }
+}
+
+/// A free slot of a bucket.
+pub fn room(store: &mut Mem, entry: u8, bucket: u8) -> Result<Told, StoreFault>
+    requires going { store.old.stopped ≡ false }
+    ensures going { OnOk result (store.new.stopped ≡ false) }
+{
+    if bucket >= 8 || !may_ask(store, entry) {
+        return Ok(Told::NotAsked);
+    }
+    match free_slot(store, entry, bucket)? {
+        Ok(Some(place)) => Ok(Told::At(place)),
+        Ok(None) => Ok(Told::None),
+        Err(bad) => Ok(Told::chain(bad)),
+    }
+}
+
+/// The first page of a bucket.
+fn first_of(store: &mut Mem, entry: u8, bucket: u8) -> Result<u32, StoreFault>
+    requires going { store.old.stopped ≡ false }
+    requires bucket { bucket < 8 }
+    ensures going { OnOk result (store.new.stopped ≡ false) }
+{
+    let page = store.page(1 + (entry / 16) as u32)?;
+    Ok(read_entry(page, entry % 16).first(bucket))
+}
+
+/// A page more in a bucket's chain, at the front.
+fn add_page(
+    store: &mut Mem,
+    search: &mut Search,
+    x: u64,
+    entry: u8,
+    bucket: u8,
+) -> Result<Told, StoreFault>
+    requires going { store.old.stopped ≡ false }
+    requires bucket { bucket < 8 }
+    ensures going { OnOk result (store.new.stopped ≡ false) }
+{
+    let told = take(store, search, x)?;
+    let Told::Number(page) = told else {
+        return Ok(told);
+    };
+    let page = u32::try_from(page).unwrap_or(0);
+    let next = first_of(store, entry, bucket)?;
+    let header = Header {
+        kind: 1,
+        entry,
+        bucket,
+        next,
+    };
+    let _made = make_empty(store, x, page, header)?;
+    let _linked = put_in_front(store, x, page, entry, bucket)?;
+    room(store, entry, bucket)
+}
+
+/// The row of a key, with zeros: over the one that is there, in a free slot, or on a page more.
+pub fn put(
+    store: &mut Mem,
+    search: &mut Search,
+    x: u64,
+    entry: u8,
+    width: usize,
+    key: i64,
+) -> Result<Told, StoreFault>
+    requires going { store.old.stopped ≡ false }
+    ensures going { OnOk result (store.new.stopped ≡ false) }
+{
+    let bucket = bucket_of(key);
+    let there = found(store, entry, key)?;
+    if let Told::At(place) = there {
+        return lay(store, x, x, place, width, key);
+    }
+    if there != Told::None {
+        return Ok(there);
+    }
+    let mut place = room(store, entry, bucket)?;
+    if place == Told::None {
+        place = add_page(store, search, x, entry, bucket)?;
+    }
+    match place {
+        Told::At(place) => lay(store, x, 0, place, width, key),
+        other => Ok(other),
+    }
+}

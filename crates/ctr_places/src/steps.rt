@@ -1,0 +1,203 @@
+// The steps of a case.
+use crate::words::{number, split_word};
+
+/// A call, or several.
+#[derive(Clone, Copy, Debug, PartialEq, Eq)]
+pub enum Step<'a> {
+    /// A Begin of the next transaction, whose the records behind it are.
+    Begin,
+    /// `next_free`, and `alloc` of the page, so many times.
+    Take {
+        count: u64,
+    },
+    /// `free` of a page.
+    Free {
+        page: u32,
+    },
+    /// `grow_extent`, so many times.
+    Grow {
+        count: u64,
+    },
+    /// `create` of a table of an INT and of columns by these numbers: 0 an INT, else a text of so many bytes.
+    Create {
+        name: &'a [u8],
+        kinds: &'a [u8],
+    },
+    /// `drop_table` of an entry.
+    Drop {
+        entry: u8,
+    },
+    /// `undo_item` of the last item.
+    Undo,
+    /// `format` of a page of a bucket's chain.
+    Format {
+        page: u32,
+        entry: u8,
+        bucket: u8,
+        next: u32,
+    },
+    /// `link` of a page to a bucket's chain.
+    Link {
+        page: u32,
+        entry: u8,
+        bucket: u8,
+    },
+    /// A row of a key and zeros: `find`; else `free_slot`; else a page more; then `put_slot`.
+    Put {
+        entry: u8,
+        width: usize,
+        key: i64,
+    },
+    /// So many rows, from a key on.
+    Fill {
+        entry: u8,
+        width: usize,
+        from: i64,
+        count: u64,
+    },
+    /// `find` of a key.
+    Find {
+        entry: u8,
+        key: i64,
+    },
+    /// How many of so many keys are found, from one on.
+    Seek {
+        entry: u8,
+        from: i64,
+        count: u64,
+    },
+    /// `free_slot` of a bucket.
+    Room {
+        entry: u8,
+        bucket: u8,
+    },
+    /// The database is opened again, where so many bytes from one of a page on are this one, at home.
+    Alter {
+        page: u32,
+        at: u16,
+        byte: u8,
+        count: u16,
+    },
+    /// It is opened again, where so many pages are counted.
+    Count {
+        pages: u32,
+    },
+}
+
+impl<'a> Step<'a> {
+    /// Whether it alters the files of a database that isn't open.
+    pub fn is_outside(self) -> bool {
+        match self {
+            Step::Alter { .. } => true,
+            Step::Count { .. } => true,
+            _ => false,
+        }
+    }
+}
+
+fn byte(word: &[u8]) -> u8 {
+    u8::try_from(number(word)).unwrap_or(0)
+}
+
+fn page(word: &[u8]) -> u32 {
+    u32::try_from(number(word)).unwrap_or(0)
+}
+
+fn half(word: &[u8]) -> u16 {
+    u16::try_from(number(word)).unwrap_or(0)
+}
+
+// A whole number, with a minus before it or not.
+fn signed(word: &[u8]) -> i64 {
+    match word.split_first() {
+        Some((b'-', rest)) => 0i64.wrapping_sub_unsigned(number(rest)),
+        _ => 0i64.wrapping_add_unsigned(number(word)),
+    }
+}
+
+// The first four words.
+fn four(rest: &[u8]) -> [&[u8]; 4] {
+    let (one, rest) = split_word(rest);
+    let (two, rest) = split_word(rest);
+    let (three, rest) = split_word(rest);
+    let (four, _) = split_word(rest);
+    [one, two, three, four]
+}
+
+// A step on rows.
+fn row_step<'a>(word: &[u8], rest: &'a [u8]) -> Option<Step<'a>> {
+    let [one, two, three, four] = four(rest);
+    let entry = byte(one);
+    let width = number(two) as usize;
+    match word {
+        b"put" => Some(Step::Put {
+            entry,
+            width,
+            key: signed(three),
+        }),
+        b"fill" => Some(Step::Fill {
+            entry,
+            width,
+            from: signed(three),
+            count: number(four),
+        }),
+        b"find" => Some(Step::Find {
+            entry,
+            key: signed(two),
+        }),
+        b"seek" => Some(Step::Seek {
+            entry,
+            from: signed(two),
+            count: number(three),
+        }),
+        b"room" => Some(Step::Room {
+            entry,
+            bucket: byte(two),
+        }),
+        _ => None,
+    }
+}
+
+// A step on pages.
+fn page_step<'a>(word: &[u8], rest: &'a [u8]) -> Option<Step<'a>> {
+    let [one, two, three, four] = four(rest);
+    match word {
+        b"take" => Some(Step::Take { count: number(one) }),
+        b"free" => Some(Step::Free { page: page(one) }),
+        b"grow" => Some(Step::Grow { count: number(one) }),
+        b"format" => Some(Step::Format {
+            page: page(one),
+            entry: byte(two),
+            bucket: byte(three),
+            next: page(four),
+        }),
+        b"link" => Some(Step::Link {
+            page: page(one),
+            entry: byte(two),
+            bucket: byte(three),
+        }),
+        b"alter" => Some(Step::Alter {
+            page: page(one),
+            at: half(two),
+            byte: byte(three),
+            count: half(four).max(1),
+        }),
+        b"count" => Some(Step::Count { pages: page(one) }),
+        _ => row_step(word, rest),
+    }
+}
+
+/// The step that a text says.
+pub fn step_of(text: &[u8]) -> Option<Step> {
+    let (word, rest) = split_word(text);
+    match word {
+        b"begin" => Some(Step::Begin),
+        b"undo" => Some(Step::Undo),
+        b"drop" => Some(Step::Drop { entry: byte(rest) }),
+        b"create" => {
+            let (name, kinds) = split_word(rest);
+            Some(Step::Create { name, kinds })
+        }
+        _ => page_step(word, rest),
+    }
+}

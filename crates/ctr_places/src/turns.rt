@@ -1,0 +1,123 @@
+// Turns of a store: room for a record, a transaction's begin.
+ghost use Rattle.std.specs.Prelude.{◌≡◌, ◌≤◌, false, IsTrue, IfOk, OnOk, length};
+ghost use Rattle.ctr_calls.specs.OneRecord.{HasRoomForOne};
+
+use ctr_calls::log_record;
+use ctr_catalog::BadEntry;
+use ctr_disk::{SilentDisk, StoreFault};
+use ctr_page::{BadChain, BadPage, Place};
+use ctr_records::Record;
+use ctr_store::Store;
+use std::alloc::{AllocError, Global};
+use std::marker::Brand;
+
+/// A store over a disk in memory.
+pub type Mem = Store<SilentDisk, Brand>;
+
+/// How many frames a store has.
+pub const FRAMES: usize = 8;
+
+/// What a step answers.
+#[derive(Clone, Copy, Debug, PartialEq, Eq)]
+pub enum Told {
+    Done,
+    /// What it needs to be called isn't there.
+    NotAsked,
+    Number(u64),
+    /// How many of so many.
+    Of(u64, u64),
+    Grow,
+    Full,
+    CatalogFull,
+    At(Place),
+    None,
+    Bad(u32, BadPage),
+    TooLong(u32, u32),
+    Fault(StoreFault),
+}
+
+impl Told {
+    /// What is wrong with a chain.
+    pub fn chain(bad: BadChain) -> Told {
+        match bad {
+            BadChain::OnPage(page, bad) => Told::Bad(page, bad),
+            BadChain::TooLong { last, most } => Told::TooLong(last, most),
+        }
+    }
+
+    /// What is wrong with an entry of the catalog.
+    pub fn entry(bad: BadEntry) -> Told {
+        Told::Bad(bad.page, bad.bad)
+    }
+
+    /// It in words.
+    pub fn text(self, alloc: Global) -> Result<String, AllocError> {
+        match self {
+            Told::Done => format!(in alloc; "done"),
+            Told::NotAsked => format!(in alloc; "not asked"),
+            Told::Number(n) => format!(in alloc; "{n}"),
+            Told::Of(some, all) => format!(in alloc; "{some} of {all}"),
+            Told::Grow => format!(in alloc; "grow"),
+            Told::Full => format!(in alloc; "full"),
+            Told::CatalogFull => format!(in alloc; "catalog full"),
+            Told::At(place) => format!(in alloc; "{}.{}", place.page, place.slot),
+            Told::None => format!(in alloc; "none"),
+            Told::Bad(page, bad) => {
+                format!(in alloc;
+                    "page {page} at {} wants {} has {}",
+                    bad.at, bad.want, bad.got
+                )
+            }
+            Told::TooLong(last, most) => format!(in alloc; "page {last} leads on beyond {most}"),
+            Told::Fault(StoreFault::Fault) => format!(in alloc; "fault"),
+            Told::Fault(StoreFault::Damaged { want, got, .. }) => {
+                format!(in alloc; "damage wants {want} has {got}")
+            }
+        }
+    }
+}
+
+// Writes pages home, at most so many, until there is room for a turn.
+fn write_some(store: &mut Mem, most: usize) -> Result<(), StoreFault>
+    requires going { store.old.stopped ≡ false }
+    ensures going { OnOk result (store.new.stopped ≡ false) }
+    ensures few { length store.new.waiting ≤ length store.old.waiting }
+    ensures counted { store.new.now.counted ≡ store.old.now.counted }
+{
+    if most == 0 || store.room() {
+        return Ok(());
+    }
+    let _wrote = store.write_one_dirty()?;
+    write_some(store, most - 1)
+}
+
+/// Makes room for one record more, and for the transactions and items that it adds; whether there is.
+pub fn ready(store: &mut Mem, opens: usize, items: usize) -> Result<bool, StoreFault>
+    requires going { store.old.stopped ≡ false }
+    ensures going { OnOk result (store.new.stopped ≡ false) }
+    ensures room { IfOk result (λ is. IsTrue is → HasRoomForOne opens items store.new) }
+    ensures counted { store.new.now.counted ≡ store.old.now.counted }
+{
+    store.harden()?;
+    write_some(store, FRAMES)?;
+    if store.reserve(opens, items).is_err() {
+        return Ok(false);
+    }
+    Ok(store.room() && store.next() < 1 << 62)
+}
+
+/// Begins the next transaction.
+pub fn begin(store: &mut Mem) -> Result<Told, StoreFault>
+    requires going { store.old.stopped ≡ false }
+    ensures going { OnOk result (store.new.stopped ≡ false) }
+{
+    if !ready(store, 1, 0)? {
+        return Ok(Told::NotAsked);
+    }
+    let x = store.meta().next();
+    if x == u64::MAX {
+        return Ok(Told::NotAsked);
+    }
+    let _lsn = log_record(store, &Record::Begin { x })?;
+    Ok(Told::Number(x))
+}
