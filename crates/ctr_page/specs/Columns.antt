@@ -1,5 +1,5 @@
 -- Entries of the catalog: what their bytes say, and the bytes of a new one.
-use Rattle.std.specs.Prelude.{ℕ, zero, suc, ◌+◌, ◌-◌, ◌*◌, List, [], ◌∷◌, ◌++◌, map, length, drop, replicate, ◌==◌, if◌then◌else◌}
+use Rattle.std.specs.Prelude.{◌≡◌, ℕ, zero, suc, ◌+◌, ◌-◌, ◌*◌, List, [], ◌∷◌, ◌++◌, map, length, drop, replicate, ◌==◌, if◌then◌else◌}
 use Rattle.std.specs.List.{flat_map}
 use Rattle.ctr_types.specs.declared.value.Column.{Column}
 use Rattle.ctr_types.specs.declared.value.Kind.{Kind}
@@ -97,3 +97,9 @@ abbrev pub new_entry_bytes : ℕ → List ℕ → List Column → List ℕ
 new_entry_bytes creator name cs =
     spelled 1 1 ++ spelled 8 creator ++ spelled 8 0 ++ text_bytes NAME_MOST name
     ++ columns_bytes cs ++ replicate 77 0
+
+-- an entry of the catalog that is live, made by this transaction, and dropped by none
+pub record IsNewTitle (made_by : ℕ) (bytes : List ℕ) : Type 0 where
+  pub live : field 1 0 bytes ≡ 1
+  pub creator : field 8 CREATOR_AT bytes ≡ made_by
+  pub undropped : field 8 DROPPER_AT bytes ≡ 0

@@ -3,7 +3,7 @@ ghost use Rattle.std.specs.Prelude.{◌≡◌, ◌≤◌, ◌<◌, ◌+◌, ◌-
 ghost use Rattle.std.specs.List.{flat_map};
 ghost use Rattle.ctr_bytes.specs.Fields.{field};
 ghost use Rattle.ctr_value.specs.Columns.{ColumnsFit, column_bytes};
-ghost use Rattle.ctr_page.specs.Columns.{entry_at as entry_of, kind_said, table_name_in, first_in, versions_first_in, column_kind_at, columns_in, kinds_of, columns_bytes, text_bytes, new_entry_bytes};
+ghost use Rattle.ctr_page.specs.Columns.{entry_at as entry_of, kind_said, table_name_in, first_in, versions_first_in, column_kind_at, columns_in, kinds_of, columns_bytes, text_bytes, new_entry_bytes, IsNewTitle};
 ghost use Rattle.ctr_page.specs.Making.{PutsBytes};
 ghost use Rattle.ctr_types.specs.Names.{IsName};
 
@@ -202,9 +202,7 @@ pub fn make_entry(creator: Xid, name: &Name, schema: &Schema, into: &mut [u8]) -
     ensures number { result ≡ ENTRY_SIZE }
     ensures bytes { into.new ≡ new_entry_bytes creator name.now schema.now.columns ++ drop result into.old }
     // What is made is read back: live, its creator, no dropper.
-    ensures state { field 1 0 into.new ≡ 1 }
-    ensures creator { field 8 CREATOR_AT into.new ≡ creator }
-    ensures dropper { field 8 DROPPER_AT into.new ≡ 0 }
+    ensures title { IsNewTitle creator into.new }
     // Its name and its columns.
     ensures name { table_name_in into.new ≡ name.now }
     ensures columns { columns_in into.new ≡ schema.now.columns }

@@ -5,17 +5,10 @@ pub returns-clause-bytes : goal.returns-clause-bytes
 returns-clause-bytes c =
     (made_back c.args.creator c.put_entry.result c.args.name.now c.args.schema.now.columns c.as_slice.result.now c.args.into.now c.put_entry.new.into c.ranges.creator.fits c.put_entry.ensures.short c.requires.fits c.as_slice.ensures c.put_entry.ensures.put).0
 
-pub returns-clause-state : goal.returns-clause-state
-returns-clause-state c =
-    (made_back c.args.creator c.put_entry.result c.args.name.now c.args.schema.now.columns c.as_slice.result.now c.args.into.now c.put_entry.new.into c.ranges.creator.fits c.put_entry.ensures.short c.requires.fits c.as_slice.ensures c.put_entry.ensures.put).1.state
-
-pub returns-clause-creator : goal.returns-clause-creator
-returns-clause-creator c =
-    (made_back c.args.creator c.put_entry.result c.args.name.now c.args.schema.now.columns c.as_slice.result.now c.args.into.now c.put_entry.new.into c.ranges.creator.fits c.put_entry.ensures.short c.requires.fits c.as_slice.ensures c.put_entry.ensures.put).1.creator_is
-
-pub returns-clause-dropper : goal.returns-clause-dropper
-returns-clause-dropper c =
-    (made_back c.args.creator c.put_entry.result c.args.name.now c.args.schema.now.columns c.as_slice.result.now c.args.into.now c.put_entry.new.into c.ranges.creator.fits c.put_entry.ensures.short c.requires.fits c.as_slice.ensures c.put_entry.ensures.put).1.dropper
+pub returns-clause-title : goal.returns-clause-title
+returns-clause-title c =
+    let made = (made_back c.args.creator c.put_entry.result c.args.name.now c.args.schema.now.columns c.as_slice.result.now c.args.into.now c.put_entry.new.into c.ranges.creator.fits c.put_entry.ensures.short c.requires.fits c.as_slice.ensures c.put_entry.ensures.put).1 in
+    record { live = made.state; creator = made.creator_is; undropped = made.dropper }
 
 pub returns-clause-name : goal.returns-clause-name
 returns-clause-name c =

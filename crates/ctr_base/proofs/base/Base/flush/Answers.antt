@@ -1,25 +1,31 @@
+use Rattle.std.specs.Prelude.{IsTrue}
 use Rattle.std.proofs.Common.{refl}
+use Rattle.ctr_disk.specs.Device.{LeavesOnly}
+use Rattle.ctr_redo.specs.States.{state_of}
+use Rattle.ctr_redo.specs.Images.{FoldsFront}
+use Rattle.ctr_base.specs.Base.{IsSoundImage, stored_of, waiting_of}
 use Rattle.ctr_log.specs.Logs.{with_batch}
 use Rattle.ctr_redo.proofs.ImageLaws.{logs_apart}
 use Rattle.ctr_base.specs.declared.base.Base.{Base}
 use Rattle.ctr_base.specs.BaseLaws.{holds_if, stands_flushed, homes_flushed}
 use Rattle.ctr_base.proofs.HomeLaws.{since_still}
 use Rattle.ctr_base.proofs.FlushLaws.{flush_leaves, flush_moves, flush_quiet, flush_holds, Flushed}
+use Rattle.ctr_base.proofs.base.Base.flush.Given.{Over}
+use Rattle.ctr_base.proofs.base.Base.flush.Goals.{After-flush}
 use Rattle.ctr_base.proofs.base.Base.flush.Goals as goal
 
-pub returns-in_err-flush-clause-goes : goal.returns-in_err-flush-clause-goes
-returns-in_err-flush-clause-goes g c told sound =
-    let d = g.D.Disk in
+-- however the flush ended, a crash leaves a prefix of what waited
+leaves : (g : Over) (c : After-flush g) → IsTrue g.D.Disk.tells → IsSoundImage g.O.Origin.first → LeavesOnly g.D.Disk c.args.self.now.disk c.flush.new.disk (FoldsFront (state_of (stored_of g.D.Disk c.args.self.now)) (waiting_of c.args.self.now))
+leaves g c told sound =
     let a = c.args.self.now in
     let quiet = (c.requires told).quiet sound in
-    flush_leaves d a c.flush.new.disk quiet (c.flush.ensures.kept_any_moment a.root.file a.root.first (record { told = told; only = quiet.only }) quiet.writes)
+    flush_leaves g.D.Disk a c.flush.new.disk quiet (c.flush.ensures.kept_any_moment a.root.file a.root.first (record { told = told; only = quiet.only }) quiet.writes)
+
+pub returns-in_err-flush-clause-goes : goal.returns-in_err-flush-clause-goes
+returns-in_err-flush-clause-goes g c told sound = leaves g (goal.at.returns-in_err-flush-clause-goes g c).After-flush told sound
 
 pub returns-clause-goes : goal.returns-clause-goes
-returns-clause-goes g c told sound =
-    let d = g.D.Disk in
-    let a = c.args.self.now in
-    let quiet = (c.requires told).quiet sound in
-    flush_leaves d a c.flush.new.disk quiet (c.flush.ensures.kept_any_moment a.root.file a.root.first (record { told = told; only = quiet.only }) quiet.writes)
+returns-clause-goes g c told sound = leaves g (goal.at.returns-clause-goes g c).After-flush told sound
 
 pub returns-clause-moves : goal.returns-clause-moves
 returns-clause-moves g c told =
