@@ -51,8 +51,8 @@ pub record MaySave {D O : Type 0} (g : Ghosts D) (b : Base D O) (p since : ℕ) 
   pub is : (v ≡ overlaid p b.root.first (now_of g b).records (home_of g b p))
       ⊎ (overlaid p b.root.first (stored_of g b).records v ≡ overlaid p b.root.first (stored_of g b).records (home_of g b p))
 
--- Nothing is pending on the disk, which is sound; the log goes on behind what it holds, and the records
--- that wait may follow there.
+-- Nothing is pending on the disk, which is sound; the log goes on behind what it holds, and the
+-- records that wait may follow there.
 pub record IsQuiet {D O : Type 0} (g : Ghosts D) (b : Base D O) : Type 0 where
   pub only : IsDurable g b.disk
   pub sound : IsSound b.root (g.reads b.disk)
@@ -92,16 +92,16 @@ pub record KeepsBase {D O : Type 0} (a b : Base D O) : Type 0 where
 abbrev pub IsSoundImage : Image → Type 0
 IsSoundImage image = (root : Root) × IsSound root image
 
--- Whatever the disk holds: it says the root, the log's writer goes on behind the batches of its file,
--- and the file of pages has all that are counted.
+-- Whatever the disk holds: it says the root, the log's writer goes on behind the batches of its
+-- file, and the file of pages has all that are counted.
 pub record StandsWell {D O : Type 0} (g : Ghosts D) (b : Base D O) : Type 0 where
   pub says : SaysRootOf Paged (value_of RootBlock (g.reads b.disk)) b.root
   pub file : IsLogFile b.log.file
   pub goes_on : (oldest : ℕ) × (bs : Batches) × GoesOn oldest bs b.log (g.reads b.disk)
   pub size : 8256 * b.root.pages ≤ length (content Pages (g.reads b.disk))
 
--- it stands so; each page is at home as in the first image, or was written since; and where that was
--- sound nothing is pending
+-- it stands so; each page is at home as in the first image, or was written since; and where that
+-- was sound nothing is pending
 pub record StandsQuiet {D O : Type 0} (first : Image) (g : Ghosts D) (b : Base D O) : Type 0 where
   pub stands : StandsWell g b
   pub since : HomesSince first b.root.pages (g.reads b.disk)
@@ -140,8 +140,8 @@ pub record GoesHome {D O : Type 0} (first : Image) (g : Ghosts D) (b : Base D O)
   pub may : MayPut first g b p since v
   pub durable : IsSoundImage first → v.lsn < b.durable
 
--- What the reading of a page at home found: that a counted page has its number there, or that it has
--- another one.
+-- What the reading of a page at home found: that a counted page has its number there, or that it
+-- has another one.
 abbrev pub FindsNumber : {D O : Type 0} → Image → Ghosts D → Base D O → ℕ → Result ⊤ StoreFault → Type 0
 FindsNumber first g b p (Ok t) = p < b.root.pages
     → (v : BlockValue) → value_of (Page p) (g.reads b.disk) ≡ Some v → v.number ≡ p

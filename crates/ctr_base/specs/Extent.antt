@@ -5,8 +5,8 @@ use Rattle.ctr_disk.specs.declared.disk.Image.{Image}
 use Rattle.ctr_disk.specs.Image.{OtherFilesStay}
 use Rattle.ctr_home.specs.Blocks.{zero_bytes}
 
--- The first bytes of the file of pages are as they were, so many of them, and the other files; and it
--- isn't shorter.
+-- The first bytes of the file of pages are as they were, so many of them, and the other files; and
+-- it isn't shorter.
 pub record KeepsPages (n : ℕ) (old new : Image) : Type 0 where
   pub others : OtherFilesStay Pages old new
   pub front : take n new.pages ≡ take n old.pages

@@ -16,8 +16,8 @@ use Rattle.ctr_pool.specs.Below.{HoldsStill}
 use Rattle.ctr_disk.specs.declared.fault.StoreFault.{StoreFault}
 use Rattle.ctr_base.specs.Extent.{KeepsPages, AreCleared}
 
--- Homes behind the counted pages are being cleared, or they are, and the root has its old value or the
--- one that counts them.
+-- Homes behind the counted pages are being cleared, or they are, and the root has its old value or
+-- the one that counts them.
 abbrev pub IsGrowing : ℕ → Root → Image → Image → Type 0
 IsGrowing from more old new = KeepsPages (8256 * from) old new
     ⊎ ((mid : Image) × AreCleared from more.pages old mid × IsOldOrNewValue RootBlock (root_block more) mid new)
@@ -31,8 +31,8 @@ HasGrown from more old new = (mid : Image)
 abbrev pub grown_root : Root → Root
 grown_root r = record r { stamp = r.stamp + 1; pages = grown r.pages }
 
--- At each moment of a growth a crash leaves what was hardened, with the old count of pages or the new
--- one.
+-- At each moment of a growth a crash leaves what was hardened, with the old count of pages or the
+-- new one.
 abbrev pub LeavesGrown : {D O : Type 0} → Ghosts D → Base D O → Base D O → Type 0
 LeavesGrown g a b = LeavesOnly g a.disk b.disk (FoldsGrown (state_of (stored_of g a)))
 
@@ -52,8 +52,8 @@ pub record GrowsOver {D O : Type 0} (first : Image) (g : Ghosts D) (a b : Base D
   pub rests : StandsQuiet first g b
   pub holds : HoldsStill (home_of g) (MayPut first g) a b
 
--- All but the disk and the root is as it was. The root counts more pages behind an Ok, and else is the
--- same.
+-- All but the disk and the root is as it was. The root counts more pages behind an Ok, and else is
+-- the same.
 abbrev pub CountsMore : {D O T : Type 0} → Base D O → Base D O → Result T StoreFault → Type 0
 CountsMore a b result = (b ≡ record a { disk = b.disk; root = b.root })
     × OnOk result (b.root.pages ≡ grown a.root.pages) × OnErr result (b.root ≡ a.root)

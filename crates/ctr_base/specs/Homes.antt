@@ -19,8 +19,8 @@ abbrev pub home_checks : ℕ → ℕ → Home → BlockValue → List Check
 home_checks next p home v = number_check (Page p) (home_place (Page p) home) v
     ∷ check_of (home_place (Page p) home + 5) (min v.stamp (next - 1)) v.stamp ∷ []
 
--- The first check of a page of an image that fails is this one: of its number, or where that is right of
--- its stamp. It is told in one of the two homes of the page.
+-- The first check of a page of an image that fails is this one: of its number, or where that is
+-- right of its stamp. It is told in one of the two homes of the page.
 abbrev pub FailsHome : ℕ → ℕ → Image → StoreFault → Type 0
 FailsHome next p image e = (v : BlockValue) × (value_of (Page p) image ≡ Some v)
     × ((home : Home) × (judged Pages (home_checks next p home v) ≡ Err e))
@@ -41,7 +41,8 @@ pub record IsWrittenSince (p : ℕ) (first now : Option BlockValue) : Type 0 whe
 abbrev pub IsSince : ℕ → Option BlockValue → Option BlockValue → Type 0
 IsSince p first now = (now ≡ first) ⊎ IsWrittenSince p first now
 
--- The pages that the first image counts are counted, and each is at home as there, or was written since.
+-- The pages that the first image counts are counted, and each is at home as there, or was written
+-- since.
 pub record HomesSince (first : Image) (counted : ℕ) (image : Image) : Type 0 where
   pub more : (r : Root) → SaysRootOf Paged (value_of RootBlock first) r → r.pages ≤ counted
   pub homes : (r : Root) → SaysRootOf Paged (value_of RootBlock first) r → (p : ℕ) → p < r.pages

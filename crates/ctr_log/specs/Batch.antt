@@ -5,8 +5,8 @@ use Rattle.ctr_log.specs.Logs.{frames, batch, IsBatch}
 use Rattle.ctr_log.specs.Reading.{BeginsWithBatch, HasFrames, ReadsLog}
 use Rattle.ctr_log.specs.declared.batches.Batch.{Batch}
 
--- the frames' length in a batch's head fits the bytes from its gate to the file's end, and its first
--- number is the next one
+-- the frames' length in a batch's head fits the bytes from its gate to the file's end, and its
+-- first number is the next one
 pub record HeadFits (head : List ℕ) (left next : ℕ) : Type 0 where
   pub room : field 8 1 head ≤ left - 22
   pub number : field 8 9 head ≡ next

@@ -29,8 +29,8 @@ log_in bytes = logged (length bytes) bytes
 abbrev pub begins_at : ℕ → List ℕ → Bool
 begins_at next bytes = slice_index bytes 0 == 1 && field 8 9 bytes == next
 
--- the records of the named file, whose first has this number, and those of the other file where they
--- go on from them
+-- the records of the named file, whose first has this number, and those of the other file where
+-- they go on from them
 abbrev pub kept_in : ℕ → List ℕ → List ℕ → List (List ℕ)
 kept_in first named other =
     if begins_at (first + length (log_in named)) other then log_in named ++ log_in other else log_in named
@@ -107,8 +107,8 @@ pub record KeepsPrefix (changed : File) (file first : ℕ) (rs : List (List ℕ)
   pub count : ℕ
   pub holds : HoldsLog file first (kept_log file first old ++ take count rs) new
 
--- after a call the writer goes on behind the log of before with all these records, which stand in its
--- file, and the other files are as they were
+-- after a call the writer goes on behind the log of before with all these records, which stand in
+-- its file, and the other files are as they were
 pub record GoesOnWith (file first : ℕ) (rs : List (List ℕ)) (log : Log) (old new : Image)
     : Type 0 where
   pub others : OtherFilesStay log.file old new
@@ -146,7 +146,8 @@ pub record CanBegin (bytes : ℕ) (log : Log) : Type 0 where
   pub number : log.first < 2 ^ 63 - 1
   pub small : bytes < 2 ^ 62
 
--- how the start of a generation leaves the writer: the number goes on behind the records that waited
+-- how the start of a generation leaves the writer: the number goes on behind the records that
+-- waited
 pub record IsStarted (old new : Log) : Type 0 where
   pub older : new.older ≡ true
   pub next : new.first ≡ old.first + length old.buffered + 1
@@ -212,8 +213,8 @@ abbrev pub other_byte : ℕ → ℕ
 other_byte zero = 1
 other_byte (suc n) = 0
 
--- Where two generations are kept and the root comes to name the newer one, by its first number, a writer
--- that was behind both goes on behind that one alone.
+-- Where two generations are kept and the root comes to name the newer one, by its first number, a
+-- writer that was behind both goes on behind that one alone.
 abbrev pub Forgets : Log → Log → Type 0
 Forgets old new = (file first : ℕ) (image : Image) → old.older ≡ true → WritesBehind file first old image
     → WritesBehind (other_byte file) (field 8 9 (content (other_file file) image)) new image

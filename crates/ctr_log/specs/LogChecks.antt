@@ -1,5 +1,5 @@
--- The checks of a file of the log, in their order. The first that fails is the damage that is told; the
--- records of the batches before it are what is read.
+-- The checks of a file of the log, in their order. The first that fails is the damage that is
+-- told; the records of the batches before it are what is read.
 use Rattle.std.specs.Prelude.{◌≡◌, ◌==◌, ◌+◌, ◌-◌, if◌then◌else◌, ℕ, zero, suc, min, max, List, [], ◌∷◌, ◌++◌, length, take, drop, slice_index, Result, Ok, Err, IfErr, MatchResult, ⊤}
 use Rattle.ctr_types.specs.declared.file.File.{File}
 use Rattle.ctr_disk.specs.declared.disk.Image.{Image}
@@ -85,8 +85,8 @@ abbrev pub if_passed : Result ⊤ StoreFault → List Visit → List Visit
 if_passed (Ok _) visits = visits
 if_passed (Err e) visits = []
 
--- The records of the batches before the first that is damaged, from a gate of a file on, numbered from
--- this LSN on: of n open batches at most, and up to the first closed gate.
+-- The records of the batches before the first that is damaged, from a gate of a file on, numbered
+-- from this LSN on: of n open batches at most, and up to the first closed gate.
 abbrev pub sound_batch_visits : File → ℕ → ℕ → ℕ → List ℕ → List Visit
 sound_batch_visits file lsn gate zero bytes = []
 sound_batch_visits file lsn gate (suc n) bytes =
@@ -101,16 +101,16 @@ abbrev pub damage_or : Result ⊤ StoreFault → Result ⊤ StoreFault → Resul
 damage_or (Err e) damage = Err e
 damage_or (Ok _) damage = damage
 
--- Damage of the log of an image, whose root names this file and this first number: of the named file,
--- and then of the other one where it goes on from that.
+-- Damage of the log of an image, whose root names this file and this first number: of the named
+-- file, and then of the other one where it goes on from that.
 abbrev pub kept_damage : ℕ → ℕ → Image → Result ⊤ StoreFault
 kept_damage file first image =
     let named = content (log_file file) image in
     let other = content (other_file file) image in
     damage_or (file_damage (log_file file) first named) (if has_newer first named other then file_damage (other_file file) (first + length (log_in named)) other else Ok tt)
 
--- The same of the log of an image: those of the named file, and where it has no damage, those of the
--- other one where it goes on from that.
+-- The same of the log of an image: those of the named file, and where it has no damage, those of
+-- the other one where it goes on from that.
 abbrev pub sound_kept_visits : ℕ → ℕ → Image → List Visit
 sound_kept_visits file first image =
     let named = content (log_file file) image in
@@ -131,8 +131,8 @@ TellsDamage damage result = MatchResult result (λ _. damage ≡ Ok tt) (IsThisD
 abbrev pub VisitsDamage : {T E : Type 0} → Result ⊤ StoreFault → Result T (VisitError E) → Type 0
 VisitsDamage damage result = MatchResult result (λ _. damage ≡ Ok tt) (OnRead (IsThisDamage damage))
 
--- What is said of a file whose bytes are told: where a check failed, no log stands there, and the first that
--- fails is told; what was read to its end has no damage.
+-- What is said of a file whose bytes are told: where a check failed, no log stands there, and the
+-- first that fails is told; what was read to its end has no damage.
 pub record TellsFile {T E : Type 0} (file : File) (first : ℕ) (bytes : List ℕ) (result : Result T (VisitError E))
     : Type 0 where
   pub refused : IfErr result (OnRead (RefusesOrFails file (HasSome first bytes)))

@@ -80,8 +80,8 @@ unframed (suc n) bytes =
     take (field 8 0 bytes) (drop 8 bytes) ∷ unframed n (drop (8 + field 8 0 bytes) bytes)
 
 -- What the writer of a log knows: its file, whether the other file has an older generation that is
--- kept, the place of the closed gate behind the log, the LSN of the first record that isn't flushed,
--- the records that aren't, and how many bytes of frames more fit.
+-- kept, the place of the closed gate behind the log, the LSN of the first record that isn't
+-- flushed, the records that aren't, and how many bytes of frames more fit.
 pub record Log : Type 0 where
   pub file : File
   pub older : Bool
@@ -128,8 +128,8 @@ pub record IsEmptied {T E : Type 0} (old new : Log) (result : Result T E) : Type
   pub number : new.first + length new.buffered ≡ old.first + length old.buffered
   pub later : old.first ≤ new.first
 
--- What a flush counts at a place of its file: the clock doesn't go back, the one error is a fault of the
--- disk, which is counted, and only a batch at the last places of a file counts as a stray.
+-- What a flush counts at a place of its file: the clock doesn't go back, the one error is a fault
+-- of the disk, which is counted, and only a batch at the last places of a file counts as a stray.
 pub record CountsFlush {D T : Type 0} (g : Ghosts D) (place : ℕ) (old new : D) (result : Result T StoreFault)
     : Type 0 where
   pub refused : OnErr result (result ≡ Err Fault)

@@ -10,8 +10,8 @@ use Rattle.ctr_log.specs.declared.reading.ReadError.TheVariants.{Store, OutOfMem
 use Rattle.ctr_log.specs.Damage.{IsDamageOf, Differs}
 use Rattle.ctr_log.specs.Logs.{Batches, frame, frames, batch, batches, records, IsBatch, HasLog, Log, GoesOn}
 
--- What was to be read isn't there, and damage of the file is told; or the disk failed, or memory was
--- refused.
+-- What was to be read isn't there, and damage of the file is told; or the disk failed, or memory
+-- was refused.
 abbrev pub RefusesOrFails : File → Type 0 → ReadError → Type 0
 RefusesOrFails file P OutOfMemory = Unit {0}
 RefusesOrFails file P (Store Fault) = Unit {0}

@@ -26,8 +26,8 @@ frame_visits file lsn at zero bytes = []
 frame_visits file lsn at (suc n) bytes =
     visit_of lsn file (at + 8) (take (field 8 0 bytes) (drop 8 bytes)) ∷ frame_visits file (lsn + 1) (at + (8 + field 8 0 bytes)) n (drop (8 + field 8 0 bytes) bytes)
 
--- The records in the bytes from a gate of a file on, numbered from this LSN on: of n open batches at
--- most, and up to the first closed gate.
+-- The records in the bytes from a gate of a file on, numbered from this LSN on: of n open batches
+-- at most, and up to the first closed gate.
 abbrev pub batch_visits : File → ℕ → ℕ → ℕ → List ℕ → List Visit
 batch_visits file lsn gate zero bytes = []
 batch_visits file lsn gate (suc n) bytes =
@@ -37,8 +37,8 @@ batch_visits file lsn gate (suc n) bytes =
 abbrev pub file_visits : File → ℕ → List ℕ → List Visit
 file_visits file first bytes = batch_visits file first 0 (length bytes) bytes
 
--- The records of the log of an image, whose root names this file and this first number: those of the
--- named file, and those of the other file where they go on from them.
+-- The records of the log of an image, whose root names this file and this first number: those of
+-- the named file, and those of the other file where they go on from them.
 abbrev pub kept_visits : ℕ → ℕ → Image → List Visit
 kept_visits file first image =
     let named = content (log_file file) image in
@@ -90,8 +90,8 @@ pub record RefusesOne {V E : Type 0} (has_seen : V → List Visit → Type 0)
   pub all_are : all ≡ given ++ refused ∷ rest
   pub because : (before : List Visit) → has_seen old before → refuses (before ++ given) refused e
 
--- What it has been given where reading ended early: at damage all of these, which are the records of
--- the batches before that; where it refused one, those before that; else a front of them.
+-- What it has been given where reading ended early: at damage all of these, which are the records
+-- of the batches before that; where it refused one, those before that; else a front of them.
 abbrev pub StopsAt : {V E : Type 0} → (V → List Visit → Type 0)
     → (List Visit → Visit → E → Type 0) → V → V → List Visit → VisitError E → Type 0
 StopsAt has_seen refuses old new sound (Read OutOfMemory) = GivesPart has_seen old new sound
@@ -117,7 +117,8 @@ UnlessRead P (Ok x) = P
 UnlessRead P (Err (Read e)) = Unit {0}
 UnlessRead P (Err (Refused e)) = P
 
--- Whatever the disk tells: damage says what differs, and a refusal is one that the visitor may answer.
+-- Whatever the disk tells: damage says what differs, and a refusal is one that the visitor may
+-- answer.
 abbrev pub EndsEarly : {V E : Type 0} → (V → List Visit → Type 0)
     → (List Visit → Visit → E → Type 0) → V → VisitError E → Type 0
 EndsEarly has_seen refuses old (Read e) = ReadDiffers e

@@ -17,8 +17,8 @@ pub record PutsPage {B : Type 0} (held : B → ℕ → PageHeld) (takes : B → 
   pub others : (q : ℕ) → q ≢ p → held b q ≡ held a q
   pub still : (q since : ℕ) (w : PageHeld) → q ≢ p → takes a q since w → takes b q since w
 
--- What a load found of a page: it was given, so that the page is well; or this is wrong with it. Of a
--- fault nothing is known.
+-- What a load found of a page: it was given, so that the page is well; or this is wrong with it.
+-- Of a fault nothing is known.
 abbrev pub IsFound : {T : Type 0} → (Result ⊤ StoreFault → Type 0) → Result T StoreFault → Type 0
 IsFound P (Ok t) = P (Ok tt)
 IsFound P (Err Fault) = Unit {0}

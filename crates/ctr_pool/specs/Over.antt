@@ -62,8 +62,8 @@ abbrev pub AddsPage : ℕ → List Frame → List Frame → Type 0
 AddsPage p old new = (has_page p new ≡ true)
     × ((q : ℕ) → q ≢ p → has_page q old ≡ false → has_page q new ≡ false)
 
--- A page is there now, and no other one that wasn't. It was, and nothing changed; or it was loaded, into a frame for which at
--- most the oldest page was saved.
+-- A page is there now, and no other one that wasn't. It was, and nothing changed; or it was
+-- loaded, into a frame for which at most the oldest page was saved.
 pub record BringsIn (p : ℕ) (old new : Pooled) : Type 0 where
   pub adds : AddsPage p old.frames new.frames
   pub most : new.most ≡ old.most

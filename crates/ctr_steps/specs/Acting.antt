@@ -1,5 +1,5 @@
--- One act of a session's statement: what it is, what it was answered, and what the session is in the
--- middle of after it.
+-- One act of a session's statement: what it is, what it was answered, and what the session is in
+-- the middle of after it.
 use Rattle.std.specs.Prelude.{◌≡◌, ◌≢◌, ◌≤◌, ℕ, Bool, true, false, List, [], ◌∷◌, Option, Some, slice_get}
 use Rattle.ctr_types.specs.declared.statement.Statement.{Statement}
 use Rattle.ctr_types.specs.declared.statement.Statement.TheVariants as st
@@ -99,8 +99,8 @@ pub record IsActOfTurn (made s : ℕ) (statement : Statement) (old new : TurnsAn
 abbrev pub both : TurnsHeld → Log → TurnsAndLog
 both turns log = record { turns = turns; log = log }
 
--- Where the session is in its statement, an act of its own comes next: a lock that it was granted left what its
--- Write wants, and it waits for no answer.
+-- Where the session is in its statement, an act of its own comes next: a lock that it was granted
+-- left what its Write wants, and it waits for no answer.
 pub record MayAct (g : Stage) (s : ℕ) (statement : Statement) (turns : TurnsHeld) : Type 0 where
   pub left : (ready : Ready) → g ≡ stage.Locked ready
       → LocksFirst statement × HasLeft turns s statement ready

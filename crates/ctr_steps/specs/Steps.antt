@@ -132,8 +132,8 @@ pub record IsEntryOf (s moment : ℕ) (runner : Runner) (entry : Entry) : Type 0
   pub moment_is : entry.moment ≡ moment
   pub not_full : IsNotFull entry.reply
 
--- One entry more, of this session and this moment, and the session is in the middle of its statement
--- exactly where another act of it comes; the other sessions are where they were.
+-- One entry more, of this session and this moment, and the session is in the middle of its
+-- statement exactly where another act of it comes; the other sessions are where they were.
 pub record AddsEntry (s moment : ℕ) (old new : Steps) : Type 0 where
   pub entry : Entry
   pub tape : new.tape.items ≡ old.tape.items ++ entry ∷ []
@@ -145,8 +145,8 @@ pub record AddsEntry (s moment : ℕ) (old new : Steps) : Type 0 where
       → runner_at q new.runners.items ≡ runner_at q old.runners.items
   pub script : new.script ≡ old.script
 
--- What an act of a session's next statement does: its entry comes, fewer acts are left, and of the rest only the
--- turns, where each session is, and the tape change.
+-- What an act of a session's next statement does: its entry comes, fewer acts are left, and of the
+-- rest only the turns, where each session is, and the tape change.
 pub record ActsOn (s moment : ℕ) (old new : Steps) : Type 0 where
   pub entry : AddsEntry s moment old new
   pub fewer : all_left new.runners.items < all_left old.runners.items

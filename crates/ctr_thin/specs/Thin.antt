@@ -72,8 +72,8 @@ StandsBy image db r bs = (s : StandsFor image db) × (s.r ≡ r) × (s.bs ≡ bs
 
 -- ---- what loading finds
 
--- What was loaded of a log: the next transaction that its first record says, once that was read, and
--- the database that the others make.
+-- What was loaded of a log: the next transaction that its first record says, once that was read,
+-- and the database that the others make.
 pub record Loaded : Type 0 where
   pub xid : Option ℕ
   pub database : Database
@@ -114,8 +114,8 @@ abbrev pub load_visits : Loaded → List Visit → Result Loaded StoreFault
 load_visits s [] = Ok s
 load_visits s (v ∷ vs) = load_visit s v >>= λ t. load_visits t vs
 
--- The first check of a file of the log that fails, batch by batch: one of a batch comes behind those of
--- the records of the batches before it.
+-- The first check of a file of the log that fails, batch by batch: one of a batch comes behind
+-- those of the records of the batches before it.
 abbrev pub log_damage : File → ℕ → List ℕ → Result ⊤ StoreFault
 log_damage file first bytes =
     load_visits nothing_loaded (sound_visits file first bytes) >>= λ _. file_damage file first bytes
@@ -166,8 +166,8 @@ pub record Opens (image : Image) (o : Opened) : Type 0 where
 abbrev pub StandsForNone : Image → Type 0
 StandsForNone image = (db : Database) → StandsFor image db → ⊥
 
--- damage of the log of an image whose root is this, by the first check that fails, and then no log of
--- it makes a database; or the disk failed, or memory was refused
+-- damage of the log of an image whose root is this, by the first check that fails, and then no log
+-- of it makes a database; or the disk failed, or memory was refused
 abbrev pub RefusesLogOf : Root → Image → OpenError → Type 0
 RefusesLogOf r image NoDatabase = ⊥
 RefusesLogOf r image (Damaged file at want got) =
@@ -185,8 +185,8 @@ pub record IsWornOut (image : Image) (number : ℕ) : Type 0 where
   pub worn : IsWorn stands number
   pub none_low : (db : Database) (s : StandsFor image db) → IsLow s → ⊥
 
--- Damage of an image in the thin form, by the first check that fails: of the root; or of the file of the
--- log that it names.
+-- Damage of an image in the thin form, by the first check that fails: of the root; or of the file
+-- of the log that it names.
 abbrev pub IsThinDamage : Image → StoreFault → Type 0
 IsThinDamage image e = ((v : BlockValue) × (root_value image.root ≡ Some v)
     × (judged RootFile (root_checks Thin (value_place RootBlock image) v) ≡ Err e))

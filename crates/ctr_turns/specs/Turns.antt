@@ -1,5 +1,5 @@
--- Turns of sessions: their acts over versions and locks, the record that each gathers of its commit,
--- and the records that wait in the log. What these show of a state of the model.
+-- Turns of sessions: their acts over versions and locks, the record that each gathers of its
+-- commit, and the records that wait in the log. What these show of a state of the model.
 use Rattle.std.specs.Prelude.{◌≡◌, ◌≤◌, ◌<◌, ◌+◌, ◌-◌, ◌^◌, ℕ, List, [], ◌∷◌, length, Some, None}
 use Rattle.ctr_types.specs.declared.statement.Statement.{Statement}
 use Rattle.ctr_types.specs.declared.tape.Act.{Act}
@@ -29,8 +29,8 @@ pub record TurnsHeld : Type 0 where
 abbrev pub HoldsRecord : Database → Transaction → GatheredHeld → Type 0
 HoldsRecord db t g = (items : List Item) × IsRecordOf items g × IsGathered db t items
 
--- from the j-th on, each commit that was asked for has its record here, in their order: it makes the
--- rows with it of those before
+-- from the j-th on, each commit that was asked for has its record here, in their order: it makes
+-- the rows with it of those before
 abbrev pub WaitFrom : State → ℕ → List (List ℕ) → Type 0
 WaitFrom state j [] = j ≡ length state.asked
 WaitFrom state j (b ∷ bs) = FoldsRecord (rows_at state j) b (rows_at state (j + 1))
@@ -81,8 +81,8 @@ pub record AddsAtMost (n : ℕ) (s : ℕ) (old new : TurnsHeld) : Type 0 where
   pub tables : new.acts.engine.store.next ≤ old.acts.engine.store.next + n
   pub items : (record_at s new.records).count ≤ (record_at s old.records).count + n
 
--- What an act of a session leaves to the others: what each gathers is as it was, and whoever of them was
--- granted a lock can write still.
+-- What an act of a session leaves to the others: what each gathers is as it was, and whoever of
+-- them was granted a lock can write still.
 pub record OthersGoOn (s : ℕ) (a : Act) (statement : Statement) (old new : TurnsHeld) : Type 0 where
   pub alike : OthersAlike s old.records new.records
   pub writes : OthersCanWrite s a statement old.acts new.acts
