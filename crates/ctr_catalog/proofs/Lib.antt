@@ -2,3 +2,4 @@ pub mod Titles
 pub mod Lowest
 pub mod OneRecord
 pub mod Made
+pub mod Found

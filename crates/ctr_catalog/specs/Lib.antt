@@ -1,3 +1,4 @@
 pub mod Entries
 pub mod Free
 pub mod Writing
+pub mod Finding

@@ -14,7 +14,7 @@ use ctr_types::Name;
 /// How many entries a page of the catalog has.
 pub const ENTRIES_ON_PAGE: u8 = 16;
 
-fn is_live_of(name: &Name, entry: &CatalogEntry) -> bool
+pub(crate) fn is_live_of(name: &Name, entry: &CatalogEntry) -> bool
     requires whole { length entry.now.bytes ≡ ENTRY_SIZE }
     requires parts { HasParts entry.now }
     ensures { result ≡ is_live_of name.now entry.now }

@@ -4,10 +4,12 @@
 #![tactic(auto)]
 
 mod entries;
+mod finding;
 mod store;
 mod writing;
 
 pub use entries::{ENTRIES_ON_PAGE, find_free, find_named, found_in_area};
+pub use finding::{changed, find};
 pub use store::{BadEntry, a_free_entry_is_the_lowest, free_entry};
 pub use writing::{CatalogRefusal, create, drop_table, undo_item};
 

@@ -44,7 +44,7 @@ const ENTRY: usize = 256;
 const DROPPER_AT: u8 = 9;
 
 /// The page of the catalog that an entry stands on.
-fn page_of(entry: u8) -> PageNo
+pub(crate) fn page_of(entry: u8) -> PageNo
     ensures { result ≡ 1 + entry / 16 }
 {
     1 + (entry / 16) as PageNo

@@ -1,0 +1,89 @@
+-- The table of a name that a snapshot sees, and whether one was changed since it was taken.
+use Rattle.std.specs.Prelude.{◌≡◌, ℕ, ◌+◌, ◌*◌, ◌/◌, ◌%◌, ◌==◌, ◌<◌, Bool, false, not, ◌&&◌, List, ⊤, Option, None, Some, Result, Ok, Err, if◌then◌else◌}
+use Rattle.ctr_model.specs.State.{same_name}
+use Rattle.ctr_snap.specs.Seeing.{SnapshotTaken, is_committed, sees, sees_or_own}
+use Rattle.ctr_records.specs.declared.decoding.BadRecord.{BadRecord}
+use Rattle.ctr_meta.specs.Tables.{Tables, fate_in}
+use Rattle.ctr_page.specs.declared.table.TheConstants.{ENTRY_SIZE}
+use Rattle.ctr_page.specs.Columns.{entry_at}
+use Rattle.ctr_page.specs.Damage.{entry_check}
+use Rattle.ctr_page.specs.Searching.{PassesBy, EndsSearch}
+use Rattle.ctr_area.specs.Areas.{Title, Area}
+use Rattle.ctr_area.specs.Reading.{title_of}
+use Rattle.ctr_area.specs.Images.{is_live}
+use Rattle.ctr_catalog.specs.declared.finding.MadeBy.{MadeBy}
+use Rattle.ctr_catalog.specs.declared.store.BadEntry.{BadEntry}
+
+-- ---- an entry
+
+-- who made and dropped the live table of a name, where the title is that of one
+abbrev pub made_by : List ℕ → Title → Option MadeBy
+made_by name title =
+    if is_live title && same_name title.name name then
+    Some (record { creator = title.creator; dropper = title.dropper }) else None
+
+-- an entry on a page fails its check; or it passes, and says who made and dropped the table
+abbrev pub NamedSaid : ℕ → List ℕ → ℕ → List ℕ → Result (Option MadeBy) BadRecord → Type 0
+NamedSaid counted name n page (Err bad) = entry_check counted (ENTRY_SIZE * n) page ≡ Err bad
+NamedSaid counted name n page (Ok made) =
+    (entry_check counted (ENTRY_SIZE * n) page ≡ Ok tt)
+    × (made ≡ made_by name (title_of (entry_at n page)))
+
+-- ---- what a snapshot sees
+
+-- it sees what a transaction did; 0 is nobody
+abbrev pub xid_is_seen : Tables → SnapshotTaken → Option ℕ → ℕ → Bool
+xid_is_seen tables s me x = not (x == 0) && sees_or_own s me (fate_in x tables) x
+
+-- it doesn't see a transaction that is committed
+abbrev pub xid_is_changed : Tables → SnapshotTaken → ℕ → Bool
+xid_is_changed tables s x =
+    not (x == 0) && (is_committed (fate_in x tables) && not (sees s (fate_in x tables) x))
+
+-- it sees who made a table, and not who dropped it
+abbrev pub stands_seen : Tables → SnapshotTaken → Option ℕ → MadeBy → Bool
+stands_seen tables s me made =
+    xid_is_seen tables s me made.creator && not (xid_is_seen tables s me made.dropper)
+
+-- who changed a table since the snapshot was taken: who dropped it, or else who made it
+abbrev pub change_of : Tables → SnapshotTaken → MadeBy → Option ℕ
+change_of tables s made =
+    if xid_is_changed tables s made.dropper then Some made.dropper else
+    if xid_is_changed tables s made.creator then Some made.creator else None
+
+-- ---- in the area
+
+-- where there is such a table, the test is met
+abbrev pub is_made_so : (MadeBy → Bool) → Option MadeBy → Bool
+is_made_so test None = false
+is_made_so test (Some made) = test made
+
+-- an entry is the live one of a name that a snapshot sees
+abbrev pub seen_in : Tables → SnapshotTaken → Option ℕ → List ℕ → Area → ℕ → Bool
+seen_in tables s me name area e =
+    is_made_so (stands_seen tables s me) (made_by name (area.title e))
+
+-- who changed it, where there is such a table
+abbrev pub change_made : (MadeBy → Option ℕ) → Option MadeBy → Option ℕ
+change_made change None = None
+change_made change (Some made) = change made
+
+-- who changed an entry, where it is a live one of the name
+abbrev pub changed_in : Tables → SnapshotTaken → List ℕ → Area → ℕ → Option ℕ
+changed_in tables s name area e = change_made (change_of tables s) (made_by name (area.title e))
+
+-- what is wrong with an entry
+abbrev pub checks_at : ℕ → (ℕ → List ℕ) → ℕ → Result ⊤ BadRecord
+checks_at counted pages e = entry_check counted (ENTRY_SIZE * (e % 16)) (pages (1 + e / 16))
+
+-- Where a search through all entries ends: at the first that is sought, or none is; or at the damage of
+-- the first that fails its check, on its page.
+abbrev pub EndsEntries : (ℕ → Result ⊤ BadRecord) → (ℕ → Bool) → Result (Option ℕ) BadEntry → Type 0
+EndsEntries check sought (Ok found) = EndsSearch check sought 0 32 (Ok found)
+EndsEntries check sought (Err b) =
+    (e : ℕ) × (e < 32) × PassesBy check sought 0 e × (check e ≡ Err b.bad) × (b.page ≡ 1 + e / 16)
+
+-- what is said of one entry: its damage, on its page; or it passes, and this is so
+abbrev pub EndsEntry : {A : Type 0} → Result ⊤ BadRecord → A → ℕ → Result A BadEntry → Type 0
+EndsEntry check is e (Ok x) = (check ≡ Ok tt) × (x ≡ is)
+EndsEntry check is e (Err b) = (check ≡ Err b.bad) × (b.page ≡ 1 + e / 16)

@@ -1,0 +1,181 @@
+// The table of a name that a snapshot sees, and whether one was changed since it was taken.
+ghost use Rattle.std.specs.Prelude.{◌≡◌, ◌<◌, ◌≤◌, ◌+◌, ◌/◌, ◌%◌, false, IsTrue, IfOk, length};
+ghost use Rattle.ctr_base.specs.Base.{IsSoundImage};
+ghost use Rattle.ctr_page.specs.declared.table.TheConstants.{PAGE_SIZE};
+ghost use Rattle.ctr_store.specs.Store.{LeavesPage};
+ghost use Rattle.ctr_changes.specs.States.{pages_in, area_in};
+ghost use Rattle.ctr_snap.specs.Seeing.{is_committed as has_committed};
+ghost use Rattle.ctr_catalog.specs.Finding.{NamedSaid, xid_is_seen, xid_is_changed, stands_seen, change_of, is_made_so, change_made, checks_at, seen_in, changed_in, EndsEntries, EndsEntry};
+
+use crate::entries::is_live_of;
+use crate::store::BadEntry;
+use crate::writing::page_of;
+use ctr_base::Origin;
+use ctr_disk::{Disk, StoreFault};
+use ctr_meta::Meta;
+use ctr_page::{BadPage, check_entry, read_entry};
+use ctr_snap::Snapshot;
+use ctr_store::Store;
+use ctr_types::{Fate, Name, Xid};
+
+/// Who made a table, and who dropped it, 0 for nobody.
+#[derive(Clone, Copy, Debug, PartialEq, Eq)]
+pub(crate) struct MadeBy {
+    pub(crate) creator: Xid,
+    pub(crate) dropper: Xid,
+}
+
+/// Who made and dropped the live table of a name that an entry on a page of the catalog is, or none where it is another.
+fn named_in(name: &Name, entry: u8, counted: u32, page: &[u8]) -> Result<Option<MadeBy>, BadPage>
+    requires some { 0 < counted }
+    requires there { entry < 16 }
+    requires whole { length page.now ≡ PAGE_SIZE }
+    ensures { NamedSaid counted name.now entry page.now result }
+{
+    check_entry(counted, entry, page)?;
+    let table = read_entry(page, entry);
+    if !is_live_of(name, &table) {
+        return Ok(None);
+    }
+    Ok(Some(MadeBy {
+        creator: table.creator,
+        dropper: table.dropper,
+    }))
+}
+
+/// The same of an entry of a store's catalog.
+fn named_at<D: Disk, O: Origin>(
+    store: &mut Store<D, O>,
+    name: &Name,
+    entry: u8,
+    counted: u32,
+) -> Result<Result<Option<MadeBy>, BadPage>, StoreFault>
+    requires going { store.old.stopped ≡ false }
+    requires some { 0 < counted }
+    requires there { entry < 32 }
+    ensures said { IsTrue D.tells → IsSoundImage O.first → IfOk result (λ r. NamedSaid counted name.now (entry % 16) (pages_in store.old.now (1 + entry / 16)) r) }
+    ensures leaves { LeavesPage O.first D.Disk store.old store.new result }
+{
+    let page = store.page(page_of(entry))?;
+    Ok(named_in(name, entry % 16, counted, page))
+}
+
+/// Whether a snapshot sees what a transaction did; it sees nothing that nobody did.
+fn is_seen(meta: &Meta, snapshot: &Snapshot, me: Option<Xid>, x: Xid) -> bool
+    ensures { result ≡ xid_is_seen meta.now.tables snapshot.now me x }
+{
+    x != 0 && snapshot.sees(x, meta.fate(x), me)
+}
+
+fn is_committed(fate: Fate) -> bool
+    ensures { result ≡ has_committed fate }
+{
+    match fate {
+        Fate::Open => false,
+        Fate::Aborted => false,
+        Fate::Committed => true,
+        Fate::Later => false,
+    }
+}
+
+/// Whether a transaction is committed that a snapshot doesn't see.
+fn is_changed(meta: &Meta, snapshot: &Snapshot, x: Xid) -> bool
+    ensures { result ≡ xid_is_changed meta.now.tables snapshot.now x }
+{
+    x != 0 && is_committed(meta.fate(x)) && !snapshot.sees(x, meta.fate(x), None)
+}
+
+/// Whether a table stands for a snapshot: it sees who made it, and not who dropped it.
+fn stands(meta: &Meta, snapshot: &Snapshot, me: Option<Xid>, made: MadeBy) -> bool
+    ensures { result ≡ stands_seen meta.now.tables snapshot.now me made }
+{
+    is_seen(meta, snapshot, me, made.creator) && !is_seen(meta, snapshot, me, made.dropper)
+}
+
+/// The same of a table, or none.
+fn is_sought(meta: &Meta, snapshot: &Snapshot, me: Option<Xid>, found: Option<MadeBy>) -> bool
+    ensures { result ≡ is_made_so (stands_seen meta.now.tables snapshot.now me) found }
+{
+    match found {
+        None => false,
+        Some(made) => stands(meta, snapshot, me, made),
+    }
+}
+
+/// Who changed a table since a snapshot was taken.
+fn change(meta: &Meta, snapshot: &Snapshot, made: MadeBy) -> Option<Xid>
+    ensures { result ≡ change_of meta.now.tables snapshot.now made }
+{
+    if is_changed(meta, snapshot, made.dropper) {
+        return Some(made.dropper);
+    }
+    if is_changed(meta, snapshot, made.creator) {
+        return Some(made.creator);
+    }
+    None
+}
+
+/// The same of a table, or none.
+fn change_found(meta: &Meta, snapshot: &Snapshot, found: Option<MadeBy>) -> Option<Xid>
+    ensures { result ≡ change_made (change_of meta.now.tables snapshot.now) found }
+{
+    match found {
+        None => None,
+        Some(made) => change(meta, snapshot, made),
+    }
+}
+
+/// The table of a name that a snapshot sees, by its entry of the catalog: the first live entry of the name whose creator it sees, and
+/// whose dropper it doesn't. Each entry is checked as it is read. It logs nothing, and takes no memory.
+pub fn find<D: Disk, O: Origin>(
+    store: &mut Store<D, O>,
+    name: &Name,
+    snapshot: &Snapshot,
+    me: Option<Xid>,
+) -> Result<Result<Option<u8>, BadEntry>, StoreFault>
+    requires going { store.old.stopped ≡ false }
+    requires some { 0 < store.old.now.counted }
+    ensures ends { IsTrue D.tells → IsSoundImage O.first
+        → IfOk result (λ r. EndsEntries (checks_at store.old.now.counted (pages_in store.old.now)) (seen_in store.old.meta.tables snapshot.now me name.now (area_in store.old.now)) r) }
+    ensures leaves { LeavesPage O.first D.Disk store.old store.new result }
+{
+    let counted = store.counted();
+    for entry in 0..32 {
+        let found = match named_at(store, name, entry, counted)? {
+            Err(bad) => {
+                let page = page_of(entry);
+                return Ok(Err(BadEntry { page, bad }));
+            }
+            Ok(found) => found,
+        };
+        if is_sought(store.meta(), snapshot, me, found) {
+            return Ok(Ok(Some(entry)));
+        }
+    }
+    Ok(Ok(None))
+}
+
+/// Who changed the table of a name that an entry is, so that a snapshot doesn't see it: who dropped it, or else who made it, where this
+/// transaction is committed. None where the entry isn't a live one of the name. It logs nothing, and takes no memory.
+pub fn changed<D: Disk, O: Origin>(
+    store: &mut Store<D, O>,
+    entry: u8,
+    name: &Name,
+    snapshot: &Snapshot,
+) -> Result<Result<Option<Xid>, BadEntry>, StoreFault>
+    requires going { store.old.stopped ≡ false }
+    requires some { 0 < store.old.now.counted }
+    requires there { entry < 32 }
+    ensures ends { IsTrue D.tells → IsSoundImage O.first
+        → IfOk result (λ r. EndsEntry (checks_at store.old.now.counted (pages_in store.old.now) entry) (changed_in store.old.meta.tables snapshot.now name.now (area_in store.old.now) entry) entry r) }
+    ensures leaves { LeavesPage O.first D.Disk store.old store.new result }
+{
+    let counted = store.counted();
+    match named_at(store, name, entry, counted)? {
+        Err(bad) => {
+            let page = page_of(entry);
+            Ok(Err(BadEntry { page, bad }))
+        }
+        Ok(found) => Ok(Ok(change_found(store.meta(), snapshot, found))),
+    }
+}
