@@ -38,13 +38,6 @@ MakesTable first g made a b (Err (Store fault)) =
 
 -- ---- an item
 
--- its page or its entry is one that there may be
-abbrev pub ItemFits : SlogItem → Type 0
-ItemFits (AllocOf x p) = p < 30000
-ItemFits (FreeOf p) = p < 30000
-ItemFits (CreateOf x e) = e < 32
-ItemFits (DropOf x e) = e < 32
-
 -- the record that undoes it; of a page, with the byte in which the page has its bit
 abbrev pub undo_record : SlogItem → ℕ → Record
 undo_record (AllocOf x p) byte = free_record p byte
@@ -53,11 +46,11 @@ undo_record (CreateOf x e) byte = uncreate_record e
 undo_record (DropOf x e) byte = undrop_record e
 
 -- a table that was made has an entry
-abbrev pub IsItemOf : SlogItem → Area → Type 0
-IsItemOf (AllocOf x p) area = Unit {0}
-IsItemOf (FreeOf p) area = Unit {0}
-IsItemOf (CreateOf x e) area = (area.title e).state ≢ 0
-IsItemOf (DropOf x e) area = Unit {0}
+abbrev pub HasMade : SlogItem → Area → Type 0
+HasMade (AllocOf x p) area = Unit {0}
+HasMade (FreeOf p) area = Unit {0}
+HasMade (CreateOf x e) area = (area.title e).state ≢ 0
+HasMade (DropOf x e) area = Unit {0}
 
 -- a page is free; a table is dead, or isn't dropped
 abbrev pub area_undone : SlogItem → Area → Area

@@ -9,7 +9,8 @@ ghost use Rattle.ctr_area.specs.Changes.{new_title, empty_chains, with_title, Ch
 ghost use Rattle.ctr_calls.specs.OneRecord.{HasRoomForOne, LogsOne};
 ghost use Rattle.ctr_changes.specs.States.{pages_in, area_in};
 ghost use Rattle.ctr_changes.specs.Changing.{create_record, drop_record, uncreate_record, undrop_record};
-ghost use Rattle.ctr_catalog.specs.Writing.{EndsMaking, MakesTable, ItemFits, undo_record, IsItemOf, area_undone};
+ghost use Rattle.ctr_records.specs.Members.{ItemFits};
+ghost use Rattle.ctr_catalog.specs.Writing.{EndsMaking, MakesTable, undo_record, HasMade, area_undone};
 
 use crate::store::{BadEntry, free_entry};
 use ctr_alloc::free;
@@ -204,7 +205,7 @@ pub fn undo_item<D: Disk, O: Origin>(
     requires fits { ItemFits item.now }
     ensures one { (byte : ℕ) × LogsOne O.first D.Disk (undo_record item.now byte) store.old store.new result }
     // What the item says of one page or one title is undone, and nothing else in the pages changes.
-    ensures undone { IsTrue D.tells → IsSoundImage O.first → IsItemOf item.now (area_in store.old.now)
+    ensures undone { IsTrue D.tells → IsSoundImage O.first → HasMade item.now (area_in store.old.now)
         → OnOk result (area_in store.new.now ≡ area_undone item.now (area_in store.old.now)) }
 {
     match *item {

@@ -2,7 +2,7 @@
 ghost use Rattle.std.specs.Prelude.{◌≡◌, false, true, IsTrue, OnOk};
 ghost use Rattle.std.specs.List.{AllByRecursion};
 ghost use Rattle.ctr_types.specs.Names.{IsName};
-ghost use Rattle.ctr_catalog.specs.Writing.{ItemFits};
+ghost use Rattle.ctr_records.specs.Members.{ItemFits};
 ghost use Rattle.ctr_value.specs.Columns.{ColumnFits, ColumnsFit, KindFits};
 
 use crate::turns::{Mem, Told, ready};
