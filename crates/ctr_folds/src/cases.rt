@@ -132,7 +132,8 @@ fn told_steps(alloc: Global, seen: Option<(usize, Seen)>) -> Result<String, Allo
         return format!(in alloc; "not run");
     };
     format!(in alloc;
-        "{} wrong, {} to {} records", seen.wrong, seen.fewest, seen.most
+        "{} wrong, {} to {} records",
+        seen.wrong, seen.fewest, seen.most
     )
 }
 
@@ -150,7 +151,8 @@ fn told_random(
         return format!(in alloc; "{wrong} wrong, none to all records");
     }
     format!(in alloc;
-        "{wrong} wrong, {} to {} of {count} records", seen.fewest, seen.most
+        "{wrong} wrong, {} to {} of {count} records",
+        seen.fewest, seen.most
     )
 }
 

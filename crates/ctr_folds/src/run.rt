@@ -230,13 +230,7 @@ fn go_on(alloc: Global, run: Played, steps: &[Step]) -> Played {
 }
 
 // Takes steps on a store that was opened, in which so many records are durable.
-fn take_steps(
-    alloc: Global,
-    store: Mem,
-    plain: Plain,
-    durable: usize,
-    steps: &[Step],
-) -> Played
+fn take_steps(alloc: Global, store: Mem, plain: Plain, durable: usize, steps: &[Step]) -> Played
     requires going { store.stopped ≡ false }
     requires none { store.waiting ≡ [] }
 {
