@@ -22,12 +22,6 @@ const NOTHING: [u8; 34] = [
     0, 0,
 ];
 
-// The Begin of transaction 1.
-const BEGIN: [u8; 10] = [2, 1, 0, 0, 0, 0, 0, 0, 0, 0];
-
-// A Trim of page 3: a 7 at its first byte.
-const TRIM: [u8; 11] = [18, 1, 3, 0, 0, 0, 0, 0, 1, 0, 7];
-
 // How many bytes 64 pages have.
 const SIZE: u64 = 528_384;
 
@@ -82,12 +76,6 @@ fn opened(alloc: Global, root: &[u8], log: &[u8], size: u64, page: &[u8]) -> Ans
     Ok(opened_on::<SilentDisk, Brand>(alloc, SilentDisk { disk }))
 }
 
-// The same of a log of these records.
-fn logged(alloc: Global, records: &[&[u8]], page: &[u8]) -> Answer {
-    let log = log_of(alloc, 1, records)?;
-    opened(alloc, &ROOT, log.as_slice(), SIZE, page)
-}
-
 fn damaged(file: File, at: u64, want: u128, got: u128) -> Answer {
     Ok(Err(OpenError::Damaged {
         file,
@@ -95,10 +83,6 @@ fn damaged(file: File, at: u64, want: u128, got: u128) -> Answer {
         want,
         got,
     }))
-}
-
-fn worn(number: u64) -> Answer {
-    Ok(Err(OpenError::Worn { number }))
 }
 
 #[test]
@@ -116,53 +100,6 @@ fn roots(rt: HostRuntime) -> Result<(), Fail> {
         opened(alloc, &ROOT, log, SIZE - 1, &[]) == damaged(File::Pages, 0, 528_384, 528_383)
     );
     assert!(rt; opened(alloc, &ROOT, &[], SIZE, &[]) == damaged(File::LogA, 0, 1, 0));
-    Ok(())
-}
-
-#[test]
-fn records(rt: HostRuntime) -> Result<(), Fail> {
-    let alloc = rt.alloc();
-    assert!(rt; logged(alloc, &[&NOTHING, &BEGIN], &[]) == Ok(Ok(2)));
-    assert!(rt; logged(alloc, &[&BEGIN], &[]) == damaged(File::LogA, 29, 1, 2));
-    assert!(rt; logged(alloc, &[&NOTHING, &NOTHING], &[]) == damaged(File::LogA, 71, 18, 1));
-    assert!(rt;
-        logged(alloc, &[&NOTHING, &altered(BEGIN, 0, 19)], &[]) == damaged(File::LogA, 71, 18, 19)
-    );
-    assert!(rt;
-        logged(alloc, &[&NOTHING, &altered(BEGIN, 1, 5)], &[]) == damaged(File::LogA, 71, 1, 5)
-    );
-    assert!(rt;
-        logged(alloc, &[&NOTHING, &altered(BEGIN, 0, 3)], &[]) == damaged(File::LogA, 71, 1, 0)
-    );
-    assert!(rt;
-        logged(alloc, &[&NOTHING, &altered(TRIM, 2, 64)], &[]) == damaged(File::LogA, 72, 63, 64)
-    );
-    Ok(())
-}
-
-#[test]
-fn pages(rt: HostRuntime) -> Result<(), Fail> {
-    let alloc = rt.alloc();
-    assert!(rt; logged(alloc, &[&NOTHING, &TRIM], &[]) == Ok(Ok(1)));
-    assert!(rt; logged(alloc, &[&NOTHING, &TRIM], &[1, 3, 0, 0, 0, 2]) == Ok(Ok(1)));
-    assert!(rt;
-        logged(alloc, &[&NOTHING, &TRIM], &[1, 3, 0, 0, 0, 3]) == damaged(File::Pages, 24_773, 2, 3)
-    );
-    assert!(rt;
-        logged(alloc, &[&NOTHING, &TRIM], &[1, 4, 0, 0, 0, 2]) == damaged(File::Pages, 24_769, 3, 4)
-    );
-    assert!(rt; logged(alloc, &[&NOTHING], &[1, 4, 0, 0, 0, 2]) == Ok(Ok(1)));
-    Ok(())
-}
-
-#[test]
-fn worn_ones(rt: HostRuntime) -> Result<(), Fail> {
-    let alloc = rt.alloc();
-    let root = altered(altered(ROOT, 26, 0), 33, 64);
-    let log = log_of(alloc, 1 << 62, &[&NOTHING])?;
-    assert!(rt; opened(alloc, &root, log.as_slice(), SIZE, &[]) == worn((1 << 62) + 1));
-    let next = altered(altered(NOTHING, 1, 0), 8, 64);
-    assert!(rt; logged(alloc, &[&next], &[]) == worn(1 << 62));
     Ok(())
 }
 
