@@ -12,7 +12,7 @@ use Rattle.ctr_page.specs.Walking.{most_in_chain}
 use Rattle.ctr_area.specs.Areas.{Area}
 use Rattle.ctr_area.specs.Reading.{firsts_of, area_of}
 use Rattle.ctr_area.specs.Chains.{places_from}
-use Rattle.ctr_area.specs.Sound.{IsAmong, IsUsedSlot, AreReadable, AreKeyed}
+use Rattle.ctr_area.specs.Sound.{IsAmong, IsUsedSlot, AreKeyed}
 use Rattle.ctr_area.specs.Checked.{kinds_at}
 use Rattle.ctr_heap.specs.declared.slots.SlotSought.{SlotSought}
 use Rattle.ctr_heap.specs.declared.buckets.BucketRows.{BucketRows}

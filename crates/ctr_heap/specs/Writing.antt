@@ -8,7 +8,7 @@ use Rattle.ctr_page.specs.declared.table.TheConstants.{PAGE_SIZE, FIRSTS_AT, VER
 use Rattle.ctr_page.specs.Places.{slot_size, start_of}
 use Rattle.ctr_page.specs.Making.{slot_bytes, IsSlot}
 use Rattle.ctr_page.specs.Readable.{PartsHaveRoom}
-use Rattle.ctr_area.specs.Areas.{Firsts, Area}
+use Rattle.ctr_area.specs.Areas.{Firsts}
 use Rattle.ctr_area.specs.Reading.{entry_bytes, width_on, area_of}
 use Rattle.ctr_area.specs.Changes.{with_bucket, IsPlaceOf}
 use Rattle.ctr_changes.specs.Changing.{laid_on_place, link_record, link_older_record}

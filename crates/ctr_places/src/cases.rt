@@ -1,15 +1,16 @@
 // The cases of a suite.
 ghost use Rattle.std.specs.Prelude.{◌≡◌, ◌≤◌, false, OnOk, IfSome, length};
 
-use crate::catalog::{drop_entry, make, undo};
+use crate::catalog::{changer, drop_entry, make, named, undo};
 use crate::pages::{give_back, grow, make_empty, put_in_front, take};
 use crate::rows::{found, put, room};
 use crate::steps::{Step, step_of};
-use crate::turns::{FRAMES, Mem, Told, begin, ready};
+use crate::turns::{FRAMES, Mem, Told, begin, commit, ready, snap};
 use crate::words::split_word;
 use ctr_alloc::Search;
 use ctr_disk::{Image, MemDisk, SilentDisk, StoreFault};
 use ctr_page::Header;
+use ctr_snap::Snapshot;
 use ctr_store::create;
 use ctr_types::{File, List};
 use std::alloc::{AllocError, Global};
@@ -19,6 +20,7 @@ use std::alloc::{AllocError, Global};
 struct Player {
     search: Search,
     x: u64,
+    snapshot: Option<Snapshot>,
     out: Vec<u8>,
 }
 
@@ -165,14 +167,32 @@ fn play_step(
     requires going { store.old.stopped ≡ false }
     ensures going { OnOk result (store.new.stopped ≡ false) }
 {
-    if step != Step::Begin {
-        return play_page(alloc, store, player, step);
+    match step {
+        Step::Begin => {
+            let told = begin(store)?;
+            if let Told::Number(x) = told {
+                player.x = x;
+            }
+            Ok(told)
+        }
+        Step::Commit => commit(store, player.x),
+        Step::Snap => {
+            player.snapshot = snap(alloc, store).ok();
+            Ok(Told::Done)
+        }
+        Step::Name { name, own } => match &player.snapshot {
+            Some(snapshot) => {
+                let me = if own { Some(player.x) } else { None };
+                named(alloc, store, name, snapshot, me)
+            }
+            None => Ok(Told::NotAsked),
+        },
+        Step::Changed { entry, name } => match &player.snapshot {
+            Some(snapshot) => changer(alloc, store, entry, name, snapshot),
+            None => Ok(Told::NotAsked),
+        },
+        _ => play_page(alloc, store, player, step),
     }
-    let told = begin(store)?;
-    if let Told::Number(x) = told {
-        player.x = x;
-    }
-    Ok(told)
 }
 
 // Writes all pages home, at most so many.
@@ -316,6 +336,7 @@ fn played_line(alloc: Global, line: &[u8], page: &mut Vec<u8>) -> Result<(), All
     let mut player = Player {
         search: Search::new(),
         x: 0,
+        snapshot: None,
         out: Vec::new(alloc),
     };
     if let Some(files) = made(alloc) {

@@ -7,9 +7,10 @@ ghost use Rattle.ctr_value.specs.Columns.{ColumnFits, ColumnsFit, KindFits};
 
 use crate::turns::{Mem, Told, ready};
 use crate::words::{number, split_word};
-use ctr_catalog::{CatalogRefusal, create, drop_table, undo_item};
+use ctr_catalog::{CatalogRefusal, changed, create, drop_table, find, undo_item};
 use ctr_disk::StoreFault;
 use ctr_records::SlogItem;
+use ctr_snap::Snapshot;
 use ctr_types::{Column, Kind, List, Name, OutOfMemory, Schema, Text};
 use std::alloc::Global;
 
@@ -157,4 +158,52 @@ pub fn undo(store: &mut Mem) -> Result<Told, StoreFault>
     }
     undo_item(store, &item)?;
     Ok(Told::Done)
+}
+
+/// The table of a name that a snapshot sees.
+pub fn named(
+    alloc: Global,
+    store: &mut Mem,
+    name: &[u8],
+    snapshot: &Snapshot,
+    me: Option<u64>,
+) -> Result<Told, StoreFault>
+    requires going { store.old.stopped ≡ false }
+    ensures going { OnOk result (store.new.stopped ≡ false) }
+{
+    let Ok(name) = name_of(alloc, name) else {
+        return Ok(Told::NotAsked);
+    };
+    if store.counted() == 0 {
+        return Ok(Told::NotAsked);
+    }
+    match find(store, &name, snapshot, me)? {
+        Ok(Some(entry)) => Ok(Told::Number(entry as u64)),
+        Ok(None) => Ok(Told::None),
+        Err(bad) => Ok(Told::entry(bad)),
+    }
+}
+
+/// Who changed a table since a snapshot was taken.
+pub fn changer(
+    alloc: Global,
+    store: &mut Mem,
+    entry: u8,
+    name: &[u8],
+    snapshot: &Snapshot,
+) -> Result<Told, StoreFault>
+    requires going { store.old.stopped ≡ false }
+    ensures going { OnOk result (store.new.stopped ≡ false) }
+{
+    let Ok(name) = name_of(alloc, name) else {
+        return Ok(Told::NotAsked);
+    };
+    if store.counted() == 0 || entry >= 32 {
+        return Ok(Told::NotAsked);
+    }
+    match changed(store, entry, &name, snapshot)? {
+        Ok(Some(x)) => Ok(Told::Number(x)),
+        Ok(None) => Ok(Told::None),
+        Err(bad) => Ok(Told::entry(bad)),
+    }
 }

@@ -27,6 +27,20 @@ pub enum Step<'a> {
     Drop {
         entry: u8,
     },
+    /// A Commit of the transaction.
+    Commit,
+    /// A snapshot is taken.
+    Snap,
+    /// `find` of a name by the snapshot, as the transaction or as none.
+    Name {
+        name: &'a [u8],
+        own: bool,
+    },
+    /// `changed` of an entry and a name.
+    Changed {
+        entry: u8,
+        name: &'a [u8],
+    },
     /// `undo_item` of the last item.
     Undo,
     /// `format` of a page of a bucket's chain.
@@ -193,6 +207,23 @@ pub fn step_of(text: &[u8]) -> Option<Step> {
     match word {
         b"begin" => Some(Step::Begin),
         b"undo" => Some(Step::Undo),
+        b"commit" => Some(Step::Commit),
+        b"snap" => Some(Step::Snap),
+        b"name" => Some(Step::Name {
+            name: rest,
+            own: true,
+        }),
+        b"others" => Some(Step::Name {
+            name: rest,
+            own: false,
+        }),
+        b"changed" => {
+            let (entry, name) = split_word(rest);
+            Some(Step::Changed {
+                entry: byte(entry),
+                name,
+            })
+        }
         b"drop" => Some(Step::Drop { entry: byte(rest) }),
         b"create" => {
             let (name, kinds) = split_word(rest);

@@ -7,7 +7,9 @@ use ctr_catalog::BadEntry;
 use ctr_disk::{SilentDisk, StoreFault};
 use ctr_page::{BadChain, BadPage, Place};
 use ctr_records::Record;
+use ctr_snap::Snapshot;
 use ctr_store::Store;
+use ctr_types::OutOfMemory;
 use std::alloc::{AllocError, Global};
 use std::marker::Brand;
 
@@ -120,4 +122,25 @@ pub fn begin(store: &mut Mem) -> Result<Told, StoreFault>
     }
     let _lsn = log_record(store, &Record::Begin { x })?;
     Ok(Told::Number(x))
+}
+
+/// Commits a transaction.
+pub fn commit(store: &mut Mem, x: u64) -> Result<Told, StoreFault>
+    requires going { store.old.stopped ≡ false }
+    ensures going { OnOk result (store.new.stopped ≡ false) }
+{
+    if !ready(store, 0, 0)? {
+        return Ok(Told::NotAsked);
+    }
+    let _lsn = log_record(store, &Record::Commit { x })?;
+    Ok(Told::Done)
+}
+
+/// A snapshot of what is committed now.
+pub fn snap(alloc: Global, store: &Mem) -> Result<Snapshot, OutOfMemory> {
+    let mut open = Vec::new(alloc);
+    for (xid, _heads) in store.meta().opens(alloc)?.iter() {
+        open.push(*xid)?;
+    }
+    Snapshot::take(alloc, store.meta().next(), &open)
 }

@@ -1,12 +1,12 @@
-use Rattle.std.proofs.Common.{◌≡◌, ℕ, ◌+◌, ◌/◌, ◌%◌, ◌<◌, inr, Option, None, Some, Ok, Err, true, false, sym, ◌∙◌, ap, subst, arith}
+use Rattle.std.proofs.Common.{◌+◌, ◌/◌, ◌%◌, inr, Ok, Err, sym, ◌∙◌, ap, subst}
 use Rattle.std.proofs.lemmas.Result.{err_from_is_err_and}
 use Rattle.ctr_redo.specs.States.{State}
 use Rattle.ctr_meta.specs.Kept.{TablesKept}
 use Rattle.ctr_changes.specs.States.{pages_in, area_in}
 use Rattle.ctr_calls.proofs.Joins.{answers_ok, answers_err}
-use Rattle.ctr_calls.proofs.PagesRead.{reads_on, still_goes, same_now, same_meta, was_read}
+use Rattle.ctr_calls.proofs.PagesRead.{reads_on, still_goes, same_now, same_meta}
 use Rattle.ctr_page.proofs.Searches.{passes_one}
-use Rattle.ctr_catalog.specs.Finding.{NamedSaid, stands_seen, is_made_so, checks_at, seen_in, EndsEntries}
+use Rattle.ctr_catalog.specs.Finding.{NamedSaid, stands_seen, is_made_so, checks_at, seen_in}
 use Rattle.ctr_catalog.proofs.Found.{seen_here}
 use Rattle.ctr_catalog.proofs.finding.find.Goals as goal
 

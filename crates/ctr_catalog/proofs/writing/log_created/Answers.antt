@@ -1,9 +1,9 @@
-use Rattle.std.proofs.Common.{◌≡◌, ℕ, ◌+◌, ◌*◌, ◌/◌, ◌%◌, ◌<◌, ◌^◌, [], ◌∷◌, length, sym, ap, ◌∙◌, subst, arith}
+use Rattle.std.proofs.Common.{◌≡◌, ℕ, ◌+◌, ◌*◌, ◌/◌, ◌%◌, ◌<◌, [], ◌∷◌, length, sym, ap, ◌∙◌, subst, arith}
 use Rattle.std.specs.Prelude.{OnOk}
 use Rattle.ctr_records.specs.declared.record.Overlay.{Overlay}
 use Rattle.ctr_records.specs.declared.record.Record.{Record}
 use Rattle.ctr_records.specs.declared.record.Record.TheVariants.{Create}
-use Rattle.ctr_redo.specs.States.{page_limit, page_at, step}
+use Rattle.ctr_redo.specs.States.{page_limit, page_at}
 use Rattle.ctr_area.specs.Areas.{Area}
 use Rattle.ctr_area.specs.Changes.{new_title, empty_chains, ChangesEntry}
 use Rattle.ctr_changes.specs.States.{area_in}

@@ -1,10 +1,8 @@
-use Rattle.std.proofs.Common.{◌+◌, ◌/◌, ◌%◌, Option, None, Some, Result, Ok, subst}
-use Rattle.std.specs.Prelude.{IfOk}
-use Rattle.ctr_redo.specs.States.{State}
+use Rattle.std.proofs.Common.{◌+◌, ◌/◌, ◌%◌, None, Ok, subst}
 use Rattle.ctr_changes.specs.States.{pages_in}
 use Rattle.ctr_calls.proofs.Joins.{pages_join}
 use Rattle.ctr_heap.specs.Finding.{BucketSaid, EndsBucket}
-use Rattle.ctr_heap.proofs.Said.{no_page, bucket_ends}
+use Rattle.ctr_heap.proofs.Said.{no_page}
 use Rattle.ctr_heap.proofs.buckets.search_bucket.Goals as goal
 
 pub returns-in-Ok-None-clause-ends : goal.returns-in-Ok-None-clause-ends

@@ -1,6 +1,5 @@
-use Rattle.std.proofs.Common.{◌≡◌, ℕ, ◌+◌, ◌/◌, ◌<◌, ◌^◌, [], ◌∷◌, List, length, Option, None, Some, sym, ap, ◌∙◌, subst, arith}
+use Rattle.std.proofs.Common.{◌≡◌, ℕ, ◌+◌, ◌/◌, ◌<◌, [], ◌∷◌, length, Option, None, Some, sym, ap, ◌∙◌, subst, arith}
 use Rattle.std.specs.Prelude.{IfSome}
-use Rattle.ctr_bytes.specs.Fields.{spelled}
 use Rattle.ctr_records.specs.declared.record.Overlay.{Overlay}
 use Rattle.ctr_records.specs.declared.record.Record.{Record}
 use Rattle.ctr_records.specs.declared.record.Record.TheVariants.{Link}
@@ -11,7 +10,7 @@ use Rattle.ctr_changes.specs.Changing.{laid_in_entry}
 use Rattle.ctr_store.specs.Store.{MayLog, Logs}
 use Rattle.ctr_calls.specs.OneRecord.{LogsOne}
 use Rattle.ctr_calls.proofs.Records.{both_ok}
-use Rattle.ctr_heap.specs.Writing.{front_place, front_record, with_front, IsOfTable}
+use Rattle.ctr_heap.specs.Writing.{front_record, with_front, IsOfTable}
 use Rattle.ctr_heap.proofs.OneRecord.{catalog_in_limit, front_is, front_may}
 use Rattle.ctr_heap.proofs.writing.link.Goals as goal
 
