@@ -7,7 +7,7 @@ use Rattle.ctr_page.specs.Reading.{piece}
 use Rattle.ctr_page.specs.Columns.{entry_in, entry_at}
 use Rattle.ctr_area.specs.Reading.{title_of, area_of}
 use Rattle.ctr_catalog.specs.declared.finding.MadeBy.{MadeBy}
-use Rattle.ctr_catalog.specs.Finding.{made_by, NamedSaid, stands_seen, change_of, is_made_so, change_made, seen_in, changed_in}
+use Rattle.ctr_catalog.specs.Finding.{made_by, NamedSaid, stands_seen, change_since, is_made_so, change_made, entry_seen, changed_in}
 
 module _ (pages : ℕ → List ℕ) (counted : ℕ) (tables : Tables) (s : SnapshotTaken) (name : List ℕ) (e : ℕ) (few : e < 32) (found : Option MadeBy)
     (said : NamedSaid counted name (e % 16) (pages (1 + e / 16)) (Ok found)) where
@@ -17,8 +17,8 @@ module _ (pages : ℕ → List ℕ) (counted : ℕ) (tables : Tables) (s : Snaps
   made_here : made_by name ((area_of pages).title e) ≡ found
   made_here = ap (made_by name) title_here ∙ sym said.1
 
-  pub seen_here : (me : Option ℕ) → seen_in tables s me name (area_of pages) e ≡ is_made_so (stands_seen tables s me) found
+  pub seen_here : (me : Option ℕ) → entry_seen tables s me name (area_of pages) e ≡ is_made_so (stands_seen tables s me) found
   seen_here me = ap (is_made_so (stands_seen tables s me)) made_here
 
-  pub changed_here : changed_in tables s name (area_of pages) e ≡ change_made (change_of tables s) found
-  changed_here = ap (change_made (change_of tables s)) made_here
+  pub changed_here : changed_in tables s name (area_of pages) e ≡ change_made (change_since tables s) found
+  changed_here = ap (change_made (change_since tables s)) made_here

@@ -46,8 +46,8 @@ stands_seen tables s me made =
     xid_is_seen tables s me made.creator && not (xid_is_seen tables s me made.dropper)
 
 -- who changed a table since the snapshot was taken: who dropped it, or else who made it
-abbrev pub change_of : Tables → SnapshotTaken → MadeBy → Option ℕ
-change_of tables s made =
+abbrev pub change_since : Tables → SnapshotTaken → MadeBy → Option ℕ
+change_since tables s made =
     if xid_is_changed tables s made.dropper then Some made.dropper else
     if xid_is_changed tables s made.creator then Some made.creator else None
 
@@ -59,8 +59,8 @@ is_made_so test None = false
 is_made_so test (Some made) = test made
 
 -- an entry is the live one of a name that a snapshot sees
-abbrev pub seen_in : Tables → SnapshotTaken → Option ℕ → List ℕ → Area → ℕ → Bool
-seen_in tables s me name area e =
+abbrev pub entry_seen : Tables → SnapshotTaken → Option ℕ → List ℕ → Area → ℕ → Bool
+entry_seen tables s me name area e =
     is_made_so (stands_seen tables s me) (made_by name (area.title e))
 
 -- who changed it, where there is such a table
@@ -70,7 +70,7 @@ change_made change (Some made) = change made
 
 -- who changed an entry, where it is a live one of the name
 abbrev pub changed_in : Tables → SnapshotTaken → List ℕ → Area → ℕ → Option ℕ
-changed_in tables s name area e = change_made (change_of tables s) (made_by name (area.title e))
+changed_in tables s name area e = change_made (change_since tables s) (made_by name (area.title e))
 
 -- what is wrong with an entry
 abbrev pub checks_at : ℕ → (ℕ → List ℕ) → ℕ → Result ⊤ BadRecord

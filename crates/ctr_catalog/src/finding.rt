@@ -5,7 +5,7 @@ ghost use Rattle.ctr_page.specs.declared.table.TheConstants.{PAGE_SIZE};
 ghost use Rattle.ctr_store.specs.Store.{LeavesPage};
 ghost use Rattle.ctr_changes.specs.States.{pages_in, area_in};
 ghost use Rattle.ctr_snap.specs.Seeing.{is_committed as has_committed};
-ghost use Rattle.ctr_catalog.specs.Finding.{NamedSaid, xid_is_seen, xid_is_changed, stands_seen, change_of, is_made_so, change_made, checks_at, seen_in, changed_in, EndsEntries, EndsEntry};
+ghost use Rattle.ctr_catalog.specs.Finding.{NamedSaid, xid_is_seen, xid_is_changed, stands_seen, change_since, is_made_so, change_made, checks_at, entry_seen, changed_in, EndsEntries, EndsEntry};
 
 use crate::entries::is_live_of;
 use crate::store::BadEntry;
@@ -104,7 +104,7 @@ fn is_sought(meta: &Meta, snapshot: &Snapshot, me: Option<Xid>, found: Option<Ma
 
 /// Who changed a table since a snapshot was taken.
 fn change(meta: &Meta, snapshot: &Snapshot, made: MadeBy) -> Option<Xid>
-    ensures { result ≡ change_of meta.now.tables snapshot.now made }
+    ensures { result ≡ change_since meta.now.tables snapshot.now made }
 {
     if is_changed(meta, snapshot, made.dropper) {
         return Some(made.dropper);
@@ -117,7 +117,7 @@ fn change(meta: &Meta, snapshot: &Snapshot, made: MadeBy) -> Option<Xid>
 
 /// The same of a table, or none.
 fn change_found(meta: &Meta, snapshot: &Snapshot, found: Option<MadeBy>) -> Option<Xid>
-    ensures { result ≡ change_made (change_of meta.now.tables snapshot.now) found }
+    ensures { result ≡ change_made (change_since meta.now.tables snapshot.now) found }
 {
     match found {
         None => None,
@@ -136,7 +136,7 @@ pub fn find<D: Disk, O: Origin>(
     requires going { store.old.stopped ≡ false }
     requires some { 0 < store.old.now.counted }
     ensures ends { IsTrue D.tells → IsSoundImage O.first
-        → IfOk result (λ r. EndsEntries (checks_at store.old.now.counted (pages_in store.old.now)) (seen_in store.old.meta.tables snapshot.now me name.now (area_in store.old.now)) r) }
+        → IfOk result (λ r. EndsEntries (checks_at store.old.now.counted (pages_in store.old.now)) (entry_seen store.old.meta.tables snapshot.now me name.now (area_in store.old.now)) r) }
     ensures leaves { LeavesPage O.first D.Disk store.old store.new result }
 {
     let counted = store.counted();

@@ -6,7 +6,7 @@ use Rattle.ctr_changes.specs.States.{pages_in, area_in}
 use Rattle.ctr_calls.proofs.Joins.{answers_ok, answers_err}
 use Rattle.ctr_calls.proofs.PagesRead.{reads_on, still_goes, same_now, same_meta}
 use Rattle.ctr_page.proofs.Searches.{passes_one}
-use Rattle.ctr_catalog.specs.Finding.{NamedSaid, stands_seen, is_made_so, checks_at, seen_in}
+use Rattle.ctr_catalog.specs.Finding.{NamedSaid, stands_seen, is_made_so, checks_at, entry_seen}
 use Rattle.ctr_catalog.proofs.Found.{seen_here}
 use Rattle.ctr_catalog.proofs.finding.find.Goals as goal
 
@@ -44,5 +44,5 @@ loop-entry-preserved g c = (
       let meta = c.meta.ensures.tables ∙ c.in_ok-bad.ensures.leaves.keeps.meta ∙ same_meta g.O.Origin.first g.D.Disk _ c.args.store.now c.loop-entry.store c.loop-entry.invariant.0 in
       let isnt = seen_here pages n c.args.store.now.meta.tables c.args.snapshot.now name e c.loop-entry-test.true c.in-Ok.found said c.args.me
       ∙ sym (ap (λ (m : TablesKept). is_made_so (stands_seen m.tables c.args.snapshot.now c.args.me) c.in-Ok.found) meta) ∙ sym c.if-is_sought.ensures in
-      passes_one (checks_at n pages) (seen_in c.args.store.now.meta.tables c.args.snapshot.now c.args.me name (area_in c.args.store.now.now)) 0 e (c.loop-entry.invariant.1 told sound) said.0 isnt,
+      passes_one (checks_at n pages) (entry_seen c.args.store.now.meta.tables c.args.snapshot.now c.args.me name (area_in c.args.store.now.now)) 0 e (c.loop-entry.invariant.1 told sound) said.0 isnt,
 )

@@ -4,11 +4,11 @@ use Rattle.ctr_base.specs.Base.{IsSoundImage}
 use Rattle.ctr_page.specs.Searching.{PassesBy}
 use Rattle.ctr_changes.specs.States.{pages_in, area_in}
 use Rattle.ctr_calls.proofs.PagesRead.{HasRead}
-use Rattle.ctr_catalog.specs.Finding.{checks_at, seen_in}
+use Rattle.ctr_catalog.specs.Finding.{checks_at, entry_seen}
 use Rattle.ctr_catalog.proofs.finding.find.Given as goal
 
 abbrev pub invariant-loop-entry : goal.invariant-loop-entry
 invariant-loop-entry g l =
     HasRead g.O.Origin.first g.D.Disk (l.entry ≡ 0) l.fn.store l.store
     × (IsTrue g.D.Disk.tells → IsSoundImage g.O.Origin.first
-    → PassesBy (checks_at l.counted (pages_in l.fn.store.now)) (seen_in l.fn.store.meta.tables l.snapshot l.me l.name (area_in l.fn.store.now)) 0 l.entry)
+    → PassesBy (checks_at l.counted (pages_in l.fn.store.now)) (entry_seen l.fn.store.meta.tables l.snapshot l.me l.name (area_in l.fn.store.now)) 0 l.entry)
