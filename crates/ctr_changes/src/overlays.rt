@@ -47,9 +47,5 @@ pub fn over_place<'a>(place: Place, size: usize, bytes: &'a [u8]) -> Overlay<'a>
     requires { start_of size place.slot ≤ PAGE_SIZE }
     ensures { result ≡ laid_on_place place size bytes.now }
 {
-    over_page(
-        place.page,
-        (16 + place.slot as usize * size) as u16,
-        bytes,
-    )
+    over_page(place.page, (16 + place.slot as usize * size) as u16, bytes)
 }
