@@ -6,6 +6,7 @@ use Rattle.std.proofs.lemmas.List.{append-nil, length-map}
 use Rattle.ctr_types.specs.declared.file.File.{File}
 use Rattle.ctr_types.specs.declared.file.File.TheVariants.{Pages}
 use Rattle.ctr_types.specs.declared.memory.OutOfMemory.{OutOfMemory as WantOfMemory}
+use Rattle.ctr_types.specs.Faults.{HasFault}
 use Rattle.ctr_disk.specs.declared.fault.StoreFault.{StoreFault}
 use Rattle.ctr_disk.specs.declared.fault.StoreFault.TheVariants as store
 use Rattle.ctr_home.specs.Reading.{IsFaultOr}
@@ -26,7 +27,7 @@ use Rattle.ctr_home.specs.declared.root.Form.TheVariants.{Paged}
 use Rattle.ctr_home.specs.Blocks.{value_of}
 use Rattle.ctr_home.specs.Roots.{SaysRootOf, root_block}
 use Rattle.ctr_log.specs.declared.visitor.Visit.{Visit}
-use Rattle.ctr_log.specs.Visits.{kept_visits, StopsAt, OnRead, IsToldBy}
+use Rattle.ctr_log.specs.Visits.{kept_visits, StopsAt, OnRead, EndsEarly, IsToldBy}
 use Rattle.ctr_log.proofs.VisitLaws.{kept_bytes}
 use Rattle.ctr_home.specs.Checks.{check_of, judged}
 use Rattle.ctr_log.proofs.KeptLaws.{picks}
@@ -54,7 +55,7 @@ use Rattle.ctr_base.specs.Homes.{HomesSince}
 use Rattle.ctr_base.proofs.HomeLaws.{since_first}
 use Rattle.ctr_store.specs.PageChecks.{PagesPass}
 use Rattle.ctr_store.specs.Redo.{StartsRedo}
-use Rattle.ctr_store.specs.Opening.{FindsFront, fault_told, read_told, LogPasses, OverlaidPass, RefusesLog, IsLater, IsUndamaged, OpensParts, AnswersOpen, RefusesAs, IsWornBy, worn_by, worn_in}
+use Rattle.ctr_store.specs.Opening.{FindsFront, fault_told, read_told, LogPasses, OverlaidPass, RefusesLog, IsLater, IsUndamaged, OpensParts, AnswersOpen, RefusesAs, opening_told, IsWornBy, worn_by, worn_in}
 
 -- there is none where there are none at most
 pub none_left : {A : Type 0} (l : List A) → length l ≤ 0 → l ≡ []
@@ -118,6 +119,34 @@ log_refused counts root image old new (visit.Refused r) e pages none told stops 
     })))
     (stops.because [] none))
 
+-- What a visitor refuses a record with is no fault, so the reading of a log counts as the log's own does.
+pub log_faults : (counts : ℕ → Type 0) (old : SeenLog) (cause : VisitError ReadError) (e : ReadError) → HasSeen counts old []
+    → IsToldBy (λ (s : StoreFault) (x : ReadError). x ≡ read.Store s) (λ (w : WantOfMemory) (x : ReadError). x ≡ read.OutOfMemory) cause e
+    → EndsEarly (HasSeen counts) (RefusesVisit counts) old cause → {T U : Type 0} (before now : ℕ) → HasFault {T = T} (visit.Read (read.Store store.Fault)) before now (Err cause)
+    → HasFault {T = U} (read.Store store.Fault) before now (Err e)
+log_faults counts old (visit.Read (read.Store store.Fault)) e none told early before now h = record {
+  later = h.later;
+  failed = λ is. h.failed refl;
+  fine = λ isnt. absurd (isnt (ap Err told));
+}
+log_faults counts old (visit.Read (read.Store (store.Damaged file at want got))) e none told early before now h = record {
+  later = h.later;
+  failed = λ is. absurd (cc (told, is));
+  fine = λ isnt. h.fine (λ is. cc is);
+}
+log_faults counts old (visit.Read read.OutOfMemory) e none told early before now h = record {
+  later = h.later;
+  failed = λ is. absurd (cc (told.1, is));
+  fine = λ isnt. h.fine (λ is. cc is);
+}
+log_faults counts old (visit.Refused r) e none told early before now h = record {
+  later = h.later;
+  failed = λ is.
+      let one = early.1 in
+      absurd (⊎_elim (λ memory. cc (told, memory, is)) (λ w. cc (told, w.3.2, is)) (one.because [] none));
+  fine = λ isnt. h.fine (λ is. cc is);
+}
+
 -- a root that is damaged is there
 root_there : (image : Image) (file : File) (at want got : ℕ) → IsRootDamage image (store.Damaged file at want got) → value_of RootBlock image ≢ None
 root_there image file at want got is none = ⊎_elim (λ w. absurd (cc (w.1, none))) (λ w. absurd (cc (w.1.0, none))) is
@@ -165,6 +194,12 @@ pub worn_undamaged : {T D : Type 0} (w : Option ℕ) (r : Result T (OpenError ×
 worn_undamaged w (Ok t) is = tt
 worn_undamaged None (Err e) is = absurd is
 worn_undamaged (Some n) (Err e) is = subst IsUndamaged (sym is) tt
+
+-- and no fault
+pub worn_faults : {T D : Type 0} (w : Option ℕ) (r : Result T (OpenError × D)) (before now : ℕ) → IsWornBy w r → now ≡ before → HasFault open_error.Fault before now (opening_told r)
+worn_faults w (Ok t) before now is same = record { later = omega (arith, same); failed = λ told. cc told; fine = λ isnt. same }
+worn_faults None (Err e) before now is same = absurd is
+worn_faults (Some n) (Err e) before now is same = record { later = omega (arith, same); failed = λ told. absurd (cc (is, told)); fine = λ isnt. same }
 
 -- of the log
 pub read_refused : (image : Image) (root : Root) (e : ReadError) → FindsRoot image (Some root) → RefusesLog root image e → RefusesAs image (read_told e)

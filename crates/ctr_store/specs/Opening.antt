@@ -1,5 +1,5 @@
 -- What an opening finds, and how it is refused.
-use Rattle.std.specs.Prelude.{◌≡◌, ◌≢◌, ◌⊎◌, ◌∷◌, ◌++◌, ◌+◌, ◌≤◌, ◌<◌, List, [], ℕ, length, nat_lt, if◌then◌else◌, Option, Some, None, Result, Ok, Err}
+use Rattle.std.specs.Prelude.{◌≡◌, ◌≢◌, ◌⊎◌, ◌∷◌, ◌++◌, ◌+◌, ◌≤◌, ◌<◌, List, [], ℕ, length, nat_lt, if◌then◌else◌, ⊤, Option, Some, None, Result, Ok, Err}
 use Rattle.ctr_disk.specs.declared.disk.Image.{Image}
 use Rattle.ctr_disk.specs.declared.fault.Root.{Root}
 use Rattle.ctr_disk.specs.declared.fault.StoreFault.{StoreFault}
@@ -124,6 +124,11 @@ pub record OpensParts {D O : Type 0} (first : Image) (g : Ghosts D) (root : Root
 abbrev pub disk_left : {D O : Type 0} → Result (Parts D O) (OpenError × D) → D
 disk_left (Ok s) = s.base.disk
 disk_left (Err e) = e.1
+
+-- the answer of an opening, without what was opened or the disk
+abbrev pub opening_told : {T D : Type 0} → Result T (OpenError × D) → Result ⊤ OpenError
+opening_told (Ok t) = Ok tt
+opening_told (Err e) = Err e.0
 
 -- a number at which no more may be logged: 2 ^ 62
 abbrev pub worn_at : ℕ

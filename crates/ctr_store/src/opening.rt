@@ -1,12 +1,13 @@
 // Opening: the root, the log with its records' checks, and the pages that its records are on.
 ghost use Rattle.std.specs.Prelude.{◌≡◌, ◌≢◌, ◌⊎◌, ◌≤◌, ◌<◌, ◌+◌, ◌^◌, IsTrue, ℕ, [], Ok, Err, None, length, IfOk, IfErr, OnOk, OnErr, MatchResult};
+ghost use Rattle.ctr_types.specs.Faults.{HasFault};
 ghost use Rattle.ctr_disk.specs.Device.{LeavesOnly, IsDurable, OnlyReads};
 ghost use Rattle.ctr_home.specs.declared.block.Block.TheVariants.{Root as RootBlock};
 ghost use Rattle.ctr_home.specs.declared.root.Form.TheVariants.{Paged};
 ghost use Rattle.ctr_home.specs.Blocks.{value_of};
 ghost use Rattle.ctr_home.specs.Roots.{IsRootOf, SaysRootOf};
 ghost use Rattle.ctr_store.specs.RecordChecks.{AllPass};
-ghost use Rattle.ctr_store.specs.Opening.{IsEmptyWithRoom, IsNewlyOpened, FindsLog, FindsFront, RefusesLog, RefusesAs, OpensParts, disk_left, worn_by, IsWornBy, IsLater, IsUndamaged, AnswersOpen, LeavesFirst};
+ghost use Rattle.ctr_store.specs.Opening.{IsEmptyWithRoom, IsNewlyOpened, FindsLog, FindsFront, RefusesLog, RefusesAs, OpensParts, disk_left, opening_told, worn_by, IsWornBy, IsLater, IsUndamaged, AnswersOpen, LeavesFirst};
 ghost use Rattle.ctr_store.specs.declared.opening.OpenError.TheVariants.{Fault, OutOfMemory as NoMemory};
 ghost use Rattle.ctr_redo.specs.States.{state_of};
 ghost use Rattle.ctr_redo.specs.Images.{stored_in, IsSound, FoldsFront};
@@ -111,6 +112,7 @@ fn read_log<D: Disk, O: Origin>(
     ensures refused { IsTrue D.tells → IfErr result (RefusesLog root.now (D.reads disk.old)) }
     ensures undamaged { IsTrue D.tells → IsSound root.now (D.reads disk.old) → IfErr result (λ e. (e ≡ ReadStore StoreFailed) ⊎ (e ≡ ReadMemory)) }
     ensures quiet { OnlyReads D.Disk disk.old disk.new }
+    ensures faults { HasFault (ReadStore StoreFailed) (D.faults_of disk.old) (D.faults_of disk.new) result }
 {
     let mut seen = Seen::<D, O>::new(alloc, root.pages);
     let mut log = read_all(alloc, disk, root, &mut seen)?;
@@ -128,6 +130,7 @@ fn read_front<D: Disk, O: Origin>(alloc: Global, disk: &mut D) -> Result<(Root, 
     ensures undamaged { IsTrue D.tells → IsSoundImage O.first → IfErr result IsUndamaged }
     ensures quiet { OnlyReads D.Disk disk.old disk.new }
     ensures durable { OnOk result (IsDurable D.Disk disk.new) }
+    ensures faults { HasFault Fault (D.faults_of disk.old) (D.faults_of disk.new) result }
 {
     let Some(root) = find_root(disk)? else {
         return Err(OpenError::NoDatabase);
@@ -153,6 +156,7 @@ fn bring_forward<D: Disk, O: Origin>(
     ensures refused { IsTrue D.tells → IfErr result (λ e. IsSoundImage O.first → (e.0 ≡ Fault) ⊎ (e.0 ≡ NoMemory)) }
     ensures later { IsTrue D.tells → IfErr result (λ e. IsLater root O.first e.0) }
     ensures room { IfOk result (λ s. IsEmptyWithRoom s.base.log) }
+    ensures faults { HasFault Fault (D.faults_of disk) (D.faults_of (disk_left result)) (opening_told result) }
 {
     let Found { log, meta, visits } = found;
     let Ok(pool) = Pool::new(alloc, frames) else {
@@ -216,6 +220,7 @@ fn finish<D: Disk, O: Origin>(
     ensures undamaged { IsTrue D.tells → IsSoundImage O.first → IfErr result (λ e. IsUndamaged e.0) }
     ensures ready { IfOk result IsNewlyOpened }
     ensures goes { IsTrue D.tells → IsSoundImage O.first → LeavesOnly D.Disk disk (disk_left result) (FoldsFront (state_of (stored_in root O.first)) []) }
+    ensures faults { HasFault Fault (D.faults_of disk) (D.faults_of (disk_left result)) (opening_told result) }
 {
     match bring_forward::<D, O>(alloc, disk, frames, root, found) {
         Ok(parts) => refuse_worn(parts),
@@ -233,6 +238,8 @@ impl<D: Disk, O: Origin> Parts<D, O> {
         ensures undamaged { IsTrue D.tells → IsSoundImage O.first → IfErr result (λ e. IsUndamaged e.0) }
         ensures ready { IfOk result IsNewlyOpened }
         ensures any_moment { IsTrue D.tells → IsSoundImage O.first → LeavesOnly D.Disk disk (disk_left result) (LeavesFirst O.first (D.images disk)) }
+        // It says that the disk failed only where a call of it did.
+        ensures faults { HasFault Fault (D.faults_of disk) (D.faults_of (disk_left result)) (opening_told result) }
     {
         let mut disk = disk;
         match read_front::<D, O>(alloc, &mut disk) {

@@ -8,7 +8,8 @@ ghost use Rattle.std.specs.Borrow.{sem};
 ghost use Rattle.std.specs.Io.BufRead.{Rests};
 ghost use Rattle.ctr_disk.specs.Device.{LeavesOnly};
 ghost use Rattle.ctr_redo.specs.States.{page_limit, page_at, grown};
-ghost use Rattle.ctr_store.specs.Opening.{LeavesFirst, IsUndamaged};
+ghost use Rattle.ctr_store.specs.Opening.{LeavesFirst, IsUndamaged, opening_told};
+ghost use Rattle.ctr_store.specs.declared.opening.OpenError.TheVariants.{Fault as OpenFault};
 ghost use Rattle.ctr_store.specs.Store.{LeavesFront, LeavesPage, Logs, MayLog, unmet_need, RefusesUnfit, TakesRecord, KeepsRoom, LeavesGrowing, GrowsByExtent, StaysBeside};
 ghost use Rattle.ctr_store.specs.StoreOpening.{AnswersStore, IsOpened, store_left};
 
@@ -59,6 +60,8 @@ impl<D: Disk, O: Origin> Store<D, O> {
         ensures undamaged { IsTrue D.tells → IsSoundImage O.first → IfErr result (λ e. IsUndamaged e.0) }
         ensures fresh { IfOk result IsOpened }
         ensures any_moment { IsTrue D.tells → IsSoundImage O.first → LeavesOnly D.Disk disk (store_left result) (LeavesFirst O.first (D.images disk)) }
+        // It says that the disk failed only where a call of it did.
+        ensures faults { HasFault OpenFault (D.faults_of disk) (D.faults_of (store_left result)) (opening_told result) }
     {
         match Parts::<D, O>::open(alloc, disk, frames) {
             Ok(parts) => Ok(Store {
