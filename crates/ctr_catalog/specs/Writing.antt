@@ -24,7 +24,7 @@ abbrev pub EndsMaking : ℕ → (ℕ → List ℕ) → Result ℕ CatalogRefusal
 EndsMaking counted pages (Ok e) = IsFirst (is_free_entry (area_of pages)) 0 32 (Some e)
 EndsMaking counted pages (Err CatalogFull) = IsFirst (is_free_entry (area_of pages)) 0 32 None
 EndsMaking counted pages (Err (Damaged bad)) = EndsCatalog counted pages (Err bad)
-EndsMaking counted pages (Err (Store fault)) = Unit {0}
+EndsMaking counted pages (Err (Store cause)) = Unit {0}
 
 -- Its record is logged, by the entry; where no entry is free, or one is damaged, pages were read; where
 -- the store refused, nothing is logged.
@@ -33,8 +33,8 @@ abbrev pub MakesTable : {D : Type 0} → Image → Ghosts D → (ℕ → Record)
 MakesTable first g made a b (Ok e) = LogsOne {T = ℕ} first g (made e) a b (Ok e)
 MakesTable first g made a b (Err CatalogFull) = LeavesPage {T = ⊤} first g a b (Ok tt)
 MakesTable first g made a b (Err (Damaged bad)) = LeavesPage {T = ⊤} first g a b (Ok tt)
-MakesTable first g made a b (Err (Store fault)) =
-    (e : ℕ) × LogsOne {T = ℕ} first g (made e) a b (Err fault)
+MakesTable first g made a b (Err (Store cause)) =
+    (e : ℕ) × LogsOne {T = ℕ} first g (made e) a b (Err cause)
 
 -- ---- an item
 
