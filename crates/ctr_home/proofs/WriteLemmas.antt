@@ -133,22 +133,28 @@ page_apart p q home h at n apart inside = elim (cases_lt p q) [
     end First = omega arith
     end Second = omega arith
 
--- the value of another block
+-- what another block's homes hold, and its value
 module _ (old new : Image) (at n : ℕ) where
-  others_by : (b c : Block) (home : Home) → (c ≡ b → ⊥) → IsInHome b home at n → at ≤ length (content (file_of b) old) → TornImage (file_of b) at n old new → value_of c new ≡ value_of c old
-  others_by Root Root home apart inside fits torn = absurd (apart refl)
-  others_by Root (Page q) home apart inside fits torn = ap (λ (i : Image). value_in (Page q) i.pages) torn.others
-  others_by (Page p) Root home apart inside fits torn = ap (λ (i : Image). value_in Root i.root) torn.others
-  others_by (Page p) (Page q) home apart inside fits torn =
+  homes_by : (b c : Block) (home : Home) → (c ≡ b → ⊥) → IsInHome b home at n → at ≤ length (content (file_of b) old) → TornImage (file_of b) at n old new → (h : Home)
+      → held_at c h (content (file_of c) new) ≡ held_at c h (content (file_of c) old)
+  homes_by Root Root home apart inside fits torn h = absurd (apart refl)
+  homes_by Root (Page q) home apart inside fits torn h = ap (λ (i : Image). held_at (Page q) h i.pages) torn.others
+  homes_by (Page p) Root home apart inside fits torn h = ap (λ (i : Image). held_at Root h i.root) torn.others
+  homes_by (Page p) (Page q) home apart inside fits torn h =
       let differ : p ≡ q → ⊥ = λ e. apart (ap Page (sym e)) in
-      let one : (h : Home) → held_at (Page q) h new.pages ≡ held_at (Page q) h old.pages =
-      λ h. ap (opens_to (Page q)) (elsewhere at n (home_place (Page q) h) 4128 old.pages new.pages torn.torn fits (page_apart p q home h at n differ inside)) in
-      ap (λ (o : Option BlockValue). greater o (held_at (Page q) Second new.pages)) (one First) ∙ ap (λ (o : Option BlockValue). greater (held_at (Page q) First old.pages) o) (one Second)
+      ap (opens_to (Page q)) (elsewhere at n (home_place (Page q) h) 4128 old.pages new.pages torn.torn fits (page_apart p q home h at n differ inside))
+
+  others_by : (b c : Block) (home : Home) → (c ≡ b → ⊥) → IsInHome b home at n → at ≤ length (content (file_of b) old) → TornImage (file_of b) at n old new → value_of c new ≡ value_of c old
+  others_by b c home apart inside fits torn =
+      let one = homes_by b c home apart inside fits torn in
+      ap (λ (o : Option BlockValue). greater o (held_at c Second (content (file_of c) new))) (one First)
+      ∙ ap (λ (o : Option BlockValue). greater (held_at c First (content (file_of c) old)) o) (one Second)
 
   -- all else stays where a write inside a home is torn
   pub others_torn : (b : Block) (home : Home) → IsInHome b home at n → at ≤ length (content (file_of b) old) → TornImage (file_of b) at n old new → OthersStay b old new
   others_torn b home inside fits torn = record {
     files = torn.others;
+    homes = λ c differ. homes_by b c home differ inside fits torn;
     blocks = λ c differ. others_by b c home differ inside fits torn;
     no_shorter = torn.torn.no_shorter;
   }
@@ -159,7 +165,7 @@ module _ (old new : Image) (at n : ℕ) where
       ap (opens_to b) (elsewhere at n (home_place b (other home)) (home_len b) (content (file_of b) old) (content (file_of b) new) torn.torn fits (beside_apart b home at n inside))
 
 pub others_same : (b : Block) (old new : Image) → new ≡ old → OthersStay b old new
-others_same b old new is = subst (OthersStay b old) (sym is) (record { files = same_file (file_of b); blocks = λ c differ. refl; no_shorter = omega arith })
+others_same b old new is = subst (OthersStay b old) (sym is) (record { files = same_file (file_of b); homes = λ c differ h. refl; blocks = λ c differ. refl; no_shorter = omega arith })
   where
     same_file : (f : File) → OtherFilesStay f old old
     same_file RootFile = refl
@@ -170,6 +176,7 @@ others_same b old new is = subst (OthersStay b old) (sym is) (record { files = s
 pub others_then : (b : Block) (old mid new : Image) → OthersStay b old mid → OthersStay b mid new → OthersStay b old new
 others_then b old mid new first second = record {
   files = same_but (file_of b) old mid new first.files second.files;
+  homes = λ c differ h. second.homes c differ h ∙ first.homes c differ h;
   blocks = λ c differ. second.blocks c differ ∙ first.blocks c differ;
   no_shorter = omega (arith, first.no_shorter, second.no_shorter);
 }

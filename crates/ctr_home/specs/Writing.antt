@@ -37,9 +37,12 @@ abbrev pub other : Home → Home
 other First = Second
 other Second = First
 
--- The other files and all other blocks are as they were, and the file isn't shorter.
+-- The other files and all other blocks are as they were, in each of their homes too, and the file
+-- isn't shorter.
 pub record OthersStay (b : Block) (old new : Image) : Type 0 where
   pub files : OtherFilesStay (file_of b) old new
+  pub homes : (c : Block) → c ≢ b → (h : Home)
+      → held_at c h (content (file_of c) new) ≡ held_at c h (content (file_of c) old)
   pub blocks : (c : Block) → c ≢ b → value_of c new ≡ value_of c old
   pub no_shorter : length (content (file_of b) old) ≤ length (content (file_of b) new)
 
