@@ -1,0 +1,11 @@
+pub mod Members
+pub mod Along
+pub mod Gathering
+pub mod OneSlot
+pub mod Slots
+pub mod Kept
+pub mod Bounds
+pub mod Room
+pub mod Pointers
+pub mod Owned
+pub mod Xids
