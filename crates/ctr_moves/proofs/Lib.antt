@@ -9,3 +9,8 @@ pub mod Room
 pub mod Pointers
 pub mod Owned
 pub mod Xids
+pub mod Writes
+pub mod Fitting
+pub mod Written
+pub mod Heads
+pub mod RowLaw

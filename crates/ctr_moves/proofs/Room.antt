@@ -89,9 +89,9 @@ length-pages (suc n) head p =
 bound : (l m most : ℕ) → l ≤ m * 170 → m ≤ most → l ≤ most * 170
 bound l m most one two = omega (arith, one, two)
 
-most_is : pages_bound * 170 ≡ older_bound
+bound_is : pages_bound * 170 ≡ older_bound
 unfolding older_bound pages_bound
-most_is = refl
+bound_is = refl
 
 module _ (area : Area) (rooms : (q : ℕ) → area.room q ≤ 170) where
   length-on : (ps : List ℕ) → length (flat_map (λ q. places_on q 0 (area.room q)) ps) ≤ length ps * 170
@@ -101,7 +101,7 @@ module _ (area : Area) (rooms : (q : ℕ) → area.room q ≤ 170) where
       (omega (arith, rooms p, length-on ps))
 
   pub kept_room : (e : ℕ) → length (older_places area e) ≤ older_bound
-  kept_room e = subst (λ m. length (older_places area e) ≤ m) most_is
+  kept_room e = subst (λ m. length (older_places area e) ≤ m) bound_is
       (bound (length (older_places area e)) (length (pages_from pages_bound area.header (area.firsts e).versions)) pages_bound (length-on (pages_from pages_bound area.header (area.firsts e).versions)) (length-pages pages_bound area.header (area.firsts e).versions))
 
   -- with an entry of the table that isn't on the way there is a step to spare
@@ -133,9 +133,9 @@ leads_to older is (suc n) m p le leads = ⊎_elim (λ lt. leads_more older is n 
     all : (m n : ℕ) → m ≤ suc n → suc n ≤ m → m ≡ suc n
     all m n le ge = omega (arith, le, ge)
 
-pub most_suc : (n : ℕ) × (older_bound ≡ suc n)
+pub bound_suc : (n : ℕ) × (older_bound ≡ suc n)
 unfolding older_bound
-most_suc = (5099999, refl)
+bound_suc = (5099999, refl)
 
 pub pages_nonzero : (n : ℕ) (head : ℕ → Header) (first p : ℕ) → IsAmong p (pages_from n head first) → p ≡ 0 → ⊥
 pages_nonzero zero head first p in_ z = in_

@@ -1,5 +1,5 @@
 -- A Row: how a slot is written, and what the record owes.
-use Rattle.std.specs.Prelude.{◌≡◌, ℕ, ◌<◌, ℤ, Bool, true, false, ◌&&◌, not, Option, Some, None, is_some, if◌then◌else◌}
+use Rattle.std.specs.Prelude.{◌≡◌, ℕ, ℤ, Bool, true, false, ◌&&◌, not, Option, Some, None, is_some, if◌then◌else◌}
 use Rattle.ctr_types.specs.declared.value.Row.{Row}
 use Rattle.ctr_versions.specs.Chains.{Numbers}
 use Rattle.ctr_meta.specs.Tables.{Tables, is_in}
@@ -85,10 +85,8 @@ FitsWriting (HeadKept q) committed area e key at = IsSlotOfKey area e key at
     × IsSpareCopy area e (area.slot at) (area.slot at).head q
 FitsWriting FirstVersion committed area e key at = IsRoomFor area e key at
 
--- What a Row owes: the entry is one of the catalog's, who writes is open, and the way fits what stands
--- in the slot.
+-- What a Row owes: who writes is open, and the way fits what stands in the slot.
 pub record OwedByRow (tables : Tables) (area : Area) (m : RowMove) : Type 0 where
-  pub inside : m.entry < 32
   pub is_open : is_in m.xid tables.opens ≡ true
   pub fits : FitsWriting m.writing (is_committed_in tables) area m.entry m.key m.at
 
