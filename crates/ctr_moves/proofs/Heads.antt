@@ -33,13 +33,13 @@ no_and true true = refl
 no_and true false = refl
 no_and false b = refl
 
-turn : (x y : ℕ) → (x == y) ≡ (y == x)
+pub turn : (x y : ℕ) → (x == y) ≡ (y == x)
 turn x y = known (x == y) (λ is. is ∙ sym (eq-eqb y x (sym (eqb-true x y is)))) (λ isnt. isnt ∙ sym (ne_eqb y x (λ is. false≢true (sym isnt ∙ eq-eqb x y (sym is)))))
 
 zero_plus : (n m : ℕ) → n + 0 ≡ m → n ≡ m
 zero_plus n m is = omega (arith, is)
 
-plus_zero : (n : ℕ) → n ≡ n + 0
+pub plus_zero : (n : ℕ) → n ≡ n + 0
 plus_zero n = omega arith
 
 module _ (next : ℕ) (area : Area) (tables : Tables) (below : NumbersBelow next (xids_in tables.opens ++ xids_in tables.aborted) area) where

@@ -8,15 +8,13 @@ use Rattle.ctr_area.proofs.Places.{same_place_itself}
 use Rattle.ctr_area.specs.Areas.{RowVersion, Slot, Older, Area}
 use Rattle.ctr_area.specs.Chains.{older_bound, slot_places, places_along, if_any, chain_of, Leads}
 use Rattle.ctr_area.specs.Changes.{with_older}
-use Rattle.ctr_area.specs.Images.{is_committed_in, rows_of_entry, entry_numbers, versions_in, image_rows, tables_standing, is_standing}
-use Rattle.ctr_area.specs.Sound.{IsAmong, xids_in, IsUsedSlot, AreBehind, IsKeptFor, along, ArePointed, NumbersBelow, IsSoundArea}
-use Rattle.ctr_meta.specs.Tables.{Tables}
+use Rattle.ctr_area.specs.Images.{rows_of_entry, entry_numbers, versions_in, image_rows, tables_standing, is_standing}
+use Rattle.ctr_area.specs.Sound.{IsAmong, IsUsedSlot, AreBehind, IsKeptFor, along, ArePointed}
 use Rattle.ctr_model.specs.Database.{name_cmp}
 use Rattle.ctr_moves.proofs.Along.{versions_at, same_along, all_along, leads_same, same_versions}
 use Rattle.ctr_moves.proofs.Gathering.{same_gathered}
 use Rattle.ctr_moves.proofs.Members.{all_each}
-use Rattle.ctr_moves.proofs.OneSlot.{other_place, place_cases}
-use Rattle.ctr_moves.specs.Keeping.{OwedByKeep}
+use Rattle.ctr_moves.proofs.OneSlot.{other_place}
 use Rattle.ctr_page.specs.declared.rows.Place.{Place}
 use Rattle.ctr_versions.specs.Listing.{entries_seen}
 
@@ -92,26 +90,3 @@ module _ (area : Area) (at : Place) (k : Older) (free : (area.older at).used ≡
   not_along e b used in_ =
       let its = each_of (λ q. IsKeptFor area e (area.slot b).key q (area.older q)) at (along area b) (all_along area.older (IsKeptFor area e (area.slot b).key) older_bound (area.slot b).pointer (pointers.lead e b used)) in_ in
       false≢true (sym free ∙ its.1)
-
-pub keep_sound : (counted : ℕ) (tables : Tables) (area : Area) (at : Place) (k : Older) → IsSoundArea counted tables area → OwedByKeep tables area at k → IsSoundArea counted tables (with_older at k area)
-keep_sound counted tables area at k sound fits = record {
-  readable = record { rows = sound.readable.rows; versions = sound.readable.versions };
-  behind = behind_stays area at k (kept_chains area at k fits.free sound.pointers) (is_committed_in tables) sound.behind;
-  counts = sound.counts;
-  owned = record { once = sound.owned.once; inside = sound.owned.inside; uncounted = sound.owned.uncounted; allocs = sound.owned.allocs; creates = sound.owned.creates; drops = sound.owned.drops };
-  keys = record { once = sound.keys.once; bucket = sound.keys.bucket };
-  pointers = kept_pointers area at k fits.free sound.pointers;
-  names = sound.names;
-  below = older_below tables.next (xids_in tables.opens ++ xids_in tables.aborted) area at k (λ used. fits.drawn) sound.below;
-}
-  where
-    older_below : (next : ℕ) (xids : List ℕ) (area : Area) (at : Place) (k : Older) → (k.used ≡ true → k.version.0 < next) → NumbersBelow next xids area → NumbersBelow next xids (with_older at k area)
-    older_below next xids area at k drawn below = record {
-      slots = below.slots;
-      older = λ e q in_ used. place_cases q at
-          (λ is. subst (λ (j : Older). j.version.0 < next) (sym (older_here area at k q is)) (drawn (ap (λ (j : Older). j.used) (sym (older_here area at k q is)) ∙ used)))
-          (λ isnt. subst (λ (j : Older). j.version.0 < next) (sym (older_apart area at k q isnt)) (below.older e q in_ (ap (λ (j : Older). j.used) (sym (older_apart area at k q isnt)) ∙ used)));
-      entries = below.entries;
-      drawn = below.drawn;
-      once = below.once;
-    }

@@ -14,3 +14,8 @@ pub mod Fitting
 pub mod Written
 pub mod Heads
 pub mod RowLaw
+pub mod Cleaned
+pub mod RevertLaw
+pub mod TrimLaw
+pub mod CutLaw
+pub mod EntryLaws

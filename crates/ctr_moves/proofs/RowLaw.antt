@@ -12,7 +12,7 @@ use Rattle.ctr_meta.specs.Tables.{Tables}
 use Rattle.ctr_moves.proofs.Fitting.{fitting, place_of, old_key, alone, of_its_bucket, now_in_use, of_the_key, has_head, previous_below}
 use Rattle.ctr_moves.proofs.Heads.{listed_drawn, row_counts}
 use Rattle.ctr_moves.proofs.OneSlot.{place_cases, slot_here, slot_apart, was_used}
-use Rattle.ctr_moves.proofs.Owned.{slot_once, one_table}
+use Rattle.ctr_moves.proofs.Owned.{slot_inside, slot_once, one_table}
 use Rattle.ctr_moves.proofs.Pointers.{slot_pointers}
 use Rattle.ctr_moves.proofs.Slots.{slot_set, slot_was, slot_wasnt}
 use Rattle.ctr_moves.proofs.Writes.{write_behind}

@@ -32,7 +32,7 @@ rows_sorted committed area i = ⊎_elim
     (λ lt. subst (λ slots. T (is_sorted int_cmp slots)) (sym (slots_here committed area i lt)) (sorted-gathered area.older area.slot (slot_places area i)))
     (λ le. subst (λ slots. T (is_sorted int_cmp slots)) (sym (slots_past committed area i le)) tt) (cases_lt i 32)
 
-abbrev chain_found : Option (List RowVersion) → List RowVersion
+abbrev pub chain_found : Option (List RowVersion) → List RowVersion
 chain_found o = unwrap_or o []
 
 -- ---- one slot

@@ -1,4 +1,5 @@
-use Rattle.ctr_moves.proofs.Kept.{versions_stay, image_stays, kept_chains, keep_sound}
+use Rattle.ctr_moves.proofs.Kept.{versions_stay, image_stays, kept_chains}
+use Rattle.ctr_moves.proofs.EntryLaws.{keep_sound}
 use Rattle.ctr_moves.proofs.keeping.a_keep_shows_the_same.Goals as goal
 
 pub returns-clause-versions : goal.returns-clause-versions
