@@ -1,0 +1,8 @@
+-- What every area has that is read from pages.
+use Rattle.std.specs.Prelude.{◌≡◌, ℕ, ◌≤◌}
+use Rattle.ctr_area.specs.Areas.{no_pages, Area}
+
+-- The catalog has 32 entries, and a page has room for at most 170 slots or version entries.
+pub record IsInBounds (area : Area) : Type 0 where
+  pub entries : (e : ℕ) → 32 ≤ e → area.firsts e ≡ no_pages
+  pub rooms : (p : ℕ) → area.room p ≤ 170

@@ -1,0 +1,5 @@
+pub mod Bounds
+pub mod Keeping
+pub mod Rows
+pub mod Reverts
+pub mod Trims
