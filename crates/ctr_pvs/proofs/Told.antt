@@ -1,0 +1,103 @@
+-- What the checks of a page and of its table say, where they pass.
+use Rattle.std.proofs.Common.{◌≡◌, ℕ, ◌+◌, ◌-◌, ◌/◌, ◌<◌, ◌≤◌, cond, List, drop, length, Result, Ok, Err, refl, sym, ◌∙◌, ap, subst, arith}
+use Rattle.std.specs.Prelude.{nat_lt, nat_le, true, ⊤}
+use Rattle.ctr_versions.proofs.Keys.{known}
+use Rattle.std.proofs.Math.Nat.{le-div_iff_mul-le}
+use Rattle.std.proofs.lemmas.Bool.{ltb-false, le-ltb, leb-true}
+use Rattle.ctr_bytes.specs.Fields.{field}
+use Rattle.ctr_bytes.specs.Following.{◌>>=◌}
+use Rattle.ctr_records.specs.declared.decoding.BadRecord.{BadRecord}
+use Rattle.ctr_records.specs.Damage.{wrong, expect, at_most}
+use Rattle.ctr_records.proofs.Reading.{bind_ok, guard_ok, expect_ok}
+use Rattle.ctr_page.specs.declared.walk.BadChain.{BadChain}
+use Rattle.ctr_page.specs.declared.header.Header.{Header}
+use Rattle.ctr_page.specs.declared.rows.Place.{Place}
+use Rattle.ctr_page.specs.Places.{slot_size, kept_size, room_for, start_of}
+use Rattle.ctr_page.specs.Reading.{header_in}
+use Rattle.ctr_page.specs.Columns.{kinds_of, kinds_width, columns_in}
+use Rattle.ctr_page.proofs.Holding.{kinds_wide, most_ok}
+use Rattle.ctr_page.proofs.Searches.{lies_on_page}
+use Rattle.ctr_area.specs.Reading.{no_header, entry_bytes, header_on, columns_on, width_on, size_on}
+use Rattle.ctr_area.specs.Changes.{IsPlaceOf}
+use Rattle.ctr_area.proofs.Written.{one_of_two}
+use Rattle.ctr_pvs.specs.declared.table.TableOf.{TableOf}
+use Rattle.ctr_pvs.specs.Table.{there_check, owner_check, catalog_check, told_of, owner_of, TableSaid}
+use Rattle.ctr_pvs.specs.Reading.{kinds_said, lies_check}
+
+-- what is wrong on a page isn't, where it passes
+pub told_ok : (p : ℕ) (r : Result ⊤ BadRecord) → told_of p r ≡ Ok tt → r ≡ Ok tt
+told_ok p (Ok x) e = refl
+told_ok p (Err bad) e = absurd cc
+
+-- one check and another behind it
+pub chain_ok : {A B : Type 0} (r : Result A BadChain) (f : A → Result B BadChain) (y : B) → (r >>= f) ≡ Ok y → (x : A) × (r ≡ Ok x) × (f x ≡ Ok y)
+chain_ok (Ok x) f y e = (x, refl, e)
+chain_ok (Err d) f y e = absurd cc
+
+pub behind_catalog : (counted p : ℕ) → there_check counted p ≡ Ok tt → 3 ≤ p
+behind_catalog counted p e = ltb-false p 3 (guard_ok (nat_lt p 3) (wrong 0 3 p) (at_most 0 (counted - 1) p) tt e).0
+
+-- what is behind the catalog has a header
+pub header_here : (pages : ℕ → List ℕ) (p : ℕ) → 3 ≤ p → header_on pages p ≡ header_in (pages p)
+header_here pages p le = ap (λ t. cond t no_header (header_in (pages p))) (le-ltb p 3 le)
+
+-- the page of a table
+pub record IsPageOf (kind : ℕ) (pages : ℕ → List ℕ) (p : ℕ) (t : TableOf) : Type 0 where
+  pub behind : 3 ≤ p
+  pub of_kind : (header_on pages p).kind ≡ kind
+  pub entry : (header_on pages p).entry ≡ t.entry
+  pub kinds : kinds_said t ≡ kinds_of (columns_on pages p)
+  pub wide : kinds_width (kinds_said t) ≡ width_on pages p
+
+pub page_of_table : (kind counted : ℕ) (pages : ℕ → List ℕ) (p : ℕ) (t : TableOf) → TableSaid kind counted pages p (Ok t) → IsPageOf kind pages p t
+page_of_table kind counted pages p t said =
+    let page = pages p in
+    let owner = told_ok p (owner_check kind counted p page) (chain_ok (told_of p (owner_check kind counted p page)) (λ _. told_of (1 + owner_of page / 16) (catalog_check counted pages (owner_of page))) tt said.0).1 in
+    let f2 : ⊤ → Result ⊤ BadRecord = λ _. at_most 1 31 (field 1 1 page) in
+    let f1 : ⊤ → Result ⊤ BadRecord = λ _. expect 0 kind (field 1 0 page) >>= f2 in
+    let there = bind_ok (there_check counted p) f1 tt owner in
+    let is = bind_ok (expect 0 kind (field 1 0 page)) f2 tt there.2 in
+    let behind = behind_catalog counted p there.1 in
+    let header = header_here pages p behind in
+    let named : (header_on pages p).entry ≡ t.entry = ap (λ (h : Header). h.entry) header ∙ sym said.1 in
+    let same : kinds_said t ≡ kinds_of (columns_on pages p) = said.2 ∙ ap (λ e. kinds_of (columns_in (entry_bytes pages e))) (sym named) in
+    record {
+      behind = behind;
+      of_kind = ap (λ (h : Header). h.kind) header ∙ sym (expect_ok 0 kind (field 1 0 page) is.1);
+      entry = named;
+      kinds = same;
+      wide = ap kinds_width same ∙ kinds_wide (drop 1 (columns_on pages p));
+    }
+
+-- a page has a place of a number that passes
+pub lies_below : (size number : ℕ) → 0 < size → size ≤ 4080 → lies_check size number ≡ Ok tt → number < room_for size
+lies_below size number some narrow e =
+    let fits : 1 ≤ 4080 / size = (le-div_iff_mul-le {k = size} {x = 1} {y = 4080} some).1 (omega (arith, narrow)) in
+    omega (arith, fits, most_ok 0 (room_for size - 1) number e)
+
+pub lies_inside : (size number : ℕ) → 0 < size → size ≤ 4080 → lies_check size number ≡ Ok tt → start_of size number + size ≤ 4096
+lies_inside size number some narrow e = lies_on_page size number (lies_below size number some narrow e)
+
+pub lies_there : (size same number long : ℕ) → size ≡ same → 0 < size → size ≤ 4080 → lies_check size number ≡ Ok tt → long ≡ 4096 → start_of same number + same ≤ long
+lies_there size same number long is some narrow e whole = subst (λ n. start_of n number + n ≤ long) is (subst (λ l. start_of size number + size ≤ l) (sym whole) (lies_inside size number some narrow e))
+
+-- slots of a table aren't larger
+pub slot_small : (w : ℕ) → w ≤ 1792 → slot_size w ≤ 2072
+slot_small w narrow = known (nat_le w 200)
+    (λ is. let few = below_200 is in subst (λ b. cond b (18 + w + 9 + w) (18 + w) + 6 ≤ 2072) (sym is) (omega (arith, few)))
+    (λ isnt. subst (λ b. cond b (18 + w + 9 + w) (18 + w) + 6 ≤ 2072) (sym isnt) (omega (arith, narrow)))
+  where
+    below_200 : nat_le w 200 ≡ true → w ≤ 200
+    below_200 is = leb-true w 200 is
+
+pub place_of_version : (pages : ℕ → List ℕ) (at : Place) (w : ℕ) → 3 ≤ at.page → (header_on pages at.page).kind ≡ 2 → w ≡ width_on pages at.page → w ≤ 2048 → lies_check (kept_size w) at.slot ≡ Ok tt
+    → length (pages at.page) ≡ 4096 → IsPlaceOf 2 pages at
+place_of_version pages at w behind is wide narrow lies whole =
+    let size : kept_size w ≡ size_on pages at.page =
+    ap kept_size wide ∙ sym (ap (λ b. cond b (slot_size (width_on pages at.page)) (kept_size (width_on pages at.page))) (one_of_two (header_on pages at.page).kind is)) in
+    record {
+      behind_catalog = behind;
+      of_kind = is;
+      inside = subst (λ n. start_of n at.slot + n ≤ length (pages at.page)) size
+          (subst (λ l. start_of (kept_size w) at.slot + kept_size w ≤ l) (sym whole) (lies_inside (kept_size w) at.slot (omega arith) (omega (arith, narrow)) lies));
+    }

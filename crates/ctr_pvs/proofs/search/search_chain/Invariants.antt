@@ -1,0 +1,21 @@
+use Rattle.std.proofs.Common.{◌≡◌, ◌<◌, Option, Result}
+use Rattle.std.specs.Prelude.{IsTrue}
+use Rattle.ctr_base.specs.Base.{IsSoundImage}
+use Rattle.ctr_page.specs.declared.rows.Place.{Place}
+use Rattle.ctr_page.specs.declared.walk.BadChain.{BadChain}
+use Rattle.ctr_changes.specs.States.{pages_in}
+use Rattle.ctr_pvs.specs.Reading.{kinds_said}
+use Rattle.ctr_pvs.specs.Along.{EndsKeptAlong}
+use Rattle.ctr_calls.proofs.PagesRead.{HasRead}
+use Rattle.ctr_pvs.proofs.search.search_chain.Given as goal
+
+abbrev pub invariant-loop-at : goal.invariant-loop-at
+invariant-loop-at g l =
+    HasRead g.O.Origin.first g.D.Disk ((l.at ≡ l.first) × (l.left ≡ l.most)) l.fn.store l.store
+    × (l.at < l.counted)
+    × (IsTrue g.D.Disk.tells → IsSoundImage g.O.Origin.first → (r : Result (Option Place) BadChain)
+    → EndsKeptAlong (record { entry = l.table.entry; counted = l.counted; kinds = kinds_said l.table }) (pages_in l.fn.store.now) l.left l.last l.at r
+    → EndsKeptAlong (record { entry = l.table.entry; counted = l.counted; kinds = kinds_said l.table }) (pages_in l.fn.store.now) l.most 0 l.first r)
+
+abbrev pub decreases-loop-at : goal.decreases-loop-at
+decreases-loop-at g l = l.left

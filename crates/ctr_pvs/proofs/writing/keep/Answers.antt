@@ -1,0 +1,33 @@
+use Rattle.std.proofs.Common.{◌≡◌, [], ◌∷◌, length, Some, sym, ap, ◌∙◌, subst}
+use Rattle.ctr_records.specs.declared.record.Record.{Record}
+use Rattle.ctr_records.specs.declared.record.Record.TheVariants.{Keep}
+use Rattle.ctr_redo.specs.States.{page_at}
+use Rattle.ctr_page.specs.Places.{kept_size}
+use Rattle.ctr_page.specs.Making.{kept_bytes, IsEntry}
+use Rattle.ctr_area.specs.Reading.{older_said, columns_on}
+use Rattle.ctr_area.specs.Changes.{with_older}
+use Rattle.ctr_changes.specs.States.{pages_in, area_in}
+use Rattle.ctr_changes.specs.Changing.{laid_on_place}
+use Rattle.ctr_store.specs.Store.{Logs}
+use Rattle.ctr_calls.proofs.Records.{both_ok}
+use Rattle.ctr_pvs.proofs.OneRecord.{in_limit, entry_laid}
+use Rattle.ctr_pvs.proofs.writing.keep.Goals as goal
+
+pub log_on_page-requires-clause-there : goal.log_on_page-requires-clause-there
+log_on_page-requires-clause-there g c = in_limit c.args.place.page c.requires.counted.1
+
+pub returns-clause-kept : goal.returns-clause-kept
+returns-clause-kept g c = λ told sound place.
+    let at = c.args.place in
+    let entry = c.args.version.now in
+    let s = c.args.store.now.now in
+    let r : Record = Keep c.args.x c.over_place.result in
+    let size = c.kept_size.ensures.value ∙ ap (λ l. kept_size (length l)) c.as_slice-w.ensures in
+    let bytes = entry_laid entry c.as_slice-w.result.now c.make_version-size.result c.make_version-size.new.into _ c.as_slice-w.ensures c.requires.lies.is c.make_version-size.ensures.number c.make_version-size.ensures.bytes in
+    let laid = c.over_place.ensures ∙ (λ i. laid_on_place at (size i) (bytes i)) in
+    both_ok c.log_on_page.result (Logs (r ∷ []) c.args.store.now c.log_on_page.new.store) (length (page_at at.page s.pages) ≡ 4096)
+    (area_in c.log_on_page.new.store.now ≡ with_older at (older_said (columns_on (pages_in s) at.page) entry) (area_in s))
+    (λ logs whole. ap area_in logs.now
+    ∙ c.a_version_is_laid.ensures s r at entry whole place.0 (subst (λ w. IsEntry w entry) (sym place.1) c.requires.lies.is)
+    (ap Some laid ∙ sym (ap (λ w. Some (laid_on_place at (kept_size w) (kept_bytes entry))) place.1)))
+    (c.log_on_page.ensures.one.logs told sound) (c.log_on_page.ensures.whole told sound)

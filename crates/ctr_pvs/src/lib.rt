@@ -1,0 +1,16 @@
+//! Older versions off their rows: kept, read, freed.
+//!
+//! Nothing here takes memory.
+#![tactic(auto)]
+
+mod entries;
+mod reading;
+mod search;
+mod table;
+mod writing;
+
+pub use entries::find_free_entry;
+pub use reading::{row_in, version_in};
+pub use search::free_entry;
+pub use table::{TableOf, catalog_page, check_there, table_on};
+pub use writing::{drop_entry, keep};

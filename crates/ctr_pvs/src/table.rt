@@ -1,0 +1,161 @@
+// The table that a page is of.
+ghost use Rattle.std.specs.Prelude.{◌≡◌, ◌≤◌, ◌<◌, ◌+◌, ◌*◌, ◌/◌, ◌%◌, false, IsTrue, IfOk, length, take};
+ghost use Rattle.ctr_base.specs.Base.{IsSoundImage};
+ghost use Rattle.ctr_store.specs.Store.{LeavesPage};
+ghost use Rattle.ctr_page.specs.declared.table.TheConstants.{PAGE_SIZE};
+ghost use Rattle.ctr_changes.specs.States.{pages_in};
+ghost use Rattle.ctr_pvs.specs.Table.{there_check, owner_check, KindsSaid, OwnerSaid, TableFits, TableSaid};
+
+use ctr_base::Origin;
+use ctr_disk::{Disk, StoreFault};
+use ctr_page::{BadChain, BadPage, check_entry, read_entry, read_header};
+use ctr_records::{BadRecord, PageNo, at_most, expect};
+use ctr_store::Store;
+use ctr_types::Kind;
+
+/// The bytes of an entry of the catalog.
+const ENTRY: u64 = 256;
+
+/// The first page behind those of the catalog.
+const FIRST: PageNo = 3;
+
+/// The table that a page is of.
+#[derive(Clone, Copy, Debug, PartialEq, Eq)]
+pub struct TableOf {
+    /// Its entry of the catalog.
+    pub entry: u8,
+    /// What the columns behind the key hold: so many of these.
+    pub kinds: [Kind; 7],
+    pub count: usize,
+}
+
+impl TableOf {
+    /// What the columns behind the key hold.
+    pub fn kinds(&self) -> &[Kind]
+        requires { self.now.count ≤ 7 }
+        ensures value { result.now ≡ take self.now.count self.now.kinds }
+        ensures few { length result.now ≤ 7 }
+    {
+        &self.kinds[..self.count]
+    }
+}
+
+/// Checks that a page is behind those of the catalog, and is counted.
+pub fn check_there(counted: u32, p: PageNo) -> Result<(), BadPage>
+    requires some { 0 < counted }
+    ensures { result ≡ there_check counted p }
+{
+    if p < FIRST {
+        return Err(BadRecord {
+            at: 0,
+            want: FIRST as u128,
+            got: p as u128,
+        });
+    }
+    at_most(0, (counted - 1) as u64, p as u64)
+}
+
+/// The entry of the catalog that a page of a kind names, which is behind those of the catalog.
+fn owner_in(kind: u8, counted: u32, p: PageNo, page: &[u8]) -> Result<u8, BadPage>
+    requires some { 0 < counted }
+    requires whole { length page.now ≡ PAGE_SIZE }
+    ensures said { OwnerSaid kind counted p page.now result }
+    ensures few { IfOk result (λ e. e < 32) }
+{
+    check_there(counted, p)?;
+    let header = read_header(page);
+    expect(0, kind as u128, header.kind as u128)?;
+    at_most(1, 31, header.entry as u64)?;
+    Ok(header.entry)
+}
+
+/// The same of a page of a store.
+fn owner_on<D: Disk, O: Origin>(
+    store: &mut Store<D, O>,
+    kind: u8,
+    counted: u32,
+    p: PageNo,
+) -> Result<Result<u8, BadPage>, StoreFault>
+    requires going { store.old.stopped ≡ false }
+    requires some { 0 < counted }
+    requires there { p < 30000 }
+    ensures said { IsTrue D.tells → IsSoundImage O.first → IfOk result (λ r. OwnerSaid kind counted p (pages_in store.old.now p) r) }
+    ensures few { IfOk result (λ r. IfOk r (λ e. e < 32)) }
+    ensures leaves { LeavesPage O.first D.Disk store.old store.new result }
+{
+    let page = store.page(p)?;
+    Ok(owner_in(kind, counted, p, page))
+}
+
+/// What an entry on a page of the catalog says of its table, which isn't free.
+fn table_in(entry: u8, counted: u32, page: &[u8]) -> Result<TableOf, BadPage>
+    requires some { 0 < counted }
+    requires whole { length page.now ≡ PAGE_SIZE }
+    ensures said { KindsSaid counted (entry % 16) page.now result }
+    ensures few { IfOk result (λ t. (t.count ≤ 7) × (t.entry ≡ entry)) }
+{
+    let at = entry % 16;
+    check_entry(counted, at, page)?;
+    let table = read_entry(page, at);
+    if table.state == 0 {
+        return Err(BadRecord {
+            at: ENTRY * at as u64,
+            want: 1,
+            got: 0,
+        });
+    }
+    Ok(TableOf {
+        entry,
+        kinds: table.kinds(),
+        count: table.count() as usize - 1,
+    })
+}
+
+/// The page of the catalog that an entry stands on.
+pub fn catalog_page(entry: u8) -> PageNo
+    ensures { result ≡ 1 + entry / 16 }
+{
+    1 + (entry / 16) as PageNo
+}
+
+/// The same of an entry of a store's catalog.
+fn table_at<D: Disk, O: Origin>(
+    store: &mut Store<D, O>,
+    entry: u8,
+    counted: u32,
+) -> Result<Result<TableOf, BadPage>, StoreFault>
+    requires going { store.old.stopped ≡ false }
+    requires some { 0 < counted }
+    requires there { entry < 32 }
+    ensures said { IsTrue D.tells → IsSoundImage O.first → IfOk result (λ r. KindsSaid counted (entry % 16) (pages_in store.old.now (1 + entry / 16)) r) }
+    ensures few { IfOk result (λ r. IfOk r (λ t. (t.count ≤ 7) × (t.entry ≡ entry))) }
+    ensures leaves { LeavesPage O.first D.Disk store.old store.new result }
+{
+    let page = store.page(catalog_page(entry))?;
+    Ok(table_in(entry, counted, page))
+}
+
+/// The table that a page of rows (kind 1) or of versions (2) is of: the page and the entry of the catalog that it names are read,
+/// and checked as they are read. It logs nothing, and takes no memory.
+pub fn table_on<D: Disk, O: Origin>(
+    store: &mut Store<D, O>,
+    kind: u8,
+    p: PageNo,
+) -> Result<Result<TableOf, BadChain>, StoreFault>
+    requires going { store.old.stopped ≡ false }
+    requires counted { store.old.now.counted ≤ 30000 }
+    requires there { p < store.old.now.counted }
+    ensures said { IsTrue D.tells → IsSoundImage O.first → IfOk result (λ r. TableSaid kind store.old.now.counted (pages_in store.old.now) p r) }
+    ensures fits { IfOk result (λ r. IfOk r TableFits) }
+    ensures leaves { LeavesPage O.first D.Disk store.old store.new result }
+{
+    let counted = store.counted();
+    let entry = match owner_on(store, kind, counted, p)? {
+        Err(bad) => return Ok(Err(BadChain::OnPage(p, bad))),
+        Ok(entry) => entry,
+    };
+    match table_at(store, entry, counted)? {
+        Err(bad) => Ok(Err(BadChain::OnPage(catalog_page(entry), bad))),
+        Ok(table) => Ok(Ok(table)),
+    }
+}

@@ -1,0 +1,129 @@
+// One record lays a version entry, or frees one.
+ghost use Rattle.std.specs.Prelude.{◌≡◌, ◌≤◌, ◌<◌, ◌+◌, IsTrue, OnOk, IfOk, length, take};
+ghost use Rattle.ctr_redo.specs.States.{page_at};
+ghost use Rattle.ctr_page.specs.Making.{kept_bytes};
+ghost use Rattle.ctr_model.specs.declared.limits.TheConstants.{MOST_PAGES};
+ghost use Rattle.ctr_base.specs.Base.{IsSoundImage};
+ghost use Rattle.ctr_page.specs.declared.table.TheConstants.{PAGE_SIZE};
+ghost use Rattle.ctr_page.specs.Places.{kept_size as size_of_kept, start_of as start_place};
+ghost use Rattle.ctr_area.specs.Areas.{free_older};
+ghost use Rattle.ctr_area.specs.Reading.{older_said, columns_on, width_on};
+ghost use Rattle.ctr_area.specs.Changes.{with_older, IsPlaceOf};
+ghost use Rattle.ctr_calls.specs.OneRecord.{HasRoomForOne, LogsOne};
+ghost use Rattle.ctr_changes.specs.States.{pages_in, area_in};
+ghost use Rattle.ctr_pvs.specs.Writing.{EntryLies, keep_record, HasPlaceOfVersion, blank_entry, blank_record, drop_check, DropsEntry};
+
+use crate::reading::check_lies;
+use crate::table::table_on;
+use ctr_base::Origin;
+use ctr_calls::log_on_page;
+use ctr_changes::{a_version_is_laid, over_place};
+use ctr_disk::{Disk, StoreFault};
+use ctr_page::{BadChain, Place, Version, VersionEntry, kept_size, kinds_width, make_version};
+use ctr_records::{Bytes, Record};
+use ctr_store::Store;
+use ctr_types::Xid;
+
+/// The most bytes of a version entry.
+const ENTRY_MOST: usize = 2_072;
+
+/// The most bytes of a payload.
+const WIDEST: usize = 2_048;
+
+/// Keeps a version off its row for a transaction, by one record, which isn't hardened yet.
+pub fn keep<D: Disk, O: Origin>(
+    store: &mut Store<D, O>,
+    x: Xid,
+    place: Place,
+    version: &VersionEntry,
+) -> Result<(), StoreFault>
+    requires room { HasRoomForOne 0 0 store.old }
+    requires counted { (place.page < store.old.now.counted) × (place.page < MOST_PAGES) }
+    requires lies { EntryLies place version.now }
+    ensures one { LogsOne O.first D.Disk (keep_record x place version.now) store.old store.new result }
+    // The version entry at the place is this one, and nothing else in the pages changes.
+    ensures kept { IsTrue D.tells → IsSoundImage O.first → HasPlaceOfVersion (pages_in store.old.now) place version.now
+        → OnOk result (area_in store.new.now ≡ with_older place (older_said (columns_on (pages_in store.old.now) place.page) version.now) (area_in store.old.now)) }
+{
+    a_version_is_laid();
+    let w = version.version.payload.as_slice().len();
+    let mut bytes = [0; ENTRY_MOST];
+    let size = make_version(w, version, &mut bytes);
+    let rec = Record::Keep {
+        x,
+        overlay: over_place(place, kept_size(w), &bytes[..size]),
+    };
+    log_on_page(store, place.page, &rec)
+}
+
+/// The bytes of a version entry that isn't used, at the front of others.
+fn blank_made(w: usize) -> [u8; ENTRY_MOST]
+    requires { w ≤ 2048 }
+    ensures { take (size_of_kept w) result ≡ kept_bytes (blank_entry w) }
+{
+    let zeros = [0; WIDEST];
+    let blank = VersionEntry {
+        used: 0,
+        key: 0,
+        version: Version {
+            xid: 0,
+            tombstone: 0,
+            payload: Bytes::new(&zeros[..w]),
+        },
+        older: Place { page: 0, slot: 0 },
+    };
+    let mut bytes = [0; ENTRY_MOST];
+    let _ = make_version(w, &blank, &mut bytes);
+    bytes
+}
+
+/// Frees a place of version entries of rows so wide.
+fn lay_blank<D: Disk, O: Origin>(
+    store: &mut Store<D, O>,
+    place: Place,
+    w: usize,
+) -> Result<(), StoreFault>
+    requires room { HasRoomForOne 0 0 store.old }
+    requires counted { (place.page < store.old.now.counted) × (place.page < MOST_PAGES) }
+    requires narrow { w ≤ 2048 }
+    requires inside { start_place (size_of_kept w) place.slot + size_of_kept w ≤ PAGE_SIZE }
+    ensures one { LogsOne O.first D.Disk (blank_record place w) store.old store.new result }
+    ensures freed { IsTrue D.tells → IsSoundImage O.first → IsPlaceOf 2 (pages_in store.old.now) place → width_on (pages_in store.old.now) place.page ≡ w
+        → OnOk result (area_in store.new.now ≡ with_older place free_older (area_in store.old.now)) }
+    ensures whole { IsTrue D.tells → IsSoundImage O.first → OnOk result (length (page_at place.page store.old.now.pages) ≡ PAGE_SIZE) }
+{
+    a_version_is_laid();
+    let size = kept_size(w);
+    let bytes = blank_made(w);
+    let rec = Record::Trim {
+        overlay: over_place(place, size, &bytes[..size]),
+    };
+    log_on_page(store, place.page, &rec)
+}
+
+/// Frees a version entry, by one record, which isn't hardened yet. Its page and the table's entry of the catalog are checked as they are
+/// read; the version entry itself may be any.
+pub fn drop_entry<D: Disk, O: Origin>(
+    store: &mut Store<D, O>,
+    place: Place,
+) -> Result<Result<(), BadChain>, StoreFault>
+    requires room { HasRoomForOne 0 0 store.old }
+    requires counted { (place.page < store.old.now.counted) × (store.old.now.counted ≤ 30000) }
+    ensures ends { IsTrue D.tells → IsSoundImage O.first → IfOk result (λ r. r ≡ drop_check store.old.now.counted (pages_in store.old.now) place) }
+    ensures one { DropsEntry O.first D.Disk place store.old store.new result }
+    // The version entry isn't used, and nothing else in the pages changes.
+    ensures freed { IsTrue D.tells → IsSoundImage O.first → IfOk result (λ r. OnOk r (area_in store.new.now ≡ with_older place free_older (area_in store.old.now))) }
+{
+    let table = match table_on(store, 2, place.page)? {
+        Err(bad) => return Ok(Err(bad)),
+        Ok(table) => table,
+    };
+    let w = kinds_width(table.kinds());
+    if let Err(bad) = check_lies(kept_size(w), place.slot) {
+        return Ok(Err(BadChain::OnPage(place.page, bad)));
+    }
+    match lay_blank(store, place, w) {
+        Ok(()) => Ok(Ok(())),
+        Err(fault) => Err(fault),
+    }
+}
