@@ -7,10 +7,10 @@ use Rattle.ctr_log.specs.Homes.{root_value, SaysRoot}
 use Rattle.ctr_log.specs.Logs.{Batches, batch, batches, records, AreBatches, HasLog}
 use Rattle.ctr_log.specs.Reading.{log_file}
 use Rattle.ctr_log.specs.Fresh.{first_checkpoint, fresh_root, fresh_log, IsFresh}
-use Rattle.ctr_log.proofs.LogLemmas.{length-batch, records-push}
+use Rattle.ctr_log.proofs.LogLemmas.{length-batch}
 use Rattle.ctr_log.proofs.ReadLemmas.{batch_same, length-frames-le}
 use Rattle.ctr_model.specs.Database.{Database}
-use Rattle.ctr_rec.specs.Fold.{FoldsRecord, FoldsRecords}
+use Rattle.ctr_rec.specs.Fold.{FoldsRecords}
 use Rattle.std.specs.Prelude.{Ok}
 use Rattle.ctr_bytes.specs.Fields.{field, spelled}
 use Rattle.ctr_records.specs.Damage.{at_most}
@@ -89,11 +89,6 @@ stands_by_records old new db next more bs s root log all folds =
       folds = folds_behind [] s.rs more db next s.folds folds;
     } in
     (t, refl, refl)
-
-pub stands_by_record : (old new : Image) (db next : Database) (bytes : List ℕ) (s : StandsFor old db) → new.root ≡ old.root → HasLog s.r.first (s.bs ++ (bytes ∷ []) ∷ []) (content (log_file s.r.file) new)
-    → FoldsRecord db bytes next → StandsBy new next s.r (s.bs ++ (bytes ∷ []) ∷ [])
-stands_by_record old new db next bytes s root log folds =
-    stands_by_records old new db next (bytes ∷ []) (s.bs ++ (bytes ∷ []) ∷ []) s root log (records-push s.bs (bytes ∷ [])) (next, folds, refl)
 
 -- the first record of a new database passes
 first_passes : first_checks first_checkpoint ≡ Ok tt

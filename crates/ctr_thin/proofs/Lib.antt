@@ -2,3 +2,4 @@ pub mod ReplayLemmas
 pub mod LoadLemmas
 pub mod OpenLemmas
 pub mod LawLemmas
+pub mod FlushLemmas

@@ -163,10 +163,12 @@ module _ {image mid : Image} {r : Root} (root_is : FoundRoot image mid r) where
 
     pub was_opened : (o : Opened) (xid : ℕ) → OpensLog r.first (log_file r.file) mid o.log rs → MakesDatabase rs o.database xid → o.log.first + length o.log.buffered < 2 ^ 62 → xid < 2 ^ 62 → Opens image o
     was_opened o xid opens makes low xid_low = record {
-      stands = stands_of o.database xid opens.bs makes (log_there opens) opens.records_are;
+      goes = record {
+        stands = stands_of o.database xid opens.bs makes (log_there opens) opens.records_are;
+        file = opens.file_is;
+        goes_on = subst (λ (i : Image). GoesOn r.first opens.bs o.log i) same opens.goes_on;
+      };
       low = (omega (arith, low, next_is_of opens), omega (arith, xid_low, makes.xid_is));
-      file = opens.file_is;
-      goes_on = subst (λ (i : Image). GoesOn r.first opens.bs o.log i) same opens.goes_on;
       none = opens.none;
     }
 

@@ -1,6 +1,6 @@
 -- Which database an image stands for in the thin form: the records of the log that its root names,
 -- behind a Checkpoint that passes its checks, make it.
-use Rattle.std.specs.Prelude.{◌≡◌, ◌≢◌, ◌⊎◌, ℕ, min, ◌+◌, ◌^◌, ◌<◌, ◌≤◌, IsTrue, List, [], ◌∷◌, ◌++◌, length, Option, Some, None, Result, Ok, Err, IfErr, ⊤}
+use Rattle.std.specs.Prelude.{◌≡◌, ◌≢◌, ◌⊎◌, ℕ, min, ◌+◌, ◌^◌, ◌<◌, ◌≤◌, IsTrue, List, [], ◌∷◌, ◌++◌, length, take, Option, Some, None, Result, Ok, Err, IfErr, ⊤}
 use Rattle.ctr_types.specs.declared.file.File.{File}
 use Rattle.ctr_types.specs.declared.file.File.TheVariants.{Root as RootFile}
 use Rattle.ctr_disk.specs.declared.disk.Image.{Image}
@@ -19,7 +19,7 @@ use Rattle.ctr_log.specs.Damage.{IsDamageOf}
 use Rattle.ctr_log.specs.LogChecks.{file_damage, sound_visits}
 use Rattle.ctr_log.specs.Visits.{visit_bytes}
 use Rattle.ctr_log.specs.declared.visitor.Visit.{Visit}
-use Rattle.ctr_log.specs.Logs.{Batches, records, HasLog, GoesOn}
+use Rattle.ctr_log.specs.Logs.{Batches, Log, records, HasLog, GoesOn}
 use Rattle.ctr_log.specs.Reading.{log_file}
 use Rattle.ctr_records.specs.declared.decoding.BadRecord.{BadRecord as BadCheckpoint}
 pub use Rattle.ctr_thin.specs.Checks.{first_checks, next_xid}
@@ -69,6 +69,31 @@ IsWorn s number = IsWornNumber (next_lsn s.r s.bs) (next_xid s.head) number
 -- an image that stands for the database, by the same root and these batches
 abbrev pub StandsBy : Image → Database → Root → Batches → Type 0
 StandsBy image db r bs = (s : StandsFor image db) × (s.r ≡ r) × (s.bs ≡ bs)
+
+-- the root of the image names this file as that of its log
+abbrev pub NamesFile : Image → File → Type 0
+NamesFile image file = (r : Root) × SaysRoot (root_value image.root) r × (file ≡ log_file r.file)
+
+-- The image stands for the database, and the log's writer goes on behind the records that make it,
+-- in the file that the root names.
+pub record GoesOnFor (image : Image) (db : Database) (log : Log) : Type 0 where
+  pub stands : StandsFor image db
+  pub file : log.file ≡ log_file stands.r.file
+  pub goes_on : GoesOn stands.r.first stands.bs log image
+
+-- the number of the first record that it goes on behind
+abbrev pub first_behind : {image : Image} {db : Database} {log : Log} → GoesOnFor image db log → ℕ
+first_behind goes = goes.stands.r.first
+
+-- the batches that it goes on behind
+abbrev pub batches_behind : {image : Image} {db : Database} {log : Log} → GoesOnFor image db log
+    → Batches
+batches_behind goes = goes.stands.bs
+
+-- The image stands for the database that a prefix of these records makes of this one.
+pub record StandsForPrefix (db : Database) (waiting : List (List ℕ)) (image : Image) : Type 0 where
+  pub k : ℕ
+  pub stands : (next : Database) → FoldsRecords db (take k waiting) next → StandsFor image next
 
 -- ---- what loading finds
 
@@ -156,10 +181,8 @@ pub record MakesDatabase (all : List (List ℕ)) (db : Database) (xid : ℕ) : T
 -- the database is the one that the image stands for, and the log's writer goes on behind the log
 -- with nothing to flush
 pub record Opens (image : Image) (o : Opened) : Type 0 where
-  pub stands : StandsFor image o.database
-  pub low : IsLow stands
-  pub file : o.log.file ≡ log_file stands.r.file
-  pub goes_on : GoesOn stands.r.first stands.bs o.log image
+  pub goes : GoesOnFor image o.database o.log
+  pub low : IsLow goes.stands
   pub none : o.log.buffered ≡ []
 
 -- the image stands for no database

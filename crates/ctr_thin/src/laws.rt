@@ -1,13 +1,13 @@
 // Laws of the database that an image stands for.
-ghost use Rattle.std.specs.Prelude.{◌≡◌, ◌<◌, ◌^◌, ℕ, List, [], ◌∷◌, ◌++◌, length};
+ghost use Rattle.std.specs.Prelude.{◌≡◌, ◌<◌, ◌^◌, ℕ, [], length};
 ghost use Rattle.ctr_disk.specs.declared.disk.Image.{Image};
-ghost use Rattle.ctr_disk.specs.Image.{content};
-ghost use Rattle.ctr_log.specs.Logs.{Batches, records, HasLog};
+ghost use Rattle.ctr_disk.specs.Image.{content, OtherFilesStay};
+ghost use Rattle.ctr_log.specs.Logs.{Log, records, HasPrefix, GoesOn, with_batch};
 ghost use Rattle.ctr_log.specs.Reading.{log_file};
 ghost use Rattle.ctr_log.specs.Fresh.{IsFresh, fresh_root, fresh_log};
 ghost use Rattle.ctr_model.specs.Database.{Database};
-ghost use Rattle.ctr_rec.specs.Fold.{FoldsRecord, FoldsRecords};
-ghost use Rattle.ctr_thin.specs.Thin.{StandsFor, StandsBy, next_lsn};
+ghost use Rattle.ctr_rec.specs.Fold.{FoldsRecords};
+ghost use Rattle.ctr_thin.specs.Thin.{StandsFor, StandsBy, next_lsn, GoesOnFor, first_behind, batches_behind, StandsForPrefix};
 
 use ctr_rec::fold_is_one;
 
@@ -26,17 +26,18 @@ pub fn same_files()
         → StandsBy new db s.r s.bs }
 {}
 
-/// A batch of one record behind the log, which makes the next database of this one.
-pub fn goes_on_by_record()
-    ensures { (old new : Image) (db next : Database) (bytes : List ℕ) (s : StandsFor old db) → new.root ≡ old.root
-        → HasLog s.r.first (s.bs ++ (bytes ∷ []) ∷ []) (content (log_file s.r.file) new) → FoldsRecord db bytes next → StandsBy new next s.r (s.bs ++ (bytes ∷ []) ∷ []) }
+/// While the records that wait are flushed behind the log of a database, a crash leaves the database that a
+/// prefix of them makes of it.
+pub fn a_flush_leaves_a_prefix()
+    ensures { (old new : Image) (db : Database) (log : Log) (goes : GoesOnFor old db log) → HasPrefix log.file (first_behind goes) (records (batches_behind goes)) log.buffered old new
+        → StandsForPrefix db log.buffered new }
 {}
 
-/// More records behind those of the log, in whatever batches, that make the next database of this one. A
-/// crash while they are flushed leaves a prefix of them.
-pub fn goes_on_by_records()
-    ensures { (old new : Image) (db next : Database) (more : List (List ℕ)) (bs : Batches) (s : StandsFor old db) → new.root ≡ old.root
-        → HasLog s.r.first bs (content (log_file s.r.file) new) → records bs ≡ records s.bs ++ more → FoldsRecords db more next → StandsBy new next s.r bs }
+/// A flush that came to its end leaves the database that the records make of it, and its writer goes on
+/// behind them.
+pub fn a_flush_goes_on()
+    ensures { (old new : Image) (db next : Database) (log then : Log) (goes : GoesOnFor old db log) → OtherFilesStay log.file old new
+        → GoesOn (first_behind goes) (with_batch (batches_behind goes) log.buffered) then new → then.file ≡ log.file → FoldsRecords db log.buffered next → GoesOnFor new next then }
 {}
 
 /// What was just made stands for no tables, and the next LSN is 2.

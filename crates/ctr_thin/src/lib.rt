@@ -6,5 +6,5 @@ mod loading;
 mod opening;
 mod replay;
 
-pub use laws::{fresh_stands, goes_on_by_record, goes_on_by_records, one_database, same_files};
+pub use laws::{a_flush_goes_on, a_flush_leaves_a_prefix, fresh_stands, one_database, same_files};
 pub use opening::{OpenError, Opened, open};

@@ -8,6 +8,7 @@ use Rattle.ctr_types.specs.Faults.{CountsFault}
 use Rattle.ctr_model.specs.Language.{SpellsLine}
 use Rattle.ctr_model.specs.Lines.{IsWritten, IsRefusedIn}
 use Rattle.ctr_script.specs.Written.{IsShortText}
+use Rattle.ctr_thin.proofs.FlushLemmas.{has_root}
 use Rattle.ctr_world.specs.World.{CanOpen}
 use Rattle.ctr_top.specs.declared.outcome.Outcome.{Outcome}
 use Rattle.ctr_top.specs.declared.ending.Ending.{Ending}
@@ -42,7 +43,7 @@ module _ {D S : Type 0} (law : NoScriptIsRefused) (g : Ghosts D) (old : D) (s : 
   each (ending.Refused line at) disk from = absurd (law (s.left source) ls line at script.written (from source_told).refused)
   each ending.TooLong disk from = absurd (omega (arith, script.few, from source_told))
   each ending.Usage disk from = absurd disk
-  each ending.NoDatabase disk from = absurd (cc (disk told, can_open.1.0.root.0))
+  each ending.NoDatabase disk from = absurd (has_root (g.reads old) can_open.0 can_open.1.0 (disk told))
   each (ending.Damaged file at want got) disk from = absurd ((disk.1 told).1 can_open.0 can_open.1.0)
   each ending.DiskFault disk from = absurd (no_disk disk)
   each ending.ReadFault disk from = absurd (no_source from)

@@ -7,6 +7,7 @@ use Rattle.ctr_types.specs.Faults.{CountsFault}
 use Rattle.ctr_thin.specs.declared.opening.OpenError.{OpenError}
 use Rattle.ctr_thin.specs.Thin.{Explains, OpenDiffers}
 use Rattle.ctr_world.specs.Surveying.{OnlySurveys}
+use Rattle.ctr_thin.proofs.FlushLemmas.{has_root}
 use Rattle.ctr_world.specs.World.{CanOpen, RefusesWith}
 use Rattle.ctr_top.specs.declared.outcome.Outcome.{Outcome}
 use Rattle.ctr_top.specs.declared.ending.Ending.{Ending}
@@ -25,7 +26,7 @@ module _ {D : Type 0} (g : Ghosts D) (old : D) (o : Outcome D) (tape : o.tape.en
       each (ending.Refused line at) why read = absurd read
       each ending.TooLong why read = absurd read
       each ending.Usage why read = absurd why
-      each ending.NoDatabase why read = absurd (cc (why told, can.1.0.root.0))
+      each ending.NoDatabase why read = absurd (has_root (g.reads old) can.0 can.1.0 (why told))
       each (ending.Damaged file at want got) why read = absurd ((why.1 told).1 can.0 can.1.0)
       each ending.DiskFault why read = absurd (no_fault why)
       each ending.ReadFault why read = absurd read

@@ -18,10 +18,9 @@ use Rattle.ctr_model.specs.Texts.{answers}
 use Rattle.ctr_thin.specs.declared.opening.OpenError.{OpenError}
 use Rattle.ctr_thin.specs.declared.opening.OpenError.TheVariants as open_error
 use Rattle.ctr_disk.specs.Image.{OtherFilesStay}
-use Rattle.ctr_log.specs.Homes.{root_value, SaysRoot}
-use Rattle.ctr_log.specs.Reading.{log_file}
 use Rattle.ctr_log.specs.Fresh.{IsFresh, IsNoneOrFresh, fresh_root, fresh_log}
-use Rattle.ctr_thin.specs.Thin.{Explains, OpenDiffers, StandsBy, StandsFor}
+use Rattle.ctr_thin.specs.Thin.{Explains, OpenDiffers, NamesFile, StandsBy, StandsFor}
+use Rattle.ctr_thin.proofs.FlushLemmas.{names}
 use Rattle.ctr_world.specs.declared.opening.Opening.{Ghosts as Opening}
 use Rattle.ctr_world.specs.Crash.{reached, HasCommits, IsPrefixAt, Survives}
 use Rattle.ctr_world.specs.World.{CanOpen, Ends, StopsBy, IsOpenedOn}
@@ -109,7 +108,7 @@ module _ {D : Type 0} (g : Ghosts D) (earlier : (d : D) (s t : ℕ) (c : Image) 
         legal = tt;
         later = leaves.later;
         survives = λ t c le_start le left. inr (leaves.each c (earlier o.disk (g.moment_of old) t c le_start left), tt);
-        log_alone = record { root = stands.r; says = stands.root; alone = λ t c le_start le left. inr (leaves.each c (earlier o.disk (g.moment_of old) t c le_start left)) };
+        log_alone = record { file = (names (g.reads old) base stands).0; names = (names (g.reads old) base stands).1.0; alone = λ t c le_start le left. inr (leaves.each c (earlier o.disk (g.moment_of old) t c le_start left)) };
         complete = λ is. absurd (not is);
       } in
       subst (λ l. Ran g old base lines (record o { tape = record { entries = l } })) (sym none) empty
@@ -127,10 +126,10 @@ module _ {D : Type 0} (g : Ghosts D) (earlier : (d : D) (s t : ℕ) (c : Image) 
         later = move (λ n l. (reached l n base es).moment ≤ g.moment_of o.disk) ends.later;
         survives = λ t c le_start le left. ⊎_elim (λ h. inl h) (λ h. inr (before c h.0, h.1)) (survives t c le_start le left);
         log_alone = record {
-          root = alone.root;
-          says = subst (λ i. SaysRoot (root_value i.root) alone.root) named.image alone.says;
+          file = alone.file;
+          names = subst (λ i. NamesFile i alone.file) named.image alone.names;
           alone = λ t c le_start le left. ⊎_elim
-              (λ h. inl (subst (λ i. OtherFilesStay (log_file alone.root.file) i c) named.image h))
+              (λ h. inl (subst (λ i. OtherFilesStay alone.file i c) named.image h))
               (λ h. inr (before c h))
               (alone.alone t c (omega (arith, named.start, le_start)) le left);
         };

@@ -1,15 +1,15 @@
 -- A World goes on over a flush, and the answers of the commits that it made durable.
-use Rattle.std.proofs.Common.{◌≡◌, inl, inr, ⊎_elim, ℕ, zero, suc, ◌+◌, ◌^◌, ◌<◌, ◌≤◌, List, [], ◌∷◌, ◌++◌, length, take, Some, None, refl, sym, ◌∙◌, ap, subst, arith}
+use Rattle.std.proofs.Common.{◌≡◌, ◌⊎◌, inl, inr, ⊎_elim, ℕ, zero, suc, ◌+◌, ◌^◌, ◌<◌, ◌≤◌, List, [], ◌∷◌, ◌++◌, length, take, Some, None, refl, sym, ◌∙◌, ap, subst, arith}
 use Rattle.ctr_world.proofs.TapeLemmas.{moments_of}
-use Rattle.std.proofs.lemmas.List.{append-nil}
 use Rattle.ctr_types.specs.declared.file.File.{File}
+use Rattle.ctr_types.specs.declared.file.File.TheVariants.{LogA, LogB}
 use Rattle.ctr_types.specs.declared.statement.Line.{Line}
 use Rattle.ctr_types.specs.declared.statement.Script.{Script}
 use Rattle.ctr_disk.specs.declared.disk.Image.{Image}
 use Rattle.ctr_disk.specs.declared.disk.Disk.{Ghosts}
 use Rattle.ctr_disk.specs.declared.fault.Stop.TheVariants as stop
 use Rattle.ctr_disk.specs.Device.{LeavesOnly, IsDurable}
-use Rattle.ctr_disk.specs.Image.{content, with_content, OtherFilesStay}
+use Rattle.ctr_disk.specs.Image.{content, OtherFilesStay}
 use Rattle.ctr_model.specs.declared.state.State.{State}
 use Rattle.ctr_model.specs.declared.tape.Point.{Point}
 use Rattle.ctr_model.specs.Database.{Database, after_all}
@@ -17,10 +17,10 @@ use Rattle.ctr_model.specs.State.{rows_at}
 use Rattle.ctr_model.specs.Laws.{StatesGrow, LegalStatesAreSound}
 use Rattle.ctr_model.specs.Tape.{at_start}
 use Rattle.ctr_model.specs.Texts.{answers}
-use Rattle.ctr_log.specs.Logs.{Batches, Log, records, HasLog, HasPrefix, IsFlushing, GoesOn, with_batch}
-use Rattle.ctr_log.specs.Reading.{log_file}
+use Rattle.ctr_log.specs.Logs.{Log, records, HasPrefix, IsFlushing, GoesOn, with_batch}
 use Rattle.ctr_rec.specs.Fold.{FoldsRecords}
-use Rattle.ctr_thin.specs.Thin.{StandsFor, StandsBy}
+use Rattle.ctr_thin.specs.Thin.{StandsFor, GoesOnFor, first_behind, batches_behind, StandsForPrefix}
+use Rattle.ctr_thin.proofs.FlushLemmas.{writes}
 use Rattle.ctr_turns.specs.Turns.{WaitFrom}
 use Rattle.ctr_steps.specs.declared.steps.Steps.{Steps}
 use Rattle.ctr_steps.specs.Steps.{Walks, DurableWalks, LaterWalks, reached_by}
@@ -64,41 +64,26 @@ pub waits_some : (state : State) (j : ℕ) (bs : List (List ℕ)) → WaitFrom s
 waits_some state j [] waits some = absurd (omega (arith, some))
 waits_some state j (b ∷ bs) waits some = let le = waits_within state (j + 1) bs waits.1 in omega (arith, le)
 
--- ---- images of a flush
+-- ---- a log that is nearly as long as a file can be
 
-root_stays : (n : ℕ) (bytes : List ℕ) (old new : Image) → new ≡ with_content (log_file n) bytes old → new.root ≡ old.root
-root_stays zero bytes old new is = ap (λ (i : Image). i.root) is
-root_stays (suc n) bytes old new is = ap (λ (i : Image). i.root) is
+long_log : (place : ℕ) (file : File) (c : Image) → (file ≡ LogA) ⊎ (file ≡ LogB) → 2 ^ 62 ≤ place → place < length (content file c) → HasLongLog c
+long_log place file c (inl is) high long = inl (omega (arith, high, long, ap (λ (f : File). length (content f c)) is))
+long_log place file c (inr is) high long = inr (omega (arith, high, long, ap (λ (f : File). length (content f c)) is))
 
-same_root : (n : ℕ) (file : File) (old new : Image) → file ≡ log_file n → OtherFilesStay file old new → new.root ≡ old.root
-same_root n file old new is same = root_stays n (content file new) old new (same ∙ ap (λ (f : File). with_content f (content file new) old) is)
+-- the laws of the database over a flush
+abbrev pub LeavesPrefix : Type 0
+LeavesPrefix = (old new : Image) (db : Database) (log : Log) (goes : GoesOnFor old db log) → HasPrefix log.file (first_behind goes) (records (batches_behind goes)) log.buffered old new
+    → StandsForPrefix db log.buffered new
 
--- the law of images that a flush leaves
-abbrev pub ByRecords : Type 0
-ByRecords = (old new : Image) (db next : Database) (more : List (List ℕ)) (bs : Batches) (s : StandsFor old db) → new.root ≡ old.root
-    → HasLog s.r.first bs (content (log_file s.r.file) new) → records bs ≡ records s.bs ++ more → FoldsRecords db more next → StandsBy new next s.r bs
-
-records_push : (bs : Batches) (rs : List (List ℕ)) → records (bs ++ rs ∷ []) ≡ records bs ++ rs
-records_push [] rs = append-nil rs
-records_push (b ∷ bs) rs = ap (λ (l : List (List ℕ)). b ++ l) (records_push bs rs) ∙ assoc b (records bs) rs
-  where
-    assoc : (xs ys zs : List (List ℕ)) → xs ++ (ys ++ zs) ≡ (xs ++ ys) ++ zs
-    assoc [] ys zs = refl
-    assoc (x ∷ xs) ys zs = ap (λ l. x ∷ l) (assoc xs ys zs)
-
-records_with : (bs : Batches) (rs : List (List ℕ)) → records (with_batch bs rs) ≡ records bs ++ rs
-records_with bs [] = sym (append-nil (records bs))
-records_with bs (r ∷ rs) = records_push bs (r ∷ rs)
-
-long_log : (n place : ℕ) (file : File) (c : Image) → file ≡ log_file n → 2 ^ 62 ≤ place → place < length (content file c) → HasLongLog c
-long_log zero place file c is high long = inl (omega (arith, high, long, ap (λ (f : File). length (content f c)) is))
-long_log (suc n) place file c is high long = inr (omega (arith, high, long, ap (λ (f : File). length (content f c)) is))
+abbrev pub FlushGoesOn : Type 0
+FlushGoesOn = (old new : Image) (db next : Database) (log then : Log) (goes : GoesOnFor old db log) → OtherFilesStay log.file old new
+    → GoesOn (first_behind goes) (with_batch (batches_behind goes) log.buffered) then new → then.file ≡ log.file → FoldsRecords db log.buffered next → GoesOnFor new next then
 
 -- ---- the World, over both
 
 module _ {D : Type 0} (dev : Ghosts D)
     (earlier : (d : D) (s t : ℕ) (c : Image) → s ≤ t → dev.since d t c → dev.since d s c) (only_now : (d : D) (c : Image) → dev.since d (dev.moment_of d) c → dev.images d c)
-    (by_records : ByRecords) (later_law : LaterWalks) {B : Type 0} (op : Opening B) (base : Database)
+    (leaves_prefix : LeavesPrefix) (later_law : LaterWalks) {B : Type 0} (op : Opening B) (base : Database)
     (w : Held D) (runs : RunsFrom dev op base w) (going : w.stop ≡ None) (later : op.start ≤ dev.moment_of w.disk)
     (grow : StatesGrow) where
   abbrev pub now_state : State
@@ -116,14 +101,12 @@ module _ {D : Type 0} (dev : Ghosts D)
   base_is : now_state.base ≡ base
   base_is = base_on grow w.steps.script.lines (at_start op.start base []) w.steps.tape.items
 
-  pub prefix_has : (c : Image) → HasPrefix w.log.file at_rest.stands.r.first (records at_rest.stands.bs) w.log.buffered (dev.reads w.disk) c → HasCommits base now_state.asked now_state.answered c
+  pub prefix_has : (c : Image) → HasPrefix w.log.file (first_behind at_rest.goes) (records (batches_behind at_rest.goes)) w.log.buffered (dev.reads w.disk) c → HasCommits base now_state.asked now_state.answered c
   prefix_has c prefix =
-      let at = prefix.1 in
-      let bs = at.1.0 in
-      let some = prefix_folds now_state at.0 now_state.answered w.log.buffered waits in
-      let folds = subst (λ db. FoldsRecords db (take at.0 w.log.buffered) (rows_at now_state some.m)) (sym at_rest.rows_are) some.folds in
-      let stands = (by_records (dev.reads w.disk) c at_rest.rows (rows_at now_state some.m) (take at.0 w.log.buffered) bs at_rest.stands (same_root at_rest.stands.r.file w.log.file (dev.reads w.disk) c at_rest.file prefix.0)
-      (subst (λ (f : File). HasLog at_rest.stands.r.first bs (content f c)) at_rest.file at.1.2) at.1.1 folds).0 in
+      let left = leaves_prefix (dev.reads w.disk) c at_rest.rows w.log at_rest.goes prefix in
+      let some = prefix_folds now_state left.k now_state.answered w.log.buffered waits in
+      let folds = subst (λ db. FoldsRecords db (take left.k w.log.buffered) (rows_at now_state some.m)) (sym at_rest.rows_are) some.folds in
+      let stands = left.stands (rows_at now_state some.m) folds in
       record {
         k = some.m;
         at_least = some.least;
@@ -132,7 +115,7 @@ module _ {D : Type 0} (dev : Ghosts D)
       }
 
   abbrev pub Flushing : D → Type 0
-  Flushing e = LeavesOnly dev w.disk e (IsFlushing at_rest.stands.r.first at_rest.stands.bs w.log (dev.reads w.disk))
+  Flushing e = LeavesOnly dev w.disk e (IsFlushing (first_behind at_rest.goes) (batches_behind at_rest.goes) w.log (dev.reads w.disk))
 
   survives_flush : (e : D) → Flushing e → Survives dev op.start e (IsPrefixAt op.before base now_state.asked w.steps.tape.items)
   survives_flush e leaves = survives_call dev earlier op.start op.before base now_state.asked w.steps.tape.items w.disk e _ later runs.survives leaves
@@ -140,15 +123,15 @@ module _ {D : Type 0} (dev : Ghosts D)
 
   -- the file of the log that the first image's root names
   abbrev the_file : File
-  the_file = log_file runs.log_alone.root.file
+  the_file = runs.log_alone.file
 
   others_after : (c : Image) → OtherFilesStay w.log.file (dev.reads w.disk) c → OtherFilesStay the_file op.image c
   others_after c stay = others_twice the_file op.image (dev.reads w.disk) c (runs.others going) (subst (λ f. OtherFilesStay f (dev.reads w.disk) c) runs.log_is stay)
 
   abbrev alone_after : (e : D) → Flushing e → OnlyLogChanges dev op.start op.before op.image e
   alone_after e leaves = record {
-    root = runs.log_alone.root;
-    says = runs.log_alone.says;
+    file = runs.log_alone.file;
+    names = runs.log_alone.names;
     alone = λ t c start_le le left. ⊎_elim
         (λ was. ⊎_elim (λ h. runs.log_alone.alone t c start_le was h) (λ p. inl (others_after c p.records_are.0)) (leaves.before t c was left))
         (λ after. inl (others_after c (leaves.each c (earlier e (dev.moment_of w.disk) t c (omega (arith, after)) left)).records_are.0))
@@ -173,7 +156,7 @@ module _ {D : Type 0} (dev : Ghosts D)
         (λ high. inr (
           (λ bad. absurd (cc bad)),
           λ c left.
-              long_log at_rest.stands.r.file w.log.place w.log.file c at_rest.file (omega (arith, high)) (leaves.each c (earlier e (dev.moment_of w.disk) (dev.moment_of e) c on left)).long,
+              long_log w.log.place w.log.file c (writes (dev.reads w.disk) at_rest.rows w.log at_rest.goes).1 (omega (arith, high)) (leaves.each c (earlier e (dev.moment_of w.disk) (dev.moment_of e) c on left)).long,
         ))
         (λ low. inl (stray low ∙ same))
         (order (2 ^ 63) (w.log.place + 2 ^ 61)))
@@ -182,8 +165,8 @@ module _ {D : Type 0} (dev : Ghosts D)
   }
 
   -- the flush has ended, and all commits are answered
-  module _ (sound : LegalStatesAreSound) (durable_law : DurableWalks) (e : D) (log : Log) (steps : Steps) (on : dev.moment_of w.disk ≤ dev.moment_of e) (leaves : Flushing e)
-      (flushed : OtherFilesStay w.log.file (dev.reads w.disk) (dev.reads e) × GoesOn at_rest.stands.r.first (with_batch at_rest.stands.bs w.log.buffered) log (dev.reads e))
+  module _ (goes_law : FlushGoesOn) (sound : LegalStatesAreSound) (durable_law : DurableWalks) (e : D) (log : Log) (steps : Steps) (on : dev.moment_of w.disk ≤ dev.moment_of e) (leaves : Flushing e)
+      (flushed : OtherFilesStay w.log.file (dev.reads w.disk) (dev.reads e) × GoesOn (first_behind at_rest.goes) (with_batch (batches_behind at_rest.goes) w.log.buffered) log (dev.reads e))
       (file : log.file ≡ w.log.file) (none : log.buffered ≡ []) (only : IsDurable dev e) (strays : dev.strays_of e ≡ dev.strays_of w.disk)
       (script : steps.script ≡ w.steps.script) (all : AnswersAll (dev.moment_of e) w.steps steps)
       (walks : (start : Point) (from : ℕ) (waiting : List (List ℕ)) → Walks start from w.steps waiting (dev.moment_of e) → Walks start from steps waiting (dev.moment_of e)) where
@@ -226,19 +209,12 @@ module _ {D : Type 0} (dev : Ghosts D)
 
     rests_again : Rests dev e log then_state
     rests_again =
-        let bs = with_batch at_rest.stands.bs w.log.buffered in
-        let file_is : log.file ≡ log_file at_rest.stands.r.file = file ∙ at_rest.file in
-        let log_is : HasLog at_rest.stands.r.first bs (content (log_file at_rest.stands.r.file) (dev.reads e)) = subst (λ (f : File). HasLog at_rest.stands.r.first bs (content f (dev.reads e))) file_is flushed.1.log_is in
         let folds = subst (λ db. FoldsRecords db w.log.buffered (rows_at now_state n)) (sym at_rest.rows_are) (all_fold now_state now_state.answered w.log.buffered waits) in
-        let by = by_records (dev.reads w.disk) (dev.reads e) at_rest.rows (rows_at now_state n) w.log.buffered bs at_rest.stands (same_root at_rest.stands.r.file w.log.file (dev.reads w.disk) (dev.reads e) at_rest.file flushed.0) log_is
-        (records_with at_rest.stands.bs w.log.buffered) folds in
         record {
           only = only;
           rows = rows_at now_state n;
           rows_are = rows_same now_state then_state long.more n long.same long.asked (omega arith) ∙ ap (rows_at then_state) (n_is ∙ sym all_is);
-          stands = by.0;
-          file = file_is ∙ ap (λ r. log_file r.file) (sym by.1);
-          goes_on = subst (λ (q : Batches). GoesOn by.0.r.first q log (dev.reads e)) (sym by.2) (subst (λ r. GoesOn r.first bs log (dev.reads e)) (sym by.1) flushed.1);
+          goes = goes_law (dev.reads w.disk) (dev.reads e) at_rest.rows (rows_at now_state n) w.log log at_rest.goes flushed.0 flushed.1 file folds;
         }
 
     abbrev pub hardened : Held D

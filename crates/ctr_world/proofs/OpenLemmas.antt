@@ -14,11 +14,10 @@ use Rattle.ctr_model.specs.Database.{Database}
 use Rattle.ctr_model.specs.Laws.{StatesGrow, LegalStatesAreSound}
 use Rattle.ctr_model.specs.Tape.{at_start, progress_of, statements_of}
 use Rattle.ctr_model.specs.Texts.{answers}
-use Rattle.ctr_log.specs.Homes.{root_value, SaysRoot}
-use Rattle.ctr_log.specs.Logs.{Log, GoesOn}
-use Rattle.ctr_log.specs.Reading.{log_file}
+use Rattle.ctr_log.specs.Logs.{Log}
 use Rattle.ctr_thin.specs.declared.opening.Opened.{Opened}
-use Rattle.ctr_thin.specs.Thin.{StandsFor, Opens}
+use Rattle.ctr_thin.specs.Thin.{StandsFor, NamesFile, GoesOnFor, Opens}
+use Rattle.ctr_thin.proofs.FlushLemmas.{writes}
 use Rattle.ctr_gather.specs.Records.{IsSession}
 use Rattle.ctr_steps.specs.declared.steps.Steps.{Steps}
 use Rattle.ctr_steps.specs.Runners.{runner_at}
@@ -69,9 +68,7 @@ module _ {D : Type 0} (dev : Ghosts D)
           only = only;
           rows = o.database;
           rows_are = is;
-          stands = opened.stands;
-          file = ap (λ (l : Log). l.file) (sym log) ∙ opened.file;
-          goes_on = subst (λ (l : Log). GoesOn opened.stands.r.first opened.stands.bs l (dev.reads w.disk)) log opened.goes_on;
+          goes = subst (GoesOnFor (dev.reads w.disk) o.database) log opened.goes;
         };
       } in
       let k = subst (NewBy base w) (sym empty) nil in
@@ -82,12 +79,12 @@ module _ {D : Type 0} (dev : Ghosts D)
         survives = k.survives;
         rests = λ _. k.rests;
         log_alone = record {
-          root = opens.stands.r;
-          says = subst (λ i. SaysRoot (root_value i.root) opens.stands.r) (sym image_is) opens.stands.root;
+          file = o.log.file;
+          names = subst (λ i. NamesFile i o.log.file) (sym image_is) (writes (dev.reads d) o.database o.log opens.goes).0;
           alone = λ t c le_start le left. inr (within c (leaves.each c (earlier w.disk (dev.moment_of d) t c (omega (arith, at_first, le_start)) left)));
         };
-        log_is = ap (λ (l : Log). l.file) (sym log) ∙ opens.file;
-        others = λ _. subst (λ i. OtherFilesStay (log_file opens.stands.r.file) op.image i) (image_is ∙ sym same) (others_same (log_file opens.stands.r.file) op.image);
+        log_is = ap (λ (l : Log). l.file) (sym log);
+        others = λ _. subst (λ i. OtherFilesStay o.log.file op.image i) (image_is ∙ sym same) (others_same o.log.file op.image);
         stray = inl no_stray;
       }
 

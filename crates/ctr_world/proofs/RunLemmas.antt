@@ -7,7 +7,7 @@ use Rattle.ctr_types.specs.declared.statement.Script.{Script}
 use Rattle.ctr_types.specs.declared.tape.Entry.{Entry}
 use Rattle.ctr_disk.specs.declared.disk.Image.{Image}
 use Rattle.ctr_disk.specs.declared.disk.Disk.{Ghosts}
-use Rattle.ctr_disk.specs.Image.{content, OtherFilesStay}
+use Rattle.ctr_disk.specs.Image.{OtherFilesStay}
 use Rattle.ctr_model.specs.declared.database.Change.{Change}
 use Rattle.ctr_model.specs.declared.state.State.{State}
 use Rattle.ctr_model.specs.declared.tape.Point.{Point}
@@ -16,9 +16,9 @@ use Rattle.ctr_model.specs.State.{rows_at}
 use Rattle.ctr_model.specs.Laws.{StatesGrow, LegalStatesAreSound}
 use Rattle.ctr_model.specs.Tape.{Legal, at_start, final}
 use Rattle.ctr_model.specs.Texts.{answers}
-use Rattle.ctr_log.specs.Logs.{Batches, Log, HasLog, GoesOn}
-use Rattle.ctr_log.specs.Reading.{log_file}
+use Rattle.ctr_log.specs.Logs.{Log}
 use Rattle.ctr_thin.specs.Thin.{StandsFor}
+use Rattle.ctr_thin.proofs.FlushLemmas.{still}
 use Rattle.ctr_turns.specs.Turns.{AppendsAtMostOne}
 use Rattle.ctr_steps.specs.declared.steps.Steps.{Steps}
 use Rattle.ctr_steps.specs.Steps.{Walks, AddsEntry}
@@ -34,15 +34,6 @@ pub rows_same : (old new : State) (more : List (List Change)) (n : ℕ) → new.
 rows_same old new more n base asked le =
     ap (λ (l : List (List Change)). after_all l old.base) (sym (take-append-le n old.asked more le) ∙ ap (take n) (sym asked)) ∙ (λ i. after_all (take n new.asked) (sym base i))
 
--- a writer that stands where the old one stood
-still_goes_on : (first : ℕ) (bs : Batches) (old new : Log) (image : Image) → GoesOn first bs old image → new.file ≡ old.file → new.place ≡ old.place → new.first ≡ old.first
-    → GoesOn first bs new image
-still_goes_on first bs old new image goes file place first_same = record {
-  log_is = subst (λ f. HasLog first bs (content f image)) (sym file) goes.log_is;
-  place = place ∙ goes.place;
-  first_is = first_same ∙ goes.first_is;
-}
-
 -- at rest the disk has every commit that was answered
 pub rests_has : {D : Type 0} (dev : Ghosts D) (d : D) (log : Log) (state : State) (base : Database) (least : ℕ) → Rests dev d log state → state.base ≡ base → state.answered ≤ length state.asked → least ≤ state.answered
     → HasCommits base state.asked least (dev.reads d)
@@ -50,7 +41,7 @@ rests_has dev d log state base least rests base_is most le = record {
   k = state.answered;
   at_least = le;
   at_most = most;
-  stands = subst (StandsFor (dev.reads d)) (rests.rows_are ∙ ap (after_all (take state.answered state.asked)) base_is) rests.stands;
+  stands = subst (StandsFor (dev.reads d)) (rests.rows_are ∙ ap (after_all (take state.answered state.asked)) base_is) rests.goes.stands;
 }
 
 -- a state with the same commits answered, and a writer that stands where the old one stood
@@ -60,9 +51,7 @@ rests_on dev d old new s t more rests base asked answered most file place first 
   only = rests.only;
   rows = rests.rows;
   rows_are = rests.rows_are ∙ rows_same s t more s.answered base asked most ∙ ap (rows_at t) (sym answered);
-  stands = rests.stands;
-  file = file ∙ rests.file;
-  goes_on = still_goes_on rests.stands.r.first rests.stands.bs old new (dev.reads d) rests.goes_on file place first;
+  goes = still (dev.reads d) rests.rows old new rests.goes file place first;
 }
 
 -- ---- entries more
@@ -107,7 +96,7 @@ module _ {D : Type 0} (dev : Ghosts D)
       → Walks (at_start op.start base []) v.steps.answered v.steps v.log.buffered (dev.moment_of v.disk)
       → Survives dev op.start v.disk (IsPrefixAt op.before base (state_reached op base w).asked w.steps.tape.items)
       → Rests dev v.disk v.log then_state
-      → (alone : OnlyLogChanges dev op.start op.before op.image v.disk) → v.log.file ≡ log_file alone.root.file → OtherFilesStay (log_file alone.root.file) op.image (dev.reads v.disk)
+      → (alone : OnlyLogChanges dev op.start op.before op.image v.disk) → v.log.file ≡ alone.file → OtherFilesStay alone.file op.image (dev.reads v.disk)
       → dev.strays_of v.disk ≡ op.strays → RunsFrom dev op base v
   more_runs entries tape moments script walks survives rests alone log_is others stray =
       let lines : ◌≡◌ {A = List Line} v.steps.script.lines w.steps.script.lines = ap (λ (s : Script). s.lines) script in

@@ -1,10 +1,10 @@
 -- What a crash leaves of a run: the rows of a prefix of the commit order.
 use Rattle.std.specs.Prelude.{◌≡◌, ◌⊎◌, ℕ, ◌^◌, ◌<◌, ◌≤◌, List, [], ◌∷◌, length, take}
+use Rattle.ctr_types.specs.declared.file.File.{File}
 use Rattle.ctr_types.specs.declared.statement.Line.{Line}
 use Rattle.ctr_types.specs.declared.tape.Entry.{Entry}
 use Rattle.ctr_disk.specs.declared.disk.Image.{Image}
 use Rattle.ctr_disk.specs.declared.disk.Disk.{Ghosts}
-use Rattle.ctr_disk.specs.declared.fault.Root.{Root}
 use Rattle.ctr_disk.specs.Device.{IsDurable}
 use Rattle.ctr_disk.specs.Image.{OtherFilesStay}
 use Rattle.ctr_model.specs.declared.database.Change.{Change}
@@ -13,10 +13,8 @@ use Rattle.ctr_model.specs.declared.tape.Point.{Point}
 use Rattle.ctr_model.specs.Database.{Database, after_all}
 use Rattle.ctr_model.specs.State.{rows_at}
 use Rattle.ctr_model.specs.Tape.{final, at_start, answered_by}
-use Rattle.ctr_log.specs.Homes.{root_value, SaysRoot}
-use Rattle.ctr_log.specs.Logs.{Log, GoesOn}
-use Rattle.ctr_log.specs.Reading.{log_file}
-use Rattle.ctr_thin.specs.Thin.{StandsFor}
+use Rattle.ctr_log.specs.Logs.{Log}
+use Rattle.ctr_thin.specs.Thin.{StandsFor, NamesFile, GoesOnFor}
 
 -- where a tape has led from this moment and base
 abbrev pub reached : List Line → ℕ → Database → List Entry → Point
@@ -55,9 +53,7 @@ pub record Rests {D : Type 0} (g : Ghosts D) (disk : D) (log : Log) (state : Sta
   pub only : IsDurable g disk
   pub rows : Database
   pub rows_are : rows ≡ rows_at state state.answered
-  pub stands : StandsFor (g.reads disk) rows
-  pub file : log.file ≡ log_file stands.r.file
-  pub goes_on : GoesOn stands.r.first stands.bs log (g.reads disk)
+  pub goes : GoesOnFor (g.reads disk) rows log
 
 -- a file of the log has at least 2^62 bytes
 abbrev pub HasLongLog : Image → Type 0
@@ -74,6 +70,6 @@ StraysOnlyLong g strays disk = (g.strays_of disk ≡ strays)
 -- the start.
 pub record OnlyLogChanges {D : Type 0} (g : Ghosts D) (start : ℕ) (before : Image → Type 0)
     (image : Image) (disk : D) : Type 0 where
-  pub root : Root
-  pub says : SaysRoot (root_value image.root) root
-  pub alone : Survives g start disk (λ t c. OtherFilesStay (log_file root.file) image c ⊎ before c)
+  pub file : File
+  pub names : NamesFile image file
+  pub alone : Survives g start disk (λ t c. OtherFilesStay file image c ⊎ before c)

@@ -16,7 +16,6 @@ use Rattle.ctr_model.specs.declared.tape.Point.{Point}
 use Rattle.ctr_model.specs.Database.{Database}
 use Rattle.ctr_model.specs.Tape.{Legal, at_start, IsWhole}
 use Rattle.ctr_model.specs.Texts.{answers}
-use Rattle.ctr_log.specs.Reading.{log_file}
 use Rattle.ctr_thin.specs.declared.opening.OpenError.{OpenError}
 use Rattle.ctr_thin.specs.declared.opening.OpenError.TheVariants.{Fault}
 use Rattle.ctr_thin.specs.Thin.{StandsFor, IsLow}
@@ -76,9 +75,8 @@ pub record RunsFrom {D B : Type 0} (g : Ghosts D) (o : Opening B) (base : Databa
   pub rests : w.stop ≡ None → Rests g w.disk w.log (state_reached o base w)
   pub log_alone : OnlyLogChanges g o.start o.before o.image w.disk
   -- the writer's file is the one that the root names, and a read finds the others as they were
-  pub log_is : w.log.file ≡ log_file log_alone.root.file
-  pub others : w.stop ≡ None
-      → OtherFilesStay (log_file log_alone.root.file) o.image (g.reads w.disk)
+  pub log_is : w.log.file ≡ log_alone.file
+  pub others : w.stop ≡ None → OtherFilesStay log_alone.file o.image (g.reads w.disk)
   -- only a fault at a log that is nearly as long as a file can be counts as a stray
   pub stray : (g.strays_of w.disk ≡ o.strays)
       ⊎ ((w.stop ≢ None) × ((c : Image) → g.since w.disk (g.moment_of w.disk) c → HasLongLog c))

@@ -20,7 +20,7 @@ use ctr_legal::numbers_are_own;
 use ctr_log::LogFile;
 use ctr_model::{legal_states_are_sound, states_grow};
 use ctr_steps::{Steps, durable_walks, later_walks};
-use ctr_thin::goes_on_by_records;
+use ctr_thin::{a_flush_goes_on, a_flush_leaves_a_prefix};
 use ctr_types::{Actor, Turn};
 use std::alloc::Global;
 
@@ -70,7 +70,8 @@ impl<D: Disk> Parts<D> {
     {
         states_grow();
         legal_states_are_sound();
-        goes_on_by_records();
+        a_flush_leaves_a_prefix();
+        a_flush_goes_on();
         durable_walks();
         later_walks();
         let Ok(()) = self.log.flush(&mut self.disk) else {

@@ -3,6 +3,7 @@ use Rattle.ctr_world.proofs.TapeLemmas.{none_full_of}
 use Rattle.ctr_types.specs.declared.statement.Script.{Script}
 use Rattle.ctr_model.specs.declared.tape.Point.{Point}
 use Rattle.ctr_disk.specs.Device.{IsSettled}
+use Rattle.ctr_thin.specs.Thin.{first_behind, batches_behind}
 use Rattle.ctr_steps.specs.Steps.{Walks, Walking, HasBounds}
 use Rattle.ctr_world.specs.Held.{held}
 use Rattle.ctr_world.specs.Turns.{NoneFull, AnswersAll}
@@ -23,10 +24,10 @@ returns-in_default-clause-kept g c =
     record {
       runs = λ base told stands.
           let runs = k.runs base told stands in
-          let rests = at_rest d g.met.D.Disk.earlier g.met.D.Disk.only_now c.goes_on_by_records.ensures c.later_walks.ensures b base w runs c.requires.going k.later c.states_grow.ensures in
+          let rests = at_rest d g.met.D.Disk.earlier g.met.D.Disk.only_now c.a_flush_leaves_a_prefix.ensures c.later_walks.ensures b base w runs c.requires.going k.later c.states_grow.ensures in
           let settled : IsSettled d w.disk = record { told = told; only = rests.only } in
-          fails_runs d g.met.D.Disk.earlier g.met.D.Disk.only_now c.goes_on_by_records.ensures c.later_walks.ensures b base w runs c.requires.going k.later c.states_grow.ensures
-          c.flush.new.disk c.flush.new.self f.counts.later (f.any_moment rests.stands.r.first rests.stands.bs settled rests.goes_on) f.counts.stray.below f.emptied.file;
+          fails_runs d g.met.D.Disk.earlier g.met.D.Disk.only_now c.a_flush_leaves_a_prefix.ensures c.later_walks.ensures b base w runs c.requires.going k.later c.states_grow.ensures
+          c.flush.new.disk c.flush.new.self f.counts.later (f.any_moment (first_behind rests.goes) (batches_behind rests.goes) settled rests.goes.goes_on) f.counts.stray.below f.emptied.file;
       walking = λ bad. absurd (cc bad);
       bounds = λ bad. absurd (cc bad);
       eight = k.eight;
@@ -71,11 +72,11 @@ returns-clause-kept g c =
     record {
       runs = λ base told stands.
           let runs = k.runs base told stands in
-          let rests = at_rest d g.met.D.Disk.earlier g.met.D.Disk.only_now c.goes_on_by_records.ensures c.later_walks.ensures b base w runs c.requires.going k.later c.states_grow.ensures in
+          let rests = at_rest d g.met.D.Disk.earlier g.met.D.Disk.only_now c.a_flush_leaves_a_prefix.ensures c.later_walks.ensures b base w runs c.requires.going k.later c.states_grow.ensures in
           let settled : IsSettled d w.disk = record { told = told; only = rests.only } in
-          answers_runs d g.met.D.Disk.earlier g.met.D.Disk.only_now c.goes_on_by_records.ensures c.later_walks.ensures b base w runs c.requires.going k.later c.states_grow.ensures
-          c.legal_states_are_sound.ensures c.durable_walks.ensures c.flush.new.disk c.flush.new.self c.answer_all.new.steps c.flush.ensures.counts.later
-          (c.flush.ensures.any_moment rests.stands.r.first rests.stands.bs settled rests.goes_on) (f.flushed rests.stands.r.first rests.stands.bs told rests.goes_on)
+          answers_runs d g.met.D.Disk.earlier g.met.D.Disk.only_now c.a_flush_leaves_a_prefix.ensures c.later_walks.ensures b base w runs c.requires.going k.later c.states_grow.ensures
+          c.a_flush_goes_on.ensures c.legal_states_are_sound.ensures c.durable_walks.ensures c.flush.new.disk c.flush.new.self c.answer_all.new.steps c.flush.ensures.counts.later
+          (c.flush.ensures.any_moment (first_behind rests.goes) (batches_behind rests.goes) settled rests.goes.goes_on) (f.flushed (first_behind rests.goes) (batches_behind rests.goes) told rests.goes.goes_on)
           c.flush.ensures.emptied.file f.emptied.none (f.durable rests.only) f.counts.stray.fine c.answer_all.ensures.script all (walks g here);
       walking = λ going. walking g here;
       bounds = λ going. bounds g here;

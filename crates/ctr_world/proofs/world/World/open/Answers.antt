@@ -32,7 +32,7 @@ invariant_of-result g c =
     }
 
 pub returns-clause-can_open : goal.returns-clause-can_open
-returns-clause-can_open g c = λ told. let o = c.in-Ok.ensures.opened told in (_, (o.stands, o.low))
+returns-clause-can_open g c = λ told. let o = c.in-Ok.ensures.opened told in (_, (o.goes.stands, o.low))
 
 pub returns-clause-begins : goal.returns-clause-begins
 returns-clause-begins g c =
