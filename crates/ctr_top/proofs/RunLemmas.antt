@@ -108,7 +108,7 @@ module _ {D : Type 0} (g : Ghosts D) (earlier : (d : D) (s t : ℕ) (c : Image) 
         legal = tt;
         later = leaves.later;
         survives = λ t c le_start le left. inr (leaves.each c (earlier o.disk (g.moment_of old) t c le_start left), tt);
-        log_alone = record { file = (names (g.reads old) base stands).0; names = (names (g.reads old) base stands).1.0; alone = λ t c le_start le left. inr (leaves.each c (earlier o.disk (g.moment_of old) t c le_start left)) };
+        log_alone = record { file = (names (g.reads old) base stands).0; names = (names (g.reads old) base stands).1; alone = λ t c le_start le left. inr (leaves.each c (earlier o.disk (g.moment_of old) t c le_start left)) };
         complete = λ is. absurd (not is);
       } in
       subst (λ l. Ran g old base lines (record o { tape = record { entries = l } })) (sym none) empty
