@@ -1,0 +1,7 @@
+//! Records on whole pages and on the catalog: an area stays sound by each. Definitions of what each owes, and
+//! laws. No program computes them.
+#![tactic(auto)]
+
+mod pages;
+
+pub use pages::{a_format_stays_sound, a_free_stays_sound, an_alloc_stays_sound};
