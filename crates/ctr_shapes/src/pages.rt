@@ -8,6 +8,7 @@ ghost use Rattle.ctr_page.specs.declared.header.Header.{Header};
 ghost use Rattle.ctr_area.specs.Areas.{Area};
 ghost use Rattle.ctr_area.specs.Sound.{IsSoundArea};
 ghost use Rattle.ctr_area.specs.Changes.{with_taken, with_blank};
+ghost use Rattle.ctr_moves.specs.Bounds.{IsInBounds};
 ghost use Rattle.ctr_shapes.specs.Pages.{OwedByAlloc, OwedByFree, OwedByFormat};
 
 /// An Alloc: the area stays sound, with the tables in which the page is the transaction's to link or to give
@@ -25,6 +26,6 @@ pub fn a_free_stays_sound()
 
 /// A Format, whatever header it gives: the area stays sound with the same tables.
 pub fn a_format_stays_sound()
-    ensures { (counted : ℕ) (tables : Tables) (area : Area) (x p : ℕ) (h : Header) → IsSoundArea counted tables area → OwedByFormat tables x p
+    ensures { (counted : ℕ) (tables : Tables) (area : Area) (x p : ℕ) (h : Header) → IsInBounds area → IsSoundArea counted tables area → OwedByFormat tables x p
         → IsSoundArea counted tables (with_blank p h area) }
 {}
