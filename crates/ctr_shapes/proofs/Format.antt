@@ -45,19 +45,20 @@ item_alone counted tables area bounds owned p in_item f in_table =
     twice : (a b c : ℕ) → 1 ≤ a → 1 ≤ b → c ≡ a + b → c ≡ 1 → ⊥
     twice a b c one two is sum = omega (arith, one, two, is, sum)
 
--- the page of a wanted item
+-- the item that is wanted
+pub allocation_is : (x p : ℕ) (i : SlogItem) → is_wanted (Allocation x p) i ≡ true → i ≡ AllocOf x p
+allocation_is x p (AllocOf y q) is = let parts = and_parts (y == x) (q == p) is in λ i. AllocOf (eqb-true y x parts.0 i) (eqb-true q p parts.1 i)
+allocation_is x p (FreeOf q) is = absurd (false≢true is)
+allocation_is x p (CreateOf y e) is = absurd (false≢true is)
+allocation_is x p (DropOf y e) is = absurd (false≢true is)
+
+-- its page
 pub item_page : (x p : ℕ) (items : List SlogItem) → list_any (is_wanted (Allocation x p)) items ≡ true → IsAmong (AllocOf x p) items × IsAmong p (flat_map page_of_item items)
 item_page x p items there =
     let found = taken_out (Allocation x p) items there in
-    let is = wanted_is found.0 found.1 in
+    let is = allocation_is x p found.0 found.1 in
     let in_ = subst (IsAmong found.0) (sym found.2.more_is) (the_one found.0 found.2.front found.2.rest) in
     (subst (λ z. IsAmong z items) is in_, flat_among page_of_item p found.0 items in_ (subst (λ z. IsAmong p (page_of_item z)) (sym is) (inl refl)))
-  where
-    wanted_is : (i : SlogItem) → is_wanted (Allocation x p) i ≡ true → i ≡ AllocOf x p
-    wanted_is (AllocOf y q) is = let parts = and_parts (y == x) (q == p) is in λ i. AllocOf (eqb-true y x parts.0 i) (eqb-true q p parts.1 i)
-    wanted_is (FreeOf q) is = absurd (false≢true is)
-    wanted_is (CreateOf y e) is = absurd (false≢true is)
-    wanted_is (DropOf y e) is = absurd (false≢true is)
 
 module _ (counted : ℕ) (tables : Tables) (area : Area) (x p : ℕ) (h : Header) (bounds : IsInBounds area) (sound : IsSoundArea counted tables area) (owed : OwedByFormat tables x p) where
   abbrev after : Area

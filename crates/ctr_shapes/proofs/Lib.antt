@@ -3,3 +3,8 @@ pub mod Named
 pub mod Owning
 pub mod Away
 pub mod Format
+pub mod Ends
+pub mod Firsts
+pub mod Few
+pub mod Links
+pub mod Unlinks

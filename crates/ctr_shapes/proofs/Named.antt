@@ -19,7 +19,7 @@ pub record IsOfPage (i : SlogItem) : Type 0 where
   pub no_dropping : (e : ℕ) → is_dropping e i ≡ false
 
 -- which kind of item it is
-abbrev kind_of_item : SlogItem → ℕ
+abbrev pub kind_of_item : SlogItem → ℕ
 kind_of_item (AllocOf x p) = 1
 kind_of_item (FreeOf p) = 2
 kind_of_item (CreateOf x e) = 3

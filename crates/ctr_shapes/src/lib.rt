@@ -4,4 +4,7 @@
 
 mod pages;
 
-pub use pages::{a_format_stays_sound, a_free_stays_sound, an_alloc_stays_sound};
+pub use pages::{
+    a_format_stays_sound, a_free_stays_sound, a_link_stays_sound, a_linked_page_leads_on,
+    an_alloc_stays_sound, an_unlink_stays_sound,
+};
