@@ -1,5 +1,5 @@
 -- The items of the secondary log, with one more or one less.
-use Rattle.std.proofs.Common.{◌≡◌, ◌⊎◌, ⊎_elim, inl, inr, ℕ, ◌+◌, Bool, true, cond, List, [], ◌∷◌, ◌++◌, refl, sym, ◌∙◌, ap, arith}
+use Rattle.std.proofs.Common.{◌≡◌, ◌⊎◌, ⊎_elim, inl, inr, ℕ, ◌+◌, Bool, true, false, cond, List, [], ◌∷◌, ◌++◌, refl, sym, ◌∙◌, ap, subst, arith}
 use Rattle.std.proofs.lemmas.Bool.{false≢true}
 use Rattle.std.proofs.lemmas.List.{append-nil}
 use Rattle.std.specs.List.{list_any, flat_map}
@@ -77,3 +77,27 @@ taken_out w (a ∷ items) there = known (is_wanted w a)
       less_is = ap (λ b. cond b items (a ∷ left_out w items)) isnt ∙ ap (λ l. a ∷ l) one.less_is;
       more_is = ap (λ l. a ∷ l) one.more_is;
     }))
+
+-- ---- members, with one more and with one less
+
+pub up_one : (i : SlogItem) (less more : List SlogItem) → IsWithOne i less more → (z : SlogItem) → IsAmong z less → IsAmong z more
+up_one i less more one z in_ = subst (IsAmong z) (sym one.more_is) (with_one z i one.front one.rest (subst (IsAmong z) one.less_is in_))
+
+pub down_one : (i : SlogItem) (less more : List SlogItem) → IsWithOne i less more → (z : SlogItem) → IsAmong z more → (z ≡ i) ⊎ IsAmong z less
+down_one i less more one z in_ = ⊎_elim (λ is. inl is) (λ there. inr (subst (IsAmong z) (sym one.less_is) there)) (or_the_one z i one.front one.rest (subst (IsAmong z) one.more_is in_))
+
+pub count_one : (test : SlogItem → Bool) (i : SlogItem) (less more : List SlogItem) → IsWithOne i less more → how_many test more ≡ how_many test less + bit (test i)
+count_one test i less more one = ap (how_many test) one.more_is ∙ count_with test i one.front one.rest ∙ ap (λ l. how_many test l + bit (test i)) (sym one.less_is)
+
+pub it_is_in : (i : SlogItem) (less more : List SlogItem) → IsWithOne i less more → IsAmong i more
+it_is_in i less more one = subst (IsAmong i) (sym one.more_is) (the_one i one.front one.rest)
+
+-- one that is wanted is there
+pub any_there : (w : Wanted) (i : SlogItem) (items : List SlogItem) → is_wanted w i ≡ true → IsAmong i items → list_any (is_wanted w) items ≡ true
+any_there w i [] is in_ = absurd in_
+any_there w i (a ∷ items) is (inl here) = ap (λ b. b || list_any (is_wanted w) items) (ap (is_wanted w) (sym here) ∙ is)
+any_there w i (a ∷ items) is (inr there) = ap (λ b. is_wanted w a || b) (any_there w i items is there) ∙ either (is_wanted w a)
+  where
+    either : (b : Bool) → (b || true) ≡ true
+    either true = refl
+    either false = refl

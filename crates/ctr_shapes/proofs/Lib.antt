@@ -8,3 +8,6 @@ pub mod Firsts
 pub mod Few
 pub mod Links
 pub mod Unlinks
+pub mod Undone
+pub mod Latest
+pub mod Uncreate

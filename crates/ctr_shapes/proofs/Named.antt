@@ -59,10 +59,10 @@ abbrev head_or : {A : Type 0} → A → List A → A
 head_or d [] = d
 head_or d (x ∷ xs) = x
 
-head_same : {A : Type 0} (x y : A) (xs ys : List A) → x ∷ xs ≡ y ∷ ys → x ≡ y
+pub head_same : {A : Type 0} (x y : A) (xs ys : List A) → x ∷ xs ≡ y ∷ ys → x ≡ y
 head_same x y xs ys is = ap (head_or x) is
 
-tail_same : {A : Type 0} (x y : A) (xs ys : List A) → x ∷ xs ≡ y ∷ ys → xs ≡ ys
+pub tail_same : {A : Type 0} (x y : A) (xs ys : List A) → x ∷ xs ≡ y ∷ ys → xs ≡ ys
 tail_same x y xs ys is = ap tail_of is
 
 -- where the longer list is cut at another member, the shorter one can be
@@ -78,7 +78,7 @@ cut_without i c (a ∷ front) rest (j ∷ f) r apart is =
     (j ∷ further.0, further.1, (λ k. head_same a j (front ++ i ∷ rest) (f ++ c ∷ r) is k ∷ further.2 k), λ z other in_. ⊎_elim (λ here. inl here) (λ there. inr (further.3 z other there)) in_)
 
 -- and the other way
-cut_with : {A : Type 0} (i c : A) (front rest f r : List A) → front ++ rest ≡ f ++ c ∷ r
+pub cut_with : {A : Type 0} (i c : A) (front rest f r : List A) → front ++ rest ≡ f ++ c ∷ r
     → (g : List A) × (s : List A) × (front ++ i ∷ rest ≡ g ++ c ∷ s) × ((z : A) → IsAmong z f → IsAmong z g)
 cut_with i c [] rest f r is = (i ∷ f, r, ap (λ l. i ∷ l) is, λ z in_. inr in_)
 cut_with i c (a ∷ front) rest [] r is = ([], front ++ i ∷ rest, ap (λ x. x ∷ (front ++ i ∷ rest)) (head_same a c (front ++ rest) r is), λ z in_. in_)

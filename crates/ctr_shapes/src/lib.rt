@@ -3,8 +3,10 @@
 #![tactic(auto)]
 
 mod pages;
+mod titles;
 
 pub use pages::{
     a_format_stays_sound, a_free_stays_sound, a_link_stays_sound, a_linked_page_leads_on,
     an_alloc_stays_sound, an_unlink_stays_sound,
 };
+pub use titles::an_uncreate_stays_sound;
