@@ -11,3 +11,5 @@ pub mod Unlinks
 pub mod Undone
 pub mod Latest
 pub mod Uncreate
+pub mod Undrop
+pub mod Drop

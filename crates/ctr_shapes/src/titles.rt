@@ -1,15 +1,28 @@
 // Records on the catalog.
 ghost use Rattle.std.specs.Prelude.{ℕ};
-ghost use Rattle.ctr_meta.specs.declared.items.Wanted.TheVariants.{Creation};
+ghost use Rattle.ctr_records.specs.declared.record.SlogItem.TheVariants.{DropOf};
+ghost use Rattle.ctr_meta.specs.declared.items.Wanted.TheVariants.{Creation, Dropping};
 ghost use Rattle.ctr_meta.specs.Tables.{Tables};
-ghost use Rattle.ctr_meta.specs.Effects.{without_item};
+ghost use Rattle.ctr_meta.specs.Effects.{with_item, without_item};
 ghost use Rattle.ctr_area.specs.Areas.{Area};
 ghost use Rattle.ctr_area.specs.Sound.{IsSoundArea};
 ghost use Rattle.ctr_area.specs.Changes.{with_title};
-ghost use Rattle.ctr_shapes.specs.Titles.{OwedByUncreate};
+ghost use Rattle.ctr_shapes.specs.Titles.{OwedByUncreate, OwedByUndrop, OwedByDrop};
 
 /// An Uncreate: the area stays sound, with the tables in which the entry's creation is no item any more.
 pub fn an_uncreate_stays_sound()
     ensures { (counted : ℕ) (tables : Tables) (area : Area) (x e : ℕ) → IsSoundArea counted tables area → OwedByUncreate tables x e
         → IsSoundArea counted (without_item (Creation e) tables) (with_title e (record (area.title e) { state = 2 }) area) }
+{}
+
+/// An Undrop: the area stays sound, with the tables in which the entry's drop is no item any more.
+pub fn an_undrop_stays_sound()
+    ensures { (counted : ℕ) (tables : Tables) (area : Area) (x e : ℕ) → IsSoundArea counted tables area → OwedByUndrop tables x e
+        → IsSoundArea counted (without_item (Dropping e) tables) (with_title e (record (area.title e) { dropper = 0 }) area) }
+{}
+
+/// A Drop: the area stays sound, with the tables in which the drop is an item.
+pub fn a_drop_stays_sound()
+    ensures { (counted : ℕ) (tables : Tables) (area : Area) (x e : ℕ) → IsSoundArea counted tables area → OwedByDrop tables area x e
+        → IsSoundArea counted (with_item (DropOf x e) tables) (with_title e (record (area.title e) { dropper = x }) area) }
 {}
