@@ -70,8 +70,7 @@ module _ (on : ℕ → Type 0) (old new : Area) (same_ : IsSameOn on old new) wh
 
   ends_same : (Is : Header → Type 0) (p : ℕ) → ((q : ℕ) → IsAmong q (pages_from pages_bound old.header p) → on q) → EndsIn pages_bound old.header Is p → EndsIn pages_bound new.header Is p
   ends_same Is p all ends =
-      let now = pages_same pages_bound p all in
-      (
+      let now = pages_same pages_bound p all in (
         subst (AllByRecursion (λ q. Is (new.header q))) (sym now) (all_same Is old.header new.header (pages_from pages_bound old.header p) (λ q in_. same_.headers q (all q in_)) ends.0),
         pages_same (pages_bound + 1) p (λ q in_. all q (subst (IsAmong q) ends.1 in_)) ∙ ends.1 ∙ sym now,
       )

@@ -123,11 +123,15 @@ module _ (counted : ℕ) (tables : Tables) (area : Area) (x e : ℕ) (sound : Is
         one_of_from (all_undone (drop k (filter (is_item_by y) items)) area.title) (all_undone (drop k (filter (is_item_by y) more)) after.title) (stands_for committed y) (stands_for committed y)
         (sound.names.undoing y k in_) (λ f lt alive counts. stood y k f (λ is. false≢true (sym isnt ∙ eq-eqb x y is)) (live_some counted tables area sound y in_) same_items alive counts));
     standing = one_of_from area.title after.title (is_standing committed) (is_standing committed) sound.names.standing
-        (λ f lt alive counts. (sym (same_live f) ∙ alive, same_name_at f, by_title area e dropped (λ f u. is_standing committed u ≡ true → is_standing committed (area.title f) ≡ true)
-        (λ now. let parts = and_parts (is_live (area.title e)) (committed (area.title e).creator && not (committed x)) now in
-        and_from (is_live (area.title e)) (committed (area.title e).creator && not (committed (area.title e).dropper)) parts.0
-        (and_from (committed (area.title e).creator) (not (committed (area.title e).dropper)) (and_parts (committed (area.title e).creator) (not (committed x)) parts.1).0 (ap (λ d. not (committed d)) owed.undropped)))
-        (λ f apart now. now) f counts));
+        (λ f lt alive counts. (
+          sym (same_live f) ∙ alive,
+          same_name_at f,
+          by_title area e dropped (λ f u. is_standing committed u ≡ true → is_standing committed (area.title f) ≡ true)
+              (λ now. let parts = and_parts (is_live (area.title e)) (committed (area.title e).creator && not (committed x)) now in
+              and_from (is_live (area.title e)) (committed (area.title e).creator && not (committed (area.title e).dropper)) parts.0
+              (and_from (committed (area.title e).creator) (not (committed (area.title e).dropper)) (and_parts (committed (area.title e).creator) (not (committed x)) parts.1).0 (ap (λ d. not (committed d)) owed.undropped)))
+              (λ f apart now. now) f counts,
+        ));
   }
     where
       plain : (n : ℕ) → n + 0 ≡ n
@@ -197,15 +201,17 @@ module _ (counted : ℕ) (tables : Tables) (area : Area) (x e : ℕ) (sound : Is
           let D = drop k (filter (is_item_by y) items) in
           let same_list : all_undone (drop k (filter (is_item_by y) more)) after.title f ≡ all_undone D after.title f = ap (λ l. all_undone (drop k l) after.title f) same_items in
           let none : (z : SlogItem) → IsAmong z D → ((w : ℕ) → z ≡ CreateOf w e → ⊥) × ((w : ℕ) → z ≡ DropOf w e → ⊥) =
-              λ z in_. let by_y = filter_among (is_item_by y) z items (drop_among z k (filter (is_item_by y) items) in_) in others_apart y apart z by_y.0 by_y.1 in
+          λ z in_. let by_y = filter_among (is_item_by y) z items (drop_among z k (filter (is_item_by y) items) in_) in others_apart y apart z by_y.0 by_y.1 in
           known (f == e)
           (λ is. let same_f = eqb-true f e is in
           let now : all_undone (drop k (filter (is_item_by y) more)) after.title f ≡ dropped =
-              same_list ∙ ap (all_undone D after.title) same_f ∙ undone_apart D after.title e (λ w in_. (none (CreateOf w e) in_).0 w refl) (λ w in_. (none (DropOf w e) in_).1 w refl) ∙ title_here area e dropped in
+          same_list ∙ ap (all_undone D after.title) same_f ∙ undone_apart D after.title e (λ w in_. (none (CreateOf w e) in_).0 w refl) (λ w in_. (none (DropOf w e) in_).1 w refl) ∙ title_here area e dropped in
           let was : all_undone D area.title f ≡ area.title e =
-              ap (all_undone D area.title) same_f ∙ undone_apart D area.title e (λ w in_. (none (CreateOf w e) in_).0 w refl) (λ w in_. (none (DropOf w e) in_).1 w refl) in
-          (ap is_live was ∙ sym (ap is_live now) ∙ alive, ap (λ (u : Title). u.name) now ∙ sym (ap (λ (u : Title). u.name) was),
-          ap (stands_for committed y) was ∙ as_before y some (sym (ap (stands_for committed y) now) ∙ counts)))
+          ap (all_undone D area.title) same_f ∙ undone_apart D area.title e (λ w in_. (none (CreateOf w e) in_).0 w refl) (λ w in_. (none (DropOf w e) in_).1 w refl) in (
+            ap is_live was ∙ sym (ap is_live now) ∙ alive,
+            ap (λ (u : Title). u.name) now ∙ sym (ap (λ (u : Title). u.name) was),
+            ap (stands_for committed y) was ∙ as_before y some (sym (ap (stands_for committed y) now) ∙ counts),
+          ))
           (λ isnt. let same_at : all_undone (drop k (filter (is_item_by y) more)) after.title f ≡ all_undone D area.title f = same_list ∙ undone_at D after.title area.title f (title_apart area e dropped f (λ is. false≢true (sym isnt ∙ eq-eqb f e is))) in
           (subst (λ u. is_live u ≡ true) same_at alive, ap (λ (u : Title). u.name) same_at, subst (λ u. stands_for committed y u ≡ true) same_at counts))
 

@@ -89,17 +89,19 @@ module _ (header : ℕ → Header) where
     behind_chain Is ends =
         let m = steps.0 in
         let here : pages_from pages_bound header p ≡ p ∷ pages_from m header next =
-            ap (λ m. pages_from m header p) steps.1 ∙ page_goes_on m p some ∙ ap (λ q. p ∷ pages_from m header q) leads in
+        ap (λ m. pages_from m header p) steps.1 ∙ page_goes_on m p some ∙ ap (λ q. p ∷ pages_from m header q) leads in
         let longer : pages_from (pages_bound + 1) header p ≡ p ∷ pages_from pages_bound header next =
-            ap (λ m. pages_from m header p) (plus pages_bound) ∙ page_goes_on pages_bound p some ∙ ap (λ q. p ∷ pages_from pages_bound header q) leads in
+        ap (λ m. pages_from m header p) (plus pages_bound) ∙ page_goes_on pages_bound p some ∙ ap (λ q. p ∷ pages_from pages_bound header q) leads in
         let short : pages_from pages_bound header next ≡ pages_from m header next = ap tail_of (sym longer ∙ ends.1 ∙ here) in
-        let front : pages_from pages_bound header p ≡ p ∷ pages_from pages_bound header next = here ∙ ap (λ ps. p ∷ ps) (sym short) in
-        (front, (
-          (subst (AllByRecursion (λ q. Is (header q))) front ends.0).1,
-          ap (λ m. pages_from m header next) (plus pages_bound ∙ ap (λ m. suc m) steps.1)
-              ∙ still_ends m next (ap (λ m. pages_from m header next) (sym steps.1) ∙ short)
-              ∙ ap (λ m. pages_from m header next) (sym steps.1),
-        ))
+        let front : pages_from pages_bound header p ≡ p ∷ pages_from pages_bound header next = here ∙ ap (λ ps. p ∷ ps) (sym short) in (
+          front,
+          (
+            (subst (AllByRecursion (λ q. Is (header q))) front ends.0).1,
+            ap (λ m. pages_from m header next) (plus pages_bound ∙ ap (λ m. suc m) steps.1)
+                ∙ still_ends m next (ap (λ m. pages_from m header next) (sym steps.1) ∙ short)
+                ∙ ap (λ m. pages_from m header next) (sym steps.1),
+          ),
+        )
       where
         plus : (n : ℕ) → n + 1 ≡ suc n
         plus n = omega arith

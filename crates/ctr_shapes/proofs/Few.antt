@@ -95,9 +95,10 @@ module _ (counted : ℕ) (tables : Tables) (area : Area) (p : ℕ) (few : counte
   -- some of the tables' pages are fewer than the bound
   pub some_left : (xs : List ℕ) → ((q : ℕ) → count q xs ≤ count q all_tables) → length xs < pages_bound
   some_left xs within = fits (length xs) (length (numbers 0 counted)) counted pages_bound
-      (apart_fit (p ∷ xs) (numbers 0 counted)
-      ((λ in_. alone (count p xs) (count p all_tables) (count p of_items) (count p (owned_pages tables.items area)) (count_among p xs in_) (within p) (count_among p of_items item) (sum p) (owned_most p)),
-      counts_apart xs (λ q. most (count q xs) (count q all_tables) (count q of_items) (count q (owned_pages tables.items area)) (within q) (sum q) (owned_most q)))
+      (apart_fit (p ∷ xs) (numbers 0 counted) (
+        (λ in_. alone (count p xs) (count p all_tables) (count p of_items) (count p (owned_pages tables.items area)) (count_among p xs in_) (within p) (count_among p of_items item) (sum p) (owned_most p)),
+        counts_apart xs (λ q. most (count q xs) (count q all_tables) (count q of_items) (count q (owned_pages tables.items area)) (within q) (sum q) (owned_most q)),
+      )
       (λ q in_. number_among q 0 counted (omega arith) (below q in_)))
       (length-numbers 0 counted) few
     where

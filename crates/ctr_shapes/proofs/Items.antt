@@ -70,13 +70,16 @@ taken_out w [] there = absurd (false≢true there)
 taken_out w (a ∷ items) there = known (is_wanted w a)
     (λ is. (a, is, record { front = []; rest = items; less_is = ap (λ b. cond b items (a ∷ left_out w items)) is; more_is = refl }))
     (λ isnt. let further = taken_out w items (sym (ap (λ b. b || list_any (is_wanted w) items) isnt) ∙ there) in
-    let one = further.2 in
-    (further.0, further.1, record {
-      front = a ∷ one.front;
-      rest = one.rest;
-      less_is = ap (λ b. cond b items (a ∷ left_out w items)) isnt ∙ ap (λ l. a ∷ l) one.less_is;
-      more_is = ap (λ l. a ∷ l) one.more_is;
-    }))
+    let one = further.2 in (
+      further.0,
+      further.1,
+      record {
+        front = a ∷ one.front;
+        rest = one.rest;
+        less_is = ap (λ b. cond b items (a ∷ left_out w items)) isnt ∙ ap (λ l. a ∷ l) one.less_is;
+        more_is = ap (λ l. a ∷ l) one.more_is;
+      },
+    ))
 
 -- ---- members, with one more and with one less
 

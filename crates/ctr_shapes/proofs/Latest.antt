@@ -69,9 +69,11 @@ module _ (x : ℕ) (i : SlogItem) (less more earlier : List SlogItem) (one : IsW
   -- its own items, after the latest is undone
   pub own_undone : (title : ℕ → Title) (k : ℕ) → (m : ℕ) × (all_undone (drop k (filter (by x) less)) (undone i title) ≡ all_undone (drop m (filter (by x) more)) title)
   own_undone title k =
-      let further = drop_last k earlier i in
-      (further.0, ap (λ l. all_undone (drop k l) (undone i title)) now ∙ sym (undone_last (drop k earlier) i title)
-      ∙ ap (λ l. all_undone l title) (sym further.1) ∙ ap (λ l. all_undone (drop further.0 l) title) (sym last))
+      let further = drop_last k earlier i in (
+        further.0,
+        ap (λ l. all_undone (drop k l) (undone i title)) now ∙ sym (undone_last (drop k earlier) i title)
+            ∙ ap (λ l. all_undone l title) (sym further.1) ∙ ap (λ l. all_undone (drop further.0 l) title) (sym last),
+      )
 
   pub others_same : (y : ℕ) → is_item_by y i ≡ false → filter (by y) more ≡ filter (by y) less
   others_same y isnt = ap (filter (by y)) one.more_is ∙ filter_apart (by y) i one.front one.rest isnt ∙ ap (filter (by y)) (sym one.less_is)

@@ -13,3 +13,5 @@ pub mod Latest
 pub mod Uncreate
 pub mod Undrop
 pub mod Drop
+pub mod Fresh
+pub mod Create

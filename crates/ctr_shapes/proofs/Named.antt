@@ -123,17 +123,21 @@ module _ (i : SlogItem) (plain : (title : ℕ → Title) → undone i title ≡ 
   pub by_without : (test : SlogItem → Bool) (k : ℕ) (front rest : List SlogItem)
       → (m : ℕ) × (all_undone (drop k (filter test (front ++ i ∷ rest))) title ≡ all_undone (drop m (filter test (front ++ rest))) title)
   by_without test k front rest = known (test i)
-      (λ is. let further = undone_without k (filter test front) (filter test rest) in
-      (further.0, ap (λ l. all_undone (drop k l) title) (filter_with test front rest ∙ ap (λ b. cond b (filter test front ++ i ∷ filter test rest) (filter test (front ++ rest))) is)
-      ∙ further.1 ∙ ap (λ l. all_undone (drop further.0 l) title) (sym (filter_both test front rest))))
+      (λ is. let further = undone_without k (filter test front) (filter test rest) in (
+        further.0,
+        ap (λ l. all_undone (drop k l) title) (filter_with test front rest ∙ ap (λ b. cond b (filter test front ++ i ∷ filter test rest) (filter test (front ++ rest))) is)
+            ∙ further.1 ∙ ap (λ l. all_undone (drop further.0 l) title) (sym (filter_both test front rest)),
+      ))
       (λ isnt. (k, ap (λ l. all_undone (drop k l) title) (filter_with test front rest ∙ ap (λ b. cond b (filter test front ++ i ∷ filter test rest) (filter test (front ++ rest))) isnt)))
 
   pub by_with : (test : SlogItem → Bool) (k : ℕ) (front rest : List SlogItem)
       → (m : ℕ) × (all_undone (drop k (filter test (front ++ rest))) title ≡ all_undone (drop m (filter test (front ++ i ∷ rest))) title)
   by_with test k front rest = known (test i)
-      (λ is. let further = undone_with k (filter test front) (filter test rest) in
-      (further.0, ap (λ l. all_undone (drop k l) title) (filter_both test front rest) ∙ further.1
-      ∙ ap (λ l. all_undone (drop further.0 l) title) (sym (filter_with test front rest ∙ ap (λ b. cond b (filter test front ++ i ∷ filter test rest) (filter test (front ++ rest))) is))))
+      (λ is. let further = undone_with k (filter test front) (filter test rest) in (
+        further.0,
+        ap (λ l. all_undone (drop k l) title) (filter_both test front rest) ∙ further.1
+            ∙ ap (λ l. all_undone (drop further.0 l) title) (sym (filter_with test front rest ∙ ap (λ b. cond b (filter test front ++ i ∷ filter test rest) (filter test (front ++ rest))) is)),
+      ))
       (λ isnt. (k, ap (λ l. all_undone (drop k l) title) (sym (filter_with test front rest ∙ ap (λ b. cond b (filter test front ++ i ∷ filter test rest) (filter test (front ++ rest))) isnt))))
 
 -- ---- the part itself

@@ -105,9 +105,10 @@ module _ (counted : ℕ) (tables : Tables) (area : Area) (x e : ℕ) (sound : Is
         subst (λ (u : Title). (is_live u ≡ true) × (u.creator ≡ y) × ((u.dropper ≡ 0) ⊎ (u.dropper ≡ y))) (sym (title_apart area e dead f apart)) (sound.names.creates y f (up_one i less items one (CreateOf y f) in_));
     drops = λ y f in_. let apart : f ≡ e → ⊥ = λ is. no_drop y (subst (λ f. IsAmong (DropOf y f) less) is in_) in
         subst (λ (u : Title). (is_live u ≡ true) × (u.dropper ≡ y)) (sym (title_apart area e dead f apart)) (sound.names.drops y f (up_one i less items one (DropOf y f) in_));
-    once = λ f. let was = sound.names.once f in
-        (fewer (how_many (is_creation f) less) (how_many (is_creation f) items) (bit (is_creation f i)) (count_one (is_creation f) i less items one) was.0,
-        fewer (how_many (is_dropping f) less) (how_many (is_dropping f) items) (bit (is_dropping f i)) (count_one (is_dropping f) i less items one) was.1);
+    once = λ f. let was = sound.names.once f in (
+      fewer (how_many (is_creation f) less) (how_many (is_creation f) items) (bit (is_creation f i)) (count_one (is_creation f) i less items one) was.0,
+      fewer (how_many (is_dropping f) less) (how_many (is_dropping f) items) (bit (is_dropping f i)) (count_one (is_dropping f) i less items one) was.1,
+    );
     in_order = λ front rest y z f is in_. let cut_ = cut_with i (CreateOf y f) one.front one.rest front rest (sym one.less_is ∙ is) in
         sound.names.in_order cut_.0 cut_.1 y z f (one.more_is ∙ cut_.2) (cut_.3 (DropOf z f) in_);
     of_one = λ y z f g a b same_. sound.names.of_one y z f g (was_item y f a) (was_item z g b) (sym (same_name_at f) ∙ same_ ∙ same_name_at g);

@@ -119,9 +119,10 @@ module _ (counted : ℕ) (tables : Tables) (area : Area) (x e : ℕ) (sound : Is
         (λ was. let its = sound.names.creates y e was in (its.0, its.1, inl refl)) (λ f apart was. sound.names.creates y f was) f (was_in (CreateOf y f) in_);
     drops = λ y f in_. let apart : f ≡ e → ⊥ = λ is. no_drop y (subst (λ f. IsAmong (DropOf y f) less) is in_) in
         subst (λ (u : Title). (is_live u ≡ true) × (u.dropper ≡ y)) (sym (title_apart area e undropped f apart)) (sound.names.drops y f (was_in (DropOf y f) in_));
-    once = λ f. let was = sound.names.once f in
-        (fewer (how_many (is_creation f) less) (how_many (is_creation f) items) (bit (is_creation f i)) (count_one (is_creation f) i less items one) was.0,
-        fewer (how_many (is_dropping f) less) (how_many (is_dropping f) items) (bit (is_dropping f i)) (count_one (is_dropping f) i less items one) was.1);
+    once = λ f. let was = sound.names.once f in (
+      fewer (how_many (is_creation f) less) (how_many (is_creation f) items) (bit (is_creation f i)) (count_one (is_creation f) i less items one) was.0,
+      fewer (how_many (is_dropping f) less) (how_many (is_dropping f) items) (bit (is_dropping f i)) (count_one (is_dropping f) i less items one) was.1,
+    );
     in_order = λ front rest y z f is in_. let cut_ = cut_with i (CreateOf y f) one.front one.rest front rest (sym one.less_is ∙ is) in
         sound.names.in_order cut_.0 cut_.1 y z f (one.more_is ∙ cut_.2) (cut_.3 (DropOf z f) in_);
     of_one = λ y z f g a b same_. sound.names.of_one y z f g (was_item y f a) (was_item z g b) (sym (same_name_at f) ∙ same_ ∙ same_name_at g);
@@ -133,11 +134,15 @@ module _ (counted : ℕ) (tables : Tables) (area : Area) (x e : ℕ) (sound : Is
         one_of_from (all_undone (drop k (filter (is_item_by y) items)) area.title) (all_undone (drop k (filter (is_item_by y) less)) after.title) (stands_for committed y) (stands_for committed y)
         (sound.names.undoing y k in_) (λ f lt alive counts. stood y k f (λ is. false≢true (sym isnt ∙ eq-eqb x y is)) same_items alive counts));
     standing = one_of_from area.title after.title (is_standing committed) (is_standing committed) sound.names.standing
-        (λ f lt alive counts. (sym (same_live f) ∙ alive, same_name_at f, by_title area e undropped (λ f u. is_standing committed u ≡ true → is_standing committed (area.title f) ≡ true)
-        (λ now. and_from (is_live (area.title e)) (committed (area.title e).creator && not (committed (area.title e).dropper)) (and_parts (is_live (area.title e)) (committed (area.title e).creator && true) now).0
-        (and_from (committed (area.title e).creator) (not (committed (area.title e).dropper)) (and_parts (committed (area.title e).creator) true (and_parts (is_live (area.title e)) (committed (area.title e).creator && true) now).1).0
-        (ap (λ d. not (committed d)) dropper_is ∙ ap not (live_open counted tables area sound x x_live))))
-        (λ f apart now. now) f counts));
+        (λ f lt alive counts. (
+          sym (same_live f) ∙ alive,
+          same_name_at f,
+          by_title area e undropped (λ f u. is_standing committed u ≡ true → is_standing committed (area.title f) ≡ true)
+              (λ now. and_from (is_live (area.title e)) (committed (area.title e).creator && not (committed (area.title e).dropper)) (and_parts (is_live (area.title e)) (committed (area.title e).creator && true) now).0
+              (and_from (committed (area.title e).creator) (not (committed (area.title e).dropper)) (and_parts (committed (area.title e).creator) true (and_parts (is_live (area.title e)) (committed (area.title e).creator && true) now).1).0
+              (ap (λ d. not (committed d)) dropper_is ∙ ap not (live_open counted tables area sound x x_live))))
+              (λ f apart now. now) f counts,
+        ));
   }
     where
       fewer : (a b c : ℕ) → b ≡ a + c → b ≤ 1 → a ≤ 1
@@ -156,15 +161,17 @@ module _ (counted : ℕ) (tables : Tables) (area : Area) (x e : ℕ) (sound : Is
           let D = drop k (filter (is_item_by y) less) in
           let same_list : (g : ℕ) → all_undone (drop k (filter (is_item_by y) items)) area.title g ≡ all_undone D area.title g = λ g. ap (λ l. all_undone (drop k l) area.title g) same_items in
           let none : (z : SlogItem) → IsAmong z D → ((w : ℕ) → z ≡ CreateOf w e → ⊥) × ((w : ℕ) → z ≡ DropOf w e → ⊥) =
-              λ z in_. let by_y = filter_among (is_item_by y) z less (drop_among z k (filter (is_item_by y) less) in_) in others_apart y apart z (was_in z by_y.0) by_y.1 in
+          λ z in_. let by_y = filter_among (is_item_by y) z less (drop_among z k (filter (is_item_by y) less) in_) in others_apart y apart z (was_in z by_y.0) by_y.1 in
           let here_now : all_undone D after.title e ≡ undropped = undone_apart D after.title e (λ w in_. (none (CreateOf w e) in_).0 w refl) (λ w in_. (none (DropOf w e) in_).1 w refl) ∙ title_here area e undropped in
           let here_was : all_undone D area.title e ≡ area.title e = undone_apart D area.title e (λ w in_. (none (CreateOf w e) in_).0 w refl) (λ w in_. (none (DropOf w e) in_).1 w refl) in
           known (f == e)
           (λ is. let same_f = eqb-true f e is in
           let now : all_undone D after.title f ≡ undropped = ap (all_undone D after.title) same_f ∙ here_now in
-          let was : all_undone (drop k (filter (is_item_by y) items)) area.title f ≡ area.title e = same_list f ∙ ap (all_undone D area.title) same_f ∙ here_was in
-          (ap is_live was ∙ sym (ap is_live now) ∙ alive, ap (λ (u : Title). u.name) now ∙ sym (ap (λ (u : Title). u.name) was),
-          ap (stands_for committed y) was ∙ as_before y apart (sym (ap (stands_for committed y) now) ∙ counts)))
+          let was : all_undone (drop k (filter (is_item_by y) items)) area.title f ≡ area.title e = same_list f ∙ ap (all_undone D area.title) same_f ∙ here_was in (
+            ap is_live was ∙ sym (ap is_live now) ∙ alive,
+            ap (λ (u : Title). u.name) now ∙ sym (ap (λ (u : Title). u.name) was),
+            ap (stands_for committed y) was ∙ as_before y apart (sym (ap (stands_for committed y) now) ∙ counts),
+          ))
           (λ isnt. let same_at : all_undone D after.title f ≡ all_undone (drop k (filter (is_item_by y) items)) area.title f = undone_at D after.title area.title f (title_apart area e undropped f (λ is. false≢true (sym isnt ∙ eq-eqb f e is))) ∙ sym (same_list f) in
           (subst (λ u. is_live u ≡ true) same_at alive, ap (λ (u : Title). u.name) same_at, subst (λ u. stands_for committed y u ≡ true) same_at counts))
 

@@ -9,4 +9,6 @@ pub use pages::{
     a_format_stays_sound, a_free_stays_sound, a_link_stays_sound, a_linked_page_leads_on,
     an_alloc_stays_sound, an_unlink_stays_sound,
 };
-pub use titles::{a_drop_stays_sound, an_uncreate_stays_sound, an_undrop_stays_sound};
+pub use titles::{
+    a_create_stays_sound, a_drop_stays_sound, an_uncreate_stays_sound, an_undrop_stays_sound,
+};
