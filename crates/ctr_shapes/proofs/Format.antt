@@ -67,7 +67,7 @@ module _ (counted : ℕ) (tables : Tables) (area : Area) (x p : ℕ) (h : Header
   abbrev On : ℕ → Type 0
   On q = q ≡ p → ⊥
 
-  same_away : IsSameOn On area after
+  pub same_away : IsSameOn On area after
   same_away = record {
     headers = λ q apart. ap (λ b. cond b h (area.header q)) (ne_eqb q p apart);
     rooms = λ q apart. ap (λ b. cond b (room_by area h) (area.room q)) (ne_eqb q p apart);
@@ -75,7 +75,7 @@ module _ (counted : ℕ) (tables : Tables) (area : Area) (x p : ℕ) (h : Header
     older = λ at apart. ap (λ b. cond b free_older (area.older at)) (ne_eqb at.page p apart);
   }
 
-  in_tables : (f q : ℕ) → IsAmong q (table_pages area f) → On q
+  pub in_tables : (f q : ℕ) → IsAmong q (table_pages area f) → On q
   in_tables f q in_ is = item_alone counted tables area bounds sound.owned p (item_page x p tables.items owed).1 f (subst (λ q. IsAmong q (table_pages area f)) is in_)
 
   same_firsts : (f : ℕ) → after.firsts f ≡ area.firsts f

@@ -15,3 +15,4 @@ pub mod Undrop
 pub mod Drop
 pub mod Fresh
 pub mod Create
+pub mod Shown
