@@ -1,14 +1,14 @@
 -- Bounds of every area that is read from pages.
-use Rattle.std.proofs.Common.{◌≡◌, ℕ, ◌+◌, ◌*◌, ◌/◌, ◌%◌, ◌≤◌, true, false, cond, List, [], refl, ◌∙◌, ap, arith}
+use Rattle.std.proofs.Common.{◌≡◌, ℕ, ◌+◌, ◌*◌, ◌/◌, ◌%◌, ◌≤◌, true, false, cond, List, [], map, refl, ◌∙◌, ap, arith}
 use Rattle.std.specs.Prelude.{◌==◌, nat_lt, nat_le}
-use Rattle.std.proofs.lemmas.Bool.{le-ltb}
+use Rattle.std.proofs.lemmas.Bool.{le-ltb, eq-eqb}
 use Rattle.std.proofs.Math.Nat.{div-le_of_le-mul}
 use Rattle.ctr_bytes.specs.Fields.{field}
 use Rattle.ctr_page.specs.Places.{slot_size, kept_size}
 use Rattle.ctr_page.specs.Reading.{piece}
-use Rattle.ctr_page.specs.Columns.{entry_in}
-use Rattle.ctr_area.specs.Areas.{no_pages}
-use Rattle.ctr_area.specs.Reading.{entry_bytes, firsts_of, header_on, width_on, size_on, area_of}
+use Rattle.ctr_page.specs.Columns.{entry_in, first_in, versions_first_in}
+use Rattle.ctr_area.specs.Areas.{Firsts, no_pages}
+use Rattle.ctr_area.specs.Reading.{entry_bytes, bucket_numbers, firsts_of, header_on, width_on, size_on, area_of}
 use Rattle.ctr_moves.specs.Bounds.{IsInBounds}
 
 none_beyond : (pages : ℕ → List ℕ) (e : ℕ) → 32 ≤ e → (area_of pages).firsts e ≡ no_pages
@@ -30,5 +30,11 @@ few_rooms pages q =
     let wide = wide_slot w in
     few (size_on pages q) (elim ((header_on pages q).kind == 1) as (λ b. 24 ≤ cond b (slot_size w) (kept_size w)) [ true ↦ wide | false ↦ omega arith ])
 
+free_none : (pages : ℕ → List ℕ) (e : ℕ) → ((area_of pages).title e).state ≡ 0 → (area_of pages).firsts e ≡ no_pages
+free_none pages e is = ap (λ b. cond b no_pages (used (entry_bytes pages e))) (eq-eqb (entry_in (entry_bytes pages e)).state 0 is)
+  where
+    used : List ℕ → Firsts
+    used bytes = record { buckets = map (λ b. first_in b bytes) bucket_numbers; versions = versions_first_in bytes }
+
 pub pages_bounded : (pages : ℕ → List ℕ) → IsInBounds (area_of pages)
-pages_bounded pages = record { entries = none_beyond pages; rooms = few_rooms pages }
+pages_bounded pages = record { entries = none_beyond pages; free = free_none pages; rooms = few_rooms pages }

@@ -11,7 +11,8 @@ ghost use Rattle.ctr_area.specs.Changes.{with_older};
 ghost use Rattle.ctr_moves.specs.Bounds.{IsInBounds};
 ghost use Rattle.ctr_moves.specs.Keeping.{OwedByKeep, older_copy, IsSpareCopy};
 
-/// The area of any pages has at most 32 tables, and at most 170 slots or version entries on a page.
+/// The area of any pages has at most 32 tables, no page of a free entry, and at most 170 slots or version
+/// entries on a page.
 pub fn pages_are_in_bounds()
     ensures { (pages : ℕ → List ℕ) → IsInBounds (area_of pages) }
 {}
