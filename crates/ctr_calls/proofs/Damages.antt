@@ -1,0 +1,44 @@
+-- What calls have found on pages, and how it is told.
+use Rattle.std.proofs.Common.{◌≡◌, ◌⊎◌, inl, inr, ⊎_elim, Result, Ok, Err, refl, sym, ◌∙◌, ap, subst}
+use Rattle.std.specs.Prelude.{IfOk, OnErr, IsTrue, ⊤}
+use Rattle.ctr_disk.specs.declared.disk.Disk.{Ghosts}
+use Rattle.ctr_disk.specs.declared.disk.Image.{Image}
+use Rattle.ctr_disk.specs.declared.fault.StoreFault.{StoreFault}
+use Rattle.ctr_disk.specs.declared.fault.StoreFault.TheVariants.{Fault, Damaged}
+use Rattle.ctr_base.specs.Base.{IsSoundImage}
+use Rattle.ctr_home.specs.Reading.{IsFaultOr}
+use Rattle.ctr_store.specs.Store.{View, LeavesPage}
+use Rattle.ctr_calls.specs.Damage.{EndsTold, TellsFound, IsDamage, ReadsPages}
+use Rattle.ctr_calls.proofs.Joins.{answers_ok, answers_err, pages_join}
+
+-- damage is told so
+ends_bad : {B T : Type 0} (told : B → StoreFault) (Ends : Result T B → Type 0) (bad : B) (e : StoreFault) → Ends (Err bad) → told bad ≡ e → EndsTold told Ends (Err e)
+ends_bad told Ends bad Fault ends is = tt
+ends_bad told Ends bad (Damaged file at want got) ends is = (bad, ends, is)
+
+-- where it ends so, it is told so
+pub told_ends : {B T : Type 0} (told : B → StoreFault) (Ends : Result T B → Type 0) (found : Result (Result T B) StoreFault) (result : Result T StoreFault) → TellsFound told found result → OnErr found (found ≡ Err Fault) → IfOk found Ends
+    → EndsTold told Ends result
+told_ends told Ends (Ok (Ok x)) result is fault ends = subst (EndsTold told Ends) (sym is) ends
+told_ends told Ends (Ok (Err bad)) result is fault ends =
+    ⊎_elim (λ w. subst (EndsTold told Ends) (sym w) tt) (λ w. subst (EndsTold told Ends) (sym w) (ends_bad told Ends bad (told bad) ends refl)) is
+told_ends {B} {T} told Ends (Err e) result is fault ends = let same : e ≡ Fault = one e Fault fault in subst (EndsTold told Ends) (sym (is ∙ ap Err same)) tt
+  where
+    one : (x y : StoreFault) → Err {A = Result T B} x ≡ Err y → x ≡ y
+    one x y same = cc same
+
+-- what holds of an answer that was found holds of the one that is told
+pub told_ok : {B T : Type 0} (told : B → StoreFault) (P : T → Type 0) (found : Result (Result T B) StoreFault) (result : Result T StoreFault) → TellsFound told found result → IfOk found (λ r. IfOk r P) → IfOk result P
+told_ok told P (Ok (Ok x)) result is holds = subst (λ r. IfOk r P) (sym is) holds
+told_ok told P (Ok (Err bad)) result is holds = ⊎_elim (λ w. subst (λ r. IfOk r P) (sym w) tt) (λ w. subst (λ r. IfOk r P) (sym w) tt) is
+told_ok told P (Err e) result is holds = subst (λ r. IfOk r P) (sym is) tt
+
+module _ {D : Type 0} (first : Image) (g : Ghosts D) where
+  -- a call that reads pages, behind a page that was read
+  pub reads_behind : {S T : Type 0} (x : S) (a b c : View D) (e : StoreFault) → LeavesPage {T = S} first g a b (Ok x) → ReadsPages {T = ⊤} first g b c (Err e) → ReadsPages {T = T} first g a c (Err e)
+  reads_behind {S} {T} x a b c e one (inl two) = inl (answers_err first g {S = ⊤} {T = T} e a c (pages_join g a b c first S ⊤ x (Err e) one two))
+  reads_behind {S} {T} x a b c e one (inr (is, two)) = inr (damage e is, pages_join g a b c first S ⊤ x (Ok tt) one two)
+    where
+      damage : (y : StoreFault) → IsDamage {T = ⊤} (Err y) → IsDamage {T = T} (Err y)
+      damage Fault is = is
+      damage (Damaged file at want got) is = tt
