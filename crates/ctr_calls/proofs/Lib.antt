@@ -1,4 +1,3 @@
 pub mod Joins
 pub mod Records
 pub mod PagesRead
-pub mod Damages

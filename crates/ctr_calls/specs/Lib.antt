@@ -1,2 +1,1 @@
 pub mod OneRecord
-pub mod Damage
