@@ -2,11 +2,15 @@
 use Rattle.std.proofs.Common.{◌≡◌, ⊎_elim, ℕ, ◌+◌, ◌*◌, ◌-◌, ◌≤◌, List, ◌++◌, length, take, drop, replicate, refl, sym, ◌∙◌, ap, subst, arith, length-append, length-drop, append_assoc}
 use Rattle.std.proofs.lemmas.Bool.{cases_lt}
 use Rattle.std.proofs.lemmas.List.{take_at, take-take, drop-take, length-take-le, length-replicate}
+use Rattle.ctr_types.specs.declared.file.File.TheVariants.{Pages}
 use Rattle.ctr_disk.specs.declared.disk.Image.{Image}
+use Rattle.ctr_disk.specs.Image.{content}
 use Rattle.ctr_disk.specs.declared.fault.Root.{Root}
 use Rattle.ctr_home.specs.declared.block.Block.TheVariants.{Page}
 use Rattle.ctr_home.specs.declared.root.Form.TheVariants.{Paged}
-use Rattle.ctr_home.specs.Blocks.{zero_bytes, opens_to, greater, value_of}
+use Rattle.ctr_home.specs.declared.block.Home.{Home}
+use Rattle.ctr_home.specs.declared.block.Home.TheVariants.{First, Second}
+use Rattle.ctr_home.specs.Blocks.{zero_bytes, opens_to, greater, held_at, home_place, stamp_in, value_home, value_of}
 use Rattle.ctr_home.specs.Roots.{IsRootOf, SaysRootOf, root_value}
 use Rattle.ctr_log.specs.Kept.{kept_log, HoldsLog}
 use Rattle.ctr_pool.specs.Pages.{PageHeld}
@@ -16,6 +20,7 @@ use Rattle.ctr_redo.specs.States.{state_of}
 use Rattle.ctr_redo.specs.Images.{home_in, stored_in, IsSound, CanCount}
 use Rattle.ctr_redo.proofs.ImageLaws.{KeepsLogs, pages_apart, kept_same, holds_same, begins_same, next_same, state_with}
 use Rattle.ctr_redo.proofs.GrowthLaws.{counted_page, blank_home}
+use Rattle.ctr_base.specs.Homes.{HasSameHome}
 use Rattle.ctr_base.specs.Extent.{KeepsPages, AreCleared}
 use Rattle.ctr_base.proofs.ExtentLaws.{cleared_blank, cleared_long}
 
@@ -26,13 +31,24 @@ same_home n place a b same inside =
     ∙ ap (drop place) (sym (take-take (place + 4128) n a inside) ∙ ap (take (place + 4128)) same ∙ take-take (place + 4128) n b inside)
     ∙ drop-take place 4128 b
 
--- a page before those that are cleared has the value that it had
+-- the homes of a page before those that are cleared hold what they held
+pub held_same : (n q : ℕ) (old new : Image) → KeepsPages n old new → 8256 * q + 8256 ≤ n → (h : Home) → held_at (Page q) h (content Pages new) ≡ held_at (Page q) h (content Pages old)
+held_same n q old new keeps inside First = ap (opens_to (Page q)) (same_home n (8256 * q) new.pages old.pages keeps.front (omega (arith, inside)))
+held_same n q old new keeps inside Second = ap (opens_to (Page q)) (same_home n (8256 * q + 4128) new.pages old.pages keeps.front (omega (arith, inside)))
+
+-- so it has its value, in the same home
+pub stays_home : (p : ℕ) (old new : Image) → ((h : Home) → held_at (Page p) h (content Pages new) ≡ held_at (Page p) h (content Pages old)) → HasSameHome p old new
+stays_home p old new homes =
+    let first = held_at (Page p) First (content Pages old) in
+    let second = held_at (Page p) Second (content Pages new) in
+    record {
+      value = ap (λ o. greater o second) (homes First) ∙ ap (greater first) (homes Second);
+      place = ap (λ o. home_place (Page p) (value_home (stamp_in o) (stamp_in second))) (homes First)
+          ∙ ap (λ o. home_place (Page p) (value_home (stamp_in first) (stamp_in o))) (homes Second);
+    }
+
 pub value_same : (n q : ℕ) (old new : Image) → KeepsPages n old new → 8256 * q + 8256 ≤ n → value_of (Page q) new ≡ value_of (Page q) old
-value_same n q old new keeps inside =
-    let home : (place : ℕ) → place + 4128 ≤ n → opens_to (Page q) (take 4128 (drop place new.pages)) ≡ opens_to (Page q) (take 4128 (drop place old.pages)) =
-    λ place low. ap (opens_to (Page q)) (same_home n place new.pages old.pages keeps.front low) in
-    ap (λ o. greater o (opens_to (Page q) (take 4128 (drop (8256 * q + 4128) new.pages)))) (home (8256 * q) (omega (arith, inside)))
-    ∙ ap (greater (opens_to (Page q) (take 4128 (drop (8256 * q) old.pages)))) (home (8256 * q + 4128) (omega (arith, inside)))
+value_same n q old new keeps inside = (stays_home q old new (held_same n q old new keeps inside)).value
 
 -- the counted pages at home are as they were
 pub home_cleared : (counted : ℕ) (old new : Image) → KeepsPages (8256 * counted) old new → (q : ℕ) → home_in counted new q ≡ home_in counted old q

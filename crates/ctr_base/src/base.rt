@@ -1,17 +1,14 @@
 // The log with what waits in it, and the homes.
 ghost use Rattle.std.specs.Prelude.{◌≡◌, ◌<◌, ◌≤◌, ◌+◌, IsTrue, ℕ, [], length, Err, IfOk, IfErr, OnOk, OnErr};
 ghost use Rattle.ctr_types.specs.Faults.{HasFault};
-ghost use Rattle.ctr_disk.specs.Device.{OnlyReads};
 ghost use Rattle.ctr_disk.specs.declared.fault.StoreFault.TheVariants.{Fault};
 
 use crate::origin::Origin;
 use crate::reading::read_numbered;
-use ctr_bytes::get_u64;
 use ctr_disk::{Disk, Root, StoreFault};
-use ctr_home::{Block, Home, write_home};
+use ctr_home::{Block, write_home};
 use ctr_log::{LogFile, Lsn};
 use ctr_records::PageNo;
-use ctr_types::File;
 use std::marker::PhantomData;
 
 /// A disk, the writer of its log, and what its root says. The type names what a read of the disk gave when it was opened.
@@ -92,28 +89,6 @@ impl<D: Disk, O: Origin> Base<D, O> {
         ensures faults { HasFault Fault (D.faults_of self.old.disk) (D.faults_of self.new.disk) result }
     {
         read_numbered(&mut self.disk, self.root.pages, page, into)
-    }
-
-    ghost use Rattle.ctr_home.specs.declared.block.Home.{Home as At};
-    ghost use Rattle.ctr_home.specs.declared.block.Block.TheVariants.{Page};
-    ghost use Rattle.ctr_home.specs.Blocks.{home_place};
-
-    /// Where the stamp of a page's value stands in the file of pages, which is this one: in one of its homes.
-    pub fn stamp_place(&mut self, page: PageNo, stamp: u64) -> Result<u64, StoreFault>
-        ensures place { IfOk result (λ at. (home : At) × (at ≡ home_place (Page page) home + 5)) }
-        ensures read { OnlyReads D.Disk self.old.disk self.new.disk }
-        ensures same { self.new ≡ record self.old { disk = self.new.disk } }
-        ensures refused { OnErr result (result ≡ Err Fault) }
-        ensures faults { HasFault Fault (D.faults_of self.old.disk) (D.faults_of self.new.disk) result }
-    {
-        let block = Block::Page(page);
-        let at = block.at(Home::First);
-        let mut head = [0; 13];
-        self.disk.read(File::Pages, at, &mut head)?;
-        if head[0] == 1 && get_u64(&head, 5) == stamp {
-            return Ok(at + 5);
-        }
-        Ok(block.at(Home::Second) + 5)
     }
 
     /// The number of the next record.

@@ -6,6 +6,7 @@
 mod backed;
 mod base;
 mod extent;
+mod finding;
 mod growing;
 mod opening;
 mod origin;

@@ -1,6 +1,6 @@
 -- What the bringing of a page into a frame finds.
 use Rattle.std.proofs.Common.{◌≡◌, ◌⊎◌, inl, inr, ⊎_elim, ℕ, ◌+◌, ◌-◌, ◌<◌, ◌≤◌, ◌==◌, if◌then◌else◌, Bool, true, false, List, Option, Some, None, Ok, Err, refl, sym, ◌∙◌, ap, subst, arith}
-use Rattle.std.specs.Prelude.{is_some, ⊤}
+use Rattle.std.specs.Prelude.{is_some, IsTrue, ⊤}
 use Rattle.std.proofs.lemmas.Bool.{cases_lt}
 use Rattle.ctr_types.specs.declared.file.File.TheVariants.{Pages}
 use Rattle.ctr_disk.specs.declared.disk.Disk.{Ghosts}
@@ -8,7 +8,7 @@ use Rattle.ctr_disk.specs.declared.disk.Image.{Image}
 use Rattle.ctr_disk.specs.declared.fault.StoreFault.{StoreFault}
 use Rattle.ctr_disk.specs.declared.fault.StoreFault.TheVariants.{Fault, Damaged}
 use Rattle.ctr_home.specs.declared.block.Block.TheVariants.{Page}
-use Rattle.ctr_home.specs.Blocks.{BlockValue, home_place, value_of}
+use Rattle.ctr_home.specs.Blocks.{BlockValue, value_of, value_place}
 use Rattle.ctr_home.specs.Reading.{IsFaultOr, IsMisnumbered}
 use Rattle.ctr_pool.specs.declared.frame.Frame.{Frame}
 use Rattle.ctr_pool.specs.Pages.{PageHeld}
@@ -49,7 +49,7 @@ loaded_clean p old new brings none =
 
 module _ {D O : Type 0} (first : Image) (g : Ghosts D) (p : ℕ) where
   -- a damage of a frame that isn't low is none where all pages are
-  pub high_refused : (s : Parts D O) (e : StoreFault) → IsFaultOr (IsHighFrame p s) e → AreLow g s → e ≡ Fault
+  pub high_refused : (s : Parts D O) (e : StoreFault) → IsFaultOr (IsHighFrame g p s) e → AreLow g s → e ≡ Fault
   high_refused s Fault high low = refl
   high_refused s (Damaged file at want got) high low =
       let f = high.frame in
@@ -104,10 +104,10 @@ module _ {D O : Type 0} (first : Image) (g : Ghosts D) (p : ℕ) where
     }
 
     -- its LSN is too high
-    pub finds_high : (t : Parts D O) (d : D) (e : StoreFault) → g.reads d ≡ g.reads m.base.disk → StandsQuiet first g (record m.base { disk = d }) → (has_page p s.pool.frames ≡ false → IsFound {T = ⊤} (FindsNumber first g m.base p) (Ok tt)) → IsFaultOr (IsHighFrame p m) e
+    pub finds_high : IsTrue g.tells → (t : Parts D O) (d : D) (e : StoreFault) → g.reads d ≡ g.reads m.base.disk → StandsQuiet first g (record m.base { disk = d }) → (has_page p s.pool.frames ≡ false → IsFound {T = ⊤} (FindsNumber first g m.base p) (Ok tt)) → IsFaultOr (IsHighFrame g p m) e
         → FindsPage {T = ⊤} first g p s (record t { base = record m.base { disk = d } }) (Err e)
-    finds_high t d Fault same rests found high = record { hit = λ is. tt; miss = λ none inside some. tt; others = tt }
-    finds_high t d (Damaged file at want got) same rests found high = record {
+    finds_high tells t d Fault same rests found high = record { hit = λ is. tt; miss = λ none inside some. tt; others = tt }
+    finds_high tells t d (Damaged file at want got) same rests found high = record {
       hit = λ is. let above = high.high in omega (arith, above, ap (λ (h : PageHeld). h.lsn) (sym (ap (kept_or (home_of g m.base p)) high.there) ∙ stays.shows p));
       miss = λ none inside some. (rests, inr (fails none inside some (value_of (Page p) (g.reads m.base.disk)) refl, ap (λ (i : Image). home_in m.base.root.pages i p) same ∙ still none));
       others = tt;
@@ -129,6 +129,8 @@ module _ {D O : Type 0} (first : Image) (g : Ghosts D) (p : ℕ) where
             let same_frame = ap (λ (x : Frame). x.lsn) (one high.frame f.0 (sym high.there ∙ f.1)) in
             let stamp = stamp_is none v inside is in
             let right = found none inside v is in
-            let told : Err (Damaged Pages (home_place (Page p) high.home + 5) (next_in m - 1) v.stamp) ≡ Err (Damaged file at want got) =
-            ap (λ (n : ℕ). Err (Damaged Pages (home_place (Page p) high.home + 5) (next_in m - 1) n)) (stamp ∙ sym same_frame) ∙ ap (λ (x : StoreFault). Err x) (sym high.is) in
-            (v, ap (λ (i : Image). value_of (Page p) i) same ∙ is, (high.home, stamp_fails (next_in m) p high.home v right some (omega (arith, above, stamp, same_frame)) ∙ told))
+            let home = value_place (Page p) (g.reads d) in
+            let there : value_place (Page p) (g.reads m.base.disk) ≡ home = ap (λ (i : Image). value_place (Page p) i) (sym same) in
+            let told : Err (Damaged Pages (home + 5) (next_in m - 1) v.stamp) ≡ Err (Damaged file at want got) =
+            sym (ap (λ (x : StoreFault). Err x) (high.is tells) ∙ ap (λ (h : ℕ). Err (Damaged Pages (h + 5) (next_in m - 1) high.frame.lsn)) there ∙ ap (λ (n : ℕ). Err (Damaged Pages (home + 5) (next_in m - 1) n)) (same_frame ∙ sym stamp)) in
+            (v, ap (λ (i : Image). value_of (Page p) i) same ∙ is, stamp_fails (next_in m) p home v right some (omega (arith, above, stamp, same_frame)) ∙ told)

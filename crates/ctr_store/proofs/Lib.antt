@@ -1,5 +1,6 @@
 pub mod RecordLaws
 pub mod PartsLaws
+pub mod PlaceLaws
 pub mod SeenLaws
 pub mod PageCheckLaws
 pub mod BringLaws

@@ -7,12 +7,9 @@ use Rattle.ctr_types.specs.declared.file.File.TheVariants.{Pages}
 use Rattle.ctr_disk.specs.declared.disk.Image.{Image}
 use Rattle.ctr_disk.specs.declared.fault.StoreFault.{StoreFault}
 use Rattle.ctr_disk.specs.declared.fault.StoreFault.TheVariants.{Fault, Damaged}
-use Rattle.ctr_disk.specs.Image.{content}
 use Rattle.ctr_home.specs.declared.block.Block.TheVariants.{Page}
-use Rattle.ctr_home.specs.declared.block.Home.{Home}
-use Rattle.ctr_home.specs.declared.block.Home.TheVariants.{First, Second}
 use Rattle.ctr_home.specs.declared.checks.Check.{Check}
-use Rattle.ctr_home.specs.Blocks.{BlockValue, home_place, held_at, stamp_in, value_home, value_place, value_of, page_with}
+use Rattle.ctr_home.specs.Blocks.{BlockValue, value_place, value_of, page_with}
 use Rattle.ctr_home.specs.Checks.{check_of, judged}
 use Rattle.ctr_home.specs.Reading.{number_check, IsMisnumbered, IsFaultOr}
 use Rattle.ctr_log.proofs.KeptLaws.{picks}
@@ -23,7 +20,7 @@ use Rattle.ctr_redo.specs.Overlaid.{overlay_of, lies_on, touches, with_record, o
 use Rattle.ctr_redo.specs.Images.{home_in}
 use Rattle.ctr_redo.proofs.PageLaws.{either, stays_out}
 use Rattle.ctr_redo.proofs.GrowthLaws.{counted_page, blank_home}
-use Rattle.ctr_base.specs.Homes.{home_checks, FailsHome, PassesHome}
+use Rattle.ctr_base.specs.Homes.{home_checks, FailsHome, PassesHome, HasSameHome}
 use Rattle.ctr_store.specs.PageChecks.{PagePasses, PageFails, PagesPass, FirstPageFails}
 
 -- a check that fails alone is the first of a list that fails
@@ -39,9 +36,8 @@ first_fails c cs e alone =
 -- a page whose home has another number fails
 pub misnumbered_fails : (next p : ℕ) (image : Image) (e : StoreFault) → IsMisnumbered (Page p) image e → FailsHome next p image e
 misnumbered_fails next p image e (v, is, fails) =
-    let bytes = content Pages image in
-    let home = value_home (stamp_in (held_at (Page p) First bytes)) (stamp_in (held_at (Page p) Second bytes)) in
-    (v, is, (home, first_fails (number_check (Page p) (home_place (Page p) home) v) (check_of (home_place (Page p) home + 5) (min v.stamp (next - 1)) v.stamp ∷ []) e fails))
+    let home = value_place (Page p) image in
+    (v, is, first_fails (number_check (Page p) home v) (check_of (home + 5) (min v.stamp (next - 1)) v.stamp ∷ []) e fails)
 
 -- one whose home has its number has no such damage
 pub not_misnumbered : (p : ℕ) (image : Image) (v : BlockValue) (e : StoreFault) → value_of (Page p) image ≡ Some v → v.number ≡ p → IsMisnumbered (Page p) image e → ⊥
@@ -52,36 +48,31 @@ not_misnumbered p image v e is right (w, is_w, fails) =
     picks p w.number (Ok tt) (Err (Damaged Pages (value_place (Page p) image + 1) p w.number)) (sym right ∙ ap (λ (x : BlockValue). x.number) one) in
     cc (passed, fails)
 
-behind_number : (next p : ℕ) (home : Home) (v : BlockValue) → v.number ≡ p
-    → judged Pages (home_checks next p home v) ≡ judged Pages (check_of (home_place (Page p) home + 5) (min v.stamp (next - 1)) v.stamp ∷ [])
-behind_number next p home v right =
-    picks p v.number (judged Pages (check_of (home_place (Page p) home + 5) (min v.stamp (next - 1)) v.stamp ∷ [])) (Err (Damaged Pages (home_place (Page p) home + 1) p v.number)) (sym right)
+behind_number : (next p home : ℕ) (v : BlockValue) → v.number ≡ p → judged Pages (home_checks next p home v) ≡ judged Pages (check_of (home + 5) (min v.stamp (next - 1)) v.stamp ∷ [])
+behind_number next p home v right = picks p v.number (judged Pages (check_of (home + 5) (min v.stamp (next - 1)) v.stamp ∷ [])) (Err (Damaged Pages (home + 1) p v.number)) (sym right)
 
 -- a stamp that isn't below the next LSN fails behind the number
-pub stamp_fails : (next p : ℕ) (home : Home) (v : BlockValue) → v.number ≡ p → 1 ≤ next → next ≤ v.stamp → judged Pages (home_checks next p home v) ≡ Err (Damaged Pages (home_place (Page p) home + 5) (next - 1) v.stamp)
+pub stamp_fails : (next p home : ℕ) (v : BlockValue) → v.number ≡ p → 1 ≤ next → next ≤ v.stamp → judged Pages (home_checks next p home v) ≡ Err (Damaged Pages (home + 5) (next - 1) v.stamp)
 stamp_fails next p home v right some high =
-    let at = home_place (Page p) home + 5 in
     let want : min v.stamp (next - 1) ≡ next - 1 = omega (arith, high) in
     behind_number next p home v right
     ∙ ⊎_elim (λ w. let same = w.1 in absurd (omega (arith, same, want, some, high)))
-    (λ w. ap (λ (b : Bool). if b then Ok tt else Err (Damaged Pages at (min v.stamp (next - 1)) v.stamp)) w.0 ∙ ap (λ (n : ℕ). Err (Damaged Pages at n v.stamp)) want)
+    (λ w. ap (λ (b : Bool). if b then Ok tt else Err (Damaged Pages (home + 5) (min v.stamp (next - 1)) v.stamp)) w.0 ∙ ap (λ (n : ℕ). Err (Damaged Pages (home + 5) n v.stamp)) want)
     (eqb_tells (min v.stamp (next - 1)) v.stamp)
 
 -- what passes doesn't fail
 pub passes_alone : (next p : ℕ) (image : Image) (e : StoreFault) → PassesHome next p image → FailsHome next p image e → ⊥
-passes_alone next p image e passes (v, is, told) =
-    let home = told.0 in
-    let fails = told.1 in
+passes_alone next p image e passes (v, is, fails) =
     let both = passes v is in
     let low = both.1 in
-    let at = home_place (Page p) home + 5 in
+    let home = value_place (Page p) image in
     let passed : judged Pages (home_checks next p home v) ≡ Ok tt =
-    behind_number next p home v both.0 ∙ picks (min v.stamp (next - 1)) v.stamp (Ok tt) (Err (Damaged Pages at (min v.stamp (next - 1)) v.stamp)) (let e : min v.stamp (next - 1) ≡ v.stamp = omega (arith, low) in e) in
+    behind_number next p home v both.0 ∙ picks (min v.stamp (next - 1)) v.stamp (Ok tt) (Err (Damaged Pages (home + 5) (min v.stamp (next - 1)) v.stamp)) (let e : min v.stamp (next - 1) ≡ v.stamp = omega (arith, low) in e) in
     cc (passed, fails)
 
--- the same of a page whose value is the same
-pub fails_same : (next p : ℕ) (a b : Image) (e : StoreFault) → value_of (Page p) b ≡ value_of (Page p) a → FailsHome next p b e → FailsHome next p a e
-fails_same next p a b e same (v, is, fails) = (v, sym same ∙ is, fails)
+-- the same of a page whose value is the same, in the same home
+pub fails_same : (next p : ℕ) (a b : Image) (e : StoreFault) → HasSameHome p a b → FailsHome next p b e → FailsHome next p a e
+fails_same next p a b e same (v, is, fails) = (v, sym same.value ∙ is, ap (λ (home : ℕ). judged Pages (home_checks next p home v)) (sym same.place) ∙ fails)
 
 pub passes_same : (next p : ℕ) (a b : Image) → value_of (Page p) b ≡ value_of (Page p) a → PassesHome next p b → PassesHome next p a
 passes_same next p a b same passes v is = passes v (same ∙ is)

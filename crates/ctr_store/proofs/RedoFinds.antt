@@ -83,7 +83,7 @@ module _ {D O : Type 0} (first : Image) (g : Ghosts D) (start : Base D O) (n p :
       ⊎_elim (λ there. doing.seen p there)
       (λ none.
       let read = found.miss none inside_there some_there in
-      ⊎_elim (λ same. subst (λ (k : ℕ). PassesHome k p first) next_is (passes_same (next_in t) p first (g.reads t.base.disk) same read.0))
+      ⊎_elim (λ same. subst (λ (k : ℕ). PassesHome k p first) next_is (passes_same (next_in t) p first (g.reads t.base.disk) same.value read.0))
       (λ w. written_passes none read.1 w)
       (rests.since.homes start.root doing.starts.says p inside))
       (either (has_page p s.pool.frames))

@@ -1,6 +1,6 @@
 -- What callers see of a call on the parts.
 use Rattle.std.proofs.Common.{◌≡◌, ◌∙◌, ◌<◌, Bool, true, false, [], drop, Result, Ok, Err, refl, sym, ap, subst, arith}
-use Rattle.std.specs.Prelude.{IsTrue, OnOk, is_err}
+use Rattle.std.specs.Prelude.{IsTrue, OnOk, IfErr, is_err}
 use Rattle.std.proofs.lemmas.List.{append-nil, length-map}
 use Rattle.ctr_disk.specs.declared.disk.Disk.{Ghosts}
 use Rattle.ctr_types.specs.Faults.{HasFault}
@@ -116,3 +116,9 @@ module _ {D O : Type 0} (g : Ghosts D) where
           refused = λ told sound. tt;
           faults = record { later = f.later; failed = λ same. absurd (ok_isnt x Fault same); fine = λ other. f.fine (ok_isnt u Fault) };
         })
+
+    -- either of both
+    pub page_left : {T : Type 0} (r : Result T StoreFault) → b ≡ false → (IsTrue g.tells → OnOk r (MovesIf first g s.base t.base)) → (IsTrue g.tells → IfErr r (λ e. IsSoundImage first → e ≡ Fault)) → HasFault {T = T} Fault (g.faults_of s.base.disk) (g.faults_of t.base.disk) r
+        → LeavesPage {T = T} first g old (view_of g t (is_err r)) r
+    page_left {T} (Ok x) going moves only f = subst (λ (k : Bool). LeavesPage {T = T} first g old (view_of g t k) (Ok x)) going (page_lends x x going moves f)
+    page_left {T} (Err e) going moves only f = page_fails {T = T} {U = T} e only f

@@ -1,13 +1,12 @@
 -- The checks of the pages that a log's records are on, in order of the records.
-use Rattle.std.specs.Prelude.{◌≡◌, ◌≢◌, ◌⊎◌, ◌+◌, ◌-◌, ◌<◌, ◌≤◌, ℕ, true, false, List, [], ◌∷◌, length, Option, None, Some, Result, OnOk, IfErr, MatchResult}
+use Rattle.std.specs.Prelude.{◌≡◌, ◌≢◌, ◌⊎◌, ◌+◌, ◌-◌, ◌<◌, ◌≤◌, ℕ, true, false, List, [], ◌∷◌, length, Option, None, Some, IsTrue, Result, OnOk, IfErr, MatchResult}
 use Rattle.ctr_types.specs.declared.file.File.TheVariants.{Pages}
 use Rattle.ctr_disk.specs.declared.disk.Disk.{Ghosts}
 use Rattle.ctr_disk.specs.declared.disk.Image.{Image}
 use Rattle.ctr_disk.specs.declared.fault.StoreFault.{StoreFault}
 use Rattle.ctr_disk.specs.declared.fault.StoreFault.TheVariants.{Damaged}
 use Rattle.ctr_home.specs.declared.block.Block.TheVariants.{Page}
-use Rattle.ctr_home.specs.declared.block.Home.{Home}
-use Rattle.ctr_home.specs.Blocks.{home_place}
+use Rattle.ctr_home.specs.Blocks.{value_place}
 use Rattle.ctr_home.specs.Reading.{IsFaultOr, IsMisnumbered}
 use Rattle.ctr_records.specs.declared.record.Overlay.{Overlay}
 use Rattle.ctr_records.specs.declared.record.Record.{Record}
@@ -49,13 +48,15 @@ next_in s = s.base.log.first + length s.base.log.buffered
 abbrev pub IsHomeStill : {D O : Type 0} → Ghosts D → ℕ → Parts D O → Parts D O → Type 0
 IsHomeStill g p s t = home_of g t.base p ≡ home_of g s.base p
 
--- A frame has a page with an LSN that isn't below the next one: damage says so, in one of its homes.
-pub record IsHighFrame {D O : Type 0} (p : ℕ) (s : Parts D O) (e : StoreFault) : Type 0 where
+-- A frame has a page with an LSN that isn't below the next one: damage says so, in the home that the
+-- page's value stands in.
+pub record IsHighFrame {D O : Type 0} (g : Ghosts D) (p : ℕ) (s : Parts D O) (e : StoreFault)
+    : Type 0 where
   pub frame : Frame
   pub there : frame_of p s.pool.frames ≡ Some frame
   pub high : next_in s ≤ frame.lsn
-  pub home : Home
-  pub is : e ≡ Damaged Pages (home_place (Page p) home + 5) (next_in s - 1) frame.lsn
+  pub is : IsTrue g.tells
+      → e ≡ Damaged Pages (value_place (Page p) (g.reads s.base.disk) + 5) (next_in s - 1) frame.lsn
 
 -- A page that no frame had was read at home: it passes its checks; or one fails, that of its number or
 -- behind it that of its stamp.

@@ -1,19 +1,22 @@
 -- What the parts of a store keep, and what a record adds.
-use Rattle.std.specs.Prelude.{◌≡◌, ℕ, ◌+◌, ◌-◌, ◌^◌, ◌<◌, ◌≤◌, Bool, List, [], ◌∷◌, ◌++◌, length, take, drop, Some, is_some}
+use Rattle.std.specs.Prelude.{◌≡◌, ℕ, ◌+◌, ◌-◌, ◌^◌, ◌<◌, ◌≤◌, ◌==◌, Bool, List, [], ◌∷◌, ◌++◌, length, take, drop, Some, is_some, nat_lt, if◌then◌else◌}
 use Rattle.std.specs.List.{list_any}
 use Rattle.ctr_disk.specs.declared.disk.Disk.{Ghosts}
 use Rattle.ctr_disk.specs.declared.disk.Image.{Image}
+use Rattle.ctr_home.specs.declared.block.Block.TheVariants.{Page}
+use Rattle.ctr_home.specs.declared.block.Home.TheVariants.{First}
+use Rattle.ctr_home.specs.Blocks.{home_place, value_place}
 use Rattle.ctr_records.specs.declared.record.Record.{Record}
 use Rattle.ctr_records.specs.Spelling.{record_bytes}
 use Rattle.ctr_meta.specs.Effects.{tables_of}
 use Rattle.ctr_meta.specs.Kept.{IsLogged, MayApply, RoomLeft, opens_added, items_added}
 use Rattle.ctr_pool.specs.declared.frame.Frame.{Frame}
 use Rattle.ctr_pool.specs.Frames.{frame_of, page_shown, since_in}
-use Rattle.ctr_pool.specs.Over.{IsOver}
+use Rattle.ctr_pool.specs.Over.{IsOver, ShowsSame}
 use Rattle.ctr_redo.specs.Overlaid.{overlay_of, overlaid}
 use Rattle.ctr_redo.specs.States.{state_of, step, steps}
 use Rattle.ctr_base.specs.declared.base.Base.{Base}
-use Rattle.ctr_base.specs.Base.{stored_of, waiting_of, now_of, home_of, IsSoundImage, backing_of}
+use Rattle.ctr_base.specs.Base.{stored_of, waiting_of, now_of, home_of, IsSoundImage, MovesIf, backing_of}
 use Rattle.ctr_redo.specs.Fitting.{LiesInside}
 use Rattle.ctr_store.specs.Changes.{IsChange}
 use Rattle.ctr_store.specs.declared.parts.Parts.{Parts}
@@ -35,6 +38,16 @@ has_change fs f = is_some (since_in f.page fs)
 abbrev pub some_dirty : List Frame → Bool
 some_dirty fs = list_any (has_change fs) fs
 
+-- the pages of some of the frames that have changes that aren't home
+abbrev pub changed_among : List Frame → List Frame → List ℕ
+changed_among fs [] = []
+changed_among fs (f ∷ gs) =
+    if has_change fs f then f.page ∷ changed_among fs gs else changed_among fs gs
+
+-- a page is one of these
+abbrev pub is_listed : ℕ → List ℕ → Bool
+is_listed p ps = list_any (λ q. q == p) ps
+
 -- a frame of a page has no record that the log lacks, with those that wait
 abbrev pub IsLowFrame : {D O : Type 0} → ℕ → Parts D O → Type 0
 IsLowFrame p s = (f : Frame) → frame_of p s.pool.frames ≡ Some f
@@ -44,6 +57,26 @@ IsLowFrame p s = (f : Frame) → frame_of p s.pool.frames ≡ Some f
 abbrev pub AreLow : {D O : Type 0} → Ghosts D → Parts D O → Type 0
 AreLow g s = (p : ℕ) → (page_shown s.pool.frames p (home_of g s.base p)).lsn
     < s.base.log.first + length s.base.log.buffered
+
+-- Where the home begins in the file of pages whose value a page is: its first home where it was changed
+-- in its frame since it was written home, where it isn't counted, and where no home of it is open.
+abbrev pub home_by : Bool → ℕ → ℕ → Image → ℕ
+home_by changed counted p image =
+    if changed then home_place (Page p) First else
+    if nat_lt p counted then value_place (Page p) image else home_place (Page p) First
+
+-- the same of a page of the parts
+abbrev pub home_at : {D O : Type 0} → Ghosts D → ℕ → Parts D O → ℕ
+home_at g p s =
+    let fs = s.pool.frames in
+    home_by (is_listed p (changed_among fs fs)) s.base.root.pages p (g.reads s.base.disk)
+
+-- A page came into a frame: below the pool the first of what waited became durable, or a page went
+-- home; over that each page is as it was.
+pub record BringsOver {D O : Type 0} (first : Image) (g : Ghosts D) (s t : Parts D O) : Type 0 where
+  pub moves : MovesIf first g s.base t.base
+  pub shows : ShowsSame (backing_of first g) s.pool.frames s.base t.pool.frames t.base
+  pub over : IsOver (backing_of first g) t.pool.frames t.base
 
 -- A record can be logged: it is one and no Checkpoint, its overlay lies on a counted page, the
 -- tables meet its needs and have room for what it adds; and there is room for its bytes and its

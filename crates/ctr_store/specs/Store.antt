@@ -19,13 +19,14 @@ use Rattle.ctr_base.specs.Base.{IsSoundImage}
 use Rattle.ctr_base.specs.Growth.{AreBlank}
 use Rattle.ctr_redo.specs.Fitting.{LiesInside}
 use Rattle.ctr_store.specs.Changes.{IsChange}
+use Rattle.ctr_store.specs.Parts.{is_listed, home_by}
 use Rattle.ctr_store.specs.RecordChecks.{record_damage}
 
 -- The disk; what it folds to; the records that aren't hardened, in order; pages and tables with
 -- these; the number of the next record, and the file and the byte where it would stand in the log;
--- how many bytes of records may wait besides; how many frames have nothing to be written home, and
--- whether a page is to be; the tables as they are kept; whether a call was answered an error, after
--- which no more can be asked.
+-- how many bytes of records may wait besides; how many frames have nothing to be written home, whether
+-- a page is to be, and which are; the tables as they are kept; whether a call was answered an error,
+-- after which no more can be asked.
 pub record View (D : Type 0) : Type 0 where
   pub disk : D
   pub hardened : State
@@ -37,8 +38,13 @@ pub record View (D : Type 0) : Type 0 where
   pub room : ℕ
   pub frames : ℕ
   pub dirty : Bool
+  pub changed : List ℕ
   pub meta : TablesKept
   pub stopped : Bool
+
+-- where the home begins in the file of pages whose value a page is
+abbrev pub page_home : {D : Type 0} → Ghosts D → ℕ → View D → ℕ
+page_home g p v = home_by (is_listed p v.changed) v.now.counted p (g.reads v.disk)
 
 -- At each moment of a call a crash leaves what was hardened with a prefix of what wasn't.
 abbrev pub LeavesFront : {D : Type 0} → Ghosts D → View D → View D → Type 0
@@ -122,7 +128,11 @@ pub record GrowsByExtent {D : Type 0} (g : Ghosts D) (a b : View D) : Type 0 whe
   pub blank : AreBlank a.now.counted b.now.counted b.now
   pub durable : LeavesFront g b b
 
--- all but the disk, what it folds to, and whether a call was answered an error is as it was
-abbrev pub StaysBeside : {D : Type 0} → View D → View D → Type 0
-StaysBeside a b =
-    b ≡ record a { disk = b.disk; hardened = b.hardened; now = b.now; stopped = b.stopped }
+-- All but the disk, what it folds to, and whether a call was answered an error is as it was. More
+-- pages are counted behind an Ok alone, and behind an error no more can be asked.
+pub record CountsUp {D T : Type 0} (a b : View D) (result : Result T StoreFault) : Type 0 where
+  pub same : b ≡ record a { disk = b.disk; hardened = b.hardened; now = b.now; stopped = b.stopped }
+  pub counted : OnOk result (b.now.counted ≡ grown a.now.counted)
+  pub uncounted : OnErr result (b.now.counted ≡ a.now.counted)
+  pub going : OnOk result (b.stopped ≡ false)
+  pub stopped : OnErr result (b.stopped ≡ true)

@@ -8,7 +8,7 @@ use Rattle.ctr_redo.specs.States.{state_of}
 use Rattle.ctr_base.specs.Base.{stored_of, waiting_of, now_of}
 use Rattle.ctr_store.specs.declared.parts.Parts.{Parts}
 use Rattle.ctr_store.specs.declared.store.Store.TheInside.{Inside}
-use Rattle.ctr_store.specs.Parts.{IsFold, some_dirty}
+use Rattle.ctr_store.specs.Parts.{IsFold, some_dirty, changed_among}
 use Rattle.ctr_store.specs.Store.{View}
 
 -- what callers see of the parts
@@ -24,6 +24,7 @@ view_of g s stopped = record {
   room = s.base.log.room;
   frames = unchanged s.pool;
   dirty = some_dirty s.pool.frames;
+  changed = changed_among s.pool.frames s.pool.frames;
   meta = s.meta;
   stopped = stopped;
 }

@@ -5,6 +5,7 @@ mod creating;
 mod laws;
 mod opening;
 mod parts;
+mod places;
 mod redo;
 mod seen;
 mod spelling;

@@ -7,7 +7,7 @@ ghost use Rattle.ctr_pool.specs.Frames.{has_page};
 ghost use Rattle.ctr_redo.specs.States.{page_limit, page_at, state_of, grown};
 ghost use Rattle.ctr_base.specs.Growth.{LeavesGrown, GrowsBase, CountsMore, AreBlank};
 ghost use Rattle.ctr_base.specs.Base.{now_of, IsSoundImage, LeavesIf, MovesIf, KeepsBase, backing_of};
-ghost use Rattle.ctr_pool.specs.Over.{IsOver, StaysOver};
+ghost use Rattle.ctr_pool.specs.Over.{IsOver};
 ghost use Rattle.ctr_disk.specs.Device.{OnlyReads};
 ghost use Rattle.ctr_log.specs.Logs.{next_place};
 ghost use Rattle.ctr_records.specs.declared.decoding.BadRecord.{BadRecord};
@@ -16,7 +16,7 @@ ghost use Rattle.ctr_meta.specs.Needs.{needs};
 ghost use Rattle.ctr_store.specs.RecordChecks.{record_damage};
 ghost use Rattle.ctr_home.specs.Reading.{IsFaultOr};
 ghost use Rattle.ctr_store.specs.PageChecks.{IsHighFrame, FindsPage};
-ghost use Rattle.ctr_store.specs.Parts.{IsFold, some_dirty, IsLowFrame, AreLow, CanLog, AddsRecord, LogsRecord, LogsRoom};
+ghost use Rattle.ctr_store.specs.Parts.{IsFold, BringsOver, some_dirty, IsLowFrame, AreLow, CanLog, AddsRecord, LogsRecord, LogsRoom};
 
 use crate::seen::damage_at;
 use crate::spelling::{append_record, overlay_of};
@@ -64,7 +64,7 @@ impl<D: Disk, O: Origin> Parts<D, O> {
         ensures read { OnlyReads D.Disk self.old.base.disk self.new.base.disk }
         ensures below { self.new.base ≡ record self.old.base { disk = self.new.base.disk } }
         ensures quiet { OnOk result (self.new ≡ self.old) }
-        ensures refused { IfErr result (IsFaultOr (IsHighFrame page self.old)) }
+        ensures refused { IfErr result (IsFaultOr (IsHighFrame D.Disk page self.old)) }
         ensures faults { HasFault Fault (D.faults_of self.old.base.disk) (D.faults_of self.new.base.disk) result }
     {
         let stamp = self.pool.lsn(page);
@@ -72,10 +72,10 @@ impl<D: Disk, O: Origin> Parts<D, O> {
         if stamp < next {
             return Ok(());
         }
-        let at = self.base.stamp_place(page, stamp)?;
+        let (home, _) = self.base.find_value(page)?;
         Err(StoreFault::Damaged {
             file: File::Pages,
-            at,
+            at: home + 5,
             want: (next as u128).saturating_sub(1),
             got: stamp as u128,
         })
@@ -87,8 +87,7 @@ impl<D: Disk, O: Origin> Parts<D, O> {
         ensures there { OnOk result ((has_page page self.new.pool.frames ≡ true) × IsLowFrame page self.new) }
         ensures keeps { KeepsBase self.old.base self.new.base × (self.new.meta ≡ self.old.meta) }
         ensures goes { IsTrue D.tells → LeavesIf O.first D.Disk self.old.base self.new.base }
-        ensures moves { IsTrue D.tells → OnOk result (MovesIf O.first D.Disk self.old.base self.new.base) }
-        ensures stays { IsTrue D.tells → OnOk result (StaysOver (backing_of O.first D.Disk) self.old.pool.frames self.old.base self.new.pool.frames self.new.base) }
+        ensures stays { IsTrue D.tells → OnOk result (BringsOver O.first D.Disk self.old self.new) }
         ensures refused { IsTrue D.tells → (IsSoundImage O.first → AreLow D.Disk self.old) → IfErr result (λ e. IsSoundImage O.first → e ≡ Fault) }
         ensures finds { IsTrue D.tells → FindsPage O.first D.Disk page self.old self.new result }
         ensures faults { HasFault Fault (D.faults_of self.old.base.disk) (D.faults_of self.new.base.disk) result }

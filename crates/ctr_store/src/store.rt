@@ -1,5 +1,5 @@
 // The store: pages and tables are the fold of the log, at every moment.
-ghost use Rattle.std.specs.Prelude.{◌≡◌, ◌≤◌, ◌<◌, ◌+◌, ◌↔◌, IsTrue, true, false, [], ◌∷◌, Ok, Err, length, IfOk, IfErr, OnOk, OnErr};
+ghost use Rattle.std.specs.Prelude.{◌≡◌, ◌≤◌, ◌<◌, ◌+◌, ◌^◌, ◌↔◌, IsTrue, true, false, [], ◌∷◌, Ok, Err, length, IfOk, IfErr, OnOk, OnErr};
 ghost use Rattle.ctr_types.specs.Faults.{HasFault};
 ghost use Rattle.ctr_disk.specs.declared.fault.StoreFault.TheVariants.{Fault};
 ghost use Rattle.ctr_meta.specs.Kept.{RoomLeft};
@@ -7,10 +7,10 @@ ghost use Rattle.ctr_base.specs.Base.{IsSoundImage};
 ghost use Rattle.std.specs.Borrow.{sem};
 ghost use Rattle.std.specs.Io.BufRead.{Rests};
 ghost use Rattle.ctr_disk.specs.Device.{LeavesOnly};
-ghost use Rattle.ctr_redo.specs.States.{page_limit, page_at, grown};
+ghost use Rattle.ctr_redo.specs.States.{page_limit, page_at};
 ghost use Rattle.ctr_store.specs.Opening.{LeavesFirst, IsUndamaged, opening_told};
 ghost use Rattle.ctr_store.specs.declared.opening.OpenError.TheVariants.{Fault as OpenFault};
-ghost use Rattle.ctr_store.specs.Store.{LeavesFront, LeavesPage, Logs, MayLog, unmet_need, RefusesUnfit, TakesRecord, KeepsRoom, LeavesGrowing, GrowsByExtent, StaysBeside};
+ghost use Rattle.ctr_store.specs.Store.{LeavesFront, LeavesPage, Logs, MayLog, unmet_need, RefusesUnfit, TakesRecord, KeepsRoom, LeavesGrowing, GrowsByExtent, CountsUp, page_home};
 ghost use Rattle.ctr_store.specs.StoreOpening.{AnswersStore, IsOpened, store_left};
 
 use crate::opening::OpenError;
@@ -87,6 +87,19 @@ impl<D: Disk, O: Origin> Store<D, O> {
             }
         }
         Ok(self.parts.bytes(page))
+    }
+
+    /// Where the home begins in the file of pages whose value a page is. It is the first home where none is open, where the page
+    /// isn't counted, and where it was changed since it was written home. 13 bytes of a home stand before those of the page.
+    pub fn home_of(&mut self, page: PageNo) -> Result<u64, StoreFault>
+        requires { self.old.stopped ≡ false }
+        ensures place { IsTrue D.tells → IfOk result (λ at. at ≡ page_home D.Disk page self.new) }
+        ensures low { IfOk result (λ at. at < 2 ^ 46) }
+        ensures leaves { LeavesPage O.first D.Disk self.old self.new result }
+    {
+        let home = self.parts.place_of(page);
+        self.stopped = home.is_err();
+        home
     }
 
     /// The number of the next record.
@@ -181,9 +194,7 @@ impl<D: Disk, O: Origin> Store<D, O> {
         requires few { self.old.now.counted < 30000 }
         ensures any_moment { IsTrue D.tells → IsSoundImage O.first → LeavesGrowing D.Disk self.old self.new }
         ensures grows { IsTrue D.tells → IsSoundImage O.first → OnOk result (GrowsByExtent D.Disk self.old self.new) }
-        ensures counted { OnOk result (self.new.now.counted ≡ grown self.old.now.counted) × OnErr result (self.new.now.counted ≡ self.old.now.counted) }
-        ensures same { StaysBeside self.old self.new }
-        ensures stopped { (OnOk result (self.new.stopped ≡ false)) × (OnErr result (self.new.stopped ≡ true)) }
+        ensures counts { CountsUp self.old self.new result }
         ensures refused { OnErr result (result ≡ Err Fault) }
         ensures faults { HasFault Fault (D.faults_of self.old.disk) (D.faults_of self.new.disk) result }
     {

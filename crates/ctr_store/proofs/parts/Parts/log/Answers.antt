@@ -35,8 +35,8 @@ returns-clause-logs g c told =
     let s = c.args.self.now in
     let m = c.bring.new.self in
     let stays = e.stays told in
-    let fold = fold_moved o d s m (c.requires.fold told) (e.moves told) (let keeps = c.bring.ensures.keeps in ap (λ x. x.tables) keeps.1) stays.shows stays.over in
-    (λ sound. logs_behind o d c.args.rec.now s m c.log_on.new.self (e.moves told sound) (c.log_on.ensures.adds told fold sound), c.log_on.ensures.fold told fold)
+    let fold = fold_moved o d s m (c.requires.fold told) stays.moves (let keeps = c.bring.ensures.keeps in ap (λ x. x.tables) keeps.1) stays.shows stays.over in
+    (λ sound. logs_behind o d c.args.rec.now s m c.log_on.new.self (stays.moves sound) (c.log_on.ensures.adds told fold sound), c.log_on.ensures.fold told fold)
 
 pub returns-in_err-bring-clause-refused : goal.returns-in_err-bring-clause-refused
 returns-in_err-bring-clause-refused g c told =

@@ -34,14 +34,14 @@ returns g c =
       (
         refl,
         (λ _. tt),
-        page_lends d o s t b c.args.self.now c.self.view_is c.bring.ensures.goes c.bring.ensures.keeps.0 c.bring.ensures.keeps.1 c.bytes.result c.in-Ok.field-0 going e.moves e.faults,
+        page_lends d o s t b c.args.self.now c.self.view_is c.bring.ensures.goes c.bring.ensures.keeps.0 c.bring.ensures.keeps.1 c.bytes.result c.in-Ok.field-0 going (λ told. (e.stays told).moves) e.faults,
       ),
       record {
         shown = λ told sound inside.
             let stays = e.stays told in
             let tables = ap (λ k. k.tables) c.bring.ensures.keeps.1 in
-            let fold = fold_moved o d s t (c.self.invariant told going) (e.moves told) tables stays.shows stays.over in
-            c.bytes.ensures.shown told sound fold e.there.0 inside ∙ ap (λ (x : State). page_at p x.pages) (e.moves told sound).now ∙ ap (λ (v : View g.row.D.Denot). page_at p v.now.pages) c.self.view_is;
+            let fold = fold_moved o d s t (c.self.invariant told going) stays.moves tables stays.shows stays.over in
+            c.bytes.ensures.shown told sound fold e.there.0 inside ∙ ap (λ (x : State). page_at p x.pages) (stays.moves sound).now ∙ ap (λ (v : View g.row.D.Denot). page_at p v.now.pages) c.self.view_is;
         whole = c.bytes.ensures.whole e.there.0;
         after = tt;
       },
