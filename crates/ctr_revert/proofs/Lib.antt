@@ -1,0 +1,5 @@
+pub mod Lost
+pub mod Logged
+pub mod Passed
+pub mod Row
+pub mod Reverted

@@ -1,0 +1,162 @@
+// One record takes the head from a row.
+ghost use Rattle.std.specs.Prelude.{◌≡◌, ◌≤◌, ◌<◌, ◌+◌, true, false, IsTrue, IfOk, OnOk, length, take};
+ghost use Rattle.ctr_base.specs.Base.{IsSoundImage};
+ghost use Rattle.ctr_store.specs.Store.{LeavesPage};
+ghost use Rattle.ctr_model.specs.declared.limits.TheConstants.{MOST_PAGES};
+ghost use Rattle.ctr_page.specs.declared.table.TheConstants.{PAGE_SIZE};
+ghost use Rattle.ctr_page.specs.Places.{slot_size as size_of_slot, start_of as start_place};
+ghost use Rattle.ctr_page.specs.Columns.{kinds_width as width_of_kinds};
+ghost use Rattle.ctr_area.specs.Changes.{with_slot};
+ghost use Rattle.ctr_pvs.specs.Reading.{kinds_said};
+ghost use Rattle.ctr_calls.specs.OneRecord.{HasRoomForOne, LogsOne};
+ghost use Rattle.ctr_changes.specs.States.{pages_in, area_in};
+ghost use Rattle.ctr_revert.specs.Reverting.{without_head, KeepsKey, lost_record, SlotSaidFrom, EntrySaidFrom, EndsBehind, RevertsBehind, without_damage, revert_check, RevertsRow};
+
+use crate::slots::{FromSlot, SLOT_MOST, blank_bytes, from_entry, from_slot, or_blank};
+use ctr_base::Origin;
+use ctr_calls::log_on_page;
+use ctr_changes::{a_slot_is_laid, over_place};
+use ctr_disk::{Disk, StoreFault};
+use ctr_page::{BadChain, BadPage, Place, kinds_width, slot_size};
+use ctr_pvs::{TableOf, check_there, row_in, table_on, version_in};
+use ctr_records::Record;
+use ctr_store::Store;
+use ctr_types::Xid;
+
+/// The bytes of a slot.
+type SlotBytes = [u8; SLOT_MOST];
+
+/// What the slot at a place says that is to lose its head.
+fn look_slot<D: Disk, O: Origin>(
+    store: &mut Store<D, O>,
+    table: &TableOf,
+    counted: u32,
+    place: Place,
+) -> Result<Result<FromSlot, BadPage>, StoreFault>
+    requires going { store.old.stopped ≡ false }
+    requires some { 0 < counted }
+    requires there { place.page < 30000 }
+    requires few { table.now.count ≤ 7 }
+    ensures said { IsTrue D.tells → IsSoundImage O.first → IfOk result (λ r. SlotSaidFrom counted table.now place (pages_in store.old.now place.page) r) }
+    ensures inside { IfOk result (λ r. OnOk r (start_place (size_of_slot (width_of_kinds (kinds_said table.now))) place.slot + size_of_slot (width_of_kinds (kinds_said table.now)) ≤ PAGE_SIZE)) }
+    ensures leaves { LeavesPage O.first D.Disk store.old store.new result }
+{
+    let page = store.page(place.page)?;
+    match row_in(table, counted, place.slot, page) {
+        Ok(slot) => Ok(Ok(from_slot(kinds_width(table.kinds()), slot))),
+        Err(bad) => Ok(Err(bad)),
+    }
+}
+
+/// The bytes of the slot whose head is that of the version entry behind it, or none where this isn't used.
+fn look_behind<D: Disk, O: Origin>(
+    store: &mut Store<D, O>,
+    table: &TableOf,
+    counted: u32,
+    from: &FromSlot,
+) -> Result<Result<Option<SlotBytes>, BadPage>, StoreFault>
+    requires going { store.old.stopped ≡ false }
+    requires some { (0 < counted) × (counted ≤ 30000) }
+    requires few { table.now.count ≤ 7 }
+    ensures said { IsTrue D.tells → IsSoundImage O.first → IfOk result (λ r. EntrySaidFrom counted table.now from.now (pages_in store.old.now from.now.older.page) r) }
+    ensures leaves { LeavesPage O.first D.Disk store.old store.new result }
+{
+    let page = store.page(from.older.page)?;
+    if let Err(bad) = check_there(counted, from.older.page) {
+        return Ok(Err(bad));
+    }
+    match version_in(table, counted, from.older.slot, page) {
+        Ok(entry) => Ok(Ok(from_entry(kinds_width(table.kinds()), from.used, from.key, entry))),
+        Err(bad) => Ok(Err(bad)),
+    }
+}
+
+/// Lays the bytes of a slot, of which so many count, over the one whose head a transaction loses.
+fn lay<D: Disk, O: Origin>(
+    store: &mut Store<D, O>,
+    x: Xid,
+    place: Place,
+    w: usize,
+    bytes: &SlotBytes,
+) -> Result<(), StoreFault>
+    requires room { HasRoomForOne 0 0 store.old }
+    requires counted { (place.page < store.old.now.counted) × (place.page < MOST_PAGES) }
+    requires narrow { w ≤ 2048 }
+    requires inside { (size_of_slot w ≤ 2072) × (start_place (size_of_slot w) place.slot + size_of_slot w ≤ PAGE_SIZE) }
+    ensures one { LogsOne O.first D.Disk (lost_record x place w (take (size_of_slot w) bytes.now)) store.old store.new result }
+    ensures whole { IsTrue D.tells → IsSoundImage O.first → OnOk result (length (pages_in store.old.now place.page) ≡ PAGE_SIZE) }
+{
+    let size = slot_size(w);
+    let rec = Record::Revert {
+        x,
+        overlay: over_place(place, size, &bytes[..size]),
+    };
+    log_on_page(store, place.page, &rec)
+}
+
+/// The end of a call that found no damage.
+fn told(logged: Result<(), StoreFault>) -> Result<Result<(), BadChain>, StoreFault>
+    ensures { result ≡ without_damage logged }
+{
+    match logged {
+        Ok(()) => Ok(Ok(())),
+        Err(fault) => Err(fault),
+    }
+}
+
+/// Takes the head from a row of which its slot says this, by the version behind the slot.
+fn revert_behind<D: Disk, O: Origin>(
+    store: &mut Store<D, O>,
+    table: &TableOf,
+    counted: u32,
+    place: Place,
+    from: &FromSlot,
+) -> Result<Result<(), BadChain>, StoreFault>
+    requires room { HasRoomForOne 0 0 store.old }
+    requires counted { (place.page < counted) × (counted ≡ store.old.now.counted) × (counted ≤ 30000) }
+    requires few { table.now.count ≤ 7 }
+    requires inside { start_place (size_of_slot (width_of_kinds (kinds_said table.now))) place.slot + size_of_slot (width_of_kinds (kinds_said table.now)) ≤ PAGE_SIZE }
+    ensures ends { IsTrue D.tells → IsSoundImage O.first → IfOk result (EndsBehind counted (pages_in store.old.now) table.now from.now) }
+    ensures one { RevertsBehind O.first D.Disk place (width_of_kinds (kinds_said table.now)) from.now store.old store.new result }
+    ensures whole { IsTrue D.tells → IsSoundImage O.first → IfOk result (λ r. OnOk r (length (pages_in store.old.now place.page) ≡ PAGE_SIZE)) }
+{
+    let w = kinds_width(table.kinds());
+    if let Some(bytes) = from.made {
+        return told(lay(store, from.x, place, w, &bytes));
+    }
+    if from.older.page == 0 {
+        return told(lay(store, from.x, place, w, &blank_bytes(w)));
+    }
+    match look_behind(store, table, counted, from)? {
+        Err(bad) => Ok(Err(BadChain::OnPage(from.older.page, bad))),
+        Ok(made) => told(lay(store, from.x, place, w, &or_blank(w, made))),
+    }
+}
+
+/// Takes the head from a row, by one record, which isn't hardened yet: the next version of its chain becomes the head, and where there is
+/// none the slot is free. The transaction has a head less. The version entry that gives its version stays used, in no chain. The slot, its
+/// table and the version entry are checked as they are read. It takes no memory.
+pub fn revert_row<D: Disk, O: Origin>(
+    store: &mut Store<D, O>,
+    place: Place,
+) -> Result<Result<(), BadChain>, StoreFault>
+    requires room { HasRoomForOne 0 0 store.old }
+    requires counted { (place.page < store.old.now.counted) × (store.old.now.counted ≤ 30000) }
+    ensures ends { IsTrue D.tells → IsSoundImage O.first → IfOk result (λ r. r ≡ revert_check store.old.now.counted (pages_in store.old.now) place) }
+    ensures one { RevertsRow O.first D.Disk place store.old store.new result }
+    // The slot is without its head, and nothing else in the pages changes.
+    ensures reverted { IsTrue D.tells → IsSoundImage O.first → KeepsKey (area_in store.old.now) place → ((area_in store.old.now).slot place).used ≡ true
+        → IfOk result (λ r. OnOk r (area_in store.new.now ≡ with_slot place (without_head (area_in store.old.now).older ((area_in store.old.now).slot place)) (area_in store.old.now))) }
+{
+    a_slot_is_laid();
+    let counted = store.counted();
+    let table = match table_on(store, 1, place.page)? {
+        Err(bad) => return Ok(Err(bad)),
+        Ok(table) => table,
+    };
+    let from = match look_slot(store, &table, counted, place)? {
+        Err(bad) => return Ok(Err(BadChain::OnPage(place.page, bad))),
+        Ok(from) => from,
+    };
+    revert_behind(store, &table, counted, place, &from)
+}
