@@ -76,7 +76,7 @@ told f (p ∷ ps) once tell = (
 )
 
 -- the heads that are looked up are those that are told
-looked_up : (f : ℕ → ℕ) (x : ℕ) (ps : List (ℕ × ℕ)) → is_in x ps ≡ true → Tells f ps → heads_in x ps ≡ f x
+pub looked_up : (f : ℕ → ℕ) (x : ℕ) (ps : List (ℕ × ℕ)) → is_in x ps ≡ true → Tells f ps → heads_in x ps ≡ f x
 looked_up f x ps there tell = by (heads_at x ps) refl there
   where
     by : (o : Option ℕ) → heads_at x ps ≡ o → is_some o ≡ true → heads_in x ps ≡ f x

@@ -1,0 +1,4 @@
+pub mod Begin
+pub mod Leaving
+pub mod Forget
+pub mod Abort
