@@ -131,9 +131,12 @@ module _ (counted : ℕ) (tables : Tables) (area : Area) (sound : IsSoundArea co
   -- the new one sees what is committed
   own_view : IsOneOf area.title (stands_for (is_committed_in tables) x)
   own_view = one_of_from area.title area.title (is_standing (is_committed_in tables)) (stands_for (is_committed_in tables) x) sound.names.standing
-      (λ f lt alive counts. (alive, refl,
-      and_from (is_live (area.title f)) (is_committed_in tables (area.title f).creator && not (is_committed_in tables (area.title f).dropper)) alive
-      (sees (area.title f) (live_below x (area.title f) alive (sound.below.entries f)) counts)))
+      (λ f lt alive counts. (
+        alive,
+        refl,
+        and_from (is_live (area.title f)) (is_committed_in tables (area.title f).creator && not (is_committed_in tables (area.title f).dropper)) alive
+            (sees (area.title f) (live_below x (area.title f) alive (sound.below.entries f)) counts),
+      ))
     where
       sees : (u : Title) → (u.creator < x) × (u.dropper < x) → stands_for (is_committed_in tables) x u ≡ true → (is_committed_in tables u.creator && not (is_committed_in tables u.dropper)) ≡ true
       sees u below counts =

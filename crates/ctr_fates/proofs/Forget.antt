@@ -7,7 +7,6 @@ use Rattle.ctr_area.specs.Areas.{Area}
 use Rattle.ctr_area.specs.Images.{is_committed_in, is_live}
 use Rattle.ctr_area.specs.Sound.{IsAmong, AreAllOnce, xids_in, head_count, IsSoundArea}
 use Rattle.ctr_fates.proofs.Leaving.{all_without, among_without, still_among, once_less, once_both, names_agree, behind_more, AgreeOnNames}
-use Rattle.ctr_fates.specs.Fates.{OwedByForget}
 use Rattle.ctr_meta.specs.Effects.{forgotten_by}
 use Rattle.ctr_meta.specs.Tables.{Tables, is_in}
 use Rattle.ctr_moves.proofs.Heads.{listed_drawn, listed_open}
@@ -34,7 +33,7 @@ dropper_not counted tables area x sound open_ some none e lt alive is = ⊎_elim
     zero_ : x ≡ 0 → ⊥
     zero_ z = omega (arith, some, z)
 
-module _ (counted : ℕ) (tables : Tables) (area : Area) (x : ℕ) (sound : IsSoundArea counted tables area) (owed : OwedByForget tables x) where
+module _ (counted : ℕ) (tables : Tables) (area : Area) (x : ℕ) (sound : IsSoundArea counted tables area) (gone : is_in x tables.aborted ≡ true) where
   abbrev now : Tables
   now = forgotten_by x tables
 
@@ -42,13 +41,13 @@ module _ (counted : ℕ) (tables : Tables) (area : Area) (x : ℕ) (sound : IsSo
   live = xids_in tables.opens
 
   x_gone : IsAmong x (xids_in tables.aborted)
-  x_gone = in_among x tables.aborted owed.gone
+  x_gone = in_among x tables.aborted gone
 
   x_open : is_committed_in tables x ≡ false
-  x_open = listed_open tables x (inr owed.gone)
+  x_open = listed_open tables x (inr gone)
 
   x_drawn : (0 < x) × (x < tables.next)
-  x_drawn = listed_drawn tables.next area tables sound.below x (inr owed.gone)
+  x_drawn = listed_drawn tables.next area tables sound.below x (inr gone)
 
   never_live : IsAmong x live → ⊥
   never_live in_ = not_both live (xids_in tables.aborted) x sound.below.once in_ x_gone

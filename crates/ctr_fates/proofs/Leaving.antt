@@ -45,11 +45,14 @@ still_among x y (p ∷ ps) apart in_ = known (x == p.0)
 pub once_less : (x : ℕ) (ps : List (ℕ × ℕ)) → AreAllOnce (xids_in ps) → AreAllOnce (xids_in (without_xid x ps)) × (IsAmong x (xids_in (without_xid x ps)) → ⊥)
 once_less x [] once = (tt, λ none. none)
 once_less x (p ∷ ps) once = known (x == p.0)
-    (λ is. (subst (λ l. AreAllOnce (xids_in l)) (sym (without_here x p ps is)) once.1,
-    λ in_. once.0 (subst (λ y. IsAmong y (xids_in ps)) (eqb-true x p.0 is) (subst (λ l. IsAmong x (xids_in l)) (without_here x p ps is) in_))))
-    (λ isnt. let rest = once_less x ps once.1 in
-    (subst (λ l. AreAllOnce (xids_in l)) (sym (without_apart x p ps isnt)) ((λ in_. once.0 (among_without x p.0 ps in_)), rest.0),
-    λ in_. ⊎_elim (λ here. false≢true (sym isnt ∙ eq-eqb x p.0 here)) (λ there. rest.1 there) (subst (λ l. IsAmong x (xids_in l)) (without_apart x p ps isnt) in_)))
+    (λ is. (
+      subst (λ l. AreAllOnce (xids_in l)) (sym (without_here x p ps is)) once.1,
+      λ in_. once.0 (subst (λ y. IsAmong y (xids_in ps)) (eqb-true x p.0 is) (subst (λ l. IsAmong x (xids_in l)) (without_here x p ps is) in_)),
+    ))
+    (λ isnt. let rest = once_less x ps once.1 in (
+      subst (λ l. AreAllOnce (xids_in l)) (sym (without_apart x p ps isnt)) ((λ in_. once.0 (among_without x p.0 ps in_)), rest.0),
+      λ in_. ⊎_elim (λ here. false≢true (sym isnt ∙ eq-eqb x p.0 here)) (λ there. rest.1 there) (subst (λ l. IsAmong x (xids_in l)) (without_apart x p ps isnt) in_),
+    ))
 
 -- two lists, each once, and none in both
 pub once_both : (xs ys : List ℕ) → AreAllOnce xs → AreAllOnce ys → ((y : ℕ) → IsAmong y xs → IsAmong y ys → ⊥) → AreAllOnce (xs ++ ys)
@@ -126,3 +129,14 @@ pub behind_more : (old new : ℕ → Bool) (area : Area) → ((y : ℕ) → old 
 behind_more old new area more behind e at used =
     let was = behind e at used in
     (was.0, all_each {P = λ (w : RowVersion). old w.0 ≡ true} {Q = λ (w : RowVersion). new w.0 ≡ true} (drop 1 (chain_of area.older (area.slot at))) (λ w is. more w.0 is) was.1)
+
+pub same_name_undone : (is : List SlogItem) (t : ℕ → Title) (f : ℕ) → (all_undone is t f).name ≡ (t f).name
+same_name_undone [] t f = refl
+same_name_undone (AllocOf x p ∷ is) t f = same_name_undone is t f
+same_name_undone (FreeOf p ∷ is) t f = same_name_undone is t f
+same_name_undone (CreateOf x e ∷ is) t f = known (f == e)
+    (λ here. ap (λ b. (cond b (record (all_undone is t e) { state = 2 }) (all_undone is t f)).name) here ∙ ap (λ f. (all_undone is t f).name) (sym (eqb-true f e here)) ∙ same_name_undone is t f)
+    (λ apart. ap (λ b. (cond b (record (all_undone is t e) { state = 2 }) (all_undone is t f)).name) apart ∙ same_name_undone is t f)
+same_name_undone (DropOf x e ∷ is) t f = known (f == e)
+    (λ here. ap (λ b. (cond b (record (all_undone is t e) { dropper = 0 }) (all_undone is t f)).name) here ∙ ap (λ f. (all_undone is t f).name) (sym (eqb-true f e here)) ∙ same_name_undone is t f)
+    (λ apart. ap (λ b. (cond b (record (all_undone is t e) { dropper = 0 }) (all_undone is t f)).name) apart ∙ same_name_undone is t f)

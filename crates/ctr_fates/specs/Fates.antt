@@ -1,8 +1,8 @@
 -- What records on a transaction owe: a Begin, a Commit, an Abort, a Forget.
-use Rattle.std.specs.Prelude.{◌≡◌, ℕ, ◌<◌, true, false, List}
+use Rattle.std.specs.Prelude.{◌≡◌, ℕ, true, false, List}
 use Rattle.ctr_records.specs.declared.record.SlogItem.{SlogItem}
 use Rattle.ctr_records.specs.declared.record.SlogItem.TheVariants.{AllocOf}
-use Rattle.ctr_meta.specs.Tables.{Tables, is_in, heads_in}
+use Rattle.ctr_meta.specs.Tables.{Tables, is_in}
 use Rattle.ctr_meta.specs.Items.{is_item_by}
 use Rattle.ctr_area.specs.Sound.{IsAmong}
 
@@ -15,7 +15,7 @@ pub record OwedByAbort (tables : Tables) (x : ℕ) : Type 0 where
   pub is_open : is_in x tables.opens ≡ true
   pub none : HasNoItems x tables.items
 
--- What a Forget owes: the aborted transaction has no head.
-pub record OwedByForget (tables : Tables) (x : ℕ) : Type 0 where
-  pub gone : is_in x tables.aborted ≡ true
-  pub none : heads_in x tables.aborted ≡ 0
+-- What a Commit owes: the transaction is open, and each page that it allocated is linked.
+pub record OwedByCommit (tables : Tables) (x : ℕ) : Type 0 where
+  pub is_open : is_in x tables.opens ≡ true
+  pub linked : (p : ℕ) → IsAmong (AllocOf x p) tables.items → ⊥

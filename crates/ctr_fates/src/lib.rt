@@ -4,4 +4,6 @@
 
 mod fates;
 
-pub use fates::{a_begin_stays_sound, a_forget_stays_sound, an_abort_stays_sound};
+pub use fates::{
+    a_begin_stays_sound, a_commit_stays_sound, a_forget_stays_sound, an_abort_stays_sound,
+};
