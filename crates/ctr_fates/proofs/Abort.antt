@@ -18,7 +18,6 @@ use Rattle.ctr_moves.proofs.Members.{among_front, among_rest, among_parts, all_p
 use Rattle.ctr_moves.proofs.Xids.{among_in, in_among, not_both, once_parts, tells, looked_up}
 use Rattle.ctr_records.specs.declared.record.SlogItem.TheVariants.{AllocOf, CreateOf, DropOf}
 use Rattle.ctr_shapes.proofs.Owning.{all_of}
-use Rattle.ctr_shapes.proofs.Undone.{uncounted}
 use Rattle.ctr_versions.proofs.Keys.{known}
 
 module _ (counted : ℕ) (tables : Tables) (area : Area) (x : ℕ) (sound : IsSoundArea counted tables area) (owed : OwedByAbort tables x) where

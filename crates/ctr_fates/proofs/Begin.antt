@@ -19,7 +19,7 @@ use Rattle.ctr_records.specs.declared.record.SlogItem.TheVariants.{AllocOf, Free
 use Rattle.ctr_shapes.proofs.Latest.{live_below}
 use Rattle.ctr_shapes.proofs.Links.{none_pass}
 use Rattle.ctr_shapes.proofs.Owning.{all_of}
-use Rattle.ctr_shapes.proofs.Undone.{one_of_from, uncounted}
+use Rattle.ctr_shapes.proofs.Undone.{one_of_from}
 use Rattle.ctr_versions.proofs.Keys.{known}
 
 -- the titles of a catalog, to who has no item

@@ -22,7 +22,7 @@ use Rattle.ctr_shapes.proofs.Few.{count}
 use Rattle.ctr_shapes.proofs.Latest.{live_some, live_open}
 use Rattle.ctr_shapes.proofs.Named.{head_same, tail_same}
 use Rattle.ctr_shapes.proofs.Owning.{all_of}
-use Rattle.ctr_shapes.proofs.Undone.{undone_apart, undone_dead, one_of_from, filter_among, among_filter, drop_among, uncounted}
+use Rattle.ctr_shapes.proofs.Undone.{undone_apart, undone_dead, one_of_from, filter_among, among_filter, drop_among}
 use Rattle.ctr_versions.proofs.Keys.{known}
 
 -- ---- lists of which some members are left out

@@ -17,7 +17,7 @@ use Rattle.ctr_shapes.proofs.Away.{away_readable, away_pointers, away_behind, aw
 use Rattle.ctr_shapes.proofs.Fresh.{AreNoPages, mid_sound, fresh_away, fresh_firsts, fresh_tables}
 use Rattle.ctr_shapes.proofs.Latest.{by_title, title_apart, titled_sound, live_below, live_open}
 use Rattle.ctr_shapes.proofs.Owning.{all_of}
-use Rattle.ctr_shapes.proofs.Undone.{undone_at, undone_dead, one_of_from, uncounted}
+use Rattle.ctr_shapes.proofs.Undone.{undone_at, undone_dead, one_of_from}
 use Rattle.ctr_shapes.specs.Titles.{OwedByDying, OwedByFreeing}
 use Rattle.ctr_versions.proofs.Keys.{known}
 
