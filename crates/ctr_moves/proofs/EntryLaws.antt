@@ -1,5 +1,5 @@
 -- A Trim of a version entry: a chain is cut behind it, or it is freed where no chain has it.
-use Rattle.std.proofs.Common.{◌≡◌, ◌⊎◌, ⊎_elim, ℕ, ◌<◌, ℤ, Bool, true, false, List, ◌++◌, refl, sym, ◌∙◌, ap, subst}
+use Rattle.std.proofs.Common.{◌≡◌, ⊎_elim, ℕ, ◌<◌, ℤ, Bool, true, false, List, ◌++◌, refl, sym, ◌∙◌, ap, subst}
 use Rattle.std.proofs.lemmas.Bool.{false≢true, eq-eqb, and_from, cases_lt}
 use Rattle.std.specs.Cmp.{int_eq_equiv}
 use Rattle.std.specs.FinMap.Entries.{find}
@@ -12,7 +12,6 @@ use Rattle.ctr_area.specs.Images.{is_committed_in, versions_in}
 use Rattle.ctr_area.specs.Sound.{IsAmong, xids_in, IsUsedSlot, AreBehind, IsKeptFor, along, ArePointed, NumbersBelow, IsSoundArea}
 use Rattle.ctr_meta.specs.Tables.{Tables}
 use Rattle.ctr_moves.proofs.CutLaw.{away_chain, away_along, cut_leads, cut_along, cut_chain_all, cut_chain, first_among, out_leads}
-use Rattle.ctr_moves.proofs.Fitting.{alone}
 use Rattle.ctr_moves.proofs.Gathering.{matches, is_match, match_used, match_key, found_here, same_found}
 use Rattle.ctr_moves.proofs.Kept.{older_apart, older_here, behind_stays, kept_chains, kept_pointers}
 use Rattle.ctr_moves.proofs.OneSlot.{place_cases}

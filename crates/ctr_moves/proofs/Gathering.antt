@@ -9,7 +9,6 @@ use Rattle.ctr_area.specs.Areas.{Slot, Older}
 use Rattle.ctr_area.specs.Chains.{chain_of}
 use Rattle.ctr_area.specs.Images.{rows_gathered, numbers}
 use Rattle.ctr_area.specs.Sound.{IsAmong}
-use Rattle.ctr_meta.proofs.XidLaws.{in_rest}
 use Rattle.ctr_moves.proofs.Fitting.{alone}
 use Rattle.ctr_page.specs.declared.rows.Place.{Place}
 use Rattle.ctr_versions.proofs.Keys.{known}

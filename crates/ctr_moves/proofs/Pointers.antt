@@ -4,7 +4,6 @@ use Rattle.ctr_area.specs.Areas.{Slot, Area}
 use Rattle.ctr_area.specs.Chains.{older_bound, slot_places, places_along, Leads}
 use Rattle.ctr_area.specs.Changes.{with_slot}
 use Rattle.ctr_area.specs.Sound.{IsAmong, IsUsedSlot, IsKeptFor, along, ArePointed}
-use Rattle.ctr_moves.proofs.Fitting.{alone}
 use Rattle.ctr_moves.proofs.OneSlot.{place_cases, slot_here, slot_apart, was_used, now_used}
 use Rattle.ctr_page.specs.declared.rows.Place.{Place}
 

@@ -1,5 +1,5 @@
 -- One slot is changed: the chain of its key is set, and no other.
-use Rattle.std.proofs.Common.{◌≡◌, ◌⊎◌, ⊎_elim, inr, ℕ, ◌<◌, ◌≤◌, ℤ, Bool, true, false, cond, List, [], Option, Some, None, refl, sym, ◌∙◌, ap, subst, arith}
+use Rattle.std.proofs.Common.{◌≡◌, ⊎_elim, inr, ℕ, ◌<◌, ◌≤◌, ℤ, Bool, true, false, cond, List, [], Option, Some, None, refl, sym, ◌∙◌, ap, subst, arith}
 use Rattle.std.proofs.lemmas.Bool.{false≢true, eq-eqb, eqb-true, cases_lt}
 use Rattle.std.specs.FinMap.Entries.{find, is_sorted}
 use Rattle.std.specs.Ordering.{int_cmp, int_eq}
@@ -10,7 +10,7 @@ use Rattle.ctr_area.specs.Chains.{slot_places, chain_of}
 use Rattle.ctr_area.specs.Changes.{with_slot}
 use Rattle.ctr_area.specs.Images.{rows_gathered, rows_of_entry, entry_numbers, versions_in}
 use Rattle.ctr_area.specs.Sound.{IsAmong}
-use Rattle.ctr_moves.proofs.Fitting.{old_key, alone}
+use Rattle.ctr_moves.proofs.Fitting.{alone}
 use Rattle.ctr_moves.proofs.Gathering.{matches, is_match, match_used, match_key, sorted-gathered, found_here, none_found, same_found, numbered_past, numbered_here}
 use Rattle.ctr_moves.proofs.OneSlot.{slot_here, slot_apart}
 use Rattle.ctr_page.specs.declared.rows.Place.{Place}

@@ -1,5 +1,5 @@
 -- Each way to write is the write of the chain, and leads on to entries of its own.
-use Rattle.std.proofs.Common.{◌≡◌, ◌⊎◌, ⊎_elim, inr, ℕ, ◌<◌, ◌≤◌, ℤ, suc, Bool, cond, List, [], ◌∷◌, length, refl, sym, ◌∙◌, ap, subst, arith}
+use Rattle.std.proofs.Common.{◌≡◌, ⊎_elim, inr, ℕ, ◌<◌, ◌≤◌, ℤ, suc, Bool, cond, List, [], ◌∷◌, length, refl, sym, ◌∙◌, ap, subst, arith}
 use Rattle.std.specs.Prelude.{is_some}
 use Rattle.ctr_area.proofs.Buckets.{on_chain}
 use Rattle.ctr_area.specs.Areas.{nowhere, RowVersion, Slot, Older, Area}

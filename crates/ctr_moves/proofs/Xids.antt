@@ -1,5 +1,5 @@
 -- The lists of open and aborted transactions, where heads of one of them are changed.
-use Rattle.std.proofs.Common.{◌≡◌, ◌⊎◌, ⊎_elim, inl, inr, ℕ, ◌+◌, ◌-◌, Bool, true, false, cond, List, [], ◌∷◌, ◌++◌, Option, Some, None, refl, sym, ◌∙◌, ap, subst, arith}
+use Rattle.std.proofs.Common.{◌≡◌, ⊎_elim, inl, inr, ℕ, ◌+◌, ◌-◌, Bool, true, false, cond, List, [], ◌∷◌, ◌++◌, Option, Some, None, refl, sym, ◌∙◌, ap, subst, arith}
 use Rattle.std.proofs.lemmas.Bool.{false≢true, eq-eqb, eqb-true, ne_eqb}
 use Rattle.std.proofs.lemmas.Map.{keys-set_value}
 use Rattle.std.specs.List.{AllByRecursion}
@@ -76,7 +76,7 @@ told f (p ∷ ps) once tell = (
 )
 
 -- the heads that are looked up are those that are told
-looked_up : (f : ℕ → ℕ) (x : ℕ) (ps : List (ℕ × ℕ)) → is_in x ps ≡ true → Tells f ps → heads_in x ps ≡ f x
+pub looked_up : (f : ℕ → ℕ) (x : ℕ) (ps : List (ℕ × ℕ)) → is_in x ps ≡ true → Tells f ps → heads_in x ps ≡ f x
 looked_up f x ps there tell = by (heads_at x ps) refl there
   where
     by : (o : Option ℕ) → heads_at x ps ≡ o → is_some o ≡ true → heads_in x ps ≡ f x

@@ -1,5 +1,5 @@
 -- A Revert: a head of an aborted transaction gives way.
-use Rattle.std.specs.Prelude.{◌≡◌, ◌≢◌, ℕ, Bool, true, Option, None, is_some, unwrap_or}
+use Rattle.std.specs.Prelude.{◌≡◌, ◌≢◌, ℕ, true, None, is_some, unwrap_or}
 use Rattle.ctr_meta.specs.Tables.{Tables, is_in}
 use Rattle.ctr_page.specs.declared.rows.Place.{Place}
 use Rattle.ctr_area.specs.Areas.{free_slot, Slot, Older, Area}

@@ -6,7 +6,7 @@ use Rattle.ctr_meta.specs.Tables.{Tables, is_in}
 use Rattle.ctr_meta.specs.Effects.{one_head_more, one_head_less}
 use Rattle.ctr_page.specs.declared.rows.Place.{Place}
 use Rattle.ctr_area.specs.Areas.{nowhere, RowVersion, Slot, Area}
-use Rattle.ctr_area.specs.Chains.{places_from, bucket_first, slot_places}
+use Rattle.ctr_area.specs.Chains.{places_from, bucket_first}
 use Rattle.ctr_area.specs.Images.{is_committed_in}
 use Rattle.ctr_area.specs.Sound.{IsAmong, IsUsedSlot}
 use Rattle.ctr_area.specs.Changes.{with_slot}

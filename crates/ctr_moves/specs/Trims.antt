@@ -4,7 +4,6 @@ use Rattle.ctr_versions.specs.Changes.{cut, without_tombstone}
 use Rattle.ctr_meta.specs.Tables.{Tables}
 use Rattle.ctr_page.specs.declared.rows.Place.{Place}
 use Rattle.ctr_area.specs.Areas.{nowhere, free_slot, RowVersion, Slot, Older, Area}
-use Rattle.ctr_area.specs.Chains.{older_places}
 use Rattle.ctr_area.specs.Images.{is_committed_in}
 use Rattle.ctr_area.specs.Sound.{IsAmong, IsUsedSlot, along}
 use Rattle.ctr_area.specs.Changes.{with_slot, with_older}

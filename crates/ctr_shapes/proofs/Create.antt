@@ -4,7 +4,7 @@ use Rattle.std.proofs.lemmas.Bool.{false≢true, eq-eqb, eqb-true, ne_eqb, cases
 use Rattle.std.proofs.lemmas.List.{append-nil}
 use Rattle.std.specs.List.{filter}
 use Rattle.std.specs.Prelude.{◌==◌, ◌||◌, ◌&&◌, not}
-use Rattle.ctr_area.specs.Areas.{Title, no_pages, Area}
+use Rattle.ctr_area.specs.Areas.{Title, Area}
 use Rattle.ctr_area.specs.Chains.{table_pages}
 use Rattle.ctr_area.specs.Changes.{with_title, with_firsts, new_title, empty_chains, ChangesEntry}
 use Rattle.ctr_area.specs.Images.{is_committed_in, is_standing, is_live}
@@ -19,7 +19,7 @@ use Rattle.ctr_moves.specs.Bounds.{IsInBounds}
 use Rattle.ctr_records.specs.declared.record.SlogItem.{SlogItem}
 use Rattle.ctr_records.specs.declared.record.SlogItem.TheVariants.{AllocOf, FreeOf, CreateOf, DropOf}
 use Rattle.ctr_shapes.proofs.Away.{away_readable, away_pointers, away_behind, away_keys, away_counts, away_pages, away_below, IsSameOn}
-use Rattle.ctr_shapes.proofs.Fresh.{mid_sound, same_away, same_firsts, in_tables}
+use Rattle.ctr_shapes.proofs.Fresh.{AreNoPages, empty_are_none, mid_sound, fresh_away, fresh_firsts, fresh_tables}
 use Rattle.ctr_shapes.proofs.Items.{added, up_one, down_one, count_one, it_is_in, IsWithOne}
 use Rattle.ctr_shapes.proofs.Latest.{entry_of_item, xid_of_item, create_isnt_drop, owned_and_one, by_title, title_here, title_apart, live_open}
 use Rattle.ctr_shapes.proofs.Undone.{undone_at, undone_apart, undone_dead, undone_last, one_of_from, filter_apart, filter_there, filter_among, drop_among, last_dropped, cut_end, uncounted}
@@ -207,26 +207,26 @@ module _ (counted : ℕ) (tables : Tables) (area : Area) (x e : ℕ) (name : Lis
   }
 
   module _ (bounds : IsInBounds area) (new : Area) (changes : ChangesEntry e made empty_chains area new) where
-    none : area.firsts e ≡ no_pages
-    none = bounds.free e owed.free
+    none : AreNoPages (area.firsts e)
+    none = subst AreNoPages (sym (bounds.free e owed.free)) (tt, refl)
 
     abbrev between : Area
     between = with_firsts e empty_chains area
 
     between_sound : IsSoundArea counted tables between
-    between_sound = mid_sound counted tables area e sound owed.inside none
+    between_sound = mid_sound counted tables area e empty_chains sound owed.inside empty_are_none none
 
     abbrev Away : ℕ → Type 0
     Away q = (area.header q).entry ≡ e → ⊥
 
     same_pages : IsSameOn Away between new
-    same_pages = same_away counted tables area e sound owed.inside none made new changes
+    same_pages = fresh_away counted tables area e empty_chains sound owed.inside empty_are_none none made new changes
 
     same_first_pages : (f : ℕ) → new.firsts f ≡ between.firsts f
-    same_first_pages = same_firsts counted tables area e sound owed.inside none made new changes
+    same_first_pages = fresh_firsts counted tables area e empty_chains sound owed.inside empty_are_none none made new changes
 
     apart_pages : (f q : ℕ) → IsAmong q (table_pages between f) → Away q
-    apart_pages = in_tables counted tables area e sound owed.inside none made new changes
+    apart_pages = fresh_tables counted tables area e empty_chains sound owed.inside empty_are_none none made new changes
 
     titles : titled_area.title ≡ new.title
     titles = λ k f. sym (changes.titles f) k

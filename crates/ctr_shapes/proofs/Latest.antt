@@ -19,7 +19,7 @@ use Rattle.ctr_records.specs.declared.record.SlogItem.TheVariants.{AllocOf, Free
 use Rattle.ctr_shapes.proofs.Items.{up_one, down_one, IsWithOne}
 use Rattle.ctr_shapes.proofs.Named.{kind_of_item}
 use Rattle.ctr_shapes.proofs.Owning.{all_of, owned_with, owned_either, owned_more}
-use Rattle.ctr_shapes.proofs.Undone.{undone_last, filter_apart, filter_there, filter_append, filter_among, among_filter, drop_last, last_or_again, uncounted}
+use Rattle.ctr_shapes.proofs.Undone.{undone_last, filter_apart, filter_there, filter_append, filter_among, among_filter, drop_last, last_or_again}
 use Rattle.ctr_versions.proofs.Keys.{known}
 
 -- what an item says of itself

@@ -16,3 +16,4 @@ pub mod Drop
 pub mod Fresh
 pub mod Create
 pub mod Shown
+pub mod Entry

@@ -1,5 +1,5 @@
 -- What records on whole pages owe: an Alloc, a Free, a Format, a Link, an Unlink.
-use Rattle.std.specs.Prelude.{◌≡◌, ℕ, ◌<◌, ◌≤◌, Bool, true, false, length, slice_index}
+use Rattle.std.specs.Prelude.{◌≡◌, ℕ, ◌<◌, ◌≤◌, true, false, length, slice_index}
 use Rattle.std.specs.List.{list_any}
 use Rattle.ctr_meta.specs.declared.items.Wanted.{Wanted}
 use Rattle.ctr_meta.specs.declared.items.Wanted.TheVariants.{Allocation, OfPage}
@@ -8,7 +8,6 @@ use Rattle.ctr_meta.specs.Items.{is_wanted}
 use Rattle.ctr_page.specs.declared.header.Header.{Header}
 use Rattle.ctr_page.specs.declared.rows.Place.{Place}
 use Rattle.ctr_area.specs.Areas.{Area}
-use Rattle.ctr_area.specs.Chains.{pages_bound}
 use Rattle.ctr_area.specs.Images.{is_committed_in}
 use Rattle.ctr_area.specs.Sound.{IsUsedSlot}
 

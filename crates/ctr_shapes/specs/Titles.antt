@@ -1,6 +1,6 @@
--- What records on the catalog owe: a Create, a Drop, and their undoing.
+-- What records on the catalog owe: a Create, a Drop, their undoing, and a Trim of an entry.
 use Rattle.std.specs.Prelude.{◌≡◌, ℕ, ◌<◌, true, false, List, [], ◌∷◌, ◌++◌}
-use Rattle.std.specs.List.{filter}
+use Rattle.std.specs.List.{AllByRecursion, filter}
 use Rattle.ctr_records.specs.declared.record.SlogItem.{SlogItem}
 use Rattle.ctr_records.specs.declared.record.SlogItem.TheVariants.{CreateOf, DropOf}
 use Rattle.ctr_meta.specs.Tables.{Tables, is_in}
@@ -45,3 +45,15 @@ pub record OwedByCreate (tables : Tables) (area : Area) (x e : ℕ) (name : List
   pub unseen : (f : ℕ) → f < 32 → is_live (area.title f) ≡ true → (area.title f).name ≡ name
       → stands_for (is_committed_in tables) x (area.title f) ≡ false
   pub alone : IsNameFreeFor x tables.items area.title name
+
+-- What a Trim that makes a dropped entry dead owes: it is live, and who dropped it is committed.
+pub record OwedByDying (tables : Tables) (area : Area) (e : ℕ) : Type 0 where
+  pub live : is_live (area.title e) ≡ true
+  pub dropped : is_committed_in tables (area.title e).dropper ≡ true
+
+-- What a Trim that frees an entry owes: it is dead, and has no page.
+pub record OwedByFreeing (area : Area) (e : ℕ) : Type 0 where
+  pub inside : e < 32
+  pub dead : (area.title e).state ≡ 2
+  pub no_rows : AllByRecursion (λ p. p ≡ 0) (area.firsts e).buckets
+  pub no_versions : (area.firsts e).versions ≡ 0

@@ -12,5 +12,6 @@ pub use pages::{
 };
 pub use showing::{a_record_leaves_what_the_next_owes, records_on_pages_show_the_same};
 pub use titles::{
-    a_create_stays_sound, a_drop_stays_sound, an_uncreate_stays_sound, an_undrop_stays_sound,
+    a_create_stays_sound, a_drop_stays_sound, a_trimmed_entry_stays_sound, an_uncreate_stays_sound,
+    an_undrop_stays_sound,
 };
