@@ -9,7 +9,7 @@ use Rattle.ctr_base.specs.Base.{IsSoundImage}
 use Rattle.ctr_home.specs.Reading.{IsFaultOr}
 use Rattle.ctr_store.specs.Store.{View, LeavesPage}
 use Rattle.ctr_calls.specs.Damage.{EndsTold, TellsFound, IsDamage, ReadsPages}
-use Rattle.ctr_calls.proofs.Joins.{answers_ok, answers_err, pages_join}
+use Rattle.ctr_calls.proofs.Joins.{fails_with, answers_err, pages_join}
 
 -- damage is told so
 ends_bad : {B T : Type 0} (told : B → StoreFault) (Ends : Result T B → Type 0) (bad : B) (e : StoreFault) → Ends (Err bad) → told bad ≡ e → EndsTold told Ends (Err e)
@@ -17,28 +17,41 @@ ends_bad told Ends bad Fault ends is = tt
 ends_bad told Ends bad (Damaged file at want got) ends is = (bad, ends, is)
 
 -- where it ends so, it is told so
-pub told_ends : {B T : Type 0} (told : B → StoreFault) (Ends : Result T B → Type 0) (found : Result (Result T B) StoreFault) (result : Result T StoreFault) → TellsFound told found result → OnErr found (found ≡ Err Fault) → IfOk found Ends
+pub told_ends : {Known B T : Type 0} (told : B → StoreFault) (Ends : Result T B → Type 0) (found : Result (Result T B) StoreFault) (result : Result T StoreFault) → TellsFound Known told found result → Known → OnErr found (found ≡ Err Fault) → IfOk found Ends
     → EndsTold told Ends result
-told_ends told Ends (Ok (Ok x)) result is fault ends = subst (EndsTold told Ends) (sym is) ends
-told_ends told Ends (Ok (Err bad)) result is fault ends =
-    ⊎_elim (λ w. subst (EndsTold told Ends) (sym w) tt) (λ w. subst (EndsTold told Ends) (sym w) (ends_bad told Ends bad (told bad) ends refl)) is
-told_ends {B} {T} told Ends (Err e) result is fault ends = let same : e ≡ Fault = one e Fault fault in subst (EndsTold told Ends) (sym (is ∙ ap Err same)) tt
+told_ends told Ends (Ok (Ok x)) result is known fault ends = subst (EndsTold told Ends) (sym is) ends
+told_ends {T} told Ends (Ok (Err bad)) result (e, is, why) known fault ends =
+    subst (EndsTold told Ends) (sym is)
+    (⊎_elim (λ w. subst (λ (x : StoreFault). EndsTold told Ends (fails_with T x)) (sym w) tt) (λ w. ends_bad told Ends bad e ends (sym w)) (why known))
+told_ends {B} {T} told Ends (Err e) result is known fault ends =
+    let same : e ≡ Fault = one e Fault fault in
+    subst (EndsTold told Ends) (sym (is ∙ ap (fails_with T) same)) tt
   where
-    one : (x y : StoreFault) → Err {A = Result T B} x ≡ Err y → x ≡ y
+    one : (x y : StoreFault) → fails_with (Result T B) x ≡ fails_with (Result T B) y → x ≡ y
     one x y same = cc same
 
 -- what holds of an answer that was found holds of the one that is told
-pub told_ok : {B T : Type 0} (told : B → StoreFault) (P : T → Type 0) (found : Result (Result T B) StoreFault) (result : Result T StoreFault) → TellsFound told found result → IfOk found (λ r. IfOk r P) → IfOk result P
-told_ok told P (Ok (Ok x)) result is holds = subst (λ r. IfOk r P) (sym is) holds
-told_ok told P (Ok (Err bad)) result is holds = ⊎_elim (λ w. subst (λ r. IfOk r P) (sym w) tt) (λ w. subst (λ r. IfOk r P) (sym w) tt) is
-told_ok told P (Err e) result is holds = subst (λ r. IfOk r P) (sym is) tt
+pub told_ok : {B T : Type 0} (Known : Type 0) (told : B → StoreFault) (P : T → Type 0) (found : Result (Result T B) StoreFault) (result : Result T StoreFault) → TellsFound Known told found result → IfOk found (λ r. IfOk r P) → IfOk result P
+told_ok Known told P (Ok (Ok x)) result is holds = subst (λ r. IfOk r P) (sym is) holds
+told_ok Known told P (Ok (Err bad)) result (e, is, why) holds = subst (λ r. IfOk r P) (sym is) tt
+told_ok Known told P (Err e) result is holds = subst (λ r. IfOk r P) (sym is) tt
 
 module _ {D : Type 0} (first : Image) (g : Ghosts D) where
-  -- a call that reads pages, behind a page that was read
-  pub reads_behind : {S T : Type 0} (x : S) (a b c : View D) (e : StoreFault) → LeavesPage {T = S} first g a b (Ok x) → ReadsPages {T = ⊤} first g b c (Err e) → ReadsPages {T = T} first g a c (Err e)
-  reads_behind {S} {T} x a b c e one (inl two) = inl (answers_err first g {S = ⊤} {T = T} e a c (pages_join g a b c first S ⊤ x (Err e) one two))
-  reads_behind {S} {T} x a b c e one (inr (is, two)) = inr (damage e is, pages_join g a b c first S ⊤ x (Ok tt) one two)
+  -- an answer is no damage
+  pub reads_ok : {T : Type 0} (x : T) (a b : View D) → ReadsPages {T = T} first g a b (Ok x) → LeavesPage {T = T} first g a b (Ok x)
+  reads_ok x a b (inl read) = read
+  reads_ok x a b (inr (is, read)) = absurd is
+
+  -- what damage or a fault leaves doesn't depend on what else might be answered
+  pub reads_err : {S T : Type 0} (e : StoreFault) (a b : View D) → ReadsPages {T = S} first g a b (Err e) → ReadsPages {T = T} first g a b (Err e)
+  reads_err {S} {T} e a b (inl read) = inl (answers_err first g {S = S} {T = T} e a b read)
+  reads_err {S} {T} e a b (inr (is, read)) = inr (damage e is, read)
     where
-      damage : (y : StoreFault) → IsDamage {T = ⊤} (Err y) → IsDamage {T = T} (Err y)
+      damage : (y : StoreFault) → IsDamage (fails_with S y) → IsDamage (fails_with T y)
       damage Fault is = is
       damage (Damaged file at want got) is = tt
+
+  -- a call that reads pages, behind a page that was read
+  pub reads_behind : {S T : Type 0} (x : S) (a b c : View D) (e : StoreFault) → LeavesPage {T = S} first g a b (Ok x) → ReadsPages {T = ⊤} first g b c (Err e) → ReadsPages {T = T} first g a c (Err e)
+  reads_behind {S} {T} x a b c e one (inl two) = reads_err {S = ⊤} {T = T} e a c (inl (pages_join g a b c first S ⊤ x (Err e) one two))
+  reads_behind {S} {T} x a b c e one (inr (is, two)) = reads_err {S = ⊤} {T = T} e a c (inr (is, pages_join g a b c first S ⊤ x (Ok tt) one two))

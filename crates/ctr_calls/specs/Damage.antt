@@ -34,12 +34,14 @@ EndsTold told Ends (Err Fault) = Unit {0}
 EndsTold {B} told Ends (Err (Damaged file at want got)) =
     (bad : B) × Ends (Err bad) × (told bad ≡ Damaged file at want got)
 
--- what was found is answered, and damage is told, unless the disk failed
-abbrev pub TellsFound : {B T : Type 0} → (B → StoreFault) → Result (Result T B) StoreFault
+-- What was found is answered. Damage is answered by an error, which under this premise tells it, unless
+-- the disk failed.
+abbrev pub TellsFound : {B T : Type 0} → Type 0 → (B → StoreFault) → Result (Result T B) StoreFault
     → Result T StoreFault → Type 0
-TellsFound told (Ok (Ok x)) result = result ≡ Ok x
-TellsFound told (Ok (Err bad)) result = (result ≡ Err Fault) ⊎ (result ≡ Err (told bad))
-TellsFound told (Err e) result = result ≡ Err e
+TellsFound Known told (Ok (Ok x)) result = result ≡ Ok x
+TellsFound Known told (Ok (Err bad)) result =
+    (e : StoreFault) × (result ≡ Err e) × (Known → (e ≡ Fault) ⊎ (e ≡ told bad))
+TellsFound Known told (Err e) result = result ≡ Err e
 
 -- it is damage
 abbrev pub IsDamage : {T : Type 0} → Result T StoreFault → Type 0

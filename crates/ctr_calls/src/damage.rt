@@ -1,5 +1,5 @@
 // Damage of pages, told where it stands in the file of pages.
-ghost use Rattle.std.specs.Prelude.{◌≡◌, ◌<◌, ◌^◌, false, IsTrue, Err, OnOk};
+ghost use Rattle.std.specs.Prelude.{◌≡◌, ◌<◌, ◌^◌, false, IsTrue, Err, OnOk, ⊤};
 ghost use Rattle.ctr_home.specs.Reading.{IsFaultOr};
 ghost use Rattle.ctr_base.specs.Base.{IsSoundImage};
 ghost use Rattle.ctr_store.specs.Store.{View, LeavesPage};
@@ -62,7 +62,7 @@ pub fn tell<D: Disk, O: Origin, T>(
     found: Result<Result<T, BadChain>, StoreFault>,
 ) -> Result<T, StoreFault>
     requires going { OnOk found (store.old.stopped ≡ false) }
-    ensures told { IsTrue D.tells → IsSoundImage O.first → TellsFound (damage_told D.Disk store.new) found result }
+    ensures told { TellsFound (IsTrue D.tells × IsSoundImage O.first) (damage_told D.Disk store.new) found result }
     // It goes on from what those calls left.
     ensures leaves { (a : View D) → LeavesPage O.first D.Disk a store.old found → ReadsPages O.first D.Disk a store.new result }
 {

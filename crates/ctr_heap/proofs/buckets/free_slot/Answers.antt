@@ -10,11 +10,11 @@ pub returns-clause-ends : goal.returns-clause-ends
 returns-clause-ends g c = λ told sound.
     let s = c.args.store.now.now in
     let e = c.search_bucket-found.ensures in
-    told_ends (damage_told g.D.Disk c.tell.new.store) (EndsBucket s.counted (pages_in s) c.args.entry c.args.bucket Free) c.search_bucket-found.result c.tell.result (c.tell.ensures.told told sound) (e.leaves.refused told sound) (e.ends told sound)
+    told_ends (damage_told g.D.Disk c.tell.new.store) (EndsBucket s.counted (pages_in s) c.args.entry c.args.bucket Free) c.search_bucket-found.result c.tell.result c.tell.ensures.told (told, sound) (e.leaves.refused told sound) (e.ends told sound)
 
 pub returns-clause-finds : goal.returns-clause-finds
 returns-clause-finds g c = λ told sound readable.
     let s = c.args.store.now.now in
     let e = c.search_bucket-found.ensures in
-    told_ok (damage_told g.D.Disk c.tell.new.store) (FindsFree (area_in s) c.args.entry c.args.bucket) c.search_bucket-found.result c.tell.result (c.tell.ensures.told told sound)
+    told_ok _ (damage_told g.D.Disk c.tell.new.store) (FindsFree (area_in s) c.args.entry c.args.bucket) c.search_bucket-found.result c.tell.result c.tell.ensures.told
     (free_is_found s.counted (pages_in s) c.args.entry readable c.requires.counted.1 c.args.bucket c.search_bucket-found.result (e.ends told sound))
