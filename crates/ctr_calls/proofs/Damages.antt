@@ -8,7 +8,7 @@ use Rattle.ctr_disk.specs.declared.fault.StoreFault.TheVariants.{Fault, Damaged}
 use Rattle.ctr_base.specs.Base.{IsSoundImage}
 use Rattle.ctr_home.specs.Reading.{IsFaultOr}
 use Rattle.ctr_store.specs.Store.{View, LeavesPage}
-use Rattle.ctr_calls.specs.Damage.{EndsTold, TellsFound, IsDamage, ReadsPages}
+use Rattle.ctr_calls.specs.Damage.{EndsTold, TellsFound, ReadsPages}
 use Rattle.ctr_calls.proofs.Joins.{fails_with, answers_err, pages_join}
 
 -- damage is told so
@@ -37,21 +37,22 @@ told_ok Known told P (Ok (Err bad)) result (e, is, why) holds = subst (λ r. IfO
 told_ok Known told P (Err e) result is holds = subst (λ r. IfOk r P) (sym is) tt
 
 module _ {D : Type 0} (first : Image) (g : Ghosts D) where
-  -- an answer is no damage
-  pub reads_ok : {T : Type 0} (x : T) (a b : View D) → ReadsPages {T = T} first g a b (Ok x) → LeavesPage {T = T} first g a b (Ok x)
-  reads_ok x a b (inl read) = read
-  reads_ok x a b (inr (is, read)) = absurd is
+  -- what a reading leaves
+  pub reads : {T : Type 0} (result : Result T StoreFault) (a b : View D) → LeavesPage {T = T} first g a b result → ReadsPages {T = T} first g a b result
+  reads (Ok x) a b read = read
+  reads (Err Fault) a b read = read
+  reads (Err (Damaged file at want got)) a b read = inl read
 
   -- what damage or a fault leaves doesn't depend on what else might be answered
-  pub reads_err : {S T : Type 0} (e : StoreFault) (a b : View D) → ReadsPages {T = S} first g a b (Err e) → ReadsPages {T = T} first g a b (Err e)
-  reads_err {S} {T} e a b (inl read) = inl (answers_err first g {S = S} {T = T} e a b read)
-  reads_err {S} {T} e a b (inr (is, read)) = inr (damage e is, read)
-    where
-      damage : (y : StoreFault) → IsDamage (fails_with S y) → IsDamage (fails_with T y)
-      damage Fault is = is
-      damage (Damaged file at want got) is = tt
+  pub reads_err : (S T : Type 0) (e : StoreFault) (a b : View D) → ReadsPages {T = S} first g a b (Err e) → ReadsPages {T = T} first g a b (Err e)
+  reads_err S T Fault a b read = answers_err first g {S = S} {T = T} Fault a b read
+  reads_err S T (Damaged file at want got) a b (inl read) = inl (answers_err first g {S = S} {T = T} (Damaged file at want got) a b read)
+  reads_err S T (Damaged file at want got) a b (inr read) = inr read
 
   -- a call that reads pages, behind a page that was read
-  pub reads_behind : {S T : Type 0} (x : S) (a b c : View D) (e : StoreFault) → LeavesPage {T = S} first g a b (Ok x) → ReadsPages {T = ⊤} first g b c (Err e) → ReadsPages {T = T} first g a c (Err e)
-  reads_behind {S} {T} x a b c e one (inl two) = reads_err {S = ⊤} {T = T} e a c (inl (pages_join g a b c first S ⊤ x (Err e) one two))
-  reads_behind {S} {T} x a b c e one (inr (is, two)) = reads_err {S = ⊤} {T = T} e a c (inr (is, pages_join g a b c first S ⊤ x (Ok tt) one two))
+  pub reads_behind : {S : Type 0} (T : Type 0) (x : S) (a b c : View D) (e : StoreFault) → LeavesPage {T = S} first g a b (Ok x) → ReadsPages {T = ⊤} first g b c (Err e) → ReadsPages {T = T} first g a c (Err e)
+  reads_behind {S} T x a b c Fault one two = reads_err ⊤ T Fault a c (pages_join g a b c first S ⊤ x (Err Fault) one two)
+  reads_behind {S} T x a b c (Damaged file at want got) one (inl two) =
+      reads_err ⊤ T (Damaged file at want got) a c (inl (pages_join g a b c first S ⊤ x (Err (Damaged file at want got)) one two))
+  reads_behind {S} T x a b c (Damaged file at want got) one (inr two) =
+      reads_err ⊤ T (Damaged file at want got) a c (inr (pages_join g a b c first S ⊤ x (Ok tt) one two))

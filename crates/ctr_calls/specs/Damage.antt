@@ -43,15 +43,12 @@ TellsFound Known told (Ok (Err bad)) result =
     (e : StoreFault) × (result ≡ Err e) × (Known → (e ≡ Fault) ⊎ (e ≡ told bad))
 TellsFound Known told (Err e) result = result ≡ Err e
 
--- it is damage
-abbrev pub IsDamage : {T : Type 0} → Result T StoreFault → Type 0
-IsDamage (Ok x) = ⊥
-IsDamage (Err Fault) = ⊥
-IsDamage (Err (Damaged file at want got)) = Unit {0}
-
--- What a call leaves that reads pages. Where it tells damage that it has found there, pages were read,
--- and the store goes on.
+-- What a call leaves that reads pages. Where it tells damage, that is one that reading was answered; or it
+-- was found on a page that was read, and the store goes on.
 abbrev pub ReadsPages : {D T : Type 0} → Image → Ghosts D → View D → View D → Result T StoreFault
     → Type 0
-ReadsPages first g a b result =
-    LeavesPage first g a b result ⊎ (IsDamage result × LeavesPage {T = ⊤} first g a b (Ok tt))
+ReadsPages first g a b (Ok x) = LeavesPage first g a b (Ok x)
+ReadsPages {T} first g a b (Err Fault) = LeavesPage {T = T} first g a b (Err Fault)
+ReadsPages {T} first g a b (Err (Damaged file at want got)) =
+    LeavesPage {T = T} first g a b (Err (Damaged file at want got))
+    ⊎ LeavesPage {T = ⊤} first g a b (Ok tt)
