@@ -1,12 +1,10 @@
 -- What calls have found on pages, and how it is told.
-use Rattle.std.proofs.Common.{◌≡◌, ◌⊎◌, inl, inr, ⊎_elim, Result, Ok, Err, refl, sym, ◌∙◌, ap, subst}
-use Rattle.std.specs.Prelude.{IfOk, OnErr, IsTrue, ⊤}
+use Rattle.std.proofs.Common.{◌≡◌, inl, inr, ⊎_elim, Result, Ok, Err, sym, ◌∙◌, ap, subst}
+use Rattle.std.specs.Prelude.{IfOk, OnErr, ⊤}
 use Rattle.ctr_disk.specs.declared.disk.Disk.{Ghosts}
 use Rattle.ctr_disk.specs.declared.disk.Image.{Image}
 use Rattle.ctr_disk.specs.declared.fault.StoreFault.{StoreFault}
 use Rattle.ctr_disk.specs.declared.fault.StoreFault.TheVariants.{Fault, Damaged}
-use Rattle.ctr_base.specs.Base.{IsSoundImage}
-use Rattle.ctr_home.specs.Reading.{IsFaultOr}
 use Rattle.ctr_store.specs.Store.{View, LeavesPage}
 use Rattle.ctr_calls.specs.Damage.{EndsTold, TellsFound, ReadsPages}
 use Rattle.ctr_calls.proofs.Joins.{fails_with, answers_err, pages_join}

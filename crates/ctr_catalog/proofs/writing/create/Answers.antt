@@ -1,4 +1,4 @@
-use Rattle.std.proofs.Common.{inl, inr, ◌≡◌, Option, None, Some, Ok, Err, Result, ℕ, List, subst}
+use Rattle.std.proofs.Common.{inl, inr, Some, Ok, Err, Result, subst}
 use Rattle.std.specs.Prelude.{IsTrue, ⊤}
 use Rattle.ctr_disk.specs.declared.fault.StoreFault.{StoreFault}
 use Rattle.ctr_records.specs.declared.record.Record.{Record}
