@@ -1,5 +1,5 @@
 -- What may be logged where there is room for one record more.
-use Rattle.std.proofs.Common.{◌≡◌, ℕ, ◌+◌, ◌-◌, ◌/◌, ◌^◌, ◌<◌, ◌≤◌, List, [], ◌∷◌, length, refl, arith}
+use Rattle.std.proofs.Common.{ℕ, ◌+◌, ◌/◌, ◌^◌, ◌<◌, ◌≤◌, refl, arith}
 use Rattle.ctr_changes.specs.Changing.{alloc_record, free_record}
 use Rattle.ctr_store.specs.Store.{View, MayLog}
 use Rattle.ctr_calls.specs.OneRecord.{HasRoomForOne}

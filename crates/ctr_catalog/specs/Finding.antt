@@ -8,11 +8,12 @@ use Rattle.ctr_page.specs.declared.table.TheConstants.{ENTRY_SIZE}
 use Rattle.ctr_page.specs.Columns.{entry_at}
 use Rattle.ctr_page.specs.Damage.{entry_check}
 use Rattle.ctr_page.specs.Searching.{PassesBy, EndsSearch}
+use Rattle.ctr_page.specs.declared.walk.BadChain.{BadChain}
+use Rattle.ctr_page.specs.declared.walk.BadChain.TheVariants.{OnPage, TooLong}
 use Rattle.ctr_area.specs.Areas.{Title, Area}
 use Rattle.ctr_area.specs.Reading.{title_of}
 use Rattle.ctr_area.specs.Images.{is_live}
 use Rattle.ctr_catalog.specs.declared.finding.MadeBy.{MadeBy}
-use Rattle.ctr_catalog.specs.declared.store.BadEntry.{BadEntry}
 
 -- ---- an entry
 
@@ -78,12 +79,14 @@ checks_at counted pages e = entry_check counted (ENTRY_SIZE * (e % 16)) (pages (
 
 -- Where a search through all entries ends: at the first that is sought, or none is; or at the damage of
 -- the first that fails its check, on its page.
-abbrev pub EndsEntries : (ℕ → Result ⊤ BadRecord) → (ℕ → Bool) → Result (Option ℕ) BadEntry → Type 0
+abbrev pub EndsEntries : (ℕ → Result ⊤ BadRecord) → (ℕ → Bool) → Result (Option ℕ) BadChain → Type 0
 EndsEntries check sought (Ok found) = EndsSearch check sought 0 32 (Ok found)
-EndsEntries check sought (Err b) =
-    (e : ℕ) × (e < 32) × PassesBy check sought 0 e × (check e ≡ Err b.bad) × (b.page ≡ 1 + e / 16)
+EndsEntries check sought (Err (OnPage q bad)) =
+    (e : ℕ) × (e < 32) × PassesBy check sought 0 e × (check e ≡ Err bad) × (q ≡ 1 + e / 16)
+EndsEntries check sought (Err (TooLong last most)) = ⊥
 
 -- what is said of one entry: its damage, on its page; or it passes, and this is so
-abbrev pub EndsEntry : {A : Type 0} → Result ⊤ BadRecord → A → ℕ → Result A BadEntry → Type 0
+abbrev pub EndsEntry : {A : Type 0} → Result ⊤ BadRecord → A → ℕ → Result A BadChain → Type 0
 EndsEntry check is e (Ok x) = (check ≡ Ok tt) × (x ≡ is)
-EndsEntry check is e (Err b) = (check ≡ Err b.bad) × (b.page ≡ 1 + e / 16)
+EndsEntry check is e (Err (OnPage q bad)) = (check ≡ Err bad) × (q ≡ 1 + e / 16)
+EndsEntry check is e (Err (TooLong last most)) = ⊥

@@ -1,30 +1,34 @@
 -- What makes a table leaves, and what undoes an item of the secondary log.
-use Rattle.std.specs.Prelude.{◌≢◌, ℕ, ◌<◌, false, List, ⊤, None, Some, Result, Ok, Err}
+use Rattle.std.specs.Prelude.{◌≢◌, ◌⊎◌, ℕ, false, List, ⊤, None, Some, Result, Ok, Err}
 use Rattle.ctr_disk.specs.declared.disk.Disk.{Ghosts}
 use Rattle.ctr_disk.specs.declared.disk.Image.{Image}
+use Rattle.ctr_disk.specs.declared.fault.StoreFault.{StoreFault}
 use Rattle.ctr_records.specs.declared.record.Record.{Record}
 use Rattle.ctr_records.specs.declared.record.SlogItem.{SlogItem}
 use Rattle.ctr_records.specs.declared.record.SlogItem.TheVariants.{AllocOf, FreeOf, CreateOf, DropOf}
 use Rattle.ctr_page.specs.Searching.{IsFirst}
+use Rattle.ctr_page.specs.declared.walk.BadChain.{BadChain}
 use Rattle.ctr_area.specs.Areas.{Area}
 use Rattle.ctr_area.specs.Reading.{area_of}
 use Rattle.ctr_area.specs.Changes.{with_taken, with_title}
 use Rattle.ctr_store.specs.Store.{View, LeavesPage}
 use Rattle.ctr_calls.specs.OneRecord.{LogsOne}
+use Rattle.ctr_calls.specs.Damage.{EndsTold, ReadsPages}
 use Rattle.ctr_changes.specs.Changing.{free_record, uncreate_record, undrop_record}
 use Rattle.ctr_catalog.specs.declared.writing.CatalogRefusal.{CatalogRefusal}
-use Rattle.ctr_catalog.specs.declared.writing.CatalogRefusal.TheVariants.{CatalogFull, Damaged, Store}
+use Rattle.ctr_catalog.specs.declared.writing.CatalogRefusal.TheVariants.{CatalogFull, Store}
 use Rattle.ctr_catalog.specs.Free.{EndsCatalog, is_free_entry}
 
 -- ---- a new table
 
 -- Where the making of a table ends, by the entries of the catalog: it has the lowest free one; or none
--- is free; or one is damaged; or the disk failed, of which they say nothing.
-abbrev pub EndsMaking : ℕ → (ℕ → List ℕ) → Result ℕ CatalogRefusal → Type 0
-EndsMaking counted pages (Ok e) = IsFirst (is_free_entry (area_of pages)) 0 32 (Some e)
-EndsMaking counted pages (Err CatalogFull) = IsFirst (is_free_entry (area_of pages)) 0 32 None
-EndsMaking counted pages (Err (Damaged bad)) = EndsCatalog counted pages (Err bad)
-EndsMaking counted pages (Err (Store cause)) = Unit {0}
+-- is free; or one is damaged, as that is told; or there is a free one and its record was refused.
+abbrev pub EndsMaking : (BadChain → StoreFault) → ℕ → (ℕ → List ℕ) → Result ℕ CatalogRefusal → Type 0
+EndsMaking told counted pages (Ok e) = IsFirst (is_free_entry (area_of pages)) 0 32 (Some e)
+EndsMaking told counted pages (Err CatalogFull) = IsFirst (is_free_entry (area_of pages)) 0 32 None
+EndsMaking told counted pages (Err (Store cause)) =
+    EndsTold told (EndsCatalog counted pages) (Err cause)
+    ⊎ ((e : ℕ) × IsFirst (is_free_entry (area_of pages)) 0 32 (Some e))
 
 -- Its record is logged, by the entry; where no entry is free, or one is damaged, pages were read; where
 -- the store refused, nothing is logged.
@@ -32,9 +36,8 @@ abbrev pub MakesTable : {D : Type 0} → Image → Ghosts D → (ℕ → Record)
     → Result ℕ CatalogRefusal → Type 0
 MakesTable first g made a b (Ok e) = LogsOne {T = ℕ} first g (made e) a b (Ok e)
 MakesTable first g made a b (Err CatalogFull) = LeavesPage {T = ⊤} first g a b (Ok tt)
-MakesTable first g made a b (Err (Damaged bad)) = LeavesPage {T = ⊤} first g a b (Ok tt)
-MakesTable first g made a b (Err (Store cause)) =
-    (e : ℕ) × LogsOne {T = ℕ} first g (made e) a b (Err cause)
+MakesTable first g made a b (Err (Store cause)) = ReadsPages {T = ℕ} first g a b (Err cause)
+    ⊎ ((e : ℕ) × LogsOne {T = ℕ} first g (made e) a b (Err cause))
 
 -- ---- an item
 

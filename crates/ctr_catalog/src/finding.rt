@@ -5,15 +5,16 @@ ghost use Rattle.ctr_page.specs.declared.table.TheConstants.{PAGE_SIZE};
 ghost use Rattle.ctr_store.specs.Store.{LeavesPage};
 ghost use Rattle.ctr_changes.specs.States.{pages_in, area_in};
 ghost use Rattle.ctr_snap.specs.Seeing.{is_committed as has_committed};
+ghost use Rattle.ctr_calls.specs.Damage.{damage_told, EndsTold, ReadsPages};
 ghost use Rattle.ctr_catalog.specs.Finding.{NamedSaid, xid_is_seen, xid_is_changed, stands_seen, change_since, is_made_so, change_made, checks_at, entry_seen, changed_in, EndsEntries, EndsEntry};
 
 use crate::entries::is_live_of;
-use crate::store::BadEntry;
 use crate::writing::page_of;
 use ctr_base::Origin;
+use ctr_calls::tell;
 use ctr_disk::{Disk, StoreFault};
 use ctr_meta::Meta;
-use ctr_page::{BadPage, check_entry, read_entry};
+use ctr_page::{BadChain, BadPage, check_entry, read_entry};
 use ctr_snap::Snapshot;
 use ctr_store::Store;
 use ctr_types::{Fate, Name, Xid};
@@ -125,14 +126,13 @@ fn change_found(meta: &Meta, snapshot: &Snapshot, found: Option<MadeBy>) -> Opti
     }
 }
 
-/// The table of a name that a snapshot sees, by its entry of the catalog: the first live entry of the name whose creator it sees, and
-/// whose dropper it doesn't. Each entry is checked as it is read. It logs nothing, and takes no memory.
-pub fn find<D: Disk, O: Origin>(
+/// The first live entry of a name whose creator a snapshot sees, and whose dropper it doesn't. Each is checked as it is read.
+fn search_entries<D: Disk, O: Origin>(
     store: &mut Store<D, O>,
     name: &Name,
     snapshot: &Snapshot,
     me: Option<Xid>,
-) -> Result<Result<Option<u8>, BadEntry>, StoreFault>
+) -> Result<Result<Option<u8>, BadChain>, StoreFault>
     requires going { store.old.stopped ≡ false }
     requires some { 0 < store.old.now.counted }
     ensures ends { IsTrue D.tells → IsSoundImage O.first
@@ -142,10 +142,7 @@ pub fn find<D: Disk, O: Origin>(
     let counted = store.counted();
     for entry in 0..32 {
         let found = match named_at(store, name, entry, counted)? {
-            Err(bad) => {
-                let page = page_of(entry);
-                return Ok(Err(BadEntry { page, bad }));
-            }
+            Err(bad) => return Ok(Err(BadChain::OnPage(page_of(entry), bad))),
             Ok(found) => found,
         };
         if is_sought(store.meta(), snapshot, me, found) {
@@ -155,14 +152,32 @@ pub fn find<D: Disk, O: Origin>(
     Ok(Ok(None))
 }
 
-/// Who changed the table of a name that an entry is, so that a snapshot doesn't see it: who dropped it, or else who made it, where this
-/// transaction is committed. None where the entry isn't a live one of the name. It logs nothing, and takes no memory.
-pub fn changed<D: Disk, O: Origin>(
+/// The table of a name that a snapshot sees, by its entry of the catalog: the first live entry of the name whose creator it sees, and
+/// whose dropper it doesn't. Each entry is checked as it is read; damage is told where it stands in the file of pages. It logs
+/// nothing, and takes no memory.
+pub fn find<D: Disk, O: Origin>(
+    store: &mut Store<D, O>,
+    name: &Name,
+    snapshot: &Snapshot,
+    me: Option<Xid>,
+) -> Result<Option<u8>, StoreFault>
+    requires going { store.old.stopped ≡ false }
+    requires some { 0 < store.old.now.counted }
+    ensures ends { IsTrue D.tells → IsSoundImage O.first
+        → EndsTold (damage_told D.Disk store.new) (EndsEntries (checks_at store.old.now.counted (pages_in store.old.now)) (entry_seen store.old.meta.tables snapshot.now me name.now (area_in store.old.now))) result }
+    ensures leaves { ReadsPages O.first D.Disk store.old store.new result }
+{
+    let found = search_entries(store, name, snapshot, me);
+    tell(store, found)
+}
+
+/// Who changed the table of a name that an entry is since a snapshot was taken. The entry is checked.
+fn change_of<D: Disk, O: Origin>(
     store: &mut Store<D, O>,
     entry: u8,
     name: &Name,
     snapshot: &Snapshot,
-) -> Result<Result<Option<Xid>, BadEntry>, StoreFault>
+) -> Result<Result<Option<Xid>, BadChain>, StoreFault>
     requires going { store.old.stopped ≡ false }
     requires some { 0 < store.old.now.counted }
     requires there { entry < 32 }
@@ -172,10 +187,27 @@ pub fn changed<D: Disk, O: Origin>(
 {
     let counted = store.counted();
     match named_at(store, name, entry, counted)? {
-        Err(bad) => {
-            let page = page_of(entry);
-            Ok(Err(BadEntry { page, bad }))
-        }
+        Err(bad) => Ok(Err(BadChain::OnPage(page_of(entry), bad))),
         Ok(found) => Ok(Ok(change_found(store.meta(), snapshot, found))),
     }
+}
+
+/// Who changed the table of a name that an entry is, so that a snapshot doesn't see it: who dropped it, or else who made it, where this
+/// transaction is committed. None where the entry isn't a live one of the name; damage is told where it stands in the file of pages.
+/// It logs nothing, and takes no memory.
+pub fn changed<D: Disk, O: Origin>(
+    store: &mut Store<D, O>,
+    entry: u8,
+    name: &Name,
+    snapshot: &Snapshot,
+) -> Result<Option<Xid>, StoreFault>
+    requires going { store.old.stopped ≡ false }
+    requires some { 0 < store.old.now.counted }
+    requires there { entry < 32 }
+    ensures ends { IsTrue D.tells → IsSoundImage O.first
+        → EndsTold (damage_told D.Disk store.new) (EndsEntry (checks_at store.old.now.counted (pages_in store.old.now) entry) (changed_in store.old.meta.tables snapshot.now name.now (area_in store.old.now) entry) entry) result }
+    ensures leaves { ReadsPages O.first D.Disk store.old store.new result }
+{
+    let found = change_of(store, entry, name, snapshot);
+    tell(store, found)
 }

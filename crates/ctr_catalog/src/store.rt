@@ -5,29 +5,22 @@ ghost use Rattle.ctr_store.specs.Store.{LeavesPage};
 ghost use Rattle.ctr_page.specs.Searching.{IsFirst};
 ghost use Rattle.ctr_area.specs.Reading.{area_of};
 ghost use Rattle.ctr_changes.specs.States.{pages_in};
+ghost use Rattle.ctr_calls.specs.Damage.{damage_told, EndsTold, ReadsPages};
 ghost use Rattle.ctr_catalog.specs.Free.{EndsOn, EndsCatalog, is_free_entry};
 
 use crate::entries::{ENTRIES_ON_PAGE, find_free};
 use ctr_base::Origin;
+use ctr_calls::tell;
 use ctr_disk::{Disk, StoreFault};
-use ctr_page::BadPage;
+use ctr_page::{BadChain, BadPage};
 use ctr_records::PageNo;
 use ctr_store::Store;
 
 /// The bytes of a page.
 const PAGE: usize = 4096;
 
-/// What is wrong on a page of the catalog.
-#[derive(Clone, Copy, Debug, PartialEq, Eq)]
-pub struct BadEntry {
-    /// The page.
-    pub page: PageNo,
-    /// What is wrong on it.
-    pub bad: BadPage,
-}
-
 /// The lowest free entry on a page of the catalog.
-fn free_in(page: PageNo, counted: u32, bytes: &[u8]) -> Result<Option<u8>, BadEntry>
+fn free_in(page: PageNo, counted: u32, bytes: &[u8]) -> Result<Option<u8>, BadChain>
     requires some { 0 < counted }
     ensures ends { EndsOn counted page bytes.now result }
     ensures few { IfOk result (λ found. IfSome found (λ n. n < ENTRIES_ON_PAGE)) }
@@ -38,11 +31,11 @@ fn free_in(page: PageNo, counted: u32, bytes: &[u8]) -> Result<Option<u8>, BadEn
             want: PAGE as u128,
             got: bytes.len() as u128,
         };
-        return Err(BadEntry { page, bad });
+        return Err(BadChain::OnPage(page, bad));
     }
     match find_free(counted, bytes) {
         Ok(found) => Ok(found),
-        Err(bad) => Err(BadEntry { page, bad }),
+        Err(bad) => Err(BadChain::OnPage(page, bad)),
     }
 }
 
@@ -51,7 +44,7 @@ fn free_on<D: Disk, O: Origin>(
     store: &mut Store<D, O>,
     page: PageNo,
     counted: u32,
-) -> Result<Result<Option<u8>, BadEntry>, StoreFault>
+) -> Result<Result<Option<u8>, BadChain>, StoreFault>
     requires going { store.old.stopped ≡ false }
     requires some { 0 < counted }
     requires there { page < 3 }
@@ -63,11 +56,10 @@ fn free_on<D: Disk, O: Origin>(
     Ok(free_in(page, counted, bytes))
 }
 
-/// The lowest free entry of the catalog, or none; or the damage of the first entry that fails its checks. It logs
-/// nothing, and takes no memory.
-pub fn free_entry<D: Disk, O: Origin>(
+/// The lowest free entry of the catalog, or none; or the damage of the first entry that fails its checks.
+fn search_free<D: Disk, O: Origin>(
     store: &mut Store<D, O>,
-) -> Result<Result<Option<u8>, BadEntry>, StoreFault>
+) -> Result<Result<Option<u8>, BadChain>, StoreFault>
     requires going { store.old.stopped ≡ false }
     requires some { 0 < store.old.now.counted }
     ensures ends { IsTrue D.tells → IsSoundImage O.first → IfOk result (λ r. EndsCatalog store.old.now.counted (pages_in store.old.now) r) }
@@ -85,6 +77,19 @@ pub fn free_entry<D: Disk, O: Origin>(
         Ok(Some(entry)) => Ok(Ok(Some(ENTRIES_ON_PAGE + entry))),
         Err(bad) => Ok(Err(bad)),
     }
+}
+
+/// The lowest free entry of the catalog, or none; or the damage of the first entry that fails its checks, told where it stands
+/// in the file of pages. It logs nothing, and takes no memory.
+pub fn free_entry<D: Disk, O: Origin>(store: &mut Store<D, O>) -> Result<Option<u8>, StoreFault>
+    requires going { store.old.stopped ≡ false }
+    requires some { 0 < store.old.now.counted }
+    ensures ends { IsTrue D.tells → IsSoundImage O.first → EndsTold (damage_told D.Disk store.new) (EndsCatalog store.old.now.counted (pages_in store.old.now)) result }
+    ensures few { IfOk result (λ found. IfSome found (λ n. n < 32)) }
+    ensures leaves { ReadsPages O.first D.Disk store.old store.new result }
+{
+    let found = search_free(store);
+    tell(store, found)
 }
 
 /// The search that ends without damage has found the lowest free entry of the area, or there is none.

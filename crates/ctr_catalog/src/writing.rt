@@ -10,9 +10,10 @@ ghost use Rattle.ctr_calls.specs.OneRecord.{HasRoomForOne, LogsOne};
 ghost use Rattle.ctr_changes.specs.States.{pages_in, area_in};
 ghost use Rattle.ctr_changes.specs.Changing.{create_record, drop_record, uncreate_record, undrop_record};
 ghost use Rattle.ctr_records.specs.Members.{ItemFits};
+ghost use Rattle.ctr_calls.specs.Damage.{damage_told};
 ghost use Rattle.ctr_catalog.specs.Writing.{EndsMaking, MakesTable, undo_record, HasMade, area_undone};
 
-use crate::store::{BadEntry, free_entry};
+use crate::store::free_entry;
 use ctr_alloc::free;
 use ctr_base::Origin;
 use ctr_bytes::put_u64;
@@ -32,9 +33,7 @@ use ctr_types::{Name, Schema, Xid};
 pub enum CatalogRefusal {
     /// No entry of the catalog is free.
     CatalogFull,
-    /// An entry of the catalog is damaged.
-    Damaged(BadEntry),
-    /// The store refused.
+    /// The store refused, or an entry of the catalog is damaged.
     Store(StoreFault),
 }
 
@@ -107,7 +106,7 @@ pub fn create<D: Disk, O: Origin>(
     requires counted { 2 < store.old.now.counted }
     requires fits { ColumnsFit schema.now.columns }
     // CatalogFull comes exactly where no entry is free.
-    ensures ends { IsTrue D.tells → IsSoundImage O.first → EndsMaking store.old.now.counted (pages_in store.old.now) result }
+    ensures ends { IsTrue D.tells → IsSoundImage O.first → EndsMaking (damage_told D.Disk store.new) store.old.now.counted (pages_in store.old.now) result }
     ensures one { MakesTable O.first D.Disk (λ e. create_record x e name.now schema.now.columns) store.old store.new result }
     // The entry has the title of the new table and no page; other entries and what stands on their pages stay.
     ensures made { IsTrue D.tells → IsSoundImage O.first
@@ -116,9 +115,8 @@ pub fn create<D: Disk, O: Origin>(
     a_record_behind_a_page::<D, (), u8>();
     let entry = match free_entry(store) {
         Err(fault) => return Err(CatalogRefusal::Store(fault)),
-        Ok(Err(bad)) => return Err(CatalogRefusal::Damaged(bad)),
-        Ok(Ok(None)) => return Err(CatalogRefusal::CatalogFull),
-        Ok(Ok(Some(entry))) => entry,
+        Ok(None) => return Err(CatalogRefusal::CatalogFull),
+        Ok(Some(entry)) => entry,
     };
     match log_created(store, x, entry, name, schema) {
         Ok(()) => Ok(entry),

@@ -146,14 +146,10 @@ fn told_random(
     let Some((count, seen)) = seen else {
         return format!(in alloc; "not run");
     };
-    let wrong = seen.wrong;
     if seen.fewest == 0 && seen.most == count && count >= steps / 4 {
-        return format!(in alloc; "{wrong} wrong, none to all records");
+        return format!(in alloc; "{} wrong, none to all records", seen.wrong);
     }
-    format!(in alloc;
-        "{wrong} wrong, {} to {} of {count} records",
-        seen.fewest, seen.most
-    )
+    told_steps(alloc, Some((count, seen)))
 }
 
 // What was seen of runs of which each call fails once.

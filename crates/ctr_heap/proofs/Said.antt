@@ -96,6 +96,11 @@ bounded : (counted : ℕ) → counted ≤ 30000 → counted ≤ pages_bound
 unfolding pages_bound
 bounded counted few = few
 
+-- the search for a key ends in the key's bucket
+pub key_ends : {E : Type 0} (counted : ℕ) (pages : ℕ → List ℕ) (e : ℕ) (key k : ℤ) (bucket : ℕ) (result : Result (Result (Option Place) BadChain) E) → k ≡ key → bucket ≡ bucket_of k → IfOk result (λ r. EndsBucket counted pages e bucket (Key k) r)
+    → IfOk result (EndsBucket counted pages e (bucket_of key) (Key key))
+key_ends counted pages e key k bucket result same is ends = subst (λ z. IfOk result (EndsBucket counted pages e (bucket_of z) (Key z))) same (subst (λ b. IfOk result (EndsBucket counted pages e b (Key k))) is ends)
+
 module _ (counted : ℕ) (pages : ℕ → List ℕ) (e : ℕ) (readable : AreReadable (area_of pages)) (few : counted ≤ 30000) where
   key_finds : (key : ℤ) (r : Result (Option Place) BadChain) → EndsBucket counted pages e (bucket_of key) (Key key) r → IfOk r (FindsKey (area_of pages) e key)
   key_finds key (Err bad) ends = tt

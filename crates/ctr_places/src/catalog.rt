@@ -95,7 +95,6 @@ fn make_table(store: &mut Mem, x: u64, name: &Name, schema: &Schema) -> Result<T
     match create(store, x, name, schema) {
         Ok(entry) => Ok(Told::Number(entry as u64)),
         Err(CatalogRefusal::CatalogFull) => Ok(Told::CatalogFull),
-        Err(CatalogRefusal::Damaged(bad)) => Ok(Told::entry(bad)),
         Err(CatalogRefusal::Store(fault)) => Err(fault),
     }
 }
@@ -178,9 +177,8 @@ pub fn named(
         return Ok(Told::NotAsked);
     }
     match find(store, &name, snapshot, me)? {
-        Ok(Some(entry)) => Ok(Told::Number(entry as u64)),
-        Ok(None) => Ok(Told::None),
-        Err(bad) => Ok(Told::entry(bad)),
+        Some(entry) => Ok(Told::Number(entry as u64)),
+        None => Ok(Told::None),
     }
 }
 
@@ -202,8 +200,7 @@ pub fn changer(
         return Ok(Told::NotAsked);
     }
     match changed(store, entry, &name, snapshot)? {
-        Ok(Some(x)) => Ok(Told::Number(x)),
-        Ok(None) => Ok(Told::None),
-        Err(bad) => Ok(Told::entry(bad)),
+        Some(x) => Ok(Told::Number(x)),
+        None => Ok(Told::None),
     }
 }

@@ -74,9 +74,8 @@ pub fn found(store: &mut Mem, entry: u8, key: i64) -> Result<Told, StoreFault>
         return Ok(Told::NotAsked);
     }
     match find(store, entry, key)? {
-        Ok(Some(place)) => Ok(Told::At(place)),
-        Ok(None) => Ok(Told::None),
-        Err(bad) => Ok(Told::chain(bad)),
+        Some(place) => Ok(Told::At(place)),
+        None => Ok(Told::None),
     }
 }
 
@@ -89,9 +88,8 @@ pub fn room(store: &mut Mem, entry: u8, bucket: u8) -> Result<Told, StoreFault>
         return Ok(Told::NotAsked);
     }
     match free_slot(store, entry, bucket)? {
-        Ok(Some(place)) => Ok(Told::At(place)),
-        Ok(None) => Ok(Told::None),
-        Err(bad) => Ok(Told::chain(bad)),
+        Some(place) => Ok(Told::At(place)),
+        None => Ok(Told::None),
     }
 }
 

@@ -3,13 +3,12 @@ ghost use Rattle.std.specs.Prelude.{◌≡◌, ◌≤◌, false, IsTrue, IfOk, O
 ghost use Rattle.ctr_calls.specs.OneRecord.{HasRoomForOne};
 
 use ctr_calls::log_record;
-use ctr_catalog::BadEntry;
 use ctr_disk::{SilentDisk, StoreFault};
-use ctr_page::{BadChain, BadPage, Place};
+use ctr_page::Place;
 use ctr_records::Record;
 use ctr_snap::Snapshot;
 use ctr_store::Store;
-use ctr_types::OutOfMemory;
+use ctr_types::{File, OutOfMemory};
 use std::alloc::{AllocError, Global};
 use std::marker::Brand;
 
@@ -33,25 +32,10 @@ pub enum Told {
     CatalogFull,
     At(Place),
     None,
-    Bad(u32, BadPage),
-    TooLong(u32, u32),
     Fault(StoreFault),
 }
 
 impl Told {
-    /// What is wrong with a chain.
-    pub fn chain(bad: BadChain) -> Told {
-        match bad {
-            BadChain::OnPage(page, bad) => Told::Bad(page, bad),
-            BadChain::TooLong { last, most } => Told::TooLong(last, most),
-        }
-    }
-
-    /// What is wrong with an entry of the catalog.
-    pub fn entry(bad: BadEntry) -> Told {
-        Told::Bad(bad.page, bad.bad)
-    }
-
     /// It in words.
     pub fn text(self, alloc: Global) -> Result<String, AllocError> {
         match self {
@@ -64,14 +48,15 @@ impl Told {
             Told::CatalogFull => format!(in alloc; "catalog full"),
             Told::At(place) => format!(in alloc; "{}.{}", place.page, place.slot),
             Told::None => format!(in alloc; "none"),
-            Told::Bad(page, bad) => {
-                format!(in alloc;
-                    "page {page} at {} wants {} has {}",
-                    bad.at, bad.want, bad.got
-                )
-            }
-            Told::TooLong(last, most) => format!(in alloc; "page {last} leads on beyond {most}"),
             Told::Fault(StoreFault::Fault) => format!(in alloc; "fault"),
+            Told::Fault(
+                StoreFault::Damaged {
+                    file: File::Pages,
+                    at,
+                    want,
+                    got,
+                },
+            ) => { format!(in alloc; "damage at {at} wants {want} has {got}") }
             Told::Fault(StoreFault::Damaged { want, got, .. }) => {
                 format!(in alloc; "damage wants {want} has {got}")
             }

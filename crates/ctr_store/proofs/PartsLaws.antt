@@ -191,6 +191,10 @@ module _ {D O : Type 0} (first : Image) (g : Ghosts D) where
     pub push_tables : tables_of (now_of g b).records ≡ effect r (tables_of (now_of g a).records)
     push_tables = ap tables_of records_are ∙ tables-push (now_of g a).records r
 
+    -- it waits behind the others, whatever the rest of the parts is
+    pub push_adds : (s t : Parts D O) → IsQuiet g a → AddsRecord g r (record s { base = a }) (record t { base = b })
+    push_adds s t quiet = record { waiting = waits; hardened = refl; root = refl; now = push_state quiet }
+
     -- what might be saved of a page that the record isn't on
     still_saves : (q since : ℕ) (v : PageHeld) → touches r q ≡ false → MaySave g a q since v → MaySave g b q since v
     still_saves q since v off may = record {

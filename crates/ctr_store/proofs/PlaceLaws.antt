@@ -20,7 +20,7 @@ use Rattle.ctr_base.specs.Homes.{FindsValue}
 use Rattle.ctr_base.specs.Base.{home_of, MayPut, StandsQuiet, LeavesIf, MovesIf, backing_of}
 use Rattle.ctr_base.specs.BaseLaws.{leaves_joined, moves_joined, read_leaves, read_moves, read_holds, read_rests, holds_if}
 use Rattle.ctr_store.specs.declared.parts.Parts.{Parts}
-use Rattle.ctr_store.specs.Parts.{IsFold, has_change, changed_among, is_listed, home_by, home_at}
+use Rattle.ctr_store.specs.Parts.{IsFold, has_change, changed_among, is_one_of, home_by, home_at}
 use Rattle.ctr_store.proofs.PartsLaws.{fold_moved, over_held, shows_held}
 
 none : (b : Bool) → (b && false) ≡ false
@@ -28,18 +28,18 @@ none true = refl
 none false = refl
 
 -- a page is listed as changed where its frame is
-listed : (fs gs : List Frame) (p : ℕ) → is_listed p (changed_among fs gs) ≡ has_page p gs && is_some (since_in p fs)
+listed : (fs gs : List Frame) (p : ℕ) → is_one_of p (changed_among fs gs) ≡ has_page p gs && is_some (since_in p fs)
 listed fs [] p = refl
 listed fs (f ∷ gs) p = let rest = listed fs gs p in ⊎_elim (λ w. here rest (has_change fs f) w.0 (ap (λ (q : ℕ). is_some (since_in q fs)) w.1)) (λ w. there rest (has_change fs f) w.0) (eqb_tells f.page p)
   where
-    here : is_listed p (changed_among fs gs) ≡ has_page p gs && is_some (since_in p fs) → (b : Bool) → (f.page == p) ≡ true → b ≡ is_some (since_in p fs)
-        → is_listed p (if b then f.page ∷ changed_among fs gs else changed_among fs gs) ≡ is_some (if f.page == p then Some f else frame_of p gs) && is_some (since_in p fs)
-    here rest true e same = ap (λ (x : Bool). x || is_listed p (changed_among fs gs)) e ∙ same ∙ sym (ap (λ (x : Bool). is_some (if x then Some f else frame_of p gs) && is_some (since_in p fs)) e)
+    here : is_one_of p (changed_among fs gs) ≡ has_page p gs && is_some (since_in p fs) → (b : Bool) → (f.page == p) ≡ true → b ≡ is_some (since_in p fs)
+        → is_one_of p (if b then f.page ∷ changed_among fs gs else changed_among fs gs) ≡ is_some (if f.page == p then Some f else frame_of p gs) && is_some (since_in p fs)
+    here rest true e same = ap (λ (x : Bool). x || is_one_of p (changed_among fs gs)) e ∙ same ∙ sym (ap (λ (x : Bool). is_some (if x then Some f else frame_of p gs) && is_some (since_in p fs)) e)
     here rest false e same = rest ∙ ap (λ (x : Bool). has_page p gs && x) (sym same) ∙ none (has_page p gs) ∙ same ∙ sym (ap (λ (x : Bool). is_some (if x then Some f else frame_of p gs) && is_some (since_in p fs)) e)
 
-    there : is_listed p (changed_among fs gs) ≡ has_page p gs && is_some (since_in p fs) → (b : Bool) → (f.page == p) ≡ false
-        → is_listed p (if b then f.page ∷ changed_among fs gs else changed_among fs gs) ≡ is_some (if f.page == p then Some f else frame_of p gs) && is_some (since_in p fs)
-    there rest true e = ap (λ (x : Bool). x || is_listed p (changed_among fs gs)) e ∙ rest ∙ sym (ap (λ (x : Bool). is_some (if x then Some f else frame_of p gs) && is_some (since_in p fs)) e)
+    there : is_one_of p (changed_among fs gs) ≡ has_page p gs && is_some (since_in p fs) → (b : Bool) → (f.page == p) ≡ false
+        → is_one_of p (if b then f.page ∷ changed_among fs gs else changed_among fs gs) ≡ is_some (if f.page == p then Some f else frame_of p gs) && is_some (since_in p fs)
+    there rest true e = ap (λ (x : Bool). x || is_one_of p (changed_among fs gs)) e ∙ rest ∙ sym (ap (λ (x : Bool). is_some (if x then Some f else frame_of p gs) && is_some (since_in p fs)) e)
     there rest false e = rest ∙ sym (ap (λ (x : Bool). is_some (if x then Some f else frame_of p gs) && is_some (since_in p fs)) e)
 
 module _ {D O : Type 0} (first : Image) (g : Ghosts D) (p : ℕ) (s : Parts D O) (f : Frame) (there : frame_of p s.pool.frames ≡ Some f) (over : IsOver (backing_of first g) s.pool.frames s.base) (inside : p < s.base.root.pages) (found : ℕ × ℕ) (finds : FindsValue p (g.reads s.base.disk) found) where
@@ -54,7 +54,7 @@ module _ {D O : Type 0} (first : Image) (g : Ghosts D) (p : ℕ) (s : Parts D O)
   )
   by_since (Some since) may = ((λ other. refl), (λ same. let above = may.above in absurd (omega (arith, above, home_lsn, same))))
 
-  seen : is_some f.since ≡ is_listed p (changed_among s.pool.frames s.pool.frames)
+  seen : is_some f.since ≡ is_one_of p (changed_among s.pool.frames s.pool.frames)
   seen = sym (listed s.pool.frames s.pool.frames p ∙ ap (λ (o : Option Frame). is_some o && is_some (change_of o)) there)
 
   both : (f.lsn ≢ found.1 → home_place (Page p) First ≡ home_at g p s) × (f.lsn ≡ found.1 → found.0 ≡ home_at g p s)
@@ -84,7 +84,7 @@ module _ {D O : Type 0} (first : Image) (g : Ghosts D) (m : Parts D O) (d : D) (
       fold_moved first g m t fold (λ sound. read_moves g m.base d reads) refl (shows_held first g m.pool.frames m.base t.base holds) (over_held first g m.pool.frames m.base t.base holds rests fold.over)
 
   pub read_home_at : (p : ℕ) → home_at g p m ≡ home_at g p t
-  read_home_at p = ap (home_by (is_listed p (changed_among m.pool.frames m.pool.frames)) m.base.root.pages p) (sym reads.same)
+  read_home_at p = ap (home_by (is_one_of p (changed_among m.pool.frames m.pool.frames)) m.base.root.pages p) (sym reads.same)
 
   module _ (s : Parts D O) (moves : MovesIf first g s.base m.base) where
     pub behind_moves : MovesIf first g s.base t.base

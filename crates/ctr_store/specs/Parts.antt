@@ -45,8 +45,8 @@ changed_among fs (f ∷ gs) =
     if has_change fs f then f.page ∷ changed_among fs gs else changed_among fs gs
 
 -- a page is one of these
-abbrev pub is_listed : ℕ → List ℕ → Bool
-is_listed p ps = list_any (λ q. q == p) ps
+abbrev pub is_one_of : ℕ → List ℕ → Bool
+is_one_of p ps = list_any (λ q. q == p) ps
 
 -- a frame of a page has no record that the log lacks, with those that wait
 abbrev pub IsLowFrame : {D O : Type 0} → ℕ → Parts D O → Type 0
@@ -69,7 +69,7 @@ home_by changed counted p image =
 abbrev pub home_at : {D O : Type 0} → Ghosts D → ℕ → Parts D O → ℕ
 home_at g p s =
     let fs = s.pool.frames in
-    home_by (is_listed p (changed_among fs fs)) s.base.root.pages p (g.reads s.base.disk)
+    home_by (is_one_of p (changed_among fs fs)) s.base.root.pages p (g.reads s.base.disk)
 
 -- A page came into a frame: below the pool the first of what waited became durable, or a page went
 -- home; over that each page is as it was.

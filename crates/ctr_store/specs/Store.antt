@@ -19,7 +19,7 @@ use Rattle.ctr_base.specs.Base.{IsSoundImage}
 use Rattle.ctr_base.specs.Growth.{AreBlank}
 use Rattle.ctr_redo.specs.Fitting.{LiesInside}
 use Rattle.ctr_store.specs.Changes.{IsChange}
-use Rattle.ctr_store.specs.Parts.{is_listed, home_by}
+use Rattle.ctr_store.specs.Parts.{is_one_of, home_by}
 use Rattle.ctr_store.specs.RecordChecks.{record_damage}
 
 -- The disk; what it folds to; the records that aren't hardened, in order; pages and tables with
@@ -44,7 +44,7 @@ pub record View (D : Type 0) : Type 0 where
 
 -- where the home begins in the file of pages whose value a page is
 abbrev pub page_home : {D : Type 0} → Ghosts D → ℕ → View D → ℕ
-page_home g p v = home_by (is_listed p v.changed) v.now.counted p (g.reads v.disk)
+page_home g p v = home_by (is_one_of p v.changed) v.now.counted p (g.reads v.disk)
 
 -- At each moment of a call a crash leaves what was hardened with a prefix of what wasn't.
 abbrev pub LeavesFront : {D : Type 0} → Ghosts D → View D → View D → Type 0

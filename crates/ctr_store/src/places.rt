@@ -45,8 +45,7 @@ impl<D: Disk, O: Origin> Parts<D, O> {
         ensures low { IfOk result (λ at. at < 2 ^ 46) }
         ensures keeps { KeepsBase self.old.base self.new.base × (self.new.meta ≡ self.old.meta) }
         ensures goes { IsTrue D.tells → LeavesIf O.first D.Disk self.old.base self.new.base }
-        ensures moves { IsTrue D.tells → OnOk result (MovesIf O.first D.Disk self.old.base self.new.base) }
-        ensures fold { IsTrue D.tells → OnOk result (IsFold O.first D.Disk self.new) }
+        ensures fold { IsTrue D.tells → OnOk result (IsFold O.first D.Disk self.new × MovesIf O.first D.Disk self.old.base self.new.base) }
         ensures refused { IsTrue D.tells → IfErr result (λ e. IsSoundImage O.first → e ≡ Fault) }
         ensures faults { HasFault Fault (D.faults_of self.old.base.disk) (D.faults_of self.new.base.disk) result }
     {

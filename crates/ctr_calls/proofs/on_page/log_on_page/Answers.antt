@@ -1,4 +1,3 @@
-use Rattle.std.proofs.Common.{Ok, Err}
 use Rattle.std.proofs.lemmas.Result.{err_from_is_err_and}
 use Rattle.ctr_calls.proofs.Records.{may_still, unread, logged_behind, refused_behind}
 use Rattle.ctr_calls.proofs.on_page.log_on_page.Goals as goal

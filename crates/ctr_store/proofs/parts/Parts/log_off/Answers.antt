@@ -1,27 +1,15 @@
-use Rattle.std.proofs.Common.{◌∙◌, refl, sym, ap}
+use Rattle.std.proofs.Common.{◌∙◌, sym, ap}
 use Rattle.ctr_meta.specs.Effects.{effect}
 use Rattle.ctr_records.proofs.ReadBack.{record_read}
 use Rattle.ctr_records.specs.Spelling.{record_bytes}
 use Rattle.ctr_store.proofs.RecordLaws.{off_all}
-use Rattle.ctr_store.proofs.PartsLaws.{can_follow, waits, push_state, push_tables, off_over, off_current}
+use Rattle.ctr_store.proofs.PartsLaws.{can_follow, push_adds, push_tables, off_over, off_current}
 use Rattle.ctr_store.proofs.parts.Parts.log_off.Goals as goal
 
 pub returns-clause-adds : goal.returns-clause-adds
 returns-clause-adds g c told fold sound =
-    let d = g.D.Disk in
-    let o = g.O.Origin.first in
     let s = c.args.self.now in
-    let r = c.args.rec.now in
-    let log = c.append_record-lsn.new.log in
-    let tells = record_read r c.requires.can.logged.record_is in
-    let quiet = fold.over.at_rest.quiet sound in
-    let added = c.append_record-lsn.ensures.added in
-    record {
-      waiting = waits o d s.base log (record_bytes r) r added tells;
-      hardened = refl;
-      root = refl;
-      now = push_state o d s.base log (record_bytes r) r added tells quiet;
-    }
+    push_adds g.O.Origin.first g.D.Disk s.base c.append_record-lsn.new.log (record_bytes c.args.rec.now) c.args.rec.now c.append_record-lsn.ensures.added (record_read c.args.rec.now c.requires.can.logged.record_is) s (record s { meta = c.apply.new.self }) (fold.over.at_rest.quiet sound)
 
 pub returns-clause-fold : goal.returns-clause-fold
 returns-clause-fold g c told fold =

@@ -1,11 +1,11 @@
 use Rattle.std.proofs.Common.{ap, sym, subst}
 use Rattle.std.specs.Prelude.{IsTrue}
 use Rattle.std.proofs.lemmas.Result.{err_from_is_err_and}
-use Rattle.ctr_base.specs.Base.{LeavesIf}
+use Rattle.ctr_base.specs.Base.{LeavesIf, MovesIf}
 use Rattle.ctr_store.specs.declared.parts.Parts.{Parts}
 use Rattle.ctr_store.specs.Parts.{IsFold}
 use Rattle.ctr_store.proofs.PartsLaws.{fold_low, fold_moved}
-use Rattle.ctr_store.proofs.PlaceLaws.{read_fold, behind_goes}
+use Rattle.ctr_store.proofs.PlaceLaws.{read_fold, behind_goes, behind_moves}
 use Rattle.ctr_store.proofs.parts.Parts.place_of.Given.{Over}
 use Rattle.ctr_store.proofs.parts.Parts.place_of.Goals.{After-home_of}
 use Rattle.ctr_store.proofs.parts.Parts.place_of.Goals as goal
@@ -41,5 +41,7 @@ returns-clause-fold g c told =
     let e = c.in_ok-bring.ensures in
     let stays = e.stays told in
     let tables = ap (λ k. k.tables) e.keeps.1 in
-    subst (λ (t : Parts g.row.D.Denot g.row.O.Denot). IsFold o d t) (sym c.home_of.ensures.same)
-    (read_fold o d m c.home_of.new.self.base.disk c.home_of.ensures.read (fold_moved o d s m (c.requires told) stays.moves tables stays.shows stays.over))
+    let disk = c.home_of.new.self.base.disk in
+    let read = c.home_of.ensures.read in
+    subst (λ (t : Parts g.row.D.Denot g.row.O.Denot). IsFold o d t × MovesIf o d s.base t.base) (sym c.home_of.ensures.same)
+    (read_fold o d m disk read (fold_moved o d s m (c.requires told) stays.moves tables stays.shows stays.over), behind_moves o d m disk read s stays.moves)

@@ -1,11 +1,12 @@
 use Rattle.std.proofs.Common.{◌≡◌, ◌∙◌, Bool, false, sym, ap, subst}
+use Rattle.std.proofs.lemmas.Result.{on_ok_weaker}
 use Rattle.ctr_store.specs.Store.{View, LeavesPage}
 use Rattle.ctr_store.specs.StoreInside.{view_of}
 use Rattle.ctr_store.proofs.StoreLaws.{of_ok, page_left}
 use Rattle.ctr_store.proofs.store.Store.home_of.Goals as goal
 
 pub invariant_of-self : goal.invariant_of-self
-invariant_of-self g c told going = of_ok c.place_of-home.result (sym c.is_err-self-inside.ensures.value ∙ going) (c.place_of-home.ensures.fold told)
+invariant_of-self g c told going = of_ok c.place_of-home.result (sym c.is_err-self-inside.ensures.value ∙ going) (on_ok_weaker c.place_of-home.result (λ x. x.0) (c.place_of-home.ensures.fold told))
 
 pub returns-clause-leaves : goal.returns-clause-leaves
 returns-clause-leaves g c =
@@ -15,4 +16,4 @@ returns-clause-leaves g c =
     let e = c.place_of-home.ensures in
     let going : c.self.inside.stopped ≡ false = ap (λ (v : View g.row.D.Denot). v.stopped) c.self.view_is ∙ c.requires in
     subst (λ (k : Bool). LeavesPage o d c.args.self.now (view_of d t k) c.place_of-home.result) (sym c.is_err-self-inside.ensures.value)
-    (page_left d o c.self.inside.parts t c.self.inside.stopped c.args.self.now c.self.view_is e.goes e.keeps.0 e.keeps.1 c.place_of-home.result going e.moves e.refused e.faults)
+    (page_left d o c.self.inside.parts t c.self.inside.stopped c.args.self.now c.self.view_is e.goes e.keeps.0 e.keeps.1 c.place_of-home.result going (λ told. on_ok_weaker c.place_of-home.result (λ x. x.1) (e.fold told)) e.refused e.faults)

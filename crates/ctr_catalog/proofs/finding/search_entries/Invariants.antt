@@ -5,7 +5,7 @@ use Rattle.ctr_page.specs.Searching.{PassesBy}
 use Rattle.ctr_changes.specs.States.{pages_in, area_in}
 use Rattle.ctr_calls.proofs.PagesRead.{HasRead}
 use Rattle.ctr_catalog.specs.Finding.{checks_at, entry_seen}
-use Rattle.ctr_catalog.proofs.finding.find.Given as goal
+use Rattle.ctr_catalog.proofs.finding.search_entries.Given as goal
 
 abbrev pub invariant-loop-entry : goal.invariant-loop-entry
 invariant-loop-entry g l =

@@ -1,0 +1,54 @@
+-- Damage that a call finds on pages of a store, and tells as damage of the file of pages.
+use Rattle.std.specs.Prelude.{◌≡◌, ◌⊎◌, ◌+◌, ℕ, Result, Ok, Err, ⊤}
+use Rattle.ctr_types.specs.declared.file.File.TheVariants.{Pages}
+use Rattle.ctr_disk.specs.declared.disk.Disk.{Ghosts}
+use Rattle.ctr_disk.specs.declared.disk.Image.{Image}
+use Rattle.ctr_disk.specs.declared.fault.StoreFault.{StoreFault}
+use Rattle.ctr_disk.specs.declared.fault.StoreFault.TheVariants.{Fault, Damaged}
+use Rattle.ctr_page.specs.declared.walk.BadChain.{BadChain}
+use Rattle.ctr_page.specs.declared.walk.BadChain.TheVariants.{OnPage, TooLong}
+use Rattle.ctr_store.specs.RecordChecks.{record_damage}
+use Rattle.ctr_store.specs.Store.{View, LeavesPage, page_home}
+
+-- the page that damage is told of: the one that it stands on, or the last of a chain that is too long
+abbrev pub damaged_page : BadChain → ℕ
+damaged_page (OnPage p bad) = p
+damaged_page (TooLong last most) = last
+
+-- Damage of a page whose home begins at a place of the file of pages. A byte of it stands 13 bytes
+-- behind; a chain that is too long, of so many pages at most, has one more.
+abbrev pub damage_behind : ℕ → BadChain → StoreFault
+damage_behind home (OnPage p bad) = record_damage Pages (home + 13) bad
+damage_behind home (TooLong last most) = Damaged Pages home most (most + 1)
+
+-- as a store tells it: by the home that the page's value stands in
+abbrev pub damage_told : {D : Type 0} → Ghosts D → View D → BadChain → StoreFault
+damage_told g v bad = damage_behind (page_home g (damaged_page bad) v) bad
+
+-- What a call answers that ends so: what was found, or damage as it is told. A fault of the disk says
+-- nothing of pages.
+abbrev pub EndsTold : {B T : Type 0} → (B → StoreFault) → (Result T B → Type 0)
+    → Result T StoreFault → Type 0
+EndsTold told Ends (Ok x) = Ends (Ok x)
+EndsTold told Ends (Err Fault) = Unit {0}
+EndsTold {B} told Ends (Err (Damaged file at want got)) =
+    (bad : B) × Ends (Err bad) × (told bad ≡ Damaged file at want got)
+
+-- What was found is answered. Damage is answered by an error, which under this premise tells it, unless
+-- the disk failed.
+abbrev pub TellsFound : {B T : Type 0} → Type 0 → (B → StoreFault) → Result (Result T B) StoreFault
+    → Result T StoreFault → Type 0
+TellsFound Known told (Ok (Ok x)) result = result ≡ Ok x
+TellsFound Known told (Ok (Err bad)) result =
+    (e : StoreFault) × (result ≡ Err e) × (Known → (e ≡ Fault) ⊎ (e ≡ told bad))
+TellsFound Known told (Err e) result = result ≡ Err e
+
+-- What a call leaves that reads pages. Where it tells damage, that is one that reading was answered; or it
+-- was found on a page that was read, and the store goes on.
+abbrev pub ReadsPages : {D T : Type 0} → Image → Ghosts D → View D → View D → Result T StoreFault
+    → Type 0
+ReadsPages first g a b (Ok x) = LeavesPage first g a b (Ok x)
+ReadsPages {T} first g a b (Err Fault) = LeavesPage {T = T} first g a b (Err Fault)
+ReadsPages {T} first g a b (Err (Damaged file at want got)) =
+    LeavesPage {T = T} first g a b (Err (Damaged file at want got))
+    ⊎ LeavesPage {T = ⊤} first g a b (Ok tt)

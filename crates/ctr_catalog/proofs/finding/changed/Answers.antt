@@ -1,0 +1,11 @@
+use Rattle.ctr_changes.specs.States.{pages_in, area_in}
+use Rattle.ctr_calls.specs.Damage.{damage_told}
+use Rattle.ctr_calls.proofs.Damages.{told_ends}
+use Rattle.ctr_catalog.specs.Finding.{checks_at, changed_in, EndsEntry}
+use Rattle.ctr_catalog.proofs.finding.changed.Goals as goal
+
+pub returns-clause-ends : goal.returns-clause-ends
+returns-clause-ends g c = λ told sound.
+    let s = c.args.store.now in
+    let e = c.change_of-found.ensures in
+    told_ends (damage_told g.D.Disk c.tell.new.store) (EndsEntry (checks_at s.now.counted (pages_in s.now) c.args.entry) (changed_in s.meta.tables c.args.snapshot.now c.args.name.now (area_in s.now) c.args.entry) c.args.entry) c.change_of-found.result c.tell.result c.tell.ensures.told (told, sound) (e.leaves.refused told sound) (e.ends told sound)
