@@ -74,12 +74,3 @@ row_check_at counted pages at =
     table_check 1 counted pages at.page
     >>= λ _. told_of at.page (row_on_check counted (owner_of (pages at.page))
     (kinds_at (area_of pages) (owner_of (pages at.page))) at.slot (pages at.page))
-
--- ---- by a place alone
-
--- The version entry at a place by itself: the table of its page, and then the entry, by the table's
--- columns.
-abbrev pub version_check_at : ℕ → (ℕ → List ℕ) → Place → Result ⊤ BadChain
-version_check_at counted pages at =
-    table_check 2 counted pages at.page
-    >>= λ _. told_of at.page (kept_at_check counted pages (owner_of (pages at.page)) at)

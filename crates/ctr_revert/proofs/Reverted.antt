@@ -23,7 +23,7 @@ use Rattle.ctr_pvs.specs.declared.table.TableOf.{TableOf}
 use Rattle.ctr_pvs.specs.Table.{owner_of, TableSaid}
 use Rattle.ctr_pvs.specs.Reading.{kinds_said, row_check_at}
 use Rattle.ctr_pvs.proofs.Told.{chain_ok, page_of_table}
-use Rattle.ctr_revert.specs.Reverting.{without_head, KeepsKey, slot_reverted, lost_record, behind_check, row_at, revert_check, RevertsRow}
+use Rattle.ctr_revert.specs.Reverting.{without_head, KeepsKey, slot_reverted, lost_record, behind_check, row_slot_at, revert_check, RevertsRow}
 use Rattle.ctr_revert.proofs.Row.{row_reverted, row_place}
 
 -- the law of a record that lays a slot
@@ -41,7 +41,7 @@ module _ {D : Type 0} (first : Image) (g : Ghosts D) (a d : View D) (at : Place)
       let s = a.now in
       let n = s.counted in
       let pages = pages_in s in
-      let row = row_at pages at in
+      let row = row_slot_at pages at in
       let wide = width_on pages at.page in
       let page = page_of_table 1 n pages at.page t said in
       let h = one.4 told sound in

@@ -31,7 +31,7 @@ use Rattle.ctr_pvs.specs.Table.{there_check, told_of, owner_of, TableSaid}
 use Rattle.ctr_pvs.specs.Reading.{kinds_said, kept_on_check, kept_at_check}
 use Rattle.ctr_pvs.proofs.Told.{IsPageOf, page_of_table, behind_catalog, header_here, told_ok}
 use Rattle.ctr_revert.specs.declared.slots.FromSlot.{FromSlot}
-use Rattle.ctr_revert.specs.Reverting.{behind_head, without_head, KeepsKey, if_used, entry_at_place, slot_by_entry, slot_without_head, slot_reverted, SlotSaidFrom, LosesHead, behind_check, row_at, revert_check, EndsBehind, RevertsHead}
+use Rattle.ctr_revert.specs.Reverting.{behind_head, without_head, KeepsKey, if_used, entry_at_place, slot_by_entry, slot_without_head, slot_reverted, SlotSaidFrom, LosesHead, behind_check, row_slot_at, revert_check, EndsBehind, RevertsHead}
 use Rattle.ctr_revert.proofs.Passed.{row_passes}
 
 module _ (counted : ℕ) (pages : ℕ → List ℕ) (at : Place) (t : TableOf) (f : FromSlot) (said : TableSaid 1 counted pages at.page (Ok t)) (from : SlotSaidFrom counted t at (pages at.page) (Ok f)) where
@@ -47,7 +47,7 @@ module _ (counted : ℕ) (pages : ℕ → List ℕ) (at : Place) (t : TableOf) (
   pub ends_row : (r : Result ⊤ BadChain) → EndsBehind counted pages t f r → r ≡ revert_check counted pages at
   ends_row r ends =
       let behind : ℕ → RowSlot → Result ⊤ BadChain = λ e x. behind_check counted pages e x.previous x.older in
-      let rest : ⊤ → Result ⊤ BadChain = λ _. behind (owner_of (pages at.page)) (row_at pages at) in
+      let rest : ⊤ → Result ⊤ BadChain = λ _. behind (owner_of (pages at.page)) (row_slot_at pages at) in
       ends said.2 s from.2
       ∙ ap (λ e. behind e s) said.1
       ∙ ap (λ v. behind (owner_of (pages at.page)) (slot_at v at.slot (pages at.page))) page.wide
@@ -87,7 +87,7 @@ module _ (counted : ℕ) (pages : ℕ → List ℕ) (at : Place) (rows : (header
   wide = width_on pages at.page
 
   abbrev row : RowSlot
-  row = row_at pages at
+  row = row_slot_at pages at
 
   abbrev area : Area
   area = area_of pages

@@ -112,15 +112,15 @@ behind_check counted pages e None older =
     if older.page == 0 then Ok tt else told_of older.page (kept_at_check counted pages e older)
 
 -- the slot at a place, by the width of its page's rows
-abbrev pub row_at : (ℕ → List ℕ) → Place → RowSlot
-row_at pages at = slot_at (width_on pages at.page) at.slot (pages at.page)
+abbrev pub row_slot_at : (ℕ → List ℕ) → Place → RowSlot
+row_slot_at pages at = slot_at (width_on pages at.page) at.slot (pages at.page)
 
 -- what is wrong on the way: with the slot and its table; with the version entry behind it
 abbrev pub revert_check : ℕ → (ℕ → List ℕ) → Place → Result ⊤ BadChain
 revert_check counted pages at =
     row_check_at counted pages at
-    >>= λ _. behind_check counted pages (owner_of (pages at.page)) (row_at pages at).previous
-    (row_at pages at).older
+    >>= λ _. behind_check counted pages (owner_of (pages at.page)) (row_slot_at pages at).previous
+    (row_slot_at pages at).older
 
 -- ---- on the way
 
@@ -145,12 +145,14 @@ MadeByEntry w used key next None = next ≡ None
 MadeByEntry w used key next (Some bytes) = ByEntry w used key next bytes
 
 -- the page of the version entry behind a slot was read, by the table: bytes by it, or its damage
-abbrev pub EntrySaidFrom : ℕ → TableOf → FromSlot → List ℕ → Result (Option (List ℕ)) BadRecord → Type 0
+abbrev pub EntrySaidFrom : ℕ → TableOf → FromSlot → List ℕ → Result (Option (List ℕ)) BadRecord
+    → Type 0
 EntrySaidFrom counted t f page (Ok made) =
     (there_check counted f.older.page ≡ Ok tt)
     × (kept_on_check counted t.entry (kinds_said t) f.older.slot page ≡ Ok tt)
     × IsEntry (kinds_width (kinds_said t)) (older_at (kinds_width (kinds_said t)) f.older.slot page)
-    × MadeByEntry (kinds_width (kinds_said t)) f.used f.key (if_used (older_at (kinds_width (kinds_said t)) f.older.slot page)) made
+    × MadeByEntry (kinds_width (kinds_said t)) f.used f.key
+    (if_used (older_at (kinds_width (kinds_said t)) f.older.slot page)) made
 EntrySaidFrom counted t f page (Err bad) =
     (there_check counted f.older.page
     >>= λ _. kept_on_check counted t.entry (kinds_said t) f.older.slot page) ≡ Err bad
@@ -194,9 +196,9 @@ EndsBehind counted pages t f r =
 -- without it, in rows so wide.
 pub record RevertsHead (pages : ℕ → List ℕ) (at : Place) (x w : ℕ) (bytes : List ℕ) : Type 0 where
   pub wide : w ≡ width_on pages at.page
-  pub head : x ≡ (row_at pages at).head.xid
-  pub bytes_are : bytes ≡ slot_bytes w (slot_reverted w pages (row_at pages at))
-  pub fits : IsSlot w (slot_reverted w pages (row_at pages at))
+  pub head : x ≡ (row_slot_at pages at).head.xid
+  pub bytes_are : bytes ≡ slot_bytes w (slot_reverted w pages (row_slot_at pages at))
+  pub fits : IsSlot w (slot_reverted w pages (row_slot_at pages at))
 
 -- Its record is logged, by what the pages say; where something is wrong pages were read; where the
 -- store refused nothing is logged.
