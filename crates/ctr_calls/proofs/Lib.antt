@@ -1,3 +1,4 @@
 pub mod Joins
 pub mod Records
 pub mod PagesRead
+pub mod Damages

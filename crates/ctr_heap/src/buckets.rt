@@ -7,12 +7,14 @@ ghost use Rattle.ctr_area.specs.Sound.{AreReadable};
 ghost use Rattle.ctr_page.specs.Places.{bucket_of as bucket_by};
 ghost use Rattle.ctr_changes.specs.States.{pages_in, area_in};
 ghost use Rattle.ctr_heap.specs.declared.slots.SlotSought.TheVariants.{Key as KeySought, Free as FreeSought};
+ghost use Rattle.ctr_calls.specs.Damage.{damage_told, EndsTold, ReadsPages};
 ghost use Rattle.ctr_heap.specs.Finding.{BucketSaid, RowsFit, EndsBucket, FindsKey, FindsFree};
 
 use crate::found::{a_search_tells_a_free_slot, a_search_tells_the_key};
 use crate::slots::SlotSought;
 use crate::store::search_chain;
 use ctr_base::Origin;
+use ctr_calls::tell;
 use ctr_disk::{Disk, StoreFault};
 use ctr_page::{BadChain, BadPage, Chain, Place, bucket_of, check_entry, read_entry};
 use ctr_records::PageNo;
@@ -113,17 +115,20 @@ pub fn find<D: Disk, O: Origin>(
     store: &mut Store<D, O>,
     entry: u8,
     key: i64,
-) -> Result<Result<Option<Place>, BadChain>, StoreFault>
+) -> Result<Option<Place>, StoreFault>
     requires going { store.old.stopped ≡ false }
     requires counted { (64 ≤ store.old.now.counted) × (store.old.now.counted ≤ 30000) }
     requires there { entry < 32 }
-    ensures ends { IsTrue D.tells → IsSoundImage O.first → IfOk result (λ r. EndsBucket store.old.now.counted (pages_in store.old.now) entry (bucket_by key) (KeySought key) r) }
+    // Damage is of the table's entry or of the first page that fails its checks, and is told where that stands in the file of pages.
+    ensures ends { IsTrue D.tells → IsSoundImage O.first
+        → EndsTold (damage_told D.Disk store.new) (EndsBucket store.old.now.counted (pages_in store.old.now) entry (bucket_by key) (KeySought key)) result }
     // It is exactly the slot of the key.
-    ensures finds { IsTrue D.tells → IsSoundImage O.first → AreReadable (area_in store.old.now) → IfOk result (λ r. IfOk r (λ found. FindsKey (area_in store.old.now) entry key found)) }
-    ensures leaves { LeavesPage O.first D.Disk store.old store.new result }
+    ensures finds { IsTrue D.tells → IsSoundImage O.first → AreReadable (area_in store.old.now) → IfOk result (FindsKey (area_in store.old.now) entry key) }
+    ensures leaves { ReadsPages O.first D.Disk store.old store.new result }
 {
     a_search_tells_the_key();
-    search_bucket(store, entry, bucket_of(key), SlotSought::Key(key))
+    let found = search_bucket(store, entry, bucket_of(key), SlotSought::Key(key));
+    tell(store, found)
 }
 
 /// The first free slot of a bucket of a table, likewise.
@@ -131,15 +136,17 @@ pub fn free_slot<D: Disk, O: Origin>(
     store: &mut Store<D, O>,
     entry: u8,
     bucket: u8,
-) -> Result<Result<Option<Place>, BadChain>, StoreFault>
+) -> Result<Option<Place>, StoreFault>
     requires going { store.old.stopped ≡ false }
     requires counted { (64 ≤ store.old.now.counted) × (store.old.now.counted ≤ 30000) }
     requires there { (entry < 32) × (bucket < 8) }
-    ensures ends { IsTrue D.tells → IsSoundImage O.first → IfOk result (λ r. EndsBucket store.old.now.counted (pages_in store.old.now) entry bucket FreeSought r) }
+    ensures ends { IsTrue D.tells → IsSoundImage O.first
+        → EndsTold (damage_told D.Disk store.new) (EndsBucket store.old.now.counted (pages_in store.old.now) entry bucket FreeSought) result }
     // There is none exactly where all slots of the bucket's chain are used.
-    ensures finds { IsTrue D.tells → IsSoundImage O.first → AreReadable (area_in store.old.now) → IfOk result (λ r. IfOk r (λ found. FindsFree (area_in store.old.now) entry bucket found)) }
-    ensures leaves { LeavesPage O.first D.Disk store.old store.new result }
+    ensures finds { IsTrue D.tells → IsSoundImage O.first → AreReadable (area_in store.old.now) → IfOk result (FindsFree (area_in store.old.now) entry bucket) }
+    ensures leaves { ReadsPages O.first D.Disk store.old store.new result }
 {
     a_search_tells_a_free_slot();
-    search_bucket(store, entry, bucket, SlotSought::Free)
+    let found = search_bucket(store, entry, bucket, SlotSought::Free);
+    tell(store, found)
 }

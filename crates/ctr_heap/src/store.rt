@@ -67,7 +67,7 @@ fn look<D: Disk, O: Origin>(
 /// The first slot that is sought along a chain of pages of rows, from its first page on, whose columns behind the
 /// key are of these kinds, where so many pages are counted; or the damage of the chain. It logs nothing, and takes
 /// no memory.
-pub fn search_chain<D: Disk, O: Origin>(
+pub(crate) fn search_chain<D: Disk, O: Origin>(
     store: &mut Store<D, O>,
     first: PageNo,
     chain: Chain,
