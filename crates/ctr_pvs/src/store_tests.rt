@@ -1,0 +1,101 @@
+//! A free version entry of a table, and one that is freed, in a store that is opened on bytes made by hand.
+ghost use Rattle.std.specs.Prelude.{◌≡◌};
+
+use crate::*;
+use ctr_base::Origin;
+use ctr_disk::{Disk, Image, MemDisk, SilentDisk};
+use ctr_page::{BadChain, BadPage, Place};
+use ctr_store::Store;
+use ctr_types::{File, List};
+use std::alloc::{AllocError, Global};
+use std::marker::Brand;
+use std::test::Fail;
+
+// The root, written once: LogA from LSN 1 on, 64 pages.
+const ROOT: [u8; 38] =
+    *b"\x01\0\0\0\0\x01\0\0\0\0\0\0\0CTRDB001\x01\0\0\0\0\x01\0\0\0\0\0\0\0\x40\0\0\0";
+
+// The Checkpoint of nothing, in a batch of its own.
+const LOG: [u8; 64] =
+    *b"\x01\x2a\0\0\0\0\0\0\0\x01\0\0\0\0\0\0\0\x01\0\0\0\x22\0\0\0\0\0\0\0\x01\x01\0\0\0\0\0\0\0\0\0\0\0\0\0\0\0\0\0\0\0\0\0\0\0\0\0\0\0\0\0\0\0\0\0";
+
+// Its home begins with 13 bytes, then the entry 0: a live table of one column, whose versions are on page 3.
+fn first_page() -> [u8; 228] {
+    let mut page = [0; 228];
+    page[0] = 1;
+    page[1] = 1;
+    page[5] = 1;
+    page[13] = 1;
+    page[30] = 1;
+    page[31] = b't';
+    page[47] = 1;
+    page[48] = 1;
+    page[49] = b'k';
+    page[224] = 3;
+    page
+}
+
+// Page 3: versions of the entry 0, rows of width 0, so entries of 24 bytes; the first is used, of key 7 and transaction 1.
+const THIRD: [u8; 47] =
+    *b"\x01\x03\0\0\0\x01\0\0\0\0\0\0\0\x02\0\0\0\0\0\0\0\0\0\0\0\0\0\0\0\x01\x07\0\0\0\0\0\0\0\x01\0\0\0\0\0\0\0\0";
+
+type Found = (
+    Result<Option<Place>, BadChain>,
+    Result<(), BadChain>,
+    Result<Option<Place>, BadChain>,
+);
+
+// What is free, and what is when the version entry at a place is freed.
+fn found<D: Disk + Drop, O: Origin>(alloc: Global, disk: D, place: Place) -> Option<Found>
+    requires { O.first ≡ D.reads disk }
+{
+    match Store::<D, O>::open(alloc, disk, 8) {
+        Ok(store) => {
+            let mut store = store;
+            let counted = store.counted();
+            if counted < 64 || counted > 30_000 || place.page >= counted {
+                return None;
+            }
+            let first = free_entry(&mut store, 0).ok()?;
+            let freed = drop_entry(&mut store, place).ok()?;
+            let counted = store.counted();
+            if counted < 64 || counted > 30_000 {
+                return None;
+            }
+            let second = free_entry(&mut store, 0).ok()?;
+            Some((first, freed, second))
+        }
+        Err(_) => None,
+    }
+}
+
+fn seek(alloc: Global, third: &[u8], place: Place) -> Result<Option<Found>, AllocError> {
+    let mut image = Image::new(alloc);
+    image.write(alloc, File::Root, 0, &ROOT)?;
+    image.set_len(alloc, File::Root, 64)?;
+    image.write(alloc, File::LogA, 0, &LOG)?;
+    image.set_len(alloc, File::Pages, 528_384)?;
+    image.write(alloc, File::Pages, 8_256, &first_page())?;
+    image.write(alloc, File::Pages, 24_768, third)?;
+    let disk = MemDisk::new(alloc, image, List::new(alloc))?;
+    Ok(found::<SilentDisk, Brand>(alloc, SilentDisk { disk }, place))
+}
+
+#[test]
+fn the_first_free_version_entry(rt: HostRuntime) -> Result<(), Fail> {
+    let alloc = rt.alloc();
+    let zero = Place { page: 3, slot: 0 };
+    let one = Place { page: 3, slot: 1 };
+    assert!(rt; seek(alloc, &THIRD, zero)? == Some((Ok(Some(one)), Ok(()), Ok(Some(zero)))));
+    let bad = BadPage {
+        at: 0,
+        want: 169,
+        got: 170,
+    };
+    let far = Place { page: 3, slot: 170 };
+    assert!(rt;
+        seek(alloc, &THIRD, far)?
+            == Some((Ok(Some(one)), Err(BadChain::OnPage(3, bad)), Ok(Some(one))))
+    );
+    Ok(())
+}
