@@ -3,8 +3,7 @@ ghost use Rattle.std.specs.Prelude.{◌≡◌};
 
 use crate::*;
 use ctr_base::Origin;
-use ctr_disk::{Disk, Image, MemDisk, SilentDisk};
-use ctr_page::BadPage;
+use ctr_disk::{Disk, Image, MemDisk, SilentDisk, StoreFault};
 use ctr_store::Store;
 use ctr_types::{File, List};
 use std::alloc::{AllocError, Global};
@@ -19,7 +18,7 @@ const ROOT: [u8; 38] =
 const LOG: [u8; 64] =
     *b"\x01\x2a\0\0\0\0\0\0\0\x01\0\0\0\0\0\0\0\x01\0\0\0\x22\0\0\0\0\0\0\0\x01\x01\0\0\0\0\0\0\0\0\0\0\0\0\0\0\0\0\0\0\0\0\0\0\0\0\0\0\0\0\0\0\0\0\0";
 
-type Found = Result<Option<u8>, BadEntry>;
+type Found = Result<Option<u8>, StoreFault>;
 
 // What is found in the catalog.
 fn found<D: Disk + Drop, O: Origin>(alloc: Global, disk: D) -> Option<Found>
@@ -31,7 +30,7 @@ fn found<D: Disk + Drop, O: Origin>(alloc: Global, disk: D) -> Option<Found>
             if store.counted() == 0 {
                 return None;
             }
-            free_entry(&mut store).ok()
+            Some(free_entry(&mut store))
         }
         Err(_) => None,
     }
@@ -69,11 +68,12 @@ fn the_lowest_free_entry(rt: HostRuntime) -> Result<(), Fail> {
     let alloc = rt.alloc();
     assert!(rt; seek(alloc, &first_page(0))? == Some(Ok(Some(0))));
     assert!(rt; seek(alloc, &first_page(2))? == Some(Ok(Some(1))));
-    let bad = BadPage {
-        at: 0,
+    let bad = StoreFault::Damaged {
+        file: File::Pages,
+        at: 8_269,
         want: 2,
         got: 3,
     };
-    assert!(rt; seek(alloc, &first_page(3))? == Some(Err(BadEntry { page: 1, bad })));
+    assert!(rt; seek(alloc, &first_page(3))? == Some(Err(bad)));
     Ok(())
 }

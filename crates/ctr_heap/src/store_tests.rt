@@ -1,6 +1,7 @@
 //! A chain of pages of a store that is opened on bytes made by hand.
 ghost use Rattle.std.specs.Prelude.{◌≡◌};
 
+use crate::store::search_chain;
 use crate::*;
 use ctr_base::Origin;
 use ctr_disk::{Disk, Image, MemDisk, SilentDisk};
