@@ -90,6 +90,15 @@ slot_small w narrow = known (nat_le w 200)
     below_200 : nat_le w 200 ≡ true → w ≤ 200
     below_200 is = leb-true w 200 is
 
+pub slot_there : (w size same number long : ℕ) → w ≤ 1792 → size ≡ slot_size w → slot_size w ≡ same → 0 < size → lies_check size number ≡ Ok tt → long ≡ 4096 → start_of same number + same ≤ long
+slot_there w size same number long narrow is wanted some told whole =
+    let small = slot_small w narrow in
+    lies_there size same number long (is ∙ wanted) some (omega (arith, small, is)) told whole
+
+-- nor are version entries
+pub entry_there : (w size same number long : ℕ) → w ≤ 1792 → size ≡ kept_size w → kept_size w ≡ same → 0 < size → lies_check size number ≡ Ok tt → long ≡ 4096 → start_of same number + same ≤ long
+entry_there w size same number long narrow is wanted some told whole = lies_there size same number long (is ∙ wanted) some (omega (arith, narrow, is)) told whole
+
 pub place_of_version : (pages : ℕ → List ℕ) (at : Place) (w : ℕ) → 3 ≤ at.page → (header_on pages at.page).kind ≡ 2 → w ≡ width_on pages at.page → w ≤ 2048 → lies_check (kept_size w) at.slot ≡ Ok tt
     → length (pages at.page) ≡ 4096 → IsPlaceOf 2 pages at
 place_of_version pages at w behind is wide narrow lies whole =
