@@ -1,0 +1,4 @@
+pub mod Ways
+pub mod Loosened
+pub mod Steady
+pub mod Unlinking
