@@ -1,9 +1,9 @@
 -- What leaves a used version entry as it is, which no chain has.
 use Rattle.std.proofs.Common.{◌≡◌, ◌≢◌, ⊎_elim, inl, ℕ, ℤ, Bool, true, refl, sym, ◌∙◌, ap, subst}
 use Rattle.std.proofs.lemmas.Bool.{false≢true}
-use Rattle.ctr_area.specs.Areas.{nowhere, RowVersion, Slot, Older, free_older, Area}
-use Rattle.ctr_area.specs.Chains.{older_bound, places_along}
-use Rattle.ctr_area.specs.Changes.{with_slot, with_older}
+use Rattle.ctr_area.specs.Areas.{nowhere, Title, RowVersion, Slot, Older, free_older, Area}
+use Rattle.ctr_area.specs.Chains.{older_bound, older_places, places_along}
+use Rattle.ctr_area.specs.Changes.{with_slot, with_older, with_title, with_taken}
 use Rattle.ctr_area.specs.Images.{is_committed_in}
 use Rattle.ctr_area.specs.Sound.{IsAmong, IsUsedSlot, IsKeptFor, along, IsSoundArea}
 use Rattle.ctr_meta.specs.Tables.{Tables}
@@ -101,6 +101,19 @@ module _ (area : Area) (e : ℕ) (q : Place) (it : Older) (loose : IsLoose area 
   pub freed_stays : (p : Place) → IsInNoChain area p → p ≢ q → IsLoose (with_older p free_older area) e q it
   freed_stays p none apart = entry_stays p free_older (λ is. apart (sym is))
       (λ f b used in_. loose.unlinked f b used (subst (IsAmong q) (away_along area p free_older (area.slot b) (none f b used)) in_))
+
+  -- ---- neither slots, version entries nor pages are changed
+
+  plain_stays : (new : Area) → new.older q ≡ area.older q → (IsAmong q (older_places area e) → IsAmong q (older_places new e)) → (IsInNoChain area q → IsInNoChain new q) → IsLoose new e q it
+  plain_stays new same_ here none = record { here = here loose.here; content = same_ ∙ loose.content; used = loose.used; unlinked = none loose.unlinked }
+
+  -- an Alloc, a Free
+  pub taken_loose : (p : ℕ) (taken : Bool) → IsLoose (with_taken p taken area) e q it
+  taken_loose p taken = plain_stays (with_taken p taken area) refl (λ in_. in_) (λ none. none)
+
+  -- another title
+  pub title_loose : (f : ℕ) (title : Title) → IsLoose (with_title f title area) e q it
+  title_loose f title = plain_stays (with_title f title area) refl (λ in_. in_) (λ none. none)
 
 -- ---- what stands in the slot is what it was
 
