@@ -1,5 +1,5 @@
 // Records that leave a used slot as it is, so that a Row finds it as the Keep before it did.
-ghost use Rattle.std.specs.Prelude.{◌≢◌, ◌<◌, ◌≤◌, ℕ, Bool, List};
+ghost use Rattle.std.specs.Prelude.{◌≢◌, ◌≤◌, ℕ, Bool, List};
 ghost use Rattle.ctr_types.specs.declared.value.Column.{Column};
 ghost use Rattle.ctr_meta.specs.Tables.{Tables};
 ghost use Rattle.ctr_page.specs.declared.header.Header.{Header};
