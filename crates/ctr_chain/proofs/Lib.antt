@@ -1,2 +1,4 @@
 pub mod Looked
 pub mod Chain
+pub mod Steps
+pub mod Most

@@ -94,8 +94,9 @@ fn found_in(sought: &Sought, meta: &Meta, look: SlotLook) -> Option<Option<Found
 /// The most version entries that a chain of a table can have: as many as fit on the counted pages.
 fn most_entries(table: &TableOf, counted: u32) -> u32
     requires few { table.now.count ≤ 7 }
-    requires counted { counted ≤ 30000 }
-    ensures { result ≡ most_in_chain counted * room_of (size_of_kept (width_of_kinds (kinds_said table.now))) }
+    requires counted { (64 ≤ counted) × (counted ≤ 30000) }
+    ensures value { result ≡ most_in_chain counted * room_of (size_of_kept (width_of_kinds (kinds_said table.now))) }
+    ensures some { 0 < result }
 {
     let room = room_for(kept_size(kinds_width(table.kinds())));
     counted.saturating_sub(3) * room as u32
