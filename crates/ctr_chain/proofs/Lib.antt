@@ -2,3 +2,4 @@ pub mod Looked
 pub mod Chain
 pub mod Steps
 pub mod Most
+pub mod Slots
