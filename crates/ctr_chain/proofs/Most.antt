@@ -1,5 +1,5 @@
 -- How many version entries a chain can have.
-use Rattle.std.proofs.Common.{◌≡◌, ℕ, ◌+◌, ◌-◌, ◌*◌, ◌/◌, ◌<◌, ◌≤◌, sym, subst, arith}
+use Rattle.std.proofs.Common.{◌≡◌, ℕ, ◌-◌, ◌*◌, ◌/◌, ◌<◌, ◌≤◌, sym, subst, arith}
 use Rattle.std.proofs.Math.Nat.{le-div_iff_mul-le, le-mul_of_pos_right, mul-le-mul_left, div-le_of_le-mul}
 use Rattle.ctr_page.specs.Places.{kept_size, room_for}
 use Rattle.ctr_page.specs.Walking.{most_in_chain}

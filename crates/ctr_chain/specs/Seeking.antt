@@ -1,6 +1,6 @@
 -- The search through the versions of a row, as they are read: the head and the previous version in the
 -- slot, and the others along the pointers. Each is checked where it is read.
-use Rattle.std.specs.Prelude.{◌≡◌, ◌≢◌, ◌⊎◌, true, false, ℕ, zero, suc, ◌-◌, ◌*◌, ◌==◌, Bool, List, ⊤, Option, None, Some, Result, Ok, Err, if◌then◌else◌}
+use Rattle.std.specs.Prelude.{◌≡◌, ◌≢◌, ◌⊎◌, true, false, ℕ, zero, suc, ◌*◌, ◌==◌, Bool, List, Option, None, Some, Result, Ok, Err, if◌then◌else◌}
 use Rattle.std.specs.Option.{option_map}
 use Rattle.ctr_bytes.specs.Following.{◌>>=◌}
 use Rattle.ctr_page.specs.declared.walk.BadChain.{BadChain}

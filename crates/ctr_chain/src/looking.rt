@@ -72,12 +72,7 @@ fn look_of_entry(entry: &VersionEntry) -> KeptLook
     }
 }
 
-fn row_looked(
-    table: &TableOf,
-    counted: u32,
-    number: u16,
-    page: &[u8],
-) -> Result<SlotLook, BadPage>
+fn row_looked(table: &TableOf, counted: u32, number: u16, page: &[u8]) -> Result<SlotLook, BadPage>
     requires some { 0 < counted }
     requires few { table.now.count ≤ 7 }
     requires whole { length page.now ≡ PAGE_SIZE }

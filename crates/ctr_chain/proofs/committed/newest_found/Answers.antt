@@ -1,4 +1,4 @@
-use Rattle.std.proofs.Common.{Ok, refl, sym, ◌∙◌, ap, subst}
+use Rattle.std.proofs.Common.{refl, sym, ◌∙◌, subst}
 use Rattle.ctr_area.specs.Images.{is_committed_in}
 use Rattle.ctr_changes.specs.States.{pages_in}
 use Rattle.ctr_chain.specs.Seeking.{SearchSaid}

@@ -1,10 +1,7 @@
-use Rattle.std.proofs.Common.{◌≡◌, ◌-◌, ◌*◌, inr, suc, None, Some, Ok, Err, sym, ◌∙◌, ap, subst, arith}
-use Rattle.std.specs.Prelude.{IfOk}
+use Rattle.std.proofs.Common.{◌≡◌, ◌-◌, inr, suc, Some, Ok, Err, sym, ◌∙◌, ap, subst, arith}
 use Rattle.std.proofs.lemmas.Result.{err_from_is_err_and}
 use Rattle.ctr_redo.specs.States.{State}
-use Rattle.ctr_meta.specs.Tables.{Tables}
 use Rattle.ctr_page.specs.declared.walk.BadChain.TheVariants.{OnPage, TooLong}
-use Rattle.ctr_area.specs.Reading.{area_of}
 use Rattle.ctr_changes.specs.States.{pages_in}
 use Rattle.ctr_calls.proofs.Joins.{answers_ok, answers_err}
 use Rattle.ctr_calls.proofs.PagesRead.{reads_on, same_now, same_meta, was_read}
