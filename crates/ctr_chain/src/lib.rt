@@ -8,3 +8,6 @@ mod looking;
 mod seeking;
 
 pub use committed::newest;
+
+#[cfg(test)]
+mod store_tests;
