@@ -1,0 +1,87 @@
+use Rattle.std.proofs.Common.{◌≡◌, ◌-◌, inr, suc, Some, Ok, Err, sym, ◌∙◌, ap, subst, arith}
+use Rattle.std.proofs.lemmas.Result.{err_from_is_err_and}
+use Rattle.ctr_redo.specs.States.{State}
+use Rattle.ctr_page.specs.declared.walk.BadChain.TheVariants.{OnPage, TooLong}
+use Rattle.ctr_changes.specs.States.{pages_in}
+use Rattle.ctr_calls.proofs.Joins.{answers_ok, answers_err}
+use Rattle.ctr_calls.proofs.PagesRead.{reads_on, same_now, same_meta, was_read}
+use Rattle.ctr_chain.specs.declared.seeking.VersionAt.TheVariants.{Kept}
+use Rattle.ctr_chain.specs.Looking.{LooksAtEntry}
+use Rattle.ctr_chain.specs.Seeing.{sought_by}
+use Rattle.ctr_chain.specs.Seeking.{EntriesOf, sought_along}
+use Rattle.ctr_chain.proofs.Steps.{bad_here, found_here, next_here, at_end}
+use Rattle.ctr_chain.proofs.seeking.seek_along.Goals as goal
+
+pub returns-then-left-eq0-clause-leaves : goal.returns-then-left-eq0-clause-leaves
+returns-then-left-eq0-clause-leaves g c =
+    answers_ok g.O.Origin.first g.D.Disk tt (Err (TooLong c.loop-at.last c.most_entries-most.result)) c.args.store.now c.loop-at.store
+    (was_read g.O.Origin.first g.D.Disk _ c.args.store.now c.loop-at.store c.loop-at.invariant.0
+    (λ u. omega (arith, u.1, c.if-left-eq0.true, c.most_entries-most.ensures.some)))
+
+pub returns-in_err-bad-clause-leaves : goal.returns-in_err-bad-clause-leaves
+returns-in_err-bad-clause-leaves g c =
+    let p = err_from_is_err_and c.from_residual.result c.from_residual.ensures.1 in
+    rw (p.1, p.2) (answers_err g.O.Origin.first g.D.Disk c.in_err-bad.field-0.0 c.args.store.now c.look_at_entry.new.store
+    (reads_on g.O.Origin.first g.D.Disk _ c.args.store.now c.loop-at.store c.look_at_entry.new.store (Err c.in_err-bad.field-0.0) c.loop-at.invariant.0 c.in_err-bad.ensures.leaves))
+
+pub returns-in-Err-clause-ends : goal.returns-in-Err-clause-ends
+returns-in-Err-clause-ends g c = λ told sound kinds.
+    let t = c.args.table.now in
+    let at = c.loop-at.at in
+    let pages = pages_in c.args.store.now.now in
+    let test = sought_by c.args.store.now.meta.tables c.args.sought.now in
+    let same = same_now g.O.Origin.first g.D.Disk _ c.args.store.now c.loop-at.store c.loop-at.invariant.0 told sound in
+    let looks = subst (λ r. LooksAtEntry c.args.counted t at (pages at.page) r) c.in-Err.is (subst (λ (st : State). LooksAtEntry c.args.counted t at (pages_in st at.page) c.in_ok-bad.field-0) same (c.in_ok-bad.ensures.looks told sound)) in
+    let goes : c.loop-at.left ≡ suc (c.loop-at.left - 1) = omega (arith, c.if-left-eq0.false) in
+    sym (ap (λ n. sought_along test (record { counted = c.args.counted; pages = pages; entry = t.entry }) n c.args.home c.args.from) (sym c.most_entries-most.ensures.value)
+    ∙ c.loop-at.invariant.1 told sound kinds ∙ bad_here test c.args.counted pages t kinds c.loop-at.left (c.loop-at.left - 1) c.loop-at.last at c.in-Err.bad goes c.loop-at-test.true looks)
+
+pub returns-in-Err-clause-leaves : goal.returns-in-Err-clause-leaves
+returns-in-Err-clause-leaves g c =
+    answers_ok g.O.Origin.first g.D.Disk c.in_ok-bad.field-0 (Err (OnPage c.loop-at.at.page c.in-Err.bad)) c.args.store.now c.look_at_entry.new.store
+    (reads_on g.O.Origin.first g.D.Disk _ c.args.store.now c.loop-at.store c.look_at_entry.new.store (Ok c.in_ok-bad.field-0) c.loop-at.invariant.0 c.in_ok-bad.ensures.leaves)
+
+pub returns-then-is-clause-ends : goal.returns-then-is-clause-ends
+returns-then-is-clause-ends g c = λ told sound kinds.
+    let t = c.args.table.now in
+    let at = c.loop-at.at in
+    let l = c.in-Ok.look in
+    let pages = pages_in c.args.store.now.now in
+    let test = sought_by c.args.store.now.meta.tables c.args.sought.now in
+    let same = same_now g.O.Origin.first g.D.Disk _ c.args.store.now c.loop-at.store c.loop-at.invariant.0 told sound in
+    let looks = subst (λ r. LooksAtEntry c.args.counted t at (pages at.page) r) c.in-Ok.is (subst (λ (st : State). LooksAtEntry c.args.counted t at (pages_in st at.page) c.in_ok-bad.field-0) same (c.in_ok-bad.ensures.looks told sound)) in
+    let goes : c.loop-at.left ≡ suc (c.loop-at.left - 1) = omega (arith, c.if-left-eq0.false) in
+    let meta = c.meta.ensures.tables ∙ c.in_ok-bad.ensures.leaves.keeps.meta ∙ same_meta g.O.Origin.first g.D.Disk _ c.args.store.now c.loop-at.store c.loop-at.invariant.0 in
+    let is = ap (λ m. sought_by m.tables c.args.sought.now l.xid) (sym meta) ∙ sym c.is.ensures ∙ c.if-is.true in
+    sym (ap (λ n. sought_along test (record { counted = c.args.counted; pages = pages; entry = t.entry }) n c.args.home c.args.from) (sym c.most_entries-most.ensures.value)
+    ∙ c.loop-at.invariant.1 told sound kinds ∙ found_here test c.args.counted pages t kinds c.loop-at.left (c.loop-at.left - 1) c.loop-at.last at l goes c.loop-at-test.true looks is)
+
+pub returns-then-is-clause-leaves : goal.returns-then-is-clause-leaves
+returns-then-is-clause-leaves g c =
+    answers_ok g.O.Origin.first g.D.Disk c.in_ok-bad.field-0 (Ok (Some (record { xid = c.in-Ok.look.xid; at = Kept c.loop-at.at }))) c.args.store.now c.look_at_entry.new.store
+    (reads_on g.O.Origin.first g.D.Disk _ c.args.store.now c.loop-at.store c.look_at_entry.new.store (Ok c.in_ok-bad.field-0) c.loop-at.invariant.0 c.in_ok-bad.ensures.leaves)
+
+pub loop-at-preserved : goal.loop-at-preserved
+loop-at-preserved g c =
+    let t = c.args.table.now in
+    let at = c.loop-at.at in
+    let l = c.in-Ok.look in
+    let pages = pages_in c.args.store.now.now in
+    let test = sought_by c.args.store.now.meta.tables c.args.sought.now in
+    let goes : c.loop-at.left ≡ suc (c.loop-at.left - 1) = omega (arith, c.if-left-eq0.false) in
+    let meta = c.meta.ensures.tables ∙ c.in_ok-bad.ensures.leaves.keeps.meta ∙ same_meta g.O.Origin.first g.D.Disk _ c.args.store.now c.loop-at.store c.loop-at.invariant.0 in
+    let isnt = ap (λ m. sought_by m.tables c.args.sought.now l.xid) (sym meta) ∙ sym c.is.ensures ∙ c.if-is.false in (
+      inr (answers_ok g.O.Origin.first g.D.Disk c.in_ok-bad.field-0 tt c.args.store.now c.look_at_entry.new.store
+          (reads_on g.O.Origin.first g.D.Disk _ c.args.store.now c.loop-at.store c.look_at_entry.new.store (Ok c.in_ok-bad.field-0) c.loop-at.invariant.0 c.in_ok-bad.ensures.leaves)),
+      λ told sound kinds.
+          let same = same_now g.O.Origin.first g.D.Disk _ c.args.store.now c.loop-at.store c.loop-at.invariant.0 told sound in
+          let looks = subst (λ r. LooksAtEntry c.args.counted t at (pages at.page) r) c.in-Ok.is (subst (λ (st : State). LooksAtEntry c.args.counted t at (pages_in st at.page) c.in_ok-bad.field-0) same (c.in_ok-bad.ensures.looks told sound)) in
+          c.loop-at.invariant.1 told sound kinds ∙ next_here test c.args.counted pages t kinds c.loop-at.left (c.loop-at.left - 1) c.loop-at.last at l goes c.loop-at-test.true looks isnt,
+    )
+
+pub returns-clause-ends : goal.returns-clause-ends
+returns-clause-ends g c = λ told sound kinds.
+    let r : EntriesOf = record { counted = c.args.counted; pages = pages_in c.args.store.now.now; entry = c.args.table.now.entry } in
+    let test = sought_by c.args.store.now.meta.tables c.args.sought.now in
+    sym (ap (λ n. sought_along test r n c.args.home c.args.from) (sym c.most_entries-most.ensures.value)
+    ∙ c.loop-at.invariant.1 told sound kinds ∙ at_end test r c.loop-at.left c.loop-at.last c.loop-at.at c.loop-at-test.false)

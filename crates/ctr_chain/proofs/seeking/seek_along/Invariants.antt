@@ -1,0 +1,21 @@
+use Rattle.std.proofs.Common.{◌≡◌}
+use Rattle.std.specs.Prelude.{IsTrue}
+use Rattle.ctr_base.specs.Base.{IsSoundImage}
+use Rattle.ctr_area.specs.Reading.{area_of}
+use Rattle.ctr_area.specs.Checked.{kinds_at}
+use Rattle.ctr_changes.specs.States.{pages_in}
+use Rattle.ctr_calls.proofs.PagesRead.{HasRead}
+use Rattle.ctr_pvs.specs.Reading.{kinds_said}
+use Rattle.ctr_chain.specs.Seeing.{sought_by}
+use Rattle.ctr_chain.specs.Seeking.{EntriesOf, sought_along}
+use Rattle.ctr_chain.proofs.seeking.seek_along.Given as goal
+
+abbrev pub invariant-loop-at : goal.invariant-loop-at
+invariant-loop-at g l =
+    let r : EntriesOf = record { counted = l.counted; pages = pages_in l.fn.store.now; entry = l.table.entry } in
+    HasRead g.O.Origin.first g.D.Disk ((l.at ≡ l.fn.from) × (l.left ≡ l.most)) l.fn.store l.store
+    × (IsTrue g.D.Disk.tells → IsSoundImage g.O.Origin.first → kinds_said l.table ≡ kinds_at (area_of r.pages) r.entry
+    → sought_along (sought_by l.fn.store.meta.tables l.sought) r l.most l.home l.fn.from ≡ sought_along (sought_by l.fn.store.meta.tables l.sought) r l.left l.last l.at)
+
+abbrev pub decreases-loop-at : goal.decreases-loop-at
+decreases-loop-at g l = l.left

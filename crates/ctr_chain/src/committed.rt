@@ -1,0 +1,67 @@
+// The newest committed version of a row.
+ghost use Rattle.std.specs.Prelude.{◌≡◌, ◌≤◌, ◌<◌, false, IsTrue, IfOk};
+ghost use Rattle.ctr_base.specs.Base.{IsSoundImage};
+ghost use Rattle.ctr_store.specs.Store.{LeavesPage};
+ghost use Rattle.ctr_area.specs.Chains.{chain_of};
+ghost use Rattle.ctr_area.specs.Images.{is_committed_in};
+ghost use Rattle.ctr_calls.specs.Damage.{damage_told, EndsTold, ReadsPages};
+ghost use Rattle.ctr_changes.specs.States.{pages_in, area_in};
+ghost use Rattle.ctr_chain.specs.Seeing.{first_xid};
+ghost use Rattle.ctr_chain.specs.Seeking.{sought_at, xid_found, xids_found};
+
+use crate::seeking::{Found, Sought, seek};
+use ctr_base::Origin;
+use ctr_calls::tell;
+use ctr_disk::{Disk, StoreFault};
+use ctr_page::{BadChain, Place};
+use ctr_store::Store;
+use ctr_types::Xid;
+
+fn xid_found(found: Option<Found>) -> Option<Xid>
+    ensures { result ≡ xid_found found }
+{
+    match found {
+        Some(found) => Some(found.xid),
+        None => None,
+    }
+}
+
+/// What the search for the newest committed version of a row found.
+fn newest_found<D: Disk, O: Origin>(
+    store: &mut Store<D, O>,
+    place: Place,
+) -> Result<Result<Option<Xid>, BadChain>, StoreFault>
+    requires going { store.old.stopped ≡ false }
+    requires counted { (place.page < store.old.now.counted) × (64 ≤ store.old.now.counted) × (store.old.now.counted ≤ 30000) }
+    ensures ends { IsTrue D.tells → IsSoundImage O.first
+        → IfOk result (λ r. r ≡ xids_found (sought_at (is_committed_in store.old.meta.tables) store.old.now.counted (pages_in store.old.now) place)) }
+    ensures finds { IsTrue D.tells → IsSoundImage O.first
+        → IfOk result (λ r. IfOk r (λ x. x ≡ first_xid (is_committed_in store.old.meta.tables) (chain_of (area_in store.old.now).older ((area_in store.old.now).slot place)))) }
+    ensures leaves { LeavesPage O.first D.Disk store.old store.new result }
+{
+    match seek(store, place, &Sought::Committed)? {
+        Err(bad) => Ok(Err(bad)),
+        Ok(searched) => Ok(Ok(xid_found(searched.found))),
+    }
+}
+
+/// Whose the newest committed version of the row at a place is, or none where no version is committed. The slot, its table and each
+/// version entry that the search passes are checked as they are read; versions in the slot cost no version entry. It logs nothing, and
+/// takes no memory.
+pub fn newest<D: Disk, O: Origin>(
+    store: &mut Store<D, O>,
+    place: Place,
+) -> Result<Option<Xid>, StoreFault>
+    requires going { store.old.stopped ≡ false }
+    requires counted { (place.page < store.old.now.counted) × (64 ≤ store.old.now.counted) × (store.old.now.counted ≤ 30000) }
+    // Damage is of the first on the way that fails its checks, or of a chain that is too long, and is told where that stands in the file.
+    ensures ends { IsTrue D.tells → IsSoundImage O.first
+        → EndsTold (damage_told D.Disk store.new) (λ r. r ≡ xids_found (sought_at (is_committed_in store.old.meta.tables) store.old.now.counted (pages_in store.old.now) place)) result }
+    // It is the first of the row's chain that is committed.
+    ensures finds { IsTrue D.tells → IsSoundImage O.first
+        → IfOk result (λ x. x ≡ first_xid (is_committed_in store.old.meta.tables) (chain_of (area_in store.old.now).older ((area_in store.old.now).slot place))) }
+    ensures leaves { ReadsPages O.first D.Disk store.old store.new result }
+{
+    let found = newest_found(store, place);
+    tell(store, found)
+}

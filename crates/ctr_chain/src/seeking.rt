@@ -1,0 +1,183 @@
+// The search through the versions of a row.
+ghost use Rattle.std.specs.Prelude.{◌≡◌, ◌≢◌, ◌≤◌, ◌<◌, ◌*◌, false, IsTrue, IfOk};
+ghost use Rattle.ctr_base.specs.Base.{IsSoundImage};
+ghost use Rattle.ctr_store.specs.Store.{LeavesPage};
+ghost use Rattle.ctr_changes.specs.States.{pages_in, area_in};
+ghost use Rattle.ctr_page.specs.Columns.{kinds_width as width_of_kinds};
+ghost use Rattle.ctr_page.specs.Places.{kept_size as size_of_kept, room_for as room_of};
+ghost use Rattle.ctr_page.specs.Walking.{most_in_chain};
+ghost use Rattle.ctr_area.specs.Checked.{kinds_at};
+ghost use Rattle.ctr_pvs.specs.Reading.{kinds_said};
+ghost use Rattle.ctr_chain.specs.Seeing.{sought_by};
+ghost use Rattle.ctr_chain.specs.Seeking.{sought_along, FoundIn, SearchSaid};
+ghost use Rattle.ctr_pvs.specs.Table.{TableFits};
+
+use crate::looking::{SlotLook, look_at_entry, look_at_row};
+use ctr_base::Origin;
+use ctr_disk::{Disk, StoreFault};
+use ctr_meta::Meta;
+use ctr_page::{BadChain, Place, kept_size, kinds_width, room_for};
+use ctr_pvs::{TableOf, table_on};
+use ctr_records::PageNo;
+use ctr_snap::Snapshot;
+use ctr_store::Store;
+use ctr_types::{Fate, Xid};
+
+/// Which version of a row is sought.
+pub(crate) enum Sought<'a> {
+    /// What a snapshot sees, and what is a session's own.
+    Seen {
+        snapshot: &'a Snapshot,
+        me: Option<Xid>,
+    },
+    /// What is committed.
+    Committed,
+}
+
+impl<'a> Sought<'a> {
+    /// Whether the version of a transaction is sought; 0 is nobody.
+    fn is(&self, meta: &Meta, x: Xid) -> bool
+        ensures { result ≡ sought_by meta.now.tables self.now x }
+    {
+        if x == 0 {
+            return false;
+        }
+        let fate = meta.fate(x);
+        match self {
+            Sought::Seen { snapshot, me } => snapshot.sees(x, fate, *me),
+            Sought::Committed => fate == Fate::Committed,
+        }
+    }
+}
+
+/// Where a version of a row stands.
+#[derive(Clone, Copy, Debug, PartialEq, Eq)]
+pub(crate) enum VersionAt {
+    /// In the slot, the newest.
+    Head,
+    /// In the slot, the one before it.
+    Previous,
+    /// In a version entry.
+    Kept(Place),
+}
+
+/// A version of a row: whose it is, and where it stands.
+#[derive(Clone, Copy, Debug, PartialEq, Eq)]
+pub(crate) struct Found {
+    pub(crate) xid: Xid,
+    pub(crate) at: VersionAt,
+}
+
+/// What a slot alone says of the search: the version that is sought, where it is in the slot; none, where it isn't and nothing is kept
+/// behind the slot; or nothing, where the search goes on there.
+fn found_in(sought: &Sought, meta: &Meta, look: SlotLook) -> Option<Option<Found>>
+    ensures { FoundIn (sought_by meta.now.tables sought.now) look result }
+{
+    if sought.is(meta, look.head) {
+        return Some(Some(Found {
+            xid: look.head,
+            at: VersionAt::Head,
+        }));
+    }
+    if sought.is(meta, look.previous) {
+        return Some(Some(Found {
+            xid: look.previous,
+            at: VersionAt::Previous,
+        }));
+    }
+    if look.older.page == 0 {
+        return Some(None);
+    }
+    None
+}
+
+/// The most version entries that a chain of a table can have: as many as fit on the counted pages.
+fn most_entries(table: &TableOf, counted: u32) -> u32
+    requires few { table.now.count ≤ 7 }
+    requires counted { (64 ≤ counted) × (counted ≤ 30000) }
+    ensures value { result ≡ most_in_chain counted * room_of (size_of_kept (width_of_kinds (kinds_said table.now))) }
+    ensures some { 0 < result }
+{
+    let room = room_for(kept_size(kinds_width(table.kinds())));
+    counted.saturating_sub(3) * room as u32
+}
+
+/// The first version that is sought along the pointers, from a place on, behind a page.
+fn seek_along<D: Disk, O: Origin>(
+    store: &mut Store<D, O>,
+    table: &TableOf,
+    counted: u32,
+    sought: &Sought,
+    from: Place,
+    home: PageNo,
+) -> Result<Result<Option<Found>, BadChain>, StoreFault>
+    requires going { store.old.stopped ≡ false }
+    requires some { from.page ≢ 0 }
+    requires counted { (64 ≤ counted) × (counted ≤ 30000) }
+    requires few { table.now.count ≤ 7 }
+    ensures ends { IsTrue D.tells → IsSoundImage O.first → kinds_said table.now ≡ kinds_at (area_in store.old.now) table.now.entry
+        → IfOk result (λ r. r ≡ sought_along (sought_by store.old.meta.tables sought.now) (record { counted = counted; pages = pages_in store.old.now; entry = table.now.entry })
+        (most_in_chain counted * room_of (size_of_kept (width_of_kinds (kinds_said table.now)))) home from) }
+    ensures leaves { LeavesPage O.first D.Disk store.old store.new result }
+{
+    let most = most_entries(table, counted);
+    let mut at = from;
+    let mut last = home;
+    let mut left = most;
+    while at.page != 0 {
+        if left == 0 {
+            return Ok(Err(BadChain::TooLong { last, most }));
+        }
+        let look = match look_at_entry(store, table, counted, at)? {
+            Err(bad) => return Ok(Err(BadChain::OnPage(at.page, bad))),
+            Ok(look) => look,
+        };
+        if sought.is(store.meta(), look.xid) {
+            let xid = look.xid;
+            let at = VersionAt::Kept(at);
+            return Ok(Ok(Some(Found { xid, at })));
+        }
+        last = at.page;
+        at = look.older;
+        left -= 1;
+    }
+    Ok(Ok(None))
+}
+
+/// What the search through the versions of a row found: its table, and the version.
+#[derive(Clone, Copy, Debug, PartialEq, Eq)]
+pub(crate) struct Searched {
+    pub(crate) table: TableOf,
+    pub(crate) found: Option<Found>,
+}
+
+/// The first version that is sought of the row at a place.
+pub(crate) fn seek<D: Disk, O: Origin>(
+    store: &mut Store<D, O>,
+    place: Place,
+    sought: &Sought,
+) -> Result<Result<Searched, BadChain>, StoreFault>
+    requires going { store.old.stopped ≡ false }
+    requires counted { (place.page < store.old.now.counted) × (64 ≤ store.old.now.counted) × (store.old.now.counted ≤ 30000) }
+    ensures said { IsTrue D.tells → IsSoundImage O.first → IfOk result (λ r. SearchSaid (sought_by store.old.meta.tables sought.now) store.old.now.counted (pages_in store.old.now) place r) }
+    ensures fits { IfOk result (λ r. IfOk r (λ s. TableFits s.table)) }
+    ensures leaves { LeavesPage O.first D.Disk store.old store.new result }
+{
+    let counted = store.counted();
+    let table = match table_on(store, 1, place.page)? {
+        Err(bad) => return Ok(Err(bad)),
+        Ok(table) => table,
+    };
+    let look = match look_at_row(store, &table, counted, place)? {
+        Err(bad) => return Ok(Err(BadChain::OnPage(place.page, bad))),
+        Ok(look) => look,
+    };
+    if let Some(found) = found_in(sought, store.meta(), look) {
+        return Ok(Ok(Searched { table, found }));
+    }
+    let found = match seek_along(store, &table, counted, sought, look.older, place.page)? {
+        Err(bad) => return Ok(Err(bad)),
+        Ok(found) => found,
+    };
+    Ok(Ok(Searched { table, found }))
+}

@@ -1,0 +1,120 @@
+//! The newest committed version of a row, in a store that is opened on bytes made by hand.
+ghost use Rattle.std.specs.Prelude.{◌≡◌};
+
+use crate::*;
+use ctr_base::Origin;
+use ctr_disk::{Disk, Image, MemDisk, SilentDisk, StoreFault};
+use ctr_page::Place;
+use ctr_store::Store;
+use ctr_types::{File, List, Xid};
+use std::alloc::{AllocError, Global};
+use std::marker::Brand;
+use std::test::Fail;
+
+// The root, written once: LogA from LSN 1 on, 64 pages.
+const ROOT: [u8; 38] =
+    *b"\x01\0\0\0\0\x01\0\0\0\0\0\0\0CTRDB001\x01\0\0\0\0\x01\0\0\0\0\0\0\0\x40\0\0\0";
+
+// The Checkpoint in a batch of its own: the next transaction is 3, none is open or aborted, so 1 and 2 are committed.
+const LOG: [u8; 64] =
+    *b"\x01\x2a\0\0\0\0\0\0\0\x01\0\0\0\0\0\0\0\x01\0\0\0\x22\0\0\0\0\0\0\0\x01\x03\0\0\0\0\0\0\0\0\0\0\0\0\0\0\0\0\0\0\0\0\0\0\0\0\0\0\0\0\0\0\0\0\0";
+
+// Its home begins with 13 bytes, then the entry 0: a live table of one column.
+fn first_page() -> [u8; 228] {
+    let mut page = [0; 228];
+    page[0] = 1;
+    page[1] = 1;
+    page[5] = 1;
+    page[13] = 1;
+    page[30] = 1;
+    page[31] = b't';
+    page[47] = 1;
+    page[48] = 1;
+    page[49] = b'k';
+    page
+}
+
+// Page 3: a slot of the key 7, by these transactions, with a version kept at the first place of page 4.
+fn third_page(head: u8, previous: u8) -> [u8; 62] {
+    let mut page = [0; 62];
+    page[0] = 1;
+    page[1] = 3;
+    page[5] = 1;
+    page[13] = 1;
+    page[29] = 1;
+    page[30] = 7;
+    page[38] = head;
+    page[47] = previous;
+    page[56] = 4;
+    page
+}
+
+// Page 4: a tombstone of this transaction, and a pointer to the first place of a page.
+fn fourth_page(xid: u8, older: u8) -> [u8; 53] {
+    let mut page = [0; 53];
+    page[0] = 1;
+    page[1] = 4;
+    page[5] = 1;
+    page[13] = 2;
+    page[29] = 1;
+    page[30] = 7;
+    page[38] = xid;
+    page[46] = 1;
+    page[47] = older;
+    page
+}
+
+type Found = Result<Option<Xid>, StoreFault>;
+
+fn found<D: Disk + Drop, O: Origin>(alloc: Global, disk: D) -> Option<Found>
+    requires { O.first ≡ D.reads disk }
+{
+    match Store::<D, O>::open(alloc, disk, 8) {
+        Ok(store) => {
+            let mut store = store;
+            let counted = store.counted();
+            if counted < 64 || counted > 30_000 {
+                return None;
+            }
+            Some(newest(&mut store, Place { page: 3, slot: 0 }))
+        }
+        Err(_) => None,
+    }
+}
+
+fn seek(alloc: Global, third: &[u8], fourth: &[u8]) -> Result<Option<Found>, AllocError> {
+    let mut image = Image::new(alloc);
+    image.write(alloc, File::Root, 0, &ROOT)?;
+    image.set_len(alloc, File::Root, 64)?;
+    image.write(alloc, File::LogA, 0, &LOG)?;
+    image.set_len(alloc, File::Pages, 528_384)?;
+    image.write(alloc, File::Pages, 8_256, &first_page())?;
+    image.write(alloc, File::Pages, 24_768, third)?;
+    image.write(alloc, File::Pages, 33_024, fourth)?;
+    let disk = MemDisk::new(alloc, image, List::new(alloc))?;
+    Ok(found::<SilentDisk, Brand>(alloc, SilentDisk { disk }))
+}
+
+#[test]
+fn the_newest_committed_version(rt: HostRuntime) -> Result<(), Fail> {
+    let alloc = rt.alloc();
+    assert!(rt; seek(alloc, &third_page(2, 1), &fourth_page(1, 0))? == Some(Ok(Some(2))));
+    assert!(rt; seek(alloc, &third_page(5, 2), &fourth_page(1, 0))? == Some(Ok(Some(2))));
+    assert!(rt; seek(alloc, &third_page(5, 4), &fourth_page(1, 0))? == Some(Ok(Some(1))));
+    assert!(rt; seek(alloc, &third_page(5, 4), &fourth_page(3, 0))? == Some(Ok(None)));
+    Ok(())
+}
+
+// 61 pages have 10,370 version entries of 24 bytes at most.
+#[test]
+fn version_entries_that_lead_in_a_ring(rt: HostRuntime) -> Result<(), Fail> {
+    let alloc = rt.alloc();
+    let bad = StoreFault::Damaged {
+        file: File::Pages,
+        at: 33_024,
+        want: 10_370,
+        got: 10_371,
+    };
+    assert!(rt; seek(alloc, &third_page(5, 4), &fourth_page(3, 4))? == Some(Err(bad)));
+    Ok(())
+}
