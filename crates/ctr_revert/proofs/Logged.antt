@@ -1,6 +1,6 @@
 -- What the call leaves, by what its steps leave.
-use Rattle.std.proofs.Common.{◌≡◌, ℕ, inr, List, Result, Ok, Err}
-use Rattle.std.specs.Prelude.{⊤, IsTrue}
+use Rattle.std.proofs.Common.{inr, Result, Ok, Err}
+use Rattle.std.specs.Prelude.{⊤, IsTrue, IfErr}
 use Rattle.ctr_disk.specs.declared.disk.Disk.{Ghosts}
 use Rattle.ctr_disk.specs.declared.disk.Image.{Image}
 use Rattle.ctr_disk.specs.declared.fault.StoreFault.{StoreFault}
@@ -8,11 +8,11 @@ use Rattle.ctr_page.specs.declared.walk.BadChain.{BadChain}
 use Rattle.ctr_page.specs.declared.rows.Place.{Place}
 use Rattle.ctr_base.specs.Base.{IsSoundImage}
 use Rattle.ctr_store.specs.Store.{View, LeavesPage}
-use Rattle.ctr_calls.specs.OneRecord.{LogsOne}
+use Rattle.ctr_calls.specs.OneRecord.{WhyNotLogged, LogsOne}
 use Rattle.ctr_calls.proofs.Joins.{answers_ok, answers_err, pages_join}
 use Rattle.ctr_changes.specs.States.{pages_in}
 use Rattle.ctr_revert.specs.declared.slots.SlotLaid.{SlotLaid}
-use Rattle.ctr_revert.specs.Reverting.{lost_record, bytes_laid, revert_check, RevertsHead, EndsReverting, RevertsRow}
+use Rattle.ctr_revert.specs.Reverting.{lost_record, bytes_laid, RevertsHead, PassesRow, EndsReverting, RevertsRow}
 
 -- what is laid was given to the log
 pub reverts : {D : Type 0} (first : Image) (g : Ghosts D) (at : Place) (l : SlotLaid) (a b : View D) (result : Result ⊤ StoreFault) → LogsOne {T = ⊤} first g (lost_record l.x at l.w (bytes_laid l)) a b result
@@ -21,9 +21,10 @@ reverts first g at l a b (Ok t) one head = (l.x, l.w, bytes_laid l, one, head)
 reverts first g at l a b (Err e) one head = inr (l.x, l.w, bytes_laid l, one)
 
 -- where all passes
-pub ends_passed : (told : BadChain → StoreFault) (counted : ℕ) (pages : ℕ → List ℕ) (at : Place) (result : Result ⊤ StoreFault) → revert_check counted pages at ≡ Ok tt → EndsReverting told counted pages at result
-ends_passed told counted pages at (Ok t) passes = passes
-ends_passed told counted pages at (Err e) passes = inr passes
+pub ends_laid : {D : Type 0} (told : BadChain → StoreFault) (at : Place) (l : SlotLaid) (a b : View D) (result : Result ⊤ StoreFault) → PassesRow a.now.counted (pages_in a.now) at l
+    → IfErr result (WhyNotLogged (lost_record l.x at l.w (bytes_laid l)) a b) → EndsReverting told at a b result
+ends_laid told at l a b (Ok t) passed why = passed.passes
+ends_laid told at l a b (Err e) passed why = inr (passed.passes, l.x, l.w, bytes_laid l, passed.head, why)
 
 -- a page that was read behind another, whatever is answered of it
 module _ {D : Type 0} (first : Image) (g : Ghosts D) (a b c : View D) {S T : Type 0} (x : S) (one : LeavesPage {T = S} first g a b (Ok x)) where

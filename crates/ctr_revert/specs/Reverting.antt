@@ -22,7 +22,7 @@ use Rattle.ctr_area.specs.Reading.{header_on, width_on, area_of}
 use Rattle.ctr_area.specs.Checked.{kinds_at}
 use Rattle.ctr_base.specs.Base.{IsSoundImage}
 use Rattle.ctr_store.specs.Store.{View}
-use Rattle.ctr_calls.specs.OneRecord.{LogsOne}
+use Rattle.ctr_calls.specs.OneRecord.{WhyNotLogged, LogsOne}
 use Rattle.ctr_calls.specs.Damage.{EndsTold, ReadsPages}
 use Rattle.ctr_changes.specs.States.{pages_in}
 use Rattle.ctr_changes.specs.Changing.{laid_on_place}
@@ -216,13 +216,16 @@ pub record LiesThere (number : ℕ) (l : SlotLaid) : Type 0 where
   pub small : slot_size l.w ≤ 2072
   pub inside : start_of (slot_size l.w) number + slot_size l.w ≤ PAGE_SIZE
 
--- Where the call ends: all passes; or what is wrong is told; or all passes and the record was refused.
-abbrev pub EndsReverting : (BadChain → StoreFault) → ℕ → (ℕ → List ℕ) → Place
+-- Where the call ends: all passes; or what is wrong is told; or all passes, and the record that takes
+-- the head was refused.
+abbrev pub EndsReverting : {D : Type 0} → (BadChain → StoreFault) → Place → View D → View D
     → Result ⊤ StoreFault → Type 0
-EndsReverting told counted pages at (Ok x) = revert_check counted pages at ≡ Ok tt
-EndsReverting told counted pages at (Err cause) =
-    EndsTold {T = ⊤} told (λ r. r ≡ revert_check counted pages at) (Err cause)
-    ⊎ (revert_check counted pages at ≡ Ok tt)
+EndsReverting told at a b (Ok x) = revert_check a.now.counted (pages_in a.now) at ≡ Ok tt
+EndsReverting told at a b (Err cause) =
+    EndsTold {T = ⊤} told (λ r. r ≡ revert_check a.now.counted (pages_in a.now) at) (Err cause)
+    ⊎ ((revert_check a.now.counted (pages_in a.now) at ≡ Ok tt)
+    × (x : ℕ) × (w : ℕ) × (bytes : List ℕ) × RevertsHead (pages_in a.now) at x w bytes
+    × WhyNotLogged (lost_record x at w bytes) a b cause)
 
 -- Its record is logged, by what the pages say; where something is wrong pages were read; where the
 -- store refused nothing is logged.

@@ -162,7 +162,7 @@ pub fn revert_row<D: Disk, O: Origin>(
     requires room { HasRoomForOne 0 0 store.old }
     requires counted { (place.page < store.old.now.counted) × (store.old.now.counted ≤ 30000) }
     // Damage is told where it stands in the file of pages.
-    ensures ends { IsTrue D.tells → IsSoundImage O.first → EndsReverting (damage_told D.Disk store.new) store.old.now.counted (pages_in store.old.now) place result }
+    ensures ends { IsTrue D.tells → IsSoundImage O.first → EndsReverting (damage_told D.Disk store.new) place store.old store.new result }
     ensures one { RevertsRow O.first D.Disk place store.old store.new result }
     // The slot is without its head, and nothing else in the pages changes.
     ensures reverted { IsTrue D.tells → IsSoundImage O.first → KeepsKey (area_in store.old.now) place → ((area_in store.old.now).slot place).used ≡ true

@@ -10,7 +10,7 @@ use Rattle.ctr_calls.proofs.Damages.{told_ends, told_ok, reads_err}
 use Rattle.ctr_calls.proofs.Records.{one_behind}
 use Rattle.ctr_pvs.proofs.Freeing.{told_as}
 use Rattle.ctr_revert.specs.Reverting.{lost_record, bytes_laid, revert_check, PassesRow, EndsRow, LiesThere}
-use Rattle.ctr_revert.proofs.Logged.{reverts}
+use Rattle.ctr_revert.proofs.Logged.{reverts, ends_laid}
 use Rattle.ctr_revert.proofs.Reverted.{row_area}
 use Rattle.ctr_revert.proofs.revert.revert_row.Given.{Over}
 use Rattle.ctr_revert.proofs.revert.revert_row.Goals.{After-lay}
@@ -46,6 +46,11 @@ module _ (g : Over) (c : After-lay g) where
       let a = c.args.store.now in
       let l = c.in_ok-laid.laid in
       one_behind g.O.Origin.first g.D.Disk (lost_record l.x c.args.place l.w (bytes_laid l)) a c.tell.new.store c.lay.new.store l (c.in_ok-laid.ensures.leaves a c.search_row-found.ensures.leaves) c.lay.result c.lay.ensures.one
+
+pub returns-clause-ends : goal.returns-clause-ends
+returns-clause-ends g c = λ told sound.
+    let at = (goal.at.returns-clause-ends g c).After-lay in
+    ends_laid (damage_told g.D.Disk c.lay.new.store) c.args.place c.in_ok-laid.laid c.args.store.now c.lay.new.store c.lay.result (passes g at told sound) ((one g at).refused told sound)
 
 pub returns-clause-one : goal.returns-clause-one
 returns-clause-one g c =
