@@ -5,7 +5,8 @@ use crate::catalog::{changer, drop_entry, make, named, undo};
 use crate::pages::{give_back, grow, make_empty, put_in_front, take};
 use crate::rows::{found, put, room};
 use crate::steps::{Step, step_of};
-use crate::turns::{FRAMES, Mem, Told, begin, commit, ready, snap};
+use crate::turns::{FRAMES, Mem, Told, abort, begin, commit, ready, snap};
+use crate::versions::{add_page, entry as entry_at, lay, put_off, revert, slot, spare, trim};
 use crate::words::split_word;
 use ctr_alloc::Search;
 use ctr_disk::{Image, MemDisk, SilentDisk, StoreFault};
@@ -92,6 +93,37 @@ fn seek(store: &mut Mem, entry: u8, from: i64, count: u64, some: u64) -> Result<
     )
 }
 
+// A step on versions.
+fn play_version(store: &mut Mem, player: &mut Player, step: Step) -> Result<Told, StoreFault>
+    requires going { store.old.stopped ≡ false }
+    ensures going { OnOk result (store.new.stopped ≡ false) }
+{
+    match step {
+        Step::Versions { entry } => add_page(store, &mut player.search, player.x, entry),
+        Step::Spare { entry } => spare(store, entry),
+        Step::Row {
+            place,
+            width,
+            key,
+            says,
+            previous,
+            older,
+        } => lay(store, player.x, place, width, key, says, previous, older),
+        Step::Keep {
+            place,
+            width,
+            key,
+            version,
+            older,
+        } => put_off(store, player.x, place, width, key, version, older),
+        Step::Trim { place } => trim(store, place),
+        Step::Revert { place } => revert(store, place),
+        Step::Slot { place, width } => slot(store, place, width),
+        Step::Entry { place, width } => entry_at(store, place, width),
+        _ => Ok(Told::NotAsked),
+    }
+}
+
 // A step on rows.
 fn play_row(store: &mut Mem, player: &mut Player, step: Step) -> Result<Told, StoreFault>
     requires going { store.old.stopped ≡ false }
@@ -113,7 +145,7 @@ fn play_row(store: &mut Mem, player: &mut Player, step: Step) -> Result<Told, St
             Ok(Told::Of(some, count))
         }
         Step::Room { entry, bucket } => room(store, entry, bucket),
-        _ => Ok(Told::NotAsked),
+        _ => play_version(store, player, step),
     }
 }
 
@@ -152,7 +184,7 @@ fn play_page(
             page,
             entry,
             bucket,
-        } => put_in_front(store, player.x, page, entry, bucket),
+        } => put_in_front(store, player.x, page, entry, Some(bucket)),
         _ => play_row(store, player, step),
     }
 }
@@ -176,6 +208,8 @@ fn play_step(
             Ok(told)
         }
         Step::Commit => commit(store, player.x),
+        Step::Abort => abort(store, player.x),
+        Step::Heads { x } => Ok(Told::Number(store.meta().heads(x))),
         Step::Snap => {
             player.snapshot = snap(alloc, store).ok();
             Ok(Told::Done)

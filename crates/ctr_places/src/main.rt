@@ -1,5 +1,5 @@
 //! Plays calls of what stands on pages, on stores in memory, from standard input, and prints what each answers: pages that are
-//! allocated, entries of the catalog, slots by key.
+//! allocated, entries of the catalog, slots by key, versions off their rows.
 //!
 //! A line is a name and the steps of a case; docs/PLACES.md tells them. What is expected is the program's output, which `rt ci` compares
 //! with the file `stdout`.
@@ -11,6 +11,7 @@ mod pages;
 mod rows;
 mod steps;
 mod turns;
+mod versions;
 mod words;
 
 use cases::played;

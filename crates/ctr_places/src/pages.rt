@@ -61,21 +61,23 @@ pub fn make_empty(store: &mut Mem, x: u64, page: u32, header: Header) -> Result<
     Ok(Told::Done)
 }
 
-/// A page is at the front of a bucket's chain.
+/// A page is at the front of a bucket's chain, or of that of the versions.
 pub fn put_in_front(
     store: &mut Mem,
     x: u64,
     page: u32,
     entry: u8,
-    bucket: u8,
+    bucket: Option<u8>,
 ) -> Result<Told, StoreFault>
     requires going { store.old.stopped ≡ false }
     ensures going { OnOk result (store.new.stopped ≡ false) }
 {
-    let fits = page < 30_000 && entry < 32 && bucket < 8;
-    if !fits || !ready(store, 0, 0)? || store.counted() <= 2 {
+    if page >= 30_000 || entry >= 32 || bucket.is_some_and(|bucket| bucket >= 8) {
         return Ok(Told::NotAsked);
     }
-    link(store, x, page, entry, Some(bucket))?;
+    if !ready(store, 0, 0)? || store.counted() <= 2 {
+        return Ok(Told::NotAsked);
+    }
+    link(store, x, page, entry, bucket)?;
     Ok(Told::Done)
 }

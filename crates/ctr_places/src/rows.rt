@@ -11,10 +11,10 @@ use ctr_page::{Header, Place, RowSlot, Version, bucket_of, read_entry, slot_size
 use ctr_records::Bytes;
 
 /// The widest payload.
-const WIDEST: usize = 512;
+pub const WIDEST: usize = 512;
 
 /// Whether a place on a page has a slot of rows so wide.
-fn lies(place: Place, width: usize) -> bool
+pub fn lies(place: Place, width: usize) -> bool
     ensures { IsTrue result → (width ≤ WIDEST) × (start_of (size_of_slot width) place.slot + size_of_slot width ≤ 4096) }
 {
     if width > WIDEST {
@@ -59,7 +59,7 @@ fn lay(
 }
 
 /// Whether the calls of an entry may be made.
-fn may_ask(store: &Mem, entry: u8) -> bool
+pub fn may_ask(store: &Mem, entry: u8) -> bool
     ensures { IsTrue result → (entry < 32) × (64 ≤ store.now.now.counted) × (store.now.now.counted ≤ 30000) }
 {
     entry < 32 && store.counted() >= 64 && store.counted() <= 30_000
@@ -128,7 +128,7 @@ fn add_page(
         next,
     };
     let _made = make_empty(store, x, page, header)?;
-    let _linked = put_in_front(store, x, page, entry, bucket)?;
+    let _linked = put_in_front(store, x, page, entry, Some(bucket))?;
     room(store, entry, bucket)
 }
 

@@ -1,5 +1,7 @@
 // The steps of a case.
+use crate::turns::Seen;
 use crate::words::{number, split_word};
+use ctr_page::Place;
 
 /// A call, or several.
 #[derive(Clone, Copy, Debug, PartialEq, Eq)]
@@ -85,6 +87,53 @@ pub enum Step<'a> {
         entry: u8,
         bucket: u8,
     },
+    /// `free_entry` of a table, or a page more for its versions.
+    Spare {
+        entry: u8,
+    },
+    Versions {
+        entry: u8,
+    },
+    /// `put_slot` of a row.
+    Row {
+        place: Place,
+        width: usize,
+        key: i64,
+        says: u8,
+        previous: Seen,
+        older: Place,
+    },
+    /// `keep` of a version.
+    Keep {
+        place: Place,
+        width: usize,
+        key: i64,
+        version: Seen,
+        older: Place,
+    },
+    /// `drop_entry`.
+    Trim {
+        place: Place,
+    },
+    /// `revert_row`.
+    Revert {
+        place: Place,
+    },
+    /// What stands in a slot, or in a version entry.
+    Slot {
+        place: Place,
+        width: usize,
+    },
+    Entry {
+        place: Place,
+        width: usize,
+    },
+    /// The transaction is rolled back.
+    Abort,
+    /// The heads of a transaction.
+    Heads {
+        x: u64,
+    },
     /// The database is opened again, where so many bytes from one of a page on are this one, at home.
     Alter {
         page: u32,
@@ -129,6 +178,32 @@ fn signed(word: &[u8]) -> i64 {
     }
 }
 
+// What stands before a byte, and behind it.
+fn halves(word: &[u8], mark: u8) -> (&[u8], &[u8]) {
+    match word.iter().position(|byte| *byte == mark) {
+        Some(at) => (&word[..at], &word[at + 1..]),
+        None => (word, &word[word.len()..]),
+    }
+}
+
+// A place, PAGE.SLOT.
+fn place(word: &[u8]) -> Place {
+    let (on, slot) = halves(word, b'.');
+    Place {
+        page: page(on),
+        slot: half(slot),
+    }
+}
+
+// A version, X=BYTE.
+fn version(word: &[u8]) -> Seen {
+    let (x, says) = halves(word, b'=');
+    Seen {
+        x: number(x),
+        says: byte(says),
+    }
+}
+
 // The first four words.
 fn four(rest: &[u8]) -> [&[u8]; 4] {
     let (one, rest) = split_word(rest);
@@ -168,6 +243,57 @@ fn row_step<'a>(word: &[u8], rest: &'a [u8]) -> Option<Step<'a>> {
             entry,
             bucket: byte(two),
         }),
+        _ => version_step(word, rest),
+    }
+}
+
+// A row, or a version that is kept, by the words behind its place.
+fn laid_step<'a>(is_row: bool, place_word: &[u8], rest: &'a [u8]) -> Step<'a> {
+    let (width_word, rest) = split_word(rest);
+    let [key, one, two, three] = four(rest);
+    let at = place(place_word);
+    let width = number(width_word) as usize;
+    if is_row {
+        return Step::Row {
+            place: at,
+            width,
+            key: signed(key),
+            says: byte(one),
+            previous: version(two),
+            older: place(three),
+        };
+    }
+    Step::Keep {
+        place: at,
+        width,
+        key: signed(key),
+        version: version(one),
+        older: place(two),
+    }
+}
+
+// A step on versions.
+fn version_step<'a>(word: &[u8], rest: &'a [u8]) -> Option<Step<'a>> {
+    let (one, others) = split_word(rest);
+    let (two, _) = split_word(others);
+    let width = number(two) as usize;
+    match word {
+        b"versions" => Some(Step::Versions { entry: byte(one) }),
+        b"spare" => Some(Step::Spare { entry: byte(one) }),
+        b"row" => Some(laid_step(true, one, others)),
+        b"keep" => Some(laid_step(false, one, others)),
+        b"trim" => Some(Step::Trim { place: place(one) }),
+        b"revert" => Some(Step::Revert { place: place(one) }),
+        b"slot" => Some(Step::Slot {
+            place: place(one),
+            width,
+        }),
+        b"entry" => Some(Step::Entry {
+            place: place(one),
+            width,
+        }),
+        b"abort" => Some(Step::Abort),
+        b"heads" => Some(Step::Heads { x: number(one) }),
         _ => None,
     }
 }

@@ -18,6 +18,13 @@ pub type Mem = Store<SilentDisk, Brand>;
 /// How many frames a store has.
 pub const FRAMES: usize = 8;
 
+/// A version: whose it is, and its first byte.
+#[derive(Clone, Copy, Debug, PartialEq, Eq)]
+pub struct Seen {
+    pub x: u64,
+    pub says: u8,
+}
+
 /// What a step answers.
 #[derive(Clone, Copy, Debug, PartialEq, Eq)]
 pub enum Told {
@@ -32,6 +39,15 @@ pub enum Told {
     CatalogFull,
     At(Place),
     None,
+    /// A slot or a version entry isn't used.
+    Unused,
+    /// What stands in one.
+    Row {
+        key: i64,
+        head: Seen,
+        previous: Option<Seen>,
+        older: Place,
+    },
     Fault(StoreFault),
 }
 
@@ -48,6 +64,22 @@ impl Told {
             Told::CatalogFull => format!(in alloc; "catalog full"),
             Told::At(place) => format!(in alloc; "{}.{}", place.page, place.slot),
             Told::None => format!(in alloc; "none"),
+            Told::Unused => format!(in alloc; "unused"),
+            Told::Row {
+                key,
+                head,
+                previous,
+                older,
+            } => match previous {
+                None => format!(in alloc;
+                    "{key} is {}={} then {}.{}",
+                    head.x, head.says, older.page, older.slot
+                ),
+                Some(before) => format!(in alloc;
+                    "{key} is {}={} before {}={} then {}.{}",
+                    head.x, head.says, before.x, before.says, older.page, older.slot
+                ),
+            },
             Told::Fault(StoreFault::Fault) => format!(in alloc; "fault"),
             Told::Fault(
                 StoreFault::Damaged {
@@ -118,6 +150,18 @@ pub fn commit(store: &mut Mem, x: u64) -> Result<Told, StoreFault>
         return Ok(Told::NotAsked);
     }
     let _lsn = log_record(store, &Record::Commit { x })?;
+    Ok(Told::Done)
+}
+
+/// Rolls a transaction back; its heads stay.
+pub fn abort(store: &mut Mem, x: u64) -> Result<Told, StoreFault>
+    requires going { store.old.stopped ≡ false }
+    ensures going { OnOk result (store.new.stopped ≡ false) }
+{
+    if !ready(store, 0, 0)? {
+        return Ok(Told::NotAsked);
+    }
+    let _lsn = log_record(store, &Record::Abort { x })?;
     Ok(Told::Done)
 }
 

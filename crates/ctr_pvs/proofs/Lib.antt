@@ -6,3 +6,4 @@ pub mod Along
 pub mod Sought
 pub mod Telling
 pub mod Said
+pub mod Freeing

@@ -1,5 +1,5 @@
 -- The records that lay a version entry, and that free one.
-use Rattle.std.specs.Prelude.{◌≡◌, ◌≤◌, ℕ, ◌+◌, pos, List, length, replicate, IsTrue, ⊤, Result, Ok, Err}
+use Rattle.std.specs.Prelude.{◌≡◌, ◌⊎◌, ◌≤◌, ℕ, ◌+◌, pos, List, length, replicate, IsTrue, ⊤, Result, Ok, Err}
 use Rattle.ctr_bytes.specs.Following.{◌>>=◌}
 use Rattle.ctr_disk.specs.declared.disk.Disk.{Ghosts}
 use Rattle.ctr_disk.specs.declared.disk.Image.{Image}
@@ -14,12 +14,13 @@ use Rattle.ctr_page.specs.Places.{kept_size, start_of}
 use Rattle.ctr_page.specs.Columns.{kinds_width}
 use Rattle.ctr_page.specs.Making.{kept_bytes, IsEntry}
 use Rattle.ctr_area.specs.Areas.{nowhere}
-use Rattle.ctr_area.specs.Reading.{width_on, area_of}
+use Rattle.ctr_area.specs.Reading.{header_on, width_on, area_of}
 use Rattle.ctr_area.specs.Checked.{kinds_at}
 use Rattle.ctr_area.specs.Changes.{IsPlaceOf}
 use Rattle.ctr_base.specs.Base.{IsSoundImage}
-use Rattle.ctr_store.specs.Store.{View, LeavesPage}
+use Rattle.ctr_store.specs.Store.{View}
 use Rattle.ctr_calls.specs.OneRecord.{LogsOne}
+use Rattle.ctr_calls.specs.Damage.{ReadsPages}
 use Rattle.ctr_changes.specs.States.{pages_in}
 use Rattle.ctr_changes.specs.Changing.{laid_on_place}
 use Rattle.ctr_pvs.specs.Table.{told_of, owner_of, table_check}
@@ -69,13 +70,25 @@ drop_check counted pages at =
     >>= λ _. told_of at.page (lies_check (kept_size (kinds_width
     (kinds_at (area_of pages) (owner_of (pages at.page))))) at.slot)
 
+-- All passes, and its page is one of versions of rows so wide, on which it lies.
+pub record PassesFreeing (counted : ℕ) (pages : ℕ → List ℕ) (at : Place) (w : ℕ) : Type 0 where
+  pub passes : drop_check counted pages at ≡ Ok tt
+  pub behind_catalog : 3 ≤ at.page
+  pub of_kind : (header_on pages at.page).kind ≡ 2
+  pub wide : w ≡ width_on pages at.page
+  pub lies : lies_check (kept_size w) at.slot ≡ Ok tt
+
+-- so it is found, with the width; or what is wrong is
+abbrev pub EndsFreeing : ℕ → (ℕ → List ℕ) → Place → Result ℕ BadChain → Type 0
+EndsFreeing counted pages at (Ok w) = PassesFreeing counted pages at w
+EndsFreeing counted pages at (Err bad) = drop_check counted pages at ≡ Err bad
+
 -- Its record is logged, by the width of its page's rows; where something is wrong pages were read;
 -- where the store refused nothing is logged.
 abbrev pub DropsEntry : {D : Type 0} → Image → Ghosts D → Place → View D → View D
-    → Result (Result ⊤ BadChain) StoreFault → Type 0
-DropsEntry first g at a b (Ok (Ok x)) =
+    → Result ⊤ StoreFault → Type 0
+DropsEntry first g at a b (Ok x) =
     (w : ℕ) × LogsOne {T = ⊤} first g (blank_record at w) a b (Ok tt)
     × (IsTrue g.tells → IsSoundImage first → w ≡ width_on (pages_in a.now) at.page)
-DropsEntry first g at a b (Ok (Err bad)) = LeavesPage {T = ⊤} first g a b (Ok tt)
-DropsEntry first g at a b (Err e) =
-    (w : ℕ) × LogsOne {T = ⊤} first g (blank_record at w) a b (Err e)
+DropsEntry first g at a b (Err e) = ReadsPages {T = ⊤} first g a b (Err e)
+    ⊎ ((w : ℕ) × LogsOne {T = ⊤} first g (blank_record at w) a b (Err e))

@@ -5,6 +5,7 @@ ghost use Rattle.ctr_store.specs.Store.{LeavesPage};
 ghost use Rattle.ctr_page.specs.declared.table.TheConstants.{PAGE_SIZE};
 ghost use Rattle.ctr_page.specs.Walking.{most_in_chain};
 ghost use Rattle.ctr_area.specs.Sound.{AreReadable};
+ghost use Rattle.ctr_calls.specs.Damage.{damage_told, EndsTold, ReadsPages};
 ghost use Rattle.ctr_changes.specs.States.{pages_in, area_in};
 ghost use Rattle.ctr_pvs.specs.Reading.{kinds_said};
 ghost use Rattle.ctr_pvs.specs.Along.{LooksAtKept, EndsKeptAlong, VersionsSaid, VersionsFit, EndsVersions, FindsFreeEntry};
@@ -12,6 +13,7 @@ ghost use Rattle.ctr_pvs.specs.Along.{LooksAtKept, EndsKeptAlong, VersionsSaid, 
 use crate::entries::find_free_entry;
 use crate::table::{TableOf, catalog_page};
 use ctr_base::Origin;
+use ctr_calls::tell;
 use ctr_disk::{Disk, StoreFault};
 use ctr_page::{
     BadChain, BadPage, Chain, Place, check_entry, check_header, read_entry, read_header,
@@ -138,9 +140,8 @@ fn versions_said<D: Disk, O: Origin>(
     Ok(versions_in(entry, counted, page))
 }
 
-/// A version entry of a table that isn't used, by the table's entry of the catalog: the search goes along the chain of its version pages,
-/// and checks the entry, and each page as it is read. It logs nothing, and takes no memory.
-pub fn free_entry<D: Disk, O: Origin>(
+/// The first version entry of a table that isn't used, by the table's entry of the catalog.
+fn search_versions<D: Disk, O: Origin>(
     store: &mut Store<D, O>,
     entry: u8,
 ) -> Result<Result<Option<Place>, BadChain>, StoreFault>
@@ -148,8 +149,6 @@ pub fn free_entry<D: Disk, O: Origin>(
     requires counted { (64 ≤ store.old.now.counted) × (store.old.now.counted ≤ 30000) }
     requires there { entry < 32 }
     ensures ends { IsTrue D.tells → IsSoundImage O.first → IfOk result (λ r. EndsVersions store.old.now.counted (pages_in store.old.now) entry r) }
-    // There is none exactly where all version entries of the table are used.
-    ensures finds { IsTrue D.tells → IsSoundImage O.first → AreReadable (area_in store.old.now) → IfOk result (λ r. IfOk r (λ found. FindsFreeEntry (area_in store.old.now) entry found)) }
     ensures leaves { LeavesPage O.first D.Disk store.old store.new result }
 {
     let counted = store.counted();
@@ -159,4 +158,24 @@ pub fn free_entry<D: Disk, O: Origin>(
         Ok(Some(versions)) => versions,
     };
     search_chain(store, versions.first, &versions.table, counted)
+}
+
+/// A version entry of a table that isn't used, by the table's entry of the catalog: the search goes along the chain of its version pages,
+/// and checks the entry, and each page as it is read. It logs nothing, and takes no memory.
+pub fn free_entry<D: Disk, O: Origin>(
+    store: &mut Store<D, O>,
+    entry: u8,
+) -> Result<Option<Place>, StoreFault>
+    requires going { store.old.stopped ≡ false }
+    requires counted { (64 ≤ store.old.now.counted) × (store.old.now.counted ≤ 30000) }
+    requires there { entry < 32 }
+    // Damage is of the table's entry or of the first page that fails its checks, and is told where that stands in the file of pages.
+    ensures ends { IsTrue D.tells → IsSoundImage O.first
+        → EndsTold (damage_told D.Disk store.new) (EndsVersions store.old.now.counted (pages_in store.old.now) entry) result }
+    // There is none exactly where all version entries of the table are used.
+    ensures finds { IsTrue D.tells → IsSoundImage O.first → AreReadable (area_in store.old.now) → IfOk result (FindsFreeEntry (area_in store.old.now) entry) }
+    ensures leaves { ReadsPages O.first D.Disk store.old store.new result }
+{
+    let found = search_versions(store, entry);
+    tell(store, found)
 }

@@ -3,8 +3,8 @@ ghost use Rattle.std.specs.Prelude.{◌≡◌};
 
 use crate::*;
 use ctr_base::Origin;
-use ctr_disk::{Disk, Image, MemDisk, SilentDisk};
-use ctr_page::{BadChain, BadPage, Place};
+use ctr_disk::{Disk, Image, MemDisk, SilentDisk, StoreFault};
+use ctr_page::Place;
 use ctr_store::Store;
 use ctr_types::{File, List};
 use std::alloc::{AllocError, Global};
@@ -39,11 +39,7 @@ fn first_page() -> [u8; 228] {
 const THIRD: [u8; 47] =
     *b"\x01\x03\0\0\0\x01\0\0\0\0\0\0\0\x02\0\0\0\0\0\0\0\0\0\0\0\0\0\0\0\x01\x07\0\0\0\0\0\0\0\x01\0\0\0\0\0\0\0\0";
 
-type Found = (
-    Result<Option<Place>, BadChain>,
-    Result<(), BadChain>,
-    Result<Option<Place>, BadChain>,
-);
+type Found = (Option<Place>, Result<(), StoreFault>, Option<Place>);
 
 // What is free, and what is when the version entry at a place is freed.
 fn found<D: Disk + Drop, O: Origin>(alloc: Global, disk: D, place: Place) -> Option<Found>
@@ -57,7 +53,10 @@ fn found<D: Disk + Drop, O: Origin>(alloc: Global, disk: D, place: Place) -> Opt
                 return None;
             }
             let first = free_entry(&mut store, 0).ok()?;
-            let freed = drop_entry(&mut store, place).ok()?;
+            let freed = drop_entry(&mut store, place);
+            if freed.is_err() {
+                return Some((first, freed, None));
+            }
             let counted = store.counted();
             if counted < 64 || counted > 30_000 {
                 return None;
@@ -86,16 +85,14 @@ fn the_first_free_version_entry(rt: HostRuntime) -> Result<(), Fail> {
     let alloc = rt.alloc();
     let zero = Place { page: 3, slot: 0 };
     let one = Place { page: 3, slot: 1 };
-    assert!(rt; seek(alloc, &THIRD, zero)? == Some((Ok(Some(one)), Ok(()), Ok(Some(zero)))));
-    let bad = BadPage {
-        at: 0,
+    assert!(rt; seek(alloc, &THIRD, zero)? == Some((Some(one), Ok(()), Some(zero))));
+    let far = Place { page: 3, slot: 170 };
+    let bad = StoreFault::Damaged {
+        file: File::Pages,
+        at: 24_781,
         want: 169,
         got: 170,
     };
-    let far = Place { page: 3, slot: 170 };
-    assert!(rt;
-        seek(alloc, &THIRD, far)?
-            == Some((Ok(Some(one)), Err(BadChain::OnPage(3, bad)), Ok(Some(one))))
-    );
+    assert!(rt; seek(alloc, &THIRD, far)? == Some((Some(one), Err(bad), None)));
     Ok(())
 }

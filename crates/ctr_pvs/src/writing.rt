@@ -1,5 +1,5 @@
 // One record lays a version entry, or frees one.
-ghost use Rattle.std.specs.Prelude.{◌≡◌, ◌≤◌, ◌<◌, ◌+◌, IsTrue, OnOk, IfOk, length, take};
+ghost use Rattle.std.specs.Prelude.{◌≡◌, ◌≤◌, ◌<◌, ◌+◌, false, IsTrue, OnOk, IfOk, length, take};
 ghost use Rattle.ctr_redo.specs.States.{page_at};
 ghost use Rattle.ctr_page.specs.Making.{kept_bytes};
 ghost use Rattle.ctr_model.specs.declared.limits.TheConstants.{MOST_PAGES};
@@ -10,13 +10,15 @@ ghost use Rattle.ctr_area.specs.Areas.{free_older};
 ghost use Rattle.ctr_area.specs.Reading.{older_said, columns_on, width_on};
 ghost use Rattle.ctr_area.specs.Changes.{with_older, IsPlaceOf};
 ghost use Rattle.ctr_calls.specs.OneRecord.{HasRoomForOne, LogsOne};
+ghost use Rattle.ctr_calls.specs.Damage.{damage_told, EndsTold};
+ghost use Rattle.ctr_store.specs.Store.{LeavesPage};
 ghost use Rattle.ctr_changes.specs.States.{pages_in, area_in};
-ghost use Rattle.ctr_pvs.specs.Writing.{EntryLies, keep_record, HasPlaceOfVersion, blank_entry, blank_record, drop_check, DropsEntry};
+ghost use Rattle.ctr_pvs.specs.Writing.{EntryLies, keep_record, HasPlaceOfVersion, blank_entry, blank_record, drop_check, EndsFreeing, DropsEntry};
 
 use crate::reading::check_lies;
 use crate::table::table_on;
 use ctr_base::Origin;
-use ctr_calls::log_on_page;
+use ctr_calls::{log_on_page, tell};
 use ctr_changes::{a_version_is_laid, over_place};
 use ctr_disk::{Disk, StoreFault};
 use ctr_page::{BadChain, Place, Version, VersionEntry, kept_size, kinds_width, make_version};
@@ -101,29 +103,44 @@ fn lay_blank<D: Disk, O: Origin>(
     log_on_page(store, place.page, &rec)
 }
 
-/// Frees a version entry, by one record, which isn't hardened yet. Its page and the table's entry of the catalog are checked as they are
-/// read; the version entry itself may be any.
-pub fn drop_entry<D: Disk, O: Origin>(
+/// The width of a table's rows, by the page of a version entry that is to be freed.
+fn width_to_free<D: Disk, O: Origin>(
     store: &mut Store<D, O>,
     place: Place,
-) -> Result<Result<(), BadChain>, StoreFault>
-    requires room { HasRoomForOne 0 0 store.old }
+) -> Result<Result<usize, BadChain>, StoreFault>
+    requires going { store.old.stopped ≡ false }
     requires counted { (place.page < store.old.now.counted) × (store.old.now.counted ≤ 30000) }
-    ensures ends { IsTrue D.tells → IsSoundImage O.first → IfOk result (λ r. r ≡ drop_check store.old.now.counted (pages_in store.old.now) place) }
-    ensures one { DropsEntry O.first D.Disk place store.old store.new result }
-    // The version entry isn't used, and nothing else in the pages changes.
-    ensures freed { IsTrue D.tells → IsSoundImage O.first → IfOk result (λ r. OnOk r (area_in store.new.now ≡ with_older place free_older (area_in store.old.now))) }
+    ensures ends { IsTrue D.tells → IsSoundImage O.first → IfOk result (EndsFreeing store.old.now.counted (pages_in store.old.now) place) }
+    ensures fits { IfOk result (λ r. IfOk r (λ w. (w ≤ 2048) × (start_place (size_of_kept w) place.slot + size_of_kept w ≤ PAGE_SIZE))) }
+    ensures leaves { LeavesPage O.first D.Disk store.old store.new result }
 {
     let table = match table_on(store, 2, place.page)? {
         Err(bad) => return Ok(Err(bad)),
         Ok(table) => table,
     };
     let w = kinds_width(table.kinds());
-    if let Err(bad) = check_lies(kept_size(w), place.slot) {
-        return Ok(Err(BadChain::OnPage(place.page, bad)));
+    match check_lies(kept_size(w), place.slot) {
+        Err(bad) => Ok(Err(BadChain::OnPage(place.page, bad))),
+        Ok(()) => Ok(Ok(w)),
     }
-    match lay_blank(store, place, w) {
-        Ok(()) => Ok(Ok(())),
-        Err(fault) => Err(fault),
-    }
+}
+
+/// Frees a version entry, by one record, which isn't hardened yet. Its page and the table's entry of the catalog are checked as they are
+/// read; the version entry itself may be any.
+pub fn drop_entry<D: Disk, O: Origin>(
+    store: &mut Store<D, O>,
+    place: Place,
+) -> Result<(), StoreFault>
+    requires room { HasRoomForOne 0 0 store.old }
+    requires counted { (place.page < store.old.now.counted) × (store.old.now.counted ≤ 30000) }
+    // Damage is told where it stands in the file of pages.
+    ensures ends { IsTrue D.tells → IsSoundImage O.first
+        → EndsTold (damage_told D.Disk store.new) (λ r. r ≡ drop_check store.old.now.counted (pages_in store.old.now) place) result }
+    ensures one { DropsEntry O.first D.Disk place store.old store.new result }
+    // The version entry isn't used, and nothing else in the pages changes.
+    ensures freed { IsTrue D.tells → IsSoundImage O.first → OnOk result (area_in store.new.now ≡ with_older place free_older (area_in store.old.now)) }
+{
+    let found = width_to_free(store, place);
+    let w = tell(store, found)?;
+    lay_blank(store, place, w)
 }

@@ -1,5 +1,5 @@
 -- A row without its head, by what was read of it.
-use Rattle.std.proofs.Common.{◌≡◌, ℕ, ◌+◌, ◌≤◌, cond, Bool, true, false, List, length, drop, Option, None, Some, Result, Ok, refl, sym, ◌∙◌, ap, subst}
+use Rattle.std.proofs.Common.{◌≡◌, ℕ, ◌+◌, ◌≤◌, cond, Bool, true, false, List, length, take, drop, Option, None, Some, Result, Ok, refl, sym, ◌∙◌, ap, subst}
 use Rattle.std.specs.Prelude.{◌==◌, ⊤}
 use Rattle.std.specs.Option.{option_map}
 use Rattle.std.proofs.lemmas.Bool.{eq-eqb, eqb-true}
@@ -31,7 +31,7 @@ use Rattle.ctr_pvs.specs.Table.{there_check, told_of, owner_of, TableSaid}
 use Rattle.ctr_pvs.specs.Reading.{kinds_said, kept_on_check, kept_at_check}
 use Rattle.ctr_pvs.proofs.Told.{IsPageOf, page_of_table, behind_catalog, header_here, told_ok}
 use Rattle.ctr_revert.specs.declared.slots.FromSlot.{FromSlot}
-use Rattle.ctr_revert.specs.Reverting.{behind_head, without_head, KeepsKey, if_used, entry_at_place, slot_by_entry, slot_without_head, slot_reverted, SlotSaidFrom, LosesHead, behind_check, row_slot_at, revert_check, EndsBehind, RevertsHead}
+use Rattle.ctr_revert.specs.Reverting.{behind_head, without_head, KeepsKey, if_used, entry_at_place, slot_by_entry, slot_without_head, slot_reverted, SlotSaidFrom, LosesHead, behind_check, row_slot_at, revert_check, EndsBehind, BytesSaid, RevertsHead, PassesRow}
 use Rattle.ctr_revert.proofs.Passed.{row_passes}
 
 module _ (counted : ℕ) (pages : ℕ → List ℕ) (at : Place) (t : TableOf) (f : FromSlot) (said : TableSaid 1 counted pages at.page (Ok t)) (from : SlotSaidFrom counted t at (pages at.page) (Ok f)) where
@@ -60,6 +60,12 @@ module _ (counted : ℕ) (pages : ℕ → List ℕ) (at : Place) (t : TableOf) (
     bytes_are = loses.bytes_are s from.2 ∙ ap (λ v. slot_bytes w (slot_reverted w pages (slot_at v at.slot (pages at.page)))) page.wide;
     fits = subst (λ v. IsSlot w (slot_reverted w pages (slot_at v at.slot (pages at.page)))) page.wide (loses.fits s from.2 from.1);
   }
+
+  -- what is laid over it
+  pub row_passed : (bytes : List ℕ) (v : ℕ) → v ≡ w → BytesSaid counted pages t f (Ok bytes) → PassesRow counted pages at (record { x = f.x; w = v; bytes = bytes })
+  row_passed bytes v is found =
+      subst (λ u. PassesRow counted pages at (record { x = f.x; w = u; bytes = bytes })) (sym is)
+      (record { passes = sym (ends_row (Ok tt) found.0); behind_catalog = page.behind; of_kind = page.of_kind; head = head_lost (take (slot_size w) bytes) found.1 })
 
 -- ---- in the area
 

@@ -1,5 +1,5 @@
 -- The head of a row gives way to the next version of its chain.
-use Rattle.std.specs.Prelude.{◌≡◌, ℕ, ◌==◌, IsTrue, ℤ, pos, List, take, replicate, ⊤, Option, None, Some, Result, Ok, Err, true, if◌then◌else◌}
+use Rattle.std.specs.Prelude.{◌≡◌, ◌⊎◌, ◌≤◌, ◌+◌, ℕ, ◌==◌, IsTrue, ℤ, pos, List, take, replicate, ⊤, Option, None, Some, Result, Ok, Err, true, if◌then◌else◌}
 use Rattle.ctr_bytes.specs.Following.{◌>>=◌}
 use Rattle.ctr_disk.specs.declared.disk.Disk.{Ghosts}
 use Rattle.ctr_disk.specs.declared.disk.Image.{Image}
@@ -12,19 +12,22 @@ use Rattle.ctr_page.specs.declared.rows.Place.{Place}
 use Rattle.ctr_page.specs.declared.rows.Version.{Version}
 use Rattle.ctr_page.specs.declared.rows.RowSlot.{RowSlot}
 use Rattle.ctr_page.specs.declared.rows.VersionEntry.{VersionEntry}
-use Rattle.ctr_page.specs.Places.{slot_size}
+use Rattle.ctr_page.specs.declared.table.TheConstants.{PAGE_SIZE}
+use Rattle.ctr_page.specs.Places.{slot_size, start_of}
 use Rattle.ctr_page.specs.Reading.{slot_at, older_at}
 use Rattle.ctr_page.specs.Columns.{kinds_width}
 use Rattle.ctr_page.specs.Making.{slot_bytes, IsSlot, IsEntry}
 use Rattle.ctr_area.specs.Areas.{nowhere, RowVersion, Slot, Older, free_slot, Area}
-use Rattle.ctr_area.specs.Reading.{width_on, area_of}
+use Rattle.ctr_area.specs.Reading.{header_on, width_on, area_of}
 use Rattle.ctr_area.specs.Checked.{kinds_at}
 use Rattle.ctr_base.specs.Base.{IsSoundImage}
-use Rattle.ctr_store.specs.Store.{View, LeavesPage}
-use Rattle.ctr_calls.specs.OneRecord.{LogsOne}
+use Rattle.ctr_store.specs.Store.{View}
+use Rattle.ctr_calls.specs.OneRecord.{WhyNotLogged, LogsOne}
+use Rattle.ctr_calls.specs.Damage.{EndsTold, ReadsPages}
 use Rattle.ctr_changes.specs.States.{pages_in}
 use Rattle.ctr_changes.specs.Changing.{laid_on_place}
 use Rattle.ctr_revert.specs.declared.slots.FromSlot.{FromSlot}
+use Rattle.ctr_revert.specs.declared.slots.SlotLaid.{SlotLaid}
 use Rattle.ctr_pvs.specs.declared.table.TableOf.{TableOf}
 use Rattle.ctr_pvs.specs.Table.{there_check, told_of, owner_of}
 use Rattle.ctr_pvs.specs.Reading.{kinds_said, kept_on_check, kept_at_check, row_on_check, row_check_at}
@@ -162,26 +165,10 @@ abbrev pub IsMadeOr : ℕ → Option (List ℕ) → List ℕ → Type 0
 IsMadeOr w (Some made) bytes = bytes ≡ made
 IsMadeOr w None bytes = take (slot_size w) bytes ≡ slot_bytes w (blank_slot w)
 
--- no damage was found
-abbrev pub without_damage : Result ⊤ StoreFault → Result (Result ⊤ BadChain) StoreFault
-without_damage (Ok t) = Ok (Ok t)
-without_damage (Err e) = Err e
-
 -- The bytes are those of the slot without its head, of which this is said.
 pub record LosesHead (w : ℕ) (pages : ℕ → List ℕ) (f : FromSlot) (bytes : List ℕ) : Type 0 where
   pub bytes_are : (s : RowSlot) → MadeFrom w s f → bytes ≡ slot_bytes w (slot_reverted w pages s)
   pub fits : (s : RowSlot) → MadeFrom w s f → IsSlot w s → IsSlot w (slot_reverted w pages s)
-
--- Its record is logged, behind what the slot says; where the version entry is damaged pages were read;
--- where the store refused nothing is logged.
-abbrev pub RevertsBehind : {D : Type 0} → Image → Ghosts D → Place → ℕ → FromSlot → View D → View D
-    → Result (Result ⊤ BadChain) StoreFault → Type 0
-RevertsBehind first g at w f a b (Ok (Ok t)) =
-    (bytes : List ℕ) × LogsOne {T = ⊤} first g (lost_record f.x at w bytes) a b (Ok tt)
-    × (IsTrue g.tells → IsSoundImage first → LosesHead w (pages_in a.now) f bytes)
-RevertsBehind first g at w f a b (Ok (Err bad)) = LeavesPage {T = ⊤} first g a b (Ok tt)
-RevertsBehind first g at w f a b (Err e) =
-    (bytes : List ℕ) × LogsOne {T = ⊤} first g (lost_record f.x at w bytes) a b (Err e)
 
 -- the end of it, by what the slot says
 abbrev pub EndsBehind : ℕ → (ℕ → List ℕ) → TableOf → FromSlot → Result ⊤ BadChain → Type 0
@@ -189,6 +176,13 @@ EndsBehind counted pages t f r =
     kinds_said t ≡ kinds_at (area_of pages) t.entry → (s : RowSlot)
     → MadeFrom (kinds_width (kinds_said t)) s f
     → r ≡ behind_check counted pages t.entry s.previous s.older
+
+-- the bytes are found; or the version entry is damaged
+abbrev pub BytesSaid : ℕ → (ℕ → List ℕ) → TableOf → FromSlot → Result (List ℕ) BadChain → Type 0
+BytesSaid counted pages t f (Ok bytes) = EndsBehind counted pages t f (Ok tt)
+    × LosesHead (kinds_width (kinds_said t)) pages f
+    (take (slot_size (kinds_width (kinds_said t))) bytes)
+BytesSaid counted pages t f (Err bad) = EndsBehind counted pages t f (Err bad)
 
 -- ---- what is left
 
@@ -200,13 +194,46 @@ pub record RevertsHead (pages : ℕ → List ℕ) (at : Place) (x w : ℕ) (byte
   pub bytes_are : bytes ≡ slot_bytes w (slot_reverted w pages (row_slot_at pages at))
   pub fits : IsSlot w (slot_reverted w pages (row_slot_at pages at))
 
+-- the bytes that are laid over a slot
+abbrev pub bytes_laid : SlotLaid → List ℕ
+bytes_laid l = take (slot_size l.w) l.bytes
+
+-- All passes, on a page of rows, and this is laid over the slot.
+pub record PassesRow (counted : ℕ) (pages : ℕ → List ℕ) (at : Place) (l : SlotLaid) : Type 0 where
+  pub passes : revert_check counted pages at ≡ Ok tt
+  pub behind_catalog : 3 ≤ at.page
+  pub of_kind : (header_on pages at.page).kind ≡ 1
+  pub head : RevertsHead pages at l.x l.w (bytes_laid l)
+
+-- so it is found; or what is wrong is
+abbrev pub EndsRow : ℕ → (ℕ → List ℕ) → Place → Result SlotLaid BadChain → Type 0
+EndsRow counted pages at (Ok l) = PassesRow counted pages at l
+EndsRow counted pages at (Err bad) = revert_check counted pages at ≡ Err bad
+
+-- it has a place of this number on a page
+pub record LiesThere (number : ℕ) (l : SlotLaid) : Type 0 where
+  pub narrow : l.w ≤ 2048
+  pub small : slot_size l.w ≤ 2072
+  pub inside : start_of (slot_size l.w) number + slot_size l.w ≤ PAGE_SIZE
+
+-- Where the call ends: all passes; or what is wrong is told; or all passes, and the record that takes
+-- the head was refused.
+abbrev pub EndsReverting : {D : Type 0} → (BadChain → StoreFault) → Place → View D → View D
+    → Result ⊤ StoreFault → Type 0
+EndsReverting told at a b (Ok x) = revert_check a.now.counted (pages_in a.now) at ≡ Ok tt
+EndsReverting told at a b (Err cause) =
+    EndsTold {T = ⊤} told (λ r. r ≡ revert_check a.now.counted (pages_in a.now) at) (Err cause)
+    ⊎ ((revert_check a.now.counted (pages_in a.now) at ≡ Ok tt)
+    × (x : ℕ) × (w : ℕ) × (bytes : List ℕ) × RevertsHead (pages_in a.now) at x w bytes
+    × WhyNotLogged (lost_record x at w bytes) a b cause)
+
 -- Its record is logged, by what the pages say; where something is wrong pages were read; where the
 -- store refused nothing is logged.
 abbrev pub RevertsRow : {D : Type 0} → Image → Ghosts D → Place → View D → View D
-    → Result (Result ⊤ BadChain) StoreFault → Type 0
-RevertsRow first g at a b (Ok (Ok t)) =
+    → Result ⊤ StoreFault → Type 0
+RevertsRow first g at a b (Ok t) =
     (x : ℕ) × (w : ℕ) × (bytes : List ℕ) × LogsOne {T = ⊤} first g (lost_record x at w bytes) a b (Ok tt)
     × (IsTrue g.tells → IsSoundImage first → RevertsHead (pages_in a.now) at x w bytes)
-RevertsRow first g at a b (Ok (Err bad)) = LeavesPage {T = ⊤} first g a b (Ok tt)
-RevertsRow first g at a b (Err e) =
-    (x : ℕ) × (w : ℕ) × (bytes : List ℕ) × LogsOne {T = ⊤} first g (lost_record x at w bytes) a b (Err e)
+RevertsRow first g at a b (Err e) = ReadsPages {T = ⊤} first g a b (Err e)
+    ⊎ ((x : ℕ) × (w : ℕ) × (bytes : List ℕ)
+    × LogsOne {T = ⊤} first g (lost_record x at w bytes) a b (Err e))

@@ -1,7 +1,7 @@
 // One record takes the head from a row.
-ghost use Rattle.std.specs.Prelude.{◌≡◌, ◌≤◌, ◌<◌, ◌+◌, true, false, IsTrue, IfOk, OnOk, length, take};
+ghost use Rattle.std.specs.Prelude.{◌≡◌, ◌≤◌, ◌<◌, ◌+◌, true, false, Ok, ⊤, IsTrue, IfOk, OnOk, length, take};
 ghost use Rattle.ctr_base.specs.Base.{IsSoundImage};
-ghost use Rattle.ctr_store.specs.Store.{LeavesPage};
+ghost use Rattle.ctr_store.specs.Store.{View, LeavesPage};
 ghost use Rattle.ctr_model.specs.declared.limits.TheConstants.{MOST_PAGES};
 ghost use Rattle.ctr_page.specs.declared.table.TheConstants.{PAGE_SIZE};
 ghost use Rattle.ctr_page.specs.Places.{slot_size as size_of_slot, start_of as start_place};
@@ -9,12 +9,13 @@ ghost use Rattle.ctr_page.specs.Columns.{kinds_width as width_of_kinds};
 ghost use Rattle.ctr_area.specs.Changes.{with_slot};
 ghost use Rattle.ctr_pvs.specs.Reading.{kinds_said};
 ghost use Rattle.ctr_calls.specs.OneRecord.{HasRoomForOne, LogsOne};
+ghost use Rattle.ctr_calls.specs.Damage.{damage_told};
 ghost use Rattle.ctr_changes.specs.States.{pages_in, area_in};
-ghost use Rattle.ctr_revert.specs.Reverting.{without_head, KeepsKey, lost_record, SlotSaidFrom, EntrySaidFrom, EndsBehind, RevertsBehind, without_damage, revert_check, RevertsRow};
+ghost use Rattle.ctr_revert.specs.Reverting.{without_head, KeepsKey, lost_record, SlotSaidFrom, EntrySaidFrom, BytesSaid, EndsRow, LiesThere, EndsReverting, RevertsRow};
 
-use crate::slots::{FromSlot, SLOT_MOST, blank_bytes, from_entry, from_slot, or_blank};
+use crate::slots::{FromSlot, SLOT_MOST, SlotLaid, blank_bytes, from_entry, from_slot, or_blank};
 use ctr_base::Origin;
-use ctr_calls::log_on_page;
+use ctr_calls::{log_on_page, tell};
 use ctr_changes::{a_slot_is_laid, over_place};
 use ctr_disk::{Disk, StoreFault};
 use ctr_page::{BadChain, BadPage, Place, kinds_width, slot_size};
@@ -94,61 +95,44 @@ fn lay<D: Disk, O: Origin>(
     log_on_page(store, place.page, &rec)
 }
 
-/// The end of a call that found no damage.
-fn told(logged: Result<(), StoreFault>) -> Result<Result<(), BadChain>, StoreFault>
-    ensures { result ≡ without_damage logged }
-{
-    match logged {
-        Ok(()) => Ok(Ok(())),
-        Err(fault) => Err(fault),
-    }
-}
-
-/// Takes the head from a row of which its slot says this, by the version behind the slot.
-fn revert_behind<D: Disk, O: Origin>(
+/// The bytes of a slot without its head, where it says this: by its previous version, or by the version entry behind it.
+fn bytes_behind<D: Disk, O: Origin>(
     store: &mut Store<D, O>,
     table: &TableOf,
     counted: u32,
-    place: Place,
     from: &FromSlot,
-) -> Result<Result<(), BadChain>, StoreFault>
-    requires room { HasRoomForOne 0 0 store.old }
-    requires counted { (place.page < counted) × (counted ≡ store.old.now.counted) × (counted ≤ 30000) }
+) -> Result<Result<SlotBytes, BadChain>, StoreFault>
+    requires going { store.old.stopped ≡ false }
+    requires some { (0 < counted) × (counted ≤ 30000) }
     requires few { table.now.count ≤ 7 }
-    requires inside { start_place (size_of_slot (width_of_kinds (kinds_said table.now))) place.slot + size_of_slot (width_of_kinds (kinds_said table.now)) ≤ PAGE_SIZE }
-    ensures ends { IsTrue D.tells → IsSoundImage O.first → IfOk result (EndsBehind counted (pages_in store.old.now) table.now from.now) }
-    ensures one { RevertsBehind O.first D.Disk place (width_of_kinds (kinds_said table.now)) from.now store.old store.new result }
-    ensures whole { IsTrue D.tells → IsSoundImage O.first → IfOk result (λ r. OnOk r (length (pages_in store.old.now place.page) ≡ PAGE_SIZE)) }
+    ensures ends { IsTrue D.tells → IsSoundImage O.first → IfOk result (BytesSaid counted (pages_in store.old.now) table.now from.now) }
+    // It goes on from what the reading of a page left.
+    ensures leaves { (a : View D) → LeavesPage {T = ⊤} O.first D.Disk a store.old (Ok tt) → LeavesPage O.first D.Disk a store.new result }
 {
     let w = kinds_width(table.kinds());
     if let Some(bytes) = from.made {
-        return told(lay(store, from.x, place, w, &bytes));
+        return Ok(Ok(bytes));
     }
     if from.older.page == 0 {
-        return told(lay(store, from.x, place, w, &blank_bytes(w)));
+        return Ok(Ok(blank_bytes(w)));
     }
     match look_behind(store, table, counted, from)? {
         Err(bad) => Ok(Err(BadChain::OnPage(from.older.page, bad))),
-        Ok(made) => told(lay(store, from.x, place, w, &or_blank(w, made))),
+        Ok(made) => Ok(Ok(or_blank(w, made))),
     }
 }
 
-/// Takes the head from a row, by one record, which isn't hardened yet: the next version of its chain becomes the head, and where there is
-/// none the slot is free. The transaction has a head less. The version entry that gives its version stays used, in no chain. The slot, its
-/// table and the version entry are checked as they are read. It takes no memory.
-pub fn revert_row<D: Disk, O: Origin>(
+/// What is laid over the slot at a place, that it loses its head; or the first damage on the way.
+fn search_row<D: Disk, O: Origin>(
     store: &mut Store<D, O>,
     place: Place,
-) -> Result<Result<(), BadChain>, StoreFault>
-    requires room { HasRoomForOne 0 0 store.old }
+) -> Result<Result<SlotLaid, BadChain>, StoreFault>
+    requires going { store.old.stopped ≡ false }
     requires counted { (place.page < store.old.now.counted) × (store.old.now.counted ≤ 30000) }
-    ensures ends { IsTrue D.tells → IsSoundImage O.first → IfOk result (λ r. r ≡ revert_check store.old.now.counted (pages_in store.old.now) place) }
-    ensures one { RevertsRow O.first D.Disk place store.old store.new result }
-    // The slot is without its head, and nothing else in the pages changes.
-    ensures reverted { IsTrue D.tells → IsSoundImage O.first → KeepsKey (area_in store.old.now) place → ((area_in store.old.now).slot place).used ≡ true
-        → IfOk result (λ r. OnOk r (area_in store.new.now ≡ with_slot place (without_head (area_in store.old.now).older ((area_in store.old.now).slot place)) (area_in store.old.now))) }
+    ensures ends { IsTrue D.tells → IsSoundImage O.first → IfOk result (EndsRow store.old.now.counted (pages_in store.old.now) place) }
+    ensures fits { IfOk result (λ r. IfOk r (LiesThere place.slot)) }
+    ensures leaves { LeavesPage O.first D.Disk store.old store.new result }
 {
-    a_slot_is_laid();
     let counted = store.counted();
     let table = match table_on(store, 1, place.page)? {
         Err(bad) => return Ok(Err(bad)),
@@ -158,5 +142,34 @@ pub fn revert_row<D: Disk, O: Origin>(
         Err(bad) => return Ok(Err(BadChain::OnPage(place.page, bad))),
         Ok(from) => from,
     };
-    revert_behind(store, &table, counted, place, &from)
+    match bytes_behind(store, &table, counted, &from)? {
+        Err(bad) => Ok(Err(bad)),
+        Ok(bytes) => Ok(Ok(SlotLaid {
+            x: from.x,
+            w: kinds_width(table.kinds()),
+            bytes,
+        })),
+    }
+}
+
+/// Takes the head from a row, by one record, which isn't hardened yet: the next version of its chain becomes the head, and where there is
+/// none the slot is free. The transaction has a head less. The version entry that gives its version stays used, in no chain. The slot, its
+/// table and the version entry are checked as they are read. It takes no memory.
+pub fn revert_row<D: Disk, O: Origin>(
+    store: &mut Store<D, O>,
+    place: Place,
+) -> Result<(), StoreFault>
+    requires room { HasRoomForOne 0 0 store.old }
+    requires counted { (place.page < store.old.now.counted) × (store.old.now.counted ≤ 30000) }
+    // Damage is told where it stands in the file of pages.
+    ensures ends { IsTrue D.tells → IsSoundImage O.first → EndsReverting (damage_told D.Disk store.new) place store.old store.new result }
+    ensures one { RevertsRow O.first D.Disk place store.old store.new result }
+    // The slot is without its head, and nothing else in the pages changes.
+    ensures reverted { IsTrue D.tells → IsSoundImage O.first → KeepsKey (area_in store.old.now) place → ((area_in store.old.now).slot place).used ≡ true
+        → OnOk result (area_in store.new.now ≡ with_slot place (without_head (area_in store.old.now).older ((area_in store.old.now).slot place)) (area_in store.old.now)) }
+{
+    a_slot_is_laid();
+    let found = search_row(store, place);
+    let laid = tell(store, found)?;
+    lay(store, laid.x, place, laid.w, &laid.bytes)
 }

@@ -27,6 +27,17 @@ pub(crate) struct FromSlot {
     pub(crate) made: Option<[u8; SLOT_MOST]>,
 }
 
+/// What is laid over a slot that loses its head.
+#[derive(Drop)]
+pub(crate) struct SlotLaid {
+    /// Whose the head is.
+    pub(crate) x: Xid,
+    /// The width of its rows.
+    pub(crate) w: usize,
+    /// Its bytes, at the front of others.
+    pub(crate) bytes: [u8; SLOT_MOST],
+}
+
 /// The bytes of a slot, at the front of others.
 fn bytes_of(w: usize, slot: &RowSlot) -> [u8; SLOT_MOST]
     requires width { w ≤ 2048 }

@@ -41,7 +41,7 @@ among_each f a x (y ∷ ys) (inl is) at_ = among_front x (f y) (flat_map f ys) (
 among_each f a x (y ∷ ys) (inr in_) at_ = among_rest x (f y) (flat_map f ys) (among_each f a x ys in_ at_)
 
 -- a place of a chain is on its first page, or in the chain that this one leads on to
-next_place : (area : Area) (p next : ℕ) (at : Place) → (area.header p).next ≡ next → IsAmong at (places_from area p) → (at.page ≡ p → ⊥) → IsAmong at (places_from area next)
+pub next_place : (area : Area) (p next : ℕ) (at : Place) → (area.header p).next ≡ next → IsAmong at (places_from area p) → (at.page ≡ p → ⊥) → IsAmong at (places_from area next)
 next_place area p next at leads in_ off =
     let on : ℕ → List Place = λ r. places_on r 0 (area.room r) in
     let found = among_flat on at (pages_from pages_bound area.header p) in_ in

@@ -46,7 +46,7 @@ module _ (counted : ℕ) (tables : Tables) (area : Area) (x p : ℕ) (h : Header
 
 -- ---- an entry of the catalog without a page gets another title, and chains without a page
 
-no_places : (area : Area) (ps : List ℕ) (at : Place) → AreZeros ps → IsAmong at (flat_map (places_from area) ps) → ⊥
+pub no_places : (area : Area) (ps : List ℕ) (at : Place) → AreZeros ps → IsAmong at (flat_map (places_from area) ps) → ⊥
 no_places area [] at zeros in_ = in_
 no_places area (p ∷ ps) at zeros in_ = ⊎_elim (λ here. nothing_from_0 area at (subst (λ p. IsAmong at (places_from area p)) zeros.0 here))
     (λ there. no_places area ps at zeros.1 there) (among_parts at (places_from area p) (flat_map (places_from area) ps) in_)

@@ -4,3 +4,4 @@ pub mod Steady
 pub mod Unlinking
 pub mod Chained
 pub mod Elsewhere
+pub mod Still

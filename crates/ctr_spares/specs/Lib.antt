@@ -1,1 +1,2 @@
 pub mod Loose
+pub mod Slots

@@ -4,7 +4,7 @@ ghost use Rattle.ctr_meta.specs.Tables.{Tables};
 ghost use Rattle.ctr_page.specs.declared.rows.Place.{Place};
 ghost use Rattle.ctr_area.specs.Areas.{Area};
 ghost use Rattle.ctr_area.specs.Sound.{IsAmong, along, IsSoundArea};
-ghost use Rattle.ctr_moves.specs.Reverts.{Reverting, ToKept, OwedByRevert, reverted_at};
+ghost use Rattle.ctr_moves.specs.Reverts.{ToKept, OwedByRevert, reverted_at};
 ghost use Rattle.ctr_moves.specs.Trims.{Trimming, OwedByTrim, trimmed_at, OwedByCut, cut_at};
 ghost use Rattle.ctr_moves.specs.Keeping.{IsSpareCopy};
 ghost use Rattle.ctr_spares.specs.Loose.{IsLoose, behind_entry};

@@ -1,0 +1,51 @@
+-- What frees a version entry, by what was found on the way.
+use Rattle.std.proofs.Common.{◌≡◌, ℕ, inr, List, Result, Ok, Err, sym, ◌∙◌, ap}
+use Rattle.std.specs.Prelude.{⊤, IsTrue}
+use Rattle.ctr_bytes.specs.Following.{◌>>=◌}
+use Rattle.ctr_disk.specs.declared.disk.Disk.{Ghosts}
+use Rattle.ctr_disk.specs.declared.disk.Image.{Image}
+use Rattle.ctr_disk.specs.declared.fault.StoreFault.{StoreFault}
+use Rattle.ctr_disk.specs.declared.fault.StoreFault.TheVariants.{Fault, Damaged}
+use Rattle.ctr_base.specs.Base.{IsSoundImage}
+use Rattle.ctr_store.specs.Store.{View}
+use Rattle.ctr_calls.specs.OneRecord.{LogsOne}
+use Rattle.ctr_calls.specs.Damage.{EndsTold}
+use Rattle.ctr_changes.specs.States.{pages_in}
+use Rattle.ctr_page.specs.declared.rows.Place.{Place}
+use Rattle.ctr_page.specs.declared.walk.BadChain.{BadChain}
+use Rattle.ctr_page.specs.Places.{kept_size}
+use Rattle.ctr_page.specs.Columns.{kinds_width}
+use Rattle.ctr_area.specs.Reading.{width_on, area_of}
+use Rattle.ctr_area.specs.Checked.{kinds_at}
+use Rattle.ctr_pvs.specs.declared.table.TableOf.{TableOf}
+use Rattle.ctr_pvs.specs.Table.{told_of, owner_of, TableSaid}
+use Rattle.ctr_pvs.specs.Reading.{kinds_said, lies_check}
+use Rattle.ctr_pvs.specs.Writing.{blank_record, PassesFreeing, DropsEntry}
+use Rattle.ctr_pvs.proofs.Told.{page_of_table}
+
+-- damage that is told of one answer is told of another
+pub told_as : {B S T : Type 0} (told : B → StoreFault) (Ends : Result S B → Type 0) (Other : Result T B → Type 0) (e : StoreFault) → ((bad : B) → Ends (Err bad) → Other (Err bad)) → EndsTold told Ends (Err e)
+    → EndsTold told Other (Err e)
+told_as told Ends Other Fault f ends = tt
+told_as told Ends Other (Damaged file at want got) f (bad, ends, is) = (bad, f bad ends, is)
+
+-- the table of the page was found, and the place lies on it
+pub freeing_passes : (counted : ℕ) (pages : ℕ → List ℕ) (at : Place) (t : TableOf) (w : ℕ) → TableSaid 2 counted pages at.page (Ok t) → w ≡ kinds_width (kinds_said t) → lies_check (kept_size w) at.slot ≡ Ok tt
+    → PassesFreeing counted pages at w
+freeing_passes counted pages at t w said is lies =
+    let page = page_of_table 2 counted pages at.page t said in
+    let rest : ⊤ → Result ⊤ BadChain = λ _. told_of at.page (lies_check (kept_size (kinds_width (kinds_at (area_of pages) (owner_of (pages at.page))))) at.slot) in
+    let same = is ∙ ap kinds_width said.2 ∙ ap (λ e. kinds_width (kinds_at (area_of pages) e)) said.1 in
+    record {
+      passes = ap (λ (x : Result ⊤ BadChain). x >>= rest) said.0 ∙ sym (ap (λ v. told_of at.page (lies_check (kept_size v) at.slot)) same) ∙ ap (told_of at.page) lies;
+      behind_catalog = page.behind;
+      of_kind = page.of_kind;
+      wide = is ∙ page.wide;
+      lies = lies;
+    }
+
+-- its record was given to the log
+pub drops : {D : Type 0} (first : Image) (g : Ghosts D) (at : Place) (w : ℕ) (a b : View D) (result : Result ⊤ StoreFault) → LogsOne {T = ⊤} first g (blank_record at w) a b result
+    → (IsTrue g.tells → IsSoundImage first → w ≡ width_on (pages_in a.now) at.page) → DropsEntry first g at a b result
+drops first g at w a b (Ok x) one wide = (w, one, wide)
+drops first g at w a b (Err e) one wide = inr (w, one)

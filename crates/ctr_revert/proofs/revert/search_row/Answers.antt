@@ -1,0 +1,65 @@
+use Rattle.std.proofs.Common.{Ok, Err, sym, ◌∙◌, ap, subst}
+use Rattle.std.specs.Prelude.{⊤}
+use Rattle.std.proofs.lemmas.Result.{err_from_is_err_and}
+use Rattle.ctr_redo.specs.States.{State}
+use Rattle.ctr_page.specs.Columns.{kinds_width}
+use Rattle.ctr_changes.specs.States.{pages_in}
+use Rattle.ctr_calls.proofs.Joins.{answers_ok, answers_err}
+use Rattle.ctr_pvs.specs.Table.{TableSaid}
+use Rattle.ctr_revert.specs.Reverting.{SlotSaidFrom, BytesSaid}
+use Rattle.ctr_revert.proofs.Logged.{both_read, read_failed}
+use Rattle.ctr_revert.proofs.Row.{ends_row, row_passed}
+use Rattle.ctr_revert.proofs.revert.search_row.Goals as goal
+
+pub returns-in_err-bad-2-clause-leaves : goal.returns-in_err-bad-2-clause-leaves
+returns-in_err-bad-2-clause-leaves g c =
+    let p = err_from_is_err_and c.from_residual-in_err-bad-2.result c.from_residual-in_err-bad-2.ensures.1 in
+    rw (p.1, p.2) (read_failed g.O.Origin.first g.D.Disk c.args.store.now c.table_on.new.store c.look_slot.new.store c.in_ok-bad.field-0 c.in_ok-bad.ensures.leaves c.in_err-bad-2.field-0.0 c.in_err-bad-2.ensures.leaves _)
+
+pub returns-in-Err-2-clause-leaves : goal.returns-in-Err-2-clause-leaves
+returns-in-Err-2-clause-leaves g c =
+    both_read g.O.Origin.first g.D.Disk c.args.store.now c.table_on.new.store c.look_slot.new.store c.in_ok-bad.field-0 c.in_ok-bad.ensures.leaves c.in_ok-bad-2.field-0 c.in_ok-bad-2.ensures.leaves _ _
+
+pub returns-in_err-bad-3-clause-leaves : goal.returns-in_err-bad-3-clause-leaves
+returns-in_err-bad-3-clause-leaves g c =
+    let p = err_from_is_err_and c.from_residual-in_err-bad-3.result c.from_residual-in_err-bad-3.ensures.1 in
+    let e = c.in_err-bad-3.field-0.0 in
+    rw (p.1, p.2) (answers_err g.O.Origin.first g.D.Disk e c.args.store.now c.bytes_behind.new.store (c.in_err-bad-3.ensures.leaves c.args.store.now (both_read g.O.Origin.first g.D.Disk c.args.store.now c.table_on.new.store c.look_slot.new.store c.in_ok-bad.field-0 c.in_ok-bad.ensures.leaves c.in_ok-bad-2.field-0 c.in_ok-bad-2.ensures.leaves ⊤ tt)))
+
+pub returns-in-Err-3-clause-ends : goal.returns-in-Err-3-clause-ends
+returns-in-Err-3-clause-ends g c = λ told sound.
+    let at = c.args.place in
+    let n = c.args.store.now.now.counted in
+    let pages = pages_in c.args.store.now.now in
+    let t = c.in-Ok.table in
+    let f = c.in-Ok-2.from in
+    let said = subst (λ r. TableSaid 1 n pages at.page r) c.in-Ok.is (c.in_ok-bad.ensures.said told sound) in
+    let one = (c.in_ok-bad.ensures.leaves.logs told sound).now in
+    let two = (c.in_ok-bad-2.ensures.leaves.logs told sound).now ∙ one in
+    let from = subst (λ r. SlotSaidFrom c.counted-counted.result t at (pages at.page) r) c.in-Ok-2.is (subst (λ (s : State). SlotSaidFrom c.counted-counted.result t at (pages_in s at.page) c.in_ok-bad-2.field-0) one (c.in_ok-bad-2.ensures.said told sound)) in
+    let here = subst (λ m. SlotSaidFrom m t at (pages at.page) (Ok f)) c.counted-counted.ensures from in
+    let found = subst (λ m. BytesSaid m pages t f c.in_ok-bad-3.field-0) c.counted-counted.ensures (subst (λ (s : State). BytesSaid c.counted-counted.result (pages_in s) t f c.in_ok-bad-3.field-0) two (c.in_ok-bad-3.ensures.ends told sound)) in
+    sym (ends_row n pages at t f said here (Err c.in-Err-3.bad) (subst (λ r. BytesSaid n pages t f r) c.in-Err-3.is found))
+
+pub returns-in-Err-3-clause-leaves : goal.returns-in-Err-3-clause-leaves
+returns-in-Err-3-clause-leaves g c =
+    answers_ok g.O.Origin.first g.D.Disk c.in_ok-bad-3.field-0 _ c.args.store.now c.bytes_behind.new.store (c.in_ok-bad-3.ensures.leaves c.args.store.now (both_read g.O.Origin.first g.D.Disk c.args.store.now c.table_on.new.store c.look_slot.new.store c.in_ok-bad.field-0 c.in_ok-bad.ensures.leaves c.in_ok-bad-2.field-0 c.in_ok-bad-2.ensures.leaves ⊤ tt))
+
+pub returns-in-Ok-3-clause-ends : goal.returns-in-Ok-3-clause-ends
+returns-in-Ok-3-clause-ends g c = λ told sound.
+    let at = c.args.place in
+    let n = c.args.store.now.now.counted in
+    let pages = pages_in c.args.store.now.now in
+    let t = c.in-Ok.table in
+    let f = c.in-Ok-2.from in
+    let said = subst (λ r. TableSaid 1 n pages at.page r) c.in-Ok.is (c.in_ok-bad.ensures.said told sound) in
+    let one = (c.in_ok-bad.ensures.leaves.logs told sound).now in
+    let two = (c.in_ok-bad-2.ensures.leaves.logs told sound).now ∙ one in
+    let from = subst (λ r. SlotSaidFrom c.counted-counted.result t at (pages at.page) r) c.in-Ok-2.is (subst (λ (s : State). SlotSaidFrom c.counted-counted.result t at (pages_in s at.page) c.in_ok-bad-2.field-0) one (c.in_ok-bad-2.ensures.said told sound)) in
+    let here = subst (λ m. SlotSaidFrom m t at (pages at.page) (Ok f)) c.counted-counted.ensures from in
+    let found = subst (λ m. BytesSaid m pages t f c.in_ok-bad-3.field-0) c.counted-counted.ensures (subst (λ (s : State). BytesSaid c.counted-counted.result (pages_in s) t f c.in_ok-bad-3.field-0) two (c.in_ok-bad-3.ensures.ends told sound)) in
+    row_passed n pages at t f said here c.in-Ok-3.bytes c.kinds_width.result (c.kinds_width.ensures.value ∙ ap kinds_width c.kinds.ensures.value) (subst (λ r. BytesSaid n pages t f r) c.in-Ok-3.is found)
+
+pub returns-in-Ok-3-clause-leaves : goal.returns-in-Ok-3-clause-leaves
+returns-in-Ok-3-clause-leaves g c =
+    answers_ok g.O.Origin.first g.D.Disk c.in_ok-bad-3.field-0 _ c.args.store.now c.bytes_behind.new.store (c.in_ok-bad-3.ensures.leaves c.args.store.now (both_read g.O.Origin.first g.D.Disk c.args.store.now c.table_on.new.store c.look_slot.new.store c.in_ok-bad.field-0 c.in_ok-bad.ensures.leaves c.in_ok-bad-2.field-0 c.in_ok-bad-2.ensures.leaves ⊤ tt))
