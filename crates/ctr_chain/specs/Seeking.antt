@@ -11,9 +11,11 @@ use Rattle.ctr_page.specs.Columns.{kinds_width}
 use Rattle.ctr_page.specs.Walking.{most_in_chain}
 use Rattle.ctr_area.specs.Areas.{RowVersion, Slot, Area}
 use Rattle.ctr_area.specs.Reading.{area_of}
+use Rattle.ctr_area.specs.Chains.{chain_of}
 use Rattle.ctr_area.specs.Checked.{kinds_at}
 use Rattle.ctr_pvs.specs.Table.{told_of, owner_of, TableSaid}
 use Rattle.ctr_pvs.specs.Reading.{kept_at_check, row_check_at}
+use Rattle.ctr_chain.specs.Seeing.{first_version, first_xid}
 use Rattle.ctr_chain.specs.declared.looking.SlotLook.{SlotLook}
 use Rattle.ctr_chain.specs.declared.seeking.Searched.{Searched}
 use Rattle.ctr_chain.specs.declared.seeking.Found.{Found}
@@ -92,6 +94,14 @@ abbrev pub version_found : Area → Place → VersionAt → Option RowVersion
 version_found area at Head = Some (area.slot at).head
 version_found area at Previous = (area.slot at).previous
 version_found area at (Kept p) = Some (area.older p).version
+
+-- It is the first version of the row's chain that is sought: its transaction is told, and where it
+-- stands; or there is none.
+abbrev pub FindsFirst : (ℕ → Bool) → Area → Place → Option Found → Type 0
+FindsFirst sought area at None = first_version sought (chain_of area.older (area.slot at)) ≡ None
+FindsFirst sought area at (Some f) =
+    (first_version sought (chain_of area.older (area.slot at)) ≡ version_found area at f.at)
+    × (first_xid sought (chain_of area.older (area.slot at)) ≡ Some f.xid)
 
 -- the transaction of what is found
 abbrev pub xid_found : Option Found → Option ℕ

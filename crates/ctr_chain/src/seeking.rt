@@ -24,6 +24,7 @@ use ctr_store::Store;
 use ctr_types::{Fate, Xid};
 
 /// Which version of a row is sought.
+#[derive(Drop)]
 pub(crate) enum Sought<'a> {
     /// What a snapshot sees, and what is a session's own.
     Seen {
@@ -52,7 +53,7 @@ impl<'a> Sought<'a> {
 
 /// Where a version of a row stands.
 #[derive(Clone, Copy, Debug, PartialEq, Eq)]
-pub(crate) enum VersionAt {
+pub enum VersionAt {
     /// In the slot, the newest.
     Head,
     /// In the slot, the one before it.
@@ -63,9 +64,10 @@ pub(crate) enum VersionAt {
 
 /// A version of a row: whose it is, and where it stands.
 #[derive(Clone, Copy, Debug, PartialEq, Eq)]
-pub(crate) struct Found {
-    pub(crate) xid: Xid,
-    pub(crate) at: VersionAt,
+pub struct Found {
+    /// Its transaction.
+    pub xid: Xid,
+    pub at: VersionAt,
 }
 
 /// What a slot alone says of the search: the version that is sought, where it is in the slot; none, where it isn't and nothing is kept

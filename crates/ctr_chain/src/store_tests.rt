@@ -1,10 +1,11 @@
-//! The newest committed version of a row, in a store that is opened on bytes made by hand.
+//! The newest committed version of a row, and the one that a snapshot sees, in a store that is opened on bytes made by hand.
 ghost use Rattle.std.specs.Prelude.{◌≡◌};
 
 use crate::*;
 use ctr_base::Origin;
 use ctr_disk::{Disk, Image, MemDisk, SilentDisk, StoreFault};
 use ctr_page::Place;
+use ctr_snap::Snapshot;
 use ctr_store::Store;
 use ctr_types::{File, List, Xid};
 use std::alloc::{AllocError, Global};
@@ -64,9 +65,11 @@ fn fourth_page(xid: u8, older: u8) -> [u8; 53] {
     page
 }
 
-type Found = Result<Option<Xid>, StoreFault>;
+type Newest = Result<Option<Xid>, StoreFault>;
 
-fn found<D: Disk + Drop, O: Origin>(alloc: Global, disk: D) -> Option<Found>
+type Seen = Result<Option<Found>, StoreFault>;
+
+fn newest_on<D: Disk + Drop, O: Origin>(alloc: Global, disk: D) -> Option<Newest>
     requires { O.first ≡ D.reads disk }
 {
     match Store::<D, O>::open(alloc, disk, 8) {
@@ -82,7 +85,29 @@ fn found<D: Disk + Drop, O: Origin>(alloc: Global, disk: D) -> Option<Found>
     }
 }
 
-fn seek(alloc: Global, third: &[u8], fourth: &[u8]) -> Result<Option<Found>, AllocError> {
+fn seen_on<D: Disk + Drop, O: Origin>(
+    alloc: Global,
+    disk: D,
+    snapshot: &Snapshot,
+    me: Option<Xid>,
+) -> Option<Seen>
+    requires { O.first ≡ D.reads disk }
+{
+    match Store::<D, O>::open(alloc, disk, 8) {
+        Ok(store) => {
+            let mut store = store;
+            let counted = store.counted();
+            if counted < 64 || counted > 30_000 {
+                return None;
+            }
+            Some(seen(&mut store, Place { page: 3, slot: 0 }, snapshot, me))
+        }
+        Err(_) => None,
+    }
+}
+
+// The disk on which the pages 3 and 4 begin so.
+fn disk_of(alloc: Global, third: &[u8], fourth: &[u8]) -> Result<MemDisk, AllocError> {
     let mut image = Image::new(alloc);
     image.write(alloc, File::Root, 0, &ROOT)?;
     image.set_len(alloc, File::Root, 64)?;
@@ -91,8 +116,19 @@ fn seek(alloc: Global, third: &[u8], fourth: &[u8]) -> Result<Option<Found>, All
     image.write(alloc, File::Pages, 8_256, &first_page())?;
     image.write(alloc, File::Pages, 24_768, third)?;
     image.write(alloc, File::Pages, 33_024, fourth)?;
-    let disk = MemDisk::new(alloc, image, List::new(alloc))?;
-    Ok(found::<SilentDisk, Brand>(alloc, SilentDisk { disk }))
+    MemDisk::new(alloc, image, List::new(alloc))
+}
+
+fn seek(alloc: Global, third: &[u8], fourth: &[u8]) -> Result<Option<Newest>, AllocError> {
+    let disk = disk_of(alloc, third, fourth)?;
+    Ok(newest_on::<SilentDisk, Brand>(alloc, SilentDisk { disk }))
+}
+
+// What is seen of the transactions 2 in the slot, before it 5, and 1 off it, where the next is 3 and these are listed.
+fn see(alloc: Global, listed: &[Xid], me: Option<Xid>) -> Result<Option<Seen>, Fail> {
+    let snapshot = Snapshot::take(alloc, 3, listed)?;
+    let disk = disk_of(alloc, &third_page(2, 5), &fourth_page(1, 0))?;
+    Ok(seen_on::<SilentDisk, Brand>(alloc, SilentDisk { disk }, &snapshot, me))
 }
 
 #[test]
@@ -116,5 +152,27 @@ fn version_entries_that_lead_in_a_ring(rt: HostRuntime) -> Result<(), Fail> {
         got: 10_371,
     };
     assert!(rt; seek(alloc, &third_page(5, 4), &fourth_page(3, 4))? == Some(Err(bad)));
+    Ok(())
+}
+
+#[test]
+fn the_version_that_a_snapshot_sees(rt: HostRuntime) -> Result<(), Fail> {
+    let alloc = rt.alloc();
+    let head = Found {
+        xid: 2,
+        at: VersionAt::Head,
+    };
+    let own = Found {
+        xid: 5,
+        at: VersionAt::Previous,
+    };
+    let kept = Found {
+        xid: 1,
+        at: VersionAt::Kept(Place { page: 4, slot: 0 }),
+    };
+    assert!(rt; see(alloc, &[], None)? == Some(Ok(Some(head))));
+    assert!(rt; see(alloc, &[2], Some(5))? == Some(Ok(Some(own))));
+    assert!(rt; see(alloc, &[2], None)? == Some(Ok(Some(kept))));
+    assert!(rt; see(alloc, &[2, 1], None)? == Some(Ok(None)));
     Ok(())
 }

@@ -6,7 +6,6 @@ use Rattle.ctr_types.specs.declared.value.Kind.{Kind}
 use Rattle.ctr_redo.specs.States.{State}
 use Rattle.ctr_records.specs.declared.decoding.BadRecord.{BadRecord}
 use Rattle.ctr_page.specs.declared.walk.BadChain.{BadChain}
-use Rattle.ctr_page.specs.declared.walk.BadChain.TheVariants.{OnPage}
 use Rattle.ctr_page.specs.Places.{kept_size, room_for}
 use Rattle.ctr_page.specs.Columns.{kinds_width}
 use Rattle.ctr_page.specs.Walking.{most_in_chain}
@@ -75,7 +74,7 @@ returns-in_err-bad-2-clause-leaves g c =
 
 pub returns-in-Err-2-clause-leaves : goal.returns-in-Err-2-clause-leaves
 returns-in-Err-2-clause-leaves g c =
-    answers_ok g.O.Origin.first g.D.Disk c.in_ok-bad-2.field-0 (Err (OnPage c.args.place.page c.in-Err-2.bad)) c.args.store.now c.look_at_row.new.store
+    answers_ok g.O.Origin.first g.D.Disk c.in_ok-bad-2.field-0 _ c.args.store.now c.look_at_row.new.store
     (pages_join g.D.Disk c.args.store.now c.table_on.new.store c.look_at_row.new.store g.O.Origin.first _ _ c.in_ok-bad.field-0 (Ok c.in_ok-bad-2.field-0) c.in_ok-bad.ensures.leaves c.in_ok-bad-2.ensures.leaves)
 
 pub returns-in-Some-clause-said : goal.returns-in-Some-clause-said
@@ -88,7 +87,7 @@ returns-in-Some-clause-said g c = λ told sound.
 
 pub returns-in-Some-clause-leaves : goal.returns-in-Some-clause-leaves
 returns-in-Some-clause-leaves g c =
-    answers_ok g.O.Origin.first g.D.Disk c.in_ok-bad-2.field-0 (Ok (record { table = c.in-Ok.table; found = c.in-Some.found })) c.args.store.now c.look_at_row.new.store
+    answers_ok g.O.Origin.first g.D.Disk c.in_ok-bad-2.field-0 _ c.args.store.now c.look_at_row.new.store
     (row_read g (goal.at.returns-in-Some-clause-leaves g c).After-found_in)
 
 pub returns-in_err-bad-3-clause-leaves : goal.returns-in_err-bad-3-clause-leaves
@@ -104,7 +103,7 @@ returns-in-Err-3-clause-said g c = λ told sound.
 
 pub returns-in-Err-3-clause-leaves : goal.returns-in-Err-3-clause-leaves
 returns-in-Err-3-clause-leaves g c =
-    answers_ok g.O.Origin.first g.D.Disk c.in_ok-bad-3.field-0 (Err c.in-Err-3.bad) c.args.store.now c.seek_along.new.store
+    answers_ok g.O.Origin.first g.D.Disk c.in_ok-bad-3.field-0 _ c.args.store.now c.seek_along.new.store
     (pages_join g.D.Disk c.args.store.now c.look_at_row.new.store c.seek_along.new.store g.O.Origin.first _ _ c.in_ok-bad-2.field-0 (Ok c.in_ok-bad-3.field-0)
     (row_read g (goal.at.returns-in-Err-3-clause-leaves g c).After-found_in) c.in_ok-bad-3.ensures.leaves)
 
@@ -115,6 +114,6 @@ returns-clause-said g c = λ told sound.
 
 pub returns-clause-leaves : goal.returns-clause-leaves
 returns-clause-leaves g c =
-    answers_ok g.O.Origin.first g.D.Disk c.in_ok-bad-3.field-0 (Ok (record { table = c.in-Ok.table; found = c.in-Ok-3.found })) c.args.store.now c.seek_along.new.store
+    answers_ok g.O.Origin.first g.D.Disk c.in_ok-bad-3.field-0 _ c.args.store.now c.seek_along.new.store
     (pages_join g.D.Disk c.args.store.now c.look_at_row.new.store c.seek_along.new.store g.O.Origin.first _ _ c.in_ok-bad-2.field-0 (Ok c.in_ok-bad-3.field-0)
     (row_read g (goal.at.returns-clause-leaves g c).After-found_in) c.in_ok-bad-3.ensures.leaves)

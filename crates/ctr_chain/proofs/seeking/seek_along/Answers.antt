@@ -1,11 +1,9 @@
-use Rattle.std.proofs.Common.{◌≡◌, ◌-◌, inr, suc, Some, Ok, Err, sym, ◌∙◌, ap, subst, arith}
+use Rattle.std.proofs.Common.{◌≡◌, ◌-◌, inr, suc, Ok, Err, sym, ◌∙◌, ap, subst, arith}
 use Rattle.std.proofs.lemmas.Result.{err_from_is_err_and}
 use Rattle.ctr_redo.specs.States.{State}
-use Rattle.ctr_page.specs.declared.walk.BadChain.TheVariants.{OnPage, TooLong}
 use Rattle.ctr_changes.specs.States.{pages_in}
 use Rattle.ctr_calls.proofs.Joins.{answers_ok, answers_err}
 use Rattle.ctr_calls.proofs.PagesRead.{reads_on, same_now, same_meta, was_read}
-use Rattle.ctr_chain.specs.declared.seeking.VersionAt.TheVariants.{Kept}
 use Rattle.ctr_chain.specs.Looking.{LooksAtEntry}
 use Rattle.ctr_chain.specs.Seeing.{sought_by}
 use Rattle.ctr_chain.specs.Seeking.{EntriesOf, sought_along}
@@ -14,7 +12,7 @@ use Rattle.ctr_chain.proofs.seeking.seek_along.Goals as goal
 
 pub returns-then-left-eq0-clause-leaves : goal.returns-then-left-eq0-clause-leaves
 returns-then-left-eq0-clause-leaves g c =
-    answers_ok g.O.Origin.first g.D.Disk tt (Err (TooLong c.loop-at.last c.most_entries-most.result)) c.args.store.now c.loop-at.store
+    answers_ok g.O.Origin.first g.D.Disk tt _ c.args.store.now c.loop-at.store
     (was_read g.O.Origin.first g.D.Disk _ c.args.store.now c.loop-at.store c.loop-at.invariant.0
     (λ u. omega (arith, u.1, c.if-left-eq0.true, c.most_entries-most.ensures.some)))
 
@@ -38,7 +36,7 @@ returns-in-Err-clause-ends g c = λ told sound kinds.
 
 pub returns-in-Err-clause-leaves : goal.returns-in-Err-clause-leaves
 returns-in-Err-clause-leaves g c =
-    answers_ok g.O.Origin.first g.D.Disk c.in_ok-bad.field-0 (Err (OnPage c.loop-at.at.page c.in-Err.bad)) c.args.store.now c.look_at_entry.new.store
+    answers_ok g.O.Origin.first g.D.Disk c.in_ok-bad.field-0 _ c.args.store.now c.look_at_entry.new.store
     (reads_on g.O.Origin.first g.D.Disk _ c.args.store.now c.loop-at.store c.look_at_entry.new.store (Ok c.in_ok-bad.field-0) c.loop-at.invariant.0 c.in_ok-bad.ensures.leaves)
 
 pub returns-then-is-clause-ends : goal.returns-then-is-clause-ends
@@ -58,7 +56,7 @@ returns-then-is-clause-ends g c = λ told sound kinds.
 
 pub returns-then-is-clause-leaves : goal.returns-then-is-clause-leaves
 returns-then-is-clause-leaves g c =
-    answers_ok g.O.Origin.first g.D.Disk c.in_ok-bad.field-0 (Ok (Some (record { xid = c.in-Ok.look.xid; at = Kept c.loop-at.at }))) c.args.store.now c.look_at_entry.new.store
+    answers_ok g.O.Origin.first g.D.Disk c.in_ok-bad.field-0 _ c.args.store.now c.look_at_entry.new.store
     (reads_on g.O.Origin.first g.D.Disk _ c.args.store.now c.loop-at.store c.look_at_entry.new.store (Ok c.in_ok-bad.field-0) c.loop-at.invariant.0 c.in_ok-bad.ensures.leaves)
 
 pub loop-at-preserved : goal.loop-at-preserved
