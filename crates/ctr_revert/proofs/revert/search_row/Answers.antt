@@ -1,7 +1,8 @@
-use Rattle.std.proofs.Common.{Ok, Err, sym, ◌∙◌, ap, subst}
-use Rattle.std.specs.Prelude.{⊤}
+use Rattle.std.proofs.Common.{◌≡◌, Ok, Err, sym, ◌∙◌, ap, subst}
+use Rattle.std.specs.Prelude.{⊤, IsTrue}
 use Rattle.std.proofs.lemmas.Result.{err_from_is_err_and}
 use Rattle.ctr_redo.specs.States.{State}
+use Rattle.ctr_base.specs.Base.{IsSoundImage}
 use Rattle.ctr_page.specs.Columns.{kinds_width}
 use Rattle.ctr_changes.specs.States.{pages_in}
 use Rattle.ctr_calls.proofs.Joins.{answers_ok, answers_err}
@@ -9,7 +10,26 @@ use Rattle.ctr_pvs.specs.Table.{TableSaid}
 use Rattle.ctr_revert.specs.Reverting.{SlotSaidFrom, BytesSaid}
 use Rattle.ctr_revert.proofs.Logged.{both_read, read_failed}
 use Rattle.ctr_revert.proofs.Row.{ends_row, row_passed}
+use Rattle.ctr_revert.proofs.revert.search_row.Given.{Over}
+use Rattle.ctr_revert.proofs.revert.search_row.Goals.{In_ok-bad-3}
 use Rattle.ctr_revert.proofs.revert.search_row.Goals as goal
+
+-- What the pages say where the bytes behind the slot were looked for: the table, the slot, and what was found.
+module _ (g : Over) (c : In_ok-bad-3 g) (told : IsTrue g.D.Disk.tells) (sound : IsSoundImage g.O.Origin.first) where
+  one : c.table_on.new.store.now ≡ c.args.store.now.now
+  one = (c.in_ok-bad.ensures.leaves.logs told sound).now
+
+  said : TableSaid 1 c.args.store.now.now.counted (pages_in c.args.store.now.now) c.args.place.page (Ok c.in-Ok.table)
+  said = subst (λ r. TableSaid 1 c.args.store.now.now.counted (pages_in c.args.store.now.now) c.args.place.page r) c.in-Ok.is (c.in_ok-bad.ensures.said told sound)
+
+  here : SlotSaidFrom c.args.store.now.now.counted c.in-Ok.table c.args.place (pages_in c.args.store.now.now c.args.place.page) (Ok c.in-Ok-2.from)
+  here = subst (λ m. SlotSaidFrom m c.in-Ok.table c.args.place (pages_in c.args.store.now.now c.args.place.page) (Ok c.in-Ok-2.from)) c.counted-counted.ensures
+      (subst (λ r. SlotSaidFrom c.counted-counted.result c.in-Ok.table c.args.place (pages_in c.args.store.now.now c.args.place.page) r) c.in-Ok-2.is
+      (subst (λ (s : State). SlotSaidFrom c.counted-counted.result c.in-Ok.table c.args.place (pages_in s c.args.place.page) c.in_ok-bad-2.field-0) one (c.in_ok-bad-2.ensures.said told sound)))
+
+  found : BytesSaid c.args.store.now.now.counted (pages_in c.args.store.now.now) c.in-Ok.table c.in-Ok-2.from c.in_ok-bad-3.field-0
+  found = subst (λ m. BytesSaid m (pages_in c.args.store.now.now) c.in-Ok.table c.in-Ok-2.from c.in_ok-bad-3.field-0) c.counted-counted.ensures
+      (subst (λ (s : State). BytesSaid c.counted-counted.result (pages_in s) c.in-Ok.table c.in-Ok-2.from c.in_ok-bad-3.field-0) ((c.in_ok-bad-2.ensures.leaves.logs told sound).now ∙ one) (c.in_ok-bad-3.ensures.ends told sound))
 
 pub returns-in_err-bad-2-clause-leaves : goal.returns-in_err-bad-2-clause-leaves
 returns-in_err-bad-2-clause-leaves g c =
@@ -28,18 +48,10 @@ returns-in_err-bad-3-clause-leaves g c =
 
 pub returns-in-Err-3-clause-ends : goal.returns-in-Err-3-clause-ends
 returns-in-Err-3-clause-ends g c = λ told sound.
-    let at = c.args.place in
-    let n = c.args.store.now.now.counted in
+    let k = (goal.at.returns-in-Err-3-clause-ends g c).In_ok-bad-3 in
     let pages = pages_in c.args.store.now.now in
-    let t = c.in-Ok.table in
-    let f = c.in-Ok-2.from in
-    let said = subst (λ r. TableSaid 1 n pages at.page r) c.in-Ok.is (c.in_ok-bad.ensures.said told sound) in
-    let one = (c.in_ok-bad.ensures.leaves.logs told sound).now in
-    let two = (c.in_ok-bad-2.ensures.leaves.logs told sound).now ∙ one in
-    let from = subst (λ r. SlotSaidFrom c.counted-counted.result t at (pages at.page) r) c.in-Ok-2.is (subst (λ (s : State). SlotSaidFrom c.counted-counted.result t at (pages_in s at.page) c.in_ok-bad-2.field-0) one (c.in_ok-bad-2.ensures.said told sound)) in
-    let here = subst (λ m. SlotSaidFrom m t at (pages at.page) (Ok f)) c.counted-counted.ensures from in
-    let found = subst (λ m. BytesSaid m pages t f c.in_ok-bad-3.field-0) c.counted-counted.ensures (subst (λ (s : State). BytesSaid c.counted-counted.result (pages_in s) t f c.in_ok-bad-3.field-0) two (c.in_ok-bad-3.ensures.ends told sound)) in
-    sym (ends_row n pages at t f said here (Err c.in-Err-3.bad) (subst (λ r. BytesSaid n pages t f r) c.in-Err-3.is found))
+    sym (ends_row c.args.store.now.now.counted pages c.args.place c.in-Ok.table c.in-Ok-2.from (said g k told sound) (here g k told sound) (Err c.in-Err-3.bad)
+    (subst (λ r. BytesSaid c.args.store.now.now.counted pages c.in-Ok.table c.in-Ok-2.from r) c.in-Err-3.is (found g k told sound)))
 
 pub returns-in-Err-3-clause-leaves : goal.returns-in-Err-3-clause-leaves
 returns-in-Err-3-clause-leaves g c =
@@ -47,18 +59,10 @@ returns-in-Err-3-clause-leaves g c =
 
 pub returns-in-Ok-3-clause-ends : goal.returns-in-Ok-3-clause-ends
 returns-in-Ok-3-clause-ends g c = λ told sound.
-    let at = c.args.place in
-    let n = c.args.store.now.now.counted in
+    let k = (goal.at.returns-in-Ok-3-clause-ends g c).In_ok-bad-3 in
     let pages = pages_in c.args.store.now.now in
-    let t = c.in-Ok.table in
-    let f = c.in-Ok-2.from in
-    let said = subst (λ r. TableSaid 1 n pages at.page r) c.in-Ok.is (c.in_ok-bad.ensures.said told sound) in
-    let one = (c.in_ok-bad.ensures.leaves.logs told sound).now in
-    let two = (c.in_ok-bad-2.ensures.leaves.logs told sound).now ∙ one in
-    let from = subst (λ r. SlotSaidFrom c.counted-counted.result t at (pages at.page) r) c.in-Ok-2.is (subst (λ (s : State). SlotSaidFrom c.counted-counted.result t at (pages_in s at.page) c.in_ok-bad-2.field-0) one (c.in_ok-bad-2.ensures.said told sound)) in
-    let here = subst (λ m. SlotSaidFrom m t at (pages at.page) (Ok f)) c.counted-counted.ensures from in
-    let found = subst (λ m. BytesSaid m pages t f c.in_ok-bad-3.field-0) c.counted-counted.ensures (subst (λ (s : State). BytesSaid c.counted-counted.result (pages_in s) t f c.in_ok-bad-3.field-0) two (c.in_ok-bad-3.ensures.ends told sound)) in
-    row_passed n pages at t f said here c.in-Ok-3.bytes c.kinds_width.result (c.kinds_width.ensures.value ∙ ap kinds_width c.kinds.ensures.value) (subst (λ r. BytesSaid n pages t f r) c.in-Ok-3.is found)
+    row_passed c.args.store.now.now.counted pages c.args.place c.in-Ok.table c.in-Ok-2.from (said g k told sound) (here g k told sound) c.in-Ok-3.bytes c.kinds_width.result (c.kinds_width.ensures.value ∙ ap kinds_width c.kinds.ensures.value)
+    (subst (λ r. BytesSaid c.args.store.now.now.counted pages c.in-Ok.table c.in-Ok-2.from r) c.in-Ok-3.is (found g k told sound))
 
 pub returns-in-Ok-3-clause-leaves : goal.returns-in-Ok-3-clause-leaves
 returns-in-Ok-3-clause-leaves g c =
