@@ -1,6 +1,8 @@
 use Rattle.std.proofs.Common.{◌≡◌, ◌-◌, inr, suc, Ok, Err, sym, ◌∙◌, ap, subst, arith}
+use Rattle.std.specs.Prelude.{IsTrue}
 use Rattle.std.proofs.lemmas.Result.{err_from_is_err_and}
 use Rattle.ctr_redo.specs.States.{State}
+use Rattle.ctr_base.specs.Base.{IsSoundImage}
 use Rattle.ctr_changes.specs.States.{pages_in}
 use Rattle.ctr_calls.proofs.Joins.{answers_ok, answers_err}
 use Rattle.ctr_calls.proofs.PagesRead.{reads_on, same_now, same_meta, was_read}
@@ -8,7 +10,18 @@ use Rattle.ctr_chain.specs.Looking.{LooksAtEntry}
 use Rattle.ctr_chain.specs.Seeing.{sought_by}
 use Rattle.ctr_chain.specs.Seeking.{EntriesOf, sought_along}
 use Rattle.ctr_chain.proofs.Steps.{bad_here, found_here, next_here, at_end}
+use Rattle.ctr_chain.proofs.seeking.seek_along.Given.{Over}
+use Rattle.ctr_chain.proofs.seeking.seek_along.Goals.{In_ok-bad}
 use Rattle.ctr_chain.proofs.seeking.seek_along.Goals as goal
+
+-- Behind a look at the next version entry: one is left, and what the look says, by the pages of the beginning.
+module _ (g : Over) (c : In_ok-bad g) where
+  goes : c.loop-at.left ≡ suc (c.loop-at.left - 1)
+  goes = omega (arith, c.if-left-eq0.false)
+
+  looks : IsTrue g.D.Disk.tells → IsSoundImage g.O.Origin.first → LooksAtEntry c.args.counted c.args.table.now c.loop-at.at (pages_in c.args.store.now.now c.loop-at.at.page) c.in_ok-bad.field-0
+  looks told sound = subst (λ (st : State). LooksAtEntry c.args.counted c.args.table.now c.loop-at.at (pages_in st c.loop-at.at.page) c.in_ok-bad.field-0)
+      (same_now g.O.Origin.first g.D.Disk _ c.args.store.now c.loop-at.store c.loop-at.invariant.0 told sound) (c.in_ok-bad.ensures.looks told sound)
 
 pub returns-then-left-eq0-clause-leaves : goal.returns-then-left-eq0-clause-leaves
 returns-then-left-eq0-clause-leaves g c =
@@ -24,15 +37,14 @@ returns-in_err-bad-clause-leaves g c =
 
 pub returns-in-Err-clause-ends : goal.returns-in-Err-clause-ends
 returns-in-Err-clause-ends g c = λ told sound kinds.
+    let k = (goal.at.returns-in-Err-clause-ends g c).In_ok-bad in
     let t = c.args.table.now in
     let at = c.loop-at.at in
     let pages = pages_in c.args.store.now.now in
     let test = sought_by c.args.store.now.meta.tables c.args.sought.now in
-    let same = same_now g.O.Origin.first g.D.Disk _ c.args.store.now c.loop-at.store c.loop-at.invariant.0 told sound in
-    let looks = subst (λ r. LooksAtEntry c.args.counted t at (pages at.page) r) c.in-Err.is (subst (λ (st : State). LooksAtEntry c.args.counted t at (pages_in st at.page) c.in_ok-bad.field-0) same (c.in_ok-bad.ensures.looks told sound)) in
-    let goes : c.loop-at.left ≡ suc (c.loop-at.left - 1) = omega (arith, c.if-left-eq0.false) in
+    let looks = subst (λ r. LooksAtEntry c.args.counted t at (pages at.page) r) c.in-Err.is (looks g k told sound) in
     sym (ap (λ n. sought_along test (record { counted = c.args.counted; pages = pages; entry = t.entry }) n c.args.home c.args.from) (sym c.most_entries-most.ensures.value)
-    ∙ c.loop-at.invariant.1 told sound kinds ∙ bad_here test c.args.counted pages t kinds c.loop-at.left (c.loop-at.left - 1) c.loop-at.last at c.in-Err.bad goes c.loop-at-test.true looks)
+    ∙ c.loop-at.invariant.1 told sound kinds ∙ bad_here test c.args.counted pages t kinds c.loop-at.left (c.loop-at.left - 1) c.loop-at.last at c.in-Err.bad (goes g k) c.loop-at-test.true looks)
 
 pub returns-in-Err-clause-leaves : goal.returns-in-Err-clause-leaves
 returns-in-Err-clause-leaves g c =
@@ -41,18 +53,17 @@ returns-in-Err-clause-leaves g c =
 
 pub returns-then-is-clause-ends : goal.returns-then-is-clause-ends
 returns-then-is-clause-ends g c = λ told sound kinds.
+    let k = (goal.at.returns-then-is-clause-ends g c).In_ok-bad in
     let t = c.args.table.now in
     let at = c.loop-at.at in
     let l = c.in-Ok.look in
     let pages = pages_in c.args.store.now.now in
     let test = sought_by c.args.store.now.meta.tables c.args.sought.now in
-    let same = same_now g.O.Origin.first g.D.Disk _ c.args.store.now c.loop-at.store c.loop-at.invariant.0 told sound in
-    let looks = subst (λ r. LooksAtEntry c.args.counted t at (pages at.page) r) c.in-Ok.is (subst (λ (st : State). LooksAtEntry c.args.counted t at (pages_in st at.page) c.in_ok-bad.field-0) same (c.in_ok-bad.ensures.looks told sound)) in
-    let goes : c.loop-at.left ≡ suc (c.loop-at.left - 1) = omega (arith, c.if-left-eq0.false) in
+    let looks = subst (λ r. LooksAtEntry c.args.counted t at (pages at.page) r) c.in-Ok.is (looks g k told sound) in
     let meta = c.meta.ensures.tables ∙ c.in_ok-bad.ensures.leaves.keeps.meta ∙ same_meta g.O.Origin.first g.D.Disk _ c.args.store.now c.loop-at.store c.loop-at.invariant.0 in
     let is = ap (λ m. sought_by m.tables c.args.sought.now l.xid) (sym meta) ∙ sym c.is.ensures ∙ c.if-is.true in
     sym (ap (λ n. sought_along test (record { counted = c.args.counted; pages = pages; entry = t.entry }) n c.args.home c.args.from) (sym c.most_entries-most.ensures.value)
-    ∙ c.loop-at.invariant.1 told sound kinds ∙ found_here test c.args.counted pages t kinds c.loop-at.left (c.loop-at.left - 1) c.loop-at.last at l goes c.loop-at-test.true looks is)
+    ∙ c.loop-at.invariant.1 told sound kinds ∙ found_here test c.args.counted pages t kinds c.loop-at.left (c.loop-at.left - 1) c.loop-at.last at l (goes g k) c.loop-at-test.true looks is)
 
 pub returns-then-is-clause-leaves : goal.returns-then-is-clause-leaves
 returns-then-is-clause-leaves g c =
@@ -61,20 +72,19 @@ returns-then-is-clause-leaves g c =
 
 pub loop-at-preserved : goal.loop-at-preserved
 loop-at-preserved g c =
+    let k = (goal.at.loop-at-preserved g c).In_ok-bad in
     let t = c.args.table.now in
     let at = c.loop-at.at in
     let l = c.in-Ok.look in
     let pages = pages_in c.args.store.now.now in
     let test = sought_by c.args.store.now.meta.tables c.args.sought.now in
-    let goes : c.loop-at.left ≡ suc (c.loop-at.left - 1) = omega (arith, c.if-left-eq0.false) in
     let meta = c.meta.ensures.tables ∙ c.in_ok-bad.ensures.leaves.keeps.meta ∙ same_meta g.O.Origin.first g.D.Disk _ c.args.store.now c.loop-at.store c.loop-at.invariant.0 in
     let isnt = ap (λ m. sought_by m.tables c.args.sought.now l.xid) (sym meta) ∙ sym c.is.ensures ∙ c.if-is.false in (
       inr (answers_ok g.O.Origin.first g.D.Disk c.in_ok-bad.field-0 tt c.args.store.now c.look_at_entry.new.store
           (reads_on g.O.Origin.first g.D.Disk _ c.args.store.now c.loop-at.store c.look_at_entry.new.store (Ok c.in_ok-bad.field-0) c.loop-at.invariant.0 c.in_ok-bad.ensures.leaves)),
       λ told sound kinds.
-          let same = same_now g.O.Origin.first g.D.Disk _ c.args.store.now c.loop-at.store c.loop-at.invariant.0 told sound in
-          let looks = subst (λ r. LooksAtEntry c.args.counted t at (pages at.page) r) c.in-Ok.is (subst (λ (st : State). LooksAtEntry c.args.counted t at (pages_in st at.page) c.in_ok-bad.field-0) same (c.in_ok-bad.ensures.looks told sound)) in
-          c.loop-at.invariant.1 told sound kinds ∙ next_here test c.args.counted pages t kinds c.loop-at.left (c.loop-at.left - 1) c.loop-at.last at l goes c.loop-at-test.true looks isnt,
+          let looks = subst (λ r. LooksAtEntry c.args.counted t at (pages at.page) r) c.in-Ok.is (looks g k told sound) in
+          c.loop-at.invariant.1 told sound kinds ∙ next_here test c.args.counted pages t kinds c.loop-at.left (c.loop-at.left - 1) c.loop-at.last at l (goes g k) c.loop-at-test.true looks isnt,
     )
 
 pub returns-clause-ends : goal.returns-clause-ends
