@@ -15,7 +15,7 @@ use Rattle.ctr_page.specs.Places.{slot_size, room_for}
 use Rattle.ctr_page.specs.Reading.{piece, slot_at}
 use Rattle.ctr_page.specs.Columns.{kinds_of, kinds_width, slot_start}
 use Rattle.ctr_page.specs.Damage.{slot_check, used_slot_check}
-use Rattle.ctr_page.specs.Searching.{EndsSearch, IsFirst}
+use Rattle.ctr_page.specs.Searching.{IsFirst}
 use Rattle.ctr_page.proofs.Holding.{kinds_wide, most_ok}
 use Rattle.ctr_page.proofs.Searches.{ends_first}
 use Rattle.ctr_area.proofs.Bytes.{byte_in_piece}
@@ -23,7 +23,7 @@ use Rattle.ctr_area.specs.Areas.{Slot, free_slot}
 use Rattle.ctr_area.specs.Reading.{version_said, slot_said, header_on, columns_on, width_on, size_of_kind, area_of}
 use Rattle.ctr_heap.specs.declared.slots.SlotSought.{SlotSought}
 use Rattle.ctr_heap.specs.declared.slots.SlotSought.TheVariants.{Key, Free}
-use Rattle.ctr_heap.specs.Slots.{slot_is, checks_slot, seeks_slot, is_sought, seeks_in}
+use Rattle.ctr_heap.specs.Slots.{slot_is, checks_slot, seeks_slot, EndsSlots, is_sought, seeks_in}
 
 -- a slot that passes its check is used or free
 one_or_none : (kinds : List Kind) (counted start : ℕ) (page : List ℕ) → slot_check kinds counted start page ≡ Ok tt → field 1 start page ≢ 1 → field 1 start page ≡ 0
@@ -74,8 +74,7 @@ module _ (pages : ℕ → List ℕ) (p counted : ℕ) (sought : SlotSought) (row
   rooms : room_for (slot_size w) ≡ (area_of pages).room p
   rooms = ap (λ v. room_for (slot_size v)) wide ∙ sym (ap (λ b. room_for (size_of_kind b (width_on pages p))) (eq-eqb (header_on pages p).kind 1 rows))
 
-  pub first_in_area : (found : Option ℕ) → EndsSearch (checks_slot kinds counted (pages p)) (seeks_slot w sought (pages p)) 0 (room_for (slot_size w)) (Ok found)
-      → IsFirst (seeks_in (area_of pages) p sought) 0 ((area_of pages).room p) found
+  pub first_in_area : (found : Option ℕ) → EndsSlots sought kinds counted (pages p) (Ok found) → IsFirst (seeks_in (area_of pages) p sought) 0 ((area_of pages).room p) found
   first_in_area found ends =
       subst (λ r. IsFirst (seeks_in (area_of pages) p sought) 0 r found) rooms
       (ends_first (checks_slot kinds counted (pages p)) (seeks_slot w sought (pages p)) (seeks_in (area_of pages) p sought) 0 (room_for (slot_size w)) found (λ m lt passes. same_sought m passes) ends)

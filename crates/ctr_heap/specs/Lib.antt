@@ -1,4 +1,3 @@
 pub mod Slots
-pub mod Along
 pub mod Writing
 pub mod Finding

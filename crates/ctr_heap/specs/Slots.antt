@@ -1,12 +1,14 @@
 -- The slots of a page: which is sought, and what is wrong with one.
-use Rattle.std.specs.Prelude.{ℕ, ◌==◌, Bool, ◌&&◌, not, List, ⊤, Result}
+use Rattle.std.specs.Prelude.{ℕ, ◌==◌, Bool, ◌&&◌, not, List, Option, ⊤, Result}
 use Rattle.std.specs.Ordering.{int_eq}
 use Rattle.ctr_types.specs.declared.value.Kind.{Kind}
 use Rattle.ctr_records.specs.declared.decoding.BadRecord.{BadRecord}
 use Rattle.ctr_page.specs.declared.rows.RowSlot.{RowSlot}
+use Rattle.ctr_page.specs.Places.{slot_size, room_for}
 use Rattle.ctr_page.specs.Reading.{slot_at}
-use Rattle.ctr_page.specs.Columns.{slot_start}
+use Rattle.ctr_page.specs.Columns.{kinds_width, slot_start}
 use Rattle.ctr_page.specs.Damage.{slot_check}
+use Rattle.ctr_page.specs.Searching.{EndsSearch}
 use Rattle.ctr_area.specs.Areas.{Slot, Area}
 use Rattle.ctr_heap.specs.declared.slots.SlotSought.{SlotSought}
 use Rattle.ctr_heap.specs.declared.slots.SlotSought.TheVariants.{Key, Free}
@@ -23,6 +25,12 @@ checks_slot kinds counted page n = slot_check kinds counted (slot_start kinds n)
 -- whether a slot of rows so wide is the one that is sought, by its number on a page
 abbrev pub seeks_slot : ℕ → SlotSought → List ℕ → ℕ → Bool
 seeks_slot w sought page n = slot_is sought (slot_at w n page)
+
+-- where the search through the slots of a page ends
+abbrev pub EndsSlots : SlotSought → List Kind → ℕ → List ℕ → Result (Option ℕ) BadRecord → Type 0
+EndsSlots sought kinds counted page result =
+    EndsSearch (checks_slot kinds counted page) (seeks_slot (kinds_width kinds) sought page)
+    0 (room_for (slot_size (kinds_width kinds))) result
 
 -- ---- in the area
 

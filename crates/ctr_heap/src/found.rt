@@ -6,11 +6,13 @@ ghost use Rattle.ctr_page.specs.Searching.{IsFirst};
 ghost use Rattle.ctr_area.specs.Areas.{Area};
 ghost use Rattle.ctr_area.specs.Chains.{pages_bound, pages_from, places_from, bucket_first};
 ghost use Rattle.ctr_area.specs.Sound.{IsAmong, IsUsedSlot, AreReadable, AreKeyed};
-ghost use Rattle.ctr_heap.specs.declared.slots.SlotSought.TheVariants.{Key};
+ghost use Rattle.ctr_heap.specs.declared.slots.SlotSought.TheVariants.{Key, Free};
 ghost use Rattle.ctr_page.specs.Walking.{most_in_chain};
 ghost use Rattle.ctr_area.specs.Reading.{area_of};
 ghost use Rattle.ctr_heap.specs.Slots.{seeks_in};
-ghost use Rattle.ctr_heap.specs.Along.{key_sought, free_sought, first_of_bucket, EndsAlong};
+ghost use Rattle.ctr_heap.specs.Finding.{bucket_sought, first_of_bucket};
+ghost use Rattle.ctr_page.specs.Places.{bucket_of};
+ghost use Rattle.ctr_search.specs.Along.{EndsAlong};
 
 /// The slot of a key of a table is looked for in the chain of the key's bucket alone.
 pub fn a_key_is_in_its_bucket()
@@ -29,11 +31,11 @@ pub fn a_key_is_in_its_bucket()
 pub fn a_search_tells_the_key()
     // A slot that it has found is a used one of the table, and of the key.
     ensures found { (pages : ℕ → List ℕ) (e counted last : ℕ) (key : ℤ) (at : Place) → AreReadable (area_of pages) → counted ≤ pages_bound
-        → EndsAlong (key_sought pages counted e key) pages (most_in_chain counted) last (bucket_first (area_of pages) e key) (Ok (Some at))
+        → EndsAlong (bucket_sought pages counted e (bucket_of key) (Key key)) pages (most_in_chain counted) last (bucket_first (area_of pages) e key) (Ok (Some at))
         → IsUsedSlot (area_of pages) e at × (((area_of pages).slot at).key ≡ key) }
     // Where it has found none, no used slot of the table has the key, if each is in its bucket.
     ensures absent { (pages : ℕ → List ℕ) (e counted last : ℕ) (key : ℤ) → AreReadable (area_of pages) → AreKeyed (area_of pages) → counted ≤ pages_bound
-        → EndsAlong (key_sought pages counted e key) pages (most_in_chain counted) last (bucket_first (area_of pages) e key) (Ok None)
+        → EndsAlong (bucket_sought pages counted e (bucket_of key) (Key key)) pages (most_in_chain counted) last (bucket_first (area_of pages) e key) (Ok None)
         → (at : Place) → IsUsedSlot (area_of pages) e at → ((area_of pages).slot at).key ≡ key → ⊥ }
 {}
 
@@ -41,10 +43,10 @@ pub fn a_search_tells_the_key()
 pub fn a_search_tells_a_free_slot()
     // What it has found stands on a page of the chain, and isn't used.
     ensures found { (pages : ℕ → List ℕ) (e bucket counted last : ℕ) (at : Place) → AreReadable (area_of pages) → counted ≤ pages_bound
-        → EndsAlong (free_sought pages counted e bucket) pages (most_in_chain counted) last (first_of_bucket (area_of pages) e bucket) (Ok (Some at))
+        → EndsAlong (bucket_sought pages counted e bucket Free) pages (most_in_chain counted) last (first_of_bucket (area_of pages) e bucket) (Ok (Some at))
         → IsAmong at (places_from (area_of pages) (first_of_bucket (area_of pages) e bucket)) × (((area_of pages).slot at).used ≡ false) }
     // Where it has found none, all slots on the pages of the chain are used.
     ensures none { (pages : ℕ → List ℕ) (e bucket counted last : ℕ) → AreReadable (area_of pages) → counted ≤ pages_bound
-        → EndsAlong (free_sought pages counted e bucket) pages (most_in_chain counted) last (first_of_bucket (area_of pages) e bucket) (Ok None)
+        → EndsAlong (bucket_sought pages counted e bucket Free) pages (most_in_chain counted) last (first_of_bucket (area_of pages) e bucket) (Ok None)
         → (at : Place) → IsAmong at (places_from (area_of pages) (first_of_bucket (area_of pages) e bucket)) → ((area_of pages).slot at).used ≡ true }
 {}

@@ -6,7 +6,6 @@
 mod buckets;
 mod found;
 mod slots;
-mod store;
 mod writing;
 
 pub use buckets::{find, free_slot};
@@ -14,7 +13,5 @@ pub use found::{a_key_is_in_its_bucket, a_search_tells_a_free_slot, a_search_tel
 pub use slots::{SlotSought, found_in_area, search_slots};
 pub use writing::{format, link, put_slot};
 
-#[cfg(test)]
-mod store_tests;
 #[cfg(test)]
 mod tests;

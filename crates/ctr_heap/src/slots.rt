@@ -3,14 +3,14 @@ ghost use Rattle.std.specs.Prelude.{◌≡◌, ◌≤◌, ◌<◌, ℕ, List, le
 ghost use Rattle.std.specs.Prelude.{Option};
 ghost use Rattle.ctr_types.specs.declared.value.Kind.{Kind};
 ghost use Rattle.ctr_page.specs.declared.table.TheConstants.{PAGE_SIZE};
-ghost use Rattle.ctr_page.specs.Columns.{kinds_of, kinds_width as width_of_kinds};
-ghost use Rattle.ctr_page.specs.Places.{slot_size as size_of_slot, room_for as room_of};
-ghost use Rattle.ctr_page.specs.Searching.{EndsSearch, IsFirst};
+ghost use Rattle.ctr_page.specs.Columns.{kinds_of};
+ghost use Rattle.ctr_page.specs.Searching.{IsFirst};
 ghost use Rattle.ctr_area.specs.Reading.{header_on, columns_on, area_of};
 ghost use Rattle.ctr_heap.specs.declared.slots.SlotSought.{SlotSought};
-ghost use Rattle.ctr_heap.specs.Slots.{slot_is, checks_slot, seeks_slot, seeks_in};
+ghost use Rattle.ctr_heap.specs.Slots.{slot_is, EndsSlots, seeks_in};
 
 use ctr_page::{BadPage, RowSlot, check_slot, kinds_width, read_slot, room_for, slot_size};
+use ctr_search::PageSought;
 use ctr_types::Kind;
 
 /// Which slot is sought.
@@ -34,6 +34,14 @@ impl SlotSought {
     }
 }
 
+impl PageSought for SlotSought {
+    ghost ends = { EndsSlots };
+
+    fn search(&self, kinds: &[Kind], counted: u32, page: &[u8]) -> Result<Option<u16>, BadPage> {
+        search_slots(kinds, counted, *self, page)
+    }
+}
+
 /// Searches the slots of a page of rows, whose columns behind the key are of these kinds, where so many
 /// pages are counted: the first slot that is sought, or the damage of the first that fails its checks. No
 /// slot behind it is looked at. It takes no memory.
@@ -46,8 +54,7 @@ pub fn search_slots(
     requires some { 0 < counted }
     requires few { length kinds.now ≤ 7 }
     requires whole { length page.now ≡ PAGE_SIZE }
-    ensures { EndsSearch (checks_slot kinds.now counted page.now) (seeks_slot (width_of_kinds kinds.now) sought page.now)
-        0 (room_of (size_of_slot (width_of_kinds kinds.now))) result }
+    ensures { EndsSlots sought kinds.now counted page.now result }
 {
     let w = kinds_width(kinds);
     let count = room_for(slot_size(w)) as u16;
@@ -64,7 +71,6 @@ pub fn search_slots(
 /// of the area there that is sought, or there is none.
 pub fn found_in_area()
     ensures { (pages : ℕ → List ℕ) (p counted : ℕ) (sought : SlotSought) (found : Option ℕ) → (header_on pages p).kind ≡ 1
-        → EndsSearch (checks_slot (kinds_of (columns_on pages p)) counted (pages p)) (seeks_slot (width_of_kinds (kinds_of (columns_on pages p))) sought (pages p))
-        0 (room_of (size_of_slot (width_of_kinds (kinds_of (columns_on pages p))))) (Ok found)
+        → EndsSlots sought (kinds_of (columns_on pages p)) counted (pages p) (Ok found)
         → IsFirst (seeks_in (area_of pages) p sought) 0 ((area_of pages).room p) found }
 {}

@@ -1,9 +1,5 @@
-pub mod Limits
 pub mod OneRecord
 pub mod Told
-pub mod Firsts
-pub mod Along
 pub mod Sought
 pub mod Telling
-pub mod Said
 pub mod Freeing

@@ -13,14 +13,14 @@ use Rattle.ctr_page.specs.Places.{kept_size, room_for}
 use Rattle.ctr_page.specs.Reading.{piece, older_at}
 use Rattle.ctr_page.specs.Columns.{kinds_of, kinds_width, kept_start}
 use Rattle.ctr_page.specs.Damage.{kept_check, used_kept_check}
-use Rattle.ctr_page.specs.Searching.{EndsSearch, IsFirst}
+use Rattle.ctr_page.specs.Searching.{IsFirst}
 use Rattle.ctr_page.proofs.Holding.{kinds_wide, most_ok}
 use Rattle.ctr_page.proofs.Searches.{ends_first}
 use Rattle.ctr_area.proofs.Bytes.{byte_in_piece}
 use Rattle.ctr_area.proofs.Written.{one_of_two}
 use Rattle.ctr_area.specs.Areas.{Older, free_older}
 use Rattle.ctr_area.specs.Reading.{version_said, older_said, header_on, columns_on, width_on, size_of_kind, area_of}
-use Rattle.ctr_pvs.specs.Entries.{checks_version, is_free_version, is_free_older}
+use Rattle.ctr_pvs.specs.Entries.{checks_version, is_free_version, EndsFree, is_free_older}
 
 -- a version entry that passes its check is used or free
 one_or_none : (kinds : List Kind) (counted start : ℕ) (page : List ℕ) → kept_check kinds counted start page ≡ Ok tt → field 1 start page ≢ 1 → field 1 start page ≡ 0
@@ -65,8 +65,7 @@ module _ (pages : ℕ → List ℕ) (p counted : ℕ) (versions : (header_on pag
   rooms : room_for (kept_size w) ≡ (area_of pages).room p
   rooms = ap (λ v. room_for (kept_size v)) wide ∙ sym (ap (λ b. room_for (size_of_kind b (width_on pages p))) (one_of_two (header_on pages p).kind versions))
 
-  pub first_in_area : (found : Option ℕ) → EndsSearch (checks_version kinds counted (pages p)) (is_free_version w (pages p)) 0 (room_for (kept_size w)) (Ok found)
-      → IsFirst (is_free_older (area_of pages) p) 0 ((area_of pages).room p) found
+  pub first_in_area : (found : Option ℕ) → EndsFree kinds counted (pages p) (Ok found) → IsFirst (is_free_older (area_of pages) p) 0 ((area_of pages).room p) found
   first_in_area found ends =
       subst (λ r. IsFirst (is_free_older (area_of pages) p) 0 r found) rooms
       (ends_first (checks_version kinds counted (pages p)) (is_free_version w (pages p)) (is_free_older (area_of pages) p) 0 (room_for (kept_size w)) found (λ m lt passes. same_free m passes) ends)

@@ -1,13 +1,23 @@
 // The version entries of a page.
 ghost use Rattle.std.specs.Prelude.{◌≡◌, ◌≤◌, ◌<◌, length};
 ghost use Rattle.ctr_page.specs.declared.table.TheConstants.{PAGE_SIZE};
-ghost use Rattle.ctr_page.specs.Columns.{kinds_width as width_of_kinds};
-ghost use Rattle.ctr_page.specs.Places.{kept_size as size_of_kept, room_for as room_of};
-ghost use Rattle.ctr_page.specs.Searching.{EndsSearch};
-ghost use Rattle.ctr_pvs.specs.Entries.{checks_version, is_free_version};
+ghost use Rattle.ctr_pvs.specs.Entries.{EndsFree};
 
 use ctr_page::{BadPage, check_version, kept_size, kinds_width, read_version, room_for};
+use ctr_search::PageSought;
 use ctr_types::Kind;
+
+/// A version entry that isn't used is sought.
+#[derive(Clone, Copy, Debug, PartialEq, Eq)]
+pub(crate) struct FreeEntry;
+
+impl PageSought for FreeEntry {
+    ghost ends = { λ _. EndsFree };
+
+    fn search(&self, kinds: &[Kind], counted: u32, page: &[u8]) -> Result<Option<u16>, BadPage> {
+        find_free_entry(kinds, counted, page)
+    }
+}
 
 /// The first version entry of a page that isn't used, in rows whose columns behind the key are of these kinds, where so many pages are
 /// counted; or the damage of the first that fails its checks. No version entry behind it is looked at. It takes no memory.
@@ -15,8 +25,7 @@ pub fn find_free_entry(kinds: &[Kind], counted: u32, page: &[u8]) -> Result<Opti
     requires some { 0 < counted }
     requires few { length kinds.now ≤ 7 }
     requires whole { length page.now ≡ PAGE_SIZE }
-    ensures { EndsSearch (checks_version kinds.now counted page.now) (is_free_version (width_of_kinds kinds.now) page.now)
-        0 (room_of (size_of_kept (width_of_kinds kinds.now))) result }
+    ensures { EndsFree kinds.now counted page.now result }
 {
     let w = kinds_width(kinds);
     let count = room_for(kept_size(w)) as u16;

@@ -1,0 +1,5 @@
+pub mod Limits
+pub mod Firsts
+pub mod Ends
+pub mod Said
+pub mod Telling
