@@ -1,12 +1,11 @@
 -- What may be logged where there is room for one record more, and which record it is.
-use Rattle.std.proofs.Common.{◌≡◌, ℕ, ◌+◌, ◌-◌, ◌/◌, ◌^◌, ◌<◌, ◌≤◌, List, ◌++◌, length, take, Option, None, Some, refl, sym, ◌∙◌, ap, subst, arith}
+use Rattle.std.proofs.Common.{◌≡◌, ℕ, ◌+◌, ◌-◌, ◌^◌, ◌<◌, ◌≤◌, List, ◌++◌, length, take, Option, None, Some, refl, sym, ◌∙◌, ap, subst, arith}
 use Rattle.std.specs.Prelude.{IfSome}
 use Rattle.std.proofs.lemmas.List.{take_at}
 use Rattle.ctr_bytes.specs.Fields.{spelled}
 use Rattle.ctr_bytes.proofs.FieldLaws.{length-spelled}
 use Rattle.ctr_records.specs.declared.record.Record.TheVariants.{Link}
 use Rattle.ctr_meta.specs.Tables.{heads_in}
-use Rattle.ctr_redo.specs.States.{page_limit}
 use Rattle.ctr_page.specs.declared.header.Header.{Header}
 use Rattle.ctr_page.specs.declared.rows.Place.{Place}
 use Rattle.ctr_page.specs.declared.rows.RowSlot.{RowSlot}
@@ -27,16 +26,6 @@ length-header h =
     let z = spelled 1 0 in
     let n = spelled 4 h.next in
     omega (arith, length-more 8 0 (k ++ e ++ b ++ z ++ n), length-more 4 h.next (k ++ e ++ b ++ z), length-more 1 0 (k ++ e ++ b), length-more 1 h.bucket (k ++ e), length-more 1 h.entry k, length-spelled 1 h.kind)
-
--- a page that may be counted
-pub in_limit : (p : ℕ) → p < 30000 → p < page_limit
-unfolding page_limit
-in_limit p small = small
-
--- a page of the catalog
-pub catalog_in_limit : (e : ℕ) → e < 32 → 1 + e / 16 < page_limit
-unfolding page_limit
-catalog_in_limit e few = omega (arith, few)
 
 -- the record of a page at the front of a chain
 pub front_is : (x p e : ℕ) (bucket : Option ℕ) → Link x p (laid_in_entry e (front_place bucket) (spelled 4 p)) ≡ front_record x p e bucket

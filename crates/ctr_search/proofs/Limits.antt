@@ -1,4 +1,4 @@
--- Pages that a chain leads to.
+-- Pages that a chain leads to, and that there may be.
 use Rattle.std.proofs.Common.{◌≡◌, ℕ, ◌+◌, ◌-◌, ◌/◌, ◌<◌, ◌≤◌, List, Result, Ok, arith}
 use Rattle.std.specs.Prelude.{⊤}
 use Rattle.std.proofs.lemmas.Bool.{ltb-false}
@@ -27,12 +27,17 @@ next_counted chain counted page passes some =
     below : (n c : ℕ) → n ≤ c - 1 → 0 < c → n < c
     below n c le some = omega (arith, le, some)
 
--- a counted page is one that there may be
+-- a page that may be counted
+pub in_limit : (p : ℕ) → p < 30000 → p < page_limit
+unfolding page_limit
+in_limit p small = small
+
+-- a counted page is one
 pub below_limit : (p counted : ℕ) → p < counted → counted ≤ 30000 → p < page_limit
 unfolding page_limit
 below_limit p counted lt few = omega (arith, lt, few)
 
--- a page of the catalog
+-- and a page of the catalog
 pub catalog_in_limit : (e : ℕ) → e < 32 → 1 + e / 16 < page_limit
 unfolding page_limit
 catalog_in_limit e few = omega (arith, few)

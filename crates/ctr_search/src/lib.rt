@@ -8,4 +8,3 @@ mod table;
 
 pub use along::PageSought;
 pub use table::search_chain;
-

@@ -9,7 +9,8 @@ use Rattle.ctr_changes.specs.Changing.{laid_clear, format_record}
 use Rattle.ctr_store.specs.Store.{MayLog, Logs}
 use Rattle.ctr_calls.specs.OneRecord.{LogsOne}
 use Rattle.ctr_calls.proofs.Records.{both_ok}
-use Rattle.ctr_heap.proofs.OneRecord.{in_limit, format_may}
+use Rattle.ctr_search.proofs.Limits.{in_limit}
+use Rattle.ctr_heap.proofs.OneRecord.{format_may}
 use Rattle.ctr_heap.proofs.writing.format.Goals as goal
 
 pub log_on_page-requires-clause-may : goal.log_on_page-requires-clause-may

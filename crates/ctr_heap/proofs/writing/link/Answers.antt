@@ -11,7 +11,8 @@ use Rattle.ctr_store.specs.Store.{MayLog, Logs}
 use Rattle.ctr_calls.specs.OneRecord.{LogsOne}
 use Rattle.ctr_calls.proofs.Records.{both_ok}
 use Rattle.ctr_heap.specs.Writing.{front_record, with_front, IsOfTable}
-use Rattle.ctr_heap.proofs.OneRecord.{catalog_in_limit, front_is, front_may}
+use Rattle.ctr_search.proofs.Limits.{catalog_in_limit}
+use Rattle.ctr_heap.proofs.OneRecord.{front_is, front_may}
 use Rattle.ctr_heap.proofs.writing.link.Goals as goal
 
 pub log_on_page-requires-clause-may : goal.log_on_page-requires-clause-may

@@ -10,7 +10,8 @@ use Rattle.ctr_changes.specs.States.{pages_in, area_in}
 use Rattle.ctr_changes.specs.Changing.{laid_on_place}
 use Rattle.ctr_store.specs.Store.{Logs}
 use Rattle.ctr_calls.proofs.Records.{both_ok}
-use Rattle.ctr_heap.proofs.OneRecord.{in_limit, slot_laid}
+use Rattle.ctr_search.proofs.Limits.{in_limit}
+use Rattle.ctr_heap.proofs.OneRecord.{slot_laid}
 use Rattle.ctr_heap.proofs.writing.put_slot.Goals as goal
 
 pub log_on_page-requires-clause-there : goal.log_on_page-requires-clause-there

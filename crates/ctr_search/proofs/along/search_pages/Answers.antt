@@ -2,7 +2,7 @@ use Rattle.std.proofs.Common.{◌≡◌, inr, ◌-◌, ◌<◌, suc, None, Some,
 use Rattle.std.specs.Prelude.{IfOk}
 use Rattle.std.proofs.lemmas.Result.{err_from_is_err_and}
 use Rattle.ctr_redo.specs.States.{State}
-use Rattle.ctr_page.specs.declared.walk.BadChain.TheVariants.{OnPage, TooLong}
+use Rattle.ctr_page.specs.declared.walk.BadChain.TheVariants.{OnPage}
 use Rattle.ctr_page.specs.declared.rows.Place.{Place}
 use Rattle.ctr_changes.specs.States.{pages_in}
 use Rattle.ctr_search.specs.Along.{ChainSought, EndsPage, LooksAt, EndsAlong}
@@ -13,7 +13,7 @@ use Rattle.ctr_search.proofs.along.search_pages.Goals as goal
 
 pub returns-then-left-eq0-clause-leaves : goal.returns-then-left-eq0-clause-leaves
 returns-then-left-eq0-clause-leaves g c =
-    answers_ok g.O.Origin.first g.D.Disk tt (Err (TooLong c.loop-at.last c.saturating_sub-most.result)) c.args.store.now c.loop-at.store
+    answers_ok g.O.Origin.first g.D.Disk tt _ c.args.store.now c.loop-at.store
     (was_read g.O.Origin.first g.D.Disk _ c.args.store.now c.loop-at.store c.loop-at.invariant.0
     (λ u. omega (arith, u.1, c.if-left-eq0.true, c.saturating_sub-most.ensures, c.requires.inside.1)))
 
@@ -36,7 +36,7 @@ returns-in-Err-clause-ends g c = λ told sound.
 
 pub returns-in-Err-clause-leaves : goal.returns-in-Err-clause-leaves
 returns-in-Err-clause-leaves g c =
-    answers_ok g.O.Origin.first g.D.Disk c.in_ok-bad.field-0 (Err (OnPage c.loop-at.at c.in-Err.bad)) c.args.store.now c.look.new.store
+    answers_ok g.O.Origin.first g.D.Disk c.in_ok-bad.field-0 _ c.args.store.now c.look.new.store
     (reads_on g.O.Origin.first g.D.Disk _ c.args.store.now c.loop-at.store c.look.new.store (Ok c.in_ok-bad.field-0) c.loop-at.invariant.0 c.in_ok-bad.ensures.leaves)
 
 pub returns-in-Ok-Some-default-clause-ends : goal.returns-in-Ok-Some-default-clause-ends
@@ -53,7 +53,7 @@ returns-in-Ok-Some-default-clause-ends g c = λ told sound.
 
 pub returns-in-Ok-Some-default-clause-leaves : goal.returns-in-Ok-Some-default-clause-leaves
 returns-in-Ok-Some-default-clause-leaves g c =
-    answers_ok g.O.Origin.first g.D.Disk c.in_ok-bad.field-0 (Ok (Some (record { page = c.loop-at.at; slot = c.in-Ok-Some-default.slot }))) c.args.store.now c.look.new.store
+    answers_ok g.O.Origin.first g.D.Disk c.in_ok-bad.field-0 _ c.args.store.now c.look.new.store
     (reads_on g.O.Origin.first g.D.Disk _ c.args.store.now c.loop-at.store c.look.new.store (Ok c.in_ok-bad.field-0) c.loop-at.invariant.0 c.in_ok-bad.ensures.leaves)
 
 pub loop-at-preserved : goal.loop-at-preserved
@@ -81,6 +81,6 @@ returns-clause-ends g c = λ told sound.
 
 pub returns-clause-leaves : goal.returns-clause-leaves
 returns-clause-leaves g c =
-    answers_ok g.O.Origin.first g.D.Disk tt (Ok None) c.args.store.now c.loop-at.store
+    answers_ok g.O.Origin.first g.D.Disk tt _ c.args.store.now c.loop-at.store
     (was_read g.O.Origin.first g.D.Disk _ c.args.store.now c.loop-at.store c.loop-at.invariant.0
     (λ u. c.requires.some (sym u.0 ∙ c.loop-at-test.false)))
