@@ -74,13 +74,16 @@ module _ (sought : ℕ → Bool) (counted : ℕ) (pages : ℕ → List ℕ) (t :
   same_check : (at : Place) → entry_check_at counted t at (pages at.page) ≡ kept_at_check counted pages t.entry at
   same_check at = ap (λ ks. there_check counted at.page >>= λ _. kept_on_check counted t.entry ks at.slot (pages at.page)) kinds
 
-  reads : (at : Place) → kept_at_check counted pages t.entry at ≡ Ok tt → older at ≡ older_said (columns_on pages at.page) (older_at (kinds_width (kinds_said t)) at.slot (pages at.page))
+  -- its columns are the table's
+  pub kinds_read : (at : Place) → kept_at_check counted pages t.entry at ≡ Ok tt → kinds_said t ≡ kinds_of (columns_on pages at.page)
+  kinds_read at kept = kinds ∙ ap (λ e. kinds_of (columns_in (entry_bytes pages e))) (sym (older_read counted pages t.entry at kept).1)
+
+  -- the version entry of the area is the one that stands there, by its table's columns
+  pub reads : (at : Place) → kept_at_check counted pages t.entry at ≡ Ok tt → older at ≡ older_said (columns_on pages at.page) (older_at (kinds_width (kinds_said t)) at.slot (pages at.page))
   reads at kept =
-      let is = older_read counted pages t.entry at kept in
       let cs = columns_on pages at.page in
-      let same : kinds_said t ≡ kinds_of cs = kinds ∙ ap (λ e. kinds_of (columns_in (entry_bytes pages e))) (sym is.1) in
-      let wide : kinds_width (kinds_said t) ≡ width_on pages at.page = ap kinds_width same ∙ kinds_wide (drop 1 cs) in
-      ap (λ b. cond b (older_said cs (older_at (width_on pages at.page) at.slot (pages at.page))) free_older) (eq-eqb (header_on pages at.page).kind 2 is.0)
+      let wide : kinds_width (kinds_said t) ≡ width_on pages at.page = ap kinds_width (kinds_read at kept) ∙ kinds_wide (drop 1 cs) in
+      ap (λ b. cond b (older_said cs (older_at (width_on pages at.page) at.slot (pages at.page))) free_older) (eq-eqb (header_on pages at.page).kind 2 (older_read counted pages t.entry at kept).0)
       ∙ ap (λ v. older_said cs (older_at v at.slot (pages at.page))) (sym wide)
 
   entry_says : (at : Place) (l : KeptLook) → LooksAtEntry counted t at (pages at.page) (Ok l) → (kept_at_check counted pages t.entry at ≡ Ok tt) × (l ≡ looked (older at))
