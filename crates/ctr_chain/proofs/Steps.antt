@@ -25,24 +25,12 @@ use Rattle.ctr_area.specs.Checked.{kinds_at}
 use Rattle.ctr_pvs.specs.declared.table.TableOf.{TableOf}
 use Rattle.ctr_pvs.specs.Table.{there_check, told_of}
 use Rattle.ctr_pvs.specs.Reading.{kinds_said, kept_on_check, kept_at_check}
-use Rattle.ctr_pvs.proofs.Told.{behind_catalog, header_here}
+use Rattle.ctr_pvs.proofs.Told.{older_read}
 use Rattle.ctr_chain.specs.declared.looking.KeptLook.{KeptLook}
 use Rattle.ctr_chain.specs.declared.seeking.Found.{Found}
 use Rattle.ctr_chain.specs.declared.seeking.VersionAt.TheVariants.{Kept}
 use Rattle.ctr_chain.specs.Looking.{look_of_entry, entry_check_at, LooksAtEntry}
 use Rattle.ctr_chain.specs.Seeking.{EntriesOf, most_entries, sought_along}
-
--- a version entry of a table that passes is read by the table's columns
-older_read : (counted : ℕ) (pages : ℕ → List ℕ) (e : ℕ) (q : Place) → kept_at_check counted pages e q ≡ Ok tt → ((header_on pages q.page).kind ≡ 2) × ((header_on pages q.page).entry ≡ e)
-unfolding header_check
-older_read counted pages e q is =
-    let l = pages q.page in
-    let there = bind_ok (there_check counted q.page) (λ _. kept_on_check counted e (kinds_at (area_of pages) e) q.slot l) tt is in
-    let header = bind_ok (header_check (Versions e) counted l) _ tt there.2 in
-    let kind = bind_ok (expect 0 2 (field 1 0 l)) _ tt header.1 in
-    let entry = bind_ok (expect 1 e (field 1 1 l)) _ tt kind.2 in
-    let here = header_here pages q.page (behind_catalog counted q.page there.1) in
-    (ap (λ (h : Header). h.kind) here ∙ sym (expect_ok 0 2 (field 1 0 l) kind.1), ap (λ (h : Header). h.entry) here ∙ sym (expect_ok 1 e (field 1 1 l) entry.1))
 
 -- what a look at a version entry of an area gives
 abbrev looked : Older → KeptLook

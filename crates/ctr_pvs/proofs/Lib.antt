@@ -1,9 +1,11 @@
 pub mod Limits
 pub mod OneRecord
 pub mod Told
+pub mod Behind
 pub mod Firsts
 pub mod Along
 pub mod Sought
 pub mod Telling
 pub mod Said
 pub mod Freeing
+pub mod Lent
