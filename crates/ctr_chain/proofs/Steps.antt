@@ -4,20 +4,14 @@ use Rattle.std.specs.Prelude.{◌==◌, ⊤}
 use Rattle.std.proofs.lemmas.Bool.{eq-eqb, ne_eqb}
 use Rattle.ctr_versions.proofs.Keys.{known}
 use Rattle.ctr_types.specs.declared.value.Column.{Column}
-use Rattle.ctr_bytes.specs.Fields.{field}
 use Rattle.ctr_bytes.specs.Following.{◌>>=◌}
 use Rattle.ctr_records.specs.declared.decoding.BadRecord.{BadRecord}
-use Rattle.ctr_records.specs.Damage.{expect}
-use Rattle.ctr_records.proofs.Reading.{bind_ok, expect_ok}
-use Rattle.ctr_page.specs.declared.checks.Chain.TheVariants.{Versions}
 use Rattle.ctr_page.specs.declared.walk.BadChain.{BadChain}
 use Rattle.ctr_page.specs.declared.walk.BadChain.TheVariants.{OnPage, TooLong}
-use Rattle.ctr_page.specs.declared.header.Header.{Header}
 use Rattle.ctr_page.specs.declared.rows.Place.{Place}
 use Rattle.ctr_page.specs.declared.rows.VersionEntry.{VersionEntry}
 use Rattle.ctr_page.specs.Reading.{older_at}
 use Rattle.ctr_page.specs.Columns.{kinds_of, kinds_width, columns_in}
-use Rattle.ctr_page.specs.Damage.{header_check}
 use Rattle.ctr_page.proofs.Holding.{kinds_wide}
 use Rattle.ctr_area.specs.Areas.{Older, free_older}
 use Rattle.ctr_area.specs.Reading.{version_said, older_said, entry_bytes, header_on, columns_on, width_on, area_of}
