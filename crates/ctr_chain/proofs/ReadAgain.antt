@@ -22,10 +22,10 @@ use Rattle.ctr_pvs.proofs.Told.{IsPageOf, page_of_table, told_ok, chain_ok}
 use Rattle.ctr_chain.specs.declared.seeking.Found.{Found}
 use Rattle.ctr_chain.specs.declared.seeking.VersionAt.{VersionAt}
 use Rattle.ctr_chain.specs.declared.seeking.VersionAt.TheVariants.{Head, Previous, Kept}
-use Rattle.ctr_chain.specs.Rows.{head_row, previous_row, kept_row, Gives}
-use Rattle.ctr_chain.specs.Reading.{place_of_version, version_check, row_there, RowSaidAt}
+use Rattle.ctr_chain.specs.Rows.{head_row, previous_row, kept_row, GivesRow}
+use Rattle.ctr_chain.specs.Reading.{place_of_version, found_check, row_there, RowSaidAt}
 use Rattle.ctr_chain.specs.Seeking.{EntriesOf, most_entries, sought_along, xid_if_any, sought_in, entries_on, sought_at, version_found}
-use Rattle.ctr_chain.specs.Visible.{row_seen}
+use Rattle.ctr_chain.specs.Visible.{visible_row}
 use Rattle.ctr_chain.proofs.Chain.{row_found}
 use Rattle.ctr_chain.proofs.Looked.{within}
 use Rattle.ctr_chain.proofs.RowsSaid.{row_if, version_seen, head_same, previous_same, kept_same}
@@ -117,7 +117,7 @@ module _ (sought : ℕ → Bool) (counted : ℕ) (pages : ℕ → List ℕ) (at 
     there Previous is = omega (arith, below, few)
     there (Kept p) is = within counted p.page some few (bind_ok (there_check counted p.page) (λ _. kept_on_check counted t.entry (kinds_at (area_of pages) t.entry) p.slot (pages p.page)) tt (entry_passes p is)).1
 
-    passes : (v : VersionAt) → Is v → version_check counted t v (place_of_version at v).slot (pages (place_of_version at v).page) ≡ Ok tt
+    passes : (v : VersionAt) → Is v → found_check counted t v (place_of_version at v).slot (pages (place_of_version at v).page) ≡ Ok tt
     passes Head is = slot_passes (Some (record { xid = x; at = Head })) is
     passes Previous is = slot_passes (Some (record { xid = x; at = Previous })) is
     passes (Kept p) is =
@@ -148,10 +148,10 @@ module _ (sought : ℕ → Bool) (counted : ℕ) (pages : ℕ → List ℕ) (at 
     pub found_there : from.page < 30000
     found_there = there f.xid f.at is
 
-    pub never_bad : (bad : BadRecord) → version_check counted t f.at from.slot (pages from.page) ≡ Err bad → ⊥
+    pub never_bad : (bad : BadRecord) → found_check counted t f.at from.slot (pages from.page) ≡ Err bad → ⊥
     never_bad bad err = let e = sym (passes f.xid f.at is) ∙ err in cc
 
-    pub gives_seen : (given : Result (Option Row) OutOfMemory) → RowSaidAt counted t f.at from.slot (pages from.page) (Ok given) → Gives (row_seen sought area at) given
+    pub gives_seen : (given : Result (Option Row) OutOfMemory) → RowSaidAt counted t f.at from.slot (pages from.page) (Ok given) → GivesRow (visible_row sought area at) given
     gives_seen given told =
-        subst (λ wanted. Gives wanted given)
+        subst (λ wanted. GivesRow wanted given)
         (sym (version_seen sought area at f (row_found sought counted pages at (Some f) nobody few is) ∙ row_is f.xid f.at is)) told.1

@@ -18,10 +18,10 @@ use Rattle.ctr_area.specs.Areas.{RowVersion, Slot, Older, Area, free_slot, free_
 use Rattle.ctr_area.specs.Reading.{row_said, version_said, slot_said, older_said}
 use Rattle.ctr_area.specs.Chains.{chain_of}
 use Rattle.ctr_chain.specs.declared.seeking.Found.{Found}
-use Rattle.ctr_chain.specs.Rows.{values_of, row_of, row_of_version, row_if_any, head_row, previous_row, kept_row}
+use Rattle.ctr_chain.specs.Rows.{values_of, row_by_kinds, row_of_version, row_if_any, head_row, previous_row, kept_row}
 use Rattle.ctr_chain.specs.Seeing.{first_version}
 use Rattle.ctr_chain.specs.Seeking.{version_found, FindsFirst}
-use Rattle.ctr_chain.specs.Visible.{row_seen}
+use Rattle.ctr_chain.specs.Visible.{visible_row}
 
 -- ---- what is seen
 
@@ -39,10 +39,10 @@ first_seen test (v ∷ vs) = by (first_seen test vs) (test v.0) refl
     by more true is = ap (λ c. cond c v.1 (value_seen test vs)) is ∙ sym (ap (λ c. row_if (cond c (Some v) (first_version test vs))) is)
     by more false is = ap (λ c. cond c v.1 (value_seen test vs)) is ∙ more ∙ sym (ap (λ c. row_if (cond c (Some v) (first_version test vs))) is)
 
-pub nothing_seen : (test : ℕ → Bool) (area : Area) (at : Place) → FindsFirst test area at None → row_seen test area at ≡ None
+pub nothing_seen : (test : ℕ → Bool) (area : Area) (at : Place) → FindsFirst test area at None → visible_row test area at ≡ None
 nothing_seen test area at none = first_seen test (chain_of area.older (area.slot at)) ∙ ap row_if none
 
-pub version_seen : (test : ℕ → Bool) (area : Area) (at : Place) (f : Found) → FindsFirst test area at (Some f) → row_seen test area at ≡ row_if (version_found area at f.at)
+pub version_seen : (test : ℕ → Bool) (area : Area) (at : Place) (f : Found) → FindsFirst test area at (Some f) → visible_row test area at ≡ row_if (version_found area at f.at)
 version_seen test area at f finds = first_seen test (chain_of area.older (area.slot at)) ∙ ap row_if finds.0
 
 -- ---- by the kinds of the columns
@@ -51,7 +51,7 @@ values_same : (cs : List Column) (fields : List ℕ) → values_in cs fields ≡
 values_same [] fields = refl
 values_same (c ∷ cs) fields = ap (λ vs. value_said c.kind fields ∷ vs) (values_same cs (drop (field_width c.kind) fields))
 
-row_same : (cs : List Column) (key : ℤ) (payload : List ℕ) → row_said cs key payload ≡ row_of (kinds_of cs) key payload
+row_same : (cs : List Column) (key : ℤ) (payload : List ℕ) → row_said cs key payload ≡ row_by_kinds (kinds_of cs) key payload
 row_same cs key payload = ap (λ (vs : List Value). record { values = value.Int key ∷ vs }) (values_same (drop 1 cs) payload)
 
 version_same : (cs : List Column) (key : ℤ) (v : Version) → (version_said cs key v).1 ≡ row_of_version (kinds_of cs) key v

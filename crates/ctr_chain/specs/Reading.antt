@@ -11,7 +11,7 @@ use Rattle.ctr_pvs.specs.declared.table.TableOf.{TableOf}
 use Rattle.ctr_pvs.specs.Reading.{kinds_said, kept_on_check, row_on_check}
 use Rattle.ctr_chain.specs.declared.seeking.VersionAt.{VersionAt}
 use Rattle.ctr_chain.specs.declared.seeking.VersionAt.TheVariants.{Head, Previous, Kept}
-use Rattle.ctr_chain.specs.Rows.{head_row, previous_row, kept_row, Gives}
+use Rattle.ctr_chain.specs.Rows.{head_row, previous_row, kept_row, GivesRow}
 
 -- the place of the slot or version entry that has a version of the row at a place
 abbrev pub place_of_version : Place → VersionAt → Place
@@ -20,11 +20,11 @@ place_of_version row Previous = row
 place_of_version row (Kept p) = p
 
 -- what is wrong with that slot or version entry on a page, by the table
-abbrev pub version_check : ℕ → TableOf → VersionAt → ℕ → List ℕ → Result ⊤ BadRecord
-version_check counted t Head number page = row_on_check counted t.entry (kinds_said t) number page
-version_check counted t Previous number page =
+abbrev pub found_check : ℕ → TableOf → VersionAt → ℕ → List ℕ → Result ⊤ BadRecord
+found_check counted t Head number page = row_on_check counted t.entry (kinds_said t) number page
+found_check counted t Previous number page =
     row_on_check counted t.entry (kinds_said t) number page
-version_check counted t (Kept p) number page =
+found_check counted t (Kept p) number page =
     kept_on_check counted t.entry (kinds_said t) number page
 
 -- the row of the version there, by columns of these kinds behind the key
@@ -37,6 +37,6 @@ row_there (Kept p) kinds number page = kept_row kinds (older_at (kinds_width kin
 abbrev pub RowSaidAt : ℕ → TableOf → VersionAt → ℕ → List ℕ
     → Result (Result (Option Row) OutOfMemory) BadRecord → Type 0
 RowSaidAt counted t at number page (Ok given) =
-    (version_check counted t at number page ≡ Ok tt)
-    × Gives (row_there at (kinds_said t) number page) given
-RowSaidAt counted t at number page (Err bad) = version_check counted t at number page ≡ Err bad
+    (found_check counted t at number page ≡ Ok tt)
+    × GivesRow (row_there at (kinds_said t) number page) given
+RowSaidAt counted t at number page (Err bad) = found_check counted t at number page ≡ Err bad

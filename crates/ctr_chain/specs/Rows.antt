@@ -17,12 +17,13 @@ values_of [] fields = []
 values_of (k ∷ ks) fields = value_said k fields ∷ values_of ks (drop (field_width k) fields)
 
 -- the row of a key, by its payload, with columns of these kinds behind the key
-abbrev pub row_of : List Kind → ℤ → List ℕ → Row
-row_of kinds key payload = record { values = value.Int key ∷ values_of kinds payload }
+abbrev pub row_by_kinds : List Kind → ℤ → List ℕ → Row
+row_by_kinds kinds key payload = record { values = value.Int key ∷ values_of kinds payload }
 
 -- the row of a version, or none for a tombstone
 abbrev pub row_of_version : List Kind → ℤ → Version → Option Row
-row_of_version kinds key v = if v.tombstone == 0 then Some (row_of kinds key v.payload) else None
+row_of_version kinds key v =
+    if v.tombstone == 0 then Some (row_by_kinds kinds key v.payload) else None
 
 -- of one that may be there
 abbrev pub row_if_any : List Kind → ℤ → Option Version → Option Row
@@ -42,6 +43,6 @@ abbrev pub kept_row : List Kind → VersionEntry → Option Row
 kept_row kinds e = if e.used == 1 then row_of_version kinds e.key e.version else None
 
 -- It is given as it is wanted. Memory runs out only where that is a row.
-abbrev pub Gives : Option Row → Result (Option Row) OutOfMemory → Type 0
-Gives wanted (Ok given) = given ≡ wanted
-Gives wanted (Err e) = (row : Row) × (wanted ≡ Some row)
+abbrev pub GivesRow : Option Row → Result (Option Row) OutOfMemory → Type 0
+GivesRow wanted (Ok given) = given ≡ wanted
+GivesRow wanted (Err e) = (row : Row) × (wanted ≡ Some row)

@@ -13,8 +13,8 @@ use Rattle.ctr_chain.specs.declared.view.ReadRefusal.{ReadRefusal}
 use Rattle.ctr_chain.specs.declared.view.ReadRefusal.TheVariants as refusal
 
 -- the row that is seen at a place: that of the first version that passes, none for a tombstone
-abbrev pub row_seen : (ℕ → Bool) → Area → Place → Option Row
-row_seen test area at = value_seen test (chain_of area.older (area.slot at))
+abbrev pub visible_row : (ℕ → Bool) → Area → Place → Option Row
+visible_row test area at = value_seen test (chain_of area.older (area.slot at))
 
 -- A reading's answer, of which memory is no fault of the store.
 abbrev pub as_read : Result (Option Row) ReadRefusal

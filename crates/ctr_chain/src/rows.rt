@@ -5,7 +5,7 @@ ghost use Rattle.ctr_value.specs.Payload.{field_width as width_of_field};
 ghost use Rattle.ctr_value.specs.Values.{value_said};
 ghost use Rattle.ctr_page.specs.Columns.{kinds_width as width_of_kinds};
 ghost use Rattle.ctr_page.specs.Making.{IsVersion, IsPrevious, IsSlot, IsEntry};
-ghost use Rattle.ctr_chain.specs.Rows.{values_of, row_of, row_of_version, row_if_any, head_row, previous_row, kept_row, Gives};
+ghost use Rattle.ctr_chain.specs.Rows.{values_of, row_by_kinds, row_of_version, row_if_any, head_row, previous_row, kept_row, GivesRow};
 
 use ctr_bytes::{get_i64, get_u8};
 use ctr_page::{RowSlot, Version, VersionEntry};
@@ -55,10 +55,10 @@ fn add_values(
 }
 
 /// The row of a key whose columns behind it are of these kinds, by its payload.
-fn row_of(alloc: Global, kinds: &[Kind], key: i64, payload: &[u8]) -> Result<Row, OutOfMemory>
+fn row_by_kinds(alloc: Global, kinds: &[Kind], key: i64, payload: &[u8]) -> Result<Row, OutOfMemory>
     requires few { length kinds.now ≤ 7 }
     requires room { width_of_kinds kinds.now ≤ length payload.now }
-    ensures { IfOk result (λ row. row ≡ row_of kinds.now key payload.now) }
+    ensures { IfOk result (λ row. row ≡ row_by_kinds kinds.now key payload.now) }
 {
     let mut values = Vec::with_capacity(alloc, kinds.len() + 1)?;
     values.push(Value::Int(key))?;
@@ -77,12 +77,12 @@ fn version_row(
 ) -> Result<Option<Row>, OutOfMemory>
     requires few { length kinds.now ≤ 7 }
     requires fits { IsVersion (width_of_kinds kinds.now) version.now }
-    ensures { Gives (row_of_version kinds.now key version.now) result }
+    ensures { GivesRow (row_of_version kinds.now key version.now) result }
 {
     if version.tombstone != 0 {
         return Ok(None);
     }
-    match row_of(alloc, kinds, key, version.payload.as_slice()) {
+    match row_by_kinds(alloc, kinds, key, version.payload.as_slice()) {
         Ok(row) => Ok(Some(row)),
         Err(want) => Err(want),
     }
@@ -96,7 +96,7 @@ pub(crate) fn head_row(
 ) -> Result<Option<Row>, OutOfMemory>
     requires few { length kinds.now ≤ 7 }
     requires fits { IsSlot (width_of_kinds kinds.now) slot.now }
-    ensures { Gives (head_row kinds.now slot.now) result }
+    ensures { GivesRow (head_row kinds.now slot.now) result }
 {
     if slot.used != 1 {
         return Ok(None);
@@ -113,7 +113,7 @@ fn row_if_any(
 ) -> Result<Option<Row>, OutOfMemory>
     requires few { length kinds.now ≤ 7 }
     requires fits { IsPrevious (width_of_kinds kinds.now) version.now }
-    ensures { Gives (row_if_any kinds.now key version.now) result }
+    ensures { GivesRow (row_if_any kinds.now key version.now) result }
 {
     match version {
         Some(version) => version_row(alloc, kinds, key, version),
@@ -129,7 +129,7 @@ pub(crate) fn previous_row(
 ) -> Result<Option<Row>, OutOfMemory>
     requires few { length kinds.now ≤ 7 }
     requires fits { IsSlot (width_of_kinds kinds.now) slot.now }
-    ensures { Gives (previous_row kinds.now slot.now) result }
+    ensures { GivesRow (previous_row kinds.now slot.now) result }
 {
     if slot.used != 1 {
         return Ok(None);
@@ -145,7 +145,7 @@ pub(crate) fn kept_row(
 ) -> Result<Option<Row>, OutOfMemory>
     requires few { length kinds.now ≤ 7 }
     requires fits { IsEntry (width_of_kinds kinds.now) entry.now }
-    ensures { Gives (kept_row kinds.now entry.now) result }
+    ensures { GivesRow (kept_row kinds.now entry.now) result }
 {
     if entry.used != 1 {
         return Ok(None);

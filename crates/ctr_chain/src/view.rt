@@ -6,8 +6,8 @@ ghost use Rattle.ctr_calls.specs.Damage.{damage_told, EndsTold, ReadsPages};
 ghost use Rattle.ctr_changes.specs.States.{pages_in, area_in};
 ghost use Rattle.ctr_seen.specs.Seen.{xid_is_seen};
 ghost use Rattle.ctr_chain.specs.Seeking.{sought_at};
-ghost use Rattle.ctr_chain.specs.Rows.{Gives};
-ghost use Rattle.ctr_chain.specs.Visible.{as_read, EndsReading, row_seen};
+ghost use Rattle.ctr_chain.specs.Rows.{GivesRow};
+ghost use Rattle.ctr_chain.specs.Visible.{as_read, EndsReading, visible_row};
 
 use crate::reading::{Given, place_of_version, read_row};
 use crate::seeking::{Sought, seek};
@@ -53,7 +53,7 @@ fn visible_found<D: Disk, O: Origin>(
     ensures ends { IsTrue D.tells → IsSoundImage O.first
         → IfOk result (EndsReading (sought_at (xid_is_seen store.old.meta.tables snapshot.now me) store.old.now.counted (pages_in store.old.now) place)) }
     ensures shows { IsTrue D.tells → IsSoundImage O.first
-        → IfOk result (λ r. IfOk r (Gives (row_seen (xid_is_seen store.old.meta.tables snapshot.now me) (area_in store.old.now) place))) }
+        → IfOk result (λ r. IfOk r (GivesRow (visible_row (xid_is_seen store.old.meta.tables snapshot.now me) (area_in store.old.now) place))) }
     ensures leaves { LeavesPage O.first D.Disk store.old store.new result }
 {
     let counted = store.counted();
@@ -90,7 +90,7 @@ pub fn visible<D: Disk, O: Origin>(
         → EndsTold (damage_told D.Disk store.new) (EndsReading (sought_at (xid_is_seen store.old.meta.tables snapshot.now me) store.old.now.counted (pages_in store.old.now) place)) (as_read result) }
     // It is the row that the session sees. Memory runs out only where there is one.
     ensures shows { IsTrue D.tells → IsSoundImage O.first
-        → IfOk (as_read result) (Gives (row_seen (xid_is_seen store.old.meta.tables snapshot.now me) (area_in store.old.now) place)) }
+        → IfOk (as_read result) (GivesRow (visible_row (xid_is_seen store.old.meta.tables snapshot.now me) (area_in store.old.now) place)) }
     ensures leaves { ReadsPages O.first D.Disk store.old store.new (as_read result) }
 {
     let found = visible_found(alloc, store, place, snapshot, me);

@@ -45,7 +45,7 @@ writing_by KeepHead q = HeadKept q
 
 -- A used slot of a table, as it was read, can be written in a way: the version that is to be kept
 -- first was kept at a place.
-pub record IsReady (area : Area) (e : ℕ) (at : Place) (s : RowSlot) (way : Way) (q : Place)
+pub record IsReadyForWrite (area : Area) (e : ℕ) (at : Place) (s : RowSlot) (way : Way) (q : Place)
     : Type 0 where
   pub columns : List Column
   pub said : area.slot at ≡ slot_said columns s

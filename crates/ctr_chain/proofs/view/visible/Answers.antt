@@ -4,9 +4,9 @@ use Rattle.ctr_changes.specs.States.{pages_in, area_in}
 use Rattle.ctr_calls.specs.Damage.{damage_told, EndsTold}
 use Rattle.ctr_calls.proofs.Damages.{told_ends, told_ok}
 use Rattle.ctr_seen.specs.Seen.{xid_is_seen}
-use Rattle.ctr_chain.specs.Rows.{Gives}
+use Rattle.ctr_chain.specs.Rows.{GivesRow}
 use Rattle.ctr_chain.specs.Seeking.{sought_at}
-use Rattle.ctr_chain.specs.Visible.{EndsReading, row_seen}
+use Rattle.ctr_chain.specs.Visible.{EndsReading, visible_row}
 use Rattle.ctr_chain.proofs.view.visible.Goals as goal
 
 pub returns-clause-ends : goal.returns-clause-ends
@@ -20,6 +20,6 @@ returns-clause-ends g c = λ told sound.
 pub returns-clause-shows : goal.returns-clause-shows
 returns-clause-shows g c = λ told sound.
     let a = c.args.store.now in
-    let shown = Gives (row_seen (xid_is_seen a.meta.tables c.args.snapshot.now c.args.me) (area_in a.now) c.args.place) in
+    let shown = GivesRow (visible_row (xid_is_seen a.meta.tables c.args.snapshot.now c.args.me) (area_in a.now) c.args.place) in
     subst (λ r. IfOk r shown) (sym c.answer.ensures)
     (told_ok _ (damage_told g.D.Disk c.tell.new.store) shown c.visible_found-found.result c.tell.result c.tell.ensures.told (c.visible_found-found.ensures.shows told sound))
