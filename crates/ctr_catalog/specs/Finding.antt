@@ -1,9 +1,10 @@
 -- The table of a name that a snapshot sees, and whether one was changed since it was taken.
 use Rattle.std.specs.Prelude.{◌≡◌, ℕ, ◌+◌, ◌*◌, ◌/◌, ◌%◌, ◌==◌, ◌<◌, Bool, false, not, ◌&&◌, List, ⊤, Option, None, Some, Result, Ok, Err, if◌then◌else◌}
 use Rattle.ctr_model.specs.State.{same_name}
-use Rattle.ctr_snap.specs.Seeing.{SnapshotTaken, is_committed, sees, sees_or_own}
+use Rattle.ctr_snap.specs.Seeing.{SnapshotTaken}
 use Rattle.ctr_records.specs.declared.decoding.BadRecord.{BadRecord}
-use Rattle.ctr_meta.specs.Tables.{Tables, fate_in}
+use Rattle.ctr_meta.specs.Tables.{Tables}
+use Rattle.ctr_seen.specs.Seen.{xid_is_seen, xid_is_changed}
 use Rattle.ctr_page.specs.declared.table.TheConstants.{ENTRY_SIZE}
 use Rattle.ctr_page.specs.Columns.{entry_at}
 use Rattle.ctr_page.specs.Damage.{entry_check}
@@ -31,15 +32,6 @@ NamedSaid counted name n page (Ok made) =
     × (made ≡ made_by name (title_of (entry_at n page)))
 
 -- ---- what a snapshot sees
-
--- it sees what a transaction did; 0 is nobody
-abbrev pub xid_is_seen : Tables → SnapshotTaken → Option ℕ → ℕ → Bool
-xid_is_seen tables s me x = not (x == 0) && sees_or_own s me (fate_in x tables) x
-
--- it doesn't see a transaction that is committed
-abbrev pub xid_is_changed : Tables → SnapshotTaken → ℕ → Bool
-xid_is_changed tables s x =
-    not (x == 0) && (is_committed (fate_in x tables) && not (sees s (fate_in x tables) x))
 
 -- it sees who made a table, and not who dropped it
 abbrev pub stands_seen : Tables → SnapshotTaken → Option ℕ → MadeBy → Bool

@@ -4,9 +4,8 @@ ghost use Rattle.ctr_base.specs.Base.{IsSoundImage};
 ghost use Rattle.ctr_page.specs.declared.table.TheConstants.{PAGE_SIZE};
 ghost use Rattle.ctr_store.specs.Store.{LeavesPage};
 ghost use Rattle.ctr_changes.specs.States.{pages_in, area_in};
-ghost use Rattle.ctr_snap.specs.Seeing.{is_committed as has_committed};
 ghost use Rattle.ctr_calls.specs.Damage.{damage_told, EndsTold, ReadsPages};
-ghost use Rattle.ctr_catalog.specs.Finding.{NamedSaid, xid_is_seen, xid_is_changed, stands_seen, change_since, is_made_so, change_made, checks_at, entry_seen, changed_in, EndsEntries, EndsEntry};
+ghost use Rattle.ctr_catalog.specs.Finding.{NamedSaid, stands_seen, change_since, is_made_so, change_made, checks_at, entry_seen, changed_in, EndsEntries, EndsEntry};
 
 use crate::entries::is_live_of;
 use crate::writing::page_of;
@@ -15,9 +14,10 @@ use ctr_calls::tell;
 use ctr_disk::{Disk, StoreFault};
 use ctr_meta::Meta;
 use ctr_page::{BadChain, BadPage, check_entry, read_entry};
+use ctr_seen::{is_changed, is_seen};
 use ctr_snap::Snapshot;
 use ctr_store::Store;
-use ctr_types::{Fate, Name, Xid};
+use ctr_types::{Name, Xid};
 
 /// Who made a table, and who dropped it, 0 for nobody.
 #[derive(Clone, Copy, Debug, PartialEq, Eq)]
@@ -59,31 +59,6 @@ fn named_at<D: Disk, O: Origin>(
 {
     let page = store.page(page_of(entry))?;
     Ok(named_in(name, entry % 16, counted, page))
-}
-
-/// Whether a snapshot sees what a transaction did; it sees nothing that nobody did.
-fn is_seen(meta: &Meta, snapshot: &Snapshot, me: Option<Xid>, x: Xid) -> bool
-    ensures { result ≡ xid_is_seen meta.now.tables snapshot.now me x }
-{
-    x != 0 && snapshot.sees(x, meta.fate(x), me)
-}
-
-fn is_committed(fate: Fate) -> bool
-    ensures { result ≡ has_committed fate }
-{
-    match fate {
-        Fate::Open => false,
-        Fate::Aborted => false,
-        Fate::Committed => true,
-        Fate::Later => false,
-    }
-}
-
-/// Whether a transaction is committed that a snapshot doesn't see.
-fn is_changed(meta: &Meta, snapshot: &Snapshot, x: Xid) -> bool
-    ensures { result ≡ xid_is_changed meta.now.tables snapshot.now x }
-{
-    x != 0 && is_committed(meta.fate(x)) && !snapshot.sees(x, meta.fate(x), None)
 }
 
 /// Whether a table stands for a snapshot: it sees who made it, and not who dropped it.

@@ -3,3 +3,5 @@ pub mod Chain
 pub mod Steps
 pub mod Most
 pub mod Slots
+pub mod RowsSaid
+pub mod ReadAgain

@@ -15,11 +15,10 @@ use Rattle.ctr_page.specs.Reading.{slot_at}
 use Rattle.ctr_page.specs.Columns.{kinds_width}
 use Rattle.ctr_area.specs.Areas.{Slot, free_slot}
 use Rattle.ctr_area.specs.Reading.{version_said, slot_said, header_on, columns_on, width_on, area_of}
-use Rattle.ctr_area.specs.Checked.{kinds_at}
 use Rattle.ctr_pvs.specs.declared.table.TableOf.{TableOf}
-use Rattle.ctr_pvs.specs.Table.{told_of, owner_of, TableSaid}
+use Rattle.ctr_pvs.specs.Table.{told_of, TableSaid}
 use Rattle.ctr_pvs.specs.Reading.{kinds_said, row_on_check, row_check_at}
-use Rattle.ctr_pvs.proofs.Told.{IsPageOf, page_of_table}
+use Rattle.ctr_pvs.proofs.Told.{IsPageOf, page_of_table, by_table}
 use Rattle.ctr_chain.specs.declared.looking.SlotLook.{SlotLook}
 use Rattle.ctr_chain.specs.declared.seeking.Found.{Found}
 use Rattle.ctr_chain.specs.declared.seeking.VersionAt.TheVariants.{Head, Previous}
@@ -56,21 +55,19 @@ module _ (counted : ℕ) (pages : ℕ → List ℕ) (at : Place) (t : TableOf) (
   check e ks = row_on_check counted e ks at.slot (pages at.page)
 
   -- the slot at a place is checked by its table
-  row_told : (r : Result ⊤ BadRecord) → check t.entry (kinds_said t) ≡ r → row_check_at counted pages at ≡ told_of at.page r
-  row_told r is =
-      let rest : ⊤ → Result ⊤ BadChain = λ _. told_of at.page (check (owner_of (pages at.page)) (kinds_at (area_of pages) (owner_of (pages at.page)))) in
-      ap (λ (c : Result ⊤ BadChain). c >>= rest) said.0
-      ∙ ap (λ e. told_of at.page (check e (kinds_at (area_of pages) e))) (sym said.1)
-      ∙ ap (λ ks. told_of at.page (check t.entry ks)) (sym said.2) ∙ ap (told_of at.page) is
+  pub row_told : (r : Result ⊤ BadRecord) → check t.entry (kinds_said t) ≡ r → row_check_at counted pages at ≡ told_of at.page r
+  row_told r is = by_table 1 counted pages at.page t (λ e ks. row_on_check counted e ks at.slot (pages at.page)) r said is
 
-  slot_says : (l : SlotLook) → LooksAtRow counted t at.slot (pages at.page) (Ok l) → l ≡ looked ((area_of pages).slot at)
-  slot_says l looks =
+  -- the slot of the area is the one that stands there, by its table's columns
+  pub slot_reads : (area_of pages).slot at ≡ slot_said (columns_on pages at.page) (slot_at (kinds_width (kinds_said t)) at.slot (pages at.page))
+  slot_reads =
       let page : IsPageOf 1 pages at.page t = page_of_table 1 counted pages at.page t said in
       let cs = columns_on pages at.page in
-      let reads : (area_of pages).slot at ≡ slot_said cs (slot_at (kinds_width (kinds_said t)) at.slot (pages at.page)) =
       ap (λ b. cond b (slot_said cs (slot_at (width_on pages at.page) at.slot (pages at.page))) free_slot) (eq-eqb (header_on pages at.page).kind 1 page.of_kind)
-      ∙ ap (λ v. slot_said cs (slot_at v at.slot (pages at.page))) (sym page.wide) in
-      looks.1 ∙ look_same cs (slot_at (kinds_width (kinds_said t)) at.slot (pages at.page)) ∙ ap looked (sym reads)
+      ∙ ap (λ v. slot_said cs (slot_at v at.slot (pages at.page))) (sym page.wide)
+
+  slot_says : (l : SlotLook) → LooksAtRow counted t at.slot (pages at.page) (Ok l) → l ≡ looked ((area_of pages).slot at)
+  slot_says l looks = looks.1 ∙ look_same (columns_on pages at.page) (slot_at (kinds_width (kinds_said t)) at.slot (pages at.page)) ∙ ap looked (sym slot_reads)
 
   module _ (sought : ℕ → Bool) where
     abbrev r : EntriesOf

@@ -4,20 +4,14 @@ use Rattle.std.specs.Prelude.{◌==◌, ⊤}
 use Rattle.std.proofs.lemmas.Bool.{eq-eqb, ne_eqb}
 use Rattle.ctr_versions.proofs.Keys.{known}
 use Rattle.ctr_types.specs.declared.value.Column.{Column}
-use Rattle.ctr_bytes.specs.Fields.{field}
 use Rattle.ctr_bytes.specs.Following.{◌>>=◌}
 use Rattle.ctr_records.specs.declared.decoding.BadRecord.{BadRecord}
-use Rattle.ctr_records.specs.Damage.{expect}
-use Rattle.ctr_records.proofs.Reading.{bind_ok, expect_ok}
-use Rattle.ctr_page.specs.declared.checks.Chain.TheVariants.{Versions}
 use Rattle.ctr_page.specs.declared.walk.BadChain.{BadChain}
 use Rattle.ctr_page.specs.declared.walk.BadChain.TheVariants.{OnPage, TooLong}
-use Rattle.ctr_page.specs.declared.header.Header.{Header}
 use Rattle.ctr_page.specs.declared.rows.Place.{Place}
 use Rattle.ctr_page.specs.declared.rows.VersionEntry.{VersionEntry}
 use Rattle.ctr_page.specs.Reading.{older_at}
 use Rattle.ctr_page.specs.Columns.{kinds_of, kinds_width, columns_in}
-use Rattle.ctr_page.specs.Damage.{header_check}
 use Rattle.ctr_page.proofs.Holding.{kinds_wide}
 use Rattle.ctr_area.specs.Areas.{Older, free_older}
 use Rattle.ctr_area.specs.Reading.{version_said, older_said, entry_bytes, header_on, columns_on, width_on, area_of}
@@ -25,24 +19,12 @@ use Rattle.ctr_area.specs.Checked.{kinds_at}
 use Rattle.ctr_pvs.specs.declared.table.TableOf.{TableOf}
 use Rattle.ctr_pvs.specs.Table.{there_check, told_of}
 use Rattle.ctr_pvs.specs.Reading.{kinds_said, kept_on_check, kept_at_check}
-use Rattle.ctr_pvs.proofs.Told.{behind_catalog, header_here}
+use Rattle.ctr_pvs.proofs.Told.{older_read}
 use Rattle.ctr_chain.specs.declared.looking.KeptLook.{KeptLook}
 use Rattle.ctr_chain.specs.declared.seeking.Found.{Found}
 use Rattle.ctr_chain.specs.declared.seeking.VersionAt.TheVariants.{Kept}
 use Rattle.ctr_chain.specs.Looking.{look_of_entry, entry_check_at, LooksAtEntry}
 use Rattle.ctr_chain.specs.Seeking.{EntriesOf, most_entries, sought_along}
-
--- a version entry of a table that passes is read by the table's columns
-older_read : (counted : ℕ) (pages : ℕ → List ℕ) (e : ℕ) (q : Place) → kept_at_check counted pages e q ≡ Ok tt → ((header_on pages q.page).kind ≡ 2) × ((header_on pages q.page).entry ≡ e)
-unfolding header_check
-older_read counted pages e q is =
-    let l = pages q.page in
-    let there = bind_ok (there_check counted q.page) (λ _. kept_on_check counted e (kinds_at (area_of pages) e) q.slot l) tt is in
-    let header = bind_ok (header_check (Versions e) counted l) _ tt there.2 in
-    let kind = bind_ok (expect 0 2 (field 1 0 l)) _ tt header.1 in
-    let entry = bind_ok (expect 1 e (field 1 1 l)) _ tt kind.2 in
-    let here = header_here pages q.page (behind_catalog counted q.page there.1) in
-    (ap (λ (h : Header). h.kind) here ∙ sym (expect_ok 0 2 (field 1 0 l) kind.1), ap (λ (h : Header). h.entry) here ∙ sym (expect_ok 1 e (field 1 1 l) entry.1))
 
 -- what a look at a version entry of an area gives
 abbrev looked : Older → KeptLook
@@ -74,13 +56,16 @@ module _ (sought : ℕ → Bool) (counted : ℕ) (pages : ℕ → List ℕ) (t :
   same_check : (at : Place) → entry_check_at counted t at (pages at.page) ≡ kept_at_check counted pages t.entry at
   same_check at = ap (λ ks. there_check counted at.page >>= λ _. kept_on_check counted t.entry ks at.slot (pages at.page)) kinds
 
-  reads : (at : Place) → kept_at_check counted pages t.entry at ≡ Ok tt → older at ≡ older_said (columns_on pages at.page) (older_at (kinds_width (kinds_said t)) at.slot (pages at.page))
+  -- its columns are the table's
+  pub kinds_read : (at : Place) → kept_at_check counted pages t.entry at ≡ Ok tt → kinds_said t ≡ kinds_of (columns_on pages at.page)
+  kinds_read at kept = kinds ∙ ap (λ e. kinds_of (columns_in (entry_bytes pages e))) (sym (older_read counted pages t.entry at kept).1)
+
+  -- the version entry of the area is the one that stands there, by its table's columns
+  pub reads : (at : Place) → kept_at_check counted pages t.entry at ≡ Ok tt → older at ≡ older_said (columns_on pages at.page) (older_at (kinds_width (kinds_said t)) at.slot (pages at.page))
   reads at kept =
-      let is = older_read counted pages t.entry at kept in
       let cs = columns_on pages at.page in
-      let same : kinds_said t ≡ kinds_of cs = kinds ∙ ap (λ e. kinds_of (columns_in (entry_bytes pages e))) (sym is.1) in
-      let wide : kinds_width (kinds_said t) ≡ width_on pages at.page = ap kinds_width same ∙ kinds_wide (drop 1 cs) in
-      ap (λ b. cond b (older_said cs (older_at (width_on pages at.page) at.slot (pages at.page))) free_older) (eq-eqb (header_on pages at.page).kind 2 is.0)
+      let wide : kinds_width (kinds_said t) ≡ width_on pages at.page = ap kinds_width (kinds_read at kept) ∙ kinds_wide (drop 1 cs) in
+      ap (λ b. cond b (older_said cs (older_at (width_on pages at.page) at.slot (pages at.page))) free_older) (eq-eqb (header_on pages at.page).kind 2 (older_read counted pages t.entry at kept).0)
       ∙ ap (λ v. older_said cs (older_at v at.slot (pages at.page))) (sym wide)
 
   entry_says : (at : Place) (l : KeptLook) → LooksAtEntry counted t at (pages at.page) (Ok l) → (kept_at_check counted pages t.entry at ≡ Ok tt) × (l ≡ looked (older at))

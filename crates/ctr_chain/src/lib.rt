@@ -1,16 +1,17 @@
-//! The versions of a row: the one that a snapshot sees, and the newest that is committed.
+//! The versions of a row: the one that a session sees, and the newest that is committed.
 //!
-//! Nothing here takes memory.
+//! Nothing here takes memory but the row that is given.
 #![tactic(auto)]
 
 mod committed;
 mod looking;
-mod seeing;
+mod reading;
+mod rows;
 mod seeking;
+mod view;
 
 pub use committed::newest;
-pub use seeing::seen;
-pub use seeking::{Found, VersionAt};
+pub use view::{ReadRefusal, visible};
 
 #[cfg(test)]
 mod store_tests;

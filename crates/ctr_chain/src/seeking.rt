@@ -19,6 +19,7 @@ use ctr_meta::Meta;
 use ctr_page::{BadChain, Place, kept_size, kinds_width, room_for};
 use ctr_pvs::{TableOf, table_on};
 use ctr_records::PageNo;
+use ctr_seen::is_seen;
 use ctr_snap::Snapshot;
 use ctr_store::Store;
 use ctr_types::{Fate, Xid};
@@ -40,20 +41,16 @@ impl<'a> Sought<'a> {
     fn is(&self, meta: &Meta, x: Xid) -> bool
         ensures { result ≡ sought_by meta.now.tables self.now x }
     {
-        if x == 0 {
-            return false;
-        }
-        let fate = meta.fate(x);
         match self {
-            Sought::Seen { snapshot, me } => snapshot.sees(x, fate, *me),
-            Sought::Committed => fate == Fate::Committed,
+            Sought::Seen { snapshot, me } => is_seen(meta, snapshot, *me, x),
+            Sought::Committed => x != 0 && meta.fate(x) == Fate::Committed,
         }
     }
 }
 
 /// Where a version of a row stands.
 #[derive(Clone, Copy, Debug, PartialEq, Eq)]
-pub enum VersionAt {
+pub(crate) enum VersionAt {
     /// In the slot, the newest.
     Head,
     /// In the slot, the one before it.
@@ -64,10 +61,10 @@ pub enum VersionAt {
 
 /// A version of a row: whose it is, and where it stands.
 #[derive(Clone, Copy, Debug, PartialEq, Eq)]
-pub struct Found {
+pub(crate) struct Found {
     /// Its transaction.
-    pub xid: Xid,
-    pub at: VersionAt,
+    pub(crate) xid: Xid,
+    pub(crate) at: VersionAt,
 }
 
 /// What a slot alone says of the search: the version that is sought, where it is in the slot; none, where it isn't and nothing is kept

@@ -7,7 +7,7 @@ use ctr_disk::{Disk, Image, MemDisk, SilentDisk, StoreFault};
 use ctr_page::Place;
 use ctr_snap::Snapshot;
 use ctr_store::Store;
-use ctr_types::{File, List, Xid};
+use ctr_types::{File, List, Row, Value, Xid};
 use std::alloc::{AllocError, Global};
 use std::marker::Brand;
 use std::test::Fail;
@@ -67,7 +67,7 @@ fn fourth_page(xid: u8, older: u8) -> [u8; 53] {
 
 type Newest = Result<Option<Xid>, StoreFault>;
 
-type Seen = Result<Option<Found>, StoreFault>;
+type Seen = Result<Option<Row>, ReadRefusal>;
 
 fn newest_on<D: Disk + Drop, O: Origin>(alloc: Global, disk: D) -> Option<Newest>
     requires { O.first ≡ D.reads disk }
@@ -100,7 +100,7 @@ fn seen_on<D: Disk + Drop, O: Origin>(
             if counted < 64 || counted > 30_000 {
                 return None;
             }
-            Some(seen(&mut store, Place { page: 3, slot: 0 }, snapshot, me))
+            Some(visible(alloc, &mut store, Place { page: 3, slot: 0 }, snapshot, me))
         }
         Err(_) => None,
     }
@@ -155,24 +155,20 @@ fn version_entries_that_lead_in_a_ring(rt: HostRuntime) -> Result<(), Fail> {
     Ok(())
 }
 
+// What is seen is a row of the key alone, or none.
+fn is_row(seen: Option<Seen>) -> bool {
+    match seen {
+        Some(Ok(Some(row))) => row.values.as_slice() == [Value::Int(7)].as_slice(),
+        _ => false,
+    }
+}
+
 #[test]
-fn the_version_that_a_snapshot_sees(rt: HostRuntime) -> Result<(), Fail> {
+fn the_row_that_a_session_sees(rt: HostRuntime) -> Result<(), Fail> {
     let alloc = rt.alloc();
-    let head = Found {
-        xid: 2,
-        at: VersionAt::Head,
-    };
-    let own = Found {
-        xid: 5,
-        at: VersionAt::Previous,
-    };
-    let kept = Found {
-        xid: 1,
-        at: VersionAt::Kept(Place { page: 4, slot: 0 }),
-    };
-    assert!(rt; see(alloc, &[], None)? == Some(Ok(Some(head))));
-    assert!(rt; see(alloc, &[2], Some(5))? == Some(Ok(Some(own))));
-    assert!(rt; see(alloc, &[2], None)? == Some(Ok(Some(kept))));
+    assert!(rt; is_row(see(alloc, &[], None)?));
+    assert!(rt; is_row(see(alloc, &[2], Some(5))?));
+    assert!(rt; see(alloc, &[2], None)? == Some(Ok(None)));
     assert!(rt; see(alloc, &[2, 1], None)? == Some(Ok(None)));
     Ok(())
 }

@@ -1,7 +1,6 @@
 -- What frees a version entry, by what was found on the way.
 use Rattle.std.proofs.Common.{◌≡◌, ℕ, inr, List, Result, Ok, Err, sym, ◌∙◌, ap}
 use Rattle.std.specs.Prelude.{⊤, IsTrue}
-use Rattle.ctr_bytes.specs.Following.{◌>>=◌}
 use Rattle.ctr_disk.specs.declared.disk.Disk.{Ghosts}
 use Rattle.ctr_disk.specs.declared.disk.Image.{Image}
 use Rattle.ctr_disk.specs.declared.fault.StoreFault.{StoreFault}
@@ -12,16 +11,14 @@ use Rattle.ctr_calls.specs.OneRecord.{LogsOne}
 use Rattle.ctr_calls.specs.Damage.{EndsTold}
 use Rattle.ctr_changes.specs.States.{pages_in}
 use Rattle.ctr_page.specs.declared.rows.Place.{Place}
-use Rattle.ctr_page.specs.declared.walk.BadChain.{BadChain}
 use Rattle.ctr_page.specs.Places.{kept_size}
 use Rattle.ctr_page.specs.Columns.{kinds_width}
-use Rattle.ctr_area.specs.Reading.{width_on, area_of}
-use Rattle.ctr_area.specs.Checked.{kinds_at}
+use Rattle.ctr_area.specs.Reading.{width_on}
 use Rattle.ctr_pvs.specs.declared.table.TableOf.{TableOf}
-use Rattle.ctr_pvs.specs.Table.{told_of, owner_of, TableSaid}
-use Rattle.ctr_pvs.specs.Reading.{kinds_said, lies_check}
-use Rattle.ctr_pvs.specs.Writing.{blank_record, PassesFreeing, DropsEntry}
-use Rattle.ctr_pvs.proofs.Told.{page_of_table}
+use Rattle.ctr_pvs.specs.Table.{TableSaid}
+use Rattle.ctr_pvs.specs.Reading.{kinds_said, lies_check, PassesAt}
+use Rattle.ctr_pvs.specs.Writing.{blank_record, drop_check, DropsEntry}
+use Rattle.ctr_pvs.proofs.Told.{page_of_table, by_table}
 
 -- damage that is told of one answer is told of another
 pub told_as : {B S T : Type 0} (told : B → StoreFault) (Ends : Result S B → Type 0) (Other : Result T B → Type 0) (e : StoreFault) → ((bad : B) → Ends (Err bad) → Other (Err bad)) → EndsTold told Ends (Err e)
@@ -31,13 +28,11 @@ told_as told Ends Other (Damaged file at want got) f (bad, ends, is) = (bad, f b
 
 -- the table of the page was found, and the place lies on it
 pub freeing_passes : (counted : ℕ) (pages : ℕ → List ℕ) (at : Place) (t : TableOf) (w : ℕ) → TableSaid 2 counted pages at.page (Ok t) → w ≡ kinds_width (kinds_said t) → lies_check (kept_size w) at.slot ≡ Ok tt
-    → PassesFreeing counted pages at w
+    → PassesAt (drop_check counted pages at) pages at w
 freeing_passes counted pages at t w said is lies =
     let page = page_of_table 2 counted pages at.page t said in
-    let rest : ⊤ → Result ⊤ BadChain = λ _. told_of at.page (lies_check (kept_size (kinds_width (kinds_at (area_of pages) (owner_of (pages at.page))))) at.slot) in
-    let same = is ∙ ap kinds_width said.2 ∙ ap (λ e. kinds_width (kinds_at (area_of pages) e)) said.1 in
     record {
-      passes = ap (λ (x : Result ⊤ BadChain). x >>= rest) said.0 ∙ sym (ap (λ v. told_of at.page (lies_check (kept_size v) at.slot)) same) ∙ ap (told_of at.page) lies;
+      passes = by_table 2 counted pages at.page t (λ _ ks. lies_check (kept_size (kinds_width ks)) at.slot) (Ok tt) said (ap (λ v. lies_check (kept_size v) at.slot) (sym is) ∙ lies);
       behind_catalog = page.behind;
       of_kind = page.of_kind;
       wide = is ∙ page.wide;

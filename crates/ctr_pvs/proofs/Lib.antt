@@ -1,5 +1,7 @@
 pub mod OneRecord
 pub mod Told
+pub mod Behind
 pub mod Sought
 pub mod Telling
 pub mod Freeing
+pub mod Lent

@@ -4,25 +4,29 @@ use Rattle.std.specs.Prelude.{nat_lt, nat_le, true, ⊤}
 use Rattle.ctr_versions.proofs.Keys.{known}
 use Rattle.std.proofs.Math.Nat.{le-div_iff_mul-le}
 use Rattle.std.proofs.lemmas.Bool.{ltb-false, le-ltb, leb-true}
+use Rattle.ctr_types.specs.declared.value.Kind.{Kind}
 use Rattle.ctr_bytes.specs.Fields.{field}
 use Rattle.ctr_bytes.specs.Following.{◌>>=◌}
 use Rattle.ctr_records.specs.declared.decoding.BadRecord.{BadRecord}
 use Rattle.ctr_records.specs.Damage.{wrong, expect, at_most}
 use Rattle.ctr_records.proofs.Reading.{bind_ok, guard_ok, expect_ok}
+use Rattle.ctr_page.specs.declared.checks.Chain.TheVariants.{Versions}
 use Rattle.ctr_page.specs.declared.walk.BadChain.{BadChain}
 use Rattle.ctr_page.specs.declared.header.Header.{Header}
 use Rattle.ctr_page.specs.declared.rows.Place.{Place}
 use Rattle.ctr_page.specs.Places.{slot_size, kept_size, room_for, start_of}
 use Rattle.ctr_page.specs.Reading.{header_in}
-use Rattle.ctr_page.specs.Columns.{kinds_of, kinds_width, columns_in}
+use Rattle.ctr_page.specs.Columns.{kinds_of, kinds_width, columns_in, kept_start}
+use Rattle.ctr_page.specs.Damage.{header_check, kept_check}
 use Rattle.ctr_page.proofs.Holding.{kinds_wide, most_ok}
 use Rattle.ctr_page.proofs.Searches.{lies_on_page}
-use Rattle.ctr_area.specs.Reading.{no_header, entry_bytes, header_on, columns_on, width_on, size_on}
+use Rattle.ctr_area.specs.Reading.{no_header, entry_bytes, header_on, columns_on, width_on, size_on, area_of}
+use Rattle.ctr_area.specs.Checked.{kinds_at}
 use Rattle.ctr_area.specs.Changes.{IsPlaceOf}
 use Rattle.ctr_area.proofs.Written.{one_of_two}
 use Rattle.ctr_pvs.specs.declared.table.TableOf.{TableOf}
-use Rattle.ctr_pvs.specs.Table.{there_check, owner_check, catalog_check, told_of, owner_of, TableSaid}
-use Rattle.ctr_pvs.specs.Reading.{kinds_said, lies_check}
+use Rattle.ctr_pvs.specs.Table.{there_check, owner_check, catalog_check, told_of, owner_of, table_check, TableSaid}
+use Rattle.ctr_pvs.specs.Reading.{kinds_said, lies_check, kept_on_check, kept_at_check, row_on_check, row_check_at}
 
 -- what is wrong on a page isn't, where it passes
 pub told_ok : (p : ℕ) (r : Result ⊤ BadRecord) → told_of p r ≡ Ok tt → r ≡ Ok tt
@@ -68,6 +72,40 @@ page_of_table kind counted pages p t said =
       kinds = same;
       wide = ap kinds_width same ∙ kinds_wide (drop 1 (columns_on pages p));
     }
+
+-- what a check behind the table of a page finds, by the table
+pub by_table : (kind counted : ℕ) (pages : ℕ → List ℕ) (p : ℕ) (t : TableOf) (check : ℕ → List Kind → Result ⊤ BadRecord) (r : Result ⊤ BadRecord) → TableSaid kind counted pages p (Ok t) → check t.entry (kinds_said t) ≡ r
+    → (table_check kind counted pages p >>= λ _. told_of p (check (owner_of (pages p)) (kinds_at (area_of pages) (owner_of (pages p))))) ≡ told_of p r
+by_table kind counted pages p t check r said is =
+    let rest : ⊤ → Result ⊤ BadChain = λ _. told_of p (check (owner_of (pages p)) (kinds_at (area_of pages) (owner_of (pages p)))) in
+    ap (λ (x : Result ⊤ BadChain). x >>= rest) said.0
+    ∙ ap (λ e. told_of p (check e (kinds_at (area_of pages) e))) (sym said.1)
+    ∙ ap (λ ks. told_of p (check t.entry ks)) (sym said.2) ∙ ap (told_of p) is
+
+-- the slot at a place passes, by its table
+pub row_passes : (counted : ℕ) (pages : ℕ → List ℕ) (at : Place) (t : TableOf) → TableSaid 1 counted pages at.page (Ok t) → row_on_check counted t.entry (kinds_said t) at.slot (pages at.page) ≡ Ok tt
+    → row_check_at counted pages at ≡ Ok tt
+row_passes counted pages at t said passes = by_table 1 counted pages at.page t (λ e ks. row_on_check counted e ks at.slot (pages at.page)) (Ok tt) said passes
+
+-- a version entry of a table that passes is read by the table's columns
+pub older_read : (counted : ℕ) (pages : ℕ → List ℕ) (e : ℕ) (q : Place) → kept_at_check counted pages e q ≡ Ok tt → ((header_on pages q.page).kind ≡ 2) × ((header_on pages q.page).entry ≡ e)
+unfolding header_check
+older_read counted pages e q is =
+    let l = pages q.page in
+    let there = bind_ok (there_check counted q.page) (λ _. kept_on_check counted e (kinds_at (area_of pages) e) q.slot l) tt is in
+    let header = bind_ok (header_check (Versions e) counted l) _ tt there.2 in
+    let kind = bind_ok (expect 0 2 (field 1 0 l)) _ tt header.1 in
+    let entry = bind_ok (expect 1 e (field 1 1 l)) _ tt kind.2 in
+    let here = header_here pages q.page (behind_catalog counted q.page there.1) in
+    (ap (λ (h : Header). h.kind) here ∙ sym (expect_ok 0 2 (field 1 0 l) kind.1), ap (λ (h : Header). h.entry) here ∙ sym (expect_ok 1 e (field 1 1 l) entry.1))
+
+-- it has a place of its number
+pub lies_of_entry : (counted e : ℕ) (kinds : List Kind) (number : ℕ) (page : List ℕ) → kept_on_check counted e kinds number page ≡ Ok tt → lies_check (kept_size (kinds_width kinds)) number ≡ Ok tt
+lies_of_entry counted e kinds number page is =
+    let last : ⊤ → Result ⊤ BadRecord = λ _. kept_check kinds counted (kept_start kinds number) page in
+    let rest : ⊤ → Result ⊤ BadRecord = λ _. lies_check (kept_size (kinds_width kinds)) number >>= last in
+    let header = bind_ok (header_check (Versions e) counted page) rest tt is in
+    (bind_ok (lies_check (kept_size (kinds_width kinds)) number) last tt header.2).1
 
 -- a page has a place of a number that passes
 pub lies_below : (size number : ℕ) → 0 < size → size ≤ 4080 → lies_check size number ≡ Ok tt → number < room_for size

@@ -3,3 +3,4 @@ pub mod Reading
 pub mod Writing
 pub mod Entries
 pub mod Along
+pub mod Lending

@@ -1,5 +1,5 @@
 -- Version entries as they are read: each is checked where it is read.
-use Rattle.std.specs.Prelude.{◌≡◌, ℕ, ◌-◌, List, take, ⊤, Result, Ok, Err}
+use Rattle.std.specs.Prelude.{◌≡◌, ◌≤◌, ℕ, ◌-◌, List, take, ⊤, Result, Ok, Err}
 use Rattle.ctr_types.specs.declared.value.Kind.{Kind}
 use Rattle.ctr_bytes.specs.Fields.{field}
 use Rattle.ctr_bytes.specs.Following.{◌>>=◌}
@@ -15,7 +15,7 @@ use Rattle.ctr_page.specs.Places.{slot_size, kept_size, room_for}
 use Rattle.ctr_page.specs.Reading.{slot_at, older_at}
 use Rattle.ctr_page.specs.Columns.{kinds_width, slot_start, kept_start}
 use Rattle.ctr_page.specs.Damage.{header_check, slot_check, kept_check}
-use Rattle.ctr_area.specs.Reading.{area_of}
+use Rattle.ctr_area.specs.Reading.{header_on, width_on, area_of}
 use Rattle.ctr_area.specs.Checked.{kinds_at}
 use Rattle.ctr_pvs.specs.declared.table.TableOf.{TableOf}
 use Rattle.ctr_pvs.specs.Table.{there_check, told_of, owner_of, table_check}
@@ -44,11 +44,42 @@ VersionSaid counted t number page (Ok v) =
 VersionSaid counted t number page (Err bad) =
     kept_on_check counted t.entry (kinds_said t) number page ≡ Err bad
 
+-- it passes, in rows so wide; or it doesn't
+abbrev pub WidthSaid : ℕ → TableOf → ℕ → List ℕ → Result ℕ BadRecord → Type 0
+WidthSaid counted t number page (Ok w) =
+    (kept_on_check counted t.entry (kinds_said t) number page ≡ Ok tt)
+    × (w ≡ kinds_width (kinds_said t))
+WidthSaid counted t number page (Err bad) =
+    kept_on_check counted t.entry (kinds_said t) number page ≡ Err bad
+
 -- the version entry at a place to which a chain of the table leads
 abbrev pub kept_at_check : ℕ → (ℕ → List ℕ) → ℕ → Place → Result ⊤ BadRecord
 kept_at_check counted pages e at =
     there_check counted at.page
     >>= λ _. kept_on_check counted e (kinds_at (area_of pages) e) at.slot (pages at.page)
+
+-- The version entry at a place: the table of its page, and then the version entry, by the table's
+-- columns.
+abbrev pub version_check_at : ℕ → (ℕ → List ℕ) → Place → Result ⊤ BadChain
+version_check_at counted pages at =
+    table_check 2 counted pages at.page
+    >>= λ _. told_of at.page (kept_on_check counted (owner_of (pages at.page))
+    (kinds_at (area_of pages) (owner_of (pages at.page))) at.slot (pages at.page))
+
+-- This check passes, and the page of the place is one of versions of rows so wide, on which a version
+-- entry lies there.
+pub record PassesAt (check : Result ⊤ BadChain) (pages : ℕ → List ℕ) (at : Place) (w : ℕ)
+    : Type 0 where
+  pub passes : check ≡ Ok tt
+  pub behind_catalog : 3 ≤ at.page
+  pub of_kind : (header_on pages at.page).kind ≡ 2
+  pub wide : w ≡ width_on pages at.page
+  pub lies : lies_check (kept_size w) at.slot ≡ Ok tt
+
+-- so it is found, with the width; or what is wrong is
+abbrev pub EndsAt : Result ⊤ BadChain → (ℕ → List ℕ) → Place → Result ℕ BadChain → Type 0
+EndsAt check pages at (Ok w) = PassesAt check pages at w
+EndsAt check pages at (Err bad) = check ≡ Err bad
 
 -- ---- slots
 

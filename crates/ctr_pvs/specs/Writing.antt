@@ -14,7 +14,7 @@ use Rattle.ctr_page.specs.Places.{kept_size, start_of}
 use Rattle.ctr_page.specs.Columns.{kinds_width}
 use Rattle.ctr_page.specs.Making.{kept_bytes, IsEntry}
 use Rattle.ctr_area.specs.Areas.{nowhere}
-use Rattle.ctr_area.specs.Reading.{header_on, width_on, area_of}
+use Rattle.ctr_area.specs.Reading.{width_on, area_of}
 use Rattle.ctr_area.specs.Checked.{kinds_at}
 use Rattle.ctr_area.specs.Changes.{IsPlaceOf}
 use Rattle.ctr_base.specs.Base.{IsSoundImage}
@@ -69,19 +69,6 @@ drop_check counted pages at =
     table_check 2 counted pages at.page
     >>= λ _. told_of at.page (lies_check (kept_size (kinds_width
     (kinds_at (area_of pages) (owner_of (pages at.page))))) at.slot)
-
--- All passes, and its page is one of versions of rows so wide, on which it lies.
-pub record PassesFreeing (counted : ℕ) (pages : ℕ → List ℕ) (at : Place) (w : ℕ) : Type 0 where
-  pub passes : drop_check counted pages at ≡ Ok tt
-  pub behind_catalog : 3 ≤ at.page
-  pub of_kind : (header_on pages at.page).kind ≡ 2
-  pub wide : w ≡ width_on pages at.page
-  pub lies : lies_check (kept_size w) at.slot ≡ Ok tt
-
--- so it is found, with the width; or what is wrong is
-abbrev pub EndsFreeing : ℕ → (ℕ → List ℕ) → Place → Result ℕ BadChain → Type 0
-EndsFreeing counted pages at (Ok w) = PassesFreeing counted pages at w
-EndsFreeing counted pages at (Err bad) = drop_check counted pages at ≡ Err bad
 
 -- Its record is logged, by the width of its page's rows; where something is wrong pages were read;
 -- where the store refused nothing is logged.

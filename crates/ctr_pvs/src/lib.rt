@@ -4,12 +4,14 @@
 #![tactic(auto)]
 
 mod entries;
+mod lending;
 mod reading;
 mod search;
 mod table;
 mod writing;
 
 pub use entries::find_free_entry;
+pub use lending::{LentVersion, version};
 pub use reading::{row_in, version_in};
 pub use search::free_entry;
 pub use table::{TableOf, catalog_page, check_there, table_on};

@@ -1,10 +1,10 @@
-//! A free version entry of a table, and one that is freed, in a store that is opened on bytes made by hand.
+//! A version entry that is lent by its place, from a store that is opened on bytes made by hand.
 ghost use Rattle.std.specs.Prelude.{◌≡◌};
 
 use crate::*;
 use ctr_base::Origin;
 use ctr_disk::{Disk, Image, MemDisk, SilentDisk, StoreFault};
-use ctr_page::Place;
+use ctr_page::{Place, VersionEntry};
 use ctr_store::Store;
 use ctr_types::{File, List};
 use std::alloc::{AllocError, Global};
@@ -39,36 +39,45 @@ fn first_page() -> [u8; 228] {
 const THIRD: [u8; 47] =
     *b"\x01\x03\0\0\0\x01\0\0\0\0\0\0\0\x02\0\0\0\0\0\0\0\0\0\0\0\0\0\0\0\x01\x07\0\0\0\0\0\0\0\x01\0\0\0\0\0\0\0\0";
 
-type Found = (Option<Place>, Result<(), StoreFault>, Option<Place>);
+// What a version entry says: its key, its transaction, the length of its payload, and where the next one is.
+type Said = (i64, u64, usize, Place);
 
-// What is free, and what is when the version entry at a place is freed.
-fn found<D: Disk + Drop, O: Origin>(alloc: Global, disk: D, place: Place) -> Option<Found>
+// The version entry at a place, as it is lent.
+fn said<D: Disk + Drop, O: Origin>(
+    alloc: Global,
+    disk: D,
+    place: Place,
+) -> Option<Result<Said, StoreFault>>
     requires { O.first ≡ D.reads disk }
 {
     match Store::<D, O>::open(alloc, disk, 8) {
         Ok(store) => {
             let mut store = store;
             let counted = store.counted();
-            if counted < 64 || counted > 30_000 || place.page >= counted {
+            if counted > 30_000 || place.page >= counted {
                 return None;
             }
-            let first = free_entry(&mut store, 0).ok()?;
-            let freed = drop_entry(&mut store, place);
-            if freed.is_err() {
-                return Some((first, freed, None));
-            }
-            let counted = store.counted();
-            if counted < 64 || counted > 30_000 {
-                return None;
-            }
-            let second = free_entry(&mut store, 0).ok()?;
-            Some((first, freed, second))
+            Some(version(&mut store, place).map(|lent| told(&lent.entry())))
         }
         Err(_) => None,
     }
 }
 
-fn seek(alloc: Global, third: &[u8], place: Place) -> Result<Option<Found>, AllocError> {
+fn told(entry: &VersionEntry) -> Said {
+    let version = &entry.version;
+    (
+        entry.key,
+        version.xid,
+        version.payload.as_slice().len(),
+        entry.older,
+    )
+}
+
+fn read(
+    alloc: Global,
+    third: &[u8],
+    place: Place,
+) -> Result<Option<Result<Said, StoreFault>>, AllocError> {
     let mut image = Image::new(alloc);
     image.write(alloc, File::Root, 0, &ROOT)?;
     image.set_len(alloc, File::Root, 64)?;
@@ -77,15 +86,15 @@ fn seek(alloc: Global, third: &[u8], place: Place) -> Result<Option<Found>, Allo
     image.write(alloc, File::Pages, 8_256, &first_page())?;
     image.write(alloc, File::Pages, 24_768, third)?;
     let disk = MemDisk::new(alloc, image, List::new(alloc))?;
-    Ok(found::<SilentDisk, Brand>(alloc, SilentDisk { disk }, place))
+    Ok(said::<SilentDisk, Brand>(alloc, SilentDisk { disk }, place))
 }
 
 #[test]
-fn the_first_free_version_entry(rt: HostRuntime) -> Result<(), Fail> {
+fn a_version_entry_by_its_place(rt: HostRuntime) -> Result<(), Fail> {
     let alloc = rt.alloc();
     let zero = Place { page: 3, slot: 0 };
-    let one = Place { page: 3, slot: 1 };
-    assert!(rt; seek(alloc, &THIRD, zero)? == Some((Some(one), Ok(()), Some(zero))));
+    let none = Place { page: 0, slot: 0 };
+    assert!(rt; read(alloc, &THIRD, zero)? == Some(Ok((7, 1, 0, none))));
     let far = Place { page: 3, slot: 170 };
     let bad = StoreFault::Damaged {
         file: File::Pages,
@@ -93,6 +102,6 @@ fn the_first_free_version_entry(rt: HostRuntime) -> Result<(), Fail> {
         want: 169,
         got: 170,
     };
-    assert!(rt; seek(alloc, &THIRD, far)? == Some((Some(one), Err(bad), None)));
+    assert!(rt; read(alloc, &THIRD, far)? == Some(Err(bad)));
     Ok(())
 }

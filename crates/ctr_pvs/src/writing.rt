@@ -13,7 +13,8 @@ ghost use Rattle.ctr_calls.specs.OneRecord.{HasRoomForOne, LogsOne};
 ghost use Rattle.ctr_calls.specs.Damage.{damage_told, EndsTold};
 ghost use Rattle.ctr_store.specs.Store.{LeavesPage};
 ghost use Rattle.ctr_changes.specs.States.{pages_in, area_in};
-ghost use Rattle.ctr_pvs.specs.Writing.{EntryLies, keep_record, HasPlaceOfVersion, blank_entry, blank_record, drop_check, EndsFreeing, DropsEntry};
+ghost use Rattle.ctr_pvs.specs.Reading.{EndsAt};
+ghost use Rattle.ctr_pvs.specs.Writing.{EntryLies, keep_record, HasPlaceOfVersion, blank_entry, blank_record, drop_check, DropsEntry};
 
 use crate::reading::check_lies;
 use crate::table::table_on;
@@ -110,7 +111,7 @@ fn width_to_free<D: Disk, O: Origin>(
 ) -> Result<Result<usize, BadChain>, StoreFault>
     requires going { store.old.stopped ≡ false }
     requires counted { (place.page < store.old.now.counted) × (store.old.now.counted ≤ 30000) }
-    ensures ends { IsTrue D.tells → IsSoundImage O.first → IfOk result (EndsFreeing store.old.now.counted (pages_in store.old.now) place) }
+    ensures ends { IsTrue D.tells → IsSoundImage O.first → IfOk result (EndsAt (drop_check store.old.now.counted (pages_in store.old.now) place) (pages_in store.old.now) place) }
     ensures fits { IfOk result (λ r. IfOk r (λ w. (w ≤ 2048) × (start_place (size_of_kept w) place.slot + size_of_kept w ≤ PAGE_SIZE))) }
     ensures leaves { LeavesPage O.first D.Disk store.old store.new result }
 {

@@ -7,9 +7,8 @@ use Rattle.ctr_disk.specs.declared.fault.StoreFault.{StoreFault}
 use Rattle.ctr_page.specs.declared.walk.BadChain.{BadChain}
 use Rattle.ctr_page.specs.declared.rows.Place.{Place}
 use Rattle.ctr_base.specs.Base.{IsSoundImage}
-use Rattle.ctr_store.specs.Store.{View, LeavesPage}
+use Rattle.ctr_store.specs.Store.{View}
 use Rattle.ctr_calls.specs.OneRecord.{WhyNotLogged, LogsOne}
-use Rattle.ctr_calls.proofs.Joins.{answers_ok, answers_err, pages_join}
 use Rattle.ctr_changes.specs.States.{pages_in}
 use Rattle.ctr_revert.specs.declared.slots.SlotLaid.{SlotLaid}
 use Rattle.ctr_revert.specs.Reverting.{lost_record, bytes_laid, RevertsHead, PassesRow, EndsReverting, RevertsRow}
@@ -25,11 +24,3 @@ pub ends_laid : {D : Type 0} (told : BadChain → StoreFault) (at : Place) (l : 
     → IfErr result (WhyNotLogged (lost_record l.x at l.w (bytes_laid l)) a b) → EndsReverting told at a b result
 ends_laid told at l a b (Ok t) passed why = passed.passes
 ends_laid told at l a b (Err e) passed why = inr (passed.passes, l.x, l.w, bytes_laid l, passed.head, why)
-
--- a page that was read behind another, whatever is answered of it
-module _ {D : Type 0} (first : Image) (g : Ghosts D) (a b c : View D) {S T : Type 0} (x : S) (one : LeavesPage {T = S} first g a b (Ok x)) where
-  pub both_read : (y : T) → LeavesPage {T = T} first g b c (Ok y) → (U : Type 0) (z : U) → LeavesPage {T = U} first g a c (Ok z)
-  both_read y two U z = answers_ok first g {S = T} {T = U} y z a c (pages_join g a b c first S T x (Ok y) one two)
-
-  pub read_failed : (e : StoreFault) → LeavesPage {T = T} first g b c (Err e) → (U : Type 0) → LeavesPage {T = U} first g a c (Err e)
-  read_failed e two U = answers_err first g {S = T} {T = U} e a c (pages_join g a b c first S T x (Err e) one two)

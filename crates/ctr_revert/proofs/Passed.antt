@@ -1,5 +1,5 @@
 -- What the checks of a slot and of the version entry behind it say, where they pass.
-use Rattle.std.proofs.Common.{◌≡◌, ℕ, ◌+◌, ◌-◌, ◌<◌, ◌≤◌, List, Option, Result, Ok, Err, sym, ◌∙◌, ap, subst, arith}
+use Rattle.std.proofs.Common.{◌≡◌, ℕ, ◌+◌, ◌-◌, ◌<◌, ◌≤◌, List, Option, Result, Ok, Err, ◌∙◌, ap, subst, arith}
 use Rattle.std.specs.Prelude.{⊤, nat_lt}
 use Rattle.ctr_types.specs.declared.value.Kind.{Kind}
 use Rattle.ctr_bytes.specs.Fields.{field}
@@ -12,16 +12,13 @@ use Rattle.ctr_page.specs.declared.rows.RowSlot.{RowSlot}
 use Rattle.ctr_page.specs.declared.rows.VersionEntry.{VersionEntry}
 use Rattle.ctr_page.specs.Making.{IsSlot, IsEntry}
 use Rattle.ctr_page.specs.declared.checks.Chain.TheVariants.{Rows}
-use Rattle.ctr_page.specs.declared.walk.BadChain.{BadChain}
 use Rattle.ctr_page.specs.declared.rows.Place.{Place}
 use Rattle.ctr_page.specs.Places.{slot_size, start_of}
 use Rattle.ctr_page.specs.Columns.{kinds_width, slot_start}
 use Rattle.ctr_page.specs.Damage.{header_check, slot_check}
-use Rattle.ctr_area.specs.Reading.{area_of}
-use Rattle.ctr_area.specs.Checked.{kinds_at}
 use Rattle.ctr_pvs.specs.declared.table.TableOf.{TableOf}
-use Rattle.ctr_pvs.specs.Table.{there_check, told_of, owner_of, TableSaid}
-use Rattle.ctr_pvs.specs.Reading.{kinds_said, lies_check, kept_on_check, VersionSaid, row_on_check, RowSaid, row_check_at}
+use Rattle.ctr_pvs.specs.Table.{there_check}
+use Rattle.ctr_pvs.specs.Reading.{kinds_said, lies_check, kept_on_check, VersionSaid, row_on_check, RowSaid}
 use Rattle.ctr_pvs.proofs.Told.{lies_inside, slot_small}
 use Rattle.ctr_revert.specs.declared.slots.FromSlot.{FromSlot}
 use Rattle.ctr_revert.specs.Reverting.{if_used, MadeFrom, SlotSaidFrom, MadeByEntry, EntrySaidFrom}
@@ -39,16 +36,6 @@ row_inside w number narrow lies = let small = slot_small w narrow in lies_inside
   where
     some : (w : ℕ) → 0 < slot_size w
     some w = omega arith
-
--- the slot at a place passes, by its table
-pub row_passes : (counted : ℕ) (pages : ℕ → List ℕ) (at : Place) (t : TableOf) → TableSaid 1 counted pages at.page (Ok t) → row_on_check counted t.entry (kinds_said t) at.slot (pages at.page) ≡ Ok tt
-    → row_check_at counted pages at ≡ Ok tt
-row_passes counted pages at t said passes =
-    let check : ℕ → List Kind → Result ⊤ BadRecord = λ e ks. row_on_check counted e ks at.slot (pages at.page) in
-    let rest : ⊤ → Result ⊤ BadChain = λ _. told_of at.page (check (owner_of (pages at.page)) (kinds_at (area_of pages) (owner_of (pages at.page)))) in
-    ap (λ (r : Result ⊤ BadChain). r >>= rest) said.0
-    ∙ ap (λ e. told_of at.page (check e (kinds_at (area_of pages) e))) (sym said.1)
-    ∙ ap (λ ks. told_of at.page (check t.entry ks)) (sym said.2) ∙ ap (told_of at.page) passes
 
 -- a page that passes is one that there may be
 pub within : (counted p : ℕ) → 0 < counted → counted ≤ 30000 → there_check counted p ≡ Ok tt → p < 30000

@@ -6,13 +6,8 @@ use Rattle.std.proofs.lemmas.Bool.{eq-eqb, eqb-true}
 use Rattle.ctr_versions.proofs.Keys.{known}
 use Rattle.ctr_types.specs.declared.value.Column.{Column}
 use Rattle.ctr_value.specs.Payload.{width}
-use Rattle.ctr_bytes.specs.Fields.{field}
 use Rattle.ctr_bytes.specs.Following.{◌>>=◌}
-use Rattle.ctr_records.specs.Damage.{expect}
-use Rattle.ctr_records.proofs.Reading.{bind_ok, expect_ok}
-use Rattle.ctr_page.specs.declared.checks.Chain.TheVariants.{Versions}
 use Rattle.ctr_page.specs.declared.walk.BadChain.{BadChain}
-use Rattle.ctr_page.specs.declared.header.Header.{Header}
 use Rattle.ctr_page.specs.declared.rows.Place.{Place}
 use Rattle.ctr_page.specs.declared.rows.Version.{Version}
 use Rattle.ctr_page.specs.declared.rows.RowSlot.{RowSlot}
@@ -21,18 +16,15 @@ use Rattle.ctr_page.specs.Places.{slot_size, kept_size, start_of}
 use Rattle.ctr_page.specs.Reading.{slot_at, older_at}
 use Rattle.ctr_page.specs.Columns.{kinds_width, columns_in}
 use Rattle.ctr_page.specs.Making.{slot_bytes, IsSlot}
-use Rattle.ctr_page.specs.Damage.{header_check}
 use Rattle.ctr_area.specs.Areas.{Slot, Older, Area, free_slot, free_older}
 use Rattle.ctr_area.specs.Reading.{version_said, slot_said, older_said, entry_bytes, header_on, columns_on, width_on, size_on, area_of}
-use Rattle.ctr_area.specs.Checked.{kinds_at}
 use Rattle.ctr_area.specs.Changes.{IsPlaceOf}
 use Rattle.ctr_pvs.specs.declared.table.TableOf.{TableOf}
-use Rattle.ctr_pvs.specs.Table.{there_check, told_of, owner_of, TableSaid}
-use Rattle.ctr_pvs.specs.Reading.{kinds_said, kept_on_check, kept_at_check}
-use Rattle.ctr_pvs.proofs.Told.{IsPageOf, page_of_table, behind_catalog, header_here, told_ok}
+use Rattle.ctr_pvs.specs.Table.{told_of, owner_of, TableSaid}
+use Rattle.ctr_pvs.specs.Reading.{kinds_said, kept_at_check}
+use Rattle.ctr_pvs.proofs.Told.{IsPageOf, page_of_table, row_passes, older_read, told_ok}
 use Rattle.ctr_revert.specs.declared.slots.FromSlot.{FromSlot}
 use Rattle.ctr_revert.specs.Reverting.{behind_head, without_head, KeepsKey, if_used, entry_at_place, slot_by_entry, slot_without_head, slot_reverted, SlotSaidFrom, LosesHead, behind_check, row_slot_at, revert_check, EndsBehind, BytesSaid, RevertsHead, PassesRow}
-use Rattle.ctr_revert.proofs.Passed.{row_passes}
 
 module _ (counted : ℕ) (pages : ℕ → List ℕ) (at : Place) (t : TableOf) (f : FromSlot) (said : TableSaid 1 counted pages at.page (Ok t)) (from : SlotSaidFrom counted t at (pages at.page) (Ok f)) where
   abbrev w : ℕ
@@ -68,18 +60,6 @@ module _ (counted : ℕ) (pages : ℕ → List ℕ) (at : Place) (t : TableOf) (
       (record { passes = sym (ends_row (Ok tt) found.0); behind_catalog = page.behind; of_kind = page.of_kind; head = head_lost (take (slot_size w) bytes) found.1 })
 
 -- ---- in the area
-
--- the version entry of a table that passes is read by the table's columns
-older_read : (counted : ℕ) (pages : ℕ → List ℕ) (e : ℕ) (q : Place) → kept_at_check counted pages e q ≡ Ok tt → ((header_on pages q.page).kind ≡ 2) × ((header_on pages q.page).entry ≡ e)
-unfolding header_check
-older_read counted pages e q is =
-    let l = pages q.page in
-    let there = bind_ok (there_check counted q.page) (λ _. kept_on_check counted e (kinds_at (area_of pages) e) q.slot l) tt is in
-    let header = bind_ok (header_check (Versions e) counted l) _ tt there.2 in
-    let kind = bind_ok (expect 0 2 (field 1 0 l)) _ tt header.1 in
-    let entry = bind_ok (expect 1 e (field 1 1 l)) _ tt kind.2 in
-    let here = header_here pages q.page (behind_catalog counted q.page there.1) in
-    (ap (λ (h : Header). h.kind) here ∙ sym (expect_ok 0 2 (field 1 0 l) kind.1), ap (λ (h : Header). h.entry) here ∙ sym (expect_ok 1 e (field 1 1 l) entry.1))
 
 -- a pointer to no page leads to nothing
 nothing_at : (pages : ℕ → List ℕ) (q : Place) → q.page ≡ 0 → (area_of pages).older q ≡ free_older

@@ -51,6 +51,7 @@ pub fn first_left(steps: &Steps, s: u8) -> Option<u8>
     requires eight { AreEight steps.now }
     requires small { s ≤ 9 }
     ensures left { IfSome result (λ q. HasStatementLeft q steps.now) }
+    ensures first { IfSome result (λ q. (s ≤ q) × ((p : ℕ) → s ≤ p → p < q → HasStatementLeft p steps.now → ⊥)) }
     ensures none { result ≡ None → (q : ℕ) → s ≤ q → HasStatementLeft q steps.now → ⊥ }
 {
     if s > 8 {

@@ -6,7 +6,8 @@ use Rattle.ctr_changes.specs.States.{pages_in}
 use Rattle.ctr_calls.specs.Damage.{damage_told}
 use Rattle.ctr_calls.proofs.Damages.{told_ends, reads_err}
 use Rattle.ctr_calls.proofs.Records.{one_behind}
-use Rattle.ctr_pvs.specs.Writing.{blank_record, drop_check, PassesFreeing, EndsFreeing}
+use Rattle.ctr_pvs.specs.Reading.{PassesAt, EndsAt}
+use Rattle.ctr_pvs.specs.Writing.{blank_record, drop_check}
 use Rattle.ctr_pvs.proofs.Freeing.{told_as, drops}
 use Rattle.ctr_pvs.proofs.writing.drop_entry.Given.{Over}
 use Rattle.ctr_pvs.proofs.writing.drop_entry.Goals.{After-lay_blank}
@@ -20,8 +21,8 @@ returns-in_err-w-clause-ends g c =
     let e = c.in_err-w.field-0.0 in
     let found = c.width_to_free-found in
     rw (p.1, p.2) (λ told sound.
-    told_as (damage_told g.D.Disk c.tell.new.store) (EndsFreeing s.counted (pages_in s) at) (λ r. r ≡ drop_check s.counted (pages_in s) at) e (λ bad is. sym is)
-    (told_ends (damage_told g.D.Disk c.tell.new.store) (EndsFreeing s.counted (pages_in s) at) found.result (Err e) c.in_err-w.ensures.told (told, sound) (found.ensures.leaves.refused told sound) (found.ensures.ends told sound)))
+    told_as (damage_told g.D.Disk c.tell.new.store) (EndsAt (drop_check s.counted (pages_in s) at) (pages_in s) at) (λ r. r ≡ drop_check s.counted (pages_in s) at) e (λ bad is. sym is)
+    (told_ends (damage_told g.D.Disk c.tell.new.store) (EndsAt (drop_check s.counted (pages_in s) at) (pages_in s) at) found.result (Err e) c.in_err-w.ensures.told (told, sound) (found.ensures.leaves.refused told sound) (found.ensures.ends told sound)))
 
 pub returns-in_err-w-clause-one : goal.returns-in_err-w-clause-one
 returns-in_err-w-clause-one g c =
@@ -31,11 +32,11 @@ returns-in_err-w-clause-one g c =
 
 -- the width was found
 module _ (g : Over) (c : After-lay_blank g) where
-  passes : IsTrue g.D.Disk.tells → IsSoundImage g.O.Origin.first → PassesFreeing c.args.store.now.now.counted (pages_in c.args.store.now.now) c.args.place c.in_ok-w.w
+  passes : IsTrue g.D.Disk.tells → IsSoundImage g.O.Origin.first → PassesAt (drop_check c.args.store.now.now.counted (pages_in c.args.store.now.now) c.args.place) (pages_in c.args.store.now.now) c.args.place c.in_ok-w.w
   passes told sound =
       let s = c.args.store.now.now in
       let found = c.width_to_free-found in
-      told_ends (damage_told g.D.Disk c.tell.new.store) (EndsFreeing s.counted (pages_in s) c.args.place) found.result (Ok c.in_ok-w.w) c.in_ok-w.ensures.told (told, sound) (found.ensures.leaves.refused told sound) (found.ensures.ends told sound)
+      told_ends (damage_told g.D.Disk c.tell.new.store) (EndsAt (drop_check s.counted (pages_in s) c.args.place) (pages_in s) c.args.place) found.result (Ok c.in_ok-w.w) c.in_ok-w.ensures.told (told, sound) (found.ensures.leaves.refused told sound) (found.ensures.ends told sound)
 
 pub returns-clause-one : goal.returns-clause-one
 returns-clause-one g c =

@@ -6,7 +6,7 @@ use Rattle.ctr_changes.specs.States.{pages_in}
 use Rattle.ctr_pvs.specs.Reading.{kinds_said}
 use Rattle.ctr_revert.specs.Reverting.{EntrySaidFrom, IsMadeOr}
 use Rattle.ctr_revert.proofs.Lost.{by_reading, ends_kept, none_of}
-use Rattle.ctr_revert.proofs.Logged.{both_read, read_failed}
+use Rattle.ctr_pvs.proofs.Behind.{both_read, read_failed}
 use Rattle.ctr_revert.proofs.revert.bytes_behind.Goals as goal
 
 pub returns-in_err-bad-clause-leaves : goal.returns-in_err-bad-clause-leaves

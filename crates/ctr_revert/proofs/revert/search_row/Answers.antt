@@ -8,7 +8,7 @@ use Rattle.ctr_changes.specs.States.{pages_in}
 use Rattle.ctr_calls.proofs.Joins.{answers_ok, answers_err}
 use Rattle.ctr_pvs.specs.Table.{TableSaid}
 use Rattle.ctr_revert.specs.Reverting.{SlotSaidFrom, BytesSaid}
-use Rattle.ctr_revert.proofs.Logged.{both_read, read_failed}
+use Rattle.ctr_pvs.proofs.Behind.{both_read, read_failed}
 use Rattle.ctr_revert.proofs.Row.{ends_row, row_passed}
 use Rattle.ctr_revert.proofs.revert.search_row.Given.{Over}
 use Rattle.ctr_revert.proofs.revert.search_row.Goals.{In_ok-bad-3}

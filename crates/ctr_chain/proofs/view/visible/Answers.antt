@@ -1,0 +1,25 @@
+use Rattle.std.proofs.Common.{sym, subst}
+use Rattle.std.specs.Prelude.{IfOk}
+use Rattle.ctr_changes.specs.States.{pages_in, area_in}
+use Rattle.ctr_calls.specs.Damage.{damage_told, EndsTold}
+use Rattle.ctr_calls.proofs.Damages.{told_ends, told_ok}
+use Rattle.ctr_seen.specs.Seen.{xid_is_seen}
+use Rattle.ctr_chain.specs.Rows.{GivesRow}
+use Rattle.ctr_chain.specs.Seeking.{sought_at}
+use Rattle.ctr_chain.specs.Visible.{EndsReading, visible_row}
+use Rattle.ctr_chain.proofs.view.visible.Goals as goal
+
+pub returns-clause-ends : goal.returns-clause-ends
+returns-clause-ends g c = λ told sound.
+    let a = c.args.store.now in
+    let e = c.visible_found-found.ensures in
+    let ends = EndsReading (sought_at (xid_is_seen a.meta.tables c.args.snapshot.now c.args.me) a.now.counted (pages_in a.now) c.args.place) in
+    subst (EndsTold (damage_told g.D.Disk c.tell.new.store) ends) (sym c.answer.ensures)
+    (told_ends (damage_told g.D.Disk c.tell.new.store) ends c.visible_found-found.result c.tell.result c.tell.ensures.told (told, sound) (e.leaves.refused told sound) (e.ends told sound))
+
+pub returns-clause-shows : goal.returns-clause-shows
+returns-clause-shows g c = λ told sound.
+    let a = c.args.store.now in
+    let shown = GivesRow (visible_row (xid_is_seen a.meta.tables c.args.snapshot.now c.args.me) (area_in a.now) c.args.place) in
+    subst (λ r. IfOk r shown) (sym c.answer.ensures)
+    (told_ok _ (damage_told g.D.Disk c.tell.new.store) shown c.visible_found-found.result c.tell.result c.tell.ensures.told (c.visible_found-found.ensures.shows told sound))

@@ -1,0 +1,48 @@
+-- The row of a version, by what its payload says, whatever bytes it has.
+use Rattle.std.specs.Prelude.{◌≡◌, ℕ, ℤ, ◌==◌, List, [], ◌∷◌, drop, Option, None, Some, Result, Ok, Err, if◌then◌else◌}
+use Rattle.ctr_types.specs.declared.memory.OutOfMemory.{OutOfMemory}
+use Rattle.ctr_types.specs.declared.value.Kind.{Kind}
+use Rattle.ctr_types.specs.declared.value.Row.{Row}
+use Rattle.ctr_types.specs.declared.value.Value.{Value}
+use Rattle.ctr_types.specs.declared.value.Value.TheVariants as value
+use Rattle.ctr_value.specs.Payload.{field_width}
+use Rattle.ctr_value.specs.Values.{value_said}
+use Rattle.ctr_page.specs.declared.rows.Version.{Version}
+use Rattle.ctr_page.specs.declared.rows.RowSlot.{RowSlot}
+use Rattle.ctr_page.specs.declared.rows.VersionEntry.{VersionEntry}
+
+-- the values of fields of these kinds, one behind another
+abbrev pub values_of : List Kind → List ℕ → List Value
+values_of [] fields = []
+values_of (k ∷ ks) fields = value_said k fields ∷ values_of ks (drop (field_width k) fields)
+
+-- the row of a key, by its payload, with columns of these kinds behind the key
+abbrev pub row_by_kinds : List Kind → ℤ → List ℕ → Row
+row_by_kinds kinds key payload = record { values = value.Int key ∷ values_of kinds payload }
+
+-- the row of a version, or none for a tombstone
+abbrev pub row_of_version : List Kind → ℤ → Version → Option Row
+row_of_version kinds key v =
+    if v.tombstone == 0 then Some (row_by_kinds kinds key v.payload) else None
+
+-- of one that may be there
+abbrev pub row_if_any : List Kind → ℤ → Option Version → Option Row
+row_if_any kinds key None = None
+row_if_any kinds key (Some v) = row_of_version kinds key v
+
+-- of the newest version in a slot; one that isn't used has none
+abbrev pub head_row : List Kind → RowSlot → Option Row
+head_row kinds s = if s.used == 1 then row_of_version kinds s.key s.head else None
+
+-- of the version before it
+abbrev pub previous_row : List Kind → RowSlot → Option Row
+previous_row kinds s = if s.used == 1 then row_if_any kinds s.key s.previous else None
+
+-- of a version entry
+abbrev pub kept_row : List Kind → VersionEntry → Option Row
+kept_row kinds e = if e.used == 1 then row_of_version kinds e.key e.version else None
+
+-- It is given as it is wanted. Memory runs out only where that is a row.
+abbrev pub GivesRow : Option Row → Result (Option Row) OutOfMemory → Type 0
+GivesRow wanted (Ok given) = given ≡ wanted
+GivesRow wanted (Err e) = (row : Row) × (wanted ≡ Some row)

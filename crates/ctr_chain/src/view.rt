@@ -1,0 +1,98 @@
+// The row that a session sees at a place.
+ghost use Rattle.std.specs.Prelude.{◌≡◌, ◌≤◌, ◌<◌, false, IsTrue, IfOk};
+ghost use Rattle.ctr_base.specs.Base.{IsSoundImage};
+ghost use Rattle.ctr_store.specs.Store.{LeavesPage};
+ghost use Rattle.ctr_calls.specs.Damage.{damage_told, EndsTold, ReadsPages};
+ghost use Rattle.ctr_changes.specs.States.{pages_in, area_in};
+ghost use Rattle.ctr_seen.specs.Seen.{xid_is_seen};
+ghost use Rattle.ctr_chain.specs.Seeking.{sought_at};
+ghost use Rattle.ctr_chain.specs.Rows.{GivesRow};
+ghost use Rattle.ctr_chain.specs.Visible.{as_read, EndsReading, visible_row};
+
+use crate::reading::{Given, place_of_version, read_row};
+use crate::seeking::{Sought, seek};
+use ctr_base::Origin;
+use ctr_calls::tell;
+use ctr_disk::{Disk, StoreFault};
+use ctr_page::{BadChain, Place};
+use ctr_snap::Snapshot;
+use ctr_store::Store;
+use ctr_types::{OutOfMemory, Row, Xid};
+use std::alloc::Global;
+
+/// Why a row isn't read.
+#[derive(Clone, Copy, Debug, PartialEq, Eq)]
+pub enum ReadRefusal {
+    /// The disk failed, or what stands on it is damaged.
+    Store(StoreFault),
+    /// There was no memory for the row.
+    OutOfMemory,
+}
+
+/// What a reading answers, by what it was told.
+fn answer(told: Result<Given, StoreFault>) -> Result<Option<Row>, ReadRefusal>
+    ensures { as_read result ≡ told }
+{
+    match told {
+        Ok(Ok(row)) => Ok(row),
+        Ok(Err(OutOfMemory)) => Err(ReadRefusal::OutOfMemory),
+        Err(fault) => Err(ReadRefusal::Store(fault)),
+    }
+}
+
+/// What the search for the row that a session sees found.
+fn visible_found<D: Disk, O: Origin>(
+    alloc: Global,
+    store: &mut Store<D, O>,
+    place: Place,
+    snapshot: &Snapshot,
+    me: Option<Xid>,
+) -> Result<Result<Given, BadChain>, StoreFault>
+    requires going { store.old.stopped ≡ false }
+    requires counted { (place.page < store.old.now.counted) × (64 ≤ store.old.now.counted) × (store.old.now.counted ≤ 30000) }
+    ensures ends { IsTrue D.tells → IsSoundImage O.first
+        → IfOk result (EndsReading (sought_at (xid_is_seen store.old.meta.tables snapshot.now me) store.old.now.counted (pages_in store.old.now) place)) }
+    ensures shows { IsTrue D.tells → IsSoundImage O.first
+        → IfOk result (λ r. IfOk r (GivesRow (visible_row (xid_is_seen store.old.meta.tables snapshot.now me) (area_in store.old.now) place))) }
+    ensures leaves { LeavesPage O.first D.Disk store.old store.new result }
+{
+    let counted = store.counted();
+    let searched = match seek(store, place, &Sought::Seen { snapshot, me })? {
+        Err(bad) => return Ok(Err(bad)),
+        Ok(searched) => searched,
+    };
+    let Some(found) = searched.found else {
+        return Ok(Ok(Ok(None)));
+    };
+    match read_row(alloc, store, &searched.table, counted, place, found.at)? {
+        Err(bad) => {
+            let page = place_of_version(place, found.at).page;
+            Ok(Err(BadChain::OnPage(page, bad)))
+        }
+        Ok(given) => Ok(Ok(given)),
+    }
+}
+
+/// The row that a session sees at a place, by its snapshot or as its own: of the first version of the row's chain that it sees; none
+/// where there is no such version, or it is a tombstone. The slot, its table and each version entry that the search passes are checked as
+/// they are read; versions in the slot cost no version entry. It logs nothing, and takes no memory but the row that it gives.
+pub fn visible<D: Disk, O: Origin>(
+    alloc: Global,
+    store: &mut Store<D, O>,
+    place: Place,
+    snapshot: &Snapshot,
+    me: Option<Xid>,
+) -> Result<Option<Row>, ReadRefusal>
+    requires going { store.old.stopped ≡ false }
+    requires counted { (place.page < store.old.now.counted) × (64 ≤ store.old.now.counted) × (store.old.now.counted ≤ 30000) }
+    // Damage is of the first on the way that fails its checks, or of a chain that is too long, and is told where that stands in the file.
+    ensures ends { IsTrue D.tells → IsSoundImage O.first
+        → EndsTold (damage_told D.Disk store.new) (EndsReading (sought_at (xid_is_seen store.old.meta.tables snapshot.now me) store.old.now.counted (pages_in store.old.now) place)) (as_read result) }
+    // It is the row that the session sees. Memory runs out only where there is one.
+    ensures shows { IsTrue D.tells → IsSoundImage O.first
+        → IfOk (as_read result) (GivesRow (visible_row (xid_is_seen store.old.meta.tables snapshot.now me) (area_in store.old.now) place)) }
+    ensures leaves { ReadsPages O.first D.Disk store.old store.new (as_read result) }
+{
+    let found = visible_found(alloc, store, place, snapshot, me);
+    answer(tell(store, found))
+}

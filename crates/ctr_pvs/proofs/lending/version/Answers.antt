@@ -1,0 +1,55 @@
+use Rattle.std.proofs.Common.{Ok, Err, refl}
+use Rattle.std.specs.Prelude.{IsTrue}
+use Rattle.std.proofs.lemmas.Result.{err_from_is_err_and}
+use Rattle.ctr_base.specs.Base.{IsSoundImage}
+use Rattle.ctr_changes.specs.States.{pages_in}
+use Rattle.ctr_calls.specs.Damage.{damage_told}
+use Rattle.ctr_calls.proofs.Damages.{told_ends, reads_err}
+use Rattle.ctr_pvs.specs.declared.lending.LentVersion.{LentVersion}
+use Rattle.ctr_pvs.specs.Reading.{version_check_at, PassesAt, EndsAt}
+use Rattle.ctr_pvs.specs.Lending.{VersionSaidAt}
+use Rattle.ctr_pvs.proofs.Freeing.{told_as}
+use Rattle.ctr_pvs.proofs.Lent.{finds, lends}
+use Rattle.ctr_pvs.proofs.lending.version.Goals as goal
+
+pub returns-in_err-w : goal.returns-in_err-w
+returns-in_err-w g c =
+    let p = err_from_is_err_and c.from_residual.result c.from_residual.ensures.1 in
+    let s = c.args.store.now.now in
+    let at = c.args.place in
+    let e = c.in_err-w.field-0.0 in
+    let found = c.width_at-found in
+    let check = version_check_at s.counted (pages_in s) at in
+    rw (p.1, p.2) (
+      (
+        refl,
+        (λ _. tt),
+        record {
+          ends = λ told sound.
+              told_as (damage_told g.D.Disk c.tell.new.store) (EndsAt check (pages_in s) at) (VersionSaidAt s.counted (pages_in s) at) e (λ bad is. is)
+              (told_ends (damage_told g.D.Disk c.tell.new.store) (EndsAt check (pages_in s) at) found.result (Err e) c.in_err-w.ensures.told (told, sound) (found.ensures.leaves.refused told sound) (found.ensures.ends told sound));
+          leaves = reads_err g.O.Origin.first g.D.Disk _ LentVersion e c.args.store.now c.tell.new.store (c.in_err-w.ensures.leaves c.args.store.now found.ensures.leaves);
+        },
+      ),
+      record { finds = λ told sound. tt; fits = tt; after = tt },
+    )
+
+pub returns : goal.returns
+returns g c =
+    let a = c.args.store.now in
+    let b = c.tell.new.store in
+    let s = a.now in
+    let at = c.args.place in
+    let w = c.in_ok-w.w in
+    let found = c.width_at-found in
+    let check = version_check_at s.counted (pages_in s) at in
+    let one = c.in_ok-w.ensures.leaves a found.ensures.leaves in
+    let passes : IsTrue g.D.Disk.tells → IsSoundImage g.O.Origin.first → PassesAt check (pages_in s) at w = λ told sound.
+    told_ends (damage_told g.D.Disk b) (EndsAt check (pages_in s) at) found.result (Ok w) c.in_ok-w.ensures.told (told, sound) (found.ensures.leaves.refused told sound) (found.ensures.ends told sound) in (
+      (refl, (λ _. tt), lends g.O.Origin.first g.D.Disk at a b w one passes c.lend.follows.lender-at-none c.lend.result c.lend.follows.holds-at-none c.lend.ensures.said),
+      record {
+        finds = λ told sound. finds g.O.Origin.first g.D.Disk at a b w one passes c.lend.result told sound (c.lend.ensures.said told sound);
+        fits = c.lend.ensures.fits;
+        after = tt;
+      },
+    )

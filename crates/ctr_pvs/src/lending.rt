@@ -1,0 +1,162 @@
+// A version entry by its place, lent from its page.
+ghost use Rattle.std.specs.Prelude.{◌≡◌, ◌≤◌, ◌<◌, ◌+◌, false, IsTrue, IfOk, length};
+ghost use Rattle.std.specs.Borrow.{sem};
+ghost use Rattle.std.specs.Io.BufRead.{Rests};
+ghost use Rattle.ctr_base.specs.Base.{IsSoundImage};
+ghost use Rattle.ctr_store.specs.Store.{LeavesPage};
+ghost use Rattle.ctr_store.specs.contracts.store.Store.{the_row as store-row};
+ghost use Rattle.ctr_page.specs.declared.table.TheConstants.{PAGE_SIZE};
+ghost use Rattle.ctr_page.specs.Places.{kept_size as size_of_kept, start_of as start_place};
+ghost use Rattle.ctr_page.specs.Reading.{older_at};
+ghost use Rattle.ctr_page.specs.Making.{IsEntry};
+ghost use Rattle.ctr_changes.specs.States.{pages_in};
+ghost use Rattle.ctr_pvs.specs.Reading.{WidthSaid, version_check_at, EndsAt};
+ghost use Rattle.ctr_pvs.specs.Lending.{entry_lent, IsKeptAt, LendsVersion};
+
+use crate::reading::version_in;
+use crate::table::{TableOf, table_on};
+use ctr_base::Origin;
+use ctr_calls::tell;
+use ctr_disk::{Disk, StoreFault};
+use ctr_page::{BadChain, BadPage, Place, Version, VersionEntry, kinds_width, read_version};
+use ctr_records::Bytes;
+use ctr_store::Store;
+use ctr_types::Xid;
+
+/// A version entry as it is kept, with its payload lent from its page.
+#[derive(Clone, Copy, Debug)]
+pub struct LentVersion<'a> {
+    /// 1 where it is used, 0 where it is free.
+    pub used: u8,
+    pub key: i64,
+    /// Whose the version is.
+    pub xid: Xid,
+    /// 1 where the row is deleted, else 0.
+    pub tombstone: u8,
+    /// The row without its key, or zeros.
+    pub payload: &'a [u8],
+    /// Where the next older version is kept.
+    pub older: Place,
+}
+
+impl<'a> LentVersion<'a> {
+    /// The same as version entries are made and read.
+    pub fn entry(&self) -> VersionEntry<'a>
+        ensures { result ≡ entry_lent self.now }
+    {
+        VersionEntry {
+            used: self.used,
+            key: self.key,
+            version: Version {
+                xid: self.xid,
+                tombstone: self.tombstone,
+                payload: Bytes::new(self.payload),
+            },
+            older: self.older,
+        }
+    }
+}
+
+// What is lent of a version entry.
+fn lent(entry: VersionEntry) -> LentVersion
+    ensures { entry_lent result ≡ entry.entry }
+{
+    let VersionEntry {
+        used,
+        key,
+        version,
+        older,
+    } = entry;
+    LentVersion {
+        used,
+        key,
+        xid: version.xid,
+        tombstone: version.tombstone,
+        payload: version.payload.as_slice(),
+        older,
+    }
+}
+
+// The width of a table's rows, where the version entry at a place of a page of its versions passes.
+fn check_kept<D: Disk, O: Origin>(
+    store: &mut Store<D, O>,
+    table: &TableOf,
+    counted: u32,
+    place: Place,
+) -> Result<Result<usize, BadPage>, StoreFault>
+    requires going { store.old.stopped ≡ false }
+    requires some { 0 < counted }
+    requires there { place.page < 30000 }
+    requires few { table.now.count ≤ 7 }
+    ensures said { IsTrue D.tells → IsSoundImage O.first → IfOk result (λ r. WidthSaid counted table.now place.slot (pages_in store.old.now place.page) r) }
+    ensures fits { IfOk result (λ r. IfOk r (λ w. (w ≤ 2048) × (start_place (size_of_kept w) place.slot + size_of_kept w ≤ PAGE_SIZE))) }
+    ensures leaves { LeavesPage O.first D.Disk store.old store.new result }
+{
+    let w = kinds_width(table.kinds());
+    let page = store.page(place.page)?;
+    match version_in(table, counted, place.slot, page) {
+        Ok(_) => Ok(Ok(w)),
+        Err(bad) => Ok(Err(bad)),
+    }
+}
+
+// The width of a table's rows, by the place of a version entry that passes; or the first damage on the way to it.
+fn width_at<D: Disk, O: Origin>(
+    store: &mut Store<D, O>,
+    place: Place,
+) -> Result<Result<usize, BadChain>, StoreFault>
+    requires going { store.old.stopped ≡ false }
+    requires counted { (place.page < store.old.now.counted) × (store.old.now.counted ≤ 30000) }
+    ensures ends { IsTrue D.tells → IsSoundImage O.first
+        → IfOk result (EndsAt (version_check_at store.old.now.counted (pages_in store.old.now) place) (pages_in store.old.now) place) }
+    ensures fits { IfOk result (λ r. IfOk r (λ w. (w ≤ 2048) × (start_place (size_of_kept w) place.slot + size_of_kept w ≤ PAGE_SIZE))) }
+    ensures leaves { LeavesPage O.first D.Disk store.old store.new result }
+{
+    let counted = store.counted();
+    let table = match table_on(store, 2, place.page)? {
+        Err(bad) => return Ok(Err(bad)),
+        Ok(table) => table,
+    };
+    match check_kept(store, &table, counted, place)? {
+        Err(bad) => Ok(Err(BadChain::OnPage(place.page, bad))),
+        Ok(w) => Ok(Ok(w)),
+    }
+}
+
+// The version entry at a place where one of rows so wide lies.
+fn lend<D: Disk, O: Origin>(
+    store: &mut Store<D, O>,
+    place: Place,
+    w: usize,
+) -> Result<LentVersion<'_>, StoreFault>
+    requires going { store.old.stopped ≡ false }
+    requires there { place.page < 30000 }
+    requires width { w ≤ 2048 }
+    requires inside { start_place (size_of_kept w) place.slot + size_of_kept w ≤ PAGE_SIZE }
+    ensures said { IsTrue D.tells → IsSoundImage O.first
+        → IfOk result (λ l. entry_lent l ≡ older_at w place.slot (pages_in store.old.now place.page)) }
+    ensures fits { IfOk result (λ l. IsEntry (length l.payload.now) (entry_lent l)) }
+    ensures* after { sem 𝓛 (Rests (store-row D.row O.row D.Disk O.Origin) store.entry (λ new. LeavesPage O.first D.Disk store.old new result)) }
+{
+    let page = store.page(place.page)?;
+    Ok(lent(read_version(page, w, place.slot)))
+}
+
+/// The version entry at a place, as it is kept, lent from the store. Its page, the table's entry of the catalog and the version entry
+/// itself are checked as they are read. It logs nothing, and takes no memory.
+pub fn version<D: Disk, O: Origin>(
+    store: &mut Store<D, O>,
+    place: Place,
+) -> Result<LentVersion<'_>, StoreFault>
+    requires going { store.old.stopped ≡ false }
+    requires counted { (place.page < store.old.now.counted) × (store.old.now.counted ≤ 30000) }
+    ensures finds { IsTrue D.tells → IsSoundImage O.first → IfOk result (IsKeptAt (pages_in store.old.now) place) }
+    // What is lent can be made.
+    ensures fits { IfOk result (λ l. IsEntry (length l.payload.now) (entry_lent l)) }
+    // Damage is told where it stands in the file of pages.
+    ensures* after { sem 𝓛 (Rests (store-row D.row O.row D.Disk O.Origin) store.entry (λ new. LendsVersion O.first D.Disk place store.old new result)) }
+{
+    let found = width_at(store, place);
+    let w = tell(store, found)?;
+    lend(store, place, w)
+}
