@@ -9,3 +9,4 @@ pub mod Telling
 pub mod Said
 pub mod Freeing
 pub mod Lent
+pub mod Showing
