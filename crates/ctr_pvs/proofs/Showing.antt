@@ -1,14 +1,15 @@
 -- What is shown behind the record of a version entry.
 use Rattle.std.proofs.Common.{◌≡◌, ℕ, Bool, sym, ◌∙◌, ap, subst}
+use Rattle.ctr_meta.specs.Tables.{Tables}
 use Rattle.ctr_redo.specs.States.{State}
 use Rattle.ctr_area.specs.Areas.{Area}
 use Rattle.ctr_area.specs.Images.{image_rows, versions_in}
 use Rattle.ctr_area.specs.Sound.{IsSoundArea}
 use Rattle.ctr_changes.specs.States.{area_in}
-use Rattle.ctr_pvs.specs.Showing.{IsSoundState, ShowsTheSame}
+use Rattle.ctr_pvs.specs.Showing.{HasSoundArea, ShowsTheSame}
 
 -- a state whose pages are an area that is sound with as many pages and with these tables
-pub sound_by : (t : State) (counted : ℕ) (tables : _) (area : Area) → area_in t ≡ area → t.counted ≡ counted → t.tables ≡ tables → IsSoundArea counted tables area → IsSoundState t
+pub sound_by : (t : State) (counted : ℕ) (tables : Tables) (area : Area) → area_in t ≡ area → t.counted ≡ counted → t.tables ≡ tables → IsSoundArea counted tables area → HasSoundArea t
 sound_by t counted tables area is same_count same_tables sound =
     subst (λ n. IsSoundArea n t.tables (area_in t)) (sym same_count) (subst (λ ts. IsSoundArea counted ts (area_in t)) (sym same_tables) (subst (IsSoundArea counted tables) (sym is) sound))
 

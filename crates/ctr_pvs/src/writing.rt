@@ -15,7 +15,7 @@ ghost use Rattle.ctr_store.specs.Store.{LeavesPage};
 ghost use Rattle.ctr_changes.specs.States.{pages_in, area_in};
 ghost use Rattle.ctr_pvs.specs.Reading.{EndsAt};
 ghost use Rattle.ctr_moves.specs.Trims.{IsInNoChain};
-ghost use Rattle.ctr_pvs.specs.Showing.{IsSoundState, ShowsTheSame, MayKeep, KeepsVersion};
+ghost use Rattle.ctr_pvs.specs.Showing.{HasSoundArea, ShowsTheSame, MayKeep, KeepsVersion};
 ghost use Rattle.ctr_pvs.specs.Writing.{EntryLies, keep_record, HasPlaceOfVersion, blank_entry, blank_record, drop_check, DropsEntry};
 
 use crate::reading::check_lies;
@@ -148,7 +148,7 @@ pub fn drop_entry<D: Disk, O: Origin>(
     // The version entry isn't used, and nothing else in the pages changes.
     ensures freed { IsTrue D.tells → IsSoundImage O.first → OnOk result (area_in store.new.now ≡ with_older place free_older (area_in store.old.now)) }
     // Where no chain has it, nothing else is shown than before.
-    ensures shows { IsTrue D.tells → IsSoundImage O.first → IsSoundState store.old.now → IsInNoChain (area_in store.old.now) place
+    ensures shows { IsTrue D.tells → IsSoundImage O.first → HasSoundArea store.old.now → IsInNoChain (area_in store.old.now) place
         → OnOk result (ShowsTheSame store.old.now store.new.now) }
 {
     a_free_entry_shows_the_same();

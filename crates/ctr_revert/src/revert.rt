@@ -13,7 +13,7 @@ ghost use Rattle.ctr_calls.specs.Damage.{damage_told};
 ghost use Rattle.ctr_changes.specs.States.{pages_in, area_in};
 ghost use Rattle.std.specs.Prelude.{ℕ};
 ghost use Rattle.ctr_moves.specs.Reverts.{Reverting, OwedByRevert};
-ghost use Rattle.ctr_pvs.specs.Showing.{IsSoundState};
+ghost use Rattle.ctr_pvs.specs.Showing.{HasSoundArea};
 ghost use Rattle.ctr_revert.specs.Taking.{TakesHead};
 ghost use Rattle.ctr_revert.specs.Reverting.{without_head, KeepsKey, lost_record, SlotSaidFrom, EntrySaidFrom, BytesSaid, EndsRow, LiesThere, EndsReverting, RevertsRow};
 
@@ -173,7 +173,7 @@ pub fn revert_row<D: Disk, O: Origin>(
     ensures reverted { IsTrue D.tells → IsSoundImage O.first → KeepsKey (area_in store.old.now) place → ((area_in store.old.now).slot place).used ≡ true
         → OnOk result (area_in store.new.now ≡ with_slot place (without_head (area_in store.old.now).older ((area_in store.old.now).slot place)) (area_in store.old.now)) }
     // In a sound state its chain has lost its head, which may go, and nothing else is shown than before.
-    ensures takes { IsTrue D.tells → IsSoundImage O.first → IsSoundState store.old.now
+    ensures takes { IsTrue D.tells → IsSoundImage O.first → HasSoundArea store.old.now
         → (e : ℕ) (way : Reverting) → OwedByRevert store.old.now.tables (area_in store.old.now) e place way → OnOk result (TakesHead e place store.old.now store.new.now) }
 {
     a_slot_is_laid();
