@@ -1,6 +1,6 @@
 -- What frees a version entry, by what was found on the way.
-use Rattle.std.proofs.Common.{◌≡◌, ℕ, inr, List, Result, Ok, Err, sym, ◌∙◌, ap}
-use Rattle.std.specs.Prelude.{⊤, IsTrue}
+use Rattle.std.proofs.Common.{◌≡◌, ◌≤◌, ℕ, inr, List, length, Result, Ok, Err, sym, ◌∙◌, ap}
+use Rattle.std.specs.Prelude.{⊤, IsTrue, OnOk}
 use Rattle.ctr_disk.specs.declared.disk.Disk.{Ghosts}
 use Rattle.ctr_disk.specs.declared.disk.Image.{Image}
 use Rattle.ctr_disk.specs.declared.fault.StoreFault.{StoreFault}
@@ -11,6 +11,7 @@ use Rattle.ctr_calls.specs.OneRecord.{LogsOne}
 use Rattle.ctr_calls.specs.Damage.{EndsTold}
 use Rattle.ctr_changes.specs.States.{pages_in}
 use Rattle.ctr_page.specs.declared.rows.Place.{Place}
+use Rattle.ctr_page.specs.declared.walk.BadChain.{BadChain}
 use Rattle.ctr_page.specs.Places.{kept_size}
 use Rattle.ctr_page.specs.Columns.{kinds_width}
 use Rattle.ctr_area.specs.Reading.{width_on}
@@ -18,7 +19,8 @@ use Rattle.ctr_pvs.specs.declared.table.TableOf.{TableOf}
 use Rattle.ctr_pvs.specs.Table.{TableSaid}
 use Rattle.ctr_pvs.specs.Reading.{kinds_said, lies_check, PassesAt}
 use Rattle.ctr_pvs.specs.Writing.{blank_record, drop_check, DropsEntry}
-use Rattle.ctr_pvs.proofs.Told.{page_of_table, by_table}
+use Rattle.ctr_area.specs.Changes.{IsPlaceOf}
+use Rattle.ctr_pvs.proofs.Told.{page_of_table, by_table, place_of_version}
 
 -- damage that is told of one answer is told of another
 pub told_as : {B S T : Type 0} (told : B → StoreFault) (Ends : Result S B → Type 0) (Other : Result T B → Type 0) (e : StoreFault) → ((bad : B) → Ends (Err bad) → Other (Err bad)) → EndsTold told Ends (Err e)
@@ -44,3 +46,9 @@ pub drops : {D : Type 0} (first : Image) (g : Ghosts D) (at : Place) (w : ℕ) (
     → (IsTrue g.tells → IsSoundImage first → w ≡ width_on (pages_in a.now) at.page) → DropsEntry first g at a b result
 drops first g at w a b (Ok x) one wide = (w, one, wide)
 drops first g at w a b (Err e) one wide = inr (w, one)
+
+-- what holds where a page is whole, of a place on it that was found
+pub on_place : (result : Result ⊤ StoreFault) (check : Result ⊤ BadChain) (pages : ℕ → List ℕ) (at : Place) (w : ℕ) (P : Type 0) → PassesAt check pages at w → w ≤ 2048 → (IsPlaceOf 2 pages at → width_on pages at.page ≡ w → OnOk result P)
+    → OnOk result (length (pages at.page) ≡ 4096) → OnOk result P
+on_place (Ok x) check pages at w P passed narrow there whole = there (place_of_version pages at w passed.behind_catalog passed.of_kind passed.wide narrow passed.lies whole) (sym passed.wide)
+on_place (Err e) check pages at w P passed narrow there whole = tt

@@ -34,7 +34,8 @@ VersionSaidAt counted pages at (Ok l) =
     (version_check_at counted pages at ≡ Ok tt) × IsKeptAt pages at l
 VersionSaidAt counted pages at (Err bad) = version_check_at counted pages at ≡ Err bad
 
--- What a call leaves that lends the version entry at a place, once the loan is over, and where it ended.
+-- What a call leaves that lends the version entry at a place, once the loan is over, and where it
+-- ended.
 pub record LendsVersion {D : Type 0} (first : Image) (g : Ghosts D) (at : Place) (a b : View D)
     (result : Result LentVersion StoreFault) : Type 0 where
   pub ends : IsTrue g.tells → IsSoundImage first

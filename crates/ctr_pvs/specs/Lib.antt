@@ -4,3 +4,4 @@ pub mod Writing
 pub mod Entries
 pub mod Along
 pub mod Lending
+pub mod Showing

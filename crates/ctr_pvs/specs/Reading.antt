@@ -66,7 +66,7 @@ version_check_at counted pages at =
     >>= λ _. told_of at.page (kept_on_check counted (owner_of (pages at.page))
     (kinds_at (area_of pages) (owner_of (pages at.page))) at.slot (pages at.page))
 
--- This check passes, and the page of the place is one of versions of rows so wide, on which a version
+-- This check passes, and the page of the place is one of versions of rows so wide, on which an
 -- entry lies there.
 pub record PassesAt (check : Result ⊤ BadChain) (pages : ℕ → List ℕ) (at : Place) (w : ℕ)
     : Type 0 where

@@ -14,6 +14,8 @@ ghost use Rattle.ctr_calls.specs.Damage.{damage_told, EndsTold};
 ghost use Rattle.ctr_store.specs.Store.{LeavesPage};
 ghost use Rattle.ctr_changes.specs.States.{pages_in, area_in};
 ghost use Rattle.ctr_pvs.specs.Reading.{EndsAt};
+ghost use Rattle.ctr_moves.specs.Trims.{IsInNoChain};
+ghost use Rattle.ctr_pvs.specs.Showing.{HasSoundArea, ShowsTheSame, MayKeep, KeepsVersion};
 ghost use Rattle.ctr_pvs.specs.Writing.{EntryLies, keep_record, HasPlaceOfVersion, blank_entry, blank_record, drop_check, DropsEntry};
 
 use crate::reading::check_lies;
@@ -22,6 +24,7 @@ use ctr_base::Origin;
 use ctr_calls::{log_on_page, tell};
 use ctr_changes::{a_version_is_laid, over_place};
 use ctr_disk::{Disk, StoreFault};
+use ctr_moves::{a_free_entry_shows_the_same, a_keep_shows_the_same, a_kept_version_is_spare};
 use ctr_page::{BadChain, Place, Version, VersionEntry, kept_size, kinds_width, make_version};
 use ctr_records::{Bytes, Record};
 use ctr_store::Store;
@@ -47,8 +50,12 @@ pub fn keep<D: Disk, O: Origin>(
     // The version entry at the place is this one, and nothing else in the pages changes.
     ensures kept { IsTrue D.tells → IsSoundImage O.first → HasPlaceOfVersion (pages_in store.old.now) place version.now
         → OnOk result (area_in store.new.now ≡ with_older place (older_said (columns_on (pages_in store.old.now) place.page) version.now) (area_in store.old.now)) }
+    // In a sound state nothing else is shown than before.
+    ensures shows { IsTrue D.tells → IsSoundImage O.first → MayKeep store.old.now place version.now → OnOk result (KeepsVersion place version.now store.old.now store.new.now) }
 {
     a_version_is_laid();
+    a_keep_shows_the_same();
+    a_kept_version_is_spare();
     let w = version.version.payload.as_slice().len();
     let mut bytes = [0; ENTRY_MOST];
     let size = make_version(w, version, &mut bytes);
@@ -140,7 +147,11 @@ pub fn drop_entry<D: Disk, O: Origin>(
     ensures one { DropsEntry O.first D.Disk place store.old store.new result }
     // The version entry isn't used, and nothing else in the pages changes.
     ensures freed { IsTrue D.tells → IsSoundImage O.first → OnOk result (area_in store.new.now ≡ with_older place free_older (area_in store.old.now)) }
+    // Where no chain has it, nothing else is shown than before.
+    ensures shows { IsTrue D.tells → IsSoundImage O.first → HasSoundArea store.old.now → IsInNoChain (area_in store.old.now) place
+        → OnOk result (ShowsTheSame store.old.now store.new.now) }
 {
+    a_free_entry_shows_the_same();
     let found = width_to_free(store, place);
     let w = tell(store, found)?;
     lay_blank(store, place, w)

@@ -3,3 +3,4 @@ pub mod Logged
 pub mod Passed
 pub mod Row
 pub mod Reverted
+pub mod Taken

@@ -62,7 +62,7 @@ module _ (counted : ℕ) (pages : ℕ → List ℕ) (at : Place) (t : TableOf) (
 -- ---- in the area
 
 -- a pointer to no page leads to nothing
-nothing_at : (pages : ℕ → List ℕ) (q : Place) → q.page ≡ 0 → (area_of pages).older q ≡ free_older
+pub nothing_at : (pages : ℕ → List ℕ) (q : Place) → q.page ≡ 0 → (area_of pages).older q ≡ free_older
 nothing_at pages q none = ap (λ p. cond ((header_on pages p).kind == 2) (older_said (columns_on pages p) (older_at (width_on pages p) q.slot (pages p))) free_older) none
 
 module _ (counted : ℕ) (pages : ℕ → List ℕ) (at : Place) (rows : (header_on pages at.page).kind ≡ 1) where
@@ -132,6 +132,10 @@ module _ (counted : ℕ) (pages : ℕ → List ℕ) (at : Place) (rows : (header
           let kept = told_ok row.older.page (kept_at_check counted pages (header_on pages at.page).entry row.older)
           (sym (ap (λ b. cond b (Ok tt) (told_of row.older.page (kept_at_check counted pages (header_on pages at.page).entry row.older))) some) ∙ passes) in
           ap (λ b. slot_said cs (slot_by_entry wide row (cond b None (if_used entry)))) some ∙ by_entry (entry.used == 1) refl (read kept))
+
+  -- whose its head is
+  pub head_said : (area.slot at).used ≡ true → row.head.xid ≡ (area.slot at).head.0
+  head_said is = sym (ap (λ (x : Slot). x.head.0) (slot_is (is_used is)))
 
   pub row_reverted : behind_check counted pages (header_on pages at.page).entry row.previous row.older ≡ Ok tt → KeepsKey area at → (area.slot at).used ≡ true
       → slot_said cs (slot_reverted wide pages row) ≡ without_head area.older (area.slot at)

@@ -1,1 +1,2 @@
 pub mod Reverting
+pub mod Taking

@@ -11,6 +11,10 @@ ghost use Rattle.ctr_pvs.specs.Reading.{kinds_said};
 ghost use Rattle.ctr_calls.specs.OneRecord.{HasRoomForOne, LogsOne};
 ghost use Rattle.ctr_calls.specs.Damage.{damage_told};
 ghost use Rattle.ctr_changes.specs.States.{pages_in, area_in};
+ghost use Rattle.std.specs.Prelude.{ℕ};
+ghost use Rattle.ctr_moves.specs.Reverts.{Reverting, OwedByRevert};
+ghost use Rattle.ctr_pvs.specs.Showing.{HasSoundArea};
+ghost use Rattle.ctr_revert.specs.Taking.{TakesHead};
 ghost use Rattle.ctr_revert.specs.Reverting.{without_head, KeepsKey, lost_record, SlotSaidFrom, EntrySaidFrom, BytesSaid, EndsRow, LiesThere, EndsReverting, RevertsRow};
 
 use crate::slots::{FromSlot, SLOT_MOST, SlotLaid, blank_bytes, from_entry, from_slot, or_blank};
@@ -18,6 +22,7 @@ use ctr_base::Origin;
 use ctr_calls::{log_on_page, tell};
 use ctr_changes::{a_slot_is_laid, over_place};
 use ctr_disk::{Disk, StoreFault};
+use ctr_moves::{a_revert_takes_the_head, pages_are_in_bounds};
 use ctr_page::{BadChain, BadPage, Place, kinds_width, slot_size};
 use ctr_pvs::{TableOf, check_there, row_in, table_on, version_in};
 use ctr_records::Record;
@@ -167,8 +172,13 @@ pub fn revert_row<D: Disk, O: Origin>(
     // The slot is without its head, and nothing else in the pages changes.
     ensures reverted { IsTrue D.tells → IsSoundImage O.first → KeepsKey (area_in store.old.now) place → ((area_in store.old.now).slot place).used ≡ true
         → OnOk result (area_in store.new.now ≡ with_slot place (without_head (area_in store.old.now).older ((area_in store.old.now).slot place)) (area_in store.old.now)) }
+    // In a sound state its chain has lost its head, which may go, and nothing else is shown than before.
+    ensures takes { IsTrue D.tells → IsSoundImage O.first → HasSoundArea store.old.now
+        → (e : ℕ) (way : Reverting) → OwedByRevert store.old.now.tables (area_in store.old.now) e place way → OnOk result (TakesHead e place store.old.now store.new.now) }
 {
     a_slot_is_laid();
+    pages_are_in_bounds();
+    a_revert_takes_the_head();
     let found = search_row(store, place);
     let laid = tell(store, found)?;
     lay(store, laid.x, place, laid.w, &laid.bytes)

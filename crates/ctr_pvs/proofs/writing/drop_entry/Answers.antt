@@ -1,14 +1,22 @@
-use Rattle.std.proofs.Common.{◌≡◌, inl, Ok, Err, sym}
-use Rattle.std.specs.Prelude.{IsTrue, ⊤}
+use Rattle.std.proofs.Common.{◌≡◌, ◌+◌, ◌≤◌, inl, [], ◌∷◌, Ok, Err, sym, ap, subst}
+use Rattle.std.specs.Prelude.{IsTrue, OnOk, ⊤}
 use Rattle.std.proofs.lemmas.Result.{err_from_is_err_and}
 use Rattle.ctr_base.specs.Base.{IsSoundImage}
-use Rattle.ctr_changes.specs.States.{pages_in}
+use Rattle.ctr_redo.specs.States.{State}
+use Rattle.ctr_page.specs.Places.{kept_size, start_of}
+use Rattle.ctr_area.specs.Areas.{free_older}
+use Rattle.ctr_area.specs.Changes.{with_older}
+use Rattle.ctr_store.specs.Store.{Logs}
+use Rattle.ctr_changes.specs.States.{pages_in, area_in}
 use Rattle.ctr_calls.specs.Damage.{damage_told}
-use Rattle.ctr_calls.proofs.Damages.{told_ends, reads_err}
-use Rattle.ctr_calls.proofs.Records.{one_behind}
+use Rattle.ctr_calls.specs.OneRecord.{LogsOne}
+use Rattle.ctr_calls.proofs.Damages.{told_ends, told_ok, reads_err}
+use Rattle.ctr_calls.proofs.Records.{both_ok, one_behind}
 use Rattle.ctr_pvs.specs.Reading.{PassesAt, EndsAt}
 use Rattle.ctr_pvs.specs.Writing.{blank_record, drop_check}
-use Rattle.ctr_pvs.proofs.Freeing.{told_as, drops}
+use Rattle.ctr_pvs.specs.Showing.{ShowsTheSame}
+use Rattle.ctr_pvs.proofs.Freeing.{told_as, drops, on_place}
+use Rattle.ctr_pvs.proofs.Showing.{shows_by}
 use Rattle.ctr_pvs.proofs.writing.drop_entry.Given.{Over}
 use Rattle.ctr_pvs.proofs.writing.drop_entry.Goals.{After-lay_blank}
 use Rattle.ctr_pvs.proofs.writing.drop_entry.Goals as goal
@@ -38,11 +46,39 @@ module _ (g : Over) (c : After-lay_blank g) where
       let found = c.width_to_free-found in
       told_ends (damage_told g.D.Disk c.tell.new.store) (EndsAt (drop_check s.counted (pages_in s) c.args.place) (pages_in s) c.args.place) found.result (Ok c.in_ok-w.w) c.in_ok-w.ensures.told (told, sound) (found.ensures.leaves.refused told sound) (found.ensures.ends told sound)
 
+  one : LogsOne {T = ⊤} g.O.Origin.first g.D.Disk (blank_record c.args.place c.in_ok-w.w) c.args.store.now c.lay_blank.new.store c.lay_blank.result
+  one =
+      let a = c.args.store.now in
+      let w = c.in_ok-w.w in
+      one_behind g.O.Origin.first g.D.Disk (blank_record c.args.place w) a c.tell.new.store c.lay_blank.new.store w (c.in_ok-w.ensures.leaves a c.width_to_free-found.ensures.leaves) c.lay_blank.result c.lay_blank.ensures.one
+
+  freed : IsTrue g.D.Disk.tells → IsSoundImage g.O.Origin.first → OnOk c.lay_blank.result (area_in c.lay_blank.new.store.now ≡ with_older c.args.place free_older (area_in c.args.store.now.now))
+  freed told sound =
+      let at = c.args.place in
+      let w = c.in_ok-w.w in
+      let a = c.args.store.now in
+      let b = c.tell.new.store in
+      let found = c.width_to_free-found in
+      let same : b.now ≡ a.now = ((c.in_ok-w.ensures.leaves a found.ensures.leaves).logs told sound).now in
+      let fits = told_ok _ (damage_told g.D.Disk b) (λ v. (v ≤ 2048) × (start_of (kept_size v) at.slot + kept_size v ≤ 4096)) found.result (Ok w) c.in_ok-w.ensures.told found.ensures.fits in
+      subst (λ (s : State). OnOk c.lay_blank.result (area_in c.lay_blank.new.store.now ≡ with_older at free_older (area_in s))) same
+      (on_place c.lay_blank.result (drop_check a.now.counted (pages_in a.now) at) (pages_in b.now) at w _ (subst (λ (s : State). PassesAt (drop_check a.now.counted (pages_in a.now) at) (pages_in s) at w) (sym same) (passes told sound)) fits.0
+      (c.lay_blank.ensures.freed told sound) (c.lay_blank.ensures.whole told sound))
+
 pub returns-clause-one : goal.returns-clause-one
 returns-clause-one g c =
+    let at = (goal.at.returns-clause-one g c).After-lay_blank in
+    drops g.O.Origin.first g.D.Disk c.args.place c.in_ok-w.w c.args.store.now c.lay_blank.new.store c.lay_blank.result (one g at) (λ told sound. (passes g at told sound).wide)
+
+pub returns-clause-shows : goal.returns-clause-shows
+returns-clause-shows g c = λ told sound state unlinked.
+    let k = (goal.at.returns-clause-shows g c).After-lay_blank in
     let at = c.args.place in
-    let w = c.in_ok-w.w in
-    let a = c.args.store.now in
-    drops g.O.Origin.first g.D.Disk at w a c.lay_blank.new.store c.lay_blank.result
-    (one_behind g.O.Origin.first g.D.Disk (blank_record at w) a c.tell.new.store c.lay_blank.new.store w (c.in_ok-w.ensures.leaves a c.width_to_free-found.ensures.leaves) c.lay_blank.result c.lay_blank.ensures.one)
-    (λ told sound. (passes g (goal.at.returns-clause-one g c).After-lay_blank told sound).wide)
+    let s = c.args.store.now.now in
+    let t = c.lay_blank.new.store.now in
+    let area = with_older at free_older (area_in s) in
+    let law = c.a_free_entry_shows_the_same.ensures in
+    both_ok c.lay_blank.result (Logs (blank_record at c.in_ok-w.w ∷ []) c.args.store.now c.lay_blank.new.store) (area_in t ≡ area) (ShowsTheSame s t)
+    (λ logs is. shows_by s t area is (ap (λ (x : State). x.counted) logs.now) (ap (λ (x : State). x.tables) logs.now)
+    (λ committed. law.versions (area_in s) at committed unlinked) (λ committed. law.rows (area_in s) at committed unlinked) (law.sound s.counted s.tables (area_in s) at state unlinked))
+    ((one g k).logs told sound) (freed g k told sound)

@@ -1,16 +1,20 @@
 use Rattle.std.proofs.Common.{◌≡◌, [], ◌∷◌, length, Some, sym, ap, ◌∙◌, subst}
 use Rattle.ctr_records.specs.declared.record.Record.{Record}
 use Rattle.ctr_records.specs.declared.record.Record.TheVariants.{Keep}
-use Rattle.ctr_redo.specs.States.{page_at}
+use Rattle.ctr_redo.specs.States.{State, page_at}
 use Rattle.ctr_page.specs.Places.{kept_size}
 use Rattle.ctr_page.specs.Making.{kept_bytes, IsEntry}
+use Rattle.ctr_area.specs.Areas.{Area}
 use Rattle.ctr_area.specs.Reading.{older_said, columns_on}
 use Rattle.ctr_area.specs.Changes.{with_older}
 use Rattle.ctr_changes.specs.States.{pages_in, area_in}
 use Rattle.ctr_changes.specs.Changing.{laid_on_place}
 use Rattle.ctr_store.specs.Store.{Logs}
 use Rattle.ctr_calls.proofs.Records.{both_ok}
+use Rattle.ctr_moves.specs.Keeping.{OwedByKeep, IsSpareCopy}
+use Rattle.ctr_pvs.specs.Showing.{older_laid, KeepsVersion}
 use Rattle.ctr_pvs.proofs.OneRecord.{in_limit, entry_laid}
+use Rattle.ctr_pvs.proofs.Showing.{shows_by}
 use Rattle.ctr_pvs.proofs.writing.keep.Goals as goal
 
 pub log_on_page-requires-clause-there : goal.log_on_page-requires-clause-there
@@ -31,3 +35,25 @@ returns-clause-kept g c = λ told sound place.
     ∙ c.a_version_is_laid.ensures s r at entry whole place.0 (subst (λ w. IsEntry w entry) (sym place.1) c.requires.lies.is)
     (ap Some laid ∙ sym (ap (λ w. Some (laid_on_place at (kept_size w) (kept_bytes entry))) place.1)))
     (c.log_on_page.ensures.one.logs told sound) (c.log_on_page.ensures.whole told sound)
+
+pub returns-clause-shows : goal.returns-clause-shows
+unfolding returns-clause-kept
+returns-clause-shows g c = λ told sound may.
+    let at = c.args.place in
+    let entry = c.args.version.now in
+    let s = c.args.store.now.now in
+    let t = c.log_on_page.new.store.now in
+    let r : Record = Keep c.args.x c.over_place.result in
+    let older = older_laid s at entry in
+    let law = c.a_keep_shows_the_same.ensures in
+    both_ok c.log_on_page.result (Logs (r ∷ []) c.args.store.now c.log_on_page.new.store) (area_in t ≡ with_older at older (area_in s)) (KeepsVersion at entry s t)
+    (λ logs is. record {
+      shows = shows_by s t (with_older at older (area_in s)) is (ap (λ (x : State). x.counted) logs.now) (ap (λ (x : State). x.tables) logs.now)
+          (λ committed. law.versions s.counted s.tables (area_in s) at older committed may.sound may.owed)
+          (λ committed. law.rows s.counted s.tables (area_in s) at older committed may.sound may.owed)
+          (law.sound s.counted s.tables (area_in s) at older may.sound may.owed);
+      spare = λ e slot version copy here.
+          subst (λ (area : Area). IsSpareCopy area e slot version at) (sym (is ∙ ap (λ o. with_older at o (area_in s)) copy))
+          (c.a_kept_version_is_spare.ensures s.counted s.tables (area_in s) e at slot version may.sound (subst (OwedByKeep s.tables (area_in s) at) copy may.owed) here);
+    })
+    (c.log_on_page.ensures.one.logs told sound) (returns-clause-kept g c told sound may.place)

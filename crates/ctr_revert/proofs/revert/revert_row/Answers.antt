@@ -1,17 +1,29 @@
-use Rattle.std.proofs.Common.{◌≡◌, inl, length, Ok, Err, sym, subst}
+use Rattle.std.proofs.Common.{◌≡◌, inl, [], ◌∷◌, length, true, Ok, Err, sym, ◌∙◌, ap, subst}
 use Rattle.std.specs.Prelude.{IsTrue, OnOk, ⊤}
 use Rattle.std.proofs.lemmas.Result.{err_from_is_err_and}
 use Rattle.ctr_base.specs.Base.{IsSoundImage}
 use Rattle.ctr_redo.specs.States.{State}
-use Rattle.ctr_changes.specs.States.{pages_in}
+use Rattle.ctr_versions.specs.Changes.{revert}
+use Rattle.ctr_versions.specs.Versions.{rows_of, RowsSet}
+use Rattle.ctr_meta.specs.Effects.{one_aborted_less}
+use Rattle.ctr_area.specs.Areas.{Area}
+use Rattle.ctr_area.specs.Images.{versions_in}
+use Rattle.ctr_area.specs.Changes.{with_slot}
+use Rattle.ctr_moves.specs.Reverts.{reverted_at}
+use Rattle.ctr_store.specs.Store.{Logs}
+use Rattle.ctr_changes.specs.States.{pages_in, area_in}
 use Rattle.ctr_calls.specs.Damage.{damage_told}
 use Rattle.ctr_calls.specs.OneRecord.{LogsOne}
 use Rattle.ctr_calls.proofs.Damages.{told_ends, told_ok, reads_err}
-use Rattle.ctr_calls.proofs.Records.{one_behind}
+use Rattle.ctr_calls.proofs.Records.{both_ok, one_behind}
 use Rattle.ctr_pvs.proofs.Freeing.{told_as}
-use Rattle.ctr_revert.specs.Reverting.{lost_record, bytes_laid, revert_check, PassesRow, EndsRow, LiesThere}
+use Rattle.ctr_pvs.proofs.Showing.{sound_by}
+use Rattle.ctr_revert.specs.Reverting.{without_head, KeepsKey, lost_record, bytes_laid, revert_check, PassesRow, EndsRow, LiesThere}
+use Rattle.ctr_revert.specs.Taking.{slot_of, TakesHead}
 use Rattle.ctr_revert.proofs.Logged.{reverts, ends_laid}
 use Rattle.ctr_revert.proofs.Reverted.{row_area}
+use Rattle.ctr_revert.proofs.Row.{head_said}
+use Rattle.ctr_revert.proofs.Taken.{keeps_key, same_slot}
 use Rattle.ctr_revert.proofs.revert.revert_row.Given.{Over}
 use Rattle.ctr_revert.proofs.revert.revert_row.Goals.{After-lay}
 use Rattle.ctr_revert.proofs.revert.revert_row.Goals as goal
@@ -57,15 +69,48 @@ returns-clause-one g c =
     let at = (goal.at.returns-clause-one g c).After-lay in
     reverts g.O.Origin.first g.D.Disk c.args.place c.in_ok-laid.laid c.args.store.now c.lay.new.store c.lay.result (one g at) (λ told sound. (passes g at told sound).head)
 
+-- the area without the head of the row
+module _ (g : Over) (c : After-lay g) where
+  reverted : IsTrue g.D.Disk.tells → IsSoundImage g.O.Origin.first → KeepsKey (area_in c.args.store.now.now) c.args.place → ((area_in c.args.store.now.now).slot c.args.place).used ≡ true
+      → OnOk c.lay.result (area_in c.lay.new.store.now ≡ with_slot c.args.place (without_head (area_in c.args.store.now.now).older ((area_in c.args.store.now.now).slot c.args.place)) (area_in c.args.store.now.now))
+  reverted told sound keeps used =
+      let a = c.args.store.now in
+      let p = c.args.place in
+      let l = c.in_ok-laid.laid in
+      let found = c.search_row-found in
+      let same = ((c.in_ok-laid.ensures.leaves a found.ensures.leaves).logs told sound).now in
+      row_area g.O.Origin.first g.D.Disk a c.lay.new.store p l told sound (passes g c told sound)
+      (told_ok _ (damage_told g.D.Disk c.tell.new.store) (LiesThere p.slot) found.result (Ok l) c.in_ok-laid.ensures.told found.ensures.fits)
+      c.a_slot_is_laid.ensures keeps used c.lay.result (one g c)
+      (subst (λ (s : State). OnOk c.lay.result (length (pages_in s p.page) ≡ 4096)) same (c.lay.ensures.whole told sound))
+
 pub returns-clause-reverted : goal.returns-clause-reverted
-returns-clause-reverted g c = λ told sound keeps used.
-    let at = (goal.at.returns-clause-reverted g c).After-lay in
+returns-clause-reverted g c = reverted g (goal.at.returns-clause-reverted g c).After-lay
+
+pub returns-clause-takes : goal.returns-clause-takes
+returns-clause-takes g c = λ told sound state e way owed.
+    let k = (goal.at.returns-clause-takes g c).After-lay in
     let a = c.args.store.now in
+    let s = a.now in
+    let t = c.lay.new.store.now in
     let p = c.args.place in
     let l = c.in_ok-laid.laid in
-    let found = c.search_row-found in
-    let same = ((c.in_ok-laid.ensures.leaves a found.ensures.leaves).logs told sound).now in
-    row_area g.O.Origin.first g.D.Disk a c.lay.new.store p l told sound (passes g at told sound)
-    (told_ok _ (damage_told g.D.Disk c.tell.new.store) (LiesThere p.slot) found.result (Ok l) c.in_ok-laid.ensures.told found.ensures.fits)
-    c.a_slot_is_laid.ensures keeps used c.lay.result (one g at)
-    (subst (λ (s : State). OnOk c.lay.result (length (pages_in s p.page) ≡ 4096)) same (c.lay.ensures.whole told sound))
+    let r = lost_record l.x p l.w (bytes_laid l) in
+    let passed = passes g k told sound in
+    let law = c.a_revert_takes_the_head.ensures in
+    let bounds = c.pages_are_in_bounds.ensures (pages_in s) in
+    let used = owed.used in
+    let same = same_slot s.counted s.tables (pages_in s) e p state used way owed.fits in
+    let head : l.x ≡ ((area_in s).slot p).head.0 = passed.head.head ∙ head_said s.counted (pages_in s) p passed.of_kind used.1 in
+    both_ok c.lay.result (Logs (r ∷ []) a c.lay.new.store) (area_in t ≡ with_slot p (without_head (area_in s).older ((area_in s).slot p)) (area_in s)) (TakesHead e p s t)
+    (λ logs is.
+    let left : area_in t ≡ reverted_at p way (area_in s) = is ∙ ap (λ z. with_slot p z (area_in s)) same in
+    let tables : t.tables ≡ one_aborted_less ((area_in s).slot p).head.0 s.tables = ap (λ (x : State). x.tables) logs.now ∙ ap (λ x. one_aborted_less x s.tables) head in
+    record {
+      chains = λ number committed agree.
+          subst (λ (z : Area). RowsSet (versions_in committed (area_in s)) (versions_in committed z) e (slot_of s p).key (revert number (rows_of (versions_in committed (area_in s)) e (slot_of s p).key))) (sym left)
+          (law.step number s.counted s.tables (area_in s) e p way committed bounds state agree owed);
+      tables = tables;
+      sound = sound_by t s.counted (one_aborted_less ((area_in s).slot p).head.0 s.tables) (reverted_at p way (area_in s)) left (ap (λ (x : State). x.counted) logs.now) tables (law.sound s.counted s.tables (area_in s) e p way bounds state owed);
+    })
+    ((one g k).logs told sound) (reverted g k told sound (keeps_key s.counted s.tables (pages_in s) e p state used) used.1)

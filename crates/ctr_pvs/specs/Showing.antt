@@ -1,0 +1,47 @@
+-- What the record of a version entry owes to the chains of versions, and what is shown behind it.
+use Rattle.std.specs.Prelude.{◌≡◌, ℕ, Bool}
+use Rattle.ctr_redo.specs.States.{State}
+use Rattle.ctr_page.specs.declared.rows.Place.{Place}
+use Rattle.ctr_page.specs.declared.rows.VersionEntry.{VersionEntry}
+use Rattle.ctr_area.specs.Areas.{RowVersion, Slot, Older}
+use Rattle.ctr_area.specs.Reading.{older_said, columns_on}
+use Rattle.ctr_area.specs.Chains.{older_places}
+use Rattle.ctr_area.specs.Images.{image_rows, versions_in}
+use Rattle.ctr_area.specs.Sound.{IsAmong, IsSoundArea}
+use Rattle.ctr_moves.specs.Keeping.{OwedByKeep, older_copy, IsSpareCopy}
+use Rattle.ctr_changes.specs.States.{pages_in, area_in}
+use Rattle.ctr_pvs.specs.Writing.{HasPlaceOfVersion}
+
+-- the pages of a state are sound with its tables
+abbrev pub HasSoundArea : State → Type 0
+HasSoundArea s = IsSoundArea s.counted s.tables (area_in s)
+
+-- A state is sound, with the tables of another one, and shows the same: the chains of names and
+-- rows, and the rows of an image, whoever is committed.
+pub record ShowsTheSame (old new : State) : Type 0 where
+  pub versions : (committed : ℕ → Bool)
+      → versions_in committed (area_in new) ≡ versions_in committed (area_in old)
+  pub rows : (committed : ℕ → Bool)
+      → image_rows committed (area_in new) ≡ image_rows committed (area_in old)
+  pub tables : new.tables ≡ old.tables
+  pub sound : HasSoundArea new
+
+-- a version entry by the columns of the page that it is laid on
+abbrev pub older_laid : State → Place → VersionEntry → Older
+older_laid s at entry = older_said (columns_on (pages_in s) at.page) entry
+
+-- What the keeping of a version owes: the pages are sound, the place is one of versions so wide and
+-- is free, and the version is by a transaction that was drawn.
+pub record MayKeep (s : State) (at : Place) (entry : VersionEntry) : Type 0 where
+  pub sound : HasSoundArea s
+  pub place : HasPlaceOfVersion (pages_in s) at entry
+  pub owed : OwedByKeep s.tables (area_in s) at (older_laid s at entry)
+
+-- All is shown as before; and where it is a version of a slot, in a place of a table's versions, it
+-- is a spare copy there.
+pub record KeepsVersion (at : Place) (entry : VersionEntry) (old new : State) : Type 0 where
+  pub shows : ShowsTheSame old new
+  pub spare : (e : ℕ) (slot : Slot) (version : RowVersion)
+      → older_laid old at entry ≡ older_copy slot version
+      → IsAmong at (older_places (area_in old) e)
+      → IsSpareCopy (area_in new) e slot version at

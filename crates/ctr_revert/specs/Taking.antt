@@ -1,0 +1,27 @@
+-- What is shown behind a head that is taken from its row.
+use Rattle.std.specs.Prelude.{◌≡◌, ℕ, Bool}
+use Rattle.ctr_versions.specs.Chains.{Numbers}
+use Rattle.ctr_versions.specs.Changes.{revert}
+use Rattle.ctr_versions.specs.Versions.{rows_of, RowsSet}
+use Rattle.ctr_meta.specs.Effects.{one_aborted_less}
+use Rattle.ctr_redo.specs.States.{State}
+use Rattle.ctr_page.specs.declared.rows.Place.{Place}
+use Rattle.ctr_area.specs.Areas.{Slot}
+use Rattle.ctr_area.specs.Images.{versions_in}
+use Rattle.ctr_moves.specs.Rows.{AgreeOnCommits}
+use Rattle.ctr_changes.specs.States.{area_in}
+use Rattle.ctr_pvs.specs.Showing.{HasSoundArea}
+
+-- the slot at a place of a state
+abbrev pub slot_of : State → Place → Slot
+slot_of s at = (area_in s).slot at
+
+-- The chain of the slot's key in a table has lost its head, and every other chain is what it was,
+-- whoever is committed; the head's transaction has a head less, and the state is sound.
+pub record TakesHead (e : ℕ) (at : Place) (old new : State) : Type 0 where
+  pub chains : (number : Numbers) (committed : ℕ → Bool) → AgreeOnCommits number old.tables
+      → RowsSet (versions_in committed (area_in old)) (versions_in committed (area_in new)) e
+      (slot_of old at).key
+      (revert number (rows_of (versions_in committed (area_in old)) e (slot_of old at).key))
+  pub tables : new.tables ≡ one_aborted_less (slot_of old at).head.0 old.tables
+  pub sound : HasSoundArea new
