@@ -7,14 +7,14 @@ use Rattle.ctr_area.specs.Areas.{Area}
 use Rattle.ctr_area.specs.Chains.{places_from}
 use Rattle.ctr_area.specs.Sound.{IsAmong, IsUsedSlot, AreKeyed}
 use Rattle.ctr_search.specs.Along.{ChainSought}
-use Rattle.ctr_search.specs.Tables.{sought_in, EndsChain}
+use Rattle.ctr_search.specs.Tables.{chain_sought, EndsChain}
 use Rattle.ctr_heap.specs.declared.slots.SlotSought.{SlotSought}
 use Rattle.ctr_heap.specs.Slots.{EndsSlots}
 
 -- what is sought in a bucket of a table, by the table's columns
 abbrev pub bucket_sought : (ℕ → List ℕ) → ℕ → ℕ → ℕ → SlotSought → ChainSought
 bucket_sought pages counted e bucket sought =
-    sought_in pages counted (Rows e bucket) (EndsSlots sought)
+    chain_sought pages counted (Rows e bucket) (EndsSlots sought)
 
 -- Where the search of a bucket ends: at the damage of the table's entry; or the entry passes, and it
 -- ends along the bucket's chain.

@@ -11,7 +11,7 @@ use Rattle.ctr_area.specs.Reading.{entry_bytes, area_of}
 use Rattle.ctr_area.specs.Chains.{pages_bound}
 use Rattle.ctr_area.specs.Sound.{IsOfVersions, AreReadable}
 use Rattle.ctr_search.specs.Along.{ChainSought, EndsAlong}
-use Rattle.ctr_search.specs.Tables.{sought_in}
+use Rattle.ctr_search.specs.Tables.{chain_sought}
 use Rattle.ctr_search.proofs.Telling.{not_used, not_free, place_found, no_place}
 use Rattle.ctr_pvs.specs.Entries.{EndsFree, is_free_older}
 use Rattle.ctr_pvs.specs.Along.{FindsFreeEntry}
@@ -25,7 +25,7 @@ module _ (pages : ℕ → List ℕ) (e counted : ℕ) (readable : AreReadable (a
   area = area_of pages
 
   abbrev s : ChainSought
-  s = sought_in pages counted (Versions e) EndsFree
+  s = chain_sought pages counted (Versions e) EndsFree
 
   here : (p : ℕ) (o : Option ℕ) → IsOfVersions e (area.header p) → s.ends (pages p) (Ok o) → IsFirst (is_free_older area p) 0 (area.room p) o
   here p o versions ends = first_in_area pages p counted versions.0 o (subst (λ f. EndsFree (kinds_of (columns_in (entry_bytes pages f))) counted (pages p) (Ok o)) (sym versions.1) ends)

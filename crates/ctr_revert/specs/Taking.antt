@@ -1,5 +1,5 @@
 -- What is shown behind a head that is taken from its row.
-use Rattle.std.specs.Prelude.{◌≡◌, ℕ, Bool}
+use Rattle.std.specs.Prelude.{◌≡◌, ◌≢◌, ℕ, Bool, None}
 use Rattle.ctr_versions.specs.Chains.{Numbers}
 use Rattle.ctr_versions.specs.Changes.{revert}
 use Rattle.ctr_versions.specs.Versions.{rows_of, RowsSet}
@@ -10,6 +10,7 @@ use Rattle.ctr_area.specs.Areas.{Slot}
 use Rattle.ctr_area.specs.Images.{versions_in}
 use Rattle.ctr_moves.specs.Rows.{AgreeOnCommits}
 use Rattle.ctr_changes.specs.States.{area_in}
+use Rattle.ctr_spares.specs.Loose.{IsLoose}
 use Rattle.ctr_pvs.specs.Showing.{HasSoundArea}
 
 -- the slot at a place of a state
@@ -17,7 +18,8 @@ abbrev pub slot_of : State → Place → Slot
 slot_of s at = (area_in s).slot at
 
 -- The chain of the slot's key in a table has lost its head, and every other chain is what it was,
--- whoever is committed; the head's transaction has a head less, and the state is sound.
+-- whoever is committed; the head's transaction has a head less, and the state is sound. Where a version
+-- entry gave the new head, it stays used, and no chain has it.
 pub record TakesHead (e : ℕ) (at : Place) (old new : State) : Type 0 where
   pub chains : (number : Numbers) (committed : ℕ → Bool) → AgreeOnCommits number old.tables
       → RowsSet (versions_in committed (area_in old)) (versions_in committed (area_in new)) e
@@ -25,3 +27,6 @@ pub record TakesHead (e : ℕ) (at : Place) (old new : State) : Type 0 where
       (revert number (rows_of (versions_in committed (area_in old)) e (slot_of old at).key))
   pub tables : new.tables ≡ one_aborted_less (slot_of old at).head.0 old.tables
   pub sound : HasSoundArea new
+  pub leaves : (slot_of old at).previous ≡ None → (slot_of old at).pointer.page ≢ 0
+      → IsLoose (area_in new) e (slot_of old at).pointer
+      ((area_in old).older (slot_of old at).pointer)

@@ -26,6 +26,7 @@ use ctr_moves::{a_revert_takes_the_head, pages_are_in_bounds};
 use ctr_page::{BadChain, BadPage, Place, kinds_width, slot_size};
 use ctr_pvs::{TableOf, check_there, row_in, table_on, version_in};
 use ctr_records::Record;
+use ctr_spares::a_revert_leaves_its_entry;
 use ctr_store::Store;
 use ctr_types::Xid;
 
@@ -179,6 +180,7 @@ pub fn revert_row<D: Disk, O: Origin>(
     a_slot_is_laid();
     pages_are_in_bounds();
     a_revert_takes_the_head();
+    a_revert_leaves_its_entry();
     let found = search_row(store, place);
     let laid = tell(store, found)?;
     lay(store, laid.x, place, laid.w, &laid.bytes)

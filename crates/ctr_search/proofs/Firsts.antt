@@ -11,7 +11,7 @@ use Rattle.ctr_page.specs.Columns.{entry_at}
 use Rattle.ctr_page.specs.Damage.{counted_check, firsts_check, used_entry_check, entry_check}
 use Rattle.ctr_page.proofs.Holding.{most_ok}
 use Rattle.ctr_area.proofs.Bytes.{length-piece}
-use Rattle.ctr_search.specs.Tables.{IsChain, first_at, number_of, table_check}
+use Rattle.ctr_search.specs.Tables.{IsChain, first_at, entry_number, chain_table_check}
 
 piece_field : (n k b m : ℕ) (page : List ℕ) → k + n ≤ m → b + m ≤ length page → field n k (piece b m page) ≡ field n (b + k) page
 piece_field n k b m page fits inside =
@@ -43,6 +43,6 @@ module _ (counted : ℕ) (page : List ℕ) (some : 0 < counted) (whole : length 
       piece_field 4 (179 + 4 * k) start 256 page (omega (arith, few)) inside ∙ ap (λ k. field 4 k page) (let z : start + (179 + 4 * k) ≡ start + 179 + 4 * k = omega arith in z) in
       subst (λ x. x < counted) (sym same) (omega (arith, small, some))
 
-  pub first_counted : (chain : Chain) → IsChain chain → table_check counted chain page ≡ Ok tt → (entry_at (number_of chain) page).state ≢ 0 → first_at chain (entry_at (number_of chain) page).bytes < counted
+  pub first_counted : (chain : Chain) → IsChain chain → chain_table_check counted chain page ≡ Ok tt → (entry_at (entry_number chain) page).state ≢ 0 → first_at chain (entry_at (entry_number chain) page).bytes < counted
   first_counted (Rows e bucket) is passes used = front_counted (e % 16) bucket (omega arith) (omega (arith, is.1)) passes used
   first_counted (Versions e) is passes used = front_counted (e % 16) 8 (omega arith) (omega arith) passes used

@@ -20,7 +20,7 @@ use Rattle.ctr_area.specs.Checked.{kinds_at}
 use Rattle.ctr_calls.specs.Damage.{EndsTold}
 use Rattle.ctr_search.specs.declared.table.ChainPages.{ChainPages}
 use Rattle.ctr_search.specs.Along.{ChainSought, EndsAlong}
-use Rattle.ctr_search.specs.Tables.{IsChain, first_among, first_at, number_of, first_said, ChainSaid, EndsByKinds, sought_in, first_of_chain, EndsChain}
+use Rattle.ctr_search.specs.Tables.{IsChain, first_among, first_at, entry_number, first_said, ChainSaid, EndsByKinds, chain_sought, first_of_chain, EndsChain}
 use Rattle.ctr_search.proofs.Ends.{at_end}
 
 -- ---- on a page
@@ -40,12 +40,12 @@ listed f (suc (suc (suc (suc (suc (suc (suc (suc n)))))))) lt = absurd (omega (a
 abbrev there : List ℕ → Firsts
 there bytes = record { buckets = map (λ b. first_in b bytes) bucket_numbers; versions = versions_first_in bytes }
 
-pub first_used : (chain : Chain) (page : List ℕ) → IsChain chain → (entry_at (number_of chain) page).state ≢ 0 → first_said chain page ≡ first_at chain (entry_at (number_of chain) page).bytes
+pub first_used : (chain : Chain) (page : List ℕ) → IsChain chain → (entry_at (entry_number chain) page).state ≢ 0 → first_said chain page ≡ first_at chain (entry_at (entry_number chain) page).bytes
 first_used (Rows e bucket) page is some =
     ap (λ b. slice_index (cond b no_pages (there (entry_at (e % 16) page).bytes)).buckets bucket) (ne_eqb (entry_at (e % 16) page).state 0 some) ∙ listed (λ b. first_in b (entry_at (e % 16) page).bytes) bucket is.1
 first_used (Versions e) page is some = ap (λ b. (cond b no_pages (there (entry_at (e % 16) page).bytes)).versions) (ne_eqb (entry_at (e % 16) page).state 0 some)
 
-pub first_free : (chain : Chain) (page : List ℕ) → (entry_at (number_of chain) page).state ≡ 0 → first_said chain page ≡ 0
+pub first_free : (chain : Chain) (page : List ℕ) → (entry_at (entry_number chain) page).state ≡ 0 → first_said chain page ≡ 0
 first_free (Rows e bucket) page none = ap (λ b. slice_index (cond b no_pages (there (entry_at (e % 16) page).bytes)).buckets bucket) (eq-eqb (entry_at (e % 16) page).state 0 none)
 first_free (Versions e) page none = ap (λ b. (cond b no_pages (there (entry_at (e % 16) page).bytes)).versions) (eq-eqb (entry_at (e % 16) page).state 0 none)
 
@@ -80,7 +80,7 @@ module _ (counted : ℕ) (pages : ℕ → List ℕ) (chain : Chain) (ends : Ends
     bad_entry bad p said at = inl (bad, said, ap (λ q. Err (OnPage q bad)) at)
 
     pub no_page : ChainSaid counted chain page (Ok None) → EndsChain counted pages chain ends (Ok None)
-    no_page said = inr (said.0, at_end (sought_in pages counted chain ends) pages (most_in_chain counted) 0 (first_of_chain (area_of pages) chain) (first_here ∙ said.1))
+    no_page said = inr (said.0, at_end (chain_sought pages counted chain ends) pages (most_in_chain counted) 0 (first_of_chain (area_of pages) chain) (first_here ∙ said.1))
 
     abbrev by_kinds : List Kind → ChainSought
     by_kinds kinds = record { chain = chain; counted = counted; ends = ends kinds counted }
@@ -90,13 +90,13 @@ module _ (counted : ℕ) (pages : ℕ → List ℕ) (chain : Chain) (ends : Ends
     pages_end found result said along = if_ok result (EndsAlong (by_kinds (take found.count found.kinds)) pages (most_in_chain counted) 0 found.first) (EndsChain counted pages chain ends)
         (λ r a. inr (
           said.0,
-          subst (λ p. EndsAlong (sought_in pages counted chain ends) pages (most_in_chain counted) 0 p r) (sym said.1 ∙ sym first_here)
+          subst (λ p. EndsAlong (chain_sought pages counted chain ends) pages (most_in_chain counted) 0 p r) (sym said.1 ∙ sym first_here)
               (subst (λ ks. EndsAlong (by_kinds ks) pages (most_in_chain counted) 0 found.first r) (said.2 ∙ sym kinds_here) a),
         )) along
 
   -- what a search finds that ends without damage
   pub told_finds : (told : BadChain → StoreFault) (Finds : Option Place → Type 0) (result : Result (Option Place) StoreFault)
-      → ((o : Option Place) → EndsAlong (sought_in pages counted chain ends) pages (most_in_chain counted) 0 (first_of_chain (area_of pages) chain) (Ok o) → Finds o)
+      → ((o : Option Place) → EndsAlong (chain_sought pages counted chain ends) pages (most_in_chain counted) 0 (first_of_chain (area_of pages) chain) (Ok o) → Finds o)
       → EndsTold told (EndsChain counted pages chain ends) result → IfOk result Finds
   told_finds told Finds (Ok o) finds (inl (bad, fails, is)) = absurd (let f = is in cc)
   told_finds told Finds (Ok o) finds (inr (passes, along)) = finds o along

@@ -33,26 +33,26 @@ first_at (Rows e bucket) bytes = first_in bucket bytes
 first_at (Versions e) bytes = versions_first_in bytes
 
 -- the number of the table's entry on its page of the catalog
-abbrev pub number_of : Chain → ℕ
-number_of chain = chain_entry chain % 16
+abbrev pub entry_number : Chain → ℕ
+entry_number chain = chain_entry chain % 16
 
 -- the first page, as a page of the catalog says it
 abbrev pub first_said : Chain → List ℕ → ℕ
-first_said chain page = first_among (firsts_of (entry_at (number_of chain) page)) chain
+first_said chain page = first_among (firsts_of (entry_at (entry_number chain) page)) chain
 
 -- the check of the table's entry, on a page of the catalog
-abbrev pub table_check : ℕ → Chain → List ℕ → Result ⊤ BadRecord
-table_check counted chain page = entry_check counted (ENTRY_SIZE * number_of chain) page
+abbrev pub chain_table_check : ℕ → Chain → List ℕ → Result ⊤ BadRecord
+chain_table_check counted chain page = entry_check counted (ENTRY_SIZE * entry_number chain) page
 
 -- What a page of the catalog says of a chain: the check of the table's entry fails; or it passes, and the
 -- chain has no page; or it has a first page, and so many columns behind the key hold this.
 abbrev pub ChainSaid : ℕ → Chain → List ℕ → Result (Option ChainPages) BadRecord → Type 0
-ChainSaid counted chain page (Err bad) = table_check counted chain page ≡ Err bad
+ChainSaid counted chain page (Err bad) = chain_table_check counted chain page ≡ Err bad
 ChainSaid counted chain page (Ok None) =
-    (table_check counted chain page ≡ Ok tt) × (first_said chain page ≡ 0)
+    (chain_table_check counted chain page ≡ Ok tt) × (first_said chain page ≡ 0)
 ChainSaid counted chain page (Ok (Some found)) =
-    (table_check counted chain page ≡ Ok tt) × (first_said chain page ≡ found.first)
-    × (take found.count found.kinds ≡ kinds_of (columns_in (entry_at (number_of chain) page).bytes))
+    (chain_table_check counted chain page ≡ Ok tt) × (first_said chain page ≡ found.first)
+    × (take found.count found.kinds ≡ kinds_of (columns_in (entry_at (entry_number chain) page).bytes))
 
 -- the first page is there, and is counted
 abbrev pub PagesFit : ℕ → ChainPages → Type 0
@@ -66,8 +66,8 @@ abbrev pub EndsByKinds : Type 1
 EndsByKinds = List Kind → ℕ → List ℕ → Result (Option ℕ) BadRecord → Type 0
 
 -- what is sought in a chain of a table, by the table's columns
-abbrev pub sought_in : (ℕ → List ℕ) → ℕ → Chain → EndsByKinds → ChainSought
-sought_in pages counted chain ends = record {
+abbrev pub chain_sought : (ℕ → List ℕ) → ℕ → Chain → EndsByKinds → ChainSought
+chain_sought pages counted chain ends = record {
   chain = chain;
   counted = counted;
   ends = ends (kinds_at (area_of pages) (chain_entry chain)) counted;
@@ -82,8 +82,8 @@ first_of_chain area chain = first_among (area.firsts (chain_entry chain)) chain
 abbrev pub EndsChain : ℕ → (ℕ → List ℕ) → Chain → EndsByKinds → Result (Option Place) BadChain
     → Type 0
 EndsChain counted pages chain ends result =
-    ((bad : BadRecord) × (table_check counted chain (pages (1 + chain_entry chain / 16)) ≡ Err bad)
+    ((bad : BadRecord) × (chain_table_check counted chain (pages (1 + chain_entry chain / 16)) ≡ Err bad)
     × (result ≡ Err (OnPage (1 + chain_entry chain / 16) bad)))
-    ⊎ ((table_check counted chain (pages (1 + chain_entry chain / 16)) ≡ Ok tt)
-    × EndsAlong (sought_in pages counted chain ends) pages (most_in_chain counted) 0
+    ⊎ ((chain_table_check counted chain (pages (1 + chain_entry chain / 16)) ≡ Ok tt)
+    × EndsAlong (chain_sought pages counted chain ends) pages (most_in_chain counted) 0
     (first_of_chain (area_of pages) chain) result)

@@ -9,7 +9,8 @@ use Rattle.ctr_meta.specs.Effects.{one_aborted_less}
 use Rattle.ctr_area.specs.Areas.{Area}
 use Rattle.ctr_area.specs.Images.{versions_in}
 use Rattle.ctr_area.specs.Changes.{with_slot}
-use Rattle.ctr_moves.specs.Reverts.{reverted_at}
+use Rattle.ctr_moves.specs.Reverts.{reverted_at, ToKept}
+use Rattle.ctr_spares.specs.Loose.{IsLoose}
 use Rattle.ctr_store.specs.Store.{Logs}
 use Rattle.ctr_changes.specs.States.{pages_in, area_in}
 use Rattle.ctr_calls.specs.Damage.{damage_told}
@@ -111,6 +112,10 @@ returns-clause-takes g c = λ told sound state e way owed.
           subst (λ (z : Area). RowsSet (versions_in committed (area_in s)) (versions_in committed z) e (slot_of s p).key (revert number (rows_of (versions_in committed (area_in s)) e (slot_of s p).key))) (sym left)
           (law.step number s.counted s.tables (area_in s) e p way committed bounds state agree owed);
       tables = tables;
+      leaves = λ none some.
+          let kept : area_in t ≡ reverted_at p ToKept (area_in s) = is ∙ ap (λ z. with_slot p z (area_in s)) (same_slot s.counted s.tables (pages_in s) e p state used ToKept (none, some)) in
+          subst (λ (z : Area). IsLoose z e (slot_of s p).pointer ((area_in s).older (slot_of s p).pointer)) (sym kept)
+          (c.a_revert_leaves_its_entry.ensures.loose s.counted s.tables (area_in s) e p state (record { used = used; gone = owed.gone; fits = (none, some) }));
       sound = sound_by t s.counted (one_aborted_less ((area_in s).slot p).head.0 s.tables) (reverted_at p way (area_in s)) left (ap (λ (x : State). x.counted) logs.now) tables (law.sound s.counted s.tables (area_in s) e p way bounds state owed);
     })
     ((one g k).logs told sound) (reverted g k told sound (keeps_key s.counted s.tables (pages_in s) e p state used) used.1)

@@ -4,7 +4,7 @@ use Rattle.ctr_page.specs.Columns.{entry_at}
 use Rattle.ctr_page.specs.Damage.{entry_check}
 use Rattle.ctr_page.specs.Readable.{HasParts}
 use Rattle.ctr_bytes.specs.Fields.{field}
-use Rattle.ctr_search.specs.Tables.{first_at, number_of}
+use Rattle.ctr_search.specs.Tables.{first_at, entry_number}
 use Rattle.ctr_search.proofs.Firsts.{first_counted}
 use Rattle.ctr_search.proofs.table.pages_said.Goals as goal
 
@@ -12,7 +12,7 @@ pub returns-clause-fits : goal.returns-clause-fits
 returns-clause-fits c =
     let chain = c.args.chain in
     let page = c.args.page.now in
-    let entry = entry_at (number_of chain) page in
+    let entry = entry_at (entry_number chain) page in
     let read : c.read_entry-table.result ≡ entry = c.read_entry-table.ensures.read ∙ ap (λ e. entry_at (e % 16) page) c.entry_of-at.ensures in
     let used : entry.state ≡ 0 → ⊥ = λ is. c.if-table-eq0.false (ap (λ (t : CatalogEntry). t.state) read ∙ is) in
     let bytes : first_at chain entry.bytes ≡ c.first_of-first.result = ap (λ (t : CatalogEntry). first_at chain t.bytes) (sym read) ∙ sym c.first_of-first.ensures in
