@@ -3,11 +3,13 @@ ghost use Rattle.std.specs.Prelude.{◌≡◌, ◌≤◌, false, OnOk, IfSome, l
 
 use crate::catalog::{changer, drop_entry, make, named, undo};
 use crate::pages::{give_back, grow, make_empty, put_in_front, take};
+use crate::reads::{cost, newest_of, read};
 use crate::rows::{found, put, room};
 use crate::steps::{Step, step_of};
 use crate::turns::{FRAMES, Mem, Told, abort, begin, commit, ready, snap};
 use crate::versions::{add_page, entry as entry_at, lay, put_off, revert, slot, spare, trim};
 use crate::words::split_word;
+use crate::writes::{write, write_each};
 use ctr_alloc::Search;
 use ctr_disk::{Image, MemDisk, SilentDisk, StoreFault};
 use ctr_page::Header;
@@ -21,7 +23,8 @@ use std::alloc::{AllocError, Global};
 struct Player {
     search: Search,
     x: u64,
-    snapshot: Option<Snapshot>,
+    /// The snapshots that were taken, each with its number, the last of a number behind others.
+    snapshots: Vec<(usize, Snapshot)>,
     out: Vec<u8>,
 }
 
@@ -32,6 +35,23 @@ impl Player {
         let before: &[u8] = if self.out.is_empty() { b" " } else { b", " };
         self.out.extend_from_slice(before)?;
         self.out.extend_from_slice(text.as_bytes())
+    }
+
+    // Takes a snapshot, under a number.
+    fn take_snapshot(&mut self, alloc: Global, store: &Mem, number: usize) -> Told {
+        match snap(alloc, store) {
+            Ok(snapshot) => match self.snapshots.push((number, snapshot)) {
+                Ok(()) => Told::Done,
+                Err(_) => Told::NoMemory,
+            },
+            Err(_) => Told::NoMemory,
+        }
+    }
+
+    // The last snapshot of a number.
+    fn snapshot(&self, number: usize) -> Option<&Snapshot> {
+        let (_, snapshot) = self.snapshots.iter().rev().find(|taken| taken.0 == number)?;
+        Some(snapshot)
     }
 }
 
@@ -189,6 +209,34 @@ fn play_page(
     }
 }
 
+// A step by a snapshot.
+fn play_seen(
+    alloc: Global,
+    store: &mut Mem,
+    player: &mut Player,
+    step: Step,
+) -> Result<Told, StoreFault>
+    requires going { store.old.stopped ≡ false }
+    ensures going { OnOk result (store.new.stopped ≡ false) }
+{
+    let x = Some(player.x);
+    match step {
+        Step::Name { name, own } => match player.snapshot(0) {
+            Some(snapshot) => named(alloc, store, name, snapshot, if own { x } else { None }),
+            None => Ok(Told::NotAsked),
+        },
+        Step::Changed { entry, name } => match player.snapshot(0) {
+            Some(snapshot) => changer(alloc, store, entry, name, snapshot),
+            None => Ok(Told::NotAsked),
+        },
+        Step::Read { place, number, own } => match player.snapshot(number) {
+            Some(snapshot) => read(alloc, store, place, snapshot, if own { x } else { None }),
+            None => Ok(Told::NotAsked),
+        },
+        _ => play_page(alloc, store, player, step),
+    }
+}
+
 // A step.
 fn play_step(
     alloc: Global,
@@ -210,22 +258,11 @@ fn play_step(
         Step::Commit => commit(store, player.x),
         Step::Abort => abort(store, player.x),
         Step::Heads { x } => Ok(Told::Number(store.meta().heads(x))),
-        Step::Snap => {
-            player.snapshot = snap(alloc, store).ok();
-            Ok(Told::Done)
-        }
-        Step::Name { name, own } => match &player.snapshot {
-            Some(snapshot) => {
-                let me = if own { Some(player.x) } else { None };
-                named(alloc, store, name, snapshot, me)
-            }
-            None => Ok(Told::NotAsked),
-        },
-        Step::Changed { entry, name } => match &player.snapshot {
-            Some(snapshot) => changer(alloc, store, entry, name, snapshot),
-            None => Ok(Told::NotAsked),
-        },
-        _ => play_page(alloc, store, player, step),
+        Step::Write(row) => write(store, &mut player.search, player.x, row),
+        Step::Each { row, count } => write_each(store, &mut player.search, row, count),
+        Step::Newest { place } => newest_of(store, place),
+        Step::Snap { number } => Ok(player.take_snapshot(alloc, store, number)),
+        _ => play_seen(alloc, store, player, step),
     }
 }
 
@@ -354,6 +391,13 @@ fn play_rounds(
     if rounds == 0 {
         return None;
     }
+    if let Step::Cost { place, number } = *step {
+        let told = match player.snapshot(number) {
+            Some(snapshot) => cost(alloc, &files, place, snapshot),
+            None => Told::NotAsked,
+        };
+        player.say(alloc, told).ok()?;
+    }
     alter(alloc, &mut files, *step).ok()?;
     play_rounds(alloc, files, player, others, rounds - 1)
 }
@@ -370,7 +414,7 @@ fn played_line(alloc: Global, line: &[u8], page: &mut Vec<u8>) -> Result<(), All
     let mut player = Player {
         search: Search::new(),
         x: 0,
-        snapshot: None,
+        snapshots: Vec::new(alloc),
         out: Vec::new(alloc),
     };
     if let Some(files) = made(alloc) {

@@ -1,5 +1,5 @@
 //! Plays calls of what stands on pages, on stores in memory, from standard input, and prints what each answers: pages that are
-//! allocated, entries of the catalog, slots by key, versions off their rows.
+//! allocated, entries of the catalog, slots by key, versions off their rows, rows that are written and read along their versions.
 //!
 //! A line is a name and the steps of a case; docs/PLACES.md tells them. What is expected is the program's output, which `rt ci` compares
 //! with the file `stdout`.
@@ -8,11 +8,13 @@
 mod cases;
 mod catalog;
 mod pages;
+mod reads;
 mod rows;
 mod steps;
 mod turns;
 mod versions;
 mod words;
+mod writes;
 
 use cases::played;
 use std::io::{self, Read, Write};

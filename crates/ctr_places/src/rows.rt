@@ -132,6 +132,25 @@ fn add_page(
     room(store, entry, bucket)
 }
 
+/// A free slot for a key that has none, on a page more where there is no other.
+pub fn place_for(
+    store: &mut Mem,
+    search: &mut Search,
+    x: u64,
+    entry: u8,
+    key: i64,
+) -> Result<Told, StoreFault>
+    requires going { store.old.stopped ≡ false }
+    ensures going { OnOk result (store.new.stopped ≡ false) }
+{
+    let bucket = bucket_of(key);
+    let free = room(store, entry, bucket)?;
+    if free != Told::None {
+        return Ok(free);
+    }
+    add_page(store, search, x, entry, bucket)
+}
+
 /// The row of a key, with zeros: over the one that is there, in a free slot, or on a page more.
 pub fn put(
     store: &mut Mem,
@@ -144,7 +163,6 @@ pub fn put(
     requires going { store.old.stopped ≡ false }
     ensures going { OnOk result (store.new.stopped ≡ false) }
 {
-    let bucket = bucket_of(key);
     let there = found(store, entry, key)?;
     if let Told::At(place) = there {
         return lay(store, x, x, place, width, key);
@@ -152,11 +170,7 @@ pub fn put(
     if there != Told::None {
         return Ok(there);
     }
-    let mut place = room(store, entry, bucket)?;
-    if place == Told::None {
-        place = add_page(store, search, x, entry, bucket)?;
-    }
-    match place {
+    match place_for(store, search, x, entry, key)? {
         Told::At(place) => lay(store, x, 0, place, width, key),
         other => Ok(other),
     }

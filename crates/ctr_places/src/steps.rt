@@ -1,6 +1,7 @@
 // The steps of a case.
 use crate::turns::Seen;
 use crate::words::{number, split_word};
+use crate::writes::NewRow;
 use ctr_page::Place;
 
 /// A call, or several.
@@ -31,9 +32,11 @@ pub enum Step<'a> {
     },
     /// A Commit of the transaction.
     Commit,
-    /// A snapshot is taken.
-    Snap,
-    /// `find` of a name by the snapshot, as the transaction or as none.
+    /// A snapshot is taken, under a number.
+    Snap {
+        number: usize,
+    },
+    /// `find` of a name by the snapshot 0, as the transaction or as none.
     Name {
         name: &'a [u8],
         own: bool,
@@ -86,6 +89,28 @@ pub enum Step<'a> {
     Room {
         entry: u8,
         bucket: u8,
+    },
+    /// A row is written by the rules of versions.
+    Write(NewRow),
+    /// The same, by so many transactions, each of which commits.
+    Each {
+        row: NewRow,
+        count: u64,
+    },
+    /// `visible` by a snapshot, as the transaction or as none.
+    Read {
+        place: Place,
+        number: usize,
+        own: bool,
+    },
+    /// `newest`.
+    Newest {
+        place: Place,
+    },
+    /// How many pages a read by a snapshot takes from the disk, in a store that is opened for it.
+    Cost {
+        place: Place,
+        number: usize,
     },
     /// `free_entry` of a table, or a page more for its versions.
     Spare {
@@ -153,6 +178,7 @@ impl<'a> Step<'a> {
         match self {
             Step::Alter { .. } => true,
             Step::Count { .. } => true,
+            Step::Cost { .. } => true,
             _ => false,
         }
     }
@@ -243,6 +269,7 @@ fn row_step<'a>(word: &[u8], rest: &'a [u8]) -> Option<Step<'a>> {
             entry,
             bucket: byte(two),
         }),
+        b"write" | b"delete" | b"each" => write_step(word, [one, two, three, four]),
         _ => version_step(word, rest),
     }
 }
@@ -272,6 +299,49 @@ fn laid_step<'a>(is_row: bool, place_word: &[u8], rest: &'a [u8]) -> Step<'a> {
     }
 }
 
+// A step that reads along the versions of a row.
+fn read_step<'a>(word: &[u8], place: Place, number: usize) -> Option<Step<'a>> {
+    match word {
+        b"read" => Some(Step::Read {
+            place,
+            number,
+            own: false,
+        }),
+        b"mine" => Some(Step::Read {
+            place,
+            number,
+            own: true,
+        }),
+        b"newest" => Some(Step::Newest { place }),
+        b"cost" => Some(Step::Cost { place, number }),
+        _ => None,
+    }
+}
+
+// A step that writes a row, by the words of its table, its width and its key, and one more.
+fn write_step<'a>(word: &[u8], words: [&[u8]; 4]) -> Option<Step<'a>> {
+    let [entry, width, key, last] = words;
+    let says = match word {
+        b"write" => Some(byte(last)),
+        _ => None,
+    };
+    let row = NewRow {
+        entry: byte(entry),
+        width: number(width) as usize,
+        key: signed(key),
+        says,
+    };
+    match word {
+        b"write" => Some(Step::Write(row)),
+        b"delete" => Some(Step::Write(row)),
+        b"each" => Some(Step::Each {
+            row,
+            count: number(last),
+        }),
+        _ => None,
+    }
+}
+
 // A step on versions.
 fn version_step<'a>(word: &[u8], rest: &'a [u8]) -> Option<Step<'a>> {
     let (one, others) = split_word(rest);
@@ -294,7 +364,7 @@ fn version_step<'a>(word: &[u8], rest: &'a [u8]) -> Option<Step<'a>> {
         }),
         b"abort" => Some(Step::Abort),
         b"heads" => Some(Step::Heads { x: number(one) }),
-        _ => None,
+        _ => read_step(word, place(one), number(two) as usize),
     }
 }
 
@@ -334,7 +404,9 @@ pub fn step_of(text: &[u8]) -> Option<Step> {
         b"begin" => Some(Step::Begin),
         b"undo" => Some(Step::Undo),
         b"commit" => Some(Step::Commit),
-        b"snap" => Some(Step::Snap),
+        b"snap" => Some(Step::Snap {
+            number: number(rest) as usize,
+        }),
         b"name" => Some(Step::Name {
             name: rest,
             own: true,

@@ -38,6 +38,14 @@ pub enum Told {
     Full,
     CatalogFull,
     At(Place),
+    /// A place, where a version was kept at another before.
+    Keeps {
+        at: Place,
+        kept: Place,
+    },
+    /// A value of a row.
+    Value(i64),
+    NoMemory,
     None,
     /// A slot or a version entry isn't used.
     Unused,
@@ -63,6 +71,12 @@ impl Told {
             Told::Full => format!(in alloc; "full"),
             Told::CatalogFull => format!(in alloc; "catalog full"),
             Told::At(place) => format!(in alloc; "{}.{}", place.page, place.slot),
+            Told::Keeps { at, kept } => format!(in alloc;
+                "{}.{} keeps {}.{}",
+                at.page, at.slot, kept.page, kept.slot
+            ),
+            Told::Value(value) => format!(in alloc; "{value}"),
+            Told::NoMemory => format!(in alloc; "no memory"),
             Told::None => format!(in alloc; "none"),
             Told::Unused => format!(in alloc; "unused"),
             Told::Row {

@@ -16,7 +16,7 @@ use ctr_records::Bytes;
 use ctr_revert::revert_row;
 
 /// Whether a place on a page has a version entry of rows so wide.
-fn entry_lies(place: Place, width: usize) -> bool
+pub fn entry_lies(place: Place, width: usize) -> bool
     ensures { IsTrue result → (width ≤ WIDEST) × (start_of (size_of_kept width) place.slot + size_of_kept width ≤ 4096) }
 {
     if width > WIDEST {
@@ -26,8 +26,8 @@ fn entry_lies(place: Place, width: usize) -> bool
     16 + place.slot as usize * size + size <= 4_096
 }
 
-// A payload that begins with this byte, and zeros.
-fn payload(says: u8) -> [u8; WIDEST] {
+/// A payload that begins with this byte, and zeros.
+pub fn payload(says: u8) -> [u8; WIDEST] {
     let mut bytes = [0; WIDEST];
     bytes[0] = says;
     bytes
