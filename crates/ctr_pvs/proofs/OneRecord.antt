@@ -1,7 +1,6 @@
 -- What may be logged of a version entry where there is room for one record more.
-use Rattle.std.proofs.Common.{◌≡◌, ℕ, pos, ◌+◌, ◌/◌, ◌^◌, ◌<◌, ◌≤◌, List, ◌++◌, length, take, refl, sym, ◌∙◌, ap, subst, arith}
+use Rattle.std.proofs.Common.{◌≡◌, ℕ, pos, ◌+◌, ◌^◌, ◌<◌, ◌≤◌, List, ◌++◌, length, take, refl, sym, ◌∙◌, ap, subst, arith}
 use Rattle.std.proofs.lemmas.List.{take_at, length-replicate}
-use Rattle.ctr_redo.specs.States.{page_limit}
 use Rattle.ctr_page.specs.declared.rows.Place.{Place}
 use Rattle.ctr_page.specs.declared.rows.VersionEntry.{VersionEntry}
 use Rattle.ctr_page.specs.Places.{kept_size, start_of}
@@ -11,16 +10,6 @@ use Rattle.ctr_store.specs.Store.{View, MayLog}
 use Rattle.ctr_calls.specs.OneRecord.{HasRoomForOne}
 use Rattle.ctr_calls.proofs.Records.{one_may}
 use Rattle.ctr_pvs.specs.Writing.{entry_width, EntryLies, keep_record, blank_entry, blank_record}
-
--- a page that may be counted
-pub in_limit : (p : ℕ) → p < 30000 → p < page_limit
-unfolding page_limit
-in_limit p small = small
-
--- a page of the catalog
-pub catalog_in_limit : (e : ℕ) → e < 32 → 1 + e / 16 < page_limit
-unfolding page_limit
-catalog_in_limit e few = omega (arith, few)
 
 -- the bytes of a version entry, at the front of others
 pub entry_laid : (entry : VersionEntry) (payload : List ℕ) (n : ℕ) (into rest : List ℕ) → payload ≡ entry.version.payload → IsEntry (entry_width entry) entry → n ≡ kept_size (length payload)

@@ -13,7 +13,8 @@ use Rattle.ctr_store.specs.Store.{Logs}
 use Rattle.ctr_calls.proofs.Records.{both_ok}
 use Rattle.ctr_moves.specs.Keeping.{OwedByKeep, IsSpareCopy}
 use Rattle.ctr_pvs.specs.Showing.{older_laid, KeepsVersion}
-use Rattle.ctr_pvs.proofs.OneRecord.{in_limit, entry_laid}
+use Rattle.ctr_pvs.proofs.OneRecord.{entry_laid}
+use Rattle.ctr_search.proofs.Limits.{in_limit}
 use Rattle.ctr_pvs.proofs.Showing.{shows_by}
 use Rattle.ctr_pvs.proofs.writing.keep.Goals as goal
 

@@ -13,7 +13,8 @@ use Rattle.ctr_store.specs.Store.{MayLog, Logs}
 use Rattle.ctr_calls.specs.OneRecord.{LogsOne}
 use Rattle.ctr_calls.proofs.Records.{both_ok}
 use Rattle.ctr_pvs.specs.Writing.{blank_entry, blank_record}
-use Rattle.ctr_pvs.proofs.OneRecord.{in_limit, blank_is, blank_may}
+use Rattle.ctr_pvs.proofs.OneRecord.{blank_is, blank_may}
+use Rattle.ctr_search.proofs.Limits.{in_limit}
 use Rattle.ctr_pvs.proofs.writing.lay_blank.Goals as goal
 
 pub log_on_page-requires-clause-there : goal.log_on_page-requires-clause-there
