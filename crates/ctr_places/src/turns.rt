@@ -94,18 +94,23 @@ impl Told {
                     head.x, head.says, before.x, before.says, older.page, older.slot
                 ),
             },
-            Told::Fault(StoreFault::Fault) => format!(in alloc; "fault"),
-            Told::Fault(
-                StoreFault::Damaged {
-                    file: File::Pages,
-                    at,
-                    want,
-                    got,
-                },
-            ) => { format!(in alloc; "damage at {at} wants {want} has {got}") }
-            Told::Fault(StoreFault::Damaged { want, got, .. }) => {
-                format!(in alloc; "damage wants {want} has {got}")
-            }
+            Told::Fault(fault) => fault_text(alloc, fault),
+        }
+    }
+}
+
+// A fault, or the damage of a page by its place in the file.
+fn fault_text(alloc: Global, fault: StoreFault) -> Result<String, AllocError> {
+    match fault {
+        StoreFault::Fault => format!(in alloc; "fault"),
+        StoreFault::Damaged {
+            file: File::Pages,
+            at,
+            want,
+            got,
+        } => format!(in alloc; "damage at {at} wants {want} has {got}"),
+        StoreFault::Damaged { want, got, .. } => {
+            format!(in alloc; "damage wants {want} has {got}")
         }
     }
 }
