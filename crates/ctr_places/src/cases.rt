@@ -139,7 +139,7 @@ fn play_version(store: &mut Mem, player: &mut Player, step: Step) -> Result<Told
         Step::Trim { place } => trim(store, place),
         Step::Revert { place } => revert(store, place),
         Step::Slot { place, width } => slot(store, place, width),
-        Step::Entry { place, width } => entry_at(store, place, width),
+        Step::Entry { place } => entry_at(store, place),
         _ => Ok(Told::NotAsked),
     }
 }

@@ -144,14 +144,14 @@ pub enum Step<'a> {
     Revert {
         place: Place,
     },
-    /// What stands in a slot, or in a version entry.
+    /// What stands in a slot.
     Slot {
         place: Place,
         width: usize,
     },
+    /// The version entry at a place.
     Entry {
         place: Place,
-        width: usize,
     },
     /// The transaction is rolled back.
     Abort,
@@ -358,10 +358,7 @@ fn version_step<'a>(word: &[u8], rest: &'a [u8]) -> Option<Step<'a>> {
             place: place(one),
             width,
         }),
-        b"entry" => Some(Step::Entry {
-            place: place(one),
-            width,
-        }),
+        b"entry" => Some(Step::Entry { place: place(one) }),
         b"abort" => Some(Step::Abort),
         b"heads" => Some(Step::Heads { x: number(one) }),
         _ => read_step(word, place(one), number(two) as usize),

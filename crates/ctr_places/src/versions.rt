@@ -8,10 +8,8 @@ use crate::turns::{Mem, Seen, Told, ready};
 use ctr_alloc::Search;
 use ctr_disk::StoreFault;
 use ctr_heap::put_slot;
-use ctr_page::{
-    Header, Place, RowSlot, Version, VersionEntry, kept_size, read_entry, read_slot, read_version,
-};
-use ctr_pvs::{drop_entry, free_entry, keep};
+use ctr_page::{Header, Place, RowSlot, Version, VersionEntry, kept_size, read_entry, read_slot};
+use ctr_pvs::{drop_entry, free_entry, keep, version};
 use ctr_records::Bytes;
 use ctr_revert::revert_row;
 
@@ -205,23 +203,23 @@ pub fn slot(store: &mut Mem, place: Place, width: usize) -> Result<Told, StoreFa
     })
 }
 
-/// What stands in a version entry.
-pub fn entry(store: &mut Mem, place: Place, width: usize) -> Result<Told, StoreFault>
+/// The version entry at a place, lent from its page.
+pub fn entry(store: &mut Mem, place: Place) -> Result<Told, StoreFault>
     requires going { store.old.stopped ≡ false }
     ensures going { OnOk result (store.new.stopped ≡ false) }
 {
-    if !entry_lies(place, width) {
+    let counted = store.counted();
+    if counted > 30_000 || place.page >= counted {
         return Ok(Told::NotAsked);
     }
-    let page = store.page(place.page)?;
-    let entry = read_version(page, width, place.slot);
-    if entry.used == 0 {
+    let lent = version(store, place)?;
+    if lent.used == 0 {
         return Ok(Told::Unused);
     }
     Ok(Told::Row {
-        key: entry.key,
-        head: seen(&entry.version),
+        key: lent.key,
+        head: seen(&lent.entry().version),
         previous: None,
-        older: entry.older,
+        older: lent.older,
     })
 }

@@ -16,6 +16,3 @@ pub use reading::{row_in, version_in};
 pub use search::free_entry;
 pub use table::{TableOf, catalog_page, check_there, table_on};
 pub use writing::{drop_entry, keep};
-
-#[cfg(test)]
-mod store_tests;
