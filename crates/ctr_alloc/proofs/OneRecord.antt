@@ -1,8 +1,8 @@
 -- What may be logged where there is room for one record more.
 use Rattle.std.proofs.Common.{ℕ, ◌+◌, ◌/◌, ◌^◌, ◌<◌, ◌≤◌, refl, arith}
-use Rattle.ctr_changes.specs.Changing.{alloc_record, free_record}
+use Rattle.ctr_record_effects.specs.Changing.{alloc_record, free_record}
 use Rattle.ctr_store.specs.Store.{View, MayLog}
-use Rattle.ctr_calls.specs.OneRecord.{HasRoomForOne}
+use Rattle.ctr_walk.specs.OneRecord.{HasRoomForOne}
 
 on_page : (p : ℕ) → p < 30000 → p / 8 + 1 ≤ 4096
 on_page p small = omega (arith, small)

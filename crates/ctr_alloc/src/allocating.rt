@@ -4,18 +4,18 @@ ghost use Rattle.ctr_model.specs.declared.limits.TheConstants.{MOST_PAGES};
 ghost use Rattle.ctr_area.specs.Changes.{with_taken as area_with_taken, IsBitSet};
 ghost use Rattle.ctr_base.specs.Base.{IsSoundImage};
 ghost use Rattle.ctr_store.specs.Store.{LeavesPage};
-ghost use Rattle.ctr_calls.specs.OneRecord.{HasRoomForOne, LogsOne};
-ghost use Rattle.ctr_changes.specs.States.{pages_in, area_in, IsWholePage};
-ghost use Rattle.ctr_changes.specs.Changing.{alloc_record, free_record};
+ghost use Rattle.ctr_walk.specs.OneRecord.{HasRoomForOne, LogsOne};
+ghost use Rattle.ctr_record_effects.specs.States.{pages_in, area_in, IsWholePage};
+ghost use Rattle.ctr_record_effects.specs.Changing.{alloc_record, free_record};
 
 use crate::bits::{with_free, with_taken};
 use ctr_base::Origin;
-use ctr_calls::{a_record_behind_a_page, log_record};
-use ctr_changes::{a_free_changes_its_bit, an_alloc_changes_its_bit};
 use ctr_disk::{Disk, StoreFault};
+use ctr_record_effects::{a_free_changes_its_bit, an_alloc_changes_its_bit};
 use ctr_records::{Bytes, Overlay, PageNo, Record};
 use ctr_store::Store;
 use ctr_types::Xid;
+use ctr_walk::{a_record_behind_a_page, log_record};
 
 // The byte of page 0 in which a page has its bit, where this page is allocated, or free.
 fn byte_with<D: Disk, O: Origin>(

@@ -2,7 +2,7 @@
 ghost use Rattle.std.specs.Prelude.{◌≡◌, false, IsTrue, IfOk, OnOk};
 ghost use Rattle.ctr_base.specs.Base.{IsSoundImage};
 ghost use Rattle.ctr_store.specs.Store.{LeavesPage};
-ghost use Rattle.ctr_changes.specs.States.{area_in};
+ghost use Rattle.ctr_record_effects.specs.States.{area_in};
 ghost use Rattle.ctr_alloc.specs.Free.{AreTakenBelow, IsNextFree, search_end};
 
 use crate::search::{NextFree, Search};

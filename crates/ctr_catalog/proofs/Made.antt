@@ -5,8 +5,8 @@ use Rattle.ctr_disk.specs.declared.disk.Image.{Image}
 use Rattle.ctr_disk.specs.declared.fault.StoreFault.{StoreFault}
 use Rattle.ctr_records.specs.declared.record.Record.{Record}
 use Rattle.ctr_store.specs.Store.{View}
-use Rattle.ctr_calls.specs.OneRecord.{LogsOne}
-use Rattle.ctr_calls.proofs.Joins.{fails_with}
+use Rattle.ctr_walk.specs.OneRecord.{LogsOne}
+use Rattle.ctr_walk.proofs.Joins.{fails_with}
 
 module _ {D : Type 0} (first : Image) (g : Ghosts D) (r : Record) (a b : View D) where
   -- one record, whatever is answered of it

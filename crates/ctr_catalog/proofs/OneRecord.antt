@@ -5,10 +5,10 @@ use Rattle.ctr_bytes.proofs.FieldLaws.{length-spelled}
 use Rattle.ctr_value.specs.Columns.{ColumnsFit}
 use Rattle.ctr_redo.specs.States.{page_limit}
 use Rattle.ctr_area.proofs.Made.{length-new}
-use Rattle.ctr_changes.specs.Changing.{create_record, drop_record, uncreate_record, undrop_record}
+use Rattle.ctr_record_effects.specs.Changing.{create_record, drop_record, uncreate_record, undrop_record}
 use Rattle.ctr_store.specs.Store.{View, MayLog}
-use Rattle.ctr_calls.specs.OneRecord.{HasRoomForOne}
-use Rattle.ctr_calls.proofs.Records.{one_may}
+use Rattle.ctr_walk.specs.OneRecord.{HasRoomForOne}
+use Rattle.ctr_walk.proofs.Records.{one_may}
 
 -- a page of the catalog is one that there may be
 pub catalog_in_limit : (e : ℕ) → e < 32 → 1 + e / 16 < page_limit

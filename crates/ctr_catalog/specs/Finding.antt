@@ -4,7 +4,7 @@ use Rattle.ctr_model.specs.State.{same_name}
 use Rattle.ctr_snap.specs.Seeing.{SnapshotTaken}
 use Rattle.ctr_records.specs.declared.decoding.BadRecord.{BadRecord}
 use Rattle.ctr_meta.specs.Tables.{Tables}
-use Rattle.ctr_seen.specs.Seen.{xid_is_seen, xid_is_changed}
+use Rattle.ctr_meta.specs.Seen.{xid_is_seen, xid_is_changed}
 use Rattle.ctr_page.specs.declared.table.TheConstants.{ENTRY_SIZE}
 use Rattle.ctr_page.specs.Columns.{entry_at}
 use Rattle.ctr_page.specs.Damage.{entry_check}

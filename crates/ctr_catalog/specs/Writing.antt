@@ -12,9 +12,9 @@ use Rattle.ctr_area.specs.Areas.{Area}
 use Rattle.ctr_area.specs.Reading.{area_of}
 use Rattle.ctr_area.specs.Changes.{with_taken, with_title}
 use Rattle.ctr_store.specs.Store.{View, LeavesPage}
-use Rattle.ctr_calls.specs.OneRecord.{LogsOne}
-use Rattle.ctr_calls.specs.Damage.{EndsTold, ReadsPages}
-use Rattle.ctr_changes.specs.Changing.{free_record, uncreate_record, undrop_record}
+use Rattle.ctr_walk.specs.OneRecord.{LogsOne}
+use Rattle.ctr_walk.specs.Damage.{EndsTold, ReadsPages}
+use Rattle.ctr_record_effects.specs.Changing.{free_record, uncreate_record, undrop_record}
 use Rattle.ctr_catalog.specs.declared.writing.CatalogRefusal.{CatalogRefusal}
 use Rattle.ctr_catalog.specs.declared.writing.CatalogRefusal.TheVariants.{CatalogFull, Store}
 use Rattle.ctr_catalog.specs.Free.{EndsCatalog, is_free_entry}

@@ -3,21 +3,20 @@ ghost use Rattle.std.specs.Prelude.{◌≡◌, ◌<◌, ◌≤◌, ◌+◌, ◌/
 ghost use Rattle.ctr_base.specs.Base.{IsSoundImage};
 ghost use Rattle.ctr_page.specs.declared.table.TheConstants.{PAGE_SIZE};
 ghost use Rattle.ctr_store.specs.Store.{LeavesPage};
-ghost use Rattle.ctr_changes.specs.States.{pages_in, area_in};
-ghost use Rattle.ctr_calls.specs.Damage.{damage_told, EndsTold, ReadsPages};
+ghost use Rattle.ctr_record_effects.specs.States.{pages_in, area_in};
+ghost use Rattle.ctr_walk.specs.Damage.{damage_told, EndsTold, ReadsPages};
 ghost use Rattle.ctr_catalog.specs.Finding.{NamedSaid, stands_seen, change_since, is_made_so, change_made, checks_at, entry_seen, changed_in, EndsEntries, EndsEntry};
 
 use crate::entries::is_live_of;
 use crate::writing::page_of;
 use ctr_base::Origin;
-use ctr_calls::tell;
 use ctr_disk::{Disk, StoreFault};
-use ctr_meta::Meta;
+use ctr_meta::{Meta, is_changed, is_seen};
 use ctr_page::{BadChain, BadPage, check_entry, read_entry};
-use ctr_seen::{is_changed, is_seen};
 use ctr_snap::Snapshot;
 use ctr_store::Store;
 use ctr_types::{Name, Xid};
+use ctr_walk::tell;
 
 /// Who made a table, and who dropped it, 0 for nobody.
 #[derive(Clone, Copy, Debug, PartialEq, Eq)]

@@ -4,17 +4,17 @@ ghost use Rattle.ctr_base.specs.Base.{IsSoundImage};
 ghost use Rattle.ctr_store.specs.Store.{LeavesPage};
 ghost use Rattle.ctr_page.specs.Searching.{IsFirst};
 ghost use Rattle.ctr_area.specs.Reading.{area_of};
-ghost use Rattle.ctr_changes.specs.States.{pages_in};
-ghost use Rattle.ctr_calls.specs.Damage.{damage_told, EndsTold, ReadsPages};
+ghost use Rattle.ctr_record_effects.specs.States.{pages_in};
+ghost use Rattle.ctr_walk.specs.Damage.{damage_told, EndsTold, ReadsPages};
 ghost use Rattle.ctr_catalog.specs.Free.{EndsOn, EndsCatalog, is_free_entry};
 
 use crate::entries::{ENTRIES_ON_PAGE, find_free};
 use ctr_base::Origin;
-use ctr_calls::tell;
 use ctr_disk::{Disk, StoreFault};
 use ctr_page::{BadChain, BadPage};
 use ctr_records::PageNo;
 use ctr_store::Store;
+use ctr_walk::tell;
 
 /// The bytes of a page.
 const PAGE: usize = 4096;

@@ -6,27 +6,27 @@ ghost use Rattle.ctr_value.specs.Columns.{ColumnsFit};
 ghost use Rattle.ctr_base.specs.Base.{IsSoundImage};
 ghost use Rattle.ctr_page.specs.Columns.{new_entry_bytes};
 ghost use Rattle.ctr_area.specs.Changes.{new_title, empty_chains, with_title, ChangesEntry};
-ghost use Rattle.ctr_calls.specs.OneRecord.{HasRoomForOne, LogsOne};
-ghost use Rattle.ctr_changes.specs.States.{pages_in, area_in};
-ghost use Rattle.ctr_changes.specs.Changing.{create_record, drop_record, uncreate_record, undrop_record};
+ghost use Rattle.ctr_walk.specs.OneRecord.{HasRoomForOne, LogsOne};
+ghost use Rattle.ctr_record_effects.specs.States.{pages_in, area_in};
+ghost use Rattle.ctr_record_effects.specs.Changing.{create_record, drop_record, uncreate_record, undrop_record};
 ghost use Rattle.ctr_records.specs.Members.{ItemFits};
-ghost use Rattle.ctr_calls.specs.Damage.{damage_told};
+ghost use Rattle.ctr_walk.specs.Damage.{damage_told};
 ghost use Rattle.ctr_catalog.specs.Writing.{EndsMaking, MakesTable, undo_record, HasMade, area_undone};
 
 use crate::store::free_entry;
 use ctr_alloc::free;
 use ctr_base::Origin;
 use ctr_bytes::put_u64;
-use ctr_calls::{a_record_behind_a_page, log_on_page};
-use ctr_changes::{
+use ctr_disk::{Disk, StoreFault};
+use ctr_page::make_entry;
+use ctr_record_effects::{
     a_drop_changes_its_title, a_new_table_has_its_entry, an_uncreate_changes_its_title,
     an_undrop_changes_its_title, over_entry, over_page,
 };
-use ctr_disk::{Disk, StoreFault};
-use ctr_page::make_entry;
 use ctr_records::{PageNo, Record, SlogItem};
 use ctr_store::Store;
 use ctr_types::{Name, Schema, Xid};
+use ctr_walk::{a_record_behind_a_page, log_on_page};
 
 /// Why no table was made.
 #[derive(Clone, Copy, Debug, PartialEq, Eq)]

@@ -4,7 +4,7 @@ use Rattle.std.specs.Option.{option_map}
 use Rattle.ctr_meta.specs.Tables.{Tables}
 use Rattle.ctr_area.specs.Areas.{RowVersion}
 use Rattle.ctr_area.specs.Images.{is_committed_in}
-use Rattle.ctr_seen.specs.Seen.{xid_is_seen}
+use Rattle.ctr_meta.specs.Seen.{xid_is_seen}
 use Rattle.ctr_chain.specs.declared.seeking.Sought.{Sought}
 use Rattle.ctr_chain.specs.declared.seeking.Sought.TheVariants.{Seen, Committed}
 

@@ -4,18 +4,18 @@ ghost use Rattle.ctr_base.specs.Base.{IsSoundImage};
 ghost use Rattle.ctr_store.specs.Store.{LeavesPage};
 ghost use Rattle.ctr_area.specs.Chains.{chain_of};
 ghost use Rattle.ctr_area.specs.Images.{is_committed_in};
-ghost use Rattle.ctr_calls.specs.Damage.{damage_told, EndsTold, ReadsPages};
-ghost use Rattle.ctr_changes.specs.States.{pages_in, area_in};
+ghost use Rattle.ctr_walk.specs.Damage.{damage_told, EndsTold, ReadsPages};
+ghost use Rattle.ctr_record_effects.specs.States.{pages_in, area_in};
 ghost use Rattle.ctr_chain.specs.Seeing.{first_xid};
 ghost use Rattle.ctr_chain.specs.Seeking.{sought_at, xid_found, xids_found};
 
 use crate::seeking::{Found, Sought, seek};
 use ctr_base::Origin;
-use ctr_calls::tell;
 use ctr_disk::{Disk, StoreFault};
 use ctr_page::{BadChain, Place};
 use ctr_store::Store;
 use ctr_types::Xid;
+use ctr_walk::tell;
 
 fn xid_found(found: Option<Found>) -> Option<Xid>
     ensures { result ≡ xid_found found }

@@ -3,7 +3,7 @@ ghost use Rattle.std.specs.Prelude.{◌≡◌, ◌≤◌, ◌<◌, false, IsTrue
 ghost use Rattle.ctr_base.specs.Base.{IsSoundImage};
 ghost use Rattle.ctr_store.specs.Store.{LeavesPage};
 ghost use Rattle.ctr_page.specs.declared.table.TheConstants.{PAGE_SIZE};
-ghost use Rattle.ctr_changes.specs.States.{pages_in};
+ghost use Rattle.ctr_record_effects.specs.States.{pages_in};
 ghost use Rattle.ctr_chain.specs.Looking.{xid_there, look_of_slot, look_of_entry, LooksAtRow, LooksAtEntry};
 
 use ctr_base::Origin;

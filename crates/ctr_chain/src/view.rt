@@ -2,9 +2,9 @@
 ghost use Rattle.std.specs.Prelude.{◌≡◌, ◌≤◌, ◌<◌, false, IsTrue, IfOk};
 ghost use Rattle.ctr_base.specs.Base.{IsSoundImage};
 ghost use Rattle.ctr_store.specs.Store.{LeavesPage};
-ghost use Rattle.ctr_calls.specs.Damage.{damage_told, EndsTold, ReadsPages};
-ghost use Rattle.ctr_changes.specs.States.{pages_in, area_in};
-ghost use Rattle.ctr_seen.specs.Seen.{xid_is_seen};
+ghost use Rattle.ctr_walk.specs.Damage.{damage_told, EndsTold, ReadsPages};
+ghost use Rattle.ctr_record_effects.specs.States.{pages_in, area_in};
+ghost use Rattle.ctr_meta.specs.Seen.{xid_is_seen};
 ghost use Rattle.ctr_chain.specs.Seeking.{sought_at};
 ghost use Rattle.ctr_chain.specs.Rows.{GivesRow};
 ghost use Rattle.ctr_chain.specs.Visible.{as_read, EndsReading, visible_row};
@@ -12,12 +12,12 @@ ghost use Rattle.ctr_chain.specs.Visible.{as_read, EndsReading, visible_row};
 use crate::reading::{Given, place_of_version, read_row};
 use crate::seeking::{Sought, seek};
 use ctr_base::Origin;
-use ctr_calls::tell;
 use ctr_disk::{Disk, StoreFault};
 use ctr_page::{BadChain, Place};
 use ctr_snap::Snapshot;
 use ctr_store::Store;
 use ctr_types::{OutOfMemory, Row, Xid};
+use ctr_walk::tell;
 use std::alloc::Global;
 
 /// Why a row isn't read.

@@ -13,9 +13,9 @@ use Rattle.ctr_area.specs.Areas.{Area}
 use Rattle.ctr_area.specs.Reading.{entry_bytes, area_of}
 use Rattle.ctr_area.specs.Chains.{pages_bound, pages_from}
 use Rattle.ctr_area.specs.Sound.{IsOfRows, AreBuckets, AreReadable}
-use Rattle.ctr_calls.specs.Damage.{EndsTold}
-use Rattle.ctr_search.specs.Along.{ChainSought, EndsAlong}
-use Rattle.ctr_search.proofs.Telling.{none_from, not_used, not_free, page_found, pages_without, place_found, no_place}
+use Rattle.ctr_walk.specs.Damage.{EndsTold}
+use Rattle.ctr_walk.specs.Along.{ChainSought, EndsAlong}
+use Rattle.ctr_walk.proofs.Telling.{none_from, not_used, not_free, page_found, pages_without, place_found, no_place}
 use Rattle.ctr_heap.specs.declared.slots.SlotSought.{SlotSought}
 use Rattle.ctr_heap.specs.declared.slots.SlotSought.TheVariants.{Key, Free}
 use Rattle.ctr_heap.specs.Slots.{EndsSlots, seeks_in}

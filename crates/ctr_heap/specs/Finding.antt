@@ -6,8 +6,8 @@ use Rattle.ctr_page.specs.declared.rows.Place.{Place}
 use Rattle.ctr_area.specs.Areas.{Area}
 use Rattle.ctr_area.specs.Chains.{places_from}
 use Rattle.ctr_area.specs.Sound.{IsAmong, IsUsedSlot, AreKeyed}
-use Rattle.ctr_search.specs.Along.{ChainSought}
-use Rattle.ctr_search.specs.Tables.{chain_sought, EndsChain}
+use Rattle.ctr_walk.specs.Along.{ChainSought}
+use Rattle.ctr_walk.specs.Tables.{chain_sought, EndsChain}
 use Rattle.ctr_heap.specs.declared.slots.SlotSought.{SlotSought}
 use Rattle.ctr_heap.specs.Slots.{EndsSlots}
 

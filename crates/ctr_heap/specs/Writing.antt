@@ -11,7 +11,7 @@ use Rattle.ctr_page.specs.Readable.{PartsHaveRoom}
 use Rattle.ctr_area.specs.Areas.{Firsts}
 use Rattle.ctr_area.specs.Reading.{entry_bytes, width_on, area_of}
 use Rattle.ctr_area.specs.Changes.{with_bucket, IsPlaceOf}
-use Rattle.ctr_changes.specs.Changing.{laid_on_place, link_record, link_older_record}
+use Rattle.ctr_record_effects.specs.Changing.{laid_on_place, link_record, link_older_record}
 
 -- ---- a slot
 

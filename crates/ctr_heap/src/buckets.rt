@@ -3,9 +3,9 @@ ghost use Rattle.std.specs.Prelude.{◌≡◌, ◌≤◌, ◌<◌, false, IsTrue
 ghost use Rattle.ctr_base.specs.Base.{IsSoundImage};
 ghost use Rattle.ctr_area.specs.Sound.{AreReadable};
 ghost use Rattle.ctr_page.specs.Places.{bucket_of as bucket_by};
-ghost use Rattle.ctr_changes.specs.States.{pages_in, area_in};
+ghost use Rattle.ctr_record_effects.specs.States.{pages_in, area_in};
 ghost use Rattle.ctr_heap.specs.declared.slots.SlotSought.TheVariants.{Key as KeySought, Free as FreeSought};
-ghost use Rattle.ctr_calls.specs.Damage.{damage_told, EndsTold, ReadsPages};
+ghost use Rattle.ctr_walk.specs.Damage.{damage_told, EndsTold, ReadsPages};
 ghost use Rattle.ctr_heap.specs.Finding.{EndsBucket, FindsKey, FindsFree};
 
 use crate::found::{a_search_tells_a_free_slot, a_search_tells_the_key};
@@ -13,8 +13,8 @@ use crate::slots::SlotSought;
 use ctr_base::Origin;
 use ctr_disk::{Disk, StoreFault};
 use ctr_page::{Chain, Place, bucket_of};
-use ctr_search::search_chain;
 use ctr_store::Store;
+use ctr_walk::search_chain;
 
 /// The slot of a key of a table, by its entry of the catalog: the search goes along the chain of the key's bucket, and checks the entry, and
 /// each page as it is read. It logs nothing, and takes no memory.

@@ -12,7 +12,7 @@ ghost use Rattle.ctr_area.specs.Reading.{area_of};
 ghost use Rattle.ctr_heap.specs.Slots.{seeks_in};
 ghost use Rattle.ctr_heap.specs.Finding.{bucket_sought, first_of_bucket};
 ghost use Rattle.ctr_page.specs.Places.{bucket_of};
-ghost use Rattle.ctr_search.specs.Along.{EndsAlong};
+ghost use Rattle.ctr_walk.specs.Along.{EndsAlong};
 
 /// The slot of a key of a table is looked for in the chain of the key's bucket alone.
 pub fn a_key_is_in_its_bucket()

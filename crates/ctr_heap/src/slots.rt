@@ -1,6 +1,5 @@
 // The slots of a page of rows.
-ghost use Rattle.std.specs.Prelude.{◌≡◌, ◌≤◌, ◌<◌, ℕ, List, length, Ok};
-ghost use Rattle.std.specs.Prelude.{Option};
+ghost use Rattle.std.specs.Prelude.{◌≡◌, ◌≤◌, ◌<◌, ℕ, List, length, Ok, Option};
 ghost use Rattle.ctr_types.specs.declared.value.Kind.{Kind};
 ghost use Rattle.ctr_page.specs.declared.table.TheConstants.{PAGE_SIZE};
 ghost use Rattle.ctr_page.specs.Columns.{kinds_of};
@@ -10,8 +9,8 @@ ghost use Rattle.ctr_heap.specs.declared.slots.SlotSought.{SlotSought};
 ghost use Rattle.ctr_heap.specs.Slots.{slot_is, EndsSlots, seeks_in};
 
 use ctr_page::{BadPage, RowSlot, check_slot, kinds_width, read_slot, room_for, slot_size};
-use ctr_search::PageSought;
 use ctr_types::Kind;
+use ctr_walk::PageSought;
 
 /// Which slot is sought.
 #[derive(Clone, Copy, Debug, PartialEq, Eq)]

@@ -7,23 +7,23 @@ ghost use Rattle.ctr_bytes.specs.Fields.{spelled};
 ghost use Rattle.ctr_page.specs.Making.{IsHeader, header_bytes};
 ghost use Rattle.ctr_area.specs.Reading.{slot_said, columns_on};
 ghost use Rattle.ctr_area.specs.Changes.{with_blank, with_slot, with_firsts};
-ghost use Rattle.ctr_calls.specs.OneRecord.{HasRoomForOne, LogsOne};
-ghost use Rattle.ctr_changes.specs.States.{pages_in, area_in};
-ghost use Rattle.ctr_changes.specs.Changing.{format_record};
+ghost use Rattle.ctr_walk.specs.OneRecord.{HasRoomForOne, LogsOne};
+ghost use Rattle.ctr_record_effects.specs.States.{pages_in, area_in};
+ghost use Rattle.ctr_record_effects.specs.Changing.{format_record};
 ghost use Rattle.ctr_heap.specs.Writing.{LiesOnPage, row_record, HasPlaceFor, front_place, front_record, with_front, IsOfTable};
 
 use ctr_base::Origin;
 use ctr_bytes::put_u32;
-use ctr_calls::log_on_page;
-use ctr_changes::{
+use ctr_disk::{Disk, StoreFault};
+use ctr_page::{Header, Place, RowSlot, make_header, make_slot, slot_size};
+use ctr_record_effects::{
     a_format_clears_its_page, a_link_changes_its_chain, a_slot_is_laid, over_cleared, over_entry,
     over_place,
 };
-use ctr_disk::{Disk, StoreFault};
-use ctr_page::{Header, Place, RowSlot, make_header, make_slot, slot_size};
 use ctr_records::{PageNo, Record};
 use ctr_store::Store;
 use ctr_types::Xid;
+use ctr_walk::log_on_page;
 
 /// The bytes of a header.
 const HEADER: usize = 16;

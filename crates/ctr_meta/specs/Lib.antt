@@ -6,3 +6,4 @@ pub mod Kept
 pub mod XidList
 pub mod Inside
 pub mod Lists
+pub mod Seen

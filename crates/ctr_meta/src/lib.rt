@@ -6,11 +6,15 @@ mod listing;
 mod meta;
 mod needs;
 mod room;
+mod seen;
 mod xids;
 
 pub use items::Wanted;
 pub use meta::Meta;
 pub use room::{Room, room_for, tables_fold, xids_last};
+pub use seen::{is_changed, is_seen};
 
+#[cfg(test)]
+mod seen_tests;
 #[cfg(test)]
 mod tests;

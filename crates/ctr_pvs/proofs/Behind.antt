@@ -4,7 +4,7 @@ use Rattle.ctr_disk.specs.declared.disk.Disk.{Ghosts}
 use Rattle.ctr_disk.specs.declared.disk.Image.{Image}
 use Rattle.ctr_disk.specs.declared.fault.StoreFault.{StoreFault}
 use Rattle.ctr_store.specs.Store.{View, LeavesPage}
-use Rattle.ctr_calls.proofs.Joins.{answers_ok, answers_err, pages_join}
+use Rattle.ctr_walk.proofs.Joins.{answers_ok, answers_err, pages_join}
 
 module _ {D : Type 0} (first : Image) (g : Ghosts D) (a b c : View D) {S T : Type 0} (x : S) (one : LeavesPage {T = S} first g a b (Ok x)) where
   pub both_read : (y : T) → LeavesPage {T = T} first g b c (Ok y) → (U : Type 0) (z : U) → LeavesPage {T = U} first g a c (Ok z)

@@ -15,10 +15,10 @@ use Rattle.ctr_area.specs.Reading.{older_said, header_on, columns_on, width_on}
 use Rattle.ctr_base.specs.Base.{IsSoundImage}
 use Rattle.ctr_redo.specs.States.{State}
 use Rattle.ctr_store.specs.Store.{View, LeavesPage}
-use Rattle.ctr_calls.specs.Damage.{damage_told, EndsTold}
-use Rattle.ctr_calls.proofs.Joins.{pages_join}
-use Rattle.ctr_calls.proofs.Damages.{reads}
-use Rattle.ctr_changes.specs.States.{pages_in}
+use Rattle.ctr_walk.specs.Damage.{damage_told, EndsTold}
+use Rattle.ctr_walk.proofs.Joins.{pages_join}
+use Rattle.ctr_walk.proofs.Damages.{reads}
+use Rattle.ctr_record_effects.specs.States.{pages_in}
 use Rattle.ctr_pvs.specs.declared.table.TableOf.{TableOf}
 use Rattle.ctr_pvs.specs.declared.lending.LentVersion.{LentVersion}
 use Rattle.ctr_pvs.specs.Table.{TableSaid}

@@ -5,7 +5,7 @@ use Rattle.ctr_redo.specs.States.{State}
 use Rattle.ctr_area.specs.Areas.{Area}
 use Rattle.ctr_area.specs.Images.{image_rows, versions_in}
 use Rattle.ctr_area.specs.Sound.{IsSoundArea}
-use Rattle.ctr_changes.specs.States.{area_in}
+use Rattle.ctr_record_effects.specs.States.{area_in}
 use Rattle.ctr_pvs.specs.Showing.{HasSoundArea, ShowsTheSame}
 
 -- a state whose pages are an area that is sound with as many pages and with these tables

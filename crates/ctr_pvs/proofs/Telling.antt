@@ -10,9 +10,9 @@ use Rattle.ctr_area.specs.Areas.{Area}
 use Rattle.ctr_area.specs.Reading.{entry_bytes, area_of}
 use Rattle.ctr_area.specs.Chains.{pages_bound}
 use Rattle.ctr_area.specs.Sound.{IsOfVersions, AreReadable}
-use Rattle.ctr_search.specs.Along.{ChainSought, EndsAlong}
-use Rattle.ctr_search.specs.Tables.{chain_sought}
-use Rattle.ctr_search.proofs.Telling.{not_used, not_free, place_found, no_place}
+use Rattle.ctr_walk.specs.Along.{ChainSought, EndsAlong}
+use Rattle.ctr_walk.specs.Tables.{chain_sought}
+use Rattle.ctr_walk.proofs.Telling.{not_used, not_free, place_found, no_place}
 use Rattle.ctr_pvs.specs.Entries.{EndsFree, is_free_older}
 use Rattle.ctr_pvs.specs.Along.{FindsFreeEntry}
 use Rattle.ctr_pvs.proofs.Sought.{first_in_area}

@@ -6,7 +6,7 @@ use Rattle.ctr_page.specs.declared.rows.Place.{Place}
 use Rattle.ctr_area.specs.Areas.{Area}
 use Rattle.ctr_area.specs.Chains.{older_places}
 use Rattle.ctr_area.specs.Sound.{IsAmong}
-use Rattle.ctr_search.specs.Tables.{EndsChain}
+use Rattle.ctr_walk.specs.Tables.{EndsChain}
 use Rattle.ctr_pvs.specs.Entries.{EndsFree}
 
 -- Where the search ends: at the damage of the table's entry; or the entry passes, and it ends along

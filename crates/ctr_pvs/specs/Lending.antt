@@ -9,8 +9,8 @@ use Rattle.ctr_page.specs.declared.walk.BadChain.{BadChain}
 use Rattle.ctr_area.specs.Reading.{older_said, columns_on, area_of}
 use Rattle.ctr_base.specs.Base.{IsSoundImage}
 use Rattle.ctr_store.specs.Store.{View}
-use Rattle.ctr_calls.specs.Damage.{damage_told, EndsTold, ReadsPages}
-use Rattle.ctr_changes.specs.States.{pages_in}
+use Rattle.ctr_walk.specs.Damage.{damage_told, EndsTold, ReadsPages}
+use Rattle.ctr_record_effects.specs.States.{pages_in}
 use Rattle.ctr_pvs.specs.declared.lending.LentVersion.{LentVersion}
 use Rattle.ctr_pvs.specs.Reading.{version_check_at}
 

@@ -8,8 +8,8 @@ use Rattle.ctr_area.specs.Reading.{older_said, columns_on}
 use Rattle.ctr_area.specs.Chains.{older_places}
 use Rattle.ctr_area.specs.Images.{image_rows, versions_in}
 use Rattle.ctr_area.specs.Sound.{IsAmong, IsSoundArea}
-use Rattle.ctr_moves.specs.Keeping.{OwedByKeep, older_copy, IsSpareCopy}
-use Rattle.ctr_changes.specs.States.{pages_in, area_in}
+use Rattle.ctr_record_laws.specs.Owed.{OwedByKeep, older_copy, IsSpareCopy}
+use Rattle.ctr_record_effects.specs.States.{pages_in, area_in}
 use Rattle.ctr_pvs.specs.Writing.{HasPlaceOfVersion}
 
 -- the pages of a state are sound with its tables

@@ -19,10 +19,10 @@ use Rattle.ctr_area.specs.Checked.{kinds_at}
 use Rattle.ctr_area.specs.Changes.{IsPlaceOf}
 use Rattle.ctr_base.specs.Base.{IsSoundImage}
 use Rattle.ctr_store.specs.Store.{View}
-use Rattle.ctr_calls.specs.OneRecord.{LogsOne}
-use Rattle.ctr_calls.specs.Damage.{ReadsPages}
-use Rattle.ctr_changes.specs.States.{pages_in}
-use Rattle.ctr_changes.specs.Changing.{laid_on_place}
+use Rattle.ctr_walk.specs.OneRecord.{LogsOne}
+use Rattle.ctr_walk.specs.Damage.{ReadsPages}
+use Rattle.ctr_record_effects.specs.States.{pages_in}
+use Rattle.ctr_record_effects.specs.Changing.{laid_on_place}
 use Rattle.ctr_pvs.specs.Table.{told_of, owner_of, table_check}
 use Rattle.ctr_pvs.specs.Reading.{lies_check}
 

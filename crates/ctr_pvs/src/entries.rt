@@ -4,8 +4,8 @@ ghost use Rattle.ctr_page.specs.declared.table.TheConstants.{PAGE_SIZE};
 ghost use Rattle.ctr_pvs.specs.Entries.{EndsFree};
 
 use ctr_page::{BadPage, check_version, kept_size, kinds_width, read_version, room_for};
-use ctr_search::PageSought;
 use ctr_types::Kind;
+use ctr_walk::PageSought;
 
 /// A version entry that isn't used is sought.
 #[derive(Clone, Copy, Debug, PartialEq, Eq)]

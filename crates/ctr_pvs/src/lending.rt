@@ -9,19 +9,19 @@ ghost use Rattle.ctr_page.specs.declared.table.TheConstants.{PAGE_SIZE};
 ghost use Rattle.ctr_page.specs.Places.{kept_size as size_of_kept, start_of as start_place};
 ghost use Rattle.ctr_page.specs.Reading.{older_at};
 ghost use Rattle.ctr_page.specs.Making.{IsEntry};
-ghost use Rattle.ctr_changes.specs.States.{pages_in};
+ghost use Rattle.ctr_record_effects.specs.States.{pages_in};
 ghost use Rattle.ctr_pvs.specs.Reading.{WidthSaid, version_check_at, EndsAt};
 ghost use Rattle.ctr_pvs.specs.Lending.{entry_lent, IsKeptAt, LendsVersion};
 
 use crate::reading::version_in;
 use crate::table::{TableOf, table_on};
 use ctr_base::Origin;
-use ctr_calls::tell;
 use ctr_disk::{Disk, StoreFault};
 use ctr_page::{BadChain, BadPage, Place, Version, VersionEntry, kinds_width, read_version};
 use ctr_records::Bytes;
 use ctr_store::Store;
 use ctr_types::Xid;
+use ctr_walk::tell;
 
 /// A version entry as it is kept, with its payload lent from its page.
 #[derive(Clone, Copy, Debug)]

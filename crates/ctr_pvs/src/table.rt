@@ -3,7 +3,7 @@ ghost use Rattle.std.specs.Prelude.{◌≡◌, ◌≤◌, ◌<◌, ◌+◌, ◌*
 ghost use Rattle.ctr_base.specs.Base.{IsSoundImage};
 ghost use Rattle.ctr_store.specs.Store.{LeavesPage};
 ghost use Rattle.ctr_page.specs.declared.table.TheConstants.{PAGE_SIZE};
-ghost use Rattle.ctr_changes.specs.States.{pages_in};
+ghost use Rattle.ctr_record_effects.specs.States.{pages_in};
 ghost use Rattle.ctr_pvs.specs.Table.{there_check, owner_check, KindsSaid, OwnerSaid, TableFits, TableSaid};
 
 use ctr_base::Origin;

@@ -9,26 +9,28 @@ ghost use Rattle.ctr_page.specs.Places.{kept_size as size_of_kept, start_of as s
 ghost use Rattle.ctr_area.specs.Areas.{free_older};
 ghost use Rattle.ctr_area.specs.Reading.{older_said, columns_on, width_on};
 ghost use Rattle.ctr_area.specs.Changes.{with_older, IsPlaceOf};
-ghost use Rattle.ctr_calls.specs.OneRecord.{HasRoomForOne, LogsOne};
-ghost use Rattle.ctr_calls.specs.Damage.{damage_told, EndsTold};
+ghost use Rattle.ctr_walk.specs.OneRecord.{HasRoomForOne, LogsOne};
+ghost use Rattle.ctr_walk.specs.Damage.{damage_told, EndsTold};
 ghost use Rattle.ctr_store.specs.Store.{LeavesPage};
-ghost use Rattle.ctr_changes.specs.States.{pages_in, area_in};
+ghost use Rattle.ctr_record_effects.specs.States.{pages_in, area_in};
 ghost use Rattle.ctr_pvs.specs.Reading.{EndsAt};
-ghost use Rattle.ctr_moves.specs.Trims.{IsInNoChain};
+ghost use Rattle.ctr_record_laws.specs.Owed.{IsInNoChain};
 ghost use Rattle.ctr_pvs.specs.Showing.{HasSoundArea, ShowsTheSame, MayKeep, KeepsVersion};
 ghost use Rattle.ctr_pvs.specs.Writing.{EntryLies, keep_record, HasPlaceOfVersion, blank_entry, blank_record, drop_check, DropsEntry};
 
 use crate::reading::check_lies;
 use crate::table::table_on;
 use ctr_base::Origin;
-use ctr_calls::{log_on_page, tell};
-use ctr_changes::{a_version_is_laid, over_place};
 use ctr_disk::{Disk, StoreFault};
-use ctr_moves::{a_free_entry_shows_the_same, a_keep_shows_the_same, a_kept_version_is_spare};
 use ctr_page::{BadChain, Place, Version, VersionEntry, kept_size, kinds_width, make_version};
+use ctr_record_effects::{a_version_is_laid, over_place};
+use ctr_record_laws::{
+    a_free_entry_shows_the_same, a_keep_shows_the_same, a_kept_version_is_spare,
+};
 use ctr_records::{Bytes, Record};
 use ctr_store::Store;
 use ctr_types::Xid;
+use ctr_walk::{log_on_page, tell};
 
 /// The most bytes of a version entry.
 const ENTRY_MOST: usize = 2_072;

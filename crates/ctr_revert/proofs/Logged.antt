@@ -8,8 +8,8 @@ use Rattle.ctr_page.specs.declared.walk.BadChain.{BadChain}
 use Rattle.ctr_page.specs.declared.rows.Place.{Place}
 use Rattle.ctr_base.specs.Base.{IsSoundImage}
 use Rattle.ctr_store.specs.Store.{View}
-use Rattle.ctr_calls.specs.OneRecord.{WhyNotLogged, LogsOne}
-use Rattle.ctr_changes.specs.States.{pages_in}
+use Rattle.ctr_walk.specs.OneRecord.{WhyNotLogged, LogsOne}
+use Rattle.ctr_record_effects.specs.States.{pages_in}
 use Rattle.ctr_revert.specs.declared.slots.SlotLaid.{SlotLaid}
 use Rattle.ctr_revert.specs.Reverting.{lost_record, bytes_laid, RevertsHead, PassesRow, EndsReverting, RevertsRow}
 

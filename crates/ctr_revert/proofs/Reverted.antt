@@ -16,9 +16,9 @@ use Rattle.ctr_area.specs.Reading.{slot_said, columns_on, width_on}
 use Rattle.ctr_area.specs.Changes.{with_slot, IsPlaceOf}
 use Rattle.ctr_base.specs.Base.{IsSoundImage}
 use Rattle.ctr_store.specs.Store.{View}
-use Rattle.ctr_changes.specs.States.{pages_in, area_in, IsWholePage}
-use Rattle.ctr_changes.specs.Changing.{laid_on_place, Lays}
-use Rattle.ctr_calls.specs.OneRecord.{LogsOne}
+use Rattle.ctr_record_effects.specs.States.{pages_in, area_in, IsWholePage}
+use Rattle.ctr_record_effects.specs.Changing.{laid_on_place, Lays}
+use Rattle.ctr_walk.specs.OneRecord.{LogsOne}
 use Rattle.ctr_pvs.specs.Table.{owner_of}
 use Rattle.ctr_pvs.specs.Reading.{row_check_at}
 use Rattle.ctr_pvs.proofs.Told.{chain_ok, header_here}

@@ -1,16 +1,15 @@
 -- A slot without its head is the slot that a Revert leaves, where the area is sound.
 use Rattle.std.proofs.Common.{◌≡◌, ◌⊎◌, ⊎_elim, inl, inr, ℕ, suc, cond, true, false, Option, Some, None, refl, sym, ◌∙◌, ap, subst}
-use Rattle.std.specs.Prelude.{unwrap_or, is_some}
+use Rattle.std.specs.Prelude.{unwrap_or, is_some, List}
 use Rattle.ctr_page.specs.declared.rows.Place.{Place}
 use Rattle.ctr_meta.specs.Tables.{Tables}
 use Rattle.ctr_area.specs.Areas.{RowVersion, Slot, Older, Area, free_slot}
 use Rattle.ctr_area.specs.Reading.{area_of}
 use Rattle.ctr_area.specs.Chains.{older_bound, Leads}
 use Rattle.ctr_area.specs.Sound.{IsUsedSlot, IsKeptFor, IsSoundArea}
-use Rattle.ctr_moves.specs.Reverts.{Reverting, ToPrevious, ToKept, ToNothing, reverted_slot, FitsReverting}
+use Rattle.ctr_record_laws.specs.Owed.{Reverting, ToPrevious, ToKept, ToNothing, reverted_slot, FitsReverting}
 use Rattle.ctr_revert.specs.Reverting.{behind_head, without_head, KeepsKey}
 use Rattle.ctr_revert.proofs.Row.{nothing_at}
-use Rattle.std.specs.Prelude.{List}
 
 bound_suc : (n : ℕ) × (older_bound ≡ suc n)
 unfolding older_bound

@@ -22,10 +22,10 @@ use Rattle.ctr_area.specs.Reading.{header_on, width_on, area_of}
 use Rattle.ctr_area.specs.Checked.{kinds_at}
 use Rattle.ctr_base.specs.Base.{IsSoundImage}
 use Rattle.ctr_store.specs.Store.{View}
-use Rattle.ctr_calls.specs.OneRecord.{WhyNotLogged, LogsOne}
-use Rattle.ctr_calls.specs.Damage.{EndsTold, ReadsPages}
-use Rattle.ctr_changes.specs.States.{pages_in}
-use Rattle.ctr_changes.specs.Changing.{laid_on_place}
+use Rattle.ctr_walk.specs.OneRecord.{WhyNotLogged, LogsOne}
+use Rattle.ctr_walk.specs.Damage.{EndsTold, ReadsPages}
+use Rattle.ctr_record_effects.specs.States.{pages_in}
+use Rattle.ctr_record_effects.specs.Changing.{laid_on_place}
 use Rattle.ctr_revert.specs.declared.slots.FromSlot.{FromSlot}
 use Rattle.ctr_revert.specs.declared.slots.SlotLaid.{SlotLaid}
 use Rattle.ctr_pvs.specs.declared.table.TableOf.{TableOf}

@@ -8,9 +8,9 @@ use Rattle.ctr_redo.specs.States.{State}
 use Rattle.ctr_page.specs.declared.rows.Place.{Place}
 use Rattle.ctr_area.specs.Areas.{Slot}
 use Rattle.ctr_area.specs.Images.{versions_in}
-use Rattle.ctr_moves.specs.Rows.{AgreeOnCommits}
-use Rattle.ctr_changes.specs.States.{area_in}
-use Rattle.ctr_spares.specs.Loose.{IsLoose}
+use Rattle.ctr_record_laws.specs.Owed.{AgreeOnCommits}
+use Rattle.ctr_record_effects.specs.States.{area_in}
+use Rattle.ctr_record_laws.specs.Loose.{IsLoose}
 use Rattle.ctr_pvs.specs.Showing.{HasSoundArea}
 
 -- the slot at a place of a state

@@ -1,5 +1,5 @@
 // One record takes the head from a row.
-ghost use Rattle.std.specs.Prelude.{◌≡◌, ◌≤◌, ◌<◌, ◌+◌, true, false, Ok, ⊤, IsTrue, IfOk, OnOk, length, take};
+ghost use Rattle.std.specs.Prelude.{◌≡◌, ◌≤◌, ◌<◌, ◌+◌, true, false, Ok, ⊤, IsTrue, IfOk, OnOk, length, take, ℕ};
 ghost use Rattle.ctr_base.specs.Base.{IsSoundImage};
 ghost use Rattle.ctr_store.specs.Store.{View, LeavesPage};
 ghost use Rattle.ctr_model.specs.declared.limits.TheConstants.{MOST_PAGES};
@@ -8,27 +8,25 @@ ghost use Rattle.ctr_page.specs.Places.{slot_size as size_of_slot, start_of as s
 ghost use Rattle.ctr_page.specs.Columns.{kinds_width as width_of_kinds};
 ghost use Rattle.ctr_area.specs.Changes.{with_slot};
 ghost use Rattle.ctr_pvs.specs.Reading.{kinds_said};
-ghost use Rattle.ctr_calls.specs.OneRecord.{HasRoomForOne, LogsOne};
-ghost use Rattle.ctr_calls.specs.Damage.{damage_told};
-ghost use Rattle.ctr_changes.specs.States.{pages_in, area_in};
-ghost use Rattle.std.specs.Prelude.{ℕ};
-ghost use Rattle.ctr_moves.specs.Reverts.{Reverting, OwedByRevert};
+ghost use Rattle.ctr_walk.specs.OneRecord.{HasRoomForOne, LogsOne};
+ghost use Rattle.ctr_walk.specs.Damage.{damage_told};
+ghost use Rattle.ctr_record_effects.specs.States.{pages_in, area_in};
+ghost use Rattle.ctr_record_laws.specs.Owed.{Reverting, OwedByRevert};
 ghost use Rattle.ctr_pvs.specs.Showing.{HasSoundArea};
 ghost use Rattle.ctr_revert.specs.Taking.{TakesHead};
 ghost use Rattle.ctr_revert.specs.Reverting.{without_head, KeepsKey, lost_record, SlotSaidFrom, EntrySaidFrom, BytesSaid, EndsRow, LiesThere, EndsReverting, RevertsRow};
 
 use crate::slots::{FromSlot, SLOT_MOST, SlotLaid, blank_bytes, from_entry, from_slot, or_blank};
 use ctr_base::Origin;
-use ctr_calls::{log_on_page, tell};
-use ctr_changes::{a_slot_is_laid, over_place};
 use ctr_disk::{Disk, StoreFault};
-use ctr_moves::{a_revert_takes_the_head, pages_are_in_bounds};
 use ctr_page::{BadChain, BadPage, Place, kinds_width, slot_size};
 use ctr_pvs::{TableOf, check_there, row_in, table_on, version_in};
+use ctr_record_effects::{a_slot_is_laid, over_place};
+use ctr_record_laws::{a_revert_leaves_its_entry, a_revert_takes_the_head, pages_are_in_bounds};
 use ctr_records::Record;
-use ctr_spares::a_revert_leaves_its_entry;
 use ctr_store::Store;
 use ctr_types::Xid;
+use ctr_walk::{log_on_page, tell};
 
 /// The bytes of a slot.
 type SlotBytes = [u8; SLOT_MOST];

@@ -4,11 +4,11 @@ use Rattle.ctr_disk.specs.declared.fault.StoreFault.{StoreFault}
 use Rattle.ctr_records.specs.declared.record.Overlay.{Overlay}
 use Rattle.ctr_records.specs.declared.record.Record.{Record}
 use Rattle.ctr_records.specs.declared.record.Record.TheVariants.{Alloc}
-use Rattle.ctr_changes.specs.States.{area_in}
-use Rattle.ctr_changes.specs.Changing.{alloc_record}
+use Rattle.ctr_record_effects.specs.States.{area_in}
+use Rattle.ctr_record_effects.specs.Changing.{alloc_record}
 use Rattle.ctr_store.specs.Store.{MayLog}
-use Rattle.ctr_calls.specs.OneRecord.{AnswersLog}
-use Rattle.ctr_calls.proofs.Records.{may_still, unread, logged_behind, refused_behind}
+use Rattle.ctr_walk.specs.OneRecord.{AnswersLog}
+use Rattle.ctr_walk.proofs.Records.{may_still, unread, logged_behind, refused_behind}
 use Rattle.ctr_alloc.proofs.OneRecord.{alloc_may}
 use Rattle.ctr_alloc.proofs.allocating.alloc.Goals as goal
 

@@ -1,6 +1,6 @@
-use Rattle.ctr_changes.specs.States.{pages_in, area_in}
-use Rattle.ctr_calls.specs.Damage.{damage_told}
-use Rattle.ctr_calls.proofs.Damages.{told_ends}
+use Rattle.ctr_record_effects.specs.States.{pages_in, area_in}
+use Rattle.ctr_walk.specs.Damage.{damage_told}
+use Rattle.ctr_walk.proofs.Damages.{told_ends}
 use Rattle.ctr_catalog.specs.Finding.{checks_at, entry_seen, EndsEntries}
 use Rattle.ctr_catalog.proofs.finding.find.Goals as goal
 

@@ -1,6 +1,6 @@
 use Rattle.std.proofs.Common.{ℕ, ◌%◌, ◌<◌, List, sym, subst}
 use Rattle.ctr_redo.specs.States.{page_limit}
-use Rattle.ctr_changes.specs.States.{pages_in}
+use Rattle.ctr_record_effects.specs.States.{pages_in}
 use Rattle.ctr_catalog.specs.Finding.{NamedSaid}
 use Rattle.ctr_catalog.proofs.OneRecord.{catalog_in_limit}
 use Rattle.ctr_catalog.proofs.finding.named_at.Goals as goal

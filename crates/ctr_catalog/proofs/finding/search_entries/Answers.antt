@@ -2,9 +2,9 @@ use Rattle.std.proofs.Common.{◌+◌, ◌/◌, ◌%◌, inr, Ok, Err, sym, ◌�
 use Rattle.std.proofs.lemmas.Result.{err_from_is_err_and}
 use Rattle.ctr_redo.specs.States.{State}
 use Rattle.ctr_meta.specs.Kept.{TablesKept}
-use Rattle.ctr_changes.specs.States.{pages_in, area_in}
-use Rattle.ctr_calls.proofs.Joins.{answers_ok, answers_err}
-use Rattle.ctr_calls.proofs.PagesRead.{reads_on, still_goes, same_now, same_meta}
+use Rattle.ctr_record_effects.specs.States.{pages_in, area_in}
+use Rattle.ctr_walk.proofs.Joins.{answers_ok, answers_err}
+use Rattle.ctr_walk.proofs.PagesRead.{reads_on, still_goes, same_now, same_meta}
 use Rattle.ctr_page.proofs.Searches.{passes_one}
 use Rattle.ctr_catalog.specs.Finding.{NamedSaid, stands_seen, is_made_so, checks_at, entry_seen}
 use Rattle.ctr_catalog.proofs.Found.{seen_here}

@@ -1,8 +1,8 @@
 use Rattle.std.proofs.Common.{◌<◌, Option, ℕ}
 use Rattle.std.specs.Prelude.{IfSome}
-use Rattle.ctr_changes.specs.States.{pages_in}
-use Rattle.ctr_calls.specs.Damage.{damage_told}
-use Rattle.ctr_calls.proofs.Damages.{told_ends, told_ok}
+use Rattle.ctr_record_effects.specs.States.{pages_in}
+use Rattle.ctr_walk.specs.Damage.{damage_told}
+use Rattle.ctr_walk.proofs.Damages.{told_ends, told_ok}
 use Rattle.ctr_catalog.specs.Free.{EndsCatalog}
 use Rattle.ctr_catalog.proofs.store.free_entry.Goals as goal
 

@@ -1,7 +1,7 @@
 use Rattle.std.proofs.Common.{◌+◌, inl, None, Some, Ok, Err, subst}
 use Rattle.std.proofs.lemmas.Result.{err_from_is_err_and}
-use Rattle.ctr_calls.proofs.Joins.{answers_ok, pages_join}
-use Rattle.ctr_changes.specs.States.{pages_in}
+use Rattle.ctr_walk.proofs.Joins.{answers_ok, pages_join}
+use Rattle.ctr_record_effects.specs.States.{pages_in}
 use Rattle.ctr_catalog.specs.Free.{EndsOn}
 use Rattle.ctr_catalog.proofs.store.search_free.Goals as goal
 

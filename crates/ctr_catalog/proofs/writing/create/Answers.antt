@@ -5,11 +5,11 @@ use Rattle.ctr_records.specs.declared.record.Record.{Record}
 use Rattle.ctr_base.specs.Base.{IsSoundImage}
 use Rattle.ctr_page.specs.Searching.{IsFirst}
 use Rattle.ctr_area.specs.Reading.{area_of}
-use Rattle.ctr_changes.specs.States.{pages_in}
-use Rattle.ctr_changes.specs.Changing.{create_record}
-use Rattle.ctr_calls.specs.OneRecord.{LogsOne}
-use Rattle.ctr_calls.proofs.Records.{one_behind}
-use Rattle.ctr_calls.proofs.Damages.{reads_err}
+use Rattle.ctr_record_effects.specs.States.{pages_in}
+use Rattle.ctr_record_effects.specs.Changing.{create_record}
+use Rattle.ctr_walk.specs.OneRecord.{LogsOne}
+use Rattle.ctr_walk.proofs.Records.{one_behind}
+use Rattle.ctr_walk.proofs.Damages.{reads_err}
 use Rattle.ctr_catalog.specs.Free.{EndsCatalog, is_free_entry}
 use Rattle.ctr_catalog.proofs.Lowest.{lowest_free}
 use Rattle.ctr_catalog.proofs.Made.{one_ok, one_err}

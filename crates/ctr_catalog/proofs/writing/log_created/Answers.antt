@@ -6,11 +6,11 @@ use Rattle.ctr_records.specs.declared.record.Record.TheVariants.{Create}
 use Rattle.ctr_redo.specs.States.{page_limit, page_at}
 use Rattle.ctr_area.specs.Areas.{Area}
 use Rattle.ctr_area.specs.Changes.{new_title, empty_chains, ChangesEntry}
-use Rattle.ctr_changes.specs.States.{area_in}
-use Rattle.ctr_changes.specs.Changing.{laid_at, create_record}
+use Rattle.ctr_record_effects.specs.States.{area_in}
+use Rattle.ctr_record_effects.specs.Changing.{laid_at, create_record}
 use Rattle.ctr_store.specs.Store.{MayLog, Logs}
-use Rattle.ctr_calls.specs.OneRecord.{LogsOne}
-use Rattle.ctr_calls.proofs.Records.{both_ok}
+use Rattle.ctr_walk.specs.OneRecord.{LogsOne}
+use Rattle.ctr_walk.proofs.Records.{both_ok}
 use Rattle.ctr_catalog.proofs.OneRecord.{catalog_in_limit, create_may}
 use Rattle.ctr_catalog.proofs.writing.log_created.Goals as goal
 

@@ -5,11 +5,11 @@ use Rattle.ctr_records.specs.declared.record.Record.{Record}
 use Rattle.ctr_records.specs.declared.record.Record.TheVariants.{Undrop}
 use Rattle.ctr_redo.specs.States.{page_limit, page_at}
 use Rattle.ctr_area.specs.Changes.{with_title}
-use Rattle.ctr_changes.specs.Changing.{laid_in_entry, undrop_record}
-use Rattle.ctr_changes.specs.States.{area_in}
+use Rattle.ctr_record_effects.specs.Changing.{laid_in_entry, undrop_record}
+use Rattle.ctr_record_effects.specs.States.{area_in}
 use Rattle.ctr_store.specs.Store.{MayLog, Logs}
-use Rattle.ctr_calls.specs.OneRecord.{LogsOne}
-use Rattle.ctr_calls.proofs.Records.{both_ok}
+use Rattle.ctr_walk.specs.OneRecord.{LogsOne}
+use Rattle.ctr_walk.proofs.Records.{both_ok}
 use Rattle.ctr_catalog.proofs.OneRecord.{catalog_in_limit, undrop_may}
 use Rattle.ctr_catalog.proofs.writing.undrop.Goals as goal
 

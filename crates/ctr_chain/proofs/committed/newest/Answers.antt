@@ -1,9 +1,9 @@
 use Rattle.std.proofs.Common.{◌≡◌}
 use Rattle.ctr_area.specs.Chains.{chain_of}
 use Rattle.ctr_area.specs.Images.{is_committed_in}
-use Rattle.ctr_changes.specs.States.{pages_in, area_in}
-use Rattle.ctr_calls.specs.Damage.{damage_told}
-use Rattle.ctr_calls.proofs.Damages.{told_ends, told_ok}
+use Rattle.ctr_record_effects.specs.States.{pages_in, area_in}
+use Rattle.ctr_walk.specs.Damage.{damage_told}
+use Rattle.ctr_walk.proofs.Damages.{told_ends, told_ok}
 use Rattle.ctr_chain.specs.Seeing.{first_xid}
 use Rattle.ctr_chain.specs.Seeking.{sought_at, xids_found}
 use Rattle.ctr_chain.proofs.committed.newest.Goals as goal

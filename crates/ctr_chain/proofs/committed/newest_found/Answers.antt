@@ -1,6 +1,6 @@
 use Rattle.std.proofs.Common.{refl, ◌∙◌, subst}
 use Rattle.ctr_area.specs.Images.{is_committed_in}
-use Rattle.ctr_changes.specs.States.{pages_in, area_in}
+use Rattle.ctr_record_effects.specs.States.{pages_in, area_in}
 use Rattle.ctr_chain.specs.Seeking.{SearchSaid}
 use Rattle.ctr_chain.proofs.Chain.{row_found, xid_is_found}
 use Rattle.ctr_chain.proofs.committed.newest_found.Goals as goal

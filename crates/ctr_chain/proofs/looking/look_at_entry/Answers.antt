@@ -1,5 +1,5 @@
-use Rattle.ctr_changes.specs.States.{pages_in}
-use Rattle.ctr_search.proofs.Limits.{in_limit}
+use Rattle.ctr_record_effects.specs.States.{pages_in}
+use Rattle.ctr_walk.proofs.Limits.{in_limit}
 use Rattle.ctr_chain.proofs.Looked.{looks_on}
 use Rattle.ctr_chain.proofs.looking.look_at_entry.Goals as goal
 

@@ -1,5 +1,5 @@
 use Rattle.std.proofs.Common.{List, ℕ, subst}
-use Rattle.ctr_search.proofs.Limits.{in_limit}
+use Rattle.ctr_walk.proofs.Limits.{in_limit}
 use Rattle.ctr_chain.specs.Looking.{LooksAtRow}
 use Rattle.ctr_chain.proofs.looking.look_at_row.Goals as goal
 

@@ -1,7 +1,7 @@
 use Rattle.std.proofs.Common.{ℕ, ◌<◌, List, subst}
 use Rattle.ctr_page.specs.declared.rows.Place.{Place}
-use Rattle.ctr_changes.specs.States.{pages_in}
-use Rattle.ctr_search.proofs.Limits.{in_limit}
+use Rattle.ctr_record_effects.specs.States.{pages_in}
+use Rattle.ctr_walk.proofs.Limits.{in_limit}
 use Rattle.ctr_chain.specs.Reading.{RowSaidAt}
 use Rattle.ctr_chain.proofs.reading.read_row.Goals as goal
 

@@ -10,9 +10,9 @@ use Rattle.ctr_page.specs.Places.{kept_size, room_for}
 use Rattle.ctr_page.specs.Columns.{kinds_width}
 use Rattle.ctr_page.specs.Walking.{most_in_chain}
 use Rattle.ctr_area.specs.Checked.{kinds_at}
-use Rattle.ctr_changes.specs.States.{pages_in, area_in}
+use Rattle.ctr_record_effects.specs.States.{pages_in, area_in}
 use Rattle.ctr_store.specs.Store.{LeavesPage}
-use Rattle.ctr_calls.proofs.Joins.{answers_ok, answers_err, pages_join}
+use Rattle.ctr_walk.proofs.Joins.{answers_ok, answers_err, pages_join}
 use Rattle.ctr_pvs.specs.Table.{TableSaid}
 use Rattle.ctr_pvs.specs.Reading.{kinds_said}
 use Rattle.ctr_chain.specs.declared.looking.SlotLook.{SlotLook}

@@ -3,9 +3,9 @@ use Rattle.std.specs.Prelude.{IsTrue}
 use Rattle.std.proofs.lemmas.Result.{err_from_is_err_and}
 use Rattle.ctr_redo.specs.States.{State}
 use Rattle.ctr_base.specs.Base.{IsSoundImage}
-use Rattle.ctr_changes.specs.States.{pages_in}
-use Rattle.ctr_calls.proofs.Joins.{answers_ok, answers_err}
-use Rattle.ctr_calls.proofs.PagesRead.{reads_on, same_now, same_meta, was_read}
+use Rattle.ctr_record_effects.specs.States.{pages_in}
+use Rattle.ctr_walk.proofs.Joins.{answers_ok, answers_err}
+use Rattle.ctr_walk.proofs.PagesRead.{reads_on, same_now, same_meta, was_read}
 use Rattle.ctr_chain.specs.Looking.{LooksAtEntry}
 use Rattle.ctr_chain.specs.Seeing.{sought_by}
 use Rattle.ctr_chain.specs.Seeking.{EntriesOf, sought_along}

@@ -3,8 +3,8 @@ use Rattle.std.specs.Prelude.{IsTrue}
 use Rattle.ctr_base.specs.Base.{IsSoundImage}
 use Rattle.ctr_area.specs.Reading.{area_of}
 use Rattle.ctr_area.specs.Checked.{kinds_at}
-use Rattle.ctr_changes.specs.States.{pages_in}
-use Rattle.ctr_calls.proofs.PagesRead.{HasRead}
+use Rattle.ctr_record_effects.specs.States.{pages_in}
+use Rattle.ctr_walk.proofs.PagesRead.{HasRead}
 use Rattle.ctr_pvs.specs.Reading.{kinds_said}
 use Rattle.ctr_chain.specs.Seeing.{sought_by}
 use Rattle.ctr_chain.specs.Seeking.{EntriesOf, sought_along}

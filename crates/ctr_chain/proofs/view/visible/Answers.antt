@@ -1,9 +1,9 @@
 use Rattle.std.proofs.Common.{sym, subst}
 use Rattle.std.specs.Prelude.{IfOk}
-use Rattle.ctr_changes.specs.States.{pages_in, area_in}
-use Rattle.ctr_calls.specs.Damage.{damage_told, EndsTold}
-use Rattle.ctr_calls.proofs.Damages.{told_ends, told_ok}
-use Rattle.ctr_seen.specs.Seen.{xid_is_seen}
+use Rattle.ctr_record_effects.specs.States.{pages_in, area_in}
+use Rattle.ctr_walk.specs.Damage.{damage_told, EndsTold}
+use Rattle.ctr_walk.proofs.Damages.{told_ends, told_ok}
+use Rattle.ctr_meta.specs.Seen.{xid_is_seen}
 use Rattle.ctr_chain.specs.Rows.{GivesRow}
 use Rattle.ctr_chain.specs.Seeking.{sought_at}
 use Rattle.ctr_chain.specs.Visible.{EndsReading, visible_row}

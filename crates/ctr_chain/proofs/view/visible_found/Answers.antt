@@ -7,10 +7,10 @@ use Rattle.ctr_types.specs.declared.memory.OutOfMemory.{OutOfMemory}
 use Rattle.ctr_types.specs.declared.value.Row.{Row}
 use Rattle.ctr_records.specs.declared.decoding.BadRecord.{BadRecord}
 use Rattle.ctr_page.specs.declared.rows.Place.{Place}
-use Rattle.ctr_changes.specs.States.{pages_in, area_in}
+use Rattle.ctr_record_effects.specs.States.{pages_in, area_in}
 use Rattle.ctr_store.specs.Store.{LeavesPage}
-use Rattle.ctr_calls.proofs.Joins.{answers_ok, answers_err, pages_join}
-use Rattle.ctr_seen.specs.Seen.{xid_is_seen}
+use Rattle.ctr_walk.proofs.Joins.{answers_ok, answers_err, pages_join}
+use Rattle.ctr_meta.specs.Seen.{xid_is_seen}
 use Rattle.ctr_chain.specs.declared.seeking.Found.{Found}
 use Rattle.ctr_chain.specs.Reading.{place_of_version, RowSaidAt}
 use Rattle.ctr_chain.specs.Seeking.{sought_at, SearchSaid}

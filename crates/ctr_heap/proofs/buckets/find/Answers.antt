@@ -2,10 +2,10 @@ use Rattle.std.specs.Int.{w64}
 use Rattle.std.proofs.lemmas.Int.{to_z-of_z}
 use Rattle.ctr_page.specs.Places.{bucket_of}
 use Rattle.ctr_page.specs.declared.checks.Chain.TheVariants.{Rows}
-use Rattle.ctr_changes.specs.States.{pages_in, area_in}
-use Rattle.ctr_calls.specs.Damage.{damage_told}
-use Rattle.ctr_search.proofs.Said.{told_finds}
-use Rattle.ctr_search.proofs.Telling.{bounded}
+use Rattle.ctr_record_effects.specs.States.{pages_in, area_in}
+use Rattle.ctr_walk.specs.Damage.{damage_told}
+use Rattle.ctr_walk.proofs.Said.{told_finds}
+use Rattle.ctr_walk.proofs.Telling.{bounded}
 use Rattle.ctr_heap.specs.declared.slots.SlotSought.TheVariants.{Key}
 use Rattle.ctr_heap.specs.Slots.{EndsSlots}
 use Rattle.ctr_heap.specs.Finding.{FindsKey}

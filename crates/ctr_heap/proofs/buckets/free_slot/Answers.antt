@@ -1,8 +1,8 @@
 use Rattle.ctr_page.specs.declared.checks.Chain.TheVariants.{Rows}
-use Rattle.ctr_changes.specs.States.{pages_in, area_in}
-use Rattle.ctr_calls.specs.Damage.{damage_told}
-use Rattle.ctr_search.proofs.Said.{told_finds}
-use Rattle.ctr_search.proofs.Telling.{bounded}
+use Rattle.ctr_record_effects.specs.States.{pages_in, area_in}
+use Rattle.ctr_walk.specs.Damage.{damage_told}
+use Rattle.ctr_walk.proofs.Said.{told_finds}
+use Rattle.ctr_walk.proofs.Telling.{bounded}
 use Rattle.ctr_heap.specs.declared.slots.SlotSought.TheVariants.{Free}
 use Rattle.ctr_heap.specs.Slots.{EndsSlots}
 use Rattle.ctr_heap.specs.Finding.{FindsFree}

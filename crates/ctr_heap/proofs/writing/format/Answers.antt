@@ -4,12 +4,12 @@ use Rattle.ctr_records.specs.declared.record.Record.{Record}
 use Rattle.ctr_records.specs.declared.record.Record.TheVariants.{Format}
 use Rattle.ctr_redo.specs.States.{page_at}
 use Rattle.ctr_area.specs.Changes.{with_blank}
-use Rattle.ctr_changes.specs.States.{area_in}
-use Rattle.ctr_changes.specs.Changing.{laid_clear, format_record}
+use Rattle.ctr_record_effects.specs.States.{area_in}
+use Rattle.ctr_record_effects.specs.Changing.{laid_clear, format_record}
 use Rattle.ctr_store.specs.Store.{MayLog, Logs}
-use Rattle.ctr_calls.specs.OneRecord.{LogsOne}
-use Rattle.ctr_calls.proofs.Records.{both_ok}
-use Rattle.ctr_search.proofs.Limits.{in_limit}
+use Rattle.ctr_walk.specs.OneRecord.{LogsOne}
+use Rattle.ctr_walk.proofs.Records.{both_ok}
+use Rattle.ctr_walk.proofs.Limits.{in_limit}
 use Rattle.ctr_heap.proofs.OneRecord.{format_may}
 use Rattle.ctr_heap.proofs.writing.format.Goals as goal
 

@@ -5,13 +5,13 @@ use Rattle.ctr_records.specs.declared.record.Record.{Record}
 use Rattle.ctr_records.specs.declared.record.Record.TheVariants.{Link}
 use Rattle.ctr_redo.specs.States.{step, page_at}
 use Rattle.ctr_area.specs.Changes.{with_firsts}
-use Rattle.ctr_changes.specs.States.{pages_in, area_in}
-use Rattle.ctr_changes.specs.Changing.{laid_in_entry}
+use Rattle.ctr_record_effects.specs.States.{pages_in, area_in}
+use Rattle.ctr_record_effects.specs.Changing.{laid_in_entry}
 use Rattle.ctr_store.specs.Store.{MayLog, Logs}
-use Rattle.ctr_calls.specs.OneRecord.{LogsOne}
-use Rattle.ctr_calls.proofs.Records.{both_ok}
+use Rattle.ctr_walk.specs.OneRecord.{LogsOne}
+use Rattle.ctr_walk.proofs.Records.{both_ok}
 use Rattle.ctr_heap.specs.Writing.{front_record, with_front, IsOfTable}
-use Rattle.ctr_search.proofs.Limits.{catalog_in_limit}
+use Rattle.ctr_walk.proofs.Limits.{catalog_in_limit}
 use Rattle.ctr_heap.proofs.OneRecord.{front_is, front_may}
 use Rattle.ctr_heap.proofs.writing.link.Goals as goal
 

@@ -6,11 +6,11 @@ use Rattle.ctr_page.specs.Places.{slot_size}
 use Rattle.ctr_page.specs.Making.{slot_bytes, IsSlot}
 use Rattle.ctr_area.specs.Reading.{slot_said, columns_on}
 use Rattle.ctr_area.specs.Changes.{with_slot}
-use Rattle.ctr_changes.specs.States.{pages_in, area_in}
-use Rattle.ctr_changes.specs.Changing.{laid_on_place}
+use Rattle.ctr_record_effects.specs.States.{pages_in, area_in}
+use Rattle.ctr_record_effects.specs.Changing.{laid_on_place}
 use Rattle.ctr_store.specs.Store.{Logs}
-use Rattle.ctr_calls.proofs.Records.{both_ok}
-use Rattle.ctr_search.proofs.Limits.{in_limit}
+use Rattle.ctr_walk.proofs.Records.{both_ok}
+use Rattle.ctr_walk.proofs.Limits.{in_limit}
 use Rattle.ctr_heap.proofs.OneRecord.{slot_laid}
 use Rattle.ctr_heap.proofs.writing.put_slot.Goals as goal
 

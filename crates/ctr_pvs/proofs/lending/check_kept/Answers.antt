@@ -2,7 +2,7 @@ use Rattle.std.proofs.Common.{List, ℕ, Ok, Err, ◌≡◌, ◌∙◌, ap, subs
 use Rattle.ctr_page.specs.Columns.{kinds_width}
 use Rattle.ctr_page.specs.Places.{kept_size}
 use Rattle.ctr_pvs.specs.Reading.{kinds_said, lies_check, WidthSaid}
-use Rattle.ctr_search.proofs.Limits.{in_limit}
+use Rattle.ctr_walk.proofs.Limits.{in_limit}
 use Rattle.ctr_pvs.proofs.Told.{lies_inside, lies_of_entry}
 use Rattle.ctr_pvs.proofs.lending.check_kept.Goals as goal
 

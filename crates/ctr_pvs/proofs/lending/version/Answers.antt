@@ -2,9 +2,9 @@ use Rattle.std.proofs.Common.{Ok, Err, refl}
 use Rattle.std.specs.Prelude.{IsTrue}
 use Rattle.std.proofs.lemmas.Result.{err_from_is_err_and}
 use Rattle.ctr_base.specs.Base.{IsSoundImage}
-use Rattle.ctr_changes.specs.States.{pages_in}
-use Rattle.ctr_calls.specs.Damage.{damage_told}
-use Rattle.ctr_calls.proofs.Damages.{told_ends, reads_err}
+use Rattle.ctr_record_effects.specs.States.{pages_in}
+use Rattle.ctr_walk.specs.Damage.{damage_told}
+use Rattle.ctr_walk.proofs.Damages.{told_ends, reads_err}
 use Rattle.ctr_pvs.specs.declared.lending.LentVersion.{LentVersion}
 use Rattle.ctr_pvs.specs.Reading.{version_check_at, PassesAt, EndsAt}
 use Rattle.ctr_pvs.specs.Lending.{VersionSaidAt}

@@ -3,7 +3,7 @@ use Rattle.std.specs.Prelude.{IsTrue}
 use Rattle.std.proofs.lemmas.Result.{err_from_is_err_and}
 use Rattle.ctr_redo.specs.States.{State}
 use Rattle.ctr_base.specs.Base.{IsSoundImage}
-use Rattle.ctr_changes.specs.States.{pages_in}
+use Rattle.ctr_record_effects.specs.States.{pages_in}
 use Rattle.ctr_pvs.specs.Table.{TableSaid}
 use Rattle.ctr_pvs.specs.Reading.{kept_on_check, WidthSaid}
 use Rattle.ctr_pvs.proofs.Told.{by_table}

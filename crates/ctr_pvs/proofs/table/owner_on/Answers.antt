@@ -1,6 +1,6 @@
 use Rattle.std.proofs.Common.{List, ℕ, subst}
 use Rattle.ctr_pvs.specs.Table.{OwnerSaid}
-use Rattle.ctr_search.proofs.Limits.{in_limit}
+use Rattle.ctr_walk.proofs.Limits.{in_limit}
 use Rattle.ctr_pvs.proofs.table.owner_on.Goals as goal
 
 pub returns-clause-said : goal.returns-clause-said

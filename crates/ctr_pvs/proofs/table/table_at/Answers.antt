@@ -1,8 +1,8 @@
 use Rattle.std.proofs.Common.{ℕ, ◌%◌, ◌<◌, List, sym, subst}
 use Rattle.ctr_redo.specs.States.{page_limit}
-use Rattle.ctr_changes.specs.States.{pages_in}
+use Rattle.ctr_record_effects.specs.States.{pages_in}
 use Rattle.ctr_pvs.specs.Table.{KindsSaid}
-use Rattle.ctr_search.proofs.Limits.{catalog_in_limit}
+use Rattle.ctr_walk.proofs.Limits.{catalog_in_limit}
 use Rattle.ctr_pvs.proofs.table.table_at.Goals as goal
 
 pub returns-clause-said : goal.returns-clause-said

@@ -1,7 +1,7 @@
 use Rattle.std.proofs.Common.{Ok, Err}
 use Rattle.std.proofs.lemmas.Result.{err_from_is_err_and}
 use Rattle.ctr_page.specs.declared.walk.BadChain.TheVariants.{OnPage}
-use Rattle.ctr_calls.proofs.Joins.{answers_ok, answers_err, pages_join}
+use Rattle.ctr_walk.proofs.Joins.{answers_ok, answers_err, pages_join}
 use Rattle.ctr_pvs.proofs.table.table_on.Goals as goal
 
 pub returns-in_err-bad-2-clause-leaves : goal.returns-in_err-bad-2-clause-leaves

@@ -7,11 +7,11 @@ use Rattle.ctr_page.specs.Places.{kept_size, start_of}
 use Rattle.ctr_area.specs.Areas.{free_older}
 use Rattle.ctr_area.specs.Changes.{with_older}
 use Rattle.ctr_store.specs.Store.{Logs}
-use Rattle.ctr_changes.specs.States.{pages_in, area_in}
-use Rattle.ctr_calls.specs.Damage.{damage_told}
-use Rattle.ctr_calls.specs.OneRecord.{LogsOne}
-use Rattle.ctr_calls.proofs.Damages.{told_ends, told_ok, reads_err}
-use Rattle.ctr_calls.proofs.Records.{both_ok, one_behind}
+use Rattle.ctr_record_effects.specs.States.{pages_in, area_in}
+use Rattle.ctr_walk.specs.Damage.{damage_told}
+use Rattle.ctr_walk.specs.OneRecord.{LogsOne}
+use Rattle.ctr_walk.proofs.Damages.{told_ends, told_ok, reads_err}
+use Rattle.ctr_walk.proofs.Records.{both_ok, one_behind}
 use Rattle.ctr_pvs.specs.Reading.{PassesAt, EndsAt}
 use Rattle.ctr_pvs.specs.Writing.{blank_record, drop_check}
 use Rattle.ctr_pvs.specs.Showing.{ShowsTheSame}

@@ -7,14 +7,14 @@ use Rattle.ctr_page.specs.Making.{kept_bytes, IsEntry}
 use Rattle.ctr_area.specs.Areas.{Area}
 use Rattle.ctr_area.specs.Reading.{older_said, columns_on}
 use Rattle.ctr_area.specs.Changes.{with_older}
-use Rattle.ctr_changes.specs.States.{pages_in, area_in}
-use Rattle.ctr_changes.specs.Changing.{laid_on_place}
+use Rattle.ctr_record_effects.specs.States.{pages_in, area_in}
+use Rattle.ctr_record_effects.specs.Changing.{laid_on_place}
 use Rattle.ctr_store.specs.Store.{Logs}
-use Rattle.ctr_calls.proofs.Records.{both_ok}
-use Rattle.ctr_moves.specs.Keeping.{OwedByKeep, IsSpareCopy}
+use Rattle.ctr_walk.proofs.Records.{both_ok}
+use Rattle.ctr_record_laws.specs.Owed.{OwedByKeep, IsSpareCopy}
 use Rattle.ctr_pvs.specs.Showing.{older_laid, KeepsVersion}
 use Rattle.ctr_pvs.proofs.OneRecord.{entry_laid}
-use Rattle.ctr_search.proofs.Limits.{in_limit}
+use Rattle.ctr_walk.proofs.Limits.{in_limit}
 use Rattle.ctr_pvs.proofs.Showing.{shows_by}
 use Rattle.ctr_pvs.proofs.writing.keep.Goals as goal
 

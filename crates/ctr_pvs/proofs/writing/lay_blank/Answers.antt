@@ -7,14 +7,14 @@ use Rattle.ctr_page.specs.Places.{kept_size}
 use Rattle.ctr_page.specs.Making.{kept_bytes, IsEntry}
 use Rattle.ctr_area.specs.Areas.{free_older}
 use Rattle.ctr_area.specs.Changes.{with_older}
-use Rattle.ctr_changes.specs.States.{area_in}
-use Rattle.ctr_changes.specs.Changing.{laid_on_place}
+use Rattle.ctr_record_effects.specs.States.{area_in}
+use Rattle.ctr_record_effects.specs.Changing.{laid_on_place}
 use Rattle.ctr_store.specs.Store.{MayLog, Logs}
-use Rattle.ctr_calls.specs.OneRecord.{LogsOne}
-use Rattle.ctr_calls.proofs.Records.{both_ok}
+use Rattle.ctr_walk.specs.OneRecord.{LogsOne}
+use Rattle.ctr_walk.proofs.Records.{both_ok}
 use Rattle.ctr_pvs.specs.Writing.{blank_entry, blank_record}
 use Rattle.ctr_pvs.proofs.OneRecord.{blank_is, blank_may}
-use Rattle.ctr_search.proofs.Limits.{in_limit}
+use Rattle.ctr_walk.proofs.Limits.{in_limit}
 use Rattle.ctr_pvs.proofs.writing.lay_blank.Goals as goal
 
 pub log_on_page-requires-clause-there : goal.log_on_page-requires-clause-there

@@ -1,7 +1,7 @@
 use Rattle.std.proofs.Common.{refl, sym, ◌∙◌, ap, subst, arith}
 use Rattle.ctr_page.specs.Places.{kept_size}
 use Rattle.ctr_page.specs.Columns.{kinds_width}
-use Rattle.ctr_changes.specs.States.{pages_in}
+use Rattle.ctr_record_effects.specs.States.{pages_in}
 use Rattle.ctr_pvs.specs.Table.{TableSaid}
 use Rattle.ctr_pvs.specs.Reading.{lies_check}
 use Rattle.ctr_pvs.proofs.Told.{lies_there}

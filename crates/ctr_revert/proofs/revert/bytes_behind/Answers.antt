@@ -2,7 +2,7 @@ use Rattle.std.proofs.Common.{◌≡◌, ◌∙◌, ap, subst}
 use Rattle.std.specs.Prelude.{⊤}
 use Rattle.std.proofs.lemmas.Result.{err_from_is_err_and}
 use Rattle.ctr_page.specs.Columns.{kinds_width}
-use Rattle.ctr_changes.specs.States.{pages_in}
+use Rattle.ctr_record_effects.specs.States.{pages_in}
 use Rattle.ctr_pvs.specs.Reading.{kinds_said}
 use Rattle.ctr_revert.specs.Reverting.{EntrySaidFrom, IsMadeOr}
 use Rattle.ctr_revert.proofs.Lost.{by_reading, ends_kept, none_of}

@@ -3,7 +3,7 @@ use Rattle.std.specs.Int.{w64}
 use Rattle.std.proofs.lemmas.Int.{to_z-of_z}
 use Rattle.ctr_page.specs.Columns.{kinds_width}
 use Rattle.ctr_pvs.specs.Reading.{kinds_said}
-use Rattle.ctr_search.proofs.Limits.{in_limit}
+use Rattle.ctr_walk.proofs.Limits.{in_limit}
 use Rattle.ctr_revert.specs.Reverting.{if_used, MadeByEntry, EntrySaidFrom}
 use Rattle.ctr_revert.proofs.Passed.{within, entry_said_by, entry_bad_by}
 use Rattle.ctr_revert.proofs.revert.look_behind.Goals as goal

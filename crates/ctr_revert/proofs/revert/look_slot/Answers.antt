@@ -1,7 +1,7 @@
 use Rattle.std.proofs.Common.{◌≡◌, ◌≤◌, ℕ, List, Ok, Err, ◌∙◌, ap, subst, arith}
 use Rattle.ctr_page.specs.Columns.{kinds_width}
 use Rattle.ctr_pvs.specs.Reading.{kinds_said}
-use Rattle.ctr_search.proofs.Limits.{in_limit}
+use Rattle.ctr_walk.proofs.Limits.{in_limit}
 use Rattle.ctr_revert.specs.Reverting.{SlotSaidFrom}
 use Rattle.ctr_revert.proofs.Passed.{lies_of_row, row_inside, slot_said_by}
 use Rattle.ctr_revert.proofs.revert.look_slot.Goals as goal

@@ -9,14 +9,14 @@ use Rattle.ctr_meta.specs.Effects.{one_aborted_less}
 use Rattle.ctr_area.specs.Areas.{Area}
 use Rattle.ctr_area.specs.Images.{versions_in}
 use Rattle.ctr_area.specs.Changes.{with_slot}
-use Rattle.ctr_moves.specs.Reverts.{reverted_at, ToKept}
-use Rattle.ctr_spares.specs.Loose.{IsLoose}
+use Rattle.ctr_record_laws.specs.Owed.{reverted_at, ToKept}
+use Rattle.ctr_record_laws.specs.Loose.{IsLoose}
 use Rattle.ctr_store.specs.Store.{Logs}
-use Rattle.ctr_changes.specs.States.{pages_in, area_in}
-use Rattle.ctr_calls.specs.Damage.{damage_told}
-use Rattle.ctr_calls.specs.OneRecord.{LogsOne}
-use Rattle.ctr_calls.proofs.Damages.{told_ends, told_ok, reads_err}
-use Rattle.ctr_calls.proofs.Records.{both_ok, one_behind}
+use Rattle.ctr_record_effects.specs.States.{pages_in, area_in}
+use Rattle.ctr_walk.specs.Damage.{damage_told}
+use Rattle.ctr_walk.specs.OneRecord.{LogsOne}
+use Rattle.ctr_walk.proofs.Damages.{told_ends, told_ok, reads_err}
+use Rattle.ctr_walk.proofs.Records.{both_ok, one_behind}
 use Rattle.ctr_pvs.proofs.Freeing.{told_as}
 use Rattle.ctr_pvs.proofs.Showing.{sound_by}
 use Rattle.ctr_revert.specs.Reverting.{without_head, KeepsKey, lost_record, bytes_laid, revert_check, PassesRow, EndsRow, LiesThere}

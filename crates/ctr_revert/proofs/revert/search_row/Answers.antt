@@ -4,8 +4,8 @@ use Rattle.std.proofs.lemmas.Result.{err_from_is_err_and}
 use Rattle.ctr_redo.specs.States.{State}
 use Rattle.ctr_base.specs.Base.{IsSoundImage}
 use Rattle.ctr_page.specs.Columns.{kinds_width}
-use Rattle.ctr_changes.specs.States.{pages_in}
-use Rattle.ctr_calls.proofs.Joins.{answers_ok, answers_err}
+use Rattle.ctr_record_effects.specs.States.{pages_in}
+use Rattle.ctr_walk.proofs.Joins.{answers_ok, answers_err}
 use Rattle.ctr_pvs.specs.Table.{TableSaid}
 use Rattle.ctr_revert.specs.Reverting.{SlotSaidFrom, BytesSaid}
 use Rattle.ctr_pvs.proofs.Behind.{both_read, read_failed}

@@ -1,4 +1,0 @@
-pub mod Joins
-pub mod Records
-pub mod PagesRead
-pub mod Damages

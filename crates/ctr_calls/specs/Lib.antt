@@ -1,2 +1,0 @@
-pub mod OneRecord
-pub mod Damage

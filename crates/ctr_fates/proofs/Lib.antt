@@ -1,5 +1,0 @@
-pub mod Begin
-pub mod Leaving
-pub mod Forget
-pub mod Abort
-pub mod Commit

@@ -1,0 +1,54 @@
+-- How a used slot is written: in which way, which of its versions is to be kept first, and when a
+-- Row may be logged for it.
+use Rattle.std.specs.Prelude.{◌≡◌, ℕ, Bool, true, false, List, length, Option, None, Some, is_some, IfSome}
+use Rattle.ctr_types.specs.declared.value.Column.{Column}
+use Rattle.ctr_page.specs.declared.rows.Place.{Place}
+use Rattle.ctr_page.specs.declared.rows.RowSlot.{RowSlot}
+use Rattle.ctr_page.specs.Places.{has_previous}
+use Rattle.ctr_page.specs.Making.{IsSlot}
+use Rattle.ctr_area.specs.Areas.{RowVersion, Slot, Area}
+use Rattle.ctr_area.specs.Reading.{slot_said}
+use Rattle.ctr_area.specs.Sound.{IsUsedSlot}
+use Rattle.ctr_record_laws.specs.Owed.{IsSpareCopy, Writing, OverHead, HeadMoves, PreviousKept, HeadKept}
+use Rattle.ctr_heap.specs.declared.ways.Way.{Way}
+use Rattle.ctr_heap.specs.declared.ways.Way.TheVariants.{ReplaceHead, MoveHead, KeepPrevious, KeepHead}
+
+-- the width of a slot's rows
+abbrev pub width_of : RowSlot → ℕ
+width_of s = length s.head.payload
+
+-- The table of writes. A head that isn't committed is replaced. A committed one becomes the previous
+-- version where the slot has room for one; where there is one already, that is to be kept first.
+-- Where it has no room, the head is to be kept first.
+abbrev pub IsWay : Bool → RowSlot → Way → Type 0
+IsWay committed s ReplaceHead = committed ≡ false
+IsWay committed s MoveHead =
+    (committed ≡ true) × (has_previous (width_of s) ≡ true) × (s.previous ≡ None)
+IsWay committed s KeepPrevious =
+    (committed ≡ true) × (has_previous (width_of s) ≡ true) × (is_some s.previous ≡ true)
+IsWay committed s KeepHead = (committed ≡ true) × (has_previous (width_of s) ≡ false)
+
+-- the version of a slot that is to be kept first, if any
+abbrev pub kept_version : Way → Slot → Option RowVersion
+kept_version ReplaceHead slot = None
+kept_version MoveHead slot = None
+kept_version KeepPrevious slot = slot.previous
+kept_version KeepHead slot = Some slot.head
+
+-- the way, with the place where that version was kept
+abbrev pub writing_by : Way → Place → Writing
+writing_by ReplaceHead q = OverHead
+writing_by MoveHead q = HeadMoves
+writing_by KeepPrevious q = PreviousKept q
+writing_by KeepHead q = HeadKept q
+
+-- A used slot of a table, as it was read, can be written in a way: the version that is to be kept
+-- first was kept at a place.
+pub record IsReadyForWrite (area : Area) (e : ℕ) (at : Place) (s : RowSlot) (way : Way) (q : Place)
+    : Type 0 where
+  pub columns : List Column
+  pub said : area.slot at ≡ slot_said columns s
+  pub fits : IsSlot (width_of s) s
+  pub used : IsUsedSlot area e at
+  pub kept : IfSome (kept_version way (area.slot at))
+      (λ v. IsSpareCopy area e (area.slot at) v q)

@@ -1,0 +1,109 @@
+// The slot that a write leaves, and the version that is to be kept before it.
+ghost use Rattle.std.specs.Prelude.{◌≡◌, ℕ, ◌<◌, Bool, List, IfSome};
+ghost use Rattle.std.specs.Option.{option_map};
+ghost use Rattle.ctr_types.specs.declared.value.Column.{Column};
+ghost use Rattle.ctr_meta.specs.Tables.{Tables};
+ghost use Rattle.ctr_page.specs.Making.{IsVersion, IsSlot, IsEntry};
+ghost use Rattle.ctr_area.specs.Areas.{Slot};
+ghost use Rattle.ctr_area.specs.Reading.{version_said, slot_said, older_said};
+ghost use Rattle.ctr_area.specs.Images.{is_committed_in};
+ghost use Rattle.ctr_record_laws.specs.Owed.{older_copy, FirstVersion, written_slot, loses_head};
+ghost use Rattle.ctr_heap.specs.Ways.{IsWay, kept_version, writing_by};
+
+use crate::ways::Way;
+use ctr_page::{Place, RowSlot, Version, VersionEntry};
+use ctr_records::Bytes;
+use ctr_types::Xid;
+
+/// The place that names none.
+const NOWHERE: Place = Place { page: 0, slot: 0 };
+
+/// The entry that keeps a version of a slot, under the slot's key: it leads on as the slot does.
+fn entry_of<'a>(slot: &RowSlot<'a>, version: &Version<'a>) -> VersionEntry<'a>
+    ensures { result ≡ record { used = 1; key = slot.now.key; version = version.now; older = slot.now.older } }
+{
+    VersionEntry {
+        used: 1,
+        key: slot.key,
+        version: Version {
+            xid: version.xid,
+            tombstone: version.tombstone,
+            payload: Bytes::new(version.payload.as_slice()),
+        },
+        older: slot.older,
+    }
+}
+
+/// The version that is to be kept before a used slot is written in a way: the previous one or the head, under the slot's key, and it leads
+/// on as the slot does; or none.
+pub fn to_keep<'a>(way: Way, slot: &RowSlot<'a>) -> Option<VersionEntry<'a>>
+    ensures copy { (columns : List Column) → slot.now.used ≡ 1
+        → option_map (older_said columns) result ≡ option_map (older_copy (slot_said columns slot.now)) (kept_version way (slot_said columns slot.now)) }
+    // It can be kept.
+    ensures fits { (w : ℕ) → IsSlot w slot.now → IfSome result (IsEntry w) }
+{
+    match way {
+        Way::ReplaceHead | Way::MoveHead => None,
+        Way::KeepPrevious => match &slot.previous {
+            Some(version) => Some(entry_of(slot, version)),
+            None => None,
+        },
+        Way::KeepHead => Some(entry_of(slot, &slot.head)),
+    }
+}
+
+/// A used slot that is written in a way, with its new head. The version that was to be kept first is at the place `kept`, which isn't
+/// looked at where there was none.
+pub fn written<'a>(way: Way, kept: Place, slot: RowSlot<'a>, head: Version<'a>) -> RowSlot<'a>
+    ensures said { (columns : List Column) → slot.entry.used ≡ 1
+        → slot_said columns result ≡ written_slot (writing_by way kept) (version_said columns slot.entry.key head.entry) slot.entry.key (slot_said columns slot.entry) }
+    // It can be put where the old slot can, and the new version.
+    ensures fits { (w : ℕ) (committed : Bool) → IsSlot w slot.entry → 0 < slot.entry.head.xid → IsWay committed slot.entry way → IsVersion w head.entry → IsSlot w result }
+{
+    let RowSlot {
+        used,
+        key,
+        head: old,
+        previous,
+        older,
+    } = slot;
+    let (previous, older) = match way {
+        Way::ReplaceHead => (previous, older),
+        Way::MoveHead => (Some(old), older),
+        Way::KeepPrevious => (Some(old), kept),
+        Way::KeepHead => (previous, kept),
+    };
+    RowSlot {
+        used,
+        key,
+        head,
+        previous,
+        older,
+    }
+}
+
+/// The slot of a key with the first version of its row.
+pub fn first<'a>(key: i64, head: Version<'a>) -> RowSlot<'a>
+    ensures said { (columns : List Column) (old : Slot) → slot_said columns result ≡ written_slot FirstVersion (version_said columns key head.entry) key old }
+    // It can be put where the version can.
+    ensures fits { (w : ℕ) → IsVersion w head.entry → IsSlot w result }
+{
+    RowSlot {
+        used: 1,
+        key,
+        head,
+        previous: None,
+        older: NOWHERE,
+    }
+}
+
+/// The transaction that loses its head where a used slot is written in a way, or 0 for none.
+pub fn replaced(way: Way, slot: &RowSlot) -> Xid
+    ensures { (tables : Tables) (columns : List Column) → slot.now.used ≡ 1 → IsWay (is_committed_in tables slot.now.head.xid) slot.now way
+        → result ≡ loses_head tables (slot_said columns slot.now) }
+{
+    match way {
+        Way::ReplaceHead => slot.head.xid,
+        Way::MoveHead | Way::KeepPrevious | Way::KeepHead => 0,
+    }
+}

@@ -1,5 +1,0 @@
-pub mod Bounds
-pub mod Keeping
-pub mod Rows
-pub mod Reverts
-pub mod Trims

@@ -1,4 +1,0 @@
-use Rattle.ctr_places.proofs.cases.+fill.Given as goal
-
-abbrev pub decreases-fill : goal.decreases-fill
-decreases-fill l = l.count

@@ -1,4 +1,0 @@
-use Rattle.ctr_places.proofs.cases.+seek.Given as goal
-
-abbrev pub decreases-seek : goal.decreases-seek
-decreases-seek l = l.count

@@ -1,4 +1,0 @@
-use Rattle.ctr_places.proofs.cases.+write_all.Given as goal
-
-abbrev pub decreases-write_all : goal.decreases-write_all
-decreases-write_all l = l.most

@@ -1,0 +1,4 @@
+pub mod Bounds
+pub mod Owed
+pub mod Shows
+pub mod Loose

@@ -1,5 +1,0 @@
-use Rattle.ctr_shapes.proofs.Create.{create_sound}
-use Rattle.ctr_shapes.proofs.titles.a_create_stays_sound.Goals as goal
-
-pub returns : goal.returns
-returns c = λ counted tables old new x e name columns bounds sound owed changes. create_sound counted tables old x e name columns sound owed bounds new changes

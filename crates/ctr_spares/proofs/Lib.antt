@@ -1,7 +1,0 @@
-pub mod Ways
-pub mod Loosened
-pub mod Steady
-pub mod Unlinking
-pub mod Chained
-pub mod Elsewhere
-pub mod Still

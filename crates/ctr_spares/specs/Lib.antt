@@ -1,2 +1,0 @@
-pub mod Loose
-pub mod Slots

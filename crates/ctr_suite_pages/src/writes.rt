@@ -1,0 +1,227 @@
+// Rows that are written by the rules of versions: what must be kept is kept first.
+ghost use Rattle.std.specs.Prelude.{◌≡◌, ◌≤◌, ◌<◌, ◌+◌, ◌^◌, ◌-◌, Bool, false, IsTrue, IfOk, OnOk};
+ghost use Rattle.ctr_walk.specs.OneRecord.{HasRoomForOne};
+ghost use Rattle.ctr_meta.specs.Tables.{heads_in};
+ghost use Rattle.ctr_page.specs.Places.{start_of, slot_size as size_of_slot};
+ghost use Rattle.ctr_page.specs.Making.{IsVersion, IsSlot, IsEntry};
+ghost use Rattle.ctr_heap.specs.Ways.{IsWay};
+
+use crate::rows::{WIDEST, found, lies, place_for};
+use crate::turns::{Mem, Told, begin, commit, ready};
+use crate::versions::{add_page, entry_lies, payload, spare};
+use ctr_alloc::Search;
+use ctr_disk::StoreFault;
+use ctr_heap::{Way, first, put_slot, replaced, to_keep, way_of, written};
+use ctr_page::{Place, RowSlot, Version, VersionEntry, read_slot};
+use ctr_pvs::keep;
+use ctr_records::Bytes;
+use ctr_types::Fate;
+
+/// A row that is to be written.
+#[derive(Clone, Copy, Debug, PartialEq, Eq)]
+pub struct NewRow {
+    /// The entry of its table.
+    pub entry: u8,
+    pub width: usize,
+    pub key: i64,
+    /// The first byte behind the key, or none where the row is deleted.
+    pub says: Option<u8>,
+}
+
+// The bytes of a row behind its key.
+fn bytes_of(row: NewRow) -> [u8; WIDEST] {
+    payload(row.says.unwrap_or(0))
+}
+
+// The version that a transaction writes, with the first of these bytes behind its key.
+fn version_by<'a>(x: u64, row: NewRow, bytes: &'a [u8; WIDEST]) -> Version<'a>
+    requires { row.width ≤ WIDEST }
+    ensures { IsVersion row.width result }
+{
+    Version {
+        xid: x,
+        tombstone: if row.says.is_none() { 1 } else { 0 },
+        payload: Bytes::new(&bytes[..row.width]),
+    }
+}
+
+// Whether a transaction may lay a slot so wide at a place.
+fn may_lay(store: &mut Mem, x: u64, place: Place, width: usize) -> Result<bool, StoreFault>
+    requires going { store.old.stopped ≡ false }
+    ensures going { OnOk result (store.new.stopped ≡ false) }
+    ensures room { IfOk result (λ is. IsTrue is → HasRoomForOne 0 0 store.new × (heads_in x store.new.meta.tables.opens < 2 ^ 64 - 1)) }
+    ensures place { IfOk result (λ is. IsTrue is → (place.page < store.new.now.counted) × (place.page < 30000)) }
+    ensures lies { IfOk result (λ is. IsTrue is → (width ≤ WIDEST) × (start_of (size_of_slot width) place.slot + size_of_slot width ≤ 4096)) }
+{
+    if !lies(place, width) || !ready(store, 0, 0)? || store.meta().heads(x) == u64::MAX {
+        return Ok(false);
+    }
+    Ok(place.page < 30_000 && place.page < store.counted())
+}
+
+// A version entry that isn't used, on a page more where there is none.
+fn entry_for(store: &mut Mem, search: &mut Search, x: u64, entry: u8) -> Result<Told, StoreFault>
+    requires going { store.old.stopped ≡ false }
+    ensures going { OnOk result (store.new.stopped ≡ false) }
+{
+    let free = spare(store, entry)?;
+    if free != Told::None {
+        return Ok(free);
+    }
+    let told = add_page(store, search, x, entry)?;
+    match told {
+        Told::Number(_) => spare(store, entry),
+        other => Ok(other),
+    }
+}
+
+// A version is kept off its row; where.
+fn keep_first(
+    store: &mut Mem,
+    search: &mut Search,
+    x: u64,
+    row: NewRow,
+    version: &VersionEntry,
+) -> Result<Told, StoreFault>
+    requires going { store.old.stopped ≡ false }
+    requires fits { IsEntry row.width version.now }
+    ensures going { OnOk result (store.new.stopped ≡ false) }
+{
+    let place = match entry_for(store, search, x, row.entry)? {
+        Told::At(place) => place,
+        other => return Ok(other),
+    };
+    if !entry_lies(place, row.width) || !ready(store, 0, 0)? {
+        return Ok(Told::NotAsked);
+    }
+    if place.page >= 30_000 || place.page >= store.counted() {
+        return Ok(Told::NotAsked);
+    }
+    keep(store, x, place, version)?;
+    Ok(Told::At(place))
+}
+
+// The bytes of a page, for a slot that is read from them while others change.
+fn copied(store: &mut Mem, page: u32) -> Result<[u8; 4_096], StoreFault>
+    requires going { store.old.stopped ≡ false }
+    ensures going { OnOk result (store.new.stopped ≡ false) }
+{
+    let mut bytes = [0; 4_096];
+    bytes.copy_from_slice(store.page(page)?);
+    Ok(bytes)
+}
+
+// Puts a slot in which a transaction writes a row over its head, where a version was kept before or nowhere.
+fn put_over(
+    store: &mut Mem,
+    x: u64,
+    row: NewRow,
+    place: Place,
+    slot: RowSlot,
+    way: Way,
+    kept: Place,
+) -> Result<Told, StoreFault>
+    requires going { store.old.stopped ≡ false }
+    requires slot { IsSlot row.width slot × (0 < slot.head.xid) }
+    requires way { (committed : Bool) × IsWay committed slot way }
+    ensures going { OnOk result (store.new.stopped ≡ false) }
+{
+    if !may_lay(store, x, place, row.width)? {
+        return Ok(Told::NotAsked);
+    }
+    let over = replaced(way, &slot);
+    let bytes = bytes_of(row);
+    let slot = written(way, kept, slot, version_by(x, row, &bytes));
+    put_slot(store, x, over, place, &slot)?;
+    if kept.page == 0 {
+        return Ok(Told::At(place));
+    }
+    Ok(Told::Keeps { at: place, kept })
+}
+
+// Writes a row over the one at a place.
+fn write_over(
+    store: &mut Mem,
+    search: &mut Search,
+    x: u64,
+    row: NewRow,
+    place: Place,
+) -> Result<Told, StoreFault>
+    requires going { store.old.stopped ≡ false }
+    ensures going { OnOk result (store.new.stopped ≡ false) }
+{
+    if !lies(place, row.width) {
+        return Ok(Told::NotAsked);
+    }
+    let page = copied(store, place.page)?;
+    let slot = read_slot(&page, row.width, place.slot);
+    if slot.head.xid == 0 {
+        return Ok(Told::NotAsked);
+    }
+    let way = way_of(&slot, store.meta().fate(slot.head.xid) == Fate::Committed);
+    let kept = match to_keep(way, &slot) {
+        None => Place { page: 0, slot: 0 },
+        Some(version) => match keep_first(store, search, x, row, &version)? {
+            Told::At(kept) => kept,
+            other => return Ok(other),
+        },
+    };
+    put_over(store, x, row, place, slot, way, kept)
+}
+
+// Writes the first version of a row.
+fn write_first(
+    store: &mut Mem,
+    search: &mut Search,
+    x: u64,
+    row: NewRow,
+) -> Result<Told, StoreFault>
+    requires going { store.old.stopped ≡ false }
+    ensures going { OnOk result (store.new.stopped ≡ false) }
+{
+    let place = match place_for(store, search, x, row.entry, row.key)? {
+        Told::At(place) => place,
+        other => return Ok(other),
+    };
+    if !may_lay(store, x, place, row.width)? {
+        return Ok(Told::NotAsked);
+    }
+    let bytes = bytes_of(row);
+    let slot = first(row.key, version_by(x, row, &bytes));
+    put_slot(store, x, 0, place, &slot)?;
+    Ok(Told::At(place))
+}
+
+/// Writes the row of a key, over the one that is there, in a free slot or on a page more: its place, and where a version was kept first.
+pub fn write(store: &mut Mem, search: &mut Search, x: u64, row: NewRow) -> Result<Told, StoreFault>
+    requires going { store.old.stopped ≡ false }
+    ensures going { OnOk result (store.new.stopped ≡ false) }
+{
+    match found(store, row.entry, row.key)? {
+        Told::At(place) => write_over(store, search, x, row, place),
+        Told::None => write_first(store, search, x, row),
+        other => Ok(other),
+    }
+}
+
+/// So many transactions, one behind another, write the row of a key and commit: each says its own number. The last one's answer.
+pub fn write_each(
+    store: &mut Mem,
+    search: &mut Search,
+    row: NewRow,
+    count: u64,
+) -> Result<Told, StoreFault>
+    requires going { store.old.stopped ≡ false }
+    ensures going { OnOk result (store.new.stopped ≡ false) }
+{
+    let Told::Number(x) = begin(store)? else {
+        return Ok(Told::NotAsked);
+    };
+    let says = Some(x.to_le_bytes()[0]);
+    let told = write(store, search, x, NewRow { says, ..row })?;
+    let _committed = commit(store, x)?;
+    if count <= 1 {
+        return Ok(told);
+    }
+    write_each(store, search, row, count - 1)
+}

@@ -1,0 +1,9 @@
+pub mod Joins
+pub mod Records
+pub mod PagesRead
+pub mod Damages
+pub mod Limits
+pub mod Firsts
+pub mod Ends
+pub mod Said
+pub mod Telling

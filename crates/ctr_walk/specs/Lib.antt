@@ -1,0 +1,4 @@
+pub mod OneRecord
+pub mod Damage
+pub mod Along
+pub mod Tables

@@ -1,0 +1,17 @@
+//! Walks over a store: what calls leave one behind another, a record that is logged behind a page, and the search along
+//! a chain of pages of a table, each checked as it is read.
+//!
+//! Nothing here takes memory.
+#![tactic(auto)]
+
+mod along;
+mod damage;
+mod joining;
+mod on_page;
+mod table;
+
+pub use along::PageSought;
+pub use damage::tell;
+pub use joining::{a_record_behind_a_page, log_record, pages_read_join};
+pub use on_page::{a_record_may_be_logged, log_on_page};
+pub use table::search_chain;

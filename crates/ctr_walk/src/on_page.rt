@@ -1,0 +1,54 @@
+// A record on a page, which is read first.
+ghost use Rattle.std.specs.Prelude.{◌≡◌, ◌<◌, ◌≤◌, ℕ, false, IsTrue, OnOk, length};
+ghost use Rattle.ctr_records.specs.declared.record.Record.{Record};
+ghost use Rattle.ctr_meta.specs.Kept.{IsLogged, NumbersFit, opens_added, items_added};
+ghost use Rattle.ctr_redo.specs.States.{page_limit, page_at};
+ghost use Rattle.ctr_redo.specs.Overlaid.{overlay_of};
+ghost use Rattle.ctr_redo.specs.Fitting.{LiesInside};
+ghost use Rattle.ctr_base.specs.Base.{IsSoundImage};
+ghost use Rattle.ctr_store.specs.Changes.{IsChange};
+ghost use Rattle.ctr_store.specs.Store.{View, MayLog, LeavesPage};
+ghost use Rattle.ctr_walk.specs.OneRecord.{HasRoomForOne, LogsOne};
+
+use crate::joining::{a_record_behind_a_page, log_record};
+use ctr_base::Origin;
+use ctr_disk::{Disk, StoreFault};
+use ctr_records::{PageNo, Record as LogRecord};
+use ctr_store::Store;
+
+// Brings a page into a frame.
+fn bring<D: Disk, O: Origin>(store: &mut Store<D, O>, page: PageNo) -> Result<(), StoreFault>
+    requires going { store.old.stopped ≡ false }
+    requires there { page < page_limit }
+    ensures whole { IsTrue D.tells → IsSoundImage O.first → OnOk result (length (page_at page store.old.now.pages) ≡ 4096) }
+    ensures leaves { LeavesPage O.first D.Disk store.old store.new result }
+{
+    let _bytes = store.page(page)?;
+    Ok(())
+}
+
+/// Adds a record to a store that is on a page, or on none. The page is brought first, as a record that is on it has to.
+pub fn log_on_page<D: Disk, O: Origin>(
+    store: &mut Store<D, O>,
+    page: PageNo,
+    rec: &LogRecord,
+) -> Result<(), StoreFault>
+    requires may { MayLog rec.now store.old }
+    requires there { page < page_limit }
+    ensures one { LogsOne O.first D.Disk rec.now store.old store.new result }
+    // The page is there, whole.
+    ensures whole { IsTrue D.tells → IsSoundImage O.first → OnOk result (length (page_at page store.old.now.pages) ≡ 4096) }
+{
+    a_record_behind_a_page::<D, (), ()>();
+    bring(store, page)?;
+    match log_record(store, rec) {
+        Ok(_) => Ok(()),
+        Err(fault) => Err(fault),
+    }
+}
+
+/// Where there is room for one record more, a record that is on no page, or on a counted one, may be logged.
+pub fn a_record_may_be_logged<D: Disk>()
+    ensures { (r : Record) (opens items : ℕ) (v : View D) → HasRoomForOne opens items v → IsLogged r → IsChange r → LiesInside v.now.counted (overlay_of r)
+        → opens_added r ≤ opens → items_added r ≤ items → NumbersFit r v.meta.tables → MayLog r v }
+{}

@@ -1,0 +1,140 @@
+// The chains of pages of a table, by its entry of the catalog.
+ghost use Rattle.std.specs.Prelude.{◌≡◌, ◌≤◌, ◌<◌, ◌+◌, ◌/◌, ◌%◌, false, IsTrue, IfOk, IfSome, length};
+ghost use Rattle.ctr_base.specs.Base.{IsSoundImage};
+ghost use Rattle.ctr_walk.specs.Damage.{damage_told, EndsTold, ReadsPages};
+ghost use Rattle.ctr_record_effects.specs.States.{pages_in};
+ghost use Rattle.ctr_page.specs.Damage.{chain_entry};
+ghost use Rattle.ctr_page.specs.declared.table.TheConstants.{PAGE_SIZE, ENTRY_SIZE};
+ghost use Rattle.ctr_walk.specs.Tables.{IsChain, first_at, ChainSaid, PagesFit, EndsChain};
+ghost use Rattle.ctr_store.specs.Store.{LeavesPage};
+
+use crate::along::{PageSought, search_pages};
+use ctr_base::Origin;
+use ctr_disk::{Disk, StoreFault};
+use ctr_page::{BadChain, BadPage, CatalogEntry, Chain, Place, check_entry, read_entry};
+use ctr_records::PageNo;
+use ctr_store::Store;
+use ctr_types::Kind;
+use ctr_walk::tell;
+
+/// The pages of a chain.
+#[derive(Clone, Copy, Debug, PartialEq, Eq)]
+pub(crate) struct ChainPages {
+    /// Their first one.
+    pub(crate) first: PageNo,
+    /// What the columns behind the key hold: so many of these.
+    pub(crate) kinds: [Kind; 7],
+    pub(crate) count: usize,
+}
+
+/// The entry of the catalog that a chain is of.
+fn entry_of(chain: Chain) -> u8
+    ensures { result ≡ chain_entry chain }
+{
+    match chain {
+        Chain::Rows { entry, .. } => entry,
+        Chain::Versions { entry } => entry,
+    }
+}
+
+/// The page of the catalog that this entry stands on.
+fn page_of(chain: Chain) -> PageNo
+    ensures { result ≡ 1 + chain_entry chain / 16 }
+{
+    1 + (entry_of(chain) / 16) as PageNo
+}
+
+/// The first page of a chain, by its table's entry; 0 for none.
+fn first_of(table: &CatalogEntry, chain: Chain) -> PageNo
+    requires whole { length table.now.bytes ≡ ENTRY_SIZE }
+    requires there { IsChain chain }
+    ensures { result ≡ first_at chain table.now.bytes }
+{
+    match chain {
+        Chain::Rows { bucket, .. } => table.first(bucket),
+        Chain::Versions { .. } => table.versions(),
+    }
+}
+
+/// What a page of the catalog says of a chain, or none where this has no page.
+fn pages_said(chain: Chain, counted: u32, page: &[u8]) -> Result<Option<ChainPages>, BadPage>
+    requires some { 0 < counted }
+    requires there { IsChain chain }
+    requires whole { length page.now ≡ PAGE_SIZE }
+    ensures said { ChainSaid counted chain page.now result }
+    ensures fits { IfOk result (λ found. IfSome found (PagesFit counted)) }
+{
+    let at = entry_of(chain) % 16;
+    check_entry(counted, at, page)?;
+    let table = read_entry(page, at);
+    if table.state == 0 {
+        return Ok(None);
+    }
+    let first = first_of(&table, chain);
+    if first == 0 {
+        return Ok(None);
+    }
+    Ok(Some(ChainPages {
+        first,
+        kinds: table.kinds(),
+        count: table.count() as usize - 1,
+    }))
+}
+
+/// The same of a store.
+fn pages_of<D: Disk, O: Origin>(
+    store: &mut Store<D, O>,
+    chain: Chain,
+    counted: u32,
+) -> Result<Result<Option<ChainPages>, BadPage>, StoreFault>
+    requires going { store.old.stopped ≡ false }
+    requires some { 0 < counted }
+    requires there { IsChain chain }
+    ensures said { IsTrue D.tells → IsSoundImage O.first → IfOk result (ChainSaid counted chain (pages_in store.old.now (1 + chain_entry chain / 16))) }
+    ensures fits { IfOk result (λ r. IfOk r (λ found. IfSome found (PagesFit counted))) }
+    ensures leaves { LeavesPage O.first D.Disk store.old store.new result }
+{
+    let page = store.page(page_of(chain))?;
+    Ok(pages_said(chain, counted, page))
+}
+
+/// The first place that is sought, or damage as it was found.
+fn search_table<D: Disk, O: Origin, S: PageSought>(
+    store: &mut Store<D, O>,
+    chain: Chain,
+    sought: &S,
+) -> Result<Result<Option<Place>, BadChain>, StoreFault>
+    requires going { store.old.stopped ≡ false }
+    requires counted { (64 ≤ store.old.now.counted) × (store.old.now.counted ≤ 30000) }
+    requires there { IsChain chain }
+    ensures ends { IsTrue D.tells → IsSoundImage O.first → IfOk result (EndsChain store.old.now.counted (pages_in store.old.now) chain (S.ends sought.now)) }
+    ensures leaves { LeavesPage O.first D.Disk store.old store.new result }
+{
+    let counted = store.counted();
+    let pages = match pages_of(store, chain, counted)? {
+        Err(bad) => return Ok(Err(BadChain::OnPage(page_of(chain), bad))),
+        Ok(None) => return Ok(Ok(None)),
+        Ok(Some(pages)) => pages,
+    };
+    let kinds = &pages.kinds[..pages.count];
+    search_pages(store, pages.first, chain, kinds, counted, sought)
+}
+
+/// The first place that is sought along a chain of pages of a table: its entry of the catalog says the first page, and is checked, as each
+/// page is where it is read. It logs nothing, and takes no memory.
+pub fn search_chain<D: Disk, O: Origin, S: PageSought>(
+    store: &mut Store<D, O>,
+    chain: Chain,
+    sought: &S,
+) -> Result<Option<Place>, StoreFault>
+    requires going { store.old.stopped ≡ false }
+    requires counted { (64 ≤ store.old.now.counted) × (store.old.now.counted ≤ 30000) }
+    requires there { IsChain chain }
+    // Damage is of the table's entry or of the first page at which the search ends so, and is told where that stands in the file of pages.
+    ensures ends { IsTrue D.tells → IsSoundImage O.first
+        → EndsTold (damage_told D.Disk store.new) (EndsChain store.old.now.counted (pages_in store.old.now) chain (S.ends sought.now)) result }
+    ensures leaves { ReadsPages O.first D.Disk store.old store.new result }
+{
+    let found = search_table(store, chain, sought);
+    tell(store, found)
+}
