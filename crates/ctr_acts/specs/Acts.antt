@@ -33,8 +33,8 @@ pub record ActsHeld : Type 0 where
 abbrev pub begun_of : ActsHeld → Begun
 begun_of h = record { engine = engine_of h.engine; since = h.since }
 
--- They show the state: its rows, its sessions and its locks. No session is within its rollback,
--- which is one step.
+-- Acts over versions and locks show a model state: its rows, its sessions and its locks. No
+-- session is within its rollback, which is one step.
 pub record ShowsActs (low : ℕ) (h : ActsHeld) (state : State) : Type 0 where
   pub begun : ShowsBegun low (begun_of h) state
   pub locks : ShowsLocks h.locks state
@@ -54,7 +54,8 @@ ActKeeps s a statement old new r = (low : ℕ) (state : State) → ShowsActs low
     → IsKept state → IsReady state statement a (transaction_of state s) → IsInTurn state s a
     → ActReplies low new state s a (statement, r)
 
--- it is no refusal for want of room in the files: of a free entry of the catalog, or of a free page
+-- A reply is no refusal for want of room in the files: of a free entry of the catalog, or of a
+-- free page.
 abbrev pub IsNotFull : Reply → Type 0
 IsNotFull (reply.Refused (refusal.CatalogFull limit)) = ⊥
 IsNotFull (reply.Refused (refusal.Full limit)) = ⊥
@@ -68,7 +69,7 @@ Starts s n old new = (low : ℕ) (state : State) → ShowsActs low old state
     → transaction_of state s ≡ None
     → ShowsActs low new (with_transaction s (begun n) state)
 
--- what is shown stays
+-- What the acts show stays as it was, for every state in which the session is in no transaction.
 abbrev pub ActsStay : ℕ → ActsHeld → ActsHeld → Type 0
 ActsStay s old new = (low : ℕ) (state : State) → ShowsActs low old state
     → transaction_of state s ≡ None → ShowsActs low new state

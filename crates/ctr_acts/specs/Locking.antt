@@ -60,7 +60,7 @@ DrawsOnce s old new = (session : SessionHeld)
     → find nat_cmp s (engine_of old).sessions ≡ Some session
     → LockLeaves (not (session.me == 0)) s session (engine_of old) (engine_of new)
 
--- what is shown stays
+-- What the acts show stays as it was.
 abbrev pub Stays : ActsHeld → ActsHeld → Type 0
 Stays old new = (low : ℕ) (state : State) → ShowsActs low old state → ShowsActs low new state
 
@@ -72,13 +72,13 @@ pub record MayLock (state : State) (s : ℕ) (name : List ℕ) (key : Option ℤ
   pub free : IsFreeFor state s name key
   pub unwritten : me.writer ≡ false → me.own ≡ []
 
--- the lock is granted
+-- The lock that the model allows is granted: what is shown then is the state with that lock.
 abbrev pub LockGrants : ℕ → List ℕ → Option ℤ → ActsHeld → ActsHeld → Type 0
 LockGrants s name key old new = (low : ℕ) (state : State) (me : Transaction)
     → ShowsActs low old state → MayLock state s name key me
     → ShowsActs low new (with_transaction s (with_lock key name me) state)
 
--- it isn't, for want of memory alone
+-- A lock that the model allows isn't granted, for want of memory alone: what is shown stays.
 abbrev pub LockStays : ℕ → List ℕ → Option ℤ → ActsHeld → ActsHeld → Type 0
 LockStays s name key old new = (low : ℕ) (state : State) (me : Transaction)
     → ShowsActs low old state → MayLock state s name key me → ShowsActs low new state

@@ -44,7 +44,7 @@ seat_at h s session since statement name = record {
   locked = λ key. locked_in s name key h.locks;
 }
 
--- these are the engine, the locks and the names that recovery holds
+-- The parts of the acts are this engine, these locks and these names that recovery holds.
 pub record IsHeldBy (engine : HeldEngine) (locks : List (ℕ × List (List ℕ × TableHeld)))
     (stuck : List (List ℕ)) (h : ActsHeld) : Type 0 where
   pub engine_is : h.engine ≡ engine
@@ -75,7 +75,7 @@ abbrev pub rows_by : (ℕ → Bool) → Versions → Option KeyIs → ℕ → Li
 rows_by sees versions None id = map (λ e. e.1) (entries_seen sees (slots_of versions id))
 rows_by sees versions (Some at) id = option_to_list (value_seen sees (rows_of versions id at.key))
 
--- the same of a table that is there; else there are none
+-- The rows of a table under a condition on its key, or none where there is no table.
 abbrev pub rows_under : (ℕ → Bool) → Versions → Option KeyIs → Option Made → List Row
 rows_under sees versions at None = []
 rows_under sees versions at (Some made) = rows_by sees versions at made.id

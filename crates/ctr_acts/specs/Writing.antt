@@ -71,7 +71,7 @@ put_by engine s statement name =
     let made = made_for engine s name in
     put_for (columns_seen made) statement (row_for engine s made (key_written statement))
 
--- it is what a session's Write of the statement will do
+-- What is prepared is what a session's Write of the statement will do.
 abbrev pub IsPrepared : HeldEngine → ℕ → Statement → Prepared → Type 0
 IsPrepared engine s statement p = (name : List ℕ) → table_of statement ≡ Some name
     → p ≡ put_by engine s statement name

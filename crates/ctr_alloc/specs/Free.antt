@@ -11,7 +11,7 @@ use Rattle.ctr_alloc.specs.declared.search.NextFree.TheVariants.{Page, Grow, Ful
 abbrev pub AreTakenBelow : ℕ → (ℕ → Bool) → Type 0
 AreTakenBelow p taken = (q : ℕ) → 3 ≤ q → q < p → taken q ≡ true
 
--- A page is free.
+-- A page of the file is free: one behind the catalog that isn't taken.
 abbrev pub IsFree : (ℕ → Bool) → ℕ → Type 0
 IsFree taken p = (3 ≤ p) × (taken p ≡ false)
 

@@ -33,7 +33,7 @@ with_firsts e firsts area = record area { firsts = λ f. if f == e then firsts e
 abbrev pub with_bucket : ℕ → ℕ → Firsts → Firsts
 with_bucket bucket p firsts = record firsts { buckets = set firsts.buckets bucket p }
 
--- Alloc and Free
+-- An area in which one page is taken, as by an Alloc, or free, as by a Free.
 abbrev pub with_taken : ℕ → Bool → Area → Area
 with_taken p taken area = record area { taken = λ q. if q == p then taken else area.taken q }
 

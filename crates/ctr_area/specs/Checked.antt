@@ -13,7 +13,7 @@ use Rattle.ctr_area.specs.Areas.{Area}
 use Rattle.ctr_area.specs.Reading.{area_of}
 use Rattle.ctr_area.specs.Chains.{pages_bound, pages_from, slot_places, older_places}
 
--- the check passes
+-- The check of a record passes.
 abbrev pub Passes : Result ⊤ BadRecord → Type 0
 Passes checked = checked ≡ Ok tt
 

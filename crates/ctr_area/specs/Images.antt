@@ -106,7 +106,8 @@ versions_by_entry e =
 abbrev pub is_gone : (ℕ → Bool) → Title → Bool
 is_gone committed title = committed title.dropper
 
--- it wasn't dropped, or later than the other; or both by one transaction, which made this one itself
+-- One title wasn't dropped, or was dropped later than the other; or one transaction dropped both,
+-- and made the first itself.
 abbrev pub is_dropped_later : Title → Title → Bool
 is_dropped_later a b =
     (a.dropper == 0) || (not (b.dropper == 0)
@@ -136,7 +137,7 @@ abbrev pub put_first : {V : Type 0} → ℕ × V → List (ℕ × V) → List (�
 put_first v [] = v ∷ []
 put_first v (w ∷ ws) = if v.0 == w.0 then v ∷ ws else v ∷ w ∷ ws
 
--- the same of several, before others
+-- Several pairs put into a list, the first of them before all others.
 abbrev pub all_put_first : {V : Type 0} → List (ℕ × V) → List (ℕ × V) → List (ℕ × V)
 all_put_first [] ws = ws
 all_put_first (v ∷ vs) ws = put_first v (all_put_first vs ws)

@@ -15,7 +15,7 @@ use Rattle.ctr_area.specs.Images.{is_committed_in, is_live, is_standing, entry_n
 
 -- ---- words
 
--- it is one of them
+-- An element is one of a list.
 abbrev pub IsAmong : {A : Type 0} → A → List A → Type 0
 IsAmong x [] = ⊥
 IsAmong x (y ∷ ys) = (x ≡ y) ⊎ IsAmong x ys
@@ -72,7 +72,7 @@ AreBehind committed area = (e : ℕ) (at : Place) → IsUsedSlot area e at
     × AllByRecursion (λ (v : RowVersion). committed v.0 ≡ true)
     (drop 1 (chain_of area.older (area.slot at)))
 
--- it is a used slot, and its head is the transaction's
+-- The slot at a place is a used one, and its head is by the transaction.
 abbrev pub is_headed_by : (Place → Slot) → ℕ → Place → Bool
 is_headed_by slot x at = (slot at).used && ((slot at).head.0 == x)
 
@@ -151,7 +151,7 @@ undone (CreateOf x e) title =
 undone (DropOf x e) title =
     λ f. if f == e then record (title e) { dropper = 0 } else title f
 
--- these are undone, the last first
+-- A title when the items on it are undone, the last of them first.
 abbrev pub all_undone : List SlogItem → (ℕ → Title) → ℕ → Title
 all_undone [] title = title
 all_undone (i ∷ is) title = undone i (all_undone is title)

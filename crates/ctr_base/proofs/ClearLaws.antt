@@ -5,7 +5,7 @@ use Rattle.std.proofs.lemmas.List.{take_at, take-take, drop-take, length-take-le
 use Rattle.ctr_types.specs.declared.file.File.TheVariants.{Pages}
 use Rattle.ctr_disk.specs.declared.disk.Image.{Image}
 use Rattle.ctr_disk.specs.Image.{content}
-use Rattle.ctr_disk.specs.declared.fault.Root.{Root}
+use Rattle.ctr_home.specs.declared.root.Root.{Root}
 use Rattle.ctr_home.specs.declared.block.Block.TheVariants.{Page}
 use Rattle.ctr_home.specs.declared.root.Form.TheVariants.{Paged}
 use Rattle.ctr_home.specs.declared.block.Home.{Home}

@@ -5,7 +5,7 @@ use Rattle.ctr_disk.specs.declared.disk.Image.{Image}
 use Rattle.ctr_disk.specs.Device.{LeavesOnly, IsDurable}
 use Rattle.ctr_disk.specs.Image.{content}
 use Rattle.ctr_types.specs.declared.file.File.TheVariants.{Pages}
-use Rattle.ctr_disk.specs.declared.fault.Root.{Root}
+use Rattle.ctr_home.specs.declared.root.Root.{Root}
 use Rattle.ctr_log.specs.Kept.{WritesBehind}
 use Rattle.ctr_log.specs.Logs.{Batches, GoesOn}
 use Rattle.ctr_records.specs.declared.record.Record.{Record}
@@ -100,8 +100,8 @@ pub record StandsWell {D O : Type 0} (g : Ghosts D) (b : Base D O) : Type 0 wher
   pub goes_on : (oldest : ℕ) × (bs : Batches) × GoesOn oldest bs b.log (g.reads b.disk)
   pub size : 8256 * b.root.pages ≤ length (content Pages (g.reads b.disk))
 
--- it stands so; each page is at home as in the first image, or was written since; and where that
--- was sound nothing is pending
+-- The disk's parts stand well; each page is at home as in the first image, or was written since;
+-- and where that image was sound nothing is pending.
 pub record StandsQuiet {D O : Type 0} (first : Image) (g : Ghosts D) (b : Base D O) : Type 0 where
   pub stands : StandsWell g b
   pub since : HomesSince first b.root.pages (g.reads b.disk)
@@ -153,10 +153,10 @@ abbrev pub backing_of : {D O : Type 0} → Image → Ghosts D → BackingGhosts 
 backing_of first g = record {
   tells = g.tells;
   held = home_of g;
-  takes = MayPut first g;
+  may_be_saved = MayPut first g;
   rests = StandsQuiet first g;
-  goes = LeavesIf first g;
-  moves = MovesIf first g;
+  leaves_between = LeavesIf first g;
+  may_change = MovesIf first g;
   keeps = KeepsBase;
   fails = λ a b e. IsSoundImage first → e ≡ Fault;
   finds = FindsNumber first g;

@@ -6,7 +6,7 @@ use Rattle.ctr_types.specs.declared.file.File.{File}
 use Rattle.ctr_types.specs.declared.file.File.TheVariants.{Root as RootFile, LogA, LogB, Pages}
 use Rattle.ctr_disk.specs.declared.disk.Image.{Image}
 use Rattle.ctr_disk.specs.declared.disk.Disk.{Ghosts}
-use Rattle.ctr_disk.specs.declared.fault.Root.{Root}
+use Rattle.ctr_home.specs.declared.root.Root.{Root}
 use Rattle.ctr_disk.specs.Device.{LeavesOnly, OnlyReads, IsDurable}
 use Rattle.ctr_disk.specs.Image.{content}
 use Rattle.ctr_disk.proofs.Moments.{starts, joined, weaker, still_only}
@@ -107,7 +107,7 @@ by_same true file first log old new same w =
       };
     }
 
--- it goes on behind what is held where the files of the log are as they were
+-- The log goes on behind what is held where the files of the log are as they were.
 pub writes_same : (root : Root) (log : Log) (old new : Image) → KeepsLogs old new → WritesBehind root.file root.first log old → WritesBehind root.file root.first log new
 writes_same root log old new same w = record { numbered = w.numbered; by = by_same log.older root.file root.first log old new same w.by }
 

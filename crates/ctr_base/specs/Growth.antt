@@ -2,7 +2,7 @@
 use Rattle.std.specs.Prelude.{◌≡◌, ◌⊎◌, ℕ, ◌+◌, ◌*◌, ◌≤◌, ◌<◌, Result, OnOk, OnErr}
 use Rattle.ctr_disk.specs.declared.disk.Disk.{Ghosts}
 use Rattle.ctr_disk.specs.declared.disk.Image.{Image}
-use Rattle.ctr_disk.specs.declared.fault.Root.{Root}
+use Rattle.ctr_home.specs.declared.root.Root.{Root}
 use Rattle.ctr_disk.specs.Device.{LeavesOnly}
 use Rattle.ctr_home.specs.declared.block.Block.TheVariants.{Root as RootBlock}
 use Rattle.ctr_home.specs.Blocks.{zero_bytes}
@@ -22,7 +22,7 @@ abbrev pub IsGrowing : ℕ → Root → Image → Image → Type 0
 IsGrowing from more old new = KeepsPages (8256 * from) old new
     ⊎ ((mid : Image) × AreCleared from more.pages old mid × IsOldOrNewValue RootBlock (root_block more) mid new)
 
--- they are cleared, and the root counts them
+-- The pages by which a file grows are cleared, and then the root counts them.
 abbrev pub HasGrown : ℕ → Root → Image → Image → Type 0
 HasGrown from more old new = (mid : Image)
     × AreCleared from more.pages old mid × IsNewValue RootBlock (root_block more) mid new

@@ -2,7 +2,7 @@
 use Rattle.std.specs.Prelude.{◌≡◌, ◌⊎◌, ◌+◌, ◌-◌, ◌<◌, ◌≤◌, ℕ, min, List, [], ◌∷◌, Option, Some, Err}
 use Rattle.ctr_types.specs.declared.file.File.TheVariants.{Pages}
 use Rattle.ctr_disk.specs.declared.disk.Image.{Image}
-use Rattle.ctr_disk.specs.declared.fault.Root.{Root}
+use Rattle.ctr_home.specs.declared.root.Root.{Root}
 use Rattle.ctr_disk.specs.declared.fault.StoreFault.{StoreFault}
 use Rattle.ctr_home.specs.declared.block.Block.TheVariants.{Page, Root as RootBlock}
 use Rattle.ctr_home.specs.declared.checks.Check.{Check}
@@ -46,7 +46,7 @@ pub record HasSameHome (p : ℕ) (first now : Image) : Type 0 where
   pub value : value_of (Page p) now ≡ value_of (Page p) first
   pub place : value_place (Page p) now ≡ value_place (Page p) first
 
--- it is so, or the page was written since
+-- A page has the value that it had at first, in the same home, or was written since.
 abbrev pub IsSince : ℕ → Image → Image → Type 0
 IsSince p first now = HasSameHome p first now
     ⊎ IsWrittenSince p (value_of (Page p) first) (value_of (Page p) now)

@@ -18,13 +18,13 @@ impl<D: Disk, O: Origin> Backing for Base<D, O> {
 
     ghost held = { home_of D.Disk };
 
-    ghost takes = { MayPut O.first D.Disk };
+    ghost may_be_saved = { MayPut O.first D.Disk };
 
     ghost rests = { StandsQuiet O.first D.Disk };
 
-    ghost goes = { LeavesIf O.first D.Disk };
+    ghost leaves_between = { LeavesIf O.first D.Disk };
 
-    ghost moves = { MovesIf O.first D.Disk };
+    ghost may_change = { MovesIf O.first D.Disk };
 
     ghost keeps = { KeepsBase };
 

@@ -5,8 +5,8 @@ ghost use Rattle.ctr_disk.specs.declared.fault.StoreFault.TheVariants.{Fault};
 
 use crate::origin::Origin;
 use crate::reading::read_numbered;
-use ctr_disk::{Disk, Root, StoreFault};
-use ctr_home::{Block, write_home};
+use ctr_disk::{Disk, StoreFault};
+use ctr_home::{Block, Root, write_home};
 use ctr_log::{LogFile, Lsn};
 use ctr_records::PageNo;
 use std::marker::PhantomData;

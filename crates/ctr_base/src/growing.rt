@@ -13,8 +13,8 @@ ghost use Rattle.ctr_base.specs.Growth.{IsGrowing, HasGrown, LeavesGrown, GrowsO
 use crate::base::Base;
 use crate::extent::clear_pages;
 use crate::origin::Origin;
-use ctr_disk::{Disk, Root, StoreFault};
-use ctr_home::write_root;
+use ctr_disk::{Disk, StoreFault};
+use ctr_home::{Root, write_root};
 
 /// How many pages are counted more at a time.
 const EXTENT: u32 = 64;

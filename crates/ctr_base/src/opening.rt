@@ -10,8 +10,8 @@ ghost use Rattle.ctr_home.specs.declared.root.Form.TheVariants.{Paged};
 ghost use Rattle.ctr_home.specs.Roots.{IsRootOf, ReadsRoot};
 ghost use Rattle.ctr_base.specs.Opening.{size_check, FindsRoot, IsRootDamage};
 
-use ctr_disk::{Disk, Root, StoreFault};
-use ctr_home::{Check, judge, read_root};
+use ctr_disk::{Disk, StoreFault};
+use ctr_home::{Check, Root, judge, read_root};
 use ctr_types::File;
 
 /// How many bytes of the file of pages each page has.

@@ -29,6 +29,6 @@ abbrev pub names_in : Area → ℕ → List ℕ → ℕ → Bool
 names_in area half name n =
     is_live (area.title (16 * half + n)) && same_name (area.title (16 * half + n)).name name
 
--- or free
+-- An entry on one of the catalog's two pages is free.
 abbrev pub frees_in : Area → ℕ → ℕ → Bool
 frees_in area half n = (area.title (16 * half + n)).state == 0

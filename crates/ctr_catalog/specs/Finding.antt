@@ -33,7 +33,7 @@ NamedSaid counted name n page (Ok made) =
 
 -- ---- what a snapshot sees
 
--- it sees who made a table, and not who dropped it
+-- A session sees who made a table, and doesn't see who dropped it.
 abbrev pub stands_seen : Tables → SnapshotTaken → Option ℕ → MadeBy → Bool
 stands_seen tables s me made =
     xid_is_seen tables s me made.creator && not (xid_is_seen tables s me made.dropper)

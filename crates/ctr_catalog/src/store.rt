@@ -81,7 +81,9 @@ fn search_free<D: Disk, O: Origin>(
 
 /// The lowest free entry of the catalog, or none; or the damage of the first entry that fails its checks, told where it stands
 /// in the file of pages. It logs nothing, and takes no memory.
-pub fn free_entry<D: Disk, O: Origin>(store: &mut Store<D, O>) -> Result<Option<u8>, StoreFault>
+pub fn find_free_entry<D: Disk, O: Origin>(
+    store: &mut Store<D, O>,
+) -> Result<Option<u8>, StoreFault>
     requires going { store.old.stopped ≡ false }
     requires some { 0 < store.old.now.counted }
     ensures ends { IsTrue D.tells → IsSoundImage O.first → EndsTold (damage_told D.Disk store.new) (EndsCatalog store.old.now.counted (pages_in store.old.now)) result }

@@ -30,7 +30,7 @@ fn found<D: Disk + Drop, O: Origin>(alloc: Global, disk: D) -> Option<Found>
             if store.counted() == 0 {
                 return None;
             }
-            Some(free_entry(&mut store))
+            Some(find_free_entry(&mut store))
         }
         Err(_) => None,
     }

@@ -13,7 +13,7 @@ ghost use Rattle.ctr_records.specs.Members.{ItemFits};
 ghost use Rattle.ctr_walk.specs.Damage.{damage_told};
 ghost use Rattle.ctr_catalog.specs.Writing.{EndsMaking, MakesTable, undo_record, HasMade, area_undone};
 
-use crate::store::free_entry;
+use crate::store::find_free_entry;
 use ctr_alloc::free;
 use ctr_base::Origin;
 use ctr_bytes::put_u64;
@@ -113,7 +113,7 @@ pub fn create<D: Disk, O: Origin>(
         → IfOk result (λ e. ChangesEntry e (new_title x name.now schema.now.columns) empty_chains (area_in store.old.now) (area_in store.new.now)) }
 {
     a_record_behind_a_page::<D, (), u8>();
-    let entry = match free_entry(store) {
+    let entry = match find_free_entry(store) {
         Err(fault) => return Err(CatalogRefusal::Store(fault)),
         Ok(None) => return Err(CatalogRefusal::CatalogFull),
         Ok(Some(entry)) => entry,

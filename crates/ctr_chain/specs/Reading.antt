@@ -33,7 +33,7 @@ row_there Head kinds number page = head_row kinds (slot_at (kinds_width kinds) n
 row_there Previous kinds number page = previous_row kinds (slot_at (kinds_width kinds) number page)
 row_there (Kept p) kinds number page = kept_row kinds (older_at (kinds_width kinds) number page)
 
--- it passes, and its row is given; or it doesn't
+-- The check of a version on a page passes, and its row is given; or the check tells what is wrong.
 abbrev pub RowSaidAt : ℕ → TableOf → VersionAt → ℕ → List ℕ
     → Result (Result (Option Row) OutOfMemory) BadRecord → Type 0
 RowSaidAt counted t at number page (Ok given) =

@@ -38,11 +38,11 @@ head_row kinds s = if s.used == 1 then row_of_version kinds s.key s.head else No
 abbrev pub previous_row : List Kind → RowSlot → Option Row
 previous_row kinds s = if s.used == 1 then row_if_any kinds s.key s.previous else None
 
--- of a version entry
+-- The row of a version entry, where the entry is used and has one.
 abbrev pub kept_row : List Kind → VersionEntry → Option Row
 kept_row kinds e = if e.used == 1 then row_of_version kinds e.key e.version else None
 
--- It is given as it is wanted. Memory runs out only where that is a row.
+-- The row is given that is wanted. Memory runs out only where that is a row.
 abbrev pub GivesRow : Option Row → Result (Option Row) OutOfMemory → Type 0
 GivesRow wanted (Ok given) = given ≡ wanted
 GivesRow wanted (Err e) = (row : Row) × (wanted ≡ Some row)

@@ -18,6 +18,6 @@ abbrev pub first_version : (ℕ → Bool) → List RowVersion → Option RowVers
 first_version test [] = None
 first_version test (v ∷ vs) = if test v.0 then Some v else first_version test vs
 
--- its transaction
+-- The transaction of the first version of a chain that passes a test.
 abbrev pub first_xid : (ℕ → Bool) → List RowVersion → Option ℕ
 first_xid test vs = option_map (λ v. v.0) (first_version test vs)

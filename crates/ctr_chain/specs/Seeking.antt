@@ -95,8 +95,8 @@ version_found area at Head = Some (area.slot at).head
 version_found area at Previous = (area.slot at).previous
 version_found area at (Kept p) = Some (area.older p).version
 
--- It is the first version of the row's chain that is sought: its transaction is told, and where it
--- stands; or there is none.
+-- The search tells the first version of the row's chain that is sought, by its transaction and its
+-- place; or there is none.
 abbrev pub FindsFirst : (ℕ → Bool) → Area → Place → Option Found → Type 0
 FindsFirst sought area at None = first_version sought (chain_of area.older (area.slot at)) ≡ None
 FindsFirst sought area at (Some f) =
@@ -107,7 +107,7 @@ FindsFirst sought area at (Some f) =
 abbrev pub xid_found : Option Found → Option ℕ
 xid_found found = option_map (λ (f : Found). f.xid) found
 
--- the same of an end of the search
+-- How a search ends, with the transaction of what it found in place of the version.
 abbrev pub xids_found : Result (Option Found) BadChain → Result (Option ℕ) BadChain
 xids_found (Ok found) = Ok (xid_found found)
 xids_found (Err bad) = Err bad

@@ -23,7 +23,7 @@ as_read (Ok row) = Ok (Ok row)
 as_read (Err (refusal.Store fault)) = Err fault
 as_read (Err refusal.OutOfMemory) = Ok (Err (record {}))
 
--- It ends as the search does: without damage, or by the damage of what was read.
+-- The reading ends as its search does: without damage, or by the damage of what was read.
 abbrev pub EndsReading : Result (Option Found) BadChain
     → Result (Result (Option Row) OutOfMemory) BadChain → Type 0
 EndsReading searched (Ok given) = (found : Option Found) × (searched ≡ Ok found)

@@ -16,7 +16,7 @@ pub record HeldStore : Type 0 where
   pub tables : List (ℕ × List (ℤ × KeptChain Row))
   pub next : ℕ
 
--- the same of what the code has
+-- What a store of chains holds, by the fields of the code.
 abbrev pub held_store : Inside → HeldStore
 held_store a = record { names = a.names; tables = a.tables.entries; next = a.next }
 
@@ -46,11 +46,11 @@ pub record RoomsStay (row : ℕ → ℤ → Bool) (named : List ℕ → Bool) (o
       → HasVersionRoom id key new
   pub names : (name : List ℕ) → named name ≡ false → HasNameRoom name old → HasNameRoom name new
 
--- no row
+-- A test of rows that none passes.
 abbrev pub no_row : ℕ → ℤ → Bool
 no_row id key = false
 
--- no name
+-- A test of names that none passes.
 abbrev pub no_name : List ℕ → Bool
 no_name name = false
 

@@ -42,7 +42,8 @@ pub record Counts {D T E : Type 0} (g : Ghosts D) (old new : D) (result : Result
   pub faults : HasCause (g.faults_of old) (g.faults_of new) result
   pub stray : g.strays_of new ≡ g.strays_of old
 
--- The same of a call that has other errors too: this one alone says that the disk failed.
+-- A call that has other errors too counts as the device says: the error given here alone says that
+-- the disk failed.
 pub record CountsAs {D T E : Type 0} (g : Ghosts D) (fault : E) (old new : D) (result : Result T E)
     : Type 0 where
   pub later : g.moment_of old ≤ g.moment_of new

@@ -11,7 +11,7 @@ use Rattle.ctr_disk.specs.declared.record.Outcome.TheVariants.{Done}
 use Rattle.ctr_disk.specs.declared.record.Recorded.{Recorded}
 use Rattle.ctr_disk.specs.declared.memory.MemDisk.{MemDisk}
 
--- what a read gives
+-- The image that a read of the disk in memory sees.
 abbrev pub image_read : MemDisk → Image
 image_read d = d.present
 
@@ -35,7 +35,7 @@ counted_calls d = d.counts.calls
 abbrev pub starved_calls : MemDisk → ℕ
 starved_calls d = d.counts.starved
 
--- its clock
+-- The moment at which the disk in memory is.
 abbrev pub moment_at : MemDisk → ℕ
 moment_at d = d.counts.moment
 
@@ -109,7 +109,7 @@ abbrev pub IsAnswered : {T E : Type 0} → Recorded → List Recorded → List R
 IsAnswered entry old new starved_old starved_new result = (new ≡ old ++ entry ∷ [])
     × (starved_new ≡ starved_old) × (IsOk result ↔ (entry.outcome ≡ Done))
 
--- or memory was refused, and that is counted
+-- A call was refused for want of memory: it is no recorded call, and that is counted.
 abbrev pub IsStarved : {T E : Type 0} → List Recorded → List Recorded → ℕ → ℕ → Result T E → Type 0
 IsStarved old new starved_old starved_new result = (new ≡ old) × (starved_new ≡ raised starved_old)
     × IsErr result

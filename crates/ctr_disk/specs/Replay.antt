@@ -17,7 +17,7 @@ reads_by_call (Size file) outcome i = i
 reads_by_call (Read file at n) outcome i = i
 reads_by_call Sync outcome i = i
 
--- the same of a recorded call
+-- What a read sees behind a recorded call.
 abbrev pub reads_by : Recorded → Image → Image
 reads_by r i = reads_by_call r.call r.outcome i
 
@@ -33,11 +33,11 @@ images_by_call Sync Done i images = λ c. c ≡ i
 images_by_call Sync Failed i images = images
 images_by_call Sync Refused i images = images
 
--- the same of a recorded call
+-- Which images a crash may leave behind a recorded call.
 abbrev pub images_by : Recorded → Image → (Image → Type 0) → Image → Type 0
 images_by r i images = images_by_call r.call r.outcome i images
 
--- the same from one image d to one image c
+-- What a call leaves of one image d, of which a crash may leave c.
 abbrev pub LeavesByCall : Call → Outcome → Image → Image → Image → Type 0
 LeavesByCall (Write file at bytes) Done i d c = TornImage file at (length bytes) d c
 LeavesByCall (Write file at bytes) Failed i d c = TornImage file at (length bytes) d c
@@ -48,7 +48,7 @@ LeavesByCall Sync Done i d c = c ≡ i
 LeavesByCall Sync Failed i d c = c ≡ d
 LeavesByCall Sync Refused i d c = c ≡ d
 
--- the same of a recorded call
+-- What a recorded call leaves of one image d, of which a crash may leave c.
 abbrev pub LeavesBy : Recorded → Image → Image → Image → Type 0
 LeavesBy r i d c = LeavesByCall r.call r.outcome i d c
 

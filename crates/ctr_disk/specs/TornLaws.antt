@@ -11,7 +11,7 @@ use Rattle.ctr_types.specs.declared.file.File.TheVariants.{Root, LogA, LogB, Pag
 torn_none : (at n : ℕ) (o : List ℕ) → Torn at n o o
 torn_none at n o = record { before = (drop at o, sym (take-append-drop at o)); after = refl; no_shorter = omega arith; no_longer = omega arith }
 
--- the same of an image
+-- A torn write of nothing leaves the image as it was.
 pub torn_nothing : (file : File) (at n : ℕ) (d : Image) → TornImage file at n d d
 torn_nothing Root at n d = record { torn = torn_none at n d.root; others = refl }
 torn_nothing LogA at n d = record { torn = torn_none at n d.log_a; others = refl }

@@ -8,20 +8,6 @@ use ctr_types::File;
 /// The number of a writing of the root, from 1.
 pub type Stamp = u64;
 
-/// What the value of the root says.
-#[derive(Clone, Copy, Debug, PartialEq, Eq)]
-pub struct Root {
-    pub stamp: Stamp,
-    /// The version of the format of the files.
-    pub format: u32,
-    /// The file of the oldest generation of the log that is kept: 0 for LogA, 1 for LogB.
-    pub file: u8,
-    /// The first LSN of that generation.
-    pub first: u64,
-    /// How many pages are counted.
-    pub pages: u32,
-}
-
 /// Work on the files couldn't be done.
 #[derive(Clone, Copy, Debug, PartialEq, Eq)]
 pub enum StoreFault {

@@ -17,7 +17,7 @@ mod tearing;
 mod through;
 
 pub use disk::{Disk, Failed, Image};
-pub use fault::{Root, Stamp, Stop, StoreFault};
+pub use fault::{Stamp, Stop, StoreFault};
 pub use memory::MemDisk;
 pub use record::{Call, Outcome, Recorded};
 pub use silent::SilentDisk;

@@ -42,7 +42,7 @@ abbrev pub LockGathers : Type 0
 LockGathers = (db : Database) (t : Transaction) (items : List Item) (key : Option ℤ)
     (name : List ℕ) → IsGathered db t items → IsGathered db (with_lock key name t) items
 
--- the same of a use
+-- A use of a table changes nothing of what is gathered.
 abbrev pub UseGathers : Type 0
 UseGathers = (db : Database) (t : Transaction) (items : List Item) (name : List ℕ)
     → IsGathered db t items → IsGathered db (with_use name t) items

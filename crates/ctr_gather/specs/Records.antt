@@ -33,11 +33,11 @@ HasRoomForItem item g = length g.bytes + length (item_bytes item) + 9 ≤ g.most
 abbrev pub IsSession : ℕ → List GatheredHeld → Type 0
 IsSession s records = (1 ≤ s) × (s ≤ length records)
 
--- nothing is gathered
+-- The record of a session that has gathered nothing.
 abbrev pub none_gathered : GatheredHeld
 none_gathered = record { bytes = []; count = 0; most = 0 }
 
--- a session's record
+-- The record that a session gathers, by the session's number.
 abbrev pub record_at : ℕ → List GatheredHeld → GatheredHeld
 record_at s records = get_or records (s - 1) none_gathered
 

@@ -29,13 +29,14 @@ EndsBucket counted pages e bucket sought result =
 abbrev pub first_of_bucket : Area → ℕ → ℕ → ℕ
 first_of_bucket area e bucket = slice_index (area.firsts e).buckets bucket
 
--- It is a used slot of the table, of the key; or there is none, if each is in its bucket.
+-- The search tells a used slot of the table that has the key; or no slot has it, where each key is
+-- in its bucket.
 abbrev pub FindsKey : Area → ℕ → ℤ → Option Place → Type 0
 FindsKey area e key (Some at) = IsUsedSlot area e at × ((area.slot at).key ≡ key)
 FindsKey area e key None =
     AreKeyed area → (at : Place) → IsUsedSlot area e at → (area.slot at).key ≡ key → ⊥
 
--- It is a free slot of the bucket's chain; or there is none.
+-- The search tells a free slot of the bucket's chain; or each of them is used.
 abbrev pub FindsFree : Area → ℕ → ℕ → Option Place → Type 0
 FindsFree area e bucket (Some at) =
     IsAmong at (places_from area (first_of_bucket area e bucket)) × ((area.slot at).used ≡ false)

@@ -39,6 +39,6 @@ abbrev pub is_sought : SlotSought → Slot → Bool
 is_sought (Key key) slot = slot.used && int_eq slot.key key
 is_sought Free slot = not slot.used
 
--- the same, by its number on a page
+-- A slot is what is sought, by its number on a page.
 abbrev pub seeks_in : Area → ℕ → SlotSought → ℕ → Bool
 seeks_in area p sought n = is_sought sought (area.slot (record { page = p; slot = n }))

@@ -19,7 +19,7 @@ use Rattle.ctr_record_effects.specs.Changing.{laid_on_place, link_record, link_o
 abbrev pub slot_width : RowSlot → ℕ
 slot_width slot = length slot.head.payload
 
--- It is a slot of rows so wide, and lies on a page at a place.
+-- The slot is one of rows of its own width, and its bytes lie on a page at a place.
 pub record LiesOnPage (at : Place) (slot : RowSlot) : Type 0 where
   pub narrow : slot_width slot ≤ 2048
   pub is : IsSlot (slot_width slot) slot

@@ -3,7 +3,7 @@ use Rattle.std.proofs.Common.{◌≡◌, ℕ, ◌+◌, ◌^◌, ◌≤◌, ◌<�
 use Rattle.std.specs.Prelude.{codes}
 use Rattle.std.proofs.lemmas.List.{append-nil, take_all, drop_all}
 use Rattle.ctr_types.specs.declared.file.File.TheVariants.{Root as RootFile}
-use Rattle.ctr_disk.specs.declared.fault.Root.{Root}
+use Rattle.ctr_home.specs.declared.root.Root.{Root}
 use Rattle.ctr_disk.specs.declared.fault.StoreFault.{StoreFault}
 use Rattle.ctr_bytes.specs.Fields.{spelled, field, with_field}
 use Rattle.ctr_bytes.proofs.FieldLaws.{AreBytes, put_next, side, length-spelled, field_at, field-append, spelled_field}

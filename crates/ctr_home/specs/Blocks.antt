@@ -30,7 +30,7 @@ abbrev pub home_len : Block → ℕ
 home_len (Page p) = 4128
 home_len Root = 64
 
--- where its homes begin
+-- Where the first of a block's two homes begins in its file.
 abbrev pub first_place : Block → ℕ
 first_place (Page p) = 8256 * p
 first_place Root = 0
@@ -54,7 +54,7 @@ value_behind b bytes = record {
   body = take (body_len b) (drop 12 bytes);
 }
 
--- that many zeros
+-- A run of so many bytes that are zero.
 unfoldable pub zero_bytes : ℕ → List ℕ
 zero_bytes n = replicate n 0
 
@@ -108,7 +108,7 @@ abbrev pub value_place_in : Block → List ℕ → ℕ
 value_place_in b bytes =
     home_place b (value_home (stamp_in (held_at b First bytes)) (stamp_in (held_at b Second bytes)))
 
--- the same of an image
+-- Where a block's value stands in the file of an image that has it.
 abbrev pub value_place : Block → Image → ℕ
 value_place b image = value_place_in b (content (file_of b) image)
 

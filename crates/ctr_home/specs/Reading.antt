@@ -27,7 +27,7 @@ ReadsBlock b image into (Ok (Some stamp)) =
 ReadsBlock b image into (Err Fault) = Unit {0}
 ReadsBlock b image into (Err (Damaged file at want got)) = IsMisnumbered b image (Damaged file at want got)
 
--- it is damage with this, or the disk failed
+-- An error is damage of which P holds, or the disk failed.
 abbrev pub IsFaultOr : (StoreFault → Type 0) → StoreFault → Type 0
 IsFaultOr P Fault = Unit {0}
 IsFaultOr P (Damaged file at want got) = P (Damaged file at want got)

@@ -15,11 +15,25 @@ use crate::checks::{Check, judge};
 use crate::reading::{find_home, read_body, read_number};
 use crate::writing::write_home;
 use ctr_bytes::{get_u8, get_u32, get_u64, put_u8, put_u32, put_u64};
-use ctr_disk::{Disk, Root, Stamp, StoreFault};
+use ctr_disk::{Disk, Stamp, StoreFault};
 use ctr_types::File;
 
 /// The bytes `CTRDB001` as a number in 8 bytes.
 const MAGIC: u64 = 0x3130_3042_4452_5443;
+
+/// What the value of the root says.
+#[derive(Clone, Copy, Debug, PartialEq, Eq)]
+pub struct Root {
+    pub stamp: Stamp,
+    /// The version of the format of the files.
+    pub format: u32,
+    /// The file of the oldest generation of the log that is kept: 0 for LogA, 1 for LogB.
+    pub file: u8,
+    /// The first LSN of that generation.
+    pub first: u64,
+    /// How many pages are counted.
+    pub pages: u32,
+}
 
 /// A form of the files.
 #[derive(Clone, Copy, Debug, PartialEq, Eq)]

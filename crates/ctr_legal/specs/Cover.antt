@@ -20,7 +20,7 @@ pub record IsCovered (t : Transaction) : Type 0 where
   pub names : (name : List ℕ) → has_name name t.holds ≡ false
       → left_by (schema_change name) t.own ≡ None
 
--- this session asked for its commit, with these changes and this number
+-- A session asked for its commit, with these changes and this number.
 pub record HasAsked (sessions : List (ℕ × Transaction)) (s : ℕ) (own : List Change) (number : ℕ)
     : Type 0 where
   pub me : Transaction

@@ -64,7 +64,7 @@ Tells state s me statement a reply.RolledBack = (a ≡ act.Rollback) × (me.aske
 Tells state s me statement a reply.Released = ⊥
 Tells state s me statement a (reply.Refused why) = me.asked ≡ None
 
--- the same of a session in no transaction
+-- What a reply tells of a session in no transaction, by the act that it answers.
 abbrev pub TellsOutside : State → Act → Reply → Type 0
 TellsOutside state a (reply.Began n) = (a ≡ act.Begin) × (n ≡ state.answered)
 TellsOutside state a reply.Granted = ⊥
@@ -77,19 +77,19 @@ TellsOutside state a reply.RolledBack = ⊥
 TellsOutside state a reply.Released = ⊥
 TellsOutside state a (reply.Refused why) = Unit {0}
 
--- the same of a session in a transaction, or in none
+-- What a reply tells of a session, whether it is in a transaction or in none.
 abbrev pub TellsOf : State → ℕ → Option Transaction → Statement → Act → Reply → Type 0
 TellsOf state s None statement a r = TellsOutside state a r
 TellsOf state s (Some me) statement a r = Tells state s me statement a r
 
 -- ---- between two acts
 
--- it is in no transaction, or in one that hasn't asked for its commit
+-- A session is in no transaction, or in one that hasn't asked for its commit.
 abbrev pub IsUnasked : Option Transaction → Type 0
 IsUnasked None = Unit {0}
 IsUnasked (Some t) = t.asked ≡ None
 
--- it is in a transaction that may make the statement's write
+-- A session is in a transaction that may make the statement's write.
 abbrev pub MayWriteIn : State → Statement → Option Transaction → Type 0
 MayWriteIn state statement None = ⊥
 MayWriteIn state statement (Some t) = MayWrite state t statement
@@ -107,7 +107,7 @@ IsReady state statement act.Answer t = Unit {0}
 IsReady state statement act.Rollback t = IsUnasked t
 IsReady state statement (act.Release name) t = ⊥
 
--- this act of the statement is the session's next, where the script has one more for it
+-- An act of the statement is the session's next, where the script has one more statement for it.
 pub record IsNext (lines : List Line) (p : Point) (s : ℕ) (statement : Statement) (a : Act)
     : Type 0 where
   pub given : statement_of lines s ((progress_of p s).finished + 1) ≡ Some statement

@@ -21,7 +21,7 @@ nothing_held = record { used = false; held = false; keys = [] }
 abbrev pub held_of : List ℕ → List (List ℕ × TableHeld) → TableHeld
 held_of name tables = unwrap_or (find name_cmp name tables) nothing_held
 
--- the key is locked
+-- A key of the table is locked.
 abbrev pub is_locked : ℤ → TableHeld → Bool
 is_locked key t = unwrap_or (find int_cmp key t.keys) false
 
@@ -29,15 +29,15 @@ is_locked key t = unwrap_or (find int_cmp key t.keys) false
 abbrev pub has_key : List ℕ → ℤ → List (List ℕ × TableHeld) → Bool
 has_key name key tables = is_locked key (held_of name tables)
 
--- it uses a table
+-- A session uses the table of a name.
 abbrev pub has_use : List ℕ → List (List ℕ × TableHeld) → Bool
 has_use name tables = (held_of name tables).used
 
--- it holds a name
+-- A session holds a name.
 abbrev pub has_hold : List ℕ → List (List ℕ × TableHeld) → Bool
 has_hold name tables = (held_of name tables).held
 
--- it keeps others from the name, which they want for a change of schema or not
+-- A session keeps others from a name: by a hold from each use, by a use from a change of schema.
 abbrev pub keeps_off : Bool → List ℕ → List (List ℕ × TableHeld) → Bool
 keeps_off schema name tables = has_hold name tables || (schema && has_use name tables)
 
@@ -69,13 +69,13 @@ pub record LocksKey (key : ℤ) (old new : TableHeld) : Type 0 where
   pub held : new.held ≡ old.held
   pub keys : (k : ℤ) → is_locked k new ≡ (int_eq key k || is_locked k old)
 
--- the table is used
+-- A session's table becomes one that it uses, with the same holds and locks.
 pub record Uses (old new : TableHeld) : Type 0 where
   pub used : new.used ≡ true
   pub held : new.held ≡ old.held
   pub keys : (key : ℤ) → is_locked key new ≡ is_locked key old
 
--- the name is held
+-- A session's name becomes one that it holds, with the same uses and locks.
 pub record Holds (old new : TableHeld) : Type 0 where
   pub used : new.used ≡ old.used
   pub held : new.held ≡ true
@@ -96,7 +96,7 @@ pub record OfTable (name : List ℕ) (P : TableHeld → TableHeld → Type 0)
 abbrev pub IsEntered : ℕ → List (ℕ × List (List ℕ × TableHeld)) → Type 0
 IsEntered s sessions = is_some (find nat_cmp s sessions) ≡ true
 
--- the same sessions are
+-- Each session that is entered stays entered.
 abbrev pub SameEntered : List (ℕ × List (List ℕ × TableHeld))
     → List (ℕ × List (List ℕ × TableHeld)) → Type 0
 SameEntered old new = (s : ℕ) → IsEntered s old → IsEntered s new

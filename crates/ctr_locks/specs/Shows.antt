@@ -40,19 +40,19 @@ pub record AnswersTheModel (sessions : List (ℕ × List (List ℕ × TableHeld)
   pub busy : (schema : Bool) (name : List ℕ)
       → busy_in schema s name sessions ≡ first_session (is_busy schema name) (others s state)
 
--- whatever state they show
+-- The locks answer as the model does, whatever state they show.
 abbrev pub LocksAnswerTheModel : Type 0
 LocksAnswerTheModel = (sessions : List (ℕ × List (List ℕ × TableHeld))) (state : State) (s : ℕ)
     → ShowsLocks sessions state → AnswersTheModel sessions state s
 
 -- ---- changes
 
--- what is shown stays
+-- What the locks show stays as it was.
 abbrev pub LocksStay : List (ℕ × List (List ℕ × TableHeld))
     → List (ℕ × List (List ℕ × TableHeld)) → Type 0
 LocksStay old new = (state : State) → ShowsLocks old state → ShowsLocks new state
 
--- a session begins
+-- A session that begins is entered, and what the locks show is the state in which it began.
 abbrev pub EnterShows : ℕ → List (ℕ × List (List ℕ × TableHeld))
     → List (ℕ × List (List ℕ × TableHeld)) → Type 0
 EnterShows s old new = (state : State) (n : ℕ) → ShowsLocks old state
@@ -64,7 +64,7 @@ abbrev pub GrantShows : ℕ → (Transaction → Transaction)
 GrantShows s grants old new = (state : State) (t : Transaction) → ShowsLocks old state
     → transaction_of state s ≡ Some t → ShowsLocks new (with_transaction s (grants t) state)
 
--- the session's transaction ends
+-- When a session's transaction ends, what the locks show is the state without it.
 abbrev pub ReleaseShows : ℕ → List (ℕ × List (List ℕ × TableHeld))
     → List (ℕ × List (List ℕ × TableHeld)) → Type 0
 ReleaseShows s old new = (state : State) → ShowsLocks old state

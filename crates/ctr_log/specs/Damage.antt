@@ -5,7 +5,7 @@ use Rattle.ctr_disk.specs.declared.fault.StoreFault.{StoreFault}
 use Rattle.ctr_disk.specs.declared.fault.StoreFault.TheVariants.{Fault, Damaged}
 use Rattle.ctr_home.specs.Checks.{TellsApart}
 
--- it is damage of this file, and what is wanted differs from what is there
+-- An error is damage of a file, and what is wanted there differs from what is there.
 abbrev pub IsDamageOf : File → StoreFault → Type 0
 IsDamageOf file Fault = ⊥
 IsDamageOf file (Damaged f at want got) = (f ≡ file) × (want ≢ got)

@@ -1,6 +1,6 @@
 -- The root of a database without pages.
 use Rattle.std.specs.Prelude.{Option}
-use Rattle.ctr_disk.specs.declared.fault.Root.{Root}
+use Rattle.ctr_home.specs.declared.root.Root.{Root}
 use Rattle.ctr_home.specs.declared.root.Form.TheVariants.{Thin}
 use Rattle.ctr_home.specs.Roots.{IsRootOf, SaysRootOf}
 pub use Rattle.ctr_home.specs.Blocks.{BlockValue}

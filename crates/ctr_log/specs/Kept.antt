@@ -5,7 +5,7 @@ use Rattle.ctr_types.specs.declared.file.File.{File}
 use Rattle.ctr_types.specs.declared.file.File.TheVariants.{LogA, LogB}
 use Rattle.ctr_disk.specs.declared.disk.Image.{Image}
 use Rattle.ctr_disk.specs.Image.{content, OtherFilesStay}
-use Rattle.ctr_disk.specs.declared.fault.Root.{Root}
+use Rattle.ctr_home.specs.declared.root.Root.{Root}
 use Rattle.ctr_disk.specs.declared.fault.StoreFault.TheVariants.{Fault, Damaged}
 use Rattle.ctr_bytes.specs.Fields.{field}
 use Rattle.ctr_log.specs.Logs.{Batches, frames, records, unframed, HasLog, Log, GoesOn}
@@ -54,14 +54,14 @@ abbrev pub AreShort : Batches → Type 0
 AreShort [] = Unit {0}
 AreShort (rs ∷ bs) = (length (frames rs) < 2 ^ 64) × AreShort bs
 
--- one generation is kept
+-- The log of an image is kept in one generation.
 pub record HoldsOne (file first : ℕ) (bs : Batches) (image : Image) : Type 0 where
   pub named : HasLog first bs (content (log_file file) image)
   pub short : AreShort bs
   pub low : first + length (records bs) < 2 ^ 64
   pub dropped : IsDropped first (content (other_file file) image)
 
--- two generations are kept
+-- The log of an image is kept in two generations, one behind the other.
 pub record HoldsTwo (file first : ℕ) (bs cs : Batches) (image : Image) : Type 0 where
   pub named : HasLog first bs (content (log_file file) image)
   pub short : AreShort bs
@@ -138,7 +138,7 @@ pub record CanStart (bytes : ℕ) (log : Log) : Type 0 where
   pub number : log.first + length log.buffered < 2 ^ 63 - 1
   pub small : bytes < 2 ^ 62
 
--- the same, and nothing waits
+-- A log can begin a generation of so many bytes: its buffer is empty besides.
 pub record CanBegin (bytes : ℕ) (log : Log) : Type 0 where
   pub empty : log.buffered ≡ []
   pub one : log.older ≡ false

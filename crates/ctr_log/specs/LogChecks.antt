@@ -61,7 +61,7 @@ batch_checks next gate bytes = head_checks next gate (length bytes) bytes
     ++ (frame_checks (length (frame_bytes bytes)) (gate + 21) (frame_bytes bytes)
     ++ count_checks (frames_in (length (frame_bytes bytes)) (frame_bytes bytes)) gate bytes)
 
--- the same, where the gate is open
+-- The checks of a batch whose gate is open.
 abbrev pub gate_checks : ℕ → ℕ → List ℕ → List Check
 gate_checks next gate bytes =
     if slice_index bytes 0 == 1 then batch_checks next gate bytes else []
@@ -80,7 +80,7 @@ file_checks first bytes = check_of 0 1 (slice_index bytes 0) ∷ log_checks firs
 abbrev pub file_damage : File → ℕ → List ℕ → Result ⊤ StoreFault
 file_damage file first bytes = judged file (file_checks first bytes)
 
--- these, where no check failed
+-- The visits given, where no check failed; none where one did.
 abbrev pub if_passed : Result ⊤ StoreFault → List Visit → List Visit
 if_passed (Ok _) visits = visits
 if_passed (Err e) visits = []
@@ -92,7 +92,7 @@ sound_batch_visits file lsn gate zero bytes = []
 sound_batch_visits file lsn gate (suc n) bytes =
     if slice_index bytes 0 == 1 then if_passed (judged file (batch_checks lsn gate bytes)) (frame_visits file lsn (gate + 21) (field 4 17 bytes) (frame_bytes bytes) ++ sound_batch_visits file (lsn + field 4 17 bytes) (gate + (21 + field 8 1 bytes)) n (drop (21 + field 8 1 bytes) bytes)) else []
 
--- the same of a whole file: its records come before the damage that is told of it
+-- The records of a whole file that come before the damage that is told of it.
 abbrev pub sound_visits : File → ℕ → List ℕ → List Visit
 sound_visits file first bytes = sound_batch_visits file first 0 (length bytes) bytes
 
@@ -109,8 +109,8 @@ kept_damage file first image =
     let other = content (other_file file) image in
     damage_or (file_damage (log_file file) first named) (if has_newer first named other then file_damage (other_file file) (first + length (log_in named)) other else Ok tt)
 
--- The same of the log of an image: those of the named file, and where it has no damage, those of
--- the other one where it goes on from that.
+-- The records of the log of an image that come before its damage: those of the named file, and
+-- where it has no damage, those of the other one where it goes on from that.
 abbrev pub sound_kept_visits : ℕ → ℕ → Image → List Visit
 sound_kept_visits file first image =
     let named = content (log_file file) image in
@@ -127,7 +127,7 @@ IsThisDamage damage (Store (Damaged file at want got)) = damage ≡ Err (Damaged
 abbrev pub TellsDamage : {T : Type 0} → Result ⊤ StoreFault → Result T ReadError → Type 0
 TellsDamage damage result = MatchResult result (λ _. damage ≡ Ok tt) (IsThisDamage damage)
 
--- the same where a visitor may refuse a record before that
+-- How reading ends by the damage of a log, where a visitor may refuse a record before that.
 abbrev pub VisitsDamage : {T E : Type 0} → Result ⊤ StoreFault → Result T (VisitError E) → Type 0
 VisitsDamage damage result = MatchResult result (λ _. damage ≡ Ok tt) (OnRead (IsThisDamage damage))
 

@@ -23,7 +23,7 @@ frames (r ∷ rs) = frame r ++ frames rs
 abbrev pub headed : ℕ → ℕ → List ℕ → List ℕ
 headed first count bytes = spelled 8 (length bytes) ++ spelled 8 first ++ spelled 4 count ++ bytes
 
--- and before a closed gate
+-- Frames with their length, first LSN and count in front, and a closed gate behind them.
 abbrev pub sealed : ℕ → ℕ → List ℕ → List ℕ
 sealed first count bytes = headed first count bytes ++ 0 ∷ []
 
@@ -55,8 +55,8 @@ abbrev pub AreBatches : Batches → Type 0
 AreBatches [] = Unit {0}
 AreBatches (rs ∷ bs) = IsBatch rs × AreBatches bs
 
--- These batches stand in the file from its start, and behind them a closed gate that lies in the
--- file. What stands behind it is no part of the log.
+-- A file has these batches from its start, and behind them a closed gate that lies in the file.
+-- What stands behind it is no part of the log.
 pub record HasBatches (first : ℕ) (bs : Batches) (bytes : List ℕ) : Type 0 where
   pub gate : ℕ
   pub rest : List ℕ

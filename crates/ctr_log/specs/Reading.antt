@@ -3,7 +3,7 @@ use Rattle.std.specs.Prelude.{◌≡◌, ℕ, zero, suc, Bool, ◌+◌, ◌^◌,
 use Rattle.ctr_types.specs.declared.file.File.{File}
 use Rattle.ctr_types.specs.declared.file.File.TheVariants.{LogA, LogB}
 use Rattle.ctr_disk.specs.declared.disk.Image.{Image}
-use Rattle.ctr_disk.specs.declared.fault.Root.{Root}
+use Rattle.ctr_home.specs.declared.root.Root.{Root}
 use Rattle.ctr_disk.specs.declared.fault.StoreFault.TheVariants.{Fault, Damaged}
 use Rattle.ctr_log.specs.declared.reading.ReadError.{ReadError}
 use Rattle.ctr_log.specs.declared.reading.ReadError.TheVariants.{Store, OutOfMemory}
@@ -27,7 +27,7 @@ ReadDiffers (Store e) = Differs e
 abbrev pub BeginsWithFrame : List ℕ → Type 0
 BeginsWithFrame bytes = (r : List ℕ) × (more : List ℕ) × (bytes ≡ frame r ++ more)
 
--- the bytes are frames
+-- A list of bytes is made of whole frames.
 abbrev pub AreFrames : List ℕ → Type 0
 AreFrames bytes = (rs : List (List ℕ)) × (bytes ≡ frames rs)
 

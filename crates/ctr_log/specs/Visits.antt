@@ -45,7 +45,7 @@ kept_visits file first image =
     let other = content (other_file file) image in
     if has_newer first named other then file_visits (log_file file) first named ++ file_visits (other_file file) (first + length (log_in named)) other else file_visits (log_file file) first named
 
--- the bytes of records
+-- The bytes of the records that are visited, each by itself.
 abbrev pub visit_bytes : List Visit → List (List ℕ)
 visit_bytes [] = []
 visit_bytes (v ∷ vs) = v.bytes ∷ visit_bytes vs
@@ -55,7 +55,7 @@ abbrev pub AreInPlace : Image → List Visit → Type 0
 AreInPlace image [] = Unit {0}
 AreInPlace image (v ∷ vs) = (take (length v.bytes) (drop v.at (content v.file image)) ≡ v.bytes) × AreInPlace image vs
 
--- they are numbered from this LSN on, without gaps
+-- The records visited are numbered from an LSN on, without gaps.
 abbrev pub AreNumbered : ℕ → List Visit → Type 0
 AreNumbered lsn [] = Unit {0}
 AreNumbered lsn (v ∷ vs) = (v.lsn ≡ lsn) × AreNumbered (lsn + 1) vs
@@ -69,11 +69,11 @@ abbrev pub IsGiven : {V : Type 0} → (V → List Visit → Type 0) → V → V 
 IsGiven has_seen old new given =
     (before : List Visit) → has_seen old before → has_seen new (before ++ given)
 
--- it was given some
+-- A visitor was given some records between two states of it.
 abbrev pub GivesSome : {V : Type 0} → (V → List Visit → Type 0) → V → V → Type 0
 GivesSome has_seen old new = (given : List Visit) × IsGiven has_seen old new given
 
--- it was given the first of all these, in order
+-- A visitor was given the first ones of these records, in order.
 pub record GivesPart {V : Type 0} (has_seen : V → List Visit → Type 0) (old new : V) (all : List Visit)
     : Type 0 where
   pub given : List Visit
@@ -81,7 +81,7 @@ pub record GivesPart {V : Type 0} (has_seen : V → List Visit → Type 0) (old 
   pub all_are : all ≡ given ++ rest
   pub gives : IsGiven has_seen old new given
 
--- it refused one of them with this, when it had been given those before it
+-- A visitor refused one of the records with an error, when it had been given those before it.
 pub record RefusesOne {V E : Type 0} (has_seen : V → List Visit → Type 0)
     (refuses : List Visit → Visit → E → Type 0) (old : V) (all : List Visit) (e : E) : Type 0 where
   pub given : List Visit
@@ -100,7 +100,7 @@ StopsAt has_seen refuses old new sound (Read (Store (Damaged file at want got)))
     IsGiven has_seen old new sound
 StopsAt has_seen refuses old new sound (Refused e) = RefusesOne has_seen refuses old sound e
 
--- it is given all of them; or reading ends early
+-- A visitor is given all records; or reading ends early, by damage, a fault or a refusal.
 abbrev pub Visits : {V T E : Type 0} → (V → List Visit → Type 0)
     → (List Visit → Visit → E → Type 0) → V → V → List Visit → Result T (VisitError E) → Type 0
 Visits has_seen refuses old new sound result =
@@ -111,7 +111,7 @@ abbrev pub OnRead : {E : Type 0} → (ReadError → Type 0) → VisitError E →
 OnRead P (Read e) = P e
 OnRead P (Refused e) = Unit {0}
 
--- this holds, unless reading itself ended early
+-- A statement holds, unless reading itself ended early.
 abbrev pub UnlessRead : {T E : Type 0} → Type 0 → Result T (VisitError E) → Type 0
 UnlessRead P (Ok x) = P
 UnlessRead P (Err (Read e)) = Unit {0}

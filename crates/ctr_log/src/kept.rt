@@ -18,7 +18,8 @@ use crate::log::{LogFile, Lsn, next_file};
 use crate::reading::ReadError;
 use crate::visitor::{VisitError, Visitor};
 use ctr_bytes::get_u64;
-use ctr_disk::{Disk, Failed, Root, StoreFault};
+use ctr_disk::{Disk, Failed, StoreFault};
+use ctr_home::Root;
 use ctr_types::{File, OutOfMemory};
 use std::alloc::Global;
 

@@ -8,8 +8,8 @@ ghost use Rattle.ctr_log.specs.Homes.{root_value};
 ghost use Rattle.ctr_log.specs.Fresh.{first_checkpoint, IsFresh, IsNoneOrFresh, LogsAreReady, AreEmptied, SameRoot};
 
 use crate::log::write_batch;
-use ctr_disk::{Disk, Failed, Root, StoreFault};
-use ctr_home::{Block, is_open, write_root};
+use ctr_disk::{Disk, Failed, StoreFault};
+use ctr_home::{Block, Root, is_open, write_root};
 use ctr_types::File;
 
 /// How the making of a database ended.

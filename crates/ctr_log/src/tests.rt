@@ -2,8 +2,8 @@
 ghost use Rattle.ctr_log.specs.Kept.{NamesKept};
 
 use crate::{Gathered, ReadError, VisitError, read_all, visit_named};
-use ctr_disk::{Call, Image, MemDisk, Recorded, Root, SilentDisk, StoreFault};
-use ctr_home::{read_root, write_root};
+use ctr_disk::{Call, Image, MemDisk, Recorded, SilentDisk, StoreFault};
+use ctr_home::{Root, read_root, write_root};
 use ctr_types::{File, List};
 use std::alloc::{AllocError, Global};
 use std::test::Fail;

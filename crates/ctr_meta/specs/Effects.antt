@@ -23,7 +23,8 @@ listed next lists = record {
 abbrev pub opened_by : ℕ → Tables → Tables
 opened_by x t = record t { next = t.next + 1; opens = t.opens ++ (x, 0) ∷ [] }
 
--- it isn't open any more, and nothing is left to undo of what it created and dropped
+-- A commit's effect: the transaction isn't open any more, and nothing is left to undo of what it
+-- created and dropped.
 abbrev pub committed : ℕ → Tables → Tables
 committed x t = record t {
   opens = without_xid x t.opens;
@@ -34,7 +35,7 @@ committed x t = record t {
 abbrev pub with_aborted : ℕ → ℕ → List (ℕ × ℕ) → List (ℕ × ℕ)
 with_aborted x heads ps = if nat_eq heads 0 then ps else ps ++ (x, heads) ∷ []
 
--- it isn't open any more, and the aborted transaction map has it
+-- An Abort's effect: the transaction isn't open any more, and the aborted transaction map has it.
 abbrev pub rolled_back : ℕ → Tables → Tables
 rolled_back x t = record t {
   opens = without_xid x t.opens;
@@ -45,7 +46,7 @@ rolled_back x t = record t {
 abbrev pub forgotten_by : ℕ → Tables → Tables
 forgotten_by x t = record t { aborted = without_xid x t.aborted }
 
--- an item is added
+-- The tables with an item more in the secondary log.
 abbrev pub with_item : SlogItem → Tables → Tables
 with_item i t = record t { items = t.items ++ i ∷ [] }
 

@@ -4,7 +4,7 @@ use Rattle.ctr_meta.specs.declared.meta.Meta.TheInside.{Inside}
 use Rattle.ctr_meta.specs.Tables.{Tables}
 use Rattle.ctr_meta.specs.Kept.{TablesKept, XidsFit}
 
--- the tables
+-- The tables of transactions, by the fields of the code.
 abbrev pub tables_in : Inside → Tables
 tables_in a = record {
   next = a.next;

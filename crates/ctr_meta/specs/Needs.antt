@@ -19,11 +19,11 @@ use Rattle.ctr_meta.specs.Effects.{one_head_more}
 abbrev pub there : Bool → Result ⊤ BadRecord
 there b = expect 0 1 (if b then 1 else 0)
 
--- a transaction is open
+-- A record needs its transaction to be open.
 abbrev pub open_need : ℕ → Tables → Result ⊤ BadRecord
 open_need x t = there (is_in x t.opens)
 
--- an item is there
+-- A record needs an item of the secondary log.
 abbrev pub item_need : Wanted → Tables → Result ⊤ BadRecord
 item_need w t = there (list_any (is_wanted w) t.items)
 

@@ -23,7 +23,7 @@ no_tables = record { next = 1; opens = []; aborted = []; items = [] }
 abbrev pub heads_at : ℕ → List (ℕ × ℕ) → Option ℕ
 heads_at x ps = lookup (nat_eq x) ps
 
--- it is in the list
+-- A list of transactions has the transaction.
 abbrev pub is_in : ℕ → List (ℕ × ℕ) → Bool
 is_in x ps = is_some (heads_at x ps)
 
@@ -31,7 +31,7 @@ is_in x ps = is_some (heads_at x ps)
 abbrev pub heads_in : ℕ → List (ℕ × ℕ) → ℕ
 heads_in x ps = unwrap_or (heads_at x ps) 0
 
--- the list without it
+-- A list of transactions without one of them.
 abbrev pub without_xid : ℕ → List (ℕ × ℕ) → List (ℕ × ℕ)
 without_xid x ps = remove_entry (nat_eq x) ps
 

@@ -26,19 +26,19 @@ use Rattle.ctr_model.specs.Texts.{quoted}
 abbrev pub IsBlank : ℕ → Type 0
 IsBlank c = (c ≡ 32) ⊎ (c ≡ 9)
 
--- printable ASCII
+-- A byte of printable ASCII, from 32 to 126.
 abbrev pub IsPrintable : ℕ → Type 0
 IsPrintable c = (32 ≤ c) × (c ≤ 126)
 
--- 0 to 9
+-- A byte that is a digit, 0 to 9.
 abbrev pub IsDigit : ℕ → Type 0
 IsDigit c = (48 ≤ c) × (c ≤ 57)
 
--- A to Z
+-- A byte that is a capital letter, A to Z.
 abbrev pub IsCapital : ℕ → Type 0
 IsCapital c = (65 ≤ c) × (c ≤ 90)
 
--- a letter or _
+-- A byte that is a letter of ASCII or an underscore.
 abbrev pub IsLetter : ℕ → Type 0
 IsLetter c = IsCapital c ⊎ (((97 ≤ c) × (c ≤ 122)) ⊎ (c ≡ 95))
 
@@ -59,7 +59,7 @@ abbrev pub IsWord : List ℕ → Type 0
 IsWord [] = ⊥
 IsWord (c ∷ cs) = IsLetter c × AllByRecursion IsWordByte cs
 
--- one digit or more
+-- A list of one digit or more.
 abbrev pub IsNumeral : List ℕ → Type 0
 IsNumeral ds = (0 < length ds) × AllByRecursion IsDigit ds
 
@@ -71,7 +71,7 @@ IsInteger text (pos n) =
 IsInteger text (negsuc n) =
     (ds : List ℕ) × (text ≡ 45 ∷ ds) × IsNumeral ds × (digits_value 10 ds ≡ n + 1)
 
--- it is a whole number of 64 bits
+-- A number is a whole number of 64 bits, with a sign.
 abbrev pub IsWide : ℤ → Type 0
 IsWide (pos n) = n < 2 ^ 63
 IsWide (negsuc n) = n < 2 ^ 63
@@ -109,7 +109,7 @@ pub data Part : Type 0 where
   sign : ℕ → Part
   session : ℕ → Part
 
--- the keywords, in capitals
+-- The keywords of the language, in capitals.
 abbrev pub keywords : List (List ℕ)
 keywords =
     codes "CREATE" ∷ codes "TABLE" ∷ codes "DROP" ∷ codes "BEGIN" ∷ codes "COMMIT"
@@ -128,24 +128,24 @@ IsNameSpelled word = IsName word × IsWord word × (has_name (map capital word) 
 
 -- ---- statements
 
--- ,
+-- The part of a statement that is a comma.
 abbrev pub comma : Part
 comma = sign 44
 
--- (
+-- The part of a statement that is an opening parenthesis.
 abbrev pub open_paren : Part
 open_paren = sign 40
 
--- )
+-- The part of a statement that is a closing parenthesis.
 abbrev pub close_paren : Part
 close_paren = sign 41
 
--- a value
+-- The part of a statement that is a value.
 abbrev pub literal : Value → Part
 literal (value.Int n) = int n
 literal (value.Chars t) = text t
 
--- values with commas between
+-- The parts of a list of values, with commas between.
 abbrev pub literals : List Value → List Part
 literals [] = []
 literals (v ∷ []) = literal v ∷ []
@@ -172,7 +172,7 @@ schema_parts (c ∷ cs) =
 abbrev pub where_parts : KeyIs → List Part
 where_parts at = key (codes "WHERE") ∷ name at.column ∷ sign 61 ∷ int at.key ∷ []
 
--- the same, or nothing
+-- The parts of a condition on the key, or none where there is no condition.
 abbrev pub optional_where : Option KeyIs → List Part
 optional_where None = []
 optional_where (Some at) = where_parts at
@@ -183,7 +183,7 @@ set_parts column (to.Is v) = name column ∷ sign 61 ∷ literal v ∷ []
 set_parts column (to.Sum other n) =
     name column ∷ sign 61 ∷ name other ∷ sign 43 ∷ int n ∷ []
 
--- assignments with commas between
+-- The parts of a list of assignments, with commas between.
 abbrev pub sets_parts : List Set → List Part
 sets_parts [] = []
 sets_parts (s ∷ []) = set_parts s.column s.to

@@ -34,7 +34,7 @@ is_free r = false
 abbrev pub NoneFree : List Entry → Type 0
 NoneFree es = AllByRecursion (λ e. is_free e.reply ≡ false) es
 
--- the replies, in order
+-- The replies of entries, in their order.
 abbrev pub replies_of : List Entry → List Reply
 replies_of es = map (λ e. e.reply) es
 
@@ -58,7 +58,7 @@ pub record IsSoundState (state : State) : Type 0 where
   pub each : (s : ℕ) (me : Transaction) → transaction_of state s ≡ Some me
       → (me.snapshot ≤ state.answered) × IfSome me.asked (λ k. k ≤ length state.asked)
 
--- it holds after every legal tape from a start
+-- Every state that a legal tape leads to from a start is sound.
 abbrev pub LegalStatesAreSound : Type 0
 LegalStatesAreSound =
     (lines : List Line) (moment : ℕ) (base : Database) (stuck : List (List ℕ)) (es : List Entry)
@@ -91,7 +91,7 @@ abbrev pub asked_by : Reply → Option Transaction → List (List Change)
 asked_by (reply.Asked k) (Some me) = me.own ∷ []
 asked_by r me = []
 
--- the same base, and these transactions after those that asked
+-- A later state has the base of an earlier one, and more transactions behind those that asked.
 pub record Grows (more : List (List Change)) (old new : State) : Type 0 where
   pub base : new.base ≡ old.base
   pub asked : new.asked ≡ old.asked ++ more

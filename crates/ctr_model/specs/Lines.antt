@@ -12,7 +12,7 @@ abbrev pub in_front : ℕ → List (List ℕ) → List (List ℕ)
 in_front c [] = (c ∷ []) ∷ []
 in_front c (l ∷ ls) = (c ∷ l) ∷ ls
 
--- LF stands first
+-- A line feed stands first in these bytes.
 abbrev pub is_at_end : List ℕ → Bool
 is_at_end [] = false
 is_at_end (c ∷ cs) = c == 10
@@ -30,7 +30,7 @@ abbrev pub IsComment : List ℕ → Type 0
 IsComment line = (blanks rest : List ℕ) × (line ≡ blanks ++ 45 ∷ 45 ∷ rest)
     × AllByRecursion IsBlank blanks
 
--- printable, or a tab
+-- A byte of a script's line: printable, or a tab.
 abbrev pub IsPlain : ℕ → Type 0
 IsPlain c = IsPrintable c ⊎ (c ≡ 9)
 
@@ -51,7 +51,7 @@ pub data IsWrongAt (Spells : List (List ℕ) → Line → Type 0) (line : List �
 
 -- ---- scripts
 
--- these lines say these statements, one a line, but for the lines that are passed over
+-- Lines of bytes say these statements, one a line, but for the lines that are passed over.
 abbrev pub AllSay : (List (List ℕ) → Line → Type 0) → List (List ℕ) → List Line → Type 0
 AllSay Spells [] said = said ≡ []
 AllSay Spells (line ∷ lines) said =

@@ -34,7 +34,7 @@ first_of (Some x ∷ xs) = Some x
 
 -- ---- what a statement speaks of
 
--- its table
+-- The table that a statement names, if it names one.
 abbrev pub table_of : Statement → Option (List ℕ)
 table_of st.Begin = None
 table_of st.Commit = None
@@ -76,7 +76,7 @@ key_locked act.Answer statement = None
 key_locked act.Rollback statement = None
 key_locked (act.Release name) statement = None
 
--- it makes a table
+-- A statement makes a table.
 abbrev pub creates : Statement → Bool
 creates st.Begin = false
 creates st.Commit = false
@@ -88,7 +88,7 @@ creates (st.Select table at) = false
 creates (st.Update table sets at) = false
 creates (st.Delete table at) = false
 
--- it makes or drops a table
+-- A statement makes or drops a table.
 abbrev pub changes_schema : Statement → Bool
 changes_schema st.Begin = false
 changes_schema st.Commit = false
@@ -209,13 +209,13 @@ abbrev pub kind_of : List ℕ → List Column → Option Kind
 kind_of name [] = None
 kind_of name (c ∷ cs) = if same_name name c.name then Some c.kind else kind_of name cs
 
--- it is the kind of an INT column
+-- A column's kind, if there is one, is INT.
 abbrev pub is_int : Option Kind → Bool
 is_int None = false
 is_int (Some kind.Int) = true
 is_int (Some (kind.Chars most)) = false
 
--- it is the kind of a column that the value fits
+-- A value fits a column of the kind, if there is one.
 abbrev pub suits : Option Kind → Value → Bool
 suits None v = false
 suits (Some k) v = fits k v

@@ -31,12 +31,12 @@ abbrev pub rows_in : Option KeyIs → Table → List Row
 rows_in None table = map (λ e. e.1) table.rows
 rows_in (Some at) table = option_to_list (row_at table at.key)
 
--- the same of a table that is there; else there are none
+-- The rows of a table under a condition on its key; none where there is no table.
 abbrev pub rows_found : Option KeyIs → Option Table → List Row
 rows_found at None = []
 rows_found at (Some table) = rows_in at table
 
--- what a Read gives
+-- The rows that a Read of a statement gives, by the database that the session sees.
 abbrev pub rows_read : Database → Statement → List Row
 rows_read db st.Begin = []
 rows_read db st.Commit = []
@@ -167,7 +167,7 @@ changes_of db (st.Update table sets at) =
     put_of table at.key (option_and_then (updated (columns_of t) sets) (row_of t at.key))
 changes_of db (st.Delete table at) = change.Remove table at.key ∷ []
 
--- the same where the act is of a statement; an act of none brings nothing
+-- A transaction with what a granted act brings it; an act of no statement brings nothing.
 abbrev pub with_granted : Act → Option Statement → Transaction → Transaction
 with_granted a None me = me
 with_granted a (Some statement) me = granted a statement me

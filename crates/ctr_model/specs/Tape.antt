@@ -122,7 +122,7 @@ passed_by statement p e = record {
   moment = e.moment;
 }
 
--- the same by the script
+-- The point behind an entry, by the statement that the script has for it.
 abbrev pub passed : List Line → Point → Entry → Point
 passed lines p e = passed_by (statement_of lines e.session e.statement) p e
 
@@ -164,7 +164,7 @@ answered_by t (e ∷ es) =
 
 -- ---- a serial run
 
--- the act is recovery's
+-- An act is one of recovery, and not of a session.
 abbrev pub is_release : Act → Bool
 is_release (act.Release name) = true
 is_release a = false
@@ -176,7 +176,7 @@ numbered before [] = []
 numbered before (l ∷ ls) =
     (l.session, length (statements_of l.session before) + 1) ∷ numbered (before ++ l ∷ []) ls
 
--- this statement and then these, told once where it is the first of them already
+-- A statement's number in front of others, told once where it is the first of them already.
 abbrev pub with_statement : ℕ × ℕ → List (ℕ × ℕ) → List (ℕ × ℕ)
 with_statement x [] = x ∷ []
 with_statement x (y ∷ ys) = if x.0 == y.0 && x.1 == y.1 then y ∷ ys else x ∷ y ∷ ys

@@ -32,7 +32,7 @@ ended text = text ++ 10 ∷ []
 abbrev pub doubled : ℕ → List ℕ
 doubled c = if c == 39 then 39 ∷ 39 ∷ [] else c ∷ []
 
--- a text between quotes
+-- A text between quotes, with each quote inside it doubled.
 abbrev pub quoted : List ℕ → List ℕ
 quoted text = 39 ∷ flat_map doubled text ++ 39 ∷ []
 
@@ -79,7 +79,7 @@ refusal_text (refusal.Full limit) = codes "Full " ++ decimal limit
 abbrev pub row_line : Row → List ℕ
 row_line row = ended (codes "  " ++ row_text row)
 
--- who was answered
+-- The head of a line: which session's which statement was answered.
 abbrev pub entry_head : Entry → List ℕ
 entry_head e = decimal e.session ++ codes "." ++ decimal e.statement ++ codes ": "
 
@@ -87,7 +87,7 @@ entry_head e = decimal e.session ++ codes "." ++ decimal e.statement ++ codes ":
 abbrev pub entry_line : Entry → List ℕ → List ℕ
 entry_line e text = ended (entry_head e ++ text)
 
--- which name recovery released
+-- The line that tells which name recovery released.
 abbrev pub release_line : Act → List ℕ
 release_line (act.Release name) = ended (codes "recovery: released " ++ name)
 release_line a = []
@@ -154,7 +154,7 @@ success_line command.Run es report = end_line es report
 success_line (command.Load sessions statements) es report = load_line sessions statements es report
 success_line (command.Survey start) es report = report_line start
 
--- a file's name
+-- The name of a file, as it is printed.
 abbrev pub file_text : File → List ℕ
 file_text file.Root = codes "Root"
 file_text file.LogA = codes "LogA"

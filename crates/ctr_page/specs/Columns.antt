@@ -76,7 +76,7 @@ kinds_width (k ∷ ks) = field_width k + kinds_width ks
 abbrev pub slot_start : List Kind → ℕ → ℕ
 slot_start kinds number = start_of (slot_size (kinds_width kinds)) number
 
--- and a version entry
+-- Where the version entry of a number starts on a page of versions.
 abbrev pub kept_start : List Kind → ℕ → ℕ
 kept_start kinds number = start_of (kept_size (kinds_width kinds)) number
 

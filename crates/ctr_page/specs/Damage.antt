@@ -25,7 +25,7 @@ abbrev pub chain_entry : Chain → ℕ
 chain_entry (Rows e b) = e
 chain_entry (Versions e) = e
 
--- 0 for versions
+-- The bucket of a chain of rows; 0 for a chain of versions.
 abbrev pub chain_bucket : Chain → ℕ
 chain_bucket (Rows e b) = b
 chain_bucket (Versions e) = 0
@@ -102,7 +102,7 @@ slot_check kinds counted start page =
     if field 1 start page == 1 then used_slot_check kinds counted start page
     else at_most start 1 (field 1 start page)
 
--- the version entry
+-- The check of a version entry as it stands on its page.
 unfoldable pub kept_check : List Kind → ℕ → ℕ → List ℕ → Result ⊤ BadRecord
 kept_check kinds counted start page =
     if field 1 start page == 1 then used_kept_check kinds counted start page

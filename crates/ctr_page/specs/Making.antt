@@ -12,7 +12,7 @@ use Rattle.ctr_page.specs.Places.{has_previous}
 
 -- ---- bytes
 
--- a page's header
+-- The bytes of a page's header.
 abbrev pub header_bytes : Header → List ℕ
 header_bytes h =
     spelled 1 h.kind ++ spelled 1 h.entry ++ spelled 1 h.bucket ++ spelled 1 0 ++ spelled 4 h.next
@@ -41,7 +41,7 @@ slot_bytes w s =
     spelled 1 s.used ++ spelled 8 (cast_unsigned w64 s.key) ++ version_bytes s.head
     ++ previous_bytes w s.previous ++ pointer_bytes s.older
 
--- a version entry
+-- The bytes of a version entry.
 abbrev pub kept_bytes : VersionEntry → List ℕ
 kept_bytes e =
     spelled 1 e.used ++ spelled 8 (cast_unsigned w64 e.key) ++ version_bytes e.version
@@ -53,7 +53,7 @@ kept_bytes e =
 abbrev pub IsHeader : Header → Type 0
 IsHeader h = (h.kind < 256) × (h.entry < 256) × (h.bucket < 256) × (h.next < 256 ^ 4)
 
--- the same of a place
+-- A place fits its fields: 4 bytes for the page, 2 for the slot.
 abbrev pub PlaceFits : Place → Type 0
 PlaceFits p = (p.page < 256 ^ 4) × (p.slot < 256 ^ 2)
 
@@ -66,7 +66,7 @@ abbrev pub IsPrevious : ℕ → Option Version → Type 0
 IsPrevious w None = Unit {0}
 IsPrevious w (Some v) = (has_previous w ≡ true) × (0 < v.xid) × IsVersion w v
 
--- the same of a slot, whose versions have payloads of the width
+-- A slot fits its fields, and its versions have payloads of the width.
 pub record IsSlot (w : ℕ) (s : RowSlot) : Type 0 where
   pub used : s.used < 256
   pub key : FitsSigned w64 s.key
@@ -74,7 +74,7 @@ pub record IsSlot (w : ℕ) (s : RowSlot) : Type 0 where
   pub previous : IsPrevious w s.previous
   pub older : PlaceFits s.older
 
--- the same of a version entry
+-- A version entry fits its fields, and has a payload of the width.
 pub record IsEntry (w : ℕ) (e : VersionEntry) : Type 0 where
   pub used : e.used < 256
   pub key : FitsSigned w64 e.key

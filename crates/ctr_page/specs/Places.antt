@@ -6,7 +6,7 @@ use Rattle.ctr_page.specs.declared.table.TheConstants.{PAGE_SIZE, HEADER_SIZE, H
 abbrev pub has_previous : ℕ → Bool
 has_previous w = nat_le w WIDEST_PAIR
 
--- behind the head
+-- Where the previous version stands in a slot: right behind the head.
 abbrev pub previous_at : ℕ → ℕ
 previous_at w = HEAD_AT + VERSION_SIZE + w
 
@@ -23,7 +23,7 @@ slot_size w = pointer_at w + POINTER_SIZE
 abbrev pub kept_pointer_at : ℕ → ℕ
 kept_pointer_at w = previous_at w
 
--- 24 + w
+-- The size of a version entry of rows so wide: 24 bytes and the width.
 abbrev pub kept_size : ℕ → ℕ
 kept_size w = kept_pointer_at w + POINTER_SIZE
 

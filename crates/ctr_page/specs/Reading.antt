@@ -50,7 +50,7 @@ abbrev pub previous_in : ℕ → List ℕ → Option Version
 previous_in w bytes =
     if has_previous w then if_there (version_in w (previous_at w) bytes) else None
 
--- a row's slot
+-- The slot of a row that these bytes say.
 abbrev pub slot_in : ℕ → List ℕ → RowSlot
 slot_in w bytes = record {
   used = field 1 0 bytes;
@@ -60,7 +60,7 @@ slot_in w bytes = record {
   older = place_in (pointer_at w) bytes;
 }
 
--- a version entry
+-- The version entry that these bytes say.
 abbrev pub older_in : ℕ → List ℕ → VersionEntry
 older_in w bytes = record {
   used = field 1 0 bytes;

@@ -6,15 +6,15 @@ use Rattle.std.specs.Str.Parse.{digits_value}
 use Rattle.ctr_model.specs.State.{has_name}
 use Rattle.ctr_model.specs.Grammar.{capital, keywords}
 
--- from low to high
+-- A number is from low to high, both included.
 abbrev pub is_between : ℕ → ℕ → ℕ → Bool
 is_between low high c = nat_le low c && nat_le c high
 
--- 0 to 9
+-- A byte is a digit, 0 to 9.
 abbrev pub is_digit : ℕ → Bool
 is_digit c = is_between 48 57 c
 
--- a letter or _
+-- A byte is a letter of ASCII or an underscore.
 abbrev pub is_letter : ℕ → Bool
 is_letter c = is_between 65 90 c || (is_between 97 122 c || c == 95)
 
@@ -35,7 +35,7 @@ is_keyword word = has_name (map capital word) keywords
 unfoldable pub is_name : List ℕ → Bool
 is_name word = is_word word && (nat_le (length word) 16 && not (is_keyword word))
 
--- one digit or more
+-- A list of bytes is one digit or more.
 abbrev pub is_numeral : List ℕ → Bool
 is_numeral [] = false
 is_numeral (d ∷ ds) = is_digit d && list_all is_digit ds
@@ -45,7 +45,7 @@ abbrev pub below_zero : ℕ → ℤ
 below_zero zero = pos 0
 below_zero (suc n) = negsuc n
 
--- the same, where it is a whole number of 64 bits
+-- The number that digits say behind a minus sign, where it is a whole number of 64 bits.
 abbrev pub negative_of : List ℕ → Option ℤ
 negative_of ds =
     if is_numeral ds && nat_le (digits_value 10 ds) (2 ^ 63)
@@ -62,7 +62,7 @@ unfoldable pub int_of : List ℕ → Option ℤ
 int_of [] = None
 int_of (c ∷ cs) = if c == 45 then negative_of cs else positive_of (c ∷ cs)
 
--- bytes before a text
+-- The bytes of a text with others in front of them.
 abbrev pub with_bytes : List ℕ → Option (List ℕ) → Option (List ℕ)
 with_bytes front None = None
 with_bytes front (Some text) = Some (front ++ text)

@@ -38,7 +38,7 @@ abbrev pub ends_with : {A : Type 0} → Tree A → Option A
 ends_with stub = None
 ends_with (node end allowed behind) = end
 
--- the token may follow
+-- A token may follow at this place of a tree.
 abbrev pub allows : {A : Type 0} → Tree A → List ℕ → Bool
 allows stub t = false
 allows (node end allowed behind) t = allowed t
@@ -75,7 +75,7 @@ Follows go (Err stop.Missing) end = end ≡ missing
 
 -- ---- one token
 
--- there is one
+-- An option has a value.
 abbrev pub is_there : {X : Type 0} → Option X → Bool
 is_there None = false
 is_there (Some x) = true
@@ -94,11 +94,11 @@ choose next (Some x) other = next x
 abbrev pub one_then : {X A : Type 0} → (List ℕ → Option X) → (X → Tree A) → Tree A
 one_then meaning next = node None (λ t. is_there (meaning t)) (λ t. follow next (meaning t))
 
--- nothing more
+-- The tree of a reading that is finished: nothing more may follow.
 abbrev pub done : {A : Type 0} → A → Tree A
 done a = node (Some a) (λ _. false) (λ _. stub)
 
--- it holds
+-- An option that has a value exactly where a test holds.
 abbrev pub checked : Bool → Option (Unit {0})
 checked false = None
 checked true = Some tt
@@ -113,7 +113,7 @@ abbrev pub mapped : {X Y : Type 0} → (X → Y) → Option X → Option Y
 mapped f None = None
 mapped f (Some x) = Some (f x)
 
--- what it leads to
+-- What an optional value leads to, where there is one.
 abbrev pub and_then : {X Y : Type 0} → Option X → (X → Option Y) → Option Y
 and_then None f = None
 and_then (Some x) f = f x
@@ -122,11 +122,11 @@ and_then (Some x) f = f x
 unfoldable pub keyword_of : List ℕ → List ℕ → Option (Unit {0})
 keyword_of keyword t = checked (same_name keyword (map capital t))
 
--- these bytes
+-- A token reads as a sign where it is that one byte.
 unfoldable pub sign_of : ℕ → List ℕ → Option (Unit {0})
 sign_of c t = checked (same_name t (c ∷ []))
 
--- a name
+-- A token reads as a name where it is one.
 unfoldable pub name_of : List ℕ → Option (List ℕ)
 name_of t = if is_name t then Some t else None
 
@@ -255,7 +255,7 @@ behind_right next (right.Of n) = sign_then 43 (int_then (λ z. next (to.Sum n z)
 unfoldable pub right_then : {A : Type 0} → (SetTo → Tree A) → Tree A
 right_then next = one_then right_of (behind_right next)
 
--- an assignment
+-- The tree that reads an assignment and goes on.
 unfoldable pub set_then : {A : Type 0} → (Set → Tree A) → Tree A
 set_then next =
     name_then (λ c. sign_then 61 (right_then (λ r. next (record { column = c; to = r }))))
@@ -290,36 +290,36 @@ schema_then next =
 
 -- ---- statements
 
--- behind CREATE
+-- The tree that reads what stands behind CREATE.
 unfoldable pub create_then : {A : Type 0} → (Statement → Tree A) → Tree A
 create_then next =
     keyword_then (codes "TABLE") (name_then (λ table. sign_then 40 (schema_then (λ columns.
     next (st.Create table (record { columns = columns }))))))
 
--- behind DROP
+-- The tree that reads what stands behind DROP.
 unfoldable pub drop_then : {A : Type 0} → (Statement → Tree A) → Tree A
 drop_then next =
     keyword_then (codes "TABLE") (name_then (λ table. next (st.DropTable table)))
 
--- behind INSERT
+-- The tree that reads what stands behind INSERT.
 unfoldable pub insert_then : {A : Type 0} → (Statement → Tree A) → Tree A
 insert_then next =
     keyword_then (codes "INTO") (name_then (λ table. keyword_then (codes "VALUES") (sign_then 40
     (values_then 7 [] (λ values. next (st.Insert table values))))))
 
--- behind SELECT
+-- The tree that reads what stands behind SELECT.
 unfoldable pub select_then : {A : Type 0} → (Statement → Tree A) → Tree A
 select_then next =
     sign_then 42 (keyword_then (codes "FROM") (name_then (λ table.
     optional_then (λ at. next (st.Select table at)))))
 
--- behind UPDATE
+-- The tree that reads what stands behind UPDATE.
 unfoldable pub update_then : {A : Type 0} → (Statement → Tree A) → Tree A
 update_then next =
     name_then (λ table. keyword_then (codes "SET") (sets_then 7 [] (λ sets.
     key_is_then (λ at. next (st.Update table sets at)))))
 
--- behind DELETE
+-- The tree that reads what stands behind DELETE.
 unfoldable pub delete_then : {A : Type 0} → (Statement → Tree A) → Tree A
 delete_then next =
     keyword_then (codes "FROM") (name_then (λ table. keyword_then (codes "WHERE")
@@ -337,7 +337,7 @@ verb_then next verb.Select = select_then next
 verb_then next verb.Update = update_then next
 verb_then next verb.Delete = delete_then next
 
--- a statement
+-- The tree that reads a whole statement.
 unfoldable pub statement_then : {A : Type 0} → (Statement → Tree A) → Tree A
 statement_then next = one_then verb_of (verb_then next)
 

@@ -31,7 +31,7 @@ abbrev pub change_of : Option Frame → Option ℕ
 change_of None = None
 change_of (Some f) = f.since
 
--- the same of a page
+-- The LSN of a page's first change that isn't saved, if a frame has the page changed.
 abbrev pub since_in : ℕ → List Frame → Option ℕ
 since_in p fs = change_of (frame_of p fs)
 
@@ -39,7 +39,7 @@ since_in p fs = change_of (frame_of p fs)
 abbrev pub is_dirty : Frame → Bool
 is_dirty f = is_some f.since
 
--- how many have
+-- How many of the frames have changes that aren't saved.
 abbrev pub dirty_count : List Frame → ℕ
 dirty_count [] = 0
 dirty_count (f ∷ fs) = (if is_dirty f then 1 else 0) + dirty_count fs
@@ -62,7 +62,7 @@ after_change o lsn f = record {
 abbrev pub after_save : Frame → Frame
 after_save f = record { page = f.page; lsn = f.lsn; since = None; body = f.body }
 
--- This is the least LSN of a first change that isn't saved: some page's, and no other's is less.
+-- One page's first change that isn't saved has the least LSN: no other page's is less.
 pub record IsOldest (p since : ℕ) (fs : List Frame) : Type 0 where
   pub some : since_in p fs ≡ Some since
   pub least : (q s : ℕ) → since_in q fs ≡ Some s → since ≤ s

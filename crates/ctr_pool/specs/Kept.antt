@@ -32,7 +32,7 @@ abbrev pub first_age : List (ℕ × ℕ) → Option (ℕ × ℕ)
 first_age [] = None
 first_age (e ∷ es) = Some e
 
--- these changed at an LSN or later
+-- All pages listed were changed first at an LSN or later.
 abbrev pub AllSince : ℕ → List (ℕ × ℕ) → Type 0
 AllSince s [] = Unit {0}
 AllSince s (e ∷ es) = (s ≤ e.1) × AllSince s es

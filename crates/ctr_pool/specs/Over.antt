@@ -20,7 +20,7 @@ unchanged p = p.most - dirty_count p.frames
 -- what a frame has is held where it is saved, and else may be saved
 abbrev pub IsHeld : {B : Type 0} → Ghosts B → B → ℕ → PageHeld → Option ℕ → Type 0
 IsHeld g b p v None = v ≡ g.held b p
-IsHeld g b p v (Some since) = g.takes b p since v
+IsHeld g b p v (Some since) = g.may_be_saved b p since v
 
 -- The pool over a backing on which nothing is pending: what each page's frame has is held, or may
 -- be saved.
@@ -42,8 +42,8 @@ pub record StaysOver {B : Type 0} (g : Ghosts B) (old : List Frame) (a : B) (new
 pub record WorksBelow {B T : Type 0} (g : Ghosts B) (a b : B) (result : Result T StoreFault)
     : Type 0 where
   pub keeps : g.keeps a b
-  pub goes : IsTrue g.tells → g.rests a → g.goes a b
-  pub moves : IsTrue g.tells → g.rests a → OnOk result (g.moves a b)
+  pub goes : IsTrue g.tells → g.rests a → g.leaves_between a b
+  pub moves : IsTrue g.tells → g.rests a → OnOk result (g.may_change a b)
   pub fails : IsTrue g.tells → g.rests a → IfErr result (g.fails a b)
   pub faults : HasFault Fault (g.faults_of a) (g.faults_of b) result
 

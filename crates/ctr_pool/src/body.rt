@@ -53,9 +53,9 @@ impl Body {
     pub fn load<B: Backing>(&mut self, page: PageNo, backing: &mut B) -> Result<Lsn, StoreFault>
         ensures loaded { IsTrue B.tells → IfOk result (λ lsn. B.held backing.old page ≡ record { lsn = lsn; body = self.new }) }
         ensures keeps { B.keeps backing.old backing.new }
-        ensures same { IsTrue B.tells → OnOk result (HoldsStill B.held B.takes backing.old backing.new) }
-        ensures goes { IsTrue B.tells → B.rests backing.old → B.goes backing.old backing.new }
-        ensures moves { IsTrue B.tells → B.rests backing.old → OnOk result (B.moves backing.old backing.new × B.rests backing.new) }
+        ensures same { IsTrue B.tells → OnOk result (HoldsStill B.held B.may_be_saved backing.old backing.new) }
+        ensures goes { IsTrue B.tells → B.rests backing.old → B.leaves_between backing.old backing.new }
+        ensures moves { IsTrue B.tells → B.rests backing.old → OnOk result (B.may_change backing.old backing.new × B.rests backing.new) }
         ensures fails { IsTrue B.tells → B.rests backing.old → IfErr result (B.fails backing.old backing.new) }
         ensures finds { IsTrue B.tells → B.rests backing.old → IsFound (B.finds backing.new page) result }
         ensures faults { HasFault Fault (B.faults_of backing.old) (B.faults_of backing.new) result }

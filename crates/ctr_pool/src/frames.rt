@@ -168,12 +168,12 @@ impl Frames {
 
     /// Saves a page that a frame has.
     pub fn save<B: Backing>(&self, page: PageNo, backing: &mut B) -> Result<(), StoreFault>
-        requires takes { IsTrue B.tells → (f : Framed) → frame_of page self.now.frames ≡ Some f → B.rests backing.old × (since : ℕ) × B.takes backing.old page since (page_of f) }
+        requires takes { IsTrue B.tells → (f : Framed) → frame_of page self.now.frames ≡ Some f → B.rests backing.old × (since : ℕ) × B.may_be_saved backing.old page since (page_of f) }
         requires there { has_page page self.now.frames ≡ true }
         ensures keeps { B.keeps backing.old backing.new }
-        ensures saved { IsTrue B.tells → (f : Framed) → frame_of page self.now.frames ≡ Some f → OnOk result (PutsPage B.held B.takes page (page_of f) backing.old backing.new) }
-        ensures goes { IsTrue B.tells → B.goes backing.old backing.new }
-        ensures moves { IsTrue B.tells → OnOk result (B.moves backing.old backing.new × B.rests backing.new) }
+        ensures saved { IsTrue B.tells → (f : Framed) → frame_of page self.now.frames ≡ Some f → OnOk result (PutsPage B.held B.may_be_saved page (page_of f) backing.old backing.new) }
+        ensures goes { IsTrue B.tells → B.leaves_between backing.old backing.new }
+        ensures moves { IsTrue B.tells → OnOk result (B.may_change backing.old backing.new × B.rests backing.new) }
         ensures fails { (IsTrue B.tells → IfErr result (B.fails backing.old backing.new)) × OnErr result (result ≡ Err Fault) }
         ensures faults { HasFault Fault (B.faults_of backing.old) (B.faults_of backing.new) result }
     {

@@ -71,13 +71,13 @@ impl Backing for Memory {
 
     ghost held = { sheet_at };
 
-    ghost takes = { λ b p since v. p < vec_len b.sheets };
+    ghost may_be_saved = { λ b p since v. p < vec_len b.sheets };
 
     ghost rests = { λ b. Unit {0} };
 
-    ghost goes = { λ a b. Unit {0} };
+    ghost leaves_between = { λ a b. Unit {0} };
 
-    ghost moves = { λ a b. Unit {0} };
+    ghost may_change = { λ a b. Unit {0} };
 
     ghost keeps = { λ a b. vec_len b.sheets ≡ vec_len a.sheets };
 

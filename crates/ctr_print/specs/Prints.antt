@@ -43,7 +43,7 @@ pub record PutsOn {K : Type 0} (g : Ghosts K) (old : K) (text : List ℕ) (new :
   pub calm : done ≡ true → g.faults_of new ≡ g.faults_of old
   pub cause : done ≡ false → CountsFault (g.faults_of old) (g.faults_of new)
 
--- The same, unless all was no longer well before: then nothing is put.
+-- Bytes are sent to a sink unless all was no longer well before: then nothing is put.
 pub record Sends {K : Type 0} (g : Ghosts K) (old : K) (fine : Bool) (bytes : List ℕ) (new : K) (done : Bool)
     : Type 0 where
   pub puts : fine ≡ true → PutsOn g old bytes new done

@@ -16,7 +16,7 @@ EndsVersions counted pages e result = EndsChain counted pages (Versions e) EndsF
 
 -- ---- in the area
 
--- It is a version entry of the table that isn't used; or all of them are.
+-- The search tells a version entry of the table that isn't used; or all of them are used.
 abbrev pub FindsFreeEntry : Area → ℕ → Option Place → Type 0
 FindsFreeEntry area e (Some at) =
     IsAmong at (older_places area e) × ((area.older at).used ≡ false)

@@ -23,7 +23,7 @@ entry_lent l = record {
   older = l.older;
 }
 
--- it is the version entry that the pages have at a place
+-- What is lent is the version entry that the pages have at a place.
 abbrev pub IsKeptAt : (ℕ → List ℕ) → Place → LentVersion → Type 0
 IsKeptAt pages at l =
     older_said (columns_on pages at.page) (entry_lent l) ≡ (area_of pages).older at

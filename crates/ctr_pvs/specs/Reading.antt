@@ -36,7 +36,7 @@ kept_on_check counted e kinds number page = do
   lies ← lies_check (kept_size (kinds_width kinds)) number
   kept_check kinds counted (kept_start kinds number) page
 
--- it passes, and says this; or it doesn't
+-- The check of a version entry passes and tells the entry; or the check tells what is wrong.
 abbrev pub VersionSaid : ℕ → TableOf → ℕ → List ℕ → Result VersionEntry BadRecord → Type 0
 VersionSaid counted t number page (Ok v) =
     (kept_on_check counted t.entry (kinds_said t) number page ≡ Ok tt)
@@ -44,7 +44,8 @@ VersionSaid counted t number page (Ok v) =
 VersionSaid counted t number page (Err bad) =
     kept_on_check counted t.entry (kinds_said t) number page ≡ Err bad
 
--- it passes, in rows so wide; or it doesn't
+-- The check of a page of versions passes and tells how wide its rows are; or the check tells what
+-- is wrong.
 abbrev pub WidthSaid : ℕ → TableOf → ℕ → List ℕ → Result ℕ BadRecord → Type 0
 WidthSaid counted t number page (Ok w) =
     (kept_on_check counted t.entry (kinds_said t) number page ≡ Ok tt)
@@ -66,8 +67,8 @@ version_check_at counted pages at =
     >>= λ _. told_of at.page (kept_on_check counted (owner_of (pages at.page))
     (kinds_at (area_of pages) (owner_of (pages at.page))) at.slot (pages at.page))
 
--- This check passes, and the page of the place is one of versions of rows so wide, on which an
--- entry lies there.
+-- A check of a place passes, and its page is one of versions of rows so wide, on which an entry
+-- lies there.
 pub record PassesAt (check : Result ⊤ BadChain) (pages : ℕ → List ℕ) (at : Place) (w : ℕ)
     : Type 0 where
   pub passes : check ≡ Ok tt
@@ -91,7 +92,7 @@ row_on_check counted e kinds number page = do
   lies ← lies_check (slot_size (kinds_width kinds)) number
   slot_check kinds counted (slot_start kinds number) page
 
--- it passes, and says this; or it doesn't
+-- The check of a row's slot passes and tells the slot; or the check tells what is wrong.
 abbrev pub RowSaid : ℕ → TableOf → ℕ → List ℕ → Result RowSlot BadRecord → Type 0
 RowSaid counted t number page (Ok s) =
     (row_on_check counted t.entry (kinds_said t) number page ≡ Ok tt)

@@ -20,7 +20,8 @@ use Rattle.ctr_pvs.specs.declared.table.TableOf.{TableOf}
 abbrev pub there_check : ℕ → ℕ → Result ⊤ BadRecord
 there_check counted p = if nat_lt p 3 then Err (wrong 0 3 p) else at_most 0 (counted - 1) p
 
--- and it is of the kind that is wanted, and names one of the 32 entries of the catalog
+-- The check that a page is of the kind that is wanted, and names one of the 32 entries of the
+-- catalog.
 abbrev pub owner_check : ℕ → ℕ → ℕ → List ℕ → Result ⊤ BadRecord
 owner_check kind counted p page = do
   there ← there_check counted p
@@ -33,7 +34,7 @@ named_check counted n page =
     entry_check counted (ENTRY_SIZE * n) page
     >>= λ _. if (entry_at n page).state == 0 then Err (wrong (ENTRY_SIZE * n) 1 0) else Ok tt
 
--- the same of an entry by its number in the catalog
+-- The check of a table's entry by its number in the catalog.
 abbrev pub catalog_check : ℕ → (ℕ → List ℕ) → ℕ → Result ⊤ BadRecord
 catalog_check counted pages e = named_check counted (e % 16) (pages (1 + e / 16))
 

@@ -30,7 +30,7 @@ use Rattle.ctr_pvs.specs.Reading.{lies_check}
 abbrev pub entry_width : VersionEntry → ℕ
 entry_width entry = length entry.version.payload
 
--- It is a version entry of rows so wide, and lies on a page at a place.
+-- The entry is one of rows of its own width, and its bytes lie on a page at a place.
 pub record EntryLies (at : Place) (entry : VersionEntry) : Type 0 where
   pub narrow : entry_width entry ≤ 2048
   pub is : IsEntry (entry_width entry) entry

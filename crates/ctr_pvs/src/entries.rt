@@ -15,13 +15,13 @@ impl PageSought for FreeEntry {
     ghost ends = { λ _. EndsFree };
 
     fn search(&self, kinds: &[Kind], counted: u32, page: &[u8]) -> Result<Option<u16>, BadPage> {
-        find_free_entry(kinds, counted, page)
+        free_entry_on(kinds, counted, page)
     }
 }
 
 /// The first version entry of a page that isn't used, in rows whose columns behind the key are of these kinds, where so many pages are
 /// counted; or the damage of the first that fails its checks. No version entry behind it is looked at. It takes no memory.
-pub fn find_free_entry(kinds: &[Kind], counted: u32, page: &[u8]) -> Result<Option<u16>, BadPage>
+pub fn free_entry_on(kinds: &[Kind], counted: u32, page: &[u8]) -> Result<Option<u16>, BadPage>
     requires some { 0 < counted }
     requires few { length kinds.now ≤ 7 }
     requires whole { length page.now ≡ PAGE_SIZE }

@@ -10,9 +10,9 @@ mod search;
 mod table;
 mod writing;
 
-pub use entries::find_free_entry;
+pub use entries::free_entry_on;
 pub use lending::{LentVersion, version};
 pub use reading::{row_in, version_in};
-pub use search::free_entry;
+pub use search::find_free_entry;
 pub use table::{TableOf, catalog_page, check_there, table_on};
-pub use writing::{drop_entry, keep};
+pub use writing::{free_entry, keep};

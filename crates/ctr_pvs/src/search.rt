@@ -15,7 +15,7 @@ use ctr_walk::search_chain;
 
 /// A version entry of a table that isn't used, by the table's entry of the catalog: the search goes along the chain of its version pages,
 /// and checks the entry, and each page as it is read. It logs nothing, and takes no memory.
-pub fn free_entry<D: Disk, O: Origin>(
+pub fn find_free_entry<D: Disk, O: Origin>(
     store: &mut Store<D, O>,
     entry: u8,
 ) -> Result<Option<Place>, StoreFault>

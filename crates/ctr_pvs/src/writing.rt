@@ -137,7 +137,7 @@ fn width_to_free<D: Disk, O: Origin>(
 
 /// Frees a version entry, by one record, which isn't hardened yet. Its page and the table's entry of the catalog are checked as they are
 /// read; the version entry itself may be any.
-pub fn drop_entry<D: Disk, O: Origin>(
+pub fn free_entry<D: Disk, O: Origin>(
     store: &mut Store<D, O>,
     place: Place,
 ) -> Result<(), StoreFault>

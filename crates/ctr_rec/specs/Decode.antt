@@ -109,7 +109,7 @@ decode_schema after whole bytes = do
   columns ← with_earlier (first.0 ∷ []) (many (decode_text_column after whole) (n.0 - 1) first.1)
   Ok (record { columns = columns.0 }, columns.1)
 
--- a key
+-- Reads a key of 8 bytes from the front of a record's bytes.
 unfoldable pub decode_key : ℕ → ℕ → List ℕ → Result (ℤ × List ℕ) BadRecord
 decode_key after whole bytes = do
   b ← decode_bytes 8 after whole bytes

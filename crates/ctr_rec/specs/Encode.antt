@@ -18,7 +18,7 @@ use Rattle.ctr_rec.specs.Items.{item_table}
 abbrev pub schema_bytes : Schema → List ℕ
 schema_bytes s = length s.columns ∷ flat_map column_bytes s.columns
 
--- which change it is
+-- The byte that says which change an item of a record is.
 abbrev pub change_tag : Item → ℕ
 change_tag (Put t k p) = PUT
 change_tag (Remove t k) = REMOVE
@@ -33,7 +33,7 @@ key_bytes k = spelled 8 (cast_unsigned w64 k)
 abbrev pub payload_bytes : List ℕ → List ℕ
 payload_bytes p = spelled 2 (length p) ++ p
 
--- what follows the name
+-- The bytes of an item that follow the table's name.
 abbrev pub body_bytes : Item → List ℕ
 body_bytes (Put t k p) = key_bytes k ++ payload_bytes p
 body_bytes (Remove t k) = key_bytes k

@@ -51,7 +51,7 @@ Folds db is new = (cs : List Change) × StandAll db is cs × (new ≡ after cs d
 abbrev pub FoldsRecord : Database → List ℕ → Database → Type 0
 FoldsRecord db bytes new = (is : List Item) × AreItems is × IsSpelled is bytes × Folds db is new
 
--- one record after another
+-- The records of a log make one database of another, one record after the other.
 abbrev pub FoldsRecords : Database → List (List ℕ) → Database → Type 0
 FoldsRecords db [] new = new ≡ db
 FoldsRecords db (r ∷ rs) new = (mid : Database) × FoldsRecord db r mid × FoldsRecords mid rs new

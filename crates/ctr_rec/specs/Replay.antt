@@ -16,7 +16,7 @@ use Rattle.ctr_rec.specs.declared.item.TheConstants.{NO_OVERLAY, PUT, REMOVE, CR
 use Rattle.ctr_rec.specs.declared.decoding.BadRecord.{BadRecord}
 use Rattle.ctr_rec.specs.Decode.{unwanted, decode_bytes, decode_number, decode_byte, decode_tag, decode_name, decode_key, decode_schema, least_body}
 
--- this number is wanted at a place
+-- The check that a number wanted at a place of a record is there.
 abbrev pub wanted_at : ℕ → ℕ → ℕ → Result ⊤ BadRecord
 wanted_at at want got = if want == got then Ok tt else Err (unwanted at want got)
 
@@ -74,18 +74,18 @@ replay_row cs db t after whole bytes = do
   ok ← check_texts (drop 1 cs) (whole - (length p.0 + length p.1)) p.0
   Ok (changed (change.Put t k.0 (row_told cs k.0 p.0)) db, p.1)
 
--- the same, in the table of this name
+-- Replays a Put into the table of a name, by its columns.
 abbrev pub replay_put : Database → List ℕ → ℕ → ℕ → List ℕ → Result (Database × List ℕ) BadRecord
 replay_put db t after whole bytes = replay_row (columns_of (table_at db t)) db t after whole bytes
 
--- a Remove
+-- Replays a Remove of a key.
 unfoldable pub replay_remove : Database → List ℕ → ℕ → ℕ → List ℕ
     → Result (Database × List ℕ) BadRecord
 replay_remove db t after whole bytes = do
   k ← decode_key after whole bytes
   Ok (changed (change.Remove t k.0) db, k.1)
 
--- a Create
+-- Replays a Create of a table.
 unfoldable pub replay_create : Database → List ℕ → ℕ → ℕ → List ℕ
     → Result (Database × List ℕ) BadRecord
 replay_create db t after whole bytes = do

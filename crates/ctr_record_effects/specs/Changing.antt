@@ -32,7 +32,7 @@ laid_in_entry e at bytes = laid_at (1 + e / 16) (ENTRY_SIZE * (e % 16) + at) byt
 abbrev pub alloc_record : ℕ → ℕ → ℕ → Record
 alloc_record x p byte = Alloc x p (laid_at 0 (p / 8) (byte ∷ []))
 
--- the same of a page that is free again
+-- The record of a page that is free again, with the byte of the allocation map.
 abbrev pub free_record : ℕ → ℕ → Record
 free_record p byte = Free p (laid_at 0 (p / 8) (byte ∷ []))
 
@@ -52,7 +52,7 @@ link_older_record x p e = Link x p (laid_in_entry e VERSIONS_AT (spelled 4 p))
 abbrev pub unlink_record : ℕ → ℕ → ℕ → ℕ → Record
 unlink_record p next e bucket = Unlink p (laid_in_entry e (FIRSTS_AT + 4 * bucket) (spelled 4 next))
 
--- and the chain of versions
+-- The record by which a page leaves the chain of versions of its table.
 abbrev pub unlink_older_record : ℕ → ℕ → ℕ → Record
 unlink_older_record p next e = Unlink p (laid_in_entry e VERSIONS_AT (spelled 4 next))
 
@@ -63,15 +63,15 @@ abbrev pub create_record : ℕ → ℕ → List ℕ → List Column → Record
 create_record x e name columns =
     Create x e (laid_at (1 + e / 16) (ENTRY_SIZE * (e % 16)) (new_entry_bytes x name columns))
 
--- it is dead
+-- The record by which a table's entry is dead, since its making is undone.
 abbrev pub uncreate_record : ℕ → Record
 uncreate_record e = Uncreate e (laid_in_entry e 0 (2 ∷ []))
 
--- who dropped it
+-- The record by which a transaction drops the table of an entry.
 abbrev pub drop_record : ℕ → ℕ → Record
 drop_record x e = Drop x e (laid_in_entry e DROPPER_AT (spelled 8 x))
 
--- nobody did
+-- The record by which nobody dropped the table of an entry, since its drop is undone.
 abbrev pub undrop_record : ℕ → Record
 undrop_record e = Undrop e (laid_in_entry e DROPPER_AT (spelled 8 0))
 
@@ -81,6 +81,6 @@ undrop_record e = Undrop e (laid_in_entry e DROPPER_AT (spelled 8 0))
 abbrev pub laid_on_place : Place → ℕ → List ℕ → Overlay
 laid_on_place at size bytes = laid_at at.page (start_of size at.slot) bytes
 
--- The record lays this.
+-- The overlay of a record is the one given.
 abbrev pub Lays : Record → Overlay → Type 0
 Lays r o = overlay_of r ≡ Some o

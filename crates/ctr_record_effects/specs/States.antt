@@ -9,7 +9,7 @@ use Rattle.ctr_area.specs.Reading.{area_of}
 abbrev pub pages_in : State → ℕ → List ℕ
 pages_in s p = page_at p s.pages
 
--- what stands in them
+-- The area that the pages of a state say.
 abbrev pub area_in : State → Area
 area_in s = area_of (pages_in s)
 

@@ -27,7 +27,7 @@ items_at bytes = 25 + 16 * (opens_in bytes + aborted_in bytes)
 unfoldable pub items_in : List ℕ → ℕ
 items_in bytes = count_at (items_at bytes) bytes
 
--- where the flag stands
+-- Where the flag stands at the end of a checkpoint's bytes.
 unfoldable pub end_at : List ℕ → ℕ
 end_at bytes = items_at bytes + 8 + 13 * items_in bytes
 
@@ -86,14 +86,14 @@ is_among opens bytes x zero = false
 is_among opens bytes x (suc n) =
     if field 8 (xid_at opens n) bytes == x then true else is_among opens bytes x n
 
--- it is from 1 to below the next, and didn't come before
+-- A transaction of a checkpoint's lists is from 1 to below the next one, and wasn't listed before.
 abbrev pub is_new : ℕ → List ℕ → ℕ → ℕ → Bool
 is_new opens bytes i x =
     if x == 0 then false else
     if nat_lt x (field 8 1 bytes) then
     (if is_among opens bytes x i then false else true) else false
 
--- each is so
+-- The check of each transaction of a checkpoint's lists.
 unfoldable pub xid_check : ℕ → List ℕ → ℕ → Result ⊤ BadRecord
 xid_check opens bytes i =
     if is_new opens bytes i (field 8 (xid_at opens i) bytes) then Ok tt else

@@ -13,7 +13,7 @@ use Rattle.ctr_records.specs.Table.{bytes_of_field, most, flag_at}
 abbrev pub wrong : ℕ → ℕ → ℕ → BadRecord
 wrong at want got = record { at = at; want = want; got = got }
 
--- this number is wanted at a place
+-- The check that a number wanted at a place is there.
 abbrev pub expect : ℕ → ℕ → ℕ → Result ⊤ BadRecord
 expect at want got = if want == got then Ok tt else Err (wrong at want got)
 

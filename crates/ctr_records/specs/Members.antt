@@ -26,7 +26,7 @@ item_xid (FreeOf p) = 0
 item_xid (CreateOf x e) = x
 item_xid (DropOf x e) = x
 
--- its page or entry
+-- The page or entry of the catalog that an item is about.
 abbrev pub item_number : SlogItem → ℕ
 item_number (AllocOf x p) = p
 item_number (FreeOf p) = p
@@ -37,7 +37,7 @@ item_number (DropOf x e) = e
 abbrev pub slog_item_bytes : SlogItem → List ℕ
 slog_item_bytes i = spelled 1 (item_kind i) ++ spelled 8 (item_xid i) ++ spelled 4 (item_number i)
 
--- how many, and each
+-- The bytes of a list: how many members, and then each of them.
 abbrev pub list_bytes : {A : Type 0} → (A → List ℕ) → List A → List ℕ
 list_bytes one xs = spelled 8 (length xs) ++ flat_map one xs
 
@@ -80,7 +80,7 @@ pairs_at at bytes = pairs_from (at + 8) (field 8 at bytes) bytes
 abbrev pub opens_listed : List ℕ → List (ℕ × ℕ)
 opens_listed bytes = pairs_at 0 bytes
 
--- the aborted ones
+-- The aborted transactions that a checkpoint's bytes list.
 abbrev pub aborted_listed : List ℕ → List (ℕ × ℕ)
 aborted_listed bytes = pairs_at (behind_pairs 0 bytes) bytes
 
@@ -128,7 +128,7 @@ pub record MembersFit (next : ℕ) (opens aborted : List (ℕ × ℕ)) (items : 
     pub once : AreNew next [] (opens ++ aborted)
     pub items_fit : (length items < 2 ^ 64) × AllByRecursion ItemFits items
 
--- these members stand in the lists
+-- Open and aborted transactions and items stand in these lists of a checkpoint, in their order.
 abbrev pub AreListed : List (ℕ × ℕ) → List (ℕ × ℕ) → List SlogItem → List ℕ → Type 0
 AreListed opens aborted items lists =
     (opens_listed lists ≡ opens) × (aborted_listed lists ≡ aborted) × (items_listed lists ≡ items)

@@ -56,7 +56,7 @@ record_made tag.Keep a b o = over_its o (λ l. Keep a l)
 record_made tag.Revert a b o = over_its o (λ l. Revert a l)
 record_made tag.Trim a b o = over_its o (λ l. Trim l)
 
--- the same of parts
+-- The record that its parts make.
 abbrev pub record_with : Parts → Record
 record_with p = record_made p.tag p.first p.second p.overlay
 

@@ -15,7 +15,7 @@ FormFits (Lists next lists) =
     (next < 2 ^ 64) × (checkpoint_checks (checkpoint_bytes next lists) ≡ Ok tt)
 FormFits (Fields p) = PartsFit p
 
--- it is a record of the log
+-- A record is one of the log: its fields fit their bytes.
 abbrev pub IsRecord : Record → Type 0
 IsRecord r = FormFits (form_of r)
 

@@ -25,7 +25,7 @@ abbrev pub row : ℕ → Field → Field → ℕ → Layout
 row number first second flag =
     record { number = number; first = first; second = second; flag = flag }
 
--- the table
+-- The table of records: for each tag its number, its two fields, and the flag of its overlay.
 abbrev pub layout : Tag → Layout
 layout Begin = row 2 Xid Nothing 0
 layout Commit = row 3 Xid Nothing 0

@@ -72,7 +72,7 @@ counting n s = record s { counted = n }
 
 -- ---- how what is stored changes
 
--- these records stand behind the log
+-- What is stored, with records more behind its log.
 abbrev pub with_more : List Record → Stored → Stored
 with_more rs i = record i { records = i.records ++ rs }
 

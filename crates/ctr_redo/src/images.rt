@@ -2,7 +2,7 @@
 ghost use Rattle.std.specs.Prelude.{◌≡◌, ◌≤◌, ◌<◌, ◌⊎◌, ℕ, List};
 ghost use Rattle.ctr_types.specs.declared.file.File.{File as FileOf};
 ghost use Rattle.ctr_disk.specs.declared.disk.Image.{Image};
-ghost use Rattle.ctr_disk.specs.declared.fault.Root.{Root};
+ghost use Rattle.ctr_home.specs.declared.root.Root.{Root};
 ghost use Rattle.ctr_home.specs.declared.block.Block.TheVariants.{Page, Root as RootBlock};
 ghost use Rattle.ctr_home.specs.Roots.{root_block};
 ghost use Rattle.ctr_home.specs.Blocks.{BlockValue, zero_bytes};

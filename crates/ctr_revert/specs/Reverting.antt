@@ -160,7 +160,7 @@ EntrySaidFrom counted t f page (Err bad) =
     (there_check counted f.older.page
     >>= λ _. kept_on_check counted t.entry (kinds_said t) f.older.slot page) ≡ Err bad
 
--- these bytes, or those of a free slot
+-- The bytes are those that were made, or those of a free slot where none were made.
 abbrev pub IsMadeOr : ℕ → Option (List ℕ) → List ℕ → Type 0
 IsMadeOr w (Some made) bytes = bytes ≡ made
 IsMadeOr w None bytes = take (slot_size w) bytes ≡ slot_bytes w (blank_slot w)
@@ -210,7 +210,7 @@ abbrev pub EndsRow : ℕ → (ℕ → List ℕ) → Place → Result SlotLaid Ba
 EndsRow counted pages at (Ok l) = PassesRow counted pages at l
 EndsRow counted pages at (Err bad) = revert_check counted pages at ≡ Err bad
 
--- it has a place of this number on a page
+-- A slot that is laid has a place of this number on a page.
 pub record LiesThere (number : ℕ) (l : SlotLaid) : Type 0 where
   pub narrow : l.w ≤ 2048
   pub small : slot_size l.w ≤ 2072

@@ -5,7 +5,7 @@ use Rattle.ctr_versions.specs.Heads.{is_of}
 use Rattle.std.specs.Ordering.{nat_cmp}
 use Rattle.std.specs.FinMap.Entries.{find}
 
--- counts by transaction
+-- How many heads each transaction has, by its number.
 abbrev pub HeadCounts : Type 0
 HeadCounts = List (ℕ × ℕ)
 

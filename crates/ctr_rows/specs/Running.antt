@@ -20,7 +20,7 @@ pub record HeldEngine : Type 0 where
   pub answered : ℕ
   pub heads : HeadCounts
 
--- the same of what the code has
+-- What an engine of versions holds, by the fields of the code.
 abbrev pub held_engine : Inside → HeldEngine
 held_engine a = record {
   xids = a.xids;
@@ -49,7 +49,7 @@ pub record Runs (xids : Xids) (store : HeldStore) (answered : ℕ) (heads : Head
       → IsCountOf x (count_of x heads) (versions_of store)
   pub room : (x : ℕ) → has x xids.live ≡ true → HasCount x heads
 
--- an engine is so
+-- An engine's fields stand for a running engine of versions.
 abbrev pub IsRunning : Inside → Type 0
 IsRunning a = Runs a.xids a.store a.answered a.heads
 

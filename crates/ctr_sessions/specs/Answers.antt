@@ -52,7 +52,7 @@ row_seen seat (Some made) key =
 abbrev pub with_rows : Seat → Made → Table
 with_rows seat made = table_seen (seat_sees seat) seat.db.engine.versions made
 
--- what a Read gives
+-- The rows that a Read of a statement gives, by what a session sees.
 abbrev pub rows_seen : Seat → Statement → List Row
 rows_seen seat st.Begin = []
 rows_seen seat st.Commit = []

@@ -55,7 +55,7 @@ WritesAreRefusedAlike = (low : ℕ) (state : State) (s : ℕ) (me : Transaction)
     → write_refused (columns_seen (made_seen seat name)) statement
     (row_seen seat (made_seen seat name) key) ≡ write_refusal (view state me) statement
 
--- and where it isn't, the row that it leaves is the model's one change
+-- A write that isn't refused leaves a row that is the model's one change.
 abbrev pub WritesAreOneChange : Type 0
 WritesAreOneChange = (low : ℕ) (state : State) (s : ℕ) (me : Transaction)
     (seat : Seat) (statement : Statement) (name : List ℕ) (key : ℤ)

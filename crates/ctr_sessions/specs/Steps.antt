@@ -47,7 +47,7 @@ ReadShows = (low : ℕ) (db : Begun) (state : State) (s : ℕ) (me t : Transacti
 
 -- ---- writes
 
--- a row is written
+-- The law of a row that is written: what is shown then is the state with that change.
 abbrev pub RowShows : Type 0
 RowShows = (low : ℕ) (old new : Begun) (state : State) (s : ℕ) (me : Transaction) (c : Change)
     (id : ℕ) (key : ℤ) (chain : List (ℕ × Option Row)) → ShowsBegun low old state
@@ -77,7 +77,7 @@ AskShows = (low : ℕ) (old new : Begun) (state : State) (s : ℕ) (me : Transac
     → ShowsBegun low new (with_transaction s (record me { asked = Some (length state.asked + 1) })
     (record state { asked = state.asked ++ me.own ∷ [] }))
 
--- a commit is answered
+-- The law of a commit that is answered: what is shown then is the state in which it is answered.
 abbrev pub AnswerShows : Type 0
 AnswerShows = (low : ℕ) (old new : Begun) (state : State) (s : ℕ) → ShowsBegun low old state
     → state.answered < length state.asked → new.engine ≡ engine_answered s old.engine

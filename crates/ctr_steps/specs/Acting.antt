@@ -37,7 +37,7 @@ abbrev pub LocksFirst : Statement → Type 0
 LocksFirst statement = (state : State) (s : ℕ)
     → acts_of state s statement ≡ act.Lock ∷ act.Write ∷ []
 
--- it is a SELECT
+-- A statement is a SELECT of a table, of a key or of all.
 abbrev pub IsSelect : Statement → Type 0
 IsSelect statement = (name : List ℕ) × (at : Option KeyIs) × (statement ≡ st.Select name at)
 
@@ -49,7 +49,7 @@ pub record LeavesReady (s : ℕ) (statement : Statement) (old new : TurnsHeld) (
   pub locks : LocksFirst statement
   pub readies : LockReadies s statement old new ready
 
--- a lock was granted
+-- A reply says that a lock was granted.
 abbrev pub is_granted : Reply → Bool
 is_granted reply.Granted = true
 is_granted r = false
@@ -66,10 +66,10 @@ has_more act.Answer r = false
 has_more act.Rollback r = false
 has_more (act.Release name) r = false
 
--- It is the act of the statement that comes after so many of it, and leaves the session where the
--- model does, as it was answered. A Write isn't refused for want of room in the files. The others'
--- records are as they were, whoever of them was granted a lock can write still, and a lock that was
--- granted leaves what its Write wants.
+-- An act of a turn is the one of the statement that comes after so many of it, and leaves the
+-- session where the model does, as it was answered. A Write isn't refused for want of room in the
+-- files. The others' records are as they were, whoever of them was granted a lock can write still,
+-- and a lock that was granted leaves what its Write wants.
 pub record IsActOfTurn (made s : ℕ) (statement : Statement) (old new : TurnsAndLog) (made_act : Acted)
     : Type 0 where
   pub next_act : (state : State) → slice_get (acts_of state s statement) made ≡ Some made_act.act
@@ -95,7 +95,7 @@ pub record IsActOfTurn (made s : ℕ) (statement : Statement) (old new : TurnsAn
   pub quiet : 1 ≤ made → new.log ≡ old.log
   pub room : HasRoom new.turns new.log
 
--- the two of them
+-- Turns and a log, as one value.
 abbrev pub both : TurnsHeld → Log → TurnsAndLog
 both turns log = record { turns = turns; log = log }
 

@@ -57,7 +57,7 @@ runner_at s runners = get_or runners (s - 1) vacant
 abbrev pub acts_left : Runner → ℕ
 acts_left runner = 2 * (length runner.places - runner.finished) - made_at runner.stage
 
--- the same of all of them
+-- How many acts all sessions of the runners have left at most.
 abbrev pub all_left : List Runner → ℕ
 all_left runners = sum_by acts_left runners
 
@@ -65,7 +65,7 @@ all_left runners = sum_by acts_left runners
 abbrev pub all_begun : List Runner → ℕ
 all_begun runners = sum_by (λ r. r.finished + made_at r.stage) runners
 
--- it has the lines of its session, and is at one of them or behind the last
+-- A runner has the lines of its session, and is at one of them or behind the last.
 pub record IsRunnerOf (lines : List Line) (s : ℕ) (runner : Runner) : Type 0 where
   pub places : runner.places ≡ session_places s 0 lines
   pub within : runner.finished + made_at runner.stage ≤ length runner.places
@@ -75,12 +75,12 @@ abbrev pub AreRunners : List Line → ℕ → List Runner → Type 0
 AreRunners lines s [] = Unit {0}
 AreRunners lines s (runner ∷ runners) = IsRunnerOf lines s runner × AreRunners lines (s + 1) runners
 
--- it has a statement that isn't finished, and doesn't wait for the answer of a commit
+-- A runner has a statement that isn't finished, and doesn't wait for the answer of a commit.
 pub record MayStep (runner : Runner) : Type 0 where
   pub more : runner.finished < length runner.places
   pub unasked : (k : ℕ) → runner.stage ≡ stage.Asked k → ⊥
 
--- it has begun none of its statements
+-- A runner has begun none of its statements.
 pub record IsUnbegun (runner : Runner) : Type 0 where
   pub none : runner.finished ≡ 0
   pub between : runner.stage ≡ stage.Between

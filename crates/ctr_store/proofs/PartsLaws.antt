@@ -9,7 +9,7 @@ use Rattle.ctr_log.specs.Logs.{Log, Batches, GoesOn}
 use Rattle.ctr_records.specs.declared.record.Record.{Record}
 use Rattle.ctr_records.specs.declared.record.Overlay.{Overlay}
 use Rattle.ctr_records.specs.Read.{record_in}
-use Rattle.ctr_disk.specs.declared.fault.Root.{Root}
+use Rattle.ctr_home.specs.declared.root.Root.{Root}
 use Rattle.ctr_meta.specs.Effects.{effect, tables_of}
 use Rattle.ctr_meta.specs.Kept.{IsLogged, MayApply}
 use Rattle.ctr_meta.specs.Needs.{needs}

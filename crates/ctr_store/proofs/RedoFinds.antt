@@ -4,7 +4,7 @@ use Rattle.std.specs.Prelude.{⊤}
 use Rattle.std.proofs.lemmas.Bool.Decides.{eqb_tells}
 use Rattle.ctr_disk.specs.declared.disk.Disk.{Ghosts}
 use Rattle.ctr_disk.specs.declared.disk.Image.{Image}
-use Rattle.ctr_disk.specs.declared.fault.Root.{Root}
+use Rattle.ctr_home.specs.declared.root.Root.{Root}
 use Rattle.ctr_disk.specs.declared.fault.StoreFault.{StoreFault}
 use Rattle.ctr_disk.specs.declared.fault.StoreFault.TheVariants.{Fault, Damaged}
 use Rattle.ctr_home.specs.declared.block.Block.TheVariants.{Page}

@@ -4,7 +4,7 @@ use Rattle.ctr_disk.specs.declared.disk.Image.{Image}
 use Rattle.ctr_store.specs.declared.seen.Seen.TheInside.{Inside}
 use Rattle.ctr_store.specs.RecordChecks.{SeenLog, AllPass, CountsPages, tables_seen}
 
--- what was seen
+-- What was seen of a log, by the fields of the code.
 abbrev pub seen_in : {D O : Type 0} → Inside D O → SeenLog
 seen_in a = record { visits = a.visits; tables = a.meta.tables; pages = a.pages }
 

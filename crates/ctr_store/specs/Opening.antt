@@ -1,7 +1,7 @@
 -- What an opening finds, and how it is refused.
 use Rattle.std.specs.Prelude.{◌≡◌, ◌≢◌, ◌⊎◌, ◌∷◌, ◌++◌, ◌+◌, ◌≤◌, ◌<◌, List, [], ℕ, length, nat_lt, if◌then◌else◌, ⊤, Option, Some, None, Result, Ok, Err}
 use Rattle.ctr_disk.specs.declared.disk.Image.{Image}
-use Rattle.ctr_disk.specs.declared.fault.Root.{Root}
+use Rattle.ctr_home.specs.declared.root.Root.{Root}
 use Rattle.ctr_disk.specs.declared.fault.StoreFault.{StoreFault}
 use Rattle.ctr_disk.specs.declared.fault.StoreFault.TheVariants as store
 use Rattle.ctr_disk.specs.declared.disk.Disk.{Ghosts}
@@ -64,7 +64,8 @@ pub record IsRecordDamage (root : Root) (image : Image) (e : StoreFault) : Type 
   pub fails : FailsAs root.pages v.at (tables_seen given) v.bytes bad
   pub told : e ≡ record_damage v.file v.at bad
 
--- it is one of a batch, where the records of the batches before pass; or of a record of these
+-- Damage of a log: of a batch, where the records of the batches before it pass; or of a record of
+-- these.
 abbrev pub IsLogDamage : Root → Image → StoreFault → Type 0
 IsLogDamage root image e = ((kept_damage root.file root.first image ≡ Err e)
     × AllPass root.pages (sound_kept_visits root.file root.first image))
@@ -138,14 +139,14 @@ worn_at = 4611686018427387904
 abbrev pub worn_by : ℕ → ℕ → Option ℕ
 worn_by next xid = if nat_lt next worn_at then (if nat_lt xid worn_at then None else Some xid) else Some next
 
--- it is refused as worn by this number; or it isn't, where there is none
+-- An opening is refused as worn by a number; or isn't, where there is no such number.
 abbrev pub IsWornBy : {T D : Type 0} → Option ℕ → Result T (OpenError × D) → Type 0
 IsWornBy None (Ok t) = Unit {0}
 IsWornBy None (Err e) = ⊥
 IsWornBy (Some n) (Ok t) = ⊥
 IsWornBy (Some n) (Err e) = e.0 ≡ open_error.Worn n
 
--- the same of an image whose root is this
+-- The number by which an image is worn whose root is given, if there is one.
 abbrev pub worn_in : Root → Image → Option ℕ
 worn_in root image =
     let kept = kept_log root.file root.first image in

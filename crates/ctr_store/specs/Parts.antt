@@ -34,7 +34,7 @@ pub record IsFold {D O : Type 0} (first : Image) (g : Ghosts D) (s : Parts D O) 
 abbrev pub has_change : List Frame → Frame → Bool
 has_change fs f = is_some (since_in f.page fs)
 
--- some page has
+-- Some frame has a page with changes that aren't saved.
 abbrev pub some_dirty : List Frame → Bool
 some_dirty fs = list_any (has_change fs) fs
 
@@ -65,7 +65,7 @@ home_by changed counted p image =
     if changed then home_place (Page p) First else
     if nat_lt p counted then value_place (Page p) image else home_place (Page p) First
 
--- the same of a page of the parts
+-- Where the home of a page's value begins in the file of pages, by the parts of a store.
 abbrev pub home_at : {D O : Type 0} → Ghosts D → ℕ → Parts D O → ℕ
 home_at g p s =
     let fs = s.pool.frames in

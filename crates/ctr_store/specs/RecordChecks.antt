@@ -4,7 +4,7 @@ use Rattle.ctr_types.specs.declared.file.File.{File}
 use Rattle.ctr_disk.specs.declared.fault.StoreFault.{StoreFault}
 use Rattle.ctr_disk.specs.declared.fault.StoreFault.TheVariants.{Damaged}
 use Rattle.ctr_disk.specs.declared.disk.Image.{Image}
-use Rattle.ctr_disk.specs.declared.fault.Root.{Root}
+use Rattle.ctr_home.specs.declared.root.Root.{Root}
 use Rattle.ctr_home.specs.declared.block.Block.TheVariants.{Root as RootBlock}
 use Rattle.ctr_home.specs.declared.root.Form.TheVariants.{Paged}
 use Rattle.ctr_home.specs.Blocks.{value_of}
@@ -101,6 +101,6 @@ pub record SeenLog : Type 0 where
   pub tables : Tables
   pub pages : ℕ
 
--- it has seen these, each of which passes where so many pages are counted
+-- A visitor of a log has seen these records, each of which passes where so many pages are counted.
 abbrev pub HasSeen : (ℕ → Type 0) → SeenLog → List Visit → Type 0
 HasSeen counts s visits = (s.visits ≡ visits) × AllPass s.pages visits × counts s.pages

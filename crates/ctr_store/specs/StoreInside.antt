@@ -29,7 +29,7 @@ view_of g s stopped = record {
   stopped = stopped;
 }
 
--- the same of the fields
+-- What a store shows, by the fields of the code.
 abbrev pub view_in : {D O : Type 0} → Ghosts D → Inside D O → View D
 view_in g a = view_of g a.parts a.stopped
 

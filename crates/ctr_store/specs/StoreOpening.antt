@@ -1,7 +1,7 @@
 -- What callers see of an opening.
 use Rattle.std.specs.Prelude.{◌≡◌, ◌+◌, ◌≤◌, ◌<◌, ◌^◌, false, [], length, None, Some, Result, Ok, Err}
 use Rattle.ctr_disk.specs.declared.disk.Image.{Image}
-use Rattle.ctr_disk.specs.declared.fault.Root.{Root}
+use Rattle.ctr_home.specs.declared.root.Root.{Root}
 use Rattle.ctr_log.specs.Kept.{kept_log}
 use Rattle.ctr_meta.specs.Effects.{tables_of}
 use Rattle.ctr_redo.specs.States.{state_of}

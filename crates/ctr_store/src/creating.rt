@@ -11,8 +11,8 @@ ghost use Rattle.ctr_store.specs.Creating.{IsNoneOrNew, IsEmptyStore, IsNoneOrEm
 ghost use Rattle.ctr_store.specs.declared.creating.CreateError.TheVariants.{Fault as CreateFault};
 
 use ctr_base::clear_pages;
-use ctr_disk::{Disk, Root, StoreFault};
-use ctr_home::{Block, is_open, write_root};
+use ctr_disk::{Disk, StoreFault};
+use ctr_home::{Block, Root, is_open, write_root};
 use ctr_log::{Making, make_logs};
 
 /// No database was made.

@@ -112,7 +112,7 @@ pub enum Step<'a> {
         place: Place,
         number: usize,
     },
-    /// `free_entry` of a table, or a page more for its versions.
+    /// `find_free_entry` of a table, or a page more for its versions.
     Spare {
         entry: u8,
     },
@@ -136,7 +136,7 @@ pub enum Step<'a> {
         version: Seen,
         older: Place,
     },
-    /// `drop_entry`.
+    /// `free_entry` of ctr_pvs.
     Trim {
         place: Place,
     },

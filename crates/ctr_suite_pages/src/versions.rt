@@ -9,7 +9,7 @@ use ctr_alloc::Search;
 use ctr_disk::StoreFault;
 use ctr_heap::put_slot;
 use ctr_page::{Header, Place, RowSlot, Version, VersionEntry, kept_size, read_entry, read_slot};
-use ctr_pvs::{drop_entry, free_entry, keep, version};
+use ctr_pvs::{find_free_entry, free_entry, keep, version};
 use ctr_records::Bytes;
 use ctr_revert::revert_row;
 
@@ -152,7 +152,7 @@ pub fn spare(store: &mut Mem, entry: u8) -> Result<Told, StoreFault>
     if !may_ask(store, entry) {
         return Ok(Told::NotAsked);
     }
-    match free_entry(store, entry)? {
+    match find_free_entry(store, entry)? {
         Some(place) => Ok(Told::At(place)),
         None => Ok(Told::None),
     }
@@ -166,7 +166,7 @@ pub fn trim(store: &mut Mem, place: Place) -> Result<Told, StoreFault>
     if !ready(store, 0, 0)? || place.page >= store.counted() || store.counted() > 30_000 {
         return Ok(Told::NotAsked);
     }
-    drop_entry(store, place)?;
+    free_entry(store, place)?;
     Ok(Told::Done)
 }
 

@@ -1,6 +1,6 @@
 // The words of a command, and of a root.
 use crate::numbers::{number, numbers};
-use ctr_disk::Root;
+use ctr_home::Root;
 use ctr_types::Actor;
 use std::alloc::{AllocError, Global};
 

@@ -5,7 +5,7 @@ use Rattle.ctr_bytes.specs.Fields.{spelled, field}
 use Rattle.ctr_bytes.proofs.FieldLaws.{field_at, length-spelled}
 use Rattle.ctr_disk.specs.declared.disk.Image.{Image}
 use Rattle.ctr_types.specs.declared.file.File.{File}
-use Rattle.ctr_disk.specs.declared.fault.Root.{Root}
+use Rattle.ctr_home.specs.declared.root.Root.{Root}
 use Rattle.ctr_disk.specs.declared.fault.StoreFault.{StoreFault}
 use Rattle.ctr_disk.specs.declared.fault.StoreFault.TheVariants as store
 use Rattle.ctr_disk.specs.declared.disk.Disk.{Ghosts}

@@ -3,7 +3,7 @@ use Rattle.ctr_rec.specs.Fold.{HasSchemas}
 use Rattle.ctr_thin.specs.declared.loading.Loading.TheInside.{Inside}
 use Rattle.ctr_thin.specs.Thin.{Loaded}
 
--- what was loaded
+-- What was loaded of a log, by the fields of the code.
 abbrev pub loaded_in : Inside → Loaded
 loaded_in a = record { xid = a.xid; database = a.database }
 

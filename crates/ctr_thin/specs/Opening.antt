@@ -13,7 +13,7 @@ use Rattle.ctr_rec.specs.declared.decoding.RecordError.TheVariants as record_err
 use Rattle.ctr_thin.specs.declared.opening.OpenError.{OpenError}
 use Rattle.ctr_thin.specs.declared.opening.OpenError.TheVariants.{Damaged, Fault, OutOfMemory}
 
--- with the same numbers
+-- The error of an opening that a store's fault comes to, with the same numbers.
 abbrev pub of_store : StoreFault → OpenError
 of_store store.Fault = Fault
 of_store (store.Damaged file at want got) = Damaged file at want got
@@ -23,7 +23,8 @@ abbrev pub of_read : ReadError → OpenError
 of_read (read.Store e) = of_store e
 of_read read.OutOfMemory = OutOfMemory
 
--- the same; and what a record was refused for is handed on
+-- The error of an opening that a visit's error comes to: one of reading by its fault, a refusal as
+-- it was made.
 abbrev pub of_visit : VisitError OpenError → OpenError
 of_visit (Read e) = of_read e
 of_visit (Refused e) = e

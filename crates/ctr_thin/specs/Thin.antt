@@ -4,7 +4,7 @@ use Rattle.std.specs.Prelude.{◌≡◌, ◌≢◌, ◌⊎◌, ℕ, min, ◌+◌
 use Rattle.ctr_types.specs.declared.file.File.{File}
 use Rattle.ctr_types.specs.declared.file.File.TheVariants.{Root as RootFile}
 use Rattle.ctr_disk.specs.declared.disk.Image.{Image}
-use Rattle.ctr_disk.specs.declared.fault.Root.{Root}
+use Rattle.ctr_home.specs.declared.root.Root.{Root}
 use Rattle.ctr_disk.specs.declared.disk.Disk.{Ghosts}
 use Rattle.ctr_disk.specs.declared.fault.StoreFault.{StoreFault}
 use Rattle.ctr_disk.specs.declared.fault.StoreFault.TheVariants as store
@@ -53,7 +53,8 @@ pub record StandsFor (image : Image) (db : Database) : Type 0 where
 abbrev pub next_lsn : Root → Batches → ℕ
 next_lsn r bs = r.first + length (records bs)
 
--- it and the next transaction are below this bound, as at a database that can be opened
+-- The next LSN and the next transaction of an image are below the bound up to which it can be
+-- opened.
 abbrev pub IsLow : {image : Image} {db : Database} → StandsFor image db → Type 0
 IsLow s = (next_lsn s.r s.bs < 2 ^ 62) × (next_xid s.head < 2 ^ 62)
 
@@ -103,7 +104,7 @@ pub record Loaded : Type 0 where
   pub xid : Option ℕ
   pub database : Database
 
--- nothing was read yet
+-- What is loaded before anything was read.
 abbrev pub nothing_loaded : Loaded
 nothing_loaded = record { xid = None; database = [] }
 
@@ -117,7 +118,7 @@ abbrev pub first_told : File → ℕ → Result ⊤ BadCheckpoint → Result ⊤
 first_told file at (Ok _) = Ok tt
 first_told file at (Err bad) = told_in file at bad.at bad.want bad.got
 
--- the same of a record of changes
+-- What a record of changes comes to, with damage told by its place in the file.
 abbrev pub record_told : File → ℕ → Result Database BadRecord → Result Database StoreFault
 record_told file at (Ok db) = Ok db
 record_told file at (Err bad) = told_in file at bad.at bad.want bad.got
@@ -130,7 +131,7 @@ load_behind None db file at bytes =
 load_behind (Some xid) db file at bytes =
     record_told file at (replay_record db bytes) >>= λ new. Ok (record { xid = Some xid; database = new })
 
--- the same behind what was loaded
+-- What a visit of a record loads, behind what was loaded before it.
 abbrev pub load_visit : Loaded → Visit → Result Loaded StoreFault
 load_visit s v = load_behind s.xid s.database v.file v.at v.bytes
 
@@ -145,7 +146,7 @@ abbrev pub log_damage : File → ℕ → List ℕ → Result ⊤ StoreFault
 log_damage file first bytes =
     load_visits nothing_loaded (sound_visits file first bytes) >>= λ _. file_damage file first bytes
 
--- these records, the first of them a Checkpoint, were loaded
+-- Records, the first of them a Checkpoint, load what was loaded.
 abbrev pub MakeLoaded : List (List ℕ) → Loaded → Type 0
 MakeLoaded [] s = s ≡ nothing_loaded
 MakeLoaded (head ∷ rs) s =

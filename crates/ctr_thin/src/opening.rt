@@ -12,8 +12,8 @@ ghost use Rattle.ctr_thin.specs.Opening.{of_visit};
 ghost use Rattle.ctr_thin.specs.Thin.{StandsFor, Opens, Explains, OpenDiffers, IsExplained, IsWornNumber, MakesDatabase, RefusesLogOf};
 
 use crate::loading::Loading;
-use ctr_disk::{Disk, Failed, Root, StoreFault};
-use ctr_home::read_thin_root;
+use ctr_disk::{Disk, Failed, StoreFault};
+use ctr_home::{Root, read_thin_root};
 use ctr_log::{LogFile, Lsn, ReadError, VisitError, sound_visits_are_first, visit_named};
 use ctr_rec::{fold_is_one, replay_is_fold};
 use ctr_rows::Loader;

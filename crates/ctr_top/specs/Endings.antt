@@ -61,7 +61,7 @@ work (ending.Worn number) = ending.Worn number
 
 -- ---- by what it ends
 
--- the database wasn't opened
+-- How a command ends whose database wasn't opened, by the error.
 abbrev pub opened_as : OpenError → Ending
 opened_as open_error.NoDatabase = ending.NoDatabase
 opened_as (open_error.Damaged file at want got) = ending.Damaged file at want got
@@ -69,7 +69,7 @@ opened_as (open_error.Worn number) = ending.Worn number
 opened_as open_error.Fault = ending.DiskFault
 opened_as open_error.OutOfMemory = ending.OutOfMemory
 
--- the script wasn't read
+-- How a command ends that couldn't read its script, by the error.
 abbrev pub read_as : ScriptError → Ending
 read_as (script_error.Refused line at) = ending.Refused line at
 read_as script_error.TooLong = ending.TooLong

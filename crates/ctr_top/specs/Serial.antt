@@ -28,7 +28,7 @@ pub record RanLines (lines : List Line) (k : ℕ) (h : Steps) : Type 0 where
   pub each : (s : ℕ) → 1 ≤ s → s ≤ 8
       → HasFinished (count_in lines k s) (runner_at s h.runners.items)
 
--- they were, or the World was stopped, with a tape in the order of the lines
+-- The first lines were run, or the World was stopped, with a tape in the order of the lines.
 abbrev pub RanOrStopped : {D : Type 0} → List Line → ℕ → Held D → Type 0
 RanOrStopped lines k w = ((w.stop ≡ None) × RanLines lines k w.steps)
     ⊎ ((w.stop ≢ None) × IsSerial lines w.steps.tape.items × (w.steps.script.lines ≡ lines))

@@ -200,7 +200,7 @@ pub record RunCauses {D S : Type 0} (g : Ghosts D) (old : D) (s : Source S)
 
 -- ---- init
 
--- it stands for a database without tables
+-- An image stands for a database without tables.
 abbrev pub IsEmptyDatabase : Image → Type 0
 IsEmptyDatabase image = StandsFor image []
 
@@ -224,7 +224,7 @@ MakeWhy g old new ending.OutOfMemory = Unit {0}
 MakeWhy g old new ending.Exists = IsTrue g.tells → root_value (g.reads old).root ≢ None
 MakeWhy g old new (ending.Worn number) = ⊥
 
--- the same of what a making left
+-- Why a making ended as it did, by the disk that it left.
 abbrev pub MakeCauses : {D : Type 0} → Ghosts D → D → Outcome D → Type 0
 MakeCauses g old o = MakeWhy g old o.disk o.ending
 
@@ -306,7 +306,7 @@ pub record Faults : Type 0 where
   pub source : ℕ
   pub sink : ℕ
 
--- their counts
+-- The counts of faults of disk, source and sink.
 abbrev pub faults_of : {D S K : Type 0} → Ghosts D → Source S → Sink K → D → S → K → Faults
 faults_of g s k disk source sink =
     record { disk = g.faults_of disk; source = s.faults_of source; sink = k.faults_of sink }

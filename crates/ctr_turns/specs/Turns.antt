@@ -36,9 +36,9 @@ WaitFrom state j [] = j ≡ length state.asked
 WaitFrom state j (b ∷ bs) = FoldsRecord (rows_at state j) b (rows_at state (j + 1))
     × WaitFrom state (j + 1) bs
 
--- They show the state: the acts do, each session that is in a transaction and hasn't asked for its
--- commit gathers its record, one in no transaction none, and the records of the commits from a
--- number on wait.
+-- Turns show a model state: the acts do, each session that is in a transaction and hasn't asked
+-- for its commit gathers its record, one in no transaction none, and the records of the commits
+-- from a number on wait.
 pub record ShowsTurns (low : ℕ) (h : TurnsHeld) (from : ℕ) (waiting : List (List ℕ))
     (state : State) : Type 0 where
   pub acts : ShowsActs low h.acts state

@@ -17,8 +17,8 @@ pub record HasCause {T E : Type 0} (before now : ℕ) (result : Result T E) : Ty
   pub failed : OnErr result (CountsFault before now)
   pub fine : OnOk result (now ≡ before)
 
--- The same of a call that has other errors too: this error alone says that the device failed, and after any
--- other answer the count is as it was.
+-- A call that has other errors too counts its faults: the error given here alone says that the
+-- device failed, and after any other answer the count is as it was.
 pub record HasFault {T E : Type 0} (fault : E) (before now : ℕ) (result : Result T E) : Type 0 where
   pub later : before ≤ now
   pub failed : result ≡ Err fault → CountsFault before now

@@ -28,7 +28,7 @@ ColumnsFit (c ∷ cs) = ColumnFits 0 c × AllByRecursion (ColumnFits 64) cs × (
 abbrev pub name_bytes : List ℕ → List ℕ
 name_bytes name = length name ∷ name
 
--- so many zeros
+-- So many bytes that are zero.
 abbrev pub zeros : ℕ → List ℕ
 zeros zero = []
 zeros (suc n) = 0 ∷ zeros n

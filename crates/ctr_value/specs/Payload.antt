@@ -82,7 +82,7 @@ IsPayload (c ∷ cs) (v ∷ vs) bytes =
     (front : List ℕ) × (rest : List ℕ) × IsField c.kind v front × IsPayload cs vs rest
     × (bytes ≡ front ++ rest)
 
--- these are the values of a row of the key, and the payload is theirs
+-- Values are those of a row of the key, and the payload is that of its columns behind the key.
 abbrev pub IsRowOf : List Column → ℤ → List ℕ → List Value → Type 0
 IsRowOf cs key bytes vs = IsRow cs vs × (key_of vs ≡ key) × IsPayload (drop 1 cs) (drop 1 vs) bytes
 

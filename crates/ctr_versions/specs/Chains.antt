@@ -20,7 +20,7 @@ abbrev pub value_seen : {V : Type 0} → (ℕ → Bool) → List (ℕ × Option 
 value_seen sees [] = None
 value_seen sees (v ∷ vs) = if sees v.0 then v.1 else value_seen sees vs
 
--- it is a number of at most n
+-- A commit's number, if there is one, is at most n.
 abbrev pub is_by : ℕ → Option ℕ → Bool
 is_by n None = false
 is_by n (Some k) = nat_le k n
@@ -29,7 +29,7 @@ is_by n (Some k) = nat_le k n
 abbrev pub by : Numbers → ℕ → ℕ → Bool
 by number n x = is_by n (number x)
 
--- it is me, or committed with a number of at most n
+-- A transaction is the one of a session, or committed with a number of at most n.
 abbrev pub by_or_own : Numbers → ℕ → ℕ → ℕ → Bool
 by_or_own number n me x = (x == me) || by number n x
 
@@ -56,7 +56,7 @@ written_by x (v ∷ vs) = if x == v.0 then Some v.1 else None
 abbrev pub IsCommitted : {V : Type 0} → Numbers → ℕ × Option V → Type 0
 IsCommitted number v = is_some (number v.0) ≡ true
 
--- all versions are
+-- All versions of a chain are by committed transactions.
 abbrev pub AllCommitted : {V : Type 0} → Numbers → List (ℕ × Option V) → Type 0
 AllCommitted number chain = AllByRecursion (IsCommitted number) chain
 

@@ -32,12 +32,12 @@ session_sees xids session x = sees_or_own session.snapshot (Some session.me) (fa
 abbrev pub IsBy : {V : Type 0} → (ℕ → Type 0) → ℕ × Option V → Type 0
 IsBy P v = P v.0
 
--- every version is
+-- Every version of every chain is by a transaction of which P holds.
 pub record AreBy (P : ℕ → Type 0) (versions : Versions) : Type 0 where
   pub names : (name : List ℕ) → AllByRecursion (IsBy P) (names_at versions name)
   pub rows : (id : ℕ) (key : ℤ) → AllByRecursion (IsBy P) (rows_of versions id key)
 
--- the number was drawn
+-- A transaction's number was drawn: from 1 to below the next.
 abbrev pub IsDrawn : ℕ → ℕ → Type 0
 IsDrawn next x = (0 < x) × (x < next)
 
@@ -45,7 +45,7 @@ IsDrawn next x = (0 < x) × (x < next)
 abbrev pub IsSeenIfOld : Xids → SnapshotTaken → ℕ → Type 0
 IsSeenIfOld xids snapshot x = number_of xids x ≡ Some 0 → is_before snapshot x ≡ true
 
--- it hasn't asked for its commit, and isn't within its rollback
+-- A session hasn't asked for its commit, and isn't within its rollback.
 abbrev pub IsCalm : SessionHeld → Transaction → Type 0
 IsCalm session t = (t.asked ≡ None) × (session.undoing ≡ false)
 

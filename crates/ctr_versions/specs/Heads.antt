@@ -26,7 +26,7 @@ abbrev pub AreOnce : {K : Type 0} → (K → K → Bool) → List K → Type 0
 AreOnce same [] = Unit {0}
 AreOnce same (p ∷ ps) = (has_place same p ps ≡ false) × AreOnce same ps
 
--- these are the places at which a transaction has the head, each once
+-- A transaction has the head at exactly these places, each told once.
 pub record HeadsAt {K V : Type 0} (same : K → K → Bool) (at : K → List (ℕ × Option V)) (x : ℕ)
     (places : List K) : Type 0 where
   pub once : AreOnce same places

@@ -39,7 +39,7 @@ abbrev pub sees_found : Xids → Option SessionHeld → ℕ → Bool
 sees_found xids None x = false
 sees_found xids (Some session) x = session_sees xids session x
 
--- what a session sees
+-- The transactions that a session sees, by the engine that is held.
 abbrev pub sees_of : ℕ → EngineHeld → ℕ → Bool
 sees_of s engine = sees_found engine.xids (find nat_cmp s engine.sessions)
 
@@ -64,7 +64,7 @@ pub record IsGranted (old new : Transaction) : Type 0 where
 
 -- ---- sessions
 
--- the session begins
+-- The law of a session that begins: the engine shows the state in which it began.
 abbrev pub BeginKeeps : ℕ → EngineHeld → EngineHeld → Type 0
 BeginKeeps s old new = (low : ℕ) (state : State) (statement : Option Statement)
     → ShowsState low old state
@@ -100,7 +100,7 @@ AskKeeps s old new = (low : ℕ) (state : State) (t : Transaction) (statement : 
     → ShowsState low new
     (next_inside state s t act.Ask statement (reply.Asked (length state.asked + 1)))
 
--- a commit is answered
+-- The law of a commit that is answered: the engine shows the state in which it is answered.
 abbrev pub AnswerKeeps : ℕ → EngineHeld → EngineHeld → Type 0
 AnswerKeeps s old new = (low : ℕ) (state : State) (t : Transaction) (statement : Option Statement)
     → ShowsState low old state
@@ -146,7 +146,8 @@ RevertKeeps id key old new = (low : ℕ) (state : State) (made : Made) → made.
     → ShowsState low old state → IsNobodys old (rows_of old.versions id key)
     → ShowsState low new state
 
--- The same of a name whose table was made or dropped by a transaction that isn't committed.
+-- A name keeps what it shows when the head of its chain is reverted, whose transaction isn't
+-- committed.
 abbrev pub NameRevertKeeps : List ℕ → EngineHeld → EngineHeld → Type 0
 NameRevertKeeps name old new = (low : ℕ) (state : State) → ShowsState low old state
     → IsNobodys old (names_at old.versions name) → ShowsState low new state

@@ -9,7 +9,7 @@ use Rattle.ctr_versions.specs.Xids.{Xids}
 use Rattle.ctr_versions.specs.Engine.{SessionHeld}
 use Rattle.ctr_versions.specs.Versions.{Made, Versions, names_at, slots_of, rows_of, database_seen}
 
--- the transaction that loads
+-- The number of the transaction by which a loaded database was written.
 abbrev pub loader : ℕ
 loader = 1
 
@@ -21,7 +21,7 @@ loading_xids = record { next = 2; live = loader ∷ []; aborted = []; commits = 
 abbrev pub opened_xids : Xids
 opened_xids = record { next = 2; live = []; aborted = []; commits = [] }
 
--- it is the one that loads
+-- A transaction is the one by which a loaded database was written.
 abbrev pub is_loader : ℕ → Bool
 is_loader x = x == loader
 

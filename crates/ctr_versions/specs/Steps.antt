@@ -36,14 +36,14 @@ engine_asked me engine = record engine { xids = asked me engine.xids }
 abbrev pub engine_ended : ℕ → EngineHeld → EngineHeld
 engine_ended s engine = record engine { sessions = without nat_cmp s engine.sessions }
 
--- its commit is answered
+-- The engine once a session's commit is answered.
 abbrev pub engine_answered : ℕ → EngineHeld → EngineHeld
 engine_answered s engine = record engine {
   sessions = without nat_cmp s engine.sessions;
   answered = engine.answered + 1;
 }
 
--- it is rolled back: one mark
+-- The engine once a session's transaction is rolled back, which is one mark.
 abbrev pub engine_rolled_back : ℕ → ℕ → EngineHeld → EngineHeld
 engine_rolled_back s me engine = record engine {
   xids = aborted me engine.xids;

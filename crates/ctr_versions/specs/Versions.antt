@@ -46,7 +46,7 @@ rows_of versions id key = chain_at int_cmp key (slots_of versions id)
 abbrev pub schema_version : ℕ × Option Made → ℕ × Option Schema
 schema_version v = (v.0, option_map (λ (m : Made). m.schema) v.1)
 
--- a chain of schemas
+-- The chain of the schemas that the versions of a name have.
 abbrev pub schemas : List (ℕ × Option Made) → List (ℕ × Option Schema)
 schemas chain = map schema_version chain
 
@@ -125,7 +125,7 @@ pub record Wrote (number : Numbers) (versions : Versions) (me n : ℕ) (own : Li
       → written_by me (names_at versions name) ≡ Some (Some made)
       → value_seen (by number j) (names_at versions name) ≡ Some made → ⊥
 
--- a database in order
+-- A database's tables stand in the order of their names, and their rows in that of their keys.
 pub record IsOrdered (db : Database) : Type 0 where
   pub names : T (is_sorted name_cmp db)
   pub rows : (name : List ℕ) (t : Table) → table_at db name ≡ Some t → T (is_sorted int_cmp t.rows)
@@ -138,7 +138,7 @@ HaveOwnTables versions = (name other : List ℕ) (made mine : Made) (test own : 
 
 -- ---- one chain is changed
 
--- it is this key of this table
+-- A place of the versions is the key of a table.
 abbrev pub is_slot : ℕ → ℤ → ℕ → ℤ → Bool
 is_slot id key i k = (i == id) && int_eq k key
 

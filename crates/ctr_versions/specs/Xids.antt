@@ -14,7 +14,7 @@ pub record Xids : Type 0 where
   pub aborted : List ℕ
   pub commits : List ℕ
 
--- all but this one
+-- All numbers of a list but one.
 abbrev pub minus : ℕ → List ℕ → List ℕ
 minus x xs = filter (λ y. not (x == y)) xs
 
@@ -23,7 +23,7 @@ abbrev pub place_from : ℕ → ℕ → List ℕ → ℕ
 place_from k x [] = 0
 place_from k x (y ∷ ys) = if x == y then k else place_from (k + 1) x ys
 
--- it was drawn, and is neither open nor aborted
+-- A transaction was drawn, and is neither open nor aborted.
 abbrev pub has_committed : Xids → ℕ → Bool
 has_committed xids x =
     nat_lt 0 x && (nat_lt x xids.next && (not (has x xids.live) && not (has x xids.aborted)))
@@ -40,7 +40,7 @@ fate_of xids x =
 abbrev pub number_of : Xids → ℕ → Option ℕ
 number_of xids x = if has_committed xids x then Some (place_from 1 x xids.commits) else None
 
--- it was drawn before the snapshot, which doesn't list it
+-- A transaction was drawn before the snapshot, which doesn't list it.
 abbrev pub is_before : SnapshotTaken → ℕ → Bool
 is_before snapshot x = nat_lt x snapshot.next && not (has x snapshot.listed)
 

@@ -17,7 +17,7 @@ use Rattle.ctr_area.specs.Checked.{kinds_at}
 use Rattle.ctr_walk.specs.Along.{ChainSought, EndsAlong}
 use Rattle.ctr_walk.specs.declared.table.ChainPages.{ChainPages}
 
--- it is of one of the 32 entries of the catalog, and of one of the 8 buckets
+-- A chain is of one of the 32 entries of the catalog, and of one of the 8 buckets.
 abbrev pub IsChain : Chain → Type 0
 IsChain (Rows e bucket) = (e < 32) × (bucket < 8)
 IsChain (Versions e) = e < 32
@@ -27,7 +27,7 @@ abbrev pub first_among : Firsts → Chain → ℕ
 first_among firsts (Rows e bucket) = slice_index firsts.buckets bucket
 first_among firsts (Versions e) = firsts.versions
 
--- the same, in the bytes of the table's entry
+-- The first page of a chain, in the bytes of its table's entry.
 abbrev pub first_at : Chain → List ℕ → ℕ
 first_at (Rows e bucket) bytes = first_in bucket bytes
 first_at (Versions e) bytes = versions_first_in bytes

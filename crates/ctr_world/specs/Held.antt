@@ -13,6 +13,6 @@ pub record Held (D : Type 0) : Type 0 where
   pub steps : Steps
   pub stop : Option Stop
 
--- the same of what the code has
+-- What a World holds, by the fields of the code.
 abbrev pub held : {D : Type 0} → Parts D → Held D
 held a = record { disk = a.disk; log = a.log; steps = a.steps; stop = a.stop }

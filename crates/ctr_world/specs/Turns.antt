@@ -21,7 +21,7 @@ use Rattle.ctr_world.specs.Held.{Held}
 abbrev pub NoneFull : List Entry → Type 0
 NoneFull es = AllByRecursion (λ e. IsNotFull e.reply) es
 
--- there are eight sessions
+-- There are eight sessions: so many runners, and so many records.
 pub record AreEight (steps : Steps) : Type 0 where
   pub same : length steps.turns.records ≡ length steps.runners.items
   pub eight : length steps.runners.items ≡ 8
@@ -32,7 +32,7 @@ pub record AreSessions (steps : Steps) : Type 0 where
   pub own : (s : ℕ) → 1 ≤ s → s ≤ 8 → (runner_at s steps.runners.items).places
       ≡ session_places s 0 steps.script.lines
 
--- They are so, and have begun nothing of this script.
+-- Sessions stand at the start of a script: none has begun a statement of it, and the tape is empty.
 pub record AreUnbegun (lines : List Line) (steps : Steps) : Type 0 where
   pub sessions : AreSessions steps
   pub lines_are : steps.script.lines ≡ lines
@@ -45,7 +45,7 @@ pub record HasStatementLeft (s : ℕ) (steps : Steps) : Type 0 where
   pub more : (runner_at s steps.runners.items).finished
       < length (runner_at s steps.runners.items).places
 
--- it waits for the answer of a commit
+-- A session waits for the answer of its commit.
 abbrev pub IsAsking : ℕ → Steps → Type 0
 IsAsking s steps = (k : ℕ) × ((runner_at s steps.runners.items).stage ≡ stage.Asked k)
 

@@ -29,7 +29,7 @@ use Rattle.ctr_world.specs.Turns.{NoneFull, AreEight}
 
 -- ---- what the World was opened on
 
--- this disk and these lines are those that the type names
+-- The disk and the lines are those that the World's type names.
 pub record IsOpenedOn {D B : Type 0} (o : Opening B) (g : Ghosts D) (disk : D) (lines : List Line)
     : Type 0 where
   pub image : o.image ≡ g.reads disk

@@ -1,6 +1,6 @@
 // Homes that are laid by hand, and what is read of them.
-use crate::read_page;
-use ctr_disk::{Root, SilentDisk, StoreFault};
+use crate::{Root, read_page};
+use ctr_disk::{SilentDisk, StoreFault};
 use ctr_types::File;
 use std::alloc::{AllocError, Global};
 

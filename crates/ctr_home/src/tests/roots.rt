@@ -1,8 +1,8 @@
 // The root: each check, its bytes, its bounds, and both forms of it.
 use crate::tests::disks::disk_of;
 use crate::tests::laid::{HOME_7, HOME_9, ROOT_7, ROOT_9, Told, altered, lay_roots, told};
-use crate::{read_root, read_thin_root, write_root};
-use ctr_disk::{Disk, Root, SilentDisk};
+use crate::{Root, read_root, read_thin_root, write_root};
+use ctr_disk::{Disk, SilentDisk};
 use ctr_types::File;
 use std::alloc::{AllocError, Global};
 use std::test::Fail;

@@ -4,8 +4,8 @@ use crate::tests::laid::{
     HOME_5, HOME_6, HOME_7, HOME_9, Laid, ROOT_7, ROOT_9, ROOT_10, SHUT_8, Seen, TWO, WHOLE, ZEROS,
     body_of, lay, lay_roots, look,
 };
-use crate::{Block, read_root, write_home, write_root};
-use ctr_disk::{Call, Image, Recorded, Root, SilentDisk, StoreFault};
+use crate::{Block, Root, read_root, write_home, write_root};
+use ctr_disk::{Call, Image, Recorded, SilentDisk, StoreFault};
 use std::alloc::{AllocError, Global};
 use std::test::Fail;
 

@@ -28,11 +28,11 @@ module _ (g : Over) (c : After-log_created g) where
       lowest_free (pages_in s) s.counted (Some c.in-Ok-Some.entry)
       (subst (λ o. EndsCatalog s.counted (pages_in s) (Ok o)) c.in-Ok-Some.field-0-is (c.in-Ok-Some.ensures.ends told sound))
 
-  one_made : (result : Result ⊤ StoreFault) → LogsOne g.O.Origin.first g.D.Disk made c.free_entry.new.store c.log_created.new.store result → LogsOne g.O.Origin.first g.D.Disk made c.args.store.now c.log_created.new.store result
-  one_made = one_behind g.O.Origin.first g.D.Disk made c.args.store.now c.free_entry.new.store c.log_created.new.store c.in-Ok-Some.field-0 c.in-Ok-Some.ensures.leaves
+  one_made : (result : Result ⊤ StoreFault) → LogsOne g.O.Origin.first g.D.Disk made c.find_free_entry.new.store c.log_created.new.store result → LogsOne g.O.Origin.first g.D.Disk made c.args.store.now c.log_created.new.store result
+  one_made = one_behind g.O.Origin.first g.D.Disk made c.args.store.now c.find_free_entry.new.store c.log_created.new.store c.in-Ok-Some.field-0 c.in-Ok-Some.ensures.leaves
 
 pub returns-in-Err-clause-one : goal.returns-in-Err-clause-one
-returns-in-Err-clause-one g c = inl (reads_err g.O.Origin.first g.D.Disk _ _ c.in-Err.fault c.args.store.now c.free_entry.new.store c.in-Err.ensures.leaves)
+returns-in-Err-clause-one g c = inl (reads_err g.O.Origin.first g.D.Disk _ _ c.in-Err.fault c.args.store.now c.find_free_entry.new.store c.in-Err.ensures.leaves)
 
 pub returns-in-Ok-clause-ends : goal.returns-in-Ok-clause-ends
 returns-in-Ok-clause-ends g c = λ told sound. is_lowest g (goal.at.returns-in-Ok-clause-ends g c).After-log_created told sound

@@ -1,7 +1,7 @@
 use Rattle.std.proofs.Common.{◌≡◌, sym, subst, arith}
 use Rattle.std.proofs.lemmas.Result.{err_from_is_err_and}
 use Rattle.std.specs.Prelude.{Ok}
-use Rattle.ctr_disk.specs.declared.fault.Root.{Root}
+use Rattle.ctr_home.specs.declared.root.Root.{Root}
 use Rattle.ctr_home.specs.Blocks.{BlockValue}
 use Rattle.ctr_home.specs.Roots.{SaysOrRefuses}
 use Rattle.ctr_home.proofs.RootLemmas.{says, refuses, root_in}

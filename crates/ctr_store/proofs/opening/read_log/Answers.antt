@@ -8,7 +8,7 @@ use Rattle.ctr_log.specs.Logs.{Log}
 use Rattle.ctr_log.specs.Kept.{OpensKept, WritesBehind}
 use Rattle.ctr_log.specs.Visits.{kept_visits}
 use Rattle.ctr_base.proofs.RootLaws.{one_root}
-use Rattle.ctr_disk.specs.declared.fault.Root.{Root}
+use Rattle.ctr_home.specs.declared.root.Root.{Root}
 use Rattle.ctr_store.specs.RecordChecks.{CountsPages, AllPass, tables_seen}
 use Rattle.ctr_store.proofs.OpenLaws.{opens_room, writes_room, fresh_seen, log_refused, log_faults}
 use Rattle.ctr_store.proofs.SoundLaws.{log_undamaged}

@@ -1,7 +1,7 @@
 use Rattle.ctr_page.specs.Columns.{kinds_width}
 use Rattle.ctr_page.specs.Searching.{PassesBy}
 use Rattle.ctr_pvs.specs.Entries.{checks_version, is_free_version}
-use Rattle.ctr_pvs.proofs.entries.find_free_entry.Given as goal
+use Rattle.ctr_pvs.proofs.entries.free_entry_on.Given as goal
 
 abbrev pub invariant-loop-number : goal.invariant-loop-number
 invariant-loop-number l =

@@ -7,7 +7,7 @@ use Rattle.ctr_page.specs.Places.{kept_size, room_for}
 use Rattle.ctr_page.specs.Reading.{older_at}
 use Rattle.ctr_page.proofs.Searches.{passes_one, lies_on_page}
 use Rattle.ctr_pvs.specs.Entries.{checks_version, is_free_version}
-use Rattle.ctr_pvs.proofs.entries.find_free_entry.Goals as goal
+use Rattle.ctr_pvs.proofs.entries.free_entry_on.Goals as goal
 
 pub check_version-requires-clause-inside : goal.check_version-requires-clause-inside
 check_version-requires-clause-inside c =

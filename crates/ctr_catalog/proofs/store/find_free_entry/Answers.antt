@@ -4,7 +4,7 @@ use Rattle.ctr_record_effects.specs.States.{pages_in}
 use Rattle.ctr_walk.specs.Damage.{damage_told}
 use Rattle.ctr_walk.proofs.Damages.{told_ends, told_ok}
 use Rattle.ctr_catalog.specs.Free.{EndsCatalog}
-use Rattle.ctr_catalog.proofs.store.free_entry.Goals as goal
+use Rattle.ctr_catalog.proofs.store.find_free_entry.Goals as goal
 
 pub returns-clause-ends : goal.returns-clause-ends
 returns-clause-ends g c = λ told sound.

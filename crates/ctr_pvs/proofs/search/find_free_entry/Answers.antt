@@ -6,7 +6,7 @@ use Rattle.ctr_walk.proofs.Telling.{bounded}
 use Rattle.ctr_pvs.specs.Entries.{EndsFree}
 use Rattle.ctr_pvs.specs.Along.{FindsFreeEntry}
 use Rattle.ctr_pvs.proofs.Telling.{entry_told}
-use Rattle.ctr_pvs.proofs.search.free_entry.Goals as goal
+use Rattle.ctr_pvs.proofs.search.find_free_entry.Goals as goal
 
 pub returns-clause-finds : goal.returns-clause-finds
 returns-clause-finds g c = λ told sound readable.

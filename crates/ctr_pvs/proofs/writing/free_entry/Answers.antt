@@ -17,9 +17,9 @@ use Rattle.ctr_pvs.specs.Writing.{blank_record, drop_check}
 use Rattle.ctr_pvs.specs.Showing.{ShowsTheSame}
 use Rattle.ctr_pvs.proofs.Freeing.{told_as, drops, on_place}
 use Rattle.ctr_pvs.proofs.Showing.{shows_by}
-use Rattle.ctr_pvs.proofs.writing.drop_entry.Given.{Over}
-use Rattle.ctr_pvs.proofs.writing.drop_entry.Goals.{After-lay_blank}
-use Rattle.ctr_pvs.proofs.writing.drop_entry.Goals as goal
+use Rattle.ctr_pvs.proofs.writing.free_entry.Given.{Over}
+use Rattle.ctr_pvs.proofs.writing.free_entry.Goals.{After-lay_blank}
+use Rattle.ctr_pvs.proofs.writing.free_entry.Goals as goal
 
 pub returns-in_err-w-clause-ends : goal.returns-in_err-w-clause-ends
 returns-in_err-w-clause-ends g c =
