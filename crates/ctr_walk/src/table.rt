@@ -15,7 +15,7 @@ use ctr_page::{BadChain, BadPage, CatalogEntry, Chain, Place, check_entry, read_
 use ctr_records::PageNo;
 use ctr_store::Store;
 use ctr_types::Kind;
-use ctr_walk::tell;
+use crate::tell;
 
 /// The pages of a chain.
 #[derive(Clone, Copy, Debug, PartialEq, Eq)]
