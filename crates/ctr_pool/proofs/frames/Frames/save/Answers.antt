@@ -15,7 +15,7 @@ save-requires-clause-takes g c told =
     let at_is = stands fs c.deref.result.now c.in-Ok.at c.args.page x c.deref.ensures.value c.self.invariant c.in-Ok.ensures.found c.index-frame.ensures in
     let all = c.requires.takes told x (ap (frame_of c.args.page) (sym to) ∙ at_is.frame) in
     let v : page_of x ≡ record { lsn = x.lsn; body = c.as_slice.result.now } = ap (λ (b : List ℕ). record { lsn = x.lsn; body = b }) (sym c.as_slice.ensures.bytes) in
-    (all.0, all.1, subst (λ (h : PageHeld). d.takes c.args.backing.now c.args.page all.1 h) v all.2)
+    (all.0, all.1, subst (λ (h : PageHeld). d.may_be_saved c.args.backing.now c.args.page all.1 h) v all.2)
 
 pub unreachable-requires : goal.unreachable-requires
 unreachable-requires g c =
@@ -36,4 +36,4 @@ returns-clause-saved g c told f is =
     let both : Some x ≡ Some f = sym at_is.frame ∙ ap (frame_of c.args.page) to ∙ is in
     let one : x ≡ f = cc in
     let v : record { lsn = x.lsn; body = c.as_slice.result.now } ≡ page_of f = ap (λ (b : List ℕ). record { lsn = x.lsn; body = b }) c.as_slice.ensures.bytes ∙ ap page_of one in
-    subst (λ (h : PageHeld). OnOk c.save.result (PutsPage d.held d.takes c.args.page h c.args.backing.now c.save.new.self)) v (c.save.ensures.saved told)
+    subst (λ (h : PageHeld). OnOk c.save.result (PutsPage d.held d.may_be_saved c.args.page h c.args.backing.now c.save.new.self)) v (c.save.ensures.saved told)
