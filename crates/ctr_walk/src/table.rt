@@ -9,13 +9,13 @@ ghost use Rattle.ctr_walk.specs.Tables.{IsChain, first_at, ChainSaid, PagesFit, 
 ghost use Rattle.ctr_store.specs.Store.{LeavesPage};
 
 use crate::along::{PageSought, search_pages};
+use crate::tell;
 use ctr_base::Origin;
 use ctr_disk::{Disk, StoreFault};
 use ctr_page::{BadChain, BadPage, CatalogEntry, Chain, Place, check_entry, read_entry};
 use ctr_records::PageNo;
 use ctr_store::Store;
 use ctr_types::Kind;
-use crate::tell;
 
 /// The pages of a chain.
 #[derive(Clone, Copy, Debug, PartialEq, Eq)]
