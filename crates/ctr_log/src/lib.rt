@@ -1,4 +1,4 @@
-//! What every crash leaves whole: the root in its two homes, the log, and a new database.
+//! What every crash leaves whole: the log, in one generation or two, and a new database.
 #![tactic(auto)]
 
 mod batches;

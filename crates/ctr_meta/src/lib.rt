@@ -1,4 +1,4 @@
-//! The tables of transactions: what the records of a log leave of them.
+//! The tables of transactions: what the records of a log leave of them, and what a session sees by them.
 #![tactic(auto)]
 
 mod items;
