@@ -1,10 +1,9 @@
 // Pages: bytes by hand, and which home has the value.
-use crate::tests::disks::disk_of;
-use crate::tests::laid::{
-    HOME_5, HOME_6, Laid, SHUT_8, Seen, TWO, Told, ZEROS, body_of, lay, look, told,
+use crate::homes::laid::{
+    HOME_5, HOME_6, Laid, SHUT_8, Seen, TWO, Told, ZEROS, body_of, disk_of, lay, look, told,
 };
-use crate::{Block, write_home};
 use ctr_disk::{Disk, Failed, SilentDisk, StoreFault};
+use ctr_home::{Block, write_home};
 use ctr_types::File;
 use std::alloc::{AllocError, Global};
 use std::test::Fail;
@@ -20,11 +19,16 @@ fn bytes_at(disk: &mut SilentDisk, at: u64) -> Result<[u8; 16], Failed> {
     Ok(bytes)
 }
 
+fn bytes_written(disk: &mut SilentDisk, page: u32, at: u64) -> Result<[u8; 16], Fail> {
+    write_page(disk, page)?;
+    Ok(bytes_at(disk, at)?)
+}
+
 // 16 bytes at a place of four pages after one was written: gate, number, stamp, three of the body.
 fn bytes_of(alloc: Global, page: u32, at: u64) -> Result<[u8; 16], Fail> {
-    let mut disk = disk_of(alloc, &[], &lay(alloc, &[ZEROS; 8])?)?;
-    write_page(&mut disk, page)?;
-    Ok(bytes_at(&mut disk, at)?)
+    let pages = lay(alloc, &[ZEROS; 8])?;
+    let mut disk = disk_of(alloc, &[], &pages)?;
+    bytes_written(&mut disk, page, at)
 }
 
 #[test]

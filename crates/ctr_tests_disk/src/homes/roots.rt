@@ -1,8 +1,7 @@
 // The root: each check, its bytes, its bounds, and both forms of it.
-use crate::tests::disks::disk_of;
-use crate::tests::laid::{HOME_7, HOME_9, ROOT_7, ROOT_9, Told, altered, lay_roots, told};
-use crate::{Root, read_root, read_thin_root, write_root};
+use crate::homes::laid::{HOME_7, HOME_9, ROOT_7, ROOT_9, Told, altered, disk_of, lay_roots, told};
 use ctr_disk::{Disk, SilentDisk};
+use ctr_home::{Root, read_root, read_thin_root, write_root};
 use ctr_types::File;
 use std::alloc::{AllocError, Global};
 use std::test::Fail;
@@ -118,11 +117,23 @@ fn goes(disk: &mut SilentDisk, act: &Act) -> bool {
     }
 }
 
+// The first of the acts that doesn't go as it should.
+fn first_wrong(disk: &mut SilentDisk) -> Option<usize> {
+    for (at, act) in ACTS.iter().enumerate() {
+        if !goes(disk, act) {
+            return Some(at);
+        }
+    }
+    None
+}
+
+fn first_wrong_of(alloc: Global) -> Result<Option<usize>, AllocError> {
+    let mut disk = disk_of(alloc, &[7; 128], &[])?;
+    Ok(first_wrong(&mut disk))
+}
+
 #[test]
 fn roots_that_are_written_and_read(rt: HostRuntime) -> Result<(), Fail> {
-    let mut disk = disk_of(rt.alloc(), &[7; 128], &[])?;
-    for act in &ACTS {
-        assert!(rt; goes(&mut disk, act));
-    }
+    assert_eq!(rt; first_wrong_of(rt.alloc())?, None);
     Ok(())
 }

@@ -1,27 +1,14 @@
 // Two generations, byte by byte: what is read of them, and each moment of their making.
-ghost use Rattle.ctr_log.specs.Kept.{NamesKept};
+ghost use Rattle.std.specs.Prelude.{◌≡◌, ◌≤◌, ◌<◌, ◌+◌, [], IsTrue, IfOk, false};
+ghost use Rattle.ctr_log.specs.Kept.{NamesKept, CanStart};
 
-use crate::{Gathered, ReadError, VisitError, read_all, visit_named};
-use ctr_disk::{Call, Image, MemDisk, Recorded, SilentDisk, StoreFault};
+use crate::disks::{calls_of, disk_with, image_left};
+use ctr_disk::{Call, Image, Recorded, SilentDisk, StoreFault};
 use ctr_home::{Root, read_root, write_root};
-use ctr_types::{File, List};
+use ctr_log::{Gathered, LogFile, ReadError, VisitError, read_all, visit_named};
+use ctr_types::File;
 use std::alloc::{AllocError, Global};
 use std::test::Fail;
-
-fn disk_with(alloc: Global, image: Image) -> Result<SilentDisk, AllocError> {
-    Ok(SilentDisk {
-        disk: MemDisk::new(alloc, image, List::new(alloc))?,
-    })
-}
-
-// What is asked of a disk once the calls are made, of which no proof wants anything.
-fn calls_of(disk: &SilentDisk) -> &[Recorded] {
-    disk.disk.calls()
-}
-
-fn image_left(disk: &SilentDisk, count: usize, digits: u64) -> Result<Image, AllocError> {
-    disk.disk.image_after(count, digits)
-}
 
 // A batch of the one record "a" or "b", behind its gate, with a closed gate behind it.
 const OLDER: [u8; 31] = [
@@ -132,13 +119,17 @@ type Named = (Result<u64, ReadError>, [Given; 2]);
 
 fn named(alloc: Global, log: &[u8]) -> Result<Named, ReadError> {
     let mut disk = disk_of(alloc, log, &[])?;
+    Ok(named_on(alloc, &mut disk))
+}
+
+fn named_on(alloc: Global, disk: &mut SilentDisk) -> Named {
     let mut gathered = Gathered::new(alloc);
-    let ended = match visit_named(alloc, &mut disk, &ROOT, &mut gathered) {
+    let ended = match visit_named(alloc, disk, &ROOT, &mut gathered) {
         Ok(log) => Ok(log.next()),
         Err(VisitError::Read(error)) => Err(error),
         Err(VisitError::Refused(error)) => Err(error),
     };
-    Ok((ended, [given_at(&gathered, 0), given_at(&gathered, 1)]))
+    (ended, [given_at(&gathered, 0), given_at(&gathered, 1)])
 }
 
 #[test]
@@ -194,22 +185,30 @@ fn each_check_of_a_batch(rt: HostRuntime) -> Result<(), Fail> {
     Ok(())
 }
 
+fn read_two(alloc: Global) -> Result<Result<Kept, ReadError>, AllocError> {
+    let mut log = newer(1, 2, 1).to_vec(alloc)?;
+    log.truncate(30);
+    log.extend_from_slice(&newer(1, 9, 1))?;
+    Ok(read(alloc, &log))
+}
+
+fn read_first(alloc: Global, log: &[u8]) -> Result<Kept, ReadError> {
+    let mut disk = disk_of(alloc, log, &[])?;
+    kept(alloc, &mut disk, &ROOT)
+}
+
 // A second batch behind the first has the next number; and the named file's first gate is open.
 #[test]
 fn the_next_number_and_the_first_gate(rt: HostRuntime) -> Result<(), Fail> {
     let alloc = rt.alloc();
-    let mut log = newer(1, 2, 1).to_vec(alloc)?;
-    log.truncate(30);
-    log.extend_from_slice(&newer(1, 9, 1))?;
-    assert!(rt; read(alloc, &log) == damaged(39, 3, 9));
-    let mut disk = disk_of(alloc, &altered(&[(0, 3)]), &[])?;
+    assert!(rt; read_two(alloc)? == damaged(39, 3, 9));
     let shut = ReadError::Store(StoreFault::Damaged {
         file: File::LogA,
         at: 0,
         want: 1,
         got: 3,
     });
-    assert!(rt; kept(alloc, &mut disk, &ROOT) == Err(shut));
+    assert!(rt; read_first(alloc, &altered(&[(0, 3)])) == Err(shut));
     Ok(())
 }
 
@@ -224,26 +223,53 @@ fn bytes_read(calls: &[Recorded]) -> u64 {
     all
 }
 
+fn long_log(alloc: Global) -> Result<Vec<u8>, AllocError> {
+    let mut log = OLDER.to_vec(alloc)?;
+    log.extend_from_slice(&[7; 1000])?;
+    Ok(log)
+}
+
+fn kept_and_read(alloc: Global, log: &[u8]) -> Result<(Result<Kept, ReadError>, u64), AllocError> {
+    let mut disk = disk_of(alloc, log, &[])?;
+    Ok(kept_counting(alloc, &mut disk))
+}
+
+fn kept_counting(alloc: Global, disk: &mut SilentDisk) -> (Result<Kept, ReadError>, u64) {
+    let kept = kept(alloc, disk, &ROOT);
+    (kept, bytes_read(calls_of(disk)))
+}
+
 // What stands behind the log isn't read: of the one batch its gate, its head and its frames, the head
 // behind it, and the other file's head.
 #[test]
 fn the_log_alone_is_read(rt: HostRuntime) -> Result<(), Fail> {
     let alloc = rt.alloc();
-    let mut log = OLDER.to_vec(alloc)?;
-    log.extend_from_slice(&[7; 1000])?;
-    let mut disk = disk_of(alloc, &log, &[])?;
-    assert!(rt; kept(alloc, &mut disk, &ROOT) == ONE);
-    assert!(rt; bytes_read(calls_of(&disk)) == 1 + 21 + 9 + 21 + 17);
+    let log = long_log(alloc)?;
+    assert!(rt; kept_and_read(alloc, &log)? == (ONE, 1 + 21 + 9 + 21 + 17));
     Ok(())
+}
+
+// The log that is read, with so much room and its older generation forgotten.
+fn ready(alloc: Global, disk: &mut SilentDisk, bytes: usize) -> Result<LogFile, ReadError>
+    ensures { IfOk result (λ log. (log.older ≡ false) × ((bytes ≤ log.room) × (log.buffered ≡ []))) }
+{
+    let mut log = read_all(alloc, disk, &ROOT, &mut Gathered::new(alloc))?;
+    log.forget_older();
+    log.reserve(bytes)?;
+    Ok(log)
+}
+
+fn start_new(log: &mut LogFile, disk: &mut SilentDisk) -> Result<(), StoreFault>
+    requires { CanStart 1 log.old }
+{
+    log.start_generation(disk, b"b")
 }
 
 // Begins a second generation with the record "b" behind the one that is read.
 fn start(alloc: Global, disk: &mut SilentDisk) -> Result<(), Fail> {
-    let mut log = read_all(alloc, disk, &ROOT, &mut Gathered::new(alloc))?;
-    log.forget_older();
-    log.reserve(9)?;
+    let mut log = ready(alloc, disk, 9)?;
     if log.next() < 9 {
-        log.start_generation(disk, b"b")?;
+        start_new(&mut log, disk)?;
     }
     Ok(())
 }
@@ -268,14 +294,18 @@ fn starts(alloc: Global, disk: &SilentDisk, count: usize, whole: bool) -> Result
 // other file has these bytes, and the last moment the new one.
 fn starts_well(alloc: Global, other: &[u8]) -> Result<bool, Fail> {
     let mut disk = disk_of(alloc, &OLDER, other)?;
-    start(alloc, &mut disk)?;
-    let calls = calls_of(&disk).len();
+    starts_on(alloc, &mut disk)
+}
+
+fn starts_on(alloc: Global, disk: &mut SilentDisk) -> Result<bool, Fail> {
+    start(alloc, disk)?;
+    let calls = calls_of(disk).len();
     for count in 0..calls {
-        if !starts(alloc, &disk, count, false)? {
+        if !starts(alloc, disk, count, false)? {
             return Ok(false);
         }
     }
-    Ok(starts(alloc, &disk, calls, true)?)
+    Ok(starts(alloc, disk, calls, true)?)
 }
 
 // The first batch of the other file isn't there, is closed, is open with another number, whole or torn.
@@ -291,14 +321,21 @@ fn each_moment_of_a_generation_that_begins(rt: HostRuntime) -> Result<(), Fail> 
     Ok(())
 }
 
+fn start_after(log: &mut LogFile, disk: &mut SilentDisk) -> Result<(), StoreFault>
+    requires one { log.old.older ≡ false }
+    requires room { 18 ≤ log.old.room }
+    requires none { log.old.buffered ≡ [] }
+    requires number { log.old.first < 9 }
+{
+    log.append(b"c");
+    log.start_generation(disk, b"b")
+}
+
 // The same with a record "c" that waits.
 fn start_behind(alloc: Global, disk: &mut SilentDisk) -> Result<(), Fail> {
-    let mut log = read_all(alloc, disk, &ROOT, &mut Gathered::new(alloc))?;
-    log.forget_older();
-    log.reserve(18)?;
+    let mut log = ready(alloc, disk, 18)?;
     if log.next() < 9 {
-        log.append(b"c");
-        log.start_generation(disk, b"b")?;
+        start_after(&mut log, disk)?;
     }
     Ok(())
 }
@@ -320,16 +357,30 @@ fn goes_on(
     Ok(true)
 }
 
+fn goes_on_well(alloc: Global) -> Result<bool, Fail> {
+    let mut disk = disk_of(alloc, &OLDER, &[])?;
+    starts_behind(alloc, &mut disk)
+}
+
+fn starts_behind(alloc: Global, disk: &mut SilentDisk) -> Result<bool, Fail> {
+    start_behind(alloc, disk)?;
+    let calls = calls_of(disk).len();
+    Ok(each_goes_on(alloc, disk, calls)?)
+}
+
+fn each_goes_on(alloc: Global, disk: &SilentDisk, calls: usize) -> Result<bool, AllocError> {
+    for count in 0..calls {
+        if !goes_on(alloc, disk, count, false)? {
+            return Ok(false);
+        }
+    }
+    goes_on(alloc, disk, calls, true)
+}
+
 #[test]
 fn a_generation_begins_behind_what_waits(rt: HostRuntime) -> Result<(), Fail> {
     let alloc = rt.alloc();
-    let mut disk = disk_of(alloc, &OLDER, &[])?;
-    start_behind(alloc, &mut disk)?;
-    let calls = calls_of(&disk).len();
-    for count in 0..calls {
-        assert!(rt; goes_on(alloc, &disk, count, false)?);
-    }
-    assert!(rt; goes_on(alloc, &disk, calls, true)?);
+    assert!(rt; goes_on_well(alloc)?);
     Ok(())
 }
 
@@ -343,16 +394,27 @@ fn root_named(stamp: u64, file: u8, first: u64) -> Root {
     }
 }
 
+fn root_in(disk: &mut SilentDisk) -> Result<Option<Root>, StoreFault> {
+    read_root(disk)
+}
+
+fn names_kept(root: &Root) -> bool
+    ensures { IsTrue result → NamesKept root.now }
+{
+    root.file <= 1 && root.first != 0 && root.first <= 1 << 63
+}
+
 // The log of an image by the root that it has.
 fn kept_by_root(alloc: Global, image: Image) -> Result<Option<Kept>, Fail> {
     let mut disk = disk_with(alloc, image)?;
-    let Some(root) = read_root(&mut disk)? else {
-        return Ok(None);
-    };
-    if root.file > 1 || root.first == 0 || root.first > 1 << 63 {
-        return Ok(None);
+    kept_by_root_of(alloc, &mut disk)
+}
+
+fn kept_by_root_of(alloc: Global, disk: &mut SilentDisk) -> Result<Option<Kept>, Fail> {
+    match root_in(disk)? {
+        Some(root) if names_kept(&root) => Ok(Some(kept(alloc, disk, &root)?)),
+        _ => Ok(None),
     }
-    Ok(Some(kept(alloc, &mut disk, &root)?))
 }
 
 // Whether each image after so many calls has the newer record alone, or both if it isn't whole.
@@ -366,17 +428,35 @@ fn drops(alloc: Global, disk: &SilentDisk, count: usize, whole: bool) -> Result<
     Ok(true)
 }
 
+fn put_root(disk: &mut SilentDisk, stamp: u64, file: u8, first: u64) -> Result<(), StoreFault> {
+    write_root(disk, &root_named(stamp, file, first))
+}
+
+fn drops_well(alloc: Global) -> Result<bool, Fail> {
+    let mut disk = disk_of(alloc, &OLDER, &newer(1, 2, 1))?;
+    drops_on(alloc, &mut disk)
+}
+
+fn drops_on(alloc: Global, disk: &mut SilentDisk) -> Result<bool, Fail> {
+    put_root(disk, 1, 0, 1)?;
+    let first = calls_of(disk).len();
+    put_root(disk, 2, 1, 2)?;
+    each_drops(alloc, disk, first)
+}
+
+fn each_drops(alloc: Global, disk: &SilentDisk, first: usize) -> Result<bool, Fail> {
+    let calls = calls_of(disk).len();
+    for count in first..calls {
+        if !drops(alloc, disk, count, false)? {
+            return Ok(false);
+        }
+    }
+    drops(alloc, disk, calls, true)
+}
+
 #[test]
 fn each_moment_of_the_older_generation_dropped(rt: HostRuntime) -> Result<(), Fail> {
     let alloc = rt.alloc();
-    let mut disk = disk_of(alloc, &OLDER, &newer(1, 2, 1))?;
-    write_root(&mut disk, &root_named(1, 0, 1))?;
-    let first = calls_of(&disk).len();
-    write_root(&mut disk, &root_named(2, 1, 2))?;
-    let calls = calls_of(&disk).len();
-    for count in first..calls {
-        assert!(rt; drops(alloc, &disk, count, false)?);
-    }
-    assert!(rt; drops(alloc, &disk, calls, true)?);
+    assert!(rt; drops_well(alloc)?);
     Ok(())
 }

@@ -1,8 +1,17 @@
 // Homes that are laid by hand, and what is read of them.
-use crate::{Root, read_page};
-use ctr_disk::{SilentDisk, StoreFault};
+use crate::disks::disk_with;
+use ctr_disk::{Image, SilentDisk, StoreFault};
+use ctr_home::{Root, read_page};
 use ctr_types::File;
 use std::alloc::{AllocError, Global};
+
+// A disk of the root's file and that of the pages.
+pub fn disk_of(alloc: Global, root: &[u8], pages: &[u8]) -> Result<SilentDisk, AllocError> {
+    let mut image = Image::new(alloc);
+    image.write(alloc, File::Root, 0, root)?;
+    image.write(alloc, File::Pages, 0, pages)?;
+    disk_with(alloc, image)
+}
 
 // A home of a page: its gate, number and stamp, and the byte that fills its body but for the first.
 #[derive(Clone, Copy)]

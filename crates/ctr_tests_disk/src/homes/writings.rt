@@ -1,11 +1,11 @@
 // Each moment of a writing.
-use crate::tests::disks::{calls_of, disk_of, disk_with, image_left};
-use crate::tests::laid::{
+use crate::disks::{calls_of, disk_with, image_left};
+use crate::homes::laid::{
     HOME_5, HOME_6, HOME_7, HOME_9, Laid, ROOT_7, ROOT_9, ROOT_10, SHUT_8, Seen, TWO, WHOLE, ZEROS,
-    body_of, lay, lay_roots, look,
+    body_of, disk_of, lay, lay_roots, look,
 };
-use crate::{Block, Root, read_root, write_home, write_root};
 use ctr_disk::{Call, Image, Recorded, SilentDisk, StoreFault};
+use ctr_home::{Block, Root, read_root, write_home, write_root};
 use std::alloc::{AllocError, Global};
 use std::test::Fail;
 
@@ -14,7 +14,7 @@ fn is_one_of_these(root: &Root) -> bool {
 }
 
 // What is read of three pages: the root by its stamp, if it is one of these, and the pages.
-fn state_of(disk: &mut SilentDisk) -> Result<[Seen; 4], StoreFault> {
+fn state_of(disk: &mut SilentDisk) -> Result<[Seen; 4], Fail> {
     let root = match read_root(disk)? {
         Some(root) => Seen(root.stamp, if is_one_of_these(&root) { 0 } else { 1 }),
         None => Seen(0, 0),
@@ -28,7 +28,7 @@ fn state_of(disk: &mut SilentDisk) -> Result<[Seen; 4], StoreFault> {
 
 fn state_with(alloc: Global, image: Image) -> Result<[Seen; 4], Fail> {
     let mut disk = disk_with(alloc, image)?;
-    Ok(state_of(&mut disk)?)
+    state_of(&mut disk)
 }
 
 // A write by its place, its length and its first byte, or a sync.
@@ -157,8 +157,16 @@ impl Writing {
 
     fn goes_well(&self, alloc: Global) -> Result<(bool, Vec<Step>), Fail> {
         let mut disk = self.disk(alloc)?;
-        let well = self.make(&mut disk).is_ok() && self.leaves_each(alloc, &disk)?;
-        Ok((well, steps_of(alloc, calls_of(&disk))?))
+        self.goes_well_on(alloc, &mut disk)
+    }
+
+    fn goes_well_on(
+        &self,
+        alloc: Global,
+        disk: &mut SilentDisk,
+    ) -> Result<(bool, Vec<Step>), Fail> {
+        let well = self.make(disk).is_ok() && self.leaves_each(alloc, disk)?;
+        Ok((well, steps_of(alloc, calls_of(disk))?))
     }
 }
 

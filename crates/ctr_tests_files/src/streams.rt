@@ -1,7 +1,7 @@
 // Streams that are long, and streams that are cut short.
 ghost use Rattle.std.specs.Prelude.{◌≤◌, IfOk};
 
-use crate::{Failed, ReadSource, Sink, Source, WriteSink};
+use ctr_io::{Failed, ReadSource, Sink, Source, WriteSink};
 use std::alloc::{AllocError, Global};
 use std::io::{self, ErrorKind, Read, Write};
 use std::test::Fail;
@@ -45,17 +45,43 @@ fn take_all<R: Read>(alloc: Global, source: &mut ReadSource<R>) -> Result<Vec<u8
     Err(Fail::new("no end"))
 }
 
-// What a sink puts in a file is what a source takes from it, to the last byte.
+const LONG: &str = "a_long_file";
+
+// Whether all bytes were put in a file, and how many puts failed.
+fn put_in_file(rt: HostRuntime, bytes: &[u8]) -> io::Result<(bool, u64)> {
+    let file = fs::File::create(&rt, LONG)?;
+    let mut sink = WriteSink::new(file);
+    let has_put = put_all(&mut sink, bytes);
+    Ok((has_put, sink.faults()))
+}
+
+fn take_counting<R: Read>(
+    alloc: Global,
+    source: &mut ReadSource<R>,
+) -> Result<(Vec<u8>, u64), Fail> {
+    let bytes = take_all(alloc, source)?;
+    Ok((bytes, source.faults()))
+}
+
+// The bytes that were taken from that file, and how many takes failed.
+fn take_from_file(rt: HostRuntime) -> Result<(Vec<u8>, u64), Fail> {
+    let file = fs::File::open(&rt, LONG)?;
+    let mut source = ReadSource::new(file);
+    take_counting(rt.alloc(), &mut source)
+}
+
+// Whether what a sink puts in a file is what a source takes from it, and no call failed.
+fn pass(rt: HostRuntime, bytes: &[u8]) -> Result<bool, Fail> {
+    let (has_put, failed) = put_in_file(rt, bytes)?;
+    let (read, faults) = take_from_file(rt)?;
+    Ok(has_put && failed == 0 && faults == 0 && read.as_slice() == bytes)
+}
+
 #[test]
 fn a_million_bytes_through_a_file(rt: HostRuntime) -> Result<(), Fail> {
     let bytes = million(rt.alloc())?;
-    let mut sink = WriteSink::new(fs::File::create(&rt, "a_long_file")?);
-    assert!(rt; put_all(&mut sink, &bytes));
-    let mut source = ReadSource::new(fs::File::open(&rt, "a_long_file")?);
-    let read = take_all(rt.alloc(), &mut source)?;
-    assert!(rt; read.as_slice() == bytes.as_slice());
-    assert_eq!(rt; (sink.faults(), source.faults()), (0, 0));
-    fs::remove_file(&rt, "a_long_file")?;
+    assert!(rt; pass(rt, &bytes)?);
+    fs::remove_file(&rt, LONG)?;
     Ok(())
 }
 
@@ -121,28 +147,37 @@ const PUTS: [Case; 3] = [
     Case(Turn::Interrupted, Turn::Broken, Err(Failed), 1),
 ];
 
+impl Case {
+    fn stream(&self) -> Halting {
+        Halting {
+            next: self.0,
+            then: self.1,
+        }
+    }
+
+    fn takes(&self) -> (Result<usize, Failed>, u64) {
+        let mut source = ReadSource::new(self.stream());
+        (source.take(&mut [0; 4]), source.faults())
+    }
+
+    fn puts(&self) -> (Result<usize, Failed>, u64) {
+        let mut sink = WriteSink::new(self.stream());
+        (sink.put(b"abc"), sink.faults())
+    }
+}
+
 #[test]
 fn takes_of_a_reader(rt: HostRuntime) -> Result<(), Fail> {
-    for Case(next, then, answer, faults) in &TAKES {
-        let mut source = ReadSource::new(Halting {
-            next: *next,
-            then: *then,
-        });
-        assert_eq!(rt; source.take(&mut [0; 4]), *answer);
-        assert_eq!(rt; source.faults(), *faults);
+    for case in &TAKES {
+        assert_eq!(rt; case.takes(), (case.2, case.3));
     }
     Ok(())
 }
 
 #[test]
 fn puts_on_a_writer(rt: HostRuntime) -> Result<(), Fail> {
-    for Case(next, then, answer, faults) in &PUTS {
-        let mut sink = WriteSink::new(Halting {
-            next: *next,
-            then: *then,
-        });
-        assert_eq!(rt; sink.put(b"abc"), *answer);
-        assert_eq!(rt; sink.faults(), *faults);
+    for case in &PUTS {
+        assert_eq!(rt; case.puts(), (case.2, case.3));
     }
     Ok(())
 }
