@@ -8,7 +8,7 @@ use Rattle.ctr_pool.specs.Frames.{frame_of, page_of, after_change}
 use Rattle.ctr_pool.specs.Over.{IsHeld, IsOver}
 use Rattle.ctr_pool.specs.contracts.memory.MemoryBacking.TheImpl.{ghosts}
 use Rattle.ctr_pool.proofs.FrameLaws.{yes, no, is, isnt, same_or, since_some}
-use Rattle.ctr_pool.proofs.tests.touch.Goals as goal
+use Rattle.ctr_tests_tables.proofs.pool.touch.Goals as goal
 
 -- what is changed may be saved
 dirty_held : (m : Memory) (p : ℕ) (v : PageHeld) (o : Option ℕ) → is_some o ≡ true → p < vec_len m.sheets → IsHeld ghosts m p v o

@@ -1,10 +1,10 @@
-//! A pool of 8 frames over a backing in memory of 12 pages that fails at its call N, for each N.
-ghost use Rattle.std.specs.Prelude.{◌≡◌, ◌<◌, vec_len, IfOk, OnOk};
+// A pool of 8 frames over a backing in memory of 12 pages that fails at its call N, for each N.
+ghost use Rattle.std.specs.Prelude.{◌≡◌, ◌<◌, [], vec_len, IfOk, OnOk};
 ghost use Rattle.ctr_pool.specs.Over.{IsOver};
 ghost use Rattle.ctr_pool.specs.contracts.memory.MemoryBacking.TheImpl.{ghosts};
 
-use super::*;
 use ctr_disk::StoreFault;
+use ctr_pool::{Backing, Lsn, Memory, Pool};
 use ctr_records::{Bytes, Overlay, PageNo};
 use ctr_types::OutOfMemory;
 use std::alloc::Global;
@@ -127,24 +127,37 @@ struct Came {
     calls: u64,
 }
 
-fn play(alloc: Global, fails_at: u64) -> Result<Came, OutOfMemory> {
-    let mut memory = Memory::new(alloc, PAGES, fails_at)?;
-    let mut pool = Pool::new(alloc, 8)?;
-    let run = change_all(&mut pool, &mut memory);
+fn play_on(pool: &mut Pool, memory: &mut Memory) -> Came
+    requires over { IsOver ghosts pool.old.frames memory.old }
+    requires held { vec_len memory.old.sheets ≡ 12 }
+{
+    let run = change_all(pool, memory);
     if run.steps == STEPS {
-        let _ = save_all(&mut pool, &mut memory);
+        let _ = save_all(pool, memory);
     }
     let counts = [
         run.steps,
         run.wrong,
-        whole(&memory),
-        newest(&memory),
+        whole(memory),
+        newest(memory),
         memory.faults(),
     ];
-    Ok(Came {
+    Came {
         counts,
         calls: memory.calls,
-    })
+    }
+}
+
+fn play_over(alloc: Global, memory: &mut Memory) -> Result<Came, OutOfMemory>
+    requires { vec_len memory.old.sheets ≡ 12 }
+{
+    let mut pool = Pool::new(alloc, 8)?;
+    Ok(play_on(&mut pool, memory))
+}
+
+fn play(alloc: Global, fails_at: u64) -> Result<Came, OutOfMemory> {
+    let mut memory = Memory::new(alloc, PAGES, fails_at)?;
+    play_over(alloc, &mut memory)
 }
 
 #[test]
@@ -164,30 +177,70 @@ fn each_call_of_the_backing_fails_once(rt: HostRuntime) -> Result<(), Fail> {
     Ok(())
 }
 
+fn lent(pool: &mut Pool, memory: &mut Memory) -> Result<usize, StoreFault>
+    requires { IsOver ghosts pool.old.frames memory.old }
+{
+    let bytes = pool.fetch(3, memory)?;
+    Ok(bytes.len())
+}
+
+fn lent_over(alloc: Global, memory: &mut Memory) -> Result<Result<usize, StoreFault>, OutOfMemory> {
+    let mut pool = Pool::new(alloc, 8)?;
+    Ok(lent(&mut pool, memory))
+}
+
+// How many bytes are lent of a page.
+fn fetched(alloc: Global) -> Result<Result<usize, StoreFault>, OutOfMemory> {
+    let mut memory = Memory::new(alloc, PAGES, 0)?;
+    lent_over(alloc, &mut memory)
+}
+
 #[test]
 fn a_page_that_is_fetched_is_lent(rt: HostRuntime) -> Result<(), Fail> {
-    let alloc = rt.alloc();
-    let mut memory = Memory::new(alloc, PAGES, 0)?;
-    let mut pool = Pool::new(alloc, 8)?;
-    let Ok(bytes) = pool.fetch(3, &mut memory) else {
-        return Err("the page is there")?;
-    };
-    assert_eq!(rt; bytes.len(), 4096);
+    assert_eq!(rt; fetched(rt.alloc())?, Ok(4096));
     Ok(())
+}
+
+// The oldest change that isn't saved, and how many frames have none.
+type Ages = (Option<Lsn>, usize);
+
+fn ages_of(pool: &Pool) -> Ages {
+    (pool.oldest_dirty(), pool.unchanged())
+}
+
+// Before two changes, after them, and after one is saved.
+fn ages_on(pool: &mut Pool, memory: &mut Memory) -> Result<[Ages; 3], StoreFault>
+    requires over { IsOver ghosts pool.old.frames memory.old }
+    requires held { vec_len memory.old.sheets ≡ 12 }
+{
+    let clean = ages_of(pool);
+    touch(pool, memory, 7, 5)?;
+    touch(pool, memory, 2, 6)?;
+    let changed = ages_of(pool);
+    pool.write_one(memory)?;
+    Ok([clean, changed, ages_of(pool)])
+}
+
+fn ages_over(
+    alloc: Global,
+    memory: &mut Memory,
+) -> Result<(Result<[Ages; 3], StoreFault>, u64), OutOfMemory>
+    requires { vec_len memory.old.sheets ≡ 12 }
+{
+    let mut pool = Pool::new(alloc, 8)?;
+    let ages = ages_on(&mut pool, memory);
+    Ok((ages, newest(memory)))
+}
+
+fn tell_ages(alloc: Global) -> Result<(Result<[Ages; 3], StoreFault>, u64), OutOfMemory> {
+    let mut memory = Memory::new(alloc, PAGES, 0)?;
+    ages_over(alloc, &mut memory)
 }
 
 #[test]
 fn the_oldest_change_is_told_and_saved_first(rt: HostRuntime) -> Result<(), Fail> {
-    let alloc = rt.alloc();
-    let mut memory = Memory::new(alloc, PAGES, 0)?;
-    let mut pool = Pool::new(alloc, 8)?;
-    assert_eq!(rt; pool.oldest_dirty(), None);
-    assert_eq!(rt; pool.unchanged(), 8);
-    if touch(&mut pool, &mut memory, 7, 5).is_ok() && touch(&mut pool, &mut memory, 2, 6).is_ok() {
-        assert_eq!(rt; (pool.oldest_dirty(), pool.unchanged()), (Some(5), 6));
-        assert!(rt; pool.write_one(&mut memory).is_ok());
-        assert_eq!(rt; (pool.oldest_dirty(), pool.unchanged()), (Some(6), 7));
-    }
-    assert_eq!(rt; newest(&memory), 0);
+    let (ages, newest) = tell_ages(rt.alloc())?;
+    assert_eq!(rt; ages, Ok([(None, 8), (Some(5), 6), (Some(6), 7)]));
+    assert_eq!(rt; newest, 0);
     Ok(())
 }

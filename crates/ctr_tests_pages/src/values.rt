@@ -1,10 +1,10 @@
-//! Rows by hand: payloads both ways, what is refused of others, and texts.
+// Rows by hand: payloads both ways, what is refused of others, and texts.
 ghost use Rattle.std.specs.Prelude.{◌≡◌, ◌≤◌, length, drop, IfOk};
 ghost use Rattle.ctr_value.specs.Payload.{IsRow, width as width_of_all};
 
-use crate::*;
 use ctr_io::MemSink;
 use ctr_types::{Column, Kind, List, Name, OutOfMemory, Row, Schema, Text, Value};
+use ctr_value::{PayloadError, decode_row, encode_row, width, write_row};
 use std::alloc::Global;
 use std::test::Fail;
 

@@ -1,8 +1,12 @@
-//! Sizes, fields both ways, and each row of damage on a page, by hand.
+// Sizes, fields both ways, and each row of damage on a page, by hand.
 ghost use Rattle.std.specs.Prelude.{◌≡◌, ◌≤◌, ◌<◌, length, IfOk};
 ghost use Rattle.ctr_value.specs.Columns.{ColumnsFit};
 
-use crate::*;
+use ctr_page::{
+    BadChain, BadPage, Chain, Header, Place, RowSlot, Version, Walk, bucket_of, check_entry,
+    check_header, check_slot, check_version, kept_size, make_entry, make_header, make_slot,
+    make_version, read_entry, read_header, read_slot, read_version, room_for, slot_size,
+};
 use ctr_types::{Column, Kind, List, Name, OutOfMemory, Schema, Text};
 use std::alloc::Global;
 use std::test::Fail;
@@ -177,14 +181,19 @@ const TITLE: &[u8] = b"\x01\x05\0\0\0\0\0\0\0\0\0\0\0\0\0\0\0\
     \x01k\0\0\0\0\0\0\0\0\0\0\0\0\0\0\0\0\
     \x01v\0\0\0\0\0\0\0\0\0\0\0\0\0\0\0\x04";
 
+// The entry of that table, and how many bytes were made of it.
+fn title(alloc: Global) -> Result<([u8; 256], usize), OutOfMemory> {
+    let name = name(alloc, b"t")?;
+    let schema = schema(alloc)?;
+    let mut bytes = [0; 256];
+    let made = make_entry(5, &name, &schema, &mut bytes);
+    Ok((bytes, made))
+}
+
 #[test]
 fn an_entry_of_the_catalog_is_made_and_read(rt: HostRuntime) -> Result<(), Fail> {
-    let alloc = rt.alloc();
-    let mut bytes = [0; 256];
-    assert_eq!(rt;
-        make_entry(5, &name(alloc, b"t")?, &schema(alloc)?, &mut bytes),
-        256
-    );
+    let (bytes, made) = title(rt.alloc())?;
+    assert_eq!(rt; made, 256);
     assert!(rt; begin_so(&bytes, TITLE));
     assert!(rt; zeros_from(&bytes, 71));
     let entry = read_entry(&bytes, 0);

@@ -1,5 +1,5 @@
 // Each call once, with what its numbers say by hand.
-use crate::{Snapshot, low_mark};
+use ctr_snap::{Snapshot, low_mark};
 use ctr_types::Fate;
 use std::test::Fail;
 

@@ -1,7 +1,7 @@
 use Rattle.std.proofs.Common.{◌≡◌, ◌≤◌, vec_len}
 use Rattle.ctr_pool.specs.Over.{IsOver}
 use Rattle.ctr_pool.specs.contracts.memory.MemoryBacking.TheImpl.{ghosts}
-use Rattle.ctr_pool.proofs.tests.change_all.Given as goal
+use Rattle.ctr_tests_tables.proofs.pool.change_all.Given as goal
 
 abbrev pub invariant-loop-step : goal.invariant-loop-step
 invariant-loop-step l = record {
