@@ -6,8 +6,6 @@ mod block;
 mod checks;
 mod reading;
 mod root;
-#[cfg(test)]
-mod tests;
 mod writing;
 
 pub use block::{Block, Home};

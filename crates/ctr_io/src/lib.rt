@@ -6,8 +6,6 @@
 mod edges;
 mod memory;
 mod streams;
-#[cfg(test)]
-mod tests;
 
 pub use edges::{Failed, Sink, Source};
 pub use memory::{MemSink, MemSource};

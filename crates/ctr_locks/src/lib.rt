@@ -10,6 +10,3 @@ mod table;
 
 pub use laws::locks_are_the_models;
 pub use locks::{Held, Locks};
-
-#[cfg(test)]
-mod tests;

@@ -18,6 +18,3 @@ pub use log::{LogFile, Lsn};
 pub use making::{Making, init, is_first_checkpoint, make_logs};
 pub use reading::ReadError;
 pub use visitor::{Visit, VisitError, Visitor};
-
-#[cfg(test)]
-mod tests;

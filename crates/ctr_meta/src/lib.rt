@@ -13,8 +13,3 @@ pub use items::Wanted;
 pub use meta::Meta;
 pub use room::{Room, room_for, tables_fold, xids_last};
 pub use seen::{is_changed, is_seen};
-
-#[cfg(test)]
-mod seen_tests;
-#[cfg(test)]
-mod tests;

@@ -22,6 +22,3 @@ pub use rows::{
 };
 pub use table::{bucket_of, kept_size, room_for, slot_size};
 pub use walk::{BadChain, Walk};
-
-#[cfg(test)]
-mod tests;

@@ -18,6 +18,3 @@ pub use pool::Pool;
 
 /// The number of a record of the log, from 1.
 pub type Lsn = u64;
-
-#[cfg(test)]
-mod tests;

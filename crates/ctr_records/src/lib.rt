@@ -17,6 +17,3 @@ pub use lists::{encode_checkpoint, one_list};
 pub use record::{Form, Overlay, PageNo, Parts, Record, SlogItem, to_form};
 pub use span::Bytes;
 pub use table::{Field, Layout, Tag};
-
-#[cfg(test)]
-mod tests;

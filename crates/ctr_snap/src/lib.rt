@@ -7,6 +7,3 @@ mod snapshot;
 
 pub use low::{least_of, low_mark};
 pub use snapshot::{Snapshot, has};
-
-#[cfg(test)]
-mod tests;

@@ -9,6 +9,3 @@ pub use payload::{
     width, written_payload,
 };
 pub use text::write_row;
-
-#[cfg(test)]
-mod tests;

@@ -1,6 +1,4 @@
 // What zeros cost: the blocks that are kept of a file of 240 MB.
-ghost use Rattle.std.specs.Prelude.{◌≤◌};
-
 use super::Bytes;
 use std::alloc::{AllocError, Global};
 use std::test::Fail;
@@ -48,26 +46,5 @@ fn zeros_are_not_kept(rt: HostRuntime) -> Result<(), Fail> {
     for row in &ROWS {
         assert!(rt; apply(rt.alloc(), &mut bytes, row)? == (row.1, row.2));
     }
-    Ok(())
-}
-
-// Six bytes at a place of a file of 4,093 zeros, in which 1, 2, 3 and 4 stand from a place on.
-fn read(alloc: Global, put: u64, at: u64) -> Result<[u8; 6], AllocError>
-    requires { at ≤ 4096 }
-{
-    let mut into = [9; 6];
-    let mut bytes = Bytes::new(alloc);
-    bytes.set_len(4093)?;
-    bytes.write(alloc, put, &[1, 2, 3, 4])?;
-    bytes.read(at, &mut into);
-    Ok(into)
-}
-
-#[test]
-fn bytes_over_two_blocks(rt: HostRuntime) -> Result<(), Fail> {
-    assert!(rt; read(rt.alloc(), 4094, 4093)? == [0, 1, 2, 3, 4, 0]);
-    assert!(rt; read(rt.alloc(), 4090, 4088)? == [0, 0, 1, 2, 3, 4]);
-    assert!(rt; read(rt.alloc(), 4096, 4095)? == [0, 1, 2, 3, 4, 0]);
-    assert!(rt; read(rt.alloc(), 0, 4096)? == [0; 6]);
     Ok(())
 }
