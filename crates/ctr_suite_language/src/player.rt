@@ -4,8 +4,9 @@ use crate::told::{Page, tell_lines, tell_statement};
 use ctr_io::MemSource;
 use ctr_parse::{ParseRefusal, parse_statement};
 use ctr_script::{ScriptError, read_script};
-use ctr_types::{List, Text};
+use ctr_types::{List, Script, Statement, Text};
 use std::alloc::{AllocError, Global};
+use std::mem;
 
 /// Where a suite stands.
 #[derive(Drop)]
@@ -13,44 +14,52 @@ pub struct Player {
     alloc: Global,
     page: Page,
     /// What the last case gives, and the case.
-    gives: Vec<u8>,
+    gives: Page,
     begun: Vec<u8>,
     right: u64,
     wrong: u64,
 }
 
-fn told_script(alloc: Global, bytes: Vec<u8>) -> Result<Vec<u8>, AllocError> {
-    let mut page = Page::new(alloc);
+fn tell_script(alloc: Global, page: &mut Page, bytes: Vec<u8>) -> Result<(), AllocError> {
     let mut source = MemSource::new(Text::from_vec(bytes), List::new(alloc));
-    match read_script(alloc, &mut source) {
-        Ok(script) => tell_lines(&mut page, script.lines.as_slice())?,
-        Err(ScriptError::Refused { line, at }) => {
-            page.add("refused ")?;
-            page.add_number(line)?;
-            page.add(".")?;
-            page.add_number(at)?;
-        }
-        Err(ScriptError::TooLong) => page.add("too long")?,
-        Err(ScriptError::ReadFault) => page.add("read fault")?,
-        Err(ScriptError::OutOfMemory) => page.add("out of memory")?,
-    }
-    Ok(page.into_bytes())
+    let read = read_script(alloc, &mut source);
+    tell_read(page, &read)
 }
 
-fn told_statement(alloc: Global, bytes: &[u8]) -> Result<Vec<u8>, AllocError> {
-    let mut page = Page::new(alloc);
-    match std::str::from_utf8(bytes) {
-        Err(_) => page.add("not UTF-8")?,
-        Ok(text) => match parse_statement(alloc, text) {
-            Ok(statement) => tell_statement(&mut page, &statement)?,
-            Err(ParseRefusal::ParseError { at }) => {
-                page.add("refused ")?;
-                page.add_number(at as u64)?;
-            }
-            Err(ParseRefusal::OutOfMemory) => page.add("out of memory")?,
-        },
+fn tell_read(page: &mut Page, read: &Result<Script, ScriptError>) -> Result<(), AllocError> {
+    match read {
+        Ok(script) => tell_lines(page, script.lines.as_slice()),
+        Err(ScriptError::Refused { line, at }) => {
+            page.add("refused ")?;
+            page.add_number(*line)?;
+            page.add(".")?;
+            page.add_number(*at)
+        }
+        Err(ScriptError::TooLong) => page.add("too long"),
+        Err(ScriptError::ReadFault) => page.add("read fault"),
+        Err(ScriptError::OutOfMemory) => page.add("out of memory"),
     }
-    Ok(page.into_bytes())
+}
+
+fn tell_text(alloc: Global, page: &mut Page, bytes: &[u8]) -> Result<(), AllocError> {
+    match std::str::from_utf8(bytes) {
+        Err(_) => page.add("not UTF-8"),
+        Ok(text) => tell_parsed(page, &parse_statement(alloc, text)),
+    }
+}
+
+fn tell_parsed(
+    page: &mut Page,
+    parsed: &Result<Statement, ParseRefusal>,
+) -> Result<(), AllocError> {
+    match parsed {
+        Ok(statement) => tell_statement(page, statement),
+        Err(ParseRefusal::ParseError { at }) => {
+            page.add("refused ")?;
+            page.add_number(*at as u64)
+        }
+        Err(ParseRefusal::OutOfMemory) => page.add("out of memory"),
+    }
 }
 
 fn behind<'a>(line: &'a [u8], word: &[u8]) -> Option<&'a [u8]> {
@@ -66,22 +75,22 @@ impl Player {
         Player {
             alloc,
             page: Page::new(alloc),
-            gives: Vec::new(alloc),
+            gives: Page::new(alloc),
             begun: Vec::new(alloc),
             right: 0,
             wrong: 0,
         }
     }
 
-    fn begin(&mut self, line: &[u8], gives: Vec<u8>) -> Result<(), AllocError> {
+    fn begin(&mut self, line: &[u8]) -> Result<(), AllocError> {
         self.begun = line.to_vec(self.alloc)?;
-        self.gives = gives;
+        self.gives = Page::new(self.alloc);
         Ok(())
     }
 
     // What the case must give.
     fn compare(&mut self, wanted: &[u8]) -> Result<(), AllocError> {
-        if self.gives.as_slice() == wanted {
+        if self.gives.bytes() == wanted {
             self.right = self.right.saturating_add(1);
             return Ok(());
         }
@@ -90,21 +99,21 @@ impl Player {
         self.page.add("\n  wanted ")?;
         self.page.add_bytes(wanted)?;
         self.page.add("\n  gives  ")?;
-        self.page.add_bytes(&self.gives)?;
+        self.page.add_bytes(self.gives.bytes())?;
         self.page.add("\n")
     }
 
     fn play(&mut self, line: &[u8]) -> Result<(), AllocError> {
         let alloc = self.alloc;
         if let Some(text) = behind(line, b"script ") {
+            self.begin(line)?;
             let bytes = unescaped(alloc, text)?;
-            let gives = told_script(alloc, bytes)?;
-            return self.begin(line, gives);
+            return tell_script(alloc, &mut self.gives, bytes);
         }
         if let Some(text) = behind(line, b"statement ") {
+            self.begin(line)?;
             let bytes = unescaped(alloc, text)?;
-            let gives = told_statement(alloc, &bytes)?;
-            return self.begin(line, gives);
+            return tell_text(alloc, &mut self.gives, &bytes);
         }
         if let Some(wanted) = behind(line, b"= ") {
             return self.compare(wanted);
@@ -130,16 +139,8 @@ impl Player {
     }
 
     /// What is printed: each case that gave something else, and how many there were.
-    pub fn finished(mut self) -> Vec<u8> {
+    pub fn finish(&mut self) -> Page {
         let _ = self.add_end();
-        let Player {
-            alloc: _,
-            page,
-            gives: _,
-            begun: _,
-            right: _,
-            wrong: _,
-        } = self;
-        page.into_bytes()
+        mem::replace(&mut self.page, Page::new(self.alloc))
     }
 }

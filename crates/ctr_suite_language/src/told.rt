@@ -17,9 +17,8 @@ impl Page {
         }
     }
 
-    pub fn into_bytes(self) -> Vec<u8> {
-        let Page { alloc: _, bytes } = self;
-        bytes
+    pub fn bytes(&self) -> &[u8] {
+        &self.bytes
     }
 
     pub fn add(&mut self, text: &str) -> Result<(), AllocError> {

@@ -1,4 +1,5 @@
 // What is asked of a disk once a run is over: its images and the shapes of its calls.
+use crate::lists::{add, one};
 use crate::numbers::name_of;
 use crate::page::Page;
 use crate::setup::{Ask, Counts};
@@ -27,27 +28,31 @@ pub fn counts_of(disk: &MemDisk) -> Counts {
     }
 }
 
-fn each_image(alloc: Global, disk: &MemDisk) -> Result<Vec<Image>, AllocError> {
-    let mut images = Vec::new(alloc);
-    for count in 0..=disk.calls().len() {
-        for digits in 0..DIGITS {
-            images.push(disk.image_after(count, digits)?)?;
-        }
+fn add_images(disk: &MemDisk, images: &mut Vec<Image>, count: usize) -> Result<(), AllocError> {
+    for digits in 0..DIGITS {
+        add(images, disk.image_after(count, digits)?)?;
     }
-    Ok(images)
+    Ok(())
 }
 
-fn one_image(alloc: Global, image: Image) -> Result<Vec<Image>, AllocError> {
+fn add_each(disk: &MemDisk, images: &mut Vec<Image>) -> Result<(), AllocError> {
+    for count in 0..=disk.calls().len() {
+        add_images(disk, images, count)?;
+    }
+    Ok(())
+}
+
+fn each_image(alloc: Global, disk: &MemDisk) -> Result<Vec<Image>, AllocError> {
     let mut images = Vec::new(alloc);
-    images.push(image)?;
+    add_each(disk, &mut images)?;
     Ok(images)
 }
 
 /// The images that are asked for.
 pub fn images_of(alloc: Global, disk: &MemDisk, ask: Ask) -> Result<Vec<Image>, AllocError> {
     match ask {
-        Ask::Last => one_image(alloc, disk.image_now().copy()?),
-        Ask::Stop(count, digits) => one_image(alloc, disk.image_after(count as usize, digits)?),
+        Ask::Last => one(alloc, disk.image_now().copy()?),
+        Ask::Stop(count, digits) => one(alloc, disk.image_after(count as usize, digits)?),
         Ask::Each => each_image(alloc, disk),
         Ask::Calls => Ok(Vec::new(alloc)),
     }

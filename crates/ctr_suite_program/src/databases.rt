@@ -1,6 +1,7 @@
 // The databases that a disk may hold, and how they are told apart.
+use crate::lists::{add, one};
 use crate::page::Page;
-use ctr_model::{Map, Point, Table};
+use ctr_model::{Map, Point, State, Table};
 use ctr_types::{Column, Kind, Name, OutOfMemory, Plain};
 use std::alloc::Global;
 
@@ -28,10 +29,8 @@ impl Right {
 
     /// A database without tables.
     pub fn empty(alloc: Global, none: bool) -> Result<Right, OutOfMemory> {
-        let mut list = Vec::new(alloc);
-        list.push(Map::new(alloc))?;
         Ok(Right {
-            list,
+            list: one(alloc, Map::new(alloc))?,
             least: 0,
             most: 0,
             none,
@@ -41,9 +40,7 @@ impl Right {
     /// The databases to which a tape has led, with at least so many commits.
     pub fn after(alloc: Global, point: &Point, least: usize) -> Result<Right, OutOfMemory> {
         let mut list = Vec::new(alloc);
-        for number in 0..=point.state.asked.len() {
-            list.push(point.state.rows_at(alloc, number as u64)?)?;
-        }
+        add_led(alloc, &mut list, &point.state)?;
         let most = point.state.asked.len();
         Ok(Right {
             list,
@@ -55,9 +52,7 @@ impl Right {
 
     pub fn copy(&self, alloc: Global) -> Result<Right, OutOfMemory> {
         let mut list = Vec::new(alloc);
-        for database in self.list.iter() {
-            list.push(database.copy(alloc)?)?;
-        }
+        add_copies(alloc, &mut list, &self.list)?;
         Ok(Right {
             list,
             least: self.least,
@@ -70,6 +65,27 @@ impl Right {
     pub fn has(&self, number: usize) -> bool {
         self.least <= number && number <= self.most && number < self.list.len()
     }
+}
+
+type Databases = Vec<Map<Name, Table>>;
+
+fn add_copies(
+    alloc: Global,
+    list: &mut Databases,
+    databases: &[Map<Name, Table>],
+) -> Result<(), OutOfMemory> {
+    for database in databases {
+        add(list, database.copy(alloc)?)?;
+    }
+    Ok(())
+}
+
+// The databases after each number of the commits that were asked for.
+fn add_led(alloc: Global, list: &mut Databases, state: &State) -> Result<(), OutOfMemory> {
+    for number in 0..=state.asked.len() {
+        add(list, state.rows_at(alloc, number as u64)?)?;
+    }
+    Ok(())
 }
 
 // A literal that suits a column, or a text that is longer by one byte.

@@ -127,10 +127,14 @@ fn ended(alloc: Global, disk: &MemDisk, page: &Page, ask: Ask) -> Result<Ran, Al
 
 /// Makes the calls that the script lists.
 pub fn play_calls(alloc: Global, setup: &Setup, ask: Ask) -> Result<Ran, AllocError> {
-    let mut page = Page::new(alloc);
     let mut disk = disk_of(alloc, setup)?;
-    make_calls(alloc, &mut disk, &mut page, &setup.script)?;
-    ended(alloc, &disk, &page, ask)
+    calls_on(alloc, &mut disk, &setup.script, ask)
+}
+
+fn calls_on(alloc: Global, disk: &mut MemDisk, script: &[u8], ask: Ask) -> Result<Ran, AllocError> {
+    let mut page = Page::new(alloc);
+    make_calls(alloc, disk, &mut page, script)?;
+    ended(alloc, disk, &page, ask)
 }
 
 // Writes a root whose stamp is above that of the root that is there.
@@ -148,8 +152,12 @@ fn write_above(disk: &mut MemDisk, page: &mut Page, root: &Root) {
 
 /// Writes the root.
 pub fn play_root(alloc: Global, setup: &Setup, root: Root, ask: Ask) -> Result<Ran, AllocError> {
-    let mut page = Page::new(alloc);
     let mut disk = disk_of(alloc, setup)?;
-    write_above(&mut disk, &mut page, &root);
-    ended(alloc, &disk, &page, ask)
+    root_on(alloc, &mut disk, &root, ask)
+}
+
+fn root_on(alloc: Global, disk: &mut MemDisk, root: &Root, ask: Ask) -> Result<Ran, AllocError> {
+    let mut page = Page::new(alloc);
+    write_above(disk, &mut page, root);
+    ended(alloc, disk, &page, ask)
 }

@@ -4,7 +4,7 @@ ghost use Rattle.ctr_model.specs.Tape.{at_start};
 
 use crate::databases::{Right, probing};
 use crate::run::play;
-use crate::setup::{Ask, Ran, plain_run};
+use crate::setup::{Ask, Ran, Setup, plain_run};
 use ctr_disk::Image;
 use ctr_io::MemSource;
 use ctr_machine::is_legal;
@@ -13,15 +13,16 @@ use ctr_script::read_script;
 use ctr_types::{Entry, Line, List, Name, OutOfMemory, Plain, Reply, Script, Text};
 use std::alloc::Global;
 
-/// The script that bytes are. What is none is an empty one: no tape comes of it.
-pub fn script_of(alloc: Global, bytes: &[u8]) -> Result<Script, OutOfMemory> {
+// The script that bytes are. What is none is an empty one: no tape comes of it.
+fn script_of(alloc: Global, bytes: &[u8]) -> Result<Script, OutOfMemory> {
     let mut source = MemSource::new(Text::from_slice(alloc, bytes)?, List::new(alloc));
-    match read_script(alloc, &mut source) {
-        Ok(script) => Ok(script),
-        Err(_) => Ok(Script {
-            lines: List::new(alloc),
-        }),
-    }
+    Ok(script_in(alloc, &mut source))
+}
+
+fn script_in(alloc: Global, source: &mut MemSource) -> Script {
+    read_script(alloc, source).unwrap_or(Script {
+        lines: List::new(alloc),
+    })
 }
 
 fn starting(alloc: Global, base: Map<Name, Table>) -> Point
@@ -34,21 +35,30 @@ fn starting(alloc: Global, base: Map<Name, Table>) -> Point
     }
 }
 
-/// Where a legal tape leads from a database; None where it isn't legal.
-pub fn led_to(
+// Whether a tape is legal from a point at rest, which it then leads on.
+fn is_led(
+    alloc: Global,
+    lines: &[Line],
+    point: &mut Point,
+    entries: &[Entry],
+) -> Result<bool, OutOfMemory>
+    requires { point.old.state.answered ≡ 0 }
+{
+    if entries.len() >= usize::MAX / 2 {
+        return Err(OutOfMemory);
+    }
+    is_legal(alloc, lines, point, entries)
+}
+
+// Whether a tape is legal from a database.
+fn is_led_from(
     alloc: Global,
     base: &Map<Name, Table>,
     lines: &[Line],
     entries: &[Entry],
-) -> Result<Option<Point>, OutOfMemory> {
-    if entries.len() >= usize::MAX / 2 {
-        return Err(OutOfMemory);
-    }
+) -> Result<bool, OutOfMemory> {
     let mut point = starting(alloc, base.copy(alloc)?);
-    if is_legal(alloc, lines, &mut point, entries)? {
-        return Ok(Some(point));
-    }
-    Ok(None)
+    is_led(alloc, lines, &mut point, entries)
 }
 
 /// How many commits were answered by a moment.
@@ -62,31 +72,61 @@ pub fn answered_by(entries: &[Entry], moment: u64) -> usize {
     count
 }
 
-/// Which databases are right after a run, if its tape is legal from one that was right before. A run of status 0 has
-/// made all its commits; any other those at least that it answered.
+/// Which databases are right after the run of a script, if its tape is legal from one that was right before. A run of
+/// status 0 has made all its commits; any other those at least that it answered.
 pub fn led_from(
     alloc: Global,
     right: &Right,
-    script: &Script,
+    script: &[u8],
     ran: &Ran,
 ) -> Result<Option<Right>, OutOfMemory> {
-    let lines = script.lines.as_slice();
-    let entries = ran.tape.entries.as_slice();
+    let script = script_of(alloc, script)?;
+    led_by(alloc, right, script.lines.as_slice(), ran)
+}
+
+fn led_by(
+    alloc: Global,
+    right: &Right,
+    lines: &[Line],
+    ran: &Ran,
+) -> Result<Option<Right>, OutOfMemory> {
     for (number, base) in right.list.iter().enumerate() {
         if right.has(number) {
-            if let Some(point) = led_to(alloc, base, lines, entries)? {
-                return led_right(alloc, &point, ran);
+            let after = right_after(alloc, base, lines, ran)?;
+            if after.is_some() {
+                return Ok(after);
             }
         }
     }
     Ok(None)
 }
 
-fn led_right(alloc: Global, point: &Point, ran: &Ran) -> Result<Option<Right>, OutOfMemory> {
+fn right_after(
+    alloc: Global,
+    base: &Map<Name, Table>,
+    lines: &[Line],
+    ran: &Ran,
+) -> Result<Option<Right>, OutOfMemory> {
+    let mut point = starting(alloc, base.copy(alloc)?);
+    right_at(alloc, lines, &mut point, ran)
+}
+
+fn right_at(
+    alloc: Global,
+    lines: &[Line],
+    point: &mut Point,
+    ran: &Ran,
+) -> Result<Option<Right>, OutOfMemory>
+    requires { point.old.state.answered ≡ 0 }
+{
+    let entries = ran.tape.entries.as_slice();
+    if !is_led(alloc, lines, point, entries)? {
+        return Ok(None);
+    }
     let least = if ran.status == 0 {
         point.state.asked.len()
     } else {
-        answered_by(ran.tape.entries.as_slice(), u64::MAX)
+        answered_by(entries, u64::MAX)
     };
     Ok(Some(Right::after(alloc, point, least)?))
 }
@@ -124,20 +164,34 @@ pub fn found_in(
     probe: &Probe,
     image: &Image,
 ) -> Result<Found, OutOfMemory> {
-    let setup = plain_run(alloc, image, probe.bytes.to_vec(alloc)?)?;
-    let ran = play(alloc, &setup, Ask::Last)?;
+    let setup = plain_run(alloc, image, &probe.bytes)?;
+    found_by(alloc, right, probe, &setup)
+}
+
+/// What a run finds in an image, with a probe of its own.
+pub fn found_alone(alloc: Global, right: &Right, image: &Image) -> Result<Found, OutOfMemory> {
+    let probe = Probe::new(alloc, right)?;
+    found_in(alloc, right, &probe, image)
+}
+
+fn found_by(
+    alloc: Global,
+    right: &Right,
+    probe: &Probe,
+    setup: &Setup,
+) -> Result<Found, OutOfMemory> {
+    let ran = play(alloc, setup, Ask::Last)?;
+    fitting(alloc, right, probe.script.lines.as_slice(), &ran)
+}
+
+fn fitting(alloc: Global, right: &Right, lines: &[Line], ran: &Ran) -> Result<Found, OutOfMemory> {
     if ran.status != 0 {
         return Ok(Found::Status(ran.status));
     }
-    fitting(alloc, right, &probe.script, &ran)
-}
-
-fn fitting(alloc: Global, right: &Right, script: &Script, ran: &Ran) -> Result<Found, OutOfMemory> {
-    let lines = script.lines.as_slice();
     let entries = ran.tape.entries.as_slice();
     let mut found = Found::Other;
     for (number, base) in right.list.iter().enumerate() {
-        if led_to(alloc, base, lines, entries)?.is_some() {
+        if is_led_from(alloc, base, lines, entries)? {
             found = Found::Commits(number);
         }
     }

@@ -9,6 +9,7 @@ mod databases;
 mod device;
 mod generated;
 mod judge;
+mod lists;
 mod meetings;
 mod numbers;
 mod page;
@@ -28,13 +29,17 @@ use std::alloc::Global;
 use std::io::{self, Read, Write};
 
 // Plays the lines of a suite in order.
-fn played(alloc: Global, suite: &[u8]) -> Page {
-    let mut player = Player::new(alloc);
+fn play_lines(player: &mut Player, suite: &[u8]) -> Page {
     for line in suite.split(|byte| *byte == b'\n') {
         player.take_line(line);
     }
     player.finish();
-    player.into_page()
+    player.take_page()
+}
+
+fn played(alloc: Global, suite: &[u8]) -> Page {
+    let mut player = Player::new(alloc);
+    play_lines(&mut player, suite)
 }
 
 fn main(rt: HostRuntime) -> io::Result<()> {

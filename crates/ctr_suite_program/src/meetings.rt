@@ -1,10 +1,10 @@
 // Generated scripts, played by generated lists of actors, each judged, and how often each reply was met.
 use crate::databases::Right;
 use crate::generated::Maker;
-use crate::judge::{Found, Probe, found_in, led_from, script_of};
+use crate::judge::{Found, Probe, found_in, led_from};
 use crate::page::Page;
 use crate::run::play;
-use crate::setup::{Ask, Ran, Setup, Work, plain_run};
+use crate::setup::{Ask, Ran, Setup, plain_turns};
 use crate::sweep::owed;
 use ctr_disk::Image;
 use ctr_types::{OutOfMemory, Refusal, Reply};
@@ -124,12 +124,29 @@ fn put_met(alloc: Global, page: &mut Page, name: &str, count: u64, least: u64) {
     page.put(b"\n");
 }
 
-// What a generated run is told wrong for.
-fn wrong(page: &mut Page, met: &mut Met, alloc: Global, number: u64, what: &str) {
+// Why a generated run is wrong.
+#[derive(Clone, Copy)]
+enum Fault {
+    Unfinished,
+    Illegal,
+    OtherRows,
+}
+
+impl Fault {
+    fn text(self) -> &'static str {
+        match self {
+            Fault::Unfinished => "it isn't finished",
+            Fault::Illegal => "the tape isn't legal",
+            Fault::OtherRows => "the disk is left with other rows",
+        }
+    }
+}
+
+fn tell(alloc: Global, page: &mut Page, met: &mut Met, number: u64, fault: Fault) {
     met.wrong = met.wrong.saturating_add(1);
     page.put_number(alloc, "WRONG: script ", number);
     page.put(b": ");
-    page.put(what.as_bytes());
+    page.put(fault.text().as_bytes());
     page.put(b"\n");
 }
 
@@ -139,16 +156,29 @@ fn is_left_well(
     setup: &Setup,
     right: &Right,
     ran: &Ran,
+    probe: &Probe,
     maker: &mut Maker,
 ) -> Result<bool, OutOfMemory> {
-    let probe = Probe::new(alloc, right)?;
-    let calls = maker.number((ran.seen.moments.len() as u64).saturating_add(1));
-    let stopped = play(alloc, setup, Ask::Stop(calls, maker.number(64)))?;
     let at_end = ran.seen.moments.len();
+    let calls = maker.number((at_end as u64).saturating_add(1));
+    let digits = maker.number(64);
     Ok(
-        is_found(alloc, setup, right, ran, &probe, &stopped, calls as usize)?
-            && is_found(alloc, setup, right, ran, &probe, ran, at_end)?,
+        is_stopped_well(alloc, setup, right, ran, probe, calls, digits)?
+            && is_found(alloc, setup, right, ran, probe, ran, at_end)?,
     )
+}
+
+fn is_stopped_well(
+    alloc: Global,
+    setup: &Setup,
+    right: &Right,
+    ran: &Ran,
+    probe: &Probe,
+    calls: u64,
+    digits: u64,
+) -> Result<bool, OutOfMemory> {
+    let stopped = play(alloc, setup, Ask::Stop(calls, digits))?;
+    is_found(alloc, setup, right, ran, probe, &stopped, calls as usize)
 }
 
 // Whether the image of a run holds as many commits as are owed after so many calls.
@@ -171,6 +201,64 @@ fn is_found(
     }
 }
 
+// What is wrong with a disk that a run has left, after which these databases are right.
+fn judge_left(
+    alloc: Global,
+    setup: &Setup,
+    right: &Right,
+    ran: &Ran,
+    maker: &mut Maker,
+) -> Result<Option<Fault>, OutOfMemory> {
+    let probe = Probe::new(alloc, right)?;
+    match is_left_well(alloc, setup, right, ran, &probe, maker) {
+        Ok(true) => Ok(None),
+        Ok(false) => Ok(Some(Fault::OtherRows)),
+        Err(error) => Err(error),
+    }
+}
+
+fn judge_ran(
+    alloc: Global,
+    setup: &Setup,
+    before: &Right,
+    ran: &Ran,
+    maker: &mut Maker,
+    met: &mut Met,
+) -> Result<Option<Fault>, OutOfMemory> {
+    met.count(ran);
+    if ran.status != 0 {
+        return Ok(Some(Fault::Unfinished));
+    }
+    match led_from(alloc, before, &setup.script, ran)? {
+        None => Ok(Some(Fault::Illegal)),
+        Some(right) => judge_left(alloc, setup, &right, ran, maker),
+    }
+}
+
+fn judge_setup(
+    alloc: Global,
+    setup: &Setup,
+    before: &Right,
+    maker: &mut Maker,
+    met: &mut Met,
+) -> Result<Option<Fault>, OutOfMemory> {
+    let ran = play(alloc, setup, Ask::Last)?;
+    judge_ran(alloc, setup, before, &ran, maker, met)
+}
+
+// Plays what is made over a disk.
+fn play_made(
+    alloc: Global,
+    image: &Image,
+    before: &Right,
+    maker: &mut Maker,
+    met: &mut Met,
+) -> Result<Option<Fault>, OutOfMemory> {
+    let script = maker.script()?;
+    let setup = plain_turns(alloc, image, script, maker.actors()?)?;
+    judge_setup(alloc, &setup, before, maker, met)
+}
+
 /// Plays the script of a number over a disk, by its list of actors, and judges it: the tape is legal, the run is
 /// finished, and the disk is left with a prefix of the commits, at the end and by a stop at one moment.
 pub fn meet(
@@ -182,23 +270,12 @@ pub fn meet(
     page: &mut Page,
 ) -> Result<(), OutOfMemory> {
     let mut maker = Maker::new(alloc, number);
-    let mut setup = plain_run(alloc, image, maker.script()?)?;
-    setup.work = Work::Turns;
-    setup.actors = maker.actors()?;
-    let ran = play(alloc, &setup, Ask::Last)?;
-    met.count(&ran);
-    if ran.status != 0 {
-        wrong(page, met, alloc, number, "it isn't finished");
-        return Ok(());
-    }
-    let script = script_of(alloc, &setup.script)?;
-    match led_from(alloc, before, &script, &ran)? {
-        None => wrong(page, met, alloc, number, "the tape isn't legal"),
-        Some(right) => {
-            if !is_left_well(alloc, &setup, &right, &ran, &mut maker)? {
-                wrong(page, met, alloc, number, "the disk is left with other rows");
-            }
+    match play_made(alloc, image, before, &mut maker, met) {
+        Ok(None) => Ok(()),
+        Ok(Some(fault)) => {
+            tell(alloc, page, met, number, fault);
+            Ok(())
         }
+        Err(error) => Err(error),
     }
-    Ok(())
 }

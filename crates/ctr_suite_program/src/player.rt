@@ -1,6 +1,6 @@
 // Plays the lines of a suite.
 use crate::databases::Right;
-use crate::judge::{Found, Probe, found_in, led_from, script_of};
+use crate::judge::{Found, found_alone, led_from};
 use crate::meetings::{Met, meet};
 use crate::numbers::{hex_bytes, name_of, number, numbers, split_file, split_number, split_word};
 use crate::page::Page;
@@ -74,8 +74,9 @@ impl Player {
         }
     }
 
-    pub fn into_page(self) -> Page {
-        self.page
+    /// What was printed.
+    pub fn take_page(&mut self) -> Page {
+        mem::replace(&mut self.page, Page::new(self.alloc))
     }
 
     /// Does what waits.
@@ -308,8 +309,7 @@ impl Player {
         if ran.tape.entries.is_empty() {
             return Ok(());
         }
-        let script = script_of(self.alloc, &self.last.script)?;
-        match led_from(self.alloc, &self.right, &script, ran)? {
+        match led_from(self.alloc, &self.right, &self.last.script, ran)? {
             Some(right) => self.right = right,
             None => self.page.put(b"WRONG: the tape isn't legal\n"),
         }
@@ -335,8 +335,7 @@ impl Player {
     }
 
     fn found(&self) -> Result<Found, OutOfMemory> {
-        let probe = Probe::new(self.alloc, &self.right)?;
-        found_in(self.alloc, &self.right, &probe, &self.image)
+        found_alone(self.alloc, &self.right, &self.image)
     }
 
     // Which of the databases that are right the disk holds.
@@ -365,10 +364,15 @@ impl Player {
             return Ok(None);
         };
         let ran = play(self.alloc, &self.last, Ask::Stop(calls, digits))?;
+        self.go_on_with(&ran)
+    }
+
+    // Any number of the last run's commits is right.
+    fn go_on_with(&mut self, ran: &Ran) -> Result<Option<()>, OutOfMemory> {
         self.right.least = 0;
         self.right.most = self.right.list.len();
         self.right.none = self.before.none;
-        self.take_image(&ran).map(Some)
+        self.take_image(ran).map(Some)
     }
 
     fn put_found(&mut self) -> Result<(), OutOfMemory> {
@@ -398,6 +402,11 @@ impl Player {
     // Each commit that the last run answered, with the moment.
     fn put_answers(&mut self) -> Result<(), OutOfMemory> {
         let ran = play(self.alloc, &self.last, Ask::Last)?;
+        self.put_answered(&ran);
+        Ok(())
+    }
+
+    fn put_answered(&mut self, ran: &Ran) {
         for entry in ran.tape.entries.as_slice() {
             if let Reply::Answered { k } = &entry.reply {
                 self.page.put_number(self.alloc, "", entry.session as u64);
@@ -407,7 +416,6 @@ impl Player {
                 self.page.put(b"\n");
             }
         }
-        Ok(())
     }
 
     fn put_counts(&mut self) {
@@ -466,18 +474,23 @@ impl Player {
             return Ok(None);
         };
         let mut met = Met::new();
+        self.meet_each(from, to, &mut met)?;
+        met.put(self.alloc, &mut self.page, least);
+        Ok(Some(()))
+    }
+
+    fn meet_each(&mut self, from: u64, to: u64, met: &mut Met) -> Result<(), OutOfMemory> {
         for script in from..=to {
             meet(
                 self.alloc,
                 &self.image,
                 &self.right,
                 script,
-                &mut met,
+                met,
                 &mut self.page,
             )?;
         }
-        met.put(self.alloc, &mut self.page, least);
-        Ok(Some(()))
+        Ok(())
     }
 
     fn read_record(&mut self, step: Step, rest: &[u8]) -> Result<Option<()>, OutOfMemory> {

@@ -2,9 +2,9 @@
 use crate::page::Page;
 use ctr_io::MemSource;
 use ctr_lex::tokens;
-use ctr_rec::{RecordError, decode};
+use ctr_rec::{Item, RecordError, decode};
 use ctr_script::{ScriptError, read_script};
-use ctr_types::{List, OutOfMemory, Text};
+use ctr_types::{List, OutOfMemory, Script, Text};
 use std::alloc::Global;
 
 /// The tokens of a line, each after the place at which it begins, from 0; and the place at which none begins.
@@ -29,14 +29,23 @@ pub fn put_tokens(alloc: Global, page: &mut Page, line: &[u8]) -> Result<(), Out
 /// Whether bytes are a script: its number of statements, or why they are none.
 pub fn put_script(alloc: Global, page: &mut Page, bytes: &[u8]) -> Result<(), OutOfMemory> {
     let mut source = MemSource::new(Text::from_slice(alloc, bytes)?, List::new(alloc));
-    match read_script(alloc, &mut source) {
+    let read = read_script(alloc, &mut source);
+    put_read(alloc, page, &read)
+}
+
+fn put_read(
+    alloc: Global,
+    page: &mut Page,
+    read: &Result<Script, ScriptError>,
+) -> Result<(), OutOfMemory> {
+    match read {
         Ok(script) => {
             page.put_number(alloc, "statements ", script.lines.len() as u64);
             page.put(b"\n");
         }
         Err(ScriptError::Refused { line, at }) => {
-            page.put_number(alloc, "refused at line ", line);
-            page.put_number(alloc, ", byte ", at);
+            page.put_number(alloc, "refused at line ", *line);
+            page.put_number(alloc, ", byte ", *at);
             page.put(b"\n");
         }
         Err(ScriptError::TooLong) => page.put(b"too long\n"),
@@ -57,7 +66,15 @@ pub fn put_line(alloc: Global, page: &mut Page, line: &[u8]) -> Result<(), OutOf
 
 /// How many items a record of a commit has, or which check fails at which byte.
 pub fn put_record(alloc: Global, page: &mut Page, bytes: &[u8]) -> Result<(), OutOfMemory> {
-    match decode(alloc, bytes) {
+    put_decoded(alloc, page, &decode(alloc, bytes))
+}
+
+fn put_decoded(
+    alloc: Global,
+    page: &mut Page,
+    decoded: &Result<List<Item>, RecordError>,
+) -> Result<(), OutOfMemory> {
+    match decoded {
         Ok(items) => {
             page.put_number(alloc, "items ", items.len() as u64);
             page.put(b"\n");
@@ -73,7 +90,13 @@ pub fn put_record(alloc: Global, page: &mut Page, bytes: &[u8]) -> Result<(), Ou
 
 // The byte at which the check of a record fails that is cut to this length, and what it wants; None where none fails.
 fn cut_at(alloc: Global, bytes: &[u8], length: usize) -> Result<Option<(u64, u128)>, OutOfMemory> {
-    match decode(alloc, &bytes[..length.min(bytes.len())]) {
+    failing_in(&decode(alloc, &bytes[..length.min(bytes.len())]))
+}
+
+fn failing_in(
+    decoded: &Result<List<Item>, RecordError>,
+) -> Result<Option<(u64, u128)>, OutOfMemory> {
+    match decoded {
         Ok(_) => Ok(None),
         Err(RecordError::Bad(bad)) => Ok(Some((bad.at, bad.want))),
         Err(RecordError::OutOfMemory) => Err(OutOfMemory),

@@ -1,16 +1,19 @@
 // One run of a command over a disk in memory.
+//
+// Whoever owns a disk, or what a run has left of it, does nothing else: each step beside it that can fail has a proof
+// that frees all of it.
 ghost use Rattle.std.specs.Prelude.{◌<◌};
 
 use crate::calls::{counts_of, images_of, listing_of, moments_of};
 use crate::device::{play_calls, play_root};
 use crate::printed::printing_of;
 use crate::setup::{Ask, Ran, Seen, Setup, Work};
-use ctr_disk::MemDisk;
-use ctr_io::{MemSink, MemSource};
-use ctr_model::{Command, Report};
+use ctr_disk::{Disk, MemDisk};
+use ctr_io::{MemSink, MemSource, Sink, Source};
+use ctr_model::{Command, Report, Survey};
 use ctr_print::{count_answers, count_refusals};
-use ctr_top::{Ended, Schedule, run_script, run_serial};
-use ctr_types::{List, Plain, Tape, Text};
+use ctr_top::{Ending, Schedule, run_script, run_serial};
+use ctr_types::{Actor, List, Plain, Tape, Text};
 use std::alloc::{AllocError, Global};
 
 fn listed(alloc: Global, numbers: &[u64]) -> Result<List<u64>, AllocError> {
@@ -46,15 +49,63 @@ pub fn disk_of(alloc: Global, setup: &Setup) -> Result<MemDisk, AllocError> {
     Ok(disk.counted(setup.faults, setup.strays))
 }
 
+// What a run leaves, without what its sessions have in memory.
+#[derive(Drop)]
+struct Left<D> {
+    ending: Ending,
+    tape: Tape,
+    report: Report,
+    survey: Survey,
+    disk: D,
+}
+
+// The tape alone.
+fn tape_of<D: Drop>(left: Left<D>) -> Tape {
+    left.tape
+}
+
+// The one function that calls `run_serial`.
+fn run_plainly<D: Disk, S: Source, K: Sink>(
+    alloc: Global,
+    words: &[String],
+    disk: D,
+    source: &mut S,
+    sink: &mut K,
+) -> Left<D> {
+    let ended = run_serial(alloc, words, disk, source, sink);
+    Left {
+        ending: ended.ending,
+        tape: ended.tape,
+        report: ended.report,
+        survey: ended.survey,
+        disk: ended.disk,
+    }
+}
+
+// The one function that calls `run_script`.
+fn turns_plainly<D: Disk, S: Source>(
+    alloc: Global,
+    disk: D,
+    source: &mut S,
+    actors: &[Actor],
+) -> Left<D> {
+    let outcome = run_script(alloc, disk, source, Schedule::Turns(actors));
+    Left {
+        ending: outcome.ending,
+        report: report_of(&outcome.tape),
+        survey: UNCOUNTED,
+        tape: outcome.tape,
+        disk: outcome.disk,
+    }
+}
+
 // The command whose last line was to be printed.
-fn command_of(setup: &Setup, ended: &Ended<MemDisk>) -> Command {
+fn command_of(setup: &Setup, survey: Survey) -> Command {
     if setup.is_command("init") {
         return Command::Init;
     }
     if setup.is_command("report") {
-        return Command::Survey {
-            start: ended.survey,
-        };
+        return Command::Survey { start: survey };
     }
     Command::Run
 }
@@ -62,19 +113,19 @@ fn command_of(setup: &Setup, ended: &Ended<MemDisk>) -> Command {
 // What a run's end shows.
 fn seen_of(
     alloc: Global,
-    setup: &Setup,
-    ended: &Ended<MemDisk>,
+    command: &Command,
+    left: &Left<MemDisk>,
     ask: Ask,
 ) -> Result<Seen, AllocError> {
     let printing = printing_of(
         alloc,
-        &command_of(setup, ended),
-        ended.ending.status(),
-        &ended.ending.cause(),
-        &ended.tape,
-        &ended.report,
+        command,
+        left.ending.status(),
+        &left.ending.cause(),
+        &left.tape,
+        &left.report,
     );
-    look_at(alloc, &ended.disk, printing, ask)
+    look_at(alloc, &left.disk, printing, ask)
 }
 
 /// What is asked of a disk.
@@ -95,19 +146,43 @@ pub fn look_at(
     })
 }
 
-// Runs a command. This is the one function that calls `run_serial`.
+// Runs a command.
 fn play_command(alloc: Global, setup: &Setup, ask: Ask) -> Result<Ran, AllocError> {
     let mut source = source_of(alloc, setup)?;
     let mut sink = sink_of(alloc, setup)?;
+    command_put(alloc, setup, ask, &mut source, &mut sink)
+}
+
+fn command_put(
+    alloc: Global,
+    setup: &Setup,
+    ask: Ask,
+    source: &mut MemSource,
+    sink: &mut MemSink,
+) -> Result<Ran, AllocError> {
     let disk = disk_of(alloc, setup)?;
-    let ended = run_serial(alloc, &setup.words, disk, &mut source, &mut sink);
-    let seen = seen_of(alloc, setup, &ended, ask)?;
-    Ok(Ran {
-        status: ended.ending.status(),
-        tape: ended.tape,
-        text: sink.into_bytes(),
-        seen,
-    })
+    let left = run_plainly(alloc, &setup.words, disk, source, sink);
+    let seen = seen_of(alloc, &command_of(setup, left.survey), &left, ask);
+    let text = sink.bytes().to_vec(alloc);
+    ran_of(left.ending.status(), tape_of(left), text, seen)
+}
+
+// What a run has left, where memory was given for all that is told of it.
+fn ran_of(
+    status: u8,
+    tape: Tape,
+    text: Result<Vec<u8>, AllocError>,
+    seen: Result<Seen, AllocError>,
+) -> Result<Ran, AllocError> {
+    match (text, seen) {
+        (Ok(text), Ok(seen)) => Ok(Ran {
+            status,
+            tape,
+            text,
+            seen,
+        }),
+        _ => Err(AllocError),
+    }
 }
 
 // How often commits were answered and acts refused.
@@ -121,27 +196,40 @@ fn report_of(tape: &Tape) -> Report {
     }
 }
 
+// What a run that reports nothing has counted.
+const UNCOUNTED: Survey = Survey {
+    tables: 0,
+    rows: 0,
+    orphans: 0,
+    aborted: 0,
+    items: 0,
+};
+
 // Runs a script by turns of the setup's actors.
 fn play_turns(alloc: Global, setup: &Setup, ask: Ask) -> Result<Ran, AllocError> {
     let mut source = source_of(alloc, setup)?;
+    turns_put(alloc, setup, ask, &mut source)
+}
+
+fn turns_put(
+    alloc: Global,
+    setup: &Setup,
+    ask: Ask,
+    source: &mut MemSource,
+) -> Result<Ran, AllocError> {
     let disk = disk_of(alloc, setup)?;
-    let outcome = run_script(alloc, disk, &mut source, Schedule::Turns(&setup.actors));
-    let printing = printing_of(
-        alloc,
-        &Command::Run,
-        outcome.ending.status(),
-        &outcome.ending.cause(),
-        &outcome.tape,
-        &report_of(&outcome.tape),
-    );
-    let text = printing.to_vec(alloc)?;
-    let seen = look_at(alloc, &outcome.disk, printing, ask)?;
-    Ok(Ran {
-        status: outcome.ending.status(),
-        tape: outcome.tape,
-        text,
-        seen,
-    })
+    let left = turns_plainly(alloc, disk, source, &setup.actors);
+    let seen = seen_of(alloc, &Command::Run, &left, ask);
+    let text = printed_in(alloc, &seen);
+    ran_of(left.ending.status(), tape_of(left), text, seen)
+}
+
+// A run by turns prints nothing itself, so what it puts is what it has to.
+fn printed_in(alloc: Global, seen: &Result<Seen, AllocError>) -> Result<Vec<u8>, AllocError> {
+    match seen {
+        Ok(seen) => seen.printing.to_vec(alloc),
+        Err(_) => Err(AllocError),
+    }
 }
 
 /// Does what a setup says.

@@ -124,9 +124,25 @@ pub fn run_words(alloc: Global) -> Result<Vec<String>, AllocError> {
 }
 
 /// A run of a script over an image, in which nothing fails.
-pub fn plain_run(alloc: Global, image: &Image, script: Vec<u8>) -> Result<Setup, AllocError> {
+pub fn plain_run(alloc: Global, image: &Image, script: &[u8]) -> Result<Setup, AllocError> {
+    let words = run_words(alloc)?;
+    let script = script.to_vec(alloc)?;
     let mut setup = Setup::new(alloc, image.copy()?);
-    setup.words = run_words(alloc)?;
+    setup.words = words;
     setup.script = script;
+    Ok(setup)
+}
+
+/// A script over an image by turns of these actors, in which nothing fails.
+pub fn plain_turns(
+    alloc: Global,
+    image: &Image,
+    script: Vec<u8>,
+    actors: Vec<Actor>,
+) -> Result<Setup, AllocError> {
+    let mut setup = Setup::new(alloc, image.copy()?);
+    setup.work = Work::Turns;
+    setup.script = script;
+    setup.actors = actors;
     Ok(setup)
 }

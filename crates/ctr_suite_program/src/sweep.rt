@@ -1,7 +1,8 @@
 // A run under every stop, and under every failing call.
 use crate::calls::DIGITS;
 use crate::databases::Right;
-use crate::judge::{Found, Probe, answered_by, found_in, led_from, script_of};
+use crate::judge::{Found, Probe, answered_by, found_alone, found_in, led_from};
+use crate::lists::one;
 use crate::page::Page;
 use crate::run::play;
 use crate::setup::{Ask, Ran, Setup};
@@ -114,13 +115,34 @@ pub fn sweep_stops(
     was_none: bool,
     page: &mut Page,
 ) -> Result<(), OutOfMemory> {
-    let probe = Probe::new(alloc, right)?;
     let mut tally = Tally::new(alloc, right)?;
-    let ran = play(alloc, setup, Ask::Each)?;
-    let done = tally_of(alloc, setup, right, was_none, &ran, &probe, &mut tally);
+    let done = tally_stops(alloc, setup, right, was_none, &mut tally);
     page.put(b"each stop: ");
     tally.put(alloc, page);
     done
+}
+
+fn tally_stops(
+    alloc: Global,
+    setup: &Setup,
+    right: &Right,
+    was_none: bool,
+    tally: &mut Tally,
+) -> Result<(), OutOfMemory> {
+    let ran = play(alloc, setup, Ask::Each)?;
+    tally_ran(alloc, setup, right, was_none, &ran, tally)
+}
+
+fn tally_ran(
+    alloc: Global,
+    setup: &Setup,
+    right: &Right,
+    was_none: bool,
+    ran: &Ran,
+    tally: &mut Tally,
+) -> Result<(), OutOfMemory> {
+    let probe = Probe::new(alloc, right)?;
+    tally_of(alloc, setup, right, was_none, ran, &probe, tally)
 }
 
 /// How a run ended whose call failed, as far as a line tells it.
@@ -161,8 +183,7 @@ fn right_after(
     if setup.is_command("init") {
         return Ok(Some(Right::empty(alloc, true)?));
     }
-    let script = script_of(alloc, &setup.script)?;
-    led_from(alloc, before, &script, ran)
+    led_from(alloc, before, &setup.script, ran)
 }
 
 // How the run ends, and what its disk holds then.
@@ -195,8 +216,7 @@ fn held_by(
         return Ok(failing);
     };
     let mut judged = failing;
-    let probe = Probe::new(alloc, right)?;
-    match found_in(alloc, right, &probe, image)? {
+    match found_alone(alloc, right, image)? {
         Found::Commits(number) if right.has(number) => judged.held = Some(number),
         Found::Status(NO_DATABASE) => judged.without = was_none,
         _ => {}
@@ -211,13 +231,22 @@ fn fail_once(
     before: &Right,
     number: u64,
 ) -> Result<Failing, OutOfMemory> {
-    let mut fails = Vec::new(alloc);
-    fails.push(number)?;
+    let fails = one(alloc, number)?;
     let kept = mem::replace(&mut setup.disk_fails, fails);
-    let ran = play(alloc, setup, Ask::Last);
+    let failing = play_failing(alloc, setup, before);
     setup.disk_fails = kept;
-    let ran = ran?;
+    failing
+}
+
+fn play_failing(alloc: Global, setup: &Setup, before: &Right) -> Result<Failing, OutOfMemory> {
+    let ran = play(alloc, setup, Ask::Last)?;
     judge_failing(alloc, before, setup, &ran)
+}
+
+// How many device calls a run makes.
+fn calls_of(alloc: Global, setup: &Setup) -> Result<u64, OutOfMemory> {
+    let ran = play(alloc, setup, Ask::Last)?;
+    Ok(ran.seen.moments.len() as u64)
 }
 
 /// Lets each device call of a run fail in turn, and judges what it says and leaves. Calls that end alike are one line.
@@ -227,7 +256,7 @@ pub fn sweep_failures(
     before: &Right,
     page: &mut Page,
 ) -> Result<(), OutOfMemory> {
-    let calls = play(alloc, setup, Ask::Last)?.seen.moments.len() as u64;
+    let calls = calls_of(alloc, setup)?;
     let mut first = 1u64;
     let mut last = None;
     for number in 1..=calls {

@@ -1,19 +1,28 @@
 // The words of a command, and of a root.
+use crate::lists::add;
 use crate::numbers::{number, numbers};
 use ctr_home::Root;
 use ctr_types::Actor;
 use std::alloc::{AllocError, Global};
 
+fn add_word(alloc: Global, words: &mut Vec<String>, word: &[u8]) -> Result<(), AllocError> {
+    match str::from_utf8(word) {
+        Ok(text) if !text.is_empty() => add(words, String::from_str(alloc, text)?),
+        _ => Ok(()),
+    }
+}
+
+fn add_words(alloc: Global, words: &mut Vec<String>, rest: &[u8]) -> Result<(), AllocError> {
+    for word in rest.split(|byte| *byte == b' ') {
+        add_word(alloc, words, word)?;
+    }
+    Ok(())
+}
+
 /// The words of a line; one that isn't UTF-8 is left out.
 pub fn words_in(alloc: Global, rest: &[u8]) -> Result<Vec<String>, AllocError> {
     let mut words = Vec::new(alloc);
-    for word in rest.split(|byte| *byte == b' ') {
-        if let Ok(text) = str::from_utf8(word) {
-            if !text.is_empty() {
-                words.push(String::from_str(alloc, text)?)?;
-            }
-        }
-    }
+    add_words(alloc, &mut words, rest)?;
     Ok(words)
 }
 
