@@ -5,8 +5,8 @@ ghost use Rattle.ctr_types.specs.Names.{IsName};
 ghost use Rattle.ctr_records.specs.Members.{ItemFits};
 ghost use Rattle.ctr_value.specs.Columns.{ColumnFits, ColumnsFit, KindFits};
 
-use crate::turns::{Mem, Told, ready};
-use crate::words::{number, split_word};
+use crate::told::Told;
+use crate::turns::{Mem, ready};
 use ctr_catalog::{CatalogRefusal, changed, create, drop_table, find, undo_item};
 use ctr_disk::StoreFault;
 use ctr_records::SlogItem;
@@ -58,27 +58,36 @@ fn name_of(alloc: Global, bytes: &[u8]) -> Result<Name, OutOfMemory> {
     Name::new(Text::from_slice(alloc, bytes)?).ok_or(OutOfMemory)
 }
 
-// A key, and columns by their numbers.
-fn schema_of(alloc: Global, kinds: &[u8]) -> Result<Schema, OutOfMemory> {
-    let mut columns = Vec::new(alloc);
-    columns.push(Column {
-        name: name_of(alloc, b"k")?,
-        kind: Kind::Int,
-    })?;
-    for word in kinds.split(|byte| *byte == b' ') {
-        if word.is_empty() {
-            continue;
+// A column more.
+fn add_column(
+    alloc: Global,
+    columns: &mut Vec<Column>,
+    name: &[u8],
+    kind: Kind,
+) -> Result<(), OutOfMemory> {
+    let name = name_of(alloc, name)?;
+    columns.push(Column { name, kind })?;
+    Ok(())
+}
+
+// An INT for the key, and columns of these kinds.
+fn add_columns(
+    alloc: Global,
+    columns: &mut Vec<Column>,
+    kinds: &[Option<Kind>],
+) -> Result<(), OutOfMemory> {
+    add_column(alloc, columns, b"k", Kind::Int)?;
+    for kind in kinds {
+        if let Some(kind) = kind {
+            add_column(alloc, columns, b"v", *kind)?;
         }
-        let most = u8::try_from(number(word)).unwrap_or(0);
-        columns.push(Column {
-            name: name_of(alloc, b"v")?,
-            kind: if most == 0 {
-                Kind::Int
-            } else {
-                Kind::Chars(most)
-            },
-        })?;
     }
+    Ok(())
+}
+
+fn schema_of(alloc: Global, kinds: &[Option<Kind>]) -> Result<Schema, OutOfMemory> {
+    let mut columns = Vec::new(alloc);
+    add_columns(alloc, &mut columns, kinds)?;
     Ok(Schema {
         columns: List::from_vec(columns),
     })
@@ -99,13 +108,13 @@ fn make_table(store: &mut Mem, x: u64, name: &Name, schema: &Schema) -> Result<T
     }
 }
 
-/// A table of a name, a key, and columns by their numbers.
+/// A table of a name, of an INT and of columns of these kinds.
 pub fn make(
     alloc: Global,
     store: &mut Mem,
     x: u64,
     name: &[u8],
-    kinds: &[u8],
+    kinds: &[Option<Kind>],
 ) -> Result<Told, StoreFault>
     requires going { store.old.stopped ≡ false }
     ensures going { OnOk result (store.new.stopped ≡ false) }

@@ -1,7 +1,8 @@
 // Steps on whole pages.
 ghost use Rattle.std.specs.Prelude.{◌≡◌, false, OnOk};
 
-use crate::turns::{Mem, Told, ready};
+use crate::told::Told;
+use crate::turns::{Mem, ready};
 use ctr_alloc::{NextFree, Search, alloc, free, next_free};
 use ctr_disk::StoreFault;
 use ctr_heap::{format, link};

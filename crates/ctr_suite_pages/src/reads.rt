@@ -1,12 +1,14 @@
 // Reads along the versions of a row, and what they cost.
 ghost use Rattle.std.specs.Prelude.{◌≡◌, ◌≤◌, ◌<◌, false, IsTrue, OnOk};
 
-use crate::turns::{FRAMES, Mem, Told};
+use crate::files::opened;
+use crate::told::Told;
+use crate::turns::Mem;
 use ctr_chain::{ReadRefusal, newest, visible};
-use ctr_disk::{Call, Image, MemDisk, SilentDisk, StoreFault};
+use ctr_disk::{Call, Image, MemDisk, StoreFault};
 use ctr_page::Place;
 use ctr_snap::Snapshot;
-use ctr_types::{File, List, Row, Value};
+use ctr_types::{File, Row, Value};
 use std::alloc::Global;
 
 // Whether the calls on a row at a place may be made.
@@ -90,20 +92,36 @@ fn bodies_read(disk: &MemDisk) -> usize {
     count
 }
 
-// How many bodies of pages are read where a store is opened on files, and where a snapshot reads the row at a place then. Between them
-// the pages from 63 down to 40 are read, so that no other page is in a frame.
+// On an open store the pages from 63 down to 40 are read, so that no other page is in a frame, and then a row by a snapshot where
+// one is asked for; whether that was done.
+fn read_apart(alloc: Global, store: &mut Mem, asked: Option<(Place, &Snapshot)>) -> bool
+    requires going { store.old.stopped ≡ false }
+{
+    if !read_down(store, 63, 24) {
+        return false;
+    }
+    match asked {
+        Some((place, snapshot)) => read(alloc, store, place, snapshot, None).is_ok(),
+        None => true,
+    }
+}
+
+// How many bodies of pages such a store reads.
+fn bodies_of(alloc: Global, store: Mem, asked: Option<(Place, &Snapshot)>) -> Option<usize>
+    requires going { store.stopped ≡ false }
+{
+    let mut store = store;
+    let done = read_apart(alloc, &mut store, asked);
+    let bodies = bodies_read(&store.into_disk().disk);
+    if done { Some(bodies) } else { None }
+}
+
+// The same of a store that is opened on these files.
 fn cost_with(alloc: Global, files: &Image, asked: Option<(Place, &Snapshot)>) -> Option<usize> {
-    let disk = MemDisk::new(alloc, files.copy().ok()?, List::new(alloc)).ok()?;
-    let Ok(mut store) = Mem::open(alloc, SilentDisk { disk }, FRAMES) else {
-        return None;
-    };
-    if !read_down(&mut store, 63, 24) {
-        return None;
+    match opened(alloc, files) {
+        Some(store) => bodies_of(alloc, store, asked),
+        None => None,
     }
-    if let Some((place, snapshot)) = asked {
-        let _told = read(alloc, &mut store, place, snapshot, None).ok()?;
-    }
-    Some(bodies_read(&store.into_disk().disk))
 }
 
 /// How many pages are read from the disk where a snapshot reads the row at a place, and no page that it needs is in a frame.

@@ -3,7 +3,8 @@ ghost use Rattle.std.specs.Prelude.{◌≡◌, ◌≤◌, ◌<◌, ◌+◌, fals
 ghost use Rattle.ctr_page.specs.Places.{start_of, slot_size as size_of_slot};
 
 use crate::pages::{make_empty, put_in_front, take};
-use crate::turns::{Mem, Told, ready};
+use crate::told::Told;
+use crate::turns::{Mem, ready};
 use ctr_alloc::Search;
 use ctr_disk::StoreFault;
 use ctr_heap::{find, free_slot, put_slot};
@@ -144,11 +145,10 @@ pub fn place_for(
     ensures going { OnOk result (store.new.stopped ≡ false) }
 {
     let bucket = bucket_of(key);
-    let free = room(store, entry, bucket)?;
-    if free != Told::None {
-        return Ok(free);
+    match room(store, entry, bucket)? {
+        Told::None => add_page(store, search, x, entry, bucket),
+        free => Ok(free),
     }
-    add_page(store, search, x, entry, bucket)
 }
 
 /// The row of a key, with zeros: over the one that is there, in a free slot, or on a page more.
@@ -163,15 +163,62 @@ pub fn put(
     requires going { store.old.stopped ≡ false }
     ensures going { OnOk result (store.new.stopped ≡ false) }
 {
-    let there = found(store, entry, key)?;
-    if let Told::At(place) = there {
-        return lay(store, x, x, place, width, key);
-    }
-    if there != Told::None {
-        return Ok(there);
+    match found(store, entry, key)? {
+        Told::At(place) => return lay(store, x, x, place, width, key),
+        Told::None => {}
+        other => return Ok(other),
     }
     match place_for(store, search, x, entry, key)? {
         Told::At(place) => lay(store, x, 0, place, width, key),
         other => Ok(other),
     }
+}
+
+/// Rows of so many keys, from one on: where the last stands.
+pub fn fill(
+    store: &mut Mem,
+    search: &mut Search,
+    x: u64,
+    entry: u8,
+    width: usize,
+    from: i64,
+    count: u64,
+) -> Result<Told, StoreFault>
+    requires going { store.old.stopped ≡ false }
+    ensures going { OnOk result (store.new.stopped ≡ false) }
+{
+    let told = put(store, search, x, entry, width, from)?;
+    if count <= 1 {
+        return Ok(told);
+    }
+    fill(
+        store,
+        search,
+        x,
+        entry,
+        width,
+        from.wrapping_add(1),
+        count - 1,
+    )
+}
+
+/// How many of so many keys are found, from one on, behind some that were.
+pub fn seek(store: &mut Mem, entry: u8, from: i64, count: u64, some: u64) -> Result<u64, StoreFault>
+    requires going { store.old.stopped ≡ false }
+    ensures going { OnOk result (store.new.stopped ≡ false) }
+{
+    if count == 0 {
+        return Ok(some);
+    }
+    let is = match found(store, entry, from)? {
+        Told::At(_) => 1,
+        _ => 0,
+    };
+    seek(
+        store,
+        entry,
+        from.wrapping_add(1),
+        count - 1,
+        some.wrapping_add(is),
+    )
 }

@@ -2,14 +2,14 @@
 ghost use Rattle.std.specs.Prelude.{◌≡◌, ◌≤◌, false, IsTrue, IfOk, OnOk, length};
 ghost use Rattle.ctr_walk.specs.OneRecord.{HasRoomForOne};
 
+use crate::told::Told;
 use ctr_disk::{SilentDisk, StoreFault};
-use ctr_page::Place;
 use ctr_records::Record;
 use ctr_snap::Snapshot;
 use ctr_store::Store;
-use ctr_types::{File, OutOfMemory};
+use ctr_types::OutOfMemory;
 use ctr_walk::log_record;
-use std::alloc::{AllocError, Global};
+use std::alloc::Global;
 use std::marker::Brand;
 
 /// A store over a disk in memory.
@@ -17,103 +17,6 @@ pub type Mem = Store<SilentDisk, Brand>;
 
 /// How many frames a store has.
 pub const FRAMES: usize = 8;
-
-/// A version: whose it is, and its first byte.
-#[derive(Clone, Copy, Debug, PartialEq, Eq)]
-pub struct Seen {
-    pub x: u64,
-    pub says: u8,
-}
-
-/// What a step answers.
-#[derive(Clone, Copy, Debug, PartialEq, Eq)]
-pub enum Told {
-    Done,
-    /// What it needs to be called isn't there.
-    NotAsked,
-    Number(u64),
-    /// How many of so many.
-    Of(u64, u64),
-    Grow,
-    Full,
-    CatalogFull,
-    At(Place),
-    /// A place, where a version was kept at another before.
-    Keeps {
-        at: Place,
-        kept: Place,
-    },
-    /// A value of a row.
-    Value(i64),
-    NoMemory,
-    None,
-    /// A slot or a version entry isn't used.
-    Unused,
-    /// What stands in one.
-    Row {
-        key: i64,
-        head: Seen,
-        previous: Option<Seen>,
-        older: Place,
-    },
-    Fault(StoreFault),
-}
-
-impl Told {
-    /// It in words.
-    pub fn text(self, alloc: Global) -> Result<String, AllocError> {
-        match self {
-            Told::Done => format!(in alloc; "done"),
-            Told::NotAsked => format!(in alloc; "not asked"),
-            Told::Number(n) => format!(in alloc; "{n}"),
-            Told::Of(some, all) => format!(in alloc; "{some} of {all}"),
-            Told::Grow => format!(in alloc; "grow"),
-            Told::Full => format!(in alloc; "full"),
-            Told::CatalogFull => format!(in alloc; "catalog full"),
-            Told::At(place) => format!(in alloc; "{}.{}", place.page, place.slot),
-            Told::Keeps { at, kept } => format!(in alloc;
-                "{}.{} keeps {}.{}",
-                at.page, at.slot, kept.page, kept.slot
-            ),
-            Told::Value(value) => format!(in alloc; "{value}"),
-            Told::NoMemory => format!(in alloc; "no memory"),
-            Told::None => format!(in alloc; "none"),
-            Told::Unused => format!(in alloc; "unused"),
-            Told::Row {
-                key,
-                head,
-                previous,
-                older,
-            } => match previous {
-                None => format!(in alloc;
-                    "{key} is {}={} then {}.{}",
-                    head.x, head.says, older.page, older.slot
-                ),
-                Some(before) => format!(in alloc;
-                    "{key} is {}={} before {}={} then {}.{}",
-                    head.x, head.says, before.x, before.says, older.page, older.slot
-                ),
-            },
-            Told::Fault(fault) => fault_text(alloc, fault),
-        }
-    }
-}
-
-// A fault, or the damage of a page by its place in the file.
-fn fault_text(alloc: Global, fault: StoreFault) -> Result<String, AllocError> {
-    match fault {
-        StoreFault::Fault => format!(in alloc; "fault"),
-        StoreFault::Damaged {
-            file: File::Pages,
-            at,
-            want,
-            got,
-        } => format!(in alloc; "damage at {at} wants {want} has {got}"),
-        StoreFault::Damaged { want, got, .. } => {
-            format!(in alloc; "damage wants {want} has {got}")
-        }
-    }
-}
 
 // Writes pages home, at most so many, until there is room for a turn.
 fn write_some(store: &mut Mem, most: usize) -> Result<(), StoreFault>
@@ -191,4 +94,25 @@ pub fn snap(alloc: Global, store: &Mem) -> Result<Snapshot, OutOfMemory> {
         open.push(*xid)?;
     }
     Snapshot::take(alloc, store.meta().next(), &open)
+}
+
+// Writes all pages home, at most so many.
+fn write_all(store: &mut Mem, most: usize) -> bool
+    requires going { store.old.stopped ≡ false }
+{
+    if most == 0 {
+        return true;
+    }
+    match store.write_one_dirty() {
+        Ok(true) => write_all(store, most - 1),
+        Ok(false) => true,
+        Err(_) => false,
+    }
+}
+
+/// All is hardened, and written home; whether that was done.
+pub fn settle(store: &mut Mem) -> bool
+    requires going { store.old.stopped ≡ false }
+{
+    ready(store, 0, 0).is_ok() && write_all(store, FRAMES)
 }

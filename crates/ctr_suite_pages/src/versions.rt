@@ -4,7 +4,8 @@ ghost use Rattle.ctr_page.specs.Places.{start_of, kept_size as size_of_kept};
 
 use crate::pages::{make_empty, put_in_front, take};
 use crate::rows::{WIDEST, lies, may_ask};
-use crate::turns::{Mem, Seen, Told, ready};
+use crate::told::{Seen, Told};
+use crate::turns::{Mem, ready};
 use ctr_alloc::Search;
 use ctr_disk::StoreFault;
 use ctr_heap::put_slot;

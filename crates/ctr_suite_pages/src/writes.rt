@@ -7,7 +7,8 @@ ghost use Rattle.ctr_page.specs.Making.{IsVersion, IsSlot, IsEntry};
 ghost use Rattle.ctr_heap.specs.Ways.{IsWay};
 
 use crate::rows::{WIDEST, found, lies, place_for};
-use crate::turns::{Mem, Told, begin, commit, ready};
+use crate::told::Told;
+use crate::turns::{Mem, begin, commit, ready};
 use crate::versions::{add_page, entry_lies, payload, spare};
 use ctr_alloc::Search;
 use ctr_disk::StoreFault;
@@ -18,7 +19,7 @@ use ctr_records::Bytes;
 use ctr_types::Fate;
 
 /// A row that is to be written.
-#[derive(Clone, Copy, Debug, PartialEq, Eq)]
+#[derive(Clone, Copy)]
 pub struct NewRow {
     /// The entry of its table.
     pub entry: u8,
@@ -26,6 +27,16 @@ pub struct NewRow {
     pub key: i64,
     /// The first byte behind the key, or none where the row is deleted.
     pub says: Option<u8>,
+}
+
+impl NewRow {
+    /// The same, with this byte behind the key.
+    pub fn saying(self, byte: u8) -> NewRow {
+        NewRow {
+            says: Some(byte),
+            ..self
+        }
+    }
 }
 
 // The bytes of a row behind its key.
@@ -64,12 +75,11 @@ fn entry_for(store: &mut Mem, search: &mut Search, x: u64, entry: u8) -> Result<
     requires going { store.old.stopped ≡ false }
     ensures going { OnOk result (store.new.stopped ≡ false) }
 {
-    let free = spare(store, entry)?;
-    if free != Told::None {
-        return Ok(free);
+    match spare(store, entry)? {
+        Told::None => {}
+        free => return Ok(free),
     }
-    let told = add_page(store, search, x, entry)?;
-    match told {
+    match add_page(store, search, x, entry)? {
         Told::Number(_) => spare(store, entry),
         other => Ok(other),
     }
@@ -217,8 +227,7 @@ pub fn write_each(
     let Told::Number(x) = begin(store)? else {
         return Ok(Told::NotAsked);
     };
-    let says = Some(x.to_le_bytes()[0]);
-    let told = write(store, search, x, NewRow { says, ..row })?;
+    let told = write(store, search, x, row.saying(x.to_le_bytes()[0]))?;
     let _committed = commit(store, x)?;
     if count <= 1 {
         return Ok(told);

@@ -1,21 +1,12 @@
 // Bytes that are written into the files by hand, and what an opening answers then.
 use crate::plain::Plain;
+use crate::reading::Patch;
 use crate::stops::{Finding, opened};
-use crate::words::{byte_of, number, split_word};
+use crate::words::byte_of;
 use ctr_disk::Image;
 use ctr_store::OpenError;
 use ctr_types::File;
 use std::alloc::{AllocError, Global};
-
-// The file that a word names.
-fn file_of(word: &[u8]) -> File {
-    match word {
-        b"root" => File::Root,
-        b"loga" => File::LogA,
-        b"logb" => File::LogB,
-        _ => File::Pages,
-    }
-}
 
 fn file_name(file: File) -> &'static str {
     match file {
@@ -26,16 +17,20 @@ fn file_name(file: File) -> &'static str {
     }
 }
 
-/// Writes the bytes of patches, `FILE AT HEX` with commas between them.
-pub fn patch(alloc: Global, image: &mut Image, text: &[u8]) -> Result<(), AllocError> {
-    for part in text.split(|byte| *byte == b',') {
-        let (file, rest) = split_word(part);
-        let (at, hex) = split_word(rest);
-        let mut bytes = Vec::new(alloc);
-        for pair in hex.chunks(2) {
-            bytes.push(byte_of(pair))?;
-        }
-        image.write(alloc, file_of(file), number(at), &bytes)?;
+// The bytes of digits in base 16.
+fn bytes_of(alloc: Global, digits: &[u8]) -> Result<Vec<u8>, AllocError> {
+    let mut bytes = Vec::new(alloc);
+    for pair in digits.chunks(2) {
+        bytes.push(byte_of(pair))?;
+    }
+    Ok(bytes)
+}
+
+/// Writes the bytes of patches.
+pub fn patch(alloc: Global, files: &mut Image, patches: &[Patch]) -> Result<(), AllocError> {
+    for patch in patches {
+        let bytes = bytes_of(alloc, patch.digits)?;
+        files.write(alloc, patch.file, patch.at, &bytes)?;
     }
     Ok(())
 }

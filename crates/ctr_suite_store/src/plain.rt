@@ -1,4 +1,5 @@
 // What records make of pages, plainly: every page in memory, each record laid over its page.
+use crate::steps::Overlay;
 use std::alloc::{AllocError, Global};
 
 /// How many bytes a page has.
@@ -16,7 +17,7 @@ fn number_of(page: u64, bytes: &[u8]) -> u64 {
 }
 
 /// A state told by numbers: the sum of those of its pages, and the next transaction.
-#[derive(Clone, Copy, Debug, PartialEq, Eq, Drop)]
+#[derive(Clone, Copy, PartialEq, Eq)]
 pub struct Told {
     pub pages: u64,
     pub next: u64,
@@ -105,16 +106,17 @@ impl Plain {
     }
 
     /// Eight such bytes at a place of a page.
-    pub fn put(&mut self, page: u32, at: u16, byte: u8) -> Result<(), AllocError> {
+    pub fn put(&mut self, overlay: Overlay) -> Result<(), AllocError> {
+        let page = overlay.page as u64;
         let mut told = self.last();
-        if let Some(bytes) = self.pages.get_mut(page as usize) {
-            told.take_page(page as u64, bytes);
+        if let Some(bytes) = self.pages.get_mut(overlay.page as usize) {
+            told.take_page(page, bytes);
             for i in 0..8 {
-                if let Some(place) = bytes.get_mut((at as usize).wrapping_add(i)) {
-                    *place = byte;
+                if let Some(place) = bytes.get_mut((overlay.at as usize).wrapping_add(i)) {
+                    *place = overlay.byte;
                 }
             }
-            told.add_page(page as u64, bytes);
+            told.add_page(page, bytes);
         }
         self.states.push(told)?;
         Ok(())

@@ -5,12 +5,13 @@ ghost use Rattle.ctr_redo.specs.Fitting.{LiesInside};
 ghost use Rattle.ctr_store.specs.Changes.{IsChange};
 
 use crate::generation;
+use crate::opening::{created, opened_or_disk};
 use crate::plain::Plain;
-use crate::steps::Step;
+use crate::steps::{Overlay, Step};
 use ctr_disk::{Image, MemDisk, SilentDisk, StoreFault};
 use ctr_meta::room_for;
 use ctr_records::{Form, Record, decode, to_form};
-use ctr_store::{Store, create};
+use ctr_store::Store;
 use ctr_types::List;
 use std::alloc::{AllocError, Global};
 use std::marker::Brand;
@@ -21,18 +22,26 @@ pub type Mem = Store<SilentDisk, Brand>;
 /// How many pages are looked at.
 pub const PAGES: u32 = 200;
 
-/// How many frames a store has.
-pub const FRAMES: usize = 8;
-
-/// What a run left: the disk, the states behind each number of records, how many records are surely durable, how many
-/// pages are counted, and whether a call was answered an error.
+/// How far a run has come: the states behind each number of records, how many records are surely durable, how many pages are
+/// counted, and whether a call was answered an error.
 #[derive(Drop)]
-pub struct Played {
-    pub disk: MemDisk,
+pub struct Progress {
     pub plain: Plain,
     pub durable: usize,
     pub pages: u32,
     pub failed: bool,
+}
+
+impl Progress {
+    /// Of a store in which so many pages are counted, and none has anything.
+    pub fn new(alloc: Global, pages: u32) -> Result<Progress, AllocError> {
+        Ok(Progress {
+            plain: Plain::new(alloc, PAGES)?,
+            durable: 0,
+            pages,
+            failed: false,
+        })
+    }
 }
 
 // The bytes of a record on a page: this number, a transaction where there is one, eight such bytes at a place.
@@ -40,19 +49,18 @@ fn record_bytes(
     alloc: Global,
     tag: u8,
     xid: Option<u64>,
-    place: (u32, u16, u8),
+    overlay: Overlay,
 ) -> Result<Vec<u8>, AllocError> {
     let mut bytes = Vec::new(alloc);
     bytes.push(tag)?;
     if let Some(xid) = xid {
         bytes.extend_from_slice(&xid.to_le_bytes())?;
     }
-    let (page, at, byte) = place;
     bytes.push(1)?;
-    bytes.extend_from_slice(&page.to_le_bytes())?;
-    bytes.extend_from_slice(&at.to_le_bytes())?;
+    bytes.extend_from_slice(&overlay.page.to_le_bytes())?;
+    bytes.extend_from_slice(&overlay.at.to_le_bytes())?;
     bytes.extend_from_slice(&8u16.to_le_bytes())?;
-    bytes.extend_from_slice(&[byte; 8])?;
+    bytes.extend_from_slice(&[overlay.byte; 8])?;
     Ok(bytes)
 }
 
@@ -107,8 +115,8 @@ fn log_bytes(store: &mut Mem, bytes: &[u8]) -> Result<bool, StoreFault>
 fn bytes_of(alloc: Global, step: Step, next: u64) -> Option<Vec<u8>> {
     let made = match step {
         Step::Begin => begin_bytes(alloc, next),
-        Step::Keep { page, at, byte } => record_bytes(alloc, 16, Some(1), (page, at, byte)),
-        Step::Trim { page, at, byte } => record_bytes(alloc, 18, None, (page, at, byte)),
+        Step::Keep(overlay) => record_bytes(alloc, 16, Some(1), overlay),
+        Step::Trim(overlay) => record_bytes(alloc, 18, None, overlay),
         _ => return None,
     };
     made.ok()
@@ -118,8 +126,8 @@ fn bytes_of(alloc: Global, step: Step, next: u64) -> Option<Vec<u8>> {
 fn put_plainly(plain: &mut Plain, step: Step) {
     let _ = match step {
         Step::Begin => plain.begin(),
-        Step::Keep { page, at, byte } => plain.put(page, at, byte),
-        Step::Trim { page, at, byte } => plain.put(page, at, byte),
+        Step::Keep(overlay) => plain.put(overlay),
+        Step::Trim(overlay) => plain.put(overlay),
         _ => Ok(()),
     };
 }
@@ -177,7 +185,7 @@ fn do_steps(alloc: Global, store: &mut Mem, plain: &mut Plain, steps: &[Step]) -
         if do_step(alloc, store, plain, *step).is_err() {
             return (durable, true);
         }
-        if *step == Step::Harden {
+        if matches!(step, Step::Harden) {
             durable = plain.count();
         }
         i += 1;
@@ -185,120 +193,105 @@ fn do_steps(alloc: Global, store: &mut Mem, plain: &mut Plain, steps: &[Step]) -
     (durable, false)
 }
 
-// A new store that has grown so often.
-fn grown(alloc: Global, disk: SilentDisk, growths: u64) -> Option<Image> {
-    let Ok(mut store) = Mem::open(alloc, disk, FRAMES) else {
-        return None;
-    };
-    let mut plain = Plain::new(alloc, 0).ok()?;
-    let mut steps = Vec::new(alloc);
-    for _ in 0..growths {
-        steps.push(Step::Grow).ok()?;
-    }
-    let _ended = do_steps(alloc, &mut store, &mut plain, &steps);
-    Some(store.into_disk().disk.into_image())
+// Takes steps on a store; what comes of that is told to the run.
+fn take_steps(alloc: Global, store: &mut Mem, progress: &mut Progress, steps: &[Step])
+    requires going { store.old.stopped ≡ false }
+    requires none { store.old.waiting ≡ [] }
+{
+    let (hardened, failed) = do_steps(alloc, store, &mut progress.plain, steps);
+    progress.durable = progress.durable.max(hardened);
+    progress.pages = store.counted();
+    progress.failed = failed;
 }
 
-/// The files of a new store that has grown so often.
-pub fn made(alloc: Global, growths: u64) -> Option<Image> {
-    let disk = MemDisk::new(alloc, Image::new(alloc), List::new(alloc)).ok()?;
-    let Ok(disk) = create(SilentDisk { disk }) else {
-        return None;
-    };
-    grown(alloc, disk, growths)
-}
-
-// Goes on with a run by opening its files and taking steps on the store, up to one that is answered an error.
-fn go_on(alloc: Global, run: Played, steps: &[Step]) -> Played {
-    let Played {
-        disk,
-        plain,
-        durable,
-        pages,
-        failed: _,
-    } = run;
-    match Mem::open(alloc, SilentDisk { disk }, FRAMES) {
-        Ok(store) => take_steps(alloc, store, plain, durable, steps),
-        Err((_error, disk)) => Played {
-            disk: disk.disk,
-            plain,
-            durable,
-            pages,
-            failed: true,
-        },
-    }
-}
-
-// Takes steps on a store that was opened, in which so many records are durable.
-fn take_steps(alloc: Global, store: Mem, plain: Plain, durable: usize, steps: &[Step]) -> Played
+// The same on a store that was opened for that; the disk that it leaves.
+fn take_steps_on(alloc: Global, store: Mem, progress: &mut Progress, steps: &[Step]) -> SilentDisk
     requires going { store.stopped ≡ false }
     requires none { store.waiting ≡ [] }
 {
     let mut store = store;
-    let mut plain = plain;
-    let (hardened, failed) = do_steps(alloc, &mut store, &mut plain, steps);
-    let pages = store.counted();
-    Played {
-        disk: store.into_disk().disk,
-        plain,
-        durable: durable.max(hardened),
-        pages,
-        failed,
+    take_steps(alloc, &mut store, progress, steps);
+    store.into_disk()
+}
+
+// Opens the store of a disk, and takes steps on it, up to one that is answered an error; the disk that is left.
+fn go_on(alloc: Global, disk: SilentDisk, progress: &mut Progress, steps: &[Step]) -> SilentDisk {
+    match opened_or_disk::<SilentDisk, Brand>(alloc, disk) {
+        Ok(store) => take_steps_on(alloc, store, progress, steps),
+        Err(disk) => {
+            progress.failed = true;
+            disk
+        }
     }
+}
+
+/// The files that a disk holds.
+pub fn image_of(disk: SilentDisk) -> Image {
+    disk.disk.into_image()
+}
+
+// A disk that holds these files, and of which these calls fail.
+fn disk_of(alloc: Global, files: &Image, fails: List<u64>) -> Result<SilentDisk, AllocError> {
+    let files = files.copy()?;
+    let disk = MemDisk::new(alloc, files, fails)?;
+    Ok(SilentDisk { disk })
+}
+
+// So many growths.
+fn growing(alloc: Global, growths: u64) -> Result<Vec<Step>, AllocError> {
+    let mut steps = Vec::new(alloc);
+    for _ in 0..growths {
+        steps.push(Step::Grow)?;
+    }
+    Ok(steps)
+}
+
+// The files of a new database, on whose store these steps were taken.
+fn made_by(alloc: Global, steps: &[Step], progress: &mut Progress) -> Result<Image, AllocError> {
+    let disk = disk_of(alloc, &Image::new(alloc), List::new(alloc))?;
+    let disk = created(disk);
+    Ok(image_of(go_on(alloc, disk, progress, steps)))
+}
+
+/// The files of a new store that has grown so often.
+pub fn made(alloc: Global, growths: u64) -> Result<Image, AllocError> {
+    let steps = growing(alloc, growths)?;
+    let mut progress = Progress::new(alloc, 0)?;
+    made_by(alloc, &steps, &mut progress)
 }
 
 // Begins a second generation behind a run, all of whose records are durable.
-fn begin_generation(alloc: Global, run: Played) -> Played {
-    let Played {
-        disk,
-        plain,
-        durable,
-        pages,
-        failed: _,
-    } = run;
-    let mut disk = SilentDisk { disk };
-    let begun = durable == plain.count() && generation::begin(alloc, &mut disk, &plain);
-    Played {
-        disk: disk.disk,
-        plain,
-        durable,
-        pages,
-        failed: !begun,
-    }
+fn begin_generation(alloc: Global, disk: &mut SilentDisk, progress: &mut Progress) {
+    let hardened = progress.durable == progress.plain.count();
+    let begun = hardened && generation::begin(alloc, disk, &progress.plain);
+    progress.failed = !begun;
 }
 
-// A run that has opened nothing yet.
-fn begun(alloc: Global, files: &Image, pages: u32, fails: List<u64>) -> Option<Played> {
-    let disk = MemDisk::new(alloc, files.copy().ok()?, fails).ok()?;
-    let plain = Plain::new(alloc, PAGES).ok()?;
-    Some(Played {
-        disk,
-        plain,
-        durable: 0,
-        pages,
-        failed: false,
-    })
-}
-
-/// Takes steps on a store over these files, in which so many pages are counted, and of whose disk these calls fail; up to
-/// one that is answered an error. A generation is begun between two stores.
-pub fn play(
-    alloc: Global,
-    files: &Image,
-    pages: u32,
-    steps: &[Step],
-    fails: List<u64>,
-) -> Option<Played> {
-    let mut run = begun(alloc, files, pages, fails)?;
+// Takes steps on a disk; a generation is begun between two stores.
+fn play_on(alloc: Global, disk: SilentDisk, progress: &mut Progress, steps: &[Step]) -> SilentDisk {
+    let mut disk = disk;
     let mut first = true;
-    for part in steps.split(|step| *step == Step::Generation) {
-        if !first && !run.failed {
-            run = begin_generation(alloc, run);
+    for part in steps.split(|step| step.is_generation()) {
+        if !first && !progress.failed {
+            begin_generation(alloc, &mut disk, progress);
         }
-        if !run.failed {
-            run = go_on(alloc, run, part);
+        if !progress.failed {
+            disk = go_on(alloc, disk, progress, part);
         }
         first = false;
     }
-    Some(run)
+    disk
+}
+
+/// Takes steps on a store over these files, and of whose disk these calls fail, up to one that is answered an error; the disk that
+/// is left.
+pub fn play(
+    alloc: Global,
+    files: &Image,
+    steps: &[Step],
+    fails: List<u64>,
+    progress: &mut Progress,
+) -> Result<SilentDisk, AllocError> {
+    let disk = disk_of(alloc, files, fails)?;
+    Ok(play_on(alloc, disk, progress, steps))
 }

@@ -1,16 +1,18 @@
 // What the stops of a run leave, each opened and read.
 ghost use Rattle.std.specs.Prelude.{◌≡◌, false, OnOk};
 
-use crate::plain::Told;
-use crate::run::{FRAMES, Mem, PAGES, Played};
+use crate::opening::opened_or_error;
+use crate::plain::{Plain, Told};
+use crate::run::{Mem, PAGES};
 use ctr_disk::{Image, MemDisk, SilentDisk, StoreFault};
 use ctr_store::OpenError;
 use ctr_types::List;
 use std::alloc::{AllocError, Global};
+use std::marker::Brand;
 
 /// How many images of stops there were: in all, those that fold to no prefix that may be, and the fewest and the most
 /// records of one.
-#[derive(Clone, Copy, Debug, PartialEq, Eq, Drop)]
+#[derive(Clone, Copy)]
 pub struct Seen {
     pub images: u64,
     pub wrong: u64,
@@ -41,7 +43,7 @@ impl Seen {
 }
 
 /// Between which numbers of records and of counted pages an image of a stop may be.
-#[derive(Clone, Copy, Debug, PartialEq, Eq, Drop)]
+#[derive(Clone, Copy)]
 pub struct Bounds {
     pub durable: usize,
     pub pages: (u32, u32),
@@ -49,7 +51,7 @@ pub struct Bounds {
 
 /// What an opening found: the state that an image folds to and how many pages it counts; why it isn't opened; or what was
 /// wrong with a page that was read then.
-#[derive(Clone, Copy, Debug, PartialEq, Eq, Drop)]
+#[derive(Clone, Copy)]
 pub enum Finding {
     Folds(Told, u32),
     Refused(OpenError),
@@ -79,31 +81,38 @@ fn told_of(store: &mut Mem) -> Result<Told, StoreFault>
     Ok(told)
 }
 
-// What a store that was opened has.
-fn read(store: Mem) -> Finding
-    requires { store.stopped ≡ false }
+// What a store has.
+fn finding_of(store: &mut Mem) -> Finding
+    requires { store.old.stopped ≡ false }
 {
-    let mut store = store;
     let counted = store.counted();
-    match told_of(&mut store) {
+    match told_of(store) {
         Ok(told) => Finding::Folds(told, counted),
         Err(fault) => Finding::Broken(fault),
     }
 }
 
+// The same of one that was opened for that.
+fn read(store: Mem) -> Finding
+    requires { store.stopped ≡ false }
+{
+    let mut store = store;
+    finding_of(&mut store)
+}
+
 /// Opens an image, and reads it.
 pub fn opened(alloc: Global, image: Image) -> Result<Finding, AllocError> {
     let disk = MemDisk::new(alloc, image, List::new(alloc))?;
-    match Mem::open(alloc, SilentDisk { disk }, FRAMES) {
+    match opened_or_error::<SilentDisk, Brand>(alloc, SilentDisk { disk }) {
         Ok(store) => Ok(read(store)),
-        Err((error, _disk)) => Ok(Finding::Refused(error)),
+        Err(error) => Ok(Finding::Refused(error)),
     }
 }
 
 // How many records an image of a stop has, where it has its bounds.
 fn found_in(
     alloc: Global,
-    run: &Played,
+    plain: &Plain,
     bounds: Bounds,
     image: Image,
 ) -> Result<Option<usize>, AllocError> {
@@ -113,13 +122,14 @@ fn found_in(
     if counted != bounds.pages.0 && counted != bounds.pages.1 {
         return Ok(None);
     }
-    Ok(run.plain.records_of(told, bounds.durable))
+    Ok(plain.records_of(told, bounds.durable))
 }
 
 /// Looks at what a crash may leave after the calls of a run from one number to another: so many images of each stop.
 pub fn look(
     alloc: Global,
-    run: &Played,
+    disk: &MemDisk,
+    plain: &Plain,
     bounds: Bounds,
     calls: (usize, usize),
     each: u64,
@@ -127,8 +137,8 @@ pub fn look(
 ) -> Result<(), AllocError> {
     for count in calls.0..calls.1 {
         for k in 0..each {
-            let image = run.disk.image_after(count, k)?;
-            seen.add(found_in(alloc, run, bounds, image)?);
+            let image = disk.image_after(count, k)?;
+            seen.add(found_in(alloc, plain, bounds, image)?);
         }
     }
     Ok(())
@@ -137,11 +147,12 @@ pub fn look(
 /// Opens the files as they read behind a run, and looks at what they fold to.
 pub fn look_again(
     alloc: Global,
-    run: &Played,
+    disk: &MemDisk,
+    plain: &Plain,
     bounds: Bounds,
     seen: &mut Seen,
 ) -> Result<(), AllocError> {
-    let image = run.disk.image_now().copy()?;
-    seen.add(found_in(alloc, run, bounds, image)?);
+    let image = disk.image_now().copy()?;
+    seen.add(found_in(alloc, plain, bounds, image)?);
     Ok(())
 }

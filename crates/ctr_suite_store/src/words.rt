@@ -1,19 +1,15 @@
-// Words and numbers of a line.
+// The words of a line.
+use std::str::FromStr;
 
-/// The first word of a line, and what stands behind the blank.
-pub fn split_word(line: &[u8]) -> (&[u8], &[u8]) {
-    split_at(line, b' ')
+// The value that a word is, if it is one.
+fn value_of<T: FromStr>(word: &[u8]) -> Option<T>
+where
+    T::Err: Drop,
+{
+    str::from_utf8(word).ok()?.parse::<T>().ok()
 }
 
-/// What stands before such a byte, and behind it.
-pub fn split_at(line: &[u8], mark: u8) -> (&[u8], &[u8]) {
-    match line.iter().position(|byte| *byte == mark) {
-        Some(at) => (&line[..at], &line[at + 1..]),
-        None => (line, &line[line.len()..]),
-    }
-}
-
-// The number of a hexadecimal digit, or 0.
+// The value of a digit in base 16, or 0.
 fn digit(byte: u8) -> u8 {
     match byte {
         b'0'..=b'9' => byte.wrapping_sub(b'0'),
@@ -22,7 +18,7 @@ fn digit(byte: u8) -> u8 {
     }
 }
 
-/// The byte that two hexadecimal digits are.
+/// The byte that two digits in base 16 are.
 pub fn byte_of(pair: &[u8]) -> u8 {
     let mut byte = 0u8;
     for one in pair {
@@ -31,15 +27,64 @@ pub fn byte_of(pair: &[u8]) -> u8 {
     byte
 }
 
-/// The whole number that a word is, or 0.
-pub fn number(word: &[u8]) -> u64 {
-    let mut number = 0u64;
-    for byte in word {
-        if byte.is_ascii_digit() {
-            number = number
-                .wrapping_mul(10)
-                .wrapping_add(byte.wrapping_sub(b'0') as u64);
+/// The words of a line, taken one after another. A word that is missing, or isn't what it has to be, is remembered, so that only
+/// the end is asked whether all were right.
+#[derive(Clone, Copy)]
+pub struct Words<'a> {
+    rest: &'a [u8],
+    wrong: bool,
+}
+
+impl<'a> Words<'a> {
+    pub fn new(line: &'a [u8]) -> Words<'a> {
+        Words {
+            rest: line,
+            wrong: false,
         }
     }
-    number
+
+    /// The next word.
+    pub fn word(&mut self) -> &'a [u8] {
+        let (word, rest) = match self.rest.iter().position(|byte| *byte == b' ') {
+            Some(at) => (&self.rest[..at], &self.rest[at + 1..]),
+            None => (self.rest, &self.rest[self.rest.len()..]),
+        };
+        self.rest = rest;
+        self.wrong = self.wrong || word.is_empty();
+        word
+    }
+
+    /// The next word's value.
+    pub fn value<T: FromStr + Default>(&mut self) -> T
+    where
+        T::Err: Drop,
+    {
+        match value_of::<T>(self.word()) {
+            Some(value) => value,
+            None => {
+                self.wrong = true;
+                T::default()
+            }
+        }
+    }
+
+    /// The next word, of two digits in base 16 for each byte.
+    pub fn digits(&mut self) -> &'a [u8] {
+        let digits = self.word();
+        let other = digits
+            .iter()
+            .any(|byte| !matches!(byte, b'0'..=b'9' | b'a'..=b'f'));
+        self.wrong = self.wrong || other || digits.len() % 2 == 1;
+        digits
+    }
+
+    /// The word isn't what it has to be.
+    pub fn refuse(&mut self) {
+        self.wrong = true;
+    }
+
+    /// Whether each word was what it had to be, and none is left.
+    pub fn are_right(&self) -> bool {
+        !self.wrong && self.rest.is_empty()
+    }
 }

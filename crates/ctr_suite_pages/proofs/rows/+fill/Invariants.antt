@@ -1,4 +1,4 @@
-use Rattle.ctr_suite_pages.proofs.cases.+fill.Given as goal
+use Rattle.ctr_suite_pages.proofs.rows.+fill.Given as goal
 
 abbrev pub decreases-fill : goal.decreases-fill
 decreases-fill l = l.count
