@@ -1,8 +1,9 @@
 // Entries of a tape as text: `1.2 lock granted @2`, session and statement, act, reply, moment.
+use crate::lists::add;
 use crate::spelled::{behind, read_name, read_statement};
 use crate::trouble::Trouble;
 use crate::words::{last_word, number, split_at_byte, split_word};
-use ctr_types::{Act, Entry, List, Refusal, Reply, Row, Rows, Statement};
+use ctr_types::{Act, Entry, List, Plain, Refusal, Reply, Row, Rows, Statement};
 use std::alloc::Global;
 
 /// The entry that a line is.
@@ -175,8 +176,15 @@ fn row_length(words: &[u8]) -> usize {
 // `(1, 'a')`
 fn read_row(alloc: Global, words: &[u8]) -> Result<Row, Trouble> {
     let text = behind(alloc, "INSERT INTO t VALUES ", words)?;
-    match read_statement(alloc, &text)? {
-        Statement::Insert { values, .. } => Ok(Row { values }),
+    let statement = read_statement(alloc, &text)?;
+    row_in(alloc, &statement)
+}
+
+fn row_in(alloc: Global, statement: &Statement) -> Result<Row, Trouble> {
+    match statement {
+        Statement::Insert { values, .. } => Ok(Row {
+            values: values.copy(alloc)?,
+        }),
         _ => Err(Trouble::Spelling),
     }
 }
@@ -184,16 +192,21 @@ fn read_row(alloc: Global, words: &[u8]) -> Result<Row, Trouble> {
 // `(1, 'a') (2, 'b')`, or nothing.
 fn read_rows(alloc: Global, words: &[u8]) -> Result<Rows, Trouble> {
     let mut rows = List::new(alloc);
+    add_rows(alloc, &mut rows, words)?;
+    Ok(Rows { rows })
+}
+
+fn add_rows(alloc: Global, rows: &mut List<Row>, words: &[u8]) -> Result<(), Trouble> {
     let mut rest = words;
     for _ in 0..words.len() {
         if rest.is_empty() {
             break;
         }
         let (row, behind) = rest.split_at(row_length(rest).min(rest.len()));
-        rows.push(read_row(alloc, row)?)?;
+        add(rows, read_row(alloc, row)?)?;
         rest = behind.strip_prefix(b" ").unwrap_or(behind);
     }
-    Ok(Rows { rows })
+    Ok(())
 }
 
 // ---- refusals

@@ -1,10 +1,10 @@
 // Where a tape leads.
-ghost use Rattle.std.specs.Prelude.{◌≡◌, ◌↔◌, IsSome, IfSome, IfOk};
+ghost use Rattle.std.specs.Prelude.{◌≡◌, ◌↔◌, IsTrue, IfOk};
 ghost use Rattle.ctr_model.specs.Tape.{at_start, Legal, final};
 
 use ctr_machine::is_legal;
 use ctr_model::{Map, Point, State, Table};
-use ctr_types::{Entry, Line, List, Name, OutOfMemory, Plain};
+use ctr_types::{Entry, Line, List, Name, OutOfMemory};
 use std::alloc::Global;
 
 /// The start of a run over a database, with names that recovery holds.
@@ -18,23 +18,20 @@ pub fn starting(alloc: Global, base: Map<Name, Table>, stuck: List<Name>) -> Poi
     }
 }
 
-/// Where a tape leads from the start of a run; None where it isn't legal.
+/// Whether a tape is legal from the start of a run, which it then leads on to where it ends. The point is lent, since
+/// each step beside one that is owned has a proof that frees all of it.
 pub fn follow(
     alloc: Global,
-    base: &Map<Name, Table>,
-    stuck: &List<Name>,
     lines: &[Line],
+    point: &mut Point,
     entries: &[Entry],
-) -> Result<Option<Point>, OutOfMemory>
-    ensures legal { IfOk result (λ found. IsSome found ↔ Legal lines.now (at_start 0 base.now stuck.now) entries.now) }
-    ensures point { IfOk result (λ found. IfSome found (λ point. point ≡ final lines.now (at_start 0 base.now stuck.now) entries.now)) }
+) -> Result<bool, OutOfMemory>
+    requires { point.old.state.answered ≡ 0 }
+    ensures legal { IfOk result (λ yes. IsTrue yes ↔ Legal lines.now point.old entries.now) }
+    ensures point { IfOk result (λ yes. IsTrue yes → point.new ≡ final lines.now point.old entries.now) }
 {
     if entries.len() >= usize::MAX / 2 {
         return Err(OutOfMemory);
     }
-    let mut point = starting(alloc, base.copy(alloc)?, stuck.copy(alloc)?);
-    if is_legal(alloc, lines, &mut point, entries)? {
-        return Ok(Some(point));
-    }
-    Ok(None)
+    is_legal(alloc, lines, point, entries)
 }

@@ -105,9 +105,9 @@ impl Judge {
         self.page.add(b"\n");
     }
 
-    /// The page with the counts at its end.
-    pub fn finished(self) -> Page {
-        let mut page = self.page;
+    /// What was printed, with the counts at its end.
+    pub fn finish(&mut self) -> Page {
+        let mut page = mem::replace(&mut self.page, Page::new(self.alloc));
         page.add_number("checks ", self.checks);
         page.add_number(", wrong ", self.wrong);
         page.add(b"\n");

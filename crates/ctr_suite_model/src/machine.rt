@@ -3,8 +3,8 @@ use crate::entry::act_word;
 use crate::page::Page;
 use crate::run::{go_on, reply_at, statement_of};
 use crate::trouble::Trouble;
-use ctr_model::{Change, Map, State, Table, Transaction};
-use ctr_types::{Act, Entry, Kind, Line, List, Name, Plain, Reply, Schema};
+use ctr_model::{Change, State, Table, Transaction};
+use ctr_types::{Act, Entry, Kind, Line, Name, Plain, Reply, Schema};
 use std::alloc::Global;
 
 // ---- tables
@@ -192,22 +192,19 @@ fn put_replied(
     go_on(alloc, state, statement, entry)
 }
 
-/// The entries, each with the machine's reply at the state that those before it leave.
+/// The entries, each with the machine's reply at the state that those before it leave, from a state on.
 pub fn put_replies(
     alloc: Global,
     page: &mut Page,
     lines: &[Line],
-    base: &Map<Name, Table>,
-    stuck: &List<Name>,
+    state: &mut State,
     entries: &[Entry],
 ) -> Result<(), Trouble> {
-    let stuck = stuck.copy(alloc)?;
-    let mut state = State::at_rest(alloc, base.copy(alloc)?, stuck);
     if entries.is_empty() {
         page.add(b"no entries\n");
     }
     for entry in entries {
-        put_replied(alloc, page, lines, &mut state, entry)?;
+        put_replied(alloc, page, lines, state, entry)?;
     }
     Ok(())
 }

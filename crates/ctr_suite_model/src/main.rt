@@ -7,6 +7,7 @@ mod entry;
 mod follow;
 mod judge;
 mod last;
+mod lists;
 mod machine;
 mod page;
 mod player;
@@ -17,16 +18,27 @@ mod steps;
 mod trouble;
 mod words;
 
+use page::Page;
 use player::Player;
+use std::alloc::Global;
 use std::io::{self, Read, Write};
+
+// Plays the lines of a suite in order.
+fn play_lines(player: &mut Player, suite: &[u8]) -> Page {
+    for line in suite.split(|byte| *byte == b'\n') {
+        player.take_line(line);
+    }
+    player.finish()
+}
+
+fn played(alloc: Global, suite: &[u8]) -> Page {
+    let mut player = Player::new(alloc);
+    play_lines(&mut player, suite)
+}
 
 fn main(rt: HostRuntime) -> io::Result<()> {
     let mut suite = Vec::new(rt.alloc());
     let _ = rt.stdin().read_to_end(&mut suite)?;
-    let mut player = Player::new(rt.alloc());
-    for line in suite.split(|byte| *byte == b'\n') {
-        player.take_line(line);
-    }
-    let page = player.finished();
+    let page = played(rt.alloc(), &suite);
     io::writer(&rt).write_all(&page.bytes)
 }

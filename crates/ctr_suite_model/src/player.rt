@@ -1,8 +1,11 @@
 // Plays the lines of a suite.
+ghost use Rattle.std.specs.Prelude.{◌≡◌, IfOk};
+
 use crate::entry::{must_be_empty, read_entry, read_number, read_refusal, read_small};
-use crate::follow::follow;
+use crate::follow::{follow, starting};
 use crate::judge::Judge;
 use crate::last::{count_fronts, put_end, report_of};
+use crate::lists::add as add_to;
 use crate::machine::{put_replies, put_state, put_tables};
 use crate::page::Page;
 use crate::printed::shown;
@@ -48,10 +51,9 @@ impl Player {
     }
 
     /// What all lines have printed, with the counts.
-    pub fn finished(self) -> Page {
-        let mut judge = self.judge;
-        judge.settle();
-        judge.finished()
+    pub fn finish(&mut self) -> Page {
+        self.judge.settle();
+        self.judge.finish()
     }
 
     /// Takes a line of the suite.
@@ -144,7 +146,11 @@ impl Player {
     }
 
     fn change(&mut self, change: Change) -> Result<(), Trouble> {
-        apply_all(self.alloc, &mut self.base, slice::from_ref(&change))?;
+        self.apply(&change)
+    }
+
+    fn apply(&mut self, change: &Change) -> Result<(), Trouble> {
+        apply_all(self.alloc, &mut self.base, slice::from_ref(change))?;
         Ok(())
     }
 
@@ -152,8 +158,17 @@ impl Player {
     fn add_table(&mut self, rest: &[u8]) -> Result<(), Trouble> {
         self.must_be_early()?;
         let text = behind(self.alloc, "CREATE TABLE ", rest)?;
-        match read_statement(self.alloc, &text)? {
-            Statement::Create { table, schema } => self.change(Change::Create { table, schema }),
+        let statement = read_statement(self.alloc, &text)?;
+        self.create(&statement)
+    }
+
+    fn create(&mut self, statement: &Statement) -> Result<(), Trouble> {
+        match statement {
+            Statement::Create { table, schema } => {
+                let table = table.copy(self.alloc)?;
+                let schema = schema.copy(self.alloc)?;
+                self.change(Change::Create { table, schema })
+            }
             _ => Err(Trouble::Spelling),
         }
     }
@@ -165,28 +180,35 @@ impl Player {
         let mut text = behind(self.alloc, "INSERT INTO ", name)?;
         text.extend_from_slice(b" VALUES ")?;
         text.extend_from_slice(values)?;
-        match read_statement(self.alloc, &text)? {
+        let statement = read_statement(self.alloc, &text)?;
+        self.insert(&statement)
+    }
+
+    fn insert(&mut self, statement: &Statement) -> Result<(), Trouble> {
+        match statement {
             Statement::Insert { table, values } => self.put_row(table, values),
             _ => Err(Trouble::Spelling),
         }
     }
 
-    fn put_row(&mut self, table: Name, values: List<Value>) -> Result<(), Trouble> {
-        if self.base.get(&table).is_none() {
+    fn put_row(&mut self, table: &Name, values: &List<Value>) -> Result<(), Trouble> {
+        if self.base.get(table).is_none() {
             return Err(Trouble::NoTable);
         }
         let Some(Value::Int(key)) = values.as_slice().first() else {
             return Err(Trouble::Spelling);
         };
         let key = *key;
-        let row = Row { values };
+        let table = table.copy(self.alloc)?;
+        let row = Row {
+            values: values.copy(self.alloc)?,
+        };
         self.change(Change::Put { table, key, row })
     }
 
     fn add_stuck(&mut self, rest: &[u8]) -> Result<(), Trouble> {
         self.must_be_early()?;
-        self.stuck.push(read_name(self.alloc, rest)?)?;
-        Ok(())
+        add_to(&mut self.stuck, read_name(self.alloc, rest)?)
     }
 
     fn add_line(&mut self, session: &[u8], rest: &[u8]) -> Result<(), Trouble> {
@@ -196,8 +218,7 @@ impl Player {
         }
         let text = rest.strip_suffix(b";").ok_or(Trouble::Spelling)?;
         let statement = read_statement(self.alloc, text)?;
-        self.lines.push(Line { session, statement })?;
-        Ok(())
+        add_to(&mut self.lines, Line { session, statement })
     }
 
     // ---- turns
@@ -206,10 +227,17 @@ impl Player {
         if self.begun {
             return Ok(());
         }
-        let stuck = self.stuck.copy(self.alloc)?;
-        self.run = Run::starting(self.alloc, self.base.copy(self.alloc)?, stuck);
+        self.run.point = self.start()?;
         self.begun = true;
         Ok(())
+    }
+
+    // The start of a run over the database.
+    fn start(&self) -> Result<Point, Trouble>
+        ensures { IfOk result (λ point. point.state.answered ≡ 0) }
+    {
+        let stuck = self.stuck.copy(self.alloc)?;
+        Ok(starting(self.alloc, self.base.copy(self.alloc)?, stuck))
     }
 
     // The lines that weren't run yet, in their order, each at a moment of its own.
@@ -264,18 +292,21 @@ impl Player {
 
     // ---- what comes of it
 
-    fn followed(&self) -> Result<Option<Point>, Trouble> {
-        Ok(follow(
-            self.alloc,
-            &self.base,
-            &self.stuck,
-            self.lines.as_slice(),
-            self.run.tape.entries.as_slice(),
-        )?)
+    // Whether the tape is legal from the start of a run, which it then leads on.
+    fn follow(&self, point: &mut Point) -> Result<bool, Trouble>
+        requires { point.old.state.answered ≡ 0 }
+    {
+        let entries = self.run.tape.entries.as_slice();
+        Ok(follow(self.alloc, self.lines.as_slice(), point, entries)?)
+    }
+
+    fn is_legal(&self) -> Result<bool, Trouble> {
+        let mut point = self.start()?;
+        self.follow(&mut point)
     }
 
     fn verdict(&mut self, wanted: bool) -> Result<(), Trouble> {
-        let legal = self.followed()?.is_some();
+        let legal = self.is_legal()?;
         self.judge.verdict(&self.tape_name, legal, wanted);
         Ok(())
     }
@@ -291,7 +322,7 @@ impl Player {
         };
         let mut page = Page::new(self.alloc);
         page.add(&shown(self.alloc, &self.run.tape, &report_of(undo_turns))?);
-        if self.followed()?.is_none() {
+        if !self.is_legal()? {
             page.add(b"not legal\n");
         }
         self.judge.give(&page);
@@ -300,45 +331,71 @@ impl Player {
 
     fn show_replies(&mut self) -> Result<(), Trouble> {
         let mut page = Page::new(self.alloc);
-        put_replies(
-            self.alloc,
-            &mut page,
-            self.lines.as_slice(),
-            &self.base,
-            &self.stuck,
-            self.run.tape.entries.as_slice(),
-        )?;
+        self.put_replies(&mut page)?;
         self.judge.give(&page);
         Ok(())
+    }
+
+    fn put_replies(&self, page: &mut Page) -> Result<(), Trouble> {
+        let mut point = self.start()?;
+        put_replies(
+            self.alloc,
+            page,
+            self.lines.as_slice(),
+            &mut point.state,
+            self.run.tape.entries.as_slice(),
+        )
     }
 
     // The tables as they are committed.
     fn show_tables(&mut self) -> Result<(), Trouble> {
         let mut page = Page::new(self.alloc);
-        match self.followed()? {
-            Some(point) => {
-                let state = &point.state;
-                let tables = state.rows_at(self.alloc, state.answered)?;
-                put_tables(&mut page, tables.entries());
-            }
-            None => page.add(b"not legal\n"),
-        }
+        self.put_tables(&mut page)?;
         self.judge.give(&page);
+        Ok(())
+    }
+
+    fn put_tables(&self, page: &mut Page) -> Result<(), Trouble> {
+        let mut point = self.start()?;
+        self.put_tables_after(page, &mut point)
+    }
+
+    fn put_tables_after(&self, page: &mut Page, point: &mut Point) -> Result<(), Trouble>
+        requires { point.old.state.answered ≡ 0 }
+    {
+        if !self.follow(point)? {
+            page.add(b"not legal\n");
+            return Ok(());
+        }
+        let tables = point.state.rows_at(self.alloc, point.state.answered)?;
+        put_tables(page, tables.entries());
         Ok(())
     }
 
     fn show_state(&mut self) -> Result<(), Trouble> {
         let mut page = Page::new(self.alloc);
-        match self.followed()? {
-            Some(point) => {
-                put_state(&mut page, &point.state.copy(self.alloc)?);
-                if !point.state.same(&self.run.point.state) {
-                    page.add(b"another state than step by step\n");
-                }
-            }
-            None => page.add(b"not legal\n"),
-        }
+        self.put_state(&mut page)?;
         self.judge.give(&page);
+        Ok(())
+    }
+
+    fn put_state(&self, page: &mut Page) -> Result<(), Trouble> {
+        let mut point = self.start()?;
+        self.put_state_after(page, &mut point)
+    }
+
+    fn put_state_after(&self, page: &mut Page, point: &mut Point) -> Result<(), Trouble>
+        requires { point.old.state.answered ≡ 0 }
+    {
+        if !self.follow(point)? {
+            page.add(b"not legal\n");
+            return Ok(());
+        }
+        let copied = point.state.copy(self.alloc)?;
+        put_state(page, &copied);
+        if !point.state.same(&self.run.point.state) {
+            page.add(b"another state than step by step\n");
+        }
         Ok(())
     }
 

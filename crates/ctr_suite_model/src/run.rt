@@ -1,5 +1,6 @@
 // A run of a script by the slow machine, turn by turn.
 use crate::follow::starting;
+use crate::lists::add_after;
 use crate::trouble::Trouble;
 use ctr_machine::{next_state, reply_to};
 use ctr_model::{Map, Point, Progress, State, Table};
@@ -87,12 +88,22 @@ pub fn add(
     statement: Option<&Statement>,
     entry: Entry,
 ) -> Result<(), Trouble> {
-    go_on(alloc, &mut run.point.state, statement, &entry)?;
+    let done = lead_on(alloc, &mut run.point, statement, &entry);
+    add_after(done, &mut run.tape.entries, entry)
+}
+
+// The point that an entry leaves.
+fn lead_on(
+    alloc: Global,
+    point: &mut Point,
+    statement: Option<&Statement>,
+    entry: &Entry,
+) -> Result<(), Trouble> {
+    go_on(alloc, &mut point.state, statement, entry)?;
     if statement.is_some() {
-        let progress = behind(progress_of(&run.point, entry.session), &entry.reply)?;
-        run.point.progress.put(entry.session, progress)?;
+        let progress = behind(progress_of(point, entry.session), &entry.reply)?;
+        point.progress.put(entry.session, progress)?;
     }
-    run.tape.entries.push(entry)?;
     Ok(())
 }
 
@@ -136,19 +147,30 @@ pub fn play_act(
     let Some(statement) = statement_behind(lines, session, progress.finished) else {
         return Err(Trouble::NoStatement);
     };
-    let act = act_of(statement, progress.made > 0);
+    let second = progress.made > 0;
     let reply = match instead {
         Some(refusal) => Reply::Refused { refusal },
-        None => reply_at(alloc, &run.point.state, session, &act, Some(statement))?,
+        None => reply_to_act(alloc, &run.point.state, session, second, statement)?,
     };
     let entry = Entry {
         session,
         statement: progress.finished.saturating_add(1),
-        act,
+        act: act_of(statement, second),
         reply,
         moment: run.point.moment,
     };
     add(alloc, run, Some(statement), entry)
+}
+
+fn reply_to_act(
+    alloc: Global,
+    state: &State,
+    session: u8,
+    second: bool,
+    statement: &Statement,
+) -> Result<Reply, Trouble> {
+    let act = act_of(statement, second);
+    reply_at(alloc, state, session, &act, Some(statement))
 }
 
 /// All acts of the next statement of a session.

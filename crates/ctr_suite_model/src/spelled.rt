@@ -2,7 +2,7 @@
 // read behind the words that make it a statement.
 use crate::trouble::Trouble;
 use ctr_parse::parse_statement;
-use ctr_types::{Name, Statement};
+use ctr_types::{Name, Plain, Statement};
 use std::alloc::Global;
 
 /// A text with words before it.
@@ -24,8 +24,13 @@ pub fn read_statement(alloc: Global, text: &[u8]) -> Result<Statement, Trouble> 
 /// The name that a word is.
 pub fn read_name(alloc: Global, word: &[u8]) -> Result<Name, Trouble> {
     let text = behind(alloc, "DROP TABLE ", word)?;
-    match read_statement(alloc, &text)? {
-        Statement::DropTable { table } => Ok(table),
+    let statement = read_statement(alloc, &text)?;
+    name_in(alloc, &statement)
+}
+
+fn name_in(alloc: Global, statement: &Statement) -> Result<Name, Trouble> {
+    match statement {
+        Statement::DropTable { table } => Ok(table.copy(alloc)?),
         _ => Err(Trouble::Spelling),
     }
 }

@@ -3,7 +3,7 @@
 use crate::steps::{key_of, name_of, row_of};
 use crate::words::split_word;
 use ctr_rows::Loader;
-use ctr_types::{List, Schema};
+use ctr_types::{List, Name, Schema};
 use std::alloc::Global;
 
 /// What a line loads.
@@ -36,23 +36,33 @@ pub fn load_of(word: &[u8]) -> Option<Load> {
 pub fn do_load(alloc: Global, loader: &mut Loader, load: Load, rest: &[u8]) -> Option<()> {
     let (table, rest) = split_word(rest);
     let name = name_of(alloc, table)?;
+    load_named(alloc, loader, load, &name, rest)
+}
+
+fn load_named(
+    alloc: Global,
+    loader: &mut Loader,
+    load: Load,
+    name: &Name,
+    rest: &[u8],
+) -> Option<()> {
     match load {
         Load::Table => {
             let columns = List::new(alloc);
-            loader.create(alloc, &name, Schema { columns }).ok()
+            loader.create(alloc, name, Schema { columns }).ok()
         }
         Load::NoTable => {
-            loader.drop_table(&name);
+            loader.drop_table(name);
             Some(())
         }
         Load::Row => {
             let (key, value) = split_word(rest);
             let key = key_of(key)?;
             let row = row_of(alloc, key, key_of(value)?.number())?;
-            loader.put_row(alloc, &name, key, row).ok()
+            loader.put_row(alloc, name, key, row).ok()
         }
         Load::NoRow => {
-            loader.remove_row(&name, key_of(rest)?);
+            loader.remove_row(name, key_of(rest)?);
             Some(())
         }
     }

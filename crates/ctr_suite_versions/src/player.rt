@@ -4,6 +4,7 @@ use crate::steps::{do_step, rows_of, sight_of, step_of, wanted};
 use crate::words::{number, split_word};
 use ctr_rows::{Engine, Loader};
 use std::alloc::Global;
+use std::mem;
 
 /// Where a suite stands.
 #[derive(Drop)]
@@ -28,10 +29,6 @@ impl Player {
             wrong: 0,
             page: Vec::new(alloc),
         }
-    }
-
-    pub fn page(&self) -> &[u8] {
-        &self.page
     }
 
     fn add(&mut self, text: &[u8]) {
@@ -119,12 +116,13 @@ impl Player {
         }
     }
 
-    /// Says how many histories there were, how many looks, and how many lines went otherwise.
-    pub fn finish(&mut self) {
+    /// What was printed. It ends with how many histories there were, how many looks, and how many lines went otherwise.
+    pub fn finish(&mut self) -> Vec<u8> {
         let (cases, seen, wrong) = (self.cases, self.seen, self.wrong);
         let text = format!(in self.alloc; "{cases} histories, {seen} looks, {wrong} otherwise\n");
         if let Ok(text) = text {
             self.add(text.as_bytes());
         }
+        mem::replace(&mut self.page, Vec::new(self.alloc))
     }
 }

@@ -88,6 +88,12 @@ fn table_of(engine: &Engine, s: u8, name: &Name) -> Option<u64> {
     Some(made.id)
 }
 
+// The number of the table that a session sees under a name.
+fn id_of(alloc: Global, engine: &Engine, s: u8, table: &[u8]) -> Option<u64> {
+    let name = name_of(alloc, table)?;
+    table_of(engine, s, &name)
+}
+
 pub fn row_of(alloc: Global, key: Key, value: i64) -> Option<Row> {
     let mut values = List::new(alloc);
     values.push(Value::Int(key.number())).ok()?;
@@ -98,13 +104,8 @@ pub fn row_of(alloc: Global, key: Key, value: i64) -> Option<Row> {
 fn write(alloc: Global, engine: &mut Engine, s: u8, rest: &[u8], puts: bool) -> Option<()> {
     let (table, rest) = split_word(rest);
     let (key, value) = split_word(rest);
-    let name = name_of(alloc, table)?;
     let key = key_of(key)?;
-    let id = table_of(engine, s, &name)?;
-    let mut row = None;
-    if puts {
-        row = Some(row_of(alloc, key, key_of(value)?.number())?);
-    }
+    let id = id_of(alloc, engine, s, table)?;
     if engine.next_table() <= id {
         return None;
     }
@@ -112,15 +113,24 @@ fn write(alloc: Global, engine: &mut Engine, s: u8, rest: &[u8], puts: bool) -> 
     if !engine.is_writer(s) {
         return None;
     }
-    engine.write_row(s, id, key, row);
+    if !puts {
+        engine.write_row(s, id, key, None);
+        return Some(());
+    }
+    let row = row_of(alloc, key, key_of(value)?.number())?;
+    engine.write_row(s, id, key, Some(row));
     Some(())
 }
 
 /// What a session sees of a key in the table of a name.
 pub fn sight_of(alloc: Global, engine: &Engine, s: u8, table: &[u8], key: &[u8]) -> Option<Sight> {
-    let name = name_of(alloc, table)?;
     let key = key_of(key)?;
-    let Some(id) = table_of(engine, s, &name) else {
+    let name = name_of(alloc, table)?;
+    sight_in(engine, s, &name, key)
+}
+
+fn sight_in(engine: &Engine, s: u8, name: &Name, key: Key) -> Option<Sight> {
+    let Some(id) = table_of(engine, s, name) else {
         return Some(Sight::NoTable);
     };
     let Some(row) = engine.row(s, id, key) else {
@@ -134,8 +144,7 @@ pub fn sight_of(alloc: Global, engine: &Engine, s: u8, table: &[u8], key: &[u8])
 
 /// How many rows a session sees in the table of a name.
 pub fn rows_of(alloc: Global, engine: &Engine, s: u8, table: &[u8]) -> Option<u64> {
-    let name = name_of(alloc, table)?;
-    let id = table_of(engine, s, &name)?;
+    let id = id_of(alloc, engine, s, table)?;
     let rows = engine.listing(alloc, s, id).ok()?;
     Some(rows.len() as u64)
 }
@@ -153,9 +162,8 @@ pub fn wanted(word: &[u8]) -> Option<Sight> {
 
 fn clean(alloc: Global, engine: &mut Engine, step: Step, s: u8, rest: &[u8]) -> Option<()> {
     let (table, key) = split_word(rest);
-    let name = name_of(alloc, table)?;
     let key = key_of(key)?;
-    let id = table_of(engine, s, &name)?;
+    let id = id_of(alloc, engine, s, table)?;
     match step {
         Step::Revert => engine.revert_row(id, key),
         Step::Cut => engine.cut_row(id, key),
@@ -176,13 +184,17 @@ fn clean_name(alloc: Global, engine: &mut Engine, step: Step, table: &[u8]) -> O
 
 fn write_name(alloc: Global, engine: &mut Engine, s: u8, table: &[u8], makes: bool) -> Option<()> {
     let name = name_of(alloc, table)?;
+    write_named(alloc, engine, s, &name, makes)
+}
+
+fn write_named(alloc: Global, engine: &mut Engine, s: u8, name: &Name, makes: bool) -> Option<()> {
     let room = name.copy(alloc).ok()?;
     engine.make_table_room(alloc, room).ok()?;
     if !engine.is_writer(s) {
         return None;
     }
     if !makes {
-        engine.drop_table(s, &name);
+        engine.drop_table(s, name);
         return Some(());
     }
     if engine.next_table() == u64::MAX {
@@ -190,7 +202,7 @@ fn write_name(alloc: Global, engine: &mut Engine, s: u8, table: &[u8], makes: bo
     }
     engine.create(
         s,
-        &name,
+        name,
         Schema {
             columns: List::new(alloc),
         },
