@@ -12,8 +12,3 @@ pub use allocating::{alloc, free};
 pub use bits::{with_free, with_taken};
 pub use search::{NextFree, Search, search_goes_on};
 pub use store::next_free;
-
-#[cfg(test)]
-mod store_tests;
-#[cfg(test)]
-mod tests;

@@ -12,8 +12,3 @@ pub use entries::{ENTRIES_ON_PAGE, find_free, find_named, found_in_area};
 pub use finding::{changed, find};
 pub use store::{a_free_entry_is_the_lowest, find_free_entry};
 pub use writing::{CatalogRefusal, create, drop_table, undo_item};
-
-#[cfg(test)]
-mod store_tests;
-#[cfg(test)]
-mod tests;

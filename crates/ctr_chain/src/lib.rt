@@ -12,6 +12,3 @@ mod view;
 
 pub use committed::newest;
 pub use view::{ReadRefusal, visible};
-
-#[cfg(test)]
-mod store_tests;

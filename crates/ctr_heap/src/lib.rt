@@ -19,6 +19,3 @@ pub use rewriting::{first, replaced, to_keep, written};
 pub use slots::{SlotSought, found_in_area, search_slots};
 pub use ways::{Way, way_of};
 pub use writing::{format, link, put_slot};
-
-#[cfg(test)]
-mod tests;

@@ -17,6 +17,3 @@ pub use opening::OpenError;
 pub use parts::Parts;
 pub use seen::Seen;
 pub use store::Store;
-
-#[cfg(test)]
-mod tests;

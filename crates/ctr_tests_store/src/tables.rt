@@ -1,27 +1,20 @@
-//! Free entries of the catalog of a store that is opened on bytes made by hand.
+// Free entries of the catalog of a store that is opened on bytes made by hand.
 ghost use Rattle.std.specs.Prelude.{◌≡◌};
 
-use crate::*;
+use crate::laid::{Laid, disk_of};
 use ctr_base::Origin;
-use ctr_disk::{Disk, Image, MemDisk, SilentDisk, StoreFault};
+use ctr_catalog::find_free_entry;
+use ctr_disk::{Disk, SilentDisk, StoreFault};
 use ctr_store::Store;
-use ctr_types::{File, List};
+use ctr_types::File;
 use std::alloc::{AllocError, Global};
 use std::marker::Brand;
 use std::test::Fail;
 
-// The root, written once: LogA from LSN 1 on, 64 pages.
-const ROOT: [u8; 38] =
-    *b"\x01\0\0\0\0\x01\0\0\0\0\0\0\0CTRDB001\x01\0\0\0\0\x01\0\0\0\0\0\0\0\x40\0\0\0";
-
-// The Checkpoint of nothing, in a batch of its own.
-const LOG: [u8; 64] =
-    *b"\x01\x2a\0\0\0\0\0\0\0\x01\0\0\0\0\0\0\0\x01\0\0\0\x22\0\0\0\0\0\0\0\x01\x01\0\0\0\0\0\0\0\0\0\0\0\0\0\0\0\0\0\0\0\0\0\0\0\0\0\0\0\0\0\0\0\0\0";
-
-type Found = Result<Option<u8>, StoreFault>;
+type Answer = Result<Option<u8>, StoreFault>;
 
 // What is found in the catalog.
-fn found<D: Disk + Drop, O: Origin>(alloc: Global, disk: D) -> Option<Found>
+fn found<D: Disk + Drop, O: Origin>(alloc: Global, disk: D) -> Option<Answer>
     requires { O.first ≡ D.reads disk }
 {
     match Store::<D, O>::open(alloc, disk, 8) {
@@ -52,15 +45,9 @@ fn first_page(state: u8) -> [u8; 50] {
 }
 
 // What is found where page 1 begins with these bytes at home.
-fn seek(alloc: Global, page: &[u8]) -> Result<Option<Found>, AllocError> {
-    let mut image = Image::new(alloc);
-    image.write(alloc, File::Root, 0, &ROOT)?;
-    image.set_len(alloc, File::Root, 64)?;
-    image.write(alloc, File::LogA, 0, &LOG)?;
-    image.set_len(alloc, File::Pages, 528_384)?;
-    image.write(alloc, File::Pages, 8_256, page)?;
-    let disk = MemDisk::new(alloc, image, List::new(alloc))?;
-    Ok(found::<SilentDisk, Brand>(alloc, SilentDisk { disk }))
+fn seek(alloc: Global, page: &[u8]) -> Result<Option<Answer>, AllocError> {
+    let disk = disk_of(alloc, 1, &[Laid(8_256, page)])?;
+    Ok(found::<SilentDisk, Brand>(alloc, disk))
 }
 
 #[test]

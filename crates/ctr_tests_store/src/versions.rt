@@ -1,24 +1,18 @@
-//! The newest committed version of a row, and the one that a snapshot sees, in a store that is opened on bytes made by hand.
+// The newest committed version of a row, and the one that a snapshot sees, in a store that is opened on bytes
+// made by hand.
 ghost use Rattle.std.specs.Prelude.{◌≡◌};
 
-use crate::*;
+use crate::laid::{Laid, disk_of};
 use ctr_base::Origin;
-use ctr_disk::{Disk, Image, MemDisk, SilentDisk, StoreFault};
+use ctr_chain::{ReadRefusal, newest, visible};
+use ctr_disk::{Disk, SilentDisk, StoreFault};
 use ctr_page::Place;
 use ctr_snap::Snapshot;
 use ctr_store::Store;
-use ctr_types::{File, List, Row, Value, Xid};
+use ctr_types::{File, Row, Value, Xid};
 use std::alloc::{AllocError, Global};
 use std::marker::Brand;
 use std::test::Fail;
-
-// The root, written once: LogA from LSN 1 on, 64 pages.
-const ROOT: [u8; 38] =
-    *b"\x01\0\0\0\0\x01\0\0\0\0\0\0\0CTRDB001\x01\0\0\0\0\x01\0\0\0\0\0\0\0\x40\0\0\0";
-
-// The Checkpoint in a batch of its own: the next transaction is 3, none is open or aborted, so 1 and 2 are committed.
-const LOG: [u8; 64] =
-    *b"\x01\x2a\0\0\0\0\0\0\0\x01\0\0\0\0\0\0\0\x01\0\0\0\x22\0\0\0\0\0\0\0\x01\x03\0\0\0\0\0\0\0\0\0\0\0\0\0\0\0\0\0\0\0\0\0\0\0\0\0\0\0\0\0\0\0\0\0";
 
 // Its home begins with 13 bytes, then the entry 0: a live table of one column.
 fn first_page() -> [u8; 228] {
@@ -106,29 +100,27 @@ fn seen_on<D: Disk + Drop, O: Origin>(
     }
 }
 
-// The disk on which the pages 3 and 4 begin so.
-fn disk_of(alloc: Global, third: &[u8], fourth: &[u8]) -> Result<MemDisk, AllocError> {
-    let mut image = Image::new(alloc);
-    image.write(alloc, File::Root, 0, &ROOT)?;
-    image.set_len(alloc, File::Root, 64)?;
-    image.write(alloc, File::LogA, 0, &LOG)?;
-    image.set_len(alloc, File::Pages, 528_384)?;
-    image.write(alloc, File::Pages, 8_256, &first_page())?;
-    image.write(alloc, File::Pages, 24_768, third)?;
-    image.write(alloc, File::Pages, 33_024, fourth)?;
-    MemDisk::new(alloc, image, List::new(alloc))
+// The disk on which the pages 3 and 4 begin so. The next transaction is 3, so 1 and 2 are committed.
+fn disk_with(alloc: Global, third: &[u8], fourth: &[u8]) -> Result<SilentDisk, AllocError> {
+    let first = first_page();
+    let pages = [
+        Laid(8_256, &first),
+        Laid(24_768, third),
+        Laid(33_024, fourth),
+    ];
+    disk_of(alloc, 3, &pages)
 }
 
 fn seek(alloc: Global, third: &[u8], fourth: &[u8]) -> Result<Option<Newest>, AllocError> {
-    let disk = disk_of(alloc, third, fourth)?;
-    Ok(newest_on::<SilentDisk, Brand>(alloc, SilentDisk { disk }))
+    let disk = disk_with(alloc, third, fourth)?;
+    Ok(newest_on::<SilentDisk, Brand>(alloc, disk))
 }
 
 // What is seen of the transactions 2 in the slot, before it 5, and 1 off it, where the next is 3 and these are listed.
 fn see(alloc: Global, listed: &[Xid], me: Option<Xid>) -> Result<Option<Seen>, Fail> {
     let snapshot = Snapshot::take(alloc, 3, listed)?;
-    let disk = disk_of(alloc, &third_page(2, 5), &fourth_page(1, 0))?;
-    Ok(seen_on::<SilentDisk, Brand>(alloc, SilentDisk { disk }, &snapshot, me))
+    let disk = disk_with(alloc, &third_page(2, 5), &fourth_page(1, 0))?;
+    Ok(seen_on::<SilentDisk, Brand>(alloc, disk, &snapshot, me))
 }
 
 #[test]

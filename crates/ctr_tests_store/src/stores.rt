@@ -1,9 +1,9 @@
 // Openings of images that are laid by hand: each is answered, or refused at its place.
 ghost use Rattle.std.specs.Prelude.{◌≡◌};
 
-use crate::{CreateError, OpenError, Store, create};
 use ctr_base::Origin;
-use ctr_disk::{Disk, Image, MemDisk, SilentDisk};
+use ctr_disk::{Disk, Failed, Image, MemDisk, SilentDisk};
+use ctr_store::{CreateError, OpenError, Store, create};
 use ctr_types::{File, List};
 use std::alloc::{AllocError, Global};
 use std::marker::Brand;
@@ -65,15 +65,29 @@ fn opened_on<D: Disk + Drop, O: Origin>(alloc: Global, disk: D) -> Result<u64, O
 
 type Answer = Result<Result<u64, OpenError>, AllocError>;
 
-// What an opening answers where Root, LogA and the file of pages are these, whose page 3 begins with these bytes.
-fn opened(alloc: Global, root: &[u8], log: &[u8], size: u64, page: &[u8]) -> Answer {
-    let mut image = Image::new(alloc);
+// What an opening answers on an image.
+fn opened_image(alloc: Global, image: Image) -> Answer {
+    let disk = MemDisk::new(alloc, image, List::new(alloc))?;
+    Ok(opened_on::<SilentDisk, Brand>(alloc, SilentDisk { disk }))
+}
+
+// Root, LogA, how long the file of pages is, and the bytes with which its page 3 begins.
+#[derive(Clone, Copy)]
+struct Files<'a>(&'a [u8], &'a [u8], u64, &'a [u8]);
+
+fn lay(alloc: Global, image: &mut Image, files: Files) -> Result<(), AllocError> {
+    let Files(root, log, size, page) = files;
     image.write(alloc, File::Root, 0, root)?;
     image.write(alloc, File::LogA, 0, log)?;
     image.set_len(alloc, File::Pages, size)?;
-    image.write(alloc, File::Pages, 24_768, page)?;
-    let disk = MemDisk::new(alloc, image, List::new(alloc))?;
-    Ok(opened_on::<SilentDisk, Brand>(alloc, SilentDisk { disk }))
+    image.write(alloc, File::Pages, 24_768, page)
+}
+
+// What an opening answers on these files.
+fn opened(alloc: Global, root: &[u8], log: &[u8], size: u64, page: &[u8]) -> Answer {
+    let mut image = Image::new(alloc);
+    lay(alloc, &mut image, Files(root, log, size, page))?;
+    opened_image(alloc, image)
 }
 
 fn damaged(file: File, at: u64, want: u128, got: u128) -> Answer {
@@ -110,41 +124,67 @@ const FRESH: [u8; 64] = [
     0,
 ];
 
-// A new database on an empty disk, of which these calls fail.
-fn made(alloc: Global, fails: List<u64>) -> Result<Result<SilentDisk, CreateError>, AllocError> {
+// An empty disk, of which these calls fail.
+fn empty(alloc: Global, fails: List<u64>) -> Result<SilentDisk, AllocError> {
     let disk = MemDisk::new(alloc, Image::new(alloc), fails)?;
-    match create(SilentDisk { disk }) {
-        Ok(disk) => Ok(Ok(disk)),
-        Err((error, _disk)) => Ok(Err(error)),
+    Ok(SilentDisk { disk })
+}
+
+// Makes a database on a disk, which is given back.
+fn make_on<D: Disk>(disk: D, answer: &mut Result<(), CreateError>) -> D {
+    match create(disk) {
+        Ok(disk) => {
+            *answer = Ok(());
+            disk
+        }
+        Err((error, disk)) => {
+            *answer = Err(error);
+            disk
+        }
     }
 }
 
+// What a making answers.
+fn made_on<D: Disk + Drop>(disk: D) -> Result<(), CreateError> {
+    let mut answer = Ok(());
+    let _ = make_on(disk, &mut answer);
+    answer
+}
+
 // What is said where the nth call fails.
-fn made_failing(alloc: Global, n: u64) -> Result<Option<CreateError>, AllocError> {
+fn made_failing(alloc: Global, n: u64) -> Result<Result<(), CreateError>, AllocError> {
     let mut fails = List::new(alloc);
     fails.push(n)?;
-    Ok(made(alloc, fails)?.err())
+    let disk = empty(alloc, fails)?;
+    Ok(made_on(disk))
 }
 
-// How long the two logs and the pages of a new database are, and LogA's first bytes.
-fn files_made(alloc: Global) -> Result<Option<([u64; 3], [u8; 64])>, AllocError> {
-    let Ok(mut disk) = made(alloc, List::new(alloc))? else {
-        return Ok(None);
-    };
+// How long the two logs and the pages are, and LogA's first bytes.
+type Made = ([Result<u64, Failed>; 3], [u8; 64]);
+
+fn files_of<D: Disk>(disk: &mut D) -> Result<Made, Failed> {
     let mut bytes = [0; 64];
-    let Ok(()) = disk.read(File::LogA, 0, &mut bytes) else {
-        return Ok(None);
-    };
-    let log_a = disk.size(File::LogA).unwrap_or(0);
-    let log_b = disk.size(File::LogB).unwrap_or(0);
-    let pages = disk.size(File::Pages).unwrap_or(0);
-    Ok(Some(([log_a, log_b, pages], bytes)))
+    disk.read(File::LogA, 0, &mut bytes)?;
+    let lengths = [
+        disk.size(File::LogA),
+        disk.size(File::LogB),
+        disk.size(File::Pages),
+    ];
+    Ok((lengths, bytes))
 }
 
-// What an opening answers on an image.
-fn opened_image(alloc: Global, image: Image) -> Answer {
-    let disk = MemDisk::new(alloc, image, List::new(alloc))?;
-    Ok(opened_on::<SilentDisk, Brand>(alloc, SilentDisk { disk }))
+// What a making answers, and the files behind it.
+type FilesMade = (Result<(), CreateError>, Result<Made, Failed>);
+
+fn files_made_on<D: Disk + Drop>(disk: D) -> FilesMade {
+    let mut answer = Ok(());
+    let mut disk = make_on(disk, &mut answer);
+    (answer, files_of(&mut disk))
+}
+
+fn files_made(alloc: Global) -> Result<FilesMade, AllocError> {
+    let disk = empty(alloc, List::new(alloc))?;
+    Ok(files_made_on(disk))
 }
 
 // Whether each image after so many calls is no database yet, or the empty one; and the empty one if it is whole.
@@ -163,39 +203,46 @@ fn left_well(
     Ok(true)
 }
 
-// Whether each moment of the making leaves no database or the empty one.
-fn makes_well(alloc: Global) -> Result<bool, AllocError> {
-    let Ok(disk) = made(alloc, List::new(alloc))? else {
-        return Ok(false);
-    };
+fn each_left_well(alloc: Global, disk: &SilentDisk) -> Result<bool, AllocError> {
     let calls = disk.disk.calls().len();
     for count in 0..calls {
-        if !left_well(alloc, &disk, count, false)? {
+        if !left_well(alloc, disk, count, false)? {
             return Ok(false);
         }
     }
-    left_well(alloc, &disk, calls, true)
+    left_well(alloc, disk, calls, true)
 }
 
-// What the making answers on a disk that has a database.
-fn made_again(alloc: Global) -> Result<Option<CreateError>, AllocError> {
-    let Ok(disk) = made(alloc, List::new(alloc))? else {
-        return Ok(None);
-    };
-    match create(disk) {
-        Ok(_disk) => Ok(None),
-        Err((error, _disk)) => Ok(Some(error)),
-    }
+// Whether each moment of the making leaves no database or the empty one.
+fn makes_well(alloc: Global) -> Result<bool, AllocError> {
+    let disk = empty(alloc, List::new(alloc))?;
+    let disk = make_on(disk, &mut Ok(()));
+    each_left_well(alloc, &disk)
+}
+
+// What the making answers on an empty disk, and then on the one that has a database.
+fn made_twice_on<D: Disk + Drop>(disk: D) -> [Result<(), CreateError>; 2] {
+    let mut first = Ok(());
+    let mut second = Ok(());
+    let disk = make_on(disk, &mut first);
+    let _ = make_on(disk, &mut second);
+    [first, second]
+}
+
+fn made_twice(alloc: Global) -> Result<[Result<(), CreateError>; 2], AllocError> {
+    let disk = empty(alloc, List::new(alloc))?;
+    Ok(made_twice_on(disk))
 }
 
 #[test]
 fn a_new_database(rt: HostRuntime) -> Result<(), Fail> {
     let alloc = rt.alloc();
-    assert!(rt; files_made(alloc) == Ok(Some(([64, 1, SIZE], FRESH))));
+    let files = ([Ok(64), Ok(1), Ok(SIZE)], FRESH);
+    assert!(rt; files_made(alloc) == Ok((Ok(()), Ok(files))));
     assert!(rt; makes_well(alloc) == Ok(true));
-    assert!(rt; made_again(alloc) == Ok(Some(CreateError::Exists)));
+    assert!(rt; made_twice(alloc) == Ok([Ok(()), Err(CreateError::Exists)]));
     for n in 1..80 {
-        assert!(rt; made_failing(alloc, n) == Ok(Some(CreateError::Fault)));
+        assert!(rt; made_failing(alloc, n) == Ok(Err(CreateError::Fault)));
     }
     Ok(())
 }

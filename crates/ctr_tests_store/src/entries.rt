@@ -1,7 +1,7 @@
-//! Entries of a page of the catalog, found by name; free ones; and damage on the way.
+// Entries of a page of the catalog, found by name; free ones; and damage on the way.
 ghost use Rattle.std.specs.Prelude.{◌≡◌, length};
 
-use crate::*;
+use ctr_catalog::{find_free, find_named};
 use ctr_page::BadPage;
 use ctr_types::{Name, OutOfMemory, Text};
 use std::alloc::Global;
