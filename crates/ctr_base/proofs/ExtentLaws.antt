@@ -3,8 +3,7 @@ use Rattle.std.proofs.Common.{◌≡◌, ℕ, ◌+◌, ◌*◌, ◌-◌, ◌<◌
 use Rattle.std.proofs.Math.Seq.{drop-append-add, take-append-add}
 use Rattle.std.proofs.lemmas.List.{append-nil, take_at, drop-drop, take-append-le, drop-append-le, length-take-le, length-replicate, drop-replicate, take-replicate, replicate-append-replicate}
 use Rattle.ctr_types.specs.declared.file.File.TheVariants.{Pages}
-use Rattle.ctr_disk.specs.declared.disk.Image.{Image}
-use Rattle.ctr_disk.specs.Image.{write_of, TornImage}
+use Rattle.ctr_disk.specs.Image.{Image, write_of, TornImage}
 use Rattle.ctr_disk.proofs.Torn.{same_but}
 use Rattle.ctr_home.specs.declared.block.Block.TheVariants.{Page}
 use Rattle.ctr_home.specs.Blocks.{zero_bytes, opens_to, greater, value_of}

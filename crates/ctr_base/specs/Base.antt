@@ -1,9 +1,8 @@
 -- The log and the homes below a pool, on which nothing is pending, and how they change.
 use Rattle.std.specs.Prelude.{◌≡◌, ◌≢◌, ◌⊎◌, ℕ, ◌+◌, ◌*◌, ◌<◌, ◌≤◌, List, length, take, drop, Result, Ok, Err, Some, ⊤}
 use Rattle.ctr_disk.specs.declared.disk.Disk.{Ghosts}
-use Rattle.ctr_disk.specs.declared.disk.Image.{Image}
 use Rattle.ctr_disk.specs.Device.{LeavesOnly, IsDurable}
-use Rattle.ctr_disk.specs.Image.{content}
+use Rattle.ctr_disk.specs.Image.{Image, content}
 use Rattle.ctr_types.specs.declared.file.File.TheVariants.{Pages}
 use Rattle.ctr_home.specs.declared.root.Root.{Root}
 use Rattle.ctr_log.specs.Kept.{WritesBehind}

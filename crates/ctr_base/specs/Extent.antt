@@ -1,8 +1,7 @@
 -- Pages that are cleared in the file of pages.
 use Rattle.std.specs.Prelude.{◌≡◌, ◌≤◌, ◌*◌, ◌-◌, ℕ, ◌++◌, length, take, drop}
 use Rattle.ctr_types.specs.declared.file.File.TheVariants.{Pages}
-use Rattle.ctr_disk.specs.declared.disk.Image.{Image}
-use Rattle.ctr_disk.specs.Image.{OtherFilesStay}
+use Rattle.ctr_disk.specs.Image.{Image, OtherFilesStay}
 use Rattle.ctr_home.specs.Blocks.{zero_bytes}
 
 -- The first bytes of the file of pages are as they were, so many of them, and the other files; and

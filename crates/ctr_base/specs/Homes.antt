@@ -1,7 +1,7 @@
 -- Pages as they stand at home: their checks, and what an opening leaves of them.
 use Rattle.std.specs.Prelude.{◌≡◌, ◌⊎◌, ◌+◌, ◌-◌, ◌<◌, ◌≤◌, ℕ, min, List, [], ◌∷◌, Option, Some, Err}
 use Rattle.ctr_types.specs.declared.file.File.TheVariants.{Pages}
-use Rattle.ctr_disk.specs.declared.disk.Image.{Image}
+use Rattle.ctr_disk.specs.Image.{Image}
 use Rattle.ctr_home.specs.declared.root.Root.{Root}
 use Rattle.ctr_disk.specs.declared.fault.StoreFault.{StoreFault}
 use Rattle.ctr_home.specs.declared.block.Block.TheVariants.{Page, Root as RootBlock}

@@ -1,6 +1,6 @@
 // Zeros over the homes of pages: before a root counts them they are blank.
 ghost use Rattle.std.specs.Prelude.{◌≡◌, ◌≤◌, ◌*◌, ℕ, IsTrue, length, OnOk};
-ghost use Rattle.ctr_disk.specs.declared.disk.Image.{Image};
+ghost use Rattle.ctr_disk.specs.Image.{Image};
 ghost use Rattle.ctr_home.specs.declared.root.Root.{Root};
 ghost use Rattle.ctr_disk.specs.Device.{LeavesOnly, IsDurable, IsSettled, Counts};
 ghost use Rattle.ctr_home.specs.declared.root.Form.TheVariants.{Paged};

@@ -1,6 +1,6 @@
 // What a base was opened on, named by a type.
 ghost use Rattle.std.specs.Prelude.{[]};
-ghost use Rattle.ctr_disk.specs.declared.disk.Image.{Image};
+ghost use Rattle.ctr_disk.specs.Image.{Image};
 
 use std::marker::Brand;
 

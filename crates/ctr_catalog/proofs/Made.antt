@@ -1,7 +1,7 @@
 -- What a table's making answers.
 use Rattle.std.proofs.Common.{◌≡◌, Ok, Err, ap}
 use Rattle.ctr_disk.specs.declared.disk.Disk.{Ghosts}
-use Rattle.ctr_disk.specs.declared.disk.Image.{Image}
+use Rattle.ctr_disk.specs.Image.{Image}
 use Rattle.ctr_disk.specs.declared.fault.StoreFault.{StoreFault}
 use Rattle.ctr_records.specs.declared.record.Record.{Record}
 use Rattle.ctr_store.specs.Store.{View}

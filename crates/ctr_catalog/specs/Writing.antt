@@ -1,7 +1,7 @@
 -- What makes a table leaves, and what undoes an item of the secondary log.
 use Rattle.std.specs.Prelude.{◌≢◌, ◌⊎◌, ℕ, false, List, ⊤, None, Some, Result, Ok, Err}
 use Rattle.ctr_disk.specs.declared.disk.Disk.{Ghosts}
-use Rattle.ctr_disk.specs.declared.disk.Image.{Image}
+use Rattle.ctr_disk.specs.Image.{Image}
 use Rattle.ctr_disk.specs.declared.fault.StoreFault.{StoreFault}
 use Rattle.ctr_records.specs.declared.record.Record.{Record}
 use Rattle.ctr_records.specs.declared.record.SlogItem.{SlogItem}

@@ -1,7 +1,7 @@
 -- What a write leaves of a list of bytes, and what of it where a crash cuts it short.
 use Rattle.std.proofs.Common.{◌≡◌, ℕ, ◌+◌, ◌<◌, List, [], ◌∷◌, ◌++◌, length, take, drop, replicate, get_or, refl, sym, ◌∙◌, ap, arith, length-append, take-append-drop, append_assoc}
 use Rattle.std.proofs.lemmas.List.{append-nil, take_at, drop_at, drop_all, drop_more, drop-drop}
-use Rattle.ctr_disk.specs.declared.disk.Image.{Image}
+use Rattle.ctr_disk.specs.Image.{Image}
 use Rattle.ctr_disk.specs.Image.{content, with_content, written, write_of, Torn, OtherFilesStay}
 use Rattle.ctr_types.specs.declared.file.File.{File}
 use Rattle.ctr_types.specs.declared.file.File.TheVariants.{Root, LogA, LogB, Pages}

@@ -2,7 +2,13 @@
 use Rattle.std.specs.Prelude.{◌≡◌, zero, suc, ℕ, ◌+◌, ◌≤◌, max, List, [], ◌∷◌, ◌++◌, length, take, drop, replicate, slice_index}
 use Rattle.ctr_types.specs.declared.file.File.{File}
 use Rattle.ctr_types.specs.declared.file.File.TheVariants.{Root, LogA, LogB, Pages}
-pub use Rattle.ctr_disk.specs.declared.disk.Image.{Image}
+
+-- what the four files hold together, each as a list of its bytes
+pub record Image : Type 0 where
+  pub root : List ℕ
+  pub log_a : List ℕ
+  pub log_b : List ℕ
+  pub pages : List ℕ
 
 -- the bytes of a file
 abbrev pub content : File → Image → List ℕ

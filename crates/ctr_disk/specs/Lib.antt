@@ -1,10 +1,5 @@
 pub mod Image
-pub mod Blocks
 pub mod Crash
 pub mod Device
-pub mod Replay
 pub mod TornLaws
-pub mod ReplayLaws
-pub mod Counting
-pub mod Memory
 pub mod Silent

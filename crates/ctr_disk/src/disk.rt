@@ -1,25 +1,14 @@
 // A disk as the engine sees it: what a read gives, and what a crash may leave.
 ghost use Rattle.std.specs.Prelude.{◌≡◌, ◌≤◌, ◌<◌, ◌+◌, Bool, IsTrue, List, ℕ, length, IfOk, OnOk};
-ghost use Rattle.ctr_disk.specs.declared.disk.Image.{Image};
-ghost use Rattle.ctr_disk.specs.Image.{content, section, write_of, TornImage};
+ghost use Rattle.ctr_disk.specs.Image.{Image, content, section, write_of, TornImage};
 ghost use Rattle.ctr_types.specs.Faults.{HasCause};
 ghost use Rattle.ctr_disk.specs.Crash.{Only, Within, Tears, Elapses, HasStray, Ticks};
 
-use crate::Bytes;
 use ctr_types::File;
 
 /// A device has failed. Its count of faults has risen, or stands at the last value of its type.
 #[derive(Clone, Copy, Debug, PartialEq, Eq)]
 pub struct Failed;
-
-/// What the four files hold together.
-#[derive(Drop)]
-pub struct Image {
-    pub root: Bytes,
-    pub log_a: Bytes,
-    pub log_b: Bytes,
-    pub pages: Bytes,
-}
 
 /// Four files on one volume, with one clock.
 ///

@@ -1,7 +1,6 @@
 -- What the writing of a block leaves.
 use Rattle.std.specs.Prelude.{◌≡◌, ◌≢◌, ◌⊎◌, ◌≤◌, ◌<◌, nat_lt, if◌then◌else◌, ℕ, List, ◌∷◌, length, slice_index, Option, Some, None}
-use Rattle.ctr_disk.specs.declared.disk.Image.{Image}
-use Rattle.ctr_disk.specs.Image.{content, OtherFilesStay}
+use Rattle.ctr_disk.specs.Image.{Image, content, OtherFilesStay}
 use Rattle.ctr_home.specs.declared.block.Block.{Block}
 use Rattle.ctr_home.specs.declared.block.Home.{Home}
 use Rattle.ctr_home.specs.declared.block.Home.TheVariants.{First, Second}

@@ -1,8 +1,7 @@
 -- What the steps of making a database leave.
 use Rattle.std.proofs.Common.{◌≡◌, inl, inr, ℕ, List, [], ◌∷◌, ◌++◌, drop, refl, sym, ◌∙◌, ap, subst, arith, None, Some}
-use Rattle.ctr_disk.specs.declared.disk.Image.{Image}
 use Rattle.ctr_types.specs.declared.file.File.TheVariants.{LogA, LogB}
-use Rattle.ctr_disk.specs.Image.{write_of, TornImage}
+use Rattle.ctr_disk.specs.Image.{Image, write_of, TornImage}
 use Rattle.ctr_home.specs.declared.block.Block.TheVariants.{Root as RootBlock}
 use Rattle.ctr_home.specs.Roots.{root_block, root_value}
 use Rattle.ctr_home.specs.Writing.{IsAbove, OthersStay, IsOldOrNewValue, IsNewValue}

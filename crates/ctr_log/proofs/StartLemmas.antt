@@ -1,9 +1,8 @@
 -- How a generation begins in the other file.
 use Rattle.std.proofs.Common.{◌≡◌, inl, inr, ℕ, zero, suc, ◌+◌, ◌^◌, ◌<◌, ◌≤◌, Bool, true, List, [], ◌∷◌, ◌++◌, length, drop, get_or, vec_len, refl, sym, ◌∙◌, ap, subst, arith, length-append, length-drop}
 use Rattle.std.proofs.lemmas.List.{append-nil, drop_at}
-use Rattle.ctr_disk.specs.declared.disk.Image.{Image}
 use Rattle.ctr_types.specs.declared.file.File.{File}
-use Rattle.ctr_disk.specs.Image.{content, Torn, TornImage, OtherFilesStay}
+use Rattle.ctr_disk.specs.Image.{Image, content, Torn, TornImage, OtherFilesStay}
 use Rattle.ctr_disk.specs.declared.disk.Disk.{Ghosts}
 use Rattle.ctr_disk.specs.Device.{LeavesOnly}
 use Rattle.ctr_disk.proofs.Torn.{torn_byte, same_but}

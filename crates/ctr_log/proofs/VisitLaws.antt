@@ -3,8 +3,7 @@ use Rattle.std.proofs.Common.{◌≡◌, ℕ, zero, suc, ◌+◌, ◌-◌, ◌==
 use Rattle.std.proofs.lemmas.List.{drop-drop}
 use Rattle.std.proofs.Math.Seq.{take-nil}
 use Rattle.ctr_types.specs.declared.file.File.{File}
-use Rattle.ctr_disk.specs.declared.disk.Image.{Image}
-use Rattle.ctr_disk.specs.Image.{content}
+use Rattle.ctr_disk.specs.Image.{Image, content}
 use Rattle.ctr_bytes.specs.Fields.{field}
 use Rattle.ctr_log.specs.Logs.{unframed}
 use Rattle.ctr_log.specs.Reading.{log_file}

@@ -1,6 +1,6 @@
 -- A database that was just made: its log has a checkpoint of nothing, and no page is counted.
 use Rattle.std.specs.Prelude.{◌≡◌, ◌≢◌, ◌⊎◌, ℕ, List, [], ◌∷◌, ◌++◌, Some, None}
-use Rattle.ctr_disk.specs.declared.disk.Image.{Image}
+use Rattle.ctr_disk.specs.Image.{Image}
 use Rattle.ctr_home.specs.declared.root.Root.{Root}
 use Rattle.ctr_bytes.specs.Fields.{spelled}
 use Rattle.ctr_log.specs.Homes.{root_block, root_value}

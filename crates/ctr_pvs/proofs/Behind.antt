@@ -1,7 +1,7 @@
 -- A page that is read behind another, whatever is answered of it.
 use Rattle.std.proofs.Common.{Ok, Err}
 use Rattle.ctr_disk.specs.declared.disk.Disk.{Ghosts}
-use Rattle.ctr_disk.specs.declared.disk.Image.{Image}
+use Rattle.ctr_disk.specs.Image.{Image}
 use Rattle.ctr_disk.specs.declared.fault.StoreFault.{StoreFault}
 use Rattle.ctr_store.specs.Store.{View, LeavesPage}
 use Rattle.ctr_walk.proofs.Joins.{answers_ok, answers_err, pages_join}

@@ -5,9 +5,8 @@ use Rattle.std.proofs.lemmas.Bool.{lt-ltb}
 use Rattle.std.proofs.lemmas.Bool.Decides.{eqb_tells}
 use Rattle.ctr_types.specs.declared.file.File.{File}
 use Rattle.ctr_types.specs.declared.file.File.TheVariants.{Root as RootFile, LogA, LogB, Pages}
-use Rattle.ctr_disk.specs.declared.disk.Image.{Image}
 use Rattle.ctr_home.specs.declared.root.Root.{Root}
-use Rattle.ctr_disk.specs.Image.{content, OtherFilesStay}
+use Rattle.ctr_disk.specs.Image.{Image, content, OtherFilesStay}
 use Rattle.ctr_home.specs.declared.block.Block.{Block}
 use Rattle.ctr_home.specs.declared.block.Block.TheVariants.{Page, Root as RootBlock}
 use Rattle.ctr_home.specs.declared.root.Form.TheVariants.{Paged}

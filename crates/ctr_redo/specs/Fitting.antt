@@ -1,9 +1,8 @@
 -- Which records make a log: each fits behind those before it, and a Checkpoint begins each file of it.
 use Rattle.std.specs.Prelude.{◌≡◌, ◌≢◌, ◌<◌, ℕ, true, List, [], ◌∷◌, ◌++◌, Option, Some, None, Ok}
 use Rattle.ctr_types.specs.declared.file.File.{File}
-use Rattle.ctr_disk.specs.declared.disk.Image.{Image}
 use Rattle.ctr_home.specs.declared.root.Root.{Root}
-use Rattle.ctr_disk.specs.Image.{content}
+use Rattle.ctr_disk.specs.Image.{Image, content}
 use Rattle.ctr_bytes.specs.Fields.{field}
 use Rattle.ctr_log.specs.Reading.{log_file}
 use Rattle.ctr_log.specs.Kept.{log_in, kept_log, other_file, has_newer, writer_file}

@@ -2,9 +2,8 @@
 use Rattle.std.specs.Prelude.{◌≡◌, ◌⊎◌, ◌<◌, ◌≤◌, ◌*◌, ℕ, List, map, take, length, replicate, Some, None}
 use Rattle.ctr_types.specs.declared.file.File.{File}
 use Rattle.ctr_types.specs.declared.file.File.TheVariants.{Root as RootFile, LogA, LogB, Pages}
-use Rattle.ctr_disk.specs.declared.disk.Image.{Image}
 use Rattle.ctr_home.specs.declared.root.Root.{Root}
-use Rattle.ctr_disk.specs.Image.{content}
+use Rattle.ctr_disk.specs.Image.{Image, content}
 use Rattle.ctr_home.specs.declared.block.Block.TheVariants.{Page, Root as RootBlock}
 use Rattle.ctr_home.specs.declared.root.Form.TheVariants.{Paged}
 use Rattle.ctr_home.specs.Blocks.{BlockValue, zero_bytes, value_of, page_at_home}

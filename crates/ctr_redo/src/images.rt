@@ -1,7 +1,7 @@
 // What a crash leaves of calls of the log and of the homes. A call does nothing: what it ensures is the law.
 ghost use Rattle.std.specs.Prelude.{◌≡◌, ◌≤◌, ◌<◌, ◌⊎◌, ℕ, List};
 ghost use Rattle.ctr_types.specs.declared.file.File.{File as FileOf};
-ghost use Rattle.ctr_disk.specs.declared.disk.Image.{Image};
+ghost use Rattle.ctr_disk.specs.Image.{Image};
 ghost use Rattle.ctr_home.specs.declared.root.Root.{Root};
 ghost use Rattle.ctr_home.specs.declared.block.Block.TheVariants.{Page, Root as RootBlock};
 ghost use Rattle.ctr_home.specs.Roots.{root_block};

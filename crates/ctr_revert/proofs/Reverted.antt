@@ -2,7 +2,7 @@
 use Rattle.std.proofs.Common.{◌≡◌, ◌+◌, ◌≤◌, length, Some, Result, Ok, Err, true, sym, ◌∙◌, ap, subst}
 use Rattle.std.specs.Prelude.{⊤, IsTrue, OnOk}
 use Rattle.ctr_disk.specs.declared.disk.Disk.{Ghosts}
-use Rattle.ctr_disk.specs.declared.disk.Image.{Image}
+use Rattle.ctr_disk.specs.Image.{Image}
 use Rattle.ctr_disk.specs.declared.fault.StoreFault.{StoreFault}
 use Rattle.ctr_records.specs.declared.record.Record.{Record}
 use Rattle.ctr_redo.specs.States.{State, step}

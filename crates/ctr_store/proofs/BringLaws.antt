@@ -4,7 +4,7 @@ use Rattle.std.specs.Prelude.{is_some, IsTrue, ⊤}
 use Rattle.std.proofs.lemmas.Bool.{cases_lt}
 use Rattle.ctr_types.specs.declared.file.File.TheVariants.{Pages}
 use Rattle.ctr_disk.specs.declared.disk.Disk.{Ghosts}
-use Rattle.ctr_disk.specs.declared.disk.Image.{Image}
+use Rattle.ctr_disk.specs.Image.{Image}
 use Rattle.ctr_disk.specs.declared.fault.StoreFault.{StoreFault}
 use Rattle.ctr_disk.specs.declared.fault.StoreFault.TheVariants.{Fault, Damaged}
 use Rattle.ctr_home.specs.declared.block.Block.TheVariants.{Page}

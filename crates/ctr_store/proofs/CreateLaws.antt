@@ -1,6 +1,6 @@
 -- What the steps of making a database leave.
 use Rattle.std.proofs.Common.{◌≡◌, inl, inr, ℕ, length, None, Some, sym, ◌∙◌, ap, subst, arith}
-use Rattle.ctr_disk.specs.declared.disk.Image.{Image}
+use Rattle.ctr_disk.specs.Image.{Image}
 use Rattle.ctr_home.specs.declared.block.Block.TheVariants.{Page, Root as RootBlock}
 use Rattle.ctr_home.specs.Blocks.{value_of}
 use Rattle.ctr_home.specs.Roots.{root_block, root_value}

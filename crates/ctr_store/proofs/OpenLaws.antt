@@ -17,11 +17,10 @@ use Rattle.ctr_log.specs.declared.visitor.VisitError.TheVariants as visit
 use Rattle.ctr_log.specs.LogChecks.{kept_damage, sound_kept_visits, IsThisDamage}
 use Rattle.ctr_base.specs.Opening.{FindsRoot, IsRootDamage}
 use Rattle.ctr_store.specs.declared.opening.OpenError.TheVariants as open_error
-use Rattle.ctr_disk.specs.declared.disk.Image.{Image}
 use Rattle.ctr_disk.specs.declared.disk.Disk.{Ghosts}
 use Rattle.ctr_home.specs.declared.root.Root.{Root}
 use Rattle.ctr_disk.specs.Device.{LeavesOnly, IsDurable}
-use Rattle.ctr_disk.specs.Image.{content}
+use Rattle.ctr_disk.specs.Image.{Image, content}
 use Rattle.ctr_home.specs.declared.block.Block.TheVariants.{Root as RootBlock}
 use Rattle.ctr_home.specs.declared.root.Form.TheVariants.{Paged}
 use Rattle.ctr_home.specs.Blocks.{value_of}

@@ -4,7 +4,7 @@ use Rattle.std.specs.Prelude.{is_some, ◌&&◌, ◌||◌}
 use Rattle.std.proofs.lemmas.Bool.{lt-ltb}
 use Rattle.std.proofs.lemmas.Bool.Decides.{eqb_tells}
 use Rattle.ctr_disk.specs.declared.disk.Disk.{Ghosts}
-use Rattle.ctr_disk.specs.declared.disk.Image.{Image}
+use Rattle.ctr_disk.specs.Image.{Image}
 use Rattle.ctr_disk.specs.Device.{OnlyReads}
 use Rattle.ctr_home.specs.declared.block.Block.TheVariants.{Page}
 use Rattle.ctr_home.specs.declared.block.Home.TheVariants.{First}

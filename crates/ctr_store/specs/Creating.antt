@@ -1,6 +1,6 @@
 -- What the making of a database leaves.
 use Rattle.std.specs.Prelude.{◌≡◌, ◌⊎◌, IsSome, None, Result, Ok, Err, ⊤}
-use Rattle.ctr_disk.specs.declared.disk.Image.{Image}
+use Rattle.ctr_disk.specs.Image.{Image}
 use Rattle.ctr_home.specs.declared.block.Block.TheVariants.{Root as RootBlock}
 use Rattle.ctr_home.specs.Blocks.{value_of}
 use Rattle.ctr_redo.specs.Images.{FoldsTo, new_state, IsNewDatabase}

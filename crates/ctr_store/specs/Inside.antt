@@ -1,6 +1,6 @@
 -- What the fields of a visitor stand for, and what they keep.
 use Rattle.std.specs.Prelude.{◌≡◌, Bool, IsTrue}
-use Rattle.ctr_disk.specs.declared.disk.Image.{Image}
+use Rattle.ctr_disk.specs.Image.{Image}
 use Rattle.ctr_store.specs.declared.seen.Seen.TheInside.{Inside}
 use Rattle.ctr_store.specs.RecordChecks.{SeenLog, AllPass, CountsPages, tables_seen}
 

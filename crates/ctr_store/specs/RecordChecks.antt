@@ -3,7 +3,7 @@ use Rattle.std.specs.Prelude.{◌≡◌, ◌⊎◌, ◌<◌, ◌+◌, ◌-◌, �
 use Rattle.ctr_types.specs.declared.file.File.{File}
 use Rattle.ctr_disk.specs.declared.fault.StoreFault.{StoreFault}
 use Rattle.ctr_disk.specs.declared.fault.StoreFault.TheVariants.{Damaged}
-use Rattle.ctr_disk.specs.declared.disk.Image.{Image}
+use Rattle.ctr_disk.specs.Image.{Image}
 use Rattle.ctr_home.specs.declared.root.Root.{Root}
 use Rattle.ctr_home.specs.declared.block.Block.TheVariants.{Root as RootBlock}
 use Rattle.ctr_home.specs.declared.root.Form.TheVariants.{Paged}

@@ -1,7 +1,7 @@
 -- Bringing pages and tables forward by the records of a log.
 use Rattle.std.specs.Prelude.{◌≡◌, ℕ, true, ◌+◌, List, [], length, take, Some, slice_get}
 use Rattle.ctr_disk.specs.declared.disk.Disk.{Ghosts}
-use Rattle.ctr_disk.specs.declared.disk.Image.{Image}
+use Rattle.ctr_disk.specs.Image.{Image}
 use Rattle.ctr_log.specs.declared.visitor.Visit.{Visit}
 use Rattle.ctr_log.specs.Kept.{kept_log}
 use Rattle.ctr_log.specs.Visits.{visit_bytes, AreNumbered}

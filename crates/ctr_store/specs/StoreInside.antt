@@ -1,7 +1,7 @@
 -- What the fields of a store stand for, and what they keep.
 use Rattle.std.specs.Prelude.{◌≡◌, ◌+◌, Bool, false, IsTrue, length}
 use Rattle.ctr_disk.specs.declared.disk.Disk.{Ghosts}
-use Rattle.ctr_disk.specs.declared.disk.Image.{Image}
+use Rattle.ctr_disk.specs.Image.{Image}
 use Rattle.ctr_log.specs.Logs.{next_place}
 use Rattle.ctr_pool.specs.Over.{unchanged}
 use Rattle.ctr_redo.specs.States.{state_of}

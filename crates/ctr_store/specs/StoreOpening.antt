@@ -1,6 +1,6 @@
 -- What callers see of an opening.
 use Rattle.std.specs.Prelude.{◌≡◌, ◌+◌, ◌≤◌, ◌<◌, ◌^◌, false, [], length, None, Some, Result, Ok, Err}
-use Rattle.ctr_disk.specs.declared.disk.Image.{Image}
+use Rattle.ctr_disk.specs.Image.{Image}
 use Rattle.ctr_home.specs.declared.root.Root.{Root}
 use Rattle.ctr_log.specs.Kept.{kept_log}
 use Rattle.ctr_meta.specs.Effects.{tables_of}

@@ -1,6 +1,6 @@
 // How the redo of a log begins and ends, and that what a crash leaves can be opened. A call does nothing: what it ensures is the law.
 ghost use Rattle.std.specs.Prelude.{◌≡◌, ◌+◌, ℕ, List, [], length, take};
-ghost use Rattle.ctr_disk.specs.declared.disk.Image.{Image};
+ghost use Rattle.ctr_disk.specs.Image.{Image};
 ghost use Rattle.ctr_redo.specs.States.{State};
 ghost use Rattle.ctr_redo.specs.Images.{FoldsFront, FoldsGrown, IsNewDatabase};
 ghost use Rattle.ctr_records.specs.declared.record.Record.{Record};

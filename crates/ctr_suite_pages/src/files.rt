@@ -3,7 +3,8 @@ ghost use Rattle.std.specs.Prelude.{◌≡◌, false, IfSome};
 
 use crate::turns::{FRAMES, Mem};
 use ctr_base::Origin;
-use ctr_disk::{Disk, Image, MemDisk, SilentDisk};
+use ctr_disk::Disk;
+use ctr_mem_disk::{Image, MemDisk, SilentDisk};
 use ctr_store::{Store, create};
 use ctr_types::{File, List};
 use std::alloc::{AllocError, Global};

@@ -14,7 +14,8 @@ use crate::turns::{Mem, abort, begin, commit, settle};
 use crate::versions::{add_page, entry as entry_at, lay, put_off, revert, slot, spare, trim};
 use crate::writes::{write, write_each};
 use ctr_alloc::Search;
-use ctr_disk::{Image, StoreFault};
+use ctr_disk::StoreFault;
+use ctr_mem_disk::Image;
 use std::alloc::AllocError;
 
 // A step of transactions and snapshots.

@@ -3,7 +3,8 @@ ghost use Rattle.std.specs.Prelude.{◌≡◌, ◌≤◌, false, IsTrue, IfOk, O
 ghost use Rattle.ctr_walk.specs.OneRecord.{HasRoomForOne};
 
 use crate::told::Told;
-use ctr_disk::{SilentDisk, StoreFault};
+use ctr_disk::StoreFault;
+use ctr_mem_disk::SilentDisk;
 use ctr_records::Record;
 use ctr_snap::Snapshot;
 use ctr_store::Store;

@@ -3,7 +3,8 @@ use crate::lists::{add, one};
 use crate::numbers::name_of;
 use crate::page::Page;
 use crate::setup::{Ask, Counts};
-use ctr_disk::{Call, Disk, Image, MemDisk, Outcome, Recorded};
+use ctr_disk::Disk;
+use ctr_mem_disk::{Call, Image, MemDisk, Outcome, Recorded};
 use std::alloc::{AllocError, Global};
 
 /// How many images of a crash a sweep looks at after each call.

@@ -6,7 +6,7 @@ use crate::page::Page;
 use crate::run::play;
 use crate::setup::{Ask, Ran, Setup, plain_turns};
 use crate::sweep::owed;
-use ctr_disk::Image;
+use ctr_mem_disk::Image;
 use ctr_types::{OutOfMemory, Refusal, Reply};
 use std::alloc::Global;
 

@@ -1,7 +1,7 @@
 // What is printed.
 ghost use Rattle.std.specs.Prelude.{◌≤◌, length};
 
-use ctr_disk::Bytes;
+use ctr_mem_disk::Bytes;
 use std::alloc::{AllocError, Global};
 
 /// Bytes to be printed. Where memory was refused, it keeps that in mind, so that no call fails.

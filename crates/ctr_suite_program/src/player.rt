@@ -11,7 +11,7 @@ use crate::setup::{Ask, Counts, Ran, Setup, Work, run_words};
 use crate::steps::{Step, step_of};
 use crate::sweep::{NO_DATABASE, sweep_failures, sweep_stops};
 use crate::words::{actors_in, root_of, words_in};
-use ctr_disk::Image;
+use ctr_mem_disk::Image;
 use ctr_types::{OutOfMemory, Plain, Reply};
 use std::alloc::Global;
 use std::mem;

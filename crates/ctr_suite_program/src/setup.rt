@@ -1,7 +1,7 @@
 // What a run begins with, and what it leaves: plain data. A disk lives inside a run alone.
 use crate::page::Page;
-use ctr_disk::Image;
 use ctr_home::Root;
+use ctr_mem_disk::Image;
 use ctr_types::{Actor, Tape};
 use std::alloc::{AllocError, Global};
 

@@ -6,7 +6,7 @@ use crate::run::{Progress, image_of, made, play};
 use crate::runs::{Runs, Start};
 use crate::steps::{Step, random_steps};
 use crate::stops::Seen;
-use ctr_disk::Image;
+use ctr_mem_disk::Image;
 use ctr_types::List;
 use std::alloc::{AllocError, Global};
 

@@ -1,6 +1,7 @@
 // A second generation of the log, begun by hand: no call of a store begins one yet.
 use crate::plain::Plain;
-use ctr_disk::{Disk, Failed, SilentDisk};
+use ctr_disk::{Disk, Failed};
+use ctr_mem_disk::SilentDisk;
 use ctr_types::File;
 use std::alloc::{AllocError, Global};
 

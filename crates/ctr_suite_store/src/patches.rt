@@ -3,7 +3,7 @@ use crate::plain::Plain;
 use crate::reading::Patch;
 use crate::stops::{Finding, opened};
 use crate::words::byte_of;
-use ctr_disk::Image;
+use ctr_mem_disk::Image;
 use ctr_store::OpenError;
 use ctr_types::File;
 use std::alloc::{AllocError, Global};

@@ -3,7 +3,7 @@ use crate::plain::Plain;
 use crate::run::{Progress, play};
 use crate::steps::Step;
 use crate::stops::{Bounds, Seen, look, look_again};
-use ctr_disk::{Image, MemDisk};
+use ctr_mem_disk::{Image, MemDisk};
 use ctr_types::List;
 use std::alloc::{AllocError, Global};
 

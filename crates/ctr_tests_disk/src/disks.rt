@@ -1,5 +1,5 @@
 // Disks in memory, and what is asked of them. Of their content no proof wants anything.
-use ctr_disk::{Image, MemDisk, Recorded, SilentDisk};
+use ctr_mem_disk::{Image, MemDisk, Recorded, SilentDisk};
 use ctr_types::List;
 use std::alloc::{AllocError, Global};
 

@@ -3,9 +3,10 @@ ghost use Rattle.std.specs.Prelude.{◌≡◌, ◌≤◌, ◌<◌, ◌+◌, [], 
 ghost use Rattle.ctr_log.specs.Kept.{NamesKept, CanStart};
 
 use crate::disks::{calls_of, disk_with, image_left};
-use ctr_disk::{Call, Image, Recorded, SilentDisk, StoreFault};
+use ctr_disk::StoreFault;
 use ctr_home::{Root, read_root, write_root};
 use ctr_log::{Gathered, LogFile, ReadError, VisitError, read_all, visit_named};
+use ctr_mem_disk::{Call, Image, Recorded, SilentDisk};
 use ctr_types::File;
 use std::alloc::{AllocError, Global};
 use std::test::Fail;

@@ -1,5 +1,5 @@
 // A database that is laid by hand.
-use ctr_disk::{Image, MemDisk, SilentDisk};
+use ctr_mem_disk::{Image, MemDisk, SilentDisk};
 use ctr_types::{File, List};
 use std::alloc::{AllocError, Global};
 

@@ -2,7 +2,8 @@
 ghost use Rattle.std.specs.Prelude.{◌≡◌};
 
 use ctr_base::Origin;
-use ctr_disk::{Disk, Failed, Image, MemDisk, SilentDisk};
+use ctr_disk::{Disk, Failed};
+use ctr_mem_disk::{Image, MemDisk, SilentDisk};
 use ctr_store::{CreateError, OpenError, Store, create};
 use ctr_types::{File, List};
 use std::alloc::{AllocError, Global};

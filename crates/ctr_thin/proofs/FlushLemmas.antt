@@ -3,8 +3,7 @@ use Rattle.std.proofs.Common.{◌≡◌, ◌≢◌, ◌⊎◌, inl, inr, ℕ, ze
 use Rattle.std.proofs.lemmas.List.{append-nil}
 use Rattle.ctr_types.specs.declared.file.File.{File}
 use Rattle.ctr_types.specs.declared.file.File.TheVariants.{LogA, LogB}
-use Rattle.ctr_disk.specs.declared.disk.Image.{Image}
-use Rattle.ctr_disk.specs.Image.{content, with_content, OtherFilesStay}
+use Rattle.ctr_disk.specs.Image.{Image, content, with_content, OtherFilesStay}
 use Rattle.ctr_log.specs.Homes.{root_value}
 use Rattle.ctr_log.specs.Logs.{Batches, Log, records, HasLog, HasPrefix, GoesOn, with_batch}
 use Rattle.ctr_log.specs.Reading.{log_file}

@@ -1,8 +1,7 @@
 -- An image stands for one database, which its root and its log say.
 use Rattle.std.proofs.Common.{◌≡◌, ◌≢◌, ◌+◌, ◌<◌, ◌^◌, ℕ, List, [], ◌∷◌, ◌++◌, length, get_or, refl, sym, ◌∙◌, ap, subst, arith, append_assoc, length-append}
-use Rattle.ctr_disk.specs.declared.disk.Image.{Image}
 use Rattle.ctr_home.specs.declared.root.Root.{Root}
-use Rattle.ctr_disk.specs.Image.{content}
+use Rattle.ctr_disk.specs.Image.{Image, content}
 use Rattle.ctr_log.specs.Homes.{root_value, SaysRoot}
 use Rattle.ctr_log.specs.Logs.{Batches, batch, batches, records, AreBatches, HasLog}
 use Rattle.ctr_log.specs.Reading.{log_file}

@@ -1,7 +1,6 @@
 // Laws of the database that an image stands for.
 ghost use Rattle.std.specs.Prelude.{◌≡◌, ◌<◌, ◌^◌, ℕ, [], length};
-ghost use Rattle.ctr_disk.specs.declared.disk.Image.{Image};
-ghost use Rattle.ctr_disk.specs.Image.{content, OtherFilesStay};
+ghost use Rattle.ctr_disk.specs.Image.{Image, content, OtherFilesStay};
 ghost use Rattle.ctr_log.specs.Logs.{Log, records, HasPrefix, GoesOn, with_batch};
 ghost use Rattle.ctr_log.specs.Reading.{log_file};
 ghost use Rattle.ctr_log.specs.Fresh.{IsFresh, fresh_root, fresh_log};

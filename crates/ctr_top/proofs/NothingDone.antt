@@ -1,6 +1,6 @@
 -- A command that ended before it began: nothing was done.
 use Rattle.std.proofs.Common.{◌≡◌, ◌≢◌, ◌⊎◌, inl, inr, ℕ, ◌≤◌, [], refl, sym, ap, subst, ◌∙◌}
-use Rattle.ctr_disk.specs.declared.disk.Image.{Image}
+use Rattle.ctr_disk.specs.Image.{Image}
 use Rattle.ctr_disk.specs.declared.disk.Disk.{Ghosts}
 use Rattle.ctr_io.specs.declared.edges.Source.{Ghosts as Source}
 use Rattle.ctr_disk.specs.Device.{OnlyReads}

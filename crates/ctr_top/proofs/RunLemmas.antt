@@ -4,7 +4,6 @@ use Rattle.std.specs.Prelude.{IsTrue, Ok, Err}
 use Rattle.ctr_types.specs.declared.statement.Line.{Line}
 use Rattle.ctr_types.specs.declared.statement.Script.{Script}
 use Rattle.ctr_types.specs.declared.tape.Entry.{Entry}
-use Rattle.ctr_disk.specs.declared.disk.Image.{Image}
 use Rattle.ctr_disk.specs.declared.disk.Disk.{Ghosts}
 use Rattle.ctr_io.specs.declared.edges.Source.{Ghosts as Source}
 use Rattle.ctr_disk.specs.declared.fault.Stop.{Stop}
@@ -17,7 +16,7 @@ use Rattle.ctr_model.specs.Tape.{Legal, at_start, IsWhole}
 use Rattle.ctr_model.specs.Texts.{answers}
 use Rattle.ctr_thin.specs.declared.opening.OpenError.{OpenError}
 use Rattle.ctr_thin.specs.declared.opening.OpenError.TheVariants as open_error
-use Rattle.ctr_disk.specs.Image.{OtherFilesStay}
+use Rattle.ctr_disk.specs.Image.{Image, OtherFilesStay}
 use Rattle.ctr_log.specs.Fresh.{IsFresh, IsNoneOrFresh, fresh_root, fresh_log}
 use Rattle.ctr_thin.specs.Thin.{Explains, OpenDiffers, NamesFile, StandsBy, StandsFor}
 use Rattle.ctr_thin.proofs.FlushLemmas.{names}

@@ -1,6 +1,6 @@
 // Makes the empty database.
 ghost use Rattle.std.specs.Prelude.{◌≡◌, ◌≤◌, ◌⊎◌, IsTrue, IsSome, None, []};
-ghost use Rattle.ctr_disk.specs.declared.disk.Image.{Image};
+ghost use Rattle.ctr_disk.specs.Image.{Image};
 ghost use Rattle.ctr_disk.specs.Device.{LeavesOnly, OnlyReads};
 ghost use Rattle.ctr_log.specs.Homes.{root_value};
 ghost use Rattle.ctr_top.specs.declared.ending.Ending.TheVariants.{Finished};

@@ -1,6 +1,6 @@
 // A page that is read, and a call behind it.
 ghost use Rattle.std.specs.Prelude.{◌≡◌, false, [], Ok, Err, Result, List, ℕ};
-ghost use Rattle.ctr_disk.specs.declared.disk.Image.{Image};
+ghost use Rattle.ctr_disk.specs.Image.{Image};
 ghost use Rattle.ctr_disk.specs.declared.fault.StoreFault.{StoreFault};
 ghost use Rattle.ctr_records.specs.declared.record.Record.{Record};
 ghost use Rattle.ctr_store.specs.Store.{View, LeavesFront, Logs, MayLog, KeepsRoom, LeavesPage};

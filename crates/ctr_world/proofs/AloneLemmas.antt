@@ -1,9 +1,8 @@
 -- A run changes the file of its log alone.
 use Rattle.std.proofs.Common.{refl, ◌∙◌, ap}
-use Rattle.ctr_disk.specs.declared.disk.Image.{Image}
 use Rattle.ctr_types.specs.declared.file.File.{File}
 use Rattle.ctr_types.specs.declared.file.File.TheVariants.{Root, LogA, LogB, Pages}
-use Rattle.ctr_disk.specs.Image.{with_content, OtherFilesStay}
+use Rattle.ctr_disk.specs.Image.{Image, with_content, OtherFilesStay}
 
 pub others_same : (f : File) (i : Image) → OtherFilesStay f i i
 others_same Root i = refl

@@ -1,7 +1,7 @@
 -- A database that was just made stands for no tables.
 use Rattle.std.proofs.Common.{◌≡◌, ◌⊎◌, inl, inr, [], refl, sym, subst, Option, Some, None}
 use Rattle.std.specs.Prelude.{IsSome}
-use Rattle.ctr_disk.specs.declared.disk.Image.{Image}
+use Rattle.ctr_disk.specs.Image.{Image}
 use Rattle.ctr_log.specs.declared.making.Making.{Making}
 use Rattle.ctr_log.specs.declared.making.Making.TheVariants as making
 use Rattle.ctr_log.specs.Fresh.{IsFresh, IsNoneOrFresh, fresh_root, fresh_log}

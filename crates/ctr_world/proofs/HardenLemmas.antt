@@ -5,11 +5,10 @@ use Rattle.ctr_types.specs.declared.file.File.{File}
 use Rattle.ctr_types.specs.declared.file.File.TheVariants.{LogA, LogB}
 use Rattle.ctr_types.specs.declared.statement.Line.{Line}
 use Rattle.ctr_types.specs.declared.statement.Script.{Script}
-use Rattle.ctr_disk.specs.declared.disk.Image.{Image}
 use Rattle.ctr_disk.specs.declared.disk.Disk.{Ghosts}
 use Rattle.ctr_disk.specs.declared.fault.Stop.TheVariants as stop
 use Rattle.ctr_disk.specs.Device.{LeavesOnly, IsDurable}
-use Rattle.ctr_disk.specs.Image.{content, OtherFilesStay}
+use Rattle.ctr_disk.specs.Image.{Image, content, OtherFilesStay}
 use Rattle.ctr_model.specs.declared.state.State.{State}
 use Rattle.ctr_model.specs.declared.tape.Point.{Point}
 use Rattle.ctr_model.specs.Database.{Database, after_all}

@@ -5,10 +5,9 @@ use Rattle.std.specs.List.{AllByRecursion, filter}
 use Rattle.std.proofs.lemmas.Bool.Decides.{nat_tests}
 use Rattle.ctr_types.specs.declared.statement.Line.{Line}
 use Rattle.ctr_types.specs.declared.tape.Entry.{Entry}
-use Rattle.ctr_disk.specs.declared.disk.Image.{Image}
 use Rattle.ctr_disk.specs.declared.disk.Disk.{Ghosts}
 use Rattle.ctr_disk.specs.Device.{LeavesOnly, IsDurable}
-use Rattle.ctr_disk.specs.Image.{OtherFilesStay}
+use Rattle.ctr_disk.specs.Image.{Image, OtherFilesStay}
 use Rattle.ctr_model.specs.declared.tape.Progress.{Progress}
 use Rattle.ctr_model.specs.Database.{Database}
 use Rattle.ctr_model.specs.Laws.{StatesGrow, LegalStatesAreSound}

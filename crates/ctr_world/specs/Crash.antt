@@ -3,10 +3,9 @@ use Rattle.std.specs.Prelude.{◌≡◌, ◌⊎◌, ℕ, ◌^◌, ◌<◌, ◌�
 use Rattle.ctr_types.specs.declared.file.File.{File}
 use Rattle.ctr_types.specs.declared.statement.Line.{Line}
 use Rattle.ctr_types.specs.declared.tape.Entry.{Entry}
-use Rattle.ctr_disk.specs.declared.disk.Image.{Image}
 use Rattle.ctr_disk.specs.declared.disk.Disk.{Ghosts}
 use Rattle.ctr_disk.specs.Device.{IsDurable}
-use Rattle.ctr_disk.specs.Image.{OtherFilesStay}
+use Rattle.ctr_disk.specs.Image.{Image, OtherFilesStay}
 use Rattle.ctr_model.specs.declared.database.Change.{Change}
 use Rattle.ctr_model.specs.declared.state.State.{State}
 use Rattle.ctr_model.specs.declared.tape.Point.{Point}

@@ -1,7 +1,7 @@
 -- The making of a database: what it leaves, and why none was made.
 use Rattle.std.specs.Prelude.{◌≡◌, ◌≢◌, ◌⊎◌, ◌≤◌, IsTrue, [], None, Result, Ok, Err}
 use Rattle.ctr_types.specs.Faults.{CountsFault}
-use Rattle.ctr_disk.specs.declared.disk.Image.{Image}
+use Rattle.ctr_disk.specs.Image.{Image}
 use Rattle.ctr_disk.specs.declared.disk.Disk.{Ghosts}
 use Rattle.ctr_log.specs.Homes.{root_value}
 use Rattle.ctr_thin.specs.Thin.{StandsFor}

@@ -1,7 +1,7 @@
 // What a World was opened on, named by a type.
 ghost use Rattle.std.specs.Prelude.{ℕ, List, []};
 ghost use Rattle.ctr_types.specs.declared.statement.Line.{Line};
-ghost use Rattle.ctr_disk.specs.declared.disk.Image.{Image};
+ghost use Rattle.ctr_disk.specs.Image.{Image};
 
 use std::marker::Brand;
 

@@ -1,7 +1,7 @@
 // The World: its type names what it was opened on, and keeps the tape legal and the disk's images in order.
 ghost use Rattle.std.specs.Prelude.{◌≡◌, ◌⊎◌, ◌≤◌, ℕ, List, [], ◌++◌, None, IsTrue, IsSome, true, false, IfOk, IfErr};
 ghost use Rattle.ctr_types.specs.declared.tape.Entry.{Entry as HeldEntry};
-ghost use Rattle.ctr_disk.specs.declared.disk.Image.{Image};
+ghost use Rattle.ctr_disk.specs.Image.{Image};
 ghost use Rattle.ctr_disk.specs.Device.{LeavesOnly, OnlyReads};
 ghost use Rattle.ctr_log.specs.Homes.{root_value};
 ghost use Rattle.ctr_model.specs.Database.{Database};

@@ -1,7 +1,8 @@
 // Homes that are laid by hand, and what is read of them.
 use crate::disks::disk_with;
-use ctr_disk::{Image, SilentDisk, StoreFault};
+use ctr_disk::StoreFault;
 use ctr_home::{Root, read_page};
+use ctr_mem_disk::{Image, SilentDisk};
 use ctr_types::File;
 use std::alloc::{AllocError, Global};
 

@@ -2,8 +2,9 @@
 use crate::homes::laid::{
     HOME_5, HOME_6, Laid, SHUT_8, Seen, TWO, Told, ZEROS, body_of, disk_of, lay, look, told,
 };
-use ctr_disk::{Disk, Failed, SilentDisk, StoreFault};
+use ctr_disk::{Disk, Failed, StoreFault};
 use ctr_home::{Block, write_home};
+use ctr_mem_disk::SilentDisk;
 use ctr_types::File;
 use std::alloc::{AllocError, Global};
 use std::test::Fail;

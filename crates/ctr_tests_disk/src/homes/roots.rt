@@ -1,7 +1,8 @@
 // The root: each check, its bytes, its bounds, and both forms of it.
 use crate::homes::laid::{HOME_7, HOME_9, ROOT_7, ROOT_9, Told, altered, disk_of, lay_roots, told};
-use ctr_disk::{Disk, SilentDisk};
+use ctr_disk::Disk;
 use ctr_home::{Root, read_root, read_thin_root, write_root};
+use ctr_mem_disk::SilentDisk;
 use ctr_types::File;
 use std::alloc::{AllocError, Global};
 use std::test::Fail;

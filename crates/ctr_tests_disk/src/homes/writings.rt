@@ -4,8 +4,9 @@ use crate::homes::laid::{
     HOME_5, HOME_6, HOME_7, HOME_9, Laid, ROOT_7, ROOT_9, ROOT_10, SHUT_8, Seen, TWO, WHOLE, ZEROS,
     body_of, disk_of, lay, lay_roots, look,
 };
-use ctr_disk::{Call, Image, Recorded, SilentDisk, StoreFault};
+use ctr_disk::StoreFault;
 use ctr_home::{Block, Root, read_root, write_home, write_root};
+use ctr_mem_disk::{Call, Image, Recorded, SilentDisk};
 use std::alloc::{AllocError, Global};
 use std::test::Fail;
 

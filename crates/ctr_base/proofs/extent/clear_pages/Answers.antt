@@ -1,7 +1,6 @@
 use Rattle.std.proofs.Common.{◌≡◌, ◌∙◌, ◌*◌, ℕ, replicate, refl, ap, arith}
 use Rattle.ctr_types.specs.declared.file.File.TheVariants.{Pages}
-use Rattle.ctr_disk.specs.declared.disk.Image.{Image}
-use Rattle.ctr_disk.specs.Image.{write_of}
+use Rattle.ctr_disk.specs.Image.{Image, write_of}
 use Rattle.ctr_disk.specs.Crash.{Within}
 use Rattle.ctr_disk.specs.Device.{LeavesOnly, IsSettled}
 use Rattle.ctr_disk.proofs.Moments.{starts, goes_on}

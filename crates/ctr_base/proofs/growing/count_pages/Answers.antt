@@ -1,5 +1,5 @@
 use Rattle.std.proofs.Common.{◌*◌, inl, inr, ap, sym, subst}
-use Rattle.ctr_disk.specs.declared.disk.Image.{Image}
+use Rattle.ctr_disk.specs.Image.{Image}
 use Rattle.ctr_disk.proofs.Moments.{weaker, joined, on_ok, settled_by}
 use Rattle.ctr_home.specs.declared.block.Block.TheVariants.{Root as RootBlock}
 use Rattle.ctr_home.specs.Roots.{root_block, root_value}

@@ -1,7 +1,6 @@
 use Rattle.std.proofs.Common.{◌≡◌, ◌∙◌, ap, Some}
 use Rattle.std.proofs.lemmas.Result.{err_from_is_err_and}
-use Rattle.ctr_disk.specs.declared.disk.Image.{Image}
-use Rattle.ctr_disk.specs.Image.{content}
+use Rattle.ctr_disk.specs.Image.{Image, content}
 use Rattle.ctr_home.specs.Blocks.{BlockValue, file_of, held_at}
 use Rattle.ctr_home.proofs.ReadLemmas.{misnumbered, reads_none}
 use Rattle.ctr_home.proofs.reading.read_home.Goals as goal

@@ -1,6 +1,6 @@
 use Rattle.std.proofs.Common.{◌≡◌, ◌∙◌, ap, Some, IsTrue}
 use Rattle.std.proofs.lemmas.Result.{err_from_is_err_and}
-use Rattle.ctr_disk.specs.declared.disk.Image.{Image}
+use Rattle.ctr_disk.specs.Image.{Image}
 use Rattle.ctr_home.specs.declared.block.Block.TheVariants.{Root}
 use Rattle.ctr_home.specs.Blocks.{BlockValue, held_at}
 use Rattle.ctr_home.proofs.ReadLemmas.{root_found, root_refused}

@@ -1,7 +1,6 @@
 use Rattle.std.proofs.Common.{◌≡◌, ◌∙◌, ◌∷◌, [], ◌<◌, ℕ, length, get_or, ap, subst}
-use Rattle.ctr_disk.specs.declared.disk.Image.{Image}
 use Rattle.ctr_types.specs.declared.file.File.{File}
-use Rattle.ctr_disk.specs.Image.{content, TornImage, write_of}
+use Rattle.ctr_disk.specs.Image.{Image, content, TornImage, write_of}
 use Rattle.ctr_home.specs.Blocks.{file_of, home_place}
 use Rattle.ctr_home.specs.Writing.{KeepsHome, IsShut}
 use Rattle.ctr_disk.proofs.Moments.{on_ok, torn_from, read_then, still_only}

@@ -1,7 +1,6 @@
 use Rattle.std.proofs.Common.{◌≡◌, ◌≤◌, length, subst, sym}
-use Rattle.ctr_disk.specs.declared.disk.Image.{Image}
 use Rattle.ctr_disk.specs.declared.disk.Disk.{Ghosts}
-use Rattle.ctr_disk.specs.Image.{content}
+use Rattle.ctr_disk.specs.Image.{Image, content}
 use Rattle.ctr_disk.specs.Device.{LeavesOnly, IsDurable, IsSettled, OnlyReads}
 use Rattle.ctr_home.specs.declared.block.Block.{Block}
 use Rattle.ctr_home.specs.declared.block.Home.{Home}

@@ -1,8 +1,7 @@
 use Rattle.std.proofs.Common.{◌≡◌, ◌∙◌, ◌+◌, ◌^◌, ◌<◌, length, drop, ap, sym, refl, arith}
 use Rattle.std.specs.Prelude.{IsTrue}
 use Rattle.std.proofs.lemmas.Result.{err_from_is_err_and}
-use Rattle.ctr_disk.specs.declared.disk.Image.{Image}
-use Rattle.ctr_disk.specs.Image.{content, section}
+use Rattle.ctr_disk.specs.Image.{Image, content, section}
 use Rattle.ctr_bytes.proofs.FieldLaws.{field_fits}
 use Rattle.ctr_log.specs.Batch.{OpensBatch}
 use Rattle.ctr_home.specs.Checks.{judged}

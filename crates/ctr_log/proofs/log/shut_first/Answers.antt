@@ -1,6 +1,5 @@
 use Rattle.std.proofs.Common.{◌<◌, length, get_or, subst}
-use Rattle.ctr_disk.specs.declared.disk.Image.{Image}
-use Rattle.ctr_disk.specs.Image.{content, TornImage}
+use Rattle.ctr_disk.specs.Image.{Image, content, TornImage}
 use Rattle.ctr_disk.specs.TornLaws.{torn_nothing}
 use Rattle.ctr_log.specs.Kept.{StaysDropped}
 use Rattle.ctr_disk.proofs.Moments.{torn_from, read_then, still_only}

@@ -1,5 +1,5 @@
 use Rattle.std.proofs.Common.{◌+◌, length}
-use Rattle.ctr_disk.specs.declared.disk.Image.{Image}
+use Rattle.ctr_disk.specs.Image.{Image}
 use Rattle.ctr_log.specs.Logs.{IsBeforeOrAfter, IsAfter}
 use Rattle.ctr_disk.proofs.Moments.{joined, on_ok}
 use Rattle.ctr_disk.proofs.Moments.{torn_from}

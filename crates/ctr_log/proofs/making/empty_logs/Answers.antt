@@ -1,5 +1,5 @@
 use Rattle.std.proofs.Common.{◌≡◌, ◌∙◌}
-use Rattle.ctr_disk.specs.declared.disk.Image.{Image}
+use Rattle.ctr_disk.specs.Image.{Image}
 use Rattle.ctr_disk.specs.Crash.{Within}
 use Rattle.ctr_log.specs.Fresh.{SameRoot, AreEmptied}
 use Rattle.ctr_disk.specs.Device.{LeavesOnly, IsSettled}

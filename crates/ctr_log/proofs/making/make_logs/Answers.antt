@@ -1,5 +1,5 @@
 use Rattle.std.proofs.Common.{◌∷◌, [], refl}
-use Rattle.ctr_disk.specs.declared.disk.Image.{Image}
+use Rattle.ctr_disk.specs.Image.{Image}
 use Rattle.ctr_types.specs.declared.file.File.TheVariants.{LogA}
 use Rattle.ctr_bytes.specs.Fields.{spelled}
 use Rattle.ctr_log.specs.Logs.{IsBeforeOrAfter}

@@ -1,5 +1,5 @@
 use Rattle.std.proofs.Common.{◌⊎◌, ◌∙◌, inl, inr, sym}
-use Rattle.ctr_disk.specs.declared.disk.Image.{Image}
+use Rattle.ctr_disk.specs.Image.{Image}
 use Rattle.ctr_disk.proofs.Moments.{weaker, joined, one_call, settled_by, still_only}
 use Rattle.ctr_store.specs.Creating.{IsNoneOrNew}
 use Rattle.ctr_store.proofs.creating.make.Goals as goal

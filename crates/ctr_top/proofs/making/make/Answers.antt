@@ -1,5 +1,5 @@
 use Rattle.std.proofs.Common.{◌⊎◌, sym, subst}
-use Rattle.ctr_disk.specs.declared.disk.Image.{Image}
+use Rattle.ctr_disk.specs.Image.{Image}
 use Rattle.ctr_disk.specs.Device.{LeavesOnly}
 use Rattle.ctr_disk.proofs.Moments.{weaker}
 use Rattle.ctr_log.specs.Fresh.{IsNoneOrFresh}

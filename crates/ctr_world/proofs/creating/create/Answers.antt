@@ -1,7 +1,7 @@
 use Rattle.std.specs.Prelude.{IsTrue}
 use Rattle.std.proofs.Common.{◌≡◌, ◌⊎◌, None, ap, Ok, ◌∙◌}
 use Rattle.ctr_disk.specs.Device.{LeavesOnly}
-use Rattle.ctr_disk.specs.declared.disk.Image.{Image}
+use Rattle.ctr_disk.specs.Image.{Image}
 use Rattle.ctr_disk.proofs.Moments.{weaker}
 use Rattle.ctr_log.specs.Fresh.{IsNoneOrFresh}
 use Rattle.ctr_log.specs.Homes.{root_value}
