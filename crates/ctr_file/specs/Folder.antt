@@ -5,11 +5,19 @@ use Rattle.ctr_types.specs.declared.file.File.TheVariants.{Root, LogA, LogB, Pag
 use Rattle.ctr_file.specs.declared.folder.Folder.{Folder}
 use Rattle.ctr_file.specs.declared.marked.Marked.{Marked}
 
+-- whether the next sync has to reach an open file
+abbrev pub is_marked : {F : Type 0} → Marked F → Bool
+is_marked opened = opened.is_unsynced
+
+-- the open file itself
+abbrev pub file_within : {F : Type 0} → Marked F → F
+file_within opened = opened.file
+
 -- The next sync has to reach a file that is marked, and one that isn't open yet: what an earlier program
 -- wrote may not have reached the disk.
 abbrev pub is_unsynced : {F : Type 0} → Option (Marked F) → Bool
 is_unsynced None = true
-is_unsynced (Some opened) = opened.is_unsynced
+is_unsynced (Some opened) = is_marked opened
 
 -- the next sync has to reach this file of the folder
 abbrev pub IsUnsynced : {R Opened : Type 0} → File → Folder R Opened → Type 0

@@ -4,7 +4,6 @@
 mod file_disk;
 mod folder;
 mod marked;
-#[cfg(test)]
-mod tests;
 
 pub use file_disk::FileDisk;
+pub use marked::{Marked, Syncs};

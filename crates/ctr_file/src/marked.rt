@@ -1,5 +1,6 @@
 //! An open file that keeps in mind whether what was written to it may not have reached the disk.
 ghost use Rattle.std.specs.Prelude.{◌≡◌, true, false, OnOk, OnErr};
+ghost use Rattle.ctr_file.specs.Folder.{is_marked, file_within};
 
 use ctr_disk::Failed;
 use std::fs::File;
@@ -16,7 +17,7 @@ impl Syncs for File {
     }
 }
 
-/// A file with its mark, which is taken away in `sync` alone.
+/// A file with its mark, which is taken away in `sync` alone: the next sync has to reach the file.
 #[derive(Drop)]
 pub struct Marked<F> {
     file: F,
@@ -26,7 +27,7 @@ pub struct Marked<F> {
 impl<F> Marked<F> {
     /// A file that was opened. It is marked: what an earlier program wrote may not have reached the disk.
     pub fn new(file: F) -> Self
-        ensures { result.is_unsynced ≡ true }
+        ensures { is_marked result ≡ true }
     {
         Marked {
             file,
@@ -36,24 +37,24 @@ impl<F> Marked<F> {
 
     /// The file. Who writes to it marks it first.
     pub fn file(&self) -> &F
-        ensures { result.now ≡ self.now.file }
+        ensures { result.now ≡ file_within self.now }
     {
         &self.file
     }
 
     /// The next sync has to reach the file.
     pub fn mark(&mut self)
-        ensures { self.new.is_unsynced ≡ true }
+        ensures { is_marked self.new ≡ true }
     {
         self.is_unsynced = true;
     }
 }
 
 impl<F: Syncs> Marked<F> {
-    /// Syncs the file, if it is marked.
+    /// Syncs the file, if it is marked. One that couldn't be synced stays marked.
     pub fn sync(&mut self) -> Result<(), Failed>
-        ensures synced { OnOk result (self.new.is_unsynced ≡ false) }
-        ensures kept { OnErr result (self.new.is_unsynced ≡ true) }
+        ensures synced { OnOk result (is_marked self.new ≡ false) }
+        ensures kept { OnErr result (is_marked self.new ≡ true) }
     {
         if !self.is_unsynced {
             return Ok(());

@@ -9,4 +9,6 @@ mod bytes;
 #[cfg(test)]
 mod files;
 #[cfg(test)]
+mod marks;
+#[cfg(test)]
 mod streams;

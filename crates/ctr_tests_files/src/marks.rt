@@ -1,6 +1,6 @@
 // Syncs of a file that fails at one of them, which no folder gives.
-use crate::marked::{Marked, Syncs};
 use ctr_disk::Failed;
+use ctr_file::{Marked, Syncs};
 use std::test::Fail;
 
 // A file whose sync of this number fails, and how many it was asked for.
