@@ -281,9 +281,19 @@ fn is_first_shut<D: Disk>(disk: &mut D, file: File) -> Result<bool, Failed>
     ensures quiet { OnlyReads D.Disk disk.old disk.new }
     ensures counts { Counts D.Disk disk.old disk.new result }
 {
-    if disk.size(file)? == 0 {
-        return Ok(false);
+    match disk.size(file) {
+        Ok(0) => Ok(false),
+        Ok(_) => is_gate_shut(disk, file),
+        Err(failed) => Err(failed),
     }
+}
+
+// Whether the first byte of a file isn't that of an open gate.
+fn is_gate_shut<D: Disk>(disk: &mut D, file: File) -> Result<bool, Failed>
+    ensures told { IsTrue D.tells → IfOk result (λ b. IsTrue b ↔ (slice_index (content file (D.reads disk.old)) 0 ≢ 1)) }
+    ensures quiet { OnlyReads D.Disk disk.old disk.new }
+    ensures counts { Counts D.Disk disk.old disk.new result }
+{
     let mut gate = [0];
     disk.read(file, 0, &mut gate)?;
     Ok(gate[0] != 1)

@@ -47,12 +47,25 @@ pub fn init<D: Disk>(disk: &mut D) -> Result<Making, StoreFault>
     ensures refused { OnErr result (result ≡ Err Fault) }
     ensures counts { CountsAs D.Disk Fault disk.old disk.new result }
 {
-    disk.sync()?;
-    if is_open(disk, Block::Root)? {
-        return Ok(Making::Exists);
+    match is_there(disk) {
+        Ok(false) => {
+            make(disk)?;
+            Ok(Making::Made)
+        }
+        Ok(true) => Ok(Making::Exists),
+        Err(_) => Err(StoreFault::Fault),
     }
-    make(disk)?;
-    Ok(Making::Made)
+}
+
+// Syncs, and says whether a root home is open.
+fn is_there<D: Disk>(disk: &mut D) -> Result<bool, Failed>
+    ensures told { IsTrue D.tells → IfOk result (λ b. IsTrue b ↔ IsSome (root_value (D.reads disk.old).root)) }
+    ensures quiet { OnlyReads D.Disk disk.old disk.new }
+    ensures durable { OnOk result (IsDurable D.Disk disk.new) }
+    ensures counts { Counts D.Disk disk.old disk.new result }
+{
+    disk.sync()?;
+    is_open(disk, Block::Root)
 }
 
 // The logs and the root of a new database.
