@@ -85,12 +85,15 @@ impl<R: Files<File = File> + Drop> Disk for FileDisk<R> {
     }
 
     fn read(&mut self, file: Which, at: u64, into: &mut [u8]) -> Result<(), Failed> {
-        if at >= (1 << 63) - into.len() as u64 {
+        let strays = at >= (1 << 63) - into.len() as u64;
+        if strays {
             self.strays = self.strays.saturating_add(1);
-            self.faults = self.faults.saturating_add(1);
-            return Err(Failed);
         }
-        let done = self.folder.read(file, at, into);
+        let done = if strays {
+            Err(Failed)
+        } else {
+            self.folder.read(file, at, into)
+        };
         if done.is_err() {
             self.faults = self.faults.saturating_add(1);
         }
@@ -102,16 +105,13 @@ impl<R: Files<File = File> + Drop> Disk for FileDisk<R> {
         if strays {
             self.strays = self.strays.saturating_add(1);
         }
-        if self.moment == u64::MAX {
-            self.faults = self.faults.saturating_add(1);
-            return Err(Failed);
-        }
-        self.moment += 1;
-        if strays {
-            self.faults = self.faults.saturating_add(1);
-            return Err(Failed);
-        }
-        let done = self.folder.write(file, at, bytes);
+        let is_last = self.moment == u64::MAX;
+        self.moment = self.moment.saturating_add(1);
+        let done = if strays || is_last {
+            Err(Failed)
+        } else {
+            self.folder.write(file, at, bytes)
+        };
         if done.is_err() {
             self.faults = self.faults.saturating_add(1);
         }
@@ -119,12 +119,13 @@ impl<R: Files<File = File> + Drop> Disk for FileDisk<R> {
     }
 
     fn sync(&mut self) -> Result<(), Failed> {
-        if self.moment == u64::MAX {
-            self.faults = self.faults.saturating_add(1);
-            return Err(Failed);
-        }
-        self.moment += 1;
-        let done = self.folder.sync();
+        let is_last = self.moment == u64::MAX;
+        self.moment = self.moment.saturating_add(1);
+        let done = if is_last {
+            Err(Failed)
+        } else {
+            self.folder.sync()
+        };
         if done.is_err() {
             self.faults = self.faults.saturating_add(1);
         }
