@@ -1,5 +1,9 @@
 // The last line of a run on a sink.
-ghost use Rattle.std.specs.Prelude.{◌≡◌};
+ghost use Rattle.std.specs.Prelude.{◌≡◌, ◌≢◌, List};
+ghost use Rattle.ctr_types.specs.declared.tape.Entry.{Entry};
+ghost use Rattle.ctr_model.specs.declared.tape.Cause.{Cause};
+ghost use Rattle.ctr_model.specs.declared.tape.Command.{Command};
+ghost use Rattle.ctr_model.specs.declared.tape.Report.{Report};
 ghost use Rattle.ctr_model.specs.Texts.{success_line, file_text, script_line, damage_line, worn_line, last_line, report_line, end_line, load_line};
 ghost use Rattle.ctr_print.specs.Prints.{PrintsMore};
 
@@ -165,6 +169,22 @@ fn put_worn<K: Sink>(out: &mut Printer<K>, cause: &Cause)
     )
 }
 
+// The last line of a run that ends with a status of which nothing more is told.
+fn line_of(status: u8) -> &'static [u8]
+    ensures { (of : Command) (cause : Cause) (es : List Entry) (report : Report)
+        → status ≢ 0 → status ≢ 1 → status ≢ 4 → status ≢ 10 → result.now ≡ last_line of status cause es report }
+{
+    match status {
+        2 => b"ctr: usage\n",
+        3 => b"ctr: no database\n",
+        5 => b"ctr: disk fault\n",
+        6 => b"ctr: read fault\n",
+        8 => b"ctr: out of memory\n",
+        9 => b"ctr: database exists\n",
+        _ => b"",
+    }
+}
+
 /// Puts the last line of a run that ends with this status. Status 7, a sink that failed, has none.
 pub fn put_last_line<K: Sink>(
     out: &mut Printer<K>,
@@ -179,14 +199,8 @@ pub fn put_last_line<K: Sink>(
     match status {
         0 => put_success(out, command, tape, report),
         1 => put_script(out, cause),
-        2 => out.put(b"ctr: usage\n"),
-        3 => out.put(b"ctr: no database\n"),
         4 => put_damage(out, cause),
-        5 => out.put(b"ctr: disk fault\n"),
-        6 => out.put(b"ctr: read fault\n"),
-        8 => out.put(b"ctr: out of memory\n"),
-        9 => out.put(b"ctr: database exists\n"),
         10 => put_worn(out, cause),
-        _ => {}
+        _ => out.put(line_of(status)),
     }
 }

@@ -1,7 +1,7 @@
 // Refusals on a sink.
-ghost use Rattle.std.specs.Prelude.{◌++◌, codes};
+ghost use Rattle.std.specs.Prelude.{◌≡◌, ◌++◌, MatchOption};
 ghost use Rattle.std.specs.Fmt.{decimal};
-ghost use Rattle.ctr_model.specs.Texts.{refusal_text, holder_text};
+ghost use Rattle.ctr_model.specs.Texts.{refusal_text};
 ghost use Rattle.ctr_print.specs.Prints.{PrintsMore};
 
 use crate::piece::Piece;
@@ -10,42 +10,36 @@ use crate::printer::Printer;
 use ctr_io::Sink;
 use ctr_types::Refusal;
 
+// The words of a refusal, and the number behind them where it has one.
+fn words_of(refusal: Refusal) -> (&'static [u8], Option<u64>)
+    ensures { MatchOption result.1 (result.0.now ≡ refusal_text refusal) (λ n. result.0.now ++ decimal n ≡ refusal_text refusal) }
+{
+    match refusal {
+        Refusal::NoTransaction => (b"NoTransaction", None),
+        Refusal::InTransaction => (b"InTransaction", None),
+        Refusal::NoTable => (b"NoTable", None),
+        Refusal::TableExists => (b"TableExists", None),
+        Refusal::TableBusy { by: 0 } => (b"TableBusy by recovery", None),
+        Refusal::TableBusy { by } => (b"TableBusy by ", Some(u64::from(by))),
+        Refusal::SchemaChanged { commit } => (b"SchemaChanged by commit ", Some(commit)),
+        Refusal::BadValue { at } => (b"BadValue ", Some(at)),
+        Refusal::RowLocked { by } => (b"RowLocked by ", Some(u64::from(by))),
+        Refusal::RowChanged { commit } => (b"RowChanged by commit ", Some(commit)),
+        Refusal::OutOfMemory => (b"OutOfMemory", None),
+        Refusal::Duplicate => (b"Duplicate", None),
+        Refusal::NotFound => (b"NotFound", None),
+        Refusal::OutOfRange => (b"OutOfRange", None),
+        Refusal::CatalogFull { limit } => (b"CatalogFull ", Some(u64::from(limit))),
+        Refusal::Full { limit } => (b"Full ", Some(u64::from(limit))),
+    }
+}
+
 /// Puts why an act was refused.
 pub fn put_refusal<K: Sink>(out: &mut Printer<K>, refusal: Refusal)
     ensures { PrintsMore K.Sink (refusal_text refusal) out.old out.new }
 {
-    match refusal {
-        Refusal::NoTransaction => out.put(b"NoTransaction"),
-        Refusal::InTransaction => out.put(b"InTransaction"),
-        Refusal::NoTable => out.put(b"NoTable"),
-        Refusal::TableExists => out.put(b"TableExists"),
-        Refusal::TableBusy { by } => put_busy(out, by),
-        Refusal::SchemaChanged { commit } => {
-            put_reason(out, b"SchemaChanged by commit ", commit)
-        }
-        Refusal::BadValue { at } => put_reason(out, b"BadValue ", at),
-        Refusal::RowLocked { by } => put_reason(out, b"RowLocked by ", u64::from(by)),
-        Refusal::RowChanged { commit } => put_reason(out, b"RowChanged by commit ", commit),
-        Refusal::OutOfMemory => out.put(b"OutOfMemory"),
-        Refusal::Duplicate => out.put(b"Duplicate"),
-        Refusal::NotFound => out.put(b"NotFound"),
-        Refusal::OutOfRange => out.put(b"OutOfRange"),
-        Refusal::CatalogFull { limit } => put_reason(out, b"CatalogFull ", u64::from(limit)),
-        Refusal::Full { limit } => put_reason(out, b"Full ", u64::from(limit)),
+    match words_of(refusal) {
+        (words, None) => out.put(words),
+        (words, Some(number)) => put_pieces(out, &[Piece::Bytes(words), Piece::Number(number)]),
     }
-}
-
-fn put_reason<K: Sink>(out: &mut Printer<K>, words: &[u8], number: u64)
-    ensures { PrintsMore K.Sink (words.now ++ decimal number) out.old out.new }
-{
-    put_pieces(out, &[Piece::Bytes(words), Piece::Number(number)]);
-}
-
-fn put_busy<K: Sink>(out: &mut Printer<K>, by: u8)
-    ensures { PrintsMore K.Sink (codes "TableBusy by " ++ holder_text by) out.old out.new }
-{
-    if by == 0 {
-        return out.put(b"TableBusy by recovery");
-    }
-    put_reason(out, b"TableBusy by ", u64::from(by));
 }
