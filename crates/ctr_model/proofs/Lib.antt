@@ -1,5 +1,6 @@
 mod Entries
 pub mod Sessions
+pub mod Outside
 mod Determined
 mod Snapshots
 mod Rollbacks

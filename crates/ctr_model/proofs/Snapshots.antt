@@ -4,7 +4,6 @@ use Rattle.std.proofs.lemmas.List.{append-nil, take-append-le}
 use Rattle.ctr_types.specs.declared.statement.Statement.{Statement}
 use Rattle.ctr_types.specs.declared.statement.Line.{Line}
 use Rattle.ctr_types.specs.declared.tape.Act.{Act}
-use Rattle.ctr_types.specs.declared.tape.Act.TheVariants as act
 use Rattle.ctr_types.specs.declared.tape.Reply.{Reply}
 use Rattle.ctr_types.specs.declared.tape.Reply.TheVariants as reply
 use Rattle.ctr_types.specs.declared.tape.Entry.{Entry}
@@ -17,6 +16,7 @@ use Rattle.ctr_model.specs.State.{transaction_of, rows_at}
 use Rattle.ctr_model.specs.Reply.{next_inside, next_outside, released, next_from, next_state}
 use Rattle.ctr_model.specs.Tape.{statement_of, passed, final}
 use Rattle.ctr_model.specs.Laws.{asked_by, Grows, OthersOnly, SeesTheSame, SnapshotsStay}
+use Rattle.ctr_model.proofs.Outside.{released-cases, next_outside-cases}
 use Rattle.ctr_model.proofs.Sessions.{find-put-other, find-without-other}
 
 -- ---- one step of another session
@@ -34,27 +34,8 @@ module _ (state : State) (s t : ℕ) (other : (s == t) ≡ false) where
   inside_stays me a of reply.Released = refl
   inside_stays me a of (reply.Refused why) = refl
 
-  released_stays : (a : Act) → transaction_of (released a state) s ≡ transaction_of state s
-  released_stays act.Begin = refl
-  released_stays act.Read = refl
-  released_stays act.Lock = refl
-  released_stays act.Write = refl
-  released_stays act.Ask = refl
-  released_stays act.Answer = refl
-  released_stays act.Rollback = refl
-  released_stays (act.Release name) = refl
-
   outside_stays : (a : Act) (of : Option Statement) (r : Reply) → transaction_of (next_outside state t a of r) s ≡ transaction_of state s
-  outside_stays a of (reply.Began n) = find-put-other s t _ state.sessions other
-  outside_stays a of reply.Granted = refl
-  outside_stays a of (reply.Rows rows) = refl
-  outside_stays a of reply.Done = refl
-  outside_stays a of (reply.Asked k) = refl
-  outside_stays a of reply.ReadOnly = refl
-  outside_stays a of (reply.Answered k) = refl
-  outside_stays a of reply.RolledBack = refl
-  outside_stays a of reply.Released = released_stays a
-  outside_stays a of (reply.Refused why) = refl
+  outside_stays = next_outside-cases (λ r new. transaction_of new s ≡ transaction_of state s) state t (λ n. find-put-other s t _ state.sessions other) (λ r. refl) (λ name. refl)
 
   pub others_stay : (a : Act) (of : Option Statement) (r : Reply) → transaction_of (next_state state t a of r) s ≡ transaction_of state s
   others_stay a of r = elim (transaction_of state t) as (λ f. transaction_of (next_from state t f a of r) s ≡ transaction_of state s) [
@@ -80,14 +61,7 @@ inside_grows state t me a of reply.Released = same_asked _ _ refl refl
 inside_grows state t me a of (reply.Refused why) = same_asked _ _ refl refl
 
 released_grows : (state : State) (a : Act) → Grows [] state (released a state)
-released_grows state act.Begin = same_asked _ _ refl refl
-released_grows state act.Read = same_asked _ _ refl refl
-released_grows state act.Lock = same_asked _ _ refl refl
-released_grows state act.Write = same_asked _ _ refl refl
-released_grows state act.Ask = same_asked _ _ refl refl
-released_grows state act.Answer = same_asked _ _ refl refl
-released_grows state act.Rollback = same_asked _ _ refl refl
-released_grows state (act.Release name) = same_asked _ _ refl refl
+released_grows state = released-cases (Grows [] state) state (same_asked _ _ refl refl) (λ name. same_asked _ _ refl refl)
 
 outside_grows : (state : State) (t : ℕ) (a : Act) (of : Option Statement) (r : Reply) → Grows (asked_by r None) state (next_outside state t a of r)
 outside_grows state t a of (reply.Began n) = same_asked _ _ refl refl

@@ -20,9 +20,10 @@ use Rattle.ctr_model.specs.Maps.{without}
 use Rattle.ctr_model.specs.Database.{Database}
 use Rattle.ctr_model.specs.State.{transaction_of, view, begun}
 use Rattle.ctr_model.specs.Refusals.{refusal_of, write_refusal, table_of, key_locked}
-use Rattle.ctr_model.specs.Reply.{refused_or, reply_inside, reply_outside, reply_from, reply_to, IsWantOfRoom, MayStandFor, with_lock, with_use, on_table, granted, with_granted, with_read, with_changes, next_inside, next_outside, released, next_from, next_state}
+use Rattle.ctr_model.specs.Reply.{refused_or, reply_inside, reply_outside, reply_from, reply_to, IsWantOfRoom, MayStandFor, with_lock, with_use, on_table, granted, with_granted, with_read, with_changes, next_inside, next_outside, next_from, next_state}
 use Rattle.ctr_model.specs.Tape.{statement_of, passed, final, Legal, Comes, IsInTurn, at_start}
 use Rattle.ctr_model.specs.Laws.{IsSoundState, LegalStatesAreSound}
+use Rattle.ctr_model.proofs.Outside.{reply_outside-cases, next_outside-cases}
 use Rattle.ctr_model.proofs.Sessions.{known, find-put-other, find-put-same, find-without-other, find-without-same}
 
 -- ---- what a reply tells of the state and the act
@@ -52,14 +53,7 @@ inside_tells state s me act.Rollback statement = tt
 inside_tells state s me (act.Release name) statement = tt
 
 outside_tells : (state : State) (a : Act) → Tells state a (reply_outside state a)
-outside_tells state act.Begin = refl
-outside_tells state act.Read = tt
-outside_tells state act.Lock = tt
-outside_tells state act.Write = tt
-outside_tells state act.Ask = tt
-outside_tells state act.Answer = tt
-outside_tells state act.Rollback = tt
-outside_tells state (act.Release name) = tt
+outside_tells state = reply_outside-cases (Tells state) state refl (λ a. tt) (λ name. tt)
 
 reply_tells : (state : State) (s : ℕ) (a : Act) (statement : Statement) → Tells state a (reply_to state s a (Some statement))
 reply_tells state s a statement = elim (transaction_of state s) as (λ f. Tells state a (reply_from state s f a statement)) [
@@ -202,30 +196,13 @@ module _ (state : State) (s : ℕ) (a : Act) (sound : IsSoundState state) where
   inside_sound me is of reply.Released tells turn = sound
   inside_sound me is of (reply.Refused why) tells turn = sound
 
-released_sound : (state : State) (a : Act) → IsSoundState state → IsSoundState (released a state)
-released_sound state act.Begin sound = sound
-released_sound state act.Read sound = sound
-released_sound state act.Lock sound = sound
-released_sound state act.Write sound = sound
-released_sound state act.Ask sound = sound
-released_sound state act.Answer sound = sound
-released_sound state act.Rollback sound = sound
-released_sound state (act.Release name) sound = record { answered = sound.answered; each = sound.each }
-
 outside_sound : (state : State) (s : ℕ) (a : Act) (of : Option Statement) (r : Reply) → IsSoundState state → Tells state a r → IsSoundState (next_outside state s a of r)
-outside_sound state s a of (reply.Began n) sound tells = record {
-  answered = sound.answered;
-  each = each_put (Fits state.answered (length state.asked)) state.sessions s sound.each (begun n) (omega (arith, tells), tt);
-}
-outside_sound state s a of reply.Granted sound tells = sound
-outside_sound state s a of (reply.Rows rows) sound tells = sound
-outside_sound state s a of reply.Done sound tells = sound
-outside_sound state s a of (reply.Asked k) sound tells = sound
-outside_sound state s a of reply.ReadOnly sound tells = sound
-outside_sound state s a of (reply.Answered k) sound tells = sound
-outside_sound state s a of reply.RolledBack sound tells = sound
-outside_sound state s a of reply.Released sound tells = released_sound state a sound
-outside_sound state s a of (reply.Refused why) sound tells = sound
+outside_sound state s a of r sound = next_outside-cases (λ r new. Tells state a r → IsSoundState new) state s
+    (λ n tells. record {
+      answered = sound.answered;
+      each = each_put (Fits state.answered (length state.asked)) state.sessions s sound.each (begun n) (omega (arith, tells), tt);
+    })
+    (λ r tells. sound) (λ name tells. record { answered = sound.answered; each = sound.each }) a of r
 
 next_sound : (state : State) (s : ℕ) (a : Act) (of : Option Statement) (r : Reply) → IsSoundState state → Tells state a r → IsInTurn state s a → IsSoundState (next_state state s a of r)
 next_sound state s a of r sound tells turn = elim (transaction_of state s) as (λ f. transaction_of state s ≡ f → IsSoundState (next_from state s f a of r)) [
