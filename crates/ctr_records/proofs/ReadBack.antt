@@ -4,7 +4,7 @@ use Rattle.std.proofs.lemmas.Bool.Decides.{eqb_tells}
 use Rattle.std.proofs.lemmas.List.{take_at}
 use Rattle.ctr_bytes.specs.Fields.{field, spelled}
 use Rattle.ctr_records.specs.declared.record.Record.{Record}
-use Rattle.ctr_records.specs.declared.record.Record.TheVariants.{Checkpoint, Begin, Commit, Abort, Forget, Alloc, Format, Link, Free, Unlink, Create, Uncreate, Drop, Undrop, Row, Keep, Revert, Trim}
+use Rattle.ctr_records.specs.declared.record.Record.TheVariants.{Checkpoint}
 use Rattle.ctr_records.specs.declared.record.Form.{Form}
 use Rattle.ctr_records.specs.declared.record.Form.TheVariants.{Lists, Fields}
 use Rattle.ctr_records.specs.declared.table.Tag.{Tag}
@@ -15,6 +15,7 @@ use Rattle.ctr_records.specs.Spelling.{checkpoint_bytes, parts_bytes, form_bytes
 use Rattle.ctr_records.specs.Records.{FormFits, IsRecord}
 use Rattle.ctr_records.specs.Read.{tag_numbered, parts_read, record_with, record_in}
 use Rattle.ctr_records.proofs.Forms.{numbers, reads}
+use Rattle.ctr_records.proofs.RecordForms.{form_record, form_again}
 use Rattle.ctr_records.proofs.ListLaws.{length-checkpoint, checkpoint_number, checkpoint_next, checkpoint_rest}
 
 pub tag_again : (t : Tag) → tag_numbered (layout t).number ≡ t
@@ -35,31 +36,6 @@ tag_again tag.Row = refl
 tag_again tag.Keep = refl
 tag_again tag.Revert = refl
 tag_again tag.Trim = refl
-
--- the record of a form
-abbrev form_record : Form → Record
-form_record (Lists next lists) = Checkpoint next lists
-form_record (Fields p) = record_with p
-
-form_again : (r : Record) → form_record (form_of r) ≡ r
-form_again (Checkpoint next lists) = refl
-form_again (Begin x) = refl
-form_again (Commit x) = refl
-form_again (Abort x) = refl
-form_again (Forget x) = refl
-form_again (Alloc x p o) = refl
-form_again (Format x p o) = refl
-form_again (Link x p o) = refl
-form_again (Free p o) = refl
-form_again (Unlink p o) = refl
-form_again (Create x e o) = refl
-form_again (Uncreate e o) = refl
-form_again (Drop x e o) = refl
-form_again (Undrop e o) = refl
-form_again (Row x over o) = refl
-form_again (Keep x o) = refl
-form_again (Revert x o) = refl
-form_again (Trim o) = refl
 
 pick_first : {A : Type 0} (n : ℕ) (x y : A) → n ≡ 1 → (if n == 1 then x else y) ≡ x
 pick_first n x y is = ap (λ (k : ℕ). if k == 1 then x else y) is

@@ -1,5 +1,6 @@
 // Reading a Checkpoint. The checks stand in the order in which they are told.
-ghost use Rattle.std.specs.Prelude.{◌≡◌, ◌≤◌, ◌<◌, ◌+◌, ◌*◌, ◌^◌, length, Ok};
+ghost use Rattle.std.specs.Prelude.{◌≡◌, ◌≤◌, ◌<◌, ◌+◌, ◌*◌, ◌^◌, ℕ, List, length, Ok, Result, ⊤};
+ghost use Rattle.ctr_records.specs.declared.decoding.BadRecord.{BadRecord};
 ghost use Rattle.ctr_bytes.specs.Fields.{field};
 ghost use Rattle.ctr_records.specs.Spelling.{record_bytes};
 ghost use Rattle.ctr_records.specs.Checkpoint.{count_at, opens_in, aborted_in, items_at, items_in, end_at, xid_at, each, end_check, kind_check, kinds_in, item_most, item_check, next_check, heads_check, is_among, is_new, xid_check, list_checks, checkpoint_checks};
@@ -84,16 +85,6 @@ fn check_kind(base: usize, i: usize, bytes: &[u8]) -> Result<(), BadRecord>
     at_most(at, 4, kind as u64)
 }
 
-fn check_kinds(base: usize, count: usize, bytes: &[u8]) -> Result<(), BadRecord>
-    requires { base + 13 * count ≤ length bytes.now + 12 }
-    ensures { result ≡ each (kind_check base bytes.now) 0 count }
-{
-    for i in 0..count {
-        check_kind(base, i, bytes)?;
-    }
-    Ok(())
-}
-
 #[tactic(auto, unfolding(crate::specs::Checkpoint::item_check))]
 fn check_item(base: usize, i: usize, bytes: &[u8]) -> Result<(), BadRecord>
     requires { base + 13 * i + 13 ≤ length bytes.now }
@@ -106,16 +97,6 @@ fn check_item(base: usize, i: usize, bytes: &[u8]) -> Result<(), BadRecord>
     }
     let most = if kind > 2 { 31 } else { 29_999 };
     at_most(at + 9, most, get_u32(bytes, at + 9) as u64)
-}
-
-fn check_items(base: usize, count: usize, bytes: &[u8]) -> Result<(), BadRecord>
-    requires { base + 13 * count ≤ length bytes.now }
-    ensures { result ≡ each (item_check base bytes.now) 0 count }
-{
-    for i in 0..count {
-        check_item(base, i, bytes)?;
-    }
-    Ok(())
 }
 
 #[tactic(auto, unfolding(crate::specs::Checkpoint::next_check))]
@@ -148,16 +129,6 @@ fn check_head(opens: usize, i: usize, bytes: &[u8]) -> Result<(), BadRecord>
     at_most(at, 1 << 62, get_u64(bytes, at))
 }
 
-fn check_heads(opens: usize, count: usize, bytes: &[u8]) -> Result<(), BadRecord>
-    requires { 25 + 16 * count ≤ length bytes.now }
-    ensures { result ≡ each (heads_check opens bytes.now) 0 count }
-{
-    for i in 0..count {
-        check_head(opens, i, bytes)?;
-    }
-    Ok(())
-}
-
 // Whether a transaction is among the first n.
 fn is_among(opens: usize, n: usize, x: u64, bytes: &[u8]) -> bool
     requires { 25 + 16 * n ≤ length bytes.now }
@@ -188,14 +159,80 @@ fn check_xid(opens: usize, i: usize, bytes: &[u8]) -> Result<(), BadRecord>
     })
 }
 
-fn check_xids(opens: usize, count: usize, bytes: &[u8]) -> Result<(), BadRecord>
-    requires { 25 + 16 * count ≤ length bytes.now }
-    ensures { result ≡ each (xid_check opens bytes.now) 0 count }
+// A check of each member of a list. Where it stands is told by one number: the byte at which the list's
+// members begin, or how many transactions are open.
+trait Check {
+    /// The bytes reach to the member.
+    ghost reaches: { ℕ → ℕ → List ℕ → Type 0 };
+
+    ghost meant: { ℕ → List ℕ → ℕ → Result ⊤ BadRecord };
+
+    fn check(from: usize, i: usize, bytes: &[u8]) -> Result<(), BadRecord>
+        requires { reaches from i bytes.now }
+        ensures { result ≡ meant from bytes.now i };
+}
+
+// The first so many members, in order, as far as one fails.
+fn check_each<C: Check>(from: usize, count: usize, bytes: &[u8]) -> Result<(), BadRecord>
+    requires { (i : ℕ) → i < count → C.reaches from i bytes.now }
+    ensures { result ≡ each (C.meant from bytes.now) 0 count }
 {
     for i in 0..count {
-        check_xid(opens, i, bytes)?;
+        C::check(from, i, bytes)?;
     }
     Ok(())
+}
+
+// That an item is of a kind that there is.
+struct Kinds;
+
+impl Check for Kinds {
+    ghost reaches = { λ base i bytes. base + 13 * i < length bytes };
+
+    ghost meant = { kind_check };
+
+    fn check(base: usize, i: usize, bytes: &[u8]) -> Result<(), BadRecord> {
+        check_kind(base, i, bytes)
+    }
+}
+
+// That an item is one.
+struct Items;
+
+impl Check for Items {
+    ghost reaches = { λ base i bytes. base + 13 * i + 13 ≤ length bytes };
+
+    ghost meant = { item_check };
+
+    fn check(base: usize, i: usize, bytes: &[u8]) -> Result<(), BadRecord> {
+        check_item(base, i, bytes)
+    }
+}
+
+// That a transaction has no more heads than there may be.
+struct Heads;
+
+impl Check for Heads {
+    ghost reaches = { λ opens i bytes. 25 + 16 * i + 16 ≤ length bytes };
+
+    ghost meant = { heads_check };
+
+    fn check(opens: usize, i: usize, bytes: &[u8]) -> Result<(), BadRecord> {
+        check_head(opens, i, bytes)
+    }
+}
+
+// That a transaction is a new one.
+struct Xids;
+
+impl Check for Xids {
+    ghost reaches = { λ opens i bytes. 25 + 16 * i + 16 ≤ length bytes };
+
+    ghost meant = { xid_check };
+
+    fn check(opens: usize, i: usize, bytes: &[u8]) -> Result<(), BadRecord> {
+        check_xid(opens, i, bytes)
+    }
 }
 
 #[tactic(auto, unfolding(crate::specs::Checkpoint::kinds_in))]
@@ -211,7 +248,7 @@ fn check_all_kinds(places: &Places, bytes: &[u8]) -> Result<(), BadRecord>
     if count == 0 {
         return Ok(());
     }
-    check_kinds(base as usize, count as usize, bytes)
+    check_each::<Kinds>(base as usize, count as usize, bytes)
 }
 
 // The lists of bytes whose length is the wanted one.
@@ -227,10 +264,10 @@ fn check_lists(places: &Places, bytes: &[u8]) -> Result<(), BadRecord>
 {
     let opens = places.opens as usize;
     let count = opens + places.aborted as usize;
-    check_items(places.items_at as usize + 8, places.items as usize, bytes)?;
+    check_each::<Items>(places.items_at as usize + 8, places.items as usize, bytes)?;
     check_next(get_u64(bytes, 1))?;
-    check_heads(opens, count, bytes)?;
-    check_xids(opens, count, bytes)
+    check_each::<Heads>(opens, count, bytes)?;
+    check_each::<Xids>(opens, count, bytes)
 }
 
 /// The checks of a Checkpoint.
