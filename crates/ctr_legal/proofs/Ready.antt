@@ -80,32 +80,26 @@ two_others zero is = apart_acts act.Lock act.Lock act.Ask refl (some_is act.Lock
 two_others (suc zero) is = apart_acts act.Write act.Write act.Ask refl (some_is act.Write act.Ask is) refl
 two_others (suc (suc made)) is = absurd_some act.Ask is
 
--- an Ask isn't the last
+-- an Ask is the first act of a COMMIT
+ask_first : (state : State) (s : ℕ) (statement : Statement) (made : ℕ) → slice_get (acts_of state s statement) made ≡ Some act.Ask → (statement ≡ st.Commit) × (made ≡ 0)
+ask_first state s st.Begin made is = one_other act.Begin made refl is
+ask_first state s st.Rollback made is = one_other act.Rollback made refl is
+ask_first state s (st.Select table at) made is = one_other act.Read made refl is
+ask_first state s st.Commit zero is = (refl, refl)
+ask_first state s st.Commit (suc zero) is = apart_acts act.Answer act.Answer act.Ask refl (some_is act.Answer act.Ask is) refl
+ask_first state s st.Commit (suc (suc made)) is = absurd_some act.Ask is
+ask_first state s (st.Create table schema) made is = two_others made is
+ask_first state s (st.DropTable table) made is = two_others made is
+ask_first state s (st.Insert table values) made is = two_others made is
+ask_first state s (st.Update table sets at) made is = two_others made is
+ask_first state s (st.Delete table at) made is = two_others made is
+
+-- so it isn't the last
 pub ask_goes_on : (state : State) (s : ℕ) (statement : Statement) (made : ℕ) → slice_get (acts_of state s statement) made ≡ Some act.Ask → nat_le (made + 2) (length (acts_of state s statement)) ≡ true
-ask_goes_on state s st.Begin made is = one_other act.Begin made refl is
-ask_goes_on state s st.Rollback made is = one_other act.Rollback made refl is
-ask_goes_on state s (st.Select table at) made is = one_other act.Read made refl is
-ask_goes_on state s st.Commit zero is = refl
-ask_goes_on state s st.Commit (suc zero) is = apart_acts act.Answer act.Answer act.Ask refl (some_is act.Answer act.Ask is) refl
-ask_goes_on state s st.Commit (suc (suc made)) is = absurd_some act.Ask is
-ask_goes_on state s (st.Create table schema) made is = two_others made is
-ask_goes_on state s (st.DropTable table) made is = two_others made is
-ask_goes_on state s (st.Insert table values) made is = two_others made is
-ask_goes_on state s (st.Update table sets at) made is = two_others made is
-ask_goes_on state s (st.Delete table at) made is = two_others made is
+ask_goes_on state s statement made is = let first = ask_first state s statement made is in rw (first.0, first.1) refl
 
 pub answer_next : (state : State) (s : ℕ) (statement : Statement) (made : ℕ) → slice_get (acts_of state s statement) made ≡ Some act.Ask → slice_get (acts_of state s statement) (suc made) ≡ Some act.Answer
-answer_next state s st.Begin made is = one_other act.Begin made refl is
-answer_next state s st.Rollback made is = one_other act.Rollback made refl is
-answer_next state s (st.Select table at) made is = one_other act.Read made refl is
-answer_next state s st.Commit zero is = refl
-answer_next state s st.Commit (suc zero) is = apart_acts act.Answer act.Answer act.Ask refl (some_is act.Answer act.Ask is) refl
-answer_next state s st.Commit (suc (suc made)) is = absurd_some act.Ask is
-answer_next state s (st.Create table schema) made is = two_others made is
-answer_next state s (st.DropTable table) made is = two_others made is
-answer_next state s (st.Insert table values) made is = two_others made is
-answer_next state s (st.Update table sets at) made is = two_others made is
-answer_next state s (st.Delete table at) made is = two_others made is
+answer_next state s statement made is = let first = ask_first state s statement made is in rw (first.0, first.1) refl
 
 -- the acts are the same at every state
 pub acts_same : (a b : State) (s : ℕ) (statement : Statement) → acts_of a s statement ≡ acts_of b s statement
