@@ -3,7 +3,6 @@ use Rattle.std.proofs.Common.{◌≡◌, ℕ, ◌+◌, ◌<◌, ◌≤◌, ◌^�
 use Rattle.ctr_types.specs.declared.statement.Statement.{Statement}
 use Rattle.ctr_types.specs.declared.statement.Line.{Line}
 use Rattle.ctr_types.specs.declared.tape.Act.{Act}
-use Rattle.ctr_types.specs.declared.tape.Act.TheVariants as act
 use Rattle.ctr_types.specs.declared.tape.Reply.{Reply}
 use Rattle.ctr_types.specs.declared.tape.Reply.TheVariants as reply
 use Rattle.ctr_types.specs.declared.tape.Entry.{Entry}
@@ -11,8 +10,9 @@ use Rattle.ctr_model.specs.declared.state.State.{State}
 use Rattle.ctr_model.specs.declared.state.Transaction.{Transaction}
 use Rattle.ctr_model.specs.declared.tape.Point.{Point}
 use Rattle.ctr_model.specs.State.{transaction_of}
-use Rattle.ctr_model.specs.Reply.{next_inside, next_outside, released, next_from, next_state}
+use Rattle.ctr_model.specs.Reply.{next_inside, next_outside, next_from, next_state}
 use Rattle.ctr_model.specs.Tape.{statement_of, Comes}
+use Rattle.ctr_model.proofs.Outside.{next_outside-cases}
 use Rattle.ctr_machine.specs.Follow.{HasNumber}
 
 inside : (state : State) (s : ℕ) (me : Transaction) (a : Act) (of : Option Statement) (r : Reply) → (next_inside state s me a of r).answered ≤ state.answered + 1
@@ -27,27 +27,8 @@ inside state s me a of reply.RolledBack = omega arith
 inside state s me a of reply.Released = omega arith
 inside state s me a of (reply.Refused why) = omega arith
 
-release : (state : State) (a : Act) → (released a state).answered ≡ state.answered
-release state act.Begin = refl
-release state act.Read = refl
-release state act.Lock = refl
-release state act.Write = refl
-release state act.Ask = refl
-release state act.Answer = refl
-release state act.Rollback = refl
-release state (act.Release name) = refl
-
 outside : (state : State) (s : ℕ) (a : Act) (of : Option Statement) (r : Reply) → (next_outside state s a of r).answered ≡ state.answered
-outside state s a of (reply.Began n) = refl
-outside state s a of reply.Granted = refl
-outside state s a of (reply.Rows rows) = refl
-outside state s a of reply.Done = refl
-outside state s a of (reply.Asked k) = refl
-outside state s a of reply.ReadOnly = refl
-outside state s a of (reply.Answered k) = refl
-outside state s a of reply.RolledBack = refl
-outside state s a of reply.Released = release state a
-outside state s a of (reply.Refused why) = refl
+outside state s = next_outside-cases (λ r new. new.answered ≡ state.answered) state s (λ n. refl) (λ r. refl) (λ name. refl)
 
 -- an entry answers one commit at the most
 pub answered-next : (state : State) (s : ℕ) (a : Act) (of : Option Statement) (r : Reply) → (next_state state s a of r).answered ≤ state.answered + 1

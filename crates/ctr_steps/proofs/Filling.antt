@@ -18,6 +18,7 @@ use Rattle.ctr_model.specs.State.{transaction_of, view}
 use Rattle.ctr_model.specs.Refusals.{first_of, when, table_of, creates, bad_value, busy_by, schema_changed_by, locked_by, row_changed_by, key_locked, presence_refusals, name_refusals, value_refusals, key_refusals, table_refusals, refusal_of}
 use Rattle.ctr_model.specs.Reply.{refused_or, reply_inside, reply_outside, reply_from, MayStandFor}
 use Rattle.ctr_model.specs.Tape.{Allowed}
+use Rattle.ctr_model.proofs.Outside.{reply_outside-cases}
 use Rattle.ctr_acts.specs.Acts.{IsNotFull}
 
 -- ---- why a Lock or a Read is refused
@@ -127,14 +128,7 @@ asked_unfilled true k = tt
 asked_unfilled false k = tt
 
 outside_unfilled : (state : State) (a : Act) → IsUnfilled (reply_outside state a)
-outside_unfilled state act.Begin = tt
-outside_unfilled state act.Read = tt
-outside_unfilled state act.Lock = tt
-outside_unfilled state act.Write = tt
-outside_unfilled state act.Ask = tt
-outside_unfilled state act.Answer = tt
-outside_unfilled state act.Rollback = tt
-outside_unfilled state (act.Release name) = tt
+outside_unfilled state = reply_outside-cases (λ a r. IsUnfilled r) state tt (λ a. tt) (λ name. tt)
 
 -- ---- an act
 
