@@ -3,10 +3,7 @@ use Rattle.std.proofs.Common.{◌≡◌, ℕ, ◌+◌, ◌<◌, ◌≤◌, Bool,
 use Rattle.std.proofs.lemmas.Bool.Decides.{nat_tests}
 use Rattle.std.proofs.lemmas.List.{at_drop_more}
 use Rattle.std.specs.Prelude.{◌==◌}
-use Rattle.ctr_parse.specs.declared.error.ParseError.{ParseError}
-use Rattle.ctr_parse.specs.declared.error.ParseError.TheVariants as error
 use Rattle.ctr_parse.specs.Spelled.{is_between, with_bytes, unquoted}
-use Rattle.ctr_parse.specs.Reading.{Fails}
 use Rattle.ctr_parse.proofs.Lists.{with_bytes_push}
 
 printable : (c : ℕ) → 32 ≤ c → c ≤ 126 → is_between 32 126 c ≡ true
@@ -24,8 +21,7 @@ pub plain : (front new : List ℕ) (closed : Bool) (c : ℕ) → closed ≡ fals
 plain front new closed c inner other low high e cs = rw (inner, e, plain_once c cs other low high) (sym (with_bytes_push front c (unquoted false cs)))
 
 -- the bytes are no text
-pub fails_at : (bytes text : List ℕ) (closed : Bool) (i : ℕ) (e : ParseError) → i < length bytes → unquoted false bytes ≡ with_bytes text (unquoted closed (drop i bytes))
-    → (e ≡ error.Refused → (cs : List ℕ) → unquoted closed (get_or bytes i 0 ∷ cs) ≡ None) → Fails e (unquoted false bytes)
-fails_at bytes text closed i error.OutOfMemory inside h none = tt
-fails_at bytes text closed i error.Refused inside h none =
-    h ∙ ap (with_bytes text) (at_drop_more (unquoted closed) bytes i 0 inside ∙ none refl (drop (i + 1) bytes))
+pub fails_at : (bytes text : List ℕ) (closed : Bool) (i : ℕ) → i < length bytes → unquoted false bytes ≡ with_bytes text (unquoted closed (drop i bytes))
+    → ((cs : List ℕ) → unquoted closed (get_or bytes i 0 ∷ cs) ≡ None) → None ≡ unquoted false bytes
+fails_at bytes text closed i inside h none =
+    sym (h ∙ ap (with_bytes text) (at_drop_more (unquoted closed) bytes i 0 inside ∙ none (drop (i + 1) bytes)))

@@ -1,9 +1,9 @@
 // The columns of a CREATE.
-ghost use Rattle.std.specs.Prelude.{◌≡◌, ◌∷◌, ◌++◌, [], ℕ, Bool, List};
+ghost use Rattle.std.specs.Prelude.{◌≡◌, ◌∷◌, ◌++◌, [], ℕ, Bool, List, codes};
 ghost use Rattle.ctr_types.specs.declared.statement.Line.{Line};
 ghost use Rattle.ctr_types.specs.declared.value.Column.{Column};
 ghost use Rattle.ctr_types.specs.declared.value.Kind.{Kind};
-ghost use Rattle.ctr_parse.specs.Trees.{Tree, outcome, Follows, one_then, fresh_of, room_of as room_meant, int_or_text as either_kind, kind_then, columns_then, schema_then};
+ghost use Rattle.ctr_parse.specs.Trees.{Tree, outcome, Follows, one_then, fresh_of, room_of as room_meant, int_or_text as either_kind, keyword_then, kind_then, columns_then, schema_then};
 
 use crate::clause::more;
 use crate::cursor::{keyword, name, next, sign};
@@ -83,15 +83,22 @@ fn columns_from<'a>(
     columns_from(alloc, most - 1, columns, rest)
 }
 
+// INT PRIMARY KEY.
+fn int_primary_key<'a>(tokens: &'a [Token<'a>]) -> Result<&'a [Token<'a>], Stop>
+    ensures { (k : Tree Line) → Follows (λ x. outcome k x.now) result (outcome (keyword_then (codes "INT") (keyword_then (codes "PRIMARY") (keyword_then (codes "KEY") k))) tokens.now) }
+{
+    let rest = keyword(tokens, b"INT")?;
+    let rest = keyword(rest, b"PRIMARY")?;
+    keyword(rest, b"KEY")
+}
+
 /// The columns of a table, and the ).
 #[tactic(auto, unfolding(crate::specs::Trees::schema_then))]
 pub fn schema<'a>(alloc: Global, tokens: &'a [Token<'a>]) -> Result<(Schema, &'a [Token<'a>]), Stop>
     ensures { (k : List Column → Tree Line) → Follows (λ x. outcome (k x.0.columns) x.1.now) result (outcome (schema_then k) tokens.now) }
 {
     let (name, rest) = name(alloc, tokens)?;
-    let rest = keyword(rest, b"INT")?;
-    let rest = keyword(rest, b"PRIMARY")?;
-    let rest = keyword(rest, b"KEY")?;
+    let rest = int_primary_key(rest)?;
     let mut columns = List::new(alloc);
     columns.push(Column {
         name,

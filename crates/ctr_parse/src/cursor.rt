@@ -1,5 +1,5 @@
 // One token. Each function says how reading goes on behind it, whatever may follow.
-ghost use Rattle.std.specs.Prelude.{◌≡◌, ◌∷◌, [], ℕ, ℤ, List, MatchResult};
+ghost use Rattle.std.specs.Prelude.{◌≡◌, ◌∷◌, [], ℕ, ℤ, List, IfOk, MatchResult};
 ghost use Rattle.ctr_types.specs.declared.statement.Line.{Line};
 ghost use Rattle.ctr_parse.specs.Trees.{Tree, read, outcome, Follows, done, keyword_then, sign_then, name_then, int_then};
 
@@ -65,12 +65,13 @@ pub fn name<'a>(alloc: Global, tokens: &'a [Token<'a>]) -> Result<(Name, &'a [To
     Ok((name, rest))
 }
 
-/// Nothing more.
-pub fn end(tokens: &[Token<'_>]) -> Result<(), Stop>
-    ensures { (l : Line) → Follows (λ _. read l) result (outcome (done l) tokens.now) }
+/// What was read, where nothing more follows.
+pub fn end<T: Drop>(item: T, tokens: &[Token<'_>]) -> Result<T, Stop>
+    ensures follows { (l : Line) → Follows (λ _. read l) result (outcome (done l) tokens.now) }
+    ensures same { IfOk result (λ x. x ≡ item) }
 {
     match tokens.first() {
         Some(token) => Err(Stop::Wrong(token.at)),
-        None => Ok(()),
+        None => Ok(item),
     }
 }

@@ -5,7 +5,6 @@
 mod clause;
 mod columns;
 mod cursor;
-mod error;
 mod laws;
 mod names;
 mod numeral;

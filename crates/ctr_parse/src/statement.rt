@@ -1,9 +1,11 @@
 // Statements and lines.
-ghost use Rattle.std.specs.Prelude.{◌≡◌, ℕ};
+ghost use Rattle.std.specs.Prelude.{◌≡◌, [], ℕ, codes, List};
+ghost use Rattle.ctr_types.specs.declared.value.Value.{Value};
+ghost use Rattle.ctr_types.specs.declared.statement.KeyIs.{KeyIs};
 ghost use Rattle.ctr_types.specs.declared.statement.Line.{Line};
 ghost use Rattle.ctr_types.specs.declared.statement.Statement.{Statement};
 ghost use Rattle.ctr_parse.specs.declared.word.Verb.{Verb};
-ghost use Rattle.ctr_parse.specs.Trees.{Tree, read, outcome, Follows, one_then, session_of as session_meant, verb_of as verb_meant, create_then, drop_then, insert_then, select_then, update_then, delete_then, verb_then, statement_then, alone as alone_tree, whole_line};
+ghost use Rattle.ctr_parse.specs.Trees.{Tree, read, outcome, Follows, one_then, keyword_then, sign_then, values_then, key_is_then, session_of as session_meant, verb_of as verb_meant, create_then, drop_then, insert_then, select_then, update_then, delete_then, verb_then, statement_then, alone as alone_tree, whole_line};
 
 use crate::clause::{key_is, optional, sets, values};
 use crate::columns::schema;
@@ -11,7 +13,7 @@ use crate::cursor::{end, keyword, name, next, sign};
 use crate::stop::Stop;
 use crate::word::{Verb, session_of, verb_of};
 use ctr_lex::Token;
-use ctr_types::{Line, Statement};
+use ctr_types::{KeyIs, Line, List, Statement, Value};
 use std::alloc::Global;
 
 // Behind CREATE.
@@ -36,6 +38,15 @@ fn drop<'a>(alloc: Global, tokens: &'a [Token<'a>]) -> Result<(Statement, &'a [T
     Ok((Statement::DropTable { table }, rest))
 }
 
+// VALUES and the values.
+fn given<'a>(alloc: Global, tokens: &'a [Token<'a>]) -> Result<(List<Value>, &'a [Token<'a>]), Stop>
+    ensures { (k : List Value → Tree Line) → Follows (λ x. outcome (k x.0) x.1.now) result (outcome (keyword_then (codes "VALUES") (sign_then 40 (values_then 7 [] k))) tokens.now) }
+{
+    let rest = keyword(tokens, b"VALUES")?;
+    let rest = sign(rest, b'(')?;
+    values(alloc, rest)
+}
+
 // Behind INSERT.
 #[tactic(auto, unfolding(crate::specs::Trees::insert_then))]
 fn insert<'a>(alloc: Global, tokens: &'a [Token<'a>]) -> Result<(Statement, &'a [Token<'a>]), Stop>
@@ -43,9 +54,7 @@ fn insert<'a>(alloc: Global, tokens: &'a [Token<'a>]) -> Result<(Statement, &'a 
 {
     let rest = keyword(tokens, b"INTO")?;
     let (table, rest) = name(alloc, rest)?;
-    let rest = keyword(rest, b"VALUES")?;
-    let rest = sign(rest, b'(')?;
-    let (values, rest) = values(alloc, rest)?;
+    let (values, rest) = given(alloc, rest)?;
     Ok((Statement::Insert { table, values }, rest))
 }
 
@@ -73,6 +82,14 @@ fn update<'a>(alloc: Global, tokens: &'a [Token<'a>]) -> Result<(Statement, &'a 
     Ok((Statement::Update { table, sets, at }, rest))
 }
 
+// WHERE, a column and its value.
+fn at_key<'a>(alloc: Global, tokens: &'a [Token<'a>]) -> Result<(KeyIs, &'a [Token<'a>]), Stop>
+    ensures { (k : KeyIs → Tree Line) → Follows (λ x. outcome (k x.0) x.1.now) result (outcome (keyword_then (codes "WHERE") (key_is_then k)) tokens.now) }
+{
+    let rest = keyword(tokens, b"WHERE")?;
+    key_is(alloc, rest)
+}
+
 // Behind DELETE.
 #[tactic(auto, unfolding(crate::specs::Trees::delete_then))]
 fn delete<'a>(alloc: Global, tokens: &'a [Token<'a>]) -> Result<(Statement, &'a [Token<'a>]), Stop>
@@ -80,8 +97,7 @@ fn delete<'a>(alloc: Global, tokens: &'a [Token<'a>]) -> Result<(Statement, &'a 
 {
     let rest = keyword(tokens, b"FROM")?;
     let (table, rest) = name(alloc, rest)?;
-    let rest = keyword(rest, b"WHERE")?;
-    let (at, rest) = key_is(alloc, rest)?;
+    let (at, rest) = at_key(alloc, rest)?;
     Ok((Statement::Delete { table, at }, rest))
 }
 
@@ -122,8 +138,7 @@ pub fn alone(alloc: Global, tokens: &[Token<'_>]) -> Result<Statement, Stop>
     ensures { Follows (λ s. read (record { session = 1; statement = s })) result (outcome alone_tree tokens.now) }
 {
     let (statement, rest) = statement(alloc, tokens)?;
-    end(rest)?;
-    Ok(statement)
+    end(statement, rest)
 }
 
 // A session's number.
@@ -144,6 +159,5 @@ pub fn line(alloc: Global, tokens: &[Token<'_>]) -> Result<Line, Stop>
     let rest = sign(rest, b'>')?;
     let (statement, rest) = statement(alloc, rest)?;
     let rest = sign(rest, b';')?;
-    end(rest)?;
-    Ok(Line { session, statement })
+    end(Line { session, statement }, rest)
 }

@@ -1,10 +1,9 @@
 // What a token means in its place.
-ghost use Rattle.std.specs.Prelude.{◌≡◌, map};
+ghost use Rattle.std.specs.Prelude.{◌≡◌, ◌≢◌, ◌∷◌, [], MatchOption, length, map};
 ghost use Rattle.ctr_types.specs.declared.value.Column.{Column};
-ghost use Rattle.ctr_model.specs.State.{has_name as is_in};
+ghost use Rattle.ctr_model.specs.State.{has_name as is_in, same_name};
 ghost use Rattle.ctr_parse.specs.Trees.{Means, name_of as name_meant, fresh_of, literal_of, right_of, comma_or_end as comma_or_closed, comma_or_where as comma_or_key, int_or_text as either_kind, room_of as room_meant, verb_of as verb_meant, session_of as session_meant};
 
-use crate::error::ParseError;
 use crate::names::{is_name, is_spelled};
 use crate::numeral::int_of;
 use crate::quoted::text_of;
@@ -47,11 +46,18 @@ pub fn name_in(alloc: Global, text: &[u8], at: usize) -> Result<Name, Stop>
     Ok(name)
 }
 
+// Whether the column has this name.
+fn bears(column: &Column, name: &[u8]) -> bool
+    ensures { result ≡ same_name column.now.name name.now }
+{
+    column.name.as_slice() == name
+}
+
 /// Whether a column has this name.
 pub fn has_name(name: &[u8], columns: &[Column]) -> bool
     ensures { result ≡ is_in name.now (map (λ c. c.name) columns.now) }
 {
-    columns.iter().any(|column| column.name.as_slice() == name)
+    columns.iter().any(|column| bears(column, name))
 }
 
 /// A name that none of these columns has.
@@ -73,10 +79,9 @@ pub fn literal_in(alloc: Global, text: &[u8], at: usize) -> Result<Value, Stop>
     if let Some(number) = int_of(text) {
         return Ok(Value::Int(number));
     }
-    match text_of(alloc, text) {
-        Ok(chars) => Ok(Value::Chars(chars)),
-        Err(ParseError::OutOfMemory) => Err(Stop::OutOfMemory),
-        Err(ParseError::Refused) => Err(Stop::Wrong(at)),
+    match text_of(alloc, text)? {
+        Some(chars) => Ok(Value::Chars(chars)),
+        None => Err(Stop::Wrong(at)),
     }
 }
 
@@ -181,14 +186,31 @@ pub fn verb_of(text: &[u8]) -> Option<Verb>
     None
 }
 
-/// A session's number, 1 to 8 in one digit.
+// The byte of a token that is one byte.
+fn only_byte(text: &[u8]) -> Option<u8>
+    ensures { MatchOption result (length text.now ≢ 1) (λ byte. text.now ≡ byte ∷ []) }
+{
+    let (first, more) = text.split_first()?;
+    if more.is_empty() { Some(*first) } else { None }
+}
+
 #[tactic(auto, unfolding(crate::specs::Trees::session_of))]
+fn session_in(byte: u8) -> Option<u8>
+    ensures { result ≡ session_meant (byte ∷ []) }
+{
+    if byte < b'1' || byte > b'8' {
+        return None;
+    }
+    Some(byte - b'0')
+}
+
+/// A session's number, 1 to 8 in one digit.
+#[tactic(auto, using(crate::proofs::Lists::session_of_none))]
 pub fn session_of(text: &[u8]) -> Option<u8>
     ensures { result ≡ session_meant text.now }
 {
-    let (first, more) = text.split_first()?;
-    if !more.is_empty() || *first < b'1' || *first > b'8' {
-        return None;
+    match only_byte(text) {
+        Some(byte) => session_in(byte),
+        None => None,
     }
-    Some(*first - b'0')
 }
