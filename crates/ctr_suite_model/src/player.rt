@@ -1,8 +1,9 @@
 // Plays the lines of a suite.
 ghost use Rattle.std.specs.Prelude.{◌≡◌, IfOk};
+ghost use Rattle.ctr_model.specs.Tape.{at_start};
 
 use crate::entry::{must_be_empty, read_entry, read_number, read_refusal, read_small};
-use crate::follow::{follow, starting};
+use crate::follow::{follow, nowhere, start_of};
 use crate::judge::Judge;
 use crate::last::{count_fronts, put_end, report_of};
 use crate::lists::add as add_to;
@@ -45,7 +46,7 @@ impl Player {
             lines: List::new(alloc),
             ran: 0,
             tape_name: Vec::new(alloc),
-            run: Run::starting(alloc, Map::new(alloc), List::new(alloc)),
+            run: Run::new(alloc),
             begun: false,
         }
     }
@@ -126,7 +127,7 @@ impl Player {
     }
 
     fn forget_run(&mut self) {
-        self.run = Run::starting(self.alloc, Map::new(self.alloc), List::new(self.alloc));
+        self.run = Run::new(self.alloc);
         self.ran = 0;
         self.begun = false;
     }
@@ -234,10 +235,9 @@ impl Player {
 
     // The start of a run over the database.
     fn start(&self) -> Result<Point, Trouble>
-        ensures { IfOk result (λ point. point.state.answered ≡ 0) }
+        ensures { IfOk result (λ point. point ≡ at_start 0 self.now.base self.now.stuck) }
     {
-        let stuck = self.stuck.copy(self.alloc)?;
-        Ok(starting(self.alloc, self.base.copy(self.alloc)?, stuck))
+        Ok(start_of(self.alloc, &self.base, &self.stuck)?)
     }
 
     // The lines that weren't run yet, in their order, each at a moment of its own.
@@ -292,16 +292,20 @@ impl Player {
 
     // ---- what comes of it
 
-    // Whether the tape is legal from the start of a run, which it then leads on.
-    fn follow(&self, point: &mut Point) -> Result<bool, Trouble>
-        requires { point.old.state.answered ≡ 0 }
-    {
-        let entries = self.run.tape.entries.as_slice();
-        Ok(follow(self.alloc, self.lines.as_slice(), point, entries)?)
+    // Whether the tape is legal from the start of a run, and where it leads then.
+    fn follow(&self, point: &mut Point) -> Result<bool, Trouble> {
+        Ok(follow(
+            self.alloc,
+            &self.base,
+            &self.stuck,
+            self.lines.as_slice(),
+            self.run.tape.entries.as_slice(),
+            point,
+        )?)
     }
 
     fn is_legal(&self) -> Result<bool, Trouble> {
-        let mut point = self.start()?;
+        let mut point = nowhere(self.alloc);
         self.follow(&mut point)
     }
 
@@ -356,13 +360,11 @@ impl Player {
     }
 
     fn put_tables(&self, page: &mut Page) -> Result<(), Trouble> {
-        let mut point = self.start()?;
+        let mut point = nowhere(self.alloc);
         self.put_tables_after(page, &mut point)
     }
 
-    fn put_tables_after(&self, page: &mut Page, point: &mut Point) -> Result<(), Trouble>
-        requires { point.old.state.answered ≡ 0 }
-    {
+    fn put_tables_after(&self, page: &mut Page, point: &mut Point) -> Result<(), Trouble> {
         if !self.follow(point)? {
             page.add(b"not legal\n");
             return Ok(());
@@ -380,13 +382,11 @@ impl Player {
     }
 
     fn put_state(&self, page: &mut Page) -> Result<(), Trouble> {
-        let mut point = self.start()?;
+        let mut point = nowhere(self.alloc);
         self.put_state_after(page, &mut point)
     }
 
-    fn put_state_after(&self, page: &mut Page, point: &mut Point) -> Result<(), Trouble>
-        requires { point.old.state.answered ≡ 0 }
-    {
+    fn put_state_after(&self, page: &mut Page, point: &mut Point) -> Result<(), Trouble> {
         if !self.follow(point)? {
             page.add(b"not legal\n");
             return Ok(());

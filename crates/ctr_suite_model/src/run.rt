@@ -1,9 +1,9 @@
 // A run of a script by the slow machine, turn by turn.
-use crate::follow::starting;
+use crate::follow::nowhere;
 use crate::lists::add_after;
 use crate::trouble::Trouble;
 use ctr_machine::{next_state, reply_to};
-use ctr_model::{Map, Point, Progress, State, Table};
+use ctr_model::{Point, Progress, State};
 use ctr_types::{Act, Entry, Line, List, Name, Refusal, Reply, Statement, Tape};
 use std::alloc::Global;
 
@@ -15,13 +15,13 @@ pub struct Run {
 }
 
 impl Run {
-    /// The start of a run over a database.
-    pub fn starting(alloc: Global, base: Map<Name, Table>, stuck: List<Name>) -> Run {
+    /// No entries.
+    pub fn new(alloc: Global) -> Run {
+        let point = nowhere(alloc);
+        let entries = List::new(alloc);
         Run {
-            tape: Tape {
-                entries: List::new(alloc),
-            },
-            point: starting(alloc, base, stuck),
+            tape: Tape { entries },
+            point,
         }
     }
 }
