@@ -18,7 +18,6 @@ module _ {D : Type 0} (v : View D) (p byte : ℕ) (small : p < 30000) (counted :
     items = room.items_fit;
     numbers = tt;
     room = room.room;
-    few = room.few;
     number = room.number;
   }
 
@@ -32,6 +31,5 @@ module _ {D : Type 0} (v : View D) (p byte : ℕ) (small : p < 30000) (counted :
     items = room.items_fit;
     numbers = tt;
     room = room.room;
-    few = room.few;
     number = room.number;
   }

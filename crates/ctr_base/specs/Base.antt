@@ -6,7 +6,7 @@ use Rattle.ctr_disk.specs.Image.{Image, content}
 use Rattle.ctr_types.specs.declared.file.File.TheVariants.{Pages}
 use Rattle.ctr_home.specs.declared.root.Root.{Root}
 use Rattle.ctr_log.specs.Kept.{WritesBehind}
-use Rattle.ctr_log.specs.Logs.{Batches, GoesOn}
+use Rattle.ctr_log.specs.Logs.{Batches, GoesOn, buffer_size, WaitsOrNone}
 use Rattle.ctr_records.specs.declared.record.Record.{Record}
 use Rattle.ctr_disk.specs.declared.fault.StoreFault.{StoreFault}
 use Rattle.ctr_disk.specs.declared.fault.StoreFault.TheVariants.{Fault}
@@ -77,13 +77,13 @@ pub record MovesBase {D O : Type 0} (g : Ghosts D) (a b : Base D O) : Type 0 whe
   pub pages : (q : ℕ) → overlaid q b.root.first (now_of g b).records (home_of g b q)
       ≡ overlaid q a.root.first (now_of g a).records (home_of g a q)
 
--- However a call ends, the root and the number of the next record are those of before, room for
--- records isn't lost, and no more of them wait.
+-- However a call ends, the root and the number of the next record are those of before, the log's
+-- buffer isn't smaller, and in it the same records wait, or none.
 pub record KeepsBase {D O : Type 0} (a b : Base D O) : Type 0 where
   pub root : b.root ≡ a.root
-  pub room : a.log.room ≤ b.log.room
+  pub size : buffer_size a.log ≤ buffer_size b.log
   pub next : b.log.first + length b.log.buffered ≡ a.log.first + length a.log.buffered
-  pub few : length b.log.buffered ≤ length a.log.buffered
+  pub waits : WaitsOrNone a.log b.log
 
 -- ---- what holds of every disk, and what holds besides where the first image was sound
 

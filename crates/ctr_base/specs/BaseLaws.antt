@@ -14,7 +14,7 @@ use Rattle.ctr_home.specs.declared.root.Form.TheVariants.{Paged}
 use Rattle.ctr_home.specs.Roots.{SaysRootOf}
 use Rattle.ctr_home.specs.Blocks.{BlockValue, value_of, value_in, page_with, blank_page}
 use Rattle.ctr_home.specs.Writing.{IsOldOrNewValue, with_body, OthersStay}
-use Rattle.ctr_log.specs.Logs.{Log, Batches, HasLog, GoesOn, records}
+use Rattle.ctr_log.specs.Logs.{Log, Batches, HasLog, GoesOn, WaitsOrNone, records}
 use Rattle.ctr_log.specs.Reading.{log_file}
 use Rattle.ctr_log.specs.Kept.{kept_log, other_file, IsDropped, HoldsLog, WritesBy, WritesBehind}
 use Rattle.ctr_log.proofs.KeptLaws.{front_same}
@@ -408,13 +408,21 @@ module _ {D O : Type 0} (g : Ghosts D) where
 
 -- a base is kept by itself
 pub base_kept : {D O : Type 0} (b : Base D O) → KeepsBase b b
-base_kept b = record { root = refl; room = omega arith; next = refl; few = omega arith }
+base_kept b = record { root = refl; size = omega arith; next = refl; waits = inl refl }
 
 -- what is kept by one call and by the next is kept by both
 pub base_kept_on : {D O : Type 0} (a b c : Base D O) → KeepsBase a b → KeepsBase b c → KeepsBase a c
 base_kept_on a b c ab bc =
-    let m = ab.room in
-    let n = bc.room in
-    let k = ab.few in
-    let l = bc.few in
-    record { root = bc.root ∙ ab.root; room = omega (arith, m, n); next = bc.next ∙ ab.next; few = omega (arith, k, l) }
+    let m = ab.size in
+    let n = bc.size in
+    record {
+      root = bc.root ∙ ab.root;
+      size = omega (arith, m, n);
+      next = bc.next ∙ ab.next;
+      waits = still_waits a.log b.log c.log ab.waits bc.waits;
+    }
+  where
+    still_waits : (x y z : Log) → WaitsOrNone x y → WaitsOrNone y z → WaitsOrNone x z
+    still_waits x y z (inl xy) (inl yz) = inl (yz ∙ xy)
+    still_waits x y z (inr none) (inl yz) = inr (yz ∙ none)
+    still_waits x y z first (inr none) = inr none

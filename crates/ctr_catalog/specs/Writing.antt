@@ -1,5 +1,5 @@
 -- What makes a table leaves, and what undoes an item of the secondary log.
-use Rattle.std.specs.Prelude.{◌≢◌, ◌⊎◌, ℕ, false, List, ⊤, None, Some, Result, Ok, Err}
+use Rattle.std.specs.Prelude.{◌≢◌, ◌⊎◌, ℕ, false, List, ⊤, Option, None, Some, Result, Ok, Err}
 use Rattle.ctr_disk.specs.declared.disk.Disk.{Ghosts}
 use Rattle.ctr_disk.specs.Image.{Image}
 use Rattle.ctr_disk.specs.declared.fault.StoreFault.{StoreFault}
@@ -12,8 +12,9 @@ use Rattle.ctr_area.specs.Areas.{Area}
 use Rattle.ctr_area.specs.Reading.{area_of}
 use Rattle.ctr_area.specs.Changes.{with_taken, with_title}
 use Rattle.ctr_store.specs.Store.{View, LeavesPage}
-use Rattle.ctr_walk.specs.OneRecord.{LogsOne}
+use Rattle.ctr_walk.specs.OneRecord.{LogsOne, WhyNotLogged}
 use Rattle.ctr_walk.specs.Damage.{EndsTold, ReadsPages}
+use Rattle.ctr_record_effects.specs.States.{pages_in}
 use Rattle.ctr_record_effects.specs.Changing.{free_record, uncreate_record, undrop_record}
 use Rattle.ctr_catalog.specs.declared.writing.CatalogRefusal.{CatalogRefusal}
 use Rattle.ctr_catalog.specs.declared.writing.CatalogRefusal.TheVariants.{CatalogFull, Store}
@@ -21,14 +22,20 @@ use Rattle.ctr_catalog.specs.Free.{EndsCatalog, is_free_entry}
 
 -- ---- a new table
 
+-- The lowest entry of the catalog that is free, where one is.
+abbrev pub HasLowestFree : (ℕ → List ℕ) → Option ℕ → Type 0
+HasLowestFree pages found = IsFirst (is_free_entry (area_of pages)) 0 32 found
+
 -- Where the making of a table ends, by the entries of the catalog: it has the lowest free one; or none
--- is free; or one is damaged, as that is told; or there is a free one and its record was refused.
-abbrev pub EndsMaking : (BadChain → StoreFault) → ℕ → (ℕ → List ℕ) → Result ℕ CatalogRefusal → Type 0
-EndsMaking told counted pages (Ok e) = IsFirst (is_free_entry (area_of pages)) 0 32 (Some e)
-EndsMaking told counted pages (Err CatalogFull) = IsFirst (is_free_entry (area_of pages)) 0 32 None
-EndsMaking told counted pages (Err (Store cause)) =
-    EndsTold told (EndsCatalog counted pages) (Err cause)
-    ⊎ ((e : ℕ) × IsFirst (is_free_entry (area_of pages)) 0 32 (Some e))
+-- is free; or one is damaged, as that is told; or there is a free one and its record was refused,
+-- for one of the two causes that there are.
+abbrev pub EndsMaking : {D : Type 0} → (BadChain → StoreFault) → (ℕ → Record) → View D → View D
+    → Result ℕ CatalogRefusal → Type 0
+EndsMaking told made a b (Ok e) = HasLowestFree (pages_in a.now) (Some e)
+EndsMaking told made a b (Err CatalogFull) = HasLowestFree (pages_in a.now) None
+EndsMaking told made a b (Err (Store cause)) =
+    EndsTold told (EndsCatalog a.now.counted (pages_in a.now)) (Err cause)
+    ⊎ ((e : ℕ) × HasLowestFree (pages_in a.now) (Some e) × WhyNotLogged (made e) a b cause)
 
 -- Its record is logged, by the entry; where no entry is free, or one is damaged, pages were read; where
 -- the store refused, nothing is logged.

@@ -106,7 +106,8 @@ pub fn create<D: Disk, O: Origin>(
     requires counted { 2 < store.old.now.counted }
     requires fits { ColumnsFit schema.now.columns }
     // CatalogFull comes exactly where no entry is free.
-    ensures ends { IsTrue D.tells → IsSoundImage O.first → EndsMaking (damage_told D.Disk store.new) store.old.now.counted (pages_in store.old.now) result }
+    ensures ends { IsTrue D.tells → IsSoundImage O.first → EndsMaking (damage_told D.Disk store.new) (λ e. create_record x e name.now schema.now.columns) store.old store.new result }
+    ensures few { IfOk result (λ e. e < 32) }
     ensures one { MakesTable O.first D.Disk (λ e. create_record x e name.now schema.now.columns) store.old store.new result }
     // The entry has the title of the new table and no page; other entries and what stands on their pages stay.
     ensures made { IsTrue D.tells → IsSoundImage O.first

@@ -9,7 +9,7 @@ use Rattle.ctr_file.specs.declared.marked.Marked.{Marked}
 abbrev pub is_marked : {F : Type 0} → Marked F → Bool
 is_marked opened = opened.is_unsynced
 
--- the open file itself
+-- The open file that a marked one has.
 abbrev pub file_within : {F : Type 0} → Marked F → F
 file_within opened = opened.file
 

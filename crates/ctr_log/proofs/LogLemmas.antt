@@ -1,5 +1,5 @@
 -- Batches, frames and records as lists.
-use Rattle.std.proofs.Common.{◌≡◌, inl, inr, ℕ, zero, suc, ◌+◌, ◌^◌, ◌≤◌, ◌<◌, List, [], ◌∷◌, ◌++◌, length, take, drop, refl, sym, ◌∙◌, ap, subst, arith, length-append, length-drop, append_assoc}
+use Rattle.std.proofs.Common.{◌≡◌, inl, inr, ℕ, zero, suc, ◌+◌, ◌*◌, ◌^◌, ◌≤◌, ◌<◌, List, [], ◌∷◌, ◌++◌, length, take, drop, refl, sym, ◌∙◌, ap, subst, arith, length-append, length-drop, append_assoc}
 use Rattle.std.proofs.lemmas.Bool.{cases_eq}
 use Rattle.std.proofs.lemmas.List.{append-nil, take_at, drop_at, drop-drop, drop-append-le}
 use Rattle.ctr_types.specs.declared.file.File.{File}
@@ -91,6 +91,15 @@ unframed-frames (r ∷ rs) fits =
 pub length-unframed : (n : ℕ) (bytes : List ℕ) → length (unframed n bytes) ≡ n
 length-unframed zero bytes = refl
 length-unframed (suc n) bytes = let rest = length-unframed n (drop (8 + field 8 0 bytes) bytes) in omega (arith, rest)
+
+-- a frame has 8 bytes at least
+pub frames-least : (rs : List (List ℕ)) → 8 * length rs ≤ length (frames rs)
+frames-least [] = omega arith
+frames-least (r ∷ rs) = let rest = frames-least rs in omega (arith, rest, length-append (frame r) (frames rs), length-frame r)
+
+-- so many records have 8 bytes each in a buffer with a head of 20 bytes
+pub count_small : (n : ℕ) (bytes : List ℕ) → drop 20 bytes ≡ frames (unframed n (drop 20 bytes)) → 8 * n ≤ length bytes
+count_small n bytes is = omega (arith, frames-least (unframed n (drop 20 bytes)), length-unframed n (drop 20 bytes), ap length is, length-drop 20 bytes)
 
 -- the same frames, as many, are of the same records
 pub same_records : (a b : List (List ℕ)) → frames a ≡ frames b → length a ≡ length b → length (frames a) < 2 ^ 64 → a ≡ b

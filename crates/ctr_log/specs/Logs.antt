@@ -95,6 +95,14 @@ pub record GoesOn (first : ℕ) (bs : Batches) (log : Log) (image : Image) : Typ
   pub place : log.place ≡ length (batches first bs)
   pub first_is : log.first ≡ first + length (records bs)
 
+-- how many bytes of frames a writer's buffer takes in all, with those that wait
+abbrev pub buffer_size : Log → ℕ
+buffer_size log = log.room + length (frames log.buffered)
+
+-- Behind a call the records wait that waited before it, or none does.
+abbrev pub WaitsOrNone : Log → Log → Type 0
+WaitsOrNone old new = (new.buffered ≡ old.buffered) ⊎ (new.buffered ≡ [])
+
 -- the place in its file of the next record that a writer is given: behind the gate, a batch's first
 -- fields, the frames that wait, and the 8 bytes of its own length
 abbrev pub next_place : Log → ℕ
@@ -116,14 +124,17 @@ pub record IsFlushing (first : ℕ) (bs : Batches) (log : Log) (old new : Image)
   pub records_are : HasPrefix log.file first (records bs) log.buffered old new
   pub long : log.place < length (content log.file new)
 
--- How a flush leaves the writer: its file and the number of its next record stay, and there is no
--- less room. At Ok nothing waits, and the numbers go on behind the records that waited.
+-- How a flush leaves the writer: its file, the number of its next record and the size of its buffer
+-- stay, so what waited gives its room back. At Ok nothing waits, and the numbers go on behind the
+-- records that waited; else they wait still.
 pub record IsEmptied {T E : Type 0} (old new : Log) (result : Result T E) : Type 0 where
   pub file : new.file ≡ old.file
   pub older : new.older ≡ old.older
   pub none : OnOk result (new.buffered ≡ [])
   pub next : OnOk result (new.first ≡ old.first + length old.buffered)
   pub room : old.room ≤ new.room
+  pub size : buffer_size old ≤ buffer_size new
+  pub waits : WaitsOrNone old new
   pub number : new.first + length new.buffered ≡ old.first + length old.buffered
   pub later : old.first ≤ new.first
 

@@ -23,9 +23,9 @@ pub type Lsn = u64;
 /// The bytes of a batch's length, first LSN and count.
 const HEAD: usize = 20;
 
-/// A batch that waits has fewer bytes than these, 2^60, so a write of it at a place below 2^62 stays
-/// within a file.
-const MOST: usize = 1 << 60;
+/// A batch that waits has fewer bytes than these, 2^34. So its records, of 8 bytes and more, are fewer
+/// than its count can tell, and a write of it at a place below 2^62 stays within a file.
+const MOST: usize = 1 << 34;
 
 /// The writer of a log: where its file's log ends, and the records that aren't flushed. After a
 /// flush that failed, open the log again.
@@ -114,6 +114,13 @@ impl LogFile {
         MOST - self.buffer.len() - 1
     }
 
+    /// How many bytes the frames of the records that wait have: their lengths, and 8 for each.
+    pub fn bytes_waiting(&self) -> usize
+        ensures { result ≡ length (frames self.now.buffered) }
+    {
+        self.buffer.len() - HEAD
+    }
+
     /// How many records wait to be flushed.
     pub fn waiting(&self) -> u32
         ensures { result ≡ length self.now.buffered }
@@ -129,7 +136,7 @@ impl LogFile {
     }
 
     /// Takes room for frames of so many bytes: a record's length, and 8 for each record. There is none for
-    /// 2^60 bytes of one batch.
+    /// 2^34 bytes of one batch.
     pub fn reserve(&mut self, bytes: usize) -> Result<(), OutOfMemory>
         ensures ok { OnOk result (bytes ≤ self.new.room) }
         ensures kept { self.old.room ≤ self.new.room }
@@ -145,7 +152,6 @@ impl LogFile {
     /// Adds a record, for which room was taken. It takes no memory.
     pub fn append(&mut self, bytes: &[u8]) -> Lsn
         requires room { 8 + length bytes.now ≤ self.old.room }
-        requires few { length self.old.buffered < 2 ^ 32 - 1 }
         requires next { self.old.first + length self.old.buffered < 2 ^ 63 - 1 }
         ensures number { result ≡ self.old.first + length self.old.buffered }
         ensures added { self.new ≡ record self.old { buffered = self.old.buffered ++ bytes.now ∷ []; room = self.new.room } }

@@ -14,7 +14,7 @@ pooled_in a =
 pub record IsPool (a : Inside) : Type 0 where
   pub ages_are : (p : ℕ) → age_of p a.ages.entries ≡ since_in p a.frames.frames
   pub count : length a.ages.entries ≡ dirty_count a.frames.frames
-  pub some : 1 ≤ length a.frames.frames + vec_len a.bodies
+  pub some : 8 ≤ length a.frames.frames + vec_len a.bodies
   pub frames_room : vec_len a.bodies ≤ a.frames.spare
   pub bodies_room : length a.frames.frames + vec_len a.bodies ≤ vec_capacity a.bodies
   pub ages_room : length a.frames.frames + vec_len a.bodies ≤ length a.ages.entries + a.ages.spare

@@ -1,5 +1,5 @@
 -- A pool over what is held below it.
-use Rattle.std.specs.Prelude.{◌≡◌, ◌≢◌, ◌==◌, ◌-◌, ℕ, ◌<◌, Bool, true, false, IsTrue, List, Option, None, Some, Result, IfErr, OnOk, if◌then◌else◌}
+use Rattle.std.specs.Prelude.{◌≡◌, ◌≢◌, ◌==◌, ◌+◌, ◌-◌, ℕ, ◌<◌, ◌≤◌, Bool, true, false, IsTrue, List, Option, None, Some, Result, IfErr, OnOk, if◌then◌else◌}
 use Rattle.ctr_types.specs.Faults.{HasFault}
 use Rattle.ctr_disk.specs.declared.fault.StoreFault.{StoreFault}
 use Rattle.ctr_disk.specs.declared.fault.StoreFault.TheVariants.{Fault}
@@ -70,11 +70,14 @@ pub record BringsIn (p : ℕ) (old new : Pooled) : Type 0 where
   pub hit : has_page p old.frames ≡ true → new ≡ old
   pub miss : has_page p old.frames ≡ false → SavesForRoom old new
 
--- one page is saved, which is changed the longest; where none is changed nothing is
+-- One page is saved, which is changed the longest, and one frame more has nothing to be saved;
+-- where none is changed nothing is, and no frame has.
 pub record SavesOldest (old new : Pooled) (wrote : Bool) : Type 0 where
   pub none : wrote ≡ false → AreClean old.frames × (new ≡ old)
+  pub all : wrote ≡ false → 8 ≤ unchanged old
   pub most : new.most ≡ old.most
   pub one : wrote ≡ true → OldestSaved old new
+  pub more : wrote ≡ true → unchanged new ≡ unchanged old + 1
 
 -- a pool, and what is held below it
 pub record PoolAbove (B : Type 0) : Type 0 where

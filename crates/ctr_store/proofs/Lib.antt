@@ -1,4 +1,5 @@
 pub mod RecordLaws
+pub mod BufferLaws
 pub mod PartsLaws
 pub mod PlaceLaws
 pub mod SeenLaws

@@ -56,11 +56,6 @@ use Rattle.ctr_store.specs.PageChecks.{PagesPass}
 use Rattle.ctr_store.specs.Redo.{StartsRedo}
 use Rattle.ctr_store.specs.Opening.{FindsFront, fault_told, read_told, LogPasses, OverlaidPass, RefusesLog, IsLater, IsUndamaged, OpensParts, AnswersOpen, RefusesAs, opening_told, IsWornBy, worn_by, worn_in}
 
--- there is none where there are none at most
-pub none_left : {A : Type 0} (l : List A) → length l ≤ 0 → l ≡ []
-none_left [] few = refl
-none_left (x ∷ l) few = absurd (omega (arith, few))
-
 -- a log was read, and its writer has room
 pub opens_room : (file first : ℕ) (image : Image) (log : Log) (room : ℕ) → OpensKept file first image log → OpensKept file first image (record log { room = room })
 opens_room file first image log room k = record {

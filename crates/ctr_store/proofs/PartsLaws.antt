@@ -36,6 +36,7 @@ use Rattle.ctr_base.specs.Base.{stored_of, waiting_of, now_of, home_of, MaySave,
 use Rattle.ctr_store.specs.declared.parts.Parts.{Parts}
 use Rattle.ctr_redo.specs.Fitting.{LiesInside, FitsBehind, EachFits, MayFollow}
 use Rattle.ctr_redo.proofs.FitLaws.{tables_behind, tables_behind_is, each_append, none_append}
+use Rattle.ctr_store.proofs.BufferLaws.{kept_room}
 use Rattle.ctr_store.proofs.RecordLaws.{change_number}
 use Rattle.ctr_store.specs.Parts.{IsFold, AreLow, CanLog, AddsRecord, LogsRecord}
 
@@ -305,11 +306,9 @@ module _ {D O : Type 0} (first : Image) (g : Ghosts D) where
   pub can_still : (r : Record) (s t : Parts D O) → KeepsBase s.base t.base → t.meta ≡ s.meta → CanLog r s → CanLog r t
   can_still r s t keeps meta can =
       let root = keeps.root in
-      let more = keeps.room in
+      let more = kept_room s.base.log t.base.log keeps.size keeps.waits in
       let next = keeps.next in
-      let fewer = keeps.few in
       let room = can.room in
-      let few = can.few in
       let number = can.number in
       record {
         logged = can.logged;
@@ -317,7 +316,6 @@ module _ {D O : Type 0} (first : Image) (g : Ghosts D) where
         counted = subst (λ (x : Root). LiesInside x.pages (overlay_of r)) (sym root) can.counted;
         may = subst (λ m. MayApply r m) (sym meta) can.may;
         room = omega (arith, room, more);
-        few = omega (arith, few, fewer);
         number = omega (arith, number, next);
       }
 

@@ -1,8 +1,7 @@
 -- Where the home of a page begins, and what the reading of that leaves.
-use Rattle.std.proofs.Common.{◌≡◌, ◌≢◌, ℕ, ◌<◌, ◌==◌, Bool, true, false, if◌then◌else◌, List, [], ◌∷◌, Option, Some, None, ⊎_elim, refl, sym, ◌∙◌, ap, subst, arith}
-use Rattle.std.specs.Prelude.{is_some, ◌&&◌, ◌||◌}
+use Rattle.std.proofs.Common.{◌≡◌, ◌≢◌, ℕ, ◌<◌, Bool, if◌then◌else◌, Option, Some, None, refl, sym, ◌∙◌, ap, subst, arith}
+use Rattle.std.specs.Prelude.{is_some}
 use Rattle.std.proofs.lemmas.Bool.{lt-ltb}
-use Rattle.std.proofs.lemmas.Bool.Decides.{eqb_tells}
 use Rattle.ctr_disk.specs.declared.disk.Disk.{Ghosts}
 use Rattle.ctr_disk.specs.Image.{Image}
 use Rattle.ctr_disk.specs.Device.{OnlyReads}
@@ -12,7 +11,7 @@ use Rattle.ctr_home.specs.Blocks.{home_place, value_of, value_place}
 use Rattle.ctr_pool.specs.declared.frame.Frame.{Frame}
 use Rattle.ctr_pool.specs.Pages.{PageHeld}
 use Rattle.ctr_pool.specs.Below.{HoldsStill}
-use Rattle.ctr_pool.specs.Frames.{frame_of, has_page, page_of, change_of, since_in}
+use Rattle.ctr_pool.specs.Frames.{frame_of, page_of, change_of}
 use Rattle.ctr_pool.specs.Over.{IsHeld, IsOver}
 use Rattle.ctr_redo.specs.Images.{home_in}
 use Rattle.ctr_redo.proofs.GrowthLaws.{counted_page}
@@ -20,27 +19,9 @@ use Rattle.ctr_base.specs.Homes.{FindsValue}
 use Rattle.ctr_base.specs.Base.{home_of, MayPut, StandsQuiet, LeavesIf, MovesIf, backing_of}
 use Rattle.ctr_base.specs.BaseLaws.{leaves_joined, moves_joined, read_leaves, read_moves, read_holds, read_rests, holds_if}
 use Rattle.ctr_store.specs.declared.parts.Parts.{Parts}
-use Rattle.ctr_store.specs.Parts.{IsFold, has_change, changed_among, is_one_of, home_by, home_at}
+use Rattle.ctr_store.specs.Parts.{IsFold, pages_held, first_unsaved, home_by, home_at}
+use Rattle.ctr_store.proofs.BufferLaws.{since_held}
 use Rattle.ctr_store.proofs.PartsLaws.{fold_moved, over_held, shows_held}
-
-none : (b : Bool) → (b && false) ≡ false
-none true = refl
-none false = refl
-
--- a page is listed as changed where its frame is
-listed : (fs gs : List Frame) (p : ℕ) → is_one_of p (changed_among fs gs) ≡ has_page p gs && is_some (since_in p fs)
-listed fs [] p = refl
-listed fs (f ∷ gs) p = let rest = listed fs gs p in ⊎_elim (λ w. here rest (has_change fs f) w.0 (ap (λ (q : ℕ). is_some (since_in q fs)) w.1)) (λ w. there rest (has_change fs f) w.0) (eqb_tells f.page p)
-  where
-    here : is_one_of p (changed_among fs gs) ≡ has_page p gs && is_some (since_in p fs) → (b : Bool) → (f.page == p) ≡ true → b ≡ is_some (since_in p fs)
-        → is_one_of p (if b then f.page ∷ changed_among fs gs else changed_among fs gs) ≡ is_some (if f.page == p then Some f else frame_of p gs) && is_some (since_in p fs)
-    here rest true e same = ap (λ (x : Bool). x || is_one_of p (changed_among fs gs)) e ∙ same ∙ sym (ap (λ (x : Bool). is_some (if x then Some f else frame_of p gs) && is_some (since_in p fs)) e)
-    here rest false e same = rest ∙ ap (λ (x : Bool). has_page p gs && x) (sym same) ∙ none (has_page p gs) ∙ same ∙ sym (ap (λ (x : Bool). is_some (if x then Some f else frame_of p gs) && is_some (since_in p fs)) e)
-
-    there : is_one_of p (changed_among fs gs) ≡ has_page p gs && is_some (since_in p fs) → (b : Bool) → (f.page == p) ≡ false
-        → is_one_of p (if b then f.page ∷ changed_among fs gs else changed_among fs gs) ≡ is_some (if f.page == p then Some f else frame_of p gs) && is_some (since_in p fs)
-    there rest true e = ap (λ (x : Bool). x || is_one_of p (changed_among fs gs)) e ∙ rest ∙ sym (ap (λ (x : Bool). is_some (if x then Some f else frame_of p gs) && is_some (since_in p fs)) e)
-    there rest false e = rest ∙ sym (ap (λ (x : Bool). is_some (if x then Some f else frame_of p gs) && is_some (since_in p fs)) e)
 
 module _ {D O : Type 0} (first : Image) (g : Ghosts D) (p : ℕ) (s : Parts D O) (f : Frame) (there : frame_of p s.pool.frames ≡ Some f) (over : IsOver (backing_of first g) s.pool.frames s.base) (inside : p < s.base.root.pages) (found : ℕ × ℕ) (finds : FindsValue p (g.reads s.base.disk) found) where
   home_lsn : (home_of g s.base p).lsn ≡ found.1
@@ -54,8 +35,8 @@ module _ {D O : Type 0} (first : Image) (g : Ghosts D) (p : ℕ) (s : Parts D O)
   )
   by_since (Some since) may = ((λ other. refl), (λ same. let above = may.above in absurd (omega (arith, above, home_lsn, same))))
 
-  seen : is_some f.since ≡ is_one_of p (changed_among s.pool.frames s.pool.frames)
-  seen = sym (listed s.pool.frames s.pool.frames p ∙ ap (λ (o : Option Frame). is_some o && is_some (change_of o)) there)
+  seen : is_some f.since ≡ is_some (first_unsaved p (pages_held s.pool.frames))
+  seen = sym (ap is_some (since_held p s.pool.frames ∙ ap change_of there))
 
   both : (f.lsn ≢ found.1 → home_place (Page p) First ≡ home_at g p s) × (f.lsn ≡ found.1 → found.0 ≡ home_at g p s)
   both = subst (λ (b : Bool). (f.lsn ≢ found.1 → home_place (Page p) First ≡ home_by b s.base.root.pages p (g.reads s.base.disk)) × (f.lsn ≡ found.1 → found.0 ≡ home_by b s.base.root.pages p (g.reads s.base.disk)))
@@ -84,7 +65,7 @@ module _ {D O : Type 0} (first : Image) (g : Ghosts D) (m : Parts D O) (d : D) (
       fold_moved first g m t fold (λ sound. read_moves g m.base d reads) refl (shows_held first g m.pool.frames m.base t.base holds) (over_held first g m.pool.frames m.base t.base holds rests fold.over)
 
   pub read_home_at : (p : ℕ) → home_at g p m ≡ home_at g p t
-  read_home_at p = ap (home_by (is_one_of p (changed_among m.pool.frames m.pool.frames)) m.base.root.pages p) (sym reads.same)
+  read_home_at p = ap (home_by (is_some (first_unsaved p (pages_held m.pool.frames))) m.base.root.pages p) (sym reads.same)
 
   module _ (s : Parts D O) (moves : MovesIf first g s.base m.base) where
     pub behind_moves : MovesIf first g s.base t.base

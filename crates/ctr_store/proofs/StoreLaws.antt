@@ -1,7 +1,9 @@
 -- What callers see of a call on the parts.
-use Rattle.std.proofs.Common.{◌≡◌, ◌∙◌, ◌<◌, Bool, true, false, [], drop, Result, Ok, Err, refl, sym, ap, subst, arith}
-use Rattle.std.specs.Prelude.{IsTrue, OnOk, IfErr, is_err}
-use Rattle.std.proofs.lemmas.List.{append-nil, length-map}
+use Rattle.std.proofs.Common.{◌≡◌, ◌∙◌, ◌<◌, ◌==◌, ◌+◌, ◌-◌, if◌then◌else◌, ℕ, Option, None, Bool, true, false, List, [], ◌∷◌, length, drop, Result, Ok, Err, refl, sym, ap, subst, arith}
+use Rattle.std.specs.Prelude.{IsTrue, OnOk, OnErr, IfOk, IfErr, is_err}
+use Rattle.std.proofs.lemmas.List.{append-nil}
+use Rattle.ctr_log.specs.Logs.{frames}
+use Rattle.ctr_pool.specs.Over.{Pooled, SavesOldest, unchanged}
 use Rattle.ctr_disk.specs.declared.disk.Disk.{Ghosts}
 use Rattle.ctr_types.specs.Faults.{HasFault}
 use Rattle.ctr_disk.specs.Image.{Image}
@@ -10,17 +12,17 @@ use Rattle.ctr_disk.specs.declared.fault.StoreFault.{StoreFault}
 use Rattle.ctr_disk.specs.declared.fault.StoreFault.TheVariants.{Fault}
 use Rattle.ctr_log.proofs.VisitLemmas.{ok_isnt}
 use Rattle.ctr_records.specs.declared.record.Record.{Record}
-use Rattle.ctr_records.specs.Read.{record_in}
 use Rattle.ctr_meta.specs.Needs.{needs}
 use Rattle.ctr_base.specs.Base.{waiting_of, now_of, IsSoundImage, LeavesIf, MovesBase, MovesIf, KeepsBase}
 use Rattle.ctr_store.specs.declared.parts.Parts.{Parts}
 use Rattle.ctr_base.specs.Growth.{GrowsBase, AreBlank}
 use Rattle.ctr_base.specs.BaseLaws.{rests_leaves}
 use Rattle.ctr_redo.specs.States.{State, state_of, grown, page_at}
-use Rattle.ctr_store.specs.Parts.{IsFold, CanLog}
-use Rattle.ctr_store.specs.Store.{View, Logs, LeavesPage, MayLog, KeepsRoom, GrowsByExtent}
+use Rattle.ctr_store.specs.Parts.{IsFold, HasBuffer, CanLog, LogsRecord, LogsRoom, pages_held, some_dirty}
+use Rattle.ctr_store.specs.Store.{View, Logs, LeavesPage, MayLog, KeepsRoom, GrowsByExtent, TakesRecord, WritesHome, waiting_bytes}
 use Rattle.ctr_store.specs.StoreInside.{view_of}
-use Rattle.ctr_store.proofs.RecordLaws.{record_short}
+use Rattle.ctr_store.proofs.BufferLaws.{kept_bytes, logged_bytes, since_held}
+use Rattle.ctr_store.proofs.RecordLaws.{record_short, wrote_is}
 
 -- a call that answers with this fault
 abbrev failed_with : (T : Type 0) → StoreFault → Result T StoreFault
@@ -30,6 +32,11 @@ failed_with T e = Err e
 pub of_ok : {T E P : Type 0} (r : Result T E) → is_err r ≡ false → OnOk r P → P
 of_ok (Ok x) is p = p
 of_ok (Err e) is p = absurd (cc is)
+
+-- an error that is always this one is so in a case
+pub sound_fault : {T : Type 0} (P : Type 0) (r : Result T StoreFault) → OnErr r (r ≡ Err Fault) → IfErr r (λ e. P → e ≡ Fault)
+sound_fault P (Ok x) is = tt
+sound_fault P (Err e) is = λ p. cc is
 
 -- two things hold where a call was answered Ok
 pub on_ok_both : {T E P Q R : Type 0} (r : Result T E) → (P → Q → R) → OnOk r P → OnOk r Q → OnOk r R
@@ -42,31 +49,78 @@ module _ {D O : Type 0} (g : Ghosts D) where
   logs_moved s t b c m = record { j = m.j; waiting = m.waiting ∙ sym (append-nil (drop m.j (waiting_of s.base))); hardened = m.hardened; now = m.now }
 
   -- what callers see is enough for a record
-  pub can_of : (r : Record) (s : Parts D O) (b : Bool) → MayLog r (view_of g s b) → needs r s.meta.tables ≡ Ok tt → CanLog r s
-  can_of r s b may fits =
+  pub can_of : (r : Record) (s : Parts D O) (b : Bool) → HasBuffer s.base.log → MayLog r (view_of g s b) → needs r s.meta.tables ≡ Ok tt → CanLog r s
+  can_of r s b buffer may fits =
       let room = may.room in
-      let few = may.few in
+      let size = buffer.size in
       record {
         logged = may.logged;
         change = may.change;
         counted = may.counted;
         may = record { fits = fits; opens_fit = may.opens; items_fit = may.items; numbers_fit = may.numbers };
-        room = omega (arith, room, record_short r may.logged.record_is may.change);
-        few = omega (arith, few, length-map s.base.log.buffered record_in);
+        room = omega (arith, room, size, record_short r may.logged.record_is may.change);
         number = may.number;
       }
 
   -- what callers see of a number and room that are kept
   pub keeps_seen : (s t : Parts D O) (b c : Bool) → KeepsBase s.base t.base → t.meta ≡ s.meta → KeepsRoom (view_of g s b) (view_of g t c)
-  keeps_seen s t b c keeps meta =
-      let few = keeps.few in
+  keeps_seen s t b c keeps meta = record {
+    next = keeps.next;
+    room = omega (arith, kept_bytes s.base.log t.base.log keeps.waits);
+    meta = meta;
+    counted = ap (λ (r : Root). r.pages) keeps.root;
+  }
+
+  pub logs_seen : (r : Record) (s t : Parts D O) (b c : Bool) → LogsRecord g r s.base t.base → Logs (r ∷ []) (view_of g s b) (view_of g t c)
+  logs_seen r s t b c logs = record { j = logs.j; waiting = logs.waiting; hardened = logs.hardened; now = logs.now }
+
+  -- what they see of a record that was logged
+  pub takes_seen : (r : Record) (s t : Parts D O) (b c : Bool) (result : Result ℕ StoreFault) → IfOk result (λ lsn. (lsn ≡ s.base.log.first + length s.base.log.buffered) × LogsRoom r s t)
+      → IfOk result (λ lsn. TakesRecord r lsn (view_of g s b) (view_of g t c))
+  takes_seen r s t b c (Ok lsn) takes =
+      let logs = takes.1 in
       record {
-        next = keeps.next;
-        room = keeps.room;
-        few = omega (arith, few, length-map s.base.log.buffered record_in, length-map t.base.log.buffered record_in);
-        meta = meta;
-        counted = ap (λ (r : Root). r.pages) keeps.root;
+        number = takes.0;
+        next = logs.next;
+        room = omega (arith, logged_bytes r s t logs);
+        left = logs.left;
+        counted = logs.pages;
       }
+  takes_seen r s t b c (Err e) takes = tt
+
+  -- and of a page that went home
+  pub home_seen : (s t : Parts D O) (b c : Bool) (result : Result Bool StoreFault) → IfOk result (SavesOldest s.pool t.pool) → IfOk result (WritesHome (view_of g s b) (view_of g t c))
+  home_seen s t b c (Ok true) saves =
+      let one = saves.one refl in
+      record {
+        page = one.0;
+        since = one.1;
+        changed = since_held one.0 s.pool.frames ∙ one.2.some;
+        least = λ q n is. one.2.least q n (sym (since_held q s.pool.frames) ∙ is);
+        others = λ q. since_held q t.pool.frames ∙ one.3 q ∙ ap (λ (o : Option ℕ). if one.0 == q then None else o) (sym (since_held q s.pool.frames));
+        frames = saves.more refl;
+      }
+  home_seen s t b c (Ok false) saves =
+      let none = saves.none refl in
+      record {
+        none = λ q. since_held q s.pool.frames ∙ none.0 q;
+        all = saves.all refl;
+        same = record {
+          held = ap (λ (p : Pooled). pages_held p.frames) none.1;
+          frames = ap unchanged none.1;
+          dirty = ap (λ (p : Pooled). some_dirty p.frames) none.1;
+        };
+      }
+  home_seen s t b c (Err e) saves = tt
+
+  -- how the call that wrote it answers
+  pub wrote_seen : (s t : Parts D O) (result : Result Bool StoreFault) → IfOk result (SavesOldest s.pool t.pool) → IfOk result (λ wrote. wrote ≡ some_dirty s.pool.frames)
+  wrote_seen s t (Ok wrote) saves = wrote_is s.pool.frames wrote (λ is. (saves.none is).0) (λ is. let o = saves.one is in (o.0, o.1, o.2))
+  wrote_seen s t (Err e) saves = tt
+
+  -- what waits takes a part of the buffer
+  pub buffer_seen : (s : Parts D O) → HasBuffer s.base.log → waiting_bytes (waiting_of s.base) + (65536 - length (frames s.base.log.buffered)) ≡ 65536
+  buffer_seen s has = let most = has.most in omega (arith, most, ap (λ (l : List (List ℕ)). length (frames l)) has.spelled)
 
   -- a growth
   pub grows_seen : (first : Image) → ((d : D) (c : Image) → g.since d (g.moment_of d) c → g.images d c) → (s t : Parts D O) (b c : Bool) → IsFold first g t → IsSoundImage first → GrowsBase g s.base t.base

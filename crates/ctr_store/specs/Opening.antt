@@ -156,11 +156,13 @@ worn_in root image =
 abbrev pub IsEmptyWithRoom : Log → Type 0
 IsEmptyWithRoom log = (log.buffered ≡ []) × (65536 ≤ log.room)
 
--- Whatever the disk tells, what was opened has nothing that waits, and no number is worn.
+-- Whatever the disk tells, what was opened has nothing that waits, no number is worn, and it counts
+-- as many pages as a root may.
 pub record IsNewlyOpened {D O : Type 0} (s : Parts D O) : Type 0 where
   pub room : IsEmptyWithRoom s.base.log
   pub next : s.base.log.first + length s.base.log.buffered < worn_at
   pub xid : s.meta.tables.next < worn_at
+  pub pages : (64 ≤ s.base.root.pages) × (s.base.root.pages ≤ 30000)
 
 -- an error that comes behind the log's: damage is of a page
 abbrev pub IsLater : Root → Image → OpenError → Type 0

@@ -1,6 +1,8 @@
 -- What the parts of a store keep, and what a record adds.
-use Rattle.std.specs.Prelude.{◌≡◌, ℕ, ◌+◌, ◌-◌, ◌^◌, ◌<◌, ◌≤◌, ◌==◌, Bool, List, [], ◌∷◌, ◌++◌, length, take, drop, Some, is_some, nat_lt, if◌then◌else◌}
+use Rattle.std.specs.Prelude.{◌≡◌, ◌⊎◌, ℕ, ◌+◌, ◌-◌, ◌^◌, ◌<◌, ◌≤◌, ◌==◌, Bool, List, [], ◌∷◌, ◌++◌, length, take, drop, map, Option, None, Some, is_some, nat_lt, if◌then◌else◌}
 use Rattle.std.specs.List.{list_any}
+use Rattle.ctr_log.specs.Logs.{Log, buffer_size, frames}
+use Rattle.ctr_redo.specs.Images.{records_in}
 use Rattle.ctr_disk.specs.declared.disk.Disk.{Ghosts}
 use Rattle.ctr_disk.specs.Image.{Image}
 use Rattle.ctr_home.specs.declared.block.Block.TheVariants.{Page}
@@ -38,15 +40,26 @@ has_change fs f = is_some (since_in f.page fs)
 abbrev pub some_dirty : List Frame → Bool
 some_dirty fs = list_any (has_change fs) fs
 
--- the pages of some of the frames that have changes that aren't home
-abbrev pub changed_among : List Frame → List Frame → List ℕ
-changed_among fs [] = []
-changed_among fs (f ∷ gs) =
-    if has_change fs f then f.page ∷ changed_among fs gs else changed_among fs gs
+-- the pages that frames have, each with the number of its first record that isn't home, where it has
+-- one
+abbrev pub pages_held : List Frame → List (ℕ × Option ℕ)
+pages_held fs = map (λ f. (f.page, f.since)) fs
 
--- a page is one of these
-abbrev pub is_one_of : ℕ → List ℕ → Bool
-is_one_of p ps = list_any (λ q. q == p) ps
+-- the number of a page's first record that isn't home, where a frame has the page with such a record
+abbrev pub first_unsaved : ℕ → List (ℕ × Option ℕ) → Option ℕ
+first_unsaved p [] = None
+first_unsaved p (h ∷ hs) = if h.0 == p then h.1 else first_unsaved p hs
+
+-- how many bytes of records the log's buffer has room for
+abbrev pub buffer_most : ℕ
+buffer_most = 65536
+
+-- The log's buffer isn't smaller than that, the frames of what waits take no more, and they are
+-- spelled as those records are.
+pub record HasBuffer (log : Log) : Type 0 where
+  pub size : buffer_most ≤ buffer_size log
+  pub most : length (frames log.buffered) ≤ buffer_most
+  pub spelled : map record_bytes (records_in log.buffered) ≡ log.buffered
 
 -- a frame of a page has no record that the log lacks, with those that wait
 abbrev pub IsLowFrame : {D O : Type 0} → ℕ → Parts D O → Type 0
@@ -68,8 +81,8 @@ home_by changed counted p image =
 -- Where the home of a page's value begins in the file of pages, by the parts of a store.
 abbrev pub home_at : {D O : Type 0} → Ghosts D → ℕ → Parts D O → ℕ
 home_at g p s =
-    let fs = s.pool.frames in
-    home_by (is_one_of p (changed_among fs fs)) s.base.root.pages p (g.reads s.base.disk)
+    let changed = is_some (first_unsaved p (pages_held s.pool.frames)) in
+    home_by changed s.base.root.pages p (g.reads s.base.disk)
 
 -- A page came into a frame: below the pool the first of what waited became durable, or a page went
 -- home; over that each page is as it was.
@@ -87,7 +100,6 @@ pub record CanLog {D O : Type 0} (r : Record) (s : Parts D O) : Type 0 where
   pub counted : LiesInside s.base.root.pages (overlay_of r)
   pub may : MayApply r s.meta
   pub room : 8 + length (record_bytes r) ≤ s.base.log.room
-  pub few : length s.base.log.buffered < 2 ^ 32 - 1
   pub number : s.base.log.first + length s.base.log.buffered < 2 ^ 63 - 1
 
 -- A record more waits: what is hardened is as it was, and the state is one step on.
@@ -97,14 +109,16 @@ pub record AddsRecord {D O : Type 0} (g : Ghosts D) (r : Record) (s t : Parts D 
   pub root : t.base.root ≡ s.base.root
   pub now : state_of (now_of g t.base) ≡ step r (state_of (now_of g s.base))
 
--- the room that is left in the log's buffer and in the tables, the number of the next record, how many
--- records wait at most, and how many pages are counted
-abbrev pub LogsRoom : {D O : Type 0} → Record → Parts D O → Parts D O → Type 0
-LogsRoom r s t = (s.base.log.room ≤ t.base.log.room + (8 + length (record_bytes r)))
-    × RoomLeft (opens_added r) (items_added r) s.meta t.meta
-    × (t.base.log.first + length t.base.log.buffered ≡ s.base.log.first + length s.base.log.buffered + 1)
-    × (length t.base.log.buffered ≤ length s.base.log.buffered + 1)
-    × (t.base.root.pages ≡ s.base.root.pages)
+-- A record more waits, behind those that waited or alone. The log's buffer isn't smaller, the next
+-- number is one more, this room is left in the tables, and as many pages are counted.
+pub record LogsRoom {D O : Type 0} (r : Record) (s t : Parts D O) : Type 0 where
+  pub size : buffer_size s.base.log ≤ buffer_size t.base.log
+  pub waits : (t.base.log.buffered ≡ s.base.log.buffered ++ record_bytes r ∷ [])
+      ⊎ (t.base.log.buffered ≡ record_bytes r ∷ [])
+  pub next : t.base.log.first + length t.base.log.buffered
+      ≡ s.base.log.first + length s.base.log.buffered + 1
+  pub left : RoomLeft (opens_added r) (items_added r) s.meta t.meta
+  pub pages : t.base.root.pages ≡ s.base.root.pages
 
 -- The first of what waited is durable now, and a record more waits behind the rest.
 pub record LogsRecord {D O : Type 0} (g : Ghosts D) (r : Record) (a b : Base D O) : Type 0 where

@@ -1,5 +1,5 @@
 -- What callers see of a store, and how its calls change that.
-use Rattle.std.specs.Prelude.{◌≡◌, ◌-◌, ◌^◌, ◌<◌, ◌≤◌, ℕ, Bool, true, false, IsTrue, List, [], ◌++◌, length, take, drop, Result, Err, OnOk, OnErr, ◌+◌, ⊤}
+use Rattle.std.specs.Prelude.{◌≡◌, ◌==◌, ◌-◌, ◌^◌, ◌<◌, ◌≤◌, ℕ, Bool, true, false, IsTrue, List, [], ◌++◌, length, take, drop, map, Option, None, Some, is_some, nat_lt, if◌then◌else◌, Result, Err, OnOk, OnErr, ◌+◌, ⊤}
 use Rattle.ctr_disk.specs.declared.disk.Disk.{Ghosts}
 use Rattle.ctr_types.specs.Faults.{HasFault}
 use Rattle.ctr_types.specs.declared.file.File.{File}
@@ -19,14 +19,16 @@ use Rattle.ctr_base.specs.Base.{IsSoundImage}
 use Rattle.ctr_base.specs.Growth.{AreBlank}
 use Rattle.ctr_redo.specs.Fitting.{LiesInside}
 use Rattle.ctr_store.specs.Changes.{IsChange}
-use Rattle.ctr_store.specs.Parts.{is_one_of, home_by}
+use Rattle.ctr_log.specs.Logs.{frames}
+use Rattle.ctr_store.specs.Parts.{first_unsaved, home_by}
 use Rattle.ctr_store.specs.RecordChecks.{record_damage}
 
 -- The disk; what it folds to; the records that aren't hardened, in order; pages and tables with
 -- these; the number of the next record, and the file and the byte where it would stand in the log;
--- how many bytes of records may wait besides; how many frames have nothing to be written home, whether
--- a page is to be, and which are; the tables as they are kept; whether a call was answered an error,
--- after which no more can be asked.
+-- how many bytes of frames may wait besides; how many frames have nothing to be written home,
+-- whether a page is to be, and which pages the frames have, each with the number of its first record
+-- that isn't home; the tables as they are kept; whether a call was answered an error, after which no
+-- more can be asked.
 pub record View (D : Type 0) : Type 0 where
   pub disk : D
   pub hardened : State
@@ -38,13 +40,53 @@ pub record View (D : Type 0) : Type 0 where
   pub room : ℕ
   pub frames : ℕ
   pub dirty : Bool
-  pub changed : List ℕ
+  pub held : List (ℕ × Option ℕ)
   pub meta : TablesKept
   pub stopped : Bool
 
 -- where the home begins in the file of pages whose value a page is
 abbrev pub page_home : {D : Type 0} → Ghosts D → ℕ → View D → ℕ
-page_home g p v = home_by (is_one_of p v.changed) v.now.counted p (g.reads v.disk)
+page_home g p v = home_by (is_some (first_unsaved p v.held)) v.now.counted p (g.reads v.disk)
+
+-- how many bytes of the log's buffer the frames of these records take
+abbrev pub waiting_bytes : List Record → ℕ
+waiting_bytes rs = length (frames (map record_bytes rs))
+
+-- there is room for a turn: two frames that have nothing to be written home, and 5,000 bytes
+abbrev pub HasTurnRoom : {D : Type 0} → View D → Type 0
+HasTurnRoom v = (2 ≤ v.frames) × (5000 ≤ v.room)
+
+-- How many turns for room there are at most until there is room: one for the log's buffer where it
+-- is short, and one for each frame that is wanted.
+abbrev pub turns_for_room : {D : Type 0} → View D → ℕ
+turns_for_room v = (if nat_lt v.room 5000 then 1 else 0) + (2 - v.frames)
+
+-- The page that is changed the longest went home, and no other: its first record that isn't home
+-- has the least number of all. One frame more has nothing to be written home.
+pub record WritesOldest {D : Type 0} (a b : View D) : Type 0 where
+  pub page : ℕ
+  pub since : ℕ
+  pub changed : first_unsaved page a.held ≡ Some since
+  pub least : (q s : ℕ) → first_unsaved q a.held ≡ Some s → since ≤ s
+  pub others : (q : ℕ) → first_unsaved q b.held ≡ (if page == q then None else first_unsaved q a.held)
+  pub frames : b.frames ≡ a.frames + 1
+
+-- the frames are as they were
+pub record KeepsFrames {D : Type 0} (a b : View D) : Type 0 where
+  pub held : b.held ≡ a.held
+  pub frames : b.frames ≡ a.frames
+  pub dirty : b.dirty ≡ a.dirty
+
+-- No page was to be written home; so no frame has one, and there are eight at least.
+pub record WritesNone {D : Type 0} (a b : View D) : Type 0 where
+  pub none : (q : ℕ) → first_unsaved q a.held ≡ None
+  pub all : 8 ≤ a.frames
+  pub same : KeepsFrames a b
+
+-- how a call that writes one page home left the frames, by what it answered
+abbrev pub WritesHome : {D : Type 0} → View D → View D → Bool → Type 0
+WritesHome a b true = WritesOldest a b
+WritesHome a b false = WritesNone a b
 
 -- At each moment of a call a crash leaves what was hardened with a prefix of what wasn't.
 abbrev pub LeavesFront : {D : Type 0} → Ghosts D → View D → View D → Type 0
@@ -70,7 +112,6 @@ pub record MayLog {D : Type 0} (r : Record) (v : View D) : Type 0 where
   pub items : items_added r ≤ v.meta.items_room
   pub numbers : NumbersFit r v.meta.tables
   pub room : 5000 ≤ v.room
-  pub few : length v.waiting < 2 ^ 32 - 1
   pub number : v.next < 2 ^ 63 - 1
 
 -- what a record needs of the tables: the first need that isn't met is a row of damage
@@ -83,14 +124,13 @@ abbrev pub RefusesUnfit : {D T : Type 0} → Record → View D → View D → Re
 RefusesUnfit r a b result = (bad : BadRecord) → unmet_need r a ≡ Err bad
     → (result ≡ Err (record_damage a.file a.place bad)) × (b ≡ a)
 
--- A record has this number, the next one is one more, this room is left, one record more waits at most,
--- and as many pages are counted.
+-- A record has this number, the next one is one more, this room is left, and as many pages are
+-- counted.
 pub record TakesRecord {D : Type 0} (r : Record) (lsn : ℕ) (a b : View D) : Type 0 where
   pub number : lsn ≡ a.next
   pub next : b.next ≡ a.next + 1
   pub room : a.room ≤ b.room + (8 + length (record_bytes r))
   pub left : RoomLeft (opens_added r) (items_added r) a.meta b.meta
-  pub few : length b.waiting ≤ length a.waiting + 1
   pub counted : b.now.counted ≡ a.now.counted
 
 -- However a call ends, the number of the next record is that of before, as many pages are counted,
@@ -98,11 +138,10 @@ pub record TakesRecord {D : Type 0} (r : Record) (lsn : ℕ) (a b : View D) : Ty
 pub record KeepsRoom {D : Type 0} (a b : View D) : Type 0 where
   pub next : b.next ≡ a.next
   pub room : a.room ≤ b.room
-  pub few : length b.waiting ≤ length a.waiting
   pub meta : b.meta ≡ a.meta
   pub counted : b.now.counted ≡ a.now.counted
 
--- What a call that lends a page leaves once the loan is over.
+-- What a call leaves that logs no record; of one that lends a page, once the loan is over.
 pub record LeavesPage {D T : Type 0} (first : Image) (g : Ghosts D) (old new : View D)
     (result : Result T StoreFault) : Type 0 where
   pub any_moment : IsTrue g.tells → IsSoundImage first → LeavesFront g old new

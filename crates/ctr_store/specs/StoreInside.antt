@@ -1,14 +1,14 @@
 -- What the fields of a store stand for, and what they keep.
-use Rattle.std.specs.Prelude.{◌≡◌, ◌+◌, Bool, false, IsTrue, length}
+use Rattle.std.specs.Prelude.{◌≡◌, ◌+◌, ◌-◌, Bool, false, IsTrue, length}
 use Rattle.ctr_disk.specs.declared.disk.Disk.{Ghosts}
 use Rattle.ctr_disk.specs.Image.{Image}
-use Rattle.ctr_log.specs.Logs.{next_place}
+use Rattle.ctr_log.specs.Logs.{frames, next_place}
 use Rattle.ctr_pool.specs.Over.{unchanged}
 use Rattle.ctr_redo.specs.States.{state_of}
 use Rattle.ctr_base.specs.Base.{stored_of, waiting_of, now_of}
 use Rattle.ctr_store.specs.declared.parts.Parts.{Parts}
 use Rattle.ctr_store.specs.declared.store.Store.TheInside.{Inside}
-use Rattle.ctr_store.specs.Parts.{IsFold, some_dirty, changed_among}
+use Rattle.ctr_store.specs.Parts.{IsFold, HasBuffer, buffer_most, pages_held, some_dirty}
 use Rattle.ctr_store.specs.Store.{View}
 
 -- what callers see of the parts
@@ -21,10 +21,10 @@ view_of g s stopped = record {
   next = s.base.log.first + length s.base.log.buffered;
   file = s.base.log.file;
   place = next_place s.base.log;
-  room = s.base.log.room;
+  room = buffer_most - length (frames s.base.log.buffered);
   frames = unchanged s.pool;
   dirty = some_dirty s.pool.frames;
-  changed = changed_among s.pool.frames s.pool.frames;
+  held = pages_held s.pool.frames;
   meta = s.meta;
   stopped = stopped;
 }
@@ -34,6 +34,7 @@ abbrev pub view_in : {D O : Type 0} → Ghosts D → Inside D O → View D
 view_in g a = view_of g a.parts a.stopped
 
 -- What it shows is the fold of the records on the disk and behind them those that wait, where no
--- call was answered an error.
-abbrev pub IsStore : {D O : Type 0} → Image → Ghosts D → Inside D O → Type 0
-IsStore first g a = IsTrue g.tells → a.stopped ≡ false → IsFold first g a.parts
+-- call was answered an error; and the log's buffer is there, of which what waits takes a part.
+pub record IsStore {D O : Type 0} (first : Image) (g : Ghosts D) (a : Inside D O) : Type 0 where
+  pub fold : IsTrue g.tells → a.stopped ≡ false → IsFold first g a.parts
+  pub buffer : HasBuffer a.parts.base.log

@@ -27,14 +27,15 @@ pub record OpensStore {D : Type 0} (image : Image) (v : View D) : Type 0 where
   pub passes : LogPasses root image
   pub pages : OverlaidPass root image
 
--- Whatever the disk tells: what was opened can go on, nothing waits, there is room for records, and
--- the next LSN and the next transaction are below 2 ^ 62.
+-- Whatever the disk tells: what was opened can go on, nothing waits, the log's buffer is free, the
+-- next LSN and the next transaction are below 2 ^ 62, and 64 to 30,000 pages are counted.
 pub record IsOpened {D : Type 0} (v : View D) : Type 0 where
   pub going : v.stopped ≡ false
   pub none : v.waiting ≡ []
-  pub room : 65536 ≤ v.room
+  pub room : v.room ≡ 65536
   pub next : v.next < 2 ^ 62
   pub xid : v.meta.tables.next < 2 ^ 62
+  pub counted : (64 ≤ v.now.counted) × (v.now.counted ≤ 30000)
 
 -- an opening answers with it, or refuses the image
 abbrev pub AnswersStore : {D : Type 0} → Image → Result (View D) (OpenError × D) → Type 0

@@ -31,7 +31,7 @@ use std::marker::PhantomData;
 const WORN_AT: u64 = 1 << 62;
 
 /// For how many bytes of records the log's buffer has room.
-const BUFFER: usize = 65_536;
+pub(crate) const BUFFER: usize = 65_536;
 
 /// A disk couldn't be opened.
 #[derive(Clone, Copy, Debug, PartialEq, Eq)]
@@ -127,6 +127,7 @@ fn read_front<D: Disk, O: Origin>(alloc: Global, disk: &mut D) -> Result<(Root, 
     requires named { O.first ≡ D.reads disk.old }
     ensures found { IsTrue D.tells → IfOk result (λ r. FindsFront O.first r.0 r.1) }
     ensures passed { IfOk result (λ r. ((pages : ℕ) × AllPass pages r.1.visits) × IsEmptyWithRoom r.1.log) }
+    ensures root { IfOk result (λ r. IsRootOf Paged r.0) }
     ensures refused { IsTrue D.tells → IfErr result (RefusesAs O.first) }
     ensures undamaged { IsTrue D.tells → IsSoundImage O.first → IfErr result IsUndamaged }
     ensures quiet { OnlyReads D.Disk disk.old disk.new }
@@ -156,7 +157,7 @@ fn bring_forward<D: Disk, O: Origin>(
     ensures goes { IsTrue D.tells → IsSoundImage O.first → LeavesOnly D.Disk disk (disk_left result) (FoldsFront (state_of (stored_in root O.first)) []) }
     ensures refused { IsTrue D.tells → IfErr result (λ e. IsSoundImage O.first → (e.0 ≡ Fault) ⊎ (e.0 ≡ NoMemory)) }
     ensures later { IsTrue D.tells → IfErr result (λ e. IsLater root O.first e.0) }
-    ensures room { IfOk result (λ s. IsEmptyWithRoom s.base.log) }
+    ensures room { IfOk result (λ s. IsEmptyWithRoom s.base.log × (s.base.root ≡ root)) }
     ensures faults { HasFault Fault (D.faults_of disk) (D.faults_of (disk_left result)) (opening_told result) }
 {
     let Found { log, meta, visits } = found;
@@ -217,6 +218,7 @@ fn finish<D: Disk, O: Origin>(
     requires told { IsTrue D.tells → FindsFront O.first root found × IsDurable D.Disk disk × (D.reads disk ≡ O.first) }
     requires passed { (pages : ℕ) × AllPass pages found.visits }
     requires room { IsEmptyWithRoom found.log }
+    requires root { IsRootOf Paged root }
     ensures answer { IsTrue D.tells → AnswersOpen O.first D.Disk result }
     ensures undamaged { IsTrue D.tells → IsSoundImage O.first → IfErr result (λ e. IsUndamaged e.0) }
     ensures ready { IfOk result IsNewlyOpened }

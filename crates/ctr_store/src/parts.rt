@@ -7,7 +7,7 @@ ghost use Rattle.ctr_pool.specs.Frames.{has_page};
 ghost use Rattle.ctr_redo.specs.States.{page_limit, page_at, state_of, grown};
 ghost use Rattle.ctr_base.specs.Growth.{LeavesGrown, GrowsBase, CountsMore, AreBlank};
 ghost use Rattle.ctr_base.specs.Base.{now_of, IsSoundImage, LeavesIf, MovesIf, KeepsBase, backing_of};
-ghost use Rattle.ctr_pool.specs.Over.{IsOver};
+ghost use Rattle.ctr_pool.specs.Over.{IsOver, SavesOldest};
 ghost use Rattle.ctr_disk.specs.Device.{OnlyReads};
 ghost use Rattle.ctr_log.specs.Logs.{next_place};
 ghost use Rattle.ctr_records.specs.declared.decoding.BadRecord.{BadRecord};
@@ -16,7 +16,7 @@ ghost use Rattle.ctr_meta.specs.Needs.{needs};
 ghost use Rattle.ctr_store.specs.RecordChecks.{record_damage};
 ghost use Rattle.ctr_home.specs.Reading.{IsFaultOr};
 ghost use Rattle.ctr_store.specs.PageChecks.{IsHighFrame, FindsPage};
-ghost use Rattle.ctr_store.specs.Parts.{IsFold, BringsOver, some_dirty, IsLowFrame, AreLow, CanLog, AddsRecord, LogsRecord, LogsRoom};
+ghost use Rattle.ctr_store.specs.Parts.{IsFold, BringsOver, IsLowFrame, AreLow, CanLog, AddsRecord, LogsRecord, LogsRoom};
 
 use crate::seen::damage_at;
 use crate::spelling::{append_record, overlay_of};
@@ -109,7 +109,7 @@ impl<D: Disk, O: Origin> Parts<D, O> {
     /// Makes all records durable.
     pub fn harden(&mut self) -> Result<(), StoreFault>
         requires { IsTrue D.tells → IsFold O.first D.Disk self.old }
-        ensures keeps { KeepsBase self.old.base self.new.base × (self.new.meta ≡ self.old.meta) }
+        ensures keeps { KeepsBase self.old.base self.new.base × (self.new.meta ≡ self.old.meta) × (self.new.pool ≡ self.old.pool) }
         ensures goes { IsTrue D.tells → LeavesIf O.first D.Disk self.old.base self.new.base }
         ensures moves { IsTrue D.tells → OnOk result (MovesIf O.first D.Disk self.old.base self.new.base) }
         ensures none { OnOk result (self.new.base.log.buffered ≡ []) }
@@ -121,10 +121,10 @@ impl<D: Disk, O: Origin> Parts<D, O> {
         Ok(())
     }
 
-    /// Writes the page home that is changed the longest, or answers false, exactly where none is changed.
+    /// Writes the page home that is changed the longest, or answers false where none is changed.
     pub fn write_one_dirty(&mut self) -> Result<bool, StoreFault>
         requires { IsTrue D.tells → IsFold O.first D.Disk self.old }
-        ensures wrote { IfOk result (λ wrote. wrote ≡ some_dirty self.old.pool.frames) }
+        ensures oldest { IfOk result (λ wrote. SavesOldest self.old.pool self.new.pool wrote) }
         ensures keeps { KeepsBase self.old.base self.new.base × (self.new.meta ≡ self.old.meta) }
         ensures goes { IsTrue D.tells → LeavesIf O.first D.Disk self.old.base self.new.base }
         ensures moves { IsTrue D.tells → OnOk result (MovesIf O.first D.Disk self.old.base self.new.base) }
@@ -202,10 +202,10 @@ impl<D: Disk, O: Origin> Parts<D, O> {
     pub fn log(&mut self, rec: &Record) -> Result<Lsn, StoreFault>
         requires fold { IsTrue D.tells → IsFold O.first D.Disk self.old }
         requires can { CanLog rec.now self.old }
-        ensures number { IfOk result (λ lsn. lsn ≡ self.old.base.log.first + length self.old.base.log.buffered) }
         ensures goes { IsTrue D.tells → LeavesIf O.first D.Disk self.old.base self.new.base }
         ensures logs { IsTrue D.tells → OnOk result ((IsSoundImage O.first → LogsRecord D.Disk rec.now self.old.base self.new.base) × IsFold O.first D.Disk self.new) }
-        ensures room { OnOk result (LogsRoom rec.now self.old self.new) }
+        ensures takes { IfOk result (λ lsn. (lsn ≡ self.old.base.log.first + length self.old.base.log.buffered) × LogsRoom rec.now self.old self.new) }
+        ensures keeps { OnErr result (KeepsBase self.old.base self.new.base) }
         ensures refused { IsTrue D.tells → IfErr result (λ e. IsSoundImage O.first → e ≡ Fault) }
         ensures faults { HasFault Fault (D.faults_of self.old.base.disk) (D.faults_of self.new.base.disk) result }
     {

@@ -26,7 +26,6 @@ pub fn append_record(log: &mut LogFile, rec: &Record) -> Lsn
     requires is_record { IsRecord rec.now }
     requires change { IsChange rec.now }
     requires room { 8 + length (record_bytes rec.now) ≤ log.old.room }
-    requires few { length log.old.buffered < 2 ^ 32 - 1 }
     requires next { log.old.first + length log.old.buffered < 2 ^ 63 - 1 }
     ensures number { result ≡ log.old.first + length log.old.buffered }
     ensures added { log.new ≡ record log.old { buffered = log.old.buffered ++ record_bytes rec.now ∷ []; room = log.new.room } }

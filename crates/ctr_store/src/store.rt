@@ -1,5 +1,5 @@
 // The store: pages and tables are the fold of the log, at every moment.
-ghost use Rattle.std.specs.Prelude.{◌≡◌, ◌≤◌, ◌<◌, ◌+◌, ◌^◌, ◌↔◌, IsTrue, true, false, [], ◌∷◌, Ok, Err, length, IfOk, IfErr, OnOk, OnErr};
+ghost use Rattle.std.specs.Prelude.{◌≡◌, ◌≤◌, ◌<◌, ◌+◌, ◌-◌, ◌^◌, ◌↔◌, nat_lt, IsTrue, true, false, [], ◌∷◌, Ok, Err, length, IfOk, IfErr, OnOk, OnErr};
 ghost use Rattle.ctr_types.specs.Faults.{HasFault};
 ghost use Rattle.ctr_disk.specs.declared.fault.StoreFault.TheVariants.{Fault};
 ghost use Rattle.ctr_meta.specs.Kept.{RoomLeft};
@@ -10,10 +10,10 @@ ghost use Rattle.ctr_disk.specs.Device.{LeavesOnly};
 ghost use Rattle.ctr_redo.specs.States.{page_limit, page_at};
 ghost use Rattle.ctr_store.specs.Opening.{LeavesFirst, IsUndamaged, opening_told};
 ghost use Rattle.ctr_store.specs.declared.opening.OpenError.TheVariants.{Fault as OpenFault};
-ghost use Rattle.ctr_store.specs.Store.{LeavesFront, LeavesPage, Logs, MayLog, unmet_need, RefusesUnfit, TakesRecord, KeepsRoom, LeavesGrowing, GrowsByExtent, CountsUp, page_home};
+ghost use Rattle.ctr_store.specs.Store.{waiting_bytes, HasTurnRoom, turns_for_room, KeepsFrames, WritesHome, LeavesFront, LeavesPage, Logs, MayLog, unmet_need, RefusesUnfit, TakesRecord, KeepsRoom, LeavesGrowing, GrowsByExtent, CountsUp, page_home};
 ghost use Rattle.ctr_store.specs.StoreOpening.{AnswersStore, IsOpened, store_left};
 
-use crate::opening::OpenError;
+use crate::opening::{BUFFER, OpenError};
 use crate::parts::Parts;
 use ctr_base::Origin;
 use ctr_disk::{Disk, StoreFault};
@@ -26,6 +26,9 @@ use std::marker::Model;
 
 /// For how many bytes of records there is room when a turn begins.
 const ROOM: usize = 5000;
+
+/// How many frames have nothing to be written home when a turn begins.
+const CLEAN: usize = 2;
 
 /// The pages and the tables of a database, over its log and its homes.
 #[derive(Drop)]
@@ -59,6 +62,8 @@ impl<D: Disk, O: Origin> Store<D, O> {
         // A sound image is refused as worn by its number, for a fault or for want of memory, and for nothing else.
         ensures undamaged { IsTrue D.tells → IsSoundImage O.first → IfErr result (λ e. IsUndamaged e.0) }
         ensures fresh { IfOk result IsOpened }
+        // What a crash leaves behind it is all that was opened.
+        ensures durable { IsTrue D.tells → IsSoundImage O.first → IfOk result (λ v. LeavesFront D.Disk v v) }
         ensures any_moment { IsTrue D.tells → IsSoundImage O.first → LeavesOnly D.Disk disk (store_left result) (LeavesFirst O.first (D.images disk)) }
         // It says that the disk failed only where a call of it did.
         ensures faults { HasFault OpenFault (D.faults_of disk) (D.faults_of (store_left result)) (opening_told result) }
@@ -118,9 +123,35 @@ impl<D: Disk, O: Origin> Store<D, O> {
 
     /// Whether there is room for a turn: two frames that have nothing to be written home, and 5,000 bytes of records.
     pub fn room(&self) -> bool
-        ensures { IsTrue result ↔ ((2 ≤ self.now.frames) × (5000 ≤ self.now.room)) }
+        ensures told { IsTrue result ↔ HasTurnRoom self.now }
+        // What waits takes a part of the log's buffer, of 65,536 bytes, and the rest is room.
+        ensures buffer { waiting_bytes self.now.waiting + self.now.room ≡ 65536 }
     {
-        self.parts.pool.unchanged() >= 2 && self.parts.base.log.room() >= ROOM
+        self.parts.pool.unchanged() >= CLEAN && !self.is_short()
+    }
+
+    // Whether the log's buffer has less room than a turn needs.
+    fn is_short(&self) -> bool
+        ensures short { result ≡ nat_lt self.now.room 5000 }
+        ensures buffer { waiting_bytes self.now.waiting + self.now.room ≡ 65536 }
+    {
+        BUFFER - self.parts.base.log.bytes_waiting() < ROOM
+    }
+
+    /// A turn for room: makes what waits durable where the log's buffer has less than 5,000 bytes left, or else writes the
+    /// page home that is changed the longest. There is room after at most three.
+    pub fn make_room(&mut self) -> Result<(), StoreFault>
+        requires { self.old.stopped ≡ false }
+        ensures nearer { OnOk result (turns_for_room self.new ≡ turns_for_room self.old - 1) }
+        ensures leaves { LeavesPage O.first D.Disk self.old self.new result }
+    {
+        if self.is_short() {
+            return self.harden();
+        }
+        match self.write_one_dirty() {
+            Ok(_) => Ok(()),
+            Err(fault) => Err(fault),
+        }
     }
 
     /// Takes room for so many more transactions and items.
@@ -155,16 +186,15 @@ impl<D: Disk, O: Origin> Store<D, O> {
         logged
     }
 
-    /// Makes all records durable.
+    /// Makes all records durable. What waited gives the log's buffer back, of 65,536 bytes; the frames stay as they are.
     pub fn harden(&mut self) -> Result<(), StoreFault>
         requires { self.old.stopped ≡ false }
-        ensures any_moment { IsTrue D.tells → IsSoundImage O.first → LeavesFront D.Disk self.old self.new }
-        ensures logs { IsTrue D.tells → IsSoundImage O.first → OnOk result (Logs [] self.old self.new) }
-        ensures none { OnOk result (self.new.waiting ≡ []) }
-        ensures keeps { KeepsRoom self.old self.new }
-        ensures stopped { (OnOk result (self.new.stopped ≡ false)) × (OnErr result (self.new.stopped ≡ true)) }
+        ensures none { OnOk result ((self.new.waiting ≡ []) × (self.new.room ≡ 65536)) }
+        ensures frames { KeepsFrames self.old self.new }
+        // What a crash leaves behind it is all.
+        ensures durable { IsTrue D.tells → IsSoundImage O.first → OnOk result (LeavesFront D.Disk self.new self.new) }
+        ensures leaves { LeavesPage O.first D.Disk self.old self.new result }
         ensures refused { OnErr result (result ≡ Err Fault) }
-        ensures faults { HasFault Fault (D.faults_of self.old.disk) (D.faults_of self.new.disk) result }
     {
         let hardened = self.parts.harden();
         self.stopped = hardened.is_err();
@@ -175,12 +205,8 @@ impl<D: Disk, O: Origin> Store<D, O> {
     pub fn write_one_dirty(&mut self) -> Result<bool, StoreFault>
         requires { self.old.stopped ≡ false }
         ensures wrote { IfOk result (λ wrote. wrote ≡ self.old.dirty) }
-        ensures any_moment { IsTrue D.tells → IsSoundImage O.first → LeavesFront D.Disk self.old self.new }
-        ensures logs { IsTrue D.tells → IsSoundImage O.first → OnOk result (Logs [] self.old self.new) }
-        ensures keeps { KeepsRoom self.old self.new }
-        ensures stopped { (OnOk result (self.new.stopped ≡ false)) × (OnErr result (self.new.stopped ≡ true)) }
-        ensures refused { IsTrue D.tells → IsSoundImage O.first → OnErr result (result ≡ Err Fault) }
-        ensures faults { HasFault Fault (D.faults_of self.old.disk) (D.faults_of self.new.disk) result }
+        ensures home { IfOk result (WritesHome self.old self.new) }
+        ensures leaves { LeavesPage O.first D.Disk self.old self.new result }
     {
         let wrote = self.parts.write_one_dirty();
         self.stopped = wrote.is_err();

@@ -87,9 +87,7 @@ module _ {D : Type 0} (g : Ghosts D) (a b c : View D) where
   rooms_join m n =
       let one = m.room in
       let two = n.room in
-      let few = m.few in
-      let fewer = n.few in
-      record { next = n.next ∙ m.next; room = omega (arith, one, two); few = omega (arith, few, fewer); meta = n.meta ∙ m.meta; counted = n.counted ∙ m.counted }
+      record { next = n.next ∙ m.next; room = omega (arith, one, two); meta = n.meta ∙ m.meta; counted = n.counted ∙ m.counted }
 
   pub pages_join : (first : Image) (S T : Type 0) (x : S) (result : Result T StoreFault) → LeavesPage {T = S} first g a b (Ok x) → LeavesPage {T = T} first g b c result → LeavesPage {T = T} first g a c result
   pages_join first S T x result one two = record {

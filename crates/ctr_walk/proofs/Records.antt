@@ -50,7 +50,6 @@ one_may r opens items v room logged change inside few_opens few_items numbers =
       items = omega (arith, few_items, more_items);
       numbers = numbers;
       room = room.room;
-      few = room.few;
       number = room.number;
     }
 
@@ -64,8 +63,6 @@ module _ {D : Type 0} (r : Record) (a b : View D) (keeps : KeepsRoom a b) where
   may_still going may =
       let room = may.room in
       let more = keeps.room in
-      let few = may.few in
-      let fewer = keeps.few in
       record {
         going = going;
         logged = may.logged;
@@ -75,7 +72,6 @@ module _ {D : Type 0} (r : Record) (a b : View D) (keeps : KeepsRoom a b) where
         items = subst (λ (m : TablesKept). items_added r ≤ m.items_room) (sym keeps.meta) may.items;
         numbers = subst (λ (m : TablesKept). NumbersFit r m.tables) (sym keeps.meta) may.numbers;
         room = omega (arith, room, more);
-        few = omega (arith, few, fewer);
         number = subst (λ (n : ℕ). n < 2 ^ 63 - 1) (sym keeps.next) may.number;
       }
 
@@ -86,14 +82,11 @@ module _ {D : Type 0} (r : Record) (a b : View D) (keeps : KeepsRoom a b) where
   taken_behind lsn c takes =
       let room = takes.room in
       let more = keeps.room in
-      let fewer = keeps.few in
-      let one_more = takes.few in
       record {
         number = refl;
         next = takes.next ∙ ap (λ (n : ℕ). n + 1) keeps.next;
         room = omega (arith, room, more);
         left = subst (λ (m : TablesKept). RoomLeft (opens_added r) (items_added r) m c.meta) keeps.meta takes.left;
-        few = omega (arith, fewer, one_more);
         counted = takes.counted ∙ keeps.counted;
       }
 

@@ -17,7 +17,6 @@ pub record HasRoomForOne {D : Type 0} (opens items : ℕ) (v : View D) : Type 0 
   pub opens_fit : opens ≤ v.meta.opens_room
   pub items_fit : items ≤ v.meta.items_room
   pub room : 5000 ≤ v.room
-  pub few : length v.waiting < 2 ^ 32 - 1
   pub number : v.next < 2 ^ 63 - 1
 
 -- the record doesn't fit the tables: that is told by the row that it fails, at the place in the log

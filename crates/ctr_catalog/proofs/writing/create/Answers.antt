@@ -38,7 +38,10 @@ pub returns-in-Ok-clause-ends : goal.returns-in-Ok-clause-ends
 returns-in-Ok-clause-ends g c = λ told sound. is_lowest g (goal.at.returns-in-Ok-clause-ends g c).After-log_created told sound
 
 pub returns-in-Err-log_created-clause-ends : goal.returns-in-Err-log_created-clause-ends
-returns-in-Err-log_created-clause-ends g c = λ told sound. inr (c.in-Ok-Some.entry, is_lowest g (goal.at.returns-in-Err-log_created-clause-ends g c).After-log_created told sound)
+returns-in-Err-log_created-clause-ends g c = λ told sound.
+    let at = (goal.at.returns-in-Err-log_created-clause-ends g c).After-log_created in
+    let one = one_made g at (Err c.in-Err-log_created.fault) c.in-Err-log_created.ensures.one in
+    inr (c.in-Ok-Some.entry, is_lowest g at told sound, one.refused told sound)
 
 pub returns-in-Ok-clause-one : goal.returns-in-Ok-clause-one
 returns-in-Ok-clause-one g c =

@@ -4,7 +4,8 @@ use Rattle.ctr_log.proofs.VisitLaws.{kept_bytes, kept_numbers}
 use Rattle.ctr_base.specs.declared.base.Base.{Base}
 use Rattle.ctr_base.specs.BaseLaws.{quiet_leaves}
 use Rattle.ctr_store.specs.RecordChecks.{AllPass, tables_seen}
-use Rattle.ctr_store.proofs.OpenLaws.{rests_opened, starts_opened, pages_opened, leaves_first, state_first, none_left, tables_found}
+use Rattle.ctr_store.proofs.OpenLaws.{rests_opened, starts_opened, pages_opened, leaves_first, state_first, tables_found}
+use Rattle.ctr_store.proofs.BufferLaws.{none_waits}
 use Rattle.ctr_store.proofs.opening.bring_forward.Goals as goal
 
 pub returns-in_default-clause-goes : goal.returns-in_default-clause-goes
@@ -50,11 +51,10 @@ returns-in-Ok-redo-clause-opened g c told =
     let f = c.args.found in
     let e = c.in-Ok-redo.ensures in
     let a : Base g.row.D.Denot g.row.O.Denot = record { disk = c.args.disk; log = f.log; root = c.args.root; durable = c.next-durable.result; of = record {} } in
-    let few = e.keeps.0.few in
     let none = r.0.log.none in
     record {
       root_is = e.keeps.0.root;
-      none = none_left c.redo.new.self.base.log.buffered (omega (arith, few, ap (λ (l : List (List ℕ)). length l) none));
+      none = none_waits a.log c.redo.new.self.base.log e.keeps.0.waits none;
       fold = (e.fold told).0;
       state = λ sound. state_first o d a c.redo.new.self.base c.args.root refl none r.2 ((e.fold told).1 sound);
       next = e.keeps.0.next ∙ omega (arith, r.0.log.kept.next_is, ap (λ (l : List (List ℕ)). length l) none);

@@ -1,13 +1,12 @@
 use Rattle.std.proofs.Common.{◌≡◌, ◌∙◌, ◌+◌, ◌∷◌, [], ◌++◌, ◌-◌, ◌^◌, length, drop, vec_len, vec_capacity, ap, arith}
 use Rattle.ctr_log.specs.Logs.{unframed}
-use Rattle.ctr_log.proofs.LogLemmas.{length-unframed, more_frames, more_records}
+use Rattle.ctr_log.proofs.LogLemmas.{length-unframed, count_small, more_frames, more_records}
 use Rattle.ctr_log.proofs.log.LogFile.append.Goals as goal
 
 pub overflow_add-self : goal.overflow_add-self
 overflow_add-self c =
-    let e = ap (λ v. length v.buffered) c.self.view_is in
-    let n = length-unframed c.self.inside.count (drop 20 c.self.inside.buffer.items) in
-    omega arith
+    let a = c.self.inside in
+    omega (arith, count_small a.count a.buffer.items c.self.invariant.frames_are, a.buffer.ok.0, c.self.invariant.short)
 
 pub returns-clause-number : goal.returns-clause-number
 returns-clause-number c =
@@ -20,7 +19,7 @@ pub invariant_of-self : goal.invariant_of-self
 invariant_of-self c =
     let old = c.self.inside.buffer in
     let new = c.put_frame.new.buffer in
-    let room : vec_capacity old - vec_len old - 1 - (vec_capacity old - 2 ^ 60) ≡ c.args.self.now.room = ap (λ v. v.room) c.self.view_is in
+    let room : vec_capacity old - vec_len old - 1 - (vec_capacity old - 2 ^ 34) ≡ c.args.self.now.room = ap (λ v. v.room) c.self.view_is in
     let first : c.self.inside.first ≡ c.args.self.now.first = ap (λ v. v.first) c.self.view_is in
     let count : length (unframed c.self.inside.count (drop 20 old.items)) ≡ length c.args.self.now.buffered = ap (λ v. length v.buffered) c.self.view_is in
     let n = length-unframed c.self.inside.count (drop 20 old.items) in
@@ -49,4 +48,4 @@ returns-clause-added c =
     let more : unframed (c.self.inside.count + 1) (drop 20 new.items) ≡ c.args.self.now.buffered ++ c.args.bytes.now ∷ [] =
     more_records c.self.inside.count old.items new.items c.args.bytes.now (omega arith) c.put_frame.ensures.items c.self.invariant.frames_are (omega arith)
     ∙ ap (λ v. v.buffered ++ c.args.bytes.now ∷ []) view in
-    (λ i. record { file = (ap (λ v. v.file) view) i; older = (ap (λ v. v.older) view) i; place = (ap (λ v. v.place) view) i; first = (ap (λ v. v.first) view) i; buffered = more i; room = vec_capacity new - vec_len new - 1 - (vec_capacity new - 2 ^ 60) })
+    (λ i. record { file = (ap (λ v. v.file) view) i; older = (ap (λ v. v.older) view) i; place = (ap (λ v. v.place) view) i; first = (ap (λ v. v.first) view) i; buffered = more i; room = vec_capacity new - vec_len new - 1 - (vec_capacity new - 2 ^ 34) })

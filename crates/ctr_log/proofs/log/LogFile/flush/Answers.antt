@@ -1,9 +1,9 @@
-use Rattle.std.proofs.Common.{◌≡◌, ◌∙◌, ◌+◌, [], ℕ, List, length, take, drop, ap, subst, sym, refl, arith, length-drop, length-take}
+use Rattle.std.proofs.Common.{◌≡◌, inl, inr, ◌∙◌, ◌+◌, ◌-◌, ◌^◌, ◌≤◌, [], ℕ, List, length, take, drop, vec_len, vec_capacity, ap, subst, sym, refl, arith, length-drop, length-take}
 use Rattle.std.proofs.lemmas.List.{drop_all}
 use Rattle.std.proofs.lemmas.Result.{err_from_is_err_and}
 use Rattle.ctr_disk.specs.Image.{content, OtherFilesStay}
 use Rattle.ctr_disk.specs.Device.{LeavesOnly, IsSettled}
-use Rattle.ctr_log.specs.Logs.{Batches, Log, frames, unframed, GoesOn, Extends, IsFlushing, with_batch}
+use Rattle.ctr_log.specs.Logs.{Batches, Log, frames, unframed, buffer_size, GoesOn, Extends, IsFlushing, with_batch}
 use Rattle.ctr_log.specs.Kept.{WritesBehind, KeepsPrefix}
 use Rattle.ctr_log.specs.LogFile.{log_of}
 use Rattle.ctr_log.proofs.LogLemmas.{length-unframed}
@@ -70,13 +70,18 @@ returns-clause-flushed g c first bs told goes =
 pub returns-clause-emptied : goal.returns-clause-emptied
 returns-clause-emptied g c =
     let a = c.self.inside in
+    let keeps = c.self.invariant in
+    let last = c.truncate-2.new.self in
     let count_is : a.first + a.count ≡ (log_of a).first + length (log_of a).buffered = ap (λ (n : ℕ). a.first + n) (sym (length-unframed a.count (drop 20 a.buffer.items))) in
+    let long : length (frames (log_of a).buffered) + 20 ≡ vec_len a.buffer = omega (arith, keeps.head, ap length keeps.frames_are, length-drop 20 a.buffer.items, a.buffer.ok.0) in
     record {
       file = ap (λ (v : Log). v.file) c.self.view_is;
       older = ap (λ (v : Log). v.older) c.self.view_is;
       none = refl;
       next = subst (λ (v : Log). a.first + a.count ≡ v.first + length v.buffered) c.self.view_is count_is;
       room = omega (arith, ap (λ (v : Log). v.room) c.self.view_is);
+      size = subst (λ (v : Log). buffer_size v ≤ vec_capacity last - vec_len last - 1 - (vec_capacity last - 2 ^ 34) + 0) c.self.view_is (omega (arith, long, keeps.short, keeps.spare));
+      waits = inr refl;
       number = subst (λ (v : Log). a.first + a.count + 0 ≡ v.first + length v.buffered) c.self.view_is (omega (arith, count_is));
       later = omega (arith, ap (λ (v : Log). v.first) c.self.view_is);
     }
@@ -84,7 +89,12 @@ returns-clause-emptied g c =
 pub returns-in_err-written-clause-emptied : goal.returns-in_err-written-clause-emptied
 returns-in_err-written-clause-emptied g c =
     let a = c.self.inside in
-    let now = drop 20 c.truncate.new.self.items in
+    let mid = c.truncate.new.self in
+    let now = drop 20 mid.items in
+    let held = drop 20 a.buffer.items in
+    let wide : c.len-len.result ≡ 20 + length held = omega (arith, c.self.invariant.head, length-drop 20 a.buffer.items, a.buffer.ok.0) in
+    let back : now ≡ held =
+    ap (λ (l : List ℕ). drop 20 l) (c.truncate.ensures.items ∙ ap (λ (l : List ℕ). take c.len-len.result l) c.seal.ensures.items) ∙ reopened a.first a.count c.len-len.result held wide in
     let count_is : a.first + a.count ≡ (log_of a).first + length (log_of a).buffered = ap (λ (n : ℕ). a.first + n) (sym (length-unframed a.count (drop 20 a.buffer.items))) in
     let p = err_from_is_err_and c.from_residual.result c.from_residual.ensures.1 in
     rw (p.1)
@@ -94,6 +104,8 @@ returns-in_err-written-clause-emptied g c =
       none = tt;
       next = tt;
       room = omega (arith, ap (λ (v : Log). v.room) c.self.view_is);
+      size = subst (λ (v : Log). buffer_size v ≤ vec_capacity mid - vec_len mid - 1 - (vec_capacity mid - 2 ^ 34) + length (frames (unframed a.count now))) c.self.view_is (omega (arith, ap (λ (l : List ℕ). length (frames (unframed a.count l))) back));
+      waits = inl (ap (λ (l : List ℕ). unframed a.count l) back ∙ ap (λ (v : Log). v.buffered) c.self.view_is);
       number = subst (λ (v : Log). a.first + length (unframed a.count now) ≡ v.first + length v.buffered) c.self.view_is (omega (arith, count_is, length-unframed a.count now));
       later = omega (arith, ap (λ (v : Log). v.first) c.self.view_is);
     })

@@ -1,6 +1,7 @@
-use Rattle.std.proofs.Common.{ap}
+use Rattle.std.proofs.Common.{◌∙◌, ap}
 use Rattle.std.proofs.lemmas.Result.{err_from_is_err_and}
 use Rattle.ctr_base.specs.BaseLaws.{rests_leaves}
+use Rattle.ctr_store.proofs.BufferLaws.{room_behind}
 use Rattle.ctr_store.proofs.PartsLaws.{can_still, logs_now, logs_behind, leaves_same, fold_moved, fold_low}
 use Rattle.ctr_store.proofs.parts.Parts.log.Goals as goal
 
@@ -44,3 +45,9 @@ returns-in_err-bring-clause-refused g c told =
     let o = g.O.Origin.first in
     let p = err_from_is_err_and c.from_residual.result c.from_residual.ensures.1 in
     rw (p.1, p.2) (c.in_err-bring.ensures.refused told (fold_low o d c.args.self.now (c.requires.fold told)))
+
+pub returns-clause-takes : goal.returns-clause-takes
+returns-clause-takes g c =
+    let keeps = c.bring.ensures.keeps in
+    let e = c.log_on.ensures in
+    (e.number ∙ keeps.0.next, room_behind c.args.rec.now c.args.self.now c.bring.new.self c.log_on.new.self keeps.0 keeps.1 e.room)

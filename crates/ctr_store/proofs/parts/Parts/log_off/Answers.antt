@@ -1,8 +1,9 @@
-use Rattle.std.proofs.Common.{◌∙◌, sym, ap}
+use Rattle.std.proofs.Common.{refl, ◌∙◌, sym, ap}
 use Rattle.ctr_meta.specs.Effects.{effect}
 use Rattle.ctr_records.proofs.ReadBack.{record_read}
 use Rattle.ctr_records.specs.Spelling.{record_bytes}
 use Rattle.ctr_store.proofs.RecordLaws.{off_all}
+use Rattle.ctr_store.proofs.BufferLaws.{logs_room}
 use Rattle.ctr_store.proofs.PartsLaws.{can_follow, push_adds, push_tables, off_over, off_current}
 use Rattle.ctr_store.proofs.parts.Parts.log_off.Goals as goal
 
@@ -26,3 +27,9 @@ returns-clause-fold g c told fold =
       tables = λ sound. c.apply.ensures.tables ∙ ap (effect r) (fold.tables sound) ∙ sym (push_tables o d s.base log (record_bytes r) r added tells);
       current = λ sound. off_current o d s.base log (record_bytes r) r added tells s.pool.frames off (fold.current sound);
     }
+
+pub returns-clause-room : goal.returns-clause-room
+returns-clause-room g c =
+    let s = c.args.self.now in
+    let e = c.append_record-lsn.ensures in
+    logs_room c.args.rec.now s (record s { base = record s.base { log = c.append_record-lsn.new.log }; meta = c.apply.new.self }) e.added e.room_left c.apply.ensures.room refl

@@ -1,8 +1,9 @@
-use Rattle.std.proofs.Common.{◌<◌, ◌∙◌, sym, ap, arith}
+use Rattle.std.proofs.Common.{refl, ◌<◌, ◌∙◌, sym, ap, arith}
 use Rattle.ctr_meta.specs.Effects.{effect}
 use Rattle.ctr_records.proofs.ReadBack.{record_read}
 use Rattle.ctr_records.specs.Spelling.{record_bytes}
 use Rattle.ctr_store.proofs.RecordLaws.{on_page, off_page, overlay_inside, frame_there, inside_of}
+use Rattle.ctr_store.proofs.BufferLaws.{logs_room}
 use Rattle.ctr_store.proofs.PartsLaws.{can_follow, push_adds, push_tables, on_over, on_current}
 use Rattle.ctr_store.proofs.parts.Parts.log_on.Goals as goal
 
@@ -37,3 +38,9 @@ returns-clause-fold g c told fold =
       tables = λ sound. c.apply.ensures.tables ∙ ap (effect r) (fold.tables sound) ∙ sym (push_tables i d s.base log (record_bytes r) r e.added tells);
       current = on_current i d s.base log (record_bytes r) r e.added tells o.page o frame.0 fs gs lsn e.number c.requires.on (on_page o) others inside fold.over fold.current frame.1 lower c.change.ensures.frames;
     }
+
+pub returns-clause-room : goal.returns-clause-room
+returns-clause-room g c =
+    let s = c.args.self.now in
+    let e = c.append_record-lsn.ensures in
+    logs_room c.args.rec.now s (record s { base = record s.base { log = c.append_record-lsn.new.log }; pool = c.change.new.self; meta = c.apply.new.self }) e.added e.room_left c.apply.ensures.room refl

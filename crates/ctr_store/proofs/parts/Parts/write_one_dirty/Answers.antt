@@ -1,7 +1,6 @@
 use Rattle.std.proofs.Common.{refl}
 use Rattle.ctr_store.specs.declared.parts.Parts.{Parts}
 use Rattle.ctr_store.proofs.PartsLaws.{fold_moved}
-use Rattle.ctr_store.proofs.RecordLaws.{wrote_is}
 use Rattle.ctr_store.proofs.parts.Parts.write_one_dirty.Goals as goal
 
 pub returns-clause-fold : goal.returns-clause-fold
@@ -11,6 +10,3 @@ returns-clause-fold g c told =
     let fold = c.requires told in
     let stays = c.in_ok-wrote.ensures.stays told in
     fold_moved g.O.Origin.first g.D.Disk s t fold (c.in_ok-wrote.ensures.works.moves told fold.over.at_rest) refl stays.shows stays.over
-
-pub returns-clause-wrote : goal.returns-clause-wrote
-returns-clause-wrote g c = let saves = c.in_ok-wrote.ensures.saves in wrote_is c.args.self.now.pool.frames c.in_ok-wrote.wrote (λ is. (saves.none is).0) (λ is. let o = saves.one is in (o.0, o.1, o.2))

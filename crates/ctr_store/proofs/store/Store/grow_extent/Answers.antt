@@ -1,8 +1,18 @@
-use Rattle.std.proofs.Common.{subst}
+use Rattle.std.proofs.Common.{◌∙◌, sym, subst}
+use Rattle.ctr_base.specs.declared.base.Base.{Base}
+use Rattle.ctr_store.specs.Parts.{HasBuffer}
 use Rattle.ctr_store.specs.Store.{View, GrowsByExtent}
 use Rattle.ctr_store.specs.StoreInside.{view_of}
-use Rattle.ctr_store.proofs.StoreLaws.{on_ok_both, grows_seen}
+use Rattle.ctr_store.proofs.StoreLaws.{of_ok, on_ok_both, grows_seen}
 use Rattle.ctr_store.proofs.store.Store.grow_extent.Goals as goal
+
+pub invariant_of-self : goal.invariant_of-self
+invariant_of-self g c =
+    let e = c.grow-counted.ensures in
+    record {
+      fold = λ told going. (of_ok c.grow-counted.result (sym c.is_err-self-inside.ensures.value ∙ going) (e.grows told)).1;
+      buffer = subst (λ (b : Base g.row.D.Denot g.row.O.Denot). HasBuffer b.log) (sym e.counted.0.0) c.self.invariant.buffer;
+    }
 
 pub returns-clause-grows : goal.returns-clause-grows
 returns-clause-grows g c told sound =

@@ -1,14 +1,31 @@
-use Rattle.std.proofs.Common.{[], subst}
+use Rattle.std.proofs.Common.{◌≡◌, ◌∙◌, Bool, false, sym, ap, subst}
 use Rattle.std.proofs.lemmas.Result.{on_ok_weaker}
-use Rattle.ctr_store.specs.Store.{View, Logs}
+use Rattle.ctr_base.specs.Base.{IsSoundImage}
+use Rattle.ctr_base.specs.BaseLaws.{rests_leaves}
+use Rattle.ctr_store.specs.Store.{View, LeavesPage}
 use Rattle.ctr_store.specs.StoreInside.{view_of}
-use Rattle.ctr_store.proofs.StoreLaws.{logs_moved}
+use Rattle.ctr_store.proofs.BufferLaws.{buffer_kept}
+use Rattle.ctr_store.proofs.StoreLaws.{of_ok, page_left, sound_fault}
 use Rattle.ctr_store.proofs.store.Store.harden.Goals as goal
 
-pub returns-clause-logs : goal.returns-clause-logs
-returns-clause-logs g c told sound =
+pub invariant_of-self : goal.invariant_of-self
+invariant_of-self g c =
+    let e = c.harden-hardened.ensures in
+    record {
+      fold = λ told going. of_ok c.harden-hardened.result (sym c.is_err-self-inside.ensures.value ∙ going) (e.fold told);
+      buffer = buffer_kept c.self.inside.parts.base c.harden-hardened.new.self.base e.keeps.0 c.self.invariant.buffer;
+    }
+
+pub returns-clause-durable : goal.returns-clause-durable
+returns-clause-durable g c told sound =
+    on_ok_weaker c.harden-hardened.result (λ fold. rests_leaves g.D.Disk g.O.Origin.first g.met.D.Disk.only_now c.harden-hardened.new.self.base fold.over.at_rest sound) (c.harden-hardened.ensures.fold told)
+
+pub returns-clause-leaves : goal.returns-clause-leaves
+returns-clause-leaves g c =
     let d = g.D.Disk in
-    let s = c.self.inside.parts in
+    let o = g.O.Origin.first in
     let t = c.harden-hardened.new.self in
-    let stopped = c.is_err-self-inside.result in
-    on_ok_weaker c.harden-hardened.result (λ m. subst (λ (v : View g.row.D.Denot). Logs [] v (view_of d t stopped)) c.self.view_is (logs_moved d s t c.self.inside.stopped stopped (m sound))) (c.harden-hardened.ensures.moves told)
+    let e = c.harden-hardened.ensures in
+    let going : c.self.inside.stopped ≡ false = ap (λ (v : View g.row.D.Denot). v.stopped) c.self.view_is ∙ c.requires in
+    subst (λ (k : Bool). LeavesPage o d c.args.self.now (view_of d t k) c.harden-hardened.result) (sym c.is_err-self-inside.ensures.value)
+    (page_left d o c.self.inside.parts t c.self.inside.stopped c.args.self.now c.self.view_is e.goes e.keeps.0 e.keeps.1 c.harden-hardened.result going e.moves (λ told. sound_fault (IsSoundImage o) c.harden-hardened.result e.refused) e.faults)

@@ -1,19 +1,49 @@
-use Rattle.std.proofs.Common.{◌≡◌, ◌∙◌, false, sym, ap, subst}
+use Rattle.std.proofs.Common.{◌≡◌, ◌∙◌, ◌≤◌, [], ◌∷◌, false, sym, ap, subst}
+use Rattle.std.specs.Prelude.{IfOk}
+use Rattle.std.proofs.lemmas.Result.{on_ok_weaker}
 use Rattle.ctr_base.specs.BaseLaws.{rests_leaves}
-use Rattle.ctr_store.specs.Store.{View, MayLog, LeavesFront}
-use Rattle.ctr_store.proofs.StoreLaws.{can_of, of_ok}
+use Rattle.ctr_store.specs.Store.{View, MayLog, LeavesFront, Logs, TakesRecord}
+use Rattle.ctr_store.specs.StoreInside.{view_of}
+use Rattle.ctr_store.proofs.BufferLaws.{buffer_behind}
+use Rattle.ctr_store.proofs.StoreLaws.{can_of, of_ok, logs_seen, takes_seen}
 use Rattle.ctr_store.proofs.store.Store.log.Goals as goal
 
 pub log-logged-requires-clause-can : goal.log-logged-requires-clause-can
-log-logged-requires-clause-can g c = can_of g.D.Disk c.args.rec.now c.self.inside.parts c.self.inside.stopped (subst (λ (v : View g.row.D.Denot). MayLog c.args.rec.now v) (sym c.self.view_is) c.requires.may) c.in-Ok.ensures
+log-logged-requires-clause-can g c = can_of g.D.Disk c.args.rec.now c.self.inside.parts c.self.inside.stopped c.self.invariant.buffer (subst (λ (v : View g.row.D.Denot). MayLog c.args.rec.now v) (sym c.self.view_is) c.requires.may) c.in-Ok.ensures
 
 pub returns-in-Err-clause-any_moment : goal.returns-in-Err-clause-any_moment
 returns-in-Err-clause-any_moment g c told sound =
     let d = g.D.Disk in
     let a = c.self.inside in
     let going : a.stopped ≡ false = ap (λ (v : View g.row.D.Denot). v.stopped) c.self.view_is ∙ c.requires.may.going in
-    let fold = c.self.invariant told going in
+    let fold = c.self.invariant.fold told going in
     subst (λ (v : View g.row.D.Denot). LeavesFront d v v) c.self.view_is (rests_leaves d g.O.Origin.first g.met.D.Disk.only_now a.parts.base fold.over.at_rest sound)
 
 pub invariant_of-self : goal.invariant_of-self
-invariant_of-self g c told going = (of_ok c.log-logged.result (sym c.is_err-self-inside.ensures.value ∙ going) (c.log-logged.ensures.logs told)).1
+invariant_of-self g c =
+    let s = c.self.inside.parts in
+    let may = c.requires.may in
+    let room = subst (λ (v : View g.row.D.Denot). 5000 ≤ v.room) (sym c.self.view_is) may.room in
+    let e = c.log-logged.ensures in
+    record {
+      fold = λ told going. (of_ok c.log-logged.result (sym c.is_err-self-inside.ensures.value ∙ going) (e.logs told)).1;
+      buffer = buffer_behind c.args.rec.now s c.log-logged.new.self c.log-logged.result may.logged.record_is may.change room c.self.invariant.buffer e.takes e.keeps;
+    }
+
+pub returns-clause-takes : goal.returns-clause-takes
+returns-clause-takes g c =
+    let d = g.D.Disk in
+    let t = c.log-logged.new.self in
+    let stopped = c.is_err-self-inside.result in
+    let e = c.log-logged.ensures in
+    subst (λ (v : View g.row.D.Denot). IfOk c.log-logged.result (λ lsn. TakesRecord c.args.rec.now lsn v (view_of d t stopped))) c.self.view_is
+    (takes_seen d c.args.rec.now c.self.inside.parts t c.self.inside.stopped stopped c.log-logged.result e.takes)
+
+pub returns-clause-logs : goal.returns-clause-logs
+returns-clause-logs g c told sound =
+    let d = g.D.Disk in
+    let r = c.args.rec.now in
+    let s = c.self.inside.parts in
+    let t = c.log-logged.new.self in
+    let stopped = c.is_err-self-inside.result in
+    on_ok_weaker c.log-logged.result (λ both. subst (λ (v : View g.row.D.Denot). Logs (r ∷ []) v (view_of d t stopped)) c.self.view_is (logs_seen d r s t c.self.inside.stopped stopped (both.0 sound))) (c.log-logged.ensures.logs told)

@@ -16,7 +16,7 @@ returns-in-Err g c =
       (
         refl,
         (λ _. tt),
-        page_fails d o s c.bring.new.self b c.args.self.now c.self.view_is e.goes e.keeps.0 e.keeps.1 c.in-Err.fault (λ told. c.in-Err.ensures.refused told (fold_low o d s (c.self.invariant told going))) c.in-Err.ensures.faults,
+        page_fails d o s c.bring.new.self b c.args.self.now c.self.view_is e.goes e.keeps.0 e.keeps.1 c.in-Err.fault (λ told. c.in-Err.ensures.refused told (fold_low o d s (c.self.invariant.fold told going))) c.in-Err.ensures.faults,
       ),
       record { shown = λ told sound inside. tt; whole = tt; after = tt },
     )
@@ -40,7 +40,7 @@ returns g c =
         shown = λ told sound inside.
             let stays = e.stays told in
             let tables = ap (λ k. k.tables) c.bring.ensures.keeps.1 in
-            let fold = fold_moved o d s t (c.self.invariant told going) stays.moves tables stays.shows stays.over in
+            let fold = fold_moved o d s t (c.self.invariant.fold told going) stays.moves tables stays.shows stays.over in
             c.bytes.ensures.shown told sound fold e.there.0 inside ∙ ap (λ (x : State). page_at p x.pages) (stays.moves sound).now ∙ ap (λ (v : View g.row.D.Denot). page_at p v.now.pages) c.self.view_is;
         whole = c.bytes.ensures.whole e.there.0;
         after = tt;

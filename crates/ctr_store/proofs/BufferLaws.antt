@@ -1,0 +1,149 @@
+-- The log's buffer and the frames under the calls of a store.
+use Rattle.std.proofs.Common.{◌≡◌, ◌⊎◌, inl, inr, ◌∙◌, ℕ, ◌+◌, ◌-◌, ◌≤◌, List, [], ◌∷◌, ◌++◌, length, map, ◌==◌, if◌then◌else◌, Bool, true, false, Some, Result, Ok, Err, refl, sym, ap, subst, arith, length-append}
+use Rattle.std.specs.Prelude.{IfOk, OnErr}
+use Rattle.ctr_disk.specs.declared.fault.StoreFault.{StoreFault}
+use Rattle.std.proofs.lemmas.List.{map-append}
+use Rattle.ctr_log.specs.Logs.{Log, frame, frames, buffer_size, WaitsOrNone}
+use Rattle.ctr_log.proofs.LogLemmas.{frames-push, length-frame}
+use Rattle.ctr_records.specs.declared.record.Record.{Record}
+use Rattle.ctr_records.specs.Records.{IsRecord}
+use Rattle.ctr_records.specs.Spelling.{record_bytes}
+use Rattle.ctr_records.specs.Read.{record_in}
+use Rattle.ctr_records.proofs.ReadBack.{record_read}
+use Rattle.ctr_home.specs.declared.root.Root.{Root}
+use Rattle.ctr_meta.specs.Kept.{TablesKept, RoomLeft, opens_added, items_added}
+use Rattle.ctr_redo.specs.Images.{records_in}
+use Rattle.ctr_base.specs.declared.base.Base.{Base}
+use Rattle.ctr_base.specs.Base.{KeepsBase}
+use Rattle.ctr_store.specs.Changes.{IsChange}
+use Rattle.ctr_store.specs.declared.parts.Parts.{Parts}
+use Rattle.ctr_pool.specs.declared.frame.Frame.{Frame}
+use Rattle.ctr_pool.specs.Frames.{frame_of, change_of, since_in}
+use Rattle.ctr_store.specs.Parts.{HasBuffer, LogsRoom, pages_held, first_unsaved}
+use Rattle.ctr_store.proofs.RecordLaws.{record_short}
+
+-- how many bytes the frames of records have
+abbrev size_of : List (List ℕ) → ℕ
+size_of rs = length (frames rs)
+
+-- records are spelled as they are read
+abbrev AreSpelled : List (List ℕ) → Type 0
+AreSpelled rs = map record_bytes (records_in rs) ≡ rs
+
+-- the number of a page's first record that isn't home, by the pages that frames have
+pub since_held : (p : ℕ) (fs : List Frame) → first_unsaved p (pages_held fs) ≡ since_in p fs
+since_held p [] = refl
+since_held p (f ∷ fs) = by (f.page == p) (since_held p fs)
+  where
+    by : (b : Bool) → first_unsaved p (pages_held fs) ≡ since_in p fs → (if b then f.since else first_unsaved p (pages_held fs)) ≡ change_of (if b then Some f else frame_of p fs)
+    by true rest = refl
+    by false rest = rest
+
+-- there is no less room where the same records wait, or none
+pub kept_room : (a b : Log) → buffer_size a ≤ buffer_size b → WaitsOrNone a b → a.room ≤ b.room
+kept_room a b size (inl same) = omega (arith, size, ap size_of same)
+kept_room a b size (inr none) = omega (arith, size, ap size_of none)
+
+pub kept_bytes : (a b : Log) → WaitsOrNone a b → size_of b.buffered ≤ size_of a.buffered
+kept_bytes a b (inl same) = omega (arith, ap size_of same)
+kept_bytes a b (inr none) = omega (arith, ap size_of none)
+
+kept_spelled : (a b : Log) → WaitsOrNone a b → AreSpelled a.buffered → AreSpelled b.buffered
+kept_spelled a b (inl same) are = subst AreSpelled (sym same) are
+kept_spelled a b (inr none) are = subst AreSpelled (sym none) refl
+
+-- nothing waits where nothing waited
+pub none_waits : (a b : Log) → WaitsOrNone a b → a.buffered ≡ [] → b.buffered ≡ []
+none_waits a b (inl same) none = same ∙ none
+none_waits a b (inr gone) none = gone
+
+-- a record's frame behind others
+pushed_bytes : (rs : List (List ℕ)) (r : List ℕ) → size_of (rs ++ r ∷ []) ≡ size_of rs + (8 + length r)
+pushed_bytes rs r = omega (arith, ap length (frames-push rs r), length-append (frames rs) (frame r), length-frame r)
+
+pushed_spelled : (rs : List (List ℕ)) (r : Record) → IsRecord r → AreSpelled rs → AreSpelled (rs ++ record_bytes r ∷ [])
+pushed_spelled rs r is are =
+    ap (λ (l : List Record). map record_bytes l) (map-append record_in rs (record_bytes r ∷ []) ∙ ap (λ (x : Record). records_in rs ++ x ∷ []) (record_read r is))
+    ∙ map-append record_bytes (records_in rs) (r ∷ [])
+    ∙ ap (λ (l : List (List ℕ)). l ++ record_bytes r ∷ []) are
+
+-- nothing waits in a buffer that has room
+pub empty_buffer : (log : Log) → (log.buffered ≡ []) × (65536 ≤ log.room) → HasBuffer log
+empty_buffer log is = record {
+  size = omega (arith, is.1);
+  most = omega (arith, ap size_of is.0);
+  spelled = subst AreSpelled (sym is.0) refl;
+}
+
+module _ {D O : Type 0} where
+  pub buffer_kept : (a b : Base D O) → KeepsBase a b → HasBuffer a.log → HasBuffer b.log
+  buffer_kept a b keeps has =
+      let size = keeps.size in
+      let was = has.size in
+      let most = has.most in
+      record {
+        size = omega (arith, size, was);
+        most = omega (arith, most, kept_bytes a.log b.log keeps.waits);
+        spelled = kept_spelled a.log b.log keeps.waits has.spelled;
+      }
+
+  -- a record that was appended
+  pub logs_room : (r : Record) (s t : Parts D O) → t.base.log ≡ record s.base.log { buffered = s.base.log.buffered ++ record_bytes r ∷ []; room = t.base.log.room }
+      → s.base.log.room ≤ t.base.log.room + (8 + length (record_bytes r)) → RoomLeft (opens_added r) (items_added r) s.meta t.meta → t.base.root ≡ s.base.root → LogsRoom r s t
+  logs_room r s t added room left root =
+      let waits = ap (λ (l : Log). l.buffered) added in
+      record {
+        size = omega (arith, room, ap size_of waits, pushed_bytes s.base.log.buffered (record_bytes r));
+        waits = inl waits;
+        next = omega (arith, ap (λ (l : Log). l.first) added, ap (λ (l : List (List ℕ)). length l) waits, length-append s.base.log.buffered (record_bytes r ∷ []));
+        left = left;
+        pages = ap (λ (x : Root). x.pages) root;
+      }
+
+  -- the same behind a page that was brought
+  pub room_behind : (r : Record) (s m t : Parts D O) → KeepsBase s.base m.base → m.meta ≡ s.meta → LogsRoom r m t → LogsRoom r s t
+  room_behind r s m t keeps meta logs =
+      let size = keeps.size in
+      let more = logs.size in
+      record {
+        size = omega (arith, size, more);
+        waits = by keeps.waits logs.waits;
+        next = logs.next ∙ ap (λ (n : ℕ). n + 1) keeps.next;
+        left = subst (λ (k : TablesKept). RoomLeft (opens_added r) (items_added r) k t.meta) meta logs.left;
+        pages = logs.pages ∙ ap (λ (x : Root). x.pages) keeps.root;
+      }
+    where
+      by : WaitsOrNone s.base.log m.base.log → (t.base.log.buffered ≡ m.base.log.buffered ++ record_bytes r ∷ []) ⊎ (t.base.log.buffered ≡ record_bytes r ∷ [])
+          → (t.base.log.buffered ≡ s.base.log.buffered ++ record_bytes r ∷ []) ⊎ (t.base.log.buffered ≡ record_bytes r ∷ [])
+      by kept (inr alone) = inr alone
+      by (inl same) (inl behind) = inl (behind ∙ ap (λ (l : List (List ℕ)). l ++ record_bytes r ∷ []) same)
+      by (inr none) (inl behind) = inr (behind ∙ ap (λ (l : List (List ℕ)). l ++ record_bytes r ∷ []) none)
+
+  -- how many bytes wait at most
+  pub logged_bytes : (r : Record) (s t : Parts D O) → LogsRoom r s t → size_of t.base.log.buffered ≤ size_of s.base.log.buffered + (8 + length (record_bytes r))
+  logged_bytes r s t logs = by logs.waits
+    where
+      by : (t.base.log.buffered ≡ s.base.log.buffered ++ record_bytes r ∷ []) ⊎ (t.base.log.buffered ≡ record_bytes r ∷ [])
+          → size_of t.base.log.buffered ≤ size_of s.base.log.buffered + (8 + length (record_bytes r))
+      by (inl behind) = omega (arith, ap size_of behind, pushed_bytes s.base.log.buffered (record_bytes r))
+      by (inr alone) = omega (arith, ap size_of alone, pushed_bytes [] (record_bytes r))
+
+  pub buffer_logged : (r : Record) (s t : Parts D O) → IsRecord r → IsChange r → LogsRoom r s t → 5000 ≤ 65536 - size_of s.base.log.buffered → HasBuffer s.base.log → HasBuffer t.base.log
+  buffer_logged r s t is change logs room has =
+      let size = logs.size in
+      let was = has.size in
+      record {
+        size = omega (arith, size, was);
+        most = omega (arith, room, logged_bytes r s t logs, record_short r is change);
+        spelled = by logs.waits;
+      }
+    where
+      by : (t.base.log.buffered ≡ s.base.log.buffered ++ record_bytes r ∷ []) ⊎ (t.base.log.buffered ≡ record_bytes r ∷ []) → AreSpelled t.base.log.buffered
+      by (inl behind) = subst AreSpelled (sym behind) (pushed_spelled s.base.log.buffered r is has.spelled)
+      by (inr alone) = subst AreSpelled (sym alone) (pushed_spelled [] r is refl)
+
+  -- a record was logged, or wasn't
+  pub buffer_behind : (r : Record) (s t : Parts D O) (result : Result ℕ StoreFault) → IsRecord r → IsChange r → 5000 ≤ 65536 - size_of s.base.log.buffered → HasBuffer s.base.log
+      → IfOk result (λ lsn. (lsn ≡ s.base.log.first + length s.base.log.buffered) × LogsRoom r s t) → OnErr result (KeepsBase s.base t.base) → HasBuffer t.base.log
+  buffer_behind r s t (Ok lsn) is change room has logs keeps = buffer_logged r s t is change logs.1 room has
+  buffer_behind r s t (Err e) is change room has logs keeps = buffer_kept s.base t.base keeps has
