@@ -1,5 +1,5 @@
 // Turns of a store: room for a record, a transaction's begin.
-ghost use Rattle.std.specs.Prelude.{◌≡◌, ◌≤◌, false, IsTrue, IfOk, OnOk, length};
+ghost use Rattle.std.specs.Prelude.{◌≡◌, false, IsTrue, IfOk, OnOk};
 ghost use Rattle.ctr_walk.specs.OneRecord.{HasRoomForOne};
 
 use crate::told::Told;
@@ -16,21 +16,23 @@ use std::marker::Brand;
 /// A store over a disk in memory.
 pub type Mem = Store<SilentDisk, Brand>;
 
+/// How many turns for room there are at most until there is room.
+const TURNS: u32 = 3;
+
 /// How many frames a store has.
 pub const FRAMES: usize = 8;
 
-// Writes pages home, at most so many, until there is room for a turn.
-fn write_some(store: &mut Mem, most: usize) -> Result<(), StoreFault>
+// Takes turns for room, at most so many, until there is room.
+fn make_room(store: &mut Mem, most: u32) -> Result<(), StoreFault>
     requires going { store.old.stopped ≡ false }
     ensures going { OnOk result (store.new.stopped ≡ false) }
-    ensures few { length store.new.waiting ≤ length store.old.waiting }
     ensures counted { store.new.now.counted ≡ store.old.now.counted }
 {
     if most == 0 || store.room() {
         return Ok(());
     }
-    let _wrote = store.write_one_dirty()?;
-    write_some(store, most - 1)
+    store.make_room()?;
+    make_room(store, most - 1)
 }
 
 /// Makes room for one record more, and for the transactions and items that it adds; whether there is.
@@ -40,8 +42,7 @@ pub fn ready(store: &mut Mem, opens: usize, items: usize) -> Result<bool, StoreF
     ensures room { IfOk result (λ is. IsTrue is → HasRoomForOne opens items store.new) }
     ensures counted { store.new.now.counted ≡ store.old.now.counted }
 {
-    store.harden()?;
-    write_some(store, FRAMES)?;
+    make_room(store, TURNS)?;
     if store.reserve(opens, items).is_err() {
         return Ok(false);
     }

@@ -4,7 +4,7 @@ use crate::plain::Plain;
 use crate::reading::{Patch, Question};
 use crate::run::{Progress, image_of, made, play};
 use crate::runs::{Runs, Start};
-use crate::steps::{Step, random_steps};
+use crate::steps::{Step, long_steps, random_steps};
 use crate::stops::Seen;
 use ctr_mem_disk::Image;
 use ctr_types::List;
@@ -111,6 +111,13 @@ fn opens(alloc: Global, start: &Start, case: &Case) -> Result<String, AllocError
     patched_behind(alloc, start, case, &mut progress)
 }
 
+// The same behind steps that are made from a number.
+fn opens_long(alloc: Global, start: &Start, steps: &[Step]) -> Result<String, AllocError> {
+    let mut progress = Progress::new(alloc, start.pages)?;
+    let files = image_of(play(alloc, &start.files, steps, List::new(alloc), &mut progress)?);
+    answer(alloc, &progress.plain, files)
+}
+
 // Runs of steps.
 fn runs<'a>(alloc: Global, start: &'a Start, steps: &'a [Step], each: u64) -> Runs<'a> {
     Runs {
@@ -137,6 +144,11 @@ fn answer_on(
             let steps = random_steps(alloc, from, count)?;
             random_stops(&mut runs(alloc, start, &steps, EACH_RANDOM))
         }
+        Question::Long { from, count } => opens_long(
+            alloc,
+            start,
+            &long_steps(alloc, from, count)?,
+        ),
         Question::Failing { from, count } => {
             let steps = random_steps(alloc, from, count)?;
             failures(&mut runs(alloc, start, &steps, EACH_RANDOM))
@@ -147,7 +159,7 @@ fn answer_on(
 /// What a case answers.
 pub fn answer_of(alloc: Global, case: &Case, question: Question) -> Result<String, AllocError> {
     let growths = match question {
-        Question::Random { .. } | Question::Failing { .. } => GROWTHS,
+        Question::Random { .. } | Question::Failing { .. } | Question::Long { .. } => GROWTHS,
         _ => 0,
     };
     let start = Start {

@@ -25,6 +25,8 @@ pub enum Question {
     Random { from: u64, count: u64 },
     /// The same of runs of them in which each call fails once.
     Failing { from: u64, count: u64 },
+    /// What an opening answers behind so many records that are made from a number, each behind turns for room.
+    Long { from: u64, count: u64 },
 }
 
 /// A line of a case.
@@ -50,6 +52,7 @@ fn read_step(verb: &[u8], words: &mut Words) -> Option<Step> {
         b"trim" => Step::Trim(read_overlay(words)),
         b"harden" => Step::Harden,
         b"write" => Step::Write,
+        b"room" => Step::Room,
         b"grow" => Step::Grow,
         b"generation" => Step::Generation,
         _ => return None,
@@ -84,6 +87,10 @@ fn read_question(verb: &[u8], words: &mut Words) -> Option<Question> {
         b"failures" => Question::Failures,
         b"opens" => Question::Opens,
         b"random" => Question::Random {
+            from: words.value(),
+            count: words.value(),
+        },
+        b"long" => Question::Long {
             from: words.value(),
             count: words.value(),
         },

@@ -1,5 +1,5 @@
 // Playing steps on a store in memory.
-ghost use Rattle.std.specs.Prelude.{◌≡◌, ◌≤◌, ◌<◌, ◌+◌, ◌-◌, ◌^◌, false, IsTrue, [], length, OnOk};
+ghost use Rattle.std.specs.Prelude.{◌≡◌, false, IsTrue, OnOk};
 ghost use Rattle.ctr_redo.specs.Overlaid.{overlay_of};
 ghost use Rattle.ctr_redo.specs.Fitting.{LiesInside};
 ghost use Rattle.ctr_store.specs.Changes.{IsChange};
@@ -19,6 +19,9 @@ use std::marker::Brand;
 
 /// A store over a disk in memory.
 pub type Mem = Store<SilentDisk, Brand>;
+
+/// How many turns for room there are at most until there is room.
+const TURNS: u32 = 3;
 
 /// How many pages are looked at.
 pub const PAGES: u32 = 200;
@@ -90,9 +93,7 @@ fn is_inside(rec: &Record, counted: u32) -> bool
 // Logs the record that bytes are, where that may be; it says whether it did.
 fn log_bytes(store: &mut Mem, bytes: &[u8]) -> Result<bool, StoreFault>
     requires going { store.old.stopped ≡ false }
-    requires few { length store.old.waiting < 2 ^ 32 - 1 }
     ensures going { OnOk result (store.new.stopped ≡ false) }
-    ensures few { OnOk result (length store.new.waiting ≤ length store.old.waiting + 1) }
 {
     let Ok(rec) = decode(bytes) else {
         return Ok(false);
@@ -136,9 +137,7 @@ fn put_plainly(plain: &mut Plain, step: Step) {
 // Takes a step that logs, of which the plain pages hear where it did.
 fn do_log(alloc: Global, store: &mut Mem, plain: &mut Plain, step: Step) -> Result<(), StoreFault>
     requires going { store.old.stopped ≡ false }
-    requires few { length store.old.waiting < 2 ^ 32 - 1 }
     ensures going { OnOk result (store.new.stopped ≡ false) }
-    ensures few { OnOk result (length store.new.waiting ≤ length store.old.waiting + 1) }
 {
     let Some(bytes) = bytes_of(alloc, step, plain.last().next) else {
         return Ok(());
@@ -149,12 +148,22 @@ fn do_log(alloc: Global, store: &mut Mem, plain: &mut Plain, step: Step) -> Resu
     Ok(())
 }
 
+// Takes turns for room, at most so many, until there is room.
+fn make_room(store: &mut Mem, most: u32) -> Result<(), StoreFault>
+    requires going { store.old.stopped ≡ false }
+    ensures going { OnOk result (store.new.stopped ≡ false) }
+{
+    if most == 0 || store.room() {
+        return Ok(());
+    }
+    store.make_room()?;
+    make_room(store, most - 1)
+}
+
 // Takes a step.
 fn do_step(alloc: Global, store: &mut Mem, plain: &mut Plain, step: Step) -> Result<(), StoreFault>
     requires going { store.old.stopped ≡ false }
-    requires few { length store.old.waiting < 2 ^ 32 - 1 }
     ensures going { OnOk result (store.new.stopped ≡ false) }
-    ensures few { OnOk result (length store.new.waiting ≤ length store.old.waiting + 1) }
 {
     match step {
         Step::Harden => store.harden(),
@@ -168,6 +177,7 @@ fn do_step(alloc: Global, store: &mut Mem, plain: &mut Plain, step: Step) -> Res
             }
             store.grow_extent()
         }
+        Step::Room => make_room(store, TURNS),
         _ => do_log(alloc, store, plain, step),
     }
 }
@@ -175,21 +185,15 @@ fn do_step(alloc: Global, store: &mut Mem, plain: &mut Plain, step: Step) -> Res
 // Takes steps one after another, up to one that is answered an error; it says how many records are surely durable.
 fn do_steps(alloc: Global, store: &mut Mem, plain: &mut Plain, steps: &[Step]) -> (usize, bool)
     requires going { store.old.stopped ≡ false }
-    requires none { store.old.waiting ≡ [] }
 {
     let mut durable = 0;
-    let mut i: u32 = 0;
     for step in steps {
-        if i >= 1_000_000 {
-            return (durable, false);
-        }
         if do_step(alloc, store, plain, *step).is_err() {
             return (durable, true);
         }
         if matches!(step, Step::Harden) {
             durable = plain.count();
         }
-        i += 1;
     }
     (durable, false)
 }
@@ -197,7 +201,6 @@ fn do_steps(alloc: Global, store: &mut Mem, plain: &mut Plain, steps: &[Step]) -
 // Takes steps on a store; what comes of that is told to the run.
 fn take_steps(alloc: Global, store: &mut Mem, progress: &mut Progress, steps: &[Step])
     requires going { store.old.stopped ≡ false }
-    requires none { store.old.waiting ≡ [] }
 {
     let (hardened, failed) = do_steps(alloc, store, &mut progress.plain, steps);
     progress.durable = progress.durable.max(hardened);
@@ -208,7 +211,6 @@ fn take_steps(alloc: Global, store: &mut Mem, progress: &mut Progress, steps: &[
 // The same on a store that was opened for that; the disk that it leaves.
 fn take_steps_on(alloc: Global, store: Mem, progress: &mut Progress, steps: &[Step]) -> SilentDisk
     requires going { store.stopped ≡ false }
-    requires none { store.waiting ≡ [] }
 {
     let mut store = store;
     take_steps(alloc, &mut store, progress, steps);

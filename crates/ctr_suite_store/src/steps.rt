@@ -14,6 +14,8 @@ pub enum Step {
     Trim(Overlay),
     Harden,
     Write,
+    /// Turns for room, until there is room.
+    Room,
     Grow,
     /// Begins a second generation behind records that are all hardened.
     Generation,
@@ -33,13 +35,18 @@ impl Step {
     }
 }
 
-// A step by a number.
-fn step_by(n: u64) -> Step {
-    let overlay = Overlay {
+// Bytes at a place of a page, by a number.
+fn overlay_by(n: u64) -> Overlay {
+    Overlay {
         page: u32::try_from(n / 16 % 200).unwrap_or(0),
         at: u16::try_from(n / 4096 % 512 * 8).unwrap_or(0),
         byte: u8::try_from(n / 4_194_304 % 256).unwrap_or(0),
-    };
+    }
+}
+
+// A step by a number.
+fn step_by(n: u64) -> Step {
+    let overlay = overlay_by(n);
     match n % 16 {
         0 => Step::Begin,
         1..=3 => Step::Keep(overlay),
@@ -59,6 +66,19 @@ pub fn random_steps(alloc: Global, from: u64, count: u64) -> Result<Vec<Step>, A
             steps.push(Step::Grow)?;
         }
         steps.push(step_by(rng.next_u64()))?;
+    }
+    steps.push(Step::Harden)?;
+    Ok(steps)
+}
+
+/// A Begin and so many Keeps from a number, each behind turns for room, and at the end a hardening.
+pub fn long_steps(alloc: Global, from: u64, count: u64) -> Result<Vec<Step>, AllocError> {
+    let mut rng = Xoshiro256PlusPlus::seed_from_u64(from);
+    let mut steps = Vec::new(alloc);
+    steps.push(Step::Begin)?;
+    for _ in 0..count {
+        steps.push(Step::Room)?;
+        steps.push(Step::Keep(overlay_by(rng.next_u64())))?;
     }
     steps.push(Step::Harden)?;
     Ok(steps)

@@ -1,5 +1,5 @@
-use Rattle.std.proofs.Common.{◌≡◌, ◌≤◌, false, length}
+use Rattle.std.proofs.Common.{◌≡◌, false}
 use Rattle.ctr_suite_store.proofs.run.do_steps.Given as goal
 
 abbrev pub invariant-loop-step : goal.invariant-loop-step
-invariant-loop-step l = (l.store.stopped ≡ false) × (length l.store.waiting ≤ l.i)
+invariant-loop-step l = l.store.stopped ≡ false
