@@ -150,7 +150,7 @@ impl Player {
             Step::Alter | Step::Length | Step::Show => return self.on_file(step, rest),
             Step::After => return self.go_on_after(rest),
             Step::Calls => self.list_calls()?,
-            Step::Counts => self.put_counts(),
+            Step::Counts => self.counts.put(self.alloc, &mut self.page),
             Step::Answers => self.put_answers()?,
             Step::Holds => self.put_found()?,
             Step::Stops => self.sweep_stops()?,
@@ -416,17 +416,6 @@ impl Player {
                 self.page.put(b"\n");
             }
         }
-    }
-
-    fn put_counts(&mut self) {
-        let counts = self.counts;
-        self.page.put_number(self.alloc, "calls ", counts.calls);
-        self.page.put_number(self.alloc, ", faults ", counts.faults);
-        self.page.put_number(self.alloc, ", strays ", counts.strays);
-        self.page
-            .put_number(self.alloc, ", starved ", counts.starved);
-        self.page.put_number(self.alloc, ", moment ", counts.moment);
-        self.page.put(b"\n");
     }
 
     fn sweep_stops(&mut self) -> Result<(), OutOfMemory> {

@@ -65,6 +65,18 @@ pub struct Counts {
     pub moment: u64,
 }
 
+impl Counts {
+    /// Puts them on a line.
+    pub fn put(self, alloc: Global, page: &mut Page) {
+        page.put_number(alloc, "calls ", self.calls);
+        page.put_number(alloc, ", faults ", self.faults);
+        page.put_number(alloc, ", strays ", self.strays);
+        page.put_number(alloc, ", starved ", self.starved);
+        page.put_number(alloc, ", moment ", self.moment);
+        page.put(b"\n");
+    }
+}
+
 /// What a run has left.
 #[derive(Drop)]
 pub struct Ran {
