@@ -29,7 +29,7 @@ use Rattle.ctr_legal.specs.Kept.{IsKept}
 use Rattle.ctr_legal.specs.Ready.{HasKey, MayWrite, IsUnrefused, Tells, TellsOutside, TellsOf, IsUnasked, MayWriteIn, IsReady}
 use Rattle.ctr_legal.specs.Laws.{RepliesTell}
 use Rattle.ctr_legal.proofs.Keep.{grants}
-use Rattle.ctr_legal.proofs.Telling.{allowed_tells, allowed_outside, next_kept, outside_kept}
+use Rattle.ctr_legal.proofs.Telling.{allowed_tells, allowed_outside, next_kept, by_outside, outside_kept}
 
 pub absurd_some : {A B : Type 0} (x : B) → None ≡ Some x → A
 absurd_some x is = absurd (false≢true (ap is_some is))
@@ -250,52 +250,19 @@ module _ (state : State) (s : ℕ) (me : Transaction) where
   same_rows statement a (reply.Refused why) j le = refl
 
 outside_session : (state : State) (s : ℕ) (a : Act) (statement : Option Statement) (r : Reply) (q : ℕ) → (q == s) ≡ false → TellsOutside state a r → transaction_of (next_outside state s a statement r) q ≡ transaction_of state q
-outside_session state s a statement (reply.Began n) q two tells = find-put-other q s (begun n) state.sessions two
-outside_session state s a statement reply.Granted q two tells = absurd tells
-outside_session state s a statement (reply.Rows rows) q two tells = absurd tells
-outside_session state s a statement reply.Done q two tells = absurd tells
-outside_session state s a statement (reply.Asked k) q two tells = absurd tells
-outside_session state s a statement reply.ReadOnly q two tells = absurd tells
-outside_session state s a statement (reply.Answered k) q two tells = absurd tells
-outside_session state s a statement reply.RolledBack q two tells = absurd tells
-outside_session state s a statement reply.Released q two tells = absurd tells
-outside_session state s a statement (reply.Refused why) q two tells = refl
+outside_session state s a statement r q two tells = by_outside state a (λ r. transaction_of (next_outside state s a statement r) q ≡ transaction_of state q)
+    (λ n is. find-put-other q s (begun n) state.sessions two) (λ why. refl) r tells
 
 outside_rows : (state : State) (s : ℕ) (a : Act) (statement : Option Statement) (r : Reply) (j : ℕ) → TellsOutside state a r → rows_at (next_outside state s a statement r) j ≡ rows_at state j
-outside_rows state s a statement (reply.Began n) j tells = refl
-outside_rows state s a statement reply.Granted j tells = absurd tells
-outside_rows state s a statement (reply.Rows rows) j tells = absurd tells
-outside_rows state s a statement reply.Done j tells = absurd tells
-outside_rows state s a statement (reply.Asked k) j tells = absurd tells
-outside_rows state s a statement reply.ReadOnly j tells = absurd tells
-outside_rows state s a statement (reply.Answered k) j tells = absurd tells
-outside_rows state s a statement reply.RolledBack j tells = absurd tells
-outside_rows state s a statement reply.Released j tells = absurd tells
-outside_rows state s a statement (reply.Refused why) j tells = refl
+outside_rows state s a statement r j tells = by_outside state a (λ r. rows_at (next_outside state s a statement r) j ≡ rows_at state j) (λ n is. refl) (λ why. refl) r tells
 
 outside_after : (state : State) (s : ℕ) (a : Act) (statement : Option Statement) (r : Reply) → transaction_of state s ≡ None → TellsOutside state a r → IsUnasked (transaction_of (next_outside state s a statement r) s)
-outside_after state s a statement (reply.Began n) none tells = subst IsUnasked (sym (find-put-same s (begun n) state.sessions)) refl
-outside_after state s a statement reply.Granted none tells = absurd tells
-outside_after state s a statement (reply.Rows rows) none tells = absurd tells
-outside_after state s a statement reply.Done none tells = absurd tells
-outside_after state s a statement (reply.Asked k) none tells = absurd tells
-outside_after state s a statement reply.ReadOnly none tells = absurd tells
-outside_after state s a statement (reply.Answered k) none tells = absurd tells
-outside_after state s a statement reply.RolledBack none tells = absurd tells
-outside_after state s a statement reply.Released none tells = absurd tells
-outside_after state s a statement (reply.Refused why) none tells = subst IsUnasked (sym none) tt
+outside_after state s a statement r none tells = by_outside state a (λ r. IsUnasked (transaction_of (next_outside state s a statement r) s))
+    (λ n is. subst IsUnasked (sym (find-put-same s (begun n) state.sessions)) refl) (λ why. subst IsUnasked (sym none) tt) r tells
 
 outside_granted : {A : Type 0} (state : State) (a : Act) (r : Reply) → TellsOutside state a r → a ≡ act.Lock → goes_on r ≡ true → A
-outside_granted state a (reply.Began n) tells is goes = apart_acts a act.Lock act.Begin is tells.0 refl
-outside_granted state a reply.Granted tells is goes = absurd tells
-outside_granted state a (reply.Rows rows) tells is goes = absurd tells
-outside_granted state a reply.Done tells is goes = absurd tells
-outside_granted state a (reply.Asked k) tells is goes = absurd tells
-outside_granted state a reply.ReadOnly tells is goes = absurd tells
-outside_granted state a (reply.Answered k) tells is goes = absurd tells
-outside_granted state a reply.RolledBack tells is goes = absurd tells
-outside_granted state a reply.Released tells is goes = absurd tells
-outside_granted state a (reply.Refused why) tells is goes = absurd (false≢true goes)
+outside_granted {A} state a r tells is = by_outside state a (λ r. goes_on r ≡ true → A)
+    (λ n told goes. apart_acts a act.Lock act.Begin is told.0 refl) (λ why goes. absurd (false≢true goes)) r tells
 
 -- ---- one act
 

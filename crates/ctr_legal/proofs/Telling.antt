@@ -190,14 +190,19 @@ module _ (state : State) (s : ℕ) (kept : IsKept state) (me : Transaction) (at 
   next_kept statement a reply.Released tells = absurd tells
   next_kept statement a (reply.Refused why) tells = kept
 
+-- outside a transaction a Begin is granted, and every other act is refused
+pub by_outside : (state : State) (a : Act) (P : Reply → Type 0) → ((n : ℕ) → (a ≡ act.Begin) × (n ≡ state.answered) → P (reply.Began n)) → ((why : Refusal) → P (reply.Refused why)) → (r : Reply) → TellsOutside state a r → P r
+by_outside state a P began refused (reply.Began n) tells = began n tells
+by_outside state a P began refused reply.Granted tells = absurd tells
+by_outside state a P began refused (reply.Rows rows) tells = absurd tells
+by_outside state a P began refused reply.Done tells = absurd tells
+by_outside state a P began refused (reply.Asked k) tells = absurd tells
+by_outside state a P began refused reply.ReadOnly tells = absurd tells
+by_outside state a P began refused (reply.Answered k) tells = absurd tells
+by_outside state a P began refused reply.RolledBack tells = absurd tells
+by_outside state a P began refused reply.Released tells = absurd tells
+by_outside state a P began refused (reply.Refused why) tells = refused why
+
 pub outside_kept : (state : State) (s : ℕ) (a : Act) (statement : Option Statement) (r : Reply) → IsKept state → find nat_cmp s state.sessions ≡ None → TellsOutside state a r → IsKept (next_outside state s a statement r)
-outside_kept state s a statement (reply.Began n) kept none tells = subst (λ n. IsKept (with_transaction s (begun n) state)) (sym tells.1) (kept_begin state s kept none)
-outside_kept state s a statement reply.Granted kept none tells = absurd tells
-outside_kept state s a statement (reply.Rows rows) kept none tells = absurd tells
-outside_kept state s a statement reply.Done kept none tells = absurd tells
-outside_kept state s a statement (reply.Asked k) kept none tells = absurd tells
-outside_kept state s a statement reply.ReadOnly kept none tells = absurd tells
-outside_kept state s a statement (reply.Answered k) kept none tells = absurd tells
-outside_kept state s a statement reply.RolledBack kept none tells = absurd tells
-outside_kept state s a statement reply.Released kept none tells = absurd tells
-outside_kept state s a statement (reply.Refused why) kept none tells = kept
+outside_kept state s a statement r kept none tells = by_outside state a (λ r. IsKept (next_outside state s a statement r))
+    (λ n is. subst (λ n. IsKept (with_transaction s (begun n) state)) (sym is.1) (kept_begin state s kept none)) (λ why. kept) r tells

@@ -14,11 +14,11 @@ use Rattle.ctr_model.specs.State.{same_name, transaction_of, with_transaction, w
 use Rattle.ctr_model.proofs.Sessions.{known, find-put-other, find-put-same, find-without-other, find-without-same}
 use Rattle.ctr_versions.specs.Chains.{Numbers, value_seen, Behind, AllCommitted}
 use Rattle.ctr_versions.specs.Changes.{write}
-use Rattle.ctr_versions.specs.Xids.{number_of, taken}
+use Rattle.ctr_versions.specs.Xids.{Xids, number_of, taken, aborted}
 use Rattle.ctr_versions.specs.Listing.{chain_at}
 use Rattle.ctr_versions.specs.Versions.{Made, Versions, names_at, NamesSet, IsUnmadeTable, HaveOwnTables}
 use Rattle.ctr_versions.specs.Engine.{SessionHeld, EngineHeld, ShowsState}
-use Rattle.ctr_versions.specs.Steps.{engine_begun, engine_drawn, engine_asked, engine_ended, engine_answered, engine_rolled_back}
+use Rattle.ctr_versions.specs.Steps.{engine_begun, engine_drawn, engine_asked}
 use Rattle.ctr_versions.specs.Laws.{with_own}
 use Rattle.ctr_sessions.specs.Sessions.{Begun, IsDrawnFor, ShowsBegun}
 use Rattle.ctr_sessions.specs.Steps.{BeginShows, LockLeaves, LockShows, ReadShows, RowShows, NameShows, AskShows, AnswerShows, EndShows, RollbackShows, RoomShows}
@@ -257,10 +257,24 @@ ask_shows low old new state s me session is_old here writer untouched is_engine 
       ordered = is_old.ordered;
     })
 
-pub answer_shows : AnswerShows
-answer_shows low old new state s is_old waiting is_engine is_since =
-    with_parts low new (without_transaction s (record state { answered = state.answered + 1 })) (engine_answered s old.engine) (without nat_cmp s old.since) is_engine is_since (record {
-      shows = answer_step low old.engine state s is_old.shows waiting;
+-- the engine without a session, with other transactions and another count of answers
+abbrev engine_without : ℕ → Xids → ℕ → EngineHeld → EngineHeld
+engine_without s xids answered engine = record engine {
+  xids = xids;
+  sessions = without nat_cmp s engine.sessions;
+  answered = answered;
+}
+
+-- the state without a session's transaction, with another count of answers
+abbrev state_without : ℕ → ℕ → State → State
+state_without s answered state = without_transaction s (record state { answered = answered })
+
+-- a session's transaction has ended, in the engine and in the state
+session_gone : (low : ℕ) (old new : Begun) (state : State) (s : ℕ) (xids : Xids) (held told : ℕ) → ShowsBegun low old state → new.engine ≡ engine_without s xids held old.engine → new.since ≡ without nat_cmp s old.since
+    → ShowsState low (engine_without s xids held old.engine) (state_without s told state) → ShowsBegun low new (state_without s told state)
+session_gone low old new state s xids held told is_old is_engine is_since shows =
+    with_parts low new (state_without s told state) (engine_without s xids held old.engine) (without nat_cmp s old.since) is_engine is_since (record {
+      shows = shows;
       since = since_without old.since state.sessions s is_old.since;
       drawn = drawn_without state.sessions old.engine.sessions s is_old.drawn;
       only = only_without state.sessions old.engine.sessions s is_old.only;
@@ -268,28 +282,19 @@ answer_shows low old new state s is_old waiting is_engine is_since =
       ordered = is_old.ordered;
     })
 
+pub answer_shows : AnswerShows
+answer_shows low old new state s is_old waiting is_engine is_since =
+    session_gone low old new state s old.engine.xids (old.engine.answered + 1) (state.answered + 1) is_old is_engine is_since (answer_step low old.engine state s is_old.shows waiting)
+
 pub end_shows : EndShows
 end_shows low old new state s is_old is_engine is_since =
-    with_parts low new (without_transaction s state) (engine_ended s old.engine) (without nat_cmp s old.since) is_engine is_since (record {
-      shows = end_step low old.engine state s is_old.shows;
-      since = since_without old.since state.sessions s is_old.since;
-      drawn = drawn_without state.sessions old.engine.sessions s is_old.drawn;
-      only = only_without state.sessions old.engine.sessions s is_old.only;
-      tables = is_old.tables;
-      ordered = is_old.ordered;
-    })
+    session_gone low old new state s old.engine.xids old.engine.answered state.answered is_old is_engine is_since (end_step low old.engine state s is_old.shows)
 
 pub rollback_shows : RollbackShows
 rollback_shows low old new state s me session is_old here writer is_engine is_since =
     let mine = is_old.drawn s me session here.there here.held in
-    with_parts low new (without_transaction s state) (engine_rolled_back s session.me old.engine) (without nat_cmp s old.since) is_engine is_since (record {
-      shows = rollback_step low old.engine state s session me is_old.shows here.held here.shown here.unasked (mine.writer writer);
-      since = since_without old.since state.sessions s is_old.since;
-      drawn = drawn_without state.sessions old.engine.sessions s is_old.drawn;
-      only = only_without state.sessions old.engine.sessions s is_old.only;
-      tables = is_old.tables;
-      ordered = is_old.ordered;
-    })
+    session_gone low old new state s (aborted session.me old.engine.xids) old.engine.answered state.answered is_old is_engine is_since
+    (rollback_step low old.engine state s session me is_old.shows here.held here.shown here.unasked (mine.writer writer))
 
 pub room_shows : RoomShows
 room_shows low old new state is_old sessions same_since same shows = record {

@@ -272,13 +272,12 @@ module _ (xids : Xids) (sound : AreSound xids) (x : ℕ) (is_live : has x xids.l
 
   -- ---- an open one counts as committed before
 
+  -- which doesn't ask what is listed as a commit
   settled_committed : has_committed (settled x xids) x ≡ true
-  settled_committed =
-      let bounds = live_bounds xids.live sound.live is_live in
-      and_from _ _ (lt-ltb 0 x bounds.0) (and_from _ _ (lt-ltb x xids.next bounds.1) (and_from _ _ (ap not (has-minus-same x xids.live)) (ap not ((sound.apart x is_live).1))))
+  settled_committed = asked_committed
 
   settled_others : (y : ℕ) → (y ≡ x → ⊥) → has_committed (settled x xids) y ≡ has_committed xids y
-  settled_others y apart = ap (λ b. nat_lt 0 y && (nat_lt y xids.next && (not b && not (has y xids.aborted)))) (has-minus-other x y xids.live apart)
+  settled_others = asked_others
 
   pub settled_numbers : (y : ℕ) → number_of (settled x xids) y ≡ with_number (number_of xids) x 0 y
   settled_numbers y = ⊎_elim
