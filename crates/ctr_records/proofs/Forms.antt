@@ -18,7 +18,8 @@ use Rattle.ctr_records.specs.Spelling.{field_bytes, place_bytes, with_overlay, p
 use Rattle.ctr_bytes.specs.Following.{◌>>=◌}
 use Rattle.ctr_records.specs.Damage.{wrong, expect, flag_check, inside_check, overlay_check, length_wanted, overlay_in, at_most, bound_check, checks}
 use Rattle.ctr_records.proofs.Laws.{most-width, Begins, begins_whole, begins_less, field_last, length-fields, length-place, length-overlay}
-use Rattle.ctr_records.proofs.Reading.{parts_at, in_none, in_some}
+use Rattle.ctr_records.specs.Read.{parts_read}
+use Rattle.ctr_records.proofs.Reading.{in_none, in_some}
 
 -- ---- the table
 
@@ -224,7 +225,7 @@ flag_small flag (Some o) fits = small o.clear fits.0
 pub record Reads (p : Parts) (bytes : List ℕ) : Type 0 where
   pub number : field 1 0 bytes ≡ (layout p.tag).number
   pub passes : checks (layout p.tag) bytes ≡ Ok tt
-  pub read : parts_at p.tag bytes ≡ p
+  pub read : parts_read p.tag bytes ≡ p
 
 pub reads : (p : Parts) → PartsFit p → Reads p (parts_bytes p)
 reads p fits =
@@ -249,7 +250,7 @@ one_parts a b fa fb e =
     let ra = reads a fa in
     let rb = reads b fb in
     let t : a.tag ≡ b.tag = one_tag a.tag b.tag (sym ra.number ∙ ap (field 1 0) e ∙ rb.number) in
-    sym ra.read ∙ ap (λ (x : Tag). parts_at x (parts_bytes a)) t ∙ ap (parts_at b.tag) e ∙ rb.read
+    sym ra.read ∙ ap (λ (x : Tag). parts_read x (parts_bytes a)) t ∙ ap (parts_read b.tag) e ∙ rb.read
 
 -- the first byte of parts is a number of the table
 pub begins_so : (p : Parts) (bytes : List ℕ) → PartsFit p → parts_bytes p ≡ bytes → (2 ≤ field 1 0 bytes) × (field 1 0 bytes ≤ 18)

@@ -11,7 +11,8 @@ use Rattle.ctr_bytes.specs.Following.{◌>>=◌}
 use Rattle.ctr_records.specs.Damage.{wrong, expect, at_most}
 use Rattle.ctr_records.specs.Checkpoint.{count_at, opens_in, aborted_in, items_at, items_in, end_at, xid_at, each, end_check, kind_check, kinds_in, item_most, item_check, next_check, heads_check, is_among, is_new, xid_check, list_checks, checkpoint_checks}
 use Rattle.ctr_records.specs.Members.{pair_bytes, item_kind, item_xid, item_number, slog_item_bytes, lists_bytes, among, AreNew, HeadsFit, ItemFits, HasMembers, pairs_from, slog_item, items_from}
-use Rattle.ctr_records.proofs.Laws.{grow}
+use Rattle.ctr_records.proofs.Laws.{grow, in_one_row}
+use Rattle.ctr_records.proofs.ListLaws.{checks}
 use Rattle.ctr_records.proofs.Reading.{bind_ok, guard_ok, expect_ok}
 use Rattle.ctr_records.proofs.MemberLaws.{Seen, seen_more, xid_before, xid_behind}
 
@@ -237,29 +238,25 @@ four bytes e =
     let s3 = bind_ok heads (λ _. xids) tt s2.2 in
     record { items = s1.1; next = s2.1; heads = s3.1; xids = s3.2 }
 
--- the three parts of the checks
-record Three (bytes : List ℕ) : Type 0 where
-  pub kinds : each (kind_check (items_at bytes + 8) bytes) 0 (kinds_in bytes) ≡ Ok tt
-  pub whole : end_at bytes + 1 ≡ length bytes
-  pub lists : list_checks bytes ≡ Ok tt
-
-three : (bytes : List ℕ) → checkpoint_checks bytes ≡ Ok tt → Three bytes
-unfolding checkpoint_checks
-three bytes e =
-    let kinds = each (kind_check (items_at bytes + 8) bytes) 0 (kinds_in bytes) in
-    let b1 = bind_ok (end_check bytes) (λ _. kinds >>= λ _. expect 0 (end_at bytes + 1) (length bytes) >>= λ _. list_checks bytes) tt e in
-    let b2 = bind_ok kinds (λ _. expect 0 (end_at bytes + 1) (length bytes) >>= λ _. list_checks bytes) tt b1.2 in
-    let b3 = bind_ok (expect 0 (end_at bytes + 1) (length bytes)) (λ _. list_checks bytes) tt b2.2 in
-    record { kinds = b2.1; whole = expect_ok 0 (end_at bytes + 1) (length bytes) b3.1; lists = b3.2 }
-
 all_kinds : (bytes : List ℕ) → Stand bytes → kinds_in bytes ≡ items_in bytes
 unfolding kinds_in
 all_kinds bytes s = let e : min (items_in bytes) ((length bytes + 12 - (items_at bytes + 8)) / 13) ≡ items_in bytes = omega (arith, s.whole, s.base) in e
 
+-- six pieces, each of which leads the bytes before it further
+joined : (h c1 m1 c2 m2 c3 m3 t1 t2 t3 t4 t5 t6 : List ℕ) → h ++ c1 ≡ t1 → t1 ++ m1 ≡ t2 → t2 ++ c2 ≡ t3 → t3 ++ m2 ≡ t4 → t4 ++ c3 ≡ t5 → t5 ++ m3 ≡ t6 → h ++ (((c1 ++ m1) ++ (c2 ++ m2)) ++ (c3 ++ m3)) ≡ t6
+joined h c1 m1 c2 m2 c3 m3 t1 t2 t3 t4 t5 t6 e1 e2 e3 e4 e5 e6 =
+    in_one_row h c1 m1 c2 m2 c3 m3
+    ∙ ap (λ (l : List ℕ). l ++ m1 ++ c2 ++ m2 ++ c3 ++ m3) e1
+    ∙ ap (λ (l : List ℕ). l ++ c2 ++ m2 ++ c3 ++ m3) e2
+    ∙ ap (λ (l : List ℕ). l ++ m2 ++ c3 ++ m3) e3
+    ∙ ap (λ (l : List ℕ). l ++ c3 ++ m3) e4
+    ∙ ap (λ (l : List ℕ). l ++ m3) e5
+    ∙ e6
+
 -- the lists that pass are those of members
 pub has_members : (bytes lists : List ℕ) → AreBytes bytes → checkpoint_checks bytes ≡ Ok tt → lists ≡ take (length bytes - 1 - 9) (drop 9 bytes) → HasMembers (field 8 1 bytes) lists
 has_members bytes lists fits checked is =
-    let t = three bytes checked in
+    let t = checks bytes checked in
     let f = four bytes t.lists in
     let s = stand bytes t.whole in
     let a = opens_in bytes in
@@ -288,28 +285,19 @@ has_members bytes lists fits checked is =
     let fa = field_fits 8 9 bytes fits in
     let fb = field_fits 8 (17 + 16 * a) bytes fits in
     let fc = field_fits 8 (25 + 16 * (a + b)) bytes fits in
-    let c1 = spelled 8 (length opens) in
-    let m1 = flat_map pair_bytes opens in
-    let c2 = spelled 8 (length aborted) in
-    let m2 = flat_map pair_bytes aborted in
-    let c3 = spelled 8 (length items) in
-    let m3 = flat_map slog_item_bytes items in
     let h = take 9 bytes in
-    let p1 : h ++ c1 ≡ take 17 bytes = ap (λ (k : ℕ). h ++ spelled 8 k) (na ∙ s.opens) ∙ grow 8 9 17 bytes (omega arith) (omega (arith, s.whole)) fits in
-    let p2 : h ++ c1 ++ m1 ≡ take (17 + 16 * a) bytes = ap (λ (l : List ℕ). l ++ m1) p1 ∙ pairs_back 17 a bytes (omega (arith, s.whole)) fits in
-    let p3 : h ++ c1 ++ m1 ++ c2 ≡ take (25 + 16 * a) bytes = ap (λ (l : List ℕ). l ++ c2) p2 ∙ ap (λ (k : ℕ). take (17 + 16 * a) bytes ++ spelled 8 k) (nb ∙ s.aborted) ∙ grow 8 (17 + 16 * a) (25 + 16 * a) bytes (omega arith) (omega (arith, s.whole)) fits in
-    let p4 : h ++ c1 ++ m1 ++ c2 ++ m2 ≡ take (25 + 16 * (a + b)) bytes = ap (λ (l : List ℕ). l ++ m2) p3 ∙ pairs_back (25 + 16 * a) b bytes (omega (arith, s.whole)) fits ∙ ap (λ (k : ℕ). take k bytes) (let e : 25 + 16 * a + 16 * b ≡ 25 + 16 * (a + b) = omega arith in e) in
-    let p5 : h ++ c1 ++ m1 ++ c2 ++ m2 ++ c3 ≡ take base bytes = ap (λ (l : List ℕ). l ++ c3) p4 ∙ ap (λ (k : ℕ). take (25 + 16 * (a + b)) bytes ++ spelled 8 k) (nc ∙ s.items) ∙ grow 8 (25 + 16 * (a + b)) base bytes (omega arith) (omega (arith, s.whole)) fits in
-    let p6 : h ++ c1 ++ m1 ++ c2 ++ m2 ++ c3 ++ m3 ≡ take (base + 13 * c) bytes = ap (λ (l : List ℕ). l ++ m3) p5 ∙ said.0 in
-    let parts : h ++ (((c1 ++ m1) ++ (c2 ++ m2)) ++ (c3 ++ m3)) ≡ h ++ c1 ++ m1 ++ c2 ++ m2 ++ c3 ++ m3 =
-    sym (append_assoc h ((c1 ++ m1) ++ (c2 ++ m2)) (c3 ++ m3))
-    ∙ ap (λ (l : List ℕ). l ++ (c3 ++ m3)) (sym (append_assoc h (c1 ++ m1) (c2 ++ m2)))
-    ∙ ap (λ (l : List ℕ). (l ++ (c2 ++ m2)) ++ (c3 ++ m3)) (sym (append_assoc h c1 m1))
-    ∙ ap (λ (l : List ℕ). l ++ (c3 ++ m3)) (sym (append_assoc ((h ++ c1) ++ m1) c2 m2))
-    ∙ sym (append_assoc ((((h ++ c1) ++ m1) ++ c2) ++ m2) c3 m3) in
     let end = length bytes - 1 - 9 in
     let sides : h ++ take end (drop 9 bytes) ≡ take (base + 13 * c) bytes = side 0 9 end bytes ∙ ap (λ (k : ℕ). take k bytes) (let e : 9 + end ≡ base + 13 * c = omega (arith, s.whole) in e) in
-    let both : h ++ lists_bytes opens aborted items ≡ h ++ take end (drop 9 bytes) = parts ∙ p6 ∙ sym sides in
+    let row : h ++ lists_bytes opens aborted items ≡ take (base + 13 * c) bytes =
+    joined h (spelled 8 (length opens)) (flat_map pair_bytes opens) (spelled 8 (length aborted)) (flat_map pair_bytes aborted) (spelled 8 (length items)) (flat_map slog_item_bytes items)
+    (take 17 bytes) (take (17 + 16 * a) bytes) (take (25 + 16 * a) bytes) (take (25 + 16 * (a + b)) bytes) (take base bytes) (take (base + 13 * c) bytes)
+    (ap (λ (k : ℕ). h ++ spelled 8 k) (na ∙ s.opens) ∙ grow 8 9 17 bytes (omega arith) (omega (arith, s.whole)) fits)
+    (pairs_back 17 a bytes (omega (arith, s.whole)) fits)
+    (ap (λ (k : ℕ). take (17 + 16 * a) bytes ++ spelled 8 k) (nb ∙ s.aborted) ∙ grow 8 (17 + 16 * a) (25 + 16 * a) bytes (omega arith) (omega (arith, s.whole)) fits)
+    (pairs_back (25 + 16 * a) b bytes (omega (arith, s.whole)) fits ∙ ap (λ (k : ℕ). take k bytes) (let e : 25 + 16 * a + 16 * b ≡ 25 + 16 * (a + b) = omega arith in e))
+    (ap (λ (k : ℕ). take (25 + 16 * (a + b)) bytes ++ spelled 8 k) (nc ∙ s.items) ∙ grow 8 (25 + 16 * (a + b)) base bytes (omega arith) (omega (arith, s.whole)) fits)
+    said.0 in
+    let both : h ++ lists_bytes opens aborted items ≡ h ++ take end (drop 9 bytes) = row ∙ sym sides in
     let nine : length h ≡ 9 = length-take-le 9 bytes (omega (arith, s.whole)) in
     let lists_are : lists_bytes opens aborted items ≡ take end (drop 9 bytes) = sym (drop_at h (lists_bytes opens aborted items) 9 nine) ∙ ap (drop 9) both ∙ drop_at h (take end (drop 9 bytes)) 9 nine in (
       opens,

@@ -37,6 +37,15 @@ put-none at x bytes =
     ∙ ap (λ (k : ℕ). take at bytes ++ drop k bytes) (let e : at + 0 ≡ at = omega arith in e)
     ∙ take-append-drop at bytes
 
+-- three lists with their counts are six pieces, one behind another
+pub in_one_row : (h c1 m1 c2 m2 c3 m3 : List ℕ) → h ++ (((c1 ++ m1) ++ (c2 ++ m2)) ++ (c3 ++ m3)) ≡ h ++ c1 ++ m1 ++ c2 ++ m2 ++ c3 ++ m3
+in_one_row h c1 m1 c2 m2 c3 m3 =
+    sym (append_assoc h ((c1 ++ m1) ++ (c2 ++ m2)) (c3 ++ m3))
+    ∙ ap (λ (l : List ℕ). l ++ (c3 ++ m3)) (sym (append_assoc h (c1 ++ m1) (c2 ++ m2)))
+    ∙ ap (λ (l : List ℕ). (l ++ (c2 ++ m2)) ++ (c3 ++ m3)) (sym (append_assoc h c1 m1))
+    ∙ ap (λ (l : List ℕ). l ++ (c3 ++ m3)) (sym (append_assoc ((h ++ c1) ++ m1) c2 m2))
+    ∙ sym (append_assoc ((((h ++ c1) ++ m1) ++ c2) ++ m2) c3 m3)
+
 -- a field more behind those that were put
 pub put_more : (n x at next : ℕ) (front old a b : List ℕ) → next ≡ at + n → at ≡ length front → a ≡ front ++ drop at old → b ≡ with_field n at x a
     → (next ≡ length (front ++ spelled n x)) × (b ≡ (front ++ spelled n x) ++ drop next old)

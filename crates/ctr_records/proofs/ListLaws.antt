@@ -69,15 +69,26 @@ pub end_far : (bytes : List ℕ) → 33 ≤ end_at bytes
 unfolding end_at items_at
 end_far bytes = omega arith
 
-pub passes : (bytes : List ℕ) → checkpoint_checks bytes ≡ Ok tt → Passes bytes
+-- the parts of the checks
+pub record Checks (bytes : List ℕ) : Type 0 where
+  pub end : end_check bytes ≡ Ok tt
+  pub kinds : each (kind_check (items_at bytes + 8) bytes) 0 (kinds_in bytes) ≡ Ok tt
+  pub whole : end_at bytes + 1 ≡ length bytes
+  pub lists : list_checks bytes ≡ Ok tt
+
+pub checks : (bytes : List ℕ) → checkpoint_checks bytes ≡ Ok tt → Checks bytes
 unfolding checkpoint_checks
-passes bytes e =
+checks bytes e =
     let kinds = each (kind_check (items_at bytes + 8) bytes) 0 (kinds_in bytes) in
     let b1 = bind_ok (end_check bytes) (λ _. kinds >>= λ _. expect 0 (end_at bytes + 1) (length bytes) >>= λ _. list_checks bytes) tt e in
     let b2 = bind_ok kinds (λ _. expect 0 (end_at bytes + 1) (length bytes) >>= λ _. list_checks bytes) tt b1.2 in
     let b3 = bind_ok (expect 0 (end_at bytes + 1) (length bytes)) (λ _. list_checks bytes) tt b2.2 in
-    let whole = expect_ok 0 (end_at bytes + 1) (length bytes) b3.1 in
-    record { long = omega (arith, whole, end_far bytes); whole = whole; flag = sym (end_ok bytes (omega (arith, whole)) b1.1) }
+    record { end = b1.1; kinds = b2.1; whole = expect_ok 0 (end_at bytes + 1) (length bytes) b3.1; lists = b3.2 }
+
+pub passes : (bytes : List ℕ) → checkpoint_checks bytes ≡ Ok tt → Passes bytes
+passes bytes e =
+    let parts = checks bytes e in
+    record { long = omega (arith, parts.whole, end_far bytes); whole = parts.whole; flag = sym (end_ok bytes (omega (arith, parts.whole)) parts.end) }
 
 -- the bytes of a Checkpoint that passes are spelled so
 pub checkpoint_back : (bytes lists : List ℕ) → AreBytes bytes → field 1 0 bytes ≡ 1 → checkpoint_checks bytes ≡ Ok tt → lists ≡ take (length bytes - 1 - 9) (drop 9 bytes) → checkpoint_bytes (field 8 1 bytes) lists ≡ bytes

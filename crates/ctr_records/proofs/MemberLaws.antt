@@ -12,7 +12,7 @@ use Rattle.ctr_records.specs.Spelling.{checkpoint_bytes}
 use Rattle.ctr_records.specs.Damage.{wrong, expect, at_most}
 use Rattle.ctr_records.specs.Checkpoint.{count_at, opens_in, aborted_in, items_at, items_in, end_at, xid_at, each, end_check, kind_check, kinds_in, item_most, item_check, next_check, heads_check, is_among, is_new, xid_check, list_checks, checkpoint_checks}
 use Rattle.ctr_records.specs.Members.{pair_bytes, item_kind, item_xid, item_number, slog_item_bytes, lists_bytes, among, AreNew, HeadsFit, ItemFits, MembersFit}
-use Rattle.ctr_records.proofs.Laws.{Begins, begins_whole, begins_less, field_last}
+use Rattle.ctr_records.proofs.Laws.{Begins, begins_whole, begins_less, field_last, in_one_row}
 use Rattle.std.proofs.lemmas.List.{append-nil}
 use Rattle.ctr_records.proofs.ListLaws.{checkpoint_next}
 use Rattle.ctr_records.proofs.Reading.{bind_ok}
@@ -223,19 +223,8 @@ upto_items next opens aborted items = upto_aborted next opens aborted ++ flat_ma
 whole_is : (next : ℕ) (opens aborted : List (ℕ × ℕ)) (items : List SlogItem) → checkpoint_bytes next (lists_bytes opens aborted items) ≡ (upto_items next opens aborted items ++ flat_map slog_item_bytes items) ++ spelled 1 0
 unfolding upto_head upto_opens upto_aborted upto_items
 whole_is next opens aborted items =
-    let h = spelled 1 1 ++ spelled 8 next in
-    let c1 = spelled 8 (length opens) in
-    let m1 = flat_map pair_bytes opens in
-    let c2 = spelled 8 (length aborted) in
-    let m2 = flat_map pair_bytes aborted in
-    let c3 = spelled 8 (length items) in
-    let m3 = flat_map slog_item_bytes items in
     ap (λ (l : List ℕ). l ++ spelled 1 0)
-    (sym (append_assoc h ((c1 ++ m1) ++ (c2 ++ m2)) (c3 ++ m3))
-    ∙ ap (λ (l : List ℕ). l ++ (c3 ++ m3)) (sym (append_assoc h (c1 ++ m1) (c2 ++ m2)))
-    ∙ ap (λ (l : List ℕ). (l ++ (c2 ++ m2)) ++ (c3 ++ m3)) (sym (append_assoc h c1 m1))
-    ∙ ap (λ (l : List ℕ). l ++ (c3 ++ m3)) (sym (append_assoc ((h ++ c1) ++ m1) c2 m2))
-    ∙ sym (append_assoc ((((h ++ c1) ++ m1) ++ c2) ++ m2) c3 m3))
+    (in_one_row (upto_head next) (spelled 8 (length opens)) (flat_map pair_bytes opens) (spelled 8 (length aborted)) (flat_map pair_bytes aborted) (spelled 8 (length items)) (flat_map slog_item_bytes items))
 
 -- where each stands
 record Stands (next : ℕ) (opens aborted : List (ℕ × ℕ)) (items : List SlogItem) (whole : List ℕ) : Type 0 where
@@ -257,27 +246,27 @@ stands : (next : ℕ) (opens aborted : List (ℕ × ℕ)) (items : List SlogItem
 unfolding upto_head upto_opens upto_aborted upto_items
 stands next opens aborted items =
     let whole = checkpoint_bytes next (lists_bytes opens aborted items) in
-    let h = spelled 1 1 ++ spelled 8 next in
-    let c1 = spelled 8 (length opens) in
-    let m1 = flat_map pair_bytes opens in
-    let c2 = spelled 8 (length aborted) in
-    let m2 = flat_map pair_bytes aborted in
-    let c3 = spelled 8 (length items) in
-    let m3 = flat_map slog_item_bytes items in
-    let l0 : length h ≡ 9 = omega (arith, length-append (spelled 1 1) (spelled 8 next), length-spelled 1 1, length-spelled 8 next) in
-    let l1 : length (h ++ c1) ≡ 17 = omega (arith, l0, length-append h c1, length-spelled 8 (length opens)) in
-    let l2 : length (h ++ c1 ++ m1 ++ c2) ≡ 25 + 16 * length opens = omega (arith, l1, length-append (h ++ c1) m1, length-append (h ++ c1 ++ m1) c2, length-pairs opens, length-spelled 8 (length aborted)) in
-    let l3 : length (h ++ c1 ++ m1 ++ c2 ++ m2 ++ c3) ≡ 33 + 16 * (length opens + length aborted) = omega (arith, l2, length-append (h ++ c1 ++ m1 ++ c2) m2, length-append (h ++ c1 ++ m1 ++ c2 ++ m2) c3, length-pairs aborted, length-spelled 8 (length items)) in
+    let head = upto_head next in
+    let to_opens = upto_opens next opens in
+    let to_aborted = upto_aborted next opens aborted in
+    let to_items = upto_items next opens aborted items in
+    let pairs = flat_map pair_bytes opens in
+    let others = flat_map pair_bytes aborted in
+    let rest = flat_map slog_item_bytes items in
+    let l0 : length head ≡ 9 = omega (arith, length-append (spelled 1 1) (spelled 8 next), length-spelled 1 1, length-spelled 8 next) in
+    let l1 : length to_opens ≡ 17 = omega (arith, l0, length-append head (spelled 8 (length opens)), length-spelled 8 (length opens)) in
+    let l2 : length to_aborted ≡ 25 + 16 * length opens = omega (arith, l1, length-append to_opens pairs, length-append (to_opens ++ pairs) (spelled 8 (length aborted)), length-pairs opens, length-spelled 8 (length aborted)) in
+    let l3 : length to_items ≡ 33 + 16 * (length opens + length aborted) = omega (arith, l2, length-append to_aborted others, length-append (to_aborted ++ others) (spelled 8 (length items)), length-pairs aborted, length-spelled 8 (length items)) in
     let e = whole_is next opens aborted items in
-    let l4 : length whole ≡ 34 + 16 * (length opens + length aborted) + 13 * length items = omega (arith, l3, ap length e, length-append (h ++ c1 ++ m1 ++ c2 ++ m2 ++ c3) m3, length-append (h ++ c1 ++ m1 ++ c2 ++ m2 ++ c3 ++ m3) (spelled 1 0), length-items items, length-spelled 1 0) in
-    let b7 : Begins (h ++ c1 ++ m1 ++ c2 ++ m2 ++ c3 ++ m3 ++ spelled 1 0) whole = subst (λ (l : List ℕ). Begins l whole) e (begins_whole whole) in
-    let b6 = begins_less (h ++ c1 ++ m1 ++ c2 ++ m2 ++ c3 ++ m3) (spelled 1 0) whole b7 in
-    let b5 = begins_less (h ++ c1 ++ m1 ++ c2 ++ m2 ++ c3) m3 whole b6 in
-    let b4 = begins_less (h ++ c1 ++ m1 ++ c2 ++ m2) c3 whole b5 in
-    let b3 = begins_less (h ++ c1 ++ m1 ++ c2) m2 whole b4 in
-    let b2 = begins_less (h ++ c1 ++ m1) c2 whole b3 in
-    let b1 = begins_less (h ++ c1) m1 whole b2 in
-    record { len_head = l0; len_opens = l1; len_aborted = l2; len_items = l3; len_whole = l4; head = begins_less h c1 whole b1; opens_count = b1; opens_all = b2; aborted_count = b3; aborted_all = b4; items_count = b5; items_all = b6; flag = b7 }
+    let l4 : length whole ≡ 34 + 16 * (length opens + length aborted) + 13 * length items = omega (arith, l3, ap length e, length-append to_items rest, length-append (to_items ++ rest) (spelled 1 0), length-items items, length-spelled 1 0) in
+    let b7 : Begins ((to_items ++ rest) ++ spelled 1 0) whole = subst (λ (l : List ℕ). Begins l whole) e (begins_whole whole) in
+    let b6 = begins_less (to_items ++ rest) (spelled 1 0) whole b7 in
+    let b5 = begins_less to_items rest whole b6 in
+    let b4 = begins_less (to_aborted ++ others) (spelled 8 (length items)) whole b5 in
+    let b3 = begins_less to_aborted others whole b4 in
+    let b2 = begins_less (to_opens ++ pairs) (spelled 8 (length aborted)) whole b3 in
+    let b1 = begins_less to_opens pairs whole b2 in
+    record { len_head = l0; len_opens = l1; len_aborted = l2; len_items = l3; len_whole = l4; head = begins_less head (spelled 8 (length opens)) whole b1; opens_count = b1; opens_all = b2; aborted_count = b3; aborted_all = b4; items_count = b5; items_all = b6; flag = b7 }
 
 -- the counts that are read
 record Counts (opens aborted items : ℕ) (whole : List ℕ) : Type 0 where

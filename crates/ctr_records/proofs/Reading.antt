@@ -16,6 +16,7 @@ use Rattle.ctr_records.specs.Parts.{flag_of, OverlayFits, PartsFit}
 use Rattle.ctr_records.specs.Spelling.{field_bytes, place_bytes, with_overlay, parts_bytes}
 use Rattle.ctr_bytes.specs.Following.{◌>>=◌}
 use Rattle.ctr_records.specs.Damage.{wrong, expect, flag_check, inside_check, overlay_check, length_wanted, overlay_in, at_most, bound_check, checks}
+use Rattle.ctr_records.specs.Read.{parts_read}
 use Rattle.ctr_records.proofs.Laws.{grow}
 
 -- the value of a step that did not fail
@@ -109,14 +110,6 @@ plain_ok l bytes none whole =
 
 -- ---- the parts in bytes
 
-abbrev pub parts_at : Tag → List ℕ → Parts
-parts_at t bytes = record {
-  tag = t;
-  first = field (bytes_of_field (layout t).first) 1 bytes;
-  second = field (bytes_of_field (layout t).second) (1 + bytes_of_field (layout t).first) bytes;
-  overlay = overlay_in (layout t) bytes;
-}
-
 flags : (t : Tag) → (layout t).flag ≤ 2
 flags tag.Begin = omega arith
 flags tag.Commit = omega arith
@@ -192,7 +185,7 @@ flag_again (suc (suc (suc n))) ne le = absurd (omega (arith, le))
 
 -- the parts in bytes that pass are of a record, and the bytes are theirs
 pub read_back : (t : Tag) (bytes : List ℕ) → (layout t).number ≡ field 1 0 bytes → checks (layout t) bytes ≡ Ok tt → AreBytes bytes
-    → PartsFit (parts_at t bytes) × (parts_bytes (parts_at t bytes) ≡ bytes)
+    → PartsFit (parts_read t bytes) × (parts_bytes (parts_read t bytes) ≡ bytes)
 read_back t bytes number checked fits =
     let l = layout t in
     let p = passed l bytes checked in

@@ -1,11 +1,15 @@
-use Rattle.std.proofs.Common.{◌++◌, ◌+◌, ◌∙◌, ◌≤◌, [], length, drop, ap, arith, refl}
-use Rattle.ctr_bytes.specs.Fields.{spelled}
+use Rattle.std.proofs.Common.{◌≡◌, ℕ, List, ◌++◌, ◌+◌, ◌∙◌, ◌≤◌, [], length, drop, ap, arith, refl}
+use Rattle.ctr_bytes.specs.Fields.{spelled, with_field}
 use Rattle.ctr_bytes.proofs.FieldLaws.{length-with_field}
 use Rattle.ctr_records.specs.declared.table.Layout.{Layout}
 use Rattle.ctr_records.specs.Table.{bytes_of_field}
 use Rattle.ctr_records.specs.Spelling.{field_bytes, with_overlay}
 use Rattle.ctr_records.proofs.Laws.{put_more, length-parts}
 use Rattle.ctr_records.proofs.encoding.encode_fields.Goals as goal
+
+-- the bytes are as many with a number in front
+with_number : (n : ℕ) (old new : List ℕ) → 0 + 1 ≤ length old → new ≡ with_field 1 0 n old → length new ≡ length old
+with_number n old new some is = ap length is ∙ length-with_field 1 0 n old some
 
 pub put_u8-requires : goal.put_u8-requires
 put_u8-requires c = omega (arith, length-parts c.args.parts.now, c.requires.room)
@@ -14,24 +18,21 @@ pub put-requires-clause-room : goal.put-requires-clause-room
 put-requires-clause-room c =
     let is = c.layout-layout.ensures in
     let long = length-parts c.args.parts.now in
-    let some : 0 + 1 ≤ length c.args.into.now = omega (arith, long, c.requires.room) in
-    let one = ap length c.put_u8.ensures.put ∙ length-with_field 1 0 c.layout-layout.result.number c.args.into.now some in
+    let one = with_number c.layout-layout.result.number c.args.into.now c.put_u8.new.bytes (omega (arith, long, c.requires.room)) c.put_u8.ensures.put in
     omega (arith, long, c.requires.room, ap (λ (l : Layout). bytes_of_field l.first) is, one)
 
 pub put-requires-2-clause-room : goal.put-requires-2-clause-room
 put-requires-2-clause-room c =
     let is = c.layout-layout.ensures in
     let long = length-parts c.args.parts.now in
-    let some : 0 + 1 ≤ length c.args.into.now = omega (arith, long, c.requires.room) in
-    let one = ap length c.put_u8.ensures.put ∙ length-with_field 1 0 c.layout-layout.result.number c.args.into.now some in
+    let one = with_number c.layout-layout.result.number c.args.into.now c.put_u8.new.bytes (omega (arith, long, c.requires.room)) c.put_u8.ensures.put in
     omega (arith, long, c.requires.room, ap (λ (l : Layout). bytes_of_field l.first) is, ap (λ (l : Layout). bytes_of_field l.second) is, c.width-second.ensures, one, c.put.ensures.long)
 
 pub put_overlay-requires-clause-room : goal.put_overlay-requires-clause-room
 put_overlay-requires-clause-room c =
     let is = c.layout-layout.ensures in
     let long = length-parts c.args.parts.now in
-    let some : 0 + 1 ≤ length c.args.into.now = omega (arith, long, c.requires.room) in
-    let one = ap length c.put_u8.ensures.put ∙ length-with_field 1 0 c.layout-layout.result.number c.args.into.now some in
+    let one = with_number c.layout-layout.result.number c.args.into.now c.put_u8.new.bytes (omega (arith, long, c.requires.room)) c.put_u8.ensures.put in
     omega (arith, long, c.requires.room, ap (λ (l : Layout). bytes_of_field l.first) is, ap (λ (l : Layout). bytes_of_field l.second) is, c.width-second.ensures, c.width.ensures, one, c.put.ensures.long, c.put-2.ensures.long)
 
 pub returns-clause-number : goal.returns-clause-number
