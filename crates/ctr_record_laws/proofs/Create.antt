@@ -5,7 +5,6 @@ use Rattle.std.proofs.lemmas.List.{append-nil}
 use Rattle.std.specs.List.{filter}
 use Rattle.std.specs.Prelude.{◌==◌, ◌||◌, ◌&&◌, not}
 use Rattle.ctr_area.specs.Areas.{Title, Area}
-use Rattle.ctr_area.specs.Chains.{table_pages}
 use Rattle.ctr_area.specs.Changes.{with_title, with_firsts, new_title, empty_chains, ChangesEntry}
 use Rattle.ctr_area.specs.Images.{is_committed_in, is_standing, is_live}
 use Rattle.ctr_area.specs.Sound.{IsAmong, how_many, xids_in, AreNamed, IsSoundArea, IsOneOf, IsSchemaItem, all_undone, undone, stands_for, is_creation, is_dropping}
@@ -18,8 +17,7 @@ use Rattle.ctr_record_laws.proofs.Xids.{in_among}
 use Rattle.ctr_record_laws.specs.Bounds.{IsInBounds}
 use Rattle.ctr_records.specs.declared.record.SlogItem.{SlogItem}
 use Rattle.ctr_records.specs.declared.record.SlogItem.TheVariants.{AllocOf, FreeOf, CreateOf, DropOf}
-use Rattle.ctr_record_laws.proofs.Away.{away_readable, away_pointers, away_behind, away_keys, away_counts, away_pages, away_below, IsSameOn}
-use Rattle.ctr_record_laws.proofs.Fresh.{AreNoPages, empty_are_none, mid_sound, fresh_away, fresh_firsts, fresh_tables}
+use Rattle.ctr_record_laws.proofs.Fresh.{AreNoPages, empty_are_none, mid_sound, fresh_pages, fresh_sound}
 use Rattle.ctr_record_laws.proofs.Items.{added, up_one, down_one, count_one, it_is_in, IsWithOne}
 use Rattle.ctr_record_laws.proofs.Latest.{entry_of_item, xid_of_item, create_isnt_drop, owned_and_one, by_title, title_here, title_apart, live_open}
 use Rattle.ctr_record_laws.proofs.Undone.{undone_at, undone_apart, undone_dead, undone_last, one_of_from, filter_apart, filter_there, filter_among, drop_among, last_dropped, cut_end, uncounted}
@@ -210,40 +208,11 @@ module _ (counted : ℕ) (tables : Tables) (area : Area) (x e : ℕ) (name : Lis
     none : AreNoPages (area.firsts e)
     none = subst AreNoPages (sym (bounds.free e owed.free)) (tt, refl)
 
-    abbrev between : Area
-    between = with_firsts e empty_chains area
-
-    between_sound : IsSoundArea counted tables between
-    between_sound = mid_sound counted tables area e empty_chains sound owed.inside empty_are_none none
-
-    abbrev Away : ℕ → Type 0
-    Away q = (area.header q).entry ≡ e → ⊥
-
-    same_pages : IsSameOn Away between new
-    same_pages = fresh_away counted tables area e empty_chains sound owed.inside empty_are_none none made new changes
-
-    same_first_pages : (f : ℕ) → new.firsts f ≡ between.firsts f
-    same_first_pages = fresh_firsts counted tables area e empty_chains sound owed.inside empty_are_none none made new changes
-
-    apart_pages : (f q : ℕ) → IsAmong q (table_pages between f) → Away q
-    apart_pages = fresh_tables counted tables area e empty_chains sound owed.inside empty_are_none none made new changes
-
-    titles : titled_area.title ≡ new.title
-    titles = λ k f. sym (changes.titles f) k
-
     pub create_sound : IsSoundArea counted (with_item i tables) new
-    create_sound = record {
-      readable = away_readable Away between new same_pages same_first_pages apart_pages between_sound.readable;
-      behind = away_behind Away between new same_pages same_first_pages apart_pages between_sound.pointers committed between_sound.behind;
-      counts = away_counts Away between new same_pages same_first_pages apart_pages tables between_sound.counts;
-      owned = owned_and_one counted live i items more between new one refl x_live changes.taken (away_pages Away between new same_pages same_first_pages apart_pages) between_sound.owned;
-      keys = away_keys Away between new same_pages same_first_pages apart_pages between_sound.keys;
-      pointers = away_pointers Away between new same_pages same_first_pages apart_pages between_sound.pointers;
-      names = subst (AreNamed committed live more) titles create_names;
-      below = away_below Away between new same_pages same_first_pages apart_pages tables.next (live ++ xids_in tables.aborted) between_sound.below
-          (λ f. subst (λ (t : ℕ → Title). ((t f).state ≡ 0) ⊎ (((t f).creator < tables.next) × ((t f).dropper < tables.next))) titles
-          (by_title area e made (λ f u. (u.state ≡ 0) ⊎ ((u.creator < tables.next) × (u.dropper < tables.next))) (inr (drawn.1, above drawn.1)) (λ f apart. sound.below.entries f) f));
-    }
+    create_sound = fresh_sound counted tables area e empty_chains sound owed.inside empty_are_none none made new changes more
+        (owned_and_one counted live i items more (with_firsts e empty_chains area) new one refl x_live changes.taken (fresh_pages counted tables area e empty_chains sound owed.inside empty_are_none none made new changes)
+        (mid_sound counted tables area e empty_chains sound owed.inside empty_are_none none).owned)
+        create_names (inr (drawn.1, above drawn.1))
       where
         drawn : (0 < x) × (x < tables.next)
         drawn = listed_drawn tables.next area tables sound.below x (inl owed.is_open)

@@ -17,7 +17,7 @@ use Rattle.ctr_record_laws.proofs.Xids.{in_among}
 use Rattle.ctr_records.specs.declared.record.SlogItem.{SlogItem}
 use Rattle.ctr_records.specs.declared.record.SlogItem.TheVariants.{AllocOf, FreeOf, CreateOf, DropOf}
 use Rattle.ctr_record_laws.proofs.Items.{added, up_one, down_one, count_one, it_is_in, IsWithOne}
-use Rattle.ctr_record_laws.proofs.Latest.{entry_of_item, xid_of_item, create_isnt_drop, owned_and_one, by_title, title_here, title_apart, titled_sound, live_below, live_some, live_open, unseen_drop}
+use Rattle.ctr_record_laws.proofs.Latest.{entry_of_item, xid_of_item, create_isnt_drop, owned_and_one, by_title, title_here, title_apart, titled_sound, others_apart, live_below, live_some, live_open, unseen_drop}
 use Rattle.ctr_record_laws.proofs.Undone.{undone_at, undone_apart, undone_last, one_of_from, filter_apart, filter_there, filter_among, drop_among, last_dropped, cut_end, uncounted}
 use Rattle.ctr_record_laws.specs.Owed.{OwedByDrop}
 use Rattle.ctr_versions.proofs.Keys.{known}
@@ -83,13 +83,6 @@ module _ (counted : ℕ) (tables : Tables) (area : Area) (x e : ℕ) (sound : Is
     where
       zero_ : 0 < y → y ≡ 0 → ⊥
       zero_ lt is = omega (arith, lt, is)
-
-  -- nobody else has an item of it
-  others_apart : (y : ℕ) → (x ≡ y → ⊥) → (z : SlogItem) → IsAmong z items → is_item_by y z ≡ true → ((w : ℕ) → z ≡ CreateOf w e → ⊥) × ((w : ℕ) → z ≡ DropOf w e → ⊥)
-  others_apart y apart z in_ by_y = (
-    (λ w is. apart (sym (owed.alone w e (inl (subst (λ z. IsAmong z items) is in_)) refl) ∙ eqb-true w y (sym (ap (is_item_by y) is) ∙ by_y))),
-    (λ w is. apart (sym (owed.alone w e (inr (subst (λ z. IsAmong z items) is in_)) refl) ∙ eqb-true w y (sym (ap (is_item_by y) is) ∙ by_y))),
-  )
 
   -- the drop undone
   back : (f : ℕ) → undone i after.title f ≡ area.title f
@@ -201,7 +194,7 @@ module _ (counted : ℕ) (tables : Tables) (area : Area) (x e : ℕ) (sound : Is
           let D = drop k (filter (is_item_by y) items) in
           let same_list : all_undone (drop k (filter (is_item_by y) more)) after.title f ≡ all_undone D after.title f = ap (λ l. all_undone (drop k l) after.title f) same_items in
           let none : (z : SlogItem) → IsAmong z D → ((w : ℕ) → z ≡ CreateOf w e → ⊥) × ((w : ℕ) → z ≡ DropOf w e → ⊥) =
-          λ z in_. let by_y = filter_among (is_item_by y) z items (drop_among z k (filter (is_item_by y) items) in_) in others_apart y apart z by_y.0 by_y.1 in
+          λ z in_. let by_y = filter_among (is_item_by y) z items (drop_among z k (filter (is_item_by y) items) in_) in others_apart x e items (λ w in_. sym (owed.alone w e in_ refl)) y apart z by_y.0 by_y.1 in
           known (f == e)
           (λ is. let same_f = eqb-true f e is in
           let now : all_undone (drop k (filter (is_item_by y) more)) after.title f ≡ dropped =

@@ -5,7 +5,6 @@ use Rattle.std.specs.List.{filter}
 use Rattle.std.specs.Prelude.{◌==◌}
 use Rattle.ctr_area.proofs.Buckets.{each_of}
 use Rattle.ctr_area.specs.Areas.{Title, no_pages, Area}
-use Rattle.ctr_area.specs.Chains.{table_pages}
 use Rattle.ctr_area.specs.Changes.{with_title, with_firsts, ChangesEntry}
 use Rattle.ctr_area.specs.Images.{is_committed_in, is_standing, is_live}
 use Rattle.ctr_area.specs.Sound.{IsAmong, how_many, xids_in, owned_pages, AreNamed, IsSoundArea, IsSchemaItem, all_undone, stands_for}
@@ -13,8 +12,7 @@ use Rattle.ctr_meta.specs.Items.{is_item_by}
 use Rattle.ctr_meta.specs.Tables.{Tables}
 use Rattle.ctr_records.specs.declared.record.SlogItem.{SlogItem}
 use Rattle.ctr_records.specs.declared.record.SlogItem.TheVariants.{CreateOf, DropOf}
-use Rattle.ctr_record_laws.proofs.Away.{away_readable, away_pointers, away_behind, away_keys, away_counts, away_pages, away_below, IsSameOn}
-use Rattle.ctr_record_laws.proofs.Fresh.{AreNoPages, mid_sound, fresh_away, fresh_firsts, fresh_tables}
+use Rattle.ctr_record_laws.proofs.Fresh.{AreNoPages, mid_sound, fresh_pages, fresh_sound}
 use Rattle.ctr_record_laws.proofs.Latest.{by_title, title_apart, titled_sound, live_below, live_open}
 use Rattle.ctr_record_laws.proofs.Owning.{all_of}
 use Rattle.ctr_record_laws.proofs.Undone.{undone_at, undone_dead, one_of_from}
@@ -120,43 +118,19 @@ module _ (counted : ℕ) (tables : Tables) (area : Area) (e : ℕ) (u : Title) (
   between_sound : IsSoundArea counted tables between
   between_sound = mid_sound counted tables area e no_pages sound owed.inside nothing none
 
-  abbrev Away : ℕ → Type 0
-  Away q = (area.header q).entry ≡ e → ⊥
-
-  same_pages : IsSameOn Away between new
-  same_pages = fresh_away counted tables area e no_pages sound owed.inside nothing none u new changes
-
-  same_first_pages : (f : ℕ) → new.firsts f ≡ between.firsts f
-  same_first_pages = fresh_firsts counted tables area e no_pages sound owed.inside nothing none u new changes
-
-  apart_pages : (f q : ℕ) → IsAmong q (table_pages between f) → Away q
-  apart_pages = fresh_tables counted tables area e no_pages sound owed.inside nothing none u new changes
-
-  titles : (with_title e u area).title ≡ new.title
-  titles = λ k f. sym (changes.titles f) k
-
   pages : owned_pages tables.items new ≡ owned_pages tables.items between
-  pages = away_pages Away between new same_pages same_first_pages apart_pages tables.items
+  pages = fresh_pages counted tables area e no_pages sound owed.inside nothing none u new changes tables.items
 
   pub freeing_sound : IsSoundArea counted tables new
-  freeing_sound = record {
-    readable = away_readable Away between new same_pages same_first_pages apart_pages between_sound.readable;
-    behind = away_behind Away between new same_pages same_first_pages apart_pages between_sound.pointers (is_committed_in tables) between_sound.behind;
-    counts = away_counts Away between new same_pages same_first_pages apart_pages tables between_sound.counts;
-    owned = record {
-      once = λ q behind_ inside_. ap (how_many (λ r. r == q)) pages ∙ between_sound.owned.once q behind_ inside_ ∙ ap (λ b. cond b 1 0) (sym (changes.taken q));
-      inside = all_of (λ q. (3 ≤ q) × (q < counted) × (new.taken q ≡ true)) (owned_pages tables.items new)
-          (λ q in_. let its = each_of (λ q. (3 ≤ q) × (q < counted) × (between.taken q ≡ true)) q (owned_pages tables.items between) between_sound.owned.inside (subst (IsAmong q) pages in_) in
-          (its.0, its.1, changes.taken q ∙ its.2));
-      uncounted = λ q le. changes.taken q ∙ between_sound.owned.uncounted q le;
-      allocs = sound.owned.allocs;
-      creates = sound.owned.creates;
-      drops = sound.owned.drops;
-    };
-    keys = away_keys Away between new same_pages same_first_pages apart_pages between_sound.keys;
-    pointers = away_pointers Away between new same_pages same_first_pages apart_pages between_sound.pointers;
-    names = subst (AreNamed (is_committed_in tables) (xids_in tables.opens) tables.items) titles (gone_names counted tables area e u sound not_live none_created none_dropped);
-    below = away_below Away between new same_pages same_first_pages apart_pages tables.next (xids_in tables.opens ++ xids_in tables.aborted) between_sound.below
-        (λ f. subst (λ (t : ℕ → Title). ((t f).state ≡ 0) ⊎ (((t f).creator < tables.next) × ((t f).dropper < tables.next))) titles
-        (by_title area e u (λ f v. (v.state ≡ 0) ⊎ ((v.creator < tables.next) × (v.dropper < tables.next))) (inl free) (λ f apart. sound.below.entries f) f));
-  }
+  freeing_sound = fresh_sound counted tables area e no_pages sound owed.inside nothing none u new changes tables.items
+      (record {
+        once = λ q behind_ inside_. ap (how_many (λ r. r == q)) pages ∙ between_sound.owned.once q behind_ inside_ ∙ ap (λ b. cond b 1 0) (sym (changes.taken q));
+        inside = all_of (λ q. (3 ≤ q) × (q < counted) × (new.taken q ≡ true)) (owned_pages tables.items new)
+            (λ q in_. let its = each_of (λ q. (3 ≤ q) × (q < counted) × (between.taken q ≡ true)) q (owned_pages tables.items between) between_sound.owned.inside (subst (IsAmong q) pages in_) in
+            (its.0, its.1, changes.taken q ∙ its.2));
+        uncounted = λ q le. changes.taken q ∙ between_sound.owned.uncounted q le;
+        allocs = sound.owned.allocs;
+        creates = sound.owned.creates;
+        drops = sound.owned.drops;
+      })
+      (gone_names counted tables area e u sound not_live none_created none_dropped) (inl free)

@@ -8,7 +8,7 @@ use Rattle.ctr_area.specs.Areas.{Firsts, Area}
 use Rattle.ctr_area.specs.Chains.{pages_bound, older_bound, pages_from, places_from, slot_places, older_places, table_pages}
 use Rattle.ctr_area.specs.Changes.{with_firsts}
 use Rattle.ctr_area.specs.Images.{numbers, entry_numbers}
-use Rattle.ctr_area.specs.Sound.{IsAmong, how_many, IsUsedSlot, EndsIn, IsOfVersions, AreBuckets, AreReadable, AreBehind, is_headed_by, head_count, AreCounted, owned_pages, AreOwned, AreKeyed, IsKeptFor, ArePointed, NumbersBelow}
+use Rattle.ctr_area.specs.Sound.{IsAmong, how_many, IsUsedSlot, EndsIn, IsOfVersions, AreBuckets, AreReadable, AreBehind, is_headed_by, head_count, AreCounted, page_of_item, owned_pages, AreOwned, AreKeyed, IsKeptFor, ArePointed, NumbersBelow}
 use Rattle.ctr_meta.specs.Tables.{Tables}
 use Rattle.ctr_record_laws.proofs.Along.{leads_same}
 use Rattle.ctr_record_laws.proofs.Members.{count_append, count_among, bit}
@@ -149,6 +149,19 @@ module _ (area : Area) (e : ℕ) (t : Firsts) where
     pub pages_moved : e < 32 → how_many test (flat_map (table_pages after) entry_numbers) + d ≡ how_many test (flat_map (table_pages area) entry_numbers) + c
     unfolding entry_numbers
     pages_moved inside = tables_moved 0 32 (omega arith) (omega (arith, inside))
+
+  -- how often a page is owned, where the entry's chains and the items have it other times
+  pub owned_moved : (items : List SlogItem) (q c d count : ℕ) → e < 32 → how_many (λ r. r == q) (pages_of_firsts t) + d ≡ how_many (λ r. r == q) (table_pages area e) + c
+      → how_many (λ r. r == q) (owned_pages items area) + c ≡ count + d → how_many (λ r. r == q) (owned_pages items after) ≡ count
+  owned_moved items q c d count inside moved owned =
+      let new_tables = flat_map (table_pages after) entry_numbers in
+      let old_tables = flat_map (table_pages area) entry_numbers in
+      all (how_many (λ r. r == q) new_tables) (how_many (λ r. r == q) old_tables) (how_many (λ r. r == q) (flat_map page_of_item items)) (how_many (λ r. r == q) (owned_pages items area))
+      (how_many (λ r. r == q) (owned_pages items after)) (pages_moved (λ r. r == q) c d moved inside)
+      (count_append (λ r. r == q) old_tables (flat_map page_of_item items)) (count_append (λ r. r == q) new_tables (flat_map page_of_item items)) owned
+    where
+      all : (a b i x y : ℕ) → a + d ≡ b + c → x ≡ b + i → y ≡ a + i → x + c ≡ count + d → y ≡ count
+      all a b i x y one two three four = omega (arith, one, two, three, four)
 
   -- a page goes from the items to the entry's chains, or the other way
   module _ (counted : ℕ) (live : List ℕ) (items items_now : List SlogItem) (owned : AreOwned counted live items area)

@@ -58,19 +58,18 @@ module _ (committed : ℕ → Bool) (area : Area) (e : ℕ) (key : ℤ) (at : Pl
 
   -- ---- the slot that is written
 
+  in_use_of_key : (w : Writing) (head : RowVersion) → Fits w → ((written_slot w head key (area.slot at)).used ≡ true) × ((written_slot w head key (area.slot at)).key ≡ key)
+  in_use_of_key OverHead head fits = (fits.0.0.1, fits.0.1)
+  in_use_of_key HeadMoves head fits = (fits.0.0.1, fits.0.1)
+  in_use_of_key (PreviousKept q) head fits = (fits.0.0.1, fits.0.1)
+  in_use_of_key (HeadKept q) head fits = (fits.0.0.1, fits.0.1)
+  in_use_of_key FirstVersion head fits = (refl, refl)
+
   pub now_in_use : (w : Writing) (head : RowVersion) → Fits w → (written_slot w head key (area.slot at)).used ≡ true
-  now_in_use OverHead head fits = fits.0.0.1
-  now_in_use HeadMoves head fits = fits.0.0.1
-  now_in_use (PreviousKept q) head fits = fits.0.0.1
-  now_in_use (HeadKept q) head fits = fits.0.0.1
-  now_in_use FirstVersion head fits = refl
+  now_in_use w head fits = (in_use_of_key w head fits).0
 
   pub of_the_key : (w : Writing) (head : RowVersion) → Fits w → (written_slot w head key (area.slot at)).key ≡ key
-  of_the_key OverHead head fits = fits.0.1
-  of_the_key HeadMoves head fits = fits.0.1
-  of_the_key (PreviousKept q) head fits = fits.0.1
-  of_the_key (HeadKept q) head fits = fits.0.1
-  of_the_key FirstVersion head fits = refl
+  of_the_key w head fits = (in_use_of_key w head fits).1
 
   pub has_head : (w : Writing) (head : RowVersion) → (written_slot w head key (area.slot at)).head ≡ head
   has_head OverHead head = refl

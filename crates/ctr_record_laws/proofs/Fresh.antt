@@ -1,20 +1,22 @@
 -- An entry without a page gets other chains without a page: what stood on pages stays, where none was of the entry.
-use Rattle.std.proofs.Common.{◌≡◌, ⊎_elim, inl, ℕ, ◌+◌, ◌<◌, cond, List, [], ◌∷◌, ◌++◌, refl, sym, ◌∙◌, ap, subst, arith}
+use Rattle.std.proofs.Common.{◌≡◌, ◌⊎◌, ⊎_elim, inl, ℕ, ◌+◌, ◌<◌, cond, List, [], ◌∷◌, ◌++◌, refl, sym, ◌∙◌, ap, subst, arith}
 use Rattle.std.proofs.lemmas.Bool.{eq-eqb}
 use Rattle.std.specs.List.{flat_map, AllByRecursion}
 use Rattle.std.specs.Prelude.{◌==◌}
 use Rattle.ctr_area.proofs.Buckets.{each_of, nothing_from_0}
 use Rattle.ctr_area.specs.Areas.{Title, Firsts, Area}
 use Rattle.ctr_area.specs.Chains.{pages_bound, pages_from, places_on, places_from, slot_places, table_pages}
-use Rattle.ctr_area.specs.Changes.{with_firsts, empty_chains, ChangesEntry}
+use Rattle.ctr_area.specs.Changes.{with_title, with_firsts, empty_chains, ChangesEntry}
 use Rattle.ctr_area.specs.Images.{is_committed_in, entry_numbers}
-use Rattle.ctr_area.specs.Sound.{IsAmong, how_many, xids_in, EndsIn, IsOfRows, IsOfVersions, AreBuckets, AreReadable, is_headed_by, page_of_item, owned_pages, IsSoundArea}
+use Rattle.ctr_area.specs.Sound.{IsAmong, how_many, xids_in, EndsIn, IsOfRows, IsOfVersions, AreBuckets, AreReadable, is_headed_by, owned_pages, AreOwned, AreNamed, IsSoundArea}
 use Rattle.ctr_meta.specs.Tables.{Tables}
-use Rattle.ctr_record_laws.proofs.Members.{among_parts, count_append}
+use Rattle.ctr_record_laws.proofs.Members.{among_parts}
 use Rattle.ctr_page.specs.declared.header.Header.{Header}
-use Rattle.ctr_record_laws.proofs.Away.{IsSameOn}
+use Rattle.ctr_records.specs.declared.record.SlogItem.{SlogItem}
+use Rattle.ctr_record_laws.proofs.Away.{away_readable, away_pointers, away_behind, away_keys, away_counts, away_pages, away_below, IsSameOn}
 use Rattle.ctr_record_laws.proofs.Ends.{page_ends}
-use Rattle.ctr_record_laws.proofs.Firsts.{firsts_readable, firsts_behind, firsts_keys, firsts_pointers, firsts_below, firsts_counts, pages_of_firsts, pages_moved, firsts_owned, AreGoodFirsts}
+use Rattle.ctr_record_laws.proofs.Latest.{by_title}
+use Rattle.ctr_record_laws.proofs.Firsts.{firsts_readable, firsts_behind, firsts_keys, firsts_pointers, firsts_below, firsts_counts, pages_of_firsts, owned_moved, firsts_owned, AreGoodFirsts}
 
 -- chains of no page
 abbrev pub AreZeros : List ℕ → Type 0
@@ -83,15 +85,7 @@ module _ (counted : ℕ) (tables : Tables) (area : Area) (e : ℕ) (t : Firsts) 
   moved q = ap (λ l. how_many (λ r. r == q) l + 0) (pages_none t zeros ∙ sym (pages_none (area.firsts e) none))
 
   same_count : (q : ℕ) → how_many (λ r. r == q) (owned_pages tables.items mid) ≡ how_many (λ r. r == q) (owned_pages tables.items area)
-  same_count q =
-      let new_tables = flat_map (table_pages mid) entry_numbers in
-      let old_tables = flat_map (table_pages area) entry_numbers in
-      let items = flat_map page_of_item tables.items in
-      all (how_many (λ r. r == q) new_tables) (how_many (λ r. r == q) old_tables) (how_many (λ r. r == q) items) (how_many (λ r. r == q) (owned_pages tables.items mid)) (how_many (λ r. r == q) (owned_pages tables.items area))
-      (pages_moved area e t (λ r. r == q) 0 0 (moved q) inside) (count_append (λ r. r == q) new_tables items) (count_append (λ r. r == q) old_tables items)
-    where
-      all : (a b c x y : ℕ) → a + 0 ≡ b + 0 → x ≡ a + c → y ≡ b + c → x ≡ y
-      all a b c x y one two three = omega (arith, one, two, three)
+  same_count q = owned_moved area e t tables.items q 0 0 (how_many (λ r. r == q) (owned_pages tables.items area)) inside (moved q) refl
 
   pub mid_sound : IsSoundArea counted tables mid
   mid_sound = record {
@@ -126,3 +120,25 @@ module _ (counted : ℕ) (tables : Tables) (area : Area) (e : ℕ) (t : Firsts) 
     fresh_tables f q in_ is =
         let same_f : f ≡ e = sym (table_entry mid mid_sound.readable f q in_) ∙ is in
         subst (IsAmong q) (pages_none t zeros) (subst (λ (u : Firsts). IsAmong q (pages_of_firsts area e t u)) (ap (λ b. cond b t (area.firsts f)) (eq-eqb f e same_f)) in_)
+
+    pub fresh_pages : (items : List SlogItem) → owned_pages items new ≡ owned_pages items mid
+    fresh_pages items = away_pages On mid new fresh_away fresh_firsts fresh_tables items
+
+    -- what is sound of the items and of the title makes the area sound
+    pub fresh_sound : (items : List SlogItem) → AreOwned counted (xids_in tables.opens) items new → AreNamed (is_committed_in tables) (xids_in tables.opens) items (with_title e title area).title
+        → (title.state ≡ 0) ⊎ ((title.creator < tables.next) × (title.dropper < tables.next)) → IsSoundArea counted (record tables { items = items }) new
+    fresh_sound items owned names below = record {
+      readable = away_readable On mid new fresh_away fresh_firsts fresh_tables mid_sound.readable;
+      behind = away_behind On mid new fresh_away fresh_firsts fresh_tables mid_sound.pointers (is_committed_in tables) mid_sound.behind;
+      counts = away_counts On mid new fresh_away fresh_firsts fresh_tables tables mid_sound.counts;
+      owned = owned;
+      keys = away_keys On mid new fresh_away fresh_firsts fresh_tables mid_sound.keys;
+      pointers = away_pointers On mid new fresh_away fresh_firsts fresh_tables mid_sound.pointers;
+      names = subst (AreNamed (is_committed_in tables) (xids_in tables.opens) items) titles names;
+      below = away_below On mid new fresh_away fresh_firsts fresh_tables tables.next (xids_in tables.opens ++ xids_in tables.aborted) mid_sound.below
+          (λ f. subst (λ (s : ℕ → Title). ((s f).state ≡ 0) ⊎ (((s f).creator < tables.next) × ((s f).dropper < tables.next))) titles
+          (by_title area e title (λ f u. (u.state ≡ 0) ⊎ ((u.creator < tables.next) × (u.dropper < tables.next))) below (λ f apart. sound.below.entries f) f));
+    }
+      where
+        titles : (with_title e title area).title ≡ new.title
+        titles = λ k f. sym (changes.titles f) k

@@ -8,7 +8,7 @@ use Rattle.ctr_area.proofs.Buckets.{each_of}
 use Rattle.ctr_area.specs.Areas.{Title, Area}
 use Rattle.ctr_area.specs.Changes.{with_title}
 use Rattle.ctr_area.specs.Images.{is_committed_in, is_live}
-use Rattle.ctr_area.specs.Sound.{IsAmong, how_many, xids_in, page_of_item, owned_pages, AreOwned, AreNamed, IsSoundArea, all_undone, undone}
+use Rattle.ctr_area.specs.Sound.{IsAmong, how_many, xids_in, page_of_item, owned_pages, AreOwned, AreNamed, IsSoundArea, IsSchemaItem, all_undone, undone}
 use Rattle.ctr_meta.specs.Items.{is_item_by}
 use Rattle.ctr_meta.specs.Tables.{Tables, is_in}
 use Rattle.ctr_record_laws.proofs.Heads.{listed_drawn, listed_open}
@@ -175,6 +175,14 @@ module _ (counted : ℕ) (tables : Tables) (area : Area) (sound : IsSoundArea co
 
   pub live_open : (y : ℕ) → IsAmong y (xids_in tables.opens) → is_committed_in tables y ≡ false
   live_open y in_ = listed_open tables y (inl (live_in y in_))
+
+-- where every item of an entry is one transaction's, no item of another is of the entry
+pub others_apart : (x e : ℕ) (items : List SlogItem) → ((y : ℕ) → IsSchemaItem y e items → x ≡ y) → (y : ℕ) → (x ≡ y → ⊥) → (z : SlogItem) → IsAmong z items → is_item_by y z ≡ true
+    → ((w : ℕ) → z ≡ CreateOf w e → ⊥) × ((w : ℕ) → z ≡ DropOf w e → ⊥)
+others_apart x e items its y apart z in_ by_y = (
+  (λ w is. apart (its w (inl (subst (λ z. IsAmong z items) is in_)) ∙ eqb-true w y (sym (ap (is_item_by y) is) ∙ by_y))),
+  (λ w is. apart (its w (inr (subst (λ z. IsAmong z items) is in_)) ∙ eqb-true w y (sym (ap (is_item_by y) is) ∙ by_y))),
+)
 
 -- a transaction and another
 pub other_xid : (x y : ℕ) → (x ≡ y → ⊥) → (x == y) ≡ false

@@ -62,16 +62,25 @@ once_both (x ∷ xs) ys one two apart =
 
 -- ---- titles and what is undone of them
 
+changed_part : {A : Type 0} (part : Title → A) (change : Title → Title) → ((u : Title) → part (change u) ≡ part u) → (t : ℕ → Title) (f e : ℕ) → part (cond (f == e) (change (t e)) (t f)) ≡ part (t f)
+changed_part part change same_ t f e = known (f == e)
+    (λ here. ap (λ b. part (cond b (change (t e)) (t f))) here ∙ same_ (t e) ∙ ap (λ f. part (t f)) (sym (eqb-true f e here)))
+    (λ apart. ap (λ b. part (cond b (change (t e)) (t f))) apart)
+
+-- a part of a title that no item touches is what it was
+same_part : {A : Type 0} (part : Title → A) → ((u : Title) → part (record u { state = 2 }) ≡ part u) → ((u : Title) → part (record u { dropper = 0 }) ≡ part u)
+    → (is : List SlogItem) (t : ℕ → Title) (f : ℕ) → part (all_undone is t f) ≡ part (t f)
+same_part part dead undropped [] t f = refl
+same_part part dead undropped (AllocOf x p ∷ is) t f = same_part part dead undropped is t f
+same_part part dead undropped (FreeOf p ∷ is) t f = same_part part dead undropped is t f
+same_part part dead undropped (CreateOf x e ∷ is) t f = changed_part part (λ (u : Title). record u { state = 2 }) dead (all_undone is t) f e ∙ same_part part dead undropped is t f
+same_part part dead undropped (DropOf x e ∷ is) t f = changed_part part (λ (u : Title). record u { dropper = 0 }) undropped (all_undone is t) f e ∙ same_part part dead undropped is t f
+
 pub same_creator : (is : List SlogItem) (t : ℕ → Title) (f : ℕ) → (all_undone is t f).creator ≡ (t f).creator
-same_creator [] t f = refl
-same_creator (AllocOf x p ∷ is) t f = same_creator is t f
-same_creator (FreeOf p ∷ is) t f = same_creator is t f
-same_creator (CreateOf x e ∷ is) t f = known (f == e)
-    (λ here. ap (λ b. (cond b (record (all_undone is t e) { state = 2 }) (all_undone is t f)).creator) here ∙ ap (λ f. (all_undone is t f).creator) (sym (eqb-true f e here)) ∙ same_creator is t f)
-    (λ apart. ap (λ b. (cond b (record (all_undone is t e) { state = 2 }) (all_undone is t f)).creator) apart ∙ same_creator is t f)
-same_creator (DropOf x e ∷ is) t f = known (f == e)
-    (λ here. ap (λ b. (cond b (record (all_undone is t e) { dropper = 0 }) (all_undone is t f)).creator) here ∙ ap (λ f. (all_undone is t f).creator) (sym (eqb-true f e here)) ∙ same_creator is t f)
-    (λ apart. ap (λ b. (cond b (record (all_undone is t e) { dropper = 0 }) (all_undone is t f)).creator) apart ∙ same_creator is t f)
+same_creator is t f = same_part (λ (u : Title). u.creator) (λ u. refl) (λ u. refl) is t f
+
+pub same_name_undone : (is : List SlogItem) (t : ℕ → Title) (f : ℕ) → (all_undone is t f).name ≡ (t f).name
+same_name_undone is t f = same_part (λ (u : Title). u.name) (λ u. refl) (λ u. refl) is t f
 
 pub same_dropper : (is : List SlogItem) (t : ℕ → Title) (f : ℕ) → ((all_undone is t f).dropper ≡ 0) ⊎ ((all_undone is t f).dropper ≡ (t f).dropper)
 same_dropper [] t f = inr refl
@@ -129,14 +138,3 @@ pub behind_more : (old new : ℕ → Bool) (area : Area) → ((y : ℕ) → old 
 behind_more old new area more behind e at used =
     let was = behind e at used in
     (was.0, all_each {P = λ (w : RowVersion). old w.0 ≡ true} {Q = λ (w : RowVersion). new w.0 ≡ true} (drop 1 (chain_of area.older (area.slot at))) (λ w is. more w.0 is) was.1)
-
-pub same_name_undone : (is : List SlogItem) (t : ℕ → Title) (f : ℕ) → (all_undone is t f).name ≡ (t f).name
-same_name_undone [] t f = refl
-same_name_undone (AllocOf x p ∷ is) t f = same_name_undone is t f
-same_name_undone (FreeOf p ∷ is) t f = same_name_undone is t f
-same_name_undone (CreateOf x e ∷ is) t f = known (f == e)
-    (λ here. ap (λ b. (cond b (record (all_undone is t e) { state = 2 }) (all_undone is t f)).name) here ∙ ap (λ f. (all_undone is t f).name) (sym (eqb-true f e here)) ∙ same_name_undone is t f)
-    (λ apart. ap (λ b. (cond b (record (all_undone is t e) { state = 2 }) (all_undone is t f)).name) apart ∙ same_name_undone is t f)
-same_name_undone (DropOf x e ∷ is) t f = known (f == e)
-    (λ here. ap (λ b. (cond b (record (all_undone is t e) { dropper = 0 }) (all_undone is t f)).name) here ∙ ap (λ f. (all_undone is t f).name) (sym (eqb-true f e here)) ∙ same_name_undone is t f)
-    (λ apart. ap (λ b. (cond b (record (all_undone is t e) { dropper = 0 }) (all_undone is t f)).name) apart ∙ same_name_undone is t f)

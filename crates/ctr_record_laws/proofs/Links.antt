@@ -19,7 +19,7 @@ use Rattle.ctr_records.specs.declared.record.SlogItem.{SlogItem}
 use Rattle.ctr_records.specs.declared.record.SlogItem.TheVariants.{AllocOf}
 use Rattle.ctr_record_laws.proofs.Ends.{front_chain, front_ends, front_places, set_count, set_among, one_among, bucket_chain, buckets_with}
 use Rattle.ctr_record_laws.proofs.Few.{item_fine, short_bucket, short_versions}
-use Rattle.ctr_record_laws.proofs.Firsts.{firsts_readable, firsts_behind, firsts_keys, firsts_pointers, firsts_below, firsts_counts, pages_of_firsts, pages_moved, firsts_owned, AreGoodFirsts}
+use Rattle.ctr_record_laws.proofs.Firsts.{firsts_readable, firsts_behind, firsts_keys, firsts_pointers, firsts_below, firsts_counts, pages_of_firsts, owned_moved, firsts_owned, AreGoodFirsts}
 use Rattle.ctr_record_laws.proofs.Format.{allocation_is, item_page}
 use Rattle.ctr_record_laws.proofs.Items.{taken_out, IsWithOne}
 use Rattle.ctr_record_laws.proofs.Named.{alloc_of_page, named_same, shorter_same, items_up}
@@ -68,18 +68,11 @@ module _ (counted : ℕ) (tables : Tables) (area : Area) (x p e : ℕ) (few : co
   module _ (t : Firsts) (good : AreGoodFirsts area e t tables)
       (moved : (q : ℕ) → how_many (λ r. r == q) (pages_of_firsts area e t t) + 0 ≡ how_many (λ r. r == q) (table_pages area e) + bit (p == q)) where
     same_count : (q : ℕ) → how_many (λ r. r == q) (owned_pages items_now (with_firsts e t area)) ≡ how_many (λ r. r == q) (owned_pages tables.items area)
-    same_count q =
-        let new_tables = flat_map (table_pages (with_firsts e t area)) entry_numbers in
-        let old_tables = flat_map (table_pages area) entry_numbers in
-        all (how_many (λ r. r == q) new_tables) (how_many (λ r. r == q) old_tables) (how_many (λ r. r == q) (flat_map page_of_item items_now)) (how_many (λ r. r == q) (owned_pages items_now area))
-        (how_many (λ r. r == q) (owned_pages items_now (with_firsts e t area))) (how_many (λ r. r == q) (owned_pages tables.items area)) (bit (p == q))
-        (pages_moved area e t (λ r. r == q) (bit (p == q)) 0 (moved q) inside)
-        (count_append (λ r. r == q) old_tables (flat_map page_of_item items_now))
-        (count_append (λ r. r == q) new_tables (flat_map page_of_item items_now))
-        (owned_with (λ r. r == q) area (AllocOf x p) items_now tables.items one)
+    same_count q = owned_moved area e t items_now q (bit (p == q)) 0 (how_many (λ r. r == q) (owned_pages tables.items area)) inside (moved q)
+        (turned (how_many (λ r. r == q) (owned_pages items_now area)) (how_many (λ r. r == q) (owned_pages tables.items area)) (bit (p == q)) (owned_with (λ r. r == q) area (AllocOf x p) items_now tables.items one))
       where
-        all : (tn to i oi on oo b : ℕ) → tn + 0 ≡ to + b → oi ≡ to + i → on ≡ tn + i → oo ≡ oi + (b + 0) → on ≡ oo
-        all tn to i oi on oo b one two three four = omega (arith, one, two, three, four)
+        turned : (a b c : ℕ) → b ≡ a + (c + 0) → a + c ≡ b + 0
+        turned a b c is = omega (arith, is)
 
     pub linked_sound : IsSoundArea counted (without_item (Allocation x p) tables) (with_firsts e t area)
     linked_sound = record {

@@ -9,7 +9,7 @@ use Rattle.ctr_area.specs.Areas.{Area}
 use Rattle.ctr_area.specs.Chains.{table_pages}
 use Rattle.ctr_area.specs.Changes.{with_taken}
 use Rattle.ctr_area.specs.Images.{is_committed_in, entry_numbers}
-use Rattle.ctr_area.specs.Sound.{IsAmong, how_many, xids_in, page_of_item, owned_pages, IsSoundArea}
+use Rattle.ctr_area.specs.Sound.{IsAmong, how_many, xids_in, page_of_item, owned_pages, AreOwned, AreNamed, IsSoundArea}
 use Rattle.ctr_meta.specs.Effects.{with_item, without_item}
 use Rattle.ctr_meta.specs.Items.{is_wanted, left_out}
 use Rattle.ctr_meta.specs.Tables.{Tables}
@@ -80,6 +80,20 @@ by_of_item (FreeOf p) = 0
 by_of_item (CreateOf x e) = x
 by_of_item (DropOf x e) = x
 
+-- one page is taken or free, and the items are others
+taken_sound : (counted : ℕ) (tables : Tables) (area : Area) (p : ℕ) (taken : Bool) (items : List SlogItem) → IsSoundArea counted tables area
+    → AreOwned counted (xids_in tables.opens) items (with_taken p taken area) → AreNamed (is_committed_in tables) (xids_in tables.opens) items area.title → IsSoundArea counted (record tables { items = items }) (with_taken p taken area)
+taken_sound counted tables area p taken items sound owned names = record {
+  readable = record { rows = sound.readable.rows; versions = sound.readable.versions };
+  behind = sound.behind;
+  counts = sound.counts;
+  owned = owned;
+  keys = record { once = sound.keys.once; bucket = sound.keys.bucket };
+  pointers = record { lead = sound.pointers.lead; apart = sound.pointers.apart };
+  names = names;
+  below = record { slots = sound.below.slots; older = sound.below.older; entries = sound.below.entries; drawn = sound.below.drawn; once = sound.below.once };
+}
+
 -- ---- an Alloc
 
 module _ (counted : ℕ) (tables : Tables) (area : Area) (x p : ℕ) (sound : IsSoundArea counted tables area) (owed : OwedByAlloc counted tables area x p) where
@@ -142,23 +156,16 @@ module _ (counted : ℕ) (tables : Tables) (area : Area) (x p : ℕ) (sound : Is
   its_live z is = subst (λ y. IsAmong y live) (sym (ap by_of_item is)) (in_among x tables.opens owed.is_open)
 
   pub alloc_sound : IsSoundArea counted (with_item i tables) after
-  alloc_sound = record {
-    readable = record { rows = sound.readable.rows; versions = sound.readable.versions };
-    behind = sound.behind;
-    counts = sound.counts;
-    owned = record {
-      once = alloc_once;
-      inside = all_of Fine (owned_pages more area) fine;
-      uncounted = alloc_uncounted;
-      allocs = λ y q in_. ⊎_elim (λ is. its_live (AllocOf y q) is) (λ was. sound.owned.allocs y q (subst (IsAmong (AllocOf y q)) (append-nil tables.items) was)) (or_the_one (AllocOf y q) i tables.items [] in_);
-      creates = λ y e in_. sound.owned.creates y e (items_down area.title i tables.items more one (alloc_of_page x p) (CreateOf y e) ((alloc_of_page x p).no_create y e) in_);
-      drops = λ y e in_. sound.owned.drops y e (items_down area.title i tables.items more one (alloc_of_page x p) (DropOf y e) ((alloc_of_page x p).no_drop y e) in_);
-    };
-    keys = record { once = sound.keys.once; bucket = sound.keys.bucket };
-    pointers = record { lead = sound.pointers.lead; apart = sound.pointers.apart };
-    names = named_same (is_committed_in tables) live area.title tables.items more (longer_same area.title i tables.items more one (alloc_of_page x p)) sound.names;
-    below = record { slots = sound.below.slots; older = sound.below.older; entries = sound.below.entries; drawn = sound.below.drawn; once = sound.below.once };
-  }
+  alloc_sound = taken_sound counted tables area p true more sound
+      (record {
+        once = alloc_once;
+        inside = all_of Fine (owned_pages more area) fine;
+        uncounted = alloc_uncounted;
+        allocs = λ y q in_. ⊎_elim (λ is. its_live (AllocOf y q) is) (λ was. sound.owned.allocs y q (subst (IsAmong (AllocOf y q)) (append-nil tables.items) was)) (or_the_one (AllocOf y q) i tables.items [] in_);
+        creates = λ y e in_. sound.owned.creates y e (items_down area.title i tables.items more one (alloc_of_page x p) (CreateOf y e) ((alloc_of_page x p).no_create y e) in_);
+        drops = λ y e in_. sound.owned.drops y e (items_down area.title i tables.items more one (alloc_of_page x p) (DropOf y e) ((alloc_of_page x p).no_drop y e) in_);
+      })
+      (named_same (is_committed_in tables) live area.title tables.items more (longer_same area.title i tables.items more one (alloc_of_page x p)) sound.names)
 
 -- ---- a Free
 
@@ -216,20 +223,13 @@ module _ (counted : ℕ) (tables : Tables) (area : Area) (p : ℕ) (sound : IsSo
   back_in z in_ = items_up area.title gone.0 less tables.items gone.2 page.1 z in_
 
   pub free_sound : IsSoundArea counted (without_item (OfPage p) tables) freed
-  free_sound = record {
-    readable = record { rows = sound.readable.rows; versions = sound.readable.versions };
-    behind = sound.behind;
-    counts = sound.counts;
-    owned = record {
-      once = free_once;
-      inside = all_of (λ q. (3 ≤ q) × (q < counted) × (freed.taken q ≡ true)) (owned_pages less area) still_fine;
-      uncounted = λ q le. known (q == p) (λ is. ap (λ b. cond b false (area.taken q)) is) (λ isnt. ap (λ b. cond b false (area.taken q)) isnt ∙ sound.owned.uncounted q le);
-      allocs = λ y q in_. sound.owned.allocs y q (back_in (AllocOf y q) in_);
-      creates = λ y e in_. sound.owned.creates y e (back_in (CreateOf y e) in_);
-      drops = λ y e in_. sound.owned.drops y e (back_in (DropOf y e) in_);
-    };
-    keys = record { once = sound.keys.once; bucket = sound.keys.bucket };
-    pointers = record { lead = sound.pointers.lead; apart = sound.pointers.apart };
-    names = named_same (is_committed_in tables) (xids_in tables.opens) area.title tables.items less (shorter_same area.title gone.0 less tables.items gone.2 page.1) sound.names;
-    below = record { slots = sound.below.slots; older = sound.below.older; entries = sound.below.entries; drawn = sound.below.drawn; once = sound.below.once };
-  }
+  free_sound = taken_sound counted tables area p false less sound
+      (record {
+        once = free_once;
+        inside = all_of (λ q. (3 ≤ q) × (q < counted) × (freed.taken q ≡ true)) (owned_pages less area) still_fine;
+        uncounted = λ q le. known (q == p) (λ is. ap (λ b. cond b false (area.taken q)) is) (λ isnt. ap (λ b. cond b false (area.taken q)) isnt ∙ sound.owned.uncounted q le);
+        allocs = λ y q in_. sound.owned.allocs y q (back_in (AllocOf y q) in_);
+        creates = λ y e in_. sound.owned.creates y e (back_in (CreateOf y e) in_);
+        drops = λ y e in_. sound.owned.drops y e (back_in (DropOf y e) in_);
+      })
+      (named_same (is_committed_in tables) (xids_in tables.opens) area.title tables.items less (shorter_same area.title gone.0 less tables.items gone.2 page.1) sound.names)

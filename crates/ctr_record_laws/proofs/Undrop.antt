@@ -15,7 +15,7 @@ use Rattle.ctr_record_laws.proofs.Members.{bit}
 use Rattle.ctr_records.specs.declared.record.SlogItem.{SlogItem}
 use Rattle.ctr_records.specs.declared.record.SlogItem.TheVariants.{AllocOf, FreeOf, CreateOf, DropOf}
 use Rattle.ctr_record_laws.proofs.Items.{the_one, taken_out, up_one, down_one, count_one, it_is_in, any_there, IsWithOne}
-use Rattle.ctr_record_laws.proofs.Latest.{entry_of_item, create_isnt_drop, own_undone, others_same, owned_less, by_title, title_here, title_apart, titled_sound, live_below, live_open, unseen_drop}
+use Rattle.ctr_record_laws.proofs.Latest.{entry_of_item, create_isnt_drop, own_undone, others_same, owned_less, by_title, title_here, title_apart, titled_sound, others_apart, live_below, live_open, unseen_drop}
 use Rattle.ctr_record_laws.proofs.Named.{cut_with}
 use Rattle.ctr_record_laws.proofs.Undone.{undone_at, undone_apart, one_of_from, filter_among, drop_among, counted_member}
 use Rattle.ctr_record_laws.specs.Owed.{OwedByUndrop}
@@ -99,13 +99,6 @@ module _ (counted : ℕ) (tables : Tables) (area : Area) (x e : ℕ) (sound : Is
       (and_parts (committed (area.title e).creator || ((area.title e).creator == y)) (not (committed 0 || (0 == y))) counts).0
       (ap (λ d. not (committed d || (d == y))) dropper_is ∙ unseen_drop committed y x (live_open counted tables area sound x x_live) apart)
 
-  -- nor does another have an item of it
-  others_apart : (y : ℕ) → (x ≡ y → ⊥) → (z : SlogItem) → IsAmong z items → is_item_by y z ≡ true → ((w : ℕ) → z ≡ CreateOf w e → ⊥) × ((w : ℕ) → z ≡ DropOf w e → ⊥)
-  others_apart y apart z in_ by_y = (
-    (λ w is. apart (sound.names.of_one x w e e (inr in_items) (inl (subst (λ z. IsAmong z items) is in_)) refl ∙ eqb-true w y (sym (ap (is_item_by y) is) ∙ by_y))),
-    (λ w is. apart (sound.names.of_one x w e e (inr in_items) (inr (subst (λ z. IsAmong z items) is in_)) refl ∙ eqb-true w y (sym (ap (is_item_by y) is) ∙ by_y))),
-  )
-
   names : AreNamed committed live less after.title
   names = record {
     creators = λ f lt alive. subst (λ y. (committed y ≡ true) ⊎ (IsAmong y live × IsAmong (CreateOf y f) less)) (sym (same_creator f))
@@ -161,7 +154,7 @@ module _ (counted : ℕ) (tables : Tables) (area : Area) (x e : ℕ) (sound : Is
           let D = drop k (filter (is_item_by y) less) in
           let same_list : (g : ℕ) → all_undone (drop k (filter (is_item_by y) items)) area.title g ≡ all_undone D area.title g = λ g. ap (λ l. all_undone (drop k l) area.title g) same_items in
           let none : (z : SlogItem) → IsAmong z D → ((w : ℕ) → z ≡ CreateOf w e → ⊥) × ((w : ℕ) → z ≡ DropOf w e → ⊥) =
-          λ z in_. let by_y = filter_among (is_item_by y) z less (drop_among z k (filter (is_item_by y) less) in_) in others_apart y apart z (was_in z by_y.0) by_y.1 in
+          λ z in_. let by_y = filter_among (is_item_by y) z less (drop_among z k (filter (is_item_by y) less) in_) in others_apart x e items (λ w in_. sound.names.of_one x w e e (inr in_items) in_ refl) y apart z (was_in z by_y.0) by_y.1 in
           let here_now : all_undone D after.title e ≡ undropped = undone_apart D after.title e (λ w in_. (none (CreateOf w e) in_).0 w refl) (λ w in_. (none (DropOf w e) in_).1 w refl) ∙ title_here area e undropped in
           let here_was : all_undone D area.title e ≡ area.title e = undone_apart D area.title e (λ w in_. (none (CreateOf w e) in_).0 w refl) (λ w in_. (none (DropOf w e) in_).1 w refl) in
           known (f == e)

@@ -19,7 +19,7 @@ use Rattle.ctr_page.specs.declared.rows.Place.{Place}
 use Rattle.ctr_records.specs.declared.record.SlogItem.{SlogItem}
 use Rattle.ctr_records.specs.declared.record.SlogItem.TheVariants.{FreeOf}
 use Rattle.ctr_record_laws.proofs.Ends.{behind_chain, front_places, set_count, set_among, one_among, bucket_chain, buckets_with}
-use Rattle.ctr_record_laws.proofs.Firsts.{firsts_readable, firsts_behind, firsts_keys, firsts_pointers, firsts_below, firsts_counts, pages_of_firsts, pages_moved, firsts_owned, AreGoodFirsts}
+use Rattle.ctr_record_laws.proofs.Firsts.{firsts_readable, firsts_behind, firsts_keys, firsts_pointers, firsts_below, firsts_counts, pages_of_firsts, owned_moved, firsts_owned, AreGoodFirsts}
 use Rattle.ctr_record_laws.proofs.Items.{or_the_one, added, IsWithOne}
 use Rattle.ctr_record_laws.proofs.Links.{none_pass}
 use Rattle.ctr_record_laws.proofs.Named.{free_of_page, named_same, longer_same}
@@ -46,18 +46,11 @@ module _ (counted : ℕ) (tables : Tables) (area : Area) (p e : ℕ) (sound : Is
   module _ (t : Firsts) (good : AreGoodFirsts area e t tables)
       (moved : (q : ℕ) → how_many (λ r. r == q) (pages_of_firsts area e t t) + bit (p == q) ≡ how_many (λ r. r == q) (table_pages area e) + 0) where
     same_count : (q : ℕ) → how_many (λ r. r == q) (owned_pages items_now (with_firsts e t area)) ≡ how_many (λ r. r == q) (owned_pages tables.items area)
-    same_count q =
-        let new_tables = flat_map (table_pages (with_firsts e t area)) entry_numbers in
-        let old_tables = flat_map (table_pages area) entry_numbers in
-        all (how_many (λ r. r == q) new_tables) (how_many (λ r. r == q) old_tables) (how_many (λ r. r == q) (flat_map page_of_item items_now)) (how_many (λ r. r == q) (owned_pages items_now area))
-        (how_many (λ r. r == q) (owned_pages items_now (with_firsts e t area))) (how_many (λ r. r == q) (owned_pages tables.items area)) (bit (p == q))
-        (pages_moved area e t (λ r. r == q) 0 (bit (p == q)) (moved q) inside)
-        (count_append (λ r. r == q) old_tables (flat_map page_of_item items_now))
-        (count_append (λ r. r == q) new_tables (flat_map page_of_item items_now))
-        (owned_with (λ r. r == q) area (FreeOf p) tables.items items_now one)
+    same_count q = owned_moved area e t items_now q 0 (bit (p == q)) (how_many (λ r. r == q) (owned_pages tables.items area)) inside (moved q)
+        (turned (how_many (λ r. r == q) (owned_pages items_now area)) (how_many (λ r. r == q) (owned_pages tables.items area)) (bit (p == q)) (owned_with (λ r. r == q) area (FreeOf p) tables.items items_now one))
       where
-        all : (tn to i oi on oo b : ℕ) → tn + b ≡ to + 0 → oi ≡ to + i → on ≡ tn + i → oi ≡ oo + (b + 0) → on ≡ oo
-        all tn to i oi on oo b one two three four = omega (arith, one, two, three, four)
+        turned : (a b c : ℕ) → a ≡ b + (c + 0) → a + 0 ≡ b + c
+        turned a b c is = omega (arith, is)
 
     pub unlinked_sound : IsSoundArea counted (with_item (FreeOf p) tables) (with_firsts e t area)
     unlinked_sound = record {
