@@ -13,7 +13,7 @@ use Rattle.ctr_page.specs.declared.rows.Place.{Place}
 use Rattle.ctr_page.specs.declared.rows.RowSlot.{RowSlot}
 use Rattle.ctr_page.specs.declared.rows.VersionEntry.{VersionEntry}
 use Rattle.ctr_page.specs.Places.{slot_size, kept_size, room_for, start_of}
-use Rattle.ctr_page.specs.Reading.{piece, put_over, header_in, slot_at, older_at}
+use Rattle.ctr_page.specs.Reading.{piece, put_over, header_in, slot_in, older_in}
 use Rattle.ctr_page.specs.Making.{header_bytes, IsHeader}
 use Rattle.ctr_page.specs.Columns.{entry_in, columns_in}
 use Rattle.ctr_page.proofs.Back.{header_back, length-more}
@@ -102,31 +102,23 @@ module _ (pages : ℕ → List ℕ) (p : ℕ) (h : Header) (third : 3 ≤ p) (fi
       sym (got_byte 0 (piece start size blank)) ∙ byte_in_piece start size blank some
       ∙ byte_after start 0 (header_bytes h) (replicate 4096 0) (omega (arith, length-header h, behind)) (omega arith) ∙ zero_at 4096 start
 
-  slot_here : (q : Place) → q.page ≡ p → (area_of after).slot q ≡ free_slot
-  slot_here q is = known ((header_on after q.page).kind == 1)
-      (λ rows. ap (λ b. cond b (slot_said cs (slot_at w q.slot (after q.page))) free_slot) rows
-      ∙ unused_slot cs (slot_at w q.slot (after q.page))
-      (ap (λ bytes. field 1 0 (piece (start_of (slot_size w) q.slot) (slot_size w) bytes)) (ap after is ∙ page_here) ∙ zero_used (start_of (slot_size w) q.slot) (slot_size w) (omega arith) (omega arith)))
-      (λ others. ap (λ b. cond b (slot_said cs (slot_at w q.slot (after q.page))) free_slot) others)
-    where
-      cs : List Column
-      cs = columns_on after q.page
+  -- what is read of a place on the page, where it stands on pages of a kind and none is in use
+  read_here : {A : Type 0} (kind size : ℕ) (said : List ℕ → A) (free : A) (q : Place) → q.page ≡ p → 0 < size → ((bytes : List ℕ) → field 1 0 bytes ≡ 0 → said bytes ≡ free)
+      → cond ((header_on after q.page).kind == kind) (said (piece (start_of size q.slot) size (after q.page))) free ≡ free
+  read_here kind size said free q is some unused = known ((header_on after q.page).kind == kind)
+      (λ here. ap (λ b. cond b (said (piece (start_of size q.slot) size (after q.page))) free) here
+      ∙ unused (piece (start_of size q.slot) size (after q.page)) (ap (λ bytes. field 1 0 (piece (start_of size q.slot) size bytes)) (ap after is ∙ page_here) ∙ zero_used (start_of size q.slot) size (omega arith) some))
+      (λ others. ap (λ b. cond b (said (piece (start_of size q.slot) size (after q.page))) free) others)
 
-      w : ℕ
-      w = width_on after q.page
+  slot_here : (q : Place) → q.page ≡ p → (area_of after).slot q ≡ free_slot
+  slot_here q is =
+      let said : List ℕ → Slot = λ bytes. slot_said (columns_on after q.page) (slot_in (width_on after q.page) bytes) in
+      read_here 1 (slot_size (width_on after q.page)) said free_slot q is (omega arith) (λ bytes zero. unused_slot (columns_on after q.page) (slot_in (width_on after q.page) bytes) zero)
 
   older_here : (q : Place) → q.page ≡ p → (area_of after).older q ≡ free_older
-  older_here q is = known ((header_on after q.page).kind == 2)
-      (λ versions. ap (λ b. cond b (older_said cs (older_at w q.slot (after q.page))) free_older) versions
-      ∙ unused_older cs (older_at w q.slot (after q.page))
-      (ap (λ bytes. field 1 0 (piece (start_of (kept_size w) q.slot) (kept_size w) bytes)) (ap after is ∙ page_here) ∙ zero_used (start_of (kept_size w) q.slot) (kept_size w) (omega arith) (omega arith)))
-      (λ others. ap (λ b. cond b (older_said cs (older_at w q.slot (after q.page))) free_older) others)
-    where
-      cs : List Column
-      cs = columns_on after q.page
-
-      w : ℕ
-      w = width_on after q.page
+  older_here q is =
+      let said : List ℕ → Older = λ bytes. older_said (columns_on after q.page) (older_in (width_on after q.page) bytes) in
+      read_here 2 (kept_size (width_on after q.page)) said free_older q is (omega arith) (λ bytes zero. unused_older (columns_on after q.page) (older_in (width_on after q.page) bytes) zero)
 
   pub page_cleared : area_of after ≡ with_blank p h (area_of pages)
   page_cleared = λ i. record {

@@ -120,6 +120,12 @@ one_of_eight (suc (suc (suc (suc (suc (suc (suc (suc b)))))))) p x0 x1 x2 x3 x4 
 
 -- ---- in the area
 
+-- what is set to what it is stays
+set_to_itself : {A : Type 0} (e : ℕ) (x : ℕ → A) (f : ℕ) → cond (f == e) (x e) (x f) ≡ x f
+set_to_itself e x f = known (f == e)
+    (λ is. ap (λ b. cond b (x e) (x f)) is ∙ ap x (sym (eqb-true f e is)))
+    (λ isnt. ap (λ b. cond b (x e) (x f)) isnt)
+
 module _ (pages : ℕ → List ℕ) (e : ℕ) (few : e < 32) (whole : 256 * (e % 16) + 256 ≤ length (pages (1 + e / 16))) where
   abbrev old : List ℕ
   old = entry_bytes pages e
@@ -151,12 +157,7 @@ module _ (pages : ℕ → List ℕ) (e : ℕ) (few : e < 32) (whole : 256 * (e %
 
   -- chains or a title that are set to what they are
   firsts_stay : (title : Title) → with_firsts e (area.firsts e) (with_title e title area) ≡ with_title e title area
-  firsts_stay title = λ i. record (with_title e title area) { firsts = λ f. same f i }
-    where
-      same : (f : ℕ) → cond (f == e) (area.firsts e) (area.firsts f) ≡ area.firsts f
-      same f = known (f == e)
-          (λ is. ap (λ b. cond b (area.firsts e) (area.firsts f)) is ∙ ap area.firsts (sym (eqb-true f e is)))
-          (λ isnt. ap (λ b. cond b (area.firsts e) (area.firsts f)) isnt)
+  firsts_stay title = λ i. record (with_title e title area) { firsts = λ f. set_to_itself e area.firsts f i }
 
   pub dropper_written : (x : ℕ) → x < 256 ^ 8 → area_of (with_in_entry e 9 (spelled 8 x) pages) ≡ with_title e (record (area.title e) { dropper = x }) area
   dropper_written x drawn =
@@ -192,12 +193,7 @@ module _ (pages : ℕ → List ℕ) (e : ℕ) (few : e < 32) (whole : 256 * (e %
   -- ---- the first page of a chain
 
   title_stays : (firsts : Firsts) → with_firsts e firsts (with_title e (area.title e) area) ≡ with_firsts e firsts area
-  title_stays firsts = λ i. record (with_firsts e firsts area) { title = λ f. same f i }
-    where
-      same : (f : ℕ) → cond (f == e) (area.title e) (area.title f) ≡ area.title f
-      same f = known (f == e)
-          (λ is. ap (λ b. cond b (area.title e) (area.title f)) is ∙ ap area.title (sym (eqb-true f e is)))
-          (λ isnt. ap (λ b. cond b (area.title e) (area.title f)) isnt)
+  title_stays firsts = λ i. record (with_firsts e firsts area) { title = λ f. set_to_itself e area.title f i }
 
   module _ (k p : ℕ) (from_on : 179 ≤ k) (within : k + 4 ≤ 256) (small : p < 256 ^ 4) (used : (area.title e).state ≢ 0) (fit : PartsHaveRoom old) where
     abbrev new : List ℕ

@@ -141,17 +141,23 @@ module _ (pages : ℕ → List ℕ) (at : Place) (new : List ℕ) (third : 3 ≤
   same_at : {A : Type 0} (q : Place) (f old : Place → A) → f at ≡ old at → (same_place q at ≡ false → f q ≡ old q) → f q ≡ old q
   same_at q f old there elsewhere = known (same_place q at) (λ is. subst (λ p. f p ≡ old p) (sym (same_place_is q at is)) there) elsewhere
 
-  -- on a page of rows
-  pub slot_written : (header_on pages at.page).kind ≡ 1 → area_of after ≡ with_slot at (slot_said (columns_on pages at.page) (slot_in (width_on pages at.page) new)) (area_of pages)
-  slot_written rows = λ i. record {
+  -- the area, where only the slots and the version entries are others
+  with_places : (slots : Place → Slot) (older : Place → Older) → ((q : Place) → (area_of after).slot q ≡ slots q) → ((q : Place) → (area_of after).older q ≡ older q) → area_of after ≡ record (area_of pages) { slot = slots; older = older }
+  with_places slots older same_slots same_older = λ i. record {
     title = λ e. title_of (entry_in (same_entry e i));
     firsts = λ e. firsts_of (entry_in (same_entry e i));
     taken = λ p. is_taken p (page_apart 0 (λ is. omega (arith, third, is)) i);
     header = λ q. same_header q i;
     room = λ q. room_for (same_size q i);
-    slot = λ q. by_place q (slot_by at new) (area_of after).slot (area_of pages).slot there (slot_apart q) i;
-    older = λ q. same_at q (area_of after).older (area_of pages).older none (older_apart q) i;
+    slot = λ q. same_slots q i;
+    older = λ q. same_older q i;
   }
+
+  -- on a page of rows
+  pub slot_written : (header_on pages at.page).kind ≡ 1 → area_of after ≡ with_slot at (slot_said (columns_on pages at.page) (slot_in (width_on pages at.page) new)) (area_of pages)
+  slot_written rows = with_places (λ q. cond (same_place q at) (slot_by at new) ((area_of pages).slot q)) (area_of pages).older
+      (λ q. by_place q (slot_by at new) (area_of after).slot (area_of pages).slot there (slot_apart q))
+      (λ q. same_at q (area_of after).older (area_of pages).older none (older_apart q))
     where
       one : ((header_on pages at.page).kind == 1) ≡ true
       one = eq-eqb (header_on pages at.page).kind 1 rows
@@ -170,15 +176,9 @@ module _ (pages : ℕ → List ℕ) (at : Place) (new : List ℕ) (third : 3 ≤
 
   -- on a page of versions
   pub older_written : (header_on pages at.page).kind ≡ 2 → area_of after ≡ with_older at (older_said (columns_on pages at.page) (older_in (width_on pages at.page) new)) (area_of pages)
-  older_written versions = λ i. record {
-    title = λ e. title_of (entry_in (same_entry e i));
-    firsts = λ e. firsts_of (entry_in (same_entry e i));
-    taken = λ p. is_taken p (page_apart 0 (λ is. omega (arith, third, is)) i);
-    header = λ q. same_header q i;
-    room = λ q. room_for (same_size q i);
-    slot = λ q. same_at q (area_of after).slot (area_of pages).slot none (slot_apart q) i;
-    older = λ q. by_place q (older_by at new) (area_of after).older (area_of pages).older there (older_apart q) i;
-  }
+  older_written versions = with_places (area_of pages).slot (λ q. cond (same_place q at) (older_by at new) ((area_of pages).older q))
+      (λ q. same_at q (area_of after).slot (area_of pages).slot none (slot_apart q))
+      (λ q. by_place q (older_by at new) (area_of after).older (area_of pages).older there (older_apart q))
     where
       one : ((header_on pages at.page).kind == 1) ≡ false
       one = ne_eqb (header_on pages at.page).kind 1 (λ is. omega (arith, is, versions))
