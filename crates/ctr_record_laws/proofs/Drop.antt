@@ -17,7 +17,7 @@ use Rattle.ctr_record_laws.proofs.Xids.{in_among}
 use Rattle.ctr_records.specs.declared.record.SlogItem.{SlogItem}
 use Rattle.ctr_records.specs.declared.record.SlogItem.TheVariants.{AllocOf, FreeOf, CreateOf, DropOf}
 use Rattle.ctr_record_laws.proofs.Items.{added, up_one, down_one, count_one, it_is_in, IsWithOne}
-use Rattle.ctr_record_laws.proofs.Latest.{entry_of_item, xid_of_item, create_isnt_drop, owned_and_one, by_title, title_here, title_apart, titled_sound, others_apart, live_below, live_some, live_open, unseen_drop}
+use Rattle.ctr_record_laws.proofs.Latest.{entry_of_item, xid_of_item, create_isnt_drop, owned_and_one, by_title, title_here, title_apart, titled_sound, dropper_alone, others_apart, live_below, live_some, live_open, unseen_drop}
 use Rattle.ctr_record_laws.proofs.Undone.{undone_at, undone_apart, undone_last, one_of_from, filter_apart, filter_there, filter_among, drop_among, last_dropped, cut_end, uncounted}
 use Rattle.ctr_record_laws.specs.Owed.{OwedByDrop}
 use Rattle.ctr_versions.proofs.Keys.{known}
@@ -63,15 +63,6 @@ module _ (counted : ℕ) (tables : Tables) (area : Area) (x e : ℕ) (sound : Is
       zero_ : (y : ℕ) → 0 < y → y ≡ 0 → ⊥
       zero_ y lt is = omega (arith, lt, is)
 
-  same_live : (f : ℕ) → is_live (after.title f) ≡ is_live (area.title f)
-  same_live = by_title area e dropped (λ f u. is_live u ≡ is_live (area.title f)) refl (λ f apart. refl)
-
-  same_name_at : (f : ℕ) → (after.title f).name ≡ (area.title f).name
-  same_name_at = by_title area e dropped (λ f u. u.name ≡ (area.title f).name) refl (λ f apart. refl)
-
-  same_creator : (f : ℕ) → (after.title f).creator ≡ (area.title f).creator
-  same_creator = by_title area e dropped (λ f u. u.creator ≡ (area.title f).creator) refl (λ f apart. refl)
-
   grown : (z : SlogItem) → IsAmong z items → IsAmong z more
   grown = up_one i items more one
 
@@ -93,11 +84,11 @@ module _ (counted : ℕ) (tables : Tables) (area : Area) (x e : ℕ) (sound : Is
 
   names : AreNamed committed live more after.title
   names = record {
-    creators = λ f lt alive. subst (λ y. (committed y ≡ true) ⊎ (IsAmong y live × IsAmong (CreateOf y f) more)) (sym (same_creator f))
-        (⊎_elim (λ c. inl c) (λ open_. inr (open_.0, grown (CreateOf (area.title f).creator f) open_.1)) (sound.names.creators f lt (sym (same_live f) ∙ alive)));
+    creators = λ f lt alive. subst (λ y. (committed y ≡ true) ⊎ (IsAmong y live × IsAmong (CreateOf y f) more)) (sym (dropper_alone area e x f).2)
+        (⊎_elim (λ c. inl c) (λ open_. inr (open_.0, grown (CreateOf (area.title f).creator f) open_.1)) (sound.names.creators f lt (sym (dropper_alone area e x f).0 ∙ alive)));
     droppers = λ f lt alive. by_title area e dropped (λ f u. (is_live (area.title f) ≡ true) × (f < 32) → (u.dropper ≡ 0) ⊎ ((committed u.dropper ≡ true) ⊎ (IsAmong u.dropper live × IsAmong (DropOf u.dropper f) more)))
         (λ its. inr (inr (x_live, it_is_in i items more one)))
-        (λ f apart its. ⊎_elim (λ z. inl z) (λ more_. inr (⊎_elim (λ c. inl c) (λ open_. inr (open_.0, grown (DropOf (area.title f).dropper f) open_.1)) more_)) (sound.names.droppers f its.1 its.0)) f (sym (same_live f) ∙ alive, lt);
+        (λ f apart its. ⊎_elim (λ z. inl z) (λ more_. inr (⊎_elim (λ c. inl c) (λ open_. inr (open_.0, grown (DropOf (area.title f).dropper f) open_.1)) more_)) (sound.names.droppers f its.1 its.0)) f (sym (dropper_alone area e x f).0 ∙ alive, lt);
     creates = λ y f in_. by_title area e dropped (λ f u. IsAmong (CreateOf y f) items → (is_live u ≡ true) × (u.creator ≡ y) × ((u.dropper ≡ 0) ⊎ (u.dropper ≡ y)))
         (λ was. let its = sound.names.creates y e was in (its.0, its.1, inr (sym (owed.alone y e (inl was) refl)))) (λ f apart was. sound.names.creates y f was) f
         (⊎_elim (λ is. absurd (create_isnt_drop y x f e is)) (λ was. was) (down_one i items more one (CreateOf y f) in_));
@@ -109,7 +100,7 @@ module _ (counted : ℕ) (tables : Tables) (area : Area) (x e : ℕ) (sound : Is
     once = λ f. let was = sound.names.once f in
         (subst (λ n. n ≤ 1) (sym (count_one (is_creation f) i items more one ∙ plain (how_many (is_creation f) items))) was.0, one_dropping f was.1);
     in_order = λ front rest y z f is in_. ⊎_elim (λ last. create_isnt_drop y x f e last.0) (λ cut_. sound.names.in_order front cut_.0 y z f cut_.1 in_) (cut_end i (CreateOf y f) items front rest is);
-    of_one = λ y z f g a b same_. same_owner y z f g a b (sym (same_name_at f) ∙ same_ ∙ same_name_at g);
+    of_one = λ y z f g a b same_. same_owner y z f g a b (sym (dropper_alone area e x f).1 ∙ same_ ∙ (dropper_alone area e x g).1);
     undoing = λ y k in_. known (x == y)
         (λ is. subst (λ y. IsOneOf (all_undone (drop k (filter (is_item_by y) more)) after.title) (stands_for committed y)) (eqb-true x y is) (own k))
         (λ isnt. let same_items : filter (is_item_by y) more ≡ filter (is_item_by y) items = filter_apart (is_item_by y) i items [] isnt ∙ ap (filter (is_item_by y)) (append-nil items) in
@@ -117,8 +108,8 @@ module _ (counted : ℕ) (tables : Tables) (area : Area) (x e : ℕ) (sound : Is
         (sound.names.undoing y k in_) (λ f lt alive counts. stood y k f (λ is. false≢true (sym isnt ∙ eq-eqb x y is)) (live_some counted tables area sound y in_) same_items alive counts));
     standing = one_of_from area.title after.title (is_standing committed) (is_standing committed) sound.names.standing
         (λ f lt alive counts. (
-          sym (same_live f) ∙ alive,
-          same_name_at f,
+          sym (dropper_alone area e x f).0 ∙ alive,
+          (dropper_alone area e x f).1,
           by_title area e dropped (λ f u. is_standing committed u ≡ true → is_standing committed (area.title f) ≡ true)
               (λ now. let parts = and_parts (is_live (area.title e)) (committed (area.title e).creator && not (committed x)) now in
               and_from (is_live (area.title e)) (committed (area.title e).creator && not (committed (area.title e).dropper)) parts.0

@@ -18,7 +18,7 @@ use Rattle.ctr_records.specs.declared.record.SlogItem.{SlogItem}
 use Rattle.ctr_records.specs.declared.record.SlogItem.TheVariants.{AllocOf, FreeOf, CreateOf, DropOf}
 use Rattle.ctr_record_laws.proofs.Items.{up_one, down_one, IsWithOne}
 use Rattle.ctr_record_laws.proofs.Named.{kind_of_item}
-use Rattle.ctr_record_laws.proofs.Owning.{all_of, owned_with, owned_either, owned_more}
+use Rattle.ctr_record_laws.proofs.Owning.{all_of, others_sound, owned_with, owned_either, owned_more}
 use Rattle.ctr_record_laws.proofs.Undone.{undone_last, filter_apart, filter_there, filter_append, filter_among, among_filter, drop_last, last_or_again}
 use Rattle.ctr_versions.proofs.Keys.{known}
 
@@ -142,22 +142,17 @@ module _ (area : Area) (e : ℕ) (u : Title) where
       → (u.creator < tables.next) × (u.dropper < tables.next) → AreOwned counted (xids_in tables.opens) new.items titled
       → AreNamed (is_committed_in tables) (xids_in tables.opens) new.items titled.title → IsSoundArea counted new titled
   titled_sound counted tables new next opens aborted sound below owned names =
-      subst (λ (t : Tables). IsSoundArea counted t titled) (λ i. record { next = sym next i; opens = sym opens i; aborted = sym aborted i; items = new.items }) (record {
-        readable = record { rows = sound.readable.rows; versions = sound.readable.versions };
-        behind = sound.behind;
-        counts = sound.counts;
-        owned = owned;
-        keys = record { once = sound.keys.once; bucket = sound.keys.bucket };
-        pointers = record { lead = sound.pointers.lead; apart = sound.pointers.apart };
-        names = names;
-        below = record {
-          slots = sound.below.slots;
-          older = sound.below.older;
-          entries = by_title (λ f v. (v.state ≡ 0) ⊎ ((v.creator < tables.next) × (v.dropper < tables.next))) (inr below) (λ f apart. sound.below.entries f);
-          drawn = sound.below.drawn;
-          once = sound.below.once;
-        };
-      })
+      subst (λ (t : Tables). IsSoundArea counted t titled) (λ i. record { next = sym next i; opens = sym opens i; aborted = sym aborted i; items = new.items })
+      (others_sound counted tables area titled.title area.taken new.items sound owned names
+      (by_title (λ f v. (v.state ≡ 0) ⊎ ((v.creator < tables.next) × (v.dropper < tables.next))) (inr below) (λ f apart. sound.below.entries f)))
+
+abbrev with_dropper : Area → ℕ → ℕ → ℕ → Title
+with_dropper area e d = (with_title e (record (area.title e) { dropper = d }) area).title
+
+-- an entry that has another dropper has what else it had
+pub dropper_alone : (area : Area) (e d f : ℕ) → (is_live (with_dropper area e d f) ≡ is_live (area.title f)) × ((with_dropper area e d f).name ≡ (area.title f).name) × ((with_dropper area e d f).creator ≡ (area.title f).creator)
+dropper_alone area e d f = by_title area e (record (area.title e) { dropper = d })
+    (λ g u. (is_live u ≡ is_live (area.title g)) × (u.name ≡ (area.title g).name) × (u.creator ≡ (area.title g).creator)) (refl, refl, refl) (λ g apart. (refl, refl, refl)) f
 
 -- the numbers of an entry that is live
 pub live_below : (next : ℕ) (u : Title) → is_live u ≡ true → (u.state ≡ 0) ⊎ ((u.creator < next) × (u.dropper < next)) → (u.creator < next) × (u.dropper < next)

@@ -5,7 +5,7 @@ use Rattle.std.proofs.lemmas.List.{append-nil}
 use Rattle.std.specs.List.{flat_map, AllByRecursion}
 use Rattle.std.specs.Prelude.{◌==◌}
 use Rattle.ctr_area.proofs.Buckets.{each_of}
-use Rattle.ctr_area.specs.Areas.{Area}
+use Rattle.ctr_area.specs.Areas.{Title, Area}
 use Rattle.ctr_area.specs.Chains.{table_pages}
 use Rattle.ctr_area.specs.Changes.{with_taken}
 use Rattle.ctr_area.specs.Images.{is_committed_in, entry_numbers}
@@ -80,10 +80,11 @@ by_of_item (FreeOf p) = 0
 by_of_item (CreateOf x e) = x
 by_of_item (DropOf x e) = x
 
--- one page is taken or free, and the items are others
-taken_sound : (counted : ℕ) (tables : Tables) (area : Area) (p : ℕ) (taken : Bool) (items : List SlogItem) → IsSoundArea counted tables area
-    → AreOwned counted (xids_in tables.opens) items (with_taken p taken area) → AreNamed (is_committed_in tables) (xids_in tables.opens) items area.title → IsSoundArea counted (record tables { items = items }) (with_taken p taken area)
-taken_sound counted tables area p taken items sound owned names = record {
+-- titles, pages that are taken, and items are others
+pub others_sound : (counted : ℕ) (tables : Tables) (area : Area) (title : ℕ → Title) (taken : ℕ → Bool) (items : List SlogItem) → IsSoundArea counted tables area
+    → AreOwned counted (xids_in tables.opens) items (record area { title = title; taken = taken }) → AreNamed (is_committed_in tables) (xids_in tables.opens) items title
+    → ((e : ℕ) → ((title e).state ≡ 0) ⊎ (((title e).creator < tables.next) × ((title e).dropper < tables.next))) → IsSoundArea counted (record tables { items = items }) (record area { title = title; taken = taken })
+others_sound counted tables area title taken items sound owned names entries = record {
   readable = record { rows = sound.readable.rows; versions = sound.readable.versions };
   behind = sound.behind;
   counts = sound.counts;
@@ -91,7 +92,7 @@ taken_sound counted tables area p taken items sound owned names = record {
   keys = record { once = sound.keys.once; bucket = sound.keys.bucket };
   pointers = record { lead = sound.pointers.lead; apart = sound.pointers.apart };
   names = names;
-  below = record { slots = sound.below.slots; older = sound.below.older; entries = sound.below.entries; drawn = sound.below.drawn; once = sound.below.once };
+  below = record { slots = sound.below.slots; older = sound.below.older; entries = entries; drawn = sound.below.drawn; once = sound.below.once };
 }
 
 -- ---- an Alloc
@@ -156,7 +157,7 @@ module _ (counted : ℕ) (tables : Tables) (area : Area) (x p : ℕ) (sound : Is
   its_live z is = subst (λ y. IsAmong y live) (sym (ap by_of_item is)) (in_among x tables.opens owed.is_open)
 
   pub alloc_sound : IsSoundArea counted (with_item i tables) after
-  alloc_sound = taken_sound counted tables area p true more sound
+  alloc_sound = others_sound counted tables area area.title after.taken more sound
       (record {
         once = alloc_once;
         inside = all_of Fine (owned_pages more area) fine;
@@ -165,7 +166,7 @@ module _ (counted : ℕ) (tables : Tables) (area : Area) (x p : ℕ) (sound : Is
         creates = λ y e in_. sound.owned.creates y e (items_down area.title i tables.items more one (alloc_of_page x p) (CreateOf y e) ((alloc_of_page x p).no_create y e) in_);
         drops = λ y e in_. sound.owned.drops y e (items_down area.title i tables.items more one (alloc_of_page x p) (DropOf y e) ((alloc_of_page x p).no_drop y e) in_);
       })
-      (named_same (is_committed_in tables) live area.title tables.items more (longer_same area.title i tables.items more one (alloc_of_page x p)) sound.names)
+      (named_same (is_committed_in tables) live area.title tables.items more (longer_same area.title i tables.items more one (alloc_of_page x p)) sound.names) sound.below.entries
 
 -- ---- a Free
 
@@ -223,7 +224,7 @@ module _ (counted : ℕ) (tables : Tables) (area : Area) (p : ℕ) (sound : IsSo
   back_in z in_ = items_up area.title gone.0 less tables.items gone.2 page.1 z in_
 
   pub free_sound : IsSoundArea counted (without_item (OfPage p) tables) freed
-  free_sound = taken_sound counted tables area p false less sound
+  free_sound = others_sound counted tables area area.title freed.taken less sound
       (record {
         once = free_once;
         inside = all_of (λ q. (3 ≤ q) × (q < counted) × (freed.taken q ≡ true)) (owned_pages less area) still_fine;
@@ -232,4 +233,4 @@ module _ (counted : ℕ) (tables : Tables) (area : Area) (p : ℕ) (sound : IsSo
         creates = λ y e in_. sound.owned.creates y e (back_in (CreateOf y e) in_);
         drops = λ y e in_. sound.owned.drops y e (back_in (DropOf y e) in_);
       })
-      (named_same (is_committed_in tables) (xids_in tables.opens) area.title tables.items less (shorter_same area.title gone.0 less tables.items gone.2 page.1) sound.names)
+      (named_same (is_committed_in tables) (xids_in tables.opens) area.title tables.items less (shorter_same area.title gone.0 less tables.items gone.2 page.1) sound.names) sound.below.entries

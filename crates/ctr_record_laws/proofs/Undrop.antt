@@ -15,7 +15,7 @@ use Rattle.ctr_record_laws.proofs.Members.{bit}
 use Rattle.ctr_records.specs.declared.record.SlogItem.{SlogItem}
 use Rattle.ctr_records.specs.declared.record.SlogItem.TheVariants.{AllocOf, FreeOf, CreateOf, DropOf}
 use Rattle.ctr_record_laws.proofs.Items.{the_one, taken_out, up_one, down_one, count_one, it_is_in, any_there, IsWithOne}
-use Rattle.ctr_record_laws.proofs.Latest.{entry_of_item, create_isnt_drop, own_undone, others_same, owned_less, by_title, title_here, title_apart, titled_sound, others_apart, live_below, live_open, unseen_drop}
+use Rattle.ctr_record_laws.proofs.Latest.{entry_of_item, create_isnt_drop, own_undone, others_same, owned_less, by_title, title_here, title_apart, titled_sound, dropper_alone, others_apart, live_below, live_open, unseen_drop}
 use Rattle.ctr_record_laws.proofs.Named.{cut_with}
 use Rattle.ctr_record_laws.proofs.Undone.{undone_at, undone_apart, one_of_from, filter_among, drop_among, counted_member}
 use Rattle.ctr_record_laws.specs.Owed.{OwedByUndrop}
@@ -83,15 +83,6 @@ module _ (counted : ℕ) (tables : Tables) (area : Area) (x e : ℕ) (sound : Is
   dropper_is : (area.title e).dropper ≡ x
   dropper_is = (sound.names.drops x e in_items).1
 
-  same_live : (f : ℕ) → is_live (after.title f) ≡ is_live (area.title f)
-  same_live = by_title area e undropped (λ f u. is_live u ≡ is_live (area.title f)) refl (λ f apart. refl)
-
-  same_name_at : (f : ℕ) → (after.title f).name ≡ (area.title f).name
-  same_name_at = by_title area e undropped (λ f u. u.name ≡ (area.title f).name) refl (λ f apart. refl)
-
-  same_creator : (f : ℕ) → (after.title f).creator ≡ (area.title f).creator
-  same_creator = by_title area e undropped (λ f u. u.creator ≡ (area.title f).creator) refl (λ f apart. refl)
-
   -- by whoever else looks the table isn't dropped either way
   as_before : (y : ℕ) → (x ≡ y → ⊥) → stands_for committed y undropped ≡ true → stands_for committed y (area.title e) ≡ true
   as_before y apart counts =
@@ -101,13 +92,13 @@ module _ (counted : ℕ) (tables : Tables) (area : Area) (x e : ℕ) (sound : Is
 
   names : AreNamed committed live less after.title
   names = record {
-    creators = λ f lt alive. subst (λ y. (committed y ≡ true) ⊎ (IsAmong y live × IsAmong (CreateOf y f) less)) (sym (same_creator f))
+    creators = λ f lt alive. subst (λ y. (committed y ≡ true) ⊎ (IsAmong y live × IsAmong (CreateOf y f) less)) (sym (dropper_alone area e 0 f).2)
         (⊎_elim (λ c. inl c) (λ open_. inr (open_.0, still_in (CreateOf (area.title f).creator f) (λ is. create_isnt_drop (area.title f).creator x f e is) open_.1))
-        (sound.names.creators f lt (sym (same_live f) ∙ alive)));
+        (sound.names.creators f lt (sym (dropper_alone area e 0 f).0 ∙ alive)));
     droppers = λ f lt alive. by_title area e undropped (λ f u. (is_live (area.title f) ≡ true) × (f < 32) → (u.dropper ≡ 0) ⊎ ((committed u.dropper ≡ true) ⊎ (IsAmong u.dropper live × IsAmong (DropOf u.dropper f) less)))
         (λ its. inl refl)
         (λ f apart its. ⊎_elim (λ z. inl z) (λ more. inr (⊎_elim (λ c. inl c) (λ open_. inr (open_.0, still_in (DropOf (area.title f).dropper f) (λ is. apart (ap entry_of_item is)) open_.1)) more))
-        (sound.names.droppers f its.1 its.0)) f (sym (same_live f) ∙ alive, lt);
+        (sound.names.droppers f its.1 its.0)) f (sym (dropper_alone area e 0 f).0 ∙ alive, lt);
     creates = λ y f in_. by_title area e undropped (λ f u. IsAmong (CreateOf y f) items → (is_live u ≡ true) × (u.creator ≡ y) × ((u.dropper ≡ 0) ⊎ (u.dropper ≡ y)))
         (λ was. let its = sound.names.creates y e was in (its.0, its.1, inl refl)) (λ f apart was. sound.names.creates y f was) f (was_in (CreateOf y f) in_);
     drops = λ y f in_. let apart : f ≡ e → ⊥ = λ is. no_drop y (subst (λ f. IsAmong (DropOf y f) less) is in_) in
@@ -118,7 +109,7 @@ module _ (counted : ℕ) (tables : Tables) (area : Area) (x e : ℕ) (sound : Is
     );
     in_order = λ front rest y z f is in_. let cut_ = cut_with i (CreateOf y f) one.front one.rest front rest (sym one.less_is ∙ is) in
         sound.names.in_order cut_.0 cut_.1 y z f (one.more_is ∙ cut_.2) (cut_.3 (DropOf z f) in_);
-    of_one = λ y z f g a b same_. sound.names.of_one y z f g (was_item y f a) (was_item z g b) (sym (same_name_at f) ∙ same_ ∙ same_name_at g);
+    of_one = λ y z f g a b same_. sound.names.of_one y z f g (was_item y f a) (was_item z g b) (sym (dropper_alone area e 0 f).1 ∙ same_ ∙ (dropper_alone area e 0 g).1);
     undoing = λ y k in_. known (x == y)
         (λ is. subst (λ y. IsOneOf (all_undone (drop k (filter (is_item_by y) less)) after.title) (stands_for committed y)) (eqb-true x y is)
         (let own = own_undone x i less items owed.0 one by_x (no_drop x) owed.1 area.title k in
@@ -128,8 +119,8 @@ module _ (counted : ℕ) (tables : Tables) (area : Area) (x e : ℕ) (sound : Is
         (sound.names.undoing y k in_) (λ f lt alive counts. stood y k f (λ is. false≢true (sym isnt ∙ eq-eqb x y is)) same_items alive counts));
     standing = one_of_from area.title after.title (is_standing committed) (is_standing committed) sound.names.standing
         (λ f lt alive counts. (
-          sym (same_live f) ∙ alive,
-          same_name_at f,
+          sym (dropper_alone area e 0 f).0 ∙ alive,
+          (dropper_alone area e 0 f).1,
           by_title area e undropped (λ f u. is_standing committed u ≡ true → is_standing committed (area.title f) ≡ true)
               (λ now. and_from (is_live (area.title e)) (committed (area.title e).creator && not (committed (area.title e).dropper)) (and_parts (is_live (area.title e)) (committed (area.title e).creator && true) now).0
               (and_from (committed (area.title e).creator) (not (committed (area.title e).dropper)) (and_parts (committed (area.title e).creator) true (and_parts (is_live (area.title e)) (committed (area.title e).creator && true) now).1).0
