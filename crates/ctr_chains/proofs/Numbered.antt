@@ -19,11 +19,11 @@ number_push [] (suc x) = refl
 number_push (k ∷ ks) zero = refl
 number_push (k ∷ ks) (suc x) = number_push ks x
 
+beyond : (x : ℕ) → x < 0 → ⊥
+beyond x lt = omega (arith, lt)
+
 number_here : (ks : List (Option ℕ)) (x : ℕ) (v : Option ℕ) → x < length ks → number_at (slice_set ks x v) x ≡ v
 number_here [] x v lt = absurd (beyond x lt)
-  where
-    beyond : (x : ℕ) → x < 0 → ⊥
-    beyond x lt = omega (arith, lt)
 number_here (k ∷ ks) zero v lt = refl
 number_here (k ∷ ks) (suc x) v lt = number_here ks x v (omega (arith, lt))
 
@@ -50,8 +50,14 @@ fewer x (y ∷ ys) here = elim (x == y) as (λ b. (b || has x ys) ≡ true → l
 
 -- ---- the changes
 
-pub in_place : (a : Inside) → HaveNumbers a → (x : ℕ) → has x a.live.items ≡ true → x < length a.numbers.items
+pub is_live_in : (a : Inside) (xids : Xids) (x : ℕ) → xids_kept a ≡ xids → has x xids.live ≡ true → has x a.live.items ≡ true
+is_live_in a xids x view_is is_live = subst (λ (xs : Xids). has x xs.live ≡ true) (sym view_is) is_live
+
+in_place : (a : Inside) → HaveNumbers a → (x : ℕ) → has x a.live.items ≡ true → x < length a.numbers.items
 in_place a inv x is_live = live_below (xids_kept a) inv.sound x is_live
+
+pub in_numbers : (a : Inside) (xids : Xids) (x : ℕ) → HaveNumbers a → xids_kept a ≡ xids → has x xids.live ≡ true → x < vec_len a.numbers
+in_numbers a xids x inv view_is is_live = subst (λ n. x < n) (sym a.numbers.ok.0) (in_place a inv x (is_live_in a xids x view_is is_live))
 
 module _ (a b : Inside) (inv : HaveNumbers a) where
   pub drawn_is : b.numbers.items ≡ a.numbers.items ++ None ∷ [] → b.live.items ≡ a.live.items ++ length a.numbers.items ∷ [] → b.commits.items ≡ a.commits.items → b.aborted.items ≡ a.aborted.items → xids_kept b ≡ drawn (xids_kept a)
@@ -125,9 +131,6 @@ module _ (a b : Inside) (inv : HaveNumbers a) where
 
 pub number_in : (ks : List (Option ℕ)) (n : ℕ) (d : Option ℕ) → n < length ks → slice_index_or ks n d ≡ number_at ks n
 number_in [] n d lt = absurd (beyond n lt)
-  where
-    beyond : (x : ℕ) → x < 0 → ⊥
-    beyond x lt = omega (arith, lt)
 number_in (k ∷ ks) zero d lt = refl
 number_in (k ∷ ks) (suc n) d lt = number_in ks n d (omega (arith, lt))
 

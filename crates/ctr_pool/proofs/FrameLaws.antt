@@ -260,6 +260,10 @@ stands fs gs at p x same ordered there here =
     let t = found fs gs at p same ordered there x in
     record { inside = t.0; frame = t.1 ∙ ap Some (sym here); here = here; page = ap (λ (f : Frame). f.page) here ∙ t.2 }
 
+-- the frame that was found is the page's
+pub frame_is : (fs gs : List Frame) (at p : ℕ) (x f : Frame) → gs ≡ fs → AreOrdered fs → (at < length gs) × ((d : Frame) → (get_or gs at d).page ≡ p) → x ≡ get_or fs at x → frame_of p fs ≡ Some f → x ≡ f
+frame_is fs gs at p x f same ordered there here is = let both : Some x ≡ Some f = sym (stands fs gs at p x same ordered there here).frame ∙ is in cc
+
 module _ (h : Frame → Frame) (fs now : List Frame) (at p : ℕ) (x f : Frame) (same : fs ≡ now) (ordered : AreOrdered fs) (at_is : Stands fs at p x) (is_h : f ≡ h x) (page : f.page ≡ x.page) where
   pages : f.page ≡ (get_or fs at x).page
   pages = page ∙ ap (λ (g : Frame). g.page) at_is.here

@@ -183,6 +183,12 @@ lt_next y n apart = ⊎_elim (λ lt. lt-ltb y (n + 1) (omega (arith, lt)) ∙ sy
     past : (y n : ℕ) → (y ≡ n → ⊥) → n ≤ y → n + 1 ≤ y
     past y n apart ge = ⊎_elim (λ lt. omega (arith, lt)) (λ le. absurd (apart (omega (arith, le, ge)))) (cases_lt n y)
 
+none_aborted : (a b c : Bool) → (a && (b && (c && not true))) ≡ false
+none_aborted true true true = refl
+none_aborted true true false = refl
+none_aborted true false c = refl
+none_aborted false b c = refl
+
 none_committed : (a b c : Bool) → (a && (b && (not true && c))) ≡ false
 none_committed true true c = refl
 none_committed true false c = refl
@@ -291,16 +297,10 @@ module _ (xids : Xids) (sound : AreSound xids) (x : ℕ) (is_live : has x xids.l
 
   aborted_committed : (y : ℕ) → has_committed (aborted x xids) y ≡ has_committed xids y
   aborted_committed y = ⊎_elim
-      (λ same. ap (λ b. nat_lt 0 y && (nat_lt y xids.next && (not (has y (minus x xids.live)) && not b))) (ap (λ z. has z (xids.aborted ++ x ∷ [])) same ∙ has_here x xids.aborted) ∙ all_false (nat_lt 0 y) (nat_lt y xids.next) (not (has y (minus x xids.live)))
+      (λ same. ap (λ b. nat_lt 0 y && (nat_lt y xids.next && (not (has y (minus x xids.live)) && not b))) (ap (λ z. has z (xids.aborted ++ x ∷ [])) same ∙ has_here x xids.aborted) ∙ none_aborted (nat_lt 0 y) (nat_lt y xids.next) (not (has y (minus x xids.live)))
       ∙ sym (ap (λ b. nat_lt 0 y && (nat_lt y xids.next && (not b && not (has y xids.aborted)))) (ap (λ z. has z xids.live) same ∙ is_live) ∙ none_committed (nat_lt 0 y) (nat_lt y xids.next) (not (has y xids.aborted))))
       (λ apart. λ i. nat_lt 0 y && (nat_lt y xids.next && (not (has-minus-other x y xids.live apart i) && not (has_there x y xids.aborted apart i))))
       (cases_eq y x)
-    where
-      all_false : (a b c : Bool) → (a && (b && (c && not true))) ≡ false
-      all_false true true true = refl
-      all_false true true false = refl
-      all_false true false c = refl
-      all_false false b c = refl
 
   pub aborted_numbers : (y : ℕ) → number_of (aborted x xids) y ≡ number_of xids y
   aborted_numbers y = ap (λ b. cond b (Some (place_from 1 y xids.commits)) None) (aborted_committed y)
@@ -438,13 +438,7 @@ module _ (xids : Xids) (sound : AreSound xids) (x : ℕ) (is_aborted : has x xid
   not_live = false_from_ne_true (has x xids.live) (λ here. false≢true (sym ((sound.apart x here).1) ∙ is_aborted))
 
   pub aborted_none : number_of xids x ≡ None
-  aborted_none = ap (λ b. cond b (Some (place_from 1 x xids.commits)) None) (ap (λ b. nat_lt 0 x && (nat_lt x xids.next && (not (has x xids.live) && not b))) is_aborted ∙ all_false (nat_lt 0 x) (nat_lt x xids.next) (not (has x xids.live)))
-    where
-      all_false : (a b c : Bool) → (a && (b && (c && not true))) ≡ false
-      all_false true true true = refl
-      all_false true true false = refl
-      all_false true false c = refl
-      all_false false b c = refl
+  aborted_none = ap (λ b. cond b (Some (place_from 1 x xids.commits)) None) (ap (λ b. nat_lt 0 x && (nat_lt x xids.next && (not (has x xids.live) && not b))) is_aborted ∙ none_aborted (nat_lt 0 x) (nat_lt x xids.next) (not (has x xids.live)))
 
   not_asked : has x xids.commits ≡ false
   not_asked = false_from_ne_true (has x xids.commits) (λ here. false≢true (ap is_some (sym aborted_none ∙ ap (λ b. cond b (Some (place_from 1 x xids.commits)) None) (all_has (λ c. has_committed xids c ≡ true) x xids.commits sound.commits here))))

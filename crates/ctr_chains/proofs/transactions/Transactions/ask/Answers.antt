@@ -2,20 +2,16 @@ use Rattle.std.proofs.Common.{◌≡◌, ◌+◌, ◌<◌, ◌∙◌, true, Some
 use Rattle.std.specs.Prelude.{slice_set}
 use Rattle.std.proofs.lemmas.List.{length-set}
 use Rattle.std.specs.Vec.{with_item}
-use Rattle.ctr_snap.specs.Seeing.{has}
-use Rattle.ctr_versions.specs.Xids.{Xids}
 use Rattle.ctr_chains.specs.declared.transactions.Transactions.TheInside.{Inside}
-use Rattle.ctr_chains.proofs.Numbered.{asked_kept, in_place}
+use Rattle.ctr_chains.proofs.Numbered.{asked_kept, in_numbers, is_live_in}
 use Rattle.ctr_chains.proofs.transactions.Transactions.ask.Goals as goal
 
 pub index_mut-requires : goal.index_mut-requires
-index_mut-requires c =
-    let is_live = subst (λ (xs : Xids). has c.args.xid xs.live ≡ true) (sym c.self.view_is) c.requires in
-    subst (λ n. c.args.xid < n) (sym c.self.inside.numbers.ok.0) (in_place c.self.inside c.self.invariant c.args.xid is_live)
+index_mut-requires c = in_numbers c.self.inside c.args.self.now c.args.xid c.self.invariant c.self.view_is c.requires
 
 pub invariant_of-self : goal.invariant_of-self
 invariant_of-self c =
-    let is_live = subst (λ (xs : Xids). has c.args.xid xs.live ≡ true) (sym c.self.view_is) c.requires in
+    let is_live = is_live_in c.self.inside c.args.self.now c.args.xid c.self.view_is c.requires in
     let count : c.len.result ≡ length c.self.inside.commits.items = c.len.ensures ∙ c.self.inside.commits.ok.0 in
     let numbers = with_item c.self.inside.numbers c.args.xid (Some (c.len.result + 1)) in
     let new : Inside = record { numbers = numbers; live = c.take_out.new.xids; aborted = c.self.inside.aborted; commits = c.push_reserved.new.self } in

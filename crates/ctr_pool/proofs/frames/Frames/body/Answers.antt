@@ -1,20 +1,14 @@
-use Rattle.std.proofs.Common.{◌≡◌, true, false, is_some, get_or, Some, None, sym, ap, ◌∙◌}
+use Rattle.std.proofs.Common.{◌≡◌, true, false, is_some, Some, None, sym, ap, ◌∙◌}
 use Rattle.ctr_pool.specs.declared.frame.Frame.{Frame}
 use Rattle.ctr_pool.specs.Frames.{frame_of}
 use Rattle.ctr_pool.specs.Kept.{FrameList}
-use Rattle.ctr_pool.proofs.FrameLaws.{found, missing}
+use Rattle.ctr_pool.proofs.FrameLaws.{missing, frame_is}
 use Rattle.ctr_pool.proofs.frames.Frames.body.Goals.{In-Err}
 use Rattle.ctr_pool.proofs.frames.Frames.body.Goals as goal
 
 pub returns-in-Ok-clause-shown : goal.returns-in-Ok-clause-shown
-returns-in-Ok-clause-shown c f is =
-    let fs = c.self.inside.items.items in
-    let to : fs ≡ c.args.self.now.frames = ap (λ (v : FrameList). v.frames) c.self.view_is in
-    let x = c.index.result.now in
-    let there = found fs c.deref.result.now c.in-Ok.at c.args.page c.deref.ensures.value c.self.invariant c.in-Ok.ensures.found x in
-    let same : Some (get_or fs c.in-Ok.at x) ≡ Some f = sym there.1 ∙ ap (frame_of c.args.page) to ∙ is in
-    let one : x ≡ f = c.index.ensures ∙ (let e : get_or fs c.in-Ok.at x ≡ f = cc in e) in
-    c.as_slice.ensures.bytes ∙ ap (λ (g : Frame). g.body) one
+returns-in-Ok-clause-shown c f is = c.as_slice.ensures.bytes ∙ ap (λ (g : Frame). g.body) (frame_is c.self.inside.items.items c.deref.result.now c.in-Ok.at c.args.page c.index.result.now f c.deref.ensures.value c.self.invariant c.in-Ok.ensures.found c.index.ensures
+    (ap (λ (v : FrameList). frame_of c.args.page v.frames) c.self.view_is ∙ is))
 
 -- the page has no frame
 none : (c : In-Err) → frame_of c.args.page c.args.self.now.frames ≡ None

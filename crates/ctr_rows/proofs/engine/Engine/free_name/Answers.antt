@@ -1,7 +1,5 @@
 use Rattle.std.proofs.Common.{rules, ap, is_some}
-use Rattle.ctr_versions.specs.Engine.{EngineHeld}
 use Rattle.ctr_rows.specs.Running.{engine_of}
-use Rattle.ctr_versions.specs.Laws.{SetsName, mark_of}
 use Rattle.ctr_versions.specs.Changes.{without_tombstone}
 use Rattle.ctr_versions.specs.Xids.{below_mark, number_of}
 use Rattle.ctr_versions.specs.Versions.{names_at}
@@ -13,11 +11,8 @@ use Rattle.ctr_versions.proofs.Heads.{freed_head, freed_behind}
 use Rattle.ctr_rows.proofs.engine.Engine.free_name.Goals as goal
 
 pub returns-clause-keeps : goal.returns-clause-keeps
-returns-clause-keeps c =
-    let old = (engine_of c.args.self.now) in
-    let new : EngineHeld = engine_of (record { xids = c.self.inside.xids; store = c.free_name.new.self; sessions = c.self.inside.sessions; answered = c.self.inside.answered; heads = c.self.inside.heads }) in
-    let leaves : SetsName old new c.args.name.now (without_tombstone (below_mark c.args.self.now.xids (mark_of (engine_of c.args.self.now))) (names_at old.versions c.args.name.now)) = search rules in
-    name_free_keeps old new c.args.name.now leaves
+returns-clause-keeps c = name_free_keeps (engine_of c.args.self.now)
+    (engine_of (record { xids = c.self.inside.xids; store = c.free_name.new.self; sessions = c.self.inside.sessions; answered = c.self.inside.answered; heads = c.self.inside.heads })) c.args.name.now (search rules)
 
 pub invariant_of-self : goal.invariant_of-self
 invariant_of-self c = runs_same_name c.self.inside.xids c.self.inside.store c.self.inside.answered c.self.inside.heads c.self.invariant c.free_name.new.self c.args.name.now (without_tombstone (below_mark c.self.inside.xids c.mark-mark.result) (names_at (versions_of c.self.inside.store) c.args.name.now)) c.free_name.ensures.set (freed_behind (number_of c.self.inside.xids) (below_mark c.self.inside.xids c.mark-mark.result) (names_at (versions_of c.self.inside.store) c.args.name.now) (c.self.invariant.only.names c.args.name.now))
