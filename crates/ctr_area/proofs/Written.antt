@@ -116,22 +116,31 @@ module _ (pages : ℕ → List ℕ) (at : Place) (new : List ℕ) (third : 3 ≤
   older_read q = λ i. cond ((same_header q.page i).kind == 2)
       (older_said (same_columns q.page i) (older_in (same_width q.page i) (piece (start_of (kept_size (same_width q.page i)) q.slot) (kept_size (same_width q.page i)) (after q.page)))) free_older
 
+  -- on another page no slot is read, and no version entry
+  slot_unread : (q : Place) → ((header_on pages q.page).kind == 1) ≡ false → (area_of after).slot q ≡ (area_of pages).slot q
+  slot_unread q isnt = slot_read q
+      ∙ ap (λ b. cond b (slot_by q (piece (start_of (slot_size (width_on pages q.page)) q.slot) (slot_size (width_on pages q.page)) (after q.page))) free_slot) isnt
+      ∙ sym (ap (λ b. cond b (slot_by q (piece (start_of (slot_size (width_on pages q.page)) q.slot) (slot_size (width_on pages q.page)) (pages q.page))) free_slot) isnt)
+
+  older_unread : (q : Place) → ((header_on pages q.page).kind == 2) ≡ false → (area_of after).older q ≡ (area_of pages).older q
+  older_unread q isnt = older_read q
+      ∙ ap (λ b. cond b (older_by q (piece (start_of (kept_size (width_on pages q.page)) q.slot) (kept_size (width_on pages q.page)) (after q.page))) free_older) isnt
+      ∙ sym (ap (λ b. cond b (older_by q (piece (start_of (kept_size (width_on pages q.page)) q.slot) (kept_size (width_on pages q.page)) (pages q.page))) free_older) isnt)
+
   slot_apart : (q : Place) → same_place q at ≡ false → (area_of after).slot q ≡ (area_of pages).slot q
-  slot_apart q apart = slot_read q ∙ known ((header_on pages q.page).kind == 1)
-      (λ is. ap (λ bytes. cond ((header_on pages q.page).kind == 1) (slot_by q bytes) free_slot)
+  slot_apart q apart = known ((header_on pages q.page).kind == 1)
+      (λ is. slot_read q ∙ ap (λ bytes. cond ((header_on pages q.page).kind == 1) (slot_by q bytes) free_slot)
       (subst (λ s. piece (start_of s q.slot) s (after q.page) ≡ piece (start_of s q.slot) s (pages q.page)) (size_rows q.page is) (row_elsewhere q apart)))
-      (λ isnt. ap (λ b. cond b (slot_by q (piece (start_of (slot_size (width_on pages q.page)) q.slot) (slot_size (width_on pages q.page)) (after q.page))) free_slot) isnt
-      ∙ sym (ap (λ b. cond b (slot_by q (piece (start_of (slot_size (width_on pages q.page)) q.slot) (slot_size (width_on pages q.page)) (pages q.page))) free_slot) isnt))
+      (slot_unread q)
 
   no_rows : (p : ℕ) → ((header_on pages p).kind == 2) ≡ true → ((header_on pages p).kind == 1) ≡ false
   no_rows p is = ne_eqb (header_on pages p).kind 1 (λ one. omega (arith, one, eqb-true (header_on pages p).kind 2 is))
 
   older_apart : (q : Place) → same_place q at ≡ false → (area_of after).older q ≡ (area_of pages).older q
-  older_apart q apart = older_read q ∙ known ((header_on pages q.page).kind == 2)
-      (λ is. ap (λ bytes. cond ((header_on pages q.page).kind == 2) (older_by q bytes) free_older)
+  older_apart q apart = known ((header_on pages q.page).kind == 2)
+      (λ is. older_read q ∙ ap (λ bytes. cond ((header_on pages q.page).kind == 2) (older_by q bytes) free_older)
       (subst (λ s. piece (start_of s q.slot) s (after q.page) ≡ piece (start_of s q.slot) s (pages q.page)) (size_others q.page (no_rows q.page is)) (row_elsewhere q apart)))
-      (λ isnt. ap (λ b. cond b (older_by q (piece (start_of (kept_size (width_on pages q.page)) q.slot) (kept_size (width_on pages q.page)) (after q.page))) free_older) isnt
-      ∙ sym (ap (λ b. cond b (older_by q (piece (start_of (kept_size (width_on pages q.page)) q.slot) (kept_size (width_on pages q.page)) (pages q.page))) free_older) isnt))
+      (older_unread q)
 
   by_place : {A : Type 0} (q : Place) (x : A) (f old : Place → A) → f at ≡ x → (same_place q at ≡ false → f q ≡ old q) → f q ≡ cond (same_place q at) x (old q)
   by_place q x f old there elsewhere = known (same_place q at)
@@ -157,7 +166,7 @@ module _ (pages : ℕ → List ℕ) (at : Place) (new : List ℕ) (third : 3 ≤
   pub slot_written : (header_on pages at.page).kind ≡ 1 → area_of after ≡ with_slot at (slot_said (columns_on pages at.page) (slot_in (width_on pages at.page) new)) (area_of pages)
   slot_written rows = with_places (λ q. cond (same_place q at) (slot_by at new) ((area_of pages).slot q)) (area_of pages).older
       (λ q. by_place q (slot_by at new) (area_of after).slot (area_of pages).slot there (slot_apart q))
-      (λ q. same_at q (area_of after).older (area_of pages).older none (older_apart q))
+      (λ q. same_at q (area_of after).older (area_of pages).older (older_unread at two) (older_apart q))
     where
       one : ((header_on pages at.page).kind == 1) ≡ true
       one = eq-eqb (header_on pages at.page).kind 1 rows
@@ -170,14 +179,10 @@ module _ (pages : ℕ → List ℕ) (at : Place) (new : List ℕ) (third : 3 ≤
           ∙ ap (λ b. cond b (slot_by at (piece (start_of (slot_size (width_on pages at.page)) at.slot) (slot_size (width_on pages at.page)) (after at.page))) free_slot) one
           ∙ ap (slot_by at) (subst (λ s. piece (start_of s at.slot) s (after at.page) ≡ new) (size_rows at.page one) row_there)
 
-      none : (area_of after).older at ≡ (area_of pages).older at
-      none = older_read at ∙ ap (λ b. cond b (older_by at (piece (start_of (kept_size (width_on pages at.page)) at.slot) (kept_size (width_on pages at.page)) (after at.page))) free_older) two
-          ∙ sym (ap (λ b. cond b (older_by at (piece (start_of (kept_size (width_on pages at.page)) at.slot) (kept_size (width_on pages at.page)) (pages at.page))) free_older) two)
-
   -- on a page of versions
   pub older_written : (header_on pages at.page).kind ≡ 2 → area_of after ≡ with_older at (older_said (columns_on pages at.page) (older_in (width_on pages at.page) new)) (area_of pages)
   older_written versions = with_places (area_of pages).slot (λ q. cond (same_place q at) (older_by at new) ((area_of pages).older q))
-      (λ q. same_at q (area_of after).slot (area_of pages).slot none (slot_apart q))
+      (λ q. same_at q (area_of after).slot (area_of pages).slot (slot_unread at one) (slot_apart q))
       (λ q. by_place q (older_by at new) (area_of after).older (area_of pages).older there (older_apart q))
     where
       one : ((header_on pages at.page).kind == 1) ≡ false
@@ -190,7 +195,3 @@ module _ (pages : ℕ → List ℕ) (at : Place) (new : List ℕ) (third : 3 ≤
       there = older_read at
           ∙ ap (λ b. cond b (older_by at (piece (start_of (kept_size (width_on pages at.page)) at.slot) (kept_size (width_on pages at.page)) (after at.page))) free_older) two
           ∙ ap (older_by at) (subst (λ s. piece (start_of s at.slot) s (after at.page) ≡ new) (size_others at.page one) row_there)
-
-      none : (area_of after).slot at ≡ (area_of pages).slot at
-      none = slot_read at ∙ ap (λ b. cond b (slot_by at (piece (start_of (slot_size (width_on pages at.page)) at.slot) (slot_size (width_on pages at.page)) (after at.page))) free_slot) one
-          ∙ sym (ap (λ b. cond b (slot_by at (piece (start_of (slot_size (width_on pages at.page)) at.slot) (slot_size (width_on pages at.page)) (pages at.page))) free_slot) one)
