@@ -24,6 +24,7 @@ use Rattle.ctr_model.specs.State.{transaction_of, with_transaction, view, begun}
 use Rattle.ctr_model.specs.Refusals.{table_of, key_of, key_written, changes_schema, others, first_session, is_busy, key_refusals, refusal_of, write_refusal, row_of, columns_of, updated, update_refusal, when}
 use Rattle.ctr_model.specs.Reply.{refused_or, reply_inside, reply_outside, MayStandFor, granted, on_table, with_use, put_of, changes_of, next_inside, next_outside}
 use Rattle.ctr_model.specs.Tape.{IsInTurn}
+use Rattle.ctr_model.proofs.Determined.{by_stand}
 use Rattle.ctr_versions.specs.Keys.{row_written}
 use Rattle.ctr_legal.specs.Kept.{IsKept}
 use Rattle.ctr_legal.specs.Ready.{HasKey, MayWrite, IsUnrefused, Tells, TellsOutside, IsReady}
@@ -46,16 +47,7 @@ room_refused (st.Select table at) given is = absurd is
 
 -- what may stand in the place of a reply is a refusal
 stands_refused : (statement : Statement) (r given : Reply) → MayStandFor statement r given → (why : Refusal) × (given ≡ reply.Refused why)
-stands_refused statement (reply.Began n) given is = (refusal.OutOfMemory, is)
-stands_refused statement reply.Granted given is = (refusal.OutOfMemory, is)
-stands_refused statement (reply.Rows rows) given is = (refusal.OutOfMemory, is)
-stands_refused statement reply.Done given is = room_refused statement given is
-stands_refused statement (reply.Asked k) given is = absurd is
-stands_refused statement reply.ReadOnly given is = absurd is
-stands_refused statement (reply.Answered k) given is = absurd is
-stands_refused statement reply.RolledBack given is = absurd is
-stands_refused statement reply.Released given is = absurd is
-stands_refused statement (reply.Refused why) given is = absurd is
+stands_refused statement r given is = by_stand statement (λ given. (why : Refusal) × (given ≡ reply.Refused why)) (λ given is. (refusal.OutOfMemory, is)) (room_refused statement) r given is
 
 module _ (state : State) (s : ℕ) (me : Transaction) (statement : Statement) where
   refused_tells : (a : Act) (why : Option Refusal) (r : Reply) → me.asked ≡ None → (why ≡ None → Tells state s me statement a r) → Tells state s me statement a (refused_or why r)

@@ -9,6 +9,7 @@ use Rattle.ctr_types.specs.declared.statement.Line.{Line}
 use Rattle.ctr_types.specs.declared.tape.Act.TheVariants as act
 use Rattle.ctr_types.specs.declared.tape.Reply.{Reply}
 use Rattle.ctr_types.specs.declared.tape.Reply.TheVariants as reply
+use Rattle.ctr_types.specs.declared.tape.Refusal.TheVariants as refusal
 use Rattle.ctr_types.specs.declared.tape.Entry.{Entry}
 use Rattle.ctr_model.specs.declared.state.State.{State}
 use Rattle.ctr_model.specs.Reply.{reply_to, next_state, IsWantOfRoom, MayStandFor}
@@ -29,17 +30,22 @@ room_is_free (st.Select table at) given is = absurd is
 room_is_free (st.Update table sets at) given is = ap is_free is
 room_is_free (st.Delete table at) given is = ap is_free is
 
+-- what may stand in the place of a reply: want of memory, or what may stand for Done
+pub by_stand : (statement : Statement) (P : Reply → Type 0) → ((given : Reply) → given ≡ reply.Refused refusal.OutOfMemory → P given) → ((given : Reply) → MayStandFor statement reply.Done given → P given)
+    → (r given : Reply) → MayStandFor statement r given → P given
+by_stand statement P starved room (reply.Began n) given is = starved given is
+by_stand statement P starved room reply.Granted given is = starved given is
+by_stand statement P starved room (reply.Rows rows) given is = starved given is
+by_stand statement P starved room reply.Done given is = room given is
+by_stand statement P starved room (reply.Asked k) given is = absurd is
+by_stand statement P starved room reply.ReadOnly given is = absurd is
+by_stand statement P starved room (reply.Answered k) given is = absurd is
+by_stand statement P starved room reply.RolledBack given is = absurd is
+by_stand statement P starved room reply.Released given is = absurd is
+by_stand statement P starved room (reply.Refused why) given is = absurd is
+
 free_given : (statement : Statement) (r given : Reply) → MayStandFor statement r given → is_free given ≡ true
-free_given statement (reply.Began n) given is = ap is_free is
-free_given statement reply.Granted given is = ap is_free is
-free_given statement (reply.Rows rows) given is = ap is_free is
-free_given statement reply.Done given is = room_is_free statement given is
-free_given statement (reply.Asked k) given is = absurd is
-free_given statement reply.ReadOnly given is = absurd is
-free_given statement (reply.Answered k) given is = absurd is
-free_given statement reply.RolledBack given is = absurd is
-free_given statement reply.Released given is = absurd is
-free_given statement (reply.Refused why) given is = absurd is
+free_given statement r given is = by_stand statement (λ given. is_free given ≡ true) (λ given is. ap is_free is) (room_is_free statement) r given is
 
 -- no statement's act is a release
 no_release : (state : State) (s : ℕ) (statement : Statement) (n : ℕ) (name : List ℕ) → slice_get (acts_of state s statement) n ≡ Some (act.Release name) → ⊥

@@ -1,7 +1,7 @@
 mod Entries
 pub mod Sessions
 pub mod Outside
-mod Determined
+pub mod Determined
 mod Snapshots
 mod Rollbacks
 mod Sound
