@@ -4,6 +4,7 @@ use crate::told::{Page, tell_lines, tell_statement};
 use ctr_io::MemSource;
 use ctr_parse::{ParseRefusal, parse_statement};
 use ctr_script::{ScriptError, read_script};
+use ctr_suite::Plays;
 use ctr_types::{List, Script, Statement, Text};
 use std::alloc::{AllocError, Global};
 use std::mem;
@@ -71,17 +72,6 @@ fn behind<'a>(line: &'a [u8], word: &[u8]) -> Option<&'a [u8]> {
 }
 
 impl Player {
-    pub fn new(alloc: Global) -> Player {
-        Player {
-            alloc,
-            page: Page::new(alloc),
-            gives: Page::new(alloc),
-            begun: Vec::new(alloc),
-            right: 0,
-            wrong: 0,
-        }
-    }
-
     fn begin(&mut self, line: &[u8]) -> Result<(), AllocError> {
         self.begun = line.to_vec(self.alloc)?;
         self.gives = Page::new(self.alloc);
@@ -124,23 +114,35 @@ impl Player {
         Ok(())
     }
 
-    /// Plays a line of the suite. One that is no case and no answer is a remark.
-    pub fn take_line(&mut self, line: &[u8]) {
-        if self.play(line).is_err() {
-            self.wrong = self.wrong.saturating_add(1);
-        }
-    }
-
     fn add_end(&mut self) -> Result<(), AllocError> {
         self.page.add_number(self.right)?;
         self.page.add(" cases as expected, ")?;
         self.page.add_number(self.wrong)?;
         self.page.add(" not\n")
     }
+}
 
-    /// What is printed: each case that gave something else, and how many there were.
-    pub fn finish(&mut self) -> Page {
+impl Plays for Player {
+    fn new(alloc: Global) -> Player {
+        Player {
+            alloc,
+            page: Page::new(alloc),
+            gives: Page::new(alloc),
+            begun: Vec::new(alloc),
+            right: 0,
+            wrong: 0,
+        }
+    }
+
+    fn take_line(&mut self, line: &[u8]) {
+        if self.play(line).is_err() {
+            self.wrong = self.wrong.saturating_add(1);
+        }
+    }
+
+    // Each case that gave something else, and how many there were.
+    fn finish(&mut self) -> Vec<u8> {
         let _ = self.add_end();
-        mem::replace(&mut self.page, Page::new(self.alloc))
+        mem::replace(&mut self.page, Page::new(self.alloc)).into_bytes()
     }
 }

@@ -21,6 +21,11 @@ impl Page {
         &self.bytes
     }
 
+    pub fn into_bytes(self) -> Vec<u8> {
+        let Page { alloc: _, bytes } = self;
+        bytes
+    }
+
     pub fn add(&mut self, text: &str) -> Result<(), AllocError> {
         self.bytes.extend_from_slice(text.as_bytes())
     }
