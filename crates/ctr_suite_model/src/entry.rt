@@ -2,14 +2,15 @@
 use crate::lists::add;
 use crate::spelled::{behind, read_name, read_statement};
 use crate::trouble::Trouble;
-use crate::words::{last_word, number, split_at_byte, split_word};
+use crate::words::{last_word, number};
+use ctr_suite::{named, split_at, split_word};
 use ctr_types::{Act, Entry, List, Plain, Refusal, Reply, Row, Rows, Statement};
 use std::alloc::Global;
 
 /// The entry that a line is.
 pub fn read_entry(alloc: Global, line: &[u8]) -> Result<Entry, Trouble> {
     let (who, words) = split_word(line);
-    let (session, statement) = split_at_byte(who, b'.');
+    let (session, statement) = split_at(who, b'.');
     let session = read_small(session)?;
     let statement = read_number(statement)?;
     let moment = read_moment(last_word(words))?;
@@ -224,10 +225,8 @@ const SIMPLE: &[(&str, Refusal)] = &[
 
 /// A refusal, in the words of the transcript.
 pub fn read_refusal(words: &[u8]) -> Result<Refusal, Trouble> {
-    for (text, refusal) in SIMPLE {
-        if words == text.as_bytes() {
-            return Ok(*refusal);
-        }
+    if let Some(refusal) = named(SIMPLE, words) {
+        return Ok(refusal);
     }
     if words == b"TableBusy by recovery".as_slice() {
         return Ok(Refusal::TableBusy { by: 0 });

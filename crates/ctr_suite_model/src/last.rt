@@ -2,10 +2,11 @@
 use crate::entry::{must_be_empty, read_number, read_small};
 use crate::page::Page;
 use crate::trouble::Trouble;
-use crate::words::{signed, split_word, wide};
+use crate::words::{signed, wide};
 use ctr_io::{MemSink, Sink};
 use ctr_model::{Cause, Command, Report, Survey};
 use ctr_print::{Printer, put_last_line, put_run};
+use ctr_suite::split_word;
 use ctr_types::{File, List, Tape};
 use std::alloc::Global;
 

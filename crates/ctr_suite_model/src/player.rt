@@ -14,8 +14,8 @@ use crate::run::{Run, add, play_act, play_statement, release, statement_of};
 use crate::spelled::{behind, read_name, read_statement};
 use crate::steps::{Step, has_words, step_of};
 use crate::trouble::Trouble;
-use crate::words::split_word;
 use ctr_model::{Change, Map, Point, Table, apply_all};
+use ctr_suite::{Plays, split_word};
 use ctr_types::{Line, List, Name, Plain, Row, Statement, Value};
 use std::alloc::Global;
 use std::slice;
@@ -37,47 +37,6 @@ pub struct Player {
 }
 
 impl Player {
-    pub fn new(alloc: Global) -> Player {
-        Player {
-            alloc,
-            judge: Judge::new(alloc),
-            base: Map::new(alloc),
-            stuck: List::new(alloc),
-            lines: List::new(alloc),
-            ran: 0,
-            tape_name: Vec::new(alloc),
-            run: Run::new(alloc),
-            begun: false,
-        }
-    }
-
-    /// What all lines have printed, with the counts.
-    pub fn finish(&mut self) -> Page {
-        self.judge.settle();
-        self.judge.finish()
-    }
-
-    /// Takes a line of the suite.
-    pub fn take_line(&mut self, line: &[u8]) {
-        self.judge.begin_line();
-        let (word, rest) = split_word(line);
-        if word == b"|".as_slice() {
-            self.judge.want(rest);
-            return;
-        }
-        self.judge.settle();
-        if word.is_empty() || word == b"#".as_slice() {
-            return;
-        }
-        let done = match step_of(word) {
-            Some(step) => self.step(step, rest),
-            None => self.plain_line(word, rest, line),
-        };
-        if let Err(why) = done {
-            self.judge.tell(why);
-        }
-    }
-
     fn step(&mut self, step: Step, rest: &[u8]) -> Result<(), Trouble> {
         if !has_words(step) {
             must_be_empty(rest)?;
@@ -416,5 +375,47 @@ impl Player {
         page.add(b"\n");
         self.judge.give(&page);
         Ok(())
+    }
+}
+
+impl Plays for Player {
+    fn new(alloc: Global) -> Player {
+        Player {
+            alloc,
+            judge: Judge::new(alloc),
+            base: Map::new(alloc),
+            stuck: List::new(alloc),
+            lines: List::new(alloc),
+            ran: 0,
+            tape_name: Vec::new(alloc),
+            run: Run::new(alloc),
+            begun: false,
+        }
+    }
+
+    fn take_line(&mut self, line: &[u8]) {
+        self.judge.begin_line();
+        let (word, rest) = split_word(line);
+        if word == b"|".as_slice() {
+            self.judge.want(rest);
+            return;
+        }
+        self.judge.settle();
+        if word.is_empty() || word == b"#".as_slice() {
+            return;
+        }
+        let done = match step_of(word) {
+            Some(step) => self.step(step, rest),
+            None => self.plain_line(word, rest, line),
+        };
+        if let Err(why) = done {
+            self.judge.tell(why);
+        }
+    }
+
+    // What all lines have printed, with the counts.
+    fn finish(&mut self) -> Vec<u8> {
+        self.judge.settle();
+        self.judge.finish().into_bytes()
     }
 }

@@ -1,4 +1,5 @@
 // The words of a suite's steps.
+use ctr_suite::named;
 
 /// What a line of a suite asks for.
 #[derive(Clone, Copy)]
@@ -46,12 +47,7 @@ const STEPS: &[(&str, Step)] = &[
 
 /// The step of a line's first word.
 pub fn step_of(word: &[u8]) -> Option<Step> {
-    for (text, step) in STEPS {
-        if word == text.as_bytes() {
-            return Some(*step);
-        }
-    }
-    None
+    named(STEPS, word)
 }
 
 /// Whether a step has words behind its first one.

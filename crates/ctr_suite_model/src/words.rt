@@ -1,18 +1,5 @@
 // Words and numbers of a line.
 
-/// The first word of a line, and what stands behind the blank.
-pub fn split_word(line: &[u8]) -> (&[u8], &[u8]) {
-    split_at_byte(line, b' ')
-}
-
-/// What stands before the first such byte and behind it; all and nothing where there is none.
-pub fn split_at_byte(line: &[u8], wanted: u8) -> (&[u8], &[u8]) {
-    match line.iter().position(|byte| *byte == wanted) {
-        Some(at) => (&line[..at], &line[at + 1..]),
-        None => (line, &line[line.len()..]),
-    }
-}
-
 /// The last word of a line.
 pub fn last_word(line: &[u8]) -> &[u8] {
     let mut last = line;

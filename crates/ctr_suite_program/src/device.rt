@@ -1,11 +1,12 @@
 // Device calls that a suite lists, and the writing of a root, over a disk in memory.
-use crate::numbers::{hex_bytes, split_file, split_number, split_word};
+use crate::numbers::{hex_bytes, split_file, split_number};
 use crate::page::Page;
 use crate::run::{disk_of, look_at};
 use crate::setup::{Ask, Ran, Setup};
 use ctr_disk::Disk;
 use ctr_home::{Root, read_thin_root, write_root};
 use ctr_mem_disk::MemDisk;
+use ctr_suite::split_word;
 use ctr_types::{File, List, Tape};
 use std::alloc::{AllocError, Global};
 

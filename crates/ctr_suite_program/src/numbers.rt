@@ -1,14 +1,7 @@
 // Words, numbers and files of a line.
+use ctr_suite::split_word;
 use ctr_types::File;
 use std::alloc::{AllocError, Global};
-
-/// The first word of a line, and what stands after the blank.
-pub fn split_word(line: &[u8]) -> (&[u8], &[u8]) {
-    match line.iter().position(|byte| *byte == b' ') {
-        Some(at) => (&line[..at], &line[at + 1..]),
-        None => (line, &line[line.len()..]),
-    }
-}
 
 fn digit(byte: u8) -> Option<u64> {
     match byte {

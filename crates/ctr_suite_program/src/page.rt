@@ -23,6 +23,11 @@ impl Page {
         &self.bytes
     }
 
+    pub fn into_bytes(self) -> Vec<u8> {
+        let Page { bytes, cut: _ } = self;
+        bytes
+    }
+
     pub fn is_cut(&self) -> bool {
         self.cut
     }

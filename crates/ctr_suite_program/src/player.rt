@@ -2,7 +2,7 @@
 use crate::databases::Right;
 use crate::judge::{Found, found_alone, led_from};
 use crate::meetings::{Met, meet};
-use crate::numbers::{hex_bytes, name_of, number, numbers, split_file, split_number, split_word};
+use crate::numbers::{hex_bytes, name_of, number, numbers, split_file, split_number};
 use crate::page::Page;
 use crate::reading::{put_cuts, put_line, put_record, put_tokens};
 use crate::run::play;
@@ -12,6 +12,7 @@ use crate::steps::{Step, step_of};
 use crate::sweep::{NO_DATABASE, sweep_failures, sweep_stops};
 use crate::words::{actors_in, root_of, words_in};
 use ctr_mem_disk::Image;
+use ctr_suite::{Plays, split_word};
 use ctr_types::{OutOfMemory, Plain, Reply};
 use std::alloc::Global;
 use std::mem;
@@ -52,35 +53,8 @@ pub struct Player {
 }
 
 impl Player {
-    pub fn new(alloc: Global) -> Player {
-        Player {
-            alloc,
-            page: Page::new(alloc),
-            image: Image::new(alloc),
-            next: Setup::new(alloc, Image::new(alloc)),
-            waiting: Waiting::Nothing,
-            brief: false,
-            judged: true,
-            last: Setup::new(alloc, Image::new(alloc)),
-            before: Right::nothing(alloc),
-            right: Right::nothing(alloc),
-            counts: Counts {
-                calls: 0,
-                faults: 0,
-                strays: 0,
-                starved: 0,
-                moment: 0,
-            },
-        }
-    }
-
-    /// What was printed.
-    pub fn take_page(&mut self) -> Page {
-        mem::replace(&mut self.page, Page::new(self.alloc))
-    }
-
-    /// Does what waits.
-    pub fn finish(&mut self) {
+    // Does what waits.
+    fn settle(&mut self) {
         let waiting = mem::replace(&mut self.waiting, Waiting::Nothing);
         let done = match waiting {
             Waiting::Nothing => Ok(()),
@@ -104,27 +78,6 @@ impl Player {
         self.page.put(b"?? no such step: ");
         self.page.put(line);
         self.page.put(b"\n");
-    }
-
-    /// Takes a line of the suite.
-    pub fn take_line(&mut self, line: &[u8]) {
-        let (word, rest) = split_word(line);
-        if word.first() == Some(&b'|') {
-            match add_line(self.alloc, &mut self.next.script, word, rest) {
-                Ok(Some(())) => {}
-                Ok(None) => self.refuse(line),
-                Err(_) => self.note(Err(OutOfMemory)),
-            }
-            return;
-        }
-        self.finish();
-        if word.is_empty() || word == b"#".as_slice() {
-            return;
-        }
-        match step_of(word) {
-            Some(step) => self.take_step(step, line, rest),
-            None => self.refuse(line),
-        }
     }
 
     fn take_step(&mut self, step: Step, line: &[u8], rest: &[u8]) {
@@ -492,5 +445,54 @@ impl Player {
             put_record(self.alloc, &mut self.page, &bytes)?;
         }
         Ok(Some(()))
+    }
+}
+
+impl Plays for Player {
+    fn new(alloc: Global) -> Player {
+        Player {
+            alloc,
+            page: Page::new(alloc),
+            image: Image::new(alloc),
+            next: Setup::new(alloc, Image::new(alloc)),
+            waiting: Waiting::Nothing,
+            brief: false,
+            judged: true,
+            last: Setup::new(alloc, Image::new(alloc)),
+            before: Right::nothing(alloc),
+            right: Right::nothing(alloc),
+            counts: Counts {
+                calls: 0,
+                faults: 0,
+                strays: 0,
+                starved: 0,
+                moment: 0,
+            },
+        }
+    }
+
+    fn take_line(&mut self, line: &[u8]) {
+        let (word, rest) = split_word(line);
+        if word.first() == Some(&b'|') {
+            match add_line(self.alloc, &mut self.next.script, word, rest) {
+                Ok(Some(())) => {}
+                Ok(None) => self.refuse(line),
+                Err(_) => self.note(Err(OutOfMemory)),
+            }
+            return;
+        }
+        self.settle();
+        if word.is_empty() || word == b"#".as_slice() {
+            return;
+        }
+        match step_of(word) {
+            Some(step) => self.take_step(step, line, rest),
+            None => self.refuse(line),
+        }
+    }
+
+    fn finish(&mut self) -> Vec<u8> {
+        self.settle();
+        mem::replace(&mut self.page, Page::new(self.alloc)).into_bytes()
     }
 }

@@ -1,4 +1,5 @@
 // The steps of a suite, by their words.
+use ctr_suite::named;
 
 /// What a line of a suite asks for.
 #[derive(Clone, Copy, PartialEq, Eq)]
@@ -96,10 +97,5 @@ const STEPS: [(&str, Step); 32] = [
 
 /// The step that a word names.
 pub fn step_of(word: &[u8]) -> Option<Step> {
-    for (name, step) in &STEPS {
-        if word == name.as_bytes() {
-            return Some(*step);
-        }
-    }
-    None
+    named(&STEPS, word)
 }

@@ -1,8 +1,8 @@
 // The changes of a database that is loaded before the engine is opened over it. Each gives nothing where
 // the line can't be read.
 use crate::steps::{key_of, name_of, row_of};
-use crate::words::split_word;
 use ctr_rows::Loader;
+use ctr_suite::{named, split_word};
 use ctr_types::{List, Name, Schema};
 use std::alloc::Global;
 
@@ -24,12 +24,7 @@ const LOADS: &[(&str, Load)] = &[
 
 /// What a line's first word loads.
 pub fn load_of(word: &[u8]) -> Option<Load> {
-    for (text, load) in LOADS {
-        if word == text.as_bytes() {
-            return Some(*load);
-        }
-    }
-    None
+    named(LOADS, word)
 }
 
 /// Loads a change.

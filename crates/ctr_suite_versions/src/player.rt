@@ -1,8 +1,9 @@
 // Plays the lines of a suite.
 use crate::loads::{do_load, load_of};
 use crate::steps::{do_step, rows_of, sight_of, step_of, wanted};
-use crate::words::{number, split_word};
+use crate::words::number;
 use ctr_rows::{Engine, Loader};
+use ctr_suite::{Plays, split_word};
 use std::alloc::Global;
 use std::mem;
 
@@ -19,18 +20,6 @@ pub struct Player {
 }
 
 impl Player {
-    pub fn new(alloc: Global) -> Player {
-        Player {
-            alloc,
-            loader: None,
-            engine: None,
-            cases: 0,
-            seen: 0,
-            wrong: 0,
-            page: Vec::new(alloc),
-        }
-    }
-
     fn add(&mut self, text: &[u8]) {
         let _ = self.page.extend_from_slice(text);
     }
@@ -78,9 +67,22 @@ impl Player {
         self.add(line);
         self.add(b"\n");
     }
+}
 
-    /// Takes a line of the suite.
-    pub fn take_line(&mut self, line: &[u8]) {
+impl Plays for Player {
+    fn new(alloc: Global) -> Player {
+        Player {
+            alloc,
+            loader: None,
+            engine: None,
+            cases: 0,
+            seen: 0,
+            wrong: 0,
+            page: Vec::new(alloc),
+        }
+    }
+
+    fn take_line(&mut self, line: &[u8]) {
         let (word, rest) = split_word(line);
         if word.is_empty() || word == b"#".as_slice() {
             return;
@@ -116,8 +118,8 @@ impl Player {
         }
     }
 
-    /// What was printed. It ends with how many histories there were, how many looks, and how many lines went otherwise.
-    pub fn finish(&mut self) -> Vec<u8> {
+    // It ends with how many histories there were, how many looks, and how many lines went otherwise.
+    fn finish(&mut self) -> Vec<u8> {
         let (cases, seen, wrong) = (self.cases, self.seen, self.wrong);
         let text = format!(in self.alloc; "{cases} histories, {seen} looks, {wrong} otherwise\n");
         if let Ok(text) = text {

@@ -1,7 +1,8 @@
 // The steps of a history over the engine. Each gives nothing where it can't be done there.
-use crate::words::{number, split_word};
+use crate::words::number;
 use ctr_model::Key;
 use ctr_rows::Engine;
+use ctr_suite::{named, split_word};
 use ctr_types::{List, Name, Plain, Row, Schema, Text, Value};
 use std::alloc::Global;
 
@@ -53,12 +54,7 @@ const STEPS: &[(&str, Step)] = &[
 
 /// The step of a line's first word.
 pub fn step_of(word: &[u8]) -> Option<Step> {
-    for (text, step) in STEPS {
-        if word == text.as_bytes() {
-            return Some(*step);
-        }
-    }
-    None
+    named(STEPS, word)
 }
 
 /// What a session sees of a key.

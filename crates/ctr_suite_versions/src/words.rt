@@ -1,12 +1,4 @@
-// Words and numbers of a line.
-
-/// The first word of a line, and what stands behind the blank.
-pub fn split_word(line: &[u8]) -> (&[u8], &[u8]) {
-    match line.iter().position(|byte| *byte == b' ') {
-        Some(at) => (&line[..at], &line[at + 1..]),
-        None => (line, &line[line.len()..]),
-    }
-}
+// Numbers of a line.
 
 /// The whole number that a word is, if it is one: digits.
 pub fn number(word: &[u8]) -> Option<u64> {
