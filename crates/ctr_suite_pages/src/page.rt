@@ -1,7 +1,7 @@
 // What is printed: of each case a line with what its steps answered, and what came otherwise than is wanted.
 use crate::suite::Line;
 use crate::told::Told;
-use crate::words::Words;
+use ctr_suite::Words;
 use std::alloc::{AllocError, Global};
 
 /// A page that grows. Where memory is refused a part is missing, which shows as well as a wrong answer does.

@@ -1,8 +1,9 @@
 // Steps as they are written.
 use crate::steps::{OutsideStep, PageStep, RowStep, Step, TableStep, TurnStep, VersionStep};
-use crate::words::Words;
+use crate::words::{place, version};
 use crate::writes::NewRow;
 use ctr_page::Header;
+use ctr_suite::Words;
 use ctr_types::Kind;
 
 fn turn_step(verb: &[u8], words: &mut Words) -> Option<TurnStep> {
@@ -146,17 +147,17 @@ fn ruled_step(verb: &[u8], words: &mut Words) -> Option<RowStep> {
             count: words.value(),
         },
         b"read" => RowStep::Read {
-            place: words.place(),
+            place: place(words),
             number: words.value(),
             own: false,
         },
         b"mine" => RowStep::Read {
-            place: words.place(),
+            place: place(words),
             number: words.value(),
             own: true,
         },
         b"newest" => RowStep::Newest {
-            place: words.place(),
+            place: place(words),
         },
         _ => return None,
     };
@@ -172,19 +173,19 @@ fn version_step(verb: &[u8], words: &mut Words) -> Option<VersionStep> {
             entry: words.value(),
         },
         b"row" => VersionStep::Row {
-            place: words.place(),
+            place: place(words),
             width: words.value(),
             key: words.value(),
             says: words.value(),
-            previous: words.version(),
-            older: words.place(),
+            previous: version(words),
+            older: place(words),
         },
         b"keep" => VersionStep::Keep {
-            place: words.place(),
+            place: place(words),
             width: words.value(),
             key: words.value(),
-            version: words.version(),
-            older: words.place(),
+            version: version(words),
+            older: place(words),
         },
         _ => return place_step(verb, words),
     };
@@ -195,17 +196,17 @@ fn version_step(verb: &[u8], words: &mut Words) -> Option<VersionStep> {
 fn place_step(verb: &[u8], words: &mut Words) -> Option<VersionStep> {
     let step = match verb {
         b"trim" => VersionStep::Trim {
-            place: words.place(),
+            place: place(words),
         },
         b"revert" => VersionStep::Revert {
-            place: words.place(),
+            place: place(words),
         },
         b"slot" => VersionStep::Slot {
-            place: words.place(),
+            place: place(words),
             width: words.value(),
         },
         b"entry" => VersionStep::Entry {
-            place: words.place(),
+            place: place(words),
         },
         _ => return None,
     };
@@ -224,7 +225,7 @@ fn outside_step(verb: &[u8], words: &mut Words) -> Option<OutsideStep> {
             pages: words.value(),
         },
         b"cost" => OutsideStep::Cost {
-            place: words.place(),
+            place: place(words),
             number: words.value(),
         },
         _ => return None,

@@ -1,6 +1,6 @@
 // Lines as they are written.
 use crate::steps::{Overlay, Step};
-use crate::words::Words;
+use ctr_suite::Words;
 use ctr_types::File;
 
 /// Bytes that are written into a file by hand.
