@@ -1,20 +1,11 @@
 // Entries of a page of the catalog, found by name; free ones; and damage on the way.
 ghost use Rattle.std.specs.Prelude.{◌≡◌, length};
 
+use crate::searched::{lay, show};
 use ctr_catalog::{find_free, find_named};
-use ctr_page::BadPage;
 use ctr_types::{Name, OutOfMemory, Text};
 use std::alloc::Global;
 use std::test::Fail;
-
-// Lays bytes on a page.
-fn lay(page: &mut [u8], at: usize, bytes: &[u8]) {
-    for i in 0..bytes.len() {
-        if at < page.len() && i < page.len() - at {
-            page[at + i] = bytes[i];
-        }
-    }
-}
 
 // An entry of a table of one column: its state, and the one byte of its name.
 fn enter(page: &mut [u8], entry: usize, state: u8, name: u8) {
@@ -32,14 +23,6 @@ fn make(page: &mut [u8]) {
     enter(page, 2, 1, b'u');
     enter(page, 3, 0, b't');
     enter(page, 15, 1, b't');
-}
-
-fn show(alloc: Global, found: Result<Option<u8>, BadPage>) -> Result<String, OutOfMemory> {
-    match found {
-        Ok(None) => Ok(String::new(alloc)),
-        Ok(Some(entry)) => Ok(format!(in alloc; "{}", entry)?),
-        Err(bad) => Ok(format!(in alloc; "{} {} {}", bad.at, bad.want, bad.got)?),
-    }
 }
 
 // A byte that is altered, the name that is sought then from an entry on, or none for a free one, and what

@@ -1,5 +1,10 @@
-// A database that is laid by hand.
+// A database that is laid by hand, and a store that is opened on it.
+ghost use Rattle.std.specs.Prelude.{◌≡◌, ◌≤◌, false, IfSome};
+
+use ctr_base::Origin;
+use ctr_disk::Disk;
 use ctr_mem_disk::{Image, MemDisk, SilentDisk};
+use ctr_store::Store;
 use ctr_types::{File, List};
 use std::alloc::{AllocError, Global};
 
@@ -34,4 +39,24 @@ pub fn disk_of(alloc: Global, next: u8, pages: &[Laid]) -> Result<SilentDisk, Al
     lay(alloc, &mut image, next, pages)?;
     let disk = MemDisk::new(alloc, image, List::new(alloc))?;
     Ok(SilentDisk { disk })
+}
+
+// How page 1 begins at home, with this state in its first entry: that of a table t of one column k.
+pub fn first_page(state: u8) -> [u8; 50] {
+    let mut page =
+        *b"\x01\x01\0\0\0\x01\0\0\0\0\0\0\0\0\0\0\0\0\0\0\0\0\0\0\0\0\0\0\0\0\x01t\0\0\0\0\0\0\0\0\0\0\0\0\0\0\0\x01\x01k";
+    page[13] = state;
+    page
+}
+
+// The store over a disk.
+pub fn opened<D: Disk + Drop, O: Origin>(alloc: Global, disk: D) -> Option<Store<D, O>>
+    requires { O.first ≡ D.reads disk }
+    ensures going { IfSome result (λ store. store.stopped ≡ false) }
+    ensures counted { IfSome result (λ store. (64 ≤ store.now.counted) × (store.now.counted ≤ 30000)) }
+{
+    match Store::<D, O>::open(alloc, disk, 8) {
+        Ok(store) => Some(store),
+        Err(_) => None,
+    }
 }

@@ -13,6 +13,8 @@ mod entries;
 #[cfg(test)]
 mod laid;
 #[cfg(test)]
+mod searched;
+#[cfg(test)]
 mod slots;
 #[cfg(test)]
 mod stores;

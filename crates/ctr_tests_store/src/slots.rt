@@ -1,20 +1,10 @@
 // Slots of a page of rows of one INT, found by key; free ones; and damage on the way.
 ghost use Rattle.std.specs.Prelude.{◌≡◌, length};
 
+use crate::searched::{lay, show};
 use ctr_heap::{SlotSought, search_slots};
-use ctr_page::BadPage;
-use ctr_types::{Kind, OutOfMemory};
-use std::alloc::Global;
+use ctr_types::Kind;
 use std::test::Fail;
-
-// Lays bytes on a page.
-fn lay(page: &mut [u8], at: usize, bytes: &[u8]) {
-    for i in 0..bytes.len() {
-        if at < page.len() && i < page.len() - at {
-            page[at + i] = bytes[i];
-        }
-    }
-}
 
 // Slots have 49 bytes: one of 7, a free one with old bytes of 9, one of -1, one of the least key, and the
 // last, of 82.
@@ -24,14 +14,6 @@ fn make(page: &mut [u8]) {
     lay(page, 114, b"\x01\xff\xff\xff\xff\xff\xff\xff\xff\x05");
     lay(page, 163, b"\x01\0\0\0\0\0\0\0\x80\x05");
     lay(page, 4034, b"\x01\x52\0\0\0\0\0\0\0\x05");
-}
-
-fn show(alloc: Global, found: Result<Option<u16>, BadPage>) -> Result<String, OutOfMemory> {
-    match found {
-        Ok(None) => Ok(String::new(alloc)),
-        Ok(Some(slot)) => Ok(format!(in alloc; "{}", slot)?),
-        Err(bad) => Ok(format!(in alloc; "{} {} {}", bad.at, bad.want, bad.got)?),
-    }
 }
 
 // A byte that is altered, what is sought then, and what is found.

@@ -1,12 +1,11 @@
 // Free entries of the catalog of a store that is opened on bytes made by hand.
 ghost use Rattle.std.specs.Prelude.{◌≡◌};
 
-use crate::laid::{Laid, disk_of};
+use crate::laid::{Laid, disk_of, first_page, opened};
 use ctr_base::Origin;
 use ctr_catalog::find_free_entry;
 use ctr_disk::{Disk, StoreFault};
 use ctr_mem_disk::SilentDisk;
-use ctr_store::Store;
 use ctr_types::File;
 use std::alloc::{AllocError, Global};
 use std::marker::Brand;
@@ -18,31 +17,8 @@ type Answer = Result<Option<u8>, StoreFault>;
 fn found<D: Disk + Drop, O: Origin>(alloc: Global, disk: D) -> Option<Answer>
     requires { O.first ≡ D.reads disk }
 {
-    match Store::<D, O>::open(alloc, disk, 8) {
-        Ok(store) => {
-            let mut store = store;
-            if store.counted() == 0 {
-                return None;
-            }
-            Some(find_free_entry(&mut store))
-        }
-        Err(_) => None,
-    }
-}
-
-// The entry of a table of one column, as it begins; and the page 1 at home, with this state in its first entry.
-fn first_page(state: u8) -> [u8; 50] {
-    let mut page = [0; 50];
-    page[0] = 1;
-    page[1] = 1;
-    page[5] = 1;
-    page[13] = state;
-    page[30] = 1;
-    page[31] = b't';
-    page[47] = 1;
-    page[48] = 1;
-    page[49] = b'k';
-    page
+    let mut store = opened::<D, O>(alloc, disk)?;
+    Some(find_free_entry(&mut store))
 }
 
 // What is found where page 1 begins with these bytes at home.

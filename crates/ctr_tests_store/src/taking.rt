@@ -1,12 +1,11 @@
 // The next free page of a store that is opened on bytes made by hand.
 ghost use Rattle.std.specs.Prelude.{◌≡◌};
 
-use crate::laid::{Laid, disk_of};
+use crate::laid::{Laid, disk_of, opened};
 use ctr_alloc::{NextFree, Search, next_free};
 use ctr_base::Origin;
 use ctr_disk::Disk;
 use ctr_mem_disk::SilentDisk;
-use ctr_store::Store;
 use std::alloc::{AllocError, Global};
 use std::marker::Brand;
 use std::test::Fail;
@@ -15,13 +14,8 @@ use std::test::Fail;
 fn next<D: Disk + Drop, O: Origin>(alloc: Global, disk: D) -> Option<NextFree>
     requires { O.first ≡ D.reads disk }
 {
-    match Store::<D, O>::open(alloc, disk, 8) {
-        Ok(store) => {
-            let mut store = store;
-            next_free(&mut store, &mut Search::new()).ok()
-        }
-        Err(_) => None,
-    }
+    let mut store = opened::<D, O>(alloc, disk)?;
+    next_free(&mut store, &mut Search::new()).ok()
 }
 
 // The same where page 0 begins with these bytes at home.

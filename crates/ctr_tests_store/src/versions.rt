@@ -2,60 +2,32 @@
 // made by hand.
 ghost use Rattle.std.specs.Prelude.{◌≡◌};
 
-use crate::laid::{Laid, disk_of};
+use crate::laid::{Laid, disk_of, first_page, opened};
 use ctr_base::Origin;
 use ctr_chain::{ReadRefusal, newest, visible};
 use ctr_disk::{Disk, StoreFault};
 use ctr_mem_disk::SilentDisk;
 use ctr_page::Place;
 use ctr_snap::Snapshot;
-use ctr_store::Store;
 use ctr_types::{File, Row, Value, Xid};
 use std::alloc::{AllocError, Global};
 use std::marker::Brand;
 use std::test::Fail;
 
-// Its home begins with 13 bytes, then the entry 0: a live table of one column.
-fn first_page() -> [u8; 228] {
-    let mut page = [0; 228];
-    page[0] = 1;
-    page[1] = 1;
-    page[5] = 1;
-    page[13] = 1;
-    page[30] = 1;
-    page[31] = b't';
-    page[47] = 1;
-    page[48] = 1;
-    page[49] = b'k';
-    page
-}
-
 // Page 3: a slot of the key 7, by these transactions, with a version kept at the first place of page 4.
 fn third_page(head: u8, previous: u8) -> [u8; 62] {
-    let mut page = [0; 62];
-    page[0] = 1;
-    page[1] = 3;
-    page[5] = 1;
-    page[13] = 1;
-    page[29] = 1;
-    page[30] = 7;
+    let mut page =
+        *b"\x01\x03\0\0\0\x01\0\0\0\0\0\0\0\x01\0\0\0\0\0\0\0\0\0\0\0\0\0\0\0\x01\x07\0\0\0\0\0\0\0\0\0\0\0\0\0\0\0\0\0\0\0\0\0\0\0\0\0\x04\0\0\0\0\0";
     page[38] = head;
     page[47] = previous;
-    page[56] = 4;
     page
 }
 
 // Page 4: a tombstone of this transaction, and a pointer to the first place of a page.
 fn fourth_page(xid: u8, older: u8) -> [u8; 53] {
-    let mut page = [0; 53];
-    page[0] = 1;
-    page[1] = 4;
-    page[5] = 1;
-    page[13] = 2;
-    page[29] = 1;
-    page[30] = 7;
+    let mut page =
+        *b"\x01\x04\0\0\0\x01\0\0\0\0\0\0\0\x02\0\0\0\0\0\0\0\0\0\0\0\0\0\0\0\x01\x07\0\0\0\0\0\0\0\0\0\0\0\0\0\0\0\x01\0\0\0\0\0\0";
     page[38] = xid;
-    page[46] = 1;
     page[47] = older;
     page
 }
@@ -67,17 +39,8 @@ type Seen = Result<Option<Row>, ReadRefusal>;
 fn newest_on<D: Disk + Drop, O: Origin>(alloc: Global, disk: D) -> Option<Newest>
     requires { O.first ≡ D.reads disk }
 {
-    match Store::<D, O>::open(alloc, disk, 8) {
-        Ok(store) => {
-            let mut store = store;
-            let counted = store.counted();
-            if counted < 64 || counted > 30_000 {
-                return None;
-            }
-            Some(newest(&mut store, Place { page: 3, slot: 0 }))
-        }
-        Err(_) => None,
-    }
+    let mut store = opened::<D, O>(alloc, disk)?;
+    Some(newest(&mut store, Place { page: 3, slot: 0 }))
 }
 
 fn seen_on<D: Disk + Drop, O: Origin>(
@@ -88,22 +51,13 @@ fn seen_on<D: Disk + Drop, O: Origin>(
 ) -> Option<Seen>
     requires { O.first ≡ D.reads disk }
 {
-    match Store::<D, O>::open(alloc, disk, 8) {
-        Ok(store) => {
-            let mut store = store;
-            let counted = store.counted();
-            if counted < 64 || counted > 30_000 {
-                return None;
-            }
-            Some(visible(alloc, &mut store, Place { page: 3, slot: 0 }, snapshot, me))
-        }
-        Err(_) => None,
-    }
+    let mut store = opened::<D, O>(alloc, disk)?;
+    Some(visible(alloc, &mut store, Place { page: 3, slot: 0 }, snapshot, me))
 }
 
 // The disk on which the pages 3 and 4 begin so. The next transaction is 3, so 1 and 2 are committed.
 fn disk_with(alloc: Global, third: &[u8], fourth: &[u8]) -> Result<SilentDisk, AllocError> {
-    let first = first_page();
+    let first = first_page(1);
     let pages = [
         Laid(8_256, &first),
         Laid(24_768, third),
