@@ -3,10 +3,12 @@
 //! `ReadSource` and `WriteSink` tell nothing of the bytes: what a real stream holds isn't known.
 #![tactic(auto)]
 
+mod calls;
 mod edges;
 mod memory;
 mod streams;
 
+pub use calls::Calls;
 pub use edges::{Failed, Sink, Source};
 pub use memory::{MemSink, MemSource};
 pub use streams::{ReadSource, WriteSink};

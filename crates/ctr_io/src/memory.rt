@@ -1,6 +1,7 @@
 // A source and a sink in memory.
 ghost use Rattle.std.specs.Prelude.{◌≤◌, ◌<◌, length};
 
+use crate::calls::Calls;
 use crate::{Failed, Sink, Source};
 use ctr_types::{List, Text};
 use std::alloc::{AllocError, Global};
@@ -11,12 +12,9 @@ pub struct MemSource {
     bytes: Text,
     /// How many bytes were taken.
     at: usize,
-    most: usize,
-    fails: List<u64>,
-    calls: u64,
-    faults: u64,
+    calls: Calls,
     ghost inside: { at ≤ length bytes },
-    ghost some: { 0 < most },
+    ghost some: { 0 < calls.most },
 }
 
 impl MemSource {
@@ -38,10 +36,7 @@ impl MemSource {
         MemSource {
             bytes,
             at: 0,
-            most,
-            fails,
-            calls: 0,
-            faults: 0,
+            calls: Calls::new(fails, most),
         }
     }
 }
@@ -50,32 +45,28 @@ impl Source for MemSource {
     ghost use Rattle.std.specs.Prelude.{◌≡◌, ◌↔◌, [], min, true, is_err, IfOk, OnErr};
     ghost use Rattle.ctr_types.specs.Faults.{HasCause};
     ghost use Rattle.ctr_io.specs.Outside.{TakesNext};
-    ghost use Rattle.ctr_io.specs.Memory.{bytes_left, most_taken, failing_takes, counted_takes, source_faults, is_listed, TakeCounts};
+    ghost use Rattle.ctr_io.specs.Memory.{bytes_left, takes, is_listed, CallCounts};
 
     ghost tells = { true };
 
     ghost left = { bytes_left };
 
-    ghost faults_of = { source_faults };
+    ghost faults_of = { λ s. (takes s).faults };
 
     fn take(&mut self, into: &mut [u8]) -> Result<usize, Failed>
         requires { 0 < length into.old }
         ensures bound { IfOk result (λ n. n ≤ length into.old) }
-        ensures amount { IfOk result (λ n. n ≡ min (min (length (bytes_left self.old)) (length into.old)) (most_taken self.old)) }
+        ensures amount { IfOk result (λ n. n ≡ min (min (length (bytes_left self.old)) (length into.old)) (takes self.old).most) }
         ensures told { IfOk result (λ n. TakesNext n into.new (bytes_left self.old) (bytes_left self.new)) }
         ensures end { IfOk result (λ n. (n ≡ 0) ↔ (bytes_left self.old ≡ [])) }
         ensures err { OnErr result (bytes_left self.new ≡ bytes_left self.old) }
-        ensures listed { is_err result ≡ is_listed (failing_takes self.old) (counted_takes self.old) }
-        ensures counts { TakeCounts self.old self.new }
-        ensures cause { HasCause (source_faults self.old) (source_faults self.new) result }
+        ensures listed { is_err result ≡ is_listed (takes self.old) }
+        ensures counts { CallCounts (takes self.old) (takes self.new) }
+        ensures cause { HasCause (takes self.old).faults (takes self.new).faults result }
     {
-        self.calls = self.calls.saturating_add(1);
-        if self.fails.as_slice().contains(&self.calls) {
-            self.faults = self.faults.saturating_add(1);
-            return Err(Failed);
-        }
+        self.calls.call()?;
         let left = &self.bytes.as_slice()[self.at..];
-        let n = left.len().min(into.len()).min(self.most);
+        let n = left.len().min(into.len()).min(self.calls.most);
         for i in 0..n {
             into[i] = left[i];
         }
@@ -84,7 +75,7 @@ impl Source for MemSource {
     }
 
     fn faults(&self) -> u64 {
-        self.faults
+        self.calls.faults
     }
 }
 
@@ -92,12 +83,9 @@ impl Source for MemSource {
 #[derive(Drop)]
 pub struct MemSink {
     bytes: Vec<u8>,
-    most: usize,
-    fails: List<u64>,
-    calls: u64,
-    faults: u64,
+    calls: Calls,
     starved: u64,
-    ghost some: { 0 < most },
+    ghost some: { 0 < calls.most },
 }
 
 impl MemSink {
@@ -119,10 +107,7 @@ impl MemSink {
     {
         MemSink {
             bytes: Vec::new(alloc),
-            most,
-            fails,
-            calls: 0,
-            faults: 0,
+            calls: Calls::new(fails, most),
             starved: 0,
         }
     }
@@ -140,10 +125,7 @@ impl MemSink {
     {
         let MemSink {
             bytes,
-            most: _,
-            fails: _,
             calls: _,
-            faults: _,
             starved: _,
         } = self;
         bytes
@@ -161,38 +143,34 @@ impl Sink for MemSink {
     ghost use Rattle.std.specs.Prelude.{◌≡◌, min, true, IfOk, OnErr};
     ghost use Rattle.ctr_types.specs.Faults.{HasCause};
     ghost use Rattle.ctr_io.specs.Outside.{PutsNext};
-    ghost use Rattle.ctr_io.specs.Memory.{bytes_put, most_put, sink_faults, PutCounts, PutFails};
+    ghost use Rattle.ctr_io.specs.Memory.{bytes_put, puts, CallCounts, PutFails};
 
     ghost tells = { true };
 
     ghost taken = { bytes_put };
 
-    ghost faults_of = { sink_faults };
+    ghost faults_of = { λ s. (puts s).faults };
 
     fn put(&mut self, bytes: &[u8]) -> Result<usize, Failed>
         ensures bound { IfOk result (λ n. (n ≤ length bytes.now) × (0 < length bytes.now → 0 < n)) }
-        ensures amount { IfOk result (λ n. n ≡ min (length bytes.now) (most_put self.old)) }
+        ensures amount { IfOk result (λ n. n ≡ min (length bytes.now) (puts self.old).most) }
         ensures told { IfOk result (λ n. PutsNext n bytes.now (bytes_put self.old) (bytes_put self.new)) }
         ensures err { OnErr result (bytes_put self.new ≡ bytes_put self.old) }
         ensures fails { PutFails self.old self.new result }
-        ensures counts { PutCounts self.old self.new }
-        ensures cause { HasCause (sink_faults self.old) (sink_faults self.new) result }
+        ensures counts { CallCounts (puts self.old) (puts self.new) }
+        ensures cause { HasCause (puts self.old).faults (puts self.new).faults result }
     {
-        self.calls = self.calls.saturating_add(1);
-        if self.fails.as_slice().contains(&self.calls) {
-            self.faults = self.faults.saturating_add(1);
-            return Err(Failed);
-        }
-        let n = bytes.len().min(self.most);
+        self.calls.call()?;
+        let n = bytes.len().min(self.calls.most);
         let Ok(()) = self.bytes.extend_from_slice(&bytes[..n]) else {
             self.starved = self.starved.saturating_add(1);
-            self.faults = self.faults.saturating_add(1);
+            self.calls.faults = self.calls.faults.saturating_add(1);
             return Err(Failed);
         };
         Ok(n)
     }
 
     fn faults(&self) -> u64 {
-        self.faults
+        self.calls.faults
     }
 }
