@@ -1,5 +1,5 @@
 // The classes of bytes, and how long a line goes on in one of them.
-ghost use Rattle.std.specs.Prelude.{◌≡◌, ◌≤◌, ◌<◌, ◌↔◌, ℕ, length, IsTrue, slice_index};
+ghost use Rattle.std.specs.Prelude.{◌≡◌, ◌≤◌, ◌<◌, ◌↔◌, ℕ, length, IsTrue, true, false, slice_index};
 ghost use Rattle.ctr_model.specs.Grammar.{IsBlank, IsDigit, IsLetter, IsPrintable, IsSign, IsWordByte};
 
 pub(crate) fn is_blank(byte: u8) -> bool
@@ -45,18 +45,28 @@ pub(crate) fn is_sign(byte: u8) -> bool
         || byte == b'*'
 }
 
+// How many bytes they begin with that are so.
+fn front_len<P: Fn(u8) -> bool>(bytes: &[u8], is: P) -> usize
+    requires { P.IsAlwaysCallable is }
+    ensures within { result ≤ length bytes.now }
+    ensures all { (k : ℕ) → k < result → P.post is (slice_index bytes.now k) true }
+    ensures stops { result < length bytes.now → P.post is (slice_index bytes.now result) false }
+{
+    for (i, byte) in bytes.iter().enumerate() {
+        if !is(*byte) {
+            return i;
+        }
+    }
+    bytes.len()
+}
+
 /// How many blanks the bytes begin with.
 pub fn blanks_len(bytes: &[u8]) -> usize
     ensures within { result ≤ length bytes.now }
     ensures all { (k : ℕ) → k < result → IsBlank (slice_index bytes.now k) }
     ensures stops { result < length bytes.now → IsBlank (slice_index bytes.now result) → ⊥ }
 {
-    for (i, byte) in bytes.iter().enumerate() {
-        if !is_blank(*byte) {
-            return i;
-        }
-    }
-    bytes.len()
+    front_len(bytes, is_blank)
 }
 
 /// How many letters, digits and _ they begin with.
@@ -65,12 +75,7 @@ pub(crate) fn word_len(bytes: &[u8]) -> usize
     ensures all { (k : ℕ) → k < result → IsWordByte (slice_index bytes.now k) }
     ensures stops { result < length bytes.now → IsWordByte (slice_index bytes.now result) → ⊥ }
 {
-    for (i, byte) in bytes.iter().enumerate() {
-        if !is_word_byte(*byte) {
-            return i;
-        }
-    }
-    bytes.len()
+    front_len(bytes, is_word_byte)
 }
 
 /// How many digits they begin with.
@@ -79,10 +84,5 @@ pub(crate) fn digits_len(bytes: &[u8]) -> usize
     ensures all { (k : ℕ) → k < result → IsDigit (slice_index bytes.now k) }
     ensures stops { result < length bytes.now → IsDigit (slice_index bytes.now result) → ⊥ }
 {
-    for (i, byte) in bytes.iter().enumerate() {
-        if !is_digit(*byte) {
-            return i;
-        }
-    }
-    bytes.len()
+    front_len(bytes, is_digit)
 }
