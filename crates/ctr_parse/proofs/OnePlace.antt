@@ -2,14 +2,16 @@
 use Rattle.std.proofs.Common.{◌≡◌, ℕ, ◌+◌, List, [], ◌∷◌, ◌++◌, Some, Result, Ok, Err, refl, sym, ap, ◌∙◌, subst, inl, inr, append_assoc, append-nil}
 use Rattle.ctr_types.specs.declared.statement.Line.{Line}
 use Rattle.ctr_types.specs.declared.statement.Statement.{Statement}
-use Rattle.ctr_lex.specs.Tokens.{StandInOrder}
+use Rattle.ctr_lex.specs.Tokens.{StandInOrder, IsTakenApart}
 use Rattle.ctr_model.specs.Grammar.{Lexes}
 use Rattle.ctr_model.specs.Places.{IsBadAt, IsTokenAt, Says, SomeBegins, GoesWrongAt, wrong_token, no_token, too_short}
 use Rattle.ctr_model.specs.Language.{SpellsStatement, SpellsLine}
 use Rattle.ctr_parse.specs.declared.refusal.ParseRefusal.{ParseRefusal}
 use Rattle.ctr_parse.specs.declared.refusal.ParseRefusal.TheVariants as refusal
-use Rattle.ctr_parse.specs.Answers.{IsParsed, IsDecidedBy}
+use Rattle.ctr_parse.specs.Answers.{IsParsed, IsDecidedBy, ReadsOne}
+use Rattle.ctr_parse.specs.Trees.{Tree}
 use Rattle.ctr_parse.proofs.Again.{alone_goes, line_goes}
+use Rattle.ctr_parse.proofs.PlaceLemmas.{Decides, says_or_not}
 
 -- what the crate below says of the tokens of a line
 pub record Facts : Type 0 where
@@ -19,6 +21,7 @@ pub record Facts : Type 0 where
   pub lexed : (line : List ℕ) (ts us : List (List ℕ)) (t : List ℕ) (i : ℕ) → IsTokenAt line ts t i → Lexes line us → (more : List (List ℕ)) × (us ≡ ts ++ t ∷ more)
   pub before_bad : (line : List ℕ) (ts us : List (List ℕ)) (t : List ℕ) (i j : ℕ) → IsTokenAt line ts t i → IsBadAt line us j → (more : List (List ℕ)) × (us ≡ ts ++ t ∷ more)
   pub ordered : (line : List ℕ) (ts us : List (List ℕ)) (t u : List ℕ) (i j : ℕ) → IsTokenAt line ts t i → IsTokenAt line us u j → StandInOrder ts t i us u j
+  pub taken : (line : List ℕ) → IsTakenApart line
 
 -- what begins with some tokens begins with fewer of them
 begins_less : {X : Type 0} (Spells : List (List ℕ) → X → Type 0) (ts us : List (List ℕ)) (t : List ℕ) → ((more : List (List ℕ)) × (us ≡ ts ++ t ∷ more)) → SomeBegins Spells us → SomeBegins Spells (ts ++ t ∷ [])
@@ -51,6 +54,15 @@ one_place f Spells line a b (no_token ts i bad p e) (too_short us l p' n' e') = 
 one_place f Spells line a b (too_short ts l p n e) (wrong_token us u j is' p' n' e') = absurd (n' (begins_less Spells us ts u (f.lexed line us ts u j is' l) p))
 one_place f Spells line a b (too_short ts l p n e) (no_token us j bad p' e') = absurd (f.no_bad line us ts j bad l)
 one_place f Spells line a b (too_short ts l p n e) (too_short us l' p' n' e') = e ∙ sym e'
+
+-- so where what is said is one thing, a text is read one way
+pub reads_one : {X : Type 0} → Facts → (tree : Tree Line) {Spells : List (List ℕ) → X → Type 0} → Decides tree Spells → ((text : List ℕ) (x y : X) → Says Spells text x → Says Spells text y → x ≡ y) → ReadsOne Spells
+reads_one f tree {Spells} decides said = record {
+  said = said;
+  place = λ text a b. one_place f Spells text a b;
+  never_both = λ text x a. never_both f Spells text x a;
+  one_of_both = λ text. says_or_not tree Spells decides text (f.taken text);
+}
 
 -- so what was answered is the only answer
 pub decided : {X : Type 0} (Spells : List (List ℕ) → X → Type 0) (bytes : List ℕ) (r : Result X ParseRefusal) → ((x y : X) → Says Spells bytes x → Says Spells bytes y → x ≡ y)

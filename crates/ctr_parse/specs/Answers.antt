@@ -21,6 +21,16 @@ pub record IsDecidedBy {X : Type 0} (Spells : List (List ℕ) → X → Type 0) 
   pub wrong : (at : ℕ) → GoesWrongAt Spells bytes at
       → MatchResult result (λ _. ⊥) (λ e. (e ≡ refusal.ParseError at) ⊎ (e ≡ refusal.OutOfMemory))
 
+-- Texts read so: each says one thing, or goes wrong at one place, and never both.
+pub record ReadsOne {X : Type 0} (Spells : List (List ℕ) → X → Type 0) : Type 0 where
+  pub said : (text : List ℕ) (x y : X) → Says Spells text x → Says Spells text y → x ≡ y
+  pub place : (text : List ℕ) (a b : ℕ) → GoesWrongAt Spells text a → GoesWrongAt Spells text b
+      → a ≡ b
+  pub never_both : (text : List ℕ) (x : X) (a : ℕ) → Says Spells text x
+      → GoesWrongAt Spells text a → ⊥
+  pub one_of_both : (text : List ℕ)
+      → ((x : X) × Says Spells text x) ⊎ ((at : ℕ) × GoesWrongAt Spells text at)
+
 -- the byte at which no token begins, or the end
 abbrev pub end_of : Option ℕ → ℕ → ℕ
 end_of None length = length

@@ -15,6 +15,6 @@ mod statement;
 mod stop;
 mod word;
 
-pub use laws::{one_line, one_statement};
+pub use laws::one_reading;
 pub use parse::{parse_line, parse_statement};
 pub use refusal::ParseRefusal;

@@ -3,7 +3,7 @@ ghost use Rattle.std.specs.Prelude.{◌≡◌};
 ghost use Rattle.ctr_model.specs.Language.{SpellsStatement, SpellsLine};
 ghost use Rattle.ctr_parse.specs.Answers.{IsParsed, IsDecidedBy};
 
-use crate::laws::{one_line, one_statement};
+use crate::laws::one_reading;
 use crate::refusal::{ParseRefusal, refusal_of};
 use crate::statement::{alone, line};
 use ctr_lex::tokens;
@@ -36,7 +36,7 @@ pub fn parse_statement(alloc: Global, text: &str) -> Result<Statement, ParseRefu
     ensures parsed { IsParsed SpellsStatement text.now result }
     ensures only { IsDecidedBy SpellsStatement text.now result }
 {
-    one_statement();
+    one_reading();
     statement_of(alloc, text.as_bytes())
 }
 
@@ -62,6 +62,6 @@ pub fn parse_line(alloc: Global, line: &[u8]) -> Result<Line, ParseRefusal>
     ensures parsed { IsParsed SpellsLine line.now result }
     ensures only { IsDecidedBy SpellsLine line.now result }
 {
-    one_line();
+    one_reading();
     line_of(alloc, line)
 }

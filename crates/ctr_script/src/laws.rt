@@ -5,7 +5,7 @@ ghost use Rattle.ctr_model.specs.Language.{SpellsLine};
 ghost use Rattle.ctr_model.specs.Lines.{IsWritten, IsRefusedIn};
 
 use ctr_lex::one_lexing;
-use ctr_parse::one_line;
+use ctr_parse::one_reading;
 
 /// Bytes are one script, or refused at one place, and never both.
 pub fn one_script()
@@ -16,5 +16,5 @@ pub fn one_script()
     ensures one_of_both { (bytes : List ℕ) → ((ls : List Line) × IsWritten SpellsLine bytes ls) ⊎ ((line at : ℕ) × IsRefusedIn SpellsLine bytes line at) }
 {
     one_lexing();
-    one_line();
+    one_reading();
 }

@@ -4,4 +4,4 @@ use Rattle.ctr_parse.proofs.parse.parse_line.Goals as goal
 
 pub returns-clause-only : goal.returns-clause-only
 returns-clause-only c =
-    decided SpellsLine c.args.line.now c.line_of.result (c.one_line.ensures.said c.args.line.now) (c.one_line.ensures.place c.args.line.now) (c.one_line.ensures.never_both c.args.line.now) c.line_of.ensures
+    decided SpellsLine c.args.line.now c.line_of.result (c.one_reading.ensures.line.said c.args.line.now) (c.one_reading.ensures.line.place c.args.line.now) (c.one_reading.ensures.line.never_both c.args.line.now) c.line_of.ensures

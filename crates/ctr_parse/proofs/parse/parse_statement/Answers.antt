@@ -6,4 +6,4 @@ use Rattle.ctr_parse.proofs.parse.parse_statement.Goals as goal
 
 pub returns-clause-only : goal.returns-clause-only
 returns-clause-only c =
-    decided SpellsStatement c.args.text.now c.statement_of.result (c.one_statement.ensures.said c.args.text.now) (c.one_statement.ensures.place c.args.text.now) (c.one_statement.ensures.never_both c.args.text.now) (subst (λ (b : List ℕ). IsParsed SpellsStatement b c.statement_of.result) c.as_bytes.ensures.value c.statement_of.ensures)
+    decided SpellsStatement c.args.text.now c.statement_of.result (c.one_reading.ensures.statement.said c.args.text.now) (c.one_reading.ensures.statement.place c.args.text.now) (c.one_reading.ensures.statement.never_both c.args.text.now) (subst (λ (b : List ℕ). IsParsed SpellsStatement b c.statement_of.result) c.as_bytes.ensures.value c.statement_of.ensures)
