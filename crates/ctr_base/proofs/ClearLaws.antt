@@ -14,7 +14,7 @@ use Rattle.ctr_home.specs.Roots.{IsRootOf, SaysRootOf, root_value}
 use Rattle.ctr_log.specs.Kept.{kept_log, HoldsLog}
 use Rattle.ctr_pool.specs.Pages.{PageHeld}
 use Rattle.ctr_meta.specs.Tables.{no_tables}
-use Rattle.ctr_redo.specs.Fitting.{EachFits}
+use Rattle.ctr_redo.specs.Fitting.{EachFits, TablesGoOn}
 use Rattle.ctr_redo.specs.States.{state_of}
 use Rattle.ctr_redo.specs.Images.{home_in, stored_in, IsSound, CanCount}
 use Rattle.ctr_redo.proofs.ImageLaws.{KeepsLogs, pages_apart, kept_same, holds_same, begins_same, next_same, state_with}
@@ -70,6 +70,7 @@ module _ (root : Root) (old new : Image) (sound : IsSound root old) (keeps : Kee
     log = subst (λ (l : List (List ℕ)). HoldsLog root.file root.first l new) (sym (kept_same root.file root.first old new logs)) (holds_same root.file root.first (kept_log root.file root.first old) old new logs sound.log);
     fits = subst (EachFits root.pages no_tables) (sym (kept_same root.file root.first old new logs)) sound.fits;
     begins = begins_same root.file root.first old new logs sound.begins;
+    continues = subst TablesGoOn (sym (kept_same root.file root.first old new logs)) sound.continues;
     below = λ q. let low = sound.below q in omega (arith, low, next_same root old new logs, ap (λ (h : PageHeld). h.lsn) (home_same q));
     numbered = λ q v inside has. sound.numbered q v inside (sym (value_same (8256 * root.pages) q old new keeps (omega (arith, inside))) ∙ has);
     size = let size = sound.size in let longer = keeps.no_shorter in omega (arith, size, longer);

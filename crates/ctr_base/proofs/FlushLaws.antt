@@ -1,5 +1,5 @@
 -- What a flush leaves, and what goes on behind it.
-use Rattle.std.proofs.Common.{◌≡◌, inl, inr, ⊎_elim, ℕ, ◌+◌, ◌<◌, List, [], ◌++◌, length, sym, ◌∙◌, ap, subst, arith, length-append}
+use Rattle.std.proofs.Common.{◌≡◌, inl, inr, ⊎_elim, ℕ, ◌+◌, ◌<◌, ◌≤◌, List, [], ◌++◌, length, sym, ◌∙◌, ap, subst, arith, length-append}
 use Rattle.std.proofs.lemmas.List.{append-nil, take_all, drop_all, length-map}
 use Rattle.ctr_types.specs.declared.file.File.{File}
 use Rattle.ctr_disk.specs.declared.disk.Disk.{Ghosts}
@@ -35,6 +35,7 @@ module _ {D O : Type 0} (g : Ghosts D) where
   pub record Flushed (a b : Base D O) : Type 0 where
     pub root : b.root ≡ a.root
     pub file : b.log.file ≡ a.log.file
+    pub place : a.log.place ≤ b.log.place
     pub none : b.log.buffered ≡ []
     pub next : b.log.first ≡ a.log.first + length a.log.buffered
     pub durable : b.durable ≡ b.log.first + length b.log.buffered
@@ -66,6 +67,8 @@ module _ {D O : Type 0} (g : Ghosts D) where
         hardened = ap state_of (stored_flushed a b quiet f) ∙ state_more ws s quiet.sound.below ∙ ap (λ (l : List Record). steps l (state_of s)) (sym (take_all (length ws) ws (omega arith)));
         now = ap state_of both;
         root = f.root;
+        file = f.file;
+        place = f.place;
         all = ap (λ (x : Stored). x.records) both;
         pages = λ q. ap (λ (x : Stored). overlaid q x.first x.records (x.homes q)) both;
       }
@@ -85,7 +88,7 @@ module _ {D O : Type 0} (g : Ghosts D) where
       let begun = begin_flushed a.root.file a.root.first a.log.buffered old new quiet.sound.log f.goes_on.log_is quiet.follows.changes quiet.sound.begins others in
       record {
         only = only;
-        sound = subst (λ (r : Root). IsSound r new) (sym f.root) (sound_flushed a.root a.log.buffered old new quiet.sound (homes_kept a b quiet f) all fits begun);
+        sound = subst (λ (r : Root). IsSound r new) (sym f.root) (sound_flushed a.root a.log.buffered old new quiet.sound (homes_kept a b quiet f) all fits begun quiet.follows.changes);
         writes = subst (λ (r : Root). WritesBehind r.file r.first b.log new) (sym f.root) writes;
         follows = subst (λ (r : Root). MayFollow r b.log.file b.log.buffered new) (sym f.root)
             (subst (λ (l : List (List ℕ)). MayFollow a.root b.log.file l new) (sym f.none)

@@ -89,5 +89,5 @@ pub found_number : {D O : Type 0} (first : Image) (g : Ghosts D) (b : Base D O) 
     → (p < b.root.pages → OnOk r ((v : BlockValue) → value_of (Page p) image ≡ Some v → v.number ≡ p)) → IfErr r (IsFaultOr (IsMisnumbered (Page p) image)) → IsFound (FindsNumber first g b p) r
 found_number first g b p image same rests (Ok n) numbered refused = λ inside v is. numbered inside v (ap (λ (i : Image). value_of (Page p) i) (sym same) ∙ is)
 found_number first g b p image same rests (Err Fault) numbered refused = tt
-found_number first g b p image same rests (Err (Damaged file at want got)) numbered refused =
-    (rests, subst (λ (i : Image). IsMisnumbered (Page p) i (Damaged file at want got)) (sym same) refused)
+found_number first g b p image same rests (Err (Damaged d)) numbered refused =
+    (rests, subst (λ (i : Image). IsMisnumbered (Page p) i (Damaged d)) (sym same) refused)

@@ -3,6 +3,7 @@ use Rattle.std.proofs.Common.{◌≡◌, ⊎_elim, ℕ, ◌≤◌, ◌<◌, ◌+
 use Rattle.std.specs.Prelude.{IfErr}
 use Rattle.std.proofs.lemmas.Bool.{cases_lt, lt-ltb}
 use Rattle.std.proofs.lemmas.Bool.Decides.{eqb_tells}
+use Rattle.ctr_types.specs.declared.file.Damage.{Damage}
 use Rattle.ctr_types.specs.declared.file.File.{File}
 use Rattle.ctr_disk.specs.Image.{Image}
 use Rattle.ctr_home.specs.declared.root.Root.{Root}
@@ -19,10 +20,10 @@ passes : (file : File) (at want got : ℕ) (e : StoreFault) → got ≡ want →
 passes file at want got e same is = ⊎_elim (λ w. absurd (cc (is, w.0))) (λ w. w.1 (sym same)) (eqb_tells want got)
 
 -- where P can't be of damage it is a fault
-fault_alone : (S : Type 0) (r : Result ℕ StoreFault) (P : StoreFault → Type 0) → IfErr r (IsFaultOr P) → ((f : File) (at want got : ℕ) → S → P (Damaged f at want got) → ⊥) → IfErr r (λ e. S → e ≡ Fault)
+fault_alone : (S : Type 0) (r : Result ℕ StoreFault) (P : StoreFault → Type 0) → IfErr r (IsFaultOr P) → ((d : Damage) → S → P (Damaged d) → ⊥) → IfErr r (λ e. S → e ≡ Fault)
 fault_alone S (Ok n) P is none = tt
 fault_alone S (Err Fault) P is none = λ s. refl
-fault_alone S (Err (Damaged f at want got)) P is none = λ s. absurd (none f at want got s is)
+fault_alone S (Err (Damaged d)) P is none = λ s. absurd (none d s is)
 
 none_of : (S : Type 0) (r : Result ℕ StoreFault) → r ≡ Ok 0 → IfErr r (λ e. S → e ≡ Fault)
 none_of S (Ok n) is = tt
@@ -34,7 +35,7 @@ read_faults {S} root p image r sound refused uncounted =
     ⊎_elim
     (λ inside.
     fault_alone S r (IsMisnumbered (Page p) image) refused
-    (λ f at want got s wrong. passes (file_of (Page p)) (value_place (Page p) image + 1) p wrong.0.number (Damaged f at want got) ((sound s).numbered p wrong.0 inside wrong.1) wrong.2))
+    (λ d s wrong. passes (file_of (Page p)) (value_place (Page p) image + 1) p wrong.0.number (Damaged d) ((sound s).numbered p wrong.0 inside wrong.1) wrong.2))
     (λ outside. none_of S r (uncounted outside))
     (cases_lt p root.pages)
 

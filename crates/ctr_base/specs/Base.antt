@@ -1,12 +1,12 @@
 -- The log and the homes below a pool, on which nothing is pending, and how they change.
-use Rattle.std.specs.Prelude.{◌≡◌, ◌≢◌, ◌⊎◌, ℕ, ◌+◌, ◌*◌, ◌<◌, ◌≤◌, List, length, take, drop, Result, Ok, Err, Some, ⊤}
+use Rattle.std.specs.Prelude.{IsTrue, ◌≡◌, ◌≢◌, ◌⊎◌, ℕ, ◌+◌, ◌*◌, ◌^◌, ◌<◌, ◌≤◌, List, length, take, drop, Result, Ok, Err, Some, ⊤}
 use Rattle.ctr_disk.specs.declared.disk.Disk.{Ghosts}
 use Rattle.ctr_disk.specs.Device.{LeavesOnly, IsDurable}
 use Rattle.ctr_disk.specs.Image.{Image, content}
 use Rattle.ctr_types.specs.declared.file.File.TheVariants.{Pages}
 use Rattle.ctr_home.specs.declared.root.Root.{Root}
 use Rattle.ctr_log.specs.Kept.{WritesBehind}
-use Rattle.ctr_log.specs.Logs.{Batches, GoesOn, buffer_size, WaitsOrNone}
+use Rattle.ctr_log.specs.Logs.{Log, Batches, GoesOn, buffer_size, log_end, WaitsOrNone}
 use Rattle.ctr_records.specs.declared.record.Record.{Record}
 use Rattle.ctr_disk.specs.declared.fault.StoreFault.{StoreFault}
 use Rattle.ctr_disk.specs.declared.fault.StoreFault.TheVariants.{Fault}
@@ -60,9 +60,15 @@ pub record IsQuiet {D O : Type 0} (g : Ghosts D) (b : Base D O) : Type 0 where
   pub durable : b.durable ≡ next_of (stored_of g b)
   pub first : b.log.first ≡ next_of (stored_of g b)
 
--- at each moment from one to another a crash leaves what was hardened with a prefix of what waited
-abbrev pub LeavesBase : {D O : Type 0} → Ghosts D → Base D O → Base D O → Type 0
-LeavesBase g a b = LeavesOnly g a.disk b.disk (FoldsFront (state_of (stored_of g a)) (waiting_of a))
+-- the place of the closed gate behind a writer's log lies in its file
+abbrev pub HasGate : Log → Image → Type 0
+HasGate log image = log.place < length (content log.file image)
+
+-- At each moment from one to another a crash leaves what was hardened with a prefix of what waited,
+-- in a file of the log that goes on behind what was hardened.
+pub record LeavesBase {D O : Type 0} (g : Ghosts D) (a b : Base D O) : Type 0 where
+  pub front : LeavesOnly g a.disk b.disk (FoldsFront (state_of (stored_of g a)) (waiting_of a))
+  pub gate : LeavesOnly g a.disk b.disk (HasGate a.log)
 
 -- The first of what waited is durable now; the root, the records in order and each page with them
 -- are as they were.
@@ -73,14 +79,28 @@ pub record MovesBase {D O : Type 0} (g : Ghosts D) (a b : Base D O) : Type 0 whe
   pub hardened : state_of (stored_of g b) ≡ steps (take j (waiting_of a)) (state_of (stored_of g a))
   pub now : state_of (now_of g b) ≡ state_of (now_of g a)
   pub root : b.root ≡ a.root
+  pub file : b.log.file ≡ a.log.file
+  pub place : a.log.place ≤ b.log.place
   pub all : (now_of g b).records ≡ (now_of g a).records
   pub pages : (q : ℕ) → overlaid q b.root.first (now_of g b).records (home_of g b q)
       ≡ overlaid q a.root.first (now_of g a).records (home_of g a q)
 
--- However a call ends, the root and the number of the next record are those of before, the log's
--- buffer isn't smaller, and in it the same records wait, or none.
-pub record KeepsBase {D O : Type 0} (a b : Base D O) : Type 0 where
+-- From one moment of a disk to another its clock didn't go back, and no call went past the last
+-- place, but where the log ends so far on that its file has nearly as many bytes as a file can have.
+pub record GoesOnTo {D : Type 0} (g : Ghosts D) (old new : D) (end : ℕ) : Type 0 where
+  pub later : g.moment_of old ≤ g.moment_of new
+  pub stray : (g.strays_of new ≡ g.strays_of old) ⊎ (2 ^ 62 + 2 ^ 61 ≤ end)
+
+-- However a call ends, the root, the log's generation and the number of the next record are those
+-- of before; the log's buffer isn't smaller, and in it the same records wait, or none, so that the
+-- log ends at the same place.
+pub record KeepsBase {D O : Type 0} (g : Ghosts D) (a b : Base D O) : Type 0 where
   pub root : b.root ≡ a.root
+  pub file : b.log.file ≡ a.log.file
+  pub older : b.log.older ≡ a.log.older
+  pub start : b.log.start ≡ a.log.start
+  pub ends : log_end b.log ≡ log_end a.log
+  pub goes : GoesOnTo g a.disk b.disk (log_end a.log)
   pub size : buffer_size a.log ≤ buffer_size b.log
   pub next : b.log.first + length b.log.buffered ≡ a.log.first + length a.log.buffered
   pub waits : WaitsOrNone a.log b.log
@@ -90,6 +110,10 @@ pub record KeepsBase {D O : Type 0} (a b : Base D O) : Type 0 where
 -- an image is sound, by some root
 abbrev pub IsSoundImage : Image → Type 0
 IsSoundImage image = (root : Root) × IsSound root image
+
+-- what holds where the disk tells what it holds, and the first image was sound
+abbrev pub WhereSound : {D : Type 0} → Image → Ghosts D → Type 0 → Type 0
+WhereSound first g P = IsTrue g.tells → IsSoundImage first → P
 
 -- Whatever the disk holds: it says the root, the log's writer goes on behind the batches of its
 -- file, and the file of pages has all that are counted.
@@ -156,7 +180,7 @@ backing_of first g = record {
   rests = StandsQuiet first g;
   leaves_between = LeavesIf first g;
   may_change = MovesIf first g;
-  keeps = KeepsBase;
+  keeps = KeepsBase g;
   fails = λ a b e. IsSoundImage first → e ≡ Fault;
   finds = FindsNumber first g;
   faults_of = λ b. g.faults_of b.disk;

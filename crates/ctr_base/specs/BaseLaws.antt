@@ -1,5 +1,5 @@
 -- How the log and the homes go on under a pool.
-use Rattle.std.proofs.Common.{◌≡◌, ◌≢◌, inl, inr, ⊎_elim, ℕ, zero, suc, ◌+◌, ◌*◌, ◌<◌, ◌≤◌, nat_lt, if◌then◌else◌, Bool, true, false, List, [], ◌∷◌, ◌++◌, length, take, drop, refl, sym, ◌∙◌, ap, subst, arith, length-drop, Some}
+use Rattle.std.proofs.Common.{◌≡◌, ◌≢◌, inl, inr, ⊎_elim, ℕ, zero, suc, ◌+◌, ◌*◌, ◌<◌, ◌≤◌, nat_lt, if◌then◌else◌, Bool, true, false, List, [], ◌∷◌, ◌++◌, length, take, drop, refl, sym, ◌∙◌, ap, subst, arith, length-append, length-drop, Some}
 use Rattle.std.proofs.Math.Seq.{take-nil}
 use Rattle.std.proofs.lemmas.List.{append-nil, drop-drop}
 use Rattle.ctr_types.specs.declared.file.File.{File}
@@ -14,7 +14,7 @@ use Rattle.ctr_home.specs.declared.root.Form.TheVariants.{Paged}
 use Rattle.ctr_home.specs.Roots.{SaysRootOf}
 use Rattle.ctr_home.specs.Blocks.{BlockValue, value_of, value_in, page_with, blank_page}
 use Rattle.ctr_home.specs.Writing.{IsOldOrNewValue, with_body, OthersStay}
-use Rattle.ctr_log.specs.Logs.{Log, Batches, HasLog, GoesOn, WaitsOrNone, records}
+use Rattle.ctr_log.specs.Logs.{Log, Batches, HasLog, GoesOn, batches, records}
 use Rattle.ctr_log.specs.Reading.{log_file}
 use Rattle.ctr_log.specs.Kept.{kept_log, other_file, IsDropped, HoldsLog, WritesBy, WritesBehind}
 use Rattle.ctr_log.proofs.KeptLaws.{front_same}
@@ -30,7 +30,7 @@ use Rattle.ctr_redo.proofs.StateLaws.{state_swapped, page_swapped, steps-append,
 use Rattle.ctr_redo.proofs.ImageLaws.{KeepsHomes, KeepsLogs, pages_apart, kept_same, named_same, other_same, folds_written, sound_written, state_written, state_with_more, home_written, next_same, follows_same}
 use Rattle.ctr_base.specs.declared.base.Base.{Base}
 use Rattle.ctr_base.specs.Homes.{HomesSince}
-use Rattle.ctr_base.specs.Base.{stored_of, waiting_of, now_of, home_of, MaySave, MayPut, IsQuiet, IsSoundImage, StandsWell, StandsQuiet, LeavesBase, LeavesIf, MovesBase, KeepsBase, IsHome}
+use Rattle.ctr_base.specs.Base.{stored_of, waiting_of, now_of, home_of, MaySave, MayPut, IsQuiet, IsSoundImage, StandsWell, StandsQuiet, HasGate, LeavesBase, LeavesIf, MovesBase, IsHome}
 
 take_split : {A : Type 0} (j k : ℕ) (l : List A) → take j l ++ take k (drop j l) ≡ take (j + k) l
 take_split zero k l = let n : k ≡ 0 + k = omega arith in ap (λ (m : ℕ). take m l) n
@@ -73,7 +73,12 @@ writes_holds file first log image w =
 
 -- the writer goes on where the files of the log are as they were
 pub goes_on_same : {first : ℕ} {bs : Batches} (log : Log) (old new : Image) → content log.file new ≡ content log.file old → GoesOn first bs log old → GoesOn first bs log new
-goes_on_same {first} {bs} log old new same goes = record { log_is = subst (HasLog first bs) (sym same) goes.log_is; place = goes.place; first_is = goes.first_is }
+goes_on_same {first} {bs} log old new same goes = record {
+  log_is = subst (HasLog first bs) (sym same) goes.log_is;
+  start = goes.start;
+  place = goes.place;
+  first_is = goes.first_is;
+}
 
 by_same : (older : Bool) (file first : ℕ) (log : Log) (old new : Image) → KeepsLogs old new → WritesBy older file first log old → WritesBy older file first log new
 by_same false file first log old new same w =
@@ -106,6 +111,23 @@ by_same true file first log old new same w =
       };
     }
 
+-- the closed gate behind a log lies in its file
+gate_behind : (first : ℕ) (bs : Batches) (log : Log) (image : Image) → GoesOn first bs log image
+    → HasGate log image
+gate_behind first bs log image goes =
+    let log_is = goes.log_is.batches_are in
+    let behind = log_is.gate ∷ log_is.rest in
+    omega (arith, goes.place, ap length log_is.bytes_are, length-append (batches first bs) behind)
+
+-- so it does behind one generation and behind two
+gate_in : (file first : ℕ) (log : Log) (image : Image) → WritesBehind file first log image
+    → HasGate log image
+gate_in file first log image w = by log.older w.by
+  where
+    by : (older : Bool) → WritesBy older file first log image → HasGate log image
+    by false one = gate_behind first one.bs log image one.goes_on
+    by true two = gate_behind (first + length (records two.bs)) two.cs log image two.goes_on
+
 -- The log goes on behind what is held where the files of the log are as they were.
 pub writes_same : (root : Root) (log : Log) (old new : Image) → KeepsLogs old new → WritesBehind root.file root.first log old → WritesBehind root.file root.first log new
 writes_same root log old new same w = record { numbered = w.numbered; by = by_same log.older root.file root.first log old new same w.by }
@@ -135,12 +157,29 @@ module _ {D O : Type 0} (g : Ghosts D) where
 
   -- ---- nothing happens
 
+  -- what a crash leaves of a base folds to what was hardened with a prefix of what waits
+  abbrev Front : Base D O → Image → Type 0
+  Front b = FoldsFront (state_of (stored_of g b)) (waiting_of b)
+
+  -- the gate lies in the file, where nothing is pending
+  gate_there : (b : Base D O) (c : Image) → IsQuiet g b → c ≡ g.reads b.disk → HasGate b.log c
+  gate_there b c quiet is =
+      let there = gate_in b.root.file b.root.first b.log (g.reads b.disk) quiet.writes in
+      subst (HasGate b.log) (sym is) there
+
   pub quiet_leaves : ((d : D) (c : Image) → g.since d (g.moment_of d) c → g.images d c) → (b : Base D O) → IsQuiet g b → LeavesBase g b b
-  quiet_leaves only_now b quiet = starts g b.disk (FoldsFront (state_of (stored_of g b)) (waiting_of b)) (g.images b.disk) (only_now b.disk) (λ c is. none_folds b c quiet (quiet.only c is))
+  quiet_leaves only_now b quiet = record {
+    front = starts g b.disk (Front b) (g.images b.disk) (only_now b.disk)
+        (λ c is. none_folds b c quiet (quiet.only c is));
+    gate = starts g b.disk (HasGate b.log) (g.images b.disk) (only_now b.disk)
+        (λ c is. gate_there b c quiet (quiet.only c is));
+  }
 
   -- all that is stored is as it was
-  pub same_moves : (a b : Base D O) → b.root ≡ a.root → stored_of g b ≡ stored_of g a → b.log.buffered ≡ a.log.buffered → MovesBase g a b
-  same_moves a b root stored waits =
+  pub same_moves : (a b : Base D O) → b.root ≡ a.root → stored_of g b ≡ stored_of g a
+      → b.log ≡ a.log → MovesBase g a b
+  same_moves a b root stored log =
+      let waits = ap (λ (l : Log). l.buffered) log in
       let both : now_of g b ≡ now_of g a = ap (λ (l : List (List ℕ)). with_more (records_in l) (stored_of g b)) waits ∙ ap (with_more (waiting_of a)) stored in
       record {
         j = 0;
@@ -149,6 +188,8 @@ module _ {D O : Type 0} (g : Ghosts D) where
         hardened = ap state_of stored;
         now = ap state_of both;
         root = root;
+        file = ap (λ (l : Log). l.file) log;
+        place = omega (arith, ap (λ (l : Log). l.place) log);
         all = ap (λ (s : Stored). s.records) both;
         pages = λ q. ap (λ (s : Stored). overlaid q s.first s.records (s.homes q)) both;
       }
@@ -169,7 +210,14 @@ module _ {D O : Type 0} (g : Ghosts D) where
       let Q : Image → Type 0 = FoldsFront (state_of (stored_of g b)) (waiting_of b) in
       let within : (i : Image) → Q i → P i = λ i q.
       front_of_rest m.j ws s i (subst (λ (l : List Record). FoldsFront (steps (take m.j ws) s) l i) m.waiting (subst (λ (t : State). FoldsFront t (waiting_of b) i) m.hardened q)) in
-      joined g a.disk b.disk c.disk P ab (weaker g b.disk c.disk Q P bc within)
+      let further : (i : Image) → HasGate b.log i → HasGate a.log i = λ i long.
+      omega (arith, long, m.place, ap (λ (f : File). length (content f i)) m.file) in
+      let gate = weaker g b.disk c.disk (HasGate b.log) (HasGate a.log) bc.gate further in
+      let front = weaker g b.disk c.disk Q P bc.front within in
+      record {
+        front = joined g a.disk b.disk c.disk P ab.front front;
+        gate = joined g a.disk b.disk c.disk (HasGate a.log) ab.gate gate;
+      }
 
   pub moves_joined : (a b c : Base D O) → MovesBase g a b → MovesBase g b c → MovesBase g a c
   moves_joined a b c m n =
@@ -183,15 +231,22 @@ module _ {D O : Type 0} (g : Ghosts D) where
             ∙ sym (steps-append (take m.j ws) (take n.j (drop m.j ws)) s) ∙ ap (λ (l : List Record). steps l s) (take_split m.j n.j ws);
         now = n.now ∙ m.now;
         root = n.root ∙ m.root;
+        file = n.file ∙ m.file;
+        place = omega (arith, m.place, n.place);
         all = n.all ∙ m.all;
         pages = λ q. n.pages q ∙ m.pages q;
       }
 
   -- ---- a read
 
-  pub read_leaves : (a : Base D O) (d : D) → IsQuiet g a → OnlyReads g a.disk d → LeavesOnly g a.disk d (FoldsFront (state_of (stored_of g a)) (waiting_of a))
-  read_leaves a d quiet reads =
-      weaker g a.disk d (g.images a.disk) (FoldsFront (state_of (stored_of g a)) (waiting_of a)) reads.any_moment (λ c is. none_folds a c quiet (quiet.only c is))
+  pub read_leaves : (a : Base D O) (d : D) → IsQuiet g a → OnlyReads g a.disk d
+      → LeavesBase g a (record a { disk = d })
+  read_leaves a d quiet reads = record {
+    front = weaker g a.disk d (g.images a.disk) (Front a) reads.any_moment
+        (λ c is. none_folds a c quiet (quiet.only c is));
+    gate = weaker g a.disk d (g.images a.disk) (HasGate a.log) reads.any_moment
+        (λ c is. gate_there a c quiet (quiet.only c is));
+  }
 
   pub read_moves : (a : Base D O) (d : D) → OnlyReads g a.disk d → MovesBase g a (record a { disk = d })
   read_moves a d reads = same_moves a (record a { disk = d }) refl (ap (stored_in a.root) reads.same) refl
@@ -247,10 +302,21 @@ module _ {D O : Type 0} (g : Ghosts D) where
       }
 
   pub home_leaves : (a : Base D O) (d : D) (p since : ℕ) (v : PageHeld) → IsQuiet g a → MaySave g a p since v → v.lsn < a.durable
-      → LeavesOnly g a.disk d (IsOldOrNewValue (Page p) (value p v) (g.reads a.disk)) → LeavesOnly g a.disk d (FoldsFront (state_of (stored_of g a)) (waiting_of a))
+      → LeavesOnly g a.disk d (IsOldOrNewValue (Page p) (value p v) (g.reads a.disk))
+      → LeavesBase g a (record a { disk = d })
   home_leaves a d p since v quiet may low crash =
-      weaker g a.disk d (IsOldOrNewValue (Page p) (value p v) (g.reads a.disk)) (FoldsFront (state_of (stored_of g a)) (waiting_of a)) crash
-      (λ c which. (0, folds_written a.root p (value p v) (g.reads a.disk) c quiet.sound (may_stand a p since v quiet may low) which))
+      let Written : Image → Type 0 = IsOldOrNewValue (Page p) (value p v) (g.reads a.disk) in
+      let old = g.reads a.disk in
+      let file = by_is_log a.log.older a.root.file a.root.first a.log old quiet.writes.by in
+      let same : (c : Image) → Written c → content a.log.file c ≡ content a.log.file old = λ c which.
+      log_content a.log.file old c file (pages_apart old c which.0.files) in
+      let stand = may_stand a p since v quiet may low in
+      record {
+        front = weaker g a.disk d Written (Front a) crash
+            (λ c which. (0, folds_written a.root p (value p v) old c quiet.sound stand which));
+        gate = weaker g a.disk d Written (HasGate a.log) crash
+            (λ c which. omega (arith, gate_there a old quiet refl, ap length (same c which)));
+      }
 
   -- whatever the log held, a page's writing leaves it and the other pages
   module _ (a : Base D O) (d : D) (p : ℕ) (v : PageHeld) (counted : p < a.root.pages) (others : OthersStay (Page p) (g.reads a.disk) (g.reads d)) (is : value_of (Page p) (g.reads d) ≡ Some (value p v)) where
@@ -308,6 +374,8 @@ module _ {D O : Type 0} (g : Ghosts D) where
           hardened = state_written a.root p (value p v) (g.reads a.disk) (g.reads d) stands others is;
           now = state_with_more a.root ws (home_put p v (home_of g a)) (g.reads a.disk) (g.reads d) logs homes ∙ state_swapped p v ws s stands.same;
           root = refl;
+          file = refl;
+          place = omega arith;
           all = ap (λ (l : List (List ℕ)). records_in l ++ ws) log;
           pages = λ q. ap (λ (l : List (List ℕ)). overlaid q a.root.first (records_in l ++ ws) (home_of g b q)) log ∙ ap (overlaid q a.root.first (s.records ++ ws)) (homes q)
               ∙ page_swapped p a.root.first s.records ws v (home_of g a) stands.same q;
@@ -405,24 +473,3 @@ module _ {D O : Type 0} (g : Ghosts D) where
 
   pub homes_flushed : (a b : Base D O) → b.root ≡ a.root → KeepsHomes (g.reads a.disk) (g.reads b.disk) → (q : ℕ) → home_of g b q ≡ home_of g a q
   homes_flushed a b root kept q = ap (λ (r : Root). home_in r.pages (g.reads b.disk) q) root ∙ home_same a.root.pages q (g.reads a.disk) (g.reads b.disk) kept.pages
-
--- a base is kept by itself
-pub base_kept : {D O : Type 0} (b : Base D O) → KeepsBase b b
-base_kept b = record { root = refl; size = omega arith; next = refl; waits = inl refl }
-
--- what is kept by one call and by the next is kept by both
-pub base_kept_on : {D O : Type 0} (a b c : Base D O) → KeepsBase a b → KeepsBase b c → KeepsBase a c
-base_kept_on a b c ab bc =
-    let m = ab.size in
-    let n = bc.size in
-    record {
-      root = bc.root ∙ ab.root;
-      size = omega (arith, m, n);
-      next = bc.next ∙ ab.next;
-      waits = still_waits a.log b.log c.log ab.waits bc.waits;
-    }
-  where
-    still_waits : (x y z : Log) → WaitsOrNone x y → WaitsOrNone y z → WaitsOrNone x z
-    still_waits x y z (inl xy) (inl yz) = inl (yz ∙ xy)
-    still_waits x y z (inr none) (inl yz) = inr (yz ∙ none)
-    still_waits x y z first (inr none) = inr none

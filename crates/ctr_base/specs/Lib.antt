@@ -1,6 +1,7 @@
 pub mod Homes
 pub mod Base
 pub mod BaseLaws
+pub mod KeptLaws
 pub mod Opening
 pub mod Extent
 pub mod Growth

@@ -1,5 +1,5 @@
 // The log and the homes as the backing of a pool: a page is saved behind its records.
-ghost use Rattle.std.specs.Prelude.{◌≡◌, ◌≢◌, ◌<◌, ◌≤◌, IsTrue, IfOk, IfErr, OnOk, length};
+ghost use Rattle.std.specs.Prelude.{◌≡◌, ◌<◌};
 
 use crate::base::Base;
 use crate::origin::Origin;
@@ -12,7 +12,8 @@ impl<D: Disk, O: Origin> Backing for Base<D, O> {
     ghost use Rattle.ctr_disk.specs.declared.fault.StoreFault.TheVariants.{Fault};
     ghost use Rattle.std.specs.Prelude.{◌≡◌};
     ghost use Rattle.ctr_base.specs.Base.{home_of, MayPut, IsSoundImage, StandsQuiet, LeavesIf, MovesIf, KeepsBase, FindsNumber};
-    ghost use Rattle.ctr_base.specs.BaseLaws.{rests_leaves, stands_still, base_kept, base_kept_on, leaves_joined, moves_joined};
+    ghost use Rattle.ctr_base.specs.BaseLaws.{rests_leaves, stands_still, leaves_joined, moves_joined};
+    ghost use Rattle.ctr_base.specs.KeptLaws.{base_kept, base_kept_on};
 
     ghost tells = { D.tells };
 
@@ -26,7 +27,7 @@ impl<D: Disk, O: Origin> Backing for Base<D, O> {
 
     ghost may_change = { MovesIf O.first D.Disk };
 
-    ghost keeps = { KeepsBase };
+    ghost keeps = { KeepsBase D.Disk };
 
     ghost fails = { λ _ _ e. IsSoundImage O.first → e ≡ Fault };
 
@@ -50,9 +51,9 @@ impl<D: Disk, O: Origin> Backing for Base<D, O> {
 
     ghost stays = { λ b told rests. rests_leaves D.Disk.own O.first D.only_now b rests };
 
-    ghost kept = { base_kept };
+    ghost kept = { base_kept D.Disk.own };
 
-    ghost kept_on = { base_kept_on };
+    ghost kept_on = { base_kept_on D.Disk.own };
 
     ghost stands = { λ b sound. stands_still D.Disk.own b };
 

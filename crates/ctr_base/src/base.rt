@@ -1,5 +1,6 @@
 // The log with what waits in it, and the homes.
-ghost use Rattle.std.specs.Prelude.{◌≡◌, ◌<◌, ◌≤◌, ◌+◌, IsTrue, ℕ, [], length, Err, IfOk, IfErr, OnOk, OnErr};
+ghost use Rattle.ctr_disk.specs.Device.{WhereTold};
+ghost use Rattle.std.specs.Prelude.{◌≡◌, ◌<◌, ◌+◌, IsTrue, ℕ, [], length, Err, IfOk, IfErr, OnOk, OnErr};
 ghost use Rattle.ctr_types.specs.Faults.{HasFault};
 ghost use Rattle.ctr_disk.specs.declared.fault.StoreFault.TheVariants.{Fault};
 
@@ -31,10 +32,10 @@ impl<D: Disk, O: Origin> Base<D, O> {
     /// Makes what waits durable.
     pub fn flush(&mut self) -> Result<(), StoreFault>
         requires { IsTrue D.tells → StandsQuiet O.first D.Disk self.old }
-        ensures keeps { KeepsBase self.old self.new }
-        ensures goes { IsTrue D.tells → LeavesIf O.first D.Disk self.old self.new }
-        ensures moves { IsTrue D.tells → OnOk result (MovesIf O.first D.Disk self.old self.new × StandsQuiet O.first D.Disk self.new) }
-        ensures holds { IsTrue D.tells → OnOk result (HoldsStill (home_of D.Disk) (MayPut O.first D.Disk) self.old self.new) }
+        ensures keeps { KeepsBase D.Disk self.old self.new }
+        ensures goes { WhereTold D.Disk (LeavesIf O.first D.Disk self.old self.new) }
+        ensures moves { WhereTold D.Disk (OnOk result (MovesIf O.first D.Disk self.old self.new × StandsQuiet O.first D.Disk self.new)) }
+        ensures holds { WhereTold D.Disk (OnOk result (HoldsStill (home_of D.Disk) (MayPut O.first D.Disk) self.old self.new)) }
         ensures none { OnOk result (self.new.log.buffered ≡ []) }
         ensures refused { OnErr result (result ≡ Err Fault) }
         ensures faults { HasFault Fault (D.faults_of self.old.disk) (D.faults_of self.new.disk) result }
@@ -47,11 +48,11 @@ impl<D: Disk, O: Origin> Base<D, O> {
     // Makes what waits durable where this record does.
     pub(crate) fn make_durable(&mut self, lsn: Lsn) -> Result<(), StoreFault>
         requires { IsTrue D.tells → StandsQuiet O.first D.Disk self.old }
-        ensures keeps { KeepsBase self.old self.new }
-        ensures goes { IsTrue D.tells → LeavesIf O.first D.Disk self.old self.new }
-        ensures moves { IsTrue D.tells → OnOk result (MovesIf O.first D.Disk self.old self.new × StandsQuiet O.first D.Disk self.new) }
-        ensures holds { IsTrue D.tells → OnOk result (HoldsStill (home_of D.Disk) (MayPut O.first D.Disk) self.old self.new) }
-        ensures durable { IsTrue D.tells → OnOk result ((p since : ℕ) (h : PageHeld) → IsSoundImage O.first → MaySave D.Disk self.old p since h → h.lsn ≡ lsn → h.lsn < self.new.durable) }
+        ensures keeps { KeepsBase D.Disk self.old self.new }
+        ensures goes { WhereTold D.Disk (LeavesIf O.first D.Disk self.old self.new) }
+        ensures moves { WhereTold D.Disk (OnOk result (MovesIf O.first D.Disk self.old self.new × StandsQuiet O.first D.Disk self.new)) }
+        ensures holds { WhereTold D.Disk (OnOk result (HoldsStill (home_of D.Disk) (MayPut O.first D.Disk) self.old self.new)) }
+        ensures durable { WhereTold D.Disk (OnOk result ((p since : ℕ) (h : PageHeld) → IsSoundImage O.first → MaySave D.Disk self.old p since h → h.lsn ≡ lsn → h.lsn < self.new.durable)) }
         ensures refused { OnErr result (result ≡ Err Fault) }
         ensures faults { HasFault Fault (D.faults_of self.old.disk) (D.faults_of self.new.disk) result }
     {
@@ -66,10 +67,10 @@ impl<D: Disk, O: Origin> Base<D, O> {
     pub(crate) fn put_home(&mut self, page: PageNo, lsn: Lsn, body: &[u8]) -> Result<(), StoreFault>
         requires whole { length body.now ≡ 4096 }
         requires goes { IsTrue D.tells → GoesHome O.first D.Disk self.old page (record { lsn = lsn; body = body.now }) }
-        ensures keeps { KeepsBase self.old self.new }
-        ensures goes { IsTrue D.tells → LeavesIf O.first D.Disk self.old self.new }
-        ensures moves { IsTrue D.tells → OnOk result (MovesIf O.first D.Disk self.old self.new × StandsQuiet O.first D.Disk self.new) }
-        ensures home { IsTrue D.tells → OnOk result (IsHome D.Disk page (record { lsn = lsn; body = body.now }) self.old self.new) }
+        ensures keeps { KeepsBase D.Disk self.old self.new }
+        ensures goes { WhereTold D.Disk (LeavesIf O.first D.Disk self.old self.new) }
+        ensures moves { WhereTold D.Disk (OnOk result (MovesIf O.first D.Disk self.old self.new × StandsQuiet O.first D.Disk self.new)) }
+        ensures home { WhereTold D.Disk (OnOk result (IsHome D.Disk page (record { lsn = lsn; body = body.now }) self.old self.new)) }
         ensures refused { OnErr result (result ≡ Err Fault) }
         ensures faults { HasFault Fault (D.faults_of self.old.disk) (D.faults_of self.new.disk) result }
     {
@@ -80,12 +81,12 @@ impl<D: Disk, O: Origin> Base<D, O> {
     // Reads a page as it stands at home.
     pub(crate) fn get_home(&mut self, page: PageNo, into: &mut [u8]) -> Result<Lsn, StoreFault>
         requires { length into.old ≡ 4096 }
-        ensures keeps { KeepsBase self.old self.new }
-        ensures told { IsTrue D.tells → IfOk result (λ lsn. home_of D.Disk self.old page ≡ record { lsn = lsn; body = into.new }) }
-        ensures holds { IsTrue D.tells → HoldsStill (home_of D.Disk) (MayPut O.first D.Disk) self.old self.new }
-        ensures rests { IsTrue D.tells → StandsQuiet O.first D.Disk self.old → LeavesIf O.first D.Disk self.old self.new × MovesIf O.first D.Disk self.old self.new × StandsQuiet O.first D.Disk self.new }
-        ensures finds { IsTrue D.tells → StandsQuiet O.first D.Disk self.old → IsFound (FindsNumber O.first D.Disk self.new page) result }
-        ensures refused { IsTrue D.tells → StandsQuiet O.first D.Disk self.old → IfErr result (λ e. IsSoundImage O.first → e ≡ Fault) }
+        ensures keeps { KeepsBase D.Disk self.old self.new }
+        ensures told { WhereTold D.Disk (IfOk result (λ lsn. home_of D.Disk self.old page ≡ record { lsn = lsn; body = into.new })) }
+        ensures holds { WhereTold D.Disk (HoldsStill (home_of D.Disk) (MayPut O.first D.Disk) self.old self.new) }
+        ensures rests { WhereTold D.Disk (StandsQuiet O.first D.Disk self.old → LeavesIf O.first D.Disk self.old self.new × MovesIf O.first D.Disk self.old self.new × StandsQuiet O.first D.Disk self.new) }
+        ensures finds { WhereTold D.Disk (StandsQuiet O.first D.Disk self.old → IsFound (FindsNumber O.first D.Disk self.new page) result) }
+        ensures refused { WhereTold D.Disk (StandsQuiet O.first D.Disk self.old → IfErr result (λ e. IsSoundImage O.first → e ≡ Fault)) }
         ensures faults { HasFault Fault (D.faults_of self.old.disk) (D.faults_of self.new.disk) result }
     {
         read_numbered(&mut self.disk, self.root.pages, page, into)

@@ -2,7 +2,7 @@
 ghost use Rattle.std.specs.Prelude.{◌≡◌, ◌≤◌, ◌*◌, ℕ, IsTrue, length, OnOk};
 ghost use Rattle.ctr_disk.specs.Image.{Image};
 ghost use Rattle.ctr_home.specs.declared.root.Root.{Root};
-ghost use Rattle.ctr_disk.specs.Device.{LeavesOnly, IsDurable, IsSettled, Counts};
+ghost use Rattle.ctr_disk.specs.Device.{WhereTold, LeavesOnly, IsDurable, IsSettled, Counts};
 ghost use Rattle.ctr_home.specs.declared.root.Form.TheVariants.{Paged};
 ghost use Rattle.ctr_home.specs.Roots.{IsRootOf};
 ghost use Rattle.ctr_redo.specs.States.{state_of};
@@ -19,7 +19,7 @@ pub fn clear_pages<D: Disk>(disk: &mut D, from: u32, to: u32) -> Result<(), Fail
     requires low { to ≤ 30000 }
     requires long { IsTrue D.tells → 8256 * from ≤ length (D.reads disk.old).pages }
     ensures any_moment { IsSettled D.Disk disk.old → LeavesOnly D.Disk disk.old disk.new (KeepsPages (8256 * from) (D.reads disk.old)) }
-    ensures cleared { IsTrue D.tells → OnOk result (AreCleared from to (D.reads disk.old) (D.reads disk.new)) }
+    ensures cleared { WhereTold D.Disk (OnOk result (AreCleared from to (D.reads disk.old) (D.reads disk.new))) }
     ensures durable { OnOk result (IsDurable D.Disk disk.new) }
     ensures counts { Counts D.Disk disk.old disk.new result }
 {

@@ -1,9 +1,8 @@
 // The home of a page's value.
-ghost use Rattle.std.specs.Prelude.{◌≡◌, ◌<◌, ◌^◌, IsTrue, ℕ, Option, Err, IfOk, OnErr};
-ghost use Rattle.ctr_types.specs.Faults.{HasFault};
+ghost use Rattle.std.specs.Prelude.{◌≡◌, ◌<◌, ◌^◌, Option, Err, IfOk, OnErr};
 ghost use Rattle.ctr_types.specs.declared.file.File.TheVariants.{Pages};
 ghost use Rattle.ctr_disk.specs.Image.{content};
-ghost use Rattle.ctr_disk.specs.Device.{OnlyReads, Counts};
+ghost use Rattle.ctr_disk.specs.Device.{WhereTold, OnlyReads, Counts, CountsAs};
 ghost use Rattle.ctr_disk.specs.declared.fault.StoreFault.TheVariants.{Fault};
 ghost use Rattle.ctr_home.specs.declared.block.Block.TheVariants.{Page};
 ghost use Rattle.ctr_home.specs.Blocks.{BlockValue, held_at, stamp_in, greater, value_home, page_with};
@@ -22,7 +21,7 @@ const HOME: u64 = 4128;
 
 // The stamp of a home of a page, where that is open.
 fn stamp_at<D: Disk>(disk: &mut D, page: PageNo, home: Home) -> Result<Option<Stamp>, Failed>
-    ensures told { IsTrue D.tells → IfOk result (λ s. s ≡ stamp_in (held_at (Page page) home (content Pages (D.reads disk.old)))) }
+    ensures told { WhereTold D.Disk (IfOk result (λ s. s ≡ stamp_in (held_at (Page page) home (content Pages (D.reads disk.old))))) }
     ensures quiet { OnlyReads D.Disk disk.old disk.new }
     ensures counts { Counts D.Disk disk.old disk.new result }
 {
@@ -61,12 +60,12 @@ impl<D: Disk, O: Origin> Base<D, O> {
     /// Where the home begins in the file of pages whose value a page has there, and the stamp of that value; the first home
     /// and 0 where none is open.
     pub fn find_value(&mut self, page: PageNo) -> Result<(u64, Stamp), StoreFault>
-        ensures told { IsTrue D.tells → IfOk result (FindsValue page (D.reads self.old.disk)) }
+        ensures told { WhereTold D.Disk (IfOk result (FindsValue page (D.reads self.old.disk))) }
         ensures low { IfOk result (λ found. found.0 < 2 ^ 46) }
         ensures read { OnlyReads D.Disk self.old.disk self.new.disk }
         ensures same { self.new ≡ record self.old { disk = self.new.disk } }
         ensures refused { OnErr result (result ≡ Err Fault) }
-        ensures faults { HasFault Fault (D.faults_of self.old.disk) (D.faults_of self.new.disk) result }
+        ensures counts { CountsAs D.Disk Fault self.old.disk self.new.disk result }
     {
         let first = stamp_at(&mut self.disk, page, Home::First)?;
         let second = stamp_at(&mut self.disk, page, Home::Second)?;

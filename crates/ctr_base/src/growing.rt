@@ -1,13 +1,12 @@
 // Counting more pages: their homes are cleared first.
 ghost use Rattle.std.specs.Prelude.{◌≡◌, ◌≤◌, ◌<◌, ◌*◌, IsTrue, Err, length, OnOk, OnErr};
-ghost use Rattle.ctr_types.specs.Faults.{HasFault};
 ghost use Rattle.ctr_disk.specs.declared.fault.StoreFault.TheVariants.{Fault};
-ghost use Rattle.ctr_disk.specs.Device.{LeavesOnly, IsDurable, IsSettled, CountsAs};
+ghost use Rattle.ctr_disk.specs.Device.{WhereTold, LeavesOnly, IsDurable, IsSettled, CountsAs};
 ghost use Rattle.ctr_home.specs.declared.block.Block.TheVariants.{Root as RootBlock};
 ghost use Rattle.ctr_home.specs.Blocks.{value_of};
 ghost use Rattle.ctr_home.specs.Writing.{IsAbove};
 ghost use Rattle.ctr_redo.specs.States.{grown, state_of};
-ghost use Rattle.ctr_base.specs.Base.{now_of, IsSoundImage, StandsQuiet};
+ghost use Rattle.ctr_base.specs.Base.{WhereSound, now_of, StandsQuiet};
 ghost use Rattle.ctr_base.specs.Growth.{IsGrowing, HasGrown, LeavesGrown, GrowsOver, CountsMore, AreBlank};
 
 use crate::base::Base;
@@ -29,7 +28,7 @@ fn count_pages<D: Disk>(disk: &mut D, from: u32, more: &Root) -> Result<(), Stor
     requires long { IsTrue D.tells → 8256 * from ≤ length (D.reads disk.old).pages }
     requires above { IsTrue D.tells → IsAbove more.now.stamp (value_of RootBlock (D.reads disk.old)) }
     ensures any_moment { IsSettled D.Disk disk.old → LeavesOnly D.Disk disk.old disk.new (IsGrowing from more.now (D.reads disk.old)) }
-    ensures grown { IsTrue D.tells → OnOk result (HasGrown from more.now (D.reads disk.old) (D.reads disk.new)) }
+    ensures grown { WhereTold D.Disk (OnOk result (HasGrown from more.now (D.reads disk.old) (D.reads disk.new))) }
     ensures durable { OnOk result (IsDurable D.Disk disk.new) }
     ensures refused { OnErr result (result ≡ Err Fault) }
     ensures counts { CountsAs D.Disk Fault disk.old disk.new result }
@@ -44,12 +43,12 @@ impl<D: Disk, O: Origin> Base<D, O> {
     pub fn grow(&mut self) -> Result<(), StoreFault>
         requires few { self.old.root.pages < 30000 }
         requires rests { IsTrue D.tells → StandsQuiet O.first D.Disk self.old }
-        ensures any_moment { IsTrue D.tells → IsSoundImage O.first → LeavesGrown D.Disk self.old self.new }
-        ensures grows { IsTrue D.tells → OnOk result (GrowsOver O.first D.Disk self.old self.new) }
-        ensures blank { IsTrue D.tells → IsSoundImage O.first → AreBlank self.old.root.pages (grown self.old.root.pages) (state_of (now_of D.Disk self.old)) }
+        ensures any_moment { WhereSound O.first D.Disk (LeavesGrown D.Disk self.old self.new) }
+        ensures grows { WhereTold D.Disk (OnOk result (GrowsOver O.first D.Disk self.old self.new)) }
+        ensures blank { WhereSound O.first D.Disk (AreBlank self.old.root.pages (grown self.old.root.pages) (state_of (now_of D.Disk self.old))) }
         ensures counted { CountsMore self.old self.new result }
         ensures refused { OnErr result (result ≡ Err Fault) }
-        ensures faults { HasFault Fault (D.faults_of self.old.disk) (D.faults_of self.new.disk) result }
+        ensures counts { CountsAs D.Disk Fault self.old.disk self.new.disk result }
     {
         let mut more = self.root;
         more.stamp = more.stamp.saturating_add(1);

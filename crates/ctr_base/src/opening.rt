@@ -1,13 +1,13 @@
 // The root of a disk, with which opening begins.
-ghost use Rattle.std.specs.Prelude.{◌≡◌, ◌≤◌, ◌*◌, [], ◌∷◌, IsTrue, Ok, length, IfOk, IfErr, IfSome, OnOk, MatchResult};
+ghost use Rattle.std.specs.Prelude.{◌≡◌, ◌*◌, [], ◌∷◌, Ok, IfOk, IfErr, IfSome, OnOk, MatchResult};
 ghost use Rattle.ctr_types.specs.declared.file.File.TheVariants.{Pages};
 ghost use Rattle.ctr_disk.specs.declared.fault.StoreFault.TheVariants.{Fault};
 ghost use Rattle.ctr_disk.specs.Image.{content};
-ghost use Rattle.ctr_disk.specs.Device.{IsDurable, OnlyReads, CountsAs};
+ghost use Rattle.ctr_disk.specs.Device.{WhereTold, IsDurable, OnlyReads, CountsAs};
 ghost use Rattle.ctr_home.specs.Checks.{TellsApart, judged};
 ghost use Rattle.ctr_home.specs.Reading.{IsFaultOr};
 ghost use Rattle.ctr_home.specs.declared.root.Form.TheVariants.{Paged};
-ghost use Rattle.ctr_home.specs.Roots.{IsRootOf, ReadsRoot};
+ghost use Rattle.ctr_home.specs.Roots.{IsRootOf};
 ghost use Rattle.ctr_base.specs.Opening.{size_check, FindsRoot, IsRootDamage};
 
 use ctr_disk::{Disk, StoreFault};
@@ -19,8 +19,8 @@ const PAGE_SIZE: u64 = 8256;
 
 // The file of pages has all that are counted.
 fn check_size<D: Disk>(disk: &mut D, pages: u32) -> Result<(), StoreFault>
-    ensures row { IsTrue D.tells → MatchResult result (λ _. judged Pages (size_check pages (content Pages (D.reads disk.old)) ∷ []) ≡ Ok tt)
-        (IsFaultOr (λ e. judged Pages (size_check pages (content Pages (D.reads disk.old)) ∷ []) ≡ Err e)) }
+    ensures row { WhereTold D.Disk (MatchResult result (λ _. judged Pages (size_check pages (content Pages (D.reads disk.old)) ∷ []) ≡ Ok tt)
+        (IsFaultOr (λ e. judged Pages (size_check pages (content Pages (D.reads disk.old)) ∷ []) ≡ Err e))) }
     ensures differs { IfErr result TellsApart }
     ensures quiet { OnlyReads D.Disk disk.old disk.new }
     ensures counts { CountsAs D.Disk Fault disk.old disk.new result }
@@ -36,7 +36,7 @@ fn check_size<D: Disk>(disk: &mut D, pages: u32) -> Result<(), StoreFault>
 
 // The root and its checks, that of the file of pages behind them.
 fn read_checked<D: Disk>(disk: &mut D) -> Result<Option<Root>, StoreFault>
-    ensures found { IsTrue D.tells → MatchResult result (FindsRoot (D.reads disk.old)) (IsFaultOr (IsRootDamage (D.reads disk.old))) }
+    ensures found { WhereTold D.Disk (MatchResult result (FindsRoot (D.reads disk.old)) (IsFaultOr (IsRootDamage (D.reads disk.old)))) }
     ensures checked { IfOk result (λ o. IfSome o (IsRootOf Paged)) }
     ensures differs { IfErr result TellsApart }
     ensures quiet { OnlyReads D.Disk disk.old disk.new }
@@ -52,7 +52,7 @@ fn read_checked<D: Disk>(disk: &mut D) -> Result<Option<Root>, StoreFault>
 /// Begins an opening, with a sync: answers the root of a disk whose checks pass and whose file of pages has all that
 /// are counted; none exactly where no root home is open. It writes nothing.
 pub fn find_root<D: Disk>(disk: &mut D) -> Result<Option<Root>, StoreFault>
-    ensures found { IsTrue D.tells → MatchResult result (FindsRoot (D.reads disk.old)) (IsFaultOr (IsRootDamage (D.reads disk.old))) }
+    ensures found { WhereTold D.Disk (MatchResult result (FindsRoot (D.reads disk.old)) (IsFaultOr (IsRootDamage (D.reads disk.old)))) }
     ensures checked { IfOk result (λ o. IfSome o (IsRootOf Paged)) }
     ensures differs { IfErr result TellsApart }
     ensures quiet { OnlyReads D.Disk disk.old disk.new }

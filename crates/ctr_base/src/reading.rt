@@ -1,7 +1,7 @@
 // Pages as they stand at home.
-ghost use Rattle.std.specs.Prelude.{◌≡◌, ◌≤◌, ◌<◌, IsTrue, Some, Ok, length, IfOk, IfErr, OnOk};
+ghost use Rattle.std.specs.Prelude.{◌≡◌, ◌≤◌, ◌<◌, Some, Ok, length, IfOk, IfErr, OnOk};
 ghost use Rattle.ctr_disk.specs.declared.fault.StoreFault.TheVariants.{Fault};
-ghost use Rattle.ctr_disk.specs.Device.{OnlyReads, CountsAs};
+ghost use Rattle.ctr_disk.specs.Device.{WhereTold, OnlyReads, CountsAs};
 ghost use Rattle.ctr_home.specs.declared.block.Block.TheVariants.{Page};
 ghost use Rattle.ctr_home.specs.Blocks.{BlockValue, value_of, page_at_home};
 ghost use Rattle.ctr_home.specs.Reading.{IsMisnumbered, IsFaultOr};
@@ -18,9 +18,9 @@ pub fn read_numbered<D: Disk>(
     into: &mut [u8],
 ) -> Result<u64, StoreFault>
     requires { length into.old ≡ 4096 }
-    ensures told { IsTrue D.tells → IfOk result (λ lsn. page_at_home counted page (D.reads disk.old) ≡ record { lsn = lsn; bytes = into.new }) }
-    ensures numbered { IsTrue D.tells → page < counted → OnOk result ((v : BlockValue) → value_of (Page page) (D.reads disk.old) ≡ Some v → v.number ≡ page) }
-    ensures refused { IsTrue D.tells → IfErr result (IsFaultOr (IsMisnumbered (Page page) (D.reads disk.old))) }
+    ensures told { WhereTold D.Disk (IfOk result (λ lsn. page_at_home counted page (D.reads disk.old) ≡ record { lsn = lsn; bytes = into.new })) }
+    ensures numbered { WhereTold D.Disk (page < counted → OnOk result ((v : BlockValue) → value_of (Page page) (D.reads disk.old) ≡ Some v → v.number ≡ page)) }
+    ensures refused { WhereTold D.Disk (IfErr result (IsFaultOr (IsMisnumbered (Page page) (D.reads disk.old)))) }
     ensures uncounted { counted ≤ page → result ≡ Ok 0 }
     ensures quiet { OnlyReads D.Disk disk.old disk.new }
     ensures counts { CountsAs D.Disk Fault disk.old disk.new result }

@@ -5,6 +5,10 @@ use Rattle.ctr_types.specs.Faults.{HasCause, HasFault}
 use Rattle.ctr_disk.specs.Crash.{Only, Within}
 use Rattle.ctr_disk.specs.declared.disk.Disk.{Ghosts}
 
+-- what holds of a disk that tells what it holds
+abbrev pub WhereTold : {D : Type 0} → Ghosts D → Type 0 → Type 0
+WhereTold g P = IsTrue g.tells → P
+
 -- A crash at any moment from the old state to the new one, inside a call too, leaves an image with
 -- P.
 pub record LeavesOnly {D : Type 0} (g : Ghosts D) (old new : D) (P : Image → Type 0) : Type 0 where

@@ -3,7 +3,7 @@ ghost use Rattle.std.specs.Prelude.{◌≡◌};
 ghost use Rattle.ctr_disk.specs.declared.fault.StoreFault.TheVariants.{Fault};
 
 use crate::Failed;
-use ctr_types::File;
+use ctr_types::Damage;
 
 /// The number of a writing of the root, from 1.
 pub type Stamp = u64;
@@ -13,14 +13,8 @@ pub type Stamp = u64;
 pub enum StoreFault {
     /// The disk's count of faults rose, or stands at the last value of its type.
     Fault,
-    /// The byte of the file at which a check failed, what the check wants and what is there. The
-    /// last two differ.
-    Damaged {
-        file: File,
-        at: u64,
-        want: u128,
-        got: u128,
-    },
+    /// A check of the bytes that are there failed.
+    Damaged(Damage),
 }
 
 /// Why the engine stopped.
@@ -29,16 +23,9 @@ pub enum Stop {
     /// As in `StoreFault`.
     Fault,
     /// As in `StoreFault`.
-    Damaged {
-        file: File,
-        at: u64,
-        want: u128,
-        got: u128,
-    },
+    Damaged(Damage),
     /// The next LSN is the last that can be given.
-    Worn {
-        lsn: u64,
-    },
+    Worn { lsn: u64 },
 }
 
 impl From<Failed> for StoreFault {

@@ -3,6 +3,7 @@ use Rattle.std.proofs.Common.{◌≡◌, ◌≢◌, ◌+◌, ◌<◌, inl, inr, 
 use Rattle.std.proofs.lemmas.Bool.{cases_eq}
 use Rattle.std.proofs.lemmas.Bool.Decides.{eqb_tells}
 use Rattle.std.proofs.lemmas.List.{drop_more}
+use Rattle.ctr_types.specs.Damage.{damage_of}
 use Rattle.ctr_types.specs.declared.file.File.{File}
 use Rattle.ctr_disk.specs.declared.fault.StoreFault.TheVariants.{Damaged}
 use Rattle.ctr_home.specs.declared.checks.Check.{Check}
@@ -10,11 +11,11 @@ use Rattle.ctr_home.specs.Checks.{judged}
 
 -- a check that passes is passed over
 pub judged_same : (file : File) (c : Check) (cs : List Check) → c.want ≡ c.got → judged file (c ∷ cs) ≡ judged file cs
-judged_same file c cs same = ⊎_elim (λ w. ap (λ (t : Bool). if t then judged file cs else Err (Damaged file c.at c.want c.got)) w.0) (λ w. absurd (w.1 same)) (eqb_tells c.want c.got)
+judged_same file c cs same = ⊎_elim (λ w. ap (λ (t : Bool). if t then judged file cs else Err (Damaged (damage_of file c.at c.want c.got))) w.0) (λ w. absurd (w.1 same)) (eqb_tells c.want c.got)
 
 -- the first that fails is damage
-pub judged_fails : (file : File) (c : Check) (cs : List Check) → c.want ≢ c.got → judged file (c ∷ cs) ≡ Err (Damaged file c.at c.want c.got)
-judged_fails file c cs differ = ⊎_elim (λ w. absurd (differ w.1)) (λ w. ap (λ (t : Bool). if t then judged file cs else Err (Damaged file c.at c.want c.got)) w.0) (eqb_tells c.want c.got)
+pub judged_fails : (file : File) (c : Check) (cs : List Check) → c.want ≢ c.got → judged file (c ∷ cs) ≡ Err (Damaged (damage_of file c.at c.want c.got))
+judged_fails file c cs differ = ⊎_elim (λ w. absurd (differ w.1)) (λ w. ap (λ (t : Bool). if t then judged file cs else Err (Damaged (damage_of file c.at c.want c.got))) w.0) (eqb_tells c.want c.got)
 
 -- the same of one in a list
 pub judged_at : (file : File) (cs : List Check) (k : ℕ) (d : Check) → k < length cs → judged file (drop k cs) ≡ judged file (get_or cs k d ∷ drop (k + 1) cs)

@@ -43,7 +43,7 @@ module _ (b : Block) (image : Image) (found : Option (Home × ℕ)) (home : Home
 
 pub reads_none : (b : Block) (image : Image) (into : List ℕ) (e : StoreFault) → IsMisnumbered b image e → ReadsBlock b image into (Err e)
 reads_none b image into Fault is = tt
-reads_none b image into (Damaged file at want got) is = is
+reads_none b image into (Damaged d) is = is
 
 -- the root that was found
 module _ (form : Form) (image : Image) (found : Option (Home × ℕ)) (home : Home) (stamp : ℕ) (is : found ≡ Some (home, stamp)) (finds : FindsHome RootBlock image.root found)
@@ -67,6 +67,6 @@ module _ (form : Form) (image : Image) (found : Option (Home × ℕ)) (home : Ho
 
     pub root_refused : (e : StoreFault) → SaysOrRefuses form at read (Err e) → ReadsRoot form image (Err e)
     root_refused Fault refuses = tt
-    root_refused (Damaged file at_ want got) refuses =
+    root_refused (Damaged d) refuses =
         let place = at_is ∙ place_is RootBlock image found home stamp is finds in
-        (read, value_read, subst (λ (k : ℕ). SaysOrRefuses form k read (Err (Damaged file at_ want got))) place refuses)
+        (read, value_read, subst (λ (k : ℕ). SaysOrRefuses form k read (Err (Damaged d))) place refuses)

@@ -25,12 +25,12 @@ ReadsBlock b image into (Ok None) = (value_of b image ≡ None) × (into ≡ zer
 ReadsBlock b image into (Ok (Some stamp)) =
     value_of b image ≡ Some (record { number = block_number b; stamp = stamp; body = into })
 ReadsBlock b image into (Err Fault) = Unit {0}
-ReadsBlock b image into (Err (Damaged file at want got)) = IsMisnumbered b image (Damaged file at want got)
+ReadsBlock b image into (Err (Damaged d)) = IsMisnumbered b image (Damaged d)
 
 -- An error is damage of which P holds, or the disk failed.
 abbrev pub IsFaultOr : (StoreFault → Type 0) → StoreFault → Type 0
 IsFaultOr P Fault = Unit {0}
-IsFaultOr P (Damaged file at want got) = P (Damaged file at want got)
+IsFaultOr P (Damaged d) = P (Damaged d)
 
 -- the home that the value stands in, and its stamp; none exactly where neither is open
 abbrev pub FindsHome : Block → List ℕ → Option (Home × ℕ) → Type 0

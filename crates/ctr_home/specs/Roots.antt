@@ -81,6 +81,6 @@ abbrev pub ReadsRoot : Form → Image → Result (Option Root) StoreFault → Ty
 ReadsRoot form image (Ok None) = value_of RootBlock image ≡ None
 ReadsRoot form image (Ok (Some r)) = SaysRootOf form (value_of RootBlock image) r
 ReadsRoot form image (Err Fault) = Unit {0}
-ReadsRoot form image (Err (Damaged file at want got)) = (v : BlockValue)
+ReadsRoot form image (Err (Damaged d)) = (v : BlockValue)
     × (value_of RootBlock image ≡ Some v)
-    × SaysOrRefuses form (value_place RootBlock image) v (Err (Damaged file at want got))
+    × SaysOrRefuses form (value_place RootBlock image) v (Err (Damaged d))

@@ -3,7 +3,7 @@ ghost use Rattle.std.specs.Prelude.{◌≡◌, IfErr};
 ghost use Rattle.ctr_home.specs.Checks.{judged, TellsApart};
 
 use ctr_disk::StoreFault;
-use ctr_types::File;
+use ctr_types::{Damage, File};
 
 /// A check of the number at a place of a file: it passes where what is there is what is wanted.
 /// Where a bound is wanted, `want` is the bound that is passed, or else the number itself.
@@ -21,12 +21,12 @@ pub fn judge(file: File, checks: &[Check]) -> Result<(), StoreFault>
 {
     for check in checks {
         if check.want != check.got {
-            return Err(StoreFault::Damaged {
+            return Err(StoreFault::Damaged(Damage {
                 file,
                 at: check.at,
                 want: check.want as u128,
                 got: check.got as u128,
-            });
+            }));
         }
     }
     Ok(())

@@ -225,11 +225,11 @@ gate_none file first bytes d fails =
 pub fails_more : (file : File) (P Q : Type 0) → (Q → P) → (e : ReadError) → RefusesOrFails file P e → RefusesOrFails file Q e
 fails_more file P Q part OutOfMemory refused = tt
 fails_more file P Q part (Store Fault) refused = tt
-fails_more file P Q part (Store (Damaged f at want got)) refused = (refused.0, λ q. refused.1 (part q))
+fails_more file P Q part (Store (Damaged d)) refused = (refused.0, λ q. refused.1 (part q))
 
 pub refuses_store : (file : File) (P : Type 0) (e : StoreFault) → IsDamageOf file e → (P → ⊥) → RefusesOrFails file P (Store e)
 refuses_store file P Fault is lacks = tt
-refuses_store file P (Damaged f at want got) is lacks = (is, lacks)
+refuses_store file P (Damaged d) is lacks = (is, lacks)
 
 pub refuses_undamaged : (file : File) (P : Type 0) (e : ReadError) → (e ≡ Store Fault) ⊎ (e ≡ OutOfMemory) → RefusesOrFails file P e
 refuses_undamaged file P e (inl fault) = subst (RefusesOrFails file P) (sym fault) tt

@@ -3,6 +3,7 @@ use Rattle.std.proofs.Common.{◌≡◌, ◌≢◌, ◌⊎◌, inl, inr, ℕ, ze
 use Rattle.std.proofs.lemmas.Bool.{cases_eq}
 use Rattle.std.proofs.lemmas.List.{get_or-drop}
 use Rattle.std.specs.Prelude.{Result, ⊤}
+use Rattle.ctr_types.specs.Damage.{damage_of}
 use Rattle.ctr_types.specs.declared.file.File.{File}
 use Rattle.ctr_disk.specs.Image.{section}
 use Rattle.ctr_disk.specs.declared.fault.StoreFault.{StoreFault}
@@ -44,7 +45,7 @@ pub judged_damage : (file : File) (cs : List Check) (e : StoreFault) → judged 
 judged_damage file [] e is = absurd (cc is)
 judged_damage file (c ∷ cs) e is = elim (cases_eq c.want c.got) [
   | inl same ↦ judged_damage file cs e (sym (judged_same file c cs same) ∙ is)
-  | inr differ ↦ let fails = judged_fails file c cs differ in let told : Damaged file c.at c.want c.got ≡ e = cc (fails, is) in subst (IsDamageOf file) told (refl, differ)
+  | inr differ ↦ let fails = judged_fails file c cs differ in let told : Damaged (damage_of file c.at c.want c.got) ≡ e = cc (fails, is) in subst (IsDamageOf file) told (refl, differ)
 ]
 
 -- where each passes, no damage is told
@@ -55,7 +56,7 @@ none_told file cs e fails pass = absurd (cc (fails, pass))
 
 pub this_damage : (d : Result ⊤ StoreFault) (e : StoreFault) → d ≡ Err e → IsThisDamage d (Store e)
 this_damage d Fault is = tt
-this_damage d (Damaged file at want got) is = is
+this_damage damage (Damaged d) is = is
 
 pub this_undamaged : (d : Result ⊤ StoreFault) (e : ReadError) → (e ≡ Store Fault) ⊎ (e ≡ OutOfMemory) → IsThisDamage d e
 this_undamaged d e (inl is) = subst (IsThisDamage d) (sym is) tt
@@ -65,7 +66,7 @@ this_undamaged d e (inr is) = subst (IsThisDamage d) (sym is) tt
 pub this_more : (d whole : Result ⊤ StoreFault) → ((e : StoreFault) → d ≡ Err e → whole ≡ Err e) → (e : ReadError) → IsThisDamage d e → IsThisDamage whole e
 this_more d whole part OutOfMemory told = tt
 this_more d whole part (Store Fault) told = tt
-this_more d whole part (Store (Damaged file at want got)) told = part (Damaged file at want got) told
+this_more damage whole part (Store (Damaged d)) told = part (Damaged d) told
 
 -- ---- a batch's first fields
 

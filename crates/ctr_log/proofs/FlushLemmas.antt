@@ -94,9 +94,9 @@ module _ (a : Inside) (keeps : IsWriter a) (some : 0 < a.count) (few : a.count <
         record { records_are = prefix a.file first bs rs image c goes_a.log_is.some is; long = gate_within a.file first bs rs a.place image c goes_a.place is }))
 
   -- and behind it the writer goes on
-  pub goes_on : (image new : Image) (log : Log) → GoesOn first bs (log_of a) image → IsAfter a.file first bs rs image new → log.file ≡ a.file → log.place ≡ a.place + (1 + vec_len a.buffer) → log.first ≡ a.first + a.count
+  pub goes_on : (image new : Image) (log : Log) → GoesOn first bs (log_of a) image → IsAfter a.file first bs rs image new → log.file ≡ a.file → log.start ≡ a.start → log.place ≡ a.place + (1 + vec_len a.buffer) → log.first ≡ a.first + a.count
       → OtherFilesStay a.file image new × GoesOn first (with_batch bs rs) log new
-  goes_on image new log goes after file place number =
+  goes_on image new log goes after file start place number =
       let head = keeps.head in
       let held_len : length (frames rs) ≡ vec_len a.buffer - 20 = omega (arith, ap length keeps.frames_are, length-drop 20 a.buffer.items) in
       let place_was = goes.place in
@@ -105,6 +105,7 @@ module _ (a : Inside) (keeps : IsWriter a) (some : 0 < a.count) (few : a.count <
         after.0,
         subst P (sym (with_some bs rs (omega (arith, count_is)))) (record {
           log_is = record { some = omega (arith, length-push bs rs); batches_are = subst (λ (f : File). HasBatches first (bs ++ rs ∷ []) (content f new)) (sym file) after.1 };
+          start = start ∙ goes.start;
           place = omega (arith, place, place_was, held_len, length-batches-push first bs rs);
           first_is = omega (arith, number, first_was, count_is, ap length (records-push bs rs), length-append (records bs) rs);
         }),

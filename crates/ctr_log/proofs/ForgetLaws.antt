@@ -35,7 +35,7 @@ module _ (log : Log) (file first : ℕ) (image : Image) (one : 1 ≤ first) (w :
     by = record {
       bs = w.cs;
       file_is = w.file_is ∙ sym (named_other file);
-      goes_on = record { log_is = w.goes_on.log_is; place = w.goes_on.place; first_is = w.goes_on.first_is };
+      goes_on = record { log_is = w.goes_on.log_is; start = w.goes_on.start; place = w.goes_on.place; first_is = w.goes_on.first_is };
       holds = record {
         named = subst (λ (f : File). HasLog next w.cs (content f image)) (sym (named_other file)) w.holds.newer;
         short = w.holds.newer_short;

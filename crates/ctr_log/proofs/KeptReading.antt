@@ -75,7 +75,7 @@ holds_stands file first image rs (inr two) = record { bs = two.0; named = two.3.
 pub kept_refused : {file first : ℕ} {image : Image} {g : File} {P : Type 0} → (g ≡ log_file file) ⊎ (g ≡ other_file file) → (StandsLog file first image → P) → (e : ReadError) → RefusesOrFails g P e → RefusesKept file first image e
 kept_refused is part OutOfMemory refused = tt
 kept_refused is part (Store Fault) refused = tt
-kept_refused {file} {first} {image} is part (Store (Damaged f at want got)) refused = record {
+kept_refused {file} {first} {image} is part (Store (Damaged d)) refused = record {
   differs = refused.0.1;
   file_is = subst (λ (k : File). (k ≡ log_file file) ⊎ (k ≡ other_file file)) (sym refused.0.0) is;
   stands = λ stands. refused.1 (part stands);
@@ -215,10 +215,11 @@ module _ {r : Root} {image mid : Image} {f h : File} {rs : List (List ℕ)} {pla
       begins_there next other head.0 head.1
 
   -- the one generation was read
-  module _ (alone : b ≡ false) {log : Log} (at : IsEmptyAt f false place next log) where
+  module _ (alone : b ≡ false) {log : Log} (at : IsEmptyAt f false r.first place next log) where
     goes_one : GoesOn r.first read.bs log image
     goes_one = record {
       log_is = subst (λ (k : File). HasLog r.first read.bs (content k image)) (sym (at.file_is ∙ w.named_is)) read.log_is;
+      start = at.start_is;
       place = at.place_is ∙ read.place_is;
       first_is = at.next_is ∙ read.next_is;
     }
@@ -296,7 +297,7 @@ module _ {r : Root} {image mid : Image} {f h : File} {rs : List (List ℕ)} {pla
       visited_two gives = given_same has_seen old new (visits_two passed) (given_both has_seen old between new (sound_visits f r.first (content f image)) (sound_visits h next (content h late)) seen gives)
 
     -- and was read
-    module _ {qs : List (List ℕ)} {place2 next2 : ℕ} (found : ReadsLog next (content h late) qs place2 next2) (low_place2 : place2 < 2 ^ 63) (low2 : next2 < 2 ^ 64) {log : Log} (at : IsEmptyAt h true place2 next2 log) where
+    module _ {qs : List (List ℕ)} {place2 next2 : ℕ} (found : ReadsLog next (content h late) qs place2 next2) (low_place2 : place2 < 2 ^ 63) (low2 : next2 < 2 ^ 64) {log : Log} (at : IsEmptyAt h true next place2 next2 log) where
       newer : ReadsLog next other qs place2 next2
       newer = subst (λ (l : List ℕ). ReadsLog next l qs place2 next2) bytes_are found
 
@@ -309,6 +310,7 @@ module _ {r : Root} {image mid : Image} {f h : File} {rs : List (List ℕ)} {pla
       goes_two : GoesOn next newer.bs log image
       goes_two = record {
         log_is = subst (λ (k : File). HasLog next newer.bs (content k image)) (sym (at.file_is ∙ behind_is)) newer.log_is;
+        start = at.start_is;
         place = at.place_is ∙ newer.place_is;
         first_is = at.next_is ∙ newer.next_is;
       }

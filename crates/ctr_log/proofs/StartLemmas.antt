@@ -112,9 +112,9 @@ module _ (a : Inside) (keeps : IsWriter a) (log : Log) (view : log_of a ≡ log)
             front_of c (begun_front named oldest one.bs r image writes.numbered one.holds short low (g.reads mid) stays_there c (subst (λ (f : File). IsBeforeOrAfter f number [] (r ∷ []) (g.reads mid) c) is step))))
 
         -- and where the writer goes on
-        pub begun : (c : Image) (next : Log) → IsAfter file number [] (r ∷ []) (g.reads mid) c → next.older ≡ true → next.file ≡ file → next.first ≡ a.first + 1 → next.place ≡ 29 + length r
+        pub begun : (c : Image) (next : Log) → IsAfter file number [] (r ∷ []) (g.reads mid) c → next.older ≡ true → next.file ≡ file → next.start ≡ a.first → next.first ≡ a.first + 1 → next.place ≡ 29 + length r
             → GoesOnWith named oldest (r ∷ []) next image c
-        begun c next after older here first place =
+        begun c next after older here start first place =
             let after_there = subst (λ (f : File). IsAfter f number [] (r ∷ []) (g.reads mid) c) is after in
             let holds = begun_holds named oldest one.bs r image writes.numbered one.holds short low (g.reads mid) stays_there c after_there in
             record {
@@ -128,6 +128,7 @@ module _ (a : Inside) (keeps : IsWriter a) (log : Log) (view : log_of a ≡ log)
                   file_is = here ∙ is;
                   goes_on = record {
                     log_is = subst (λ (f : File). HasLog number ((r ∷ []) ∷ []) (content f c)) (sym (here ∙ is)) holds.newer;
+                    start = start ∙ number_is;
                     place = omega (arith, place, length-append (batch number (r ∷ [])) [], length-batch number (r ∷ []), length-append (frame r) [], length-frame r);
                     first_is = omega (arith, first, number_is);
                   };

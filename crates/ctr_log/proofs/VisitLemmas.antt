@@ -78,22 +78,22 @@ module _ {V : Type 0} (has_seen : V → List Visit → Type 0) where
     pub given_stops : (old new : V) (all : List Visit) → IsGiven has_seen old new all → (e : ReadError) → StopsAt {E = E} has_seen refuses old new all (Read e)
     given_stops old new all gives OutOfMemory = part_all old new gives
     given_stops old new all gives (Store Fault) = part_all old new gives
-    given_stops old new all gives (Store (Damaged file at want got)) = gives
+    given_stops old new all gives (Store (Damaged d)) = gives
 
     -- reading stopped in a part of what is sound, behind which damage leaves nothing
     pub stops_more : (old new : V) (all more whole : List Visit) → whole ≡ all ++ more → (damage : Result ⊤ StoreFault) → ((d : StoreFault) → damage ≡ Err d → more ≡ []) → (e : VisitError E)
         → OnRead (IsThisDamage damage) e → StopsAt has_seen refuses old new all e → StopsAt has_seen refuses old new whole e
     stops_more old new all more whole is damage none (Read OutOfMemory) told stops = part_more old new all more whole is stops
     stops_more old new all more whole is damage none (Read (Store Fault)) told stops = part_more old new all more whole is stops
-    stops_more old new all more whole is damage none (Read (Store (Damaged file at want got))) told stops =
-        given_same old new (is ∙ ap (λ (l : List Visit). all ++ l) (none (Damaged file at want got) told) ∙ append-nil all) stops
+    stops_more old new all more whole is damage none (Read (Store (Damaged d))) told stops =
+        given_same old new (is ∙ ap (λ (l : List Visit). all ++ l) (none (Damaged d) told) ∙ append-nil all) stops
     stops_more old new all more whole is damage none (Refused e) told stops = refused_more old all more whole e is stops
 
     -- or behind a part that was given
     pub stops_behind : (old mid new : V) (front all whole : List Visit) → IsGiven has_seen old mid front → whole ≡ front ++ all → (e : VisitError E) → StopsAt has_seen refuses mid new all e → StopsAt has_seen refuses old new whole e
     stops_behind old mid new front all whole gives is (Read OutOfMemory) stops = part_behind old mid new front all whole gives is stops
     stops_behind old mid new front all whole gives is (Read (Store Fault)) stops = part_behind old mid new front all whole gives is stops
-    stops_behind old mid new front all whole gives is (Read (Store (Damaged file at want got))) stops = given_same old new is (given_both old mid new front all gives stops)
+    stops_behind old mid new front all whole gives is (Read (Store (Damaged d))) stops = given_same old new is (given_both old mid new front all gives stops)
     stops_behind old mid new front all whole gives is (Refused e) stops = refused_behind old mid front all whole e gives is stops
 
     -- the end of reading, behind what was given

@@ -8,7 +8,7 @@ use Rattle.ctr_home.specs.Checks.{TellsApart}
 -- An error is damage of a file, and what is wanted there differs from what is there.
 abbrev pub IsDamageOf : File → StoreFault → Type 0
 IsDamageOf file Fault = ⊥
-IsDamageOf file (Damaged f at want got) = (f ≡ file) × (want ≢ got)
+IsDamageOf file (Damaged d) = (d.file ≡ file) × (d.want ≢ d.got)
 
 -- where it is damage, what is wanted differs from what is there
 abbrev pub Differs : StoreFault → Type 0

@@ -1,6 +1,7 @@
 -- The log of an image: the generation that its root names, and behind it the one in the other file
 -- where that goes on from it.
 use Rattle.std.specs.Prelude.{◌≡◌, ◌≢◌, ◌⊎◌, ◌==◌, ◌&&◌, ◌≤◌, ◌<◌, ◌+◌, ◌-◌, ◌^◌, if◌then◌else◌, ℕ, zero, suc, Bool, true, false, List, [], ◌∷◌, ◌++◌, length, take, drop, slice_index}
+use Rattle.ctr_types.specs.declared.file.Damage.{Damage}
 use Rattle.ctr_types.specs.declared.file.File.{File}
 use Rattle.ctr_types.specs.declared.file.File.TheVariants.{LogA, LogB}
 use Rattle.ctr_disk.specs.Image.{Image, content, OtherFilesStay}
@@ -149,6 +150,7 @@ pub record CanBegin (bytes : ℕ) (log : Log) : Type 0 where
 -- waited
 pub record IsStarted (old new : Log) : Type 0 where
   pub older : new.older ≡ true
+  pub start : new.start ≡ old.first + length old.buffered
   pub next : new.first ≡ old.first + length old.buffered + 1
   pub empty : new.buffered ≡ []
 
@@ -176,9 +178,9 @@ pub record StandsLog (file first : ℕ) (image : Image) : Type 0 where
       → HasSome (first + length (records bs)) (content (other_file file) image)
 
 -- damage of one of the two files was found, and no log stands in the image; so it holds none
-pub record LacksLog (file first : ℕ) (image : Image) (f : File) (want got : ℕ) : Type 0 where
-  pub differs : want ≢ got
-  pub file_is : (f ≡ log_file file) ⊎ (f ≡ other_file file)
+pub record LacksLog (file first : ℕ) (image : Image) (d : Damage) : Type 0 where
+  pub differs : d.want ≢ d.got
+  pub file_is : (d.file ≡ log_file file) ⊎ (d.file ≡ other_file file)
   pub stands : StandsLog file first image → ⊥
   pub holds : (rs : List (List ℕ)) → HoldsLog file first rs image → ⊥
 
@@ -186,7 +188,7 @@ pub record LacksLog (file first : ℕ) (image : Image) (f : File) (want got : �
 abbrev pub RefusesKept : ℕ → ℕ → Image → ReadError → Type 0
 RefusesKept file first image OutOfMemory = Unit {0}
 RefusesKept file first image (Store Fault) = Unit {0}
-RefusesKept file first image (Store (Damaged f at want got)) = LacksLog file first image f want got
+RefusesKept file first image (Store (Damaged d)) = LacksLog file first image d
 
 -- the other file begins at the number behind the named file's records
 abbrev pub has_newer : ℕ → List ℕ → List ℕ → Bool

@@ -8,3 +8,4 @@ pub mod Kept
 pub mod Batch
 pub mod Visits
 pub mod LogChecks
+pub mod Opening

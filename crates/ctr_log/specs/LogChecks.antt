@@ -120,7 +120,7 @@ sound_kept_visits file first image =
 abbrev pub IsThisDamage : Result ⊤ StoreFault → ReadError → Type 0
 IsThisDamage damage OutOfMemory = Unit {0}
 IsThisDamage damage (Store Fault) = Unit {0}
-IsThisDamage damage (Store (Damaged file at want got)) = damage ≡ Err (Damaged file at want got)
+IsThisDamage damage (Store (Damaged d)) = damage ≡ Err (Damaged d)
 
 -- what was read to its end has no damage, and damage that was told is this
 abbrev pub TellsDamage : {T : Type 0} → Result ⊤ StoreFault → Result T ReadError → Type 0

@@ -9,6 +9,7 @@ abbrev pub log_of : Inside → Log
 log_of a = record {
   file = a.file;
   older = a.older;
+  start = a.start;
   place = a.place;
   first = a.first;
   buffered = unframed a.count (drop 20 a.buffer.items);

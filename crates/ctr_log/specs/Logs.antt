@@ -79,19 +79,22 @@ unframed (suc n) bytes =
     take (field 8 0 bytes) (drop 8 bytes) ∷ unframed n (drop (8 + field 8 0 bytes) bytes)
 
 -- What the writer of a log knows: its file, whether the other file has an older generation that is
--- kept, the place of the closed gate behind the log, the LSN of the first record that isn't
--- flushed, the records that aren't, and how many bytes of frames more fit.
+-- kept, the LSN of the first record of its own, the place of the closed gate behind the log, the
+-- LSN of the first record that isn't flushed, the records that aren't, and how many bytes of frames
+-- more fit.
 pub record Log : Type 0 where
   pub file : File
   pub older : Bool
+  pub start : ℕ
   pub place : ℕ
   pub first : ℕ
   pub buffered : List (List ℕ)
   pub room : ℕ
 
--- the writer goes on behind the last batch of its file's log
+-- the writer goes on behind the last batch of its file's log, whose first record has this LSN
 pub record GoesOn (first : ℕ) (bs : Batches) (log : Log) (image : Image) : Type 0 where
   pub log_is : HasLog first bs (content log.file image)
+  pub start : log.start ≡ first
   pub place : log.place ≡ length (batches first bs)
   pub first_is : log.first ≡ first + length (records bs)
 
@@ -107,6 +110,15 @@ WaitsOrNone old new = (new.buffered ≡ old.buffered) ⊎ (new.buffered ≡ [])
 -- fields, the frames that wait, and the 8 bytes of its own length
 abbrev pub next_place : Log → ℕ
 next_place log = log.place + 29 + length (frames log.buffered)
+
+-- where the closed gate behind a log will stand once these records are flushed behind this place
+abbrev pub end_behind : ℕ → List (List ℕ) → ℕ
+end_behind place [] = place
+end_behind place (r ∷ rs) = place + 21 + length (frames (r ∷ rs))
+
+-- where the closed gate behind a writer's log will stand once all that waits is flushed
+abbrev pub log_end : Log → ℕ
+log_end log = end_behind log.place log.buffered
 
 -- the batches with one of these records behind them, where there are any
 abbrev pub with_batch : Batches → List (List ℕ) → Batches
@@ -124,17 +136,22 @@ pub record IsFlushing (first : ℕ) (bs : Batches) (log : Log) (old new : Image)
   pub records_are : HasPrefix log.file first (records bs) log.buffered old new
   pub long : log.place < length (content log.file new)
 
--- How a flush leaves the writer: its file, the number of its next record and the size of its buffer
--- stay, so what waited gives its room back. At Ok nothing waits, and the numbers go on behind the
--- records that waited; else they wait still.
+-- How a flush leaves the writer: its generation, the number of its next record and the size of its
+-- buffer stay, so what waited gives its room back. The closed gate stands behind all once nothing
+-- waits. At Ok nothing does, and the numbers go on behind the records that waited; else they wait
+-- still.
 pub record IsEmptied {T E : Type 0} (old new : Log) (result : Result T E) : Type 0 where
   pub file : new.file ≡ old.file
   pub older : new.older ≡ old.older
+  pub start : new.start ≡ old.start
   pub none : OnOk result (new.buffered ≡ [])
   pub next : OnOk result (new.first ≡ old.first + length old.buffered)
   pub room : old.room ≤ new.room
   pub size : buffer_size old ≤ buffer_size new
   pub waits : WaitsOrNone old new
+  pub still : OnErr result (new.buffered ≡ old.buffered)
+  pub gate : old.place ≤ new.place
+  pub ends : log_end new ≡ log_end old
   pub number : new.first + length new.buffered ≡ old.first + length old.buffered
   pub later : old.first ≤ new.first
 

@@ -15,8 +15,7 @@ use Rattle.ctr_log.specs.Logs.{Batches, frame, frames, batch, batches, records, 
 abbrev pub RefusesOrFails : File → Type 0 → ReadError → Type 0
 RefusesOrFails file P OutOfMemory = Unit {0}
 RefusesOrFails file P (Store Fault) = Unit {0}
-RefusesOrFails file P (Store (Damaged f at want got)) = IsDamageOf file (Damaged f at want got)
-    × (P → ⊥)
+RefusesOrFails file P (Store (Damaged d)) = IsDamageOf file (Damaged d) × (P → ⊥)
 
 -- where it is damage, what is wanted differs from what is there
 abbrev pub ReadDiffers : ReadError → Type 0
@@ -84,10 +83,11 @@ abbrev pub log_file : ℕ → File
 log_file zero = LogA
 log_file (suc n) = LogB
 
--- a writer with nothing to flush, at this place
-pub record IsEmptyAt (file : File) (older : Bool) (place next : ℕ) (log : Log) : Type 0 where
+-- a writer with nothing to flush, at this place, in a generation that begins with this LSN
+pub record IsEmptyAt (file : File) (older : Bool) (start place next : ℕ) (log : Log) : Type 0 where
   pub file_is : log.file ≡ file
   pub older_is : log.older ≡ older
+  pub start_is : log.start ≡ start
   pub place_is : log.place ≡ place
   pub next_is : log.first ≡ next
   pub none : log.buffered ≡ []

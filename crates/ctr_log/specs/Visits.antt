@@ -95,8 +95,7 @@ abbrev pub StopsAt : {V E : Type 0} → (V → List Visit → Type 0)
     → (List Visit → Visit → E → Type 0) → V → V → List Visit → VisitError E → Type 0
 StopsAt has_seen refuses old new sound (Read OutOfMemory) = GivesPart has_seen old new sound
 StopsAt has_seen refuses old new sound (Read (Store Fault)) = GivesPart has_seen old new sound
-StopsAt has_seen refuses old new sound (Read (Store (Damaged file at want got))) =
-    IsGiven has_seen old new sound
+StopsAt has_seen refuses old new sound (Read (Store (Damaged d))) = IsGiven has_seen old new sound
 StopsAt has_seen refuses old new sound (Refused e) = RefusesOne has_seen refuses old sound e
 
 -- A visitor is given all records; or reading ends early, by damage, a fault or a refusal.

@@ -1,20 +1,20 @@
 // Reads a file of the log batch by batch. A batch is checked by itself as it is read, and then its
 // records are given to a visitor; so no more than a batch is held.
-ghost use Rattle.std.specs.Prelude.{◌≡◌, ◌≢◌, ◌⊎◌, ◌≤◌, ◌<◌, ◌+◌, ◌-◌, ◌*◌, ◌^◌, [], ◌∷◌, ◌++◌, ℕ, IsTrue, Ok, Err, length, take, drop, slice_index, IfOk, IfErr, OnOk, MatchResult};
+ghost use Rattle.std.specs.Prelude.{◌≡◌, ◌⊎◌, ◌≤◌, ◌<◌, ◌+◌, ◌-◌, ◌^◌, [], ◌∷◌, ℕ, IsTrue, Ok, Err, length, drop, slice_index, IfOk, IfErr, MatchResult};
 ghost use Rattle.ctr_disk.specs.declared.fault.StoreFault.TheVariants.{Fault};
 ghost use Rattle.ctr_disk.specs.Image.{content, section};
-ghost use Rattle.ctr_disk.specs.Device.{OnlyReads, CountsAs};
+ghost use Rattle.ctr_disk.specs.Device.{WhereTold, OnlyReads, CountsAs};
 ghost use Rattle.ctr_bytes.specs.Fields.{field};
 ghost use Rattle.ctr_log.specs.declared.reading.ReadError.TheVariants.{Store, OutOfMemory as NoMemory};
 ghost use Rattle.ctr_log.specs.declared.visitor.VisitError.TheVariants.{Read};
 ghost use Rattle.ctr_home.specs.Checks.{check_of, judged};
 ghost use Rattle.ctr_log.specs.Damage.{IsDamageOf};
-ghost use Rattle.ctr_log.specs.Logs.{Batches, frame, records, HasLog};
-ghost use Rattle.ctr_log.specs.Reading.{RefusesOrFails, ReadDiffers, AreFrames, HasFrames, HasSome, FitsFile};
+ghost use Rattle.ctr_log.specs.Logs.{Batches, records, HasLog};
+ghost use Rattle.ctr_log.specs.Reading.{RefusesOrFails, ReadDiffers, AreFrames, HasFrames, FitsFile};
 ghost use Rattle.ctr_log.specs.Kept.{log_in};
-ghost use Rattle.ctr_log.specs.LogChecks.{head_checks, count_checks, frames_in, frame_checks, gate_checks, file_damage, sound_visits, IsThisDamage, TellsDamage, TellsFile};
+ghost use Rattle.ctr_log.specs.LogChecks.{head_checks, count_checks, frames_in, frame_checks, gate_checks, sound_visits, IsThisDamage, TellsDamage, TellsFile};
 ghost use Rattle.ctr_log.specs.Batch.{HeadFits, CountFits, FindsBatch, IsWholeBatch, OpensBatch, EndsLog};
-ghost use Rattle.ctr_log.specs.Visits.{frame_visits, IsGiven, GivesSome, RefusesOne, Visits, OnRead, UnlessRead, EndsEarly};
+ghost use Rattle.ctr_log.specs.Visits.{frame_visits, IsGiven, GivesSome, RefusesOne, Visits, UnlessRead, EndsEarly};
 
 use crate::damage::{at_least, at_most, same};
 use crate::log::Lsn;
@@ -102,7 +102,7 @@ fn read_bytes<D: Disk>(
     len: u64,
 ) -> Result<Vec<u8>, ReadError>
     requires { at < 2 ^ 62 }
-    ensures told { IsTrue D.tells → IfOk result (λ v. v.items ≡ section at len (content file (D.reads disk.old))) }
+    ensures told { WhereTold D.Disk (IfOk result (λ v. v.items ≡ section at len (content file (D.reads disk.old)))) }
     ensures long { IfOk result (λ v. (length v.items ≡ len) × (len < 2 ^ 61)) }
     ensures not_damaged { IfErr result (λ e. (e ≡ Store Fault) ⊎ (e ≡ NoMemory)) }
     ensures quiet { OnlyReads D.Disk disk.old disk.new }
@@ -126,9 +126,9 @@ fn read_batch<D: Disk>(
     next: Lsn,
 ) -> Result<Option<Batch>, ReadError>
     requires { gate < 2 ^ 61 }
-    ensures found { IsTrue D.tells → size ≡ length (content file (D.reads disk.old)) → IfOk result (FindsBatch next (drop gate (content file (D.reads disk.old)))) }
-    ensures refused { IsTrue D.tells → size ≡ length (content file (D.reads disk.old)) → IfErr result (RefusesOrFails file (OpensBatch next (drop gate (content file (D.reads disk.old))))) }
-    ensures damage { IsTrue D.tells → size ≡ length (content file (D.reads disk.old)) → TellsDamage (judged file (gate_checks next gate (drop gate (content file (D.reads disk.old))))) result }
+    ensures found { WhereTold D.Disk (size ≡ length (content file (D.reads disk.old)) → IfOk result (FindsBatch next (drop gate (content file (D.reads disk.old))))) }
+    ensures refused { WhereTold D.Disk (size ≡ length (content file (D.reads disk.old)) → IfErr result (RefusesOrFails file (OpensBatch next (drop gate (content file (D.reads disk.old)))))) }
+    ensures damage { WhereTold D.Disk (size ≡ length (content file (D.reads disk.old)) → TellsDamage (judged file (gate_checks next gate (drop gate (content file (D.reads disk.old))))) result) }
     ensures differs { IfErr result ReadDiffers }
     ensures small { IfOk result IsWholeBatch }
     ensures quiet { OnlyReads D.Disk disk.old disk.new }
@@ -174,9 +174,9 @@ fn give<V: Visitor>(
 
 // The length of a file whose first gate is open.
 fn open_len<D: Disk>(disk: &mut D, file: File) -> Result<u64, ReadError>
-    ensures told { IsTrue D.tells → IfOk result (λ n. (n ≡ length (content file (D.reads disk.old))) × (slice_index (content file (D.reads disk.old)) 0 ≡ 1)) }
-    ensures refused { IsTrue D.tells → IfErr result (RefusesOrFails file (slice_index (content file (D.reads disk.old)) 0 ≡ 1)) }
-    ensures damage { IsTrue D.tells → IfErr result (IsThisDamage (judged file (check_of 0 1 (slice_index (content file (D.reads disk.old)) 0) ∷ []))) }
+    ensures told { WhereTold D.Disk (IfOk result (λ n. (n ≡ length (content file (D.reads disk.old))) × (slice_index (content file (D.reads disk.old)) 0 ≡ 1))) }
+    ensures refused { WhereTold D.Disk (IfErr result (RefusesOrFails file (slice_index (content file (D.reads disk.old)) 0 ≡ 1))) }
+    ensures damage { WhereTold D.Disk (IfErr result (IsThisDamage (judged file (check_of 0 1 (slice_index (content file (D.reads disk.old)) 0) ∷ [])))) }
     ensures differs { IfErr result ReadDiffers }
     ensures quiet { OnlyReads D.Disk disk.old disk.new }
     ensures counts { CountsAs D.Disk (Store Fault) disk.old disk.new result }
@@ -198,10 +198,10 @@ pub fn visit_file<D: Disk, V: Visitor>(
     visitor: &mut V,
 ) -> Result<End, VisitError<V::E>>
     requires low { first ≤ 2 ^ 63 + 2 ^ 60 }
-    ensures found { IsTrue D.tells → IfOk result (λ end. EndsLog first (content file (D.reads disk.old)) end.place end.next) }
+    ensures found { WhereTold D.Disk (IfOk result (λ end. EndsLog first (content file (D.reads disk.old)) end.place end.next)) }
     ensures only { (bs : Batches) → IsTrue D.tells → HasLog first bs (content file (D.reads disk.old)) → IfOk result (λ end. end.next ≡ first + length (records bs)) × UnlessRead (log_in (content file (D.reads disk.old)) ≡ records bs) result }
-    ensures visits { IsTrue D.tells → Visits V.has_seen V.refuses visitor.old visitor.new (sound_visits file first (content file (D.reads disk.old))) result }
-    ensures damage { IsTrue D.tells → TellsFile file first (content file (D.reads disk.old)) result }
+    ensures visits { WhereTold D.Disk (Visits V.has_seen V.refuses visitor.old visitor.new (sound_visits file first (content file (D.reads disk.old))) result) }
+    ensures damage { WhereTold D.Disk (TellsFile file first (content file (D.reads disk.old)) result) }
     ensures always { MatchResult result (λ end. GivesSome V.has_seen visitor.old visitor.new × FitsFile first end.place end.next) (EndsEarly V.has_seen V.refuses visitor.old) }
     ensures quiet { OnlyReads D.Disk disk.old disk.new }
     ensures counts { CountsAs D.Disk (Read (Store Fault)) disk.old disk.new result }

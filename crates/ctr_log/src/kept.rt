@@ -1,16 +1,16 @@
 // Reads the log that is kept: the generation that the root names, and behind it the one in the other
 // file where that goes on from it.
-ghost use Rattle.std.specs.Prelude.{◌≡◌, ◌+◌, IsTrue, ℕ, List, [], ◌++◌, length, Result, MatchResult, IfOk, IfErr, OnOk, Ok, Err};
+ghost use Rattle.std.specs.Prelude.{◌≡◌, IsTrue, ℕ, List, [], Result, MatchResult, IfOk, IfErr, OnOk, Ok, Err};
 ghost use Rattle.ctr_disk.specs.declared.fault.StoreFault.TheVariants.{Fault};
 ghost use Rattle.ctr_disk.specs.Image.{content};
-ghost use Rattle.ctr_disk.specs.Device.{OnlyReads, Counts, CountsAs};
+ghost use Rattle.ctr_disk.specs.Device.{WhereTold, OnlyReads, Counts, CountsAs};
 ghost use Rattle.ctr_log.specs.declared.reading.ReadError.TheVariants.{Store};
 ghost use Rattle.ctr_log.specs.declared.visitor.VisitError.{VisitError};
 ghost use Rattle.ctr_log.specs.declared.visitor.VisitError.TheVariants.{Read};
 ghost use Rattle.ctr_log.specs.Logs.{Batches, records, HasLog};
-ghost use Rattle.ctr_log.specs.Reading.{RefusesOrFails, HasSome, OpensLog, NamesLog, log_file};
+ghost use Rattle.ctr_log.specs.Reading.{OpensLog, NamesLog, log_file};
 ghost use Rattle.ctr_log.specs.Kept.{log_in, begins_at, NamesKept, HoldsLog, RefusesKept, OpensKept, WritesBehind};
-ghost use Rattle.ctr_log.specs.LogChecks.{file_damage, kept_damage, sound_visits, sound_kept_visits, IsThisDamage, VisitsDamage, TellsFile};
+ghost use Rattle.ctr_log.specs.LogChecks.{kept_damage, sound_visits, sound_kept_visits, IsThisDamage, VisitsDamage, TellsFile};
 ghost use Rattle.ctr_log.specs.Visits.{kept_visits, IsGiven, Visits, StopsAt, OnRead, UnlessRead, EndsEarly, IsToldBy};
 
 use crate::batches::visit_file;
@@ -34,12 +34,12 @@ pub fn visit_named<D: Disk, V: Visitor>(
     visitor: &mut V,
 ) -> Result<LogFile, VisitError<V::E>>
     requires names { NamesLog root.now }
-    ensures found { IsTrue D.tells → IfOk result (λ log. OpensLog root.now.first (log_file root.now.file) (D.reads disk.old) log (log_in (content (log_file root.now.file) (D.reads disk.old)))) }
+    ensures found { WhereTold D.Disk (IfOk result (λ log. OpensLog root.now.first (log_file root.now.file) (D.reads disk.old) log (log_in (content (log_file root.now.file) (D.reads disk.old))))) }
     // A log that stands there has the records that are read, and no others.
     ensures only { (bs : Batches) → IsTrue D.tells → HasLog root.now.first bs (content (log_file root.now.file) (D.reads disk.old))
         → UnlessRead (log_in (content (log_file root.now.file) (D.reads disk.old)) ≡ records bs) result }
-    ensures visits { IsTrue D.tells → Visits V.has_seen V.refuses visitor.old visitor.new (sound_visits (log_file root.now.file) root.now.first (content (log_file root.now.file) (D.reads disk.old))) result }
-    ensures damage { IsTrue D.tells → TellsFile (log_file root.now.file) root.now.first (content (log_file root.now.file) (D.reads disk.old)) result }
+    ensures visits { WhereTold D.Disk (Visits V.has_seen V.refuses visitor.old visitor.new (sound_visits (log_file root.now.file) root.now.first (content (log_file root.now.file) (D.reads disk.old))) result) }
+    ensures damage { WhereTold D.Disk (TellsFile (log_file root.now.file) root.now.first (content (log_file root.now.file) (D.reads disk.old)) result) }
     // Whatever the disk tells.
     ensures always { MatchResult result (λ log. log.buffered ≡ []) (EndsEarly V.has_seen V.refuses visitor.old) }
     ensures quiet { OnlyReads D.Disk disk.old disk.new }
@@ -47,7 +47,7 @@ pub fn visit_named<D: Disk, V: Visitor>(
 {
     let file = named_file(root);
     let end = visit_file(alloc, disk, file, root.first, visitor)?;
-    let log = LogFile::behind(alloc, file, false, end.place, end.next)?;
+    let log = LogFile::behind(alloc, file, false, root.first, end.place, end.next)?;
     Ok(log)
 }
 
@@ -62,12 +62,12 @@ pub fn read_all<D: Disk, V: Visitor>(
     visitor: &mut V,
 ) -> Result<LogFile, V::E>
     requires names { NamesKept root.now }
-    ensures found { IsTrue D.tells → IfOk result (OpensKept root.now.file root.now.first (D.reads disk.old)) }
+    ensures found { WhereTold D.Disk (IfOk result (OpensKept root.now.file root.now.first (D.reads disk.old))) }
     ensures goes_on { (rs : List (List ℕ)) → IsTrue D.tells → HoldsLog root.now.file root.now.first rs (D.reads disk.old)
         → IfOk result (λ log. WritesBehind root.now.file root.now.first log (D.reads disk.old)) }
     // The visitor has been given the records of the image's log and no others, and no check of it fails.
-    ensures visited { IsTrue D.tells → OnOk result (IsGiven V.has_seen visitor.old visitor.new (kept_visits root.now.file root.now.first (D.reads disk.old))
-        × (kept_damage root.now.file root.now.first (D.reads disk.old) ≡ Ok tt)) }
+    ensures visited { WhereTold D.Disk (OnOk result (IsGiven V.has_seen visitor.old visitor.new (kept_visits root.now.file root.now.first (D.reads disk.old))
+        × (kept_damage root.now.file root.now.first (D.reads disk.old) ≡ Ok tt))) }
     // The cause is damage, told by the first check of the log that fails, a fault of the disk, want of memory, or a record
     // that the visitor refused. At damage it has been given the records of all batches before, and what it refuses is one of
     // these.
@@ -100,12 +100,12 @@ fn read_kept<D: Disk, V: Visitor>(
     visitor: &mut V,
 ) -> Result<LogFile, VisitError<V::E>>
     requires names { NamesKept root.now }
-    ensures found { IsTrue D.tells → IfOk result (OpensKept root.now.file root.now.first (D.reads disk.old)) }
+    ensures found { WhereTold D.Disk (IfOk result (OpensKept root.now.file root.now.first (D.reads disk.old))) }
     ensures goes_on { (rs : List (List ℕ)) → IsTrue D.tells → HoldsLog root.now.file root.now.first rs (D.reads disk.old)
         → IfOk result (λ log. WritesBehind root.now.file root.now.first log (D.reads disk.old)) }
-    ensures visits { IsTrue D.tells → Visits V.has_seen V.refuses visitor.old visitor.new (sound_kept_visits root.now.file root.now.first (D.reads disk.old)) result }
-    ensures refused { IsTrue D.tells → IfErr result (OnRead (RefusesKept root.now.file root.now.first (D.reads disk.old))) }
-    ensures damage { IsTrue D.tells → VisitsDamage (kept_damage root.now.file root.now.first (D.reads disk.old)) result }
+    ensures visits { WhereTold D.Disk (Visits V.has_seen V.refuses visitor.old visitor.new (sound_kept_visits root.now.file root.now.first (D.reads disk.old)) result) }
+    ensures refused { WhereTold D.Disk (IfErr result (OnRead (RefusesKept root.now.file root.now.first (D.reads disk.old)))) }
+    ensures damage { WhereTold D.Disk (VisitsDamage (kept_damage root.now.file root.now.first (D.reads disk.old)) result) }
     ensures early { IfErr result (EndsEarly V.has_seen V.refuses visitor.old) }
     ensures none { IfOk result (λ log. log.buffered ≡ []) }
     ensures quiet { OnlyReads D.Disk disk.old disk.new }
@@ -115,17 +115,17 @@ fn read_kept<D: Disk, V: Visitor>(
     let older = visit_file(alloc, disk, named, root.first, visitor)?;
     let other = next_file(named);
     if !begins_at(disk, other, older.next)? {
-        let log = LogFile::behind(alloc, named, false, older.place, older.next)?;
+        let log = LogFile::behind(alloc, named, false, root.first, older.place, older.next)?;
         return Ok(log);
     }
     let newer = visit_file(alloc, disk, other, older.next, visitor)?;
-    let log = LogFile::behind(alloc, other, true, newer.place, newer.next)?;
+    let log = LogFile::behind(alloc, other, true, older.next, newer.place, newer.next)?;
     Ok(log)
 }
 
 // Whether the first batch of a file is open and has this first number.
 fn begins_at<D: Disk>(disk: &mut D, file: File, next: Lsn) -> Result<bool, Failed>
-    ensures told { IsTrue D.tells → IfOk result (λ b. b ≡ begins_at next (content file (D.reads disk.old))) }
+    ensures told { WhereTold D.Disk (IfOk result (λ b. b ≡ begins_at next (content file (D.reads disk.old)))) }
     ensures quiet { OnlyReads D.Disk disk.old disk.new }
     ensures counts { Counts D.Disk disk.old disk.new result }
 {

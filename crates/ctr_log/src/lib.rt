@@ -8,6 +8,7 @@ mod kept;
 mod laws;
 mod log;
 mod making;
+mod opening;
 mod reading;
 mod visitor;
 
@@ -15,6 +16,7 @@ pub use gathered::Gathered;
 pub use kept::{read_all, visit_named};
 pub use laws::{sound_visits_are_first, the_newer_is_kept_alone, visits_are_the_log};
 pub use log::{LogFile, Lsn};
-pub use making::{Making, init, is_first_checkpoint, make_logs};
+pub use making::{Making, init, make_logs};
+pub use opening::OpenError;
 pub use reading::ReadError;
 pub use visitor::{Visit, VisitError, Visitor};

@@ -1,12 +1,10 @@
 // A file of the log and its writer: a batch is flushed whole or not at all.
-ghost use Rattle.std.specs.Prelude.{◌≡◌, ◌≢◌, ◌≤◌, ◌<◌, ◌↔◌, false, slice_index, ◌+◌, ◌-◌, ◌^◌, IsTrue, ℕ, List, [], ◌∷◌, ◌++◌, length, take, drop, vec_len, vec_capacity, ◌⊎◌, Err, IfOk, IfErr, OnOk, OnErr};
+ghost use Rattle.std.specs.Prelude.{◌≡◌, ◌≢◌, ◌≤◌, ◌<◌, ◌↔◌, false, slice_index, ◌+◌, ◌-◌, ◌^◌, IsTrue, ℕ, List, [], ◌∷◌, ◌++◌, length, take, drop, vec_len, vec_capacity, Err, IfOk, OnOk, OnErr};
 ghost use Rattle.ctr_types.specs.declared.file.File.TheVariants.{LogA};
 ghost use Rattle.ctr_disk.specs.declared.fault.StoreFault.TheVariants.{Fault};
 ghost use Rattle.ctr_disk.specs.Image.{Image, content, OtherFilesStay};
-ghost use Rattle.ctr_types.specs.Faults.{HasCause, HasFault};
-ghost use Rattle.ctr_disk.specs.Crash.{Only, StraysOnlyPast};
-ghost use Rattle.ctr_disk.specs.Device.{LeavesOnly, IsDurable, IsSettled, OnlyReads, Counts, CountsAs};
-ghost use Rattle.ctr_bytes.specs.Fields.{spelled};
+ghost use Rattle.ctr_types.specs.Faults.{HasCause};
+ghost use Rattle.ctr_disk.specs.Device.{WhereTold, LeavesOnly, IsDurable, IsSettled, OnlyReads, Counts, CountsAs};
 ghost use Rattle.ctr_log.specs.Reading.{IsEmptyAt};
 ghost use Rattle.ctr_log.specs.Logs.{Batches, headed, sealed, frame, frames, records, HasLog, HasBatches, GoesOn, next_place, Extends, IsBeforeOrAfter, IsAfter, IsFlushing, IsEmptied, CountsFlush, with_batch};
 ghost use Rattle.ctr_log.specs.Kept.{next_file, StaysDropped, CanStart, CanBegin, IsStarted, HoldsPrefix, GoesOnBehind, WritesBehind, KeepsPrefix, GoesOnWith};
@@ -34,6 +32,8 @@ pub struct LogFile {
     file: File,
     // whether the other file has an older generation that is kept
     older: bool,
+    // of the first record of its generation
+    start: Lsn,
     // of the closed gate behind the log
     place: u64,
     // of the first record that isn't flushed
@@ -56,23 +56,25 @@ impl Model for LogFile {
 }
 
 impl LogFile {
-    /// The writer behind a log whose closed gate stands at a place.
+    /// The writer behind a log that begins with an LSN, and whose closed gate stands at a place.
     pub(crate) fn behind(
         alloc: Global,
         file: File,
         older: bool,
+        start: Lsn,
         place: u64,
         next: Lsn,
     ) -> Result<LogFile, AllocError>
         requires place { place < 2 ^ 63 }
         requires next { next < 2 ^ 64 }
-        ensures { IfOk result (λ log. IsEmptyAt file older place next log) }
+        ensures { IfOk result (λ log. IsEmptyAt file older start place next log) }
     {
         let mut buffer = Vec::with_capacity(alloc, HEAD + 1)?;
         put_bytes(&mut buffer, &[0; HEAD]);
         Ok(LogFile {
             file,
             older,
+            start,
             place,
             first: next,
             count: 0,
@@ -254,6 +256,7 @@ impl LogFile {
         self.file = file;
         self.older = true;
         self.place = len as u64;
+        self.start = self.first;
         self.first += 1;
         Ok(())
     }
@@ -283,7 +286,7 @@ fn shut_first<D: Disk>(disk: &mut D, file: File) -> Result<(), Failed>
 }
 
 fn is_first_shut<D: Disk>(disk: &mut D, file: File) -> Result<bool, Failed>
-    ensures told { IsTrue D.tells → IfOk result (λ b. IsTrue b ↔ ((0 < length (content file (D.reads disk.old))) × (slice_index (content file (D.reads disk.old)) 0 ≢ 1))) }
+    ensures told { WhereTold D.Disk (IfOk result (λ b. IsTrue b ↔ ((0 < length (content file (D.reads disk.old))) × (slice_index (content file (D.reads disk.old)) 0 ≢ 1)))) }
     ensures quiet { OnlyReads D.Disk disk.old disk.new }
     ensures counts { Counts D.Disk disk.old disk.new result }
 {
@@ -296,7 +299,7 @@ fn is_first_shut<D: Disk>(disk: &mut D, file: File) -> Result<bool, Failed>
 
 // Whether the first byte of a file isn't that of an open gate.
 fn is_gate_shut<D: Disk>(disk: &mut D, file: File) -> Result<bool, Failed>
-    ensures told { IsTrue D.tells → IfOk result (λ b. IsTrue b ↔ (slice_index (content file (D.reads disk.old)) 0 ≢ 1)) }
+    ensures told { WhereTold D.Disk (IfOk result (λ b. IsTrue b ↔ (slice_index (content file (D.reads disk.old)) 0 ≢ 1))) }
     ensures quiet { OnlyReads D.Disk disk.old disk.new }
     ensures counts { Counts D.Disk disk.old disk.new result }
 {

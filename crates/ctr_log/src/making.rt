@@ -1,11 +1,10 @@
 // Makes the empty database: its logs first, and the root last.
-ghost use Rattle.std.specs.Prelude.{◌≡◌, ◌⊎◌, ◌↔◌, ◌≤◌, IsTrue, IsSome, None, Ok, Err, IfOk, OnOk, OnErr};
-ghost use Rattle.ctr_disk.specs.Image.{Image};
+ghost use Rattle.std.specs.Prelude.{◌≡◌, ◌⊎◌, ◌↔◌, IsTrue, IsSome, None, Ok, Err, IfOk, OnOk, OnErr};
 ghost use Rattle.ctr_disk.specs.declared.fault.StoreFault.TheVariants.{Fault};
-ghost use Rattle.ctr_disk.specs.Device.{LeavesOnly, IsDurable, IsSettled, OnlyReads, Counts, CountsAs};
+ghost use Rattle.ctr_disk.specs.Device.{WhereTold, LeavesOnly, IsDurable, IsSettled, OnlyReads, Counts, CountsAs};
 ghost use Rattle.ctr_log.specs.declared.making.Making.TheVariants.{Made, Exists};
 ghost use Rattle.ctr_log.specs.Homes.{root_value};
-ghost use Rattle.ctr_log.specs.Fresh.{first_checkpoint, IsFresh, IsNoneOrFresh, LogsAreReady, AreEmptied, SameRoot};
+ghost use Rattle.ctr_log.specs.Fresh.{IsFresh, IsNoneOrFresh, LogsAreReady, AreEmptied, SameRoot};
 
 use crate::log::write_batch;
 use ctr_disk::{Disk, Failed, StoreFault};
@@ -27,22 +26,14 @@ const FRESH: [u8; 63] = [
     0, 0, 0, 0, 0, 0, 0, 0, 0, 0, 0, 0, 0, 0, 0, 0, 0, 0, 0, 0, 0, 0, 0, 0, 0, 0, 0, 0, 0, 0, 0, 0,
 ];
 
-/// Whether a record is the checkpoint of nothing, with which the log of a new database begins.
-pub fn is_first_checkpoint(bytes: &[u8]) -> bool
-    ensures { IsTrue result ↔ (bytes.now ≡ first_checkpoint) }
-{
-    // It stands behind the batch's head and the record's length.
-    bytes == &FRESH[28..62]
-}
-
 /// Makes the empty database where no root home is open. From its first sync on a crash at any
 /// moment leaves no open root home, or the database.
 pub fn init<D: Disk>(disk: &mut D) -> Result<Making, StoreFault>
-    ensures exists { IsTrue D.tells → IfOk result (λ end. (end ≡ Exists) ↔ IsSome (root_value (D.reads disk.old).root)) }
-    ensures untouched { IsTrue D.tells → IsSome (root_value (D.reads disk.old).root) → OnlyReads D.Disk disk.old disk.new }
-    ensures any_moment { IsTrue D.tells → root_value (D.reads disk.old).root ≡ None
-        → LeavesOnly D.Disk disk.old disk.new (λ c. D.images disk.old c ⊎ IsNoneOrFresh (D.reads disk.old) c) }
-    ensures made { IsTrue D.tells → result ≡ Ok Made → IsFresh (D.reads disk.old) (D.reads disk.new) }
+    ensures exists { WhereTold D.Disk (IfOk result (λ end. (end ≡ Exists) ↔ IsSome (root_value (D.reads disk.old).root))) }
+    ensures untouched { WhereTold D.Disk (IsSome (root_value (D.reads disk.old).root) → OnlyReads D.Disk disk.old disk.new) }
+    ensures any_moment { WhereTold D.Disk (root_value (D.reads disk.old).root ≡ None
+        → LeavesOnly D.Disk disk.old disk.new (λ c. D.images disk.old c ⊎ IsNoneOrFresh (D.reads disk.old) c)) }
+    ensures made { WhereTold D.Disk (result ≡ Ok Made → IsFresh (D.reads disk.old) (D.reads disk.new)) }
     ensures durable { OnOk result (IsDurable D.Disk disk.new) }
     ensures refused { OnErr result (result ≡ Err Fault) }
     ensures counts { CountsAs D.Disk Fault disk.old disk.new result }
@@ -59,7 +50,7 @@ pub fn init<D: Disk>(disk: &mut D) -> Result<Making, StoreFault>
 
 // Syncs, and says whether a root home is open.
 fn is_there<D: Disk>(disk: &mut D) -> Result<bool, Failed>
-    ensures told { IsTrue D.tells → IfOk result (λ b. IsTrue b ↔ IsSome (root_value (D.reads disk.old).root)) }
+    ensures told { WhereTold D.Disk (IfOk result (λ b. IsTrue b ↔ IsSome (root_value (D.reads disk.old).root))) }
     ensures quiet { OnlyReads D.Disk disk.old disk.new }
     ensures durable { OnOk result (IsDurable D.Disk disk.new) }
     ensures counts { Counts D.Disk disk.old disk.new result }
@@ -72,7 +63,7 @@ fn is_there<D: Disk>(disk: &mut D) -> Result<bool, Failed>
 fn make<D: Disk>(disk: &mut D) -> Result<(), StoreFault>
     requires { IsTrue D.tells → root_value (D.reads disk.old).root ≡ None }
     ensures any_moment { IsSettled D.Disk disk.old → LeavesOnly D.Disk disk.old disk.new (IsNoneOrFresh (D.reads disk.old)) }
-    ensures made { IsTrue D.tells → OnOk result (IsFresh (D.reads disk.old) (D.reads disk.new)) }
+    ensures made { WhereTold D.Disk (OnOk result (IsFresh (D.reads disk.old) (D.reads disk.new))) }
     ensures durable { OnOk result (IsDurable D.Disk disk.new) }
     ensures refused { OnErr result (result ≡ Err Fault) }
     ensures counts { CountsAs D.Disk Fault disk.old disk.new result }
@@ -92,7 +83,7 @@ fn make<D: Disk>(disk: &mut D) -> Result<(), StoreFault>
 /// LogB with none. A crash at any moment leaves the root and the pages as they were.
 pub fn make_logs<D: Disk>(disk: &mut D) -> Result<(), Failed>
     ensures any_moment { IsSettled D.Disk disk.old → LeavesOnly D.Disk disk.old disk.new (SameRoot (D.reads disk.old)) }
-    ensures made { IsTrue D.tells → OnOk result (LogsAreReady (D.reads disk.old) (D.reads disk.new)) }
+    ensures made { WhereTold D.Disk (OnOk result (LogsAreReady (D.reads disk.old) (D.reads disk.new))) }
     ensures durable { OnOk result (IsDurable D.Disk disk.new) }
     ensures counts { Counts D.Disk disk.old disk.new result }
 {
@@ -103,7 +94,7 @@ pub fn make_logs<D: Disk>(disk: &mut D) -> Result<(), Failed>
 // Closes the first gate of both logs.
 fn empty_logs<D: Disk>(disk: &mut D) -> Result<(), Failed>
     ensures any_moment { IsSettled D.Disk disk.old → LeavesOnly D.Disk disk.old disk.new (SameRoot (D.reads disk.old)) }
-    ensures made { IsTrue D.tells → OnOk result (AreEmptied (D.reads disk.old) (D.reads disk.new)) }
+    ensures made { WhereTold D.Disk (OnOk result (AreEmptied (D.reads disk.old) (D.reads disk.new))) }
     ensures durable { OnOk result (IsDurable D.Disk disk.new) }
     ensures counts { Counts D.Disk disk.old disk.new result }
 {

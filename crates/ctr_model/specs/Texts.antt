@@ -169,9 +169,9 @@ script_line c = ended (codes "ctr: script too long")
 
 -- where a check failed, what it wants and what is there
 abbrev pub damage_line : Cause → List ℕ
-damage_line (cause.Damaged file at want got) = ended (
-    codes "ctr: damaged " ++ file_text file ++ codes " at " ++ decimal at
-    ++ codes ": want " ++ decimal want ++ codes ", got " ++ decimal got)
+damage_line (cause.Damaged d) = ended (
+    codes "ctr: damaged " ++ file_text d.file ++ codes " at " ++ decimal d.at
+    ++ codes ": want " ++ decimal d.want ++ codes ", got " ++ decimal d.got)
 damage_line c = []
 
 -- the number that is too near its end

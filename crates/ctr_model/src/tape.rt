@@ -1,6 +1,6 @@
 // Where a tape has led, and what a run reports at its end.
 use crate::{Map, State};
-use ctr_types::File;
+use ctr_types::Damage;
 
 /// How far a session is in its statements.
 #[derive(Clone, Copy, Debug, PartialEq, Eq)]
@@ -26,21 +26,11 @@ pub struct Point {
 pub enum Cause {
     Plain,
     /// The first place at which the bytes are no script: line and byte, both from 1.
-    Script {
-        line: u64,
-        at: u64,
-    },
-    /// The byte of the file at which a check failed, what it wants and what is there.
-    Damaged {
-        file: File,
-        at: u64,
-        want: u128,
-        got: u128,
-    },
+    Script { line: u64, at: u64 },
+    /// A check of the files failed.
+    Damaged(Damage),
     /// A number that is too near the end of its type to go on.
-    Worn {
-        number: u64,
-    },
+    Worn { number: u64 },
 }
 
 /// Counts of a run.

@@ -4,7 +4,6 @@ use Rattle.ctr_records.specs.declared.decoding.BadRecord.{BadRecord}
 use Rattle.ctr_page.specs.declared.checks.Chain.{Chain}
 use Rattle.ctr_page.specs.declared.walk.BadChain.{BadChain}
 use Rattle.ctr_page.specs.declared.walk.BadChain.TheVariants.{OnPage, TooLong}
-use Rattle.ctr_page.specs.declared.walk.Walk.{Walk}
 use Rattle.ctr_page.specs.Reading.{header_in}
 use Rattle.ctr_page.specs.Damage.{header_check}
 
@@ -27,8 +26,3 @@ chain_check chain counted pages (suc n) last p =
     if p == 0 then Ok tt else
     header_then p (header_check chain counted (pages p))
     (chain_check chain counted pages n p (header_in (pages p)).next)
-
--- what is wrong with what a walk has still to read
-abbrev pub rest_check : Chain → ℕ → (ℕ → List ℕ) → Walk → Result ⊤ BadChain
-rest_check chain counted pages walk =
-    chain_check chain counted pages walk.left walk.last walk.page

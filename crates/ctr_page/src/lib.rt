@@ -21,4 +21,4 @@ pub use rows::{
     Place, RowSlot, Version, VersionEntry, make_slot, make_version, read_slot, read_version,
 };
 pub use table::{bucket_of, kept_size, room_for, slot_size};
-pub use walk::{BadChain, Walk};
+pub use walk::BadChain;

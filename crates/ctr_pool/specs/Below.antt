@@ -22,4 +22,4 @@ pub record PutsPage {B : Type 0} (held : B → ℕ → PageHeld)
 abbrev pub IsFound : {T : Type 0} → (Result ⊤ StoreFault → Type 0) → Result T StoreFault → Type 0
 IsFound P (Ok t) = P (Ok tt)
 IsFound P (Err Fault) = Unit {0}
-IsFound P (Err (Damaged file at want got)) = P (Err (Damaged file at want got))
+IsFound P (Err (Damaged d)) = P (Err (Damaged d))

@@ -78,16 +78,3 @@ pub record SavesOldest (old new : Pooled) (wrote : Bool) : Type 0 where
   pub most : new.most ≡ old.most
   pub one : wrote ≡ true → OldestSaved old new
   pub more : wrote ≡ true → unchanged new ≡ unchanged old + 1
-
--- a pool, and what is held below it
-pub record PoolAbove (B : Type 0) : Type 0 where
-  pub pool : Pooled
-  pub below : B
-
--- What a call that lends a page leaves once the loan is over.
-pub record Fetches {B T : Type 0} (g : Ghosts B) (p : ℕ) (old new : PoolAbove B)
-    (result : Result T StoreFault) : Type 0 where
-  pub stays : IsTrue g.tells
-      → OnOk result (StaysOver g old.pool.frames old.below new.pool.frames new.below)
-  pub brings : OnOk result (BringsIn p old.pool new.pool)
-  pub most : new.pool.most ≡ old.pool.most

@@ -1,12 +1,10 @@
 // Pages in frames, over a backing.
 ghost use Rattle.std.specs.Prelude.{◌≡◌, ◌==◌, ◌≤◌, ◌<◌, ◌+◌, ◌-◌, ℕ, [], Some, None, true, false, length, is_some, if◌then◌else◌, vec_len, vec_capacity, IsTrue, Ok, Err, IfOk, IfErr, IfSome, IfNone, OnOk, OnErr};
 ghost use Rattle.std.specs.Option.{option_map};
-ghost use Rattle.std.specs.Borrow.{sem};
-ghost use Rattle.std.specs.Io.BufRead.{Rests};
 ghost use Rattle.ctr_pool.specs.declared.frame.Frame.{Frame as Framed};
-ghost use Rattle.ctr_pool.specs.Frames.{frame_of, has_page, since_in, page_shown, after_change, IsOldest, AreClean, dirty_count};
+ghost use Rattle.ctr_pool.specs.Frames.{frame_of, has_page, since_in, after_change, IsOldest, AreClean, dirty_count};
 ghost use Rattle.ctr_pool.specs.Below.{IsFound};
-ghost use Rattle.ctr_pool.specs.Over.{unchanged, IsOver, StaysOver, WorksBelow, SavesForRoom, AddsPage, BringsIn, SavesOldest, Fetches};
+ghost use Rattle.ctr_pool.specs.Over.{unchanged, IsOver, StaysOver, WorksBelow, SavesForRoom, AddsPage, BringsIn, SavesOldest};
 ghost use Rattle.ctr_disk.specs.declared.fault.StoreFault.TheVariants.{Fault};
 
 use crate::ages::Ages;
@@ -54,8 +52,6 @@ fn make_bodies(alloc: Global, count: usize) -> Result<Vec<Body>, OutOfMemory>
 }
 
 impl Pool {
-    ghost use Rattle.ctr_pool.specs.contracts.pool.Pool.{the_row};
-
     /// A pool of so many frames, 8 to 4,096, without a page.
     pub fn new(alloc: Global, frames: usize) -> Result<Pool, OutOfMemory>
         requires { (8 ≤ frames) × (frames ≤ 4096) }
@@ -218,18 +214,6 @@ impl Pool {
         }
         self.make_room(backing)?;
         self.load(page, backing)
-    }
-
-    /// A page, as the pool has it. It is brought into a frame as `bring` does.
-    pub fn fetch<B: Backing>(&mut self, page: PageNo, backing: &mut B) -> Result<&[u8], StoreFault>
-        requires over { IsTrue B.tells → IsOver B.Backing self.old.frames backing.old }
-        ensures shown { IsTrue B.tells → IfOk result (λ bytes. bytes.now ≡ (page_shown self.old.frames page (B.held backing.old page)).body) }
-        ensures quiet { has_page page self.old.frames ≡ true → backing.new ≡ backing.old }
-        ensures works { WorksBelow B.Backing backing.old backing.new result }
-        ensures* after { sem 𝓛 (Rests the_row self.entry (λ new. Fetches B.Backing page (record { pool = self.old; below = backing.old }) (record { pool = new; below = backing.new }) result)) }
-    {
-        self.bring(page, backing)?;
-        Ok(self.frames.body(page))
     }
 
     /// The bytes of a page that a frame has.

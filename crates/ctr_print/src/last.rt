@@ -128,26 +128,20 @@ fn name_of(file: File) -> &'static [u8]
 fn put_damage<K: Sink>(out: &mut Printer<K>, cause: &Cause)
     ensures { PrintsMore K.Sink (damage_line cause.now) out.old out.new }
 {
-    let Cause::Damaged {
-        file,
-        at,
-        want,
-        got,
-    } = cause
-    else {
+    let Cause::Damaged(damage) = cause else {
         return;
     };
     put_pieces(
         out,
         &[
             Piece::Bytes(b"ctr: damaged "),
-            Piece::Bytes(name_of(*file)),
+            Piece::Bytes(name_of(damage.file)),
             Piece::Bytes(b" at "),
-            Piece::Number(*at),
+            Piece::Number(damage.at),
             Piece::Bytes(b": want "),
-            Piece::Wide(*want),
+            Piece::Wide(damage.want),
             Piece::Bytes(b", got "),
-            Piece::Wide(*got),
+            Piece::Wide(damage.got),
             Piece::Bytes(b"\n"),
         ],
     )

@@ -11,12 +11,12 @@ use Rattle.ctr_log.specs.Kept.{log_in, kept_log, other_file, writer_file, has_ne
 use Rattle.ctr_log.proofs.KeptLaws.{log_in_is, begins}
 use Rattle.ctr_records.specs.declared.record.Overlay.{Overlay}
 use Rattle.ctr_records.specs.Read.{record_in}
-use Rattle.ctr_meta.specs.Tables.{Tables}
+use Rattle.ctr_meta.specs.Tables.{Tables, no_tables}
 use Rattle.ctr_meta.specs.Effects.{effect}
 use Rattle.ctr_pool.specs.Pages.{PageHeld}
 use Rattle.ctr_redo.specs.Overlaid.{overlay_of, lies_on, overlaid}
 use Rattle.ctr_redo.specs.Images.{records_in}
-use Rattle.ctr_redo.specs.Fitting.{LiesInside, EachFits, HaveNoCheckpoint, BeginsOnce, FilesBegin, last_file}
+use Rattle.ctr_redo.specs.Fitting.{LiesInside, EachFits, HaveNoCheckpoint, CheckpointsKeep, TablesGoOn, BeginsOnce, FilesBegin, last_file}
 use Rattle.ctr_redo.proofs.PageLaws.{stays_out}
 
 -- the tables that records leave, behind these
@@ -63,6 +63,20 @@ none_prefix (suc n) (b ∷ bs) none = (none.0, none_prefix n bs none.1)
 pub none_append : (xs ys : List (List ℕ)) → HaveNoCheckpoint xs → HaveNoCheckpoint ys → HaveNoCheckpoint (xs ++ ys)
 none_append [] ys here behind = behind
 none_append (x ∷ xs) ys here behind = (here.0, none_append xs ys here.1 behind)
+
+-- records of which none is a Checkpoint keep all that are
+keep_none : (t : Tables) (ys : List (List ℕ)) → HaveNoCheckpoint ys → CheckpointsKeep t ys
+keep_none t [] none = tt
+keep_none t (y ∷ ys) none = (λ is. absurd (none.0 is), keep_none (effect (record_in y) t) ys none.1)
+
+keep_append : (t : Tables) (xs ys : List (List ℕ)) → CheckpointsKeep t xs → HaveNoCheckpoint ys → CheckpointsKeep t (xs ++ ys)
+keep_append t [] ys keep none = keep_none t ys none
+keep_append t (x ∷ xs) ys keep none = (keep.0, keep_append (effect (record_in x) t) xs ys keep.1 none)
+
+pub go_on_append : (xs ys : List (List ℕ)) → TablesGoOn xs → HaveNoCheckpoint ys → TablesGoOn (xs ++ ys)
+go_on_append [] [] go none = tt
+go_on_append [] (y ∷ ys) go none = keep_none (effect (record_in y) no_tables) ys none.1
+go_on_append (x ∷ xs) ys go none = keep_append (effect (record_in x) no_tables) xs ys go none
 
 begins_append : (xs ys : List (List ℕ)) → BeginsOnce xs → HaveNoCheckpoint ys → BeginsOnce (xs ++ ys)
 begins_append [] ys here behind = absurd here

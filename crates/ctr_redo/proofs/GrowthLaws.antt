@@ -17,7 +17,7 @@ use Rattle.ctr_records.specs.Read.{record_in}
 use Rattle.ctr_pool.specs.Pages.{PageHeld}
 use Rattle.ctr_redo.specs.Overlaid.{overlaid}
 use Rattle.ctr_meta.specs.Tables.{no_tables}
-use Rattle.ctr_redo.specs.Fitting.{EachFits, FilesBegin}
+use Rattle.ctr_redo.specs.Fitting.{EachFits, FilesBegin, TablesGoOn}
 use Rattle.ctr_redo.specs.States.{page_limit, state_of, with_more, page_at, next_of, LieBelow}
 use Rattle.ctr_redo.specs.Images.{records_in, home_in, stored_in, IsSound, FoldsTo, CanCount}
 use Rattle.ctr_redo.proofs.StateLaws.{pages_same, page_is}
@@ -104,6 +104,7 @@ module _ (root more : Root) (old new : Image) (sound : IsSound root old) (can : 
       log = subst (λ (l : List (List ℕ)). HoldsLog root.file root.first l new) (sym (kept_same root.file root.first old new logs)) (holds_same root.file root.first (kept_log root.file root.first old) old new logs sound.log);
       fits = subst (EachFits root.pages no_tables) (sym (kept_same root.file root.first old new logs)) sound.fits;
       begins = begins_same root.file root.first old new logs sound.begins;
+      continues = subst TablesGoOn (sym (kept_same root.file root.first old new logs)) sound.continues;
       below = below (next_of (stored_in root new)) (home_in root.pages new) next_old home_old;
       numbered = λ q v inside has. sound.numbered q v inside (sym (page_same q) ∙ has);
       size = subst (λ (bytes : List ℕ). 8256 * root.pages ≤ length bytes) (sym pages_file) sound.size;
@@ -129,6 +130,7 @@ module _ (root more : Root) (old new : Image) (sound : IsSound root old) (can : 
     begins =
         subst (λ (n : ℕ). FilesBegin n more.first new) (sym can.file)
         (subst (λ (n : ℕ). FilesBegin root.file n new) (sym can.first) (begins_same root.file root.first old new logs sound.begins));
+    continues = subst TablesGoOn (sym log_new) sound.continues;
     below = below (next_of (stored_in more new)) (home_in more.pages new) next_new home_new;
     numbered = λ q v inside has.
         ⊎_elim (λ before. sound.numbered q v before (sym (page_same q) ∙ has))

@@ -21,10 +21,10 @@ use Rattle.ctr_records.specs.declared.record.Record.{Record}
 use Rattle.ctr_records.specs.Read.{record_in}
 use Rattle.ctr_pool.specs.Pages.{PageHeld}
 use Rattle.ctr_meta.specs.Tables.{no_tables}
-use Rattle.ctr_redo.specs.Fitting.{EachFits, BeginsOnce, FilesBegin, last_file, MayFollow}
+use Rattle.ctr_redo.specs.Fitting.{EachFits, BeginsOnce, FilesBegin, last_file, MayFollow, TablesGoOn, HaveNoCheckpoint}
 use Rattle.ctr_redo.specs.States.{Stored, state_of, steps, with_more, home_put, next_of, LieBelow}
 use Rattle.ctr_redo.specs.Images.{records_in, home_in, stored_in, IsSound, FoldsTo, FoldsFront, IsLogFile, held_by, MayStand}
-use Rattle.ctr_redo.proofs.FitLaws.{each_prefix, none_prefix, begin_flushed}
+use Rattle.ctr_redo.proofs.FitLaws.{each_prefix, none_prefix, begin_flushed, go_on_append}
 use Rattle.ctr_redo.proofs.StateLaws.{state_more, state_same, state_swapped_now, below_more, put_there, put_elsewhere}
 
 -- ---- one file changes
@@ -127,8 +127,8 @@ more_stored root more old new same log =
     homes_same counted old new same = ap (λ (bytes : List ℕ). home_in counted (record old { pages = bytes })) same
 
 pub sound_flushed : (root : Root) (more : List (List ℕ)) (old new : Image) → IsSound root old → KeepsHomes old new → HoldsLog root.file root.first (kept_log root.file root.first old ++ more) new
-    → EachFits root.pages no_tables (kept_log root.file root.first old ++ more) → FilesBegin root.file root.first new → IsSound root new
-sound_flushed root more old new sound same holds fits begun =
+    → EachFits root.pages no_tables (kept_log root.file root.first old ++ more) → FilesBegin root.file root.first new → HaveNoCheckpoint more → IsSound root new
+sound_flushed root more old new sound same holds fits begun none =
     let log : kept_log root.file root.first new ≡ kept_log root.file root.first old ++ more = holds_is root.file root.first new (kept_log root.file root.first old ++ more) holds in
     let stored = more_stored root more old new same log in
     let later : next_of (stored_in root old) ≤ next_of (stored_in root new) = omega (arith, ap (λ (s : Stored). next_of s) stored, length-append (stored_in root old).records (records_in more)) in
@@ -137,6 +137,7 @@ sound_flushed root more old new sound same holds fits begun =
       log = subst (λ (l : List (List ℕ)). HoldsLog root.file root.first l new) (sym log) holds;
       fits = subst (EachFits root.pages no_tables) (sym log) fits;
       begins = begun;
+      continues = subst TablesGoOn (sym log) (go_on_append (kept_log root.file root.first old) more sound.continues none);
       below = subst (λ (h : ℕ → PageHeld). LieBelow (next_of (stored_in root new)) h) (sym (ap (λ (s : Stored). s.homes) stored)) (below_more (next_of (stored_in root old)) (next_of (stored_in root new)) (home_in root.pages old) later sound.below);
       numbered = λ p v inside is. sound.numbered p v inside (sym (ap (λ (bytes : List ℕ). value_of (Page p) (record old { pages = bytes })) same.pages) ∙ is);
       size = subst (λ (bytes : List ℕ). 8256 * root.pages ≤ length bytes) (sym same.pages) sound.size;
@@ -160,7 +161,7 @@ folds_flushed root f more old new sound follows keeps =
       keeps.count,
       record {
         root = root;
-        sound = sound_flushed root front old new sound same keeps.holds fits begun;
+        sound = sound_flushed root front old new sound same keeps.holds fits begun (none_prefix keeps.count more follows.changes);
         state_is = state_flushed root front old new sound same log ∙ ap (λ (l : List Record). steps l (state_of (stored_in root old))) (sym (take-map record_in keeps.count more));
       },
     )
@@ -232,6 +233,7 @@ sound_page root p old new sound others below numbered =
       log = subst (λ (l : List (List ℕ)). HoldsLog root.file root.first l new) (sym (kept_same root.file root.first old new same)) (holds_same root.file root.first (kept_log root.file root.first old) old new same sound.log);
       fits = subst (EachFits root.pages no_tables) (sym (kept_same root.file root.first old new same)) sound.fits;
       begins = begins_same root.file root.first old new same sound.begins;
+      continues = subst TablesGoOn (sym (kept_same root.file root.first old new same)) sound.continues;
       below = below_more (next_of (stored_in root old)) (next_of (stored_in root new)) (home_in root.pages new) (omega (arith, next)) below;
       numbered = λ q v inside is.
           ⊎_elim

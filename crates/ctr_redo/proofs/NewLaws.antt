@@ -22,7 +22,7 @@ use Rattle.ctr_meta.proofs.NeedLaws.{list_needs_met}
 use Rattle.ctr_meta.specs.Effects.{tables_of}
 use Rattle.ctr_pool.specs.Pages.{PageHeld}
 use Rattle.ctr_redo.specs.Overlaid.{overlay_of, overlaid}
-use Rattle.ctr_redo.specs.Fitting.{LiesInside, EachFits, BeginsOnce}
+use Rattle.ctr_redo.specs.Fitting.{LiesInside, EachFits, BeginsOnce, TablesGoOn}
 use Rattle.ctr_redo.proofs.FitLaws.{newer_out, choose_no}
 use Rattle.ctr_redo.specs.States.{page_limit, pages_of, state_of}
 use Rattle.ctr_redo.specs.Images.{records_in, home_in, IsSound, FoldsTo, new_root, new_state, IsNewDatabase}
@@ -119,6 +119,7 @@ module _ (image : Image) (is : IsNewDatabase image) where
     log = subst (λ (l : List (List ℕ)). HoldsLog 0 1 l image) (sym log_is) held;
     fits = subst (EachFits 64 no_tables) (sym log_is) first_fits;
     begins = record { named = subst BeginsOnce (sym named_is) first_alone; newer = λ is. absurd (cc (is, none_newer)) };
+    continues = subst TablesGoOn (sym log_is) tt;
     below = λ p. omega (arith, ap (λ (h : PageHeld). h.lsn) (home_blank p), ap (λ (rs : List Record). length rs) records_are);
     numbered = λ p v inside has. absurd (none_some v (sym (is.blank p inside) ∙ has));
     size = is.size;

@@ -38,6 +38,18 @@ abbrev pub HaveNoCheckpoint : List (List ℕ) → Type 0
 HaveNoCheckpoint [] = Unit {0}
 HaveNoCheckpoint (b ∷ bs) = (field 1 0 b ≢ 1) × HaveNoCheckpoint bs
 
+-- each Checkpoint of them lists the tables that the records before it left, from these on
+abbrev pub CheckpointsKeep : Tables → List (List ℕ) → Type 0
+CheckpointsKeep t [] = Unit {0}
+CheckpointsKeep t (b ∷ bs) = (field 1 0 b ≡ 1 → effect (record_in b) t ≡ t)
+    × CheckpointsKeep (effect (record_in b) t) bs
+
+-- So it is with a Checkpoint behind the first record: the tables go on over it. It begins the newer
+-- of two generations.
+abbrev pub TablesGoOn : List (List ℕ) → Type 0
+TablesGoOn [] = Unit {0}
+TablesGoOn (b ∷ bs) = CheckpointsKeep (effect (record_in b) no_tables) bs
+
 -- the first of a file's records has that number, and no other
 abbrev pub BeginsOnce : List (List ℕ) → Type 0
 BeginsOnce [] = ⊥

@@ -16,7 +16,7 @@ use Rattle.ctr_records.specs.declared.record.Record.{Record}
 use Rattle.ctr_records.specs.Read.{record_in}
 use Rattle.ctr_pool.specs.Pages.{PageHeld}
 use Rattle.ctr_redo.specs.Overlaid.{overlaid}
-use Rattle.ctr_redo.specs.Fitting.{EachFits, FilesBegin}
+use Rattle.ctr_redo.specs.Fitting.{EachFits, FilesBegin, TablesGoOn}
 use Rattle.ctr_redo.specs.States.{page_limit, State, Stored, state_of, steps, counting, grown, next_of, LieBelow}
 
 -- the records that the bytes of a log tell
@@ -40,14 +40,15 @@ stored_in root image = record {
   records = records_in (kept_log root.file root.first image);
 }
 
--- The image says this root, its log is whole, each of its records fits behind those before it, and a
--- Checkpoint begins each of its files; its pages have their numbers and no record that the log lacks,
--- and the file of pages has all that are counted.
+-- The image says this root, its log is whole, each of its records fits behind those before it, a
+-- Checkpoint begins each of its files, and that of a second one lists the tables before it; its pages
+-- have their numbers and no record that the log lacks, and the file of pages has all that are counted.
 pub record IsSound (root : Root) (image : Image) : Type 0 where
   pub says : SaysRootOf Paged (value_of RootBlock image) root
   pub log : HoldsLog root.file root.first (kept_log root.file root.first image) image
   pub fits : EachFits root.pages no_tables (kept_log root.file root.first image)
   pub begins : FilesBegin root.file root.first image
+  pub continues : TablesGoOn (kept_log root.file root.first image)
   pub below : LieBelow (next_of (stored_in root image)) (home_in root.pages image)
   pub numbered : (p : ℕ) (v : BlockValue) → p < root.pages → value_of (Page p) image ≡ Some v → v.number ≡ p
   pub size : 8256 * root.pages ≤ length (content Pages image)

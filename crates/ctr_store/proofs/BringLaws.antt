@@ -2,6 +2,7 @@
 use Rattle.std.proofs.Common.{◌≡◌, ◌⊎◌, inl, inr, ⊎_elim, ℕ, ◌+◌, ◌-◌, ◌<◌, ◌≤◌, ◌==◌, if◌then◌else◌, Bool, true, false, List, Option, Some, None, Ok, Err, refl, sym, ◌∙◌, ap, subst, arith}
 use Rattle.std.specs.Prelude.{is_some, IsTrue, ⊤}
 use Rattle.std.proofs.lemmas.Bool.{cases_lt}
+use Rattle.ctr_types.specs.Damage.{damage_of}
 use Rattle.ctr_types.specs.declared.file.File.TheVariants.{Pages}
 use Rattle.ctr_disk.specs.declared.disk.Disk.{Ghosts}
 use Rattle.ctr_disk.specs.Image.{Image}
@@ -51,7 +52,7 @@ module _ {D O : Type 0} (first : Image) (g : Ghosts D) (p : ℕ) where
   -- a damage of a frame that isn't low is none where all pages are
   pub high_refused : (s : Parts D O) (e : StoreFault) → IsFaultOr (IsHighFrame g p s) e → AreLow g s → e ≡ Fault
   high_refused s Fault high low = refl
-  high_refused s (Damaged file at want got) high low =
+  high_refused s (Damaged d) high low =
       let f = high.frame in
       let was = low p in
       let high_is = high.high in
@@ -68,7 +69,7 @@ module _ {D O : Type 0} (first : Image) (g : Ghosts D) (p : ℕ) where
       by : (x : StoreFault) → IsFound {T = ⊤} (FindsNumber first g t.base p) (Err x)
           → IsFaultOr (λ (y : StoreFault). StandsQuiet first g t.base × (IsMisnumbered (Page p) (g.reads t.base.disk) y ⊎ (FailsHome (next_in t) p (g.reads t.base.disk) y × IsHomeStill g p s t))) x
       by Fault found = tt
-      by (Damaged file at want got) found = (found.0, inl found.1)
+      by (Damaged d) found = (found.0, inl found.1)
 
   module _ (s m : Parts D O) (brings : BringsIn p s.pool m.pool) (stays : StaysOver (backing_of first g) s.pool.frames s.base m.pool.frames m.base) where
     -- a page that was loaded is at home as it was
@@ -107,7 +108,7 @@ module _ {D O : Type 0} (first : Image) (g : Ghosts D) (p : ℕ) where
     pub finds_high : IsTrue g.tells → (t : Parts D O) (d : D) (e : StoreFault) → g.reads d ≡ g.reads m.base.disk → StandsQuiet first g (record m.base { disk = d }) → (has_page p s.pool.frames ≡ false → IsFound {T = ⊤} (FindsNumber first g m.base p) (Ok tt)) → IsFaultOr (IsHighFrame g p m) e
         → FindsPage {T = ⊤} first g p s (record t { base = record m.base { disk = d } }) (Err e)
     finds_high tells t d Fault same rests found high = record { hit = λ is. tt; miss = λ none inside some. tt; others = tt }
-    finds_high tells t d (Damaged file at want got) same rests found high = record {
+    finds_high tells t d (Damaged damage) same rests found high = record {
       hit = λ is. let above = high.high in omega (arith, above, ap (λ (h : PageHeld). h.lsn) (sym (ap (kept_or (home_of g m.base p)) high.there) ∙ stays.shows p));
       miss = λ none inside some. (rests, inr (fails none inside some (value_of (Page p) (g.reads m.base.disk)) refl, ap (λ (i : Image). home_in m.base.root.pages i p) same ∙ still none));
       others = tt;
@@ -116,7 +117,7 @@ module _ {D O : Type 0} (first : Image) (g : Ghosts D) (p : ℕ) where
         one : (a b : Frame) → Some a ≡ Some b → a ≡ b
         one a b e = cc e
 
-        fails : has_page p s.pool.frames ≡ false → p < m.base.root.pages → 1 ≤ next_in m → (o : Option BlockValue) → value_of (Page p) (g.reads m.base.disk) ≡ o → FailsHome (next_in m) p (g.reads d) (Damaged file at want got)
+        fails : has_page p s.pool.frames ≡ false → p < m.base.root.pages → 1 ≤ next_in m → (o : Option BlockValue) → value_of (Page p) (g.reads m.base.disk) ≡ o → FailsHome (next_in m) p (g.reads d) (Damaged damage)
         fails none inside some None is =
             let f = frame none in
             let above = high.high in
@@ -131,6 +132,6 @@ module _ {D O : Type 0} (first : Image) (g : Ghosts D) (p : ℕ) where
             let right = found none inside v is in
             let home = value_place (Page p) (g.reads d) in
             let there : value_place (Page p) (g.reads m.base.disk) ≡ home = ap (λ (i : Image). value_place (Page p) i) (sym same) in
-            let told : Err (Damaged Pages (home + 5) (next_in m - 1) v.stamp) ≡ Err (Damaged file at want got) =
-            sym (ap (λ (x : StoreFault). Err x) (high.is tells) ∙ ap (λ (h : ℕ). Err (Damaged Pages (h + 5) (next_in m - 1) high.frame.lsn)) there ∙ ap (λ (n : ℕ). Err (Damaged Pages (home + 5) (next_in m - 1) n)) (same_frame ∙ sym stamp)) in
+            let told : Err (Damaged (damage_of Pages (home + 5) (next_in m - 1) v.stamp)) ≡ Err (Damaged damage) =
+            sym (ap (λ (x : StoreFault). Err x) (high.is tells) ∙ ap (λ (h : ℕ). Err (Damaged (damage_of Pages (h + 5) (next_in m - 1) high.frame.lsn))) there ∙ ap (λ (n : ℕ). Err (Damaged (damage_of Pages (home + 5) (next_in m - 1) n))) (same_frame ∙ sym stamp)) in
             (v, ap (λ (i : Image). value_of (Page p) i) same ∙ is, stamp_fails (next_in m) p home v right some (omega (arith, above, stamp, same_frame)) ∙ told)

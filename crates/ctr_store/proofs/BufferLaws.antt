@@ -3,7 +3,7 @@ use Rattle.std.proofs.Common.{◌≡◌, ◌⊎◌, inl, inr, ◌∙◌, ℕ, �
 use Rattle.std.specs.Prelude.{IfOk, OnErr}
 use Rattle.ctr_disk.specs.declared.fault.StoreFault.{StoreFault}
 use Rattle.std.proofs.lemmas.List.{map-append}
-use Rattle.ctr_log.specs.Logs.{Log, frame, frames, buffer_size, WaitsOrNone}
+use Rattle.ctr_log.specs.Logs.{Log, frame, frames, buffer_size, end_behind, log_end, WaitsOrNone}
 use Rattle.ctr_log.proofs.LogLemmas.{frames-push, length-frame}
 use Rattle.ctr_records.specs.declared.record.Record.{Record}
 use Rattle.ctr_records.specs.Records.{IsRecord}
@@ -14,12 +14,14 @@ use Rattle.ctr_home.specs.declared.root.Root.{Root}
 use Rattle.ctr_meta.specs.Kept.{TablesKept, RoomLeft, opens_added, items_added}
 use Rattle.ctr_redo.specs.Images.{records_in}
 use Rattle.ctr_base.specs.declared.base.Base.{Base}
-use Rattle.ctr_base.specs.Base.{KeepsBase}
+use Rattle.ctr_base.specs.Base.{GoesOnTo, KeepsBase}
+use Rattle.ctr_base.specs.KeptLaws.{goes_on_to, goes_by}
+use Rattle.ctr_disk.specs.declared.disk.Disk.{Ghosts}
 use Rattle.ctr_store.specs.Changes.{IsChange}
 use Rattle.ctr_store.specs.declared.parts.Parts.{Parts}
 use Rattle.ctr_pool.specs.declared.frame.Frame.{Frame}
 use Rattle.ctr_pool.specs.Frames.{frame_of, change_of, since_in}
-use Rattle.ctr_store.specs.Parts.{HasBuffer, LogsRoom, pages_held, first_unsaved}
+use Rattle.ctr_store.specs.Parts.{HasBuffer, EndsWithin, LogsRoom, record_end, pages_held, first_unsaved}
 use Rattle.ctr_store.proofs.RecordLaws.{record_short}
 
 -- how many bytes the frames of records have
@@ -75,9 +77,57 @@ empty_buffer log is = record {
   spelled = subst AreSpelled (sym is.0) refl;
 }
 
+-- ---- where the log ends
+
+-- behind its gate, a batch's first fields and the frames that wait, at most
+pub end_at_most : (place : ℕ) (rs : List (List ℕ)) → end_behind place rs ≤ place + 21 + size_of rs
+end_at_most place [] = omega arith
+end_at_most place (r ∷ rs) = omega arith
+
+-- a record more leads it this much further on
+end_pushed : (place : ℕ) (rs : List (List ℕ)) (r : List ℕ) → (end_behind place rs ≤ end_behind place (rs ++ r ∷ [])) × (end_behind place (rs ++ r ∷ []) ≤ end_behind place rs + (29 + length r))
+end_pushed place [] r = let one = pushed_bytes [] r in (omega (arith, one), omega (arith, one))
+end_pushed place (q ∷ rs) r = let one = pushed_bytes (q ∷ rs) r in (omega (arith, one), omega (arith, one))
+
+module _ {D O : Type 0} (g : Ghosts D) where
+  ends_logged : (r : Record) (a b : Base D O) → b.disk ≡ a.disk → b.log ≡ record a.log { buffered = a.log.buffered ++ record_bytes r ∷ []; room = b.log.room }
+      → b.log.buffered ≡ a.log.buffered ++ record_bytes r ∷ [] → EndsWithin g (record_end r) a b
+  ends_logged r a b disk added waits =
+      let pushed = end_pushed a.log.place a.log.buffered (record_bytes r) in
+      let end_is : log_end b.log ≡ end_behind a.log.place (a.log.buffered ++ record_bytes r ∷ []) = ap log_end added in
+      record {
+        file = ap (λ (l : Log). l.file) added;
+        older = ap (λ (l : Log). l.older) added;
+        start = ap (λ (l : Log). l.start) added;
+        gate = omega (arith, end_is, pushed.0);
+        near = omega (arith, end_is, pushed.1);
+        goes = record { later = omega (arith, ap g.moment_of disk); stray = inl (ap g.strays_of disk) };
+      }
+
+  -- what a call keeps that logs nothing
+  pub ends_kept : (a b : Base D O) → KeepsBase g a b → EndsWithin g 0 a b
+  ends_kept a b keeps = record {
+    file = keeps.file;
+    older = keeps.older;
+    start = keeps.start;
+    gate = omega (arith, keeps.ends);
+    near = omega (arith, keeps.ends);
+    goes = goes_by g a.disk b.disk (log_end a.log) (log_end b.log) (omega (arith, keeps.ends)) keeps.goes;
+  }
+
+  ends_behind : (more : ℕ) (a b c : Base D O) → KeepsBase g a b → EndsWithin g more b c → EndsWithin g more a c
+  ends_behind more a b c keeps ends = record {
+    file = ends.file ∙ keeps.file;
+    older = ends.older ∙ keeps.older;
+    start = ends.start ∙ keeps.start;
+    gate = omega (arith, ends.gate, keeps.ends);
+    near = omega (arith, ends.near, keeps.ends);
+    goes = goes_on_to g a.disk b.disk c.disk (log_end c.log) (goes_by g a.disk b.disk (log_end a.log) (log_end c.log) (omega (arith, ends.gate, keeps.ends)) keeps.goes) ends.goes;
+  }
+
 module _ {D O : Type 0} where
-  pub buffer_kept : (a b : Base D O) → KeepsBase a b → HasBuffer a.log → HasBuffer b.log
-  buffer_kept a b keeps has =
+  pub buffer_kept : (g : Ghosts D) (a b : Base D O) → KeepsBase g a b → HasBuffer a.log → HasBuffer b.log
+  buffer_kept g a b keeps has =
       let size = keeps.size in
       let was = has.size in
       let most = has.most in
@@ -88,27 +138,29 @@ module _ {D O : Type 0} where
       }
 
   -- a record that was appended
-  pub logs_room : (r : Record) (s t : Parts D O) → t.base.log ≡ record s.base.log { buffered = s.base.log.buffered ++ record_bytes r ∷ []; room = t.base.log.room }
-      → s.base.log.room ≤ t.base.log.room + (8 + length (record_bytes r)) → RoomLeft (opens_added r) (items_added r) s.meta t.meta → t.base.root ≡ s.base.root → LogsRoom r s t
-  logs_room r s t added room left root =
+  pub logs_room : (g : Ghosts D) (r : Record) (s t : Parts D O) → t.base.disk ≡ s.base.disk → t.base.log ≡ record s.base.log { buffered = s.base.log.buffered ++ record_bytes r ∷ []; room = t.base.log.room }
+      → s.base.log.room ≤ t.base.log.room + (8 + length (record_bytes r)) → RoomLeft (opens_added r) (items_added r) s.meta t.meta → t.base.root ≡ s.base.root → LogsRoom g r s t
+  logs_room g r s t disk added room left root =
       let waits = ap (λ (l : Log). l.buffered) added in
       record {
         size = omega (arith, room, ap size_of waits, pushed_bytes s.base.log.buffered (record_bytes r));
         waits = inl waits;
         next = omega (arith, ap (λ (l : Log). l.first) added, ap (λ (l : List (List ℕ)). length l) waits, length-append s.base.log.buffered (record_bytes r ∷ []));
+        ends = ends_logged g r s.base t.base disk added waits;
         left = left;
         pages = ap (λ (x : Root). x.pages) root;
       }
 
   -- the same behind a page that was brought
-  pub room_behind : (r : Record) (s m t : Parts D O) → KeepsBase s.base m.base → m.meta ≡ s.meta → LogsRoom r m t → LogsRoom r s t
-  room_behind r s m t keeps meta logs =
+  pub room_behind : (g : Ghosts D) (r : Record) (s m t : Parts D O) → KeepsBase g s.base m.base → m.meta ≡ s.meta → LogsRoom g r m t → LogsRoom g r s t
+  room_behind g r s m t keeps meta logs =
       let size = keeps.size in
       let more = logs.size in
       record {
         size = omega (arith, size, more);
         waits = by keeps.waits logs.waits;
         next = logs.next ∙ ap (λ (n : ℕ). n + 1) keeps.next;
+        ends = ends_behind g (record_end r) s.base m.base t.base keeps logs.ends;
         left = subst (λ (k : TablesKept). RoomLeft (opens_added r) (items_added r) k t.meta) meta logs.left;
         pages = logs.pages ∙ ap (λ (x : Root). x.pages) keeps.root;
       }
@@ -120,21 +172,21 @@ module _ {D O : Type 0} where
       by (inr none) (inl behind) = inr (behind ∙ ap (λ (l : List (List ℕ)). l ++ record_bytes r ∷ []) none)
 
   -- how many bytes wait at most
-  pub logged_bytes : (r : Record) (s t : Parts D O) → LogsRoom r s t → size_of t.base.log.buffered ≤ size_of s.base.log.buffered + (8 + length (record_bytes r))
-  logged_bytes r s t logs = by logs.waits
+  pub logged_bytes : (g : Ghosts D) (r : Record) (s t : Parts D O) → LogsRoom g r s t → size_of t.base.log.buffered ≤ size_of s.base.log.buffered + (8 + length (record_bytes r))
+  logged_bytes g r s t logs = by logs.waits
     where
       by : (t.base.log.buffered ≡ s.base.log.buffered ++ record_bytes r ∷ []) ⊎ (t.base.log.buffered ≡ record_bytes r ∷ [])
           → size_of t.base.log.buffered ≤ size_of s.base.log.buffered + (8 + length (record_bytes r))
       by (inl behind) = omega (arith, ap size_of behind, pushed_bytes s.base.log.buffered (record_bytes r))
       by (inr alone) = omega (arith, ap size_of alone, pushed_bytes [] (record_bytes r))
 
-  pub buffer_logged : (r : Record) (s t : Parts D O) → IsRecord r → IsChange r → LogsRoom r s t → 5000 ≤ 65536 - size_of s.base.log.buffered → HasBuffer s.base.log → HasBuffer t.base.log
-  buffer_logged r s t is change logs room has =
+  pub buffer_logged : (g : Ghosts D) (r : Record) (s t : Parts D O) → IsRecord r → IsChange r → LogsRoom g r s t → 5000 ≤ 65536 - size_of s.base.log.buffered → HasBuffer s.base.log → HasBuffer t.base.log
+  buffer_logged g r s t is change logs room has =
       let size = logs.size in
       let was = has.size in
       record {
         size = omega (arith, size, was);
-        most = omega (arith, room, logged_bytes r s t logs, record_short r is change);
+        most = omega (arith, room, logged_bytes g r s t logs, record_short r is change);
         spelled = by logs.waits;
       }
     where
@@ -143,7 +195,7 @@ module _ {D O : Type 0} where
       by (inr alone) = subst AreSpelled (sym alone) (pushed_spelled [] r is refl)
 
   -- a record was logged, or wasn't
-  pub buffer_behind : (r : Record) (s t : Parts D O) (result : Result ℕ StoreFault) → IsRecord r → IsChange r → 5000 ≤ 65536 - size_of s.base.log.buffered → HasBuffer s.base.log
-      → IfOk result (λ lsn. (lsn ≡ s.base.log.first + length s.base.log.buffered) × LogsRoom r s t) → OnErr result (KeepsBase s.base t.base) → HasBuffer t.base.log
-  buffer_behind r s t (Ok lsn) is change room has logs keeps = buffer_logged r s t is change logs.1 room has
-  buffer_behind r s t (Err e) is change room has logs keeps = buffer_kept s.base t.base keeps has
+  pub buffer_behind : (g : Ghosts D) (r : Record) (s t : Parts D O) (result : Result ℕ StoreFault) → IsRecord r → IsChange r → 5000 ≤ 65536 - size_of s.base.log.buffered → HasBuffer s.base.log
+      → IfOk result (λ lsn. (lsn ≡ s.base.log.first + length s.base.log.buffered) × LogsRoom g r s t) → OnErr result (KeepsBase g s.base t.base) → HasBuffer t.base.log
+  buffer_behind g r s t (Ok lsn) is change room has logs keeps = buffer_logged g r s t is change logs.1 room has
+  buffer_behind g r s t (Err e) is change room has logs keeps = buffer_kept g s.base t.base keeps has

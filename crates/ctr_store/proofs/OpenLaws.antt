@@ -3,6 +3,8 @@ use Rattle.std.proofs.Common.{◌≡◌, ◌≢◌, ◌⊎◌, inl, inr, ⊎_eli
 use Rattle.std.specs.Prelude.{max, IfOk, IfErr}
 use Rattle.std.proofs.Math.Seq.{take-nil}
 use Rattle.std.proofs.lemmas.List.{append-nil, length-map}
+use Rattle.ctr_types.specs.Damage.{damage_of}
+use Rattle.ctr_types.specs.declared.file.Damage.{Damage}
 use Rattle.ctr_types.specs.declared.file.File.{File}
 use Rattle.ctr_types.specs.declared.file.File.TheVariants.{Pages}
 use Rattle.ctr_types.specs.declared.memory.OutOfMemory.{OutOfMemory as WantOfMemory}
@@ -16,7 +18,7 @@ use Rattle.ctr_log.specs.declared.visitor.VisitError.{VisitError}
 use Rattle.ctr_log.specs.declared.visitor.VisitError.TheVariants as visit
 use Rattle.ctr_log.specs.LogChecks.{kept_damage, sound_kept_visits, IsThisDamage}
 use Rattle.ctr_base.specs.Opening.{FindsRoot, IsRootDamage}
-use Rattle.ctr_store.specs.declared.opening.OpenError.TheVariants as open_error
+use Rattle.ctr_log.specs.declared.opening.OpenError.TheVariants as open_error
 use Rattle.ctr_disk.specs.declared.disk.Disk.{Ghosts}
 use Rattle.ctr_home.specs.declared.root.Root.{Root}
 use Rattle.ctr_disk.specs.Device.{LeavesOnly, IsDurable}
@@ -48,13 +50,14 @@ use Rattle.ctr_base.proofs.RootLaws.{one_root}
 use Rattle.ctr_store.proofs.PartsLaws.{goes_more, writes_more}
 use Rattle.ctr_store.specs.declared.parts.Parts.{Parts}
 use Rattle.ctr_store.specs.declared.opening.Found.{Found}
-use Rattle.ctr_store.specs.declared.opening.OpenError.{OpenError}
+use Rattle.ctr_log.specs.declared.opening.OpenError.{OpenError}
 use Rattle.ctr_store.specs.RecordChecks.{SeenLog, FailsAs, AllPass, RefusesVisit, HasSeen, tables_seen}
 use Rattle.ctr_base.specs.Homes.{HomesSince}
 use Rattle.ctr_base.proofs.HomeLaws.{since_first}
 use Rattle.ctr_store.specs.PageChecks.{PagesPass}
 use Rattle.ctr_store.specs.Redo.{StartsRedo}
-use Rattle.ctr_store.specs.Opening.{FindsFront, fault_told, read_told, LogPasses, OverlaidPass, RefusesLog, IsLater, IsUndamaged, OpensParts, AnswersOpen, RefusesAs, opening_told, IsWornBy, worn_by, worn_in}
+use Rattle.ctr_log.specs.Opening.{fault_told, read_told}
+use Rattle.ctr_store.specs.Opening.{FindsFront, LogPasses, OverlaidPass, RefusesLog, IsLater, IsUndamaged, OpensParts, AnswersOpen, RefusesAs, opening_told, IsWornBy, worn_by, worn_in}
 
 -- a log was read, and its writer has room
 pub opens_room : (file first : ℕ) (image : Image) (log : Log) (room : ℕ) → OpensKept file first image log → OpensKept file first image (record log { room = room })
@@ -87,7 +90,7 @@ pub log_refused : (counts : ℕ → Type 0) (root : Root) (image : Image) (old n
     → IsToldBy (λ (s : StoreFault) (x : ReadError). x ≡ read.Store s) (λ (w : WantOfMemory) (x : ReadError). x ≡ read.OutOfMemory) cause e
     → StopsAt (HasSeen counts) (RefusesVisit counts) old new (sound_kept_visits root.file root.first image) cause → OnRead (IsThisDamage (kept_damage root.file root.first image)) cause → RefusesLog root image e
 log_refused counts root image old new (visit.Read (read.Store store.Fault)) e pages none told stops damage = subst (RefusesLog root image) (sym told) tt
-log_refused counts root image old new (visit.Read (read.Store (store.Damaged file at want got))) e pages none told stops damage =
+log_refused counts root image old new (visit.Read (read.Store (store.Damaged d))) e pages none told stops damage =
     let sound = sound_kept_visits root.file root.first image in
     let seen = stops [] none in
     subst (RefusesLog root image) (sym told) (inl (damage, subst (λ (n : ℕ). AllPass n sound) (pages new.pages seen.2) seen.1))
@@ -123,7 +126,7 @@ log_faults counts old (visit.Read (read.Store store.Fault)) e none told early be
   failed = λ is. h.failed refl;
   fine = λ isnt. absurd (isnt (ap Err told));
 }
-log_faults counts old (visit.Read (read.Store (store.Damaged file at want got))) e none told early before now h = record {
+log_faults counts old (visit.Read (read.Store (store.Damaged d))) e none told early before now h = record {
   later = h.later;
   failed = λ is. absurd (cc (told, is));
   fine = λ isnt. h.fine (λ is. cc is);
@@ -142,24 +145,24 @@ log_faults counts old (visit.Refused r) e none told early before now h = record 
 }
 
 -- a root that is damaged is there
-root_there : (image : Image) (file : File) (at want got : ℕ) → IsRootDamage image (store.Damaged file at want got) → value_of RootBlock image ≢ None
-root_there image file at want got is none = ⊎_elim (λ w. absurd (cc (w.1, none))) (λ w. absurd (cc (w.1.0, none))) is
+root_there : (image : Image) (d : Damage) → IsRootDamage image (store.Damaged d) → value_of RootBlock image ≢ None
+root_there image d is none = ⊎_elim (λ w. absurd (cc (w.1, none))) (λ w. absurd (cc (w.1.0, none))) is
 
 -- a refusal of the root
 pub root_refused : (image : Image) (e : StoreFault) → IsFaultOr (IsRootDamage image) e → RefusesAs image (fault_told e)
 root_refused image store.Fault is = tt
-root_refused image (store.Damaged file at want got) is = (root_there image file at want got is, inl is)
+root_refused image (store.Damaged d) is = (root_there image d is, inl is)
 
 -- one check fails only where what is there isn't what is wanted
 one_fails : (file : File) (at want got : ℕ) (e : StoreFault) → judged file (check_of at want got ∷ []) ≡ Err e → want ≢ got
 one_fails file at want got e failed same =
-    let passed : judged file (check_of at want got ∷ []) ≡ Ok tt = picks want got (Ok tt) (Err (store.Damaged file at want got)) same in
+    let passed : judged file (check_of at want got ∷ []) ≡ Ok tt = picks want got (Ok tt) (Err (store.Damaged (damage_of file at want got))) same in
     absurd (cc (failed, passed))
 
 -- a sound image has no such damage
 pub root_undamaged : (image : Image) (e : StoreFault) (root : Root) → IsSound root image → IsFaultOr (IsRootDamage image) e → IsUndamaged (fault_told e)
 root_undamaged image store.Fault root sound is = tt
-root_undamaged image (store.Damaged file at want got) root sound is =
+root_undamaged image (store.Damaged d) root sound is =
     ⊎_elim
     (λ w.
     let value = w.0 in
@@ -171,7 +174,7 @@ root_undamaged image (store.Damaged file at want got) root sound is =
     let one : r ≡ root = one_root (value_of RootBlock image) r root w.1 sound.says in
     let len = length (content Pages image) in
     let size = sound.size in
-    absurd (one_fails Pages 0 (max len (r.pages * 8256)) len (store.Damaged file at want got) w.2 (omega (arith, size, ap (λ (x : Root). x.pages) one))))
+    absurd (one_fails Pages 0 (max len (r.pages * 8256)) len (store.Damaged d) w.2 (omega (arith, size, ap (λ (x : Root). x.pages) one))))
     is
 
 pub read_undamaged : (e : ReadError) → (e ≡ read.Store store.Fault) ⊎ (e ≡ read.OutOfMemory) → IsUndamaged (read_told e)
@@ -198,13 +201,13 @@ worn_faults (Some n) (Err e) before now is same = record { later = omega (arith,
 -- of the log
 pub read_refused : (image : Image) (root : Root) (e : ReadError) → FindsRoot image (Some root) → RefusesLog root image e → RefusesAs image (read_told e)
 read_refused image root (read.Store store.Fault) says refused = tt
-read_refused image root (read.Store (store.Damaged file at want got)) says refused = ((λ none. absurd (cc (says.0.0, none))), inr (root, says, inl refused))
+read_refused image root (read.Store (store.Damaged d)) says refused = ((λ none. absurd (cc (says.0.0, none))), inr (root, says, inl refused))
 read_refused image root read.OutOfMemory says refused = λ none. absurd (cc (says.0.0, none))
 
 -- and behind it
 pub later_refused : (image : Image) (root : Root) (e : OpenError) → FindsRoot image (Some root) → LogPasses root image → IsLater root image e → RefusesAs image e
 later_refused image root open_error.NoDatabase says passes later = absurd later
-later_refused image root (open_error.Damaged file at want got) says passes later = ((λ none. absurd (cc (says.0.0, none))), inr (root, says, inr (passes, later)))
+later_refused image root (open_error.Damaged d) says passes later = ((λ none. absurd (cc (says.0.0, none))), inr (root, says, inr (passes, later)))
 later_refused image root (open_error.Worn n) says passes later = absurd later
 later_refused image root open_error.Fault says passes later = tt
 later_refused image root open_error.OutOfMemory says passes later = λ none. absurd (cc (says.0.0, none))

@@ -3,6 +3,7 @@ use Rattle.std.proofs.Common.{◌≡◌, ◌⊎◌, inl, inr, ⊎_elim, ℕ, zer
 use Rattle.std.specs.Prelude.{min}
 use Rattle.std.proofs.lemmas.Bool.{cases_lt}
 use Rattle.std.proofs.lemmas.Bool.Decides.{eqb_tells}
+use Rattle.ctr_types.specs.Damage.{damage_of}
 use Rattle.ctr_types.specs.declared.file.File.TheVariants.{Pages}
 use Rattle.ctr_disk.specs.Image.{Image}
 use Rattle.ctr_disk.specs.declared.fault.StoreFault.{StoreFault}
@@ -26,7 +27,7 @@ use Rattle.ctr_store.specs.PageChecks.{PagePasses, PageFails, PagesPass, FirstPa
 -- a check that fails alone is the first of a list that fails
 first_fails : (c : Check) (cs : List Check) (e : StoreFault) → judged Pages (c ∷ []) ≡ Err e → judged Pages (c ∷ cs) ≡ Err e
 first_fails c cs e alone =
-    let d = Damaged Pages c.at c.want c.got in
+    let d = Damaged (damage_of Pages c.at c.want c.got) in
     ⊎_elim (λ w. let passed : judged Pages (c ∷ []) ≡ Ok tt = ap (λ (b : Bool). if b then Ok tt else Err d) w.0 in absurd (cc (passed, alone)))
     (λ w. ap (λ (b : Bool). if b then judged Pages cs else Err d) w.0 ∙ sym (ap (λ (b : Bool). if b then Ok tt else Err d) w.0) ∙ alone)
     (eqb_tells c.want c.got)
@@ -45,19 +46,19 @@ not_misnumbered p image v e is right (w, is_w, fails) =
     let both : Some v ≡ Some w = sym is ∙ is_w in
     let one : v ≡ w = cc both in
     let passed : judged Pages (number_check (Page p) (value_place (Page p) image) w ∷ []) ≡ Ok tt =
-    picks p w.number (Ok tt) (Err (Damaged Pages (value_place (Page p) image + 1) p w.number)) (sym right ∙ ap (λ (x : BlockValue). x.number) one) in
+    picks p w.number (Ok tt) (Err (Damaged (damage_of Pages (value_place (Page p) image + 1) p w.number))) (sym right ∙ ap (λ (x : BlockValue). x.number) one) in
     cc (passed, fails)
 
 behind_number : (next p home : ℕ) (v : BlockValue) → v.number ≡ p → judged Pages (home_checks next p home v) ≡ judged Pages (check_of (home + 5) (min v.stamp (next - 1)) v.stamp ∷ [])
-behind_number next p home v right = picks p v.number (judged Pages (check_of (home + 5) (min v.stamp (next - 1)) v.stamp ∷ [])) (Err (Damaged Pages (home + 1) p v.number)) (sym right)
+behind_number next p home v right = picks p v.number (judged Pages (check_of (home + 5) (min v.stamp (next - 1)) v.stamp ∷ [])) (Err (Damaged (damage_of Pages (home + 1) p v.number))) (sym right)
 
 -- a stamp that isn't below the next LSN fails behind the number
-pub stamp_fails : (next p home : ℕ) (v : BlockValue) → v.number ≡ p → 1 ≤ next → next ≤ v.stamp → judged Pages (home_checks next p home v) ≡ Err (Damaged Pages (home + 5) (next - 1) v.stamp)
+pub stamp_fails : (next p home : ℕ) (v : BlockValue) → v.number ≡ p → 1 ≤ next → next ≤ v.stamp → judged Pages (home_checks next p home v) ≡ Err (Damaged (damage_of Pages (home + 5) (next - 1) v.stamp))
 stamp_fails next p home v right some high =
     let want : min v.stamp (next - 1) ≡ next - 1 = omega (arith, high) in
     behind_number next p home v right
     ∙ ⊎_elim (λ w. let same = w.1 in absurd (omega (arith, same, want, some, high)))
-    (λ w. ap (λ (b : Bool). if b then Ok tt else Err (Damaged Pages (home + 5) (min v.stamp (next - 1)) v.stamp)) w.0 ∙ ap (λ (n : ℕ). Err (Damaged Pages (home + 5) n v.stamp)) want)
+    (λ w. ap (λ (b : Bool). if b then Ok tt else Err (Damaged (damage_of Pages (home + 5) (min v.stamp (next - 1)) v.stamp))) w.0 ∙ ap (λ (n : ℕ). Err (Damaged (damage_of Pages (home + 5) n v.stamp))) want)
     (eqb_tells (min v.stamp (next - 1)) v.stamp)
 
 -- what passes doesn't fail
@@ -67,7 +68,7 @@ passes_alone next p image e passes (v, is, fails) =
     let low = both.1 in
     let home = value_place (Page p) image in
     let passed : judged Pages (home_checks next p home v) ≡ Ok tt =
-    behind_number next p home v both.0 ∙ picks (min v.stamp (next - 1)) v.stamp (Ok tt) (Err (Damaged Pages (home + 5) (min v.stamp (next - 1)) v.stamp)) (let e : min v.stamp (next - 1) ≡ v.stamp = omega (arith, low) in e) in
+    behind_number next p home v both.0 ∙ picks (min v.stamp (next - 1)) v.stamp (Ok tt) (Err (Damaged (damage_of Pages (home + 5) (min v.stamp (next - 1)) v.stamp))) (let e : min v.stamp (next - 1) ≡ v.stamp = omega (arith, low) in e) in
     cc (passed, fails)
 
 -- the same of a page whose value is the same, in the same home
@@ -104,7 +105,7 @@ module _ (next : ℕ) (image : Image) where
   -- what is told of it
   pub first_told : (rs : List Record) (i : ℕ) (r : Record) (e : StoreFault) → slice_get rs i ≡ Some r → PagesPass next image (take i rs) → IsFaultOr (PageFails next image (overlay_of r)) e → IsFaultOr (FirstPageFails next image rs) e
   first_told rs i r Fault is pass fails = tt
-  first_told rs i r (Damaged file at want got) is pass fails = fails_at rs i r (Damaged file at want got) is pass fails
+  first_told rs i r (Damaged d) is pass fails = fails_at rs i r (Damaged d) is pass fails
 
   passed_on : (p : ℕ) (o : Option Overlay) → lies_on o p ≡ true → PagePasses next image o → PassesHome next p image
   passed_on p None is passes = absurd (cc is)

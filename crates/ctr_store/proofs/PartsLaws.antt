@@ -32,7 +32,7 @@ use Rattle.ctr_redo.proofs.PageLaws.{stays_out, goes_in, below_next, overlaid-ap
 use Rattle.ctr_redo.proofs.StateLaws.{state_push, page_is, tables-push, below_more}
 use Rattle.ctr_base.specs.declared.base.Base.{Base}
 use Rattle.ctr_base.specs.Growth.{GrowsBase}
-use Rattle.ctr_base.specs.Base.{stored_of, waiting_of, now_of, home_of, MaySave, MayPut, IsQuiet, IsSoundImage, StandsWell, StandsQuiet, LeavesIf, MovesBase, MovesIf, KeepsBase, backing_of}
+use Rattle.ctr_base.specs.Base.{HasGate, stored_of, waiting_of, now_of, home_of, MaySave, MayPut, IsQuiet, IsSoundImage, StandsWell, StandsQuiet, LeavesIf, MovesBase, MovesIf, KeepsBase, backing_of}
 use Rattle.ctr_store.specs.declared.parts.Parts.{Parts}
 use Rattle.ctr_redo.specs.Fitting.{LiesInside, FitsBehind, EachFits, MayFollow}
 use Rattle.ctr_redo.proofs.FitLaws.{tables_behind, tables_behind_is, each_append, none_append}
@@ -45,20 +45,20 @@ pub writes_more : (older : Bool) (file first : ℕ) (log : Log) (image : Image) 
 writes_more false file first log image more room w = record {
   bs = w.bs;
   file_is = w.file_is;
-  goes_on = record { log_is = w.goes_on.log_is; place = w.goes_on.place; first_is = w.goes_on.first_is };
+  goes_on = record { log_is = w.goes_on.log_is; start = w.goes_on.start; place = w.goes_on.place; first_is = w.goes_on.first_is };
   holds = w.holds;
 }
 writes_more true file first log image more room w = record {
   bs = w.bs;
   cs = w.cs;
   file_is = w.file_is;
-  goes_on = record { log_is = w.goes_on.log_is; place = w.goes_on.place; first_is = w.goes_on.first_is };
+  goes_on = record { log_is = w.goes_on.log_is; start = w.goes_on.start; place = w.goes_on.place; first_is = w.goes_on.first_is };
   holds = w.holds;
 }
 
 -- a writer with more that waits goes on behind the same batches
 pub goes_more : (image : Image) (log : Log) (more : List (List ℕ)) (room : ℕ) → ((oldest : ℕ) × (bs : Batches) × GoesOn oldest bs log image) → (oldest : ℕ) × (bs : Batches) × GoesOn oldest bs (record log { buffered = more; room = room }) image
-goes_more image log more room w = (w.0, w.1, record { log_is = w.2.log_is; place = w.2.place; first_is = w.2.first_is })
+goes_more image log more room w = (w.0, w.1, record { log_is = w.2.log_is; start = w.2.start; place = w.2.place; first_is = w.2.first_is })
 
 -- a frame's LSN isn't below that of what is held
 pub held_high : {D O : Type 0} (first : Image) (g : Ghosts D) (b : Base D O) (p : ℕ) (v : PageHeld) (s : Option ℕ) → IsHeld (backing_of first g) b p v s → (home_of g b p).lsn ≤ v.lsn
@@ -120,12 +120,16 @@ module _ {D O : Type 0} (first : Image) (g : Ghosts D) where
       omega (arith, below, next_is a quiet, ap (λ (v : PageHeld). v.lsn) (fold.current sound p))
 
   -- the same where pages and records are as they were
-  pub low_moved : (s t : Parts D O) → KeepsBase s.base t.base → ShowsSame (backing_of first g) s.pool.frames s.base t.pool.frames t.base → AreLow g s → AreLow g t
+  pub low_moved : (s t : Parts D O) → KeepsBase g s.base t.base → ShowsSame (backing_of first g) s.pool.frames s.base t.pool.frames t.base → AreLow g s → AreLow g t
   low_moved s t keeps shows low p = let was = low p in let next = keeps.next in omega (arith, was, next, ap (λ (v : PageHeld). v.lsn) (shows p))
 
   -- what a crash leaves of a call, where the disk is as at another one's end
   pub leaves_same : (a m b : Base D O) → b.disk ≡ m.disk → LeavesIf first g a m → LeavesIf first g a b
-  leaves_same a m b same leaves sound = subst (λ (x : D). LeavesOnly g a.disk x (FoldsFront (state_of (stored_of g a)) (waiting_of a))) (sym same) (leaves sound)
+  leaves_same a m b same leaves sound =
+      let was = leaves sound in record {
+        front = subst (λ (x : D). LeavesOnly g a.disk x (FoldsFront (state_of (stored_of g a)) (waiting_of a))) (sym same) was.front;
+        gate = subst (λ (x : D). LeavesOnly g a.disk x (HasGate a.log)) (sym same) was.gate;
+      }
 
   -- ---- a record more
 
@@ -303,7 +307,7 @@ module _ {D O : Type 0} (first : Image) (g : Ghosts D) where
       )
 
   -- what can be logged can still be, where room isn't lost below
-  pub can_still : (r : Record) (s t : Parts D O) → KeepsBase s.base t.base → t.meta ≡ s.meta → CanLog r s → CanLog r t
+  pub can_still : (r : Record) (s t : Parts D O) → KeepsBase g s.base t.base → t.meta ≡ s.meta → CanLog r s → CanLog r t
   can_still r s t keeps meta can =
       let root = keeps.root in
       let more = kept_room s.base.log t.base.log keeps.size keeps.waits in

@@ -25,7 +25,7 @@ use Rattle.ctr_store.proofs.PageCheckLaws.{misnumbered_fails, not_misnumbered, p
 use Rattle.ctr_store.proofs.BringLaws.{none_there}
 use Rattle.ctr_store.proofs.RedoLaws.{prefix_low}
 
-module _ {D O : Type 0} (first : Image) (g : Ghosts D) (start : Base D O) (n p : ℕ) (s t : Parts D O) (doing : RedoesPages first g start n s) (inside : p < start.root.pages) (keeps : KeepsBase s.base t.base) where
+module _ {D O : Type 0} (first : Image) (g : Ghosts D) (start : Base D O) (n p : ℕ) (s t : Parts D O) (doing : RedoesPages first g start n s) (inside : p < start.root.pages) (keeps : KeepsBase g s.base t.base) where
   abbrev next : ℕ
   next = next_of (stored_of g start)
 
@@ -91,8 +91,8 @@ module _ {D O : Type 0} (first : Image) (g : Ghosts D) (start : Base D O) (n p :
   -- it wasn't: this check fails
   pub finds_fails : (e : StoreFault) → FindsPage {T = ⊤} first g p s t (Err e) → IsFaultOr (FailsHome next p first) e
   finds_fails Fault found = tt
-  finds_fails (Damaged file at want got) found =
-      let e = Damaged file at want got in
+  finds_fails (Damaged d) found =
+      let e = Damaged d in
       ⊎_elim (λ there. absurd (not_hit there (found.hit there)))
       (λ none.
       let read = found.miss none inside_there some_there in

@@ -231,7 +231,7 @@ pub log_undamaged : (counts : ℕ → Type 0) (root : Root) (image : Image) (old
     → IsToldBy (λ (s : StoreFault) (x : ReadError). x ≡ read.Store s) (λ (w : WantOfMemory) (x : ReadError). x ≡ read.OutOfMemory) cause e
     → StopsAt (HasSeen counts) (RefusesVisit counts) old new (sound_kept_visits root.file root.first image) cause → OnRead (RefusesKept root.file root.first image) cause → (e ≡ read.Store store.Fault) ⊎ (e ≡ read.OutOfMemory)
 log_undamaged counts root image old new (visit.Read (read.Store store.Fault)) e sound pages none told stops refused = inl told
-log_undamaged counts root image old new (visit.Read (read.Store (store.Damaged file at want got))) e sound pages none told stops refused = absurd (refused.holds (kept_log root.file root.first image) sound.log)
+log_undamaged counts root image old new (visit.Read (read.Store (store.Damaged d))) e sound pages none told stops refused = absurd (refused.holds (kept_log root.file root.first image) sound.log)
 log_undamaged counts root image old new (visit.Read read.OutOfMemory) e sound pages none told stops refused = inr told.1
 log_undamaged counts root image old new (visit.Refused r) e sound pages none told stops refused =
     let given = stops.given in

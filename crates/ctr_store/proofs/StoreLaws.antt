@@ -13,15 +13,16 @@ use Rattle.ctr_disk.specs.declared.fault.StoreFault.TheVariants.{Fault}
 use Rattle.ctr_log.proofs.VisitLemmas.{ok_isnt}
 use Rattle.ctr_records.specs.declared.record.Record.{Record}
 use Rattle.ctr_meta.specs.Needs.{needs}
-use Rattle.ctr_base.specs.Base.{waiting_of, now_of, IsSoundImage, LeavesIf, MovesBase, MovesIf, KeepsBase}
+use Rattle.ctr_disk.proofs.Moments.{weaker}
+use Rattle.ctr_base.specs.Base.{waiting_of, now_of, IsSoundImage, HasGate, LeavesBase, LeavesIf, MovesBase, MovesIf, KeepsBase}
 use Rattle.ctr_store.specs.declared.parts.Parts.{Parts}
 use Rattle.ctr_base.specs.Growth.{GrowsBase, AreBlank}
 use Rattle.ctr_base.specs.BaseLaws.{rests_leaves}
 use Rattle.ctr_redo.specs.States.{State, state_of, grown, page_at}
-use Rattle.ctr_store.specs.Parts.{IsFold, HasBuffer, CanLog, LogsRecord, LogsRoom, pages_held, some_dirty}
-use Rattle.ctr_store.specs.Store.{View, Logs, LeavesPage, MayLog, KeepsRoom, GrowsByExtent, TakesRecord, WritesHome, waiting_bytes}
+use Rattle.ctr_store.specs.Parts.{IsFold, HasBuffer, record_end, CanLog, EndsWithin, LogsRecord, LogsRoom, pages_held, some_dirty}
+use Rattle.ctr_store.specs.Store.{View, Logs, LeavesFront, ReachesEnd, MovesOn, LeavesPage, MayLog, KeepsRoom, GrowsByExtent, TakesRecord, WritesHome, waiting_bytes}
 use Rattle.ctr_store.specs.StoreInside.{view_of}
-use Rattle.ctr_store.proofs.BufferLaws.{kept_bytes, logged_bytes, since_held}
+use Rattle.ctr_store.proofs.BufferLaws.{kept_bytes, logged_bytes, since_held, end_at_most, ends_kept}
 use Rattle.ctr_store.proofs.RecordLaws.{record_short, wrote_is}
 
 -- a call that answers with this fault
@@ -48,6 +49,17 @@ module _ {D O : Type 0} (g : Ghosts D) where
   pub logs_moved : (s t : Parts D O) (b c : Bool) → MovesBase g s.base t.base → Logs [] (view_of g s b) (view_of g t c)
   logs_moved s t b c m = record { j = m.j; waiting = m.waiting ∙ sym (append-nil (drop m.j (waiting_of s.base))); hardened = m.hardened; now = m.now }
 
+  -- what callers see of time
+  pub time_seen : (s t : Parts D O) (b c : Bool) (more : ℕ) → EndsWithin g more s.base t.base → MovesOn g (view_of g s b) (view_of g t c)
+  time_seen s t b c more ends = record { later = ends.goes.later; file = ends.file; start = ends.start; older = ends.older; gate = ends.gate; stray = ends.goes.stray }
+
+  -- what they see of a crash
+  pub front_seen : (s t : Parts D O) (b c : Bool) → HasBuffer s.base.log → LeavesBase g s.base t.base → LeavesFront g (view_of g s b) (view_of g t c)
+  front_seen s t b c has leaves = record {
+    front = leaves.front;
+    long = weaker g s.base.disk t.base.disk (HasGate s.base.log) (ReachesEnd (view_of g s b)) leaves.gate (λ i long. omega (arith, long, has.most, end_at_most s.base.log.place s.base.log.buffered));
+  }
+
   -- what callers see is enough for a record
   pub can_of : (r : Record) (s : Parts D O) (b : Bool) → HasBuffer s.base.log → MayLog r (view_of g s b) → needs r s.meta.tables ≡ Ok tt → CanLog r s
   can_of r s b buffer may fits =
@@ -63,10 +75,11 @@ module _ {D O : Type 0} (g : Ghosts D) where
       }
 
   -- what callers see of a number and room that are kept
-  pub keeps_seen : (s t : Parts D O) (b c : Bool) → KeepsBase s.base t.base → t.meta ≡ s.meta → KeepsRoom (view_of g s b) (view_of g t c)
+  pub keeps_seen : (s t : Parts D O) (b c : Bool) → KeepsBase g s.base t.base → t.meta ≡ s.meta → KeepsRoom (view_of g s b) (view_of g t c)
   keeps_seen s t b c keeps meta = record {
     next = keeps.next;
     room = omega (arith, kept_bytes s.base.log t.base.log keeps.waits);
+    gate = keeps.ends;
     meta = meta;
     counted = ap (λ (r : Root). r.pages) keeps.root;
   }
@@ -75,18 +88,25 @@ module _ {D O : Type 0} (g : Ghosts D) where
   logs_seen r s t b c logs = record { j = logs.j; waiting = logs.waiting; hardened = logs.hardened; now = logs.now }
 
   -- what they see of a record that was logged
-  pub takes_seen : (r : Record) (s t : Parts D O) (b c : Bool) (result : Result ℕ StoreFault) → IfOk result (λ lsn. (lsn ≡ s.base.log.first + length s.base.log.buffered) × LogsRoom r s t)
+  pub takes_seen : (r : Record) (s t : Parts D O) (b c : Bool) (result : Result ℕ StoreFault) → IfOk result (λ lsn. (lsn ≡ s.base.log.first + length s.base.log.buffered) × LogsRoom g r s t)
       → IfOk result (λ lsn. TakesRecord r lsn (view_of g s b) (view_of g t c))
   takes_seen r s t b c (Ok lsn) takes =
       let logs = takes.1 in
       record {
         number = takes.0;
         next = logs.next;
-        room = omega (arith, logged_bytes r s t logs);
+        room = omega (arith, logged_bytes g r s t logs);
+        gate = logs.ends.near;
         left = logs.left;
         counted = logs.pages;
       }
   takes_seen r s t b c (Err e) takes = tt
+
+  -- and of time, whether it was or not
+  pub time_logged : (r : Record) (s t : Parts D O) (b c : Bool) (result : Result ℕ StoreFault) → IfOk result (λ lsn. (lsn ≡ s.base.log.first + length s.base.log.buffered) × LogsRoom g r s t)
+      → OnErr result (KeepsBase g s.base t.base) → MovesOn g (view_of g s b) (view_of g t c)
+  time_logged r s t b c (Ok lsn) takes keeps = time_seen s t b c (record_end r) takes.1.ends
+  time_logged r s t b c (Err e) takes keeps = time_seen s t b c 0 (ends_kept g s.base t.base keeps)
 
   -- and of a page that went home
   pub home_seen : (s t : Parts D O) (b c : Bool) (result : Result Bool StoreFault) → IfOk result (SavesOldest s.pool t.pool) → IfOk result (WritesHome (view_of g s b) (view_of g t c))
@@ -123,25 +143,26 @@ module _ {D O : Type 0} (g : Ghosts D) where
   buffer_seen s has = let most = has.most in omega (arith, most, ap (λ (l : List (List ℕ)). length (frames l)) has.spelled)
 
   -- a growth
-  pub grows_seen : (first : Image) → ((d : D) (c : Image) → g.since d (g.moment_of d) c → g.images d c) → (s t : Parts D O) (b c : Bool) → IsFold first g t → IsSoundImage first → GrowsBase g s.base t.base
+  pub grows_seen : (first : Image) → ((d : D) (c : Image) → g.since d (g.moment_of d) c → g.images d c) → (s t : Parts D O) (b c : Bool) → HasBuffer t.base.log → IsFold first g t → IsSoundImage first → GrowsBase g s.base t.base
       → AreBlank s.base.root.pages (grown s.base.root.pages) (state_of (now_of g s.base)) → GrowsByExtent g (view_of g s b) (view_of g t c)
-  grows_seen first only_now s t b c fold sound grows blank = record {
+  grows_seen first only_now s t b c has fold sound grows blank = record {
     hardened = grows.hardened;
     now = grows.now;
     blank = λ p low high inside.
         ap (λ (x : State). page_at p x.pages) grows.now ∙ blank p low (subst (λ (r : Root). p < r.pages) grows.root high) inside;
-    durable = rests_leaves g first only_now t.base fold.over.at_rest sound;
+    durable = front_seen t t c c has (rests_leaves g first only_now t.base fold.over.at_rest sound);
   }
 
   -- a page that is lent, or a call for one that was refused
-  module _ (first : Image) (s t : Parts D O) (b : Bool) (old : View D) (is : view_of g s b ≡ old) (goes : IsTrue g.tells → LeavesIf first g s.base t.base) (keeps : KeepsBase s.base t.base) (meta : t.meta ≡ s.meta) where
+  module _ (first : Image) (s t : Parts D O) (b : Bool) (old : View D) (is : view_of g s b ≡ old) (has : HasBuffer s.base.log) (goes : IsTrue g.tells → LeavesIf first g s.base t.base) (keeps : KeepsBase g s.base t.base) (meta : t.meta ≡ s.meta) where
     pub page_fails : {T U : Type 0} (e : StoreFault) → (IsTrue g.tells → IsSoundImage first → e ≡ Fault) → HasFault {T = U} Fault (g.faults_of s.base.disk) (g.faults_of t.base.disk) (Err e) → LeavesPage {T = T} first g old (view_of g t true) (Err e)
     page_fails {T} {U} e only f =
         subst (λ (v : View D). LeavesPage {T = T} first g v (view_of g t true) (Err e)) is
         (record {
-          any_moment = goes;
+          any_moment = λ told sound. front_seen s t b true has (goes told sound);
           logs = λ told sound. tt;
           keeps = keeps_seen s t b true keeps meta;
+          time = time_seen s t b true 0 (ends_kept g s.base t.base keeps);
           going = tt;
           stopped = refl;
           refused = λ told sound. ap Err (only told sound);
@@ -162,9 +183,10 @@ module _ {D O : Type 0} (g : Ghosts D) where
     page_lends {T} {U} x u going moves f =
         subst (λ (v : View D). LeavesPage {T = T} first g v (view_of g t b) (Ok x)) is
         (record {
-          any_moment = goes;
+          any_moment = λ told sound. front_seen s t b b has (goes told sound);
           logs = λ told sound. logs_moved s t b b (moves told sound);
           keeps = keeps_seen s t b b keeps meta;
+          time = time_seen s t b b 0 (ends_kept g s.base t.base keeps);
           going = going;
           stopped = tt;
           refused = λ told sound. tt;

@@ -24,21 +24,11 @@ use Rattle.ctr_log.specs.Visits.{kept_visits}
 use Rattle.ctr_log.specs.declared.visitor.Visit.{Visit}
 use Rattle.ctr_records.specs.declared.decoding.BadRecord.{BadRecord}
 use Rattle.ctr_base.specs.Opening.{FindsRoot, IsRootDamage}
-use Rattle.ctr_store.specs.declared.opening.OpenError.{OpenError}
-use Rattle.ctr_store.specs.declared.opening.OpenError.TheVariants as open_error
+use Rattle.ctr_log.specs.declared.opening.OpenError.{OpenError}
+use Rattle.ctr_log.specs.declared.opening.OpenError.TheVariants as open_error
 use Rattle.ctr_store.specs.declared.opening.Found.{Found}
 use Rattle.ctr_store.specs.PageChecks.{PagesPass, FirstPageFails}
 use Rattle.ctr_store.specs.RecordChecks.{record_damage, FailsAs, AllPass, tables_seen}
-
--- how a fault below is told
-abbrev pub fault_told : StoreFault → OpenError
-fault_told store.Fault = open_error.Fault
-fault_told (store.Damaged file at want got) = open_error.Damaged file at want got
-
--- how an end of reading is told
-abbrev pub read_told : ReadError → OpenError
-read_told (read.Store fault) = fault_told fault
-read_told read.OutOfMemory = open_error.OutOfMemory
 
 -- What the reading of the log of an image finds, by this root: the records in their places, which
 -- pass, the tables that they leave, and the writer behind them, with nothing to flush.
@@ -74,8 +64,7 @@ IsLogDamage root image e = ((kept_damage root.file root.first image ≡ Err e)
 -- the reading of a log was refused: where it is damage, by the first check that fails
 abbrev pub RefusesLog : Root → Image → ReadError → Type 0
 RefusesLog root image (read.Store store.Fault) = Unit {0}
-RefusesLog root image (read.Store (store.Damaged file at want got)) =
-    IsLogDamage root image (store.Damaged file at want got)
+RefusesLog root image (read.Store (store.Damaged d)) = IsLogDamage root image (store.Damaged d)
 RefusesLog root image read.OutOfMemory = Unit {0}
 
 -- all checks of the log pass
@@ -167,8 +156,7 @@ pub record IsNewlyOpened {D O : Type 0} (s : Parts D O) : Type 0 where
 -- an error that comes behind the log's: damage is of a page
 abbrev pub IsLater : Root → Image → OpenError → Type 0
 IsLater root image open_error.NoDatabase = ⊥
-IsLater root image (open_error.Damaged file at want got) =
-    IsPageDamage root image (store.Damaged file at want got)
+IsLater root image (open_error.Damaged d) = IsPageDamage root image (store.Damaged d)
 IsLater root image (open_error.Worn n) = ⊥
 IsLater root image open_error.Fault = Unit {0}
 IsLater root image open_error.OutOfMemory = Unit {0}
@@ -176,7 +164,7 @@ IsLater root image open_error.OutOfMemory = Unit {0}
 -- an error that says of an image neither that it has no database nor that it is damaged
 abbrev pub IsUndamaged : OpenError → Type 0
 IsUndamaged open_error.NoDatabase = ⊥
-IsUndamaged (open_error.Damaged file at want got) = ⊥
+IsUndamaged (open_error.Damaged d) = ⊥
 IsUndamaged (open_error.Worn n) = Unit {0}
 IsUndamaged open_error.Fault = Unit {0}
 IsUndamaged open_error.OutOfMemory = Unit {0}
@@ -185,8 +173,8 @@ IsUndamaged open_error.OutOfMemory = Unit {0}
 -- first check that fails, as worn by its number where all checks pass.
 abbrev pub RefusesAs : Image → OpenError → Type 0
 RefusesAs image open_error.NoDatabase = value_of RootBlock image ≡ None
-RefusesAs image (open_error.Damaged file at want got) = (value_of RootBlock image ≢ None)
-    × IsOpenDamage image (store.Damaged file at want got)
+RefusesAs image (open_error.Damaged d) = (value_of RootBlock image ≢ None)
+    × IsOpenDamage image (store.Damaged d)
 RefusesAs image (open_error.Worn n) = (root : Root) × FindsRoot image (Some root) × LogPasses root image
     × OverlaidPass root image × (worn_in root image ≡ Some n)
 RefusesAs image open_error.Fault = Unit {0}

@@ -1,5 +1,6 @@
 -- The checks of the pages that a log's records are on, in order of the records.
 use Rattle.std.specs.Prelude.{◌≡◌, ◌≢◌, ◌⊎◌, ◌+◌, ◌-◌, ◌<◌, ◌≤◌, ℕ, true, false, List, [], ◌∷◌, length, Option, None, Some, IsTrue, Result, OnOk, IfErr, MatchResult}
+use Rattle.ctr_types.specs.Damage.{damage_of}
 use Rattle.ctr_types.specs.declared.file.File.TheVariants.{Pages}
 use Rattle.ctr_disk.specs.declared.disk.Disk.{Ghosts}
 use Rattle.ctr_disk.specs.Image.{Image}
@@ -56,7 +57,8 @@ pub record IsHighFrame {D O : Type 0} (g : Ghosts D) (p : ℕ) (s : Parts D O) (
   pub there : frame_of p s.pool.frames ≡ Some frame
   pub high : next_in s ≤ frame.lsn
   pub is : IsTrue g.tells
-      → e ≡ Damaged Pages (value_place (Page p) (g.reads s.base.disk) + 5) (next_in s - 1) frame.lsn
+      → (let home = value_place (Page p) (g.reads s.base.disk) in
+      e ≡ Damaged (damage_of Pages (home + 5) (next_in s - 1) frame.lsn))
 
 -- A page that no frame had was read at home: it passes its checks; or one fails, that of its number or
 -- behind it that of its stamp.

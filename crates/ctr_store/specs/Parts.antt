@@ -1,7 +1,7 @@
 -- What the parts of a store keep, and what a record adds.
 use Rattle.std.specs.Prelude.{◌≡◌, ◌⊎◌, ℕ, ◌+◌, ◌-◌, ◌^◌, ◌<◌, ◌≤◌, ◌==◌, Bool, List, [], ◌∷◌, ◌++◌, length, take, drop, map, Option, None, Some, is_some, nat_lt, if◌then◌else◌}
 use Rattle.std.specs.List.{list_any}
-use Rattle.ctr_log.specs.Logs.{Log, buffer_size, frames}
+use Rattle.ctr_log.specs.Logs.{Log, buffer_size, log_end, frames}
 use Rattle.ctr_redo.specs.Images.{records_in}
 use Rattle.ctr_disk.specs.declared.disk.Disk.{Ghosts}
 use Rattle.ctr_disk.specs.Image.{Image}
@@ -18,7 +18,7 @@ use Rattle.ctr_pool.specs.Over.{IsOver, ShowsSame}
 use Rattle.ctr_redo.specs.Overlaid.{overlay_of, overlaid}
 use Rattle.ctr_redo.specs.States.{state_of, step, steps}
 use Rattle.ctr_base.specs.declared.base.Base.{Base}
-use Rattle.ctr_base.specs.Base.{stored_of, waiting_of, now_of, home_of, IsSoundImage, MovesIf, backing_of}
+use Rattle.ctr_base.specs.Base.{stored_of, waiting_of, now_of, home_of, IsSoundImage, MovesIf, GoesOnTo, backing_of}
 use Rattle.ctr_redo.specs.Fitting.{LiesInside}
 use Rattle.ctr_store.specs.Changes.{IsChange}
 use Rattle.ctr_store.specs.declared.parts.Parts.{Parts}
@@ -109,14 +109,30 @@ pub record AddsRecord {D O : Type 0} (g : Ghosts D) (r : Record) (s t : Parts D 
   pub root : t.base.root ≡ s.base.root
   pub now : state_of (now_of g t.base) ≡ step r (state_of (now_of g s.base))
 
+-- However a call ends, the log's generation is the one of before, its end is no earlier and at most
+-- so many bytes further on, and time went on.
+pub record EndsWithin {D O : Type 0} (g : Ghosts D) (more : ℕ) (a b : Base D O) : Type 0 where
+  pub file : b.log.file ≡ a.log.file
+  pub older : b.log.older ≡ a.log.older
+  pub start : b.log.start ≡ a.log.start
+  pub gate : log_end a.log ≤ log_end b.log
+  pub near : log_end b.log ≤ log_end a.log + more
+  pub goes : GoesOnTo g a.disk b.disk (log_end b.log)
+
+-- how many bytes further on the log ends at most behind a record more: those of a batch's gate, of
+-- its first fields, of the record's length, and its own
+abbrev pub record_end : Record → ℕ
+record_end r = 29 + length (record_bytes r)
+
 -- A record more waits, behind those that waited or alone. The log's buffer isn't smaller, the next
 -- number is one more, this room is left in the tables, and as many pages are counted.
-pub record LogsRoom {D O : Type 0} (r : Record) (s t : Parts D O) : Type 0 where
+pub record LogsRoom {D O : Type 0} (g : Ghosts D) (r : Record) (s t : Parts D O) : Type 0 where
   pub size : buffer_size s.base.log ≤ buffer_size t.base.log
   pub waits : (t.base.log.buffered ≡ s.base.log.buffered ++ record_bytes r ∷ [])
       ⊎ (t.base.log.buffered ≡ record_bytes r ∷ [])
   pub next : t.base.log.first + length t.base.log.buffered
       ≡ s.base.log.first + length s.base.log.buffered + 1
+  pub ends : EndsWithin g (record_end r) s.base t.base
   pub left : RoomLeft (opens_added r) (items_added r) s.meta t.meta
   pub pages : t.base.root.pages ≡ s.base.root.pages
 

@@ -1,5 +1,6 @@
 -- What is wrong with a record where it stands in a log: the first check that fails, in this order.
 use Rattle.std.specs.Prelude.{◌≡◌, ◌⊎◌, ◌<◌, ◌+◌, ◌-◌, ◌==◌, ℕ, min, if◌then◌else◌, nat_lt, List, length, take, Option, Some, None, Result, Ok, Err, ⊤, slice_get}
+use Rattle.ctr_types.specs.Damage.{damage_of}
 use Rattle.ctr_types.specs.declared.file.File.{File}
 use Rattle.ctr_disk.specs.declared.fault.StoreFault.{StoreFault}
 use Rattle.ctr_disk.specs.declared.fault.StoreFault.TheVariants.{Damaged}
@@ -64,7 +65,8 @@ pub record PassesAs (pages at : ℕ) (t : Tables) (bytes : List ℕ) (r : Record
 -- damage of a record that stands at a place of a file: it says the byte there, as far as 64 bits tell
 -- it
 abbrev pub record_damage : File → ℕ → BadRecord → StoreFault
-record_damage file at bad = Damaged file (min (at + bad.at) 18446744073709551615) bad.want bad.got
+record_damage file at bad =
+    Damaged (damage_of file (min (at + bad.at) 18446744073709551615) bad.want bad.got)
 
 -- The first check that fails is one of the place, of the bytes, or of the record that they are.
 abbrev pub FailsAs : ℕ → ℕ → Tables → List ℕ → BadRecord → Type 0

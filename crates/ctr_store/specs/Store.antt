@@ -1,9 +1,9 @@
 -- What callers see of a store, and how its calls change that.
-use Rattle.std.specs.Prelude.{◌≡◌, ◌==◌, ◌-◌, ◌^◌, ◌<◌, ◌≤◌, ℕ, Bool, true, false, IsTrue, List, [], ◌++◌, length, take, drop, map, Option, None, Some, is_some, nat_lt, if◌then◌else◌, Result, Err, OnOk, OnErr, ◌+◌, ⊤}
+use Rattle.std.specs.Prelude.{◌≡◌, ◌⊎◌, ◌==◌, ◌-◌, ◌^◌, ◌<◌, ◌≤◌, ℕ, Bool, true, false, IsTrue, List, [], ◌++◌, length, take, drop, map, Option, None, Some, is_some, nat_lt, if◌then◌else◌, Result, Err, OnOk, OnErr, ◌+◌, ⊤}
 use Rattle.ctr_disk.specs.declared.disk.Disk.{Ghosts}
 use Rattle.ctr_types.specs.Faults.{HasFault}
 use Rattle.ctr_types.specs.declared.file.File.{File}
-use Rattle.ctr_disk.specs.Image.{Image}
+use Rattle.ctr_disk.specs.Image.{Image, content}
 use Rattle.ctr_disk.specs.declared.fault.StoreFault.{StoreFault}
 use Rattle.ctr_disk.specs.declared.fault.StoreFault.TheVariants.{Fault}
 use Rattle.ctr_disk.specs.Device.{LeavesOnly}
@@ -20,12 +20,14 @@ use Rattle.ctr_base.specs.Growth.{AreBlank}
 use Rattle.ctr_redo.specs.Fitting.{LiesInside}
 use Rattle.ctr_store.specs.Changes.{IsChange}
 use Rattle.ctr_log.specs.Logs.{frames}
-use Rattle.ctr_store.specs.Parts.{first_unsaved, home_by}
+use Rattle.ctr_store.specs.Parts.{first_unsaved, home_by, record_end}
 use Rattle.ctr_store.specs.RecordChecks.{record_damage}
 
 -- The disk; what it folds to; the records that aren't hardened, in order; pages and tables with
 -- these; the number of the next record, and the file and the byte where it would stand in the log;
--- how many bytes of frames may wait besides; how many frames have nothing to be written home,
+-- the byte where the closed gate behind the log will stand once all that waits is hardened; the
+-- number of the first record of the log's generation, and whether an older one is kept in the other
+-- file; how many bytes of frames may wait besides; how many frames have nothing to be written home,
 -- whether a page is to be, and which pages the frames have, each with the number of its first record
 -- that isn't home; the tables as they are kept; whether a call was answered an error, after which no
 -- more can be asked.
@@ -37,6 +39,9 @@ pub record View (D : Type 0) : Type 0 where
   pub next : ℕ
   pub file : File
   pub place : ℕ
+  pub gate : ℕ
+  pub start : ℕ
+  pub older : Bool
   pub room : ℕ
   pub frames : ℕ
   pub dirty : Bool
@@ -88,9 +93,31 @@ abbrev pub WritesHome : {D : Type 0} → View D → View D → Bool → Type 0
 WritesHome a b true = WritesOldest a b
 WritesHome a b false = WritesNone a b
 
--- At each moment of a call a crash leaves what was hardened with a prefix of what wasn't.
-abbrev pub LeavesFront : {D : Type 0} → Ghosts D → View D → View D → Type 0
-LeavesFront g a b = LeavesOnly g a.disk b.disk (FoldsFront a.hardened a.waiting)
+-- how many records the log's generation has, with those that wait
+abbrev pub generation_size : {D : Type 0} → View D → ℕ
+generation_size v = v.next - v.start
+
+-- The file of the log goes on nearly to the log's end in an image: what lacks there is less than
+-- the buffer takes.
+abbrev pub ReachesEnd : {D : Type 0} → View D → Image → Type 0
+ReachesEnd v image = v.gate < length (content v.file image) + 2 ^ 17
+
+-- At each moment of a call a crash leaves what was hardened with a prefix of what wasn't, in a file
+-- of the log that goes on nearly to its end.
+pub record LeavesFront {D : Type 0} (g : Ghosts D) (a b : View D) : Type 0 where
+  pub front : LeavesOnly g a.disk b.disk (FoldsFront a.hardened a.waiting)
+  pub long : LeavesOnly g a.disk b.disk (ReachesEnd a)
+
+-- However a call ends, the disk's clock didn't go back, the log's generation is the one of before,
+-- and its end no earlier. No call of the disk went past the last place of a file, but where the log
+-- ends so far on that each image's file of the log has 2^62 bytes.
+pub record MovesOn {D : Type 0} (g : Ghosts D) (a b : View D) : Type 0 where
+  pub later : g.moment_of a.disk ≤ g.moment_of b.disk
+  pub file : b.file ≡ a.file
+  pub start : b.start ≡ a.start
+  pub older : b.older ≡ a.older
+  pub gate : a.gate ≤ b.gate
+  pub stray : (g.strays_of b.disk ≡ g.strays_of a.disk) ⊎ (2 ^ 62 + 2 ^ 61 ≤ b.gate)
 
 -- The first of what waited is hardened now, these records wait behind the rest, and pages and
 -- tables are those of before with them.
@@ -124,20 +151,22 @@ abbrev pub RefusesUnfit : {D T : Type 0} → Record → View D → View D → Re
 RefusesUnfit r a b result = (bad : BadRecord) → unmet_need r a ≡ Err bad
     → (result ≡ Err (record_damage a.file a.place bad)) × (b ≡ a)
 
--- A record has this number, the next one is one more, this room is left, and as many pages are
--- counted.
+-- A record has this number, the next one is one more, this room is left, the log ends behind the
+-- record, and as many pages are counted.
 pub record TakesRecord {D : Type 0} (r : Record) (lsn : ℕ) (a b : View D) : Type 0 where
   pub number : lsn ≡ a.next
   pub next : b.next ≡ a.next + 1
   pub room : a.room ≤ b.room + (8 + length (record_bytes r))
+  pub gate : b.gate ≤ a.gate + record_end r
   pub left : RoomLeft (opens_added r) (items_added r) a.meta b.meta
   pub counted : b.now.counted ≡ a.now.counted
 
--- However a call ends, the number of the next record is that of before, as many pages are counted,
--- and room for records isn't lost.
+-- However a call ends, the number of the next record is that of before and the log's end, as many
+-- pages are counted, and room for records isn't lost.
 pub record KeepsRoom {D : Type 0} (a b : View D) : Type 0 where
   pub next : b.next ≡ a.next
   pub room : a.room ≤ b.room
+  pub gate : b.gate ≡ a.gate
   pub meta : b.meta ≡ a.meta
   pub counted : b.now.counted ≡ a.now.counted
 
@@ -147,6 +176,7 @@ pub record LeavesPage {D T : Type 0} (first : Image) (g : Ghosts D) (old new : V
   pub any_moment : IsTrue g.tells → IsSoundImage first → LeavesFront g old new
   pub logs : IsTrue g.tells → IsSoundImage first → OnOk result (Logs [] old new)
   pub keeps : KeepsRoom old new
+  pub time : MovesOn g old new
   pub going : OnOk result (new.stopped ≡ false)
   pub stopped : OnErr result (new.stopped ≡ true)
   pub refused : IsTrue g.tells → IsSoundImage first → OnErr result (result ≡ Err Fault)
@@ -169,8 +199,10 @@ pub record GrowsByExtent {D : Type 0} (g : Ghosts D) (a b : View D) : Type 0 whe
 
 -- All but the disk, what it folds to, and whether a call was answered an error is as it was. More
 -- pages are counted behind an Ok alone, and behind an error no more can be asked.
-pub record CountsUp {D T : Type 0} (a b : View D) (result : Result T StoreFault) : Type 0 where
+pub record CountsUp {D T : Type 0} (g : Ghosts D) (a b : View D) (result : Result T StoreFault)
+    : Type 0 where
   pub same : b ≡ record a { disk = b.disk; hardened = b.hardened; now = b.now; stopped = b.stopped }
+  pub time : MovesOn g a b
   pub counted : OnOk result (b.now.counted ≡ grown a.now.counted)
   pub uncounted : OnErr result (b.now.counted ≡ a.now.counted)
   pub going : OnOk result (b.stopped ≡ false)

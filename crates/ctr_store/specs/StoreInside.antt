@@ -2,7 +2,7 @@
 use Rattle.std.specs.Prelude.{◌≡◌, ◌+◌, ◌-◌, Bool, false, IsTrue, length}
 use Rattle.ctr_disk.specs.declared.disk.Disk.{Ghosts}
 use Rattle.ctr_disk.specs.Image.{Image}
-use Rattle.ctr_log.specs.Logs.{frames, next_place}
+use Rattle.ctr_log.specs.Logs.{frames, log_end, next_place}
 use Rattle.ctr_pool.specs.Over.{unchanged}
 use Rattle.ctr_redo.specs.States.{state_of}
 use Rattle.ctr_base.specs.Base.{stored_of, waiting_of, now_of}
@@ -21,6 +21,9 @@ view_of g s stopped = record {
   next = s.base.log.first + length s.base.log.buffered;
   file = s.base.log.file;
   place = next_place s.base.log;
+  gate = log_end s.base.log;
+  start = s.base.log.start;
+  older = s.base.log.older;
   room = buffer_most - length (frames s.base.log.buffered);
   frames = unchanged s.pool;
   dirty = some_dirty s.pool.frames;

@@ -7,7 +7,7 @@ use Rattle.ctr_meta.specs.Effects.{tables_of}
 use Rattle.ctr_redo.specs.States.{state_of}
 use Rattle.ctr_redo.specs.Images.{records_in, stored_in}
 use Rattle.ctr_base.specs.Base.{IsSoundImage}
-use Rattle.ctr_store.specs.declared.opening.OpenError.{OpenError}
+use Rattle.ctr_log.specs.declared.opening.OpenError.{OpenError}
 use Rattle.ctr_store.specs.Store.{View}
 use Rattle.ctr_base.specs.Opening.{FindsRoot}
 use Rattle.ctr_store.specs.Opening.{LogPasses, OverlaidPass, RefusesAs, worn_in}

@@ -1,8 +1,8 @@
 // Making a database: its logs, blank pages, and the root last.
-ghost use Rattle.std.specs.Prelude.{◌≡◌, ◌⊎◌, ◌↔◌, ◌≤◌, IsTrue, IsSome, None, Ok, Err, IfOk, IfErr, OnOk, OnErr};
+ghost use Rattle.std.specs.Prelude.{◌≡◌, ◌⊎◌, ◌↔◌, IsTrue, IsSome, None, Ok, Err, IfOk, OnOk, OnErr};
 ghost use Rattle.ctr_types.specs.Faults.{HasFault};
 ghost use Rattle.ctr_disk.specs.declared.fault.StoreFault.TheVariants.{Fault};
-ghost use Rattle.ctr_disk.specs.Device.{LeavesOnly, IsDurable, IsSettled, OnlyReads, CountsAs};
+ghost use Rattle.ctr_disk.specs.Device.{WhereTold, LeavesOnly, IsDurable, IsSettled, OnlyReads, CountsAs};
 ghost use Rattle.ctr_home.specs.declared.block.Block.TheVariants.{Root as RootBlock};
 ghost use Rattle.ctr_home.specs.Blocks.{value_of};
 ghost use Rattle.ctr_log.specs.declared.making.Making.TheVariants.{Made, Exists};
@@ -31,7 +31,7 @@ const PAGES: u32 = 64;
 fn lay<D: Disk>(disk: &mut D) -> Result<(), StoreFault>
     requires { IsTrue D.tells → value_of RootBlock (D.reads disk.old) ≡ None }
     ensures any_moment { IsSettled D.Disk disk.old → LeavesOnly D.Disk disk.old disk.new IsNoneOrNew }
-    ensures made { IsTrue D.tells → OnOk result (IsNewDatabase (D.reads disk.new)) }
+    ensures made { WhereTold D.Disk (OnOk result (IsNewDatabase (D.reads disk.new))) }
     ensures durable { OnOk result (IsDurable D.Disk disk.new) }
     ensures refused { OnErr result (result ≡ Err Fault) }
     ensures counts { CountsAs D.Disk Fault disk.old disk.new result }
@@ -50,10 +50,10 @@ fn lay<D: Disk>(disk: &mut D) -> Result<(), StoreFault>
 
 // The same where no root home is open.
 fn make<D: Disk>(disk: &mut D) -> Result<Making, StoreFault>
-    ensures exists { IsTrue D.tells → IfOk result (λ end. (end ≡ Exists) ↔ IsSome (value_of RootBlock (D.reads disk.old))) }
-    ensures untouched { IsTrue D.tells → IsSome (value_of RootBlock (D.reads disk.old)) → OnlyReads D.Disk disk.old disk.new }
-    ensures any_moment { IsTrue D.tells → value_of RootBlock (D.reads disk.old) ≡ None → LeavesOnly D.Disk disk.old disk.new (λ c. D.images disk.old c ⊎ IsNoneOrNew c) }
-    ensures made { IsTrue D.tells → result ≡ Ok Made → IsNewDatabase (D.reads disk.new) }
+    ensures exists { WhereTold D.Disk (IfOk result (λ end. (end ≡ Exists) ↔ IsSome (value_of RootBlock (D.reads disk.old)))) }
+    ensures untouched { WhereTold D.Disk (IsSome (value_of RootBlock (D.reads disk.old)) → OnlyReads D.Disk disk.old disk.new) }
+    ensures any_moment { WhereTold D.Disk (value_of RootBlock (D.reads disk.old) ≡ None → LeavesOnly D.Disk disk.old disk.new (λ c. D.images disk.old c ⊎ IsNoneOrNew c)) }
+    ensures made { WhereTold D.Disk (result ≡ Ok Made → IsNewDatabase (D.reads disk.new)) }
     ensures durable { OnOk result (IsDurable D.Disk disk.new) }
     ensures refused { OnErr result (result ≡ Err Fault) }
     ensures counts { CountsAs D.Disk Fault disk.old disk.new result }
@@ -69,10 +69,10 @@ fn make<D: Disk>(disk: &mut D) -> Result<Making, StoreFault>
 /// Makes an empty database on a disk where no root home is open. It begins with a sync; from there on a crash at any
 /// moment leaves no open root home, or the empty database. It takes no memory.
 pub fn create<D: Disk>(disk: D) -> Result<D, (CreateError, D)>
-    ensures answer { IsTrue D.tells → AnswersCreate (D.reads disk) result }
-    ensures untouched { IsTrue D.tells → IsSome (value_of RootBlock (D.reads disk)) → OnlyReads D.Disk disk (disk_made result) }
-    ensures any_moment { IsTrue D.tells → value_of RootBlock (D.reads disk) ≡ None → LeavesOnly D.Disk disk (disk_made result) (λ c. D.images disk c ⊎ IsNoneOrEmptyStore c) }
-    ensures made { IsTrue D.tells → IfOk result (λ d. IsEmptyStore (D.reads d)) }
+    ensures answer { WhereTold D.Disk (AnswersCreate (D.reads disk) result) }
+    ensures untouched { WhereTold D.Disk (IsSome (value_of RootBlock (D.reads disk)) → OnlyReads D.Disk disk (disk_made result)) }
+    ensures any_moment { WhereTold D.Disk (value_of RootBlock (D.reads disk) ≡ None → LeavesOnly D.Disk disk (disk_made result) (λ c. D.images disk c ⊎ IsNoneOrEmptyStore c)) }
+    ensures made { WhereTold D.Disk (IfOk result (λ d. IsEmptyStore (D.reads d))) }
     ensures durable { IfOk result (IsDurable D.Disk) }
     ensures faults { HasFault CreateFault (D.faults_of disk) (D.faults_of (disk_made result)) (making_told result) }
 {

@@ -13,7 +13,6 @@ mod store;
 
 pub use creating::{CreateError, create};
 pub use laws::{redo_makes_the_fold, what_a_crash_leaves_is_sound};
-pub use opening::OpenError;
 pub use parts::Parts;
 pub use seen::Seen;
 pub use store::Store;

@@ -1,29 +1,29 @@
 // Opening: the root, the log with its records' checks, and the pages that its records are on.
-ghost use Rattle.std.specs.Prelude.{◌≡◌, ◌≢◌, ◌⊎◌, ◌≤◌, ◌<◌, ◌+◌, ◌^◌, IsTrue, ℕ, [], Ok, Err, None, length, IfOk, IfErr, OnOk, OnErr, MatchResult};
+ghost use Rattle.std.specs.Prelude.{◌≡◌, ◌⊎◌, ◌≤◌, ◌<◌, ◌+◌, IsTrue, ℕ, [], Ok, Err, None, length, IfOk, IfErr, OnOk};
 ghost use Rattle.ctr_types.specs.Faults.{HasFault};
-ghost use Rattle.ctr_disk.specs.Device.{LeavesOnly, IsDurable, OnlyReads};
+ghost use Rattle.ctr_disk.specs.Device.{WhereTold, LeavesOnly, IsDurable, OnlyReads};
 ghost use Rattle.ctr_home.specs.declared.block.Block.TheVariants.{Root as RootBlock};
 ghost use Rattle.ctr_home.specs.declared.root.Form.TheVariants.{Paged};
 ghost use Rattle.ctr_home.specs.Blocks.{value_of};
 ghost use Rattle.ctr_home.specs.Roots.{IsRootOf, SaysRootOf};
 ghost use Rattle.ctr_store.specs.RecordChecks.{AllPass};
 ghost use Rattle.ctr_store.specs.Opening.{IsEmptyWithRoom, IsNewlyOpened, FindsLog, FindsFront, RefusesLog, RefusesAs, OpensParts, disk_left, opening_told, worn_by, IsWornBy, IsLater, IsUndamaged, AnswersOpen, LeavesFirst};
-ghost use Rattle.ctr_store.specs.declared.opening.OpenError.TheVariants.{Fault, OutOfMemory as NoMemory};
+ghost use Rattle.ctr_log.specs.declared.opening.OpenError.TheVariants.{Fault, OutOfMemory as NoMemory};
 ghost use Rattle.ctr_redo.specs.States.{state_of};
 ghost use Rattle.ctr_redo.specs.Images.{stored_in, IsSound, FoldsFront};
 ghost use Rattle.ctr_disk.specs.declared.fault.StoreFault.TheVariants.{Fault as StoreFailed};
 ghost use Rattle.ctr_log.specs.declared.reading.ReadError.TheVariants.{Store as ReadStore, OutOfMemory as ReadMemory};
-ghost use Rattle.ctr_base.specs.Base.{IsSoundImage};
+ghost use Rattle.ctr_base.specs.Base.{WhereSound, IsSoundImage};
 
 use crate::parts::Parts;
 use crate::seen::Seen;
 use ctr_base::{Base, Origin, find_root};
 use ctr_disk::{Disk, StoreFault};
 use ctr_home::Root;
-use ctr_log::{LogFile, ReadError, Visit, read_all};
+use ctr_log::{LogFile, OpenError, ReadError, Visit, read_all};
 use ctr_meta::Meta;
 use ctr_pool::Pool;
-use ctr_types::{File, List};
+use ctr_types::List;
 use std::alloc::Global;
 use std::marker::PhantomData;
 
@@ -32,63 +32,6 @@ const WORN_AT: u64 = 1 << 62;
 
 /// For how many bytes of records the log's buffer has room.
 pub(crate) const BUFFER: usize = 65_536;
-
-/// A disk couldn't be opened.
-#[derive(Clone, Copy, Debug, PartialEq, Eq)]
-pub enum OpenError {
-    /// No root home is open.
-    NoDatabase,
-    /// A check failed in the root, in the log, or in a page that the log's records are on: in this file, at this byte.
-    Damaged {
-        file: File,
-        at: u64,
-        want: u128,
-        got: u128,
-    },
-    /// The next LSN is at least 2^62, or else the next transaction is.
-    Worn {
-        number: u64,
-    },
-    /// The disk failed.
-    Fault,
-    OutOfMemory,
-}
-
-impl From<StoreFault> for OpenError {
-    ghost use Rattle.ctr_store.specs.Opening.{fault_told};
-
-    ghost from_gives = { λ f e. e ≡ fault_told f };
-
-    fn from(fault: StoreFault) -> OpenError {
-        match fault {
-            StoreFault::Fault => OpenError::Fault,
-            StoreFault::Damaged {
-                file,
-                at,
-                want,
-                got,
-            } => OpenError::Damaged {
-                file,
-                at,
-                want,
-                got,
-            },
-        }
-    }
-}
-
-impl From<ReadError> for OpenError {
-    ghost use Rattle.ctr_store.specs.Opening.{read_told};
-
-    ghost from_gives = { λ f e. e ≡ read_told f };
-
-    fn from(error: ReadError) -> OpenError {
-        match error {
-            ReadError::Store(fault) => OpenError::from(fault),
-            ReadError::OutOfMemory => OpenError::OutOfMemory,
-        }
-    }
-}
 
 /// What the reading of a log found: the writer behind it, the tables that its records leave, and the records in their
 /// places.
@@ -107,11 +50,11 @@ fn read_log<D: Disk, O: Origin>(
 ) -> Result<Found, ReadError>
     requires root { IsRootOf Paged root.now }
     requires says { IsTrue D.tells → SaysRootOf Paged (value_of RootBlock O.first) root.now }
-    ensures found { IsTrue D.tells → IfOk result (FindsLog (D.reads disk.old) root.now) }
+    ensures found { WhereTold D.Disk (IfOk result (FindsLog (D.reads disk.old) root.now)) }
     ensures passed { IfOk result (λ f. (pages : ℕ) × AllPass pages f.visits) }
     ensures room { IfOk result (λ f. IsEmptyWithRoom f.log) }
-    ensures refused { IsTrue D.tells → IfErr result (RefusesLog root.now (D.reads disk.old)) }
-    ensures undamaged { IsTrue D.tells → IsSound root.now (D.reads disk.old) → IfErr result (λ e. (e ≡ ReadStore StoreFailed) ⊎ (e ≡ ReadMemory)) }
+    ensures refused { WhereTold D.Disk (IfErr result (RefusesLog root.now (D.reads disk.old))) }
+    ensures undamaged { WhereTold D.Disk (IsSound root.now (D.reads disk.old) → IfErr result (λ e. (e ≡ ReadStore StoreFailed) ⊎ (e ≡ ReadMemory))) }
     ensures quiet { OnlyReads D.Disk disk.old disk.new }
     ensures faults { HasFault (ReadStore StoreFailed) (D.faults_of disk.old) (D.faults_of disk.new) result }
 {
@@ -125,11 +68,11 @@ fn read_log<D: Disk, O: Origin>(
 // The root of a disk, and what the reading of its log found.
 fn read_front<D: Disk, O: Origin>(alloc: Global, disk: &mut D) -> Result<(Root, Found), OpenError>
     requires named { O.first ≡ D.reads disk.old }
-    ensures found { IsTrue D.tells → IfOk result (λ r. FindsFront O.first r.0 r.1) }
+    ensures found { WhereTold D.Disk (IfOk result (λ r. FindsFront O.first r.0 r.1)) }
     ensures passed { IfOk result (λ r. ((pages : ℕ) × AllPass pages r.1.visits) × IsEmptyWithRoom r.1.log) }
     ensures root { IfOk result (λ r. IsRootOf Paged r.0) }
-    ensures refused { IsTrue D.tells → IfErr result (RefusesAs O.first) }
-    ensures undamaged { IsTrue D.tells → IsSoundImage O.first → IfErr result IsUndamaged }
+    ensures refused { WhereTold D.Disk (IfErr result (RefusesAs O.first)) }
+    ensures undamaged { WhereSound O.first D.Disk (IfErr result IsUndamaged) }
     ensures quiet { OnlyReads D.Disk disk.old disk.new }
     ensures durable { OnOk result (IsDurable D.Disk disk.new) }
     ensures faults { HasFault Fault (D.faults_of disk.old) (D.faults_of disk.new) result }
@@ -153,12 +96,12 @@ fn bring_forward<D: Disk, O: Origin>(
     requires told { IsTrue D.tells → FindsFront O.first root found × IsDurable D.Disk disk × (D.reads disk ≡ O.first) }
     requires passed { (pages : ℕ) × AllPass pages found.visits }
     requires room { IsEmptyWithRoom found.log }
-    ensures opened { IsTrue D.tells → IfOk result (OpensParts O.first D.Disk root) }
-    ensures goes { IsTrue D.tells → IsSoundImage O.first → LeavesOnly D.Disk disk (disk_left result) (FoldsFront (state_of (stored_in root O.first)) []) }
-    ensures refused { IsTrue D.tells → IfErr result (λ e. IsSoundImage O.first → (e.0 ≡ Fault) ⊎ (e.0 ≡ NoMemory)) }
-    ensures later { IsTrue D.tells → IfErr result (λ e. IsLater root O.first e.0) }
+    ensures opened { WhereTold D.Disk (IfOk result (OpensParts O.first D.Disk root)) }
+    ensures goes { WhereSound O.first D.Disk (LeavesOnly D.Disk disk (disk_left result) (FoldsFront (state_of (stored_in root O.first)) [])) }
+    ensures refused { WhereTold D.Disk (IfErr result (λ e. IsSoundImage O.first → (e.0 ≡ Fault) ⊎ (e.0 ≡ NoMemory))) }
+    ensures later { WhereTold D.Disk (IfErr result (λ e. IsLater root O.first e.0)) }
     ensures room { IfOk result (λ s. IsEmptyWithRoom s.base.log × (s.base.root ≡ root)) }
-    ensures faults { HasFault Fault (D.faults_of disk) (D.faults_of (disk_left result)) (opening_told result) }
+    ensures counts { (D.moment_of disk ≤ D.moment_of (disk_left result)) × HasFault Fault (D.faults_of disk) (D.faults_of (disk_left result)) (opening_told result) }
 {
     let Found { log, meta, visits } = found;
     let Ok(pool) = Pool::new(alloc, frames) else {
@@ -219,11 +162,11 @@ fn finish<D: Disk, O: Origin>(
     requires passed { (pages : ℕ) × AllPass pages found.visits }
     requires room { IsEmptyWithRoom found.log }
     requires root { IsRootOf Paged root }
-    ensures answer { IsTrue D.tells → AnswersOpen O.first D.Disk result }
-    ensures undamaged { IsTrue D.tells → IsSoundImage O.first → IfErr result (λ e. IsUndamaged e.0) }
+    ensures answer { WhereTold D.Disk (AnswersOpen O.first D.Disk result) }
+    ensures undamaged { WhereSound O.first D.Disk (IfErr result (λ e. IsUndamaged e.0)) }
     ensures ready { IfOk result IsNewlyOpened }
-    ensures goes { IsTrue D.tells → IsSoundImage O.first → LeavesOnly D.Disk disk (disk_left result) (FoldsFront (state_of (stored_in root O.first)) []) }
-    ensures faults { HasFault Fault (D.faults_of disk) (D.faults_of (disk_left result)) (opening_told result) }
+    ensures goes { WhereSound O.first D.Disk (LeavesOnly D.Disk disk (disk_left result) (FoldsFront (state_of (stored_in root O.first)) [])) }
+    ensures counts { (D.moment_of disk ≤ D.moment_of (disk_left result)) × HasFault Fault (D.faults_of disk) (D.faults_of (disk_left result)) (opening_told result) }
 {
     match bring_forward::<D, O>(alloc, disk, frames, root, found) {
         Ok(parts) => refuse_worn(parts),
@@ -237,12 +180,12 @@ impl<D: Disk, O: Origin> Parts<D, O> {
     pub fn open(alloc: Global, disk: D, frames: usize) -> Result<Parts<D, O>, (OpenError, D)>
         requires named { O.first ≡ D.reads disk }
         requires frames { (8 ≤ frames) × (frames ≤ 4096) }
-        ensures answer { IsTrue D.tells → AnswersOpen O.first D.Disk result }
-        ensures undamaged { IsTrue D.tells → IsSoundImage O.first → IfErr result (λ e. IsUndamaged e.0) }
+        ensures answer { WhereTold D.Disk (AnswersOpen O.first D.Disk result) }
+        ensures undamaged { WhereSound O.first D.Disk (IfErr result (λ e. IsUndamaged e.0)) }
         ensures ready { IfOk result IsNewlyOpened }
-        ensures any_moment { IsTrue D.tells → IsSoundImage O.first → LeavesOnly D.Disk disk (disk_left result) (LeavesFirst O.first (D.images disk)) }
+        ensures any_moment { WhereSound O.first D.Disk (LeavesOnly D.Disk disk (disk_left result) (LeavesFirst O.first (D.images disk))) }
         // It says that the disk failed only where a call of it did.
-        ensures faults { HasFault Fault (D.faults_of disk) (D.faults_of (disk_left result)) (opening_told result) }
+        ensures counts { (D.moment_of disk ≤ D.moment_of (disk_left result)) × HasFault Fault (D.faults_of disk) (D.faults_of (disk_left result)) (opening_told result) }
     {
         let mut disk = disk;
         match read_front::<D, O>(alloc, &mut disk) {

@@ -1,14 +1,14 @@
 // The parts of a store. Each call is one statement on what a crash leaves, and one on what it answers.
-ghost use Rattle.std.specs.Prelude.{◌≡◌, ◌<◌, ◌≤◌, ◌+◌, true, false, IsTrue, ℕ, [], Ok, Err, None, Some, length, IfOk, OnOk, OnErr, IfErr, MatchResult};
+ghost use Rattle.std.specs.Prelude.{◌≡◌, ◌<◌, ◌+◌, true, false, IsTrue, [], Ok, Err, None, Some, length, IfOk, OnOk, OnErr, IfErr, MatchResult};
 ghost use Rattle.ctr_types.specs.Faults.{HasFault};
 ghost use Rattle.ctr_disk.specs.declared.fault.StoreFault.TheVariants.{Fault};
 ghost use Rattle.ctr_redo.specs.Overlaid.{overlay_of};
 ghost use Rattle.ctr_pool.specs.Frames.{has_page};
 ghost use Rattle.ctr_redo.specs.States.{page_limit, page_at, state_of, grown};
 ghost use Rattle.ctr_base.specs.Growth.{LeavesGrown, GrowsBase, CountsMore, AreBlank};
-ghost use Rattle.ctr_base.specs.Base.{now_of, IsSoundImage, LeavesIf, MovesIf, KeepsBase, backing_of};
+ghost use Rattle.ctr_base.specs.Base.{WhereSound, now_of, IsSoundImage, LeavesIf, MovesIf, KeepsBase, backing_of};
 ghost use Rattle.ctr_pool.specs.Over.{IsOver, SavesOldest};
-ghost use Rattle.ctr_disk.specs.Device.{OnlyReads};
+ghost use Rattle.ctr_disk.specs.Device.{WhereTold, OnlyReads, CountsAs};
 ghost use Rattle.ctr_log.specs.Logs.{next_place};
 ghost use Rattle.ctr_records.specs.declared.decoding.BadRecord.{BadRecord};
 ghost use Rattle.ctr_meta.specs.Kept.{IsLogged};
@@ -26,7 +26,7 @@ use ctr_log::Lsn;
 use ctr_meta::Meta;
 use ctr_pool::Pool;
 use ctr_records::{Overlay, PageNo, Record};
-use ctr_types::File;
+use ctr_types::{Damage, File};
 
 /// What a store is made of: the log and the homes, pages in frames over them, the tables.
 #[derive(Drop)]
@@ -65,7 +65,7 @@ impl<D: Disk, O: Origin> Parts<D, O> {
         ensures below { self.new.base ≡ record self.old.base { disk = self.new.base.disk } }
         ensures quiet { OnOk result (self.new ≡ self.old) }
         ensures refused { IfErr result (IsFaultOr (IsHighFrame D.Disk page self.old)) }
-        ensures faults { HasFault Fault (D.faults_of self.old.base.disk) (D.faults_of self.new.base.disk) result }
+        ensures counts { CountsAs D.Disk Fault self.old.base.disk self.new.base.disk result }
     {
         let stamp = self.pool.lsn(page);
         let next = self.base.next();
@@ -73,23 +73,23 @@ impl<D: Disk, O: Origin> Parts<D, O> {
             return Ok(());
         }
         let (home, _) = self.base.find_value(page)?;
-        Err(StoreFault::Damaged {
+        Err(StoreFault::Damaged(Damage {
             file: File::Pages,
             at: home + 5,
             want: (next as u128).saturating_sub(1),
             got: stamp as u128,
-        })
+        }))
     }
 
     /// Brings a page into a frame. It has no record that the log lacks, or that is damage.
     pub fn bring(&mut self, page: PageNo) -> Result<(), StoreFault>
         requires { IsTrue D.tells → IsOver (backing_of O.first D.Disk) self.old.pool.frames self.old.base }
         ensures there { OnOk result ((has_page page self.new.pool.frames ≡ true) × IsLowFrame page self.new) }
-        ensures keeps { KeepsBase self.old.base self.new.base × (self.new.meta ≡ self.old.meta) }
-        ensures goes { IsTrue D.tells → LeavesIf O.first D.Disk self.old.base self.new.base }
-        ensures stays { IsTrue D.tells → OnOk result (BringsOver O.first D.Disk self.old self.new) }
-        ensures refused { IsTrue D.tells → (IsSoundImage O.first → AreLow D.Disk self.old) → IfErr result (λ e. IsSoundImage O.first → e ≡ Fault) }
-        ensures finds { IsTrue D.tells → FindsPage O.first D.Disk page self.old self.new result }
+        ensures keeps { KeepsBase D.Disk self.old.base self.new.base × (self.new.meta ≡ self.old.meta) }
+        ensures goes { WhereTold D.Disk (LeavesIf O.first D.Disk self.old.base self.new.base) }
+        ensures stays { WhereTold D.Disk (OnOk result (BringsOver O.first D.Disk self.old self.new)) }
+        ensures refused { WhereTold D.Disk ((IsSoundImage O.first → AreLow D.Disk self.old) → IfErr result (λ e. IsSoundImage O.first → e ≡ Fault)) }
+        ensures finds { WhereTold D.Disk (FindsPage O.first D.Disk page self.old self.new result) }
         ensures faults { HasFault Fault (D.faults_of self.old.base.disk) (D.faults_of self.new.base.disk) result }
     {
         self.pool.bring(page, &mut self.base)?;
@@ -99,8 +99,8 @@ impl<D: Disk, O: Origin> Parts<D, O> {
 
     /// The bytes of a page that a frame has.
     pub fn bytes(&self, page: PageNo) -> &[u8]
-        ensures shown { IsTrue D.tells → IsSoundImage O.first → IsFold O.first D.Disk self.now → has_page page self.now.pool.frames ≡ true → page < page_limit
-            → result.now ≡ page_at page (state_of (now_of D.Disk self.now.base)).pages }
+        ensures shown { WhereSound O.first D.Disk (IsFold O.first D.Disk self.now → has_page page self.now.pool.frames ≡ true → page < page_limit
+            → result.now ≡ page_at page (state_of (now_of D.Disk self.now.base)).pages) }
         ensures whole { has_page page self.now.pool.frames ≡ true → length result.now ≡ 4096 }
     {
         self.pool.bytes(page)
@@ -109,11 +109,11 @@ impl<D: Disk, O: Origin> Parts<D, O> {
     /// Makes all records durable.
     pub fn harden(&mut self) -> Result<(), StoreFault>
         requires { IsTrue D.tells → IsFold O.first D.Disk self.old }
-        ensures keeps { KeepsBase self.old.base self.new.base × (self.new.meta ≡ self.old.meta) × (self.new.pool ≡ self.old.pool) }
-        ensures goes { IsTrue D.tells → LeavesIf O.first D.Disk self.old.base self.new.base }
-        ensures moves { IsTrue D.tells → OnOk result (MovesIf O.first D.Disk self.old.base self.new.base) }
+        ensures keeps { KeepsBase D.Disk self.old.base self.new.base × (self.new.meta ≡ self.old.meta) × (self.new.pool ≡ self.old.pool) }
+        ensures goes { WhereTold D.Disk (LeavesIf O.first D.Disk self.old.base self.new.base) }
+        ensures moves { WhereTold D.Disk (OnOk result (MovesIf O.first D.Disk self.old.base self.new.base)) }
         ensures none { OnOk result (self.new.base.log.buffered ≡ []) }
-        ensures fold { IsTrue D.tells → OnOk result (IsFold O.first D.Disk self.new) }
+        ensures fold { WhereTold D.Disk (OnOk result (IsFold O.first D.Disk self.new)) }
         ensures refused { OnErr result (result ≡ Err Fault) }
         ensures faults { HasFault Fault (D.faults_of self.old.base.disk) (D.faults_of self.new.base.disk) result }
     {
@@ -125,11 +125,11 @@ impl<D: Disk, O: Origin> Parts<D, O> {
     pub fn write_one_dirty(&mut self) -> Result<bool, StoreFault>
         requires { IsTrue D.tells → IsFold O.first D.Disk self.old }
         ensures oldest { IfOk result (λ wrote. SavesOldest self.old.pool self.new.pool wrote) }
-        ensures keeps { KeepsBase self.old.base self.new.base × (self.new.meta ≡ self.old.meta) }
-        ensures goes { IsTrue D.tells → LeavesIf O.first D.Disk self.old.base self.new.base }
-        ensures moves { IsTrue D.tells → OnOk result (MovesIf O.first D.Disk self.old.base self.new.base) }
-        ensures fold { IsTrue D.tells → OnOk result (IsFold O.first D.Disk self.new) }
-        ensures refused { IsTrue D.tells → IfErr result (λ e. IsSoundImage O.first → e ≡ Fault) }
+        ensures keeps { KeepsBase D.Disk self.old.base self.new.base × (self.new.meta ≡ self.old.meta) }
+        ensures goes { WhereTold D.Disk (LeavesIf O.first D.Disk self.old.base self.new.base) }
+        ensures moves { WhereTold D.Disk (OnOk result (MovesIf O.first D.Disk self.old.base self.new.base)) }
+        ensures fold { WhereTold D.Disk (OnOk result (IsFold O.first D.Disk self.new)) }
+        ensures refused { WhereTold D.Disk (IfErr result (λ e. IsSoundImage O.first → e ≡ Fault)) }
         ensures faults { HasFault Fault (D.faults_of self.old.base.disk) (D.faults_of self.new.base.disk) result }
     {
         let wrote = self.pool.write_one(&mut self.base)?;
@@ -140,12 +140,12 @@ impl<D: Disk, O: Origin> Parts<D, O> {
     pub fn grow(&mut self) -> Result<(), StoreFault>
         requires few { self.old.base.root.pages < 30000 }
         requires fold { IsTrue D.tells → IsFold O.first D.Disk self.old }
-        ensures any_moment { IsTrue D.tells → IsSoundImage O.first → LeavesGrown D.Disk self.old.base self.new.base }
-        ensures grows { IsTrue D.tells → OnOk result (GrowsBase D.Disk self.old.base self.new.base × IsFold O.first D.Disk self.new) }
-        ensures blank { IsTrue D.tells → IsSoundImage O.first → AreBlank self.old.base.root.pages (grown self.old.base.root.pages) (state_of (now_of D.Disk self.old.base)) }
+        ensures any_moment { WhereSound O.first D.Disk (LeavesGrown D.Disk self.old.base self.new.base) }
+        ensures grows { WhereTold D.Disk (OnOk result (GrowsBase D.Disk self.old.base self.new.base × IsFold O.first D.Disk self.new)) }
+        ensures blank { WhereSound O.first D.Disk (AreBlank self.old.base.root.pages (grown self.old.base.root.pages) (state_of (now_of D.Disk self.old.base))) }
         ensures counted { CountsMore self.old.base self.new.base result × (self.new.pool ≡ self.old.pool) × (self.new.meta ≡ self.old.meta) }
         ensures refused { OnErr result (result ≡ Err Fault) }
-        ensures faults { HasFault Fault (D.faults_of self.old.base.disk) (D.faults_of self.new.base.disk) result }
+        ensures counts { CountsAs D.Disk Fault self.old.base.disk self.new.base.disk result }
     {
         self.base.grow()?;
         Ok(())
@@ -172,9 +172,9 @@ impl<D: Disk, O: Origin> Parts<D, O> {
         requires off { overlay_of rec.now ≡ None }
         ensures number { result ≡ self.old.base.log.first + length self.old.base.log.buffered }
         ensures below { self.new.base.disk ≡ self.old.base.disk }
-        ensures adds { IsTrue D.tells → IsFold O.first D.Disk self.old → IsSoundImage O.first → AddsRecord D.Disk rec.now self.old self.new }
-        ensures fold { IsTrue D.tells → IsFold O.first D.Disk self.old → IsFold O.first D.Disk self.new }
-        ensures room { LogsRoom rec.now self.old self.new }
+        ensures adds { WhereTold D.Disk (IsFold O.first D.Disk self.old → IsSoundImage O.first → AddsRecord D.Disk rec.now self.old self.new) }
+        ensures fold { WhereTold D.Disk (IsFold O.first D.Disk self.old → IsFold O.first D.Disk self.new) }
+        ensures room { LogsRoom D.Disk rec.now self.old self.new }
     {
         let lsn = append_record(&mut self.base.log, rec);
         self.meta.apply(rec);
@@ -188,9 +188,9 @@ impl<D: Disk, O: Origin> Parts<D, O> {
         requires there { (has_page overlay.now.page self.old.pool.frames ≡ true) × IsLowFrame overlay.now.page self.old }
         ensures number { result ≡ self.old.base.log.first + length self.old.base.log.buffered }
         ensures below { self.new.base.disk ≡ self.old.base.disk }
-        ensures adds { IsTrue D.tells → IsFold O.first D.Disk self.old → IsSoundImage O.first → AddsRecord D.Disk rec.now self.old self.new }
-        ensures fold { IsTrue D.tells → IsFold O.first D.Disk self.old → IsFold O.first D.Disk self.new }
-        ensures room { LogsRoom rec.now self.old self.new }
+        ensures adds { WhereTold D.Disk (IsFold O.first D.Disk self.old → IsSoundImage O.first → AddsRecord D.Disk rec.now self.old self.new) }
+        ensures fold { WhereTold D.Disk (IsFold O.first D.Disk self.old → IsFold O.first D.Disk self.new) }
+        ensures room { LogsRoom D.Disk rec.now self.old self.new }
     {
         let lsn = append_record(&mut self.base.log, rec);
         self.pool.change(overlay.page, overlay, lsn);
@@ -202,11 +202,11 @@ impl<D: Disk, O: Origin> Parts<D, O> {
     pub fn log(&mut self, rec: &Record) -> Result<Lsn, StoreFault>
         requires fold { IsTrue D.tells → IsFold O.first D.Disk self.old }
         requires can { CanLog rec.now self.old }
-        ensures goes { IsTrue D.tells → LeavesIf O.first D.Disk self.old.base self.new.base }
-        ensures logs { IsTrue D.tells → OnOk result ((IsSoundImage O.first → LogsRecord D.Disk rec.now self.old.base self.new.base) × IsFold O.first D.Disk self.new) }
-        ensures takes { IfOk result (λ lsn. (lsn ≡ self.old.base.log.first + length self.old.base.log.buffered) × LogsRoom rec.now self.old self.new) }
-        ensures keeps { OnErr result (KeepsBase self.old.base self.new.base) }
-        ensures refused { IsTrue D.tells → IfErr result (λ e. IsSoundImage O.first → e ≡ Fault) }
+        ensures goes { WhereTold D.Disk (LeavesIf O.first D.Disk self.old.base self.new.base) }
+        ensures logs { WhereTold D.Disk (OnOk result ((IsSoundImage O.first → LogsRecord D.Disk rec.now self.old.base self.new.base) × IsFold O.first D.Disk self.new)) }
+        ensures takes { IfOk result (λ lsn. (lsn ≡ self.old.base.log.first + length self.old.base.log.buffered) × LogsRoom D.Disk rec.now self.old self.new) }
+        ensures keeps { OnErr result (KeepsBase D.Disk self.old.base self.new.base) }
+        ensures refused { WhereTold D.Disk (IfErr result (λ e. IsSoundImage O.first → e ≡ Fault)) }
         ensures faults { HasFault Fault (D.faults_of self.old.base.disk) (D.faults_of self.new.base.disk) result }
     {
         let Some(overlay) = overlay_of(rec) else {

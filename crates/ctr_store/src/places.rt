@@ -1,7 +1,7 @@
 // Where the homes of pages begin.
-ghost use Rattle.std.specs.Prelude.{◌≡◌, ◌<◌, ◌≤◌, ◌^◌, true, IsTrue, Err, IfOk, OnOk, OnErr, IfErr};
+ghost use Rattle.std.specs.Prelude.{◌≡◌, ◌<◌, ◌^◌, true, IsTrue, Err, IfOk, OnOk, OnErr, IfErr};
 ghost use Rattle.ctr_types.specs.Faults.{HasFault};
-ghost use Rattle.ctr_disk.specs.Device.{OnlyReads};
+ghost use Rattle.ctr_disk.specs.Device.{WhereTold, OnlyReads, CountsAs};
 ghost use Rattle.ctr_disk.specs.declared.fault.StoreFault.TheVariants.{Fault};
 ghost use Rattle.ctr_pool.specs.Frames.{has_page};
 ghost use Rattle.ctr_pool.specs.Over.{IsOver};
@@ -19,12 +19,12 @@ impl<D: Disk, O: Origin> Parts<D, O> {
     fn home_of(&mut self, page: PageNo) -> Result<u64, StoreFault>
         requires over { IsTrue D.tells → IsOver (backing_of O.first D.Disk) self.old.pool.frames self.old.base }
         requires there { has_page page self.old.pool.frames ≡ true }
-        ensures place { IsTrue D.tells → IfOk result (λ at. at ≡ home_at D.Disk page self.old) }
+        ensures place { WhereTold D.Disk (IfOk result (λ at. at ≡ home_at D.Disk page self.old)) }
         ensures low { IfOk result (λ at. at < 2 ^ 46) }
         ensures same { self.new ≡ record self.old { base = record self.old.base { disk = self.new.base.disk } } }
         ensures read { OnlyReads D.Disk self.old.base.disk self.new.base.disk }
         ensures refused { OnErr result (result ≡ Err Fault) }
-        ensures faults { HasFault Fault (D.faults_of self.old.base.disk) (D.faults_of self.new.base.disk) result }
+        ensures counts { CountsAs D.Disk Fault self.old.base.disk self.new.base.disk result }
     {
         let first = Block::Page(page).at(Home::First);
         if page >= self.base.root.pages {
@@ -41,12 +41,12 @@ impl<D: Disk, O: Origin> Parts<D, O> {
     /// The same of any page. It is brought into a frame.
     pub(crate) fn place_of(&mut self, page: PageNo) -> Result<u64, StoreFault>
         requires { IsTrue D.tells → IsFold O.first D.Disk self.old }
-        ensures place { IsTrue D.tells → IfOk result (λ at. at ≡ home_at D.Disk page self.new) }
+        ensures place { WhereTold D.Disk (IfOk result (λ at. at ≡ home_at D.Disk page self.new)) }
         ensures low { IfOk result (λ at. at < 2 ^ 46) }
-        ensures keeps { KeepsBase self.old.base self.new.base × (self.new.meta ≡ self.old.meta) }
-        ensures goes { IsTrue D.tells → LeavesIf O.first D.Disk self.old.base self.new.base }
-        ensures fold { IsTrue D.tells → OnOk result (IsFold O.first D.Disk self.new × MovesIf O.first D.Disk self.old.base self.new.base) }
-        ensures refused { IsTrue D.tells → IfErr result (λ e. IsSoundImage O.first → e ≡ Fault) }
+        ensures keeps { KeepsBase D.Disk self.old.base self.new.base × (self.new.meta ≡ self.old.meta) }
+        ensures goes { WhereTold D.Disk (LeavesIf O.first D.Disk self.old.base self.new.base) }
+        ensures fold { WhereTold D.Disk (OnOk result (IsFold O.first D.Disk self.new × MovesIf O.first D.Disk self.old.base self.new.base)) }
+        ensures refused { WhereTold D.Disk (IfErr result (λ e. IsSoundImage O.first → e ≡ Fault)) }
         ensures faults { HasFault Fault (D.faults_of self.old.base.disk) (D.faults_of self.new.base.disk) result }
     {
         self.bring(page)?;

@@ -1,5 +1,6 @@
 // Opening: pages and tables are brought forward by the log's records. A page may go home on the way.
-ghost use Rattle.std.specs.Prelude.{◌≡◌, ◌≤◌, ◌<◌, ◌+◌, IsTrue, ℕ, Err, Some, length, IfOk, IfErr, OnOk, OnErr, MatchResult};
+ghost use Rattle.ctr_disk.specs.Device.{WhereTold};
+ghost use Rattle.std.specs.Prelude.{◌≡◌, ◌≤◌, ◌<◌, ◌+◌, IsTrue, ℕ, Some, length, IfErr, OnOk, MatchResult};
 ghost use Rattle.ctr_types.specs.Faults.{HasFault};
 ghost use Rattle.ctr_disk.specs.declared.fault.StoreFault.TheVariants.{Fault};
 ghost use Rattle.ctr_records.specs.declared.record.Record.{Record as Logged};
@@ -29,13 +30,13 @@ impl<D: Disk, O: Origin> Parts<D, O> {
     fn redo_page(&mut self, overlay: &Overlay, lsn: Lsn) -> Result<(), StoreFault>
         requires over { IsTrue D.tells → IsOver (backing_of O.first D.Disk) self.old.pool.frames self.old.base }
         requires inside { overlay.now.offset + length overlay.now.bytes ≤ 4096 }
-        ensures goes { IsTrue D.tells → LeavesIf O.first D.Disk self.old.base self.new.base }
+        ensures goes { WhereTold D.Disk (LeavesIf O.first D.Disk self.old.base self.new.base) }
         ensures redone { (start : Under D O) (n : ℕ) (r : Logged) → IsTrue D.tells → RedoesPages O.first D.Disk start n self.old → IsNextRecord D.Disk start n r → overlay_of r ≡ Some overlay.now → lsn ≡ start.root.first + n
             → OnOk result (RedoesPages O.first D.Disk start (n + 1) self.new) }
         ensures fails { (start : Under D O) (n : ℕ) (r : Logged) → IsTrue D.tells → RedoesPages O.first D.Disk start n self.old → IsNextRecord D.Disk start n r → overlay_of r ≡ Some overlay.now
             → IfErr result (IsFaultOr (PageFails (next_of (stored_of D.Disk start)) O.first (overlay_of r))) }
-        ensures keeps { KeepsBase self.old.base self.new.base × (self.new.meta ≡ self.old.meta) }
-        ensures refused { IsTrue D.tells → (IsSoundImage O.first → AreLow D.Disk self.old) → IfErr result (λ e. IsSoundImage O.first → e ≡ Fault) }
+        ensures keeps { KeepsBase D.Disk self.old.base self.new.base × (self.new.meta ≡ self.old.meta) }
+        ensures refused { WhereTold D.Disk ((IsSoundImage O.first → AreLow D.Disk self.old) → IfErr result (λ e. IsSoundImage O.first → e ≡ Fault)) }
         ensures faults { HasFault Fault (D.faults_of self.old.base.disk) (D.faults_of self.new.base.disk) result }
     {
         self.bring(overlay.page)?;
@@ -50,13 +51,13 @@ impl<D: Disk, O: Origin> Parts<D, O> {
     fn redo_visit(&mut self, visit: &Visit) -> Result<(), StoreFault>
         requires over { IsTrue D.tells → IsOver (backing_of O.first D.Disk) self.old.pool.frames self.old.base }
         requires passed { (pages : ℕ) × (t : Tables) × (r : Logged) × PassesAs pages visit.now.at t visit.now.bytes r }
-        ensures goes { IsTrue D.tells → LeavesIf O.first D.Disk self.old.base self.new.base }
+        ensures goes { WhereTold D.Disk (LeavesIf O.first D.Disk self.old.base self.new.base) }
         ensures redone { (start : Under D O) (n : ℕ) (r : Logged) → IsTrue D.tells → RedoesPages O.first D.Disk start n self.old → IsNextRecord D.Disk start n r → IsRecord r → record_bytes r ≡ visit.now.bytes → visit.now.lsn ≡ start.root.first + n
             → OnOk result (RedoesPages O.first D.Disk start (n + 1) self.new) }
         ensures fails { (start : Under D O) (n : ℕ) (r : Logged) → IsTrue D.tells → RedoesPages O.first D.Disk start n self.old → IsNextRecord D.Disk start n r → IsRecord r → record_bytes r ≡ visit.now.bytes
             → IfErr result (IsFaultOr (PageFails (next_of (stored_of D.Disk start)) O.first (overlay_of r))) }
-        ensures keeps { KeepsBase self.old.base self.new.base × (self.new.meta ≡ self.old.meta) }
-        ensures refused { IsTrue D.tells → (IsSoundImage O.first → AreLow D.Disk self.old) → IfErr result (λ e. IsSoundImage O.first → e ≡ Fault) }
+        ensures keeps { KeepsBase D.Disk self.old.base self.new.base × (self.new.meta ≡ self.old.meta) }
+        ensures refused { WhereTold D.Disk ((IsSoundImage O.first → AreLow D.Disk self.old) → IfErr result (λ e. IsSoundImage O.first → e ≡ Fault)) }
         ensures faults { HasFault Fault (D.faults_of self.old.base.disk) (D.faults_of self.new.base.disk) result }
     {
         let Ok(rec) = decode(visit.bytes.as_slice()) else {
@@ -73,12 +74,12 @@ impl<D: Disk, O: Origin> Parts<D, O> {
     pub fn redo(&mut self, visits: &[Visit]) -> Result<(), StoreFault>
         requires begins { IsTrue D.tells → Begins O.first D.Disk visits.now self.old }
         requires passed { (pages : ℕ) × AllPass pages visits.now }
-        ensures goes { IsTrue D.tells → LeavesIf O.first D.Disk self.old.base self.new.base }
-        ensures fold { IsTrue D.tells → OnOk result (IsFold O.first D.Disk self.new × MovesIf O.first D.Disk self.old.base self.new.base) }
-        ensures pages { IsTrue D.tells → MatchResult result (λ _. PagesPass (next_of (stored_of D.Disk self.old.base)) O.first (stored_of D.Disk self.old.base).records)
-            (IsFaultOr (FirstPageFails (next_of (stored_of D.Disk self.old.base)) O.first (stored_of D.Disk self.old.base).records)) }
-        ensures keeps { KeepsBase self.old.base self.new.base × (self.new.meta ≡ self.old.meta) }
-        ensures refused { IsTrue D.tells → IfErr result (λ e. IsSoundImage O.first → e ≡ Fault) }
+        ensures goes { WhereTold D.Disk (LeavesIf O.first D.Disk self.old.base self.new.base) }
+        ensures fold { WhereTold D.Disk (OnOk result (IsFold O.first D.Disk self.new × MovesIf O.first D.Disk self.old.base self.new.base)) }
+        ensures pages { WhereTold D.Disk (MatchResult result (λ _. PagesPass (next_of (stored_of D.Disk self.old.base)) O.first (stored_of D.Disk self.old.base).records)
+            (IsFaultOr (FirstPageFails (next_of (stored_of D.Disk self.old.base)) O.first (stored_of D.Disk self.old.base).records))) }
+        ensures keeps { KeepsBase D.Disk self.old.base self.new.base × (self.new.meta ≡ self.old.meta) }
+        ensures refused { WhereTold D.Disk (IfErr result (λ e. IsSoundImage O.first → e ≡ Fault)) }
         ensures faults { HasFault Fault (D.faults_of self.old.base.disk) (D.faults_of self.new.base.disk) result }
     {
         let mut i = 0;

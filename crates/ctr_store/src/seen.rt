@@ -1,9 +1,6 @@
 // A visitor of a log that checks each record and lays it into the tables.
-ghost use Rattle.std.specs.Prelude.{◌≡◌, ◌≢◌, ◌⊎◌, ◌≤◌, ◌<◌, ◌+◌, min, MatchResult, [], ◌∷◌, ◌++◌, Ok, IsTrue, length, IfOk, IfErr, OnOk, OnErr};
+ghost use Rattle.std.specs.Prelude.{◌≡◌, ◌<◌, ◌+◌, MatchResult, [], ◌∷◌, ◌++◌, Ok, IsTrue, IfErr, OnOk, OnErr};
 ghost use Rattle.ctr_bytes.specs.Fields.{field};
-ghost use Rattle.ctr_records.specs.Spelling.{record_bytes};
-ghost use Rattle.ctr_meta.specs.Needs.{needs};
-ghost use Rattle.ctr_meta.specs.Kept.{IsLogged, MayApply};
 ghost use Rattle.ctr_redo.specs.Overlaid.{overlay_of};
 ghost use Rattle.ctr_disk.specs.declared.fault.StoreFault.TheVariants.{Damaged};
 ghost use Rattle.ctr_log.specs.declared.reading.ReadError.TheVariants.{Store, OutOfMemory as NoMemory};
@@ -17,7 +14,7 @@ use ctr_disk::{Disk, StoreFault};
 use ctr_log::{Lsn, ReadError, Visit, Visitor};
 use ctr_meta::{Meta, room_for};
 use ctr_records::{BadRecord, Record, decode, expect};
-use ctr_types::{File, List, Text};
+use ctr_types::{Damage, File, List, Text};
 use std::alloc::Global;
 use std::marker::{Model, PhantomData};
 
@@ -113,12 +110,12 @@ fn read_record<'a>(
 pub fn damage_at(file: File, at: u64, bad: BadRecord) -> StoreFault
     ensures { result ≡ record_damage file at bad }
 {
-    StoreFault::Damaged {
+    StoreFault::Damaged(Damage {
         file,
         at: at.saturating_add(bad.at),
         want: bad.want,
         got: bad.got,
-    }
+    })
 }
 
 impl<D: Disk, O: Origin> Seen<D, O> {

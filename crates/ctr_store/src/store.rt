@@ -3,21 +3,21 @@ ghost use Rattle.std.specs.Prelude.{◌≡◌, ◌≤◌, ◌<◌, ◌+◌, ◌-
 ghost use Rattle.ctr_types.specs.Faults.{HasFault};
 ghost use Rattle.ctr_disk.specs.declared.fault.StoreFault.TheVariants.{Fault};
 ghost use Rattle.ctr_meta.specs.Kept.{RoomLeft};
-ghost use Rattle.ctr_base.specs.Base.{IsSoundImage};
+ghost use Rattle.ctr_base.specs.Base.{WhereSound};
 ghost use Rattle.std.specs.Borrow.{sem};
 ghost use Rattle.std.specs.Io.BufRead.{Rests};
-ghost use Rattle.ctr_disk.specs.Device.{LeavesOnly};
+ghost use Rattle.ctr_disk.specs.Device.{WhereTold, LeavesOnly};
 ghost use Rattle.ctr_redo.specs.States.{page_limit, page_at};
 ghost use Rattle.ctr_store.specs.Opening.{LeavesFirst, IsUndamaged, opening_told};
-ghost use Rattle.ctr_store.specs.declared.opening.OpenError.TheVariants.{Fault as OpenFault};
-ghost use Rattle.ctr_store.specs.Store.{waiting_bytes, HasTurnRoom, turns_for_room, KeepsFrames, WritesHome, LeavesFront, LeavesPage, Logs, MayLog, unmet_need, RefusesUnfit, TakesRecord, KeepsRoom, LeavesGrowing, GrowsByExtent, CountsUp, page_home};
+ghost use Rattle.ctr_log.specs.declared.opening.OpenError.TheVariants.{Fault as OpenFault};
+ghost use Rattle.ctr_store.specs.Store.{MovesOn, waiting_bytes, HasTurnRoom, turns_for_room, KeepsFrames, WritesHome, LeavesFront, LeavesPage, Logs, MayLog, unmet_need, RefusesUnfit, TakesRecord, LeavesGrowing, GrowsByExtent, CountsUp, page_home};
 ghost use Rattle.ctr_store.specs.StoreOpening.{AnswersStore, IsOpened, store_left};
 
-use crate::opening::{BUFFER, OpenError};
+use crate::opening::BUFFER;
 use crate::parts::Parts;
 use ctr_base::Origin;
 use ctr_disk::{Disk, StoreFault};
-use ctr_log::Lsn;
+use ctr_log::{Lsn, OpenError};
 use ctr_meta::Meta;
 use ctr_records::{PageNo, Record};
 use ctr_types::OutOfMemory;
@@ -58,15 +58,15 @@ impl<D: Disk, O: Origin> Store<D, O> {
     pub fn open(alloc: Global, disk: D, frames: usize) -> Result<Store<D, O>, (OpenError, D)>
         requires named { O.first ≡ D.reads disk }
         requires frames { (8 ≤ frames) × (frames ≤ 4096) }
-        ensures answer { IsTrue D.tells → AnswersStore O.first result }
+        ensures answer { WhereTold D.Disk (AnswersStore O.first result) }
         // A sound image is refused as worn by its number, for a fault or for want of memory, and for nothing else.
-        ensures undamaged { IsTrue D.tells → IsSoundImage O.first → IfErr result (λ e. IsUndamaged e.0) }
+        ensures undamaged { WhereSound O.first D.Disk (IfErr result (λ e. IsUndamaged e.0)) }
         ensures fresh { IfOk result IsOpened }
         // What a crash leaves behind it is all that was opened.
-        ensures durable { IsTrue D.tells → IsSoundImage O.first → IfOk result (λ v. LeavesFront D.Disk v v) }
-        ensures any_moment { IsTrue D.tells → IsSoundImage O.first → LeavesOnly D.Disk disk (store_left result) (LeavesFirst O.first (D.images disk)) }
+        ensures durable { WhereSound O.first D.Disk (IfOk result (λ v. LeavesFront D.Disk v v)) }
+        ensures any_moment { WhereSound O.first D.Disk (LeavesOnly D.Disk disk (store_left result) (LeavesFirst O.first (D.images disk))) }
         // It says that the disk failed only where a call of it did.
-        ensures faults { HasFault OpenFault (D.faults_of disk) (D.faults_of (store_left result)) (opening_told result) }
+        ensures counts { (D.moment_of disk ≤ D.moment_of (store_left result)) × HasFault OpenFault (D.faults_of disk) (D.faults_of (store_left result)) (opening_told result) }
     {
         match Parts::<D, O>::open(alloc, disk, frames) {
             Ok(parts) => Ok(Store {
@@ -80,7 +80,7 @@ impl<D: Disk, O: Origin> Store<D, O> {
     /// The bytes of a page, with all records.
     pub fn page(&mut self, page: PageNo) -> Result<&[u8], StoreFault>
         requires { self.old.stopped ≡ false }
-        ensures shown { IsTrue D.tells → IsSoundImage O.first → page < page_limit → IfOk result (λ b. b.now ≡ page_at page self.old.now.pages) }
+        ensures shown { WhereSound O.first D.Disk (page < page_limit → IfOk result (λ b. b.now ≡ page_at page self.old.now.pages)) }
         ensures whole { IfOk result (λ b. length b.now ≡ 4096) }
         ensures* after { sem 𝓛 (Rests (store-row D.row O.row D.Disk O.Origin) self.entry (λ new. LeavesPage O.first D.Disk self.old new result)) }
     {
@@ -98,7 +98,7 @@ impl<D: Disk, O: Origin> Store<D, O> {
     /// isn't counted, and where it was changed since it was written home. 13 bytes of a home stand before those of the page.
     pub fn home_of(&mut self, page: PageNo) -> Result<u64, StoreFault>
         requires { self.old.stopped ≡ false }
-        ensures place { IsTrue D.tells → IfOk result (λ at. at ≡ page_home D.Disk page self.new) }
+        ensures place { WhereTold D.Disk (IfOk result (λ at. at ≡ page_home D.Disk page self.new)) }
         ensures low { IfOk result (λ at. at < 2 ^ 46) }
         ensures leaves { LeavesPage O.first D.Disk self.old self.new result }
     {
@@ -170,12 +170,12 @@ impl<D: Disk, O: Origin> Store<D, O> {
     pub fn log(&mut self, rec: &Record) -> Result<Lsn, StoreFault>
         requires may { MayLog rec.now self.old }
         ensures takes { IfOk result (λ lsn. TakesRecord rec.now lsn self.old self.new) }
-        ensures any_moment { IsTrue D.tells → IsSoundImage O.first → LeavesFront D.Disk self.old self.new }
-        ensures logs { IsTrue D.tells → IsSoundImage O.first → OnOk result (Logs (rec.now ∷ []) self.old self.new) }
+        ensures any_moment { WhereSound O.first D.Disk (LeavesFront D.Disk self.old self.new) }
+        ensures logs { WhereSound O.first D.Disk (OnOk result (Logs (rec.now ∷ []) self.old self.new)) }
         ensures unfit { RefusesUnfit rec.now self.old self.new result }
         ensures stopped { (OnOk result (self.new.stopped ≡ false)) × (unmet_need rec.now self.old ≡ Ok tt → OnErr result (self.new.stopped ≡ true)) }
-        ensures refused { IsTrue D.tells → IsSoundImage O.first → unmet_need rec.now self.old ≡ Ok tt → OnErr result (result ≡ Err Fault) }
-        ensures faults { HasFault Fault (D.faults_of self.old.disk) (D.faults_of self.new.disk) result }
+        ensures refused { WhereSound O.first D.Disk (unmet_need rec.now self.old ≡ Ok tt → OnErr result (result ≡ Err Fault)) }
+        ensures counts { MovesOn D.Disk self.old self.new × HasFault Fault (D.faults_of self.old.disk) (D.faults_of self.new.disk) result }
     {
         match self.parts.check_fits(rec) {
             Ok(()) => {}
@@ -192,7 +192,7 @@ impl<D: Disk, O: Origin> Store<D, O> {
         ensures none { OnOk result ((self.new.waiting ≡ []) × (self.new.room ≡ 65536)) }
         ensures frames { KeepsFrames self.old self.new }
         // What a crash leaves behind it is all.
-        ensures durable { IsTrue D.tells → IsSoundImage O.first → OnOk result (LeavesFront D.Disk self.new self.new) }
+        ensures durable { WhereSound O.first D.Disk (OnOk result (LeavesFront D.Disk self.new self.new)) }
         ensures leaves { LeavesPage O.first D.Disk self.old self.new result }
         ensures refused { OnErr result (result ≡ Err Fault) }
     {
@@ -218,9 +218,9 @@ impl<D: Disk, O: Origin> Store<D, O> {
     pub fn grow_extent(&mut self) -> Result<(), StoreFault>
         requires going { self.old.stopped ≡ false }
         requires few { self.old.now.counted < 30000 }
-        ensures any_moment { IsTrue D.tells → IsSoundImage O.first → LeavesGrowing D.Disk self.old self.new }
-        ensures grows { IsTrue D.tells → IsSoundImage O.first → OnOk result (GrowsByExtent D.Disk self.old self.new) }
-        ensures counts { CountsUp self.old self.new result }
+        ensures any_moment { WhereSound O.first D.Disk (LeavesGrowing D.Disk self.old self.new) }
+        ensures grows { WhereSound O.first D.Disk (OnOk result (GrowsByExtent D.Disk self.old self.new)) }
+        ensures counts { CountsUp D.Disk self.old self.new result }
         ensures refused { OnErr result (result ≡ Err Fault) }
         ensures faults { HasFault Fault (D.faults_of self.old.disk) (D.faults_of self.new.disk) result }
     {
@@ -233,7 +233,7 @@ impl<D: Disk, O: Origin> Store<D, O> {
     pub fn meta(&self) -> &Meta
         ensures tables { result.now ≡ self.now.meta }
         // They are those of all records.
-        ensures now { IsTrue D.tells → IsSoundImage O.first → self.now.stopped ≡ false → self.now.meta.tables ≡ self.now.now.tables }
+        ensures now { WhereSound O.first D.Disk (self.now.stopped ≡ false → self.now.meta.tables ≡ self.now.now.tables) }
     {
         &self.parts.meta
     }

@@ -7,7 +7,7 @@ use ctr_io::{MemSink, Sink};
 use ctr_model::{Cause, Command, Report, Survey};
 use ctr_print::{Printer, put_last_line, put_run};
 use ctr_suite::split_word;
-use ctr_types::{File, List, Tape};
+use ctr_types::{Damage, File, List, Tape};
 use std::alloc::Global;
 
 /// The report of a run that tells undo's turns alone.
@@ -58,12 +58,12 @@ fn read_damage(words: &[u8]) -> Result<Cause, Trouble> {
     let at = read_number(at)?;
     let want = read_wide(want)?;
     let got = read_wide(got)?;
-    Ok(Cause::Damaged {
+    Ok(Cause::Damaged(Damage {
         file,
         at,
         want,
         got,
-    })
+    }))
 }
 
 // `script 1 9`, `worn 5`, `damaged LogA 63 1 0`, or nothing.

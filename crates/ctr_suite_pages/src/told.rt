@@ -1,7 +1,7 @@
 // What a step answers, in words.
 use ctr_disk::StoreFault;
 use ctr_page::Place;
-use ctr_types::File;
+use ctr_types::{Damage, File};
 use std::alloc::{AllocError, Global};
 
 /// A version: whose it is, and its first byte.
@@ -103,13 +103,15 @@ fn row_text(
 fn fault_text(alloc: Global, fault: StoreFault) -> Result<String, AllocError> {
     match fault {
         StoreFault::Fault => format!(in alloc; "fault"),
-        StoreFault::Damaged {
-            file: File::Pages,
-            at,
-            want,
-            got,
-        } => format!(in alloc; "damage at {at} wants {want} has {got}"),
-        StoreFault::Damaged { want, got, .. } => {
+        StoreFault::Damaged(
+            Damage {
+                file: File::Pages,
+                at,
+                want,
+                got,
+            },
+        ) => format!(in alloc; "damage at {at} wants {want} has {got}"),
+        StoreFault::Damaged(Damage { want, got, .. }) => {
             format!(in alloc; "damage wants {want} has {got}")
         }
     }

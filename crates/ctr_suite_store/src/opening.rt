@@ -3,7 +3,8 @@ ghost use Rattle.std.specs.Prelude.{◌≡◌, false, [], IfOk};
 
 use ctr_base::Origin;
 use ctr_disk::Disk;
-use ctr_store::{OpenError, Store, create};
+use ctr_log::OpenError;
+use ctr_store::{Store, create};
 use std::alloc::Global;
 
 /// How many frames a store has.

@@ -3,9 +3,9 @@ use crate::plain::Plain;
 use crate::reading::Patch;
 use crate::stops::{Finding, opened};
 use crate::words::byte_of;
+use ctr_log::OpenError;
 use ctr_mem_disk::Image;
-use ctr_store::OpenError;
-use ctr_types::File;
+use ctr_types::{Damage, File};
 use std::alloc::{AllocError, Global};
 
 fn file_name(file: File) -> &'static str {
@@ -39,12 +39,14 @@ pub fn patch(alloc: Global, files: &mut Image, patches: &[Patch]) -> Result<(), 
 fn refusal(alloc: Global, error: OpenError) -> Result<String, AllocError> {
     match error {
         OpenError::NoDatabase => format!(in alloc; "no database"),
-        OpenError::Damaged {
-            file,
-            at,
-            want,
-            got,
-        } => {
+        OpenError::Damaged(
+            Damage {
+                file,
+                at,
+                want,
+                got,
+            },
+        ) => {
             let file = file_name(file);
             format!(in alloc; "damaged {file} {at}, want {want}, got {got}")
         }

@@ -7,7 +7,7 @@ use ctr_disk::StoreFault;
 use ctr_home::{Root, read_root, write_root};
 use ctr_log::{Gathered, LogFile, ReadError, VisitError, read_all, visit_named};
 use ctr_mem_disk::{Call, Image, Recorded, SilentDisk};
-use ctr_types::File;
+use ctr_types::{Damage, File};
 use std::alloc::{AllocError, Global};
 use std::test::Fail;
 
@@ -99,12 +99,12 @@ const TWO: Result<Kept, ReadError> = Ok((3, [FIRST, FLUSHED, NONE]));
 const ALL: Result<Kept, ReadError> = Ok((4, [FIRST, FLUSHED, THIRD]));
 
 fn damaged(at: u64, want: u128, got: u128) -> Result<Kept, ReadError> {
-    Err(ReadError::Store(StoreFault::Damaged {
+    Err(ReadError::Store(StoreFault::Damaged(Damage {
         file: File::LogB,
         at,
         want,
         got,
-    }))
+    })))
 }
 
 // The batch of "a" in LogA, and behind it one of "b" whose count is given.
@@ -138,12 +138,12 @@ fn records_before_a_damaged_batch_are_given(rt: HostRuntime) -> Result<(), Fail>
     let alloc = rt.alloc();
     let behind = Given(2, File::LogA, 59, b'b');
     assert!(rt; named(alloc, &two_batches(1)) == Ok((Ok(3), [FIRST, behind])));
-    let damage = ReadError::Store(StoreFault::Damaged {
+    let damage = ReadError::Store(StoreFault::Damaged(Damage {
         file: File::LogA,
         at: 47,
         want: 1,
         got: 2,
-    });
+    }));
     assert!(rt; named(alloc, &two_batches(2)) == Ok((Err(damage), [FIRST, NONE])));
     Ok(())
 }
@@ -186,11 +186,11 @@ fn each_check_of_a_batch(rt: HostRuntime) -> Result<(), Fail> {
     Ok(())
 }
 
-fn read_two(alloc: Global) -> Result<Result<Kept, ReadError>, AllocError> {
+fn read_two(alloc: Global) -> Result<Kept, ReadError> {
     let mut log = newer(1, 2, 1).to_vec(alloc)?;
     log.truncate(30);
     log.extend_from_slice(&newer(1, 9, 1))?;
-    Ok(read(alloc, &log))
+    read(alloc, &log)
 }
 
 fn read_first(alloc: Global, log: &[u8]) -> Result<Kept, ReadError> {
@@ -202,13 +202,13 @@ fn read_first(alloc: Global, log: &[u8]) -> Result<Kept, ReadError> {
 #[test]
 fn the_next_number_and_the_first_gate(rt: HostRuntime) -> Result<(), Fail> {
     let alloc = rt.alloc();
-    assert!(rt; read_two(alloc)? == damaged(39, 3, 9));
-    let shut = ReadError::Store(StoreFault::Damaged {
+    assert!(rt; read_two(alloc) == damaged(39, 3, 9));
+    let shut = ReadError::Store(StoreFault::Damaged(Damage {
         file: File::LogA,
         at: 0,
         want: 1,
         got: 3,
-    });
+    }));
     assert!(rt; read_first(alloc, &altered(&[(0, 3)])) == Err(shut));
     Ok(())
 }
@@ -275,15 +275,15 @@ fn start(alloc: Global, disk: &mut SilentDisk) -> Result<(), Fail> {
     Ok(())
 }
 
-fn kept_in(alloc: Global, image: Image) -> Result<Result<Kept, ReadError>, AllocError> {
+fn kept_in(alloc: Global, image: Image) -> Result<Kept, ReadError> {
     let mut disk = disk_with(alloc, image)?;
-    Ok(kept(alloc, &mut disk, &ROOT))
+    kept(alloc, &mut disk, &ROOT)
 }
 
 // Whether each image after so many calls has both records, or the first alone if it isn't whole.
 fn starts(alloc: Global, disk: &SilentDisk, count: usize, whole: bool) -> Result<bool, AllocError> {
     for digits in 0..64 {
-        let kept = kept_in(alloc, image_left(disk, count, digits)?)?;
+        let kept = kept_in(alloc, image_left(disk, count, digits)?);
         if kept != BOTH && (whole || kept != ONE) {
             return Ok(false);
         }
@@ -350,7 +350,7 @@ fn goes_on(
     whole: bool,
 ) -> Result<bool, AllocError> {
     for digits in 0..64 {
-        let kept = kept_in(alloc, image_left(disk, count, digits)?)?;
+        let kept = kept_in(alloc, image_left(disk, count, digits)?);
         if kept != ALL && (whole || kept != TWO && kept != ONE) {
             return Ok(false);
         }

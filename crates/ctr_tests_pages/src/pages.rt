@@ -1,11 +1,11 @@
 // Sizes, fields both ways, and each row of damage on a page, by hand.
-ghost use Rattle.std.specs.Prelude.{◌≡◌, ◌≤◌, ◌<◌, length, IfOk};
+ghost use Rattle.std.specs.Prelude.{◌≡◌, ◌<◌, length, IfOk};
 ghost use Rattle.ctr_value.specs.Columns.{ColumnsFit};
 
 use ctr_page::{
-    BadChain, BadPage, Chain, Header, Place, RowSlot, Version, Walk, bucket_of, check_entry,
-    check_header, check_slot, check_version, kept_size, make_entry, make_header, make_slot,
-    make_version, read_entry, read_header, read_slot, read_version, room_for, slot_size,
+    BadPage, Chain, Header, Place, RowSlot, Version, bucket_of, check_entry, check_header,
+    check_slot, check_version, kept_size, make_entry, make_header, make_slot, make_version,
+    read_entry, read_header, read_slot, read_version, room_for, slot_size,
 };
 use ctr_types::{Column, Kind, List, Name, OutOfMemory, Schema, Text};
 use std::alloc::Global;
@@ -330,53 +330,3 @@ fn each_row_of_damage_is_told(rt: HostRuntime) -> Result<(), Fail> {
 }
 
 // ---- chains
-
-fn show_chain(alloc: Global, bad: BadChain) -> Result<String, OutOfMemory> {
-    match bad {
-        BadChain::OnPage(page, bad) => {
-            Ok(format!(in alloc; "{}: {} {} {}", page, bad.at, bad.want, bad.got)?)
-        }
-        BadChain::TooLong { last, most } => Ok(format!(in alloc; "{} of {}", last, most)?),
-    }
-}
-
-// A walk from page 3, where each page's next one is in the list by its number.
-fn show_walk(alloc: Global, counted: u32, nexts: [u8; 8]) -> Result<String, OutOfMemory>
-    requires { 0 < counted }
-{
-    let chain = Chain::Rows {
-        entry: 3,
-        bucket: 2,
-    };
-    let mut walk = Walk::new(3, counted);
-    while walk.page != 0 {
-        let mut page = [0; 16];
-        lay(&mut page, 0, HEADER);
-        page[4] = nexts[walk.page as usize % 8];
-        if let Err(bad) = walk.step(chain, counted, &page) {
-            return show_chain(alloc, bad);
-        }
-    }
-    Ok(format!(in alloc; "{}", walk.last)?)
-}
-
-#[test]
-fn a_chain_is_walked_to_its_end(rt: HostRuntime) -> Result<(), Fail> {
-    let alloc = rt.alloc();
-    for (counted, nexts, says) in [
-        (8, [0, 0, 0, 0, 0, 0, 0, 0], "3"),
-        (8, [0, 0, 0, 5, 0, 4, 0, 0], "4"),
-        // as many pages as there may be
-        (8, [0, 0, 0, 4, 5, 6, 7, 0], "7"),
-        // it leads into itself
-        (8, [0, 0, 0, 5, 0, 3, 0, 0], "3 of 5"),
-        (8, [0, 0, 0, 3, 0, 0, 0, 0], "3 of 5"),
-        // a page that isn't counted
-        (8, [0, 0, 0, 5, 0, 8, 0, 0], "5: 4 7 8"),
-        (6, [0, 0, 0, 5, 6, 4, 0, 0], "4: 4 5 6"),
-    ] {
-        let text = show_walk(alloc, counted, nexts)?;
-        assert_eq!(rt; text.as_str(), says);
-    }
-    Ok(())
-}

@@ -3,9 +3,10 @@ ghost use Rattle.std.specs.Prelude.{◌≡◌};
 
 use ctr_base::Origin;
 use ctr_disk::{Disk, Failed};
+use ctr_log::OpenError;
 use ctr_mem_disk::{Image, MemDisk, SilentDisk};
-use ctr_store::{CreateError, OpenError, Store, create};
-use ctr_types::{File, List};
+use ctr_store::{CreateError, Store, create};
+use ctr_types::{Damage, File, List};
 use std::alloc::{AllocError, Global};
 use std::marker::Brand;
 use std::test::Fail;
@@ -92,12 +93,12 @@ fn opened(alloc: Global, root: &[u8], log: &[u8], size: u64, page: &[u8]) -> Ans
 }
 
 fn damaged(file: File, at: u64, want: u128, got: u128) -> Answer {
-    Ok(Err(OpenError::Damaged {
+    Ok(Err(OpenError::Damaged(Damage {
         file,
         at,
         want,
         got,
-    }))
+    })))
 }
 
 #[test]
@@ -152,12 +153,12 @@ fn made_on<D: Disk + Drop>(disk: D) -> Result<(), CreateError> {
     answer
 }
 
-// What is said where the nth call fails.
-fn made_failing(alloc: Global, n: u64) -> Result<Result<(), CreateError>, AllocError> {
+// Whether a fault is said where the nth call fails.
+fn is_fault_told(alloc: Global, n: u64) -> Result<bool, AllocError> {
     let mut fails = List::new(alloc);
     fails.push(n)?;
     let disk = empty(alloc, fails)?;
-    Ok(made_on(disk))
+    Ok(made_on(disk) == Err(CreateError::Fault))
 }
 
 // How long the two logs and the pages are, and LogA's first bytes.
@@ -243,7 +244,7 @@ fn a_new_database(rt: HostRuntime) -> Result<(), Fail> {
     assert!(rt; makes_well(alloc) == Ok(true));
     assert!(rt; made_twice(alloc) == Ok([Ok(()), Err(CreateError::Exists)]));
     for n in 1..80 {
-        assert!(rt; made_failing(alloc, n) == Ok(Err(CreateError::Fault)));
+        assert!(rt; is_fault_told(alloc, n)?);
     }
     Ok(())
 }

@@ -6,7 +6,7 @@ use ctr_base::Origin;
 use ctr_catalog::find_free_entry;
 use ctr_disk::{Disk, StoreFault};
 use ctr_mem_disk::SilentDisk;
-use ctr_types::File;
+use ctr_types::{Damage, File};
 use std::alloc::{AllocError, Global};
 use std::marker::Brand;
 use std::test::Fail;
@@ -32,12 +32,12 @@ fn the_lowest_free_entry(rt: HostRuntime) -> Result<(), Fail> {
     let alloc = rt.alloc();
     assert!(rt; seek(alloc, &first_page(0))? == Some(Ok(Some(0))));
     assert!(rt; seek(alloc, &first_page(2))? == Some(Ok(Some(1))));
-    let bad = StoreFault::Damaged {
+    let bad = StoreFault::Damaged(Damage {
         file: File::Pages,
         at: 8_269,
         want: 2,
         got: 3,
-    };
+    });
     assert!(rt; seek(alloc, &first_page(3))? == Some(Err(bad)));
     Ok(())
 }

@@ -9,7 +9,7 @@ use ctr_disk::{Disk, StoreFault};
 use ctr_mem_disk::SilentDisk;
 use ctr_page::Place;
 use ctr_snap::Snapshot;
-use ctr_types::{File, Row, Value, Xid};
+use ctr_types::{Damage, File, Row, Value, Xid};
 use std::alloc::{AllocError, Global};
 use std::marker::Brand;
 use std::test::Fail;
@@ -92,12 +92,12 @@ fn the_newest_committed_version(rt: HostRuntime) -> Result<(), Fail> {
 #[test]
 fn version_entries_that_lead_in_a_ring(rt: HostRuntime) -> Result<(), Fail> {
     let alloc = rt.alloc();
-    let bad = StoreFault::Damaged {
+    let bad = StoreFault::Damaged(Damage {
         file: File::Pages,
         at: 33_024,
         want: 10_370,
         got: 10_371,
-    };
+    });
     assert!(rt; seek(alloc, &third_page(5, 4), &fourth_page(3, 4))? == Some(Err(bad)));
     Ok(())
 }

@@ -1,5 +1,5 @@
 // A pool of 8 frames over a backing in memory of 12 pages that fails at its call N, for each N.
-ghost use Rattle.std.specs.Prelude.{◌≡◌, ◌<◌, [], vec_len, IfOk, OnOk};
+ghost use Rattle.std.specs.Prelude.{◌≡◌, ◌<◌, vec_len, OnOk};
 ghost use Rattle.ctr_pool.specs.Over.{IsOver};
 ghost use Rattle.ctr_pool.specs.contracts.memory.MemoryBacking.TheImpl.{ghosts};
 
@@ -174,30 +174,6 @@ fn each_call_of_the_backing_fails_once(rt: HostRuntime) -> Result<(), Fail> {
             (0, 12, 1)
         );
     }
-    Ok(())
-}
-
-fn lent(pool: &mut Pool, memory: &mut Memory) -> Result<usize, StoreFault>
-    requires { IsOver ghosts pool.old.frames memory.old }
-{
-    let bytes = pool.fetch(3, memory)?;
-    Ok(bytes.len())
-}
-
-fn lent_over(alloc: Global, memory: &mut Memory) -> Result<Result<usize, StoreFault>, OutOfMemory> {
-    let mut pool = Pool::new(alloc, 8)?;
-    Ok(lent(&mut pool, memory))
-}
-
-// How many bytes are lent of a page.
-fn fetched(alloc: Global) -> Result<Result<usize, StoreFault>, OutOfMemory> {
-    let mut memory = Memory::new(alloc, PAGES, 0)?;
-    lent_over(alloc, &mut memory)
-}
-
-#[test]
-fn a_page_that_is_fetched_is_lent(rt: HostRuntime) -> Result<(), Fail> {
-    assert_eq!(rt; fetched(rt.alloc())?, Ok(4096));
     Ok(())
 }
 

@@ -66,12 +66,13 @@ flushed old new db next log then goes same on file folds =
       goes_on = subst (λ (q : Batches). GoesOn by.0.r.first q then new) (sym by.2) (subst (λ r. GoesOn r.first bs then new) (sym by.1) on);
     }
 
-pub still : (image : Image) (db : Database) (old new : Log) → GoesOnFor image db old → new.file ≡ old.file → new.place ≡ old.place → new.first ≡ old.first → GoesOnFor image db new
-still image db old new goes file place first = record {
+pub still : (image : Image) (db : Database) (old new : Log) → GoesOnFor image db old → new.file ≡ old.file → new.start ≡ old.start → new.place ≡ old.place → new.first ≡ old.first → GoesOnFor image db new
+still image db old new goes file start place first = record {
   stands = goes.stands;
   file = file ∙ goes.file;
   goes_on = record {
     log_is = subst (λ f. HasLog goes.stands.r.first goes.stands.bs (content f image)) (sym file) goes.goes_on.log_is;
+    start = start ∙ goes.goes_on.start;
     place = place ∙ goes.goes_on.place;
     first_is = first ∙ goes.goes_on.first_is;
   };

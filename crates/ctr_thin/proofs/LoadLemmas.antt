@@ -1,6 +1,7 @@
 -- Records that are loaded one after another, and where that ends.
 use Rattle.std.proofs.Common.{◌≡◌, ◌≢◌, inl, inr, ℕ, ◌+◌, ◌<◌, min, List, [], ◌∷◌, ◌++◌, length, Option, Some, None, Result, Ok, Err, refl, sym, ◌∙◌, ap, subst, arith, append_assoc, length-append}
 use Rattle.std.specs.Prelude.{⊤, MatchResult, OnOk, IfErr}
+use Rattle.ctr_types.specs.Damage.{damage_of}
 use Rattle.ctr_types.specs.declared.file.File.{File}
 use Rattle.ctr_disk.specs.declared.disk.Disk.{Ghosts}
 use Rattle.ctr_disk.specs.Device.{CountsAs}
@@ -24,8 +25,8 @@ use Rattle.ctr_records.specs.declared.decoding.BadRecord.{BadRecord as BadCheckp
 use Rattle.ctr_rec.specs.declared.decoding.BadRecord.{BadRecord}
 use Rattle.ctr_rec.specs.Fold.{FoldsRecord, FoldsRecords}
 use Rattle.ctr_rec.specs.Replay.{replay_record}
-use Rattle.ctr_thin.specs.declared.opening.OpenError.{OpenError}
-use Rattle.ctr_thin.specs.declared.opening.OpenError.TheVariants as open_error
+use Rattle.ctr_log.specs.declared.opening.OpenError.{OpenError}
+use Rattle.ctr_log.specs.declared.opening.OpenError.TheVariants as open_error
 use Rattle.ctr_thin.specs.Opening.{of_visit}
 use Rattle.ctr_thin.specs.Checks.{first_checks, next_xid}
 use Rattle.ctr_thin.specs.Thin.{OpenDiffers, MakesDatabase, RefusesLogOf, Loaded, nothing_loaded, first_told, record_told, load_behind, load_visit, load_visits, MakeLoaded, HasLoaded, FailsLoad, RefusesLoad}
@@ -143,9 +144,9 @@ module _ (s : Loaded) (file : File) (at : ℕ) (bytes : List ℕ) where
   abbrev pub here : Visit
   here = visit_of 0 file at bytes
 
-  pub begins_not : (bad : BadCheckpoint) (e : OpenError) → s.xid ≡ None → bad.want ≢ bad.got → first_checks bytes ≡ Err bad → e ≡ open_error.Damaged file (min (at + bad.at) 18446744073709551615) bad.want bad.got → FailsLoad file (load_visit s here) e
+  pub begins_not : (bad : BadCheckpoint) (e : OpenError) → s.xid ≡ None → bad.want ≢ bad.got → first_checks bytes ≡ Err bad → e ≡ open_error.Damaged (damage_of file (min (at + bad.at) 18446744073709551615) bad.want bad.got) → FailsLoad file (load_visit s here) e
   begins_not bad e none differ checks is = inr (
-    store.Damaged file (min (at + bad.at) 18446744073709551615) bad.want bad.got,
+    store.Damaged (damage_of file (min (at + bad.at) 18446744073709551615) bad.want bad.got),
     ap (λ (o : Option ℕ). load_behind o s.database file at bytes) none
         ∙ ap (λ (r : Result ⊤ BadCheckpoint). first_told file at r >>= λ _. Ok (record { xid = Some (next_xid bytes); database = s.database })) checks,
     is,
@@ -219,7 +220,7 @@ module _ (r : Root) (image : Image) where
       → StopsAt HasLoaded RefusesLoad old new sound cause → OnRead (RefusesOrFails file (HasSome r.first bytes)) cause → OnRead (IsThisDamage (file_damage file r.first bytes)) cause → OnlyLog T cause → RefusesLogOf r image (of_visit cause)
   log_ended T more all_are in_log old new (visit.Read read.OutOfMemory) fresh stops refused damage only = tt
   log_ended T more all_are in_log old new (visit.Read (read.Store store.Fault)) fresh stops refused damage only = tt
-  log_ended T more all_are in_log old new (visit.Read (read.Store (store.Damaged f at want got))) fresh stops refused damage only =
+  log_ended T more all_are in_log old new (visit.Read (read.Store (store.Damaged d))) fresh stops refused damage only =
       let has = stops [] (subst (λ (s : Loaded). HasLoaded s []) (sym fresh) nothing_has) in (
         refused.0.1,
         ap (λ (l : Result Loaded StoreFault). l >>= λ _. file_damage file r.first bytes) has.0 ∙ damage,
@@ -233,8 +234,8 @@ module _ (r : Root) (image : Image) where
       by_refusal (inl want) = subst (RefusesLogOf r image) (sym want) tt
       by_refusal (inr (s, has, inl want, never)) = subst (RefusesLogOf r image) (sym want) tt
       by_refusal (inr (s, has, inr (store.Fault, fails, is, apart), never)) = absurd apart
-      by_refusal (inr (s, has, inr (store.Damaged f at want got, fails, is, apart), never)) =
-          let d = store.Damaged f at want got in
+      by_refusal (inr (s, has, inr (store.Damaged bad, fails, is, apart), never)) =
+          let d = store.Damaged bad in
           let stopped : load_visits nothing_loaded sound ≡ Err d = ap (load_visits nothing_loaded) stops.all_are ∙ visits_fail nothing_loaded stops.given stops.rest stops.refused s d has.0 fails in
           subst (RefusesLogOf r image) (sym is) (
             apart.1,
@@ -260,12 +261,12 @@ pub refusal_differs : (before : List Visit) (v : Visit) (e : OpenError) → Refu
 refusal_differs before v e (inl want) = subst (λ (x : OpenError). OpenDiffers x × (x ≢ open_error.Fault)) (sym want) (tt, λ is. cc)
 refusal_differs before v e (inr (s, has, inl want, never)) = subst (λ (x : OpenError). OpenDiffers x × (x ≢ open_error.Fault)) (sym want) (tt, λ is. cc)
 refusal_differs before v e (inr (s, has, inr (store.Fault, fails, is, apart), never)) = absurd apart
-refusal_differs before v e (inr (s, has, inr (store.Damaged f at want got, fails, is, apart), never)) = subst (λ (x : OpenError). OpenDiffers x × (x ≢ open_error.Fault)) (sym is) (apart.1, λ same. cc)
+refusal_differs before v e (inr (s, has, inr (store.Damaged d, fails, is, apart), never)) = subst (λ (x : OpenError). OpenDiffers x × (x ≢ open_error.Fault)) (sym is) (apart.1, λ same. cc)
 
 pub early_differs : (old : Loaded) (cause : VisitError OpenError) → old ≡ nothing_loaded → EndsEarly HasLoaded RefusesLoad old cause → OpenDiffers (of_visit cause)
 early_differs old (visit.Read read.OutOfMemory) fresh early = tt
 early_differs old (visit.Read (read.Store store.Fault)) fresh early = tt
-early_differs old (visit.Read (read.Store (store.Damaged f at want got))) fresh early = early
+early_differs old (visit.Read (read.Store (store.Damaged d))) fresh early = early
 early_differs old (visit.Refused e) fresh early =
     let one = early.1 in
     (refusal_differs one.given one.refused e (one.because [] (subst (λ (s : Loaded). HasLoaded s []) (sym fresh) nothing_has))).0
@@ -274,7 +275,7 @@ early_differs old (visit.Refused e) fresh early =
 pub early_faults : (old : Loaded) (cause : VisitError OpenError) → old ≡ nothing_loaded → EndsEarly HasLoaded RefusesLoad old cause → of_visit cause ≡ open_error.Fault → cause ≡ visit.Read (read.Store store.Fault)
 early_faults old (visit.Read read.OutOfMemory) fresh early is = absurd cc
 early_faults old (visit.Read (read.Store store.Fault)) fresh early is = refl
-early_faults old (visit.Read (read.Store (store.Damaged f at want got))) fresh early is = absurd cc
+early_faults old (visit.Read (read.Store (store.Damaged d))) fresh early is = absurd cc
 early_faults old (visit.Refused e) fresh early is =
     let one = early.1 in
     absurd ((refusal_differs one.given one.refused e (one.because [] (subst (λ (s : Loaded). HasLoaded s []) (sym fresh) nothing_has))).1 is)

@@ -20,9 +20,9 @@ use Rattle.ctr_log.specs.Reading.{log_file, OpensLog}
 use Rattle.ctr_model.specs.Database.{Database}
 use Rattle.ctr_rec.specs.Fold.{FoldsRecords}
 use Rattle.ctr_thin.specs.declared.opening.Opened.{Opened}
-use Rattle.ctr_thin.specs.declared.opening.OpenError.{OpenError}
-use Rattle.ctr_thin.specs.declared.opening.OpenError.TheVariants as open_error
-use Rattle.ctr_thin.specs.Opening.{of_store}
+use Rattle.ctr_log.specs.declared.opening.OpenError.{OpenError}
+use Rattle.ctr_log.specs.declared.opening.OpenError.TheVariants as open_error
+use Rattle.ctr_log.specs.Opening.{fault_told}
 use Rattle.ctr_thin.specs.Checks.{next_xid}
 use Rattle.ctr_thin.specs.Thin.{StandsFor, MakesDatabase, RefusesLogOf, log_damage, IsWornNumber, Opens, Explains, OpenDiffers}
 use Rattle.ctr_thin.proofs.LoadLemmas.{OneFold}
@@ -95,11 +95,11 @@ module _ {image mid : Image} {r : Root} (root_is : FoundRoot image mid r) where
 
   pub log_refused : (e : OpenError) → RefusesLogOf r mid e → Explains image e
   log_refused open_error.NoDatabase refused = absurd refused
-  log_refused (open_error.Damaged f at want got) refused = (
+  log_refused (open_error.Damaged d) refused = (
     refused.0,
     not_none,
     (λ db s. refused.2 s.bs db (next_xid s.head) (log_of_image db s) (record { head = s.head; rs = s.rs; all_are = s.begins; checked = s.checked; xid_is = refl; folds = s.folds })),
-    inr (r, says, subst (λ (i : Image). log_damage (log_file r.file) r.first (content (log_file r.file) i) ≡ Err (store.Damaged f at want got)) same refused.1),
+    inr (r, says, subst (λ (i : Image). log_damage (log_file r.file) r.first (content (log_file r.file) i) ≡ Err (store.Damaged d)) same refused.1),
   )
   log_refused (open_error.Worn number) refused = absurd refused
   log_refused open_error.Fault refused = tt
@@ -173,9 +173,9 @@ module _ {image mid : Image} {r : Root} (root_is : FoundRoot image mid r) where
 
 -- ---- damage is told by numbers that differ
 
-pub store_differs : (e : StoreFault) → Differs e → OpenDiffers (of_store e)
+pub store_differs : (e : StoreFault) → Differs e → OpenDiffers (fault_told e)
 store_differs store.Fault is = tt
-store_differs (store.Damaged f at want got) is = is
+store_differs (store.Damaged d) is = is
 
 -- ---- what was pending
 

@@ -1,32 +1,18 @@
 -- How errors below are told by opening.
 use Rattle.std.specs.Prelude.{ℕ, min, ◌+◌}
-use Rattle.ctr_disk.specs.declared.fault.StoreFault.{StoreFault}
-use Rattle.ctr_disk.specs.declared.fault.StoreFault.TheVariants as store
-use Rattle.ctr_log.specs.declared.reading.ReadError.{ReadError}
-use Rattle.ctr_log.specs.declared.reading.ReadError.TheVariants as read
+use Rattle.ctr_log.specs.Opening.{read_told}
+use Rattle.ctr_log.specs.declared.opening.OpenError.{OpenError}
 use Rattle.ctr_log.specs.declared.visitor.VisitError.{VisitError}
 use Rattle.ctr_log.specs.declared.visitor.VisitError.TheVariants.{Read, Refused}
 use Rattle.ctr_value.specs.declared.payload.PayloadError.{PayloadError}
 use Rattle.ctr_value.specs.declared.payload.PayloadError.TheVariants as payload
 use Rattle.ctr_rec.specs.declared.decoding.RecordError.{RecordError}
 use Rattle.ctr_rec.specs.declared.decoding.RecordError.TheVariants as record_error
-use Rattle.ctr_thin.specs.declared.opening.OpenError.{OpenError}
-use Rattle.ctr_thin.specs.declared.opening.OpenError.TheVariants.{Damaged, Fault, OutOfMemory}
-
--- The error of an opening that a store's fault comes to, with the same numbers.
-abbrev pub of_store : StoreFault → OpenError
-of_store store.Fault = Fault
-of_store (store.Damaged file at want got) = Damaged file at want got
-
--- with the same numbers, or for want of memory
-abbrev pub of_read : ReadError → OpenError
-of_read (read.Store e) = of_store e
-of_read read.OutOfMemory = OutOfMemory
 
 -- The error of an opening that a visit's error comes to: one of reading by its fault, a refusal as
 -- it was made.
 abbrev pub of_visit : VisitError OpenError → OpenError
-of_visit (Read e) = of_read e
+of_visit (Read e) = read_told e
 of_visit (Refused e) = e
 
 -- a payload's, at its place in the record that the payload stands in

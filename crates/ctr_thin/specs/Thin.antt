@@ -1,6 +1,7 @@
 -- Which database an image stands for in the thin form: the records of the log that its root names,
 -- behind a Checkpoint that passes its checks, make it.
 use Rattle.std.specs.Prelude.{◌≡◌, ◌≢◌, ◌⊎◌, ℕ, min, ◌+◌, ◌^◌, ◌<◌, ◌≤◌, IsTrue, List, [], ◌∷◌, ◌++◌, length, take, Option, Some, None, Result, Ok, Err, IfErr, ⊤}
+use Rattle.ctr_types.specs.Damage.{damage_of}
 use Rattle.ctr_types.specs.declared.file.File.{File}
 use Rattle.ctr_types.specs.declared.file.File.TheVariants.{Root as RootFile}
 use Rattle.ctr_home.specs.declared.root.Root.{Root}
@@ -27,10 +28,10 @@ use Rattle.ctr_bytes.specs.Following.{◌>>=◌}
 use Rattle.ctr_rec.specs.declared.decoding.BadRecord.{BadRecord}
 use Rattle.ctr_rec.specs.Fold.{FoldsRecords}
 use Rattle.ctr_rec.specs.Replay.{replay_record}
-use Rattle.ctr_thin.specs.Opening.{of_store}
+use Rattle.ctr_log.specs.Opening.{fault_told}
 use Rattle.ctr_thin.specs.declared.opening.Opened.{Opened}
-use Rattle.ctr_thin.specs.declared.opening.OpenError.{OpenError}
-use Rattle.ctr_thin.specs.declared.opening.OpenError.TheVariants.{NoDatabase, Damaged, Worn, Fault, OutOfMemory}
+use Rattle.ctr_log.specs.declared.opening.OpenError.{OpenError}
+use Rattle.ctr_log.specs.declared.opening.OpenError.TheVariants.{NoDatabase, Damaged, Worn, Fault, OutOfMemory}
 
 -- ---- what an image stands for
 
@@ -110,7 +111,7 @@ nothing_loaded = record { xid = None; database = [] }
 -- damage of a record that stands at a place of a file, as far as 64 bits tell the byte there
 abbrev pub told_in : {A : Type 0} → File → ℕ → ℕ → ℕ → ℕ → Result A StoreFault
 told_in file record_ at want got =
-    Err (store.Damaged file (min (record_ + at) 18446744073709551615) want got)
+    Err (store.Damaged (damage_of file (min (record_ + at) 18446744073709551615) want got))
 
 -- by what its bytes fail
 abbrev pub first_told : File → ℕ → Result ⊤ BadCheckpoint → Result ⊤ StoreFault
@@ -158,7 +159,7 @@ HasLoaded s visits = (load_visits nothing_loaded visits ≡ Ok s) × MakeLoaded 
 -- why a record of a file isn't loaded: memory was refused, or this check of it fails
 abbrev pub FailsLoad : File → Result Loaded StoreFault → OpenError → Type 0
 FailsLoad file loaded e = (e ≡ OutOfMemory)
-    ⊎ ((d : StoreFault) × (loaded ≡ Err d) × (e ≡ of_store d) × IsDamageOf file d)
+    ⊎ ((d : StoreFault) × (loaded ≡ Err d) × (e ≡ fault_told d) × IsDamageOf file d)
 
 -- memory was refused; or a record fails a check behind these, and then these aren't loaded with it
 abbrev pub RefusesLoad : List Visit → Visit → OpenError → Type 0
@@ -193,9 +194,9 @@ StandsForNone image = (db : Database) → StandsFor image db → ⊥
 -- of it makes a database; or the disk failed, or memory was refused
 abbrev pub RefusesLogOf : Root → Image → OpenError → Type 0
 RefusesLogOf r image NoDatabase = ⊥
-RefusesLogOf r image (Damaged file at want got) =
+RefusesLogOf r image (Damaged d) =
     let bytes = content (log_file r.file) image in
-    (want ≢ got) × (log_damage (log_file r.file) r.first bytes ≡ Err (store.Damaged file at want got))
+    (d.want ≢ d.got) × (log_damage (log_file r.file) r.first bytes ≡ Err (store.Damaged d))
     × ((bs : Batches) (db : Database) (xid : ℕ) → HasLog r.first bs bytes → MakesDatabase (records bs) db xid → ⊥)
 RefusesLogOf r image (Worn number) = ⊥
 RefusesLogOf r image Fault = Unit {0}
@@ -220,8 +221,8 @@ IsThinDamage image e = ((v : BlockValue) × (root_value image.root ≡ Some v)
 -- numbers are worn.
 abbrev pub Explains : Image → OpenError → Type 0
 Explains image NoDatabase = root_value image.root ≡ None
-Explains image (Damaged file at want got) = (want ≢ got) × (root_value image.root ≢ None)
-    × StandsForNone image × IsThinDamage image (store.Damaged file at want got)
+Explains image (Damaged d) = (d.want ≢ d.got) × (root_value image.root ≢ None)
+    × StandsForNone image × IsThinDamage image (store.Damaged d)
 Explains image (Worn number) = IsWornOut image number
 Explains image Fault = Unit {0}
 Explains image OutOfMemory = Unit {0}
@@ -230,7 +231,7 @@ Explains image OutOfMemory = Unit {0}
 -- 2^62
 abbrev pub OpenDiffers : OpenError → Type 0
 OpenDiffers NoDatabase = Unit {0}
-OpenDiffers (Damaged file at want got) = want ≢ got
+OpenDiffers (Damaged d) = d.want ≢ d.got
 OpenDiffers (Worn number) = 2 ^ 62 ≤ number
 OpenDiffers Fault = Unit {0}
 OpenDiffers OutOfMemory = Unit {0}
@@ -239,7 +240,7 @@ OpenDiffers OutOfMemory = Unit {0}
 abbrev pub FindsNone : Result Opened OpenError → Type 0
 FindsNone (Ok o) = ⊥
 FindsNone (Err NoDatabase) = Unit {0}
-FindsNone (Err (Damaged file at want got)) = ⊥
+FindsNone (Err (Damaged d)) = ⊥
 FindsNone (Err (Worn number)) = ⊥
 FindsNone (Err Fault) = Unit {0}
 FindsNone (Err OutOfMemory) = Unit {0}

@@ -7,4 +7,4 @@ mod opening;
 mod replay;
 
 pub use laws::{a_flush_goes_on, a_flush_leaves_a_prefix, fresh_stands, one_database, same_files};
-pub use opening::{OpenError, Opened, open};
+pub use opening::{Opened, open};

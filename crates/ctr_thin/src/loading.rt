@@ -2,18 +2,18 @@
 ghost use Rattle.std.specs.Prelude.{◌≡◌, ◌≢◌, ◌+◌, ℕ, min, Some, None, Ok, Err, IfOk, MatchResult};
 ghost use Rattle.ctr_log.specs.Visits.{visit_of};
 ghost use Rattle.ctr_rec.specs.Fold.{HasSchemas};
-ghost use Rattle.ctr_thin.specs.declared.opening.OpenError.TheVariants.{Damaged};
+ghost use Rattle.ctr_types.specs.Damage.{damage_of};
+ghost use Rattle.ctr_log.specs.declared.opening.OpenError.TheVariants.{Damaged};
 ghost use Rattle.ctr_thin.specs.Checks.{first_checks, next_xid};
 ghost use Rattle.ctr_bytes.specs.Fields.{field};
 
-use crate::opening::OpenError;
 use crate::replay::replay_record;
 use ctr_bytes::{get_u8, get_u64};
-use ctr_log::{Lsn, Visitor};
+use ctr_log::{Lsn, OpenError, Visitor};
 use ctr_rec::{RecordError, fold_goes_on, fold_is_one, replay_is_fold};
 use ctr_records::{BadRecord, decode};
 use ctr_rows::Loader;
-use ctr_types::{File, OutOfMemory, Xid};
+use ctr_types::{Damage, File, OutOfMemory, Xid};
 use std::alloc::Global;
 use std::marker::Model;
 
@@ -50,14 +50,14 @@ fn first_byte(bytes: &[u8]) -> u8
 
 // What a record at a place of a file is refused for, at a byte of it.
 fn damaged(file: File, record_: u64, at: u64, want: u128, got: u128) -> OpenError
-    ensures { result ≡ Damaged file (min (record_ + at) 18446744073709551615) want got }
+    ensures { result ≡ Damaged (damage_of file (min (record_ + at) 18446744073709551615) want got) }
 {
-    OpenError::Damaged {
+    OpenError::Damaged(Damage {
         file,
         at: record_.saturating_add(at),
         want,
         got,
-    }
+    })
 }
 
 // The next transaction of the first record, which is a Checkpoint that passes its checks.

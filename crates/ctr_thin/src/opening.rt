@@ -4,20 +4,21 @@ ghost use Rattle.ctr_disk.specs.Device.{OnlyReads, Counts, CountsAs, IsDurableFr
 ghost use Rattle.ctr_log.specs.Homes.{IsRoot};
 ghost use Rattle.ctr_log.specs.Reading.{log_file, NamesLog, OpensLog};
 ghost use Rattle.ctr_model.specs.Database.{Database};
-ghost use Rattle.ctr_thin.specs.declared.opening.OpenError.TheVariants.{Damaged, Worn, Fault};
+ghost use Rattle.ctr_log.specs.declared.opening.OpenError.TheVariants.{Damaged, Worn, Fault};
 ghost use Rattle.ctr_disk.specs.Image.{content};
 ghost use Rattle.ctr_log.specs.Logs.{Batches, records, HasLog};
 ghost use Rattle.ctr_log.specs.Kept.{log_in};
+ghost use Rattle.ctr_types.specs.Damage.{damage_of};
 ghost use Rattle.ctr_thin.specs.Opening.{of_visit};
 ghost use Rattle.ctr_thin.specs.Thin.{StandsFor, Opens, Explains, OpenDiffers, IsExplained, IsWornNumber, MakesDatabase, RefusesLogOf};
 
 use crate::loading::Loading;
-use ctr_disk::{Disk, Failed, StoreFault};
+use ctr_disk::{Disk, Failed};
 use ctr_home::{Root, read_thin_root};
-use ctr_log::{LogFile, Lsn, ReadError, VisitError, sound_visits_are_first, visit_named};
+use ctr_log::{LogFile, Lsn, OpenError, VisitError, sound_visits_are_first, visit_named};
 use ctr_rec::{fold_is_one, replay_is_fold};
 use ctr_rows::Loader;
-use ctr_types::{File, OutOfMemory, Xid};
+use ctr_types::{Damage, File, Xid};
 use std::alloc::Global;
 
 /// The first number that no record and no transaction of a database that can be opened has: 2^62.
@@ -30,101 +31,25 @@ pub struct Opened {
     pub database: Loader,
 }
 
-/// Why a database wasn't opened.
-#[derive(Clone, Copy, Debug, PartialEq, Eq)]
-pub enum OpenError {
-    /// No home of the root is open.
-    NoDatabase,
-    /// The file in which the first check failed, the byte at which it did, what the check wants and what is there.
-    /// The last two differ.
-    Damaged {
-        file: File,
-        at: u64,
-        want: u128,
-        got: u128,
-    },
-    /// The next LSN of the log is at least 2^62, or else the next transaction of its Checkpoint: it is this.
-    Worn {
-        number: u64,
-    },
-    /// As in `StoreFault`.
-    Fault,
-    OutOfMemory,
-}
-
-impl From<Failed> for OpenError {
-    ghost from_gives = { λ _ e. e ≡ Fault };
-
-    fn from(_: Failed) -> OpenError {
-        OpenError::Fault
-    }
-}
-
-impl From<OutOfMemory> for OpenError {
-    ghost use Rattle.ctr_thin.specs.declared.opening.OpenError.TheVariants as open_error;
-
-    ghost from_gives = { λ _ e. e ≡ open_error.OutOfMemory };
-
-    fn from(_: OutOfMemory) -> OpenError {
-        OpenError::OutOfMemory
-    }
-}
-
-impl From<StoreFault> for OpenError {
-    ghost use Rattle.ctr_thin.specs.Opening.{of_store};
-
-    ghost from_gives = { λ s e. e ≡ of_store s };
-
-    fn from(fault: StoreFault) -> OpenError {
-        match fault {
-            StoreFault::Fault => OpenError::Fault,
-            StoreFault::Damaged {
-                file,
-                at,
-                want,
-                got,
-            } => OpenError::Damaged {
-                file,
-                at,
-                want,
-                got,
-            },
-        }
-    }
-}
-
-impl From<ReadError> for OpenError {
-    ghost use Rattle.ctr_thin.specs.Opening.{of_read};
-
-    ghost from_gives = { λ s e. e ≡ of_read s };
-
-    fn from(error: ReadError) -> OpenError {
-        match error {
-            ReadError::Store(fault) => OpenError::from(fault),
-            ReadError::OutOfMemory => OpenError::OutOfMemory,
-        }
-    }
-}
-
 // A root that was read passes. On a disk that doesn't tell what it holds this isn't known.
 fn check_root(root: &Root) -> Result<(), OpenError>
     ensures { MatchResult result (λ _. (root.now.file ≤ 1) × (root.now.first ≤ 2 ^ 63)) (λ e. (e ≢ Fault) × OpenDiffers e × (IsRoot root.now → ⊥)) }
 {
     if root.file > 1 {
-        return Err(OpenError::Damaged {
+        return Err(OpenError::Damaged(Damage {
             file: File::Root,
             at: 0,
             want: 1,
             got: root.file as u128,
-        });
+        }));
     }
     if root.first > 1 << 63 {
-        return Err(OpenError::Damaged {
+        return Err(OpenError::Damaged(Damage {
             file: File::Root,
             at: 0,
             want: 1 << 63,
             got: root.first as u128,
-        });
+        }));
     }
     Ok(())
 }
@@ -141,14 +66,14 @@ fn named_file(root: &Root) -> File
 
 // A log has no record: 1 stands for the Checkpoint that is wanted.
 fn no_checkpoint(file: File) -> OpenError
-    ensures { result ≡ Damaged file 0 1 0 }
+    ensures { result ≡ Damaged (damage_of file 0 1 0) }
 {
-    OpenError::Damaged {
+    OpenError::Damaged(Damage {
         file,
         at: 0,
         want: 1,
         got: 0,
-    }
+    })
 }
 
 // How reading ended early: what a record is refused for is handed on.

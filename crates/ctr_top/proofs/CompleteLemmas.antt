@@ -26,7 +26,7 @@ work_is (ending.Refused line at) other = refl
 work_is ending.TooLong other = refl
 work_is ending.Usage other = refl
 work_is ending.NoDatabase other = refl
-work_is (ending.Damaged file at want got) other = refl
+work_is (ending.Damaged d) other = refl
 work_is ending.DiskFault other = refl
 work_is ending.ReadFault other = refl
 work_is ending.WriteFault other = absurd (other refl)
@@ -44,7 +44,7 @@ module _ {D S : Type 0} (law : NoScriptIsRefused) (g : Ghosts D) (old : D) (s : 
   each ending.TooLong disk from = absurd (omega (arith, script.few, from source_told))
   each ending.Usage disk from = absurd disk
   each ending.NoDatabase disk from = absurd (has_root (g.reads old) can_open.0 can_open.1.0 (disk told))
-  each (ending.Damaged file at want got) disk from = absurd ((disk.1 told).1 can_open.0 can_open.1.0)
+  each (ending.Damaged d) disk from = absurd ((disk.1 told).1 can_open.0 can_open.1.0)
   each ending.DiskFault disk from = absurd (no_disk disk)
   each ending.ReadFault disk from = absurd (no_source from)
   each ending.WriteFault disk from = absurd disk

@@ -4,7 +4,7 @@ use Rattle.std.specs.Prelude.{IsTrue}
 use Rattle.ctr_disk.specs.declared.disk.Disk.{Ghosts}
 use Rattle.ctr_disk.specs.Device.{OnlyReads}
 use Rattle.ctr_types.specs.Faults.{CountsFault}
-use Rattle.ctr_thin.specs.declared.opening.OpenError.{OpenError}
+use Rattle.ctr_log.specs.declared.opening.OpenError.{OpenError}
 use Rattle.ctr_thin.specs.Thin.{Explains, OpenDiffers}
 use Rattle.ctr_world.specs.Surveying.{OnlySurveys}
 use Rattle.ctr_thin.proofs.FlushLemmas.{has_root}
@@ -27,7 +27,7 @@ module _ {D : Type 0} (g : Ghosts D) (old : D) (o : Outcome D) (tape : o.tape.en
       each ending.TooLong why read = absurd read
       each ending.Usage why read = absurd why
       each ending.NoDatabase why read = absurd (has_root (g.reads old) can.0 can.1.0 (why told))
-      each (ending.Damaged file at want got) why read = absurd ((why.1 told).1 can.0 can.1.0)
+      each (ending.Damaged d) why read = absurd ((why.1 told).1 can.0 can.1.0)
       each ending.DiskFault why read = absurd (no_fault why)
       each ending.ReadFault why read = absurd read
       each ending.WriteFault why read = absurd why

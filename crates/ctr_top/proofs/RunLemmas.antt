@@ -14,8 +14,8 @@ use Rattle.ctr_disk.proofs.Moments.{starts}
 use Rattle.ctr_model.specs.Database.{Database}
 use Rattle.ctr_model.specs.Tape.{Legal, at_start, IsWhole}
 use Rattle.ctr_model.specs.Texts.{answers}
-use Rattle.ctr_thin.specs.declared.opening.OpenError.{OpenError}
-use Rattle.ctr_thin.specs.declared.opening.OpenError.TheVariants as open_error
+use Rattle.ctr_log.specs.declared.opening.OpenError.{OpenError}
+use Rattle.ctr_log.specs.declared.opening.OpenError.TheVariants as open_error
 use Rattle.ctr_disk.specs.Image.{Image, OtherFilesStay}
 use Rattle.ctr_log.specs.Fresh.{IsFresh, IsNoneOrFresh, fresh_root, fresh_log}
 use Rattle.ctr_thin.specs.Thin.{Explains, OpenDiffers, NamesFile, StandsBy, StandsFor}
@@ -37,7 +37,7 @@ use Rattle.ctr_top.specs.Top.{Ran, LinesCauses, RunCauses, DiskWhy, SourceWhy, I
 module _ {D : Type 0} (g : Ghosts D) (old new : D) where
   open_why : (error : OpenError) → OpenDiffers error → (IsTrue g.tells → Explains (g.reads old) error) → (error ≡ open_error.Fault → CountsFault (g.faults_of old) (g.faults_of new)) → DiskWhy g old new (opened_as error)
   open_why open_error.NoDatabase differs explains fault = explains
-  open_why (open_error.Damaged file at want got) differs explains fault = (differs, λ told. let e = explains told in (e.1, e.2, e.3))
+  open_why (open_error.Damaged d) differs explains fault = (differs, λ told. let e = explains told in (e.1, e.2, e.3))
   open_why (open_error.Worn number) differs explains fault = (differs, explains)
   open_why open_error.Fault differs explains fault = fault refl
   open_why open_error.OutOfMemory differs explains fault = tt
@@ -45,12 +45,12 @@ module _ {D : Type 0} (g : Ghosts D) (old new : D) where
   end_why : (s : Option Stop) → StopsBy s (g.faults_of old) (g.faults_of new) → (IsTrue g.tells → CanOpen (g.reads old)) → DiskWhy g old new (stopped_as s)
   end_why None same can_open = (can_open, same)
   end_why (Some stop.Fault) counts can_open = counts
-  end_why (Some (stop.Damaged file at want got)) stops can_open = absurd stops
+  end_why (Some (stop.Damaged d)) stops can_open = absurd stops
   end_why (Some (stop.Worn lsn)) stops can_open = absurd stops
 
 opened_well : (error : OpenError) → IsScriptRead (opened_as error)
 opened_well open_error.NoDatabase = tt
-opened_well (open_error.Damaged file at want got) = tt
+opened_well (open_error.Damaged d) = tt
 opened_well (open_error.Worn number) = tt
 opened_well open_error.Fault = tt
 opened_well open_error.OutOfMemory = tt
@@ -58,7 +58,7 @@ opened_well open_error.OutOfMemory = tt
 stopped_well : (s : Option Stop) → IsScriptRead (stopped_as s)
 stopped_well None = tt
 stopped_well (Some stop.Fault) = tt
-stopped_well (Some (stop.Damaged file at want got)) = tt
+stopped_well (Some (stop.Damaged d)) = tt
 stopped_well (Some (stop.Worn lsn)) = tt
 
 module _ {D : Type 0} (g : Ghosts D) (old : D) (o : Outcome D) where
@@ -79,7 +79,7 @@ module _ {D : Type 0} (g : Ghosts D) (old : D) (o : Outcome D) where
 -- nothing was opened, so nothing was finished
 pub not_fine : (error : OpenError) → opened_as error ≢ ending.Finished
 not_fine open_error.NoDatabase is = absurd (cc is)
-not_fine (open_error.Damaged file at want got) is = absurd (cc is)
+not_fine (open_error.Damaged d) is = absurd (cc is)
 not_fine (open_error.Worn number) is = absurd (cc is)
 not_fine open_error.Fault is = absurd (cc is)
 not_fine open_error.OutOfMemory is = absurd (cc is)
@@ -88,14 +88,14 @@ not_fine open_error.OutOfMemory is = absurd (cc is)
 pub not_stopped : (s : Option Stop) → stopped_as s ≡ ending.Finished → s ≡ None
 not_stopped None is = refl
 not_stopped (Some stop.Fault) is = absurd (cc is)
-not_stopped (Some (stop.Damaged file at want got)) is = absurd (cc is)
+not_stopped (Some (stop.Damaged d)) is = absurd (cc is)
 not_stopped (Some (stop.Worn lsn)) is = absurd (cc is)
 
 -- a World that ended refuses nothing
 pub no_refusal : (s : Option Stop) (before now : ℕ) → StopsBy s before now → IsRefused (stopped_as s) → ⊥
 no_refusal None before now stops is = absurd is
 no_refusal (Some stop.Fault) before now stops is = absurd is
-no_refusal (Some (stop.Damaged file at want got)) before now stops is = absurd stops
+no_refusal (Some (stop.Damaged d)) before now stops is = absurd stops
 no_refusal (Some (stop.Worn lsn)) before now stops is = absurd stops
 
 module _ {D : Type 0} (g : Ghosts D) (earlier : (d : D) (s t : ℕ) (c : Image) → s ≤ t → g.since d t c → g.since d s c) (old : D) (base : Database) (lines : List Line) where
@@ -179,7 +179,7 @@ module _ {S : Type 0} (s : Source S) (source new : S) where
   source_why ending.TooLong read same = absurd read
   source_why ending.Usage read same = tt
   source_why ending.NoDatabase read same = tt
-  source_why (ending.Damaged file at want got) read same = tt
+  source_why (ending.Damaged d) read same = tt
   source_why ending.DiskFault read same = tt
   source_why ending.ReadFault read same = absurd read
   source_why ending.WriteFault read same = tt

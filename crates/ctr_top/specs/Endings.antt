@@ -9,8 +9,8 @@ use Rattle.ctr_model.specs.declared.tape.Cause.{Cause}
 use Rattle.ctr_model.specs.declared.tape.Cause.TheVariants as cause
 use Rattle.ctr_script.specs.declared.error.ScriptError.{ScriptError}
 use Rattle.ctr_script.specs.declared.error.ScriptError.TheVariants as script_error
-use Rattle.ctr_thin.specs.declared.opening.OpenError.{OpenError}
-use Rattle.ctr_thin.specs.declared.opening.OpenError.TheVariants as open_error
+use Rattle.ctr_log.specs.declared.opening.OpenError.{OpenError}
+use Rattle.ctr_log.specs.declared.opening.OpenError.TheVariants as open_error
 use Rattle.ctr_top.specs.declared.ending.Ending.{Ending}
 use Rattle.ctr_top.specs.declared.ending.Ending.TheVariants as ending
 
@@ -21,7 +21,7 @@ status_of (ending.Refused line at) = 1
 status_of ending.TooLong = 1
 status_of ending.Usage = 2
 status_of ending.NoDatabase = 3
-status_of (ending.Damaged file at want got) = 4
+status_of (ending.Damaged d) = 4
 status_of ending.DiskFault = 5
 status_of ending.ReadFault = 6
 status_of ending.WriteFault = 7
@@ -31,40 +31,22 @@ status_of (ending.Worn number) = 10
 
 -- what the last line tells beside the status
 abbrev pub cause_of : Ending → Cause
-cause_of ending.Finished = cause.Plain
 cause_of (ending.Refused line at) = cause.Script line at
-cause_of ending.TooLong = cause.Plain
-cause_of ending.Usage = cause.Plain
-cause_of ending.NoDatabase = cause.Plain
-cause_of (ending.Damaged file at want got) = cause.Damaged file at want got
-cause_of ending.DiskFault = cause.Plain
-cause_of ending.ReadFault = cause.Plain
-cause_of ending.WriteFault = cause.Plain
-cause_of ending.OutOfMemory = cause.Plain
-cause_of ending.Exists = cause.Plain
+cause_of (ending.Damaged d) = cause.Damaged d
 cause_of (ending.Worn number) = cause.Worn number
+cause_of e = cause.Plain
 
 -- the ending of the work alone: one whose text couldn't be put came to its end
 abbrev pub work : Ending → Ending
-work ending.Finished = ending.Finished
-work (ending.Refused line at) = ending.Refused line at
-work ending.TooLong = ending.TooLong
-work ending.Usage = ending.Usage
-work ending.NoDatabase = ending.NoDatabase
-work (ending.Damaged file at want got) = ending.Damaged file at want got
-work ending.DiskFault = ending.DiskFault
-work ending.ReadFault = ending.ReadFault
 work ending.WriteFault = ending.Finished
-work ending.OutOfMemory = ending.OutOfMemory
-work ending.Exists = ending.Exists
-work (ending.Worn number) = ending.Worn number
+work e = e
 
 -- ---- by what it ends
 
 -- How a command ends whose database wasn't opened, by the error.
 abbrev pub opened_as : OpenError → Ending
 opened_as open_error.NoDatabase = ending.NoDatabase
-opened_as (open_error.Damaged file at want got) = ending.Damaged file at want got
+opened_as (open_error.Damaged d) = ending.Damaged d
 opened_as (open_error.Worn number) = ending.Worn number
 opened_as open_error.Fault = ending.DiskFault
 opened_as open_error.OutOfMemory = ending.OutOfMemory
@@ -80,7 +62,7 @@ read_as script_error.OutOfMemory = ending.OutOfMemory
 abbrev pub stopped_as : Option Stop → Ending
 stopped_as None = ending.Finished
 stopped_as (Some stop.Fault) = ending.DiskFault
-stopped_as (Some (stop.Damaged file at want got)) = ending.Damaged file at want got
+stopped_as (Some (stop.Damaged d)) = ending.Damaged d
 stopped_as (Some (stop.Worn lsn)) = ending.Worn lsn
 
 -- a database was made, or wasn't

@@ -3,11 +3,10 @@ ghost use Rattle.std.specs.Prelude.{◌≡◌};
 ghost use Rattle.ctr_top.specs.Endings.{status_of, cause_of, opened_as, read_as, stopped_as, made_as};
 
 use ctr_disk::{Stop, StoreFault};
-use ctr_log::Making;
+use ctr_log::{Making, OpenError};
 use ctr_model::Cause;
 use ctr_script::ScriptError;
-use ctr_thin::OpenError;
-use ctr_types::File;
+use ctr_types::Damage;
 
 /// How a command ends.
 #[derive(Clone, Copy, Debug, PartialEq, Eq)]
@@ -15,22 +14,14 @@ pub enum Ending {
     /// The work came to its end, and its text was put.
     Finished,
     /// The bytes are no script: the first place, line and byte from 1, at which they are none.
-    Refused {
-        line: u64,
-        at: u64,
-    },
+    Refused { line: u64, at: u64 },
     /// The script has too many bytes.
     TooLong,
     /// The words are no command.
     Usage,
     NoDatabase,
-    /// The byte of the file at which a check failed, what it wants and what is there.
-    Damaged {
-        file: File,
-        at: u64,
-        want: u128,
-        got: u128,
-    },
+    /// A check of the files failed.
+    Damaged(Damage),
     DiskFault,
     ReadFault,
     /// The work came to its end, and its text couldn't be put.
@@ -40,9 +31,7 @@ pub enum Ending {
     /// `init` finds a database.
     Exists,
     /// A number is too near the end of its type to go on.
-    Worn {
-        number: u64,
-    },
+    Worn { number: u64 },
 }
 
 impl Ending {
@@ -55,7 +44,7 @@ impl Ending {
             Ending::Refused { .. } | Ending::TooLong => 1,
             Ending::Usage => 2,
             Ending::NoDatabase => 3,
-            Ending::Damaged { .. } => 4,
+            Ending::Damaged(_) => 4,
             Ending::DiskFault => 5,
             Ending::ReadFault => 6,
             Ending::WriteFault => 7,
@@ -74,17 +63,7 @@ impl Ending {
                 line: *line,
                 at: *at,
             },
-            Ending::Damaged {
-                file,
-                at,
-                want,
-                got,
-            } => Cause::Damaged {
-                file: *file,
-                at: *at,
-                want: *want,
-                got: *got,
-            },
+            Ending::Damaged(damage) => Cause::Damaged(*damage),
             Ending::Worn { number } => Cause::Worn { number: *number },
             _ => Cause::Plain,
         }
@@ -97,17 +76,7 @@ pub fn not_opened(error: OpenError) -> Ending
 {
     match error {
         OpenError::NoDatabase => Ending::NoDatabase,
-        OpenError::Damaged {
-            file,
-            at,
-            want,
-            got,
-        } => Ending::Damaged {
-            file,
-            at,
-            want,
-            got,
-        },
+        OpenError::Damaged(damage) => Ending::Damaged(damage),
         OpenError::Worn { number } => Ending::Worn { number },
         OpenError::Fault => Ending::DiskFault,
         OpenError::OutOfMemory => Ending::OutOfMemory,
@@ -133,19 +102,7 @@ pub fn stopped(stop: Option<Stop>) -> Ending
     match stop {
         None => Ending::Finished,
         Some(Stop::Fault) => Ending::DiskFault,
-        Some(
-            Stop::Damaged {
-                file,
-                at,
-                want,
-                got,
-            },
-        ) => Ending::Damaged {
-            file,
-            at,
-            want,
-            got,
-        },
+        Some(Stop::Damaged(damage)) => Ending::Damaged(damage),
         Some(Stop::Worn { lsn }) => Ending::Worn { number: lsn },
     }
 }

@@ -6,3 +6,13 @@ pub enum File {
     LogB,
     Pages,
 }
+
+/// A check of a file's bytes that failed: the byte of the file at which it did, what it wants and what is there. The last
+/// two differ.
+#[derive(Clone, Copy, Debug, PartialEq, Eq)]
+pub struct Damage {
+    pub file: File,
+    pub at: u64,
+    pub want: u128,
+    pub got: u128,
+}

@@ -15,7 +15,7 @@ mod text;
 mod value;
 mod xid;
 
-pub use file::File;
+pub use file::{Damage, File};
 pub use list::List;
 pub use memory::OutOfMemory;
 pub use name::Name;

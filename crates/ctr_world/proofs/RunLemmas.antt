@@ -45,12 +45,12 @@ rests_has dev d log state base least rests base_is most le = record {
 
 -- a state with the same commits answered, and a writer that stands where the old one stood
 pub rests_on : {D : Type 0} (dev : Ghosts D) (d : D) (old new : Log) (s t : State) (more : List (List Change)) → Rests dev d old s → t.base ≡ s.base → t.asked ≡ s.asked ++ more → t.answered ≡ s.answered → s.answered ≤ length s.asked
-    → new.file ≡ old.file → new.place ≡ old.place → new.first ≡ old.first → Rests dev d new t
-rests_on dev d old new s t more rests base asked answered most file place first = record {
+    → new.file ≡ old.file → new.start ≡ old.start → new.place ≡ old.place → new.first ≡ old.first → Rests dev d new t
+rests_on dev d old new s t more rests base asked answered most file start place first = record {
   only = rests.only;
   rows = rests.rows;
   rows_are = rests.rows_are ∙ rows_same s t more s.answered base asked most ∙ ap (rows_at t) (sym answered);
-  goes = still (dev.reads d) rests.rows old new rests.goes file place first;
+  goes = still (dev.reads d) rests.rows old new rests.goes file start place first;
 }
 
 -- ---- entries more
@@ -140,7 +140,7 @@ act_runs dev earlier only_now grow sound op base w log steps s runs going append
     let same_answered : then.answered ≡ state.answered = subst (λ l. (reached l op.start base steps.tape.items).state.answered ≡ steps.answered) lines new_walks.answered ∙ answered ∙ sym old_walks.answered in
     let most : state.answered ≤ length state.asked = (sound w.steps.script.lines op.start base [] w.steps.tape.items old_walks.legal).answered in
     let rests : Rests dev w.disk log then = subst (λ es. (reached w.steps.script.lines op.start base es).state.answered ≡ state.answered → Rests dev w.disk log (reached w.steps.script.lines op.start base es).state) (sym entry.tape)
-    (λ same. rests_on dev w.disk w.log log state _ long.more (runs.rests going) long.same long.asked same most (ap (λ (l : Log). l.file) appends.same) (ap (λ (l : Log). l.place) appends.same) (ap (λ (l : Log). l.first) appends.same)) same_answered in
+    (λ same. rests_on dev w.disk w.log log state _ long.more (runs.rests going) long.same long.asked same most (ap (λ (l : Log). l.file) appends.same) (ap (λ (l : Log). l.start) appends.same) (ap (λ (l : Log). l.place) appends.same) (ap (λ (l : Log). l.first) appends.same)) same_answered in
     more_runs dev earlier only_now grow sound op base w v (entry.entry ∷ []) entry.tape (entry.is.moment_is, tt) script on
     runs.survives rests runs.log_alone (ap (λ (l : Log). l.file) appends.same ∙ runs.log_is) (runs.others going)
     (⊎_elim (λ same. same) (λ bad. absurd (bad.0 going)) runs.stray)

@@ -15,8 +15,8 @@ use Rattle.ctr_model.specs.declared.tape.Point.{Point}
 use Rattle.ctr_model.specs.Database.{Database}
 use Rattle.ctr_model.specs.Tape.{Legal, at_start, IsWhole}
 use Rattle.ctr_model.specs.Texts.{answers}
-use Rattle.ctr_thin.specs.declared.opening.OpenError.{OpenError}
-use Rattle.ctr_thin.specs.declared.opening.OpenError.TheVariants.{Fault}
+use Rattle.ctr_log.specs.declared.opening.OpenError.{OpenError}
+use Rattle.ctr_log.specs.declared.opening.OpenError.TheVariants.{Fault}
 use Rattle.ctr_thin.specs.Thin.{StandsFor, IsLow}
 use Rattle.ctr_turns.specs.Items.{IsRecorded}
 use Rattle.ctr_steps.specs.declared.steps.Steps.{Steps}
@@ -84,7 +84,7 @@ pub record RunsFrom {D B : Type 0} (g : Ghosts D) (o : Opening B) (base : Databa
 abbrev pub StopsBy : Option Stop → ℕ → ℕ → Type 0
 StopsBy None before now = now ≡ before
 StopsBy (Some stop.Fault) before now = CountsFault before now
-StopsBy (Some (stop.Damaged file at want got)) before now = ⊥
+StopsBy (Some (stop.Damaged d)) before now = ⊥
 StopsBy (Some (stop.Worn lsn)) before now = ⊥
 
 -- since the World was opened on the disk and the script that its type names

@@ -6,9 +6,10 @@ ghost use Rattle.ctr_world.specs.Surveying.{survey_of, OnlySurveys};
 ghost use Rattle.ctr_world.specs.World.{CanOpen, RefusesWith};
 
 use ctr_disk::Disk;
+use ctr_log::OpenError;
 use ctr_model::Survey;
 use ctr_rows::Loader;
-use ctr_thin::{OpenError, open};
+use ctr_thin::open;
 use std::alloc::Global;
 
 /// Counts what the database of a disk holds, and writes nothing. The disk comes back.

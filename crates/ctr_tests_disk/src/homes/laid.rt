@@ -62,12 +62,7 @@ pub type Told = (File, u64, u128, u128);
 
 pub fn told(fault: StoreFault) -> Told {
     match fault {
-        StoreFault::Damaged {
-            file,
-            at,
-            want,
-            got,
-        } => (file, at, want, got),
+        StoreFault::Damaged(damage) => (damage.file, damage.at, damage.want, damage.got),
         StoreFault::Fault => (File::LogA, 0, 0, 0),
     }
 }

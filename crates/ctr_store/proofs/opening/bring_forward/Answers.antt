@@ -16,7 +16,7 @@ returns-in_default-clause-goes g c told sound =
     let f = c.args.found in
     let b : Base g.row.D.Denot g.row.O.Denot = record { disk = c.args.disk; log = f.log; root = c.args.root; durable = f.log.first + length f.log.buffered; of = record {} } in
     let rests = rests_opened o d c.args.disk c.args.root f (f.log.first + length f.log.buffered) r.0 r.1 r.2 refl b refl refl refl refl in
-    leaves_first o d b c.args.disk c.args.root refl r.0.log.none r.2 (quiet_leaves d g.met.D.Disk.only_now b (rests.quiet sound))
+    leaves_first o d b c.args.disk c.args.root refl r.0.log.none r.2 (quiet_leaves d g.met.D.Disk.only_now b (rests.quiet sound)).front
 
 pub redo-requires-clause-begins : goal.redo-requires-clause-begins
 redo-requires-clause-begins g c told =

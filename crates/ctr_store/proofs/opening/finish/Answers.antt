@@ -1,4 +1,4 @@
-use Rattle.std.proofs.Common.{◌∙◌, ◌+◌, length, ap, subst}
+use Rattle.std.proofs.Common.{◌∙◌, ◌+◌, length, ap, subst, arith}
 use Rattle.ctr_store.specs.Opening.{disk_left, worn_by}
 use Rattle.ctr_store.specs.RecordChecks.{AllPass}
 use Rattle.ctr_store.proofs.OpenLaws.{answered, later_refused, later_undamaged, worn_undamaged, worn_faults}
@@ -22,9 +22,9 @@ returns-in-Ok-clause-undamaged g c told sound =
     let s = c.in-Ok.parts in
     worn_undamaged (worn_by (s.base.log.first + length s.base.log.buffered) s.meta.tables.next) c.refuse_worn.result c.refuse_worn.ensures.worn
 
-pub returns-in-Ok-clause-faults : goal.returns-in-Ok-clause-faults
-returns-in-Ok-clause-faults g c =
+pub returns-in-Ok-clause-counts : goal.returns-in-Ok-clause-counts
+returns-in-Ok-clause-counts g c =
     let d = g.D.Disk in
     let s = c.in-Ok.parts in
-    let same = ap (λ x. d.faults_of x) c.refuse_worn.ensures.disk ∙ c.in-Ok.ensures.faults.fine (λ is. cc is) in
-    worn_faults (worn_by (s.base.log.first + length s.base.log.buffered) s.meta.tables.next) c.refuse_worn.result (d.faults_of c.args.disk) (d.faults_of (disk_left c.refuse_worn.result)) c.refuse_worn.ensures.worn same
+    let same = ap (λ x. d.faults_of x) c.refuse_worn.ensures.disk ∙ c.in-Ok.ensures.counts.1.fine (λ is. cc is) in
+    (omega (arith, ap (λ x. d.moment_of x) c.refuse_worn.ensures.disk, c.in-Ok.ensures.counts.0), worn_faults (worn_by (s.base.log.first + length s.base.log.buffered) s.meta.tables.next) c.refuse_worn.result (d.faults_of c.args.disk) (d.faults_of (disk_left c.refuse_worn.result)) c.refuse_worn.ensures.worn same)

@@ -1,10 +1,12 @@
 use Rattle.std.specs.Prelude.{IsTrue}
-use Rattle.std.proofs.Common.{refl}
-use Rattle.ctr_disk.specs.Device.{LeavesOnly}
+use Rattle.std.proofs.Common.{◌≡◌, refl, sym, subst}
+use Rattle.ctr_disk.specs.Device.{LeavesOnly, IsSettled}
 use Rattle.ctr_redo.specs.States.{state_of}
 use Rattle.ctr_redo.specs.Images.{FoldsFront}
-use Rattle.ctr_base.specs.Base.{IsSoundImage, stored_of, waiting_of}
-use Rattle.ctr_log.specs.Logs.{with_batch}
+use Rattle.ctr_disk.specs.Image.{Image}
+use Rattle.ctr_disk.proofs.Moments.{weaker}
+use Rattle.ctr_base.specs.Base.{IsSoundImage, HasGate, LeavesBase, stored_of, waiting_of}
+use Rattle.ctr_log.specs.Logs.{IsFlushing, with_batch}
 use Rattle.ctr_redo.proofs.ImageLaws.{logs_apart}
 use Rattle.ctr_base.specs.declared.base.Base.{Base}
 use Rattle.ctr_base.specs.BaseLaws.{holds_if, stands_flushed, homes_flushed}
@@ -15,17 +17,26 @@ use Rattle.ctr_base.proofs.base.Base.flush.Goals.{After-flush}
 use Rattle.ctr_base.proofs.base.Base.flush.Goals as goal
 
 -- however the flush ended, a crash leaves a prefix of what waited
-leaves : (g : Over) (c : After-flush g) → IsTrue g.D.Disk.tells → IsSoundImage g.O.Origin.first → LeavesOnly g.D.Disk c.args.self.now.disk c.flush.new.disk (FoldsFront (state_of (stored_of g.D.Disk c.args.self.now)) (waiting_of c.args.self.now))
-leaves g c told sound =
+leaves : (g : Over) (c : After-flush g) (b : Base g.row.D.Denot g.row.O.Denot) → b.disk ≡ c.flush.new.disk → IsTrue g.D.Disk.tells → IsSoundImage g.O.Origin.first → LeavesBase g.D.Disk c.args.self.now b
+leaves g c b disk told sound =
+    let d = g.D.Disk in
     let a = c.args.self.now in
-    let quiet = (c.requires told).quiet sound in
-    flush_leaves g.D.Disk a c.flush.new.disk quiet (c.flush.ensures.kept_any_moment a.root.file a.root.first (record { told = told; only = quiet.only }) quiet.writes)
+    let rests = c.requires told in
+    let quiet = rests.quiet sound in
+    let settled : IsSettled d a.disk = record { told = told; only = quiet.only } in
+    let goes = rests.stands.goes_on in
+    let new = c.flush.new.disk in
+    let Flushing : Image → Type 0 = IsFlushing goes.0 goes.1 a.log (d.reads a.disk) in
+    record {
+      front = subst (λ (n : g.row.D.Denot). LeavesOnly d a.disk n (FoldsFront (state_of (stored_of d a)) (waiting_of a))) (sym disk) (flush_leaves d a new quiet (c.flush.ensures.kept_any_moment a.root.file a.root.first settled quiet.writes));
+      gate = subst (λ (n : g.row.D.Denot). LeavesOnly d a.disk n (HasGate a.log)) (sym disk) (weaker d a.disk new Flushing (HasGate a.log) (c.flush.ensures.any_moment goes.0 goes.1 settled goes.2) (λ i is. is.long));
+    }
 
 pub returns-in_err-flush-clause-goes : goal.returns-in_err-flush-clause-goes
-returns-in_err-flush-clause-goes g c told sound = leaves g (goal.at.returns-in_err-flush-clause-goes g c).After-flush told sound
+returns-in_err-flush-clause-goes g c told sound = leaves g (goal.at.returns-in_err-flush-clause-goes g c).After-flush _ refl told sound
 
 pub returns-clause-goes : goal.returns-clause-goes
-returns-clause-goes g c told sound = leaves g (goal.at.returns-clause-goes g c).After-flush told sound
+returns-clause-goes g c told sound = leaves g (goal.at.returns-clause-goes g c).After-flush _ refl told sound
 
 pub returns-clause-moves : goal.returns-clause-moves
 returns-clause-moves g c told =
@@ -39,7 +50,7 @@ returns-clause-moves g c told =
     let flushed = e.flushed goes.0 goes.1 told goes.2 in
     let kept = logs_apart a.log.file (d.reads a.disk) (d.reads c.flush.new.disk) rests.stands.file flushed.0 in
     let f : (sound : _) → Flushed d a b = λ sound.
-    record { root = refl; file = file; none = e.emptied.none; next = e.emptied.next; durable = c.next-self.ensures; goes_on = e.kept a.root.file a.root.first told (rests.quiet sound).writes } in (
+    record { root = refl; file = file; place = c.flush.ensures.emptied.gate; none = e.emptied.none; next = e.emptied.next; durable = c.next-self.ensures; goes_on = e.kept a.root.file a.root.first told (rests.quiet sound).writes } in (
       λ sound. flush_moves d a b (rests.quiet sound) (f sound),
       record {
         stands = stands_flushed d a b rests.stands refl file kept goes.0 (with_batch goes.1 a.log.buffered) flushed.1;
@@ -64,6 +75,7 @@ returns-clause-holds g c told =
     (record {
       root = refl;
       file = c.flush.ensures.emptied.file;
+      place = c.flush.ensures.emptied.gate;
       none = e.emptied.none;
       next = e.emptied.next;
       durable = c.next-self.ensures;

@@ -48,4 +48,4 @@ returns-clause-added c =
     let more : unframed (c.self.inside.count + 1) (drop 20 new.items) ≡ c.args.self.now.buffered ++ c.args.bytes.now ∷ [] =
     more_records c.self.inside.count old.items new.items c.args.bytes.now (omega arith) c.put_frame.ensures.items c.self.invariant.frames_are (omega arith)
     ∙ ap (λ v. v.buffered ++ c.args.bytes.now ∷ []) view in
-    (λ i. record { file = (ap (λ v. v.file) view) i; older = (ap (λ v. v.older) view) i; place = (ap (λ v. v.place) view) i; first = (ap (λ v. v.first) view) i; buffered = more i; room = vec_capacity new - vec_len new - 1 - (vec_capacity new - 2 ^ 34) })
+    (λ i. record { file = (ap (λ v. v.file) view) i; older = (ap (λ v. v.older) view) i; start = (ap (λ v. v.start) view) i; place = (ap (λ v. v.place) view) i; first = (ap (λ v. v.first) view) i; buffered = more i; room = vec_capacity new - vec_len new - 1 - (vec_capacity new - 2 ^ 34) })

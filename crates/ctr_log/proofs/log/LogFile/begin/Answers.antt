@@ -96,4 +96,4 @@ returns-clause-begun g c named oldest told writes =
     let ext = starts_with a c.self.invariant log c.self.view_is first c.requires a.buffer.ok.0 named oldest (d.reads old) writes (content file (d.reads mid)) c.put_frame.new.buffer.items c.deref.result.now shut.1 c.put_frame.ensures.items (c.deref.ensures.value ∙ c.seal.ensures.items) in
     let long = only_head a c.self.invariant log c.self.view_is first c.requires a.buffer.ok.0 in
     begun a c.self.invariant log c.self.view_is first c.requires a.buffer.ok.0 named oldest (d.reads old) writes d old mid mid refl file here shut.0 (d.reads c.write_batch-written.new.disk) _
-    (c.in_ok-written.ensures.added n [] (first ∷ []) told ext) refl refl refl (omega (arith, long))
+    (c.in_ok-written.ensures.added n [] (first ∷ []) told ext) refl refl refl refl (omega (arith, long))

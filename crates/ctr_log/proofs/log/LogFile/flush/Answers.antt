@@ -1,9 +1,9 @@
-use Rattle.std.proofs.Common.{◌≡◌, inl, inr, ◌∙◌, ◌+◌, ◌-◌, ◌^◌, ◌≤◌, [], ℕ, List, length, take, drop, vec_len, vec_capacity, ap, subst, sym, refl, arith, length-drop, length-take}
+use Rattle.std.proofs.Common.{◌≡◌, inl, inr, ◌∙◌, ◌+◌, ◌-◌, ◌^◌, ◌≤◌, ◌<◌, [], ◌∷◌, ℕ, List, length, take, drop, vec_len, vec_capacity, ap, subst, sym, refl, arith, length-drop, length-take}
 use Rattle.std.proofs.lemmas.List.{drop_all}
 use Rattle.std.proofs.lemmas.Result.{err_from_is_err_and}
 use Rattle.ctr_disk.specs.Image.{content, OtherFilesStay}
 use Rattle.ctr_disk.specs.Device.{LeavesOnly, IsSettled}
-use Rattle.ctr_log.specs.Logs.{Batches, Log, frames, unframed, buffer_size, GoesOn, Extends, IsFlushing, with_batch}
+use Rattle.ctr_log.specs.Logs.{Batches, Log, frames, unframed, buffer_size, log_end, end_behind, GoesOn, Extends, IsFlushing, with_batch}
 use Rattle.ctr_log.specs.Kept.{WritesBehind, KeepsPrefix}
 use Rattle.ctr_log.specs.LogFile.{log_of}
 use Rattle.ctr_log.proofs.LogLemmas.{length-unframed}
@@ -12,6 +12,11 @@ use Rattle.ctr_disk.proofs.Moments.{starts}
 use Rattle.ctr_log.proofs.log.LogFile.flush.Given.{Over}
 use Rattle.ctr_log.proofs.log.LogFile.flush.Goals.{After-write_batch-written}
 use Rattle.ctr_log.proofs.log.LogFile.flush.Goals as goal
+
+-- the gate behind records, of which there are some
+end_some : (place : ℕ) (rs : List (List ℕ)) → 0 < length rs → end_behind place rs ≡ place + 21 + length (frames rs)
+end_some place [] some = absurd (omega (arith, some))
+end_some place (r ∷ rs) some = refl
 
 pub invariant_of-self : goal.invariant_of-self
 invariant_of-self g c =
@@ -63,9 +68,9 @@ returns-clause-flushed g c first bs told goes =
     let goes_a = subst (λ (v : Log). GoesOn first bs v old) (sym c.self.view_is) goes in
     let ext = extends a keeps (omega arith) (omega arith) a.buffer.ok.0 first bs old goes_a in
     let after = c.in_ok-written.ensures.added first bs rs told (subst (λ (b : List ℕ). Extends first bs rs a.place b (content a.file old)) (sym body) ext) in
-    let log : Log = log_of (record { file = a.file; older = a.older; place = a.place + (1 + c.len-len.result); first = a.first + a.count; count = 0; buffer = c.truncate-2.new.self }) in
+    let log : Log = log_of (record { file = a.file; older = a.older; start = a.start; place = a.place + (1 + c.len-len.result); first = a.first + a.count; count = 0; buffer = c.truncate-2.new.self }) in
     let Q : Log → Type 0 = λ v. OtherFilesStay v.file old new × GoesOn first (with_batch bs v.buffered) log new in
-    subst Q c.self.view_is (goes_on a keeps (omega arith) (omega arith) a.buffer.ok.0 first bs old new log goes_a after refl (omega (arith, c.len-len.ensures)) refl)
+    subst Q c.self.view_is (goes_on a keeps (omega arith) (omega arith) a.buffer.ok.0 first bs old new log goes_a after refl refl (omega (arith, c.len-len.ensures)) refl)
 
 pub returns-clause-emptied : goal.returns-clause-emptied
 returns-clause-emptied g c =
@@ -73,15 +78,20 @@ returns-clause-emptied g c =
     let keeps = c.self.invariant in
     let last = c.truncate-2.new.self in
     let count_is : a.first + a.count ≡ (log_of a).first + length (log_of a).buffered = ap (λ (n : ℕ). a.first + n) (sym (length-unframed a.count (drop 20 a.buffer.items))) in
+    let ended = end_some a.place (log_of a).buffered (omega (arith, length-unframed a.count (drop 20 a.buffer.items))) in
     let long : length (frames (log_of a).buffered) + 20 ≡ vec_len a.buffer = omega (arith, keeps.head, ap length keeps.frames_are, length-drop 20 a.buffer.items, a.buffer.ok.0) in
     record {
       file = ap (λ (v : Log). v.file) c.self.view_is;
       older = ap (λ (v : Log). v.older) c.self.view_is;
+      start = ap (λ (v : Log). v.start) c.self.view_is;
       none = refl;
       next = subst (λ (v : Log). a.first + a.count ≡ v.first + length v.buffered) c.self.view_is count_is;
       room = omega (arith, ap (λ (v : Log). v.room) c.self.view_is);
       size = subst (λ (v : Log). buffer_size v ≤ vec_capacity last - vec_len last - 1 - (vec_capacity last - 2 ^ 34) + 0) c.self.view_is (omega (arith, long, keeps.short, keeps.spare));
       waits = inr refl;
+      still = tt;
+      gate = omega (arith, ap (λ (v : Log). v.place) c.self.view_is, c.len-len.ensures);
+      ends = subst (λ (v : Log). a.place + (1 + c.len-len.result) ≡ log_end v) c.self.view_is (omega (arith, c.len-len.ensures, long, ended));
       number = subst (λ (v : Log). a.first + a.count + 0 ≡ v.first + length v.buffered) c.self.view_is (omega (arith, count_is));
       later = omega (arith, ap (λ (v : Log). v.first) c.self.view_is);
     }
@@ -96,16 +106,21 @@ returns-in_err-written-clause-emptied g c =
     let back : now ≡ held =
     ap (λ (l : List ℕ). drop 20 l) (c.truncate.ensures.items ∙ ap (λ (l : List ℕ). take c.len-len.result l) c.seal.ensures.items) ∙ reopened a.first a.count c.len-len.result held wide in
     let count_is : a.first + a.count ≡ (log_of a).first + length (log_of a).buffered = ap (λ (n : ℕ). a.first + n) (sym (length-unframed a.count (drop 20 a.buffer.items))) in
+    let same = ap (λ (l : List ℕ). unframed a.count l) back ∙ ap (λ (v : Log). v.buffered) c.self.view_is in
     let p = err_from_is_err_and c.from_residual.result c.from_residual.ensures.1 in
     rw (p.1)
     (record {
       file = ap (λ (v : Log). v.file) c.self.view_is;
       older = ap (λ (v : Log). v.older) c.self.view_is;
+      start = ap (λ (v : Log). v.start) c.self.view_is;
       none = tt;
       next = tt;
       room = omega (arith, ap (λ (v : Log). v.room) c.self.view_is);
       size = subst (λ (v : Log). buffer_size v ≤ vec_capacity mid - vec_len mid - 1 - (vec_capacity mid - 2 ^ 34) + length (frames (unframed a.count now))) c.self.view_is (omega (arith, ap (λ (l : List ℕ). length (frames (unframed a.count l))) back));
-      waits = inl (ap (λ (l : List ℕ). unframed a.count l) back ∙ ap (λ (v : Log). v.buffered) c.self.view_is);
+      waits = inl same;
+      still = same;
+      gate = omega (arith, ap (λ (v : Log). v.place) c.self.view_is);
+      ends = ap (λ (l : List ℕ). end_behind a.place (unframed a.count l)) back ∙ ap log_end c.self.view_is;
       number = subst (λ (v : Log). a.first + length (unframed a.count now) ≡ v.first + length v.buffered) c.self.view_is (omega (arith, count_is, length-unframed a.count now));
       later = omega (arith, ap (λ (v : Log). v.first) c.self.view_is);
     })

@@ -2,7 +2,9 @@ use Rattle.std.proofs.Common.{Ok, Err, sym, subst}
 use Rattle.std.specs.Prelude.{⊤}
 use Rattle.std.proofs.lemmas.Result.{err_from_is_err_and}
 use Rattle.ctr_base.specs.declared.base.Base.{Base}
+use Rattle.ctr_base.specs.Base.{LeavesBase, KeepsBase}
 use Rattle.ctr_base.specs.BaseLaws.{leaves_joined, read_leaves, read_rests}
+use Rattle.ctr_base.specs.KeptLaws.{base_kept_on, read_kept}
 use Rattle.ctr_store.specs.declared.parts.Parts.{Parts}
 use Rattle.ctr_store.specs.Parts.{BringsOver}
 use Rattle.ctr_store.specs.PageChecks.{FindsPage}
@@ -25,14 +27,22 @@ returns-in_err-bring-clause-finds g c told =
 
 pub returns-in_err-check_low-clause-goes : goal.returns-in_err-check_low-clause-goes
 returns-in_err-check_low-clause-goes g c told sound =
-    let d = g.D.Disk in
-    let a = c.args.self.now.base in
-    let m = c.bring.new.backing in
-    let over = c.requires told in
-    let e = c.in_ok-bring.ensures in
-    let stays = e.stays told in
-    leaves_joined d a m c.check_low.new.self.base (e.works.moves told over.at_rest sound) (c.bring.ensures.works.goes told over.at_rest sound)
-    (read_leaves d m c.check_low.new.self.base.disk (stays.over.at_rest.quiet sound) c.check_low.ensures.read)
+    let below = c.bring.new.backing in
+    let works = c.in_ok-bring.ensures.works in
+    let at_rest = (c.requires told).at_rest in
+    let quiet = (c.in_ok-bring.ensures.stays told).over.at_rest.quiet sound in
+    subst (LeavesBase g.D.Disk c.args.self.now.base) (sym c.check_low.ensures.below)
+    (leaves_joined g.D.Disk c.args.self.now.base below (record below { disk = c.check_low.new.self.base.disk }) (works.moves told at_rest sound) (c.bring.ensures.works.goes told at_rest sound)
+    (read_leaves g.D.Disk below c.check_low.new.self.base.disk quiet c.check_low.ensures.read))
+
+pub returns-in_err-check_low-clause-keeps : goal.returns-in_err-check_low-clause-keeps
+returns-in_err-check_low-clause-keeps g c =
+    let base = c.args.self.now.base in
+    let backing = c.bring.new.backing in
+    let disk = c.check_low.new.self.base.disk in
+    let counts = c.check_low.ensures.counts in
+    let kept = base_kept_on g.D.Disk base backing (record backing { disk = disk }) c.bring.ensures.works.keeps (read_kept g.D.Disk backing disk counts.later counts.stray) in
+    (subst (KeepsBase g.D.Disk base) (sym c.check_low.ensures.below) kept, c.check_low.ensures.same.1)
 
 pub returns-in_err-check_low-clause-refused : goal.returns-in_err-check_low-clause-refused
 returns-in_err-check_low-clause-refused g c told low =

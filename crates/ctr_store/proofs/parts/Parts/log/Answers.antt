@@ -50,4 +50,4 @@ pub returns-clause-takes : goal.returns-clause-takes
 returns-clause-takes g c =
     let keeps = c.bring.ensures.keeps in
     let e = c.log_on.ensures in
-    (e.number ∙ keeps.0.next, room_behind c.args.rec.now c.args.self.now c.bring.new.self c.log_on.new.self keeps.0 keeps.1 e.room)
+    (e.number ∙ keeps.0.next, room_behind g.D.Disk c.args.rec.now c.args.self.now c.bring.new.self c.log_on.new.self keeps.0 keeps.1 e.room)

@@ -6,7 +6,8 @@ use Rattle.ctr_log.proofs.VisitLemmas.{ok_isnt}
 use Rattle.ctr_records.specs.declared.record.Record.{Record}
 use Rattle.ctr_redo.specs.Images.{records_in}
 use Rattle.ctr_base.specs.Base.{stored_of}
-use Rattle.ctr_base.specs.BaseLaws.{rests_leaves, leaves_joined, base_kept, base_kept_on}
+use Rattle.ctr_base.specs.BaseLaws.{rests_leaves, leaves_joined}
+use Rattle.ctr_base.specs.KeptLaws.{base_kept, base_kept_on}
 use Rattle.std.proofs.lemmas.List.{take_all}
 use Rattle.ctr_redo.specs.States.{next_of}
 use Rattle.ctr_store.specs.PageChecks.{PagesPass}
@@ -50,7 +51,7 @@ loop-i-init g c =
       at_most = omega arith;
       doing = λ told. let b = c.requires.begins told in redo_starts g.O.Origin.first g.D.Disk s b.rests b.starts b.empty b.none;
       goes = λ told. rests_leaves g.D.Disk g.O.Origin.first g.met.D.Disk.only_now s.base (c.requires.begins told).rests;
-      keeps = base_kept s.base;
+      keeps = base_kept g.D.Disk s.base;
       meta = refl;
       faults = refl;
     }
@@ -89,7 +90,7 @@ loop-i-preserved g c =
           let q = passes g at told in
           e.redone start i q.0 told (l.doing told) (is_next g at told) q.1.logged.record_is q.1.bytes_are (get_number vs start.root.first i v (c.requires.begins told).numbers (here g at));
       goes = λ told sound. leaves_joined d start c.loop-i.self.base c.redo_visit.new.self.base ((l.doing told).moves sound) (l.goes told sound) (c.redo_visit.ensures.goes told sound);
-      keeps = base_kept_on start c.loop-i.self.base c.redo_visit.new.self.base l.keeps c.redo_visit.ensures.keeps.0;
+      keeps = base_kept_on g.D.Disk start c.loop-i.self.base c.redo_visit.new.self.base l.keeps c.redo_visit.ensures.keeps.0;
       meta = c.redo_visit.ensures.keeps.1 ∙ l.meta;
       faults = e.faults.fine (ok_isnt c.in_ok-redo_visit.field-0 Fault) ∙ l.faults;
     }

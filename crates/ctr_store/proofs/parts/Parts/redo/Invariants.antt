@@ -13,7 +13,7 @@ invariant-loop-i g l =
       at_most : l.i ≤ length l.visits;
       doing : IsTrue d.tells → RedoesPages first d l.fn.self.base l.i l.self;
       goes : IsTrue d.tells → LeavesIf first d l.fn.self.base l.self.base;
-      keeps : KeepsBase l.fn.self.base l.self.base;
+      keeps : KeepsBase d l.fn.self.base l.self.base;
       meta : l.self.meta ≡ l.fn.self.meta;
       faults : d.faults_of l.self.base.disk ≡ d.faults_of l.fn.self.base.disk;
     }

@@ -22,6 +22,7 @@ returns-clause-grows g c told sound =
     let old = c.self.inside.stopped in
     let new = c.is_err-self-inside.result in
     let e = c.grow-counted.ensures in
+    let has = subst (λ (b : Base g.row.D.Denot g.row.O.Denot). HasBuffer b.log) (sym e.counted.0.0) c.self.invariant.buffer in
     on_ok_both c.grow-counted.result
-    (λ both yes. let grows = both.0 in let fold = both.1 in subst (λ (v : View g.row.D.Denot). GrowsByExtent d v (view_of d t new)) c.self.view_is (grows_seen d g.O.Origin.first g.met.D.Disk.only_now s t old new fold sound grows (e.blank told sound)))
+    (λ both yes. let grows = both.0 in let fold = both.1 in subst (λ (v : View g.row.D.Denot). GrowsByExtent d v (view_of d t new)) c.self.view_is (grows_seen d g.O.Origin.first g.met.D.Disk.only_now s t old new has fold sound grows (e.blank told sound)))
     (e.grows told) (e.grows told)

@@ -9,7 +9,7 @@ use Rattle.ctr_store.proofs.store.Store.home_of.Goals as goal
 pub invariant_of-self : goal.invariant_of-self
 invariant_of-self g c = record {
   fold = λ told going. of_ok c.place_of-home.result (sym c.is_err-self-inside.ensures.value ∙ going) (on_ok_weaker c.place_of-home.result (λ x. x.0) (c.place_of-home.ensures.fold told));
-  buffer = buffer_kept c.self.inside.parts.base c.place_of-home.new.self.base c.place_of-home.ensures.keeps.0 c.self.invariant.buffer;
+  buffer = buffer_kept g.D.Disk c.self.inside.parts.base c.place_of-home.new.self.base c.place_of-home.ensures.keeps.0 c.self.invariant.buffer;
 }
 
 pub returns-clause-leaves : goal.returns-clause-leaves
@@ -20,4 +20,4 @@ returns-clause-leaves g c =
     let e = c.place_of-home.ensures in
     let going : c.self.inside.stopped ≡ false = ap (λ (v : View g.row.D.Denot). v.stopped) c.self.view_is ∙ c.requires in
     subst (λ (k : Bool). LeavesPage o d c.args.self.now (view_of d t k) c.place_of-home.result) (sym c.is_err-self-inside.ensures.value)
-    (page_left d o c.self.inside.parts t c.self.inside.stopped c.args.self.now c.self.view_is e.goes e.keeps.0 e.keeps.1 c.place_of-home.result going (λ told. on_ok_weaker c.place_of-home.result (λ x. x.1) (e.fold told)) e.refused e.faults)
+    (page_left d o c.self.inside.parts t c.self.inside.stopped c.args.self.now c.self.view_is c.self.invariant.buffer e.goes e.keeps.0 e.keeps.1 c.place_of-home.result going (λ told. on_ok_weaker c.place_of-home.result (λ x. x.1) (e.fold told)) e.refused e.faults)

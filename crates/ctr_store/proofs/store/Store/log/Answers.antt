@@ -1,11 +1,13 @@
 use Rattle.std.proofs.Common.{◌≡◌, ◌∙◌, ◌≤◌, [], ◌∷◌, false, sym, ap, subst}
 use Rattle.std.specs.Prelude.{IfOk}
 use Rattle.std.proofs.lemmas.Result.{on_ok_weaker}
+use Rattle.ctr_types.specs.Faults.{HasFault}
+use Rattle.ctr_disk.specs.declared.fault.StoreFault.TheVariants.{Fault}
 use Rattle.ctr_base.specs.BaseLaws.{rests_leaves}
-use Rattle.ctr_store.specs.Store.{View, MayLog, LeavesFront, Logs, TakesRecord}
+use Rattle.ctr_store.specs.Store.{View, MayLog, LeavesFront, MovesOn, Logs, TakesRecord}
 use Rattle.ctr_store.specs.StoreInside.{view_of}
 use Rattle.ctr_store.proofs.BufferLaws.{buffer_behind}
-use Rattle.ctr_store.proofs.StoreLaws.{can_of, of_ok, logs_seen, takes_seen}
+use Rattle.ctr_store.proofs.StoreLaws.{can_of, of_ok, front_seen, time_logged, logs_seen, takes_seen}
 use Rattle.ctr_store.proofs.store.Store.log.Goals as goal
 
 pub log-logged-requires-clause-can : goal.log-logged-requires-clause-can
@@ -17,7 +19,22 @@ returns-in-Err-clause-any_moment g c told sound =
     let a = c.self.inside in
     let going : a.stopped ≡ false = ap (λ (v : View g.row.D.Denot). v.stopped) c.self.view_is ∙ c.requires.may.going in
     let fold = c.self.invariant.fold told going in
-    subst (λ (v : View g.row.D.Denot). LeavesFront d v v) c.self.view_is (rests_leaves d g.O.Origin.first g.met.D.Disk.only_now a.parts.base fold.over.at_rest sound)
+    subst (λ (v : View g.row.D.Denot). LeavesFront d v v) c.self.view_is (front_seen d a.parts a.parts a.stopped a.stopped c.self.invariant.buffer (rests_leaves d g.O.Origin.first g.met.D.Disk.only_now a.parts.base fold.over.at_rest sound))
+
+pub returns-clause-any_moment : goal.returns-clause-any_moment
+returns-clause-any_moment g c told sound =
+    let a = c.self.inside in
+    let shown = view_of g.D.Disk c.log-logged.new.self c.is_err-self-inside.result in
+    subst (λ (v : View g.row.D.Denot). LeavesFront g.D.Disk v shown) c.self.view_is
+    (front_seen g.D.Disk a.parts c.log-logged.new.self a.stopped c.is_err-self-inside.result c.self.invariant.buffer (c.log-logged.ensures.goes told sound))
+
+pub returns-clause-counts : goal.returns-clause-counts
+returns-clause-counts g c =
+    let shown = view_of g.D.Disk c.log-logged.new.self c.is_err-self-inside.result in
+    let e = c.log-logged.ensures in
+    let Q : View g.row.D.Denot → Type 0 = λ v. MovesOn g.D.Disk v shown × HasFault Fault (g.D.Disk.faults_of v.disk) (g.D.Disk.faults_of shown.disk) c.log-logged.result in
+    subst Q c.self.view_is
+    (time_logged g.D.Disk c.args.rec.now c.self.inside.parts c.log-logged.new.self c.self.inside.stopped c.is_err-self-inside.result c.log-logged.result e.takes e.keeps, e.faults)
 
 pub invariant_of-self : goal.invariant_of-self
 invariant_of-self g c =
@@ -27,23 +44,22 @@ invariant_of-self g c =
     let e = c.log-logged.ensures in
     record {
       fold = λ told going. (of_ok c.log-logged.result (sym c.is_err-self-inside.ensures.value ∙ going) (e.logs told)).1;
-      buffer = buffer_behind c.args.rec.now s c.log-logged.new.self c.log-logged.result may.logged.record_is may.change room c.self.invariant.buffer e.takes e.keeps;
+      buffer = buffer_behind g.D.Disk c.args.rec.now s c.log-logged.new.self c.log-logged.result may.logged.record_is may.change room c.self.invariant.buffer e.takes e.keeps;
     }
 
 pub returns-clause-takes : goal.returns-clause-takes
 returns-clause-takes g c =
-    let d = g.D.Disk in
-    let t = c.log-logged.new.self in
-    let stopped = c.is_err-self-inside.result in
-    let e = c.log-logged.ensures in
-    subst (λ (v : View g.row.D.Denot). IfOk c.log-logged.result (λ lsn. TakesRecord c.args.rec.now lsn v (view_of d t stopped))) c.self.view_is
-    (takes_seen d c.args.rec.now c.self.inside.parts t c.self.inside.stopped stopped c.log-logged.result e.takes)
+    let r = c.args.rec.now in
+    let shown = view_of g.D.Disk c.log-logged.new.self c.is_err-self-inside.result in
+    subst (λ (v : View g.row.D.Denot). IfOk c.log-logged.result (λ lsn. TakesRecord r lsn v shown)) c.self.view_is
+    (takes_seen g.D.Disk r c.self.inside.parts c.log-logged.new.self c.self.inside.stopped c.is_err-self-inside.result c.log-logged.result c.log-logged.ensures.takes)
 
 pub returns-clause-logs : goal.returns-clause-logs
 returns-clause-logs g c told sound =
-    let d = g.D.Disk in
     let r = c.args.rec.now in
-    let s = c.self.inside.parts in
-    let t = c.log-logged.new.self in
-    let stopped = c.is_err-self-inside.result in
-    on_ok_weaker c.log-logged.result (λ both. subst (λ (v : View g.row.D.Denot). Logs (r ∷ []) v (view_of d t stopped)) c.self.view_is (logs_seen d r s t c.self.inside.stopped stopped (both.0 sound))) (c.log-logged.ensures.logs told)
+    let shown = view_of g.D.Disk c.log-logged.new.self c.is_err-self-inside.result in
+    on_ok_weaker c.log-logged.result
+    (λ both.
+    subst (λ (v : View g.row.D.Denot). Logs (r ∷ []) v shown) c.self.view_is
+    (logs_seen g.D.Disk r c.self.inside.parts c.log-logged.new.self c.self.inside.stopped c.is_err-self-inside.result (both.0 sound)))
+    (c.log-logged.ensures.logs told)

@@ -16,7 +16,7 @@ returns-in-Err g c =
       (
         refl,
         (λ _. tt),
-        page_fails d o s c.bring.new.self b c.args.self.now c.self.view_is e.goes e.keeps.0 e.keeps.1 c.in-Err.fault (λ told. c.in-Err.ensures.refused told (fold_low o d s (c.self.invariant.fold told going))) c.in-Err.ensures.faults,
+        page_fails d o s c.bring.new.self b c.args.self.now c.self.view_is c.self.invariant.buffer e.goes e.keeps.0 e.keeps.1 c.in-Err.fault (λ told. c.in-Err.ensures.refused told (fold_low o d s (c.self.invariant.fold told going))) c.in-Err.ensures.faults,
       ),
       record { shown = λ told sound inside. tt; whole = tt; after = tt },
     )
@@ -34,7 +34,7 @@ returns g c =
       (
         refl,
         (λ _. tt),
-        page_lends d o s t b c.args.self.now c.self.view_is c.bring.ensures.goes c.bring.ensures.keeps.0 c.bring.ensures.keeps.1 c.bytes.result c.in-Ok.field-0 going (λ told. (e.stays told).moves) e.faults,
+        page_lends d o s t b c.args.self.now c.self.view_is c.self.invariant.buffer c.bring.ensures.goes c.bring.ensures.keeps.0 c.bring.ensures.keeps.1 c.bytes.result c.in-Ok.field-0 going (λ told. (e.stays told).moves) e.faults,
       ),
       record {
         shown = λ told sound inside.

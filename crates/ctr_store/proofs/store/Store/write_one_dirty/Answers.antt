@@ -20,14 +20,14 @@ returns-clause-leaves g c =
     let e = c.write_one_dirty-wrote.ensures in
     let going : c.self.inside.stopped ≡ false = ap (λ (v : View g.row.D.Denot). v.stopped) c.self.view_is ∙ c.requires in
     subst (λ (k : Bool). LeavesPage o d c.args.self.now (view_of d t k) c.write_one_dirty-wrote.result) (sym c.is_err-self-inside.ensures.value)
-    (page_left d o c.self.inside.parts t c.self.inside.stopped c.args.self.now c.self.view_is e.goes e.keeps.0 e.keeps.1 c.write_one_dirty-wrote.result going e.moves e.refused e.faults)
+    (page_left d o c.self.inside.parts t c.self.inside.stopped c.args.self.now c.self.view_is c.self.invariant.buffer e.goes e.keeps.0 e.keeps.1 c.write_one_dirty-wrote.result going e.moves e.refused e.faults)
 
 pub invariant_of-self : goal.invariant_of-self
 invariant_of-self g c =
     let e = c.write_one_dirty-wrote.ensures in
     record {
       fold = λ told going. of_ok c.write_one_dirty-wrote.result (sym c.is_err-self-inside.ensures.value ∙ going) (e.fold told);
-      buffer = buffer_kept c.self.inside.parts.base c.write_one_dirty-wrote.new.self.base e.keeps.0 c.self.invariant.buffer;
+      buffer = buffer_kept g.D.Disk c.self.inside.parts.base c.write_one_dirty-wrote.new.self.base e.keeps.0 c.self.invariant.buffer;
     }
 
 pub returns-clause-home : goal.returns-clause-home
