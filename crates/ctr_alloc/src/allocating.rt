@@ -1,8 +1,8 @@
 // One record allocates a page of a store, or gives it back.
-ghost use Rattle.std.specs.Prelude.{◌≡◌, ◌<◌, ◌/◌, ◌%◌, ℕ, IsTrue, true, false, slice_index, IfOk, OnOk};
+ghost use Rattle.std.specs.Prelude.{◌≡◌, ◌<◌, ◌/◌, ◌%◌, ℕ, true, false, slice_index, IfOk, OnOk};
 ghost use Rattle.ctr_model.specs.declared.limits.TheConstants.{MOST_PAGES};
 ghost use Rattle.ctr_area.specs.Changes.{with_taken as area_with_taken, IsBitSet};
-ghost use Rattle.ctr_base.specs.Base.{IsSoundImage};
+ghost use Rattle.ctr_base.specs.Base.{WhereSound};
 ghost use Rattle.ctr_store.specs.Store.{LeavesPage};
 ghost use Rattle.ctr_walk.specs.OneRecord.{HasRoomForOne, LogsOne};
 ghost use Rattle.ctr_record_effects.specs.States.{pages_in, area_in, IsWholePage};
@@ -25,8 +25,8 @@ fn byte_with<D: Disk, O: Origin>(
 ) -> Result<u8, StoreFault>
     requires going { store.old.stopped ≡ false }
     requires small { p < MOST_PAGES }
-    ensures byte { IsTrue D.tells → IsSoundImage O.first → IfOk result (λ b. IsBitSet (p % 8) taken (slice_index (pages_in store.old.now 0) (p / 8)) b) }
-    ensures whole { IsTrue D.tells → IsSoundImage O.first → OnOk result (IsWholePage 0 store.old.now) }
+    ensures byte { WhereSound O.first D.Disk (IfOk result (λ b. IsBitSet (p % 8) taken (slice_index (pages_in store.old.now 0) (p / 8)) b)) }
+    ensures whole { WhereSound O.first D.Disk (OnOk result (IsWholePage 0 store.old.now)) }
     ensures leaves { LeavesPage O.first D.Disk store.old store.new result }
 {
     let page = store.page(0)?;
@@ -60,7 +60,7 @@ pub fn alloc<D: Disk, O: Origin>(
     requires small { p < MOST_PAGES }
     ensures one { (byte : ℕ) × LogsOne O.first D.Disk (alloc_record x p byte) store.old store.new result }
     // The page is allocated, and nothing else in the pages changes.
-    ensures taken { IsTrue D.tells → IsSoundImage O.first → OnOk result (area_in store.new.now ≡ area_with_taken p true (area_in store.old.now)) }
+    ensures taken { WhereSound O.first D.Disk (OnOk result (area_in store.new.now ≡ area_with_taken p true (area_in store.old.now))) }
 {
     a_record_behind_a_page::<D, u8, ()>();
     an_alloc_changes_its_bit();
@@ -84,7 +84,7 @@ pub fn free<D: Disk, O: Origin>(store: &mut Store<D, O>, p: PageNo) -> Result<()
     requires small { p < MOST_PAGES }
     ensures one { (byte : ℕ) × LogsOne O.first D.Disk (free_record p byte) store.old store.new result }
     // The page is free, and nothing else in the pages changes.
-    ensures freed { IsTrue D.tells → IsSoundImage O.first → OnOk result (area_in store.new.now ≡ area_with_taken p false (area_in store.old.now)) }
+    ensures freed { WhereSound O.first D.Disk (OnOk result (area_in store.new.now ≡ area_with_taken p false (area_in store.old.now))) }
 {
     a_record_behind_a_page::<D, u8, ()>();
     a_free_changes_its_bit();

@@ -1,6 +1,5 @@
 // The bit of a page in its byte of page 0.
-ghost use Rattle.std.specs.Prelude.{◌≡◌, ◌≤◌, ◌<◌, ◌+◌, ◌/◌, ◌%◌, ℕ, true, false, List, [], ◌∷◌, length, slice_index};
-ghost use Rattle.ctr_page.specs.declared.table.TheConstants.{PAGE_SIZE};
+ghost use Rattle.std.specs.Prelude.{◌≡◌, ◌<◌, ◌/◌, ◌%◌, ℕ, true, false, List, length, slice_index};
 ghost use Rattle.ctr_area.specs.Reading.{area_of};
 ghost use Rattle.ctr_area.specs.Changes.{with_taken as area_with_taken, IsBitSet, with_byte_of};
 

@@ -1,5 +1,5 @@
 // The lowest free page. The search looks at bytes, and begins where the last one ended.
-ghost use Rattle.std.specs.Prelude.{◌≡◌, ◌≤◌, ◌<◌, ◌/◌, ◌%◌, ℕ, true, false, List, [], ◌∷◌, length, slice_index, IfSome, MatchOption};
+ghost use Rattle.std.specs.Prelude.{◌≡◌, ◌≤◌, ◌<◌, ◌/◌, ◌%◌, ℕ, true, false, List, [], ◌∷◌, length, slice_index, IfSome};
 ghost use Rattle.std.specs.Int.{bit_at};
 ghost use Rattle.ctr_page.specs.Reading.{put_over};
 ghost use Rattle.ctr_area.specs.Areas.{Area};

@@ -1,6 +1,6 @@
 // Free pages of a store.
-ghost use Rattle.std.specs.Prelude.{◌≡◌, false, IsTrue, IfOk, OnOk};
-ghost use Rattle.ctr_base.specs.Base.{IsSoundImage};
+ghost use Rattle.std.specs.Prelude.{◌≡◌, false, IsTrue, IfOk};
+ghost use Rattle.ctr_base.specs.Base.{WhereSound, IsSoundImage};
 ghost use Rattle.ctr_store.specs.Store.{LeavesPage};
 ghost use Rattle.ctr_record_effects.specs.States.{area_in};
 ghost use Rattle.ctr_alloc.specs.Free.{AreTakenBelow, IsNextFree, search_end};
@@ -18,8 +18,8 @@ pub fn next_free<D: Disk, O: Origin>(
 ) -> Result<NextFree, StoreFault>
     requires going { store.old.stopped ≡ false }
     requires right { IsTrue D.tells → IsSoundImage O.first → AreTakenBelow search.old.from (area_in store.old.now).taken }
-    ensures next { IsTrue D.tells → IsSoundImage O.first → IfOk result (λ next. IsNextFree store.old.now.counted (area_in store.old.now).taken next) }
-    ensures right { IsTrue D.tells → IsSoundImage O.first → AreTakenBelow search.new.from (area_in store.old.now).taken }
+    ensures next { WhereSound O.first D.Disk (IfOk result (λ next. IsNextFree store.old.now.counted (area_in store.old.now).taken next)) }
+    ensures right { WhereSound O.first D.Disk (AreTakenBelow search.new.from (area_in store.old.now).taken) }
     ensures ended { IfOk result (λ next. search.new.from ≡ search_end store.old.now.counted next) }
     ensures leaves { LeavesPage O.first D.Disk store.old store.new result }
 {

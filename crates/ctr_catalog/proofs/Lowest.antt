@@ -1,19 +1,26 @@
 -- The lowest free entry of the catalog is the lowest on its first page, or else on its second.
-use Rattle.std.proofs.Common.{◌≡◌, ⊎_elim, inl, inr, ℕ, ◌+◌, ◌-◌, ◌*◌, ◌<◌, ◌≤◌, false, List, Option, None, Some, Ok, sym, ◌∙◌, ap, subst, arith}
-use Rattle.std.specs.Prelude.{◌==◌}
+use Rattle.std.proofs.Common.{◌≡◌, ⊎_elim, inl, inr, ℕ, ◌+◌, ◌-◌, ◌*◌, ◌<◌, ◌≤◌, false, List, Option, None, Some, Result, Ok, Err, sym, ◌∙◌, ap, subst, arith}
+use Rattle.std.specs.Prelude.{◌==◌, IfOk, IfSome}
 use Rattle.std.proofs.lemmas.Bool.{cases_lt}
 use Rattle.ctr_redo.specs.States.{page_limit}
+use Rattle.ctr_records.specs.declared.decoding.BadRecord.{BadRecord}
 use Rattle.ctr_page.specs.Searching.{IsFirst}
 use Rattle.ctr_area.specs.Areas.{Area}
 use Rattle.ctr_area.specs.Reading.{area_of}
 use Rattle.ctr_catalog.specs.Entries.{frees_in}
-use Rattle.ctr_catalog.specs.Free.{EndsOn, EndsCatalog, is_free_entry}
+use Rattle.ctr_catalog.specs.Free.{EndsFreeEntry, EndsCatalog, is_free_entry}
 use Rattle.ctr_catalog.proofs.Titles.{free_in_area}
 
 -- the pages of the catalog are there
 pub in_limit : (p : ℕ) → p < 3 → p < page_limit
 unfolding page_limit
 in_limit p lt = omega (arith, lt)
+
+-- one that is found on a page is one of its 16
+pub few_found : (counted : ℕ) (page : List ℕ) (found : Result (Option ℕ) BadRecord) → EndsFreeEntry counted page found → IfOk found (λ o. IfSome o (λ n. n < 16))
+few_found counted page (Ok (Some n)) ends = ends.1
+few_found counted page (Ok None) ends = tt
+few_found counted page (Err bad) ends = tt
 
 module _ (area : Area) where
   low : (m : ℕ) → frees_in area 0 m ≡ is_free_entry area m
@@ -49,11 +56,11 @@ module _ (area : Area) where
       before m le lt = omega (arith, le, lt)
 
 module _ (pages : ℕ → List ℕ) (counted : ℕ) where
-  first_page : (found : Option ℕ) → EndsOn counted 1 (pages 1) (Ok found) → IsFirst (frees_in (area_of pages) 0) 0 16 found
-  first_page found ends = free_in_area pages 0 0 counted (omega arith) found ends.1
+  first_page : (found : Option ℕ) → EndsFreeEntry counted (pages 1) (Ok found) → IsFirst (frees_in (area_of pages) 0) 0 16 found
+  first_page found ends = free_in_area pages 0 0 counted (omega arith) found ends
 
-  second_page : (found : Option ℕ) → EndsOn counted 2 (pages 2) (Ok found) → IsFirst (frees_in (area_of pages) 1) 0 16 found
-  second_page found ends = free_in_area pages 1 0 counted (omega arith) found ends.1
+  second_page : (found : Option ℕ) → EndsFreeEntry counted (pages 2) (Ok found) → IsFirst (frees_in (area_of pages) 1) 0 16 found
+  second_page found ends = free_in_area pages 1 0 counted (omega arith) found ends
 
   pub lowest_free : (found : Option ℕ) → EndsCatalog counted pages (Ok found) → IsFirst (is_free_entry (area_of pages)) 0 32 found
   lowest_free (Some e) (inl ends) = on_first (area_of pages) e (first_page (Some e) ends)

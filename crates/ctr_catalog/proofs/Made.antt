@@ -13,6 +13,7 @@ module _ {D : Type 0} (first : Image) (g : Ghosts D) (r : Record) (a b : View D)
   pub one_ok : {S T : Type 0} (x : S) (y : T) → LogsOne {T = S} first g r a b (Ok x) → LogsOne {T = T} first g r a b (Ok y)
   one_ok x y one = record {
     any_moment = one.any_moment;
+    time = one.time;
     logs = one.logs;
     takes = one.takes;
     fits = one.fits;
@@ -25,6 +26,7 @@ module _ {D : Type 0} (first : Image) (g : Ghosts D) (r : Record) (a b : View D)
   pub one_err : {S T : Type 0} (e : StoreFault) → LogsOne {T = S} first g r a b (Err e) → LogsOne {T = T} first g r a b (Err e)
   one_err {S} {T} e one = record {
     any_moment = one.any_moment;
+    time = one.time;
     logs = λ told sound. tt;
     takes = tt;
     fits = tt;

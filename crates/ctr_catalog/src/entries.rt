@@ -1,5 +1,5 @@
 // The entries on a page of the catalog.
-ghost use Rattle.std.specs.Prelude.{◌≡◌, ◌≤◌, ◌<◌, ◌+◌, ℕ, List, Option, length, Ok};
+ghost use Rattle.std.specs.Prelude.{◌≡◌, ◌<◌, ◌+◌, ℕ, List, Option, length, Ok};
 ghost use Rattle.ctr_page.specs.declared.table.TheConstants.{PAGE_SIZE, ENTRY_SIZE};
 ghost use Rattle.ctr_page.specs.Readable.{HasParts};
 ghost use Rattle.ctr_page.specs.Searching.{EndsSearch, IsFirst};

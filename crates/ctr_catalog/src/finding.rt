@@ -1,10 +1,10 @@
 // The table of a name that a snapshot sees, and whether one was changed since it was taken.
-ghost use Rattle.std.specs.Prelude.{◌≡◌, ◌<◌, ◌≤◌, ◌+◌, ◌/◌, ◌%◌, false, IsTrue, IfOk, length};
-ghost use Rattle.ctr_base.specs.Base.{IsSoundImage};
+ghost use Rattle.std.specs.Prelude.{◌≡◌, ◌<◌, ◌+◌, ◌/◌, ◌%◌, false, IfOk, IfSome, length};
+ghost use Rattle.ctr_base.specs.Base.{WhereSound};
 ghost use Rattle.ctr_page.specs.declared.table.TheConstants.{PAGE_SIZE};
 ghost use Rattle.ctr_store.specs.Store.{LeavesPage};
 ghost use Rattle.ctr_record_effects.specs.States.{pages_in, area_in};
-ghost use Rattle.ctr_walk.specs.Damage.{damage_told, EndsTold, ReadsPages};
+ghost use Rattle.ctr_walk.specs.Damage.{damage_told, searched, EndsOnPage, EndsTold, ReadsPages};
 ghost use Rattle.ctr_catalog.specs.Finding.{NamedSaid, stands_seen, change_since, is_made_so, change_made, checks_at, entry_seen, changed_in, EndsEntries, EndsEntry};
 
 use crate::entries::is_live_of;
@@ -12,11 +12,11 @@ use crate::writing::page_of;
 use ctr_base::Origin;
 use ctr_disk::{Disk, StoreFault};
 use ctr_meta::{Meta, is_changed, is_seen};
-use ctr_page::{BadChain, BadPage, check_entry, read_entry};
+use ctr_page::{BadPage, check_entry, read_entry};
 use ctr_snap::Snapshot;
 use ctr_store::Store;
 use ctr_types::{Name, Xid};
-use ctr_walk::tell;
+use ctr_walk::{SearchFault, found_on, tell};
 
 /// Who made a table, and who dropped it, 0 for nobody.
 #[derive(Clone, Copy, Debug, PartialEq, Eq)]
@@ -49,15 +49,16 @@ fn named_at<D: Disk, O: Origin>(
     name: &Name,
     entry: u8,
     counted: u32,
-) -> Result<Result<Option<MadeBy>, BadPage>, StoreFault>
+) -> Result<Option<MadeBy>, SearchFault>
     requires going { store.old.stopped ≡ false }
     requires some { 0 < counted }
     requires there { entry < 32 }
-    ensures said { IsTrue D.tells → IsSoundImage O.first → IfOk result (λ r. NamedSaid counted name.now (entry % 16) (pages_in store.old.now (1 + entry / 16)) r) }
-    ensures leaves { LeavesPage O.first D.Disk store.old store.new result }
+    ensures said { WhereSound O.first D.Disk (IfOk (searched result) (EndsOnPage (1 + entry / 16) (NamedSaid counted name.now (entry % 16) (pages_in store.old.now (1 + entry / 16))))) }
+    ensures leaves { LeavesPage O.first D.Disk store.old store.new (searched result) }
 {
-    let page = store.page(page_of(entry))?;
-    Ok(named_in(name, entry % 16, counted, page))
+    let at = page_of(entry);
+    let page = store.page(at)?;
+    found_on(at, named_in(name, entry % 16, counted, page))
 }
 
 /// Whether a table stands for a snapshot: it sees who made it, and not who dropped it.
@@ -106,24 +107,21 @@ fn search_entries<D: Disk, O: Origin>(
     name: &Name,
     snapshot: &Snapshot,
     me: Option<Xid>,
-) -> Result<Result<Option<u8>, BadChain>, StoreFault>
+) -> Result<Option<u8>, SearchFault>
     requires going { store.old.stopped ≡ false }
     requires some { 0 < store.old.now.counted }
-    ensures ends { IsTrue D.tells → IsSoundImage O.first
-        → IfOk result (λ r. EndsEntries (checks_at store.old.now.counted (pages_in store.old.now)) (entry_seen store.old.meta.tables snapshot.now me name.now (area_in store.old.now)) r) }
-    ensures leaves { LeavesPage O.first D.Disk store.old store.new result }
+    ensures ends { WhereSound O.first D.Disk (IfOk (searched result) (EndsEntries (checks_at store.old.now.counted (pages_in store.old.now)) (entry_seen store.old.meta.tables snapshot.now me name.now (area_in store.old.now)))) }
+    ensures inside { IfOk result (λ found. IfSome found (λ e. e < 32)) }
+    ensures leaves { LeavesPage O.first D.Disk store.old store.new (searched result) }
 {
     let counted = store.counted();
     for entry in 0..32 {
-        let found = match named_at(store, name, entry, counted)? {
-            Err(bad) => return Ok(Err(BadChain::OnPage(page_of(entry), bad))),
-            Ok(found) => found,
-        };
+        let found = named_at(store, name, entry, counted)?;
         if is_sought(store.meta(), snapshot, me, found) {
-            return Ok(Ok(Some(entry)));
+            return Ok(Some(entry));
         }
     }
-    Ok(Ok(None))
+    Ok(None)
 }
 
 /// The table of a name that a snapshot sees, by its entry of the catalog: the first live entry of the name whose creator it sees, and
@@ -137,8 +135,9 @@ pub fn find<D: Disk, O: Origin>(
 ) -> Result<Option<u8>, StoreFault>
     requires going { store.old.stopped ≡ false }
     requires some { 0 < store.old.now.counted }
-    ensures ends { IsTrue D.tells → IsSoundImage O.first
-        → EndsTold (damage_told D.Disk store.new) (EndsEntries (checks_at store.old.now.counted (pages_in store.old.now)) (entry_seen store.old.meta.tables snapshot.now me name.now (area_in store.old.now))) result }
+    ensures ends { WhereSound O.first D.Disk (EndsTold (damage_told D.Disk store.new) (EndsEntries (checks_at store.old.now.counted (pages_in store.old.now)) (entry_seen store.old.meta.tables snapshot.now me name.now (area_in store.old.now))) result) }
+    // It is an entry of the catalog.
+    ensures inside { IfOk result (λ found. IfSome found (λ e. e < 32)) }
     ensures leaves { ReadsPages O.first D.Disk store.old store.new result }
 {
     let found = search_entries(store, name, snapshot, me);
@@ -151,19 +150,16 @@ fn change_of<D: Disk, O: Origin>(
     entry: u8,
     name: &Name,
     snapshot: &Snapshot,
-) -> Result<Result<Option<Xid>, BadChain>, StoreFault>
+) -> Result<Option<Xid>, SearchFault>
     requires going { store.old.stopped ≡ false }
     requires some { 0 < store.old.now.counted }
     requires there { entry < 32 }
-    ensures ends { IsTrue D.tells → IsSoundImage O.first
-        → IfOk result (λ r. EndsEntry (checks_at store.old.now.counted (pages_in store.old.now) entry) (changed_in store.old.meta.tables snapshot.now name.now (area_in store.old.now) entry) entry r) }
-    ensures leaves { LeavesPage O.first D.Disk store.old store.new result }
+    ensures ends { WhereSound O.first D.Disk (IfOk (searched result) (EndsEntry (checks_at store.old.now.counted (pages_in store.old.now) entry) (changed_in store.old.meta.tables snapshot.now name.now (area_in store.old.now) entry) entry)) }
+    ensures leaves { LeavesPage O.first D.Disk store.old store.new (searched result) }
 {
     let counted = store.counted();
-    match named_at(store, name, entry, counted)? {
-        Err(bad) => Ok(Err(BadChain::OnPage(page_of(entry), bad))),
-        Ok(found) => Ok(Ok(change_found(store.meta(), snapshot, found))),
-    }
+    let found = named_at(store, name, entry, counted)?;
+    Ok(change_found(store.meta(), snapshot, found))
 }
 
 /// Who changed the table of a name that an entry is, so that a snapshot doesn't see it: who dropped it, or else who made it, where this
@@ -178,8 +174,7 @@ pub fn changed<D: Disk, O: Origin>(
     requires going { store.old.stopped ≡ false }
     requires some { 0 < store.old.now.counted }
     requires there { entry < 32 }
-    ensures ends { IsTrue D.tells → IsSoundImage O.first
-        → EndsTold (damage_told D.Disk store.new) (EndsEntry (checks_at store.old.now.counted (pages_in store.old.now) entry) (changed_in store.old.meta.tables snapshot.now name.now (area_in store.old.now) entry) entry) result }
+    ensures ends { WhereSound O.first D.Disk (EndsTold (damage_told D.Disk store.new) (EndsEntry (checks_at store.old.now.counted (pages_in store.old.now) entry) (changed_in store.old.meta.tables snapshot.now name.now (area_in store.old.now) entry) entry) result) }
     ensures leaves { ReadsPages O.first D.Disk store.old store.new result }
 {
     let found = change_of(store, entry, name, snapshot);

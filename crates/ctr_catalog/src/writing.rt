@@ -1,13 +1,13 @@
 // One record makes a table, drops one, or undoes an item of the secondary log.
-ghost use Rattle.std.specs.Prelude.{◌≡◌, ◌≢◌, ◌<◌, ◌+◌, ◌/◌, ℕ, IsTrue, IfOk, OnOk};
+ghost use Rattle.std.specs.Prelude.{◌≡◌, ◌≢◌, ◌<◌, ◌+◌, ◌/◌, ℕ, IfOk, OnOk};
 ghost use Rattle.ctr_bytes.specs.Fields.{spelled};
 ghost use Rattle.ctr_types.specs.Names.{IsName};
 ghost use Rattle.ctr_value.specs.Columns.{ColumnsFit};
-ghost use Rattle.ctr_base.specs.Base.{IsSoundImage};
+ghost use Rattle.ctr_base.specs.Base.{WhereSound};
 ghost use Rattle.ctr_page.specs.Columns.{new_entry_bytes};
 ghost use Rattle.ctr_area.specs.Changes.{new_title, empty_chains, with_title, ChangesEntry};
 ghost use Rattle.ctr_walk.specs.OneRecord.{HasRoomForOne, LogsOne};
-ghost use Rattle.ctr_record_effects.specs.States.{pages_in, area_in};
+ghost use Rattle.ctr_record_effects.specs.States.{area_in};
 ghost use Rattle.ctr_record_effects.specs.Changing.{create_record, drop_record, uncreate_record, undrop_record};
 ghost use Rattle.ctr_records.specs.Members.{ItemFits};
 ghost use Rattle.ctr_walk.specs.Damage.{damage_told};
@@ -80,8 +80,7 @@ fn log_created<D: Disk, O: Origin>(
     requires there { entry < 32 }
     requires fits { ColumnsFit schema.now.columns }
     ensures one { LogsOne O.first D.Disk (create_record x entry name.now schema.now.columns) store.old store.new result }
-    ensures made { IsTrue D.tells → IsSoundImage O.first
-        → OnOk result (ChangesEntry entry (new_title x name.now schema.now.columns) empty_chains (area_in store.old.now) (area_in store.new.now)) }
+    ensures made { WhereSound O.first D.Disk (OnOk result (ChangesEntry entry (new_title x name.now schema.now.columns) empty_chains (area_in store.old.now) (area_in store.new.now))) }
 {
     a_new_table_has_its_entry();
     has_room(name);
@@ -106,12 +105,11 @@ pub fn create<D: Disk, O: Origin>(
     requires counted { 2 < store.old.now.counted }
     requires fits { ColumnsFit schema.now.columns }
     // CatalogFull comes exactly where no entry is free.
-    ensures ends { IsTrue D.tells → IsSoundImage O.first → EndsMaking (damage_told D.Disk store.new) (λ e. create_record x e name.now schema.now.columns) store.old store.new result }
+    ensures ends { WhereSound O.first D.Disk (EndsMaking (damage_told D.Disk store.new) (λ e. create_record x e name.now schema.now.columns) store.old store.new result) }
     ensures few { IfOk result (λ e. e < 32) }
     ensures one { MakesTable O.first D.Disk (λ e. create_record x e name.now schema.now.columns) store.old store.new result }
     // The entry has the title of the new table and no page; other entries and what stands on their pages stay.
-    ensures made { IsTrue D.tells → IsSoundImage O.first
-        → IfOk result (λ e. ChangesEntry e (new_title x name.now schema.now.columns) empty_chains (area_in store.old.now) (area_in store.new.now)) }
+    ensures made { WhereSound O.first D.Disk (IfOk result (λ e. ChangesEntry e (new_title x name.now schema.now.columns) empty_chains (area_in store.old.now) (area_in store.new.now))) }
 {
     a_record_behind_a_page::<D, (), u8>();
     let entry = match find_free_entry(store) {
@@ -145,8 +143,7 @@ pub fn drop_table<D: Disk, O: Origin>(
     requires there { entry < 32 }
     ensures one { LogsOne O.first D.Disk (drop_record x entry) store.old store.new result }
     // The transaction is its dropper, and nothing else in the pages changes.
-    ensures dropped { IsTrue D.tells → IsSoundImage O.first
-        → OnOk result (area_in store.new.now ≡ with_title entry (record ((area_in store.old.now).title entry) { dropper = x }) (area_in store.old.now)) }
+    ensures dropped { WhereSound O.first D.Disk (OnOk result (area_in store.new.now ≡ with_title entry (record ((area_in store.old.now).title entry) { dropper = x }) (area_in store.old.now))) }
 {
     a_drop_changes_its_title();
     let bytes = number_made(x);
@@ -164,8 +161,8 @@ fn uncreate<D: Disk, O: Origin>(store: &mut Store<D, O>, entry: u8) -> Result<()
     requires counted { 2 < store.old.now.counted }
     requires there { entry < 32 }
     ensures one { LogsOne O.first D.Disk (uncreate_record entry) store.old store.new result }
-    ensures dead { IsTrue D.tells → IsSoundImage O.first → ((area_in store.old.now).title entry).state ≢ 0
-        → OnOk result (area_in store.new.now ≡ with_title entry (record ((area_in store.old.now).title entry) { state = 2 }) (area_in store.old.now)) }
+    ensures dead { WhereSound O.first D.Disk (((area_in store.old.now).title entry).state ≢ 0
+        → OnOk result (area_in store.new.now ≡ with_title entry (record ((area_in store.old.now).title entry) { state = 2 }) (area_in store.old.now))) }
 {
     an_uncreate_changes_its_title();
     let rec = Record::Uncreate {
@@ -181,8 +178,7 @@ fn undrop<D: Disk, O: Origin>(store: &mut Store<D, O>, entry: u8) -> Result<(), 
     requires counted { 2 < store.old.now.counted }
     requires there { entry < 32 }
     ensures one { LogsOne O.first D.Disk (undrop_record entry) store.old store.new result }
-    ensures kept { IsTrue D.tells → IsSoundImage O.first
-        → OnOk result (area_in store.new.now ≡ with_title entry (record ((area_in store.old.now).title entry) { dropper = 0 }) (area_in store.old.now)) }
+    ensures kept { WhereSound O.first D.Disk (OnOk result (area_in store.new.now ≡ with_title entry (record ((area_in store.old.now).title entry) { dropper = 0 }) (area_in store.old.now))) }
 {
     an_undrop_changes_its_title();
     let bytes = number_made(0);
@@ -204,8 +200,8 @@ pub fn undo_item<D: Disk, O: Origin>(
     requires fits { ItemFits item.now }
     ensures one { (byte : ℕ) × LogsOne O.first D.Disk (undo_record item.now byte) store.old store.new result }
     // What the item says of one page or one title is undone, and nothing else in the pages changes.
-    ensures undone { IsTrue D.tells → IsSoundImage O.first → HasMade item.now (area_in store.old.now)
-        → OnOk result (area_in store.new.now ≡ area_undone item.now (area_in store.old.now)) }
+    ensures undone { WhereSound O.first D.Disk (HasMade item.now (area_in store.old.now)
+        → OnOk result (area_in store.new.now ≡ area_undone item.now (area_in store.old.now))) }
 {
     match *item {
         SlogItem::AllocOf(_, p) => free(store, p),

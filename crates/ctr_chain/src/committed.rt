@@ -1,10 +1,10 @@
 // The newest committed version of a row.
-ghost use Rattle.std.specs.Prelude.{◌≡◌, ◌≤◌, ◌<◌, false, IsTrue, IfOk};
-ghost use Rattle.ctr_base.specs.Base.{IsSoundImage};
+ghost use Rattle.std.specs.Prelude.{◌≡◌, ◌≤◌, ◌<◌, false, IfOk};
+ghost use Rattle.ctr_base.specs.Base.{WhereSound};
 ghost use Rattle.ctr_store.specs.Store.{LeavesPage};
 ghost use Rattle.ctr_area.specs.Chains.{chain_of};
 ghost use Rattle.ctr_area.specs.Images.{is_committed_in};
-ghost use Rattle.ctr_walk.specs.Damage.{damage_told, EndsTold, ReadsPages};
+ghost use Rattle.ctr_walk.specs.Damage.{damage_told, searched, EndsTold, ReadsPages};
 ghost use Rattle.ctr_record_effects.specs.States.{pages_in, area_in};
 ghost use Rattle.ctr_chain.specs.Seeing.{first_xid};
 ghost use Rattle.ctr_chain.specs.Seeking.{sought_at, xid_found, xids_found};
@@ -12,10 +12,10 @@ ghost use Rattle.ctr_chain.specs.Seeking.{sought_at, xid_found, xids_found};
 use crate::seeking::{Found, Sought, seek};
 use ctr_base::Origin;
 use ctr_disk::{Disk, StoreFault};
-use ctr_page::{BadChain, Place};
+use ctr_page::Place;
 use ctr_store::Store;
 use ctr_types::Xid;
-use ctr_walk::tell;
+use ctr_walk::{SearchFault, tell};
 
 fn xid_found(found: Option<Found>) -> Option<Xid>
     ensures { result ≡ xid_found found }
@@ -30,19 +30,15 @@ fn xid_found(found: Option<Found>) -> Option<Xid>
 fn newest_found<D: Disk, O: Origin>(
     store: &mut Store<D, O>,
     place: Place,
-) -> Result<Result<Option<Xid>, BadChain>, StoreFault>
+) -> Result<Option<Xid>, SearchFault>
     requires going { store.old.stopped ≡ false }
     requires counted { (place.page < store.old.now.counted) × (64 ≤ store.old.now.counted) × (store.old.now.counted ≤ 30000) }
-    ensures ends { IsTrue D.tells → IsSoundImage O.first
-        → IfOk result (λ r. r ≡ xids_found (sought_at (is_committed_in store.old.meta.tables) store.old.now.counted (pages_in store.old.now) place)) }
-    ensures finds { IsTrue D.tells → IsSoundImage O.first
-        → IfOk result (λ r. IfOk r (λ x. x ≡ first_xid (is_committed_in store.old.meta.tables) (chain_of (area_in store.old.now).older ((area_in store.old.now).slot place)))) }
-    ensures leaves { LeavesPage O.first D.Disk store.old store.new result }
+    ensures ends { WhereSound O.first D.Disk (IfOk (searched result) (λ r. r ≡ xids_found (sought_at (is_committed_in store.old.meta.tables) store.old.now.counted (pages_in store.old.now) place))) }
+    ensures finds { WhereSound O.first D.Disk (IfOk result (λ x. x ≡ first_xid (is_committed_in store.old.meta.tables) (chain_of (area_in store.old.now).older ((area_in store.old.now).slot place)))) }
+    ensures leaves { LeavesPage O.first D.Disk store.old store.new (searched result) }
 {
-    match seek(store, place, &Sought::Committed)? {
-        Err(bad) => Ok(Err(bad)),
-        Ok(searched) => Ok(Ok(xid_found(searched.found))),
-    }
+    let searched = seek(store, place, &Sought::Committed)?;
+    Ok(xid_found(searched.found))
 }
 
 /// Whose the newest committed version of the row at a place is, or none where no version is committed. The slot, its table and each
@@ -55,11 +51,9 @@ pub fn newest<D: Disk, O: Origin>(
     requires going { store.old.stopped ≡ false }
     requires counted { (place.page < store.old.now.counted) × (64 ≤ store.old.now.counted) × (store.old.now.counted ≤ 30000) }
     // Damage is of the first on the way that fails its checks, or of a chain that is too long, and is told where that stands in the file.
-    ensures ends { IsTrue D.tells → IsSoundImage O.first
-        → EndsTold (damage_told D.Disk store.new) (λ r. r ≡ xids_found (sought_at (is_committed_in store.old.meta.tables) store.old.now.counted (pages_in store.old.now) place)) result }
+    ensures ends { WhereSound O.first D.Disk (EndsTold (damage_told D.Disk store.new) (λ r. r ≡ xids_found (sought_at (is_committed_in store.old.meta.tables) store.old.now.counted (pages_in store.old.now) place)) result) }
     // It is the first of the row's chain that is committed.
-    ensures finds { IsTrue D.tells → IsSoundImage O.first
-        → IfOk result (λ x. x ≡ first_xid (is_committed_in store.old.meta.tables) (chain_of (area_in store.old.now).older ((area_in store.old.now).slot place))) }
+    ensures finds { WhereSound O.first D.Disk (IfOk result (λ x. x ≡ first_xid (is_committed_in store.old.meta.tables) (chain_of (area_in store.old.now).older ((area_in store.old.now).slot place)))) }
     ensures leaves { ReadsPages O.first D.Disk store.old store.new result }
 {
     let found = newest_found(store, place);

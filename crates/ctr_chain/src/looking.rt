@@ -1,17 +1,19 @@
 // The transactions of the versions of a row, as they are read.
-ghost use Rattle.std.specs.Prelude.{◌≡◌, ◌≤◌, ◌<◌, false, IsTrue, IfOk, length};
-ghost use Rattle.ctr_base.specs.Base.{IsSoundImage};
+ghost use Rattle.std.specs.Prelude.{◌≡◌, ◌≤◌, ◌<◌, false, IfOk, length};
+ghost use Rattle.ctr_base.specs.Base.{WhereSound};
 ghost use Rattle.ctr_store.specs.Store.{LeavesPage};
 ghost use Rattle.ctr_page.specs.declared.table.TheConstants.{PAGE_SIZE};
 ghost use Rattle.ctr_record_effects.specs.States.{pages_in};
+ghost use Rattle.ctr_walk.specs.Damage.{searched, EndsOnPage};
 ghost use Rattle.ctr_chain.specs.Looking.{xid_there, look_of_slot, look_of_entry, LooksAtRow, LooksAtEntry};
 
 use ctr_base::Origin;
-use ctr_disk::{Disk, StoreFault};
+use ctr_disk::Disk;
 use ctr_page::{BadPage, Place, RowSlot, Version, VersionEntry};
 use ctr_pvs::{TableOf, check_there, row_in, version_in};
 use ctr_store::Store;
 use ctr_types::Xid;
+use ctr_walk::{SearchFault, found_on};
 
 /// Whose the versions of a slot are, 0 for none, and where the next one is.
 #[derive(Clone, Copy, Debug, PartialEq, Eq)]
@@ -88,16 +90,16 @@ pub(crate) fn look_at_row<D: Disk, O: Origin>(
     table: &TableOf,
     counted: u32,
     place: Place,
-) -> Result<Result<SlotLook, BadPage>, StoreFault>
+) -> Result<SlotLook, SearchFault>
     requires going { store.old.stopped ≡ false }
     requires some { 0 < counted }
     requires there { place.page < 30000 }
     requires few { table.now.count ≤ 7 }
-    ensures looks { IsTrue D.tells → IsSoundImage O.first → IfOk result (λ r. LooksAtRow counted table.now place.slot (pages_in store.old.now place.page) r) }
-    ensures leaves { LeavesPage O.first D.Disk store.old store.new result }
+    ensures looks { WhereSound O.first D.Disk (IfOk (searched result) (EndsOnPage place.page (LooksAtRow counted table.now place.slot (pages_in store.old.now place.page)))) }
+    ensures leaves { LeavesPage O.first D.Disk store.old store.new (searched result) }
 {
     let page = store.page(place.page)?;
-    Ok(row_looked(table, counted, place.slot, page))
+    found_on(place.page, row_looked(table, counted, place.slot, page))
 }
 
 fn entry_looked(
@@ -122,13 +124,13 @@ pub(crate) fn look_at_entry<D: Disk, O: Origin>(
     table: &TableOf,
     counted: u32,
     place: Place,
-) -> Result<Result<KeptLook, BadPage>, StoreFault>
+) -> Result<KeptLook, SearchFault>
     requires going { store.old.stopped ≡ false }
     requires some { (0 < counted) × (counted ≤ 30000) }
     requires few { table.now.count ≤ 7 }
-    ensures looks { IsTrue D.tells → IsSoundImage O.first → IfOk result (λ r. LooksAtEntry counted table.now place (pages_in store.old.now place.page) r) }
-    ensures leaves { LeavesPage O.first D.Disk store.old store.new result }
+    ensures looks { WhereSound O.first D.Disk (IfOk (searched result) (EndsOnPage place.page (LooksAtEntry counted table.now place (pages_in store.old.now place.page)))) }
+    ensures leaves { LeavesPage O.first D.Disk store.old store.new (searched result) }
 {
     let page = store.page(place.page)?;
-    Ok(entry_looked(table, counted, place, page))
+    found_on(place.page, entry_looked(table, counted, place, page))
 }

@@ -1,19 +1,21 @@
 // The row of a version that was found, read from the page that it stands on.
-ghost use Rattle.std.specs.Prelude.{◌≡◌, ◌≤◌, ◌<◌, false, IsTrue, IfOk, length};
-ghost use Rattle.ctr_base.specs.Base.{IsSoundImage};
+ghost use Rattle.std.specs.Prelude.{◌≡◌, ◌≤◌, ◌<◌, false, IfOk, length};
+ghost use Rattle.ctr_base.specs.Base.{WhereSound};
 ghost use Rattle.ctr_store.specs.Store.{LeavesPage};
 ghost use Rattle.ctr_page.specs.declared.table.TheConstants.{PAGE_SIZE};
 ghost use Rattle.ctr_record_effects.specs.States.{pages_in};
+ghost use Rattle.ctr_walk.specs.Damage.{searched, EndsOnPage};
 ghost use Rattle.ctr_chain.specs.Reading.{place_of_version, RowSaidAt};
 
 use crate::rows::{head_row, kept_row, previous_row};
 use crate::seeking::VersionAt;
 use ctr_base::Origin;
-use ctr_disk::{Disk, StoreFault};
+use ctr_disk::Disk;
 use ctr_page::{BadPage, Place};
 use ctr_pvs::{TableOf, row_in, version_in};
 use ctr_store::Store;
 use ctr_types::{OutOfMemory, Row};
+use ctr_walk::{SearchFault, found_on};
 use std::alloc::Global;
 
 /// A row, or none for a tombstone, unless memory runs out.
@@ -68,15 +70,18 @@ pub(crate) fn read_row<D: Disk, O: Origin>(
     counted: u32,
     row: Place,
     at: VersionAt,
-) -> Result<Result<Given, BadPage>, StoreFault>
+) -> Result<Given, SearchFault>
     requires going { store.old.stopped ≡ false }
     requires some { 0 < counted }
     requires few { table.now.count ≤ 7 }
-    ensures said { IsTrue D.tells → IsSoundImage O.first → (place_of_version row at).page < 30000
-        → IfOk result (RowSaidAt counted table.now at (place_of_version row at).slot (pages_in store.old.now (place_of_version row at).page)) }
-    ensures leaves { LeavesPage O.first D.Disk store.old store.new result }
+    ensures said { WhereSound O.first D.Disk ((place_of_version row at).page < 30000
+        → IfOk (searched result) (EndsOnPage (place_of_version row at).page (RowSaidAt counted table.now at (place_of_version row at).slot (pages_in store.old.now (place_of_version row at).page)))) }
+    ensures leaves { LeavesPage O.first D.Disk store.old store.new (searched result) }
 {
     let from = place_of_version(row, at);
     let page = store.page(from.page)?;
-    Ok(row_on(alloc, table, counted, at, from.slot, page))
+    found_on(
+        from.page,
+        row_on(alloc, table, counted, at, from.slot, page),
+    )
 }

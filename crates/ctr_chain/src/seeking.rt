@@ -1,6 +1,6 @@
 // The search through the versions of a row.
-ghost use Rattle.std.specs.Prelude.{◌≡◌, ◌≢◌, ◌≤◌, ◌<◌, ◌*◌, false, IsTrue, IfOk};
-ghost use Rattle.ctr_base.specs.Base.{IsSoundImage};
+ghost use Rattle.std.specs.Prelude.{◌≡◌, ◌≢◌, ◌≤◌, ◌<◌, ◌*◌, false, IfOk};
+ghost use Rattle.ctr_base.specs.Base.{WhereSound};
 ghost use Rattle.ctr_store.specs.Store.{LeavesPage};
 ghost use Rattle.ctr_record_effects.specs.States.{pages_in, area_in};
 ghost use Rattle.ctr_page.specs.Columns.{kinds_width as width_of_kinds};
@@ -8,13 +8,14 @@ ghost use Rattle.ctr_page.specs.Places.{kept_size as size_of_kept, room_for as r
 ghost use Rattle.ctr_page.specs.Walking.{most_in_chain};
 ghost use Rattle.ctr_area.specs.Checked.{kinds_at};
 ghost use Rattle.ctr_pvs.specs.Reading.{kinds_said};
+ghost use Rattle.ctr_walk.specs.Damage.{searched};
 ghost use Rattle.ctr_chain.specs.Seeing.{sought_by};
 ghost use Rattle.ctr_chain.specs.Seeking.{sought_along, FoundIn, SearchSaid};
 ghost use Rattle.ctr_pvs.specs.Table.{TableFits};
 
 use crate::looking::{SlotLook, look_at_entry, look_at_row};
 use ctr_base::Origin;
-use ctr_disk::{Disk, StoreFault};
+use ctr_disk::Disk;
 use ctr_meta::{Meta, is_seen};
 use ctr_page::{BadChain, Place, kept_size, kinds_width, room_for};
 use ctr_pvs::{TableOf, table_on};
@@ -22,6 +23,7 @@ use ctr_records::PageNo;
 use ctr_snap::Snapshot;
 use ctr_store::Store;
 use ctr_types::{Fate, Xid};
+use ctr_walk::SearchFault;
 
 /// Which version of a row is sought.
 #[derive(Drop)]
@@ -108,15 +110,15 @@ fn seek_along<D: Disk, O: Origin>(
     sought: &Sought,
     from: Place,
     home: PageNo,
-) -> Result<Result<Option<Found>, BadChain>, StoreFault>
+) -> Result<Option<Found>, SearchFault>
     requires going { store.old.stopped ≡ false }
     requires some { from.page ≢ 0 }
     requires counted { (64 ≤ counted) × (counted ≤ 30000) }
     requires few { table.now.count ≤ 7 }
-    ensures ends { IsTrue D.tells → IsSoundImage O.first → kinds_said table.now ≡ kinds_at (area_in store.old.now) table.now.entry
-        → IfOk result (λ r. r ≡ sought_along (sought_by store.old.meta.tables sought.now) (record { counted = counted; pages = pages_in store.old.now; entry = table.now.entry })
-        (most_in_chain counted * room_of (size_of_kept (width_of_kinds (kinds_said table.now)))) home from) }
-    ensures leaves { LeavesPage O.first D.Disk store.old store.new result }
+    ensures ends { WhereSound O.first D.Disk (kinds_said table.now ≡ kinds_at (area_in store.old.now) table.now.entry
+        → IfOk (searched result) (λ r. r ≡ sought_along (sought_by store.old.meta.tables sought.now) (record { counted = counted; pages = pages_in store.old.now; entry = table.now.entry })
+        (most_in_chain counted * room_of (size_of_kept (width_of_kinds (kinds_said table.now)))) home from)) }
+    ensures leaves { LeavesPage O.first D.Disk store.old store.new (searched result) }
 {
     let most = most_entries(table, counted);
     let mut at = from;
@@ -124,22 +126,19 @@ fn seek_along<D: Disk, O: Origin>(
     let mut left = most;
     while at.page != 0 {
         if left == 0 {
-            return Ok(Err(BadChain::TooLong { last, most }));
+            return Err(SearchFault::Bad(BadChain::TooLong { last, most }));
         }
-        let look = match look_at_entry(store, table, counted, at)? {
-            Err(bad) => return Ok(Err(BadChain::OnPage(at.page, bad))),
-            Ok(look) => look,
-        };
+        let look = look_at_entry(store, table, counted, at)?;
         if sought.is(store.meta(), look.xid) {
             let xid = look.xid;
             let at = VersionAt::Kept(at);
-            return Ok(Ok(Some(Found { xid, at })));
+            return Ok(Some(Found { xid, at }));
         }
         last = at.page;
         at = look.older;
         left -= 1;
     }
-    Ok(Ok(None))
+    Ok(None)
 }
 
 /// What the search through the versions of a row found: its table, and the version.
@@ -154,28 +153,19 @@ pub(crate) fn seek<D: Disk, O: Origin>(
     store: &mut Store<D, O>,
     place: Place,
     sought: &Sought,
-) -> Result<Result<Searched, BadChain>, StoreFault>
+) -> Result<Searched, SearchFault>
     requires going { store.old.stopped ≡ false }
     requires counted { (place.page < store.old.now.counted) × (64 ≤ store.old.now.counted) × (store.old.now.counted ≤ 30000) }
-    ensures said { IsTrue D.tells → IsSoundImage O.first → IfOk result (λ r. SearchSaid (sought_by store.old.meta.tables sought.now) store.old.now.counted (pages_in store.old.now) place r) }
-    ensures fits { IfOk result (λ r. IfOk r (λ s. TableFits s.table)) }
-    ensures leaves { LeavesPage O.first D.Disk store.old store.new result }
+    ensures said { WhereSound O.first D.Disk (IfOk (searched result) (SearchSaid (sought_by store.old.meta.tables sought.now) store.old.now.counted (pages_in store.old.now) place)) }
+    ensures fits { IfOk result (λ s. TableFits s.table) }
+    ensures leaves { LeavesPage O.first D.Disk store.old store.new (searched result) }
 {
     let counted = store.counted();
-    let table = match table_on(store, 1, place.page)? {
-        Err(bad) => return Ok(Err(bad)),
-        Ok(table) => table,
-    };
-    let look = match look_at_row(store, &table, counted, place)? {
-        Err(bad) => return Ok(Err(BadChain::OnPage(place.page, bad))),
-        Ok(look) => look,
-    };
+    let table = table_on(store, 1, place.page)?;
+    let look = look_at_row(store, &table, counted, place)?;
     if let Some(found) = found_in(sought, store.meta(), look) {
-        return Ok(Ok(Searched { table, found }));
+        return Ok(Searched { table, found });
     }
-    let found = match seek_along(store, &table, counted, sought, look.older, place.page)? {
-        Err(bad) => return Ok(Err(bad)),
-        Ok(found) => found,
-    };
-    Ok(Ok(Searched { table, found }))
+    let found = seek_along(store, &table, counted, sought, look.older, place.page)?;
+    Ok(Searched { table, found })
 }

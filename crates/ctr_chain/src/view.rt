@@ -1,23 +1,23 @@
 // The row that a session sees at a place.
-ghost use Rattle.std.specs.Prelude.{◌≡◌, ◌≤◌, ◌<◌, false, IsTrue, IfOk};
-ghost use Rattle.ctr_base.specs.Base.{IsSoundImage};
+ghost use Rattle.std.specs.Prelude.{◌≡◌, ◌≤◌, ◌<◌, false, IfOk};
+ghost use Rattle.ctr_base.specs.Base.{WhereSound};
 ghost use Rattle.ctr_store.specs.Store.{LeavesPage};
-ghost use Rattle.ctr_walk.specs.Damage.{damage_told, EndsTold, ReadsPages};
+ghost use Rattle.ctr_walk.specs.Damage.{damage_told, searched, EndsTold, ReadsPages};
 ghost use Rattle.ctr_record_effects.specs.States.{pages_in, area_in};
 ghost use Rattle.ctr_meta.specs.Seen.{xid_is_seen};
 ghost use Rattle.ctr_chain.specs.Seeking.{sought_at};
 ghost use Rattle.ctr_chain.specs.Rows.{GivesRow};
 ghost use Rattle.ctr_chain.specs.Visible.{as_read, EndsReading, visible_row};
 
-use crate::reading::{Given, place_of_version, read_row};
+use crate::reading::{Given, read_row};
 use crate::seeking::{Sought, seek};
 use ctr_base::Origin;
 use ctr_disk::{Disk, StoreFault};
-use ctr_page::{BadChain, Place};
+use ctr_page::Place;
 use ctr_snap::Snapshot;
 use ctr_store::Store;
 use ctr_types::{OutOfMemory, Row, Xid};
-use ctr_walk::tell;
+use ctr_walk::{SearchFault, tell};
 use std::alloc::Global;
 
 /// Why a row isn't read.
@@ -47,30 +47,19 @@ fn visible_found<D: Disk, O: Origin>(
     place: Place,
     snapshot: &Snapshot,
     me: Option<Xid>,
-) -> Result<Result<Given, BadChain>, StoreFault>
+) -> Result<Given, SearchFault>
     requires going { store.old.stopped ≡ false }
     requires counted { (place.page < store.old.now.counted) × (64 ≤ store.old.now.counted) × (store.old.now.counted ≤ 30000) }
-    ensures ends { IsTrue D.tells → IsSoundImage O.first
-        → IfOk result (EndsReading (sought_at (xid_is_seen store.old.meta.tables snapshot.now me) store.old.now.counted (pages_in store.old.now) place)) }
-    ensures shows { IsTrue D.tells → IsSoundImage O.first
-        → IfOk result (λ r. IfOk r (GivesRow (visible_row (xid_is_seen store.old.meta.tables snapshot.now me) (area_in store.old.now) place))) }
-    ensures leaves { LeavesPage O.first D.Disk store.old store.new result }
+    ensures ends { WhereSound O.first D.Disk (IfOk (searched result) (EndsReading (sought_at (xid_is_seen store.old.meta.tables snapshot.now me) store.old.now.counted (pages_in store.old.now) place))) }
+    ensures shows { WhereSound O.first D.Disk (IfOk result (GivesRow (visible_row (xid_is_seen store.old.meta.tables snapshot.now me) (area_in store.old.now) place))) }
+    ensures leaves { LeavesPage O.first D.Disk store.old store.new (searched result) }
 {
     let counted = store.counted();
-    let searched = match seek(store, place, &Sought::Seen { snapshot, me })? {
-        Err(bad) => return Ok(Err(bad)),
-        Ok(searched) => searched,
-    };
+    let searched = seek(store, place, &Sought::Seen { snapshot, me })?;
     let Some(found) = searched.found else {
-        return Ok(Ok(Ok(None)));
+        return Ok(Ok(None));
     };
-    match read_row(alloc, store, &searched.table, counted, place, found.at)? {
-        Err(bad) => {
-            let page = place_of_version(place, found.at).page;
-            Ok(Err(BadChain::OnPage(page, bad)))
-        }
-        Ok(given) => Ok(Ok(given)),
-    }
+    read_row(alloc, store, &searched.table, counted, place, found.at)
 }
 
 /// The row that a session sees at a place, by its snapshot or as its own: of the first version of the row's chain that it sees; none
@@ -86,11 +75,9 @@ pub fn visible<D: Disk, O: Origin>(
     requires going { store.old.stopped ≡ false }
     requires counted { (place.page < store.old.now.counted) × (64 ≤ store.old.now.counted) × (store.old.now.counted ≤ 30000) }
     // Damage is of the first on the way that fails its checks, or of a chain that is too long, and is told where that stands in the file.
-    ensures ends { IsTrue D.tells → IsSoundImage O.first
-        → EndsTold (damage_told D.Disk store.new) (EndsReading (sought_at (xid_is_seen store.old.meta.tables snapshot.now me) store.old.now.counted (pages_in store.old.now) place)) (as_read result) }
+    ensures ends { WhereSound O.first D.Disk (EndsTold (damage_told D.Disk store.new) (EndsReading (sought_at (xid_is_seen store.old.meta.tables snapshot.now me) store.old.now.counted (pages_in store.old.now) place)) (as_read result)) }
     // It is the row that the session sees. Memory runs out only where there is one.
-    ensures shows { IsTrue D.tells → IsSoundImage O.first
-        → IfOk (as_read result) (GivesRow (visible_row (xid_is_seen store.old.meta.tables snapshot.now me) (area_in store.old.now) place)) }
+    ensures shows { WhereSound O.first D.Disk (IfOk (as_read result) (GivesRow (visible_row (xid_is_seen store.old.meta.tables snapshot.now me) (area_in store.old.now) place))) }
     ensures leaves { ReadsPages O.first D.Disk store.old store.new (as_read result) }
 {
     let found = visible_found(alloc, store, place, snapshot, me);

@@ -1,6 +1,6 @@
 // The slot of a key of a table, and a free slot of a bucket, by the table's entry of the catalog.
-ghost use Rattle.std.specs.Prelude.{◌≡◌, ◌≤◌, ◌<◌, false, IsTrue, IfOk};
-ghost use Rattle.ctr_base.specs.Base.{IsSoundImage};
+ghost use Rattle.std.specs.Prelude.{◌≡◌, ◌≤◌, ◌<◌, false, IfOk, IfSome};
+ghost use Rattle.ctr_base.specs.Base.{WhereSound};
 ghost use Rattle.ctr_area.specs.Sound.{AreReadable};
 ghost use Rattle.ctr_page.specs.Places.{bucket_of as bucket_by};
 ghost use Rattle.ctr_record_effects.specs.States.{pages_in, area_in};
@@ -27,10 +27,11 @@ pub fn find<D: Disk, O: Origin>(
     requires counted { (64 ≤ store.old.now.counted) × (store.old.now.counted ≤ 30000) }
     requires there { entry < 32 }
     // Damage is of the table's entry or of the first page that fails its checks, and is told where that stands in the file of pages.
-    ensures ends { IsTrue D.tells → IsSoundImage O.first
-        → EndsTold (damage_told D.Disk store.new) (EndsBucket store.old.now.counted (pages_in store.old.now) entry (bucket_by key) (KeySought key)) result }
+    ensures ends { WhereSound O.first D.Disk (EndsTold (damage_told D.Disk store.new) (EndsBucket store.old.now.counted (pages_in store.old.now) entry (bucket_by key) (KeySought key)) result) }
     // It is exactly the slot of the key.
-    ensures finds { IsTrue D.tells → IsSoundImage O.first → AreReadable (area_in store.old.now) → IfOk result (FindsKey (area_in store.old.now) entry key) }
+    ensures finds { WhereSound O.first D.Disk (AreReadable (area_in store.old.now) → IfOk result (FindsKey (area_in store.old.now) entry key)) }
+    // It stands on a counted page.
+    ensures inside { IfOk result (λ found. IfSome found (λ at. at.page < store.old.now.counted)) }
     ensures leaves { ReadsPages O.first D.Disk store.old store.new result }
 {
     a_search_tells_the_key();
@@ -47,10 +48,11 @@ pub fn free_slot<D: Disk, O: Origin>(
     requires going { store.old.stopped ≡ false }
     requires counted { (64 ≤ store.old.now.counted) × (store.old.now.counted ≤ 30000) }
     requires there { (entry < 32) × (bucket < 8) }
-    ensures ends { IsTrue D.tells → IsSoundImage O.first
-        → EndsTold (damage_told D.Disk store.new) (EndsBucket store.old.now.counted (pages_in store.old.now) entry bucket FreeSought) result }
+    ensures ends { WhereSound O.first D.Disk (EndsTold (damage_told D.Disk store.new) (EndsBucket store.old.now.counted (pages_in store.old.now) entry bucket FreeSought) result) }
     // There is none exactly where all slots of the bucket's chain are used.
-    ensures finds { IsTrue D.tells → IsSoundImage O.first → AreReadable (area_in store.old.now) → IfOk result (FindsFree (area_in store.old.now) entry bucket) }
+    ensures finds { WhereSound O.first D.Disk (AreReadable (area_in store.old.now) → IfOk result (FindsFree (area_in store.old.now) entry bucket)) }
+    // It stands on a counted page.
+    ensures inside { IfOk result (λ found. IfSome found (λ at. at.page < store.old.now.counted)) }
     ensures leaves { ReadsPages O.first D.Disk store.old store.new result }
 {
     a_search_tells_a_free_slot();

@@ -1,8 +1,8 @@
 // One record lays a slot, makes a page empty, or puts one at the front of a chain.
-ghost use Rattle.std.specs.Prelude.{◌≡◌, ◌≤◌, ◌<◌, ◌+◌, ◌/◌, ◌-◌, ◌^◌, IsTrue, IfSome, OnOk};
+ghost use Rattle.std.specs.Prelude.{◌≡◌, ◌≤◌, ◌<◌, ◌+◌, ◌/◌, ◌-◌, ◌^◌, IfSome, OnOk};
 ghost use Rattle.ctr_model.specs.declared.limits.TheConstants.{MOST_PAGES};
 ghost use Rattle.ctr_meta.specs.Tables.{heads_in};
-ghost use Rattle.ctr_base.specs.Base.{IsSoundImage};
+ghost use Rattle.ctr_base.specs.Base.{WhereSound};
 ghost use Rattle.ctr_bytes.specs.Fields.{spelled};
 ghost use Rattle.ctr_page.specs.Making.{IsHeader, header_bytes};
 ghost use Rattle.ctr_area.specs.Reading.{slot_said, columns_on};
@@ -61,7 +61,7 @@ pub fn format<D: Disk, O: Origin>(
     requires fits { IsHeader header.now }
     ensures one { LogsOne O.first D.Disk (format_record x p header.now) store.old store.new result }
     // It has the header, nothing is used on it, and nothing else in the pages changes.
-    ensures empty { IsTrue D.tells → IsSoundImage O.first → 3 ≤ p → OnOk result (area_in store.new.now ≡ with_blank p header.now (area_in store.old.now)) }
+    ensures empty { WhereSound O.first D.Disk (3 ≤ p → OnOk result (area_in store.new.now ≡ with_blank p header.now (area_in store.old.now))) }
 {
     a_format_clears_its_page();
     let bytes = header_made(header);
@@ -88,8 +88,8 @@ pub fn put_slot<D: Disk, O: Origin>(
     requires lies { LiesOnPage place slot.now }
     ensures one { LogsOne O.first D.Disk (row_record x over place slot.now) store.old store.new result }
     // The slot at the place is this one, and nothing else in the pages changes.
-    ensures laid { IsTrue D.tells → IsSoundImage O.first → HasPlaceFor (pages_in store.old.now) place slot.now
-        → OnOk result (area_in store.new.now ≡ with_slot place (slot_said (columns_on (pages_in store.old.now) place.page) slot.now) (area_in store.old.now)) }
+    ensures laid { WhereSound O.first D.Disk (HasPlaceFor (pages_in store.old.now) place slot.now
+        → OnOk result (area_in store.new.now ≡ with_slot place (slot_said (columns_on (pages_in store.old.now) place.page) slot.now) (area_in store.old.now))) }
 {
     a_slot_is_laid();
     let w = slot.head.payload.as_slice().len();
@@ -140,8 +140,8 @@ pub fn link<D: Disk, O: Origin>(
     requires bucket { IfSome bucket (λ b. b < 8) }
     ensures one { LogsOne O.first D.Disk (front_record x p entry bucket) store.old store.new result }
     // The chain begins with the page, and nothing else in the pages changes.
-    ensures front { IsTrue D.tells → IsSoundImage O.first → IsOfTable (pages_in store.old.now) entry
-        → OnOk result (area_in store.new.now ≡ with_firsts entry (with_front bucket p ((area_in store.old.now).firsts entry)) (area_in store.old.now)) }
+    ensures front { WhereSound O.first D.Disk (IsOfTable (pages_in store.old.now) entry
+        → OnOk result (area_in store.new.now ≡ with_firsts entry (with_front bucket p ((area_in store.old.now).firsts entry)) (area_in store.old.now))) }
 {
     a_link_changes_its_chain();
     let bytes = number_made(p);

@@ -26,7 +26,7 @@ use Rattle.ctr_pvs.proofs.Told.{page_of_table, by_table, place_of_version}
 pub told_as : {B S T : Type 0} (told : B → StoreFault) (Ends : Result S B → Type 0) (Other : Result T B → Type 0) (e : StoreFault) → ((bad : B) → Ends (Err bad) → Other (Err bad)) → EndsTold told Ends (Err e)
     → EndsTold told Other (Err e)
 told_as told Ends Other Fault f ends = tt
-told_as told Ends Other (Damaged file at want got) f (bad, ends, is) = (bad, f bad ends, is)
+told_as told Ends Other (Damaged d) f (bad, ends, is) = (bad, f bad ends, is)
 
 -- the table of the page was found, and the place lies on it
 pub freeing_passes : (counted : ℕ) (pages : ℕ → List ℕ) (at : Place) (t : TableOf) (w : ℕ) → TableSaid 2 counted pages at.page (Ok t) → w ≡ kinds_width (kinds_said t) → lies_check (kept_size w) at.slot ≡ Ok tt

@@ -68,4 +68,4 @@ module _ {D : Type 0} (first : Image) (g : Ghosts D) (at : Place) (a b : View D)
       ends : (r : Result LentVersion StoreFault) → IsTrue g.tells → IsSoundImage first → IsRead r → OnErr r (r ≡ Err Fault) → EndsTold (damage_told g c) (VersionSaidAt a.now.counted (pages_in a.now) at) r
       ends (Ok l) told sound is_read none = ((passes told sound).passes, finds (Ok l) told sound is_read)
       ends (Err Fault) told sound is_read none = tt
-      ends (Err (Damaged file where_ want got)) told sound is_read fault = absurd (let f = fault in cc)
+      ends (Err (Damaged d)) told sound is_read fault = absurd (let f = fault in cc)

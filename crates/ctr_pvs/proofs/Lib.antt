@@ -1,6 +1,5 @@
 pub mod OneRecord
 pub mod Told
-pub mod Behind
 pub mod Sought
 pub mod Telling
 pub mod Freeing

@@ -1,5 +1,5 @@
 -- What the checks of a page and of its table say, where they pass.
-use Rattle.std.proofs.Common.{◌≡◌, ℕ, ◌+◌, ◌-◌, ◌/◌, ◌<◌, ◌≤◌, cond, List, drop, length, Result, Ok, Err, refl, sym, ◌∙◌, ap, subst, arith}
+use Rattle.std.proofs.Common.{◌≡◌, ℕ, ◌+◌, ◌-◌, ◌/◌, ◌%◌, ◌<◌, ◌≤◌, cond, List, drop, length, Result, Ok, Err, refl, sym, ◌∙◌, ap, subst, arith}
 use Rattle.std.specs.Prelude.{nat_lt, nat_le, true, ⊤}
 use Rattle.ctr_versions.proofs.Keys.{known}
 use Rattle.std.proofs.Math.Nat.{le-div_iff_mul-le}
@@ -12,6 +12,7 @@ use Rattle.ctr_records.specs.Damage.{wrong, expect, at_most}
 use Rattle.ctr_records.proofs.Reading.{bind_ok, guard_ok, expect_ok}
 use Rattle.ctr_page.specs.declared.checks.Chain.TheVariants.{Versions}
 use Rattle.ctr_page.specs.declared.walk.BadChain.{BadChain}
+use Rattle.ctr_page.specs.declared.walk.BadChain.TheVariants.{OnPage}
 use Rattle.ctr_page.specs.declared.header.Header.{Header}
 use Rattle.ctr_page.specs.declared.rows.Place.{Place}
 use Rattle.ctr_page.specs.Places.{slot_size, kept_size, room_for, start_of}
@@ -24,8 +25,9 @@ use Rattle.ctr_area.specs.Reading.{no_header, entry_bytes, header_on, columns_on
 use Rattle.ctr_area.specs.Checked.{kinds_at}
 use Rattle.ctr_area.specs.Changes.{IsPlaceOf}
 use Rattle.ctr_area.proofs.Written.{one_of_two}
+use Rattle.ctr_walk.proofs.Said.{bytes_of_entry}
 use Rattle.ctr_pvs.specs.declared.table.TableOf.{TableOf}
-use Rattle.ctr_pvs.specs.Table.{there_check, owner_check, catalog_check, told_of, owner_of, table_check, TableSaid}
+use Rattle.ctr_pvs.specs.Table.{there_check, owner_check, catalog_check, told_of, owner_of, table_check, KindsSaid, OwnerSaid, TableSaid}
 use Rattle.ctr_pvs.specs.Reading.{kinds_said, lies_check, kept_on_check, kept_at_check, row_on_check, row_check_at}
 
 -- what is wrong on a page isn't, where it passes
@@ -73,6 +75,29 @@ page_of_table kind counted pages p t said =
       wide = ap kinds_width same ∙ kinds_wide (drop 1 (columns_on pages p));
     }
 
+-- The page names the entry of its table, on a page of the catalog.
+module _ (kind counted : ℕ) (pages : ℕ → List ℕ) (p : ℕ) where
+  abbrev rest : ⊤ → Result ⊤ BadChain
+  rest _ = told_of (1 + owner_of (pages p) / 16) (catalog_check counted pages (owner_of (pages p)))
+
+  -- it names none
+  pub no_owner : (bad : BadRecord) → OwnerSaid kind counted p (pages p) (Err bad) → TableSaid kind counted pages p (Err (OnPage p bad))
+  no_owner bad said = ap (λ (r : Result ⊤ BadRecord). told_of p r >>= rest) said
+
+  module _ (e : ℕ) (owner : OwnerSaid kind counted p (pages p) (Ok e)) where
+    passes : table_check kind counted pages p ≡ told_of (1 + e / 16) (catalog_check counted pages e)
+    passes = ap (λ (r : Result ⊤ BadRecord). told_of p r >>= rest) owner.0 ∙ ap (λ x. told_of (1 + x / 16) (catalog_check counted pages x)) (sym owner.1)
+
+    pub table_named : e < 32 → (t : TableOf) → t.entry ≡ e → KindsSaid counted (e % 16) (pages (1 + e / 16)) (Ok t) → TableSaid kind counted pages p (Ok t)
+    table_named few t same said = (
+      passes ∙ ap (told_of (1 + e / 16)) said.0,
+      same ∙ owner.1,
+      said.1 ∙ sym (ap (λ l. kinds_of (columns_in l)) (bytes_of_entry pages e few)) ∙ ap (kinds_at (area_of pages)) (sym same),
+    )
+
+    pub no_table : (bad : BadRecord) → KindsSaid counted (e % 16) (pages (1 + e / 16)) (Err bad) → TableSaid kind counted pages p (Err (OnPage (1 + e / 16) bad))
+    no_table bad said = passes ∙ ap (told_of (1 + e / 16)) said
+
 -- what a check behind the table of a page finds, by the table
 pub by_table : (kind counted : ℕ) (pages : ℕ → List ℕ) (p : ℕ) (t : TableOf) (check : ℕ → List Kind → Result ⊤ BadRecord) (r : Result ⊤ BadRecord) → TableSaid kind counted pages p (Ok t) → check t.entry (kinds_said t) ≡ r
     → (table_check kind counted pages p >>= λ _. told_of p (check (owner_of (pages p)) (kinds_at (area_of pages) (owner_of (pages p))))) ≡ told_of p r
@@ -81,6 +106,13 @@ by_table kind counted pages p t check r said is =
     ap (λ (x : Result ⊤ BadChain). x >>= rest) said.0
     ∙ ap (λ e. told_of p (check e (kinds_at (area_of pages) e))) (sym said.1)
     ∙ ap (λ ks. told_of p (check t.entry ks)) (sym said.2) ∙ ap (told_of p) is
+
+-- where no table is found nothing behind it is looked at
+pub no_table_first : (kind counted : ℕ) (pages : ℕ → List ℕ) (p : ℕ) (check : ℕ → List Kind → Result ⊤ BadRecord) (bad : BadChain) → TableSaid kind counted pages p (Err bad)
+    → (table_check kind counted pages p >>= λ _. told_of p (check (owner_of (pages p)) (kinds_at (area_of pages) (owner_of (pages p))))) ≡ Err bad
+no_table_first kind counted pages p check bad said =
+    let rest : ⊤ → Result ⊤ BadChain = λ _. told_of p (check (owner_of (pages p)) (kinds_at (area_of pages) (owner_of (pages p)))) in
+    ap (λ (x : Result ⊤ BadChain). x >>= rest) said
 
 -- the slot at a place passes, by its table
 pub row_passes : (counted : ℕ) (pages : ℕ → List ℕ) (at : Place) (t : TableOf) → TableSaid 1 counted pages at.page (Ok t) → row_on_check counted t.entry (kinds_said t) at.slot (pages at.page) ≡ Ok tt

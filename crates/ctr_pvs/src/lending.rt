@@ -1,8 +1,8 @@
 // A version entry by its place, lent from its page.
-ghost use Rattle.std.specs.Prelude.{◌≡◌, ◌≤◌, ◌<◌, ◌+◌, false, IsTrue, IfOk, length};
+ghost use Rattle.std.specs.Prelude.{◌≡◌, ◌≤◌, ◌<◌, ◌+◌, false, IfOk, length};
 ghost use Rattle.std.specs.Borrow.{sem};
 ghost use Rattle.std.specs.Io.BufRead.{Rests};
-ghost use Rattle.ctr_base.specs.Base.{IsSoundImage};
+ghost use Rattle.ctr_base.specs.Base.{WhereSound};
 ghost use Rattle.ctr_store.specs.Store.{LeavesPage};
 ghost use Rattle.ctr_store.specs.contracts.store.Store.{the_row as store-row};
 ghost use Rattle.ctr_page.specs.declared.table.TheConstants.{PAGE_SIZE};
@@ -10,6 +10,7 @@ ghost use Rattle.ctr_page.specs.Places.{kept_size as size_of_kept, start_of as s
 ghost use Rattle.ctr_page.specs.Reading.{older_at};
 ghost use Rattle.ctr_page.specs.Making.{IsEntry};
 ghost use Rattle.ctr_record_effects.specs.States.{pages_in};
+ghost use Rattle.ctr_walk.specs.Damage.{searched, EndsOnPage};
 ghost use Rattle.ctr_pvs.specs.Reading.{WidthSaid, version_check_at, EndsAt};
 ghost use Rattle.ctr_pvs.specs.Lending.{entry_lent, IsKeptAt, LendsVersion};
 
@@ -17,11 +18,11 @@ use crate::reading::version_in;
 use crate::table::{TableOf, table_on};
 use ctr_base::Origin;
 use ctr_disk::{Disk, StoreFault};
-use ctr_page::{BadChain, BadPage, Place, Version, VersionEntry, kinds_width, read_version};
+use ctr_page::{BadPage, Place, Version, VersionEntry, kinds_width, read_version};
 use ctr_records::Bytes;
 use ctr_store::Store;
 use ctr_types::Xid;
-use ctr_walk::tell;
+use ctr_walk::{SearchFault, found_on, tell};
 
 /// A version entry as it is kept, with its payload lent from its page.
 #[derive(Clone, Copy, Debug)]
@@ -77,50 +78,50 @@ fn lent(entry: VersionEntry) -> LentVersion
     }
 }
 
-// The width of a table's rows, where the version entry at a place of a page of its versions passes.
+// The width of a table's rows, where the version entry of a number on a page of its versions passes.
+fn width_in(table: &TableOf, counted: u32, number: u16, page: &[u8]) -> Result<usize, BadPage>
+    requires some { 0 < counted }
+    requires few { table.now.count ≤ 7 }
+    requires whole { length page.now ≡ PAGE_SIZE }
+    ensures said { WidthSaid counted table.now number page.now result }
+    ensures fits { IfOk result (λ w. (w ≤ 2048) × (start_place (size_of_kept w) number + size_of_kept w ≤ PAGE_SIZE)) }
+{
+    match version_in(table, counted, number, page) {
+        Ok(_) => Ok(kinds_width(table.kinds())),
+        Err(bad) => Err(bad),
+    }
+}
+
+// The same of a page of a store.
 fn check_kept<D: Disk, O: Origin>(
     store: &mut Store<D, O>,
     table: &TableOf,
     counted: u32,
     place: Place,
-) -> Result<Result<usize, BadPage>, StoreFault>
+) -> Result<usize, SearchFault>
     requires going { store.old.stopped ≡ false }
     requires some { 0 < counted }
     requires there { place.page < 30000 }
     requires few { table.now.count ≤ 7 }
-    ensures said { IsTrue D.tells → IsSoundImage O.first → IfOk result (λ r. WidthSaid counted table.now place.slot (pages_in store.old.now place.page) r) }
-    ensures fits { IfOk result (λ r. IfOk r (λ w. (w ≤ 2048) × (start_place (size_of_kept w) place.slot + size_of_kept w ≤ PAGE_SIZE))) }
-    ensures leaves { LeavesPage O.first D.Disk store.old store.new result }
+    ensures said { WhereSound O.first D.Disk (IfOk (searched result) (EndsOnPage place.page (WidthSaid counted table.now place.slot (pages_in store.old.now place.page)))) }
+    ensures fits { IfOk result (λ w. (w ≤ 2048) × (start_place (size_of_kept w) place.slot + size_of_kept w ≤ PAGE_SIZE)) }
+    ensures leaves { LeavesPage O.first D.Disk store.old store.new (searched result) }
 {
-    let w = kinds_width(table.kinds());
     let page = store.page(place.page)?;
-    match version_in(table, counted, place.slot, page) {
-        Ok(_) => Ok(Ok(w)),
-        Err(bad) => Ok(Err(bad)),
-    }
+    found_on(place.page, width_in(table, counted, place.slot, page))
 }
 
 // The width of a table's rows, by the place of a version entry that passes; or the first damage on the way to it.
-fn width_at<D: Disk, O: Origin>(
-    store: &mut Store<D, O>,
-    place: Place,
-) -> Result<Result<usize, BadChain>, StoreFault>
+fn width_at<D: Disk, O: Origin>(store: &mut Store<D, O>, place: Place) -> Result<usize, SearchFault>
     requires going { store.old.stopped ≡ false }
     requires counted { (place.page < store.old.now.counted) × (store.old.now.counted ≤ 30000) }
-    ensures ends { IsTrue D.tells → IsSoundImage O.first
-        → IfOk result (EndsAt (version_check_at store.old.now.counted (pages_in store.old.now) place) (pages_in store.old.now) place) }
-    ensures fits { IfOk result (λ r. IfOk r (λ w. (w ≤ 2048) × (start_place (size_of_kept w) place.slot + size_of_kept w ≤ PAGE_SIZE))) }
-    ensures leaves { LeavesPage O.first D.Disk store.old store.new result }
+    ensures ends { WhereSound O.first D.Disk (IfOk (searched result) (EndsAt (version_check_at store.old.now.counted (pages_in store.old.now) place) (pages_in store.old.now) place)) }
+    ensures fits { IfOk result (λ w. (w ≤ 2048) × (start_place (size_of_kept w) place.slot + size_of_kept w ≤ PAGE_SIZE)) }
+    ensures leaves { LeavesPage O.first D.Disk store.old store.new (searched result) }
 {
     let counted = store.counted();
-    let table = match table_on(store, 2, place.page)? {
-        Err(bad) => return Ok(Err(bad)),
-        Ok(table) => table,
-    };
-    match check_kept(store, &table, counted, place)? {
-        Err(bad) => Ok(Err(BadChain::OnPage(place.page, bad))),
-        Ok(w) => Ok(Ok(w)),
-    }
+    let table = table_on(store, 2, place.page)?;
+    check_kept(store, &table, counted, place)
 }
 
 // The version entry at a place where one of rows so wide lies.
@@ -133,8 +134,7 @@ fn lend<D: Disk, O: Origin>(
     requires there { place.page < 30000 }
     requires width { w ≤ 2048 }
     requires inside { start_place (size_of_kept w) place.slot + size_of_kept w ≤ PAGE_SIZE }
-    ensures said { IsTrue D.tells → IsSoundImage O.first
-        → IfOk result (λ l. entry_lent l ≡ older_at w place.slot (pages_in store.old.now place.page)) }
+    ensures said { WhereSound O.first D.Disk (IfOk result (λ l. entry_lent l ≡ older_at w place.slot (pages_in store.old.now place.page))) }
     ensures fits { IfOk result (λ l. IsEntry (length l.payload.now) (entry_lent l)) }
     ensures* after { sem 𝓛 (Rests (store-row D.row O.row D.Disk O.Origin) store.entry (λ new. LeavesPage O.first D.Disk store.old new result)) }
 {
@@ -150,7 +150,7 @@ pub fn version<D: Disk, O: Origin>(
 ) -> Result<LentVersion<'_>, StoreFault>
     requires going { store.old.stopped ≡ false }
     requires counted { (place.page < store.old.now.counted) × (store.old.now.counted ≤ 30000) }
-    ensures finds { IsTrue D.tells → IsSoundImage O.first → IfOk result (IsKeptAt (pages_in store.old.now) place) }
+    ensures finds { WhereSound O.first D.Disk (IfOk result (IsKeptAt (pages_in store.old.now) place)) }
     // What is lent can be made.
     ensures fits { IfOk result (λ l. IsEntry (length l.payload.now) (entry_lent l)) }
     // Damage is told where it stands in the file of pages.

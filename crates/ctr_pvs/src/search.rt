@@ -1,6 +1,6 @@
 // A free version entry of a table, along the chain of its version pages.
-ghost use Rattle.std.specs.Prelude.{◌≡◌, ◌≤◌, ◌<◌, false, IsTrue, IfOk};
-ghost use Rattle.ctr_base.specs.Base.{IsSoundImage};
+ghost use Rattle.std.specs.Prelude.{◌≡◌, ◌≤◌, ◌<◌, false, IfOk, IfSome};
+ghost use Rattle.ctr_base.specs.Base.{WhereSound};
 ghost use Rattle.ctr_area.specs.Sound.{AreReadable};
 ghost use Rattle.ctr_walk.specs.Damage.{damage_told, EndsTold, ReadsPages};
 ghost use Rattle.ctr_record_effects.specs.States.{pages_in, area_in};
@@ -23,10 +23,11 @@ pub fn find_free_entry<D: Disk, O: Origin>(
     requires counted { (64 ≤ store.old.now.counted) × (store.old.now.counted ≤ 30000) }
     requires there { entry < 32 }
     // Damage is of the table's entry or of the first page that fails its checks, and is told where that stands in the file of pages.
-    ensures ends { IsTrue D.tells → IsSoundImage O.first
-        → EndsTold (damage_told D.Disk store.new) (EndsVersions store.old.now.counted (pages_in store.old.now) entry) result }
+    ensures ends { WhereSound O.first D.Disk (EndsTold (damage_told D.Disk store.new) (EndsVersions store.old.now.counted (pages_in store.old.now) entry) result) }
     // There is none exactly where all version entries of the table are used.
-    ensures finds { IsTrue D.tells → IsSoundImage O.first → AreReadable (area_in store.old.now) → IfOk result (FindsFreeEntry (area_in store.old.now) entry) }
+    ensures finds { WhereSound O.first D.Disk (AreReadable (area_in store.old.now) → IfOk result (FindsFreeEntry (area_in store.old.now) entry)) }
+    // It stands on a counted page.
+    ensures inside { IfOk result (λ found. IfSome found (λ at. at.page < store.old.now.counted)) }
     ensures leaves { ReadsPages O.first D.Disk store.old store.new result }
 {
     search_chain(store, Chain::Versions { entry }, &FreeEntry)

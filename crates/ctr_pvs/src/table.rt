@@ -1,17 +1,19 @@
 // The table that a page is of.
-ghost use Rattle.std.specs.Prelude.{◌≡◌, ◌≤◌, ◌<◌, ◌+◌, ◌*◌, ◌/◌, ◌%◌, false, IsTrue, IfOk, length, take};
-ghost use Rattle.ctr_base.specs.Base.{IsSoundImage};
+ghost use Rattle.std.specs.Prelude.{◌≡◌, ◌≤◌, ◌<◌, ◌+◌, ◌*◌, ◌/◌, ◌%◌, false, IfOk, length, take};
+ghost use Rattle.ctr_base.specs.Base.{WhereSound};
 ghost use Rattle.ctr_store.specs.Store.{LeavesPage};
 ghost use Rattle.ctr_page.specs.declared.table.TheConstants.{PAGE_SIZE};
 ghost use Rattle.ctr_record_effects.specs.States.{pages_in};
-ghost use Rattle.ctr_pvs.specs.Table.{there_check, owner_check, KindsSaid, OwnerSaid, TableFits, TableSaid};
+ghost use Rattle.ctr_walk.specs.Damage.{searched, EndsOnPage};
+ghost use Rattle.ctr_pvs.specs.Table.{there_check, KindsSaid, OwnerSaid, TableFits, TableSaid};
 
 use ctr_base::Origin;
-use ctr_disk::{Disk, StoreFault};
-use ctr_page::{BadChain, BadPage, check_entry, read_entry, read_header};
+use ctr_disk::Disk;
+use ctr_page::{BadPage, check_entry, read_entry, read_header};
 use ctr_records::{BadRecord, PageNo, at_most, expect};
 use ctr_store::Store;
 use ctr_types::Kind;
+use ctr_walk::{SearchFault, found_on};
 
 /// The bytes of an entry of the catalog.
 const ENTRY: u64 = 256;
@@ -75,16 +77,16 @@ fn owner_on<D: Disk, O: Origin>(
     kind: u8,
     counted: u32,
     p: PageNo,
-) -> Result<Result<u8, BadPage>, StoreFault>
+) -> Result<u8, SearchFault>
     requires going { store.old.stopped ≡ false }
     requires some { 0 < counted }
     requires there { p < 30000 }
-    ensures said { IsTrue D.tells → IsSoundImage O.first → IfOk result (λ r. OwnerSaid kind counted p (pages_in store.old.now p) r) }
-    ensures few { IfOk result (λ r. IfOk r (λ e. e < 32)) }
-    ensures leaves { LeavesPage O.first D.Disk store.old store.new result }
+    ensures said { WhereSound O.first D.Disk (IfOk (searched result) (EndsOnPage p (OwnerSaid kind counted p (pages_in store.old.now p)))) }
+    ensures few { IfOk result (λ e. e < 32) }
+    ensures leaves { LeavesPage O.first D.Disk store.old store.new (searched result) }
 {
     let page = store.page(p)?;
-    Ok(owner_in(kind, counted, p, page))
+    found_on(p, owner_in(kind, counted, p, page))
 }
 
 /// What an entry on a page of the catalog says of its table, which isn't free.
@@ -123,16 +125,17 @@ fn table_at<D: Disk, O: Origin>(
     store: &mut Store<D, O>,
     entry: u8,
     counted: u32,
-) -> Result<Result<TableOf, BadPage>, StoreFault>
+) -> Result<TableOf, SearchFault>
     requires going { store.old.stopped ≡ false }
     requires some { 0 < counted }
     requires there { entry < 32 }
-    ensures said { IsTrue D.tells → IsSoundImage O.first → IfOk result (λ r. KindsSaid counted (entry % 16) (pages_in store.old.now (1 + entry / 16)) r) }
-    ensures few { IfOk result (λ r. IfOk r (λ t. (t.count ≤ 7) × (t.entry ≡ entry))) }
-    ensures leaves { LeavesPage O.first D.Disk store.old store.new result }
+    ensures said { WhereSound O.first D.Disk (IfOk (searched result) (EndsOnPage (1 + entry / 16) (KindsSaid counted (entry % 16) (pages_in store.old.now (1 + entry / 16))))) }
+    ensures few { IfOk result (λ t. (t.count ≤ 7) × (t.entry ≡ entry)) }
+    ensures leaves { LeavesPage O.first D.Disk store.old store.new (searched result) }
 {
-    let page = store.page(catalog_page(entry))?;
-    Ok(table_in(entry, counted, page))
+    let at = catalog_page(entry);
+    let page = store.page(at)?;
+    found_on(at, table_in(entry, counted, page))
 }
 
 /// The table that a page of rows (kind 1) or of versions (2) is of: the page and the entry of the catalog that it names are read,
@@ -141,21 +144,15 @@ pub fn table_on<D: Disk, O: Origin>(
     store: &mut Store<D, O>,
     kind: u8,
     p: PageNo,
-) -> Result<Result<TableOf, BadChain>, StoreFault>
+) -> Result<TableOf, SearchFault>
     requires going { store.old.stopped ≡ false }
     requires counted { store.old.now.counted ≤ 30000 }
     requires there { p < store.old.now.counted }
-    ensures said { IsTrue D.tells → IsSoundImage O.first → IfOk result (λ r. TableSaid kind store.old.now.counted (pages_in store.old.now) p r) }
-    ensures fits { IfOk result (λ r. IfOk r TableFits) }
-    ensures leaves { LeavesPage O.first D.Disk store.old store.new result }
+    ensures said { WhereSound O.first D.Disk (IfOk (searched result) (TableSaid kind store.old.now.counted (pages_in store.old.now) p)) }
+    ensures fits { IfOk result TableFits }
+    ensures leaves { LeavesPage O.first D.Disk store.old store.new (searched result) }
 {
     let counted = store.counted();
-    let entry = match owner_on(store, kind, counted, p)? {
-        Err(bad) => return Ok(Err(BadChain::OnPage(p, bad))),
-        Ok(entry) => entry,
-    };
-    match table_at(store, entry, counted)? {
-        Err(bad) => Ok(Err(BadChain::OnPage(catalog_page(entry), bad))),
-        Ok(table) => Ok(Ok(table)),
-    }
+    let entry = owner_on(store, kind, counted, p)?;
+    table_at(store, entry, counted)
 }

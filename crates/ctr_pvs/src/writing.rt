@@ -1,16 +1,16 @@
 // One record lays a version entry, or frees one.
-ghost use Rattle.std.specs.Prelude.{◌≡◌, ◌≤◌, ◌<◌, ◌+◌, false, IsTrue, OnOk, IfOk, length, take};
+ghost use Rattle.std.specs.Prelude.{◌≡◌, ◌≤◌, ◌<◌, ◌+◌, false, OnOk, IfOk, length, take};
 ghost use Rattle.ctr_redo.specs.States.{page_at};
 ghost use Rattle.ctr_page.specs.Making.{kept_bytes};
 ghost use Rattle.ctr_model.specs.declared.limits.TheConstants.{MOST_PAGES};
-ghost use Rattle.ctr_base.specs.Base.{IsSoundImage};
+ghost use Rattle.ctr_base.specs.Base.{WhereSound};
 ghost use Rattle.ctr_page.specs.declared.table.TheConstants.{PAGE_SIZE};
 ghost use Rattle.ctr_page.specs.Places.{kept_size as size_of_kept, start_of as start_place};
 ghost use Rattle.ctr_area.specs.Areas.{free_older};
 ghost use Rattle.ctr_area.specs.Reading.{older_said, columns_on, width_on};
 ghost use Rattle.ctr_area.specs.Changes.{with_older, IsPlaceOf};
 ghost use Rattle.ctr_walk.specs.OneRecord.{HasRoomForOne, LogsOne};
-ghost use Rattle.ctr_walk.specs.Damage.{damage_told, EndsTold};
+ghost use Rattle.ctr_walk.specs.Damage.{damage_told, searched, EndsTold};
 ghost use Rattle.ctr_store.specs.Store.{LeavesPage};
 ghost use Rattle.ctr_record_effects.specs.States.{pages_in, area_in};
 ghost use Rattle.ctr_pvs.specs.Reading.{EndsAt};
@@ -22,7 +22,7 @@ use crate::reading::check_lies;
 use crate::table::table_on;
 use ctr_base::Origin;
 use ctr_disk::{Disk, StoreFault};
-use ctr_page::{BadChain, Place, Version, VersionEntry, kept_size, kinds_width, make_version};
+use ctr_page::{Place, Version, VersionEntry, kept_size, kinds_width, make_version};
 use ctr_record_effects::{a_version_is_laid, over_place};
 use ctr_record_laws::{
     a_free_entry_shows_the_same, a_keep_shows_the_same, a_kept_version_is_spare,
@@ -30,7 +30,7 @@ use ctr_record_laws::{
 use ctr_records::{Bytes, Record};
 use ctr_store::Store;
 use ctr_types::Xid;
-use ctr_walk::{log_on_page, tell};
+use ctr_walk::{SearchFault, found_on, log_on_page, tell};
 
 /// The most bytes of a version entry.
 const ENTRY_MOST: usize = 2_072;
@@ -50,10 +50,10 @@ pub fn keep<D: Disk, O: Origin>(
     requires lies { EntryLies place version.now }
     ensures one { LogsOne O.first D.Disk (keep_record x place version.now) store.old store.new result }
     // The version entry at the place is this one, and nothing else in the pages changes.
-    ensures kept { IsTrue D.tells → IsSoundImage O.first → HasPlaceOfVersion (pages_in store.old.now) place version.now
-        → OnOk result (area_in store.new.now ≡ with_older place (older_said (columns_on (pages_in store.old.now) place.page) version.now) (area_in store.old.now)) }
+    ensures kept { WhereSound O.first D.Disk (HasPlaceOfVersion (pages_in store.old.now) place version.now
+        → OnOk result (area_in store.new.now ≡ with_older place (older_said (columns_on (pages_in store.old.now) place.page) version.now) (area_in store.old.now))) }
     // In a sound state nothing else is shown than before.
-    ensures shows { IsTrue D.tells → IsSoundImage O.first → MayKeep store.old.now place version.now → OnOk result (KeepsVersion place version.now store.old.now store.new.now) }
+    ensures shows { WhereSound O.first D.Disk (MayKeep store.old.now place version.now → OnOk result (KeepsVersion place version.now store.old.now store.new.now)) }
 {
     a_version_is_laid();
     a_keep_shows_the_same();
@@ -100,9 +100,9 @@ fn lay_blank<D: Disk, O: Origin>(
     requires narrow { w ≤ 2048 }
     requires inside { start_place (size_of_kept w) place.slot + size_of_kept w ≤ PAGE_SIZE }
     ensures one { LogsOne O.first D.Disk (blank_record place w) store.old store.new result }
-    ensures freed { IsTrue D.tells → IsSoundImage O.first → IsPlaceOf 2 (pages_in store.old.now) place → width_on (pages_in store.old.now) place.page ≡ w
-        → OnOk result (area_in store.new.now ≡ with_older place free_older (area_in store.old.now)) }
-    ensures whole { IsTrue D.tells → IsSoundImage O.first → OnOk result (length (page_at place.page store.old.now.pages) ≡ PAGE_SIZE) }
+    ensures freed { WhereSound O.first D.Disk (IsPlaceOf 2 (pages_in store.old.now) place → width_on (pages_in store.old.now) place.page ≡ w
+        → OnOk result (area_in store.new.now ≡ with_older place free_older (area_in store.old.now))) }
+    ensures whole { WhereSound O.first D.Disk (OnOk result (length (page_at place.page store.old.now.pages) ≡ PAGE_SIZE)) }
 {
     a_version_is_laid();
     let size = kept_size(w);
@@ -117,22 +117,17 @@ fn lay_blank<D: Disk, O: Origin>(
 fn width_to_free<D: Disk, O: Origin>(
     store: &mut Store<D, O>,
     place: Place,
-) -> Result<Result<usize, BadChain>, StoreFault>
+) -> Result<usize, SearchFault>
     requires going { store.old.stopped ≡ false }
     requires counted { (place.page < store.old.now.counted) × (store.old.now.counted ≤ 30000) }
-    ensures ends { IsTrue D.tells → IsSoundImage O.first → IfOk result (EndsAt (drop_check store.old.now.counted (pages_in store.old.now) place) (pages_in store.old.now) place) }
-    ensures fits { IfOk result (λ r. IfOk r (λ w. (w ≤ 2048) × (start_place (size_of_kept w) place.slot + size_of_kept w ≤ PAGE_SIZE))) }
-    ensures leaves { LeavesPage O.first D.Disk store.old store.new result }
+    ensures ends { WhereSound O.first D.Disk (IfOk (searched result) (EndsAt (drop_check store.old.now.counted (pages_in store.old.now) place) (pages_in store.old.now) place)) }
+    ensures fits { IfOk result (λ w. (w ≤ 2048) × (start_place (size_of_kept w) place.slot + size_of_kept w ≤ PAGE_SIZE)) }
+    ensures leaves { LeavesPage O.first D.Disk store.old store.new (searched result) }
 {
-    let table = match table_on(store, 2, place.page)? {
-        Err(bad) => return Ok(Err(bad)),
-        Ok(table) => table,
-    };
+    let table = table_on(store, 2, place.page)?;
     let w = kinds_width(table.kinds());
-    match check_lies(kept_size(w), place.slot) {
-        Err(bad) => Ok(Err(BadChain::OnPage(place.page, bad))),
-        Ok(()) => Ok(Ok(w)),
-    }
+    found_on(place.page, check_lies(kept_size(w), place.slot))?;
+    Ok(w)
 }
 
 /// Frees a version entry, by one record, which isn't hardened yet. Its page and the table's entry of the catalog are checked as they are
@@ -144,14 +139,13 @@ pub fn free_entry<D: Disk, O: Origin>(
     requires room { HasRoomForOne 0 0 store.old }
     requires counted { (place.page < store.old.now.counted) × (store.old.now.counted ≤ 30000) }
     // Damage is told where it stands in the file of pages.
-    ensures ends { IsTrue D.tells → IsSoundImage O.first
-        → EndsTold (damage_told D.Disk store.new) (λ r. r ≡ drop_check store.old.now.counted (pages_in store.old.now) place) result }
+    ensures ends { WhereSound O.first D.Disk (EndsTold (damage_told D.Disk store.new) (λ r. r ≡ drop_check store.old.now.counted (pages_in store.old.now) place) result) }
     ensures one { DropsEntry O.first D.Disk place store.old store.new result }
     // The version entry isn't used, and nothing else in the pages changes.
-    ensures freed { IsTrue D.tells → IsSoundImage O.first → OnOk result (area_in store.new.now ≡ with_older place free_older (area_in store.old.now)) }
+    ensures freed { WhereSound O.first D.Disk (OnOk result (area_in store.new.now ≡ with_older place free_older (area_in store.old.now))) }
     // Where no chain has it, nothing else is shown than before.
-    ensures shows { IsTrue D.tells → IsSoundImage O.first → HasSoundArea store.old.now → IsInNoChain (area_in store.old.now) place
-        → OnOk result (ShowsTheSame store.old.now store.new.now) }
+    ensures shows { WhereSound O.first D.Disk (HasSoundArea store.old.now → IsInNoChain (area_in store.old.now) place
+        → OnOk result (ShowsTheSame store.old.now store.new.now)) }
 {
     a_free_entry_shows_the_same();
     let found = width_to_free(store, place);

@@ -1,11 +1,13 @@
 -- The bytes of a slot without its head, by what its own bytes say.
-use Rattle.std.proofs.Common.{◌≡◌, ◌≢◌, ℕ, cond, Bool, true, false, pos, List, take, Option, None, Some, Result, Ok, refl, sym, ◌∙◌, ap, subst, arith}
+use Rattle.std.proofs.Common.{◌≡◌, ◌≢◌, ℕ, cond, Bool, true, false, pos, List, take, Option, None, Some, Result, Ok, Err, refl, sym, ◌∙◌, ap, subst, arith}
 use Rattle.std.specs.Prelude.{◌==◌, ⊤}
 use Rattle.std.proofs.lemmas.Bool.{ne_eqb, eq-eqb}
 use Rattle.std.proofs.lemmas.List.{length-replicate}
 use Rattle.ctr_bytes.specs.Following.{◌>>=◌}
 use Rattle.ctr_records.specs.declared.decoding.BadRecord.{BadRecord}
 use Rattle.ctr_types.specs.declared.value.Kind.{Kind}
+use Rattle.ctr_page.specs.declared.walk.BadChain.{BadChain}
+use Rattle.ctr_page.specs.declared.walk.BadChain.TheVariants.{OnPage}
 use Rattle.ctr_page.specs.declared.rows.Version.{Version}
 use Rattle.ctr_page.specs.declared.rows.RowSlot.{RowSlot}
 use Rattle.ctr_page.specs.declared.rows.VersionEntry.{VersionEntry}
@@ -16,7 +18,7 @@ use Rattle.ctr_page.specs.Making.{slot_bytes, IsSlot, IsEntry, IsPrevious}
 use Rattle.ctr_area.specs.Reading.{area_of}
 use Rattle.ctr_area.specs.Checked.{kinds_at}
 use Rattle.ctr_pvs.specs.declared.table.TableOf.{TableOf}
-use Rattle.ctr_pvs.specs.Table.{told_of}
+use Rattle.ctr_pvs.specs.Table.{there_check, told_of}
 use Rattle.ctr_pvs.specs.Reading.{kinds_said, kept_on_check, kept_at_check}
 use Rattle.ctr_revert.specs.declared.slots.FromSlot.{FromSlot}
 use Rattle.ctr_revert.specs.Reverting.{if_used, entry_at_place, blank_slot, slot_by_entry, slot_without_head, MadePrevious, MadeFrom, behind_check, MadeByEntry, EntrySaidFrom, IsMadeOr, LosesHead, EndsBehind}
@@ -92,21 +94,30 @@ module _ (w : ℕ) (pages : ℕ → List ℕ) (f : FromSlot) where
       bytes_are next None none blank s used key = blank ∙ ap (λ o. slot_bytes w (slot_by_entry w s o)) (sym none)
       bytes_are next (Some m) there same s used key = ap (take (slot_size w)) same ∙ there s used key
 
--- where it is read without damage
-pub ends_kept : (counted : ℕ) (pages : ℕ → List ℕ) (t : TableOf) (f : FromSlot) (made : Option (List ℕ)) → f.made ≡ None → f.older.page ≢ 0 → EntrySaidFrom counted t f (pages f.older.page) (Ok made)
-    → EndsBehind counted pages t f (Ok tt)
-ends_kept counted pages t f made is some said = λ kinds s from.
-    ends s from kinds s.previous (subst (MadePrevious (kinds_width (kinds_said t)) s s.previous) is from.made)
-  where
-    passes : kinds_said t ≡ kinds_at (area_of pages) t.entry → told_of f.older.page (kept_at_check counted pages t.entry f.older) ≡ Ok tt
-    passes kinds =
-        let check : List Kind → ⊤ → Result ⊤ BadRecord = λ ks _. kept_on_check counted t.entry ks f.older.slot (pages f.older.page) in
-        ap (λ (r : Result ⊤ BadRecord). told_of f.older.page (r >>= check (kinds_at (area_of pages) t.entry))) said.0
-        ∙ ap (λ ks. told_of f.older.page (check ks tt)) (sym kinds) ∙ ap (told_of f.older.page) said.1
+-- Where the slot has no previous version, and a pointer.
+module _ (counted : ℕ) (pages : ℕ → List ℕ) (t : TableOf) (f : FromSlot) (is : f.made ≡ None) (some : f.older.page ≢ 0) where
+  abbrev check : List Kind → ⊤ → Result ⊤ BadRecord
+  check ks x = kept_on_check counted t.entry ks f.older.slot (pages f.older.page)
 
-    ends : (s : RowSlot) → MadeFrom (kinds_width (kinds_said t)) s f → kinds_said t ≡ kinds_at (area_of pages) t.entry → (v : Option Version) → MadePrevious (kinds_width (kinds_said t)) s v None
-        → Ok tt ≡ behind_check counted pages t.entry v s.older
-    ends s from kinds None none =
-        sym (ap (behind_check counted pages t.entry None) (sym from.older)
-        ∙ ap (λ b. cond b (Ok tt) (told_of f.older.page (kept_at_check counted pages t.entry f.older))) (ne_eqb f.older.page 0 some) ∙ passes kinds)
-    ends s from kinds (Some v) none = absurd none
+  -- the end is what the check of the version entry behind it says
+  ends_behind : (r : Result ⊤ BadChain) → (kinds_said t ≡ kinds_at (area_of pages) t.entry → told_of f.older.page (kept_at_check counted pages t.entry f.older) ≡ r) → EndsBehind counted pages t f r
+  ends_behind r says = λ kinds s from.
+      ends s from kinds s.previous (subst (MadePrevious (kinds_width (kinds_said t)) s s.previous) is from.made)
+    where
+      ends : (s : RowSlot) → MadeFrom (kinds_width (kinds_said t)) s f → kinds_said t ≡ kinds_at (area_of pages) t.entry → (v : Option Version) → MadePrevious (kinds_width (kinds_said t)) s v None
+          → r ≡ behind_check counted pages t.entry v s.older
+      ends s from kinds None none =
+          sym (ap (behind_check counted pages t.entry None) (sym from.older)
+          ∙ ap (λ b. cond b (Ok tt) (told_of f.older.page (kept_at_check counted pages t.entry f.older))) (ne_eqb f.older.page 0 some) ∙ says kinds)
+      ends s from kinds (Some v) none = absurd none
+
+  -- it is read without damage
+  pub ends_kept : (made : Option (List ℕ)) → EntrySaidFrom counted t f (pages f.older.page) (Ok made) → EndsBehind counted pages t f (Ok tt)
+  ends_kept made said = ends_behind (Ok tt) (λ kinds.
+      ap (λ (r : Result ⊤ BadRecord). told_of f.older.page (r >>= check (kinds_at (area_of pages) t.entry))) said.0
+      ∙ ap (λ ks. told_of f.older.page (check ks tt)) (sym kinds) ∙ ap (told_of f.older.page) said.1)
+
+  -- or its damage is told
+  pub ends_damaged : (bad : BadRecord) → EntrySaidFrom counted t f (pages f.older.page) (Err bad) → EndsBehind counted pages t f (Err (OnPage f.older.page bad))
+  ends_damaged bad said = ends_behind (Err (OnPage f.older.page bad)) (λ kinds.
+      ap (λ ks. told_of f.older.page (there_check counted f.older.page >>= check ks)) (sym kinds) ∙ ap (told_of f.older.page) said)

@@ -1,5 +1,5 @@
 -- What the checks of a slot and of the version entry behind it say, where they pass.
-use Rattle.std.proofs.Common.{◌≡◌, ℕ, ◌+◌, ◌-◌, ◌<◌, ◌≤◌, List, Option, Result, Ok, Err, ◌∙◌, ap, subst, arith}
+use Rattle.std.proofs.Common.{◌≡◌, ℕ, ◌+◌, ◌-◌, ◌<◌, ◌≤◌, List, Option, Result, Ok, Err, refl, sym, ◌∙◌, ap, subst, arith}
 use Rattle.std.specs.Prelude.{⊤, nat_lt}
 use Rattle.ctr_types.specs.declared.value.Kind.{Kind}
 use Rattle.ctr_bytes.specs.Fields.{field}
@@ -59,3 +59,22 @@ pub entry_bad_by : (counted : ℕ) (t : TableOf) (f : FromSlot) (page : List ℕ
 entry_bad_by counted t f page bad there said =
     let rest : ⊤ → Result ⊤ BadRecord = λ _. kept_on_check counted t.entry (kinds_said t) f.older.slot page in
     ap (λ (r : Result ⊤ BadRecord). r >>= rest) there ∙ said
+
+-- of a page that isn't counted nothing is read
+pub entry_on : (counted : ℕ) (t : TableOf) (f : FromSlot) (page other : List ℕ) (r : Result (Option (List ℕ)) BadRecord) → 0 < counted → counted ≤ 30000 → (f.older.page < 30000 → page ≡ other)
+    → EntrySaidFrom counted t f page r → EntrySaidFrom counted t f other r
+entry_on counted t f page other r some few same said =
+    by_ends {P = EntrySaidFrom counted t f other r} (there_check counted f.older.page)
+    (λ x ok. subst (λ l. EntrySaidFrom counted t f l r) (same (within counted f.older.page some few ok)) said)
+    (λ bad is. refused r bad is said)
+  where
+    rest : List ℕ → ⊤ → Result ⊤ BadRecord
+    rest l x = kept_on_check counted t.entry (kinds_said t) f.older.slot l
+
+    by_ends : {P : Type 0} (c : Result ⊤ BadRecord) → ((x : ⊤) → c ≡ Ok x → P) → ((e : BadRecord) → c ≡ Err e → P) → P
+    by_ends (Ok x) ok err = ok x refl
+    by_ends (Err e) ok err = err e refl
+
+    refused : (q : Result (Option (List ℕ)) BadRecord) (bad : BadRecord) → there_check counted f.older.page ≡ Err bad → EntrySaidFrom counted t f page q → EntrySaidFrom counted t f other q
+    refused (Ok made) bad is said = absurd (let e = sym is ∙ said.0 in cc)
+    refused (Err e) bad is said = ap (λ (x : Result ⊤ BadRecord). x >>= rest other) is ∙ sym (ap (λ (x : Result ⊤ BadRecord). x >>= rest page) is) ∙ said

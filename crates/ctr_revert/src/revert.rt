@@ -1,6 +1,6 @@
 // One record takes the head from a row.
-ghost use Rattle.std.specs.Prelude.{◌≡◌, ◌≤◌, ◌<◌, ◌+◌, true, false, Ok, ⊤, IsTrue, IfOk, OnOk, length, take, ℕ};
-ghost use Rattle.ctr_base.specs.Base.{IsSoundImage};
+ghost use Rattle.std.specs.Prelude.{◌≡◌, ◌≤◌, ◌<◌, ◌+◌, true, false, Ok, ⊤, IfOk, OnOk, length, take, ℕ};
+ghost use Rattle.ctr_base.specs.Base.{WhereSound};
 ghost use Rattle.ctr_store.specs.Store.{View, LeavesPage};
 ghost use Rattle.ctr_model.specs.declared.limits.TheConstants.{MOST_PAGES};
 ghost use Rattle.ctr_page.specs.declared.table.TheConstants.{PAGE_SIZE};
@@ -9,7 +9,7 @@ ghost use Rattle.ctr_page.specs.Columns.{kinds_width as width_of_kinds};
 ghost use Rattle.ctr_area.specs.Changes.{with_slot};
 ghost use Rattle.ctr_pvs.specs.Reading.{kinds_said};
 ghost use Rattle.ctr_walk.specs.OneRecord.{HasRoomForOne, LogsOne};
-ghost use Rattle.ctr_walk.specs.Damage.{damage_told};
+ghost use Rattle.ctr_walk.specs.Damage.{damage_told, searched, EndsOnPage};
 ghost use Rattle.ctr_record_effects.specs.States.{pages_in, area_in};
 ghost use Rattle.ctr_record_laws.specs.Owed.{Reverting, OwedByRevert};
 ghost use Rattle.ctr_pvs.specs.Showing.{HasSoundArea};
@@ -19,61 +19,82 @@ ghost use Rattle.ctr_revert.specs.Reverting.{without_head, KeepsKey, lost_record
 use crate::slots::{FromSlot, SLOT_MOST, SlotLaid, blank_bytes, from_entry, from_slot, or_blank};
 use ctr_base::Origin;
 use ctr_disk::{Disk, StoreFault};
-use ctr_page::{BadChain, BadPage, Place, kinds_width, slot_size};
+use ctr_page::{BadPage, Place, kinds_width, slot_size};
 use ctr_pvs::{TableOf, check_there, row_in, table_on, version_in};
 use ctr_record_effects::{a_slot_is_laid, over_place};
 use ctr_record_laws::{a_revert_leaves_its_entry, a_revert_takes_the_head, pages_are_in_bounds};
 use ctr_records::Record;
 use ctr_store::Store;
 use ctr_types::Xid;
-use ctr_walk::{log_on_page, tell};
+use ctr_walk::{SearchFault, found_on, log_on_page, tell};
 
 /// The bytes of a slot.
 type SlotBytes = [u8; SLOT_MOST];
 
-/// What the slot at a place says that is to lose its head.
+/// What the slot at a place of a page of rows says that is to lose its head.
+fn slot_on(table: &TableOf, counted: u32, place: Place, page: &[u8]) -> Result<FromSlot, BadPage>
+    requires some { 0 < counted }
+    requires few { table.now.count ≤ 7 }
+    requires whole { length page.now ≡ PAGE_SIZE }
+    ensures said { SlotSaidFrom counted table.now place page.now result }
+    ensures inside { OnOk result (start_place (size_of_slot (width_of_kinds (kinds_said table.now))) place.slot + size_of_slot (width_of_kinds (kinds_said table.now)) ≤ PAGE_SIZE) }
+{
+    let slot = row_in(table, counted, place.slot, page)?;
+    Ok(from_slot(kinds_width(table.kinds()), slot))
+}
+
+/// The same of a page of a store.
 fn look_slot<D: Disk, O: Origin>(
     store: &mut Store<D, O>,
     table: &TableOf,
     counted: u32,
     place: Place,
-) -> Result<Result<FromSlot, BadPage>, StoreFault>
+) -> Result<FromSlot, SearchFault>
     requires going { store.old.stopped ≡ false }
     requires some { 0 < counted }
     requires there { place.page < 30000 }
     requires few { table.now.count ≤ 7 }
-    ensures said { IsTrue D.tells → IsSoundImage O.first → IfOk result (λ r. SlotSaidFrom counted table.now place (pages_in store.old.now place.page) r) }
-    ensures inside { IfOk result (λ r. OnOk r (start_place (size_of_slot (width_of_kinds (kinds_said table.now))) place.slot + size_of_slot (width_of_kinds (kinds_said table.now)) ≤ PAGE_SIZE)) }
-    ensures leaves { LeavesPage O.first D.Disk store.old store.new result }
+    ensures said { WhereSound O.first D.Disk (IfOk (searched result) (EndsOnPage place.page (SlotSaidFrom counted table.now place (pages_in store.old.now place.page)))) }
+    ensures inside { OnOk result (start_place (size_of_slot (width_of_kinds (kinds_said table.now))) place.slot + size_of_slot (width_of_kinds (kinds_said table.now)) ≤ PAGE_SIZE) }
+    ensures leaves { LeavesPage O.first D.Disk store.old store.new (searched result) }
 {
     let page = store.page(place.page)?;
-    match row_in(table, counted, place.slot, page) {
-        Ok(slot) => Ok(Ok(from_slot(kinds_width(table.kinds()), slot))),
-        Err(bad) => Ok(Err(bad)),
-    }
+    found_on(place.page, slot_on(table, counted, place, page))
 }
 
-/// The bytes of the slot whose head is that of the version entry behind it, or none where this isn't used.
+/// The bytes of the slot whose head is that of the version entry behind it, by the page of this; or none where it isn't used.
+fn behind_on(
+    table: &TableOf,
+    counted: u32,
+    from: &FromSlot,
+    page: &[u8],
+) -> Result<Option<SlotBytes>, BadPage>
+    requires some { 0 < counted }
+    requires few { table.now.count ≤ 7 }
+    requires whole { length page.now ≡ PAGE_SIZE }
+    ensures { EntrySaidFrom counted table.now from.now page.now result }
+{
+    check_there(counted, from.older.page)?;
+    let entry = version_in(table, counted, from.older.slot, page)?;
+    Ok(from_entry(kinds_width(table.kinds()), from.used, from.key, entry))
+}
+
+/// The same of a page of a store.
 fn look_behind<D: Disk, O: Origin>(
     store: &mut Store<D, O>,
     table: &TableOf,
     counted: u32,
     from: &FromSlot,
-) -> Result<Result<Option<SlotBytes>, BadPage>, StoreFault>
+) -> Result<Option<SlotBytes>, SearchFault>
     requires going { store.old.stopped ≡ false }
     requires some { (0 < counted) × (counted ≤ 30000) }
     requires few { table.now.count ≤ 7 }
-    ensures said { IsTrue D.tells → IsSoundImage O.first → IfOk result (λ r. EntrySaidFrom counted table.now from.now (pages_in store.old.now from.now.older.page) r) }
-    ensures leaves { LeavesPage O.first D.Disk store.old store.new result }
+    ensures said { WhereSound O.first D.Disk (IfOk (searched result) (EndsOnPage from.now.older.page (EntrySaidFrom counted table.now from.now (pages_in store.old.now from.now.older.page)))) }
+    ensures leaves { LeavesPage O.first D.Disk store.old store.new (searched result) }
 {
-    let page = store.page(from.older.page)?;
-    if let Err(bad) = check_there(counted, from.older.page) {
-        return Ok(Err(bad));
-    }
-    match version_in(table, counted, from.older.slot, page) {
-        Ok(entry) => Ok(Ok(from_entry(kinds_width(table.kinds()), from.used, from.key, entry))),
-        Err(bad) => Ok(Err(bad)),
-    }
+    let at = from.older.page;
+    let page = store.page(at)?;
+    found_on(at, behind_on(table, counted, from, page))
 }
 
 /// Lays the bytes of a slot, of which so many count, over the one whose head a transaction loses.
@@ -89,7 +110,7 @@ fn lay<D: Disk, O: Origin>(
     requires narrow { w ≤ 2048 }
     requires inside { (size_of_slot w ≤ 2072) × (start_place (size_of_slot w) place.slot + size_of_slot w ≤ PAGE_SIZE) }
     ensures one { LogsOne O.first D.Disk (lost_record x place w (take (size_of_slot w) bytes.now)) store.old store.new result }
-    ensures whole { IsTrue D.tells → IsSoundImage O.first → OnOk result (length (pages_in store.old.now place.page) ≡ PAGE_SIZE) }
+    ensures whole { WhereSound O.first D.Disk (OnOk result (length (pages_in store.old.now place.page) ≡ PAGE_SIZE)) }
 {
     let size = slot_size(w);
     let rec = Record::Revert {
@@ -105,55 +126,45 @@ fn bytes_behind<D: Disk, O: Origin>(
     table: &TableOf,
     counted: u32,
     from: &FromSlot,
-) -> Result<Result<SlotBytes, BadChain>, StoreFault>
+) -> Result<SlotBytes, SearchFault>
     requires going { store.old.stopped ≡ false }
     requires some { (0 < counted) × (counted ≤ 30000) }
     requires few { table.now.count ≤ 7 }
-    ensures ends { IsTrue D.tells → IsSoundImage O.first → IfOk result (BytesSaid counted (pages_in store.old.now) table.now from.now) }
+    ensures ends { WhereSound O.first D.Disk (IfOk (searched result) (BytesSaid counted (pages_in store.old.now) table.now from.now)) }
     // It goes on from what the reading of a page left.
-    ensures leaves { (a : View D) → LeavesPage {T = ⊤} O.first D.Disk a store.old (Ok tt) → LeavesPage O.first D.Disk a store.new result }
+    ensures leaves { (a : View D) → LeavesPage {T = ⊤} O.first D.Disk a store.old (Ok tt) → LeavesPage O.first D.Disk a store.new (searched result) }
 {
     let w = kinds_width(table.kinds());
     if let Some(bytes) = from.made {
-        return Ok(Ok(bytes));
+        return Ok(bytes);
     }
     if from.older.page == 0 {
-        return Ok(Ok(blank_bytes(w)));
+        return Ok(blank_bytes(w));
     }
-    match look_behind(store, table, counted, from)? {
-        Err(bad) => Ok(Err(BadChain::OnPage(from.older.page, bad))),
-        Ok(made) => Ok(Ok(or_blank(w, made))),
-    }
+    let made = look_behind(store, table, counted, from)?;
+    Ok(or_blank(w, made))
 }
 
 /// What is laid over the slot at a place, that it loses its head; or the first damage on the way.
 fn search_row<D: Disk, O: Origin>(
     store: &mut Store<D, O>,
     place: Place,
-) -> Result<Result<SlotLaid, BadChain>, StoreFault>
+) -> Result<SlotLaid, SearchFault>
     requires going { store.old.stopped ≡ false }
     requires counted { (place.page < store.old.now.counted) × (store.old.now.counted ≤ 30000) }
-    ensures ends { IsTrue D.tells → IsSoundImage O.first → IfOk result (EndsRow store.old.now.counted (pages_in store.old.now) place) }
-    ensures fits { IfOk result (λ r. IfOk r (LiesThere place.slot)) }
-    ensures leaves { LeavesPage O.first D.Disk store.old store.new result }
+    ensures ends { WhereSound O.first D.Disk (IfOk (searched result) (EndsRow store.old.now.counted (pages_in store.old.now) place)) }
+    ensures fits { IfOk result (LiesThere place.slot) }
+    ensures leaves { LeavesPage O.first D.Disk store.old store.new (searched result) }
 {
     let counted = store.counted();
-    let table = match table_on(store, 1, place.page)? {
-        Err(bad) => return Ok(Err(bad)),
-        Ok(table) => table,
-    };
-    let from = match look_slot(store, &table, counted, place)? {
-        Err(bad) => return Ok(Err(BadChain::OnPage(place.page, bad))),
-        Ok(from) => from,
-    };
-    match bytes_behind(store, &table, counted, &from)? {
-        Err(bad) => Ok(Err(bad)),
-        Ok(bytes) => Ok(Ok(SlotLaid {
-            x: from.x,
-            w: kinds_width(table.kinds()),
-            bytes,
-        })),
-    }
+    let table = table_on(store, 1, place.page)?;
+    let from = look_slot(store, &table, counted, place)?;
+    let bytes = bytes_behind(store, &table, counted, &from)?;
+    Ok(SlotLaid {
+        x: from.x,
+        w: kinds_width(table.kinds()),
+        bytes,
+    })
 }
 
 /// Takes the head from a row, by one record, which isn't hardened yet: the next version of its chain becomes the head, and where there is
@@ -166,14 +177,14 @@ pub fn revert_row<D: Disk, O: Origin>(
     requires room { HasRoomForOne 0 0 store.old }
     requires counted { (place.page < store.old.now.counted) × (store.old.now.counted ≤ 30000) }
     // Damage is told where it stands in the file of pages.
-    ensures ends { IsTrue D.tells → IsSoundImage O.first → EndsReverting (damage_told D.Disk store.new) place store.old store.new result }
+    ensures ends { WhereSound O.first D.Disk (EndsReverting (damage_told D.Disk store.new) place store.old store.new result) }
     ensures one { RevertsRow O.first D.Disk place store.old store.new result }
     // The slot is without its head, and nothing else in the pages changes.
-    ensures reverted { IsTrue D.tells → IsSoundImage O.first → KeepsKey (area_in store.old.now) place → ((area_in store.old.now).slot place).used ≡ true
-        → OnOk result (area_in store.new.now ≡ with_slot place (without_head (area_in store.old.now).older ((area_in store.old.now).slot place)) (area_in store.old.now)) }
+    ensures reverted { WhereSound O.first D.Disk (KeepsKey (area_in store.old.now) place → ((area_in store.old.now).slot place).used ≡ true
+        → OnOk result (area_in store.new.now ≡ with_slot place (without_head (area_in store.old.now).older ((area_in store.old.now).slot place)) (area_in store.old.now))) }
     // In a sound state its chain has lost its head, which may go, and nothing else is shown than before.
-    ensures takes { IsTrue D.tells → IsSoundImage O.first → HasSoundArea store.old.now
-        → (e : ℕ) (way : Reverting) → OwedByRevert store.old.now.tables (area_in store.old.now) e place way → OnOk result (TakesHead e place store.old.now store.new.now) }
+    ensures takes { WhereSound O.first D.Disk (HasSoundArea store.old.now
+        → (e : ℕ) (way : Reverting) → OwedByRevert store.old.now.tables (area_in store.old.now) e place way → OnOk result (TakesHead e place store.old.now store.new.now)) }
 {
     a_slot_is_laid();
     pages_are_in_bounds();

@@ -1,5 +1,5 @@
 // The bytes of a slot without its head.
-ghost use Rattle.std.specs.Prelude.{◌≡◌, ◌≤◌, length, take};
+ghost use Rattle.std.specs.Prelude.{◌≡◌, ◌≤◌, take};
 ghost use Rattle.ctr_page.specs.Places.{slot_size as size_of_slot};
 ghost use Rattle.ctr_page.specs.Making.{slot_bytes, IsSlot, IsEntry};
 ghost use Rattle.ctr_revert.specs.Reverting.{blank_slot, MadeFrom, MadeByEntry, IsMadeOr, if_used};

@@ -2,6 +2,7 @@ pub mod Joins
 pub mod Records
 pub mod PagesRead
 pub mod Damages
+pub mod Searches
 pub mod Limits
 pub mod Firsts
 pub mod Ends

@@ -18,7 +18,7 @@ use Rattle.ctr_store.specs.Changes.{IsChange}
 use Rattle.ctr_store.specs.RecordChecks.{record_damage}
 use Rattle.ctr_store.specs.Store.{View, Logs, MayLog, unmet_need, TakesRecord, KeepsRoom, LeavesPage}
 use Rattle.ctr_walk.specs.OneRecord.{HasRoomForOne, IsUnfit, WhyNotLogged, LogsOne, AnswersLog}
-use Rattle.ctr_walk.proofs.Joins.{fails_with, fronts_join, logs_join}
+use Rattle.ctr_walk.proofs.Joins.{times_join, fails_with, fronts_join, logs_join}
 
 -- a result is one or the other
 by_result : {T E P : Type 0} (result : Result T E) → ((x : T) → result ≡ Ok x → P) → ((e : E) → result ≡ Err e → P) → P
@@ -86,6 +86,7 @@ module _ {D : Type 0} (r : Record) (a b : View D) (keeps : KeepsRoom a b) where
         number = refl;
         next = takes.next ∙ ap (λ (n : ℕ). n + 1) keeps.next;
         room = omega (arith, room, more);
+        gate = omega (arith, takes.gate, keeps.gate);
         left = subst (λ (m : TablesKept). RoomLeft (opens_added r) (items_added r) m c.meta) keeps.meta takes.left;
         counted = takes.counted ∙ keeps.counted;
       }
@@ -97,6 +98,7 @@ module _ {D : Type 0} (first : Image) (g : Ghosts D) (r : Record) (a b : View D)
     any_moment = page.any_moment;
     logs = λ told sound. tt;
     takes = tt;
+    time = page.time;
     fits = tt;
     going = tt;
     refused = λ told sound. inr (error (page.refused told sound), page.stopped);
@@ -113,9 +115,10 @@ module _ {D : Type 0} (first : Image) (g : Ghosts D) (r : Record) (a b : View D)
     -- it was, and the record was logged
     pub logged_behind : (lsn : ℕ) (y : T) → AnswersLog first g r b c (Ok lsn) → LogsOne {T = T} first g r a c (Ok y)
     logged_behind lsn y log = record {
-      any_moment = λ told sound. fronts_join g a b c (page.logs told sound) (page.any_moment told sound) (log.any_moment told sound);
+      any_moment = λ told sound. fronts_join g a b c (page.logs told sound) page.time (page.any_moment told sound) (log.any_moment told sound);
       logs = λ told sound. logs_join g a b c (r ∷ []) (page.logs told sound) (log.logs told sound);
       takes = taken_behind r a b page.keeps lsn c log.takes;
+      time = times_join g a b c page.time log.time;
       fits = same_need r a b page.keeps ∙ by_result {P = unmet_need r b ≡ Ok tt} (unmet_need r b) (λ u is. is) (λ bad is. absurd (cc (log.unfit bad is).0));
       going = log.going;
       refused = λ told sound. tt;
@@ -129,9 +132,10 @@ module _ {D : Type 0} (first : Image) (g : Ghosts D) (r : Record) (a b : View D)
     -- or it was refused
     pub refused_behind : (e : StoreFault) → AnswersLog first g r b c (Err e) → LogsOne {T = T} first g r a c (Err e)
     refused_behind e log = record {
-      any_moment = λ told sound. fronts_join g a b c (page.logs told sound) (page.any_moment told sound) (log.any_moment told sound);
+      any_moment = λ told sound. fronts_join g a b c (page.logs told sound) page.time (page.any_moment told sound) (log.any_moment told sound);
       logs = λ told sound. tt;
       takes = tt;
+      time = times_join g a b c page.time log.time;
       fits = tt;
       going = tt;
       refused = λ told sound. by_result {P = WhyNotLogged r a c e} (unmet_need r b)
@@ -164,9 +168,10 @@ module _ {D : Type 0} (first : Image) (g : Ghosts D) (r : Record) (a b : View D)
     -- a call that logs one record
     pub one_behind : (result : Result T StoreFault) → LogsOne {T = T} first g r b c result → LogsOne {T = T} first g r a c result
     one_behind result one = record {
-      any_moment = λ told sound. fronts_join g a b c (page.logs told sound) (page.any_moment told sound) (one.any_moment told sound);
+      any_moment = λ told sound. fronts_join g a b c (page.logs told sound) page.time (page.any_moment told sound) (one.any_moment told sound);
       logs = λ told sound. on_ok result (Logs (r ∷ []) b c) (Logs (r ∷ []) a c) (logs_join g a b c (r ∷ []) (page.logs told sound)) (one.logs told sound);
       takes = on_ok result (TakesRecord r b.next b c) (TakesRecord r a.next a c) (taken_behind r a b page.keeps b.next c) one.takes;
+      time = times_join g a b c page.time one.time;
       fits = on_ok result (unmet_need r b ≡ Ok tt) (unmet_need r a ≡ Ok tt) (λ is. same_need r a b page.keeps ∙ is) one.fits;
       going = one.going;
       refused = λ told sound. if_err result (WhyNotLogged r b c) (WhyNotLogged r a c) (why told sound) (one.refused told sound);

@@ -51,6 +51,10 @@ first_free (Versions e) page none = ap (λ b. (cond b no_pages (there (entry_at 
 
 -- ---- in the area
 
+-- the bytes of an entry of the catalog stand on its page
+pub bytes_of_entry : (pages : ℕ → List ℕ) (e : ℕ) → e < 32 → entry_bytes pages e ≡ (entry_at (e % 16) (pages (1 + e / 16))).bytes
+bytes_of_entry pages e few = ap (λ b. cond b (piece (256 * (e % 16)) 256 (pages (1 + e / 16))) []) (lt-ltb e 32 few)
+
 pub entry_few : (chain : Chain) → IsChain chain → chain_entry chain < 32
 entry_few (Rows e bucket) is = is.0
 entry_few (Versions e) is = is
@@ -67,17 +71,14 @@ module _ (counted : ℕ) (pages : ℕ → List ℕ) (chain : Chain) (ends : Ends
   page = pages (1 + e / 16)
 
   module _ (is : IsChain chain) where
-    bytes_here : entry_bytes pages e ≡ (entry_at (e % 16) page).bytes
-    bytes_here = ap (λ b. cond b (piece (256 * (e % 16)) 256 page) []) (lt-ltb e 32 (entry_few chain is))
-
     first_here : first_of_chain (area_of pages) chain ≡ first_said chain page
-    first_here = ap (λ l. first_among (firsts_of (entry_in l)) chain) bytes_here
+    first_here = ap (λ l. first_among (firsts_of (entry_in l)) chain) (bytes_of_entry pages e (entry_few chain is))
 
     kinds_here : kinds_at (area_of pages) e ≡ kinds_of (columns_in (entry_at (e % 16) page).bytes)
-    kinds_here = ap (λ l. kinds_of (columns_in l)) bytes_here
+    kinds_here = ap (λ l. kinds_of (columns_in l)) (bytes_of_entry pages e (entry_few chain is))
 
-    pub bad_entry : (bad : BadRecord) (p : ℕ) → ChainSaid counted chain page (Err bad) → p ≡ 1 + e / 16 → EndsChain counted pages chain ends (Err (OnPage p bad))
-    bad_entry bad p said at = inl (bad, said, ap (λ q. Err (OnPage q bad)) at)
+    pub bad_entry : (bad : BadRecord) → ChainSaid counted chain page (Err bad) → EndsChain counted pages chain ends (Err (OnPage (1 + e / 16) bad))
+    bad_entry bad said = inl (bad, said, refl)
 
     pub no_page : ChainSaid counted chain page (Ok None) → EndsChain counted pages chain ends (Ok None)
     no_page said = inr (said.0, at_end (chain_sought pages counted chain ends) pages (most_in_chain counted) 0 (first_of_chain (area_of pages) chain) (first_here ∙ said.1))

@@ -9,7 +9,7 @@ use Rattle.ctr_records.specs.declared.record.Record.{Record}
 use Rattle.ctr_records.specs.declared.decoding.BadRecord.{BadRecord}
 use Rattle.ctr_base.specs.Base.{IsSoundImage}
 use Rattle.ctr_store.specs.RecordChecks.{record_damage}
-use Rattle.ctr_store.specs.Store.{View, LeavesFront, Logs, unmet_need, RefusesUnfit, TakesRecord}
+use Rattle.ctr_store.specs.Store.{View, LeavesFront, MovesOn, Logs, unmet_need, RefusesUnfit, TakesRecord}
 
 -- There is room for one record more, and for the transactions and items that it adds to the tables.
 pub record HasRoomForOne {D : Type 0} (opens items : ℕ) (v : View D) : Type 0 where
@@ -39,6 +39,7 @@ pub record LogsOne {D T : Type 0} (first : Image) (g : Ghosts D) (r : Record) (a
   pub any_moment : IsTrue g.tells → IsSoundImage first → LeavesFront g a b
   pub logs : IsTrue g.tells → IsSoundImage first → OnOk result (Logs (r ∷ []) a b)
   pub takes : OnOk result (TakesRecord r a.next a b)
+  pub time : MovesOn g a b
   pub fits : OnOk result (unmet_need r a ≡ Ok tt)
   pub going : OnOk result (b.stopped ≡ false)
   pub refused : IsTrue g.tells → IsSoundImage first → IfErr result (WhyNotLogged r a b)
@@ -50,6 +51,7 @@ pub record AnswersLog {D : Type 0} (first : Image) (g : Ghosts D) (r : Record) (
   pub any_moment : IsTrue g.tells → IsSoundImage first → LeavesFront g a b
   pub logs : IsTrue g.tells → IsSoundImage first → OnOk result (Logs (r ∷ []) a b)
   pub takes : IfOk result (λ lsn. TakesRecord r lsn a b)
+  pub time : MovesOn g a b
   pub unfit : RefusesUnfit r a b result
   pub going : OnOk result (b.stopped ≡ false)
   pub stopped : unmet_need r a ≡ Ok tt → OnErr result (b.stopped ≡ true)

@@ -1,16 +1,18 @@
 // The search along a chain of pages of a store.
-ghost use Rattle.std.specs.Prelude.{◌≡◌, ◌≢◌, ◌≤◌, ◌<◌, ℕ, List, Option, Result, false, IsTrue, IfOk, length};
-ghost use Rattle.ctr_base.specs.Base.{IsSoundImage};
+ghost use Rattle.std.specs.Prelude.{◌≡◌, ◌≢◌, ◌≤◌, ◌<◌, ℕ, List, Option, Result, false, IfOk, IfSome, length};
+ghost use Rattle.ctr_base.specs.Base.{WhereSound};
 ghost use Rattle.ctr_record_effects.specs.States.{pages_in};
 ghost use Rattle.ctr_page.specs.declared.table.TheConstants.{PAGE_SIZE};
 ghost use Rattle.ctr_page.specs.Walking.{most_in_chain};
 ghost use Rattle.ctr_records.specs.declared.decoding.BadRecord.{BadRecord};
 ghost use Rattle.ctr_walk.specs.Along.{LooksAt, EndsAlong};
+ghost use Rattle.ctr_walk.specs.Damage.{searched, EndsOnPage};
 ghost use Rattle.ctr_store.specs.Store.{LeavesPage};
 ghost use Rattle.ctr_types.specs.declared.value.Kind.{Kind as KindOfColumn};
 
+use crate::fault::{SearchFault, found_on};
 use ctr_base::Origin;
-use ctr_disk::{Disk, StoreFault};
+use ctr_disk::Disk;
 use ctr_page::{BadChain, BadPage, Chain, Place, check_header, read_header};
 use ctr_records::PageNo;
 use ctr_store::Store;
@@ -57,17 +59,16 @@ fn look<D: Disk, O: Origin, S: PageSought>(
     kinds: &[Kind],
     counted: u32,
     sought: &S,
-) -> Result<Result<(Option<u16>, PageNo), BadPage>, StoreFault>
+) -> Result<(Option<u16>, PageNo), SearchFault>
     requires going { store.old.stopped ≡ false }
     requires inside { (at < counted) × (counted ≤ 30000) }
     requires few { length kinds.now ≤ 7 }
-    ensures looks { IsTrue D.tells → IsSoundImage O.first
-        → IfOk result (LooksAt (record { chain = chain; counted = counted; ends = S.ends sought.now kinds.now counted }) (pages_in store.old.now at)) }
-    ensures next { IfOk result (λ r. IfOk r (λ x. x.1 < counted)) }
-    ensures leaves { LeavesPage O.first D.Disk store.old store.new result }
+    ensures looks { WhereSound O.first D.Disk (IfOk (searched result) (EndsOnPage at (LooksAt (record { chain = chain; counted = counted; ends = S.ends sought.now kinds.now counted }) (pages_in store.old.now at)))) }
+    ensures next { IfOk result (λ x. x.1 < counted) }
+    ensures leaves { LeavesPage O.first D.Disk store.old store.new (searched result) }
 {
     let page = store.page(at)?;
-    Ok(look_at(chain, kinds, counted, sought, page))
+    found_on(at, look_at(chain, kinds, counted, sought, page))
 }
 
 /// The first place that is sought along a chain of pages, from its first page on, in rows whose columns behind the key are of these kinds,
@@ -79,14 +80,14 @@ pub(crate) fn search_pages<D: Disk, O: Origin, S: PageSought>(
     kinds: &[Kind],
     counted: u32,
     sought: &S,
-) -> Result<Result<Option<Place>, BadChain>, StoreFault>
+) -> Result<Option<Place>, SearchFault>
     requires going { store.old.stopped ≡ false }
     requires some { first ≢ 0 }
     requires inside { (first < counted) × (64 ≤ counted) × (counted ≤ 30000) }
     requires few { length kinds.now ≤ 7 }
-    ensures ends { IsTrue D.tells → IsSoundImage O.first
-        → IfOk result (EndsAlong (record { chain = chain; counted = counted; ends = S.ends sought.now kinds.now counted }) (pages_in store.old.now) (most_in_chain counted) 0 first) }
-    ensures leaves { LeavesPage O.first D.Disk store.old store.new result }
+    ensures ends { WhereSound O.first D.Disk (IfOk (searched result) (EndsAlong (record { chain = chain; counted = counted; ends = S.ends sought.now kinds.now counted }) (pages_in store.old.now) (most_in_chain counted) 0 first)) }
+    ensures inside { IfOk result (λ found. IfSome found (λ at. at.page < counted)) }
+    ensures leaves { LeavesPage O.first D.Disk store.old store.new (searched result) }
 {
     let most = counted.saturating_sub(3);
     let mut at = first;
@@ -94,16 +95,15 @@ pub(crate) fn search_pages<D: Disk, O: Origin, S: PageSought>(
     let mut left = most;
     while at != 0 {
         if left == 0 {
-            return Ok(Err(BadChain::TooLong { last, most }));
+            return Err(SearchFault::Bad(BadChain::TooLong { last, most }));
         }
-        let next = match look(store, at, chain, kinds, counted, sought)? {
-            Err(bad) => return Ok(Err(BadChain::OnPage(at, bad))),
-            Ok((Some(slot), _)) => return Ok(Ok(Some(Place { page: at, slot }))),
-            Ok((None, next)) => next,
-        };
+        let (found, next) = look(store, at, chain, kinds, counted, sought)?;
+        if let Some(slot) = found {
+            return Ok(Some(Place { page: at, slot }));
+        }
         last = at;
         at = next;
         left -= 1;
     }
-    Ok(Ok(None))
+    Ok(None)
 }

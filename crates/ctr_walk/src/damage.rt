@@ -1,16 +1,17 @@
 // Damage of pages, told where it stands in the file of pages.
 ghost use Rattle.std.specs.Prelude.{◌≡◌, ◌<◌, ◌^◌, false, IsTrue, Err, OnOk, ⊤};
 ghost use Rattle.ctr_home.specs.Reading.{IsFaultOr};
-ghost use Rattle.ctr_base.specs.Base.{IsSoundImage};
+ghost use Rattle.ctr_base.specs.Base.{WhereSound, IsSoundImage};
 ghost use Rattle.ctr_store.specs.Store.{View, LeavesPage};
-ghost use Rattle.ctr_walk.specs.Damage.{damaged_page, damage_behind, damage_told, TellsFound, ReadsPages};
+ghost use Rattle.ctr_walk.specs.Damage.{damaged_page, damage_behind, damage_told, searched, TellsFound, ReadsPages};
 
+use crate::fault::SearchFault;
 use ctr_base::Origin;
 use ctr_disk::{Disk, StoreFault};
 use ctr_page::BadChain;
 use ctr_records::PageNo;
 use ctr_store::Store;
-use ctr_types::File;
+use ctr_types::{Damage, File};
 
 // The page that damage is told of.
 fn page_of(bad: BadChain) -> PageNo
@@ -28,25 +29,25 @@ fn damage_at(home: u64, bad: BadChain) -> StoreFault
     ensures { result ≡ damage_behind home bad }
 {
     match bad {
-        BadChain::OnPage(_, bad) => StoreFault::Damaged {
+        BadChain::OnPage(_, bad) => StoreFault::Damaged(Damage {
             file: File::Pages,
             at: (home + 13).saturating_add(bad.at),
             want: bad.want,
             got: bad.got,
-        },
-        BadChain::TooLong { last: _, most } => StoreFault::Damaged {
+        }),
+        BadChain::TooLong { last: _, most } => StoreFault::Damaged(Damage {
             file: File::Pages,
             at: home,
             want: most as u128,
             got: most as u128 + 1,
-        },
+        }),
     }
 }
 
 // Damage that was found on a page of a store; or that of the reading of its home.
 fn damage<D: Disk, O: Origin>(store: &mut Store<D, O>, bad: BadChain) -> StoreFault
     requires going { store.old.stopped ≡ false }
-    ensures told { IsTrue D.tells → IsSoundImage O.first → IsFaultOr (λ e. e ≡ damage_told D.Disk store.new bad) result }
+    ensures told { WhereSound O.first D.Disk (IsFaultOr (λ e. e ≡ damage_told D.Disk store.new bad) result) }
     ensures leaves { ReadsPages {T = ⊤} O.first D.Disk store.old store.new (Err result) }
 {
     match store.home_of(page_of(bad)) {
@@ -59,16 +60,18 @@ fn damage<D: Disk, O: Origin>(store: &mut Store<D, O>, bad: BadChain) -> StoreFa
 /// that the page's value stands in. A page that was changed in its frame since it was written home is told in its first home.
 pub fn tell<D: Disk, O: Origin, T>(
     store: &mut Store<D, O>,
-    found: Result<Result<T, BadChain>, StoreFault>,
+    found: Result<T, SearchFault>,
 ) -> Result<T, StoreFault>
-    requires going { OnOk found (store.old.stopped ≡ false) }
+    requires going { OnOk (searched found) (store.old.stopped ≡ false) }
     ensures told { TellsFound (IsTrue D.tells × IsSoundImage O.first) (damage_told D.Disk store.new) found result }
     // It goes on from what those calls left.
-    ensures leaves { (a : View D) → LeavesPage O.first D.Disk a store.old found → ReadsPages O.first D.Disk a store.new result }
+    ensures leaves { (a : View D) → LeavesPage O.first D.Disk a store.old (searched found) → ReadsPages O.first D.Disk a store.new result }
 {
     match found {
-        Err(fault) => Err(fault),
-        Ok(Ok(answer)) => Ok(answer),
-        Ok(Err(bad)) => Err(damage(store, bad)),
+        Ok(answer) => Ok(answer),
+        Err(fault) => match fault {
+            SearchFault::Store(fault) => Err(fault),
+            SearchFault::Bad(bad) => Err(damage(store, bad)),
+        },
     }
 }

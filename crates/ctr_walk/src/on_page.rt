@@ -1,11 +1,11 @@
 // A record on a page, which is read first.
-ghost use Rattle.std.specs.Prelude.{◌≡◌, ◌<◌, ◌≤◌, ℕ, false, IsTrue, OnOk, length};
+ghost use Rattle.std.specs.Prelude.{◌≡◌, ◌<◌, ◌≤◌, ℕ, false, OnOk, length};
 ghost use Rattle.ctr_records.specs.declared.record.Record.{Record};
 ghost use Rattle.ctr_meta.specs.Kept.{IsLogged, NumbersFit, opens_added, items_added};
 ghost use Rattle.ctr_redo.specs.States.{page_limit, page_at};
 ghost use Rattle.ctr_redo.specs.Overlaid.{overlay_of};
 ghost use Rattle.ctr_redo.specs.Fitting.{LiesInside};
-ghost use Rattle.ctr_base.specs.Base.{IsSoundImage};
+ghost use Rattle.ctr_base.specs.Base.{WhereSound};
 ghost use Rattle.ctr_store.specs.Changes.{IsChange};
 ghost use Rattle.ctr_store.specs.Store.{View, MayLog, LeavesPage};
 ghost use Rattle.ctr_walk.specs.OneRecord.{HasRoomForOne, LogsOne};
@@ -20,7 +20,7 @@ use ctr_store::Store;
 fn bring<D: Disk, O: Origin>(store: &mut Store<D, O>, page: PageNo) -> Result<(), StoreFault>
     requires going { store.old.stopped ≡ false }
     requires there { page < page_limit }
-    ensures whole { IsTrue D.tells → IsSoundImage O.first → OnOk result (length (page_at page store.old.now.pages) ≡ 4096) }
+    ensures whole { WhereSound O.first D.Disk (OnOk result (length (page_at page store.old.now.pages) ≡ 4096)) }
     ensures leaves { LeavesPage O.first D.Disk store.old store.new result }
 {
     let _bytes = store.page(page)?;
@@ -37,7 +37,7 @@ pub fn log_on_page<D: Disk, O: Origin>(
     requires there { page < page_limit }
     ensures one { LogsOne O.first D.Disk rec.now store.old store.new result }
     // The page is there, whole.
-    ensures whole { IsTrue D.tells → IsSoundImage O.first → OnOk result (length (page_at page store.old.now.pages) ≡ 4096) }
+    ensures whole { WhereSound O.first D.Disk (OnOk result (length (page_at page store.old.now.pages) ≡ 4096)) }
 {
     a_record_behind_a_page::<D, (), ()>();
     bring(store, page)?;

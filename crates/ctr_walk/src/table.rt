@@ -1,7 +1,7 @@
 // The chains of pages of a table, by its entry of the catalog.
-ghost use Rattle.std.specs.Prelude.{◌≡◌, ◌≤◌, ◌<◌, ◌+◌, ◌/◌, ◌%◌, false, IsTrue, IfOk, IfSome, length};
-ghost use Rattle.ctr_base.specs.Base.{IsSoundImage};
-ghost use Rattle.ctr_walk.specs.Damage.{damage_told, EndsTold, ReadsPages};
+ghost use Rattle.std.specs.Prelude.{◌≡◌, ◌≤◌, ◌<◌, ◌+◌, ◌/◌, ◌%◌, false, IfOk, IfSome, length};
+ghost use Rattle.ctr_base.specs.Base.{WhereSound};
+ghost use Rattle.ctr_walk.specs.Damage.{damage_told, searched, EndsOnPage, EndsTold, ReadsPages};
 ghost use Rattle.ctr_record_effects.specs.States.{pages_in};
 ghost use Rattle.ctr_page.specs.Damage.{chain_entry};
 ghost use Rattle.ctr_page.specs.declared.table.TheConstants.{PAGE_SIZE, ENTRY_SIZE};
@@ -9,10 +9,11 @@ ghost use Rattle.ctr_walk.specs.Tables.{IsChain, first_at, ChainSaid, PagesFit, 
 ghost use Rattle.ctr_store.specs.Store.{LeavesPage};
 
 use crate::along::{PageSought, search_pages};
-use crate::tell;
+use crate::damage::tell;
+use crate::fault::{SearchFault, found_on};
 use ctr_base::Origin;
 use ctr_disk::{Disk, StoreFault};
-use ctr_page::{BadChain, BadPage, CatalogEntry, Chain, Place, check_entry, read_entry};
+use ctr_page::{BadPage, CatalogEntry, Chain, Place, check_entry, read_entry};
 use ctr_records::PageNo;
 use ctr_store::Store;
 use ctr_types::Kind;
@@ -86,16 +87,17 @@ fn pages_of<D: Disk, O: Origin>(
     store: &mut Store<D, O>,
     chain: Chain,
     counted: u32,
-) -> Result<Result<Option<ChainPages>, BadPage>, StoreFault>
+) -> Result<Option<ChainPages>, SearchFault>
     requires going { store.old.stopped ≡ false }
     requires some { 0 < counted }
     requires there { IsChain chain }
-    ensures said { IsTrue D.tells → IsSoundImage O.first → IfOk result (ChainSaid counted chain (pages_in store.old.now (1 + chain_entry chain / 16))) }
-    ensures fits { IfOk result (λ r. IfOk r (λ found. IfSome found (PagesFit counted))) }
-    ensures leaves { LeavesPage O.first D.Disk store.old store.new result }
+    ensures said { WhereSound O.first D.Disk (IfOk (searched result) (EndsOnPage (1 + chain_entry chain / 16) (ChainSaid counted chain (pages_in store.old.now (1 + chain_entry chain / 16))))) }
+    ensures fits { IfOk result (λ found. IfSome found (PagesFit counted)) }
+    ensures leaves { LeavesPage O.first D.Disk store.old store.new (searched result) }
 {
-    let page = store.page(page_of(chain))?;
-    Ok(pages_said(chain, counted, page))
+    let at = page_of(chain);
+    let page = store.page(at)?;
+    found_on(at, pages_said(chain, counted, page))
 }
 
 /// The first place that is sought, or damage as it was found.
@@ -103,18 +105,17 @@ fn search_table<D: Disk, O: Origin, S: PageSought>(
     store: &mut Store<D, O>,
     chain: Chain,
     sought: &S,
-) -> Result<Result<Option<Place>, BadChain>, StoreFault>
+) -> Result<Option<Place>, SearchFault>
     requires going { store.old.stopped ≡ false }
     requires counted { (64 ≤ store.old.now.counted) × (store.old.now.counted ≤ 30000) }
     requires there { IsChain chain }
-    ensures ends { IsTrue D.tells → IsSoundImage O.first → IfOk result (EndsChain store.old.now.counted (pages_in store.old.now) chain (S.ends sought.now)) }
-    ensures leaves { LeavesPage O.first D.Disk store.old store.new result }
+    ensures ends { WhereSound O.first D.Disk (IfOk (searched result) (EndsChain store.old.now.counted (pages_in store.old.now) chain (S.ends sought.now))) }
+    ensures inside { IfOk result (λ found. IfSome found (λ at. at.page < store.old.now.counted)) }
+    ensures leaves { LeavesPage O.first D.Disk store.old store.new (searched result) }
 {
     let counted = store.counted();
-    let pages = match pages_of(store, chain, counted)? {
-        Err(bad) => return Ok(Err(BadChain::OnPage(page_of(chain), bad))),
-        Ok(None) => return Ok(Ok(None)),
-        Ok(Some(pages)) => pages,
+    let Some(pages) = pages_of(store, chain, counted)? else {
+        return Ok(None);
     };
     let kinds = &pages.kinds[..pages.count];
     search_pages(store, pages.first, chain, kinds, counted, sought)
@@ -131,8 +132,9 @@ pub fn search_chain<D: Disk, O: Origin, S: PageSought>(
     requires counted { (64 ≤ store.old.now.counted) × (store.old.now.counted ≤ 30000) }
     requires there { IsChain chain }
     // Damage is of the table's entry or of the first page at which the search ends so, and is told where that stands in the file of pages.
-    ensures ends { IsTrue D.tells → IsSoundImage O.first
-        → EndsTold (damage_told D.Disk store.new) (EndsChain store.old.now.counted (pages_in store.old.now) chain (S.ends sought.now)) result }
+    ensures ends { WhereSound O.first D.Disk (EndsTold (damage_told D.Disk store.new) (EndsChain store.old.now.counted (pages_in store.old.now) chain (S.ends sought.now)) result) }
+    // What is found stands on a counted page.
+    ensures inside { IfOk result (λ found. IfSome found (λ at. at.page < store.old.now.counted)) }
     ensures leaves { ReadsPages O.first D.Disk store.old store.new result }
 {
     let found = search_table(store, chain, sought);

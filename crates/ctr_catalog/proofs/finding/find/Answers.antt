@@ -1,6 +1,8 @@
+use Rattle.std.proofs.Common.{◌<◌, Option, ℕ}
+use Rattle.std.specs.Prelude.{IfSome}
 use Rattle.ctr_record_effects.specs.States.{pages_in, area_in}
 use Rattle.ctr_walk.specs.Damage.{damage_told}
-use Rattle.ctr_walk.proofs.Damages.{told_ends}
+use Rattle.ctr_walk.proofs.Damages.{told_ends, told_ok}
 use Rattle.ctr_catalog.specs.Finding.{checks_at, entry_seen, EndsEntries}
 use Rattle.ctr_catalog.proofs.finding.find.Goals as goal
 
@@ -9,3 +11,7 @@ returns-clause-ends g c = λ told sound.
     let s = c.args.store.now in
     let e = c.search_entries-found.ensures in
     told_ends (damage_told g.D.Disk c.tell.new.store) (EndsEntries (checks_at s.now.counted (pages_in s.now)) (entry_seen s.meta.tables c.args.snapshot.now c.args.me c.args.name.now (area_in s.now))) c.search_entries-found.result c.tell.result c.tell.ensures.told (told, sound) (e.leaves.refused told sound) (e.ends told sound)
+
+pub returns-clause-inside : goal.returns-clause-inside
+returns-clause-inside g c =
+    told_ok _ (damage_told g.D.Disk c.tell.new.store) (λ (found : Option ℕ). IfSome found (λ e. e < 32)) c.search_entries-found.result c.tell.result c.tell.ensures.told c.search_entries-found.ensures.inside

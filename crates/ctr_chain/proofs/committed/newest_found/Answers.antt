@@ -1,13 +1,24 @@
-use Rattle.std.proofs.Common.{refl, ◌∙◌, subst}
+use Rattle.std.proofs.Common.{◌≡◌, refl, sym, ◌∙◌, ap}
+use Rattle.std.proofs.lemmas.Result.{err_from_is_err_and}
 use Rattle.ctr_area.specs.Images.{is_committed_in}
 use Rattle.ctr_record_effects.specs.States.{pages_in, area_in}
-use Rattle.ctr_chain.specs.Seeking.{SearchSaid}
+use Rattle.ctr_walk.proofs.Searches.{passed}
+use Rattle.ctr_chain.specs.Seeking.{sought_at, xids_found, SearchSaid}
 use Rattle.ctr_chain.proofs.Chain.{row_found, xid_is_found}
 use Rattle.ctr_chain.proofs.committed.newest_found.Goals as goal
 
-pub returns-in-Ok-clause-finds : goal.returns-in-Ok-clause-finds
-returns-in-Ok-clause-finds g c = λ told sound.
+pub returns-in_err-searched-clause-ends : goal.returns-in_err-searched-clause-ends
+returns-in_err-searched-clause-ends g c =
+    let p = err_from_is_err_and c.from_residual.result c.from_residual.ensures.1 in
+    let a = c.args.store.now in
+    let ends = sought_at (is_committed_in a.meta.tables) a.now.counted (pages_in a.now) c.args.place in
+    rw (p.1, p.2) (λ told sound.
+    passed _ _ c.in_err-searched.field-0.0 (SearchSaid (is_committed_in a.meta.tables) a.now.counted (pages_in a.now) c.args.place) (λ r. r ≡ xids_found ends)
+    (λ bad said. ap xids_found (sym said)) (c.in_err-searched.ensures.said told sound))
+
+pub returns-clause-finds : goal.returns-clause-finds
+returns-clause-finds g c = λ told sound.
     let a = c.args.store.now in
     let test = is_committed_in a.meta.tables in
-    let said = subst (SearchSaid test a.now.counted (pages_in a.now) c.args.place) c.in-Ok.is (c.in_ok-bad.ensures.said told sound) in
-    c.xid_found.ensures ∙ xid_is_found test (area_in a.now) c.args.place c.in-Ok.searched.found (row_found test a.now.counted (pages_in a.now) c.args.place c.in-Ok.searched.found refl c.requires.counted.2 said.0)
+    let found = c.in_ok-searched.searched.found in
+    c.xid_found.ensures ∙ xid_is_found test (area_in a.now) c.args.place found (row_found test a.now.counted (pages_in a.now) c.args.place found refl c.requires.counted.2 (c.in_ok-searched.ensures.said told sound).0)

@@ -1,69 +1,98 @@
-use Rattle.std.proofs.Common.{◌≡◌, Ok, Err, sym, ◌∙◌, ap, subst}
-use Rattle.std.specs.Prelude.{⊤, IsTrue}
+use Rattle.std.proofs.Common.{Result, Ok, Err, sym, ◌∙◌, ap, subst}
+use Rattle.std.specs.Prelude.{⊤, IsTrue, IfOk}
 use Rattle.std.proofs.lemmas.Result.{err_from_is_err_and}
+use Rattle.ctr_bytes.specs.Following.{◌>>=◌}
 use Rattle.ctr_redo.specs.States.{State}
 use Rattle.ctr_base.specs.Base.{IsSoundImage}
+use Rattle.ctr_page.specs.declared.walk.BadChain.{BadChain}
 use Rattle.ctr_page.specs.Columns.{kinds_width}
 use Rattle.ctr_record_effects.specs.States.{pages_in}
-use Rattle.ctr_walk.proofs.Joins.{answers_ok, answers_err}
-use Rattle.ctr_pvs.specs.Table.{TableSaid}
-use Rattle.ctr_revert.specs.Reverting.{SlotSaidFrom, BytesSaid}
-use Rattle.ctr_pvs.proofs.Behind.{both_read, read_failed}
+use Rattle.ctr_store.specs.Store.{LeavesPage}
+use Rattle.ctr_walk.specs.Damage.{searched, EndsOnPage}
+use Rattle.ctr_walk.proofs.Joins.{answers_ok, pages_join}
+use Rattle.ctr_walk.proofs.Searches.{without, passed, passed_page, leaves_without, leaves_behind}
+use Rattle.ctr_pvs.specs.Table.{owner_of, TableSaid}
+use Rattle.ctr_pvs.specs.Reading.{row_on_check}
+use Rattle.ctr_pvs.proofs.Told.{no_table_first, by_table}
+use Rattle.ctr_revert.specs.Reverting.{row_slot_at, behind_check, SlotSaidFrom, BytesSaid, EndsRow}
 use Rattle.ctr_revert.proofs.Row.{ends_row, row_passed}
 use Rattle.ctr_revert.proofs.revert.search_row.Given.{Over}
-use Rattle.ctr_revert.proofs.revert.search_row.Goals.{In_ok-bad-3}
+use Rattle.ctr_revert.proofs.revert.search_row.Goals.{After-bytes_behind}
 use Rattle.ctr_revert.proofs.revert.search_row.Goals as goal
 
--- What the pages say where the bytes behind the slot were looked for: the table, the slot, and what was found.
-module _ (g : Over) (c : In_ok-bad-3 g) (told : IsTrue g.D.Disk.tells) (sound : IsSoundImage g.O.Origin.first) where
-  one : c.table_on.new.store.now ≡ c.args.store.now.now
-  one = (c.in_ok-bad.ensures.leaves.logs told sound).now
+-- Behind the slot: it was read, and what it says, by the pages of the beginning.
+module _ (g : Over) (c : After-bytes_behind g) where
+  row_read : LeavesPage {T = ⊤} g.O.Origin.first g.D.Disk c.args.store.now c.look_slot.new.store (Ok tt)
+  row_read = answers_ok g.O.Origin.first g.D.Disk _ tt c.args.store.now c.look_slot.new.store
+      (pages_join g.D.Disk c.args.store.now c.table_on.new.store c.look_slot.new.store g.O.Origin.first _ _ _ (searched (Ok c.in_ok-from.from)) c.in_ok-table.ensures.leaves c.in_ok-from.ensures.leaves)
 
-  said : TableSaid 1 c.args.store.now.now.counted (pages_in c.args.store.now.now) c.args.place.page (Ok c.in-Ok.table)
-  said = subst (λ r. TableSaid 1 c.args.store.now.now.counted (pages_in c.args.store.now.now) c.args.place.page r) c.in-Ok.is (c.in_ok-bad.ensures.said told sound)
+  here : IsTrue g.D.Disk.tells → IsSoundImage g.O.Origin.first → SlotSaidFrom c.args.store.now.now.counted c.in_ok-table.table c.args.place (pages_in c.args.store.now.now c.args.place.page) (Ok c.in_ok-from.from)
+  here told sound = subst (λ m. SlotSaidFrom m c.in_ok-table.table c.args.place (pages_in c.args.store.now.now c.args.place.page) (Ok c.in_ok-from.from)) c.counted-counted.ensures
+      (subst (λ (s : State). SlotSaidFrom c.counted-counted.result c.in_ok-table.table c.args.place (pages_in s c.args.place.page) (Ok c.in_ok-from.from)) (c.in_ok-table.ensures.leaves.logs told sound).now (c.in_ok-from.ensures.said told sound))
 
-  here : SlotSaidFrom c.args.store.now.now.counted c.in-Ok.table c.args.place (pages_in c.args.store.now.now c.args.place.page) (Ok c.in-Ok-2.from)
-  here = subst (λ m. SlotSaidFrom m c.in-Ok.table c.args.place (pages_in c.args.store.now.now c.args.place.page) (Ok c.in-Ok-2.from)) c.counted-counted.ensures
-      (subst (λ r. SlotSaidFrom c.counted-counted.result c.in-Ok.table c.args.place (pages_in c.args.store.now.now c.args.place.page) r) c.in-Ok-2.is
-      (subst (λ (s : State). SlotSaidFrom c.counted-counted.result c.in-Ok.table c.args.place (pages_in s c.args.place.page) c.in_ok-bad-2.field-0) one (c.in_ok-bad-2.ensures.said told sound)))
+  found : IsTrue g.D.Disk.tells → IsSoundImage g.O.Origin.first → IfOk (searched c.bytes_behind.result) (BytesSaid c.args.store.now.now.counted (pages_in c.args.store.now.now) c.in_ok-table.table c.in_ok-from.from)
+  found told sound = subst (λ m. IfOk (searched c.bytes_behind.result) (BytesSaid m (pages_in c.args.store.now.now) c.in_ok-table.table c.in_ok-from.from)) c.counted-counted.ensures
+      (subst (λ (s : State). IfOk (searched c.bytes_behind.result) (BytesSaid c.counted-counted.result (pages_in s) c.in_ok-table.table c.in_ok-from.from)) (row_read.logs told sound).now (c.bytes_behind.ensures.ends told sound))
 
-  found : BytesSaid c.args.store.now.now.counted (pages_in c.args.store.now.now) c.in-Ok.table c.in-Ok-2.from c.in_ok-bad-3.field-0
-  found = subst (λ m. BytesSaid m (pages_in c.args.store.now.now) c.in-Ok.table c.in-Ok-2.from c.in_ok-bad-3.field-0) c.counted-counted.ensures
-      (subst (λ (s : State). BytesSaid c.counted-counted.result (pages_in s) c.in-Ok.table c.in-Ok-2.from c.in_ok-bad-3.field-0) ((c.in_ok-bad-2.ensures.leaves.logs told sound).now ∙ one) (c.in_ok-bad-3.ensures.ends told sound))
+pub returns-in_err-table-clause-ends : goal.returns-in_err-table-clause-ends
+returns-in_err-table-clause-ends g c =
+    let p = err_from_is_err_and c.from_residual.result c.from_residual.ensures.1 in
+    let s = c.args.store.now.now in
+    let q = c.args.place in
+    rw (p.1, p.2) (λ told sound.
+    passed _ _ c.in_err-table.field-0.0 (TableSaid 1 s.counted (pages_in s) q.page) (EndsRow s.counted (pages_in s) q)
+    (λ bad said. ap (λ (r : Result ⊤ BadChain). r >>= λ _. behind_check s.counted (pages_in s) (owner_of ((pages_in s) q.page)) (row_slot_at (pages_in s) q).previous (row_slot_at (pages_in s) q).older)
+    (no_table_first 1 s.counted (pages_in s) q.page (λ e ks. row_on_check s.counted e ks q.slot ((pages_in s) q.page)) bad said))
+    (c.in_err-table.ensures.said told sound))
 
-pub returns-in_err-bad-2-clause-leaves : goal.returns-in_err-bad-2-clause-leaves
-returns-in_err-bad-2-clause-leaves g c =
-    let p = err_from_is_err_and c.from_residual-in_err-bad-2.result c.from_residual-in_err-bad-2.ensures.1 in
-    rw (p.1, p.2) (read_failed g.O.Origin.first g.D.Disk c.args.store.now c.table_on.new.store c.look_slot.new.store c.in_ok-bad.field-0 c.in_ok-bad.ensures.leaves c.in_err-bad-2.field-0.0 c.in_err-bad-2.ensures.leaves _)
+pub returns-in_err-from-clause-ends : goal.returns-in_err-from-clause-ends
+returns-in_err-from-clause-ends g c =
+    let p = err_from_is_err_and c.from_residual-in_err-from.result c.from_residual-in_err-from.ensures.1 in
+    let t = c.in_ok-table.table in
+    let s = c.args.store.now.now in
+    let q = c.args.place in
+    let e = c.in_err-from.field-0.0 in
+    rw (p.1, p.2) (λ told sound.
+    passed_page _ _ e q.page (SlotSaidFrom s.counted t q ((pages_in s) q.page)) (EndsRow s.counted (pages_in s) q)
+    (λ bad wrong. ap (λ (r : Result ⊤ BadChain). r >>= λ _. behind_check s.counted (pages_in s) (owner_of ((pages_in s) q.page)) (row_slot_at (pages_in s) q).previous (row_slot_at (pages_in s) q).older)
+    (by_table 1 s.counted (pages_in s) q.page t (λ e ks. row_on_check s.counted e ks q.slot ((pages_in s) q.page)) (Err bad) (c.in_ok-table.ensures.said told sound) wrong))
+    (subst (λ m. IfOk (searched (without _ e)) (EndsOnPage q.page (SlotSaidFrom m t q ((pages_in s) q.page)))) c.counted-counted.ensures
+    (subst (λ (u : State). IfOk (searched (without _ e)) (EndsOnPage q.page (SlotSaidFrom c.counted-counted.result t q (pages_in u q.page)))) (c.in_ok-table.ensures.leaves.logs told sound).now (c.in_err-from.ensures.said told sound))))
 
-pub returns-in-Err-2-clause-leaves : goal.returns-in-Err-2-clause-leaves
-returns-in-Err-2-clause-leaves g c =
-    both_read g.O.Origin.first g.D.Disk c.args.store.now c.table_on.new.store c.look_slot.new.store c.in_ok-bad.field-0 c.in_ok-bad.ensures.leaves c.in_ok-bad-2.field-0 c.in_ok-bad-2.ensures.leaves _ _
+pub returns-in_err-from-clause-leaves : goal.returns-in_err-from-clause-leaves
+returns-in_err-from-clause-leaves g c =
+    let p = err_from_is_err_and c.from_residual-in_err-from.result c.from_residual-in_err-from.ensures.1 in
+    rw (p.1, p.2) (leaves_behind g.O.Origin.first g.D.Disk _ _ _ c.in_err-from.field-0.0 c.args.store.now c.table_on.new.store c.look_slot.new.store c.in_ok-table.ensures.leaves c.in_err-from.ensures.leaves)
 
-pub returns-in_err-bad-3-clause-leaves : goal.returns-in_err-bad-3-clause-leaves
-returns-in_err-bad-3-clause-leaves g c =
-    let p = err_from_is_err_and c.from_residual-in_err-bad-3.result c.from_residual-in_err-bad-3.ensures.1 in
-    let e = c.in_err-bad-3.field-0.0 in
-    rw (p.1, p.2) (answers_err g.O.Origin.first g.D.Disk e c.args.store.now c.bytes_behind.new.store (c.in_err-bad-3.ensures.leaves c.args.store.now (both_read g.O.Origin.first g.D.Disk c.args.store.now c.table_on.new.store c.look_slot.new.store c.in_ok-bad.field-0 c.in_ok-bad.ensures.leaves c.in_ok-bad-2.field-0 c.in_ok-bad-2.ensures.leaves ⊤ tt)))
-
-pub returns-in-Err-3-clause-ends : goal.returns-in-Err-3-clause-ends
-returns-in-Err-3-clause-ends g c = λ told sound.
-    let k = (goal.at.returns-in-Err-3-clause-ends g c).In_ok-bad-3 in
+pub returns-in_err-bytes-clause-ends : goal.returns-in_err-bytes-clause-ends
+returns-in_err-bytes-clause-ends g c =
+    let p = err_from_is_err_and c.from_residual-in_err-bytes.result c.from_residual-in_err-bytes.ensures.1 in
+    let k = (goal.at.returns-in_err-bytes-clause-ends g c).After-bytes_behind in
+    let t = c.in_ok-table.table in
+    let n = c.args.store.now.now.counted in
     let pages = pages_in c.args.store.now.now in
-    sym (ends_row c.args.store.now.now.counted pages c.args.place c.in-Ok.table c.in-Ok-2.from (said g k told sound) (here g k told sound) (Err c.in-Err-3.bad)
-    (subst (λ r. BytesSaid c.args.store.now.now.counted pages c.in-Ok.table c.in-Ok-2.from r) c.in-Err-3.is (found g k told sound)))
+    let e = c.in_err-bytes.field-0.0 in
+    rw (p.1, p.2) (λ told sound.
+    passed _ _ e (BytesSaid n pages t c.in_ok-from.from) (EndsRow n pages c.args.place)
+    (λ bad ends. sym (ends_row n pages c.args.place t c.in_ok-from.from (c.in_ok-table.ensures.said told sound) (here g k told sound) (Err bad) ends))
+    (subst (λ r. IfOk (searched r) (BytesSaid n pages t c.in_ok-from.from)) c.in_err-bytes.was (found g k told sound)))
 
-pub returns-in-Err-3-clause-leaves : goal.returns-in-Err-3-clause-leaves
-returns-in-Err-3-clause-leaves g c =
-    answers_ok g.O.Origin.first g.D.Disk c.in_ok-bad-3.field-0 _ c.args.store.now c.bytes_behind.new.store (c.in_ok-bad-3.ensures.leaves c.args.store.now (both_read g.O.Origin.first g.D.Disk c.args.store.now c.table_on.new.store c.look_slot.new.store c.in_ok-bad.field-0 c.in_ok-bad.ensures.leaves c.in_ok-bad-2.field-0 c.in_ok-bad-2.ensures.leaves ⊤ tt))
+pub returns-in_err-bytes-clause-leaves : goal.returns-in_err-bytes-clause-leaves
+returns-in_err-bytes-clause-leaves g c =
+    let p = err_from_is_err_and c.from_residual-in_err-bytes.result c.from_residual-in_err-bytes.ensures.1 in
+    rw (p.1, p.2) (leaves_without g.O.Origin.first g.D.Disk _ _ c.in_err-bytes.field-0.0 c.args.store.now c.bytes_behind.new.store
+    (c.in_err-bytes.ensures.leaves c.args.store.now (row_read g (goal.at.returns-in_err-bytes-clause-leaves g c).After-bytes_behind)))
 
-pub returns-in-Ok-3-clause-ends : goal.returns-in-Ok-3-clause-ends
-returns-in-Ok-3-clause-ends g c = λ told sound.
-    let k = (goal.at.returns-in-Ok-3-clause-ends g c).In_ok-bad-3 in
+pub returns-clause-ends : goal.returns-clause-ends
+returns-clause-ends g c = λ told sound.
+    let k = (goal.at.returns-clause-ends g c).After-bytes_behind in
+    let t = c.in_ok-table.table in
+    let n = c.args.store.now.now.counted in
     let pages = pages_in c.args.store.now.now in
-    row_passed c.args.store.now.now.counted pages c.args.place c.in-Ok.table c.in-Ok-2.from (said g k told sound) (here g k told sound) c.in-Ok-3.bytes c.kinds_width.result (c.kinds_width.ensures.value ∙ ap kinds_width c.kinds.ensures.value)
-    (subst (λ r. BytesSaid c.args.store.now.now.counted pages c.in-Ok.table c.in-Ok-2.from r) c.in-Ok-3.is (found g k told sound))
+    row_passed n pages c.args.place t c.in_ok-from.from (c.in_ok-table.ensures.said told sound) (here g k told sound) c.in_ok-bytes.bytes c.kinds_width.result (c.kinds_width.ensures.value ∙ ap kinds_width c.kinds.ensures.value)
+    (subst (λ r. IfOk (searched r) (BytesSaid n pages t c.in_ok-from.from)) c.in_ok-bytes.was (found g k told sound))
 
-pub returns-in-Ok-3-clause-leaves : goal.returns-in-Ok-3-clause-leaves
-returns-in-Ok-3-clause-leaves g c =
-    answers_ok g.O.Origin.first g.D.Disk c.in_ok-bad-3.field-0 _ c.args.store.now c.bytes_behind.new.store (c.in_ok-bad-3.ensures.leaves c.args.store.now (both_read g.O.Origin.first g.D.Disk c.args.store.now c.table_on.new.store c.look_slot.new.store c.in_ok-bad.field-0 c.in_ok-bad.ensures.leaves c.in_ok-bad-2.field-0 c.in_ok-bad-2.ensures.leaves ⊤ tt))
+pub returns-clause-leaves : goal.returns-clause-leaves
+returns-clause-leaves g c =
+    answers_ok g.O.Origin.first g.D.Disk _ _ c.args.store.now c.bytes_behind.new.store
+    (c.in_ok-bytes.ensures.leaves c.args.store.now (row_read g (goal.at.returns-clause-leaves g c).After-bytes_behind))
