@@ -53,6 +53,10 @@ fn read_step(verb: &[u8], words: &mut Words) -> Option<Step> {
         b"harden" => Step::Harden,
         b"write" => Step::Write,
         b"room" => Step::Room,
+        b"read" => Step::Read {
+            times: words.value(),
+            pages: words.value(),
+        },
         b"grow" => Step::Grow,
         b"generation" => Step::Generation,
         _ => return None,

@@ -160,6 +160,18 @@ fn make_room(store: &mut Mem, most: u32) -> Result<(), StoreFault>
     make_room(store, most - 1)
 }
 
+// Reads the first so many pages, one after another and again from the first.
+fn read_pages(store: &mut Mem, times: u32, pages: u32) -> Result<(), StoreFault>
+    requires going { store.old.stopped ≡ false }
+    ensures going { OnOk result (store.new.stopped ≡ false) }
+{
+    let pages = pages.max(1);
+    for i in 0..times {
+        let _bytes = store.page(i % pages)?;
+    }
+    Ok(())
+}
+
 // Takes a step.
 fn do_step(alloc: Global, store: &mut Mem, plain: &mut Plain, step: Step) -> Result<(), StoreFault>
     requires going { store.old.stopped ≡ false }
@@ -178,6 +190,7 @@ fn do_step(alloc: Global, store: &mut Mem, plain: &mut Plain, step: Step) -> Res
             store.grow_extent()
         }
         Step::Room => make_room(store, TURNS),
+        Step::Read { times, pages } => read_pages(store, times, pages),
         _ => do_log(alloc, store, plain, step),
     }
 }

@@ -16,6 +16,8 @@ pub enum Step {
     Write,
     /// Turns for room, until there is room.
     Room,
+    /// So many readings of the first so many pages, one after another and again from the first.
+    Read { times: u32, pages: u32 },
     Grow,
     /// Begins a second generation behind records that are all hardened.
     Generation,
