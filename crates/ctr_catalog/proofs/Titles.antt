@@ -1,6 +1,6 @@
 -- An entry on a page of the catalog is the one of the area.
 use Rattle.std.proofs.Common.{◌≡◌, ℕ, ◌+◌, ◌*◌, ◌/◌, ◌%◌, ◌<◌, true, cond, List, [], Ok, ◌∙◌, ap, arith}
-use Rattle.std.specs.Prelude.{◌==◌, ◌&&◌, nat_lt, Option}
+use Rattle.std.specs.Prelude.{◌==◌, nat_lt, Option}
 use Rattle.std.proofs.lemmas.Bool.{lt-ltb}
 use Rattle.ctr_page.specs.Reading.{piece}
 use Rattle.ctr_page.specs.Columns.{entry_in, entry_at}
@@ -8,9 +8,7 @@ use Rattle.ctr_page.specs.Searching.{EndsSearch, IsFirst}
 use Rattle.ctr_page.proofs.Searches.{ends_first}
 use Rattle.ctr_area.specs.Areas.{Title}
 use Rattle.ctr_area.specs.Reading.{title_of, area_of}
-use Rattle.ctr_area.specs.Images.{is_live}
-use Rattle.ctr_model.specs.State.{same_name}
-use Rattle.ctr_catalog.specs.Entries.{is_live_of, is_unused, checks_entry, names_in, frees_in}
+use Rattle.ctr_catalog.specs.Entries.{is_unused, checks_entry, frees_in}
 
 module _ (pages : ℕ → List ℕ) (half from counted : ℕ) (two : half < 2) where
   title_here : (n : ℕ) → n < 16 → (area_of pages).title (16 * half + n) ≡ title_of (entry_at n (pages (1 + half)))
@@ -21,12 +19,6 @@ module _ (pages : ℕ → List ℕ) (half from counted : ℕ) (two : half < 2) w
       let page : e / 16 ≡ half = omega (arith, few) in
       ap (λ b. title_of (entry_in (cond b (piece (256 * (e % 16)) 256 (pages (1 + e / 16))) []))) low
       ∙ (λ i. title_of (entry_in (piece (256 * place i) 256 (pages (1 + page i)))))
-
-  pub named_in_area : (name : List ℕ) (found : Option ℕ) → EndsSearch (checks_entry counted (pages (1 + half))) (λ n. is_live_of name (entry_at n (pages (1 + half)))) from 16 (Ok found)
-      → IsFirst (names_in (area_of pages) half name) from 16 found
-  named_in_area name found ends =
-      ends_first (checks_entry counted (pages (1 + half))) (λ n. is_live_of name (entry_at n (pages (1 + half)))) (names_in (area_of pages) half name) from 16 found
-      (λ m few passes. ap (λ (t : Title). is_live t && same_name t.name name) (title_here m few)) ends
 
   pub free_in_area : (found : Option ℕ) → EndsSearch (checks_entry counted (pages (1 + half))) (λ n. is_unused (entry_at n (pages (1 + half)))) from 16 (Ok found)
       → IsFirst (frees_in (area_of pages) half) from 16 found

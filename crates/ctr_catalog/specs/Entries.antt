@@ -7,7 +7,6 @@ use Rattle.ctr_page.specs.declared.table.TheConstants.{ENTRY_SIZE}
 use Rattle.ctr_page.specs.Columns.{table_name_in}
 use Rattle.ctr_page.specs.Damage.{entry_check}
 use Rattle.ctr_area.specs.Areas.{Area}
-use Rattle.ctr_area.specs.Images.{is_live}
 
 -- a live entry of a name
 abbrev pub is_live_of : List ℕ → CatalogEntry → Bool
@@ -23,12 +22,7 @@ checks_entry counted page n = entry_check counted (ENTRY_SIZE * n) page
 
 -- ---- in the area
 
--- an entry of the area is live, of a name; by its number on the first page of the catalog (0) or
--- the second (1)
-abbrev pub names_in : Area → ℕ → List ℕ → ℕ → Bool
-names_in area half name n =
-    is_live (area.title (16 * half + n)) && same_name (area.title (16 * half + n)).name name
-
--- An entry on one of the catalog's two pages is free.
+-- an entry of the area is free, by its number on the first page of the catalog (0) or the second
+-- (1)
 abbrev pub frees_in : Area → ℕ → ℕ → Bool
 frees_in area half n = (area.title (16 * half + n)).state == 0

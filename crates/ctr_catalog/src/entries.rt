@@ -5,7 +5,7 @@ ghost use Rattle.ctr_page.specs.Readable.{HasParts};
 ghost use Rattle.ctr_page.specs.Searching.{EndsSearch, IsFirst};
 ghost use Rattle.ctr_area.specs.Reading.{area_of};
 ghost use Rattle.ctr_catalog.specs.declared.entries.TheConstants.{ENTRIES_ON_PAGE};
-ghost use Rattle.ctr_catalog.specs.Entries.{is_live_of, is_unused, checks_entry, names_in, frees_in};
+ghost use Rattle.ctr_catalog.specs.Entries.{is_live_of, is_unused, checks_entry, frees_in};
 ghost use Rattle.ctr_page.specs.Columns.{entry_at as entry_of};
 
 use ctr_page::{BadPage, CatalogEntry, check_entry, read_entry};
@@ -20,23 +20,6 @@ pub(crate) fn is_live_of(name: &Name, entry: &CatalogEntry) -> bool
     ensures { result ≡ is_live_of name.now entry.now }
 {
     entry.state == 1 && entry.name() == name.as_slice()
-}
-
-/// The first live entry of a name on a page of the catalog, from one on, where so many pages are counted;
-/// or the damage of the first entry that fails its checks. Several live entries may have one name: the
-/// search goes on behind the one that was found. It takes no memory.
-pub fn find_named(name: &Name, from: u8, counted: u32, page: &[u8]) -> Result<Option<u8>, BadPage>
-    requires some { 0 < counted }
-    requires whole { length page.now ≡ PAGE_SIZE }
-    ensures { EndsSearch (checks_entry counted page.now) (λ n. is_live_of name.now (entry_of n page.now)) from ENTRIES_ON_PAGE result }
-{
-    for entry in from..ENTRIES_ON_PAGE {
-        check_entry(counted, entry, page)?;
-        if is_live_of(name, &read_entry(page, entry)) {
-            return Ok(Some(entry));
-        }
-    }
-    Ok(None)
 }
 
 /// The lowest free entry on a page of the catalog, where so many pages are counted; or the damage of the
@@ -56,12 +39,9 @@ pub fn find_free(counted: u32, page: &[u8]) -> Result<Option<u8>, BadPage>
 }
 
 /// A search that ends without damage, on the first page of the catalog (0) or the second (1), has found the
-/// first entry of the area there that is sought, or there is none.
+/// first entry of the area there that is free, or there is none.
 pub fn found_in_area()
-    ensures named { (pages : ℕ → List ℕ) (half from counted : ℕ) (name : List ℕ) (found : Option ℕ) → half < 2
-        → EndsSearch (checks_entry counted (pages (1 + half))) (λ n. is_live_of name (entry_of n (pages (1 + half)))) from ENTRIES_ON_PAGE (Ok found)
-        → IsFirst (names_in (area_of pages) half name) from ENTRIES_ON_PAGE found }
-    ensures free { (pages : ℕ → List ℕ) (half from counted : ℕ) (found : Option ℕ) → half < 2
+    ensures { (pages : ℕ → List ℕ) (half from counted : ℕ) (found : Option ℕ) → half < 2
         → EndsSearch (checks_entry counted (pages (1 + half))) (λ n. is_unused (entry_of n (pages (1 + half)))) from ENTRIES_ON_PAGE (Ok found)
         → IsFirst (frees_in (area_of pages) half) from ENTRIES_ON_PAGE found }
 {}

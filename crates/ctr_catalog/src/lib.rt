@@ -8,7 +8,7 @@ mod finding;
 mod store;
 mod writing;
 
-pub use entries::{ENTRIES_ON_PAGE, find_free, find_named, found_in_area};
+pub use entries::{ENTRIES_ON_PAGE, find_free, found_in_area};
 pub use finding::{changed, find};
 pub use store::{a_free_entry_is_the_lowest, find_free_entry};
 pub use writing::{CatalogRefusal, create, drop_table, undo_item};
