@@ -5,9 +5,8 @@ use Rattle.ctr_page.specs.declared.rows.Place.{Place}
 use Rattle.ctr_page.specs.declared.rows.VersionEntry.{VersionEntry}
 use Rattle.ctr_area.specs.Areas.{RowVersion, Slot, Older}
 use Rattle.ctr_area.specs.Reading.{older_said, columns_on}
-use Rattle.ctr_area.specs.Chains.{older_places}
 use Rattle.ctr_area.specs.Images.{image_rows, versions_in}
-use Rattle.ctr_area.specs.Sound.{IsAmong, IsSoundArea}
+use Rattle.ctr_area.specs.Sound.{IsSoundArea}
 use Rattle.ctr_record_laws.specs.Owed.{OwedByKeep, older_copy, IsSpareCopy}
 use Rattle.ctr_record_effects.specs.States.{pages_in, area_in}
 use Rattle.ctr_pvs.specs.Writing.{HasPlaceOfVersion}
@@ -30,18 +29,16 @@ pub record ShowsTheSame (old new : State) : Type 0 where
 abbrev pub older_laid : State → Place → VersionEntry → Older
 older_laid s at entry = older_said (columns_on (pages_in s) at.page) entry
 
--- What the keeping of a version owes: the pages are sound, the place is one of versions so wide and
--- is free, and the version is by a transaction that was drawn.
-pub record MayKeep (s : State) (at : Place) (entry : VersionEntry) : Type 0 where
+-- What the keeping of a version owes: the pages are sound, the place is one of the table's versions, so
+-- wide, and is free, and the version is by a transaction that was drawn.
+pub record MayKeep (s : State) (e : ℕ) (at : Place) (entry : VersionEntry) : Type 0 where
   pub sound : HasSoundArea s
   pub place : HasPlaceOfVersion (pages_in s) at entry
-  pub owed : OwedByKeep s.tables (area_in s) at (older_laid s at entry)
+  pub owed : OwedByKeep s.tables (area_in s) e at (older_laid s at entry)
 
--- All is shown as before; and where it is a version of a slot, in a place of a table's versions, it
--- is a spare copy there.
-pub record KeepsVersion (at : Place) (entry : VersionEntry) (old new : State) : Type 0 where
+-- All is shown as before; and where it is a version of a slot of the table, it is a spare copy there.
+pub record KeepsVersion (e : ℕ) (at : Place) (entry : VersionEntry) (old new : State) : Type 0 where
   pub shows : ShowsTheSame old new
-  pub spare : (e : ℕ) (slot : Slot) (version : RowVersion)
+  pub spare : (slot : Slot) (version : RowVersion)
       → older_laid old at entry ≡ older_copy slot version
-      → IsAmong at (older_places (area_in old) e)
       → IsSpareCopy (area_in new) e slot version at

@@ -1,5 +1,5 @@
 // One record lays a version entry, or frees one.
-ghost use Rattle.std.specs.Prelude.{◌≡◌, ◌≤◌, ◌<◌, ◌+◌, false, OnOk, IfOk, length, take};
+ghost use Rattle.std.specs.Prelude.{◌≡◌, ◌≤◌, ◌<◌, ◌+◌, ℕ, false, OnOk, IfOk, length, take};
 ghost use Rattle.ctr_redo.specs.States.{page_at};
 ghost use Rattle.ctr_page.specs.Making.{kept_bytes};
 ghost use Rattle.ctr_model.specs.declared.limits.TheConstants.{MOST_PAGES};
@@ -53,7 +53,7 @@ pub fn keep<D: Disk, O: Origin>(
     ensures kept { WhereSound O.first D.Disk (HasPlaceOfVersion (pages_in store.old.now) place version.now
         → OnOk result (area_in store.new.now ≡ with_older place (older_said (columns_on (pages_in store.old.now) place.page) version.now) (area_in store.old.now))) }
     // In a sound state nothing else is shown than before.
-    ensures shows { WhereSound O.first D.Disk (MayKeep store.old.now place version.now → OnOk result (KeepsVersion place version.now store.old.now store.new.now)) }
+    ensures shows { WhereSound O.first D.Disk ((e : ℕ) → MayKeep store.old.now e place version.now → OnOk result (KeepsVersion e place version.now store.old.now store.new.now)) }
 {
     a_version_is_laid();
     a_keep_shows_the_same();

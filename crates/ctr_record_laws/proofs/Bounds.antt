@@ -8,8 +8,8 @@ use Rattle.ctr_page.specs.Places.{slot_size, kept_size}
 use Rattle.ctr_page.specs.Reading.{piece}
 use Rattle.ctr_page.specs.Columns.{entry_in, first_in, versions_first_in}
 use Rattle.ctr_area.specs.Areas.{Firsts, no_pages}
-use Rattle.ctr_area.specs.Reading.{entry_bytes, bucket_numbers, firsts_of, header_on, width_on, size_on, area_of}
-use Rattle.ctr_record_laws.specs.Bounds.{IsInBounds}
+use Rattle.ctr_area.specs.Reading.{entry_bytes, bucket_numbers, title_of, firsts_of, header_on, width_on, size_on, area_of}
+use Rattle.ctr_record_laws.specs.Bounds.{no_title, IsInBounds}
 
 none_beyond : (pages : ℕ → List ℕ) (e : ℕ) → 32 ≤ e → (area_of pages).firsts e ≡ no_pages
 unfolding field
@@ -36,5 +36,9 @@ free_none pages e is = ap (λ b. cond b no_pages (used (entry_bytes pages e))) (
     used : List ℕ → Firsts
     used bytes = record { buckets = map (λ b. first_in b bytes) bucket_numbers; versions = versions_first_in bytes }
 
+titles_beyond : (pages : ℕ → List ℕ) (e : ℕ) → 32 ≤ e → (area_of pages).title e ≡ no_title
+unfolding field
+titles_beyond pages e le = ap (λ b. title_of (entry_in (cond b (piece (256 * (e % 16)) 256 (pages (1 + e / 16))) []))) (le-ltb e 32 le)
+
 pub pages_bounded : (pages : ℕ → List ℕ) → IsInBounds (area_of pages)
-pages_bounded pages = record { entries = none_beyond pages; free = free_none pages; rooms = few_rooms pages }
+pages_bounded pages = record { titles = titles_beyond pages; entries = none_beyond pages; free = free_none pages; rooms = few_rooms pages }

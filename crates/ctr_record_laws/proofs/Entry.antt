@@ -1,5 +1,5 @@
 -- A Trim of an entry of the catalog: a dropped one dies, and a dead one without a page is free.
-use Rattle.std.proofs.Common.{◌≡◌, ◌⊎◌, ⊎_elim, inl, inr, ℕ, ◌<◌, ◌≤◌, Bool, true, false, cond, List, ◌++◌, drop, refl, sym, ◌∙◌, ap, subst}
+use Rattle.std.proofs.Common.{◌≡◌, ◌⊎◌, ⊎_elim, inl, inr, ℕ, ◌<◌, ◌≤◌, Bool, true, false, cond, List, drop, refl, sym, ◌∙◌, ap, subst}
 use Rattle.std.proofs.lemmas.Bool.{false≢true, eq-eqb}
 use Rattle.std.specs.List.{filter}
 use Rattle.std.specs.Prelude.{◌==◌}
@@ -13,7 +13,7 @@ use Rattle.ctr_meta.specs.Tables.{Tables}
 use Rattle.ctr_records.specs.declared.record.SlogItem.{SlogItem}
 use Rattle.ctr_records.specs.declared.record.SlogItem.TheVariants.{CreateOf, DropOf}
 use Rattle.ctr_record_laws.proofs.Fresh.{AreNoPages, mid_sound, fresh_pages, fresh_sound}
-use Rattle.ctr_record_laws.proofs.Latest.{by_title, title_apart, titled_sound, live_below, live_open}
+use Rattle.ctr_record_laws.proofs.Latest.{title_apart, titled_sound, live_below, live_open}
 use Rattle.ctr_record_laws.proofs.Owning.{all_of}
 use Rattle.ctr_record_laws.proofs.Undone.{undone_at, undone_dead, one_of_from}
 use Rattle.ctr_record_laws.specs.Owed.{OwedByDying, OwedByFreeing}
@@ -68,17 +68,20 @@ module _ (counted : ℕ) (tables : Tables) (area : Area) (e : ℕ) (u : Title) (
 
 -- ---- a dropped entry dies
 
-module _ (counted : ℕ) (tables : Tables) (area : Area) (e : ℕ) (sound : IsSoundArea counted tables area) (owed : OwedByDying tables area e) where
+module _ (counted : ℕ) (tables : Tables) (area : Area) (e : ℕ) (sound : IsSoundArea counted tables area) (passes : ℕ → Bool) (owed : OwedByDying passes tables area e) where
   abbrev d : ℕ
   d = (area.title e).dropper
 
+  dropped : is_committed_in tables d ≡ true
+  dropped = owed.old d owed.dropped
+
   -- nobody open has an item of it
   dropper_open : (y : ℕ) → IsAmong y (xids_in tables.opens) → d ≡ y → ⊥
-  dropper_open y in_ is = false≢true (sym (live_open counted tables area sound y in_) ∙ ap (is_committed_in tables) (sym is) ∙ owed.dropped)
+  dropper_open y in_ is = false≢true (sym (live_open counted tables area sound y in_) ∙ ap (is_committed_in tables) (sym is) ∙ dropped)
 
   no_creation : (y : ℕ) → IsAmong (CreateOf y e) tables.items → ⊥
   no_creation y in_ = ⊎_elim
-      (λ z. false≢true (ap (is_committed_in tables) (sym z) ∙ owed.dropped))
+      (λ z. false≢true (ap (is_committed_in tables) (sym z) ∙ dropped))
       (λ is. dropper_open y (sound.owned.creates y e in_) is) (sound.names.creates y e in_).2
 
   no_dropping : (y : ℕ) → IsAmong (DropOf y e) tables.items → ⊥

@@ -147,8 +147,8 @@ module _ (area : Area) (q : Place) (none : IsInNoChain area q) where
 
 -- ---- a Keep
 
-pub keep_sound : (counted : ℕ) (tables : Tables) (area : Area) (at : Place) (k : Older) → IsSoundArea counted tables area → OwedByKeep tables area at k → IsSoundArea counted tables (with_older at k area)
-keep_sound counted tables area at k sound owed = entry_sound counted tables area at k sound
+pub keep_sound : (counted : ℕ) (tables : Tables) (area : Area) (e : ℕ) (at : Place) (k : Older) → IsSoundArea counted tables area → OwedByKeep tables area e at k → IsSoundArea counted tables (with_older at k area)
+keep_sound counted tables area e at k sound owed = entry_sound counted tables area at k sound
     (behind_stays area at k (kept_chains area at k owed.free sound.pointers) (is_committed_in tables) sound.behind)
     (kept_pointers area at k owed.free sound.pointers)
-    (entry_below tables.next (xids_in tables.opens ++ xids_in tables.aborted) area at k (λ used e in_. owed.drawn) sound.below)
+    (entry_below tables.next (xids_in tables.opens ++ xids_in tables.aborted) area at k (λ used f in_. owed.drawn) sound.below)

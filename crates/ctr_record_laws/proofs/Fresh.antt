@@ -1,5 +1,5 @@
 -- An entry without a page gets other chains without a page: what stood on pages stays, where none was of the entry.
-use Rattle.std.proofs.Common.{◌≡◌, ◌⊎◌, ⊎_elim, inl, ℕ, ◌+◌, ◌<◌, cond, List, [], ◌∷◌, ◌++◌, refl, sym, ◌∙◌, ap, subst, arith}
+use Rattle.std.proofs.Common.{◌≡◌, ◌⊎◌, ⊎_elim, inl, ℕ, ◌+◌, ◌<◌, cond, List, [], ◌∷◌, ◌++◌, refl, sym, ◌∙◌, ap, subst}
 use Rattle.std.proofs.lemmas.Bool.{eq-eqb}
 use Rattle.std.specs.List.{flat_map, AllByRecursion}
 use Rattle.std.specs.Prelude.{◌==◌}
@@ -7,7 +7,7 @@ use Rattle.ctr_area.proofs.Buckets.{each_of, nothing_from_0}
 use Rattle.ctr_area.specs.Areas.{Title, Firsts, Area}
 use Rattle.ctr_area.specs.Chains.{pages_bound, pages_from, places_on, places_from, slot_places, table_pages}
 use Rattle.ctr_area.specs.Changes.{with_title, with_firsts, empty_chains, ChangesEntry}
-use Rattle.ctr_area.specs.Images.{is_committed_in, entry_numbers}
+use Rattle.ctr_area.specs.Images.{is_committed_in}
 use Rattle.ctr_area.specs.Sound.{IsAmong, how_many, xids_in, EndsIn, IsOfRows, IsOfVersions, AreBuckets, AreReadable, is_headed_by, owned_pages, AreOwned, AreNamed, IsSoundArea}
 use Rattle.ctr_meta.specs.Tables.{Tables}
 use Rattle.ctr_record_laws.proofs.Members.{among_parts}

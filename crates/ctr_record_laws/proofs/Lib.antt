@@ -39,6 +39,7 @@ pub mod Create
 pub mod Shown
 pub mod Entry
 pub mod Begin
+pub mod Grown
 pub mod Leaving
 pub mod Forget
 pub mod Abort

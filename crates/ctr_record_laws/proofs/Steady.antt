@@ -83,8 +83,8 @@ module _ (area : Area) (e : ℕ) (q : Place) (it : Older) (loose : IsLoose area 
   entry_stays p k apart none = record { here = loose.here; content = older_apart area p k q apart ∙ loose.content; used = loose.used; unlinked = none }
 
   -- a Keep
-  pub keep_stays : (counted : ℕ) (tables : Tables) (p : Place) (k : Older) → IsSoundArea counted tables area → OwedByKeep tables area p k → IsLoose (with_older p k area) e q it
-  keep_stays counted tables p k sound owed = entry_stays p k
+  pub keep_stays : (counted : ℕ) (tables : Tables) (f : ℕ) (p : Place) (k : Older) → IsSoundArea counted tables area → OwedByKeep tables area f p k → IsLoose (with_older p k area) e q it
+  keep_stays counted tables g p k sound owed = entry_stays p k
       (λ is. false≢true (sym owed.free ∙ ap (λ p. (area.older p).used) (sym is) ∙ ap (λ (j : Older). j.used) loose.content ∙ loose.used))
       (λ f b used in_. loose.unlinked f b used (subst (IsAmong q) (kept_along area p k owed.free sound.pointers f b used) in_))
 

@@ -7,8 +7,8 @@ use Rattle.std.specs.Prelude.{◌==◌, ◌&&◌}
 use Rattle.ctr_area.specs.Areas.{Firsts, Area}
 use Rattle.ctr_area.specs.Chains.{pages_bound, pages_from, places_on, places_from, slot_places, table_pages}
 use Rattle.ctr_area.specs.Changes.{with_firsts, with_bucket}
-use Rattle.ctr_area.specs.Images.{is_committed_in, entry_numbers}
-use Rattle.ctr_area.specs.Sound.{IsAmong, how_many, xids_in, IsUsedSlot, EndsIn, IsOfRows, IsOfVersions, is_headed_by, page_of_item, owned_pages, IsSoundArea}
+use Rattle.ctr_area.specs.Images.{is_committed_in}
+use Rattle.ctr_area.specs.Sound.{IsAmong, how_many, xids_in, IsUsedSlot, EndsIn, IsOfRows, IsOfVersions, is_headed_by, owned_pages, IsSoundArea}
 use Rattle.ctr_meta.proofs.XidLaws.{in_head, in_rest}
 use Rattle.ctr_meta.specs.Effects.{with_item}
 use Rattle.ctr_meta.specs.Tables.{Tables, is_in}

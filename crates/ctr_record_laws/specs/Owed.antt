@@ -1,6 +1,6 @@
 -- What each record owes: what holds of the tables and of the area before an engine logs it.
 use Rattle.std.specs.Prelude.{◌≡◌, ℕ, ◌<◌, true, false, ℤ, Bool, ◌&&◌, not, Option, Some, None, is_some, if◌then◌else◌, ◌≢◌, unwrap_or, ◌⊎◌, List, [], ◌∷◌, ◌≤◌, length, slice_index, ◌++◌}
-use Rattle.ctr_meta.specs.Tables.{Tables, is_in}
+use Rattle.ctr_meta.specs.Tables.{Tables, is_in, heads_in}
 use Rattle.ctr_page.specs.declared.rows.Place.{Place}
 use Rattle.ctr_area.specs.Areas.{RowVersion, Slot, Older, Area, nowhere, free_slot, Title}
 use Rattle.ctr_area.specs.Chains.{older_places, places_from, bucket_first}
@@ -19,10 +19,13 @@ use Rattle.ctr_page.specs.declared.header.Header.{Header}
 use Rattle.ctr_records.specs.declared.record.SlogItem.{SlogItem}
 use Rattle.ctr_records.specs.declared.record.SlogItem.TheVariants.{CreateOf, DropOf, AllocOf}
 
--- What a Keep owes: the entry is free, and the version is by a transaction that was drawn.
-pub record OwedByKeep (tables : Tables) (area : Area) (at : Place) (older : Older) : Type 0 where
-  pub free : (area.older at).used ≡ false
-  pub drawn : older.version.0 < tables.next
+-- What a Keep owes: the place is one of the table's versions and is free, and the version is by a
+-- transaction that was drawn.
+pub record OwedByKeep (tables : Tables) (area : Area) (e : ℕ) (at : Place) (older : Older) : Type 0
+  where
+    pub here : IsAmong at (older_places area e)
+    pub free : (area.older at).used ≡ false
+    pub drawn : older.version.0 < tables.next
 
 -- the entry that keeps a version of a slot: it leads on as the slot does
 abbrev pub older_copy : Slot → RowVersion → Older
@@ -185,12 +188,20 @@ FitsTrimming FreeTombstone passes old = (passes old.head.0 ≡ true) × (old.hea
 abbrev pub PassCommitted : (ℕ → Bool) → Tables → Type 0
 PassCommitted passes tables = (x : ℕ) → passes x ≡ true → is_committed_in tables x ≡ true
 
--- What a Trim of a slot owes: the slot is a used one of the table, and who passes is committed.
+-- Something of the chain goes: where it is cut, there is a version behind.
+abbrev pub IsCut : Trimming → Slot → Type 0
+IsCut CutHead old = (is_some old.previous ≡ true) ⊎ (old.pointer.page ≢ 0)
+IsCut CutPrevious old = old.pointer.page ≢ 0
+IsCut FreeTombstone old = Unit {0}
+
+-- What a Trim of a slot owes: the slot is a used one of the table, who passes is committed, and the
+-- Trim isn't in vain.
 pub record OwedByTrim (passes : ℕ → Bool) (tables : Tables) (area : Area) (e : ℕ) (at : Place)
     (way : Trimming) : Type 0 where
   pub used : IsUsedSlot area e at
   pub old : PassCommitted passes tables
   pub fits : FitsTrimming way passes (area.slot at)
+  pub some : IsCut way (area.slot at)
 
 -- the area that it leaves
 abbrev pub trimmed_at : Place → Trimming → Area → Area
@@ -210,13 +221,15 @@ IsFirstPassing passes older q (p ∷ ps) =
     ((p ≡ q) × (passes (older p).version.0 ≡ true))
     ⊎ ((passes (older p).version.0 ≡ false) × IsFirstPassing passes older q ps)
 
--- What a cut behind a version entry owes: it is the first of the slot's chain whose version passes.
+-- What a cut behind a version entry owes: it is the first of the slot's chain whose version passes,
+-- and another one is behind it.
 pub record OwedByCut (passes : ℕ → Bool) (area : Area) (e : ℕ) (at : Place) (q : Place) : Type 0
   where
     pub used : IsUsedSlot area e at
     pub head : passes (area.slot at).head.0 ≡ false
     pub previous : PreviousStays passes (area.slot at).previous
     pub first : IsFirstPassing passes area.older q (along area at)
+    pub some : (area.older q).pointer.page ≢ 0
 
 -- the area that it leaves: the entry leads nowhere
 abbrev pub cut_at : Place → Area → Area
@@ -278,9 +291,10 @@ pub record OwedByOlderLink (tables : Tables) (area : Area) (x p e : ℕ) : Type 
   pub header : area.header p ≡ versions_header e (area.firsts e).versions
   pub there : e < 32
 
--- What an Unlink from a bucket owes: the page is its first one, and no used slot on it has a head of
--- an open or an aborted transaction.
+-- What an Unlink from a bucket owes: the table isn't live, the page is its first one, and no used slot
+-- on it has a head of an open or an aborted transaction.
 pub record OwedByUnlink (tables : Tables) (area : Area) (p e bucket : ℕ) : Type 0 where
+  pub dead : is_live (area.title e) ≡ false
   pub there : bucket < length (area.firsts e).buckets
   pub first : first_page area e bucket ≡ p
   pub some : 0 < p
@@ -331,10 +345,13 @@ pub record OwedByCreate (tables : Tables) (area : Area) (x e : ℕ) (name : List
       → stands_for (is_committed_in tables) x (area.title f) ≡ false
   pub alone : IsNameFreeFor x tables.items area.title name
 
--- What a Trim that makes a dropped entry dead owes: it is live, and who dropped it is committed.
-pub record OwedByDying (tables : Tables) (area : Area) (e : ℕ) : Type 0 where
+-- What a Trim that makes a dropped entry dead owes: it is live, who dropped it passes, and who passes
+-- is committed.
+pub record OwedByDying (passes : ℕ → Bool) (tables : Tables) (area : Area) (e : ℕ) : Type 0 where
+  pub inside : e < 32
   pub live : is_live (area.title e) ≡ true
-  pub dropped : is_committed_in tables (area.title e).dropper ≡ true
+  pub old : PassCommitted passes tables
+  pub dropped : passes (area.title e).dropper ≡ true
 
 -- What a Trim that frees an entry owes: it is dead, and has no page.
 pub record OwedByFreeing (area : Area) (e : ℕ) : Type 0 where
@@ -356,3 +373,13 @@ pub record OwedByAbort (tables : Tables) (x : ℕ) : Type 0 where
 pub record OwedByCommit (tables : Tables) (x : ℕ) : Type 0 where
   pub is_open : is_in x tables.opens ≡ true
   pub linked : (p : ℕ) → IsAmong (AllocOf x p) tables.items → ⊥
+
+-- What a Begin owes: the transaction is the next, and a number.
+pub record OwedByBegin (tables : Tables) (x : ℕ) : Type 0 where
+  pub is_next : x ≡ tables.next
+  pub some : 0 < x
+
+-- What a Forget owes: the transaction is aborted, and has no head.
+pub record OwedByForget (tables : Tables) (x : ℕ) : Type 0 where
+  pub gone : is_in x tables.aborted ≡ true
+  pub none : heads_in x tables.aborted ≡ 0

@@ -24,4 +24,5 @@ pub use sound::{
     a_forget_stays_sound, a_format_stays_sound, a_free_stays_sound, a_link_stays_sound,
     a_linked_page_leads_on, a_trimmed_entry_stays_sound, an_abort_stays_sound,
     an_alloc_stays_sound, an_uncreate_stays_sound, an_undrop_stays_sound, an_unlink_stays_sound,
+    growth_stays_sound,
 };

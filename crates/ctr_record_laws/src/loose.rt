@@ -37,8 +37,8 @@ pub fn a_trim_leaves_its_entries()
 /// A used version entry that no chain has stays as it is, and in no chain: over a Keep, a Row that doesn't link it, a
 /// Revert, a Trim of a slot, of a version entry that leads nowhere from then on, and of another one that is freed.
 pub fn a_loose_entry_stays_loose()
-    ensures keep { (counted : ℕ) (tables : Tables) (area : Area) (e : ℕ) (q p : Place) (it older : Older) → IsSoundArea counted tables area
-        → OwedByKeep tables area p older → IsLoose area e q it → IsLoose (with_older p older area) e q it }
+    ensures keep { (counted : ℕ) (tables : Tables) (area : Area) (e f : ℕ) (q p : Place) (it older : Older) → IsSoundArea counted tables area
+        → OwedByKeep tables area f p older → IsLoose area e q it → IsLoose (with_older p older area) e q it }
     ensures row { (tables : Tables) (area : Area) (e : ℕ) (q : Place) (it : Older) (m : RowMove)
         → OwedByRow tables area m → (Links m.writing q → ⊥) → IsLoose area e q it → IsLoose (row_moved m area) e q it }
     ensures revert { (counted : ℕ) (tables : Tables) (area : Area) (e f : ℕ) (q b : Place) (it : Older) (way : Reverting) → IsSoundArea counted tables area
@@ -128,8 +128,8 @@ pub fn a_spare_copy_is_loose()
 /// which can't link it, a Revert and a Trim of another slot, a Trim of a version entry that leads nowhere from then on,
 /// and of another one that is freed.
 pub fn a_spare_copy_stays_spare()
-    ensures keep { (counted : ℕ) (tables : Tables) (area : Area) (e : ℕ) (at q p : Place) (version : RowVersion) (older : Older)
-        → IsSoundArea counted tables area → OwedByKeep tables area p older
+    ensures keep { (counted : ℕ) (tables : Tables) (area : Area) (e f : ℕ) (at q p : Place) (version : RowVersion) (older : Older)
+        → IsSoundArea counted tables area → OwedByKeep tables area f p older
         → IsSpareFor area e at version q → IsSpareFor (with_older p older area) e at version q }
     ensures row { (counted : ℕ) (tables : Tables) (area : Area) (e : ℕ) (at q : Place) (version : RowVersion) (m : RowMove)
         → IsSoundArea counted tables area → OwedByRow tables area m → IsUsedSlot area e at → at ≢ m.at

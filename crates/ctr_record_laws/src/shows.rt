@@ -4,9 +4,9 @@ ghost use Rattle.ctr_meta.specs.Tables.{Tables};
 ghost use Rattle.ctr_page.specs.declared.rows.Place.{Place};
 ghost use Rattle.ctr_area.specs.Areas.{RowVersion, Slot, Older, Area, free_older};
 ghost use Rattle.ctr_area.specs.Reading.{area_of};
-ghost use Rattle.ctr_area.specs.Chains.{older_places, pages_bound};
+ghost use Rattle.ctr_area.specs.Chains.{pages_bound};
 ghost use Rattle.ctr_area.specs.Images.{image_rows, versions_in};
-ghost use Rattle.ctr_area.specs.Sound.{IsAmong, IsSoundArea};
+ghost use Rattle.ctr_area.specs.Sound.{IsSoundArea};
 ghost use Rattle.ctr_area.specs.Changes.{with_older, with_taken, with_blank, with_firsts, with_bucket};
 ghost use Rattle.ctr_record_laws.specs.Bounds.{IsInBounds};
 ghost use Rattle.ctr_record_laws.specs.Owed.{OwedByKeep, older_copy, IsSpareCopy, RowMove, row_moved, row_counted, OwedByRow, AgreeOnCommits, Reverting, FitsReverting, OwedByRevert, reverted_at, Trimming, trimmed_chain, OwedByTrim, trimmed_at, OwedByCut, cut_at, IsInNoChain, OwedByFree, OwedByFormat, rows_header, versions_header, first_page, OwedByLink, OwedByOlderLink, OwedByUncreate, OwedByUndrop};
@@ -27,20 +27,20 @@ pub fn pages_are_in_bounds()
 /// A Keep: the chains of names and rows, and the rows of an image, are what they were, and the area stays
 /// sound with the same tables.
 pub fn a_keep_shows_the_same()
-    ensures versions { (counted : ℕ) (tables : Tables) (area : Area) (at : Place) (older : Older) (committed : ℕ → Bool)
-        → IsSoundArea counted tables area → OwedByKeep tables area at older
+    ensures versions { (counted : ℕ) (tables : Tables) (area : Area) (e : ℕ) (at : Place) (older : Older) (committed : ℕ → Bool)
+        → IsSoundArea counted tables area → OwedByKeep tables area e at older
         → versions_in committed (with_older at older area) ≡ versions_in committed area }
-    ensures rows { (counted : ℕ) (tables : Tables) (area : Area) (at : Place) (older : Older) (committed : ℕ → Bool)
-        → IsSoundArea counted tables area → OwedByKeep tables area at older
+    ensures rows { (counted : ℕ) (tables : Tables) (area : Area) (e : ℕ) (at : Place) (older : Older) (committed : ℕ → Bool)
+        → IsSoundArea counted tables area → OwedByKeep tables area e at older
         → image_rows committed (with_older at older area) ≡ image_rows committed area }
-    ensures sound { (counted : ℕ) (tables : Tables) (area : Area) (at : Place) (older : Older)
-        → IsSoundArea counted tables area → OwedByKeep tables area at older → IsSoundArea counted tables (with_older at older area) }
+    ensures sound { (counted : ℕ) (tables : Tables) (area : Area) (e : ℕ) (at : Place) (older : Older)
+        → IsSoundArea counted tables area → OwedByKeep tables area e at older → IsSoundArea counted tables (with_older at older area) }
 {}
 
 /// A version of a slot that a Keep puts into an entry of the table's version store is a spare copy there.
 pub fn a_kept_version_is_spare()
     ensures { (counted : ℕ) (tables : Tables) (area : Area) (e : ℕ) (at : Place) (slot : Slot) (version : RowVersion)
-        → IsSoundArea counted tables area → OwedByKeep tables area at (older_copy slot version) → IsAmong at (older_places area e)
+        → IsSoundArea counted tables area → OwedByKeep tables area e at (older_copy slot version)
         → IsSpareCopy (with_older at (older_copy slot version) area) e slot version at }
 {}
 

@@ -1,5 +1,5 @@
 // An area stays sound by each record on a whole page, on the catalog and on a transaction.
-ghost use Rattle.std.specs.Prelude.{◌≡◌, ◌≤◌, ◌∷◌, ℕ, true, false, List, ◌<◌};
+ghost use Rattle.std.specs.Prelude.{◌≡◌, ◌≤◌, ◌∷◌, ℕ, Bool, true, false, List};
 ghost use Rattle.ctr_records.specs.declared.record.SlogItem.TheVariants.{AllocOf, FreeOf, CreateOf, DropOf};
 ghost use Rattle.ctr_meta.specs.declared.items.Wanted.TheVariants.{Allocation, OfPage, Creation, Dropping};
 ghost use Rattle.ctr_meta.specs.Tables.{Tables, is_in};
@@ -10,7 +10,7 @@ ghost use Rattle.ctr_area.specs.Chains.{pages_bound, pages_from};
 ghost use Rattle.ctr_area.specs.Sound.{IsSoundArea};
 ghost use Rattle.ctr_area.specs.Changes.{with_taken, with_blank, with_firsts, with_bucket, with_title, new_title, empty_chains, ChangesEntry};
 ghost use Rattle.ctr_record_laws.specs.Bounds.{IsInBounds};
-ghost use Rattle.ctr_record_laws.specs.Owed.{OwedByAlloc, OwedByFree, OwedByFormat, first_page, OwedByLink, OwedByOlderLink, OwedByUnlink, OwedByOlderUnlink, OwedByUncreate, OwedByUndrop, OwedByDrop, OwedByCreate, OwedByDying, OwedByFreeing, OwedByAbort, OwedByCommit};
+ghost use Rattle.ctr_record_laws.specs.Owed.{OwedByAlloc, OwedByFree, OwedByFormat, first_page, OwedByLink, OwedByOlderLink, OwedByUnlink, OwedByOlderUnlink, OwedByUncreate, OwedByUndrop, OwedByDrop, OwedByCreate, OwedByDying, OwedByFreeing, OwedByAbort, OwedByCommit, OwedByBegin};
 ghost use Rattle.ctr_types.specs.declared.value.Column.{Column};
 
 /// An Alloc: the area stays sound, with the tables in which the page is the transaction's to link or to give
@@ -92,16 +92,16 @@ pub fn a_create_stays_sound()
 /// A Trim of an entry of the catalog, which is dead from then on, or free, with a title that says so and no page: the
 /// area stays sound with the same tables.
 pub fn a_trimmed_entry_stays_sound()
-    ensures dead { (counted : ℕ) (tables : Tables) (area : Area) (e : ℕ) → IsSoundArea counted tables area → OwedByDying tables area e
+    ensures dead { (passes : ℕ → Bool) (counted : ℕ) (tables : Tables) (area : Area) (e : ℕ) → IsSoundArea counted tables area → OwedByDying passes tables area e
         → IsSoundArea counted tables (with_title e (record (area.title e) { state = 2 }) area) }
     ensures free { (counted : ℕ) (tables : Tables) (old new : Area) (e : ℕ) (title : Title) → IsSoundArea counted tables old
         → OwedByFreeing old e → title.state ≡ 0 → ChangesEntry e title no_pages old new → IsSoundArea counted tables new }
 {}
 
-/// A Begin of the next transaction, whose number is from 1 on: the area stays sound.
+/// A Begin of the next transaction: the area stays sound.
 pub fn a_begin_stays_sound()
-    ensures { (counted : ℕ) (tables : Tables) (area : Area) → IsSoundArea counted tables area → 0 < tables.next
-        → IsSoundArea counted (opened_by tables.next tables) area }
+    ensures { (counted : ℕ) (tables : Tables) (area : Area) (x : ℕ) → IsSoundArea counted tables area → OwedByBegin tables x
+        → IsSoundArea counted (opened_by x tables) area }
 {}
 
 /// An Abort: the area stays sound, with the tables in which the transaction is aborted, or is none where it has no head.
@@ -110,7 +110,7 @@ pub fn an_abort_stays_sound()
         → IsSoundArea counted (rolled_back x tables) area }
 {}
 
-/// A Forget of an aborted transaction: the area stays sound.
+/// A Forget of an aborted transaction, whatever heads it has: the area stays sound.
 pub fn a_forget_stays_sound()
     ensures { (counted : ℕ) (tables : Tables) (area : Area) (x : ℕ) → IsSoundArea counted tables area → is_in x tables.aborted ≡ true
         → IsSoundArea counted (forgotten_by x tables) area }
@@ -120,4 +120,9 @@ pub fn a_forget_stays_sound()
 pub fn a_commit_stays_sound()
     ensures { (counted : ℕ) (tables : Tables) (area : Area) (x : ℕ) → IsSoundArea counted tables area → OwedByCommit tables x
         → IsSoundArea counted (committed x tables) area }
+{}
+
+/// The file grows, so that more pages are counted: the area stays sound with the same tables.
+pub fn growth_stays_sound()
+    ensures { (counted more : ℕ) (tables : Tables) (area : Area) → counted ≤ more → IsSoundArea counted tables area → IsSoundArea more tables area }
 {}

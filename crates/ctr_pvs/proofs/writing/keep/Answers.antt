@@ -39,7 +39,7 @@ returns-clause-kept g c = λ told sound place.
 
 pub returns-clause-shows : goal.returns-clause-shows
 unfolding returns-clause-kept
-returns-clause-shows g c = λ told sound may.
+returns-clause-shows g c = λ told sound e may.
     let at = c.args.place in
     let entry = c.args.version.now in
     let s = c.args.store.now.now in
@@ -47,14 +47,14 @@ returns-clause-shows g c = λ told sound may.
     let r : Record = Keep c.args.x c.over_place.result in
     let older = older_laid s at entry in
     let law = c.a_keep_shows_the_same.ensures in
-    both_ok c.log_on_page.result (Logs (r ∷ []) c.args.store.now c.log_on_page.new.store) (area_in t ≡ with_older at older (area_in s)) (KeepsVersion at entry s t)
+    both_ok c.log_on_page.result (Logs (r ∷ []) c.args.store.now c.log_on_page.new.store) (area_in t ≡ with_older at older (area_in s)) (KeepsVersion e at entry s t)
     (λ logs is. record {
       shows = shows_by s t (with_older at older (area_in s)) is (ap (λ (x : State). x.counted) logs.now) (ap (λ (x : State). x.tables) logs.now)
-          (λ committed. law.versions s.counted s.tables (area_in s) at older committed may.sound may.owed)
-          (λ committed. law.rows s.counted s.tables (area_in s) at older committed may.sound may.owed)
-          (law.sound s.counted s.tables (area_in s) at older may.sound may.owed);
-      spare = λ e slot version copy here.
+          (λ committed. law.versions s.counted s.tables (area_in s) e at older committed may.sound may.owed)
+          (λ committed. law.rows s.counted s.tables (area_in s) e at older committed may.sound may.owed)
+          (law.sound s.counted s.tables (area_in s) e at older may.sound may.owed);
+      spare = λ slot version copy.
           subst (λ (area : Area). IsSpareCopy area e slot version at) (sym (is ∙ ap (λ o. with_older at o (area_in s)) copy))
-          (c.a_kept_version_is_spare.ensures s.counted s.tables (area_in s) e at slot version may.sound (subst (OwedByKeep s.tables (area_in s) at) copy may.owed) here);
+          (c.a_kept_version_is_spare.ensures s.counted s.tables (area_in s) e at slot version may.sound (subst (OwedByKeep s.tables (area_in s) e at) copy may.owed));
     })
     (c.log_on_page.ensures.one.logs told sound) (returns-clause-kept g c told sound may.place)

@@ -2,7 +2,7 @@ use Rattle.ctr_record_laws.proofs.Steady.{keep_stays, row_stays, revert_stays, t
 use Rattle.ctr_record_laws.proofs.loose.a_loose_entry_stays_loose.Goals as goal
 
 pub returns-clause-keep : goal.returns-clause-keep
-returns-clause-keep c = λ counted tables area e q p it older sound owed loose. keep_stays area e q it loose counted tables p older sound owed
+returns-clause-keep c = λ counted tables area e f q p it older sound owed loose. keep_stays area e q it loose counted tables f p older sound owed
 
 pub returns-clause-row : goal.returns-clause-row
 returns-clause-row c = λ tables area e q it m owed unlinks loose. row_stays area e q it loose tables m owed unlinks

@@ -8,8 +8,8 @@ use Rattle.ctr_record_laws.proofs.Steady.{keep_stays, row_stays, revert_stays, t
 use Rattle.ctr_record_laws.proofs.loose.a_spare_copy_stays_spare.Goals as goal
 
 pub returns-clause-keep : goal.returns-clause-keep
-returns-clause-keep c = λ counted tables area e at q p version older sound owed. spare_stays area (with_older p older area) e at version q refl
-    (λ loose. keep_stays area e q (older_copy (area.slot at) version) loose counted tables p older sound owed)
+returns-clause-keep c = λ counted tables area e f at q p version older sound owed. spare_stays area (with_older p older area) e at version q refl
+    (λ loose. keep_stays area e q (older_copy (area.slot at) version) loose counted tables f p older sound owed)
 
 pub returns-clause-row : goal.returns-clause-row
 returns-clause-row c = λ counted tables area e at q version m sound owed used apart copy.
