@@ -1,0 +1,65 @@
+-- What a session counts on from one of its turns to the next, whoever acts between.
+use Rattle.std.specs.Prelude.{◌≡◌, ◌≢◌, ℕ, ℤ, true}
+use Rattle.ctr_meta.specs.Tables.{is_in}
+use Rattle.ctr_page.specs.declared.header.Header.{Header}
+use Rattle.ctr_page.specs.declared.rows.Place.{Place}
+use Rattle.ctr_area.specs.Areas.{Title, RowVersion, Slot}
+use Rattle.ctr_area.specs.Sound.{IsUsedSlot}
+use Rattle.ctr_record_laws.specs.Owed.{OwedByFormat, IsEmptyPage}
+use Rattle.ctr_record_laws.specs.Loose.{IsSpareFor}
+use Rattle.ctr_actions.specs.Sites.{Site}
+use Rattle.ctr_actions.specs.Actions.{Action, Writes, Creates, Drops, Uncreates, Undrops, Reverts, Trims, FreesOlder, MakesDead, Unlinks, FreesEntry}
+
+-- Its transaction is open; a page is its own to link; it is, and is empty with a header; a slot of a
+-- table is as it was read; a version of what stands there was kept; the title of a table is this.
+pub data Fact : Type 0 where
+  IsOpen : Fact
+  HasPage : ℕ → Fact
+  HasBlank : ℕ → Header → Fact
+  HasSlot : ℕ → Place → Slot → Fact
+  HasCopy : ℕ → Place → RowVersion → Place → Fact
+  HasTable : ℕ → Title → Fact
+
+-- The fact holds of a transaction.
+abbrev pub Holds : ℕ → Fact → Site → Type 0
+Holds x IsOpen s = is_in x s.tables.opens ≡ true
+Holds x (HasPage p) s = OwedByFormat s.tables x p
+Holds x (HasBlank p h) s =
+    OwedByFormat s.tables x p × IsEmptyPage s.area p × (s.area.header p ≡ h)
+Holds x (HasSlot e at slot) s = IsUsedSlot s.area e at × (s.area.slot at ≡ slot)
+Holds x (HasCopy e at version q) s = IsUsedSlot s.area e at × IsSpareFor s.area e at version q
+Holds x (HasTable e title) s = s.area.title e ≡ title
+
+-- Another's action is away from a fact, by the locks and the uses of tables. A row is written,
+-- reverted or trimmed in another slot, and another copy is freed; a bucket's page leaves another
+-- table; and another entry of the catalog is created or freed, dropped or dead, or that is undone.
+abbrev pub IsAway : Action → Fact → Type 0
+IsAway (Writes m) (HasSlot e at slot) = at ≢ m.at
+IsAway (Writes m) (HasCopy e at version q) = at ≢ m.at
+IsAway (Reverts f b way) (HasSlot e at slot) = at ≢ b
+IsAway (Reverts f b way) (HasCopy e at version q) = at ≢ b
+IsAway (Trims passes f b way) (HasSlot e at slot) = at ≢ b
+IsAway (Trims passes f b way) (HasCopy e at version q) = at ≢ b
+IsAway (FreesOlder f r) (HasCopy e at version q) = q ≢ r
+IsAway (Unlinks p f b) (HasSlot e at slot) = e ≢ f
+IsAway (Unlinks p f b) (HasCopy e at version q) = e ≢ f
+IsAway (Creates f name columns left) (HasBlank p h) = h.entry ≢ f
+IsAway (FreesEntry f title left) (HasBlank p h) = h.entry ≢ f
+IsAway (Creates f name columns left) (HasTable e title) = e ≢ f
+IsAway (FreesEntry f was left) (HasTable e title) = e ≢ f
+IsAway (Drops f) (HasTable e title) = e ≢ f
+IsAway (Uncreates f) (HasTable e title) = e ≢ f
+IsAway (Undrops f) (HasTable e title) = e ≢ f
+IsAway (MakesDead passes f) (HasTable e title) = e ≢ f
+IsAway a fact = Unit {0}
+
+-- The row of a key is another one, in this table or in another.
+abbrev pub IsOtherRow : ℕ → ℤ → ℕ → ℤ → Type 0
+IsOtherRow e key f other = f ≡ e → other ≡ key → ⊥
+
+-- The action is of an entry without a live table: it is created or freed, or its bucket loses a page.
+abbrev pub IsOfNoTable : Action → ℕ → Type 0
+IsOfNoTable (Creates f name columns left) e = e ≡ f
+IsOfNoTable (FreesEntry f title left) e = e ≡ f
+IsOfNoTable (Unlinks p f b) e = e ≡ f
+IsOfNoTable a e = ⊥

@@ -1,0 +1,4 @@
+pub mod Sites
+pub mod Actions
+pub mod Records
+pub mod Facts
