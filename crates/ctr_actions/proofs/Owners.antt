@@ -1,0 +1,109 @@
+-- A page is in one item, so of one transaction; and on a page in an item stands nothing of a table.
+use Rattle.std.proofs.Common.{◌≡◌, ◌≢◌, inl, inr, ℕ, ◌+◌, ◌≤◌, Bool, true, false, List, [], ◌∷◌, ◌++◌, refl, sym, ◌∙◌, ap, subst, arith}
+use Rattle.std.proofs.lemmas.Bool.{false≢true}
+use Rattle.std.specs.List.{flat_map}
+use Rattle.std.specs.Prelude.{◌==◌}
+use Rattle.ctr_area.proofs.Buckets.{on_chain}
+use Rattle.ctr_area.specs.Chains.{pages_bound, pages_from, slot_places, older_places, table_pages}
+use Rattle.ctr_area.specs.Images.{entry_numbers}
+use Rattle.ctr_area.specs.Sound.{IsAmong, how_many, page_of_item, owned_pages}
+use Rattle.ctr_record_laws.proofs.Members.{among_front, among_rest, count_append, count_among}
+use Rattle.ctr_record_laws.proofs.Owned.{owned_once}
+use Rattle.ctr_record_laws.specs.Bounds.{IsInBounds}
+use Rattle.ctr_page.specs.declared.rows.Place.{Place}
+use Rattle.ctr_records.specs.declared.record.SlogItem.{SlogItem}
+use Rattle.ctr_records.specs.declared.record.SlogItem.TheVariants.{AllocOf, FreeOf, CreateOf, DropOf}
+use Rattle.ctr_record_laws.proofs.Away.{place_on_chains}
+use Rattle.ctr_record_laws.proofs.Format.{item_page, item_alone}
+use Rattle.ctr_record_laws.proofs.Owning.{flat_among}
+use Rattle.ctr_record_laws.specs.Owed.{OwedByFormat}
+use Rattle.ctr_actions.specs.Sites.{Site, IsSoundSite}
+
+abbrev allocator : SlogItem → ℕ
+allocator (AllocOf x p) = x
+allocator (FreeOf p) = 0
+allocator (CreateOf x e) = 0
+allocator (DropOf x e) = 0
+
+abbrev is_taken_by_one : SlogItem → Bool
+is_taken_by_one (AllocOf x p) = true
+is_taken_by_one (FreeOf p) = false
+is_taken_by_one (CreateOf x e) = false
+is_taken_by_one (DropOf x e) = false
+
+-- two items of a page are two pages
+pub two_pages : (p : ℕ) (i j : SlogItem) (items : List SlogItem) → page_of_item i ≡ p ∷ [] → page_of_item j ≡ p ∷ [] → i ≢ j → IsAmong i items → IsAmong j items
+    → 2 ≤ how_many (λ q. q == p) (flat_map page_of_item items)
+two_pages p i j [] one two apart in_ too = absurd in_
+two_pages p i j (a ∷ items) one two apart (inl is) (inl same_) = absurd (apart (is ∙ sym same_))
+two_pages p i j (a ∷ items) one two apart (inl is) (inr too) = here_and_there p i j a items one two is too
+  where
+    here_and_there : (p : ℕ) (i j a : SlogItem) (items : List SlogItem) → page_of_item i ≡ p ∷ [] → page_of_item j ≡ p ∷ [] → i ≡ a → IsAmong j items
+        → 2 ≤ how_many (λ q. q == p) (page_of_item a ++ flat_map page_of_item items)
+    here_and_there p i j a items one two is too =
+        let rest = flat_map page_of_item items in
+        sum (how_many (λ q. q == p) (page_of_item a)) (how_many (λ q. q == p) rest) (how_many (λ q. q == p) (page_of_item a ++ rest))
+        (count_among p (page_of_item a) (subst (λ z. IsAmong p (page_of_item z)) is (subst (IsAmong p) (sym one) (inl refl))))
+        (count_among p rest (flat_among page_of_item p j items too (subst (IsAmong p) (sym two) (inl refl))))
+        (count_append (λ q. q == p) (page_of_item a) rest)
+      where
+        sum : (a b c : ℕ) → 1 ≤ a → 1 ≤ b → c ≡ a + b → 2 ≤ c
+        sum a b c m n is = omega (arith, m, n, is)
+two_pages p i j (a ∷ items) one two apart (inr in_) (inl same_) = there_and_here
+  where
+    there_and_here : 2 ≤ how_many (λ q. q == p) (page_of_item a ++ flat_map page_of_item items)
+    there_and_here =
+        let rest = flat_map page_of_item items in
+        sum (how_many (λ q. q == p) (page_of_item a)) (how_many (λ q. q == p) rest) (how_many (λ q. q == p) (page_of_item a ++ rest))
+        (count_among p (page_of_item a) (subst (λ z. IsAmong p (page_of_item z)) same_ (subst (IsAmong p) (sym two) (inl refl))))
+        (count_among p rest (flat_among page_of_item p i items in_ (subst (IsAmong p) (sym one) (inl refl))))
+        (count_append (λ q. q == p) (page_of_item a) rest)
+      where
+        sum : (a b c : ℕ) → 1 ≤ a → 1 ≤ b → c ≡ a + b → 2 ≤ c
+        sum a b c m n is = omega (arith, m, n, is)
+two_pages p i j (a ∷ items) one two apart (inr in_) (inr too) =
+    more (how_many (λ q. q == p) (page_of_item a)) (how_many (λ q. q == p) (flat_map page_of_item items)) (how_many (λ q. q == p) (page_of_item a ++ flat_map page_of_item items))
+    (two_pages p i j items one two apart in_ too) (count_append (λ q. q == p) (page_of_item a) (flat_map page_of_item items))
+  where
+    more : (a b c : ℕ) → 2 ≤ b → c ≡ a + b → 2 ≤ c
+    more a b c m is = omega (arith, m, is)
+
+-- a page is in one item
+pub one_item : (p : ℕ) (i j : SlogItem) (s : Site) → IsInBounds s.area → IsSoundSite s → page_of_item i ≡ p ∷ [] → page_of_item j ≡ p ∷ [] → i ≢ j → IsAmong i s.tables.items → IsAmong j s.tables.items → ⊥
+one_item p i j s bounds sound one two apart in_ too =
+    let items = s.tables.items in
+    let of_items = flat_map page_of_item items in
+    let of_tables = flat_map (table_pages s.area) entry_numbers in
+    twice (how_many (λ q. q == p) of_tables) (how_many (λ q. q == p) of_items) (how_many (λ q. q == p) (owned_pages items s.area))
+    (two_pages p i j items one two apart in_ too)
+    (count_append (λ q. q == p) of_tables of_items)
+    (owned_once s.area bounds s.counted _ items sound.owned p (among_rest p of_tables of_items (flat_among page_of_item p i items in_ (subst (IsAmong p) (sym one) (inl refl)))))
+  where
+    twice : (a b c : ℕ) → 2 ≤ b → c ≡ a + b → c ≡ 1 → ⊥
+    twice a b c two is one = omega (arith, two, is, one)
+
+-- pages of two transactions are two
+pub pages_apart : (x y p q : ℕ) (s : Site) → IsInBounds s.area → IsSoundSite s → x ≢ y → OwedByFormat s.tables x p → OwedByFormat s.tables y q → p ≢ q
+pages_apart x y p q s bounds sound apart mine theirs is = one_item q (AllocOf x q) (AllocOf y q) s bounds sound refl refl (λ same_. apart (ap allocator same_))
+    (item_page x q s.tables.items (subst (λ r. OwedByFormat s.tables x r) is mine)).0 (item_page y q s.tables.items theirs).0
+
+-- a page that left its chain is no transaction's
+pub left_apart : (x p q : ℕ) (s : Site) → IsInBounds s.area → IsSoundSite s → OwedByFormat s.tables x p → IsAmong (FreeOf q) s.tables.items → p ≢ q
+left_apart x p q s bounds sound mine left is = one_item q (AllocOf x q) (FreeOf q) s bounds sound refl refl (λ same_. false≢true (sym (ap is_taken_by_one same_)))
+    (item_page x q s.tables.items (subst (λ r. OwedByFormat s.tables x r) is mine)).0 left
+
+-- ---- what stands on a page of a table stands on no page in an item
+
+module _ (x p : ℕ) (s : Site) (bounds : IsInBounds s.area) (sound : IsSoundSite s) (mine : OwedByFormat s.tables x p) where
+  alone : (f q : ℕ) → IsAmong q (table_pages s.area f) → q ≢ p
+  alone f q in_ is = item_alone s.counted s.tables s.area bounds sound.owned p (item_page x p s.tables.items mine).1 f (subst (λ r. IsAmong r (table_pages s.area f)) is in_)
+
+  pub slot_elsewhere : (f : ℕ) (at : Place) → IsAmong at (slot_places s.area f) → at.page ≢ p
+  slot_elsewhere f at in_ = alone f at.page
+      (among_front at.page (flat_map (pages_from pages_bound s.area.header) (s.area.firsts f).buckets) (pages_from pages_bound s.area.header (s.area.firsts f).versions)
+      (place_on_chains s.area (s.area.firsts f).buckets at in_))
+
+  pub older_elsewhere : (f : ℕ) (at : Place) → IsAmong at (older_places s.area f) → at.page ≢ p
+  older_elsewhere f at in_ = alone f at.page
+      (among_rest at.page (flat_map (pages_from pages_bound s.area.header) (s.area.firsts f).buckets) (pages_from pages_bound s.area.header (s.area.firsts f).versions)
+      (on_chain s.area (s.area.firsts f).versions at in_).0)
