@@ -1,4 +1,4 @@
--- An empty page that a transaction has allocated stays empty, with its header, over the actions of others.
+-- An empty page that a transaction has allocated stays empty, with its header, over actions beside it.
 use Rattle.std.proofs.Common.{◌≡◌, ◌≢◌, ℕ, cond, refl, sym, ◌∙◌, ap}
 use Rattle.std.proofs.lemmas.Bool.{ne_eqb}
 use Rattle.ctr_area.specs.Areas.{Title, Firsts, Slot, Older, Area, nowhere, free_slot, free_older, no_pages}
@@ -13,36 +13,36 @@ use Rattle.ctr_page.specs.declared.rows.Place.{Place}
 use Rattle.ctr_record_laws.specs.Owed.{slot_by, reverted_slot, trimmed_slot, cut_at, OwedByFormat, IsEmptyPage}
 use Rattle.ctr_actions.specs.Sites.{Site, IsSoundSite}
 use Rattle.ctr_actions.specs.Actions.{Action, Begins, Allocates, Formats, Links, LinksOlder, Keeps, Writes, Creates, Drops, Commits, Frees, Uncreates, Undrops, Aborts, Reclaims, Reverts, Trims, Cuts, FreesOlder, MakesDead, Unlinks, UnlinksOlder, FreesEntry, Forgets, Checkpoints, Owes, after}
-use Rattle.ctr_actions.specs.Facts.{HasBlank, IsAway}
-use Rattle.ctr_actions.proofs.Owners.{pages_apart, slot_elsewhere, older_elsewhere}
+use Rattle.ctr_actions.specs.Facts.{HasBlank, IsAway, IsBeside}
+use Rattle.ctr_actions.proofs.Owners.{slot_elsewhere, older_elsewhere}
 
-module _ (x y p : ℕ) (s : Site) (bounds : IsInBounds s.area) (sound : IsSoundSite s) (apart : x ≢ y) (mine : OwedByFormat s.tables x p) where
-  pub header_stays : (a : Action) → Owes y a s → (after y a s).area.header p ≡ s.area.header p
-  header_stays Begins owed = refl
-  header_stays (Allocates q) owed = refl
-  header_stays (Formats q g) owed = ap (λ b. cond b g (s.area.header p)) (ne_eqb p q (pages_apart x y p q s bounds sound apart mine owed))
-  header_stays (Links q f k) owed = refl
-  header_stays (LinksOlder q f) owed = refl
-  header_stays (Keeps f b older) owed = refl
-  header_stays (Writes m) owed = refl
-  header_stays (Creates f name columns left) owed = owed.1.headers p
-  header_stays (Drops f) owed = refl
-  header_stays Commits owed = refl
-  header_stays (Frees q) owed = refl
-  header_stays (Uncreates f) owed = refl
-  header_stays (Undrops f) owed = refl
-  header_stays Aborts owed = refl
-  header_stays (Reclaims q) owed = refl
-  header_stays (Reverts f b way) owed = refl
-  header_stays (Trims passes f b way) owed = refl
-  header_stays (Cuts passes f b r) owed = refl
-  header_stays (FreesOlder f r) owed = refl
-  header_stays (MakesDead passes f) owed = refl
-  header_stays (Unlinks q f k) owed = refl
-  header_stays (UnlinksOlder q f) owed = refl
-  header_stays (FreesEntry f was left) owed = owed.2.headers p
-  header_stays (Forgets z) owed = refl
-  header_stays (Checkpoints lists) owed = refl
+module _ (x p : ℕ) (s : Site) (bounds : IsInBounds s.area) (sound : IsSoundSite s) (mine : OwedByFormat s.tables x p) where
+  pub header_stays : (y : ℕ) (a : Action) (h : Header) → Owes y a s → IsBeside a (HasBlank p h) → (after y a s).area.header p ≡ s.area.header p
+  header_stays y Begins h owed beside = refl
+  header_stays y (Allocates q) h owed beside = refl
+  header_stays y (Formats q g) h owed beside = ap (λ b. cond b g (s.area.header p)) (ne_eqb p q beside)
+  header_stays y (Links q f k) h owed beside = refl
+  header_stays y (LinksOlder q f) h owed beside = refl
+  header_stays y (Keeps f b older) h owed beside = refl
+  header_stays y (Writes m) h owed beside = refl
+  header_stays y (Creates f name columns left) h owed beside = owed.1.headers p
+  header_stays y (Drops f) h owed beside = refl
+  header_stays y Commits h owed beside = refl
+  header_stays y (Frees q) h owed beside = refl
+  header_stays y (Uncreates f) h owed beside = refl
+  header_stays y (Undrops f) h owed beside = refl
+  header_stays y Aborts h owed beside = refl
+  header_stays y (Reclaims q) h owed beside = refl
+  header_stays y (Reverts f b way) h owed beside = refl
+  header_stays y (Trims passes f b way) h owed beside = refl
+  header_stays y (Cuts passes f b r) h owed beside = refl
+  header_stays y (FreesOlder f r) h owed beside = refl
+  header_stays y (MakesDead passes f) h owed beside = refl
+  header_stays y (Unlinks q f k) h owed beside = refl
+  header_stays y (UnlinksOlder q f) h owed beside = refl
+  header_stays y (FreesEntry f was left) h owed beside = owed.2.headers p
+  header_stays y (Forgets z) h owed beside = refl
+  header_stays y (Checkpoints lists) h owed beside = refl
 
   -- on another page another place is another place
   off : (b at : Place) → b.page ≡ p → at.page ≢ p → b ≢ at
@@ -72,33 +72,33 @@ module _ (x y p : ℕ) (s : Site) (bounds : IsInBounds s.area) (sound : IsSoundS
             (λ isnt. ap (λ (t : Older). t.used) (older_apart s.area r ending b isnt)) ∙ (empty b here).1,
       )
 
-  pub empty_stays : (a : Action) (h : Header) → Owes y a s → s.area.header p ≡ h → IsAway a (HasBlank p h) → IsEmptyPage s.area p → IsEmptyPage (after y a s).area p
-  empty_stays Begins h owed is away empty = empty
-  empty_stays (Allocates q) h owed is away empty = empty
-  empty_stays (Formats q g) h owed is away empty = λ b here.
-      let other = ne_eqb b.page q (λ same_. pages_apart x y p q s bounds sound apart mine owed (sym here ∙ same_)) in
+  pub empty_stays : (y : ℕ) (a : Action) (h : Header) → Owes y a s → s.area.header p ≡ h → IsAway a (HasBlank p h) → IsBeside a (HasBlank p h) → IsEmptyPage s.area p → IsEmptyPage (after y a s).area p
+  empty_stays y Begins h owed is away beside empty = empty
+  empty_stays y (Allocates q) h owed is away beside empty = empty
+  empty_stays y (Formats q g) h owed is away beside empty = λ b here.
+      let other = ne_eqb b.page q (λ same_. beside (sym here ∙ same_)) in
       (ap (λ t. (cond t free_slot (s.area.slot b)).used) other ∙ (empty b here).0, ap (λ t. (cond t free_older (s.area.older b)).used) other ∙ (empty b here).1)
-  empty_stays (Links q f k) h owed is away empty = empty
-  empty_stays (LinksOlder q f) h owed is away empty = empty
-  empty_stays (Keeps f b older) h owed is away empty = older_off b older (older_elsewhere x p s bounds sound mine f b owed.1.here) empty
-  empty_stays (Writes m) h owed is away empty =
+  empty_stays y (Links q f k) h owed is away beside empty = empty
+  empty_stays y (LinksOlder q f) h owed is away beside empty = empty
+  empty_stays y (Keeps f b older) h owed is away beside empty = older_off b older (older_elsewhere x p s bounds sound mine f b owed.1.here) empty
+  empty_stays y (Writes m) h owed is away beside empty =
       let fits = fitting (is_committed_in s.tables) s.area m.entry m.key m.at m.writing owed.1.fits in
       slot_off m.at (slot_by m s.area) (slot_elsewhere x p s bounds sound mine m.entry m.at (place_of (is_committed_in s.tables) s.area m.entry m.key m.at fits)) empty
-  empty_stays (Creates f name columns left) h owed is away empty = entry_off f (new_title y name columns) empty_chains left h is away owed.1 empty
-  empty_stays (Drops f) h owed is away empty = empty
-  empty_stays Commits h owed is away empty = empty
-  empty_stays (Frees q) h owed is away empty = empty
-  empty_stays (Uncreates f) h owed is away empty = empty
-  empty_stays (Undrops f) h owed is away empty = empty
-  empty_stays Aborts h owed is away empty = empty
-  empty_stays (Reclaims q) h owed is away empty = empty
-  empty_stays (Reverts f b way) h owed is away empty = slot_off b (reverted_slot way s.area.older (s.area.slot b)) (slot_elsewhere x p s bounds sound mine f b owed.used.0) empty
-  empty_stays (Trims passes f b way) h owed is away empty = slot_off b (trimmed_slot way (s.area.slot b)) (slot_elsewhere x p s bounds sound mine f b owed.used.0) empty
-  empty_stays (Cuts passes f b r) h owed is away empty = cut_off r empty
-  empty_stays (FreesOlder f r) h owed is away empty = older_off r free_older (older_elsewhere x p s bounds sound mine f r owed.here) empty
-  empty_stays (MakesDead passes f) h owed is away empty = empty
-  empty_stays (Unlinks q f k) h owed is away empty = empty
-  empty_stays (UnlinksOlder q f) h owed is away empty = empty
-  empty_stays (FreesEntry f was left) h owed is away empty = entry_off f was no_pages left h is away owed.2 empty
-  empty_stays (Forgets z) h owed is away empty = empty
-  empty_stays (Checkpoints lists) h owed is away empty = empty
+  empty_stays y (Creates f name columns left) h owed is away beside empty = entry_off f (new_title y name columns) empty_chains left h is away owed.1 empty
+  empty_stays y (Drops f) h owed is away beside empty = empty
+  empty_stays y Commits h owed is away beside empty = empty
+  empty_stays y (Frees q) h owed is away beside empty = empty
+  empty_stays y (Uncreates f) h owed is away beside empty = empty
+  empty_stays y (Undrops f) h owed is away beside empty = empty
+  empty_stays y Aborts h owed is away beside empty = empty
+  empty_stays y (Reclaims q) h owed is away beside empty = empty
+  empty_stays y (Reverts f b way) h owed is away beside empty = slot_off b (reverted_slot way s.area.older (s.area.slot b)) (slot_elsewhere x p s bounds sound mine f b owed.used.0) empty
+  empty_stays y (Trims passes f b way) h owed is away beside empty = slot_off b (trimmed_slot way (s.area.slot b)) (slot_elsewhere x p s bounds sound mine f b owed.used.0) empty
+  empty_stays y (Cuts passes f b r) h owed is away beside empty = cut_off r empty
+  empty_stays y (FreesOlder f r) h owed is away beside empty = older_off r free_older (older_elsewhere x p s bounds sound mine f r owed.here) empty
+  empty_stays y (MakesDead passes f) h owed is away beside empty = empty
+  empty_stays y (Unlinks q f k) h owed is away beside empty = empty
+  empty_stays y (UnlinksOlder q f) h owed is away beside empty = empty
+  empty_stays y (FreesEntry f was left) h owed is away beside empty = entry_off f was no_pages left h is away owed.2 empty
+  empty_stays y (Forgets z) h owed is away beside empty = empty
+  empty_stays y (Checkpoints lists) h owed is away beside empty = empty

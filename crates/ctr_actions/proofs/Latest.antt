@@ -1,8 +1,8 @@
 -- The latest item of a transaction: its undoing owes nothing, and takes it away.
-use Rattle.std.proofs.Common.{◌≡◌, inl, inr, ⊎_elim, ℕ, ◌+◌, Bool, true, false, cond, List, [], ◌∷◌, refl, sym, ◌∙◌, ap, subst}
+use Rattle.std.proofs.Common.{◌≡◌, inl, ℕ, ◌+◌, true, false, cond, List, [], ◌∷◌, refl, sym, ◌∙◌, ap, subst}
 use Rattle.std.proofs.lemmas.Bool.{false≢true, eqb-true, eq-eqb}
 use Rattle.std.specs.List.{list_any}
-use Rattle.std.specs.Prelude.{filter, nat_eq}
+use Rattle.std.specs.Prelude.{nat_eq}
 use Rattle.ctr_area.specs.Sound.{IsAmong, how_many}
 use Rattle.ctr_meta.specs.Items.{is_wanted, is_item_by, left_out}
 use Rattle.ctr_meta.specs.declared.items.Wanted.{Wanted}
@@ -13,6 +13,7 @@ use Rattle.ctr_records.specs.declared.record.SlogItem.{SlogItem}
 use Rattle.ctr_records.specs.declared.record.SlogItem.TheVariants.{AllocOf, FreeOf, CreateOf, DropOf}
 use Rattle.ctr_record_laws.proofs.Items.{taken_out, count_one, it_is_in, any_there}
 use Rattle.ctr_record_laws.proofs.Owning.{page_wanted}
+use Rattle.ctr_record_laws.proofs.Undone.{filter_among}
 use Rattle.ctr_record_laws.specs.Owed.{IsLastItem}
 use Rattle.ctr_versions.proofs.Keys.{known}
 use Rattle.ctr_actions.specs.Sites.{Site, IsSoundSite}
@@ -22,15 +23,8 @@ use Rattle.ctr_actions.proofs.Owners.{one_item}
 
 -- ---- what is among those of a transaction is among all, and is its own
 
-passed : (test : SlogItem → Bool) (z : SlogItem) (items : List SlogItem) → IsAmong z (filter test items) → IsAmong z items × (test z ≡ true)
-passed test z [] in_ = absurd in_
-passed test z (a ∷ items) in_ = known (test a)
-    (λ yes_. ⊎_elim (λ is. (inl is, ap test is ∙ yes_)) (λ there. let further = passed test z items there in (inr further.0, further.1))
-    (subst (IsAmong z) (ap (λ b. cond b (a ∷ filter test items) (filter test items)) yes_) in_))
-    (λ no_. let further = passed test z items (subst (IsAmong z) (ap (λ b. cond b (a ∷ filter test items) (filter test items)) no_) in_) in (inr further.0, further.1))
-
 pub last_among : (x : ℕ) (i : SlogItem) (items : List SlogItem) → IsLastItem x i items → IsAmong i items × (is_item_by x i ≡ true)
-last_among x i items (earlier, is) = passed (is_item_by x) i items (subst (IsAmong i) (sym is) (among_rest i earlier (i ∷ []) (inl refl)))
+last_among x i items (earlier, is) = filter_among (is_item_by x) i items (subst (IsAmong i) (sym is) (among_rest i earlier (i ∷ []) (inl refl)))
 
 own_alloc : (x y p : ℕ) → is_item_by x (AllocOf y p) ≡ true → y ≡ x
 own_alloc x y p own = known (nat_eq y x) (λ is. eqb-true y x is) (λ isnt. absurd (false≢true (sym (ap (λ b. cond b true false) isnt) ∙ own)))

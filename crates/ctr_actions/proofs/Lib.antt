@@ -1,8 +1,10 @@
 pub mod Owners
 pub mod Items
+pub mod Beside
 pub mod Opens
 pub mod Blanks
 pub mod Slots
 pub mod Latest
 pub mod Needed
 pub mod Stays
+pub mod Gains

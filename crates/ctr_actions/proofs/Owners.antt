@@ -1,14 +1,17 @@
 -- A page is in one item, so of one transaction; and on a page in an item stands nothing of a table.
 use Rattle.std.proofs.Common.{◌≡◌, ◌≢◌, inl, inr, ℕ, ◌+◌, ◌≤◌, Bool, true, false, List, [], ◌∷◌, ◌++◌, refl, sym, ◌∙◌, ap, subst, arith}
 use Rattle.std.proofs.lemmas.Bool.{false≢true}
-use Rattle.std.specs.List.{flat_map}
+use Rattle.std.specs.List.{flat_map, list_any}
 use Rattle.std.specs.Prelude.{◌==◌}
 use Rattle.ctr_area.proofs.Buckets.{on_chain}
 use Rattle.ctr_area.specs.Chains.{pages_bound, pages_from, slot_places, older_places, table_pages}
 use Rattle.ctr_area.specs.Images.{entry_numbers}
 use Rattle.ctr_area.specs.Sound.{IsAmong, how_many, page_of_item, owned_pages}
 use Rattle.ctr_record_laws.proofs.Members.{among_front, among_rest, count_append, count_among}
+use Rattle.ctr_record_laws.proofs.Items.{taken_out, pages_with, it_is_in}
 use Rattle.ctr_record_laws.proofs.Owned.{owned_once}
+use Rattle.ctr_meta.specs.Items.{is_wanted, left_out}
+use Rattle.ctr_meta.specs.declared.items.Wanted.{Wanted}
 use Rattle.ctr_record_laws.specs.Bounds.{IsInBounds}
 use Rattle.ctr_page.specs.declared.rows.Place.{Place}
 use Rattle.ctr_records.specs.declared.record.SlogItem.{SlogItem}
@@ -19,13 +22,19 @@ use Rattle.ctr_record_laws.proofs.Owning.{flat_among}
 use Rattle.ctr_record_laws.specs.Owed.{OwedByFormat}
 use Rattle.ctr_actions.specs.Sites.{Site, IsSoundSite}
 
-abbrev allocator : SlogItem → ℕ
+abbrev pub allocator : SlogItem → ℕ
 allocator (AllocOf x p) = x
 allocator (FreeOf p) = 0
 allocator (CreateOf x e) = 0
 allocator (DropOf x e) = 0
 
-abbrev is_taken_by_one : SlogItem → Bool
+abbrev pub page_named : SlogItem → ℕ
+page_named (AllocOf x p) = p
+page_named (FreeOf p) = p
+page_named (CreateOf x e) = 0
+page_named (DropOf x e) = 0
+
+abbrev pub is_taken_by_one : SlogItem → Bool
 is_taken_by_one (AllocOf x p) = true
 is_taken_by_one (FreeOf p) = false
 is_taken_by_one (CreateOf x e) = false
@@ -91,6 +100,26 @@ pages_apart x y p q s bounds sound apart mine theirs is = one_item q (AllocOf x 
 pub left_apart : (x p q : ℕ) (s : Site) → IsInBounds s.area → IsSoundSite s → OwedByFormat s.tables x p → IsAmong (FreeOf q) s.tables.items → p ≢ q
 left_apart x p q s bounds sound mine left is = one_item q (AllocOf x q) (FreeOf q) s bounds sound refl refl (λ same_. false≢true (sym (ap is_taken_by_one same_)))
     (item_page x q s.tables.items (subst (λ r. OwedByFormat s.tables x r) is mine)).0 left
+
+-- who is taken out, of a page, is its only one
+pub taken_alone : (w : Wanted) (p : ℕ) (s : Site) → IsInBounds s.area → IsSoundSite s → ((i : SlogItem) → is_wanted w i ≡ true → page_of_item i ≡ p ∷ []) → list_any (is_wanted w) s.tables.items ≡ true
+    → (j : SlogItem) → page_of_item j ≡ p ∷ [] → IsAmong j (left_out w s.tables.items) → ⊥
+taken_alone w p s bounds sound of_page there j its in_ =
+    let items = s.tables.items in
+    let test : ℕ → Bool = λ q. q == p in
+    let of_tables = flat_map (table_pages s.area) entry_numbers in
+    let less = left_out w items in
+    let found = taken_out w items there in
+    let one = found.2 in
+    twice (how_many test of_tables) (how_many test (flat_map page_of_item items)) (how_many test (flat_map page_of_item less)) (how_many test (page_of_item found.0)) (how_many test (owned_pages items s.area))
+    (count_among p (flat_map page_of_item less) (flat_among page_of_item p j less in_ (subst (IsAmong p) (sym its) (inl refl))))
+    (count_among p (page_of_item found.0) (subst (IsAmong p) (sym (of_page found.0 found.1)) (inl refl)))
+    (ap (λ is. how_many test (flat_map page_of_item is)) one.more_is ∙ pages_with test found.0 one.front one.rest ∙ ap (λ is. how_many test (flat_map page_of_item is) + how_many test (page_of_item found.0)) (sym one.less_is))
+    (count_append test of_tables (flat_map page_of_item items))
+    (owned_once s.area bounds s.counted _ items sound.owned p (among_rest p of_tables (flat_map page_of_item items) (flat_among page_of_item p found.0 items (it_is_in found.0 less items one) (subst (IsAmong p) (sym (of_page found.0 found.1)) (inl refl)))))
+  where
+    twice : (a b c d e : ℕ) → 1 ≤ c → 1 ≤ d → b ≡ c + d → e ≡ a + b → e ≡ 1 → ⊥
+    twice a b c d e one two sum all is = omega (arith, one, two, sum, all, is)
 
 -- ---- what stands on a page of a table stands on no page in an item
 

@@ -1,6 +1,6 @@
--- What one record does, by whom: its kinds by name, what each owes, and what it leaves. The number is
--- that of the transaction that acts: of a session, of one that is rolled back, or of an orphan that
--- undo undoes. The cleaner and the flusher act for nobody, with the number 0.
+-- What one record does, by whom: its kinds by name, what each owes, and what it leaves. The number
+-- is that of the transaction that acts: of a session, of one that is rolled back, or of an orphan
+-- that undo undoes. The cleaner and the flusher act for nobody, with the number 0.
 use Rattle.std.specs.Prelude.{◌≡◌, ℕ, Bool, true, false, List, Ok}
 use Rattle.ctr_types.specs.declared.value.Column.{Column}
 use Rattle.ctr_records.specs.declared.record.SlogItem.{SlogItem}
@@ -32,28 +32,29 @@ pub data Action : Type 0 where
   -- it keeps a version of a table in a version entry; it writes a row
   Keeps : ℕ → Place → Older → Action
   Writes : RowMove → Action
-  -- it creates a table, with this name and these columns, and this is the area that is left; it drops
-  -- one; it commits
+  -- it creates a table, with this name and these columns, and this is the area that is left; it
+  -- drops one; it commits
   Creates : ℕ → List ℕ → List Column → Area → Action
   Drops : ℕ → Action
   Commits : Action
-  -- of one that is rolled back, or of an orphan: a page of its own is free again, a table is dead that
-  -- it created, or isn't dropped by it; it is aborted
+  -- of one that is rolled back, or of an orphan: a page of its own is free again, a table is dead
+  -- that it created, or isn't dropped by it; it is aborted
   Frees : ℕ → Action
   Uncreates : ℕ → Action
   Undrops : ℕ → Action
   Aborts : Action
   -- of the cleaner, and of undo: a page is free again that left its chain
   Reclaims : ℕ → Action
-  -- of the cleaner: a slot loses its head; a slot's chain is cut, or goes with its tombstone, where a
-  -- test says which transactions everyone sees; a chain is cut behind a version entry; a version entry
-  -- is freed that no chain has
+  -- of the cleaner: a slot loses its head; a slot's chain is cut, or goes with its tombstone,
+  -- where a test says which transactions everyone sees; a chain is cut behind a version entry; a
+  -- version entry is freed that no chain has
   Reverts : ℕ → Place → Reverting → Action
   Trims : (ℕ → Bool) → ℕ → Place → Trimming → Action
   Cuts : (ℕ → Bool) → ℕ → Place → Place → Action
   FreesOlder : ℕ → Place → Action
-  -- a dropped table is dead from then on; a page leaves a bucket, or a version chain; a dead entry is
-  -- freed, with this title, and this is the area that is left; an aborted transaction is forgotten
+  -- a dropped table is dead from then on; a page leaves a bucket, or a version chain; a dead entry
+  -- is freed, with this title, and this is the area that is left; an aborted transaction is
+  -- forgotten
   MakesDead : (ℕ → Bool) → ℕ → Action
   Unlinks : ℕ → ℕ → ℕ → Action
   UnlinksOlder : ℕ → ℕ → Action
@@ -163,8 +164,8 @@ after x (FreesEntry e title left) s = record s { area = left }
 after x (Forgets y) s = record s { tables = forgotten_by y s.tables }
 after x (Checkpoints lists) s = s
 
--- It is for room, or for a version that no chain has: the chains of names and rows are what they were,
--- and so are transactions with their heads.
+-- It is for room, or for a version that no chain has: the chains of names and rows are what they
+-- were, and so are transactions with their heads.
 abbrev pub IsQuiet : Action → Type 0
 IsQuiet (Allocates p) = Unit {0}
 IsQuiet (Formats p h) = Unit {0}

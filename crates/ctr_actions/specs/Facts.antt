@@ -1,20 +1,23 @@
 -- What a session counts on from one of its turns to the next, whoever acts between.
-use Rattle.std.specs.Prelude.{◌≡◌, ◌≢◌, ℕ, ℤ, true}
+use Rattle.std.specs.Prelude.{◌≡◌, ◌≢◌, ℕ, ℤ, true, List}
+use Rattle.ctr_records.specs.declared.record.SlogItem.TheVariants.{AllocOf}
 use Rattle.ctr_meta.specs.Tables.{is_in}
 use Rattle.ctr_page.specs.declared.header.Header.{Header}
 use Rattle.ctr_page.specs.declared.rows.Place.{Place}
 use Rattle.ctr_area.specs.Areas.{Title, RowVersion, Slot}
-use Rattle.ctr_area.specs.Sound.{IsUsedSlot}
+use Rattle.ctr_area.specs.Sound.{IsAmong, IsUsedSlot}
 use Rattle.ctr_record_laws.specs.Owed.{OwedByFormat, IsEmptyPage}
 use Rattle.ctr_record_laws.specs.Loose.{IsSpareFor}
 use Rattle.ctr_actions.specs.Sites.{Site}
-use Rattle.ctr_actions.specs.Actions.{Action, Writes, Creates, Drops, Uncreates, Undrops, Reverts, Trims, FreesOlder, MakesDead, Unlinks, FreesEntry}
+use Rattle.ctr_actions.specs.Actions.{Action, Allocates, Formats, Links, LinksOlder, Commits, Frees, Aborts, Writes, Creates, Drops, Uncreates, Undrops, Reverts, Trims, FreesOlder, MakesDead, Unlinks, FreesEntry}
 
--- Its transaction is open; a page is its own to link; it is, and is empty with a header; a slot of a
--- table is as it was read; a version of what stands there was kept; the title of a table is this.
+-- Its transaction is open; a page is its own to link; it is, and is empty with a header; a slot of
+-- a table is as it was read; a version of what stands there was kept; the title of a table is
+-- this.
 pub data Fact : Type 0 where
   IsOpen : Fact
   HasPage : ℕ → Fact
+  HasNoPageBut : List ℕ → Fact
   HasBlank : ℕ → Header → Fact
   HasSlot : ℕ → Place → Slot → Fact
   HasCopy : ℕ → Place → RowVersion → Place → Fact
@@ -24,6 +27,7 @@ pub data Fact : Type 0 where
 abbrev pub Holds : ℕ → Fact → Site → Type 0
 Holds x IsOpen s = is_in x s.tables.opens ≡ true
 Holds x (HasPage p) s = OwedByFormat s.tables x p
+Holds x (HasNoPageBut ps) s = (p : ℕ) → IsAmong (AllocOf x p) s.tables.items → IsAmong p ps
 Holds x (HasBlank p h) s =
     OwedByFormat s.tables x p × IsEmptyPage s.area p × (s.area.header p ≡ h)
 Holds x (HasSlot e at slot) s = IsUsedSlot s.area e at × (s.area.slot at ≡ slot)
@@ -53,13 +57,35 @@ IsAway (Undrops f) (HasTable e title) = e ≢ f
 IsAway (MakesDead passes f) (HasTable e title) = e ≢ f
 IsAway a fact = Unit {0}
 
+-- One's own action is beside a fact: it doesn't end the transaction, and is of another page.
+abbrev pub IsBeside : Action → Fact → Type 0
+IsBeside Commits IsOpen = ⊥
+IsBeside Aborts IsOpen = ⊥
+IsBeside (Links q e b) (HasPage p) = p ≢ q
+IsBeside (LinksOlder q e) (HasPage p) = p ≢ q
+IsBeside (Frees q) (HasPage p) = p ≢ q
+IsBeside (Allocates q) (HasNoPageBut ps) = IsAmong q ps
+IsBeside (Formats q g) (HasBlank p h) = p ≢ q
+IsBeside (Links q e b) (HasBlank p h) = p ≢ q
+IsBeside (LinksOlder q e) (HasBlank p h) = p ≢ q
+IsBeside (Frees q) (HasBlank p h) = p ≢ q
+IsBeside a fact = Unit {0}
+
 -- The row of a key is another one, in this table or in another.
 abbrev pub IsOtherRow : ℕ → ℤ → ℕ → ℤ → Type 0
 IsOtherRow e key f other = f ≡ e → other ≡ key → ⊥
 
--- The action is of an entry without a live table: it is created or freed, or its bucket loses a page.
+-- The action is of an entry without a live table: it is created or freed, or its bucket loses a
+-- page.
 abbrev pub IsOfNoTable : Action → ℕ → Type 0
 IsOfNoTable (Creates f name columns left) e = e ≡ f
 IsOfNoTable (FreesEntry f title left) e = e ≡ f
 IsOfNoTable (Unlinks p f b) e = e ≡ f
 IsOfNoTable a e = ⊥
+
+-- The action lets a page of one's own go: it is linked, or free again.
+abbrev pub LetsGo : Action → ℕ → Type 0
+LetsGo (Links q e b) p = p ≡ q
+LetsGo (LinksOlder q e) p = p ≡ q
+LetsGo (Frees q) p = p ≡ q
+LetsGo a p = ⊥

@@ -21,8 +21,8 @@ site_of s = record { counted = s.counted; tables = s.tables; area = area_in s }
 abbrev pub IsSoundSite : Site → Type 0
 IsSoundSite s = IsSoundArea s.counted s.tables s.area
 
--- An engine of versions that is read from two sites is the same: the chains of names and rows, who is
--- committed, who is open and who is aborted, each with its heads, and the next transaction.
+-- An engine of versions that is read from two sites is the same: the chains of names and rows, who
+-- is committed, who is open and who is aborted, each with its heads, and the next transaction.
 pub record IsSameEngine (s t : Site) : Type 0 where
   pub versions :
       versions_in (is_committed_in t.tables) t.area ≡ versions_in (is_committed_in s.tables) s.area

@@ -1,5 +1,5 @@
 // Laws of actions.
-ghost use Rattle.std.specs.Prelude.{◌≡◌, ◌≢◌, ◌≤◌, ◌+◌, ℕ, true, Ok};
+ghost use Rattle.std.specs.Prelude.{◌⊎◌, ◌≡◌, ◌≢◌, ◌≤◌, ◌+◌, ℕ, true, Ok};
 ghost use Rattle.ctr_records.specs.declared.record.Overlay.{Overlay};
 ghost use Rattle.ctr_records.specs.declared.record.SlogItem.{SlogItem};
 ghost use Rattle.ctr_meta.specs.Needs.{needs};
@@ -16,7 +16,7 @@ ghost use Rattle.ctr_record_laws.specs.Shows.{ShowTheSame};
 ghost use Rattle.ctr_actions.specs.Sites.{Site, IsSoundSite, IsSameEngine};
 ghost use Rattle.ctr_actions.specs.Actions.{Action, FreesOlder, Owes, after, IsQuiet, undoing, items_of};
 ghost use Rattle.ctr_actions.specs.Records.{record_of};
-ghost use Rattle.ctr_actions.specs.Facts.{Fact, Holds, IsAway, IsOtherRow, IsOfNoTable};
+ghost use Rattle.ctr_actions.specs.Facts.{Fact, Holds, IsAway, IsBeside, IsOtherRow, IsOfNoTable};
 
 use ctr_record_laws::{
     a_begin_stays_sound, a_commit_stays_sound, a_create_stays_sound, a_cut_ends_its_chain,
@@ -83,10 +83,10 @@ pub fn a_quiet_action_leaves_the_engine()
     a_quiet_action_shows_the_same();
 }
 
-/// What a transaction counts on stays over the action of another one, of undo or of the cleaner, that is away from it.
-pub fn another_leaves_what_is_held()
+/// What a transaction counts on stays over an action that is away from it, and is another's or beside it.
+pub fn what_is_held_stays()
     ensures { (x y : ℕ) (a : Action) (fact : Fact) (s : Site) → IsInBounds s.area → s.counted ≤ pages_bound → IsSoundSite s
-        → x ≢ y → Owes y a s → IsAway a fact → Holds x fact s → Holds x fact (after y a s) }
+        → Owes y a s → IsAway a fact → IsBeside a fact ⊎ (x ≢ y) → Holds x fact s → Holds x fact (after y a s) }
 {
     a_spare_copy_stays_spare();
     records_elsewhere_leave_a_slot();
@@ -94,6 +94,22 @@ pub fn another_leaves_what_is_held()
     records_on_pages_leave_a_copy_spare();
     records_on_titles_leave_a_slot();
     records_on_titles_leave_a_copy_spare();
+}
+
+/// So it stays over the action of another one, of undo or of the cleaner, that is away from it.
+pub fn another_leaves_what_is_held()
+    ensures { (x y : ℕ) (a : Action) (fact : Fact) (s : Site) → IsInBounds s.area → s.counted ≤ pages_bound → IsSoundSite s
+        → x ≢ y → Owes y a s → IsAway a fact → Holds x fact s → Holds x fact (after y a s) }
+{
+    what_is_held_stays();
+}
+
+/// And over its own that is beside it.
+pub fn ones_own_action_leaves_what_is_held()
+    ensures { (x : ℕ) (a : Action) (fact : Fact) (s : Site) → IsInBounds s.area → s.counted ≤ pages_bound → IsSoundSite s
+        → Owes x a s → IsAway a fact → IsBeside a fact → Holds x fact s → Holds x fact (after x a s) }
+{
+    what_is_held_stays();
 }
 
 /// A row that isn't locked by who holds another one stands in another slot: one that is written; one in a used slot, as one that is

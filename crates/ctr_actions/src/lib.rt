@@ -2,10 +2,15 @@
 //! computes them.
 #![tactic(auto)]
 
+mod held;
 mod laws;
+mod states;
 
+pub use held::{an_action_gives_its_fact, what_is_held_pays};
 pub use laws::{
     a_quiet_action_leaves_the_engine, a_quiet_action_shows_the_same, an_action_meets_its_needs,
     an_action_stays_sound, another_leaves_what_is_held, growth_keeps_a_site, live_tables_are_away,
-    locked_rows_are_away, the_latest_item_can_be_undone,
+    locked_rows_are_away, ones_own_action_leaves_what_is_held, the_latest_item_can_be_undone,
+    what_is_held_stays,
 };
+pub use states::{a_logged_record_is_its_action, what_is_done_stays};

@@ -29,14 +29,15 @@ pub record ShowsTheSame (old new : State) : Type 0 where
 abbrev pub older_laid : State → Place → VersionEntry → Older
 older_laid s at entry = older_said (columns_on (pages_in s) at.page) entry
 
--- What the keeping of a version owes: the pages are sound, the place is one of the table's versions, so
--- wide, and is free, and the version is by a transaction that was drawn.
+-- What the keeping of a version owes: the pages are sound, the place is one of the table's
+-- versions, so wide, and is free, and the version is by a transaction that was drawn.
 pub record MayKeep (s : State) (e : ℕ) (at : Place) (entry : VersionEntry) : Type 0 where
   pub sound : HasSoundArea s
   pub place : HasPlaceOfVersion (pages_in s) at entry
   pub owed : OwedByKeep s.tables (area_in s) e at (older_laid s at entry)
 
--- All is shown as before; and where it is a version of a slot of the table, it is a spare copy there.
+-- All is shown as before; and where it is a version of a slot of the table, it is a spare copy
+-- there.
 pub record KeepsVersion (e : ℕ) (at : Place) (entry : VersionEntry) (old new : State) : Type 0 where
   pub shows : ShowsTheSame old new
   pub spare : (slot : Slot) (version : RowVersion)

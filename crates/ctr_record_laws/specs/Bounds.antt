@@ -6,8 +6,8 @@ use Rattle.ctr_area.specs.Areas.{Title, no_pages, Area}
 abbrev pub no_title : Title
 no_title = record { state = 0; creator = 0; dropper = 0; name = []; columns = [] }
 
--- The catalog has 32 entries, behind which all are free and say nothing; a free one has no page, and a
--- page has room for at most 170 slots or version entries.
+-- The catalog has 32 entries, behind which all are free and say nothing; a free one has no page,
+-- and a page has room for at most 170 slots or version entries.
 pub record IsInBounds (area : Area) : Type 0 where
   pub titles : (e : ℕ) → 32 ≤ e → area.title e ≡ no_title
   pub entries : (e : ℕ) → 32 ≤ e → area.firsts e ≡ no_pages

@@ -1,6 +1,6 @@
 use Rattle.std.proofs.Common.{ℕ}
 use Rattle.ctr_actions.specs.Sites.{Site}
-use Rattle.ctr_actions.specs.Facts.{Fact, IsOpen, HasPage, HasBlank, HasSlot, HasCopy, HasTable, Holds}
+use Rattle.ctr_actions.specs.Facts.{Fact, IsOpen, HasPage, HasNoPageBut, HasBlank, HasSlot, HasCopy, HasTable, Holds}
 use Rattle.ctr_actions.proofs.laws.growth_keeps_a_site.Goals as goal
 
 pub returns-clause-sound : goal.returns-clause-sound
@@ -12,6 +12,7 @@ returns-clause-held c = each
     each : (x : ℕ) (fact : Fact) (s : Site) (more : ℕ) → Holds x fact s → Holds x fact (record s { counted = more })
     each x IsOpen s more holds = holds
     each x (HasPage p) s more holds = holds
+    each x (HasNoPageBut ps) s more holds = holds
     each x (HasBlank p h) s more holds = holds
     each x (HasSlot e at of) s more holds = holds
     each x (HasCopy e at v p) s more holds = holds

@@ -1,0 +1,35 @@
+// Actions between states of a store.
+ghost use Rattle.std.specs.Prelude.{◌⊎◌, ◌≡◌, ◌≢◌, ◌≤◌, ℕ};
+ghost use Rattle.ctr_records.specs.declared.record.Overlay.{Overlay};
+ghost use Rattle.ctr_redo.specs.States.{State, step};
+ghost use Rattle.ctr_record_effects.specs.States.{area_in};
+ghost use Rattle.ctr_area.specs.Chains.{pages_bound};
+ghost use Rattle.ctr_record_laws.specs.Bounds.{IsInBounds};
+ghost use Rattle.ctr_actions.specs.Sites.{IsSoundSite, site_of};
+ghost use Rattle.ctr_actions.specs.Actions.{Action, Owes, after};
+ghost use Rattle.ctr_actions.specs.Records.{record_of, Does};
+ghost use Rattle.ctr_actions.specs.Facts.{Fact, Holds, IsAway, IsBeside};
+
+use crate::laws::{an_action_meets_its_needs, an_action_stays_sound, what_is_held_stays};
+use ctr_record_laws::pages_are_in_bounds;
+
+/// A state that steps by the record of an action, whose pages say what the action leaves, is left by it.
+pub fn a_logged_record_is_its_action()
+    ensures { (x : ℕ) (a : Action) (s : State) (o : Overlay) → Owes x a (site_of s)
+        → area_in (step (record_of x a (site_of s) o) s) ≡ (after x a (site_of s)).area → Does x a s (step (record_of x a (site_of s) o) s) }
+{
+    an_action_stays_sound();
+    an_action_meets_its_needs();
+}
+
+/// From state to state: pages are in their bounds, what is sound stays so, and so does what a transaction counts on.
+pub fn what_is_done_stays()
+    ensures bounds { (x : ℕ) (a : Action) (s t : State) → Does x a s t → IsInBounds (after x a (site_of s)).area }
+    ensures sound { (x : ℕ) (a : Action) (s t : State) → Does x a s t → s.counted ≤ pages_bound → IsSoundSite (site_of s) → IsSoundSite (site_of t) }
+    ensures held { (x y : ℕ) (a : Action) (fact : Fact) (s t : State) → Does y a s t → s.counted ≤ pages_bound → IsSoundSite (site_of s)
+        → IsAway a fact → IsBeside a fact ⊎ (x ≢ y) → Holds x fact (site_of s) → Holds x fact (site_of t) }
+{
+    an_action_stays_sound();
+    what_is_held_stays();
+    pages_are_in_bounds();
+}
