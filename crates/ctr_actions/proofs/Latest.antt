@@ -1,5 +1,5 @@
 -- The latest item of a transaction: its undoing owes nothing, and takes it away.
-use Rattle.std.proofs.Common.{◌≡◌, inl, ℕ, ◌+◌, true, false, cond, List, [], ◌∷◌, refl, sym, ◌∙◌, ap, subst}
+use Rattle.std.proofs.Common.{◌≡◌, inl, ℕ, suc, ◌+◌, true, false, cond, List, [], ◌∷◌, ◌++◌, length, arith, refl, sym, ◌∙◌, ap, subst}
 use Rattle.std.proofs.lemmas.Bool.{false≢true, eqb-true, eq-eqb}
 use Rattle.std.specs.List.{list_any}
 use Rattle.std.specs.Prelude.{nat_eq}
@@ -85,3 +85,23 @@ module _ (x : ℕ) (s : Site) where
         dropped (DropOf z f) wanted in_ y own its =
             let same_ = eqb-true f e wanted in
             eq-eqb z x (sym (sound.names.drops z e (subst (λ k. IsAmong (DropOf z k) items) same_ in_)).1 ∙ (sound.names.drops y e its).1 ∙ own)
+
+-- ---- an item is undone: the secondary log has one less
+
+one_longer : (i : SlogItem) (front rest : List SlogItem) → length (front ++ i ∷ rest) ≡ length (front ++ rest) + 1
+one_longer i [] rest = omega arith
+one_longer i (a ∷ front) rest = turned (length (front ++ i ∷ rest)) (length (front ++ rest)) (one_longer i front rest)
+  where
+    turned : (m n : ℕ) → m ≡ n + 1 → suc m ≡ suc n + 1
+    turned m n is = omega (arith, is)
+
+log_less : (w : Wanted) (i : SlogItem) (items : List SlogItem) → is_wanted w i ≡ true → IsAmong i items → length items ≡ length (left_out w items) + 1
+log_less w i items wanted in_ =
+    let one = (taken_out w items (any_there w i items wanted in_)).2 in
+    ap length one.more_is ∙ one_longer _ one.front one.rest ∙ ap (λ is. length is + 1) (sym one.less_is)
+
+pub log_shorter : (x : ℕ) (s : Site) (i : SlogItem) → IsAmong i s.tables.items → length s.tables.items ≡ length (after x (undoing i) s).tables.items + 1
+log_shorter x s (AllocOf y p) in_ = log_less (OfPage p) (AllocOf y p) s.tables.items (eq-eqb p p refl) in_
+log_shorter x s (FreeOf p) in_ = log_less (OfPage p) (FreeOf p) s.tables.items (eq-eqb p p refl) in_
+log_shorter x s (CreateOf y e) in_ = log_less (Creation e) (CreateOf y e) s.tables.items (eq-eqb e e refl) in_
+log_shorter x s (DropOf y e) in_ = log_less (Dropping e) (DropOf y e) s.tables.items (eq-eqb e e refl) in_

@@ -1,5 +1,5 @@
 // Laws of actions.
-ghost use Rattle.std.specs.Prelude.{◌⊎◌, ◌≡◌, ◌≢◌, ◌≤◌, ◌+◌, ℕ, true, Ok};
+ghost use Rattle.std.specs.Prelude.{◌⊎◌, ◌≡◌, ◌≢◌, ◌≤◌, ◌+◌, ℕ, true, Ok, length};
 ghost use Rattle.ctr_records.specs.declared.record.Overlay.{Overlay};
 ghost use Rattle.ctr_records.specs.declared.record.SlogItem.{SlogItem};
 ghost use Rattle.ctr_meta.specs.Needs.{needs};
@@ -8,7 +8,7 @@ ghost use Rattle.ctr_page.specs.declared.rows.Place.{Place};
 ghost use Rattle.ctr_area.specs.Areas.{RowVersion};
 ghost use Rattle.ctr_area.specs.Chains.{pages_bound};
 ghost use Rattle.ctr_area.specs.Images.{is_live};
-ghost use Rattle.ctr_area.specs.Sound.{IsUsedSlot};
+ghost use Rattle.ctr_area.specs.Sound.{IsAmong, IsUsedSlot};
 ghost use Rattle.ctr_record_laws.specs.Bounds.{IsInBounds};
 ghost use Rattle.ctr_record_laws.specs.Owed.{RowMove, OwedByRow, IsLastItem};
 ghost use Rattle.ctr_record_laws.specs.Loose.{IsSpareFor};
@@ -128,11 +128,13 @@ pub fn live_tables_are_away()
     ensures { (x : ℕ) (a : Action) (s : Site) (e f : ℕ) → Owes x a s → IsOfNoTable a f → is_live (s.area.title e) ≡ true → e ≢ f }
 {}
 
-/// The latest item of a transaction can be undone, and then it has an item less.
+/// The latest item of a transaction can be undone, and then it has an item less; whatever item is undone, the secondary log has one less.
 pub fn the_latest_item_can_be_undone()
     ensures owed { (x : ℕ) (s : Site) (i : SlogItem) → IsLastItem x i s.tables.items → Owes x (undoing i) s }
     ensures fewer { (x : ℕ) (s : Site) (i : SlogItem) → IsInBounds s.area → IsSoundSite s → IsLastItem x i s.tables.items
         → items_of x s.tables ≡ items_of x (after x (undoing i) s).tables + 1 }
+    ensures shorter { (x : ℕ) (s : Site) (i : SlogItem) → IsAmong i s.tables.items
+        → length s.tables.items ≡ length (after x (undoing i) s).tables.items + 1 }
 {}
 
 /// Where the file grows, what is sound stays so, and so does what a transaction counts on.
