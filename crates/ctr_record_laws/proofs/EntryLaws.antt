@@ -1,5 +1,5 @@
 -- A Trim of a version entry: a chain is cut behind it, or it is freed where no chain has it.
-use Rattle.std.proofs.Common.{◌≡◌, ⊎_elim, ℕ, ◌<◌, ℤ, Bool, true, false, List, ◌++◌, refl, sym, ◌∙◌, ap, subst}
+use Rattle.std.proofs.Common.{◌≡◌, ◌≢◌, ⊎_elim, ℕ, ◌<◌, ℤ, Bool, true, false, List, ◌++◌, refl, sym, ◌∙◌, ap, subst}
 use Rattle.std.proofs.lemmas.Bool.{false≢true, eq-eqb, and_from, cases_lt}
 use Rattle.std.specs.Cmp.{int_eq_equiv}
 use Rattle.std.specs.FinMap.Entries.{find}
@@ -123,6 +123,10 @@ cut_sound counted tables area q sound = entry_sound counted tables area q ending
   where
     ending : Older
     ending = record (area.older q) { pointer = nowhere }
+
+-- the entry isn't what it was
+pub cut_changes : (passes : ℕ → Bool) (area : Area) (e : ℕ) (at q : Place) → OwedByCut passes area e at q → (cut_at q area).older q ≢ area.older q
+cut_changes passes area e at q owed is = owed.some (ap (λ (o : Older). o.pointer.page) (sym is ∙ older_here area q (record (area.older q) { pointer = nowhere }) q refl))
 
 -- ---- an entry is freed
 

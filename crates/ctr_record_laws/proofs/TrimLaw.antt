@@ -1,7 +1,7 @@
 -- A Trim of a slot: its chain is cut, or goes with its tombstone, and the area stays sound.
-use Rattle.std.proofs.Common.{◌≡◌, ◌⊎◌, inl, inr, ℕ, ◌<◌, Bool, true, false, cond, List, [], ◌∷◌, ◌++◌, drop, Some, None, refl, sym, ◌∙◌, ap, subst, arith}
+use Rattle.std.proofs.Common.{◌≡◌, ◌≢◌, ◌⊎◌, inl, inr, ℕ, ◌<◌, Bool, true, false, cond, List, [], ◌∷◌, ◌++◌, drop, Some, None, refl, sym, ◌∙◌, ap, subst, arith}
 use Rattle.std.proofs.lemmas.Bool.{false≢true, ne_eqb}
-use Rattle.std.specs.Prelude.{◌==◌, ◌&&◌}
+use Rattle.std.specs.Prelude.{◌==◌, ◌&&◌, is_some}
 use Rattle.ctr_area.specs.Areas.{nowhere, RowVersion, Slot, Older, Area}
 use Rattle.ctr_area.specs.Chains.{older_bound, places_along, if_any, chain_of, Leads}
 use Rattle.ctr_area.specs.Images.{is_committed_in, versions_in}
@@ -14,7 +14,7 @@ use Rattle.ctr_record_laws.proofs.Room.{leads_to}
 use Rattle.ctr_record_laws.proofs.Writes.{behind_pointer, nothing_behind}
 use Rattle.ctr_record_laws.proofs.Xids.{retold}
 use Rattle.ctr_record_laws.specs.Bounds.{IsInBounds}
-use Rattle.ctr_record_laws.specs.Owed.{Trimming, CutHead, CutPrevious, FreeTombstone, trimmed_slot, trimmed_chain, FitsTrimming, OwedByTrim, trimmed_at}
+use Rattle.ctr_record_laws.specs.Owed.{Trimming, CutHead, CutPrevious, FreeTombstone, trimmed_slot, trimmed_chain, FitsTrimming, IsCut, OwedByTrim, trimmed_at}
 use Rattle.ctr_page.specs.declared.rows.Place.{Place}
 use Rattle.ctr_versions.specs.Changes.{cut, without_tombstone}
 use Rattle.ctr_versions.specs.Versions.{rows_of, RowsSet}
@@ -126,3 +126,10 @@ module _ (passes : ℕ → Bool) (counted : ℕ) (tables : Tables) (area : Area)
       (retold (head_count area) (head_count (trimmed_at at way area)) tables.opens (λ y in_. stays y (inl in_)) (counts_tell tables area sound.counts).0)
       (retold (head_count area) (head_count (trimmed_at at way area)) tables.aborted (λ y in_. stays y (inr in_)) (counts_tell tables area sound.counts).1))
       fine
+
+-- the slot isn't what it was
+pub other_slot : (s : Slot) (w : Trimming) → s.used ≡ true → IsCut w s → trimmed_slot w s ≢ s
+other_slot s CutHead used (inl some) is = false≢true (ap (λ (t : Slot). is_some t.previous) is ∙ some)
+other_slot s CutHead used (inr some) is = some (ap (λ (t : Slot). t.pointer.page) (sym is))
+other_slot s CutPrevious used some is = some (ap (λ (t : Slot). t.pointer.page) (sym is))
+other_slot s FreeTombstone used some is = false≢true (ap (λ (t : Slot). t.used) is ∙ used)

@@ -1,5 +1,5 @@
 // What each record does to the chains of an area, and so to what is shown of it.
-ghost use Rattle.std.specs.Prelude.{◌≡◌, ◌<◌, ℕ, Bool, List, ◌≤◌, length};
+ghost use Rattle.std.specs.Prelude.{◌≡◌, ◌≢◌, ◌<◌, ℕ, Bool, List, ◌≤◌, length};
 ghost use Rattle.ctr_meta.specs.Tables.{Tables};
 ghost use Rattle.ctr_page.specs.declared.rows.Place.{Place};
 ghost use Rattle.ctr_area.specs.Areas.{RowVersion, Slot, Older, Area, free_older};
@@ -9,7 +9,7 @@ ghost use Rattle.ctr_area.specs.Images.{image_rows, versions_in};
 ghost use Rattle.ctr_area.specs.Sound.{IsSoundArea};
 ghost use Rattle.ctr_area.specs.Changes.{with_older, with_taken, with_blank, with_firsts, with_bucket};
 ghost use Rattle.ctr_record_laws.specs.Bounds.{IsInBounds};
-ghost use Rattle.ctr_record_laws.specs.Owed.{OwedByKeep, older_copy, IsSpareCopy, RowMove, row_moved, row_counted, OwedByRow, AgreeOnCommits, Reverting, FitsReverting, OwedByRevert, reverted_at, Trimming, trimmed_chain, OwedByTrim, trimmed_at, OwedByCut, cut_at, IsInNoChain, OwedByFree, OwedByFormat, rows_header, versions_header, first_page, OwedByLink, OwedByOlderLink, OwedByUncreate, OwedByUndrop};
+ghost use Rattle.ctr_record_laws.specs.Owed.{OwedByKeep, older_copy, IsSpareCopy, RowMove, row_moved, row_counted, OwedByRow, AgreeOnCommits, Reverting, FitsReverting, OwedByRevert, reverted_at, Trimming, trimmed_slot, trimmed_chain, OwedByTrim, trimmed_at, OwedByCut, cut_at, IsInNoChain, OwedByFree, OwedByFormat, rows_header, versions_header, first_page, OwedByLink, OwedByOlderLink, OwedByUncreate, OwedByUndrop};
 ghost use Rattle.ctr_versions.specs.Chains.{Numbers};
 ghost use Rattle.ctr_versions.specs.Changes.{write, revert, cut};
 ghost use Rattle.ctr_versions.specs.Versions.{rows_of, RowsSet};
@@ -70,7 +70,7 @@ pub fn a_revert_takes_the_head()
 {}
 
 /// A Trim of a slot: its chain is cut, or goes with its tombstone, and every other chain is what it was; the
-/// area stays sound with the same tables.
+/// area stays sound with the same tables. The slot is another one afterwards.
 pub fn a_trim_cuts_its_chain()
     ensures step { (passes : ℕ → Bool) (counted : ℕ) (tables : Tables) (area : Area) (e : ℕ) (at : Place) (way : Trimming) (committed : ℕ → Bool)
         → IsInBounds area → IsSoundArea counted tables area → OwedByTrim passes tables area e at way
@@ -79,10 +79,12 @@ pub fn a_trim_cuts_its_chain()
     ensures sound { (passes : ℕ → Bool) (counted : ℕ) (tables : Tables) (area : Area) (e : ℕ) (at : Place) (way : Trimming)
         → IsInBounds area → IsSoundArea counted tables area → OwedByTrim passes tables area e at way
         → IsSoundArea counted tables (trimmed_at at way area) }
+    ensures changes { (passes : ℕ → Bool) (tables : Tables) (area : Area) (e : ℕ) (at : Place) (way : Trimming)
+        → OwedByTrim passes tables area e at way → trimmed_slot way (area.slot at) ≢ area.slot at }
 {}
 
 /// A Trim of a version entry that leads nowhere from then on: the chain of its slot's key is cut there, and
-/// every other chain is what it was; the area stays sound with the same tables.
+/// every other chain is what it was; the area stays sound with the same tables. The entry is another one afterwards.
 pub fn a_cut_ends_its_chain()
     ensures step { (passes : ℕ → Bool) (counted : ℕ) (tables : Tables) (area : Area) (e : ℕ) (at q : Place) (committed : ℕ → Bool)
         → IsInBounds area → IsSoundArea counted tables area → OwedByCut passes area e at q
@@ -90,6 +92,7 @@ pub fn a_cut_ends_its_chain()
         (cut passes (rows_of (versions_in committed area) e (area.slot at).key)) }
     ensures sound { (counted : ℕ) (tables : Tables) (area : Area) (q : Place)
         → IsSoundArea counted tables area → IsSoundArea counted tables (cut_at q area) }
+    ensures changes { (passes : ℕ → Bool) (area : Area) (e : ℕ) (at q : Place) → OwedByCut passes area e at q → (cut_at q area).older q ≢ area.older q }
 {}
 
 /// A Trim that frees a version entry which no chain has: the chains of names and rows, and the rows of an

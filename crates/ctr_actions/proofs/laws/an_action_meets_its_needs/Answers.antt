@@ -1,8 +1,9 @@
-use Rattle.std.proofs.Common.{◌≡◌, ℕ, true, Ok, refl, sym}
+use Rattle.std.proofs.Common.{◌≡◌, ℕ, true, Ok, refl, sym, ap, subst}
 use Rattle.std.proofs.lemmas.Bool.{eq-eqb}
-use Rattle.ctr_meta.specs.Effects.{effect}
+use Rattle.ctr_meta.specs.Effects.{effect, one_head_less, one_head_more}
+use Rattle.ctr_record_laws.specs.Owed.{loses_head}
 use Rattle.ctr_meta.specs.Items.{is_wanted}
-use Rattle.ctr_meta.specs.Needs.{needs, there}
+use Rattle.ctr_meta.specs.Needs.{needs, there, row_needs}
 use Rattle.ctr_meta.specs.Tables.{is_in}
 use Rattle.ctr_meta.specs.declared.items.Wanted.{Wanted}
 use Rattle.ctr_meta.specs.declared.items.Wanted.TheVariants.{Allocation, OfPage, Creation, Dropping}
@@ -31,7 +32,7 @@ returns-clause-fits c = each
     each x (Links q f k) s o bounds sound owed = listed_there (Allocation x q) s owed.item
     each x (LinksOlder q f) s o bounds sound owed = listed_there (Allocation x q) s owed.item
     each x (Keeps f b older) s o bounds sound owed = is_there (is_in x s.tables.opens) owed.0
-    each x (Writes m) s o bounds sound owed = row_fits s bounds sound m owed.1
+    each x (Writes m) s o bounds sound owed = subst (λ y. row_needs y (loses_head s.tables (s.area.slot m.at)) s.tables ≡ Ok tt) owed.0 (row_fits s bounds sound m owed.1)
     each x (Creates f name columns left) s o bounds sound owed = is_there (is_in x s.tables.opens) owed.0.is_open
     each x (Drops f) s o bounds sound owed = is_there (is_in x s.tables.opens) owed.is_open
     each x Commits s o bounds sound owed = commit_fits x s.tables owed
@@ -61,7 +62,7 @@ returns-clause-leaves c = each
     each x (Links q f k) s o owed = refl
     each x (LinksOlder q f) s o owed = refl
     each x (Keeps f b older) s o owed = refl
-    each x (Writes m) s o owed = refl
+    each x (Writes m) s o owed = ap (λ y. one_head_less (loses_head s.tables (s.area.slot m.at)) (one_head_more y s.tables)) (sym owed.0)
     each x (Creates f name columns left) s o owed = refl
     each x (Drops f) s o owed = refl
     each x Commits s o owed = refl
