@@ -40,36 +40,28 @@ is_taken_by_one (FreeOf p) = false
 is_taken_by_one (CreateOf x e) = false
 is_taken_by_one (DropOf x e) = false
 
+-- an item of a page, before others with the page, is one page of two
+two_there : (p : ℕ) (a : SlogItem) (items : List SlogItem) → IsAmong p (page_of_item a) → IsAmong p (flat_map page_of_item items) → 2 ≤ how_many (λ q. q == p) (flat_map page_of_item (a ∷ items))
+two_there p a items here there =
+    let rest = flat_map page_of_item items in
+    let test : ℕ → Bool = λ q. q == p in
+    sum (how_many test (page_of_item a)) (how_many test rest) (how_many test (page_of_item a ++ rest)) (count_among p (page_of_item a) here) (count_among p rest there) (count_append test (page_of_item a) rest)
+  where
+    sum : (a b c : ℕ) → 1 ≤ a → 1 ≤ b → c ≡ a + b → 2 ≤ c
+    sum a b c m n is = omega (arith, m, n, is)
+
+named : (p : ℕ) (i : SlogItem) → page_of_item i ≡ p ∷ [] → IsAmong p (page_of_item i)
+named p i one = subst (IsAmong p) (sym one) (inl refl)
+
 -- two items of a page are two pages
-pub two_pages : (p : ℕ) (i j : SlogItem) (items : List SlogItem) → page_of_item i ≡ p ∷ [] → page_of_item j ≡ p ∷ [] → i ≢ j → IsAmong i items → IsAmong j items
+two_pages : (p : ℕ) (i j : SlogItem) (items : List SlogItem) → page_of_item i ≡ p ∷ [] → page_of_item j ≡ p ∷ [] → i ≢ j → IsAmong i items → IsAmong j items
     → 2 ≤ how_many (λ q. q == p) (flat_map page_of_item items)
 two_pages p i j [] one two apart in_ too = absurd in_
 two_pages p i j (a ∷ items) one two apart (inl is) (inl same_) = absurd (apart (is ∙ sym same_))
-two_pages p i j (a ∷ items) one two apart (inl is) (inr too) = here_and_there p i j a items one two is too
-  where
-    here_and_there : (p : ℕ) (i j a : SlogItem) (items : List SlogItem) → page_of_item i ≡ p ∷ [] → page_of_item j ≡ p ∷ [] → i ≡ a → IsAmong j items
-        → 2 ≤ how_many (λ q. q == p) (page_of_item a ++ flat_map page_of_item items)
-    here_and_there p i j a items one two is too =
-        let rest = flat_map page_of_item items in
-        sum (how_many (λ q. q == p) (page_of_item a)) (how_many (λ q. q == p) rest) (how_many (λ q. q == p) (page_of_item a ++ rest))
-        (count_among p (page_of_item a) (subst (λ z. IsAmong p (page_of_item z)) is (subst (IsAmong p) (sym one) (inl refl))))
-        (count_among p rest (flat_among page_of_item p j items too (subst (IsAmong p) (sym two) (inl refl))))
-        (count_append (λ q. q == p) (page_of_item a) rest)
-      where
-        sum : (a b c : ℕ) → 1 ≤ a → 1 ≤ b → c ≡ a + b → 2 ≤ c
-        sum a b c m n is = omega (arith, m, n, is)
-two_pages p i j (a ∷ items) one two apart (inr in_) (inl same_) = there_and_here
-  where
-    there_and_here : 2 ≤ how_many (λ q. q == p) (page_of_item a ++ flat_map page_of_item items)
-    there_and_here =
-        let rest = flat_map page_of_item items in
-        sum (how_many (λ q. q == p) (page_of_item a)) (how_many (λ q. q == p) rest) (how_many (λ q. q == p) (page_of_item a ++ rest))
-        (count_among p (page_of_item a) (subst (λ z. IsAmong p (page_of_item z)) same_ (subst (IsAmong p) (sym two) (inl refl))))
-        (count_among p rest (flat_among page_of_item p i items in_ (subst (IsAmong p) (sym one) (inl refl))))
-        (count_append (λ q. q == p) (page_of_item a) rest)
-      where
-        sum : (a b c : ℕ) → 1 ≤ a → 1 ≤ b → c ≡ a + b → 2 ≤ c
-        sum a b c m n is = omega (arith, m, n, is)
+two_pages p i j (a ∷ items) one two apart (inl is) (inr too) =
+    two_there p a items (subst (λ z. IsAmong p (page_of_item z)) is (named p i one)) (flat_among page_of_item p j items too (named p j two))
+two_pages p i j (a ∷ items) one two apart (inr in_) (inl same_) =
+    two_there p a items (subst (λ z. IsAmong p (page_of_item z)) same_ (named p j two)) (flat_among page_of_item p i items in_ (named p i one))
 two_pages p i j (a ∷ items) one two apart (inr in_) (inr too) =
     more (how_many (λ q. q == p) (page_of_item a)) (how_many (λ q. q == p) (flat_map page_of_item items)) (how_many (λ q. q == p) (page_of_item a ++ flat_map page_of_item items))
     (two_pages p i j items one two apart in_ too) (count_append (λ q. q == p) (page_of_item a) (flat_map page_of_item items))
@@ -86,7 +78,7 @@ one_item p i j s bounds sound one two apart in_ too =
     twice (how_many (λ q. q == p) of_tables) (how_many (λ q. q == p) of_items) (how_many (λ q. q == p) (owned_pages items s.area))
     (two_pages p i j items one two apart in_ too)
     (count_append (λ q. q == p) of_tables of_items)
-    (owned_once s.area bounds s.counted _ items sound.owned p (among_rest p of_tables of_items (flat_among page_of_item p i items in_ (subst (IsAmong p) (sym one) (inl refl)))))
+    (owned_once s.area bounds s.counted _ items sound.owned p (among_rest p of_tables of_items (flat_among page_of_item p i items in_ (named p i one))))
   where
     twice : (a b c : ℕ) → 2 ≤ b → c ≡ a + b → c ≡ 1 → ⊥
     twice a b c two is one = omega (arith, two, is, one)

@@ -1,6 +1,7 @@
 // Actions between states of a store.
 ghost use Rattle.std.specs.Prelude.{◌⊎◌, ◌≡◌, ◌≢◌, ◌≤◌, ℕ};
 ghost use Rattle.ctr_records.specs.declared.record.Overlay.{Overlay};
+ghost use Rattle.ctr_meta.specs.Effects.{effect};
 ghost use Rattle.ctr_redo.specs.States.{State, step};
 ghost use Rattle.ctr_record_effects.specs.States.{area_in};
 ghost use Rattle.ctr_area.specs.Chains.{pages_bound};
@@ -13,9 +14,12 @@ ghost use Rattle.ctr_actions.specs.Facts.{Fact, Holds, IsAway, IsBeside};
 use crate::laws::{an_action_meets_its_needs, an_action_stays_sound, what_is_held_stays};
 use ctr_record_laws::pages_are_in_bounds;
 
-/// A state that steps by the record of an action, whose pages say what the action leaves, is left by it.
+/// A state that steps by the record of an action, whose pages say what the action leaves, is left by it. That its tables are the
+/// action's computes for each, but for a row in another's name and for a Checkpoint.
 pub fn a_logged_record_is_its_action()
-    ensures { (x : ℕ) (a : Action) (s : State) (o : Overlay) → Owes x a (site_of s)
+    ensures leaves { (x : ℕ) (a : Action) (s : State) (o : Overlay) → effect (record_of x a (site_of s) o) s.tables ≡ (after x a (site_of s)).tables
+        → area_in (step (record_of x a (site_of s) o) s) ≡ (after x a (site_of s)).area → site_of (step (record_of x a (site_of s) o) s) ≡ after x a (site_of s) }
+    ensures does { (x : ℕ) (a : Action) (s : State) (o : Overlay) → Owes x a (site_of s)
         → area_in (step (record_of x a (site_of s) o) s) ≡ (after x a (site_of s)).area → Does x a s (step (record_of x a (site_of s) o) s) }
 {
     an_action_stays_sound();
