@@ -6,8 +6,22 @@ ghost use Rattle.ctr_pool.specs.Kept.{AreOrdered};
 use crate::Frame;
 use ctr_records::PageNo;
 
-/// The place of a page's frame, or the place where it would stand.
-pub fn find(frames: &[Frame], page: PageNo) -> Result<usize, usize>
+/// The place of a page's frame, or the place where it would stand. A place is looked at first where the page may stand.
+pub fn find(frames: &[Frame], first: usize, page: PageNo) -> Result<usize, usize>
+    requires { AreOrdered frames.now }
+    ensures found { IfOk result (λ at. (at < length frames.now) × ((d : Framed) → (slice_index_or frames.now at d).page ≡ page)) }
+    ensures within { IfErr result (λ at. at ≤ length frames.now) }
+    ensures below { IfErr result (λ at. (k : ℕ) (d : Framed) → k < at → (slice_index_or frames.now k d).page < page) }
+    ensures above { IfErr result (λ at. (k : ℕ) (d : Framed) → at ≤ k → k < length frames.now → page < (slice_index_or frames.now k d).page) }
+{
+    if first < frames.len() && frames[first].page == page {
+        return Ok(first);
+    }
+    halve(frames, page)
+}
+
+// The same by halving.
+fn halve(frames: &[Frame], page: PageNo) -> Result<usize, usize>
     requires { AreOrdered frames.now }
     ensures found { IfOk result (λ at. (at < length frames.now) × ((d : Framed) → (slice_index_or frames.now at d).page ≡ page)) }
     ensures within { IfErr result (λ at. at ≤ length frames.now) }

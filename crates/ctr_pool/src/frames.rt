@@ -15,10 +15,13 @@ use ctr_types::OutOfMemory;
 use std::alloc::Global;
 use std::marker::Model;
 
-/// Frames in order of their pages. One is found in steps that grow with the logarithm of their number.
+/// Frames in order of their pages. One is found in steps that grow with the logarithm of their number, and the one that
+/// was found last in one step.
 #[derive(Drop)]
 pub struct Frames {
     items: Vec<Frame>,
+    // where a page was found last, or put
+    last: usize,
 }
 
 impl Model for Frames {
@@ -48,7 +51,7 @@ impl Frames {
         ensures room { IfOk result (λ a. most ≤ a.spare) }
     {
         let items = Vec::with_capacity(alloc, most)?;
-        Ok(Frames { items })
+        Ok(Frames { items, last: 0 })
     }
 
     /// How many frames.
@@ -58,12 +61,16 @@ impl Frames {
         self.items.len()
     }
 
-    /// Whether a frame has the page.
-    pub fn has(&self, page: PageNo) -> bool
-        ensures { result ≡ has_page page self.now.frames }
+    /// Whether a frame has the page. From now on that page is found in one step.
+    pub fn has(&mut self, page: PageNo) -> bool
+        ensures has { result ≡ has_page page self.old.frames }
+        ensures same { self.new ≡ self.old }
     {
-        match find(&self.items, page) {
-            Ok(_) => true,
+        match find(&self.items, self.last, page) {
+            Ok(at) => {
+                self.last = at;
+                true
+            }
             Err(_) => false,
         }
     }
@@ -72,7 +79,7 @@ impl Frames {
     pub fn since(&self, page: PageNo) -> Option<Lsn>
         ensures { result ≡ since_in page self.now.frames }
     {
-        match find(&self.items, page) {
+        match find(&self.items, self.last, page) {
             Ok(at) => self.items[at].since,
             Err(_) => None,
         }
@@ -83,7 +90,7 @@ impl Frames {
         ensures shown { (f : Framed) → frame_of page self.now.frames ≡ Some f → result.now ≡ f.body }
         ensures whole { has_page page self.now.frames ≡ true → length result.now ≡ 4096 }
     {
-        match find(&self.items, page) {
+        match find(&self.items, self.last, page) {
             Ok(at) => self.items[at].body.as_slice(),
             Err(_) => &[],
         }
@@ -93,7 +100,7 @@ impl Frames {
     pub fn lsn(&self, page: PageNo) -> Lsn
         ensures { (f : Framed) → frame_of page self.now.frames ≡ Some f → result ≡ f.lsn }
     {
-        match find(&self.items, page) {
+        match find(&self.items, self.last, page) {
             Ok(at) => self.items[at].lsn,
             Err(_) => 0,
         }
@@ -108,7 +115,7 @@ impl Frames {
         ensures len { length self.new.frames ≡ length self.old.frames + 1 }
         ensures room { self.new.spare + 1 ≡ self.old.spare }
     {
-        let Err(at) = find(&self.items, page) else {
+        let Err(at) = find(&self.items, self.last, page) else {
             unreachable!();
         };
         let frame = Frame {
@@ -118,6 +125,7 @@ impl Frames {
             body,
         };
         self.items.insert(at, frame).unwrap();
+        self.last = at;
     }
 
     /// Takes a page's frame out, of which nothing is to be saved, and gives its bytes back.
@@ -129,7 +137,7 @@ impl Frames {
         ensures len { length self.new.frames + (if is_some result then 1 else 0) ≡ length self.old.frames }
         ensures room { length self.new.frames + self.new.spare ≡ length self.old.frames + self.old.spare }
     {
-        let Ok(at) = find(&self.items, page) else {
+        let Ok(at) = find(&self.items, self.last, page) else {
             return None;
         };
         let Frame { body, .. } = self.items.remove(at);
@@ -144,7 +152,7 @@ impl Frames {
         ensures len { length self.new.frames ≡ length self.old.frames }
         ensures room { self.new.spare ≡ self.old.spare }
     {
-        let Ok(at) = find(&self.items, page) else {
+        let Ok(at) = find(&self.items, self.last, page) else {
             return;
         };
         let frame = &mut self.items[at];
@@ -160,7 +168,7 @@ impl Frames {
         ensures len { length self.new.frames ≡ length self.old.frames }
         ensures room { self.new.spare ≡ self.old.spare }
     {
-        let Ok(at) = find(&self.items, page) else {
+        let Ok(at) = find(&self.items, self.last, page) else {
             return;
         };
         self.items[at].since = None;
@@ -177,7 +185,7 @@ impl Frames {
         ensures fails { (IsTrue B.tells → IfErr result (B.fails backing.old backing.new)) × OnErr result (result ≡ Err Fault) }
         ensures faults { HasFault Fault (B.faults_of backing.old) (B.faults_of backing.new) result }
     {
-        match find(&self.items, page) {
+        match find(&self.items, self.last, page) {
             Ok(at) => {
                 let frame = &self.items[at];
                 backing.save(page, frame.lsn, frame.body.as_slice())
@@ -203,7 +211,7 @@ impl Frames {
         ensures clean { IfSome result (λ p. (has_page p self.now.frames ≡ true) × (since_in p self.now.frames ≡ None)) }
         ensures none { IfNone result (dirty_count self.now.frames ≡ length self.now.frames) }
     {
-        let behind = match find(&self.items, page) {
+        let behind = match find(&self.items, self.last, page) {
             Ok(at) => at + 1,
             Err(at) => at,
         };

@@ -4,14 +4,14 @@ use Rattle.ctr_pool.specs.Kept.{FrameList}
 use Rattle.ctr_pool.proofs.FrameLaws.{found_there, missing}
 use Rattle.ctr_pool.proofs.frames.Frames.has.Goals as goal
 
-pub returns-in-Ok : goal.returns-in-Ok
-returns-in-Ok c =
+pub returns-in-Ok-clause-has : goal.returns-in-Ok-clause-has
+returns-in-Ok-clause-has c =
     let fs = c.self.inside.items.items in
     let to : fs ≡ c.args.self.now.frames = ap (λ (v : FrameList). v.frames) c.self.view_is in
-    sym (ap (has_page c.args.page) (sym to) ∙ found_there fs c.deref.result.now c.in-Ok.field-0 c.args.page c.deref.ensures.value c.self.invariant c.in-Ok.ensures.found)
+    sym (ap (has_page c.args.page) (sym to) ∙ found_there fs c.deref.result.now c.in-Ok.at c.args.page c.deref.ensures.value c.self.invariant c.in-Ok.ensures.found)
 
-pub returns-in-Err : goal.returns-in-Err
-returns-in-Err c =
+pub returns-in-Err-clause-has : goal.returns-in-Err-clause-has
+returns-in-Err-clause-has c =
     let fs = c.self.inside.items.items in
     let to : fs ≡ c.args.self.now.frames = ap (λ (v : FrameList). v.frames) c.self.view_is in
     sym (ap (has_page c.args.page) (sym to) ∙ ap is_some (missing fs c.deref.result.now c.in-Err.field-0 c.args.page c.deref.ensures.value c.in-Err.ensures.below c.in-Err.ensures.above))

@@ -1,4 +1,4 @@
-use Rattle.std.proofs.Common.{◌≡◌, ◌∙◌, ◌+◌, ℕ, cond, eqb, Option, None, List, ap, sym, arith}
+use Rattle.std.proofs.Common.{◌≡◌, ◌∙◌, ℕ, cond, eqb, Option, None, List, ap, sym, arith}
 use Rattle.std.specs.Prelude.{is_some}
 use Rattle.ctr_pool.specs.declared.frame.Frame.{Frame}
 use Rattle.ctr_pool.specs.Frames.{frame_of, change_of, since_in, dirty_count}

@@ -1,6 +1,6 @@
 use Rattle.std.proofs.Common.{◌≡◌, ◌<◌, ◌≤◌, ◌-◌, ◌+◌, ◌/◌, ℕ, length, get_or, arith}
 use Rattle.ctr_pool.proofs.FrameLaws.{up_to, from_on}
-use Rattle.ctr_pool.proofs.finding.find.Goals as goal
+use Rattle.ctr_pool.proofs.finding.halve.Goals as goal
 
 pub loop-low-preserved-then-at-page-2 : goal.loop-low-preserved-then-at-page-2
 loop-low-preserved-then-at-page-2 c =
