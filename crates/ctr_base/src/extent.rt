@@ -7,6 +7,7 @@ ghost use Rattle.ctr_home.specs.declared.root.Form.TheVariants.{Paged};
 ghost use Rattle.ctr_home.specs.Roots.{IsRootOf};
 ghost use Rattle.ctr_redo.specs.States.{state_of};
 ghost use Rattle.ctr_redo.specs.Images.{stored_in, IsSound, CanCount};
+ghost use Rattle.ctr_base.specs.declared.growing.TheConstants.{MOST_PAGES};
 ghost use Rattle.ctr_base.specs.Extent.{KeepsPages, AreCleared};
 
 use ctr_disk::{Disk, Failed};
@@ -16,7 +17,7 @@ use ctr_types::File;
 /// what stands before them as it was, and the other files. It takes no memory.
 pub fn clear_pages<D: Disk>(disk: &mut D, from: u32, to: u32) -> Result<(), Failed>
     requires order { from ≤ to }
-    requires low { to ≤ 30000 }
+    requires low { to ≤ MOST_PAGES }
     requires long { IsTrue D.tells → 8256 * from ≤ length (D.reads disk.old).pages }
     ensures any_moment { IsSettled D.Disk disk.old → LeavesOnly D.Disk disk.old disk.new (KeepsPages (8256 * from) (D.reads disk.old)) }
     ensures cleared { WhereTold D.Disk (OnOk result (AreCleared from to (D.reads disk.old) (D.reads disk.new))) }

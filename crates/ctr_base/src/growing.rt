@@ -7,6 +7,7 @@ ghost use Rattle.ctr_home.specs.Blocks.{value_of};
 ghost use Rattle.ctr_home.specs.Writing.{IsAbove};
 ghost use Rattle.ctr_redo.specs.States.{grown, state_of};
 ghost use Rattle.ctr_base.specs.Base.{WhereSound, now_of, StandsQuiet};
+ghost use Rattle.ctr_base.specs.declared.growing.TheConstants.{MOST_PAGES};
 ghost use Rattle.ctr_base.specs.Growth.{IsGrowing, HasGrown, LeavesGrown, GrowsOver, CountsMore, AreBlank};
 
 use crate::base::Base;
@@ -15,16 +16,16 @@ use crate::origin::Origin;
 use ctr_disk::{Disk, StoreFault};
 use ctr_home::{Root, write_root};
 
-/// How many pages are counted more at a time.
-const EXTENT: u32 = 64;
+/// How many pages are counted more at a time, and at least.
+pub const EXTENT: u32 = 64;
 
 /// How many pages are counted at most.
-const MOST_PAGES: u32 = 30_000;
+pub const MOST_PAGES: u32 = 30_000;
 
 // Clears the homes of the pages from one on that a root counts, and writes that root.
 fn count_pages<D: Disk>(disk: &mut D, from: u32, more: &Root) -> Result<(), StoreFault>
     requires order { from ≤ more.now.pages }
-    requires low { more.now.pages ≤ 30000 }
+    requires low { more.now.pages ≤ MOST_PAGES }
     requires long { IsTrue D.tells → 8256 * from ≤ length (D.reads disk.old).pages }
     requires above { IsTrue D.tells → IsAbove more.now.stamp (value_of RootBlock (D.reads disk.old)) }
     ensures any_moment { IsSettled D.Disk disk.old → LeavesOnly D.Disk disk.old disk.new (IsGrowing from more.now (D.reads disk.old)) }
@@ -41,7 +42,7 @@ impl<D: Disk, O: Origin> Base<D, O> {
     /// Counts 64 pages more, or as many as there may be, which have nothing. The root is written once their zeros are
     /// durable.
     pub fn grow(&mut self) -> Result<(), StoreFault>
-        requires few { self.old.root.pages < 30000 }
+        requires few { self.old.root.pages < MOST_PAGES }
         requires rests { IsTrue D.tells → StandsQuiet O.first D.Disk self.old }
         ensures any_moment { WhereSound O.first D.Disk (LeavesGrown D.Disk self.old self.new) }
         ensures grows { WhereTold D.Disk (OnOk result (GrowsOver O.first D.Disk self.old self.new)) }

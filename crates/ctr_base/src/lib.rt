@@ -14,5 +14,6 @@ mod reading;
 
 pub use base::Base;
 pub use extent::{clear_pages, clearing_leaves_the_state};
+pub use growing::{EXTENT, MOST_PAGES};
 pub use opening::find_root;
 pub use origin::Origin;

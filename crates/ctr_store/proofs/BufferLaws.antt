@@ -14,14 +14,15 @@ use Rattle.ctr_home.specs.declared.root.Root.{Root}
 use Rattle.ctr_meta.specs.Kept.{TablesKept, RoomLeft, opens_added, items_added}
 use Rattle.ctr_redo.specs.Images.{records_in}
 use Rattle.ctr_base.specs.declared.base.Base.{Base}
-use Rattle.ctr_base.specs.Base.{GoesOnTo, KeepsBase}
+use Rattle.ctr_base.specs.Base.{KeepsBase}
+use Rattle.ctr_base.specs.Growth.{CountsMore}
 use Rattle.ctr_base.specs.KeptLaws.{goes_on_to, goes_by}
 use Rattle.ctr_disk.specs.declared.disk.Disk.{Ghosts}
 use Rattle.ctr_store.specs.Changes.{IsChange}
 use Rattle.ctr_store.specs.declared.parts.Parts.{Parts}
 use Rattle.ctr_pool.specs.declared.frame.Frame.{Frame}
 use Rattle.ctr_pool.specs.Frames.{frame_of, change_of, since_in}
-use Rattle.ctr_store.specs.Parts.{HasBuffer, EndsWithin, LogsRoom, record_end, pages_held, first_unsaved}
+use Rattle.ctr_store.specs.Parts.{HasBuffer, MayCount, EndsWithin, LogsRoom, record_end, pages_held, first_unsaved}
 use Rattle.ctr_store.proofs.RecordLaws.{record_short}
 
 -- how many bytes the frames of records have
@@ -137,6 +138,10 @@ module _ {D O : Type 0} where
         spelled = kept_spelled a.log b.log keeps.waits has.spelled;
       }
 
+  -- as many pages are counted
+  pub count_kept : (g : Ghosts D) (a b : Base D O) → KeepsBase g a b → MayCount a.root.pages → MayCount b.root.pages
+  count_kept g a b keeps may = subst (λ (r : Root). MayCount r.pages) (sym keeps.root) may
+
   -- a record that was appended
   pub logs_room : (g : Ghosts D) (r : Record) (s t : Parts D O) → t.base.disk ≡ s.base.disk → t.base.log ≡ record s.base.log { buffered = s.base.log.buffered ++ record_bytes r ∷ []; room = t.base.log.room }
       → s.base.log.room ≤ t.base.log.room + (8 + length (record_bytes r)) → RoomLeft (opens_added r) (items_added r) s.meta t.meta → t.base.root ≡ s.base.root → LogsRoom g r s t
@@ -199,3 +204,13 @@ module _ {D O : Type 0} where
       → IfOk result (λ lsn. (lsn ≡ s.base.log.first + length s.base.log.buffered) × LogsRoom g r s t) → OnErr result (KeepsBase g s.base t.base) → HasBuffer t.base.log
   buffer_behind g r s t (Ok lsn) is change room has logs keeps = buffer_logged g r s t is change logs.1 room has
   buffer_behind g r s t (Err e) is change room has logs keeps = buffer_kept g s.base t.base keeps has
+
+  pub count_behind : (g : Ghosts D) (r : Record) (s t : Parts D O) (result : Result ℕ StoreFault) → MayCount s.base.root.pages
+      → IfOk result (λ lsn. (lsn ≡ s.base.log.first + length s.base.log.buffered) × LogsRoom g r s t) → OnErr result (KeepsBase g s.base t.base) → MayCount t.base.root.pages
+  count_behind g r s t (Ok lsn) may logs keeps = subst MayCount (sym logs.1.pages) may
+  count_behind g r s t (Err e) may logs keeps = count_kept g s.base t.base keeps may
+
+  -- more pages are counted, or as many
+  pub count_grown : {T : Type 0} (a b : Base D O) (result : Result T StoreFault) → MayCount a.root.pages → CountsMore a b result → MayCount b.root.pages
+  count_grown a b (Ok x) may more = subst MayCount (sym more.1) (let least = may.0 in omega (arith, least), omega arith)
+  count_grown a b (Err e) may more = subst (λ (r : Root). MayCount r.pages) (sym more.2) may

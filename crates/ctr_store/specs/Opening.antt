@@ -14,7 +14,8 @@ use Rattle.ctr_redo.specs.Images.{records_in, stored_in, FoldsFront}
 use Rattle.ctr_meta.specs.Effects.{tables_of}
 use Rattle.ctr_base.specs.Base.{stored_of, IsSoundImage}
 use Rattle.ctr_store.specs.declared.parts.Parts.{Parts}
-use Rattle.ctr_store.specs.Parts.{IsFold}
+use Rattle.ctr_store.specs.declared.opening.TheConstants.{BUFFER_BYTES}
+use Rattle.ctr_store.specs.Parts.{IsFold, MayCount}
 use Rattle.ctr_log.specs.declared.reading.ReadError.{ReadError}
 use Rattle.ctr_log.specs.declared.reading.ReadError.TheVariants as read
 use Rattle.ctr_log.specs.Logs.{Log}
@@ -143,7 +144,7 @@ worn_in root image =
 
 -- nothing waits in a log, and there is room for records
 abbrev pub IsEmptyWithRoom : Log → Type 0
-IsEmptyWithRoom log = (log.buffered ≡ []) × (65536 ≤ log.room)
+IsEmptyWithRoom log = (log.buffered ≡ []) × (BUFFER_BYTES ≤ log.room)
 
 -- Whatever the disk tells, what was opened has nothing that waits, no number is worn, and it counts
 -- as many pages as a root may.
@@ -151,7 +152,7 @@ pub record IsNewlyOpened {D O : Type 0} (s : Parts D O) : Type 0 where
   pub room : IsEmptyWithRoom s.base.log
   pub next : s.base.log.first + length s.base.log.buffered < worn_at
   pub xid : s.meta.tables.next < worn_at
-  pub pages : (64 ≤ s.base.root.pages) × (s.base.root.pages ≤ 30000)
+  pub pages : MayCount s.base.root.pages
 
 -- an error that comes behind the log's: damage is of a page
 abbrev pub IsLater : Root → Image → OpenError → Type 0

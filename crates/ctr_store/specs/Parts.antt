@@ -18,9 +18,11 @@ use Rattle.ctr_pool.specs.Over.{IsOver, ShowsSame}
 use Rattle.ctr_redo.specs.Overlaid.{overlay_of, overlaid}
 use Rattle.ctr_redo.specs.States.{state_of, step, steps}
 use Rattle.ctr_base.specs.declared.base.Base.{Base}
+use Rattle.ctr_base.specs.declared.growing.TheConstants.{EXTENT, MOST_PAGES}
 use Rattle.ctr_base.specs.Base.{stored_of, waiting_of, now_of, home_of, IsSoundImage, MovesIf, GoesOnTo, backing_of}
 use Rattle.ctr_redo.specs.Fitting.{LiesInside}
 use Rattle.ctr_store.specs.Changes.{IsChange}
+use Rattle.ctr_store.specs.declared.opening.TheConstants.{BUFFER_BYTES}
 use Rattle.ctr_store.specs.declared.parts.Parts.{Parts}
 
 -- The pool stands over the log and the homes. Where the first image was sound, nothing is pending,
@@ -50,15 +52,11 @@ abbrev pub first_unsaved : ℕ → List (ℕ × Option ℕ) → Option ℕ
 first_unsaved p [] = None
 first_unsaved p (h ∷ hs) = if h.0 == p then h.1 else first_unsaved p hs
 
--- how many bytes of records the log's buffer has room for
-abbrev pub buffer_most : ℕ
-buffer_most = 65536
-
--- The log's buffer isn't smaller than that, the frames of what waits take no more, and they are
+-- The log's buffer isn't smaller than 65,536 bytes, the frames of what waits take no more, and they are
 -- spelled as those records are.
 pub record HasBuffer (log : Log) : Type 0 where
-  pub size : buffer_most ≤ buffer_size log
-  pub most : length (frames log.buffered) ≤ buffer_most
+  pub size : BUFFER_BYTES ≤ buffer_size log
+  pub most : length (frames log.buffered) ≤ BUFFER_BYTES
   pub spelled : map record_bytes (records_in log.buffered) ≡ log.buffered
 
 -- a frame of a page has no record that the log lacks, with those that wait
@@ -83,6 +81,10 @@ abbrev pub home_at : {D O : Type 0} → Ghosts D → ℕ → Parts D O → ℕ
 home_at g p s =
     let changed = is_some (first_unsaved p (pages_held s.pool.frames)) in
     home_by changed s.base.root.pages p (g.reads s.base.disk)
+
+-- So many pages may be counted: 64 to 30,000.
+abbrev pub MayCount : ℕ → Type 0
+MayCount n = (EXTENT ≤ n) × (n ≤ MOST_PAGES)
 
 -- A page came into a frame: below the pool the first of what waited became durable, or a page went
 -- home; over that each page is as it was.

@@ -18,6 +18,7 @@ use Rattle.ctr_redo.specs.Images.{FoldsFront, FoldsGrown}
 use Rattle.ctr_base.specs.Base.{IsSoundImage}
 use Rattle.ctr_base.specs.Growth.{AreBlank}
 use Rattle.ctr_redo.specs.Fitting.{LiesInside}
+use Rattle.ctr_store.specs.declared.store.TheConstants.{TURN_BYTES, TURN_FRAMES}
 use Rattle.ctr_store.specs.Changes.{IsChange}
 use Rattle.ctr_log.specs.Logs.{frames}
 use Rattle.ctr_store.specs.Parts.{first_unsaved, home_by, record_end}
@@ -59,12 +60,12 @@ waiting_bytes rs = length (frames (map record_bytes rs))
 
 -- there is room for a turn: two frames that have nothing to be written home, and 5,000 bytes
 abbrev pub HasTurnRoom : {D : Type 0} → View D → Type 0
-HasTurnRoom v = (2 ≤ v.frames) × (5000 ≤ v.room)
+HasTurnRoom v = (TURN_FRAMES ≤ v.frames) × (TURN_BYTES ≤ v.room)
 
 -- How many turns for room there are at most until there is room: one for the log's buffer where it
 -- is short, and one for each frame that is wanted.
 abbrev pub turns_for_room : {D : Type 0} → View D → ℕ
-turns_for_room v = (if nat_lt v.room 5000 then 1 else 0) + (2 - v.frames)
+turns_for_room v = (if nat_lt v.room TURN_BYTES then 1 else 0) + (TURN_FRAMES - v.frames)
 
 -- The page that is changed the longest went home, and no other: its first record that isn't home
 -- has the least number of all. One frame more has nothing to be written home.
@@ -110,7 +111,8 @@ pub record LeavesFront {D : Type 0} (g : Ghosts D) (a b : View D) : Type 0 where
 
 -- However a call ends, the disk's clock didn't go back, the log's generation is the one of before,
 -- and its end no earlier. No call of the disk went past the last place of a file, but where the log
--- ends so far on that each image's file of the log has 2^62 bytes.
+-- ends at 2^62 + 2^61 or further on. Where a crash leaves the log's file nearly to that end (the long
+-- files of `LeavesFront`), each image's file of the log then has 2^62 bytes.
 pub record MovesOn {D : Type 0} (g : Ghosts D) (a b : View D) : Type 0 where
   pub later : g.moment_of a.disk ≤ g.moment_of b.disk
   pub file : b.file ≡ a.file
@@ -138,7 +140,7 @@ pub record MayLog {D : Type 0} (r : Record) (v : View D) : Type 0 where
   pub opens : opens_added r ≤ v.meta.opens_room
   pub items : items_added r ≤ v.meta.items_room
   pub numbers : NumbersFit r v.meta.tables
-  pub room : 5000 ≤ v.room
+  pub room : TURN_BYTES ≤ v.room
   pub number : v.next < 2 ^ 63 - 1
 
 -- what a record needs of the tables: the first need that isn't met is a row of damage
@@ -197,12 +199,14 @@ pub record GrowsByExtent {D : Type 0} (g : Ghosts D) (a b : View D) : Type 0 whe
   pub blank : AreBlank a.now.counted b.now.counted b.now
   pub durable : LeavesFront g b b
 
--- All but the disk, what it folds to, and whether a call was answered an error is as it was. More
--- pages are counted behind an Ok alone, and behind an error no more can be asked.
+-- All but the disk, what it folds to, and whether a call was answered an error is as it was. No call
+-- of the disk went past the last place of a file. More pages are counted behind an Ok alone, and
+-- behind an error no more can be asked.
 pub record CountsUp {D T : Type 0} (g : Ghosts D) (a b : View D) (result : Result T StoreFault)
     : Type 0 where
   pub same : b ≡ record a { disk = b.disk; hardened = b.hardened; now = b.now; stopped = b.stopped }
   pub time : MovesOn g a b
+  pub strays : g.strays_of b.disk ≡ g.strays_of a.disk
   pub counted : OnOk result (b.now.counted ≡ grown a.now.counted)
   pub uncounted : OnErr result (b.now.counted ≡ a.now.counted)
   pub going : OnOk result (b.stopped ≡ false)

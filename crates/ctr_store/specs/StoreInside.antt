@@ -6,9 +6,10 @@ use Rattle.ctr_log.specs.Logs.{frames, log_end, next_place}
 use Rattle.ctr_pool.specs.Over.{unchanged}
 use Rattle.ctr_redo.specs.States.{state_of}
 use Rattle.ctr_base.specs.Base.{stored_of, waiting_of, now_of}
+use Rattle.ctr_store.specs.declared.opening.TheConstants.{BUFFER_BYTES}
 use Rattle.ctr_store.specs.declared.parts.Parts.{Parts}
 use Rattle.ctr_store.specs.declared.store.Store.TheInside.{Inside}
-use Rattle.ctr_store.specs.Parts.{IsFold, HasBuffer, buffer_most, pages_held, some_dirty}
+use Rattle.ctr_store.specs.Parts.{IsFold, HasBuffer, MayCount, pages_held, some_dirty}
 use Rattle.ctr_store.specs.Store.{View}
 
 -- what callers see of the parts
@@ -24,7 +25,7 @@ view_of g s stopped = record {
   gate = log_end s.base.log;
   start = s.base.log.start;
   older = s.base.log.older;
-  room = buffer_most - length (frames s.base.log.buffered);
+  room = BUFFER_BYTES - length (frames s.base.log.buffered);
   frames = unchanged s.pool;
   dirty = some_dirty s.pool.frames;
   held = pages_held s.pool.frames;
@@ -37,7 +38,9 @@ abbrev pub view_in : {D O : Type 0} → Ghosts D → Inside D O → View D
 view_in g a = view_of g a.parts a.stopped
 
 -- What it shows is the fold of the records on the disk and behind them those that wait, where no
--- call was answered an error; and the log's buffer is there, of which what waits takes a part.
+-- call was answered an error; the log's buffer is there, of which what waits takes a part; and as
+-- many pages are counted as may be.
 pub record IsStore {D O : Type 0} (first : Image) (g : Ghosts D) (a : Inside D O) : Type 0 where
   pub fold : IsTrue g.tells → a.stopped ≡ false → IsFold first g a.parts
   pub buffer : HasBuffer a.parts.base.log
+  pub counted : MayCount a.parts.base.root.pages

@@ -1,5 +1,5 @@
 -- What callers see of an opening.
-use Rattle.std.specs.Prelude.{◌≡◌, ◌+◌, ◌≤◌, ◌<◌, ◌^◌, false, [], length, None, Some, Result, Ok, Err}
+use Rattle.std.specs.Prelude.{◌≡◌, ◌+◌, ◌<◌, ◌^◌, false, [], length, None, Some, Result, Ok, Err}
 use Rattle.ctr_disk.specs.Image.{Image}
 use Rattle.ctr_home.specs.declared.root.Root.{Root}
 use Rattle.ctr_log.specs.Kept.{kept_log}
@@ -8,6 +8,8 @@ use Rattle.ctr_redo.specs.States.{state_of}
 use Rattle.ctr_redo.specs.Images.{records_in, stored_in}
 use Rattle.ctr_base.specs.Base.{IsSoundImage}
 use Rattle.ctr_log.specs.declared.opening.OpenError.{OpenError}
+use Rattle.ctr_store.specs.declared.opening.TheConstants.{BUFFER_BYTES}
+use Rattle.ctr_store.specs.Parts.{MayCount}
 use Rattle.ctr_store.specs.Store.{View}
 use Rattle.ctr_base.specs.Opening.{FindsRoot}
 use Rattle.ctr_store.specs.Opening.{LogPasses, OverlaidPass, RefusesAs, worn_in}
@@ -32,10 +34,10 @@ pub record OpensStore {D : Type 0} (image : Image) (v : View D) : Type 0 where
 pub record IsOpened {D : Type 0} (v : View D) : Type 0 where
   pub going : v.stopped ≡ false
   pub none : v.waiting ≡ []
-  pub room : v.room ≡ 65536
+  pub room : v.room ≡ BUFFER_BYTES
   pub next : v.next < 2 ^ 62
   pub xid : v.meta.tables.next < 2 ^ 62
-  pub counted : (64 ≤ v.now.counted) × (v.now.counted ≤ 30000)
+  pub counted : MayCount v.now.counted
 
 -- an opening answers with it, or refuses the image
 abbrev pub AnswersStore : {D : Type 0} → Image → Result (View D) (OpenError × D) → Type 0

@@ -10,7 +10,7 @@ ghost use Rattle.ctr_redo.specs.Images.{IsNewDatabase};
 ghost use Rattle.ctr_store.specs.Creating.{IsNoneOrNew, IsEmptyStore, IsNoneOrEmptyStore, AnswersCreate, disk_made, making_told};
 ghost use Rattle.ctr_store.specs.declared.creating.CreateError.TheVariants.{Fault as CreateFault};
 
-use ctr_base::clear_pages;
+use ctr_base::{EXTENT, clear_pages};
 use ctr_disk::{Disk, StoreFault};
 use ctr_home::{Block, Root, is_open, write_root};
 use ctr_log::{Making, make_logs};
@@ -24,9 +24,6 @@ pub enum CreateError {
     Fault,
 }
 
-/// How many pages are counted in a new database.
-const PAGES: u32 = 64;
-
 // On a disk on which nothing is pending and no root home is open: the logs, the pages, the root last.
 fn lay<D: Disk>(disk: &mut D) -> Result<(), StoreFault>
     requires { IsTrue D.tells → value_of RootBlock (D.reads disk.old) ≡ None }
@@ -37,13 +34,13 @@ fn lay<D: Disk>(disk: &mut D) -> Result<(), StoreFault>
     ensures counts { CountsAs D.Disk Fault disk.old disk.new result }
 {
     make_logs(disk)?;
-    clear_pages(disk, 0, PAGES)?;
+    clear_pages(disk, 0, EXTENT)?;
     let root = Root {
         stamp: 1,
         format: 1,
         file: 0,
         first: 1,
-        pages: PAGES,
+        pages: EXTENT,
     };
     write_root(disk, &root)
 }

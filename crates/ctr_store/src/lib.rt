@@ -13,6 +13,7 @@ mod store;
 
 pub use creating::{CreateError, create};
 pub use laws::{redo_makes_the_fold, what_a_crash_leaves_is_sound};
+pub use opening::BUFFER_BYTES;
 pub use parts::Parts;
 pub use seen::Seen;
-pub use store::Store;
+pub use store::{Store, TURN_BYTES, TURN_FRAMES};

@@ -31,7 +31,7 @@ use std::marker::PhantomData;
 const WORN_AT: u64 = 1 << 62;
 
 /// For how many bytes of records the log's buffer has room.
-pub(crate) const BUFFER: usize = 65_536;
+pub const BUFFER_BYTES: usize = 65_536;
 
 /// What the reading of a log found: the writer behind it, the tables that its records leave, and the records in their
 /// places.
@@ -60,7 +60,7 @@ fn read_log<D: Disk, O: Origin>(
 {
     let mut seen = Seen::<D, O>::new(alloc, root.pages);
     let mut log = read_all(alloc, disk, root, &mut seen)?;
-    log.reserve(BUFFER)?;
+    log.reserve(BUFFER_BYTES)?;
     let (meta, visits) = seen.into_parts();
     Ok(Found { log, meta, visits })
 }

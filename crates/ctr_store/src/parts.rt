@@ -5,6 +5,7 @@ ghost use Rattle.ctr_disk.specs.declared.fault.StoreFault.TheVariants.{Fault};
 ghost use Rattle.ctr_redo.specs.Overlaid.{overlay_of};
 ghost use Rattle.ctr_pool.specs.Frames.{has_page};
 ghost use Rattle.ctr_redo.specs.States.{page_limit, page_at, state_of, grown};
+ghost use Rattle.ctr_base.specs.declared.growing.TheConstants.{MOST_PAGES};
 ghost use Rattle.ctr_base.specs.Growth.{LeavesGrown, GrowsBase, CountsMore, AreBlank};
 ghost use Rattle.ctr_base.specs.Base.{WhereSound, now_of, IsSoundImage, LeavesIf, MovesIf, KeepsBase, backing_of};
 ghost use Rattle.ctr_pool.specs.Over.{IsOver, SavesOldest};
@@ -138,7 +139,7 @@ impl<D: Disk, O: Origin> Parts<D, O> {
 
     /// Counts 64 pages more, or as many as there may be, which have nothing.
     pub fn grow(&mut self) -> Result<(), StoreFault>
-        requires few { self.old.base.root.pages < 30000 }
+        requires few { self.old.base.root.pages < MOST_PAGES }
         requires fold { IsTrue D.tells → IsFold O.first D.Disk self.old }
         ensures any_moment { WhereSound O.first D.Disk (LeavesGrown D.Disk self.old.base self.new.base) }
         ensures grows { WhereTold D.Disk (OnOk result (GrowsBase D.Disk self.old.base self.new.base × IsFold O.first D.Disk self.new)) }

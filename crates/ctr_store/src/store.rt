@@ -10,10 +10,14 @@ ghost use Rattle.ctr_disk.specs.Device.{WhereTold, LeavesOnly};
 ghost use Rattle.ctr_redo.specs.States.{page_limit, page_at};
 ghost use Rattle.ctr_store.specs.Opening.{LeavesFirst, IsUndamaged, opening_told};
 ghost use Rattle.ctr_log.specs.declared.opening.OpenError.TheVariants.{Fault as OpenFault};
+ghost use Rattle.ctr_base.specs.declared.growing.TheConstants.{MOST_PAGES};
+ghost use Rattle.ctr_store.specs.declared.opening.TheConstants.{BUFFER_BYTES};
+ghost use Rattle.ctr_store.specs.declared.store.TheConstants.{TURN_BYTES};
+ghost use Rattle.ctr_store.specs.Parts.{MayCount};
 ghost use Rattle.ctr_store.specs.Store.{MovesOn, waiting_bytes, HasTurnRoom, turns_for_room, KeepsFrames, WritesHome, LeavesFront, LeavesPage, Logs, MayLog, unmet_need, RefusesUnfit, TakesRecord, LeavesGrowing, GrowsByExtent, CountsUp, page_home};
 ghost use Rattle.ctr_store.specs.StoreOpening.{AnswersStore, IsOpened, store_left};
 
-use crate::opening::BUFFER;
+use crate::opening::BUFFER_BYTES;
 use crate::parts::Parts;
 use ctr_base::Origin;
 use ctr_disk::{Disk, StoreFault};
@@ -25,10 +29,10 @@ use std::alloc::Global;
 use std::marker::Model;
 
 /// For how many bytes of records there is room when a turn begins.
-const ROOM: usize = 5000;
+pub const TURN_BYTES: usize = 5000;
 
 /// How many frames have nothing to be written home when a turn begins.
-const CLEAN: usize = 2;
+pub const TURN_FRAMES: usize = 2;
 
 /// The pages and the tables of a database, over its log and its homes.
 #[derive(Drop)]
@@ -121,21 +125,28 @@ impl<D: Disk, O: Origin> Store<D, O> {
         self.parts.base.root.pages
     }
 
+    /// A store counts 64 to 30,000 pages, at each moment. The call does nothing: what it ensures holds of each store.
+    pub fn counts_pages(&self)
+        ensures { MayCount self.now.now.counted }
+    {
+        let _ = &self.parts;
+    }
+
     /// Whether there is room for a turn: two frames that have nothing to be written home, and 5,000 bytes of records.
     pub fn room(&self) -> bool
         ensures told { IsTrue result ↔ HasTurnRoom self.now }
         // What waits takes a part of the log's buffer, of 65,536 bytes, and the rest is room.
-        ensures buffer { waiting_bytes self.now.waiting + self.now.room ≡ 65536 }
+        ensures buffer { waiting_bytes self.now.waiting + self.now.room ≡ BUFFER_BYTES }
     {
-        self.parts.pool.unchanged() >= CLEAN && !self.is_short()
+        self.parts.pool.unchanged() >= TURN_FRAMES && !self.is_short()
     }
 
     // Whether the log's buffer has less room than a turn needs.
     fn is_short(&self) -> bool
-        ensures short { result ≡ nat_lt self.now.room 5000 }
-        ensures buffer { waiting_bytes self.now.waiting + self.now.room ≡ 65536 }
+        ensures short { result ≡ nat_lt self.now.room TURN_BYTES }
+        ensures buffer { waiting_bytes self.now.waiting + self.now.room ≡ BUFFER_BYTES }
     {
-        BUFFER - self.parts.base.log.bytes_waiting() < ROOM
+        BUFFER_BYTES - self.parts.base.log.bytes_waiting() < TURN_BYTES
     }
 
     /// A turn for room: makes what waits durable where the log's buffer has less than 5,000 bytes left, or else writes the
@@ -189,7 +200,7 @@ impl<D: Disk, O: Origin> Store<D, O> {
     /// Makes all records durable. What waited gives the log's buffer back, of 65,536 bytes; the frames stay as they are.
     pub fn harden(&mut self) -> Result<(), StoreFault>
         requires { self.old.stopped ≡ false }
-        ensures none { OnOk result ((self.new.waiting ≡ []) × (self.new.room ≡ 65536)) }
+        ensures none { OnOk result ((self.new.waiting ≡ []) × (self.new.room ≡ BUFFER_BYTES)) }
         ensures frames { KeepsFrames self.old self.new }
         // What a crash leaves behind it is all.
         ensures durable { WhereSound O.first D.Disk (OnOk result (LeavesFront D.Disk self.new self.new)) }
@@ -217,7 +228,7 @@ impl<D: Disk, O: Origin> Store<D, O> {
     /// count or the new one.
     pub fn grow_extent(&mut self) -> Result<(), StoreFault>
         requires going { self.old.stopped ≡ false }
-        requires few { self.old.now.counted < 30000 }
+        requires few { self.old.now.counted < MOST_PAGES }
         ensures any_moment { WhereSound O.first D.Disk (LeavesGrowing D.Disk self.old self.new) }
         ensures grows { WhereSound O.first D.Disk (OnOk result (GrowsByExtent D.Disk self.old self.new)) }
         ensures counts { CountsUp D.Disk self.old self.new result }

@@ -3,6 +3,7 @@ use Rattle.ctr_base.specs.declared.base.Base.{Base}
 use Rattle.ctr_store.specs.Parts.{HasBuffer}
 use Rattle.ctr_store.specs.Store.{View, GrowsByExtent}
 use Rattle.ctr_store.specs.StoreInside.{view_of}
+use Rattle.ctr_store.proofs.BufferLaws.{count_grown}
 use Rattle.ctr_store.proofs.StoreLaws.{of_ok, on_ok_both, grows_seen}
 use Rattle.ctr_store.proofs.store.Store.grow_extent.Goals as goal
 
@@ -12,6 +13,7 @@ invariant_of-self g c =
     record {
       fold = λ told going. (of_ok c.grow-counted.result (sym c.is_err-self-inside.ensures.value ∙ going) (e.grows told)).1;
       buffer = subst (λ (b : Base g.row.D.Denot g.row.O.Denot). HasBuffer b.log) (sym e.counted.0.0) c.self.invariant.buffer;
+      counted = count_grown c.self.inside.parts.base c.grow-counted.new.self.base c.grow-counted.result c.self.invariant.counted e.counted.0;
     }
 
 pub returns-clause-grows : goal.returns-clause-grows

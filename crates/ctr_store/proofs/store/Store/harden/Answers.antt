@@ -4,7 +4,7 @@ use Rattle.ctr_base.specs.Base.{IsSoundImage}
 use Rattle.ctr_base.specs.BaseLaws.{rests_leaves}
 use Rattle.ctr_store.specs.Store.{View, LeavesPage}
 use Rattle.ctr_store.specs.StoreInside.{view_of}
-use Rattle.ctr_store.proofs.BufferLaws.{buffer_kept}
+use Rattle.ctr_store.proofs.BufferLaws.{buffer_kept, count_kept}
 use Rattle.ctr_store.proofs.StoreLaws.{of_ok, front_seen, page_left, sound_fault}
 use Rattle.ctr_store.proofs.store.Store.harden.Goals as goal
 
@@ -14,6 +14,7 @@ invariant_of-self g c =
     record {
       fold = λ told going. of_ok c.harden-hardened.result (sym c.is_err-self-inside.ensures.value ∙ going) (e.fold told);
       buffer = buffer_kept g.D.Disk c.self.inside.parts.base c.harden-hardened.new.self.base e.keeps.0 c.self.invariant.buffer;
+      counted = count_kept g.D.Disk c.self.inside.parts.base c.harden-hardened.new.self.base e.keeps.0 c.self.invariant.counted;
     }
 
 pub returns-clause-durable : goal.returns-clause-durable

@@ -6,7 +6,7 @@ use Rattle.ctr_disk.specs.declared.fault.StoreFault.TheVariants.{Fault}
 use Rattle.ctr_base.specs.BaseLaws.{rests_leaves}
 use Rattle.ctr_store.specs.Store.{View, MayLog, LeavesFront, MovesOn, Logs, TakesRecord}
 use Rattle.ctr_store.specs.StoreInside.{view_of}
-use Rattle.ctr_store.proofs.BufferLaws.{buffer_behind}
+use Rattle.ctr_store.proofs.BufferLaws.{buffer_behind, count_behind}
 use Rattle.ctr_store.proofs.StoreLaws.{can_of, of_ok, front_seen, time_logged, logs_seen, takes_seen}
 use Rattle.ctr_store.proofs.store.Store.log.Goals as goal
 
@@ -45,6 +45,7 @@ invariant_of-self g c =
     record {
       fold = λ told going. (of_ok c.log-logged.result (sym c.is_err-self-inside.ensures.value ∙ going) (e.logs told)).1;
       buffer = buffer_behind g.D.Disk c.args.rec.now s c.log-logged.new.self c.log-logged.result may.logged.record_is may.change room c.self.invariant.buffer e.takes e.keeps;
+      counted = count_behind g.D.Disk c.args.rec.now s c.log-logged.new.self c.log-logged.result c.self.invariant.counted e.takes e.keeps;
     }
 
 pub returns-clause-takes : goal.returns-clause-takes

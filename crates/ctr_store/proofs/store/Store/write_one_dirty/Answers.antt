@@ -2,7 +2,7 @@ use Rattle.std.proofs.Common.{◌≡◌, ◌∙◌, Bool, false, sym, ap, subst}
 use Rattle.std.specs.Prelude.{IfOk}
 use Rattle.ctr_store.specs.Store.{View, LeavesPage, WritesHome}
 use Rattle.ctr_store.specs.StoreInside.{view_of}
-use Rattle.ctr_store.proofs.BufferLaws.{buffer_kept}
+use Rattle.ctr_store.proofs.BufferLaws.{buffer_kept, count_kept}
 use Rattle.ctr_store.proofs.StoreLaws.{of_ok, home_seen, wrote_seen, page_left}
 use Rattle.ctr_store.proofs.store.Store.write_one_dirty.Goals as goal
 
@@ -28,6 +28,7 @@ invariant_of-self g c =
     record {
       fold = λ told going. of_ok c.write_one_dirty-wrote.result (sym c.is_err-self-inside.ensures.value ∙ going) (e.fold told);
       buffer = buffer_kept g.D.Disk c.self.inside.parts.base c.write_one_dirty-wrote.new.self.base e.keeps.0 c.self.invariant.buffer;
+      counted = count_kept g.D.Disk c.self.inside.parts.base c.write_one_dirty-wrote.new.self.base e.keeps.0 c.self.invariant.counted;
     }
 
 pub returns-clause-home : goal.returns-clause-home
