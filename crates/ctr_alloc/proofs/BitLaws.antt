@@ -1,17 +1,17 @@
 -- The bits of page 0: what a bit says of its page.
-use Rattle.std.proofs.Common.{◌≡◌, ◌≢◌, ⊎_elim, ℕ, ◌+◌, ◌*◌, ◌/◌, ◌%◌, ◌<◌, ◌≤◌, Bool, true, false, cond, List, [], ◌∷◌, length, slice_index, sym, ◌∙◌, ap, subst, arith, ◌++◌, set, take-append-drop}
-use Rattle.std.proofs.lemmas.List.{take-set, drop-set}
+use Rattle.std.proofs.Common.{◌≡◌, ◌≢◌, ⊎_elim, ℕ, ◌+◌, ◌*◌, ◌/◌, ◌%◌, ◌<◌, ◌≤◌, Bool, true, cond, List, length, slice_index, sym, ◌∙◌, ap, subst, arith, set}
 use Rattle.std.specs.Prelude.{◌==◌}
 use Rattle.std.specs.Int.{w8, bit_at, trailing_ones}
 use Rattle.std.specs.Int.Bits.{bit_or}
-use Rattle.std.proofs.lemmas.Bool.{ne_eqb, eqb-true, eqb-false, cases_lt}
+use Rattle.std.proofs.lemmas.Bool.{eqb-true, eqb-false, cases_lt}
 use Rattle.std.proofs.lemmas.Nat.Bits.{bit_at_or, bit_at_ones, bit_at_ones_above, bit_at-lt, bit_at-trailing_ones}
 use Rattle.ctr_versions.proofs.Keys.{known}
-use Rattle.ctr_page.specs.Reading.{put_over}
 use Rattle.ctr_area.specs.Reading.{has_bit, is_taken, area_of}
 use Rattle.ctr_area.specs.Changes.{IsBitSet, with_taken, with_byte_of}
-use Rattle.ctr_area.proofs.Marked.{taken_after, bit_written}
-use Rattle.ctr_alloc.specs.Free.{marks_in, AreFullBetween, AreTakenBelow, IsFree, taken_in}
+use Rattle.ctr_area.proofs.Marked.{bit_written}
+use Rattle.ctr_alloc.specs.declared.search.NextFree.{NextFree}
+use Rattle.ctr_alloc.specs.declared.search.NextFree.TheVariants.{Page, Grow, Full}
+use Rattle.ctr_alloc.specs.Free.{marks_in, AreFullBelow, AreTakenBelow, IsFree, IsNextFree, MayBeNext, taken_in}
 
 -- one bit is as wanted, the others are as before
 pub bit_set : (k : ℕ) (taken : Bool) (old new : ℕ) → has_bit k new ≡ taken → ((i : ℕ) → i < 8 → i ≢ k → bit_at new i ≡ bit_at old i) → IsBitSet k taken old new
@@ -73,36 +73,21 @@ full_byte page q third full = taken_by page q third (ap (λ b. bit_at b (q % 8))
 -- ---- a search
 
 -- no page below a byte's lowest 0 is free
-pub taken_to : (page : List ℕ) (from at p : ℕ) → AreTakenBelow from (taken_in page) → AreFullBetween page (from / 8) at → p / 8 ≡ at
-    → ((k : ℕ) → k < p % 8 → bit_at (marks_in page at) k ≡ 1) → AreTakenBelow p (taken_in page)
-taken_to page from at p right full place first = λ q third lt. ⊎_elim (right q third)
-    (λ le. ⊎_elim
-    (λ before. full_byte page q third (full (q / 8) (omega (arith, le)) before))
+pub taken_to : (page : List ℕ) (at p : ℕ) → AreFullBelow page at → p / 8 ≡ at → ((k : ℕ) → k < p % 8 → bit_at (marks_in page at) k ≡ 1) → AreTakenBelow p (taken_in page)
+taken_to page at p full place first = λ q third lt. ⊎_elim
+    (λ before. full_byte page q third (full (q / 8) before))
     (λ last. taken_by page q third (ap (λ b. bit_at (marks_in page b) (q % 8)) (same q lt last) ∙ first (q % 8) (omega (arith, lt, last, place))))
-    (cases_lt (q / 8) at))
-    (cases_lt q from)
+    (cases_lt (q / 8) at)
   where
     same : (q : ℕ) → q < p → at ≤ q / 8 → q / 8 ≡ at
     same q lt last = omega (arith, lt, last, place)
 
 -- nor below an end where all bytes before it are full
-pub taken_all : (page : List ℕ) (from end bytes : ℕ) → AreTakenBelow from (taken_in page) → bytes ≡ (end + 7) / 8 → AreFullBetween page (from / 8) bytes → AreTakenBelow end (taken_in page)
-taken_all page from end bytes right is full = λ q third lt. ⊎_elim (right q third)
-    (λ le. full_byte page q third (full (q / 8) (omega (arith, le)) (omega (arith, lt, is)))) (cases_lt q from)
+pub taken_all : (page : List ℕ) (end bytes : ℕ) → bytes ≡ (end + 7) / 8 → AreFullBelow page bytes → AreTakenBelow end (taken_in page)
+taken_all page end bytes is full = λ q third lt. full_byte page q third (full (q / 8) (omega (arith, lt, is)))
 
--- ---- where a byte changes
-
--- a byte that is set is put over
-pub set_over : (at byte : ℕ) (page : List ℕ) → at < length page → set page at byte ≡ put_over at (byte ∷ []) page
-set_over at byte page inside = sym (take-append-drop at (set page at byte)) ∙ (λ i. take-set page at byte i ++ drop-set page at byte inside i)
-
-module _ (page : List ℕ) (p byte : ℕ) (inside : p / 8 < length page) where
-  -- a page is allocated
-  pub taken_on : IsBitSet (p % 8) true (slice_index page (p / 8)) byte → (from : ℕ) → AreTakenBelow from (taken_in page) → AreTakenBelow from (taken_in (put_over (p / 8) (byte ∷ []) page))
-  taken_on set from right = λ q third lt. taken_after (λ n. page) p byte true inside set q ∙ known (q == p)
-      (λ is. ap (λ b. cond b true (is_taken q page)) is) (λ isnt. ap (λ b. cond b true (is_taken q page)) isnt ∙ right q third lt)
-
-  -- a page is free again
-  pub taken_below : IsBitSet (p % 8) false (slice_index page (p / 8)) byte → (from next : ℕ) → next ≤ from → next ≤ p → AreTakenBelow from (taken_in page) → AreTakenBelow next (taken_in (put_over (p / 8) (byte ∷ []) page))
-  taken_below set from next less before right = λ q third lt. taken_after (λ n. page) p byte false inside set q
-      ∙ ap (λ b. cond b false (is_taken q page)) (ne_eqb q p (λ is. omega (arith, is, lt, before))) ∙ right q third (omega (arith, lt, less))
+-- whatever the bits say
+pub may_be_next : (counted : ℕ) (taken : ℕ → Bool) (next : NextFree) → IsNextFree counted taken next → MayBeNext counted next
+may_be_next counted taken (Page p) is = (is.0.0, is.1)
+may_be_next counted taken Grow is = is.1
+may_be_next counted taken Full is = is.1

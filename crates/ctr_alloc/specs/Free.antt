@@ -23,11 +23,12 @@ IsNextFree counted taken (Page p) = IsFree taken p × (p < counted) × AreTakenB
 IsNextFree counted taken Grow = AreTakenBelow counted taken × (counted < MOST_PAGES)
 IsNextFree counted taken Full = AreTakenBelow MOST_PAGES taken × (MOST_PAGES ≤ counted)
 
--- where a search has ended: at the page that was found, or behind all that are counted
-abbrev pub search_end : ℕ → NextFree → ℕ
-search_end counted (Page p) = p
-search_end counted Grow = counted
-search_end counted Full = MOST_PAGES
+-- Whatever the bits say: the page is a counted one behind the catalog; or more can be counted; or
+-- not.
+abbrev pub MayBeNext : ℕ → NextFree → Type 0
+MayBeNext counted (Page p) = (3 ≤ p) × (p < counted)
+MayBeNext counted Grow = counted < MOST_PAGES
+MayBeNext counted Full = MOST_PAGES ≤ counted
 
 -- ---- bytes
 
@@ -39,6 +40,6 @@ taken_in page q = is_taken q page
 abbrev pub marks_in : List ℕ → ℕ → ℕ
 marks_in page at = if at == 0 then bit_or (slice_index page at) 7 else slice_index page at
 
--- in the bytes from one on, before an end, no bit is 0
-abbrev pub AreFullBetween : List ℕ → ℕ → ℕ → Type 0
-AreFullBetween page from end = (at : ℕ) → from ≤ at → at < end → marks_in page at ≡ 255
+-- in the bytes before an end no bit is 0
+abbrev pub AreFullBelow : List ℕ → ℕ → Type 0
+AreFullBelow page end = (at : ℕ) → at < end → marks_in page at ≡ 255

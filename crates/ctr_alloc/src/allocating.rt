@@ -56,13 +56,13 @@ pub fn alloc<D: Disk, O: Origin>(
     p: PageNo,
 ) -> Result<(), StoreFault>
     requires room { HasRoomForOne 0 1 store.old }
-    requires counted { 0 < store.old.now.counted }
     requires small { p < MOST_PAGES }
     ensures one { (byte : ℕ) × LogsOne O.first D.Disk (alloc_record x p byte) store.old store.new result }
     // The page is allocated, and nothing else in the pages changes.
     ensures taken { WhereSound O.first D.Disk (OnOk result (area_in store.new.now ≡ area_with_taken p true (area_in store.old.now))) }
 {
     a_record_behind_a_page::<D, u8, ()>();
+    store.counts_pages();
     an_alloc_changes_its_bit();
     let byte = byte_with(store, p, true)?;
     let bytes = [byte];
@@ -80,13 +80,13 @@ pub fn alloc<D: Disk, O: Origin>(
 /// Gives a page back, by one record, which isn't hardened yet.
 pub fn free<D: Disk, O: Origin>(store: &mut Store<D, O>, p: PageNo) -> Result<(), StoreFault>
     requires room { HasRoomForOne 0 0 store.old }
-    requires counted { 0 < store.old.now.counted }
     requires small { p < MOST_PAGES }
     ensures one { (byte : ℕ) × LogsOne O.first D.Disk (free_record p byte) store.old store.new result }
     // The page is free, and nothing else in the pages changes.
     ensures freed { WhereSound O.first D.Disk (OnOk result (area_in store.new.now ≡ area_with_taken p false (area_in store.old.now))) }
 {
     a_record_behind_a_page::<D, u8, ()>();
+    store.counts_pages();
     a_free_changes_its_bit();
     let byte = byte_with(store, p, false)?;
     let bytes = [byte];

@@ -10,5 +10,5 @@ mod store;
 
 pub use allocating::{alloc, free};
 pub use bits::{with_free, with_taken};
-pub use search::{NextFree, Search, search_goes_on};
+pub use search::{NextFree, next_free_on};
 pub use store::next_free;

@@ -1,11 +1,8 @@
-// The lowest free page. The search looks at bytes, and begins where the last one ended.
-ghost use Rattle.std.specs.Prelude.{◌≡◌, ◌≤◌, ◌<◌, ◌/◌, ◌%◌, ℕ, true, false, List, [], ◌∷◌, length, slice_index, IfSome};
+// The lowest free page, by the bytes of page 0: eight pages a byte.
+ghost use Rattle.std.specs.Prelude.{◌≡◌, ◌≤◌, ◌<◌, ◌/◌, ◌%◌, ℕ, None, slice_index, IfSome};
 ghost use Rattle.std.specs.Int.{bit_at};
-ghost use Rattle.ctr_page.specs.Reading.{put_over};
-ghost use Rattle.ctr_area.specs.Areas.{Area};
-ghost use Rattle.ctr_area.specs.Changes.{IsBitSet, with_taken};
 ghost use Rattle.ctr_model.specs.declared.limits.TheConstants.{MOST_PAGES};
-ghost use Rattle.ctr_alloc.specs.Free.{marks_in, AreFullBetween, AreTakenBelow, IsFree, IsNextFree, search_end, taken_in};
+ghost use Rattle.ctr_alloc.specs.Free.{marks_in, AreFullBelow, AreTakenBelow, IsFree, IsNextFree, taken_in};
 
 use ctr_model::MOST_PAGES;
 use ctr_records::PageNo;
@@ -19,13 +16,6 @@ pub enum NextFree {
     Grow,
     /// None of them is free, and no more can be counted.
     Full,
-}
-
-/// Where a search for a free page begins.
-#[derive(Clone, Copy, Debug, PartialEq, Eq)]
-pub struct Search {
-    /// No page below this one is free.
-    pub from: PageNo,
 }
 
 /// A byte of a page; behind its end there are zeros.
@@ -46,12 +36,12 @@ fn marks(page: &[u8], at: usize) -> u8
     }
 }
 
-/// The first byte, from one on and before an end, in which a bit is 0.
-fn first_open(page: &[u8], from: usize, end: usize) -> Option<usize>
-    ensures found { IfSome result (λ at. (at < end) × AreFullBetween page.now from at × (marks_in page.now at < 255)) }
-    ensures none { result ≡ None → AreFullBetween page.now from end }
+/// The first byte before an end in which a bit is 0.
+fn first_open(page: &[u8], end: usize) -> Option<usize>
+    ensures found { IfSome result (λ at. (at < end) × AreFullBelow page.now at × (marks_in page.now at < 255)) }
+    ensures none { result ≡ None → AreFullBelow page.now end }
 {
-    for at in from..end {
+    for at in 0..end {
         if marks(page, at) != 255 {
             return Some(at);
         }
@@ -71,62 +61,29 @@ fn first_in(page: &[u8], at: usize) -> PageNo
 }
 
 /// The lowest free page, or the end where none before it is free.
-fn lowest(from: PageNo, end: PageNo, page: &[u8]) -> PageNo
+fn lowest(end: PageNo, page: &[u8]) -> PageNo
     requires few { end ≤ MOST_PAGES }
-    ensures taken { AreTakenBelow from (taken_in page.now) → AreTakenBelow result (taken_in page.now) }
+    ensures taken { AreTakenBelow result (taken_in page.now) }
     ensures small { result ≤ end }
     ensures free { result < end → IsFree (taken_in page.now) result }
 {
-    match first_open(page, from as usize / 8, (end as usize + 7) / 8) {
+    match first_open(page, (end as usize + 7) / 8) {
         None => end,
         Some(at) => first_in(page, at).min(end),
     }
 }
 
-impl Search {
-    /// A search that begins at the first page that can be free.
-    pub fn new() -> Search
-        ensures { (page : List ℕ) → AreTakenBelow result.from (taken_in page) }
-    {
-        Search { from: 3 }
+/// Where a page can be had, by the bytes of page 0, where so many pages are counted. It takes no memory.
+pub fn next_free_on(counted: u32, page: &[u8]) -> NextFree
+    ensures { IsNextFree counted (taken_in page.now) result }
+{
+    let end = counted.min(MOST_PAGES);
+    let found = lowest(end, page);
+    if found < end {
+        return NextFree::Page(found);
     }
-
-    /// The next free page, by the bytes of page 0, where so many pages are counted. The next search
-    /// begins where this one ended. It takes no memory.
-    pub fn next_free(&mut self, counted: u32, page: &[u8]) -> NextFree
-        // It is the lowest where no page is free below the first that is looked at.
-        ensures next { AreTakenBelow self.old.from (taken_in page.now) → IsNextFree counted (taken_in page.now) result }
-        ensures right { AreTakenBelow self.old.from (taken_in page.now) → AreTakenBelow self.new.from (taken_in page.now) }
-        ensures ended { self.new.from ≡ search_end counted result }
-    {
-        let end = counted.min(MOST_PAGES);
-        let found = lowest(self.from, end, page);
-        self.from = found;
-        if found < end {
-            return NextFree::Page(found);
-        }
-        if counted < MOST_PAGES {
-            return NextFree::Grow;
-        }
-        NextFree::Full
+    if counted < MOST_PAGES {
+        return NextFree::Grow;
     }
-
-    /// A page is free again: the next search begins no later than there.
-    pub fn freed(&mut self, p: PageNo)
-        ensures bytes { (page : List ℕ) (byte : ℕ) → p / 8 < length page → IsBitSet (p % 8) false (slice_index page (p / 8)) byte
-            → AreTakenBelow self.old.from (taken_in page) → AreTakenBelow self.new.from (taken_in (put_over (p / 8) (byte ∷ []) page)) }
-        // The same of an area.
-        ensures area { (area : Area) → AreTakenBelow self.old.from area.taken → AreTakenBelow self.new.from (with_taken p false area).taken }
-    {
-        self.from = self.from.min(p);
-    }
+    NextFree::Full
 }
-
-/// Where a page is allocated, no page below is free that wasn't: a search may begin where the last one
-/// ended.
-pub fn search_goes_on()
-    ensures bytes { (page : List ℕ) (from p byte : ℕ) → p / 8 < length page → IsBitSet (p % 8) true (slice_index page (p / 8)) byte
-        → AreTakenBelow from (taken_in page) → AreTakenBelow from (taken_in (put_over (p / 8) (byte ∷ []) page)) }
-    // The same of an area.
-    ensures area { (area : Area) (from p : ℕ) → AreTakenBelow from area.taken → AreTakenBelow from (with_taken p true area).taken }
-{}

@@ -6,6 +6,14 @@ use Rattle.ctr_page.specs.declared.walk.BadChain.TheVariants.{OnPage, TooLong}
 use Rattle.ctr_page.specs.declared.rows.Place.{Place}
 use Rattle.ctr_page.specs.Reading.{header_in}
 use Rattle.ctr_page.specs.Walking.{most_in_chain}
+use Rattle.std.specs.Prelude.{IfOk, IfSome}
+use Rattle.ctr_disk.specs.declared.fault.StoreFault.{StoreFault}
+use Rattle.ctr_page.specs.declared.checks.Chain.{Chain}
+use Rattle.ctr_page.specs.Damage.{chain_entry}
+use Rattle.ctr_area.specs.Reading.{area_of}
+use Rattle.ctr_area.specs.Checked.{kinds_at}
+use Rattle.ctr_walk.specs.Damage.{EndsTold}
+use Rattle.ctr_walk.specs.Tables.{EndsByKinds, chain_sought, first_of_chain, EndsChain}
 use Rattle.ctr_walk.specs.Along.{ChainSought, EndsPage, EndsAlong}
 
 module _ (s : ChainSought) (pages : ℕ → List ℕ) where
@@ -26,3 +34,28 @@ module _ (s : ChainSought) (pages : ℕ → List ℕ) where
 
   pub too_long : (left last p most : ℕ) → left ≡ 0 → most ≡ most_in_chain s.counted → p ≢ 0 → EndsAlong s pages left last p (Err (TooLong last most))
   too_long left last p most is long some = subst (λ n. EndsAlong s pages n last p (Err (TooLong last most))) (sym is) (inr (some, ap (λ m. Err (TooLong last m)) long))
+
+  -- what is found is found on its page
+  pub found_there : (left last p : ℕ) (at : Place) → EndsAlong s pages left last p (Ok (Some at)) → s.ends (pages at.page) (Ok (Some at.slot))
+  found_there zero last p at (inl end) = absurd (let f = end.1 in cc)
+  found_there zero last p at (inr long) = absurd (let f = long.1 in cc)
+  found_there (suc n) last p at (inl end) = absurd (let f = end.1 in cc)
+  found_there (suc n) last p at (inr (some, inl (k, ends, is))) =
+      let there : Place = record { page = p; slot = k } in
+      let same : there ≡ at = cc is in
+      subst (λ (q : Place). s.ends (pages q.page) (Ok (Some q.slot))) same (behind_header (pages p) k ends)
+    where
+      behind_header : (page : List ℕ) (k : ℕ) → EndsPage s page (Ok (Some k)) → s.ends page (Ok (Some k))
+      behind_header page k (inl (bad, fails, is)) = absurd (let f = is in cc)
+      behind_header page k (inr ends) = ends.1
+  found_there (suc n) last p at (inr (some, inr (inl (bad, ends, is)))) = absurd cc
+  found_there (suc n) last p at (inr (some, inr (inr (ends, rest)))) = found_there n p (header_in (pages p)).next at rest
+
+-- and so is what the search of a chain tells
+module _ (told : BadChain → StoreFault) (counted : ℕ) (pages : ℕ → List ℕ) (chain : Chain) (ends : EndsByKinds) (P : Place → Type 0)
+    (holds : (at : Place) → ends (kinds_at (area_of pages) (chain_entry chain)) counted (pages at.page) (Ok (Some at.slot)) → P at) where
+  pub told_there : (result : Result (Option Place) StoreFault) → EndsTold told (EndsChain counted pages chain ends) result → IfOk result (λ found. IfSome found P)
+  told_there (Ok None) is = tt
+  told_there (Ok (Some at)) (inl (bad, fails, is)) = absurd (let f = is in cc)
+  told_there (Ok (Some at)) (inr along) = holds at (found_there (chain_sought pages counted chain ends) pages (most_in_chain counted) 0 (first_of_chain (area_of pages) chain) at along.1)
+  told_there (Err e) is = tt

@@ -1,5 +1,5 @@
 -- A call that reads pages of a store and then logs one record.
-use Rattle.std.specs.Prelude.{◌≡◌, ◌⊎◌, ◌-◌, ◌^◌, ◌<◌, ◌≤◌, ℕ, length, false, true, IsTrue, [], ◌∷◌, Result, Ok, Err, IfOk, IfErr, OnOk, OnErr}
+use Rattle.std.specs.Prelude.{◌≡◌, ◌⊎◌, ◌-◌, ◌^◌, ◌<◌, ◌≤◌, ℕ, false, true, IsTrue, [], ◌∷◌, Result, Ok, Err, IfOk, IfErr, OnOk, OnErr}
 use Rattle.ctr_types.specs.Faults.{HasFault}
 use Rattle.ctr_disk.specs.declared.disk.Disk.{Ghosts}
 use Rattle.ctr_disk.specs.Image.{Image}
@@ -9,6 +9,7 @@ use Rattle.ctr_records.specs.declared.record.Record.{Record}
 use Rattle.ctr_records.specs.declared.decoding.BadRecord.{BadRecord}
 use Rattle.ctr_base.specs.Base.{IsSoundImage}
 use Rattle.ctr_store.specs.RecordChecks.{record_damage}
+use Rattle.ctr_store.specs.declared.store.TheConstants.{TURN_BYTES}
 use Rattle.ctr_store.specs.Store.{View, LeavesFront, MovesOn, Logs, unmet_need, RefusesUnfit, TakesRecord}
 
 -- There is room for one record more, and for the transactions and items that it adds to the tables.
@@ -16,7 +17,7 @@ pub record HasRoomForOne {D : Type 0} (opens items : ℕ) (v : View D) : Type 0 
   pub going : v.stopped ≡ false
   pub opens_fit : opens ≤ v.meta.opens_room
   pub items_fit : items ≤ v.meta.items_room
-  pub room : 5000 ≤ v.room
+  pub room : TURN_BYTES ≤ v.room
   pub number : v.next < 2 ^ 63 - 1
 
 -- the record doesn't fit the tables: that is told by the row that it fails, at the place in the log

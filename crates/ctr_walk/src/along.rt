@@ -7,6 +7,7 @@ ghost use Rattle.ctr_page.specs.Walking.{most_in_chain};
 ghost use Rattle.ctr_records.specs.declared.decoding.BadRecord.{BadRecord};
 ghost use Rattle.ctr_walk.specs.Along.{LooksAt, EndsAlong};
 ghost use Rattle.ctr_walk.specs.Damage.{searched, EndsOnPage};
+ghost use Rattle.ctr_store.specs.Parts.{MayCount};
 ghost use Rattle.ctr_store.specs.Store.{LeavesPage};
 ghost use Rattle.ctr_types.specs.declared.value.Kind.{Kind as KindOfColumn};
 
@@ -61,7 +62,7 @@ fn look<D: Disk, O: Origin, S: PageSought>(
     sought: &S,
 ) -> Result<(Option<u16>, PageNo), SearchFault>
     requires going { store.old.stopped ≡ false }
-    requires inside { (at < counted) × (counted ≤ 30000) }
+    requires inside { (at < counted) × MayCount counted }
     requires few { length kinds.now ≤ 7 }
     ensures looks { WhereSound O.first D.Disk (IfOk (searched result) (EndsOnPage at (LooksAt (record { chain = chain; counted = counted; ends = S.ends sought.now kinds.now counted }) (pages_in store.old.now at)))) }
     ensures next { IfOk result (λ x. x.1 < counted) }
@@ -83,7 +84,7 @@ pub(crate) fn search_pages<D: Disk, O: Origin, S: PageSought>(
 ) -> Result<Option<Place>, SearchFault>
     requires going { store.old.stopped ≡ false }
     requires some { first ≢ 0 }
-    requires inside { (first < counted) × (64 ≤ counted) × (counted ≤ 30000) }
+    requires inside { (first < counted) × MayCount counted }
     requires few { length kinds.now ≤ 7 }
     ensures ends { WhereSound O.first D.Disk (IfOk (searched result) (EndsAlong (record { chain = chain; counted = counted; ends = S.ends sought.now kinds.now counted }) (pages_in store.old.now) (most_in_chain counted) 0 first)) }
     ensures inside { IfOk result (λ found. IfSome found (λ at. at.page < counted)) }

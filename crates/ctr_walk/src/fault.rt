@@ -1,6 +1,6 @@
 // Why a search on pages of a store has no answer.
 ghost use Rattle.std.specs.Prelude.{◌≡◌};
-ghost use Rattle.ctr_walk.specs.declared.fault.SearchFault.TheVariants.{Store as StoreFailed, Bad};
+ghost use Rattle.ctr_walk.specs.declared.fault.SearchFault.TheVariants.{Store as StoreFailed};
 ghost use Rattle.ctr_walk.specs.Damage.{found_on};
 
 use ctr_disk::StoreFault;
@@ -21,14 +21,6 @@ impl From<StoreFault> for SearchFault {
 
     fn from(fault: StoreFault) -> SearchFault {
         SearchFault::Store(fault)
-    }
-}
-
-impl From<BadChain> for SearchFault {
-    ghost from_gives = { λ bad f. f ≡ Bad bad };
-
-    fn from(bad: BadChain) -> SearchFault {
-        SearchFault::Bad(bad)
     }
 }
 

@@ -38,11 +38,11 @@ fn entry_of(chain: Chain) -> u8
     }
 }
 
-/// The page of the catalog that this entry stands on.
-fn page_of(chain: Chain) -> PageNo
-    ensures { result ≡ 1 + chain_entry chain / 16 }
+/// The page of the catalog that an entry stands on.
+pub fn catalog_page(entry: u8) -> PageNo
+    ensures { result ≡ 1 + entry / 16 }
 {
-    1 + (entry_of(chain) / 16) as PageNo
+    1 + (entry / 16) as PageNo
 }
 
 /// The first page of a chain, by its table's entry; 0 for none.
@@ -95,7 +95,7 @@ fn pages_of<D: Disk, O: Origin>(
     ensures fits { IfOk result (λ found. IfSome found (PagesFit counted)) }
     ensures leaves { LeavesPage O.first D.Disk store.old store.new (searched result) }
 {
-    let at = page_of(chain);
+    let at = catalog_page(entry_of(chain));
     let page = store.page(at)?;
     found_on(at, pages_said(chain, counted, page))
 }
@@ -107,12 +107,12 @@ fn search_table<D: Disk, O: Origin, S: PageSought>(
     sought: &S,
 ) -> Result<Option<Place>, SearchFault>
     requires going { store.old.stopped ≡ false }
-    requires counted { (64 ≤ store.old.now.counted) × (store.old.now.counted ≤ 30000) }
     requires there { IsChain chain }
     ensures ends { WhereSound O.first D.Disk (IfOk (searched result) (EndsChain store.old.now.counted (pages_in store.old.now) chain (S.ends sought.now))) }
     ensures inside { IfOk result (λ found. IfSome found (λ at. at.page < store.old.now.counted)) }
     ensures leaves { LeavesPage O.first D.Disk store.old store.new (searched result) }
 {
+    store.counts_pages();
     let counted = store.counted();
     let Some(pages) = pages_of(store, chain, counted)? else {
         return Ok(None);
@@ -129,7 +129,6 @@ pub fn search_chain<D: Disk, O: Origin, S: PageSought>(
     sought: &S,
 ) -> Result<Option<Place>, StoreFault>
     requires going { store.old.stopped ≡ false }
-    requires counted { (64 ≤ store.old.now.counted) × (store.old.now.counted ≤ 30000) }
     requires there { IsChain chain }
     // Damage is of the table's entry or of the first page at which the search ends so, and is told where that stands in the file of pages.
     ensures ends { WhereSound O.first D.Disk (EndsTold (damage_told D.Disk store.new) (EndsChain store.old.now.counted (pages_in store.old.now) chain (S.ends sought.now)) result) }

@@ -15,7 +15,7 @@ use Rattle.ctr_alloc.proofs.allocating.alloc.Goals as goal
 pub log_record-requires : goal.log_record-requires
 log_record-requires g c =
     subst (λ (r : Record). MayLog r c.byte_with.new.store) (sym (ap (λ (o : Overlay). Alloc c.args.x c.args.p o) c.over_bits.ensures))
-    (may_still (alloc_record c.args.x c.args.p c.in_ok-byte.byte) c.args.store.now c.byte_with.new.store c.in_ok-byte.ensures.leaves.keeps c.in_ok-byte.ensures.leaves.going (alloc_may c.args.store.now c.args.p c.in_ok-byte.byte c.requires.small c.requires.counted c.args.x c.ranges.x.fits c.requires.room))
+    (may_still (alloc_record c.args.x c.args.p c.in_ok-byte.byte) c.args.store.now c.byte_with.new.store c.in_ok-byte.ensures.leaves.keeps c.in_ok-byte.ensures.leaves.going (alloc_may c.args.store.now c.args.p c.in_ok-byte.byte c.requires.small c.counts_pages.ensures.0 c.args.x c.ranges.x.fits c.requires.room))
 
 pub returns-in_err-byte-clause-one : goal.returns-in_err-byte-clause-one
 returns-in_err-byte-clause-one g c =

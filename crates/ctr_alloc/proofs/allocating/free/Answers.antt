@@ -15,7 +15,7 @@ use Rattle.ctr_alloc.proofs.allocating.free.Goals as goal
 pub log_record-requires : goal.log_record-requires
 log_record-requires g c =
     subst (λ (r : Record). MayLog r c.byte_with.new.store) (sym (ap (λ (o : Overlay). Free c.args.p o) c.over_bits.ensures))
-    (may_still (free_record c.args.p c.in_ok-byte.byte) c.args.store.now c.byte_with.new.store c.in_ok-byte.ensures.leaves.keeps c.in_ok-byte.ensures.leaves.going (free_may c.args.store.now c.args.p c.in_ok-byte.byte c.requires.small c.requires.counted c.requires.room))
+    (may_still (free_record c.args.p c.in_ok-byte.byte) c.args.store.now c.byte_with.new.store c.in_ok-byte.ensures.leaves.keeps c.in_ok-byte.ensures.leaves.going (free_may c.args.store.now c.args.p c.in_ok-byte.byte c.requires.small c.counts_pages.ensures.0 c.requires.room))
 
 pub returns-in_err-byte-clause-one : goal.returns-in_err-byte-clause-one
 returns-in_err-byte-clause-one g c =

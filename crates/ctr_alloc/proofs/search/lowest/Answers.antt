@@ -5,11 +5,11 @@ use Rattle.ctr_alloc.proofs.BitLaws.{taken_to, taken_all, free_by}
 use Rattle.ctr_alloc.proofs.search.lowest.Goals as goal
 
 pub returns-in-None-clause-taken : goal.returns-in-None-clause-taken
-returns-in-None-clause-taken c = λ right. taken_all c.args.page.now c.args.from c.args.end ((c.args.end + 7) / 8) right refl (c.in-None.ensures.none refl)
+returns-in-None-clause-taken c = taken_all c.args.page.now c.args.end ((c.args.end + 7) / 8) refl (c.in-None.ensures.none refl)
 
 pub returns-in-Some-clause-taken : goal.returns-in-Some-clause-taken
-returns-in-Some-clause-taken c = λ right q third lt.
-    taken_to c.args.page.now c.args.from c.in-Some.at c.first_in.result right c.in-Some.ensures.found.1 c.first_in.ensures.place c.first_in.ensures.first q third (omega (arith, lt, c.min.ensures))
+returns-in-Some-clause-taken c = λ q third lt.
+    taken_to c.args.page.now c.in-Some.at c.first_in.result c.in-Some.ensures.found.1 c.first_in.ensures.place c.first_in.ensures.first q third (omega (arith, lt, c.min.ensures))
 
 pub returns-in-Some-clause-free : goal.returns-in-Some-clause-free
 returns-in-Some-clause-free c = λ lt.

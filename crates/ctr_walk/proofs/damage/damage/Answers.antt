@@ -1,4 +1,4 @@
-use Rattle.std.proofs.Common.{sym, subst, ◌∙◌, Ok, Err}
+use Rattle.std.proofs.Common.{sym, subst, Err}
 use Rattle.std.specs.Prelude.{⊤}
 use Rattle.ctr_disk.specs.declared.fault.StoreFault.{StoreFault}
 use Rattle.ctr_walk.specs.Damage.{ReadsPages}
