@@ -41,8 +41,9 @@ slot_laid slot payload n into rest is fits number begins =
     ∙ ap (λ w. slot_bytes w slot) width
 
 module _ {D : Type 0} (v : View D) (x : ℕ) (low : x < 2 ^ 64) where
-  pub format_may : (p : ℕ) (h : Header) → p < 30000 → p < v.now.counted → HasRoomForOne 0 0 v → MayLog (format_record x p h) v
-  format_may p h small counted room =
+  pub format_may : (p : ℕ) (h : Header) → v.now.counted ≤ 30000 → p < v.now.counted → HasRoomForOne 0 0 v → MayLog (format_record x p h) v
+  format_may p h most counted room =
+      let small : p < 30000 = omega (arith, most, counted) in
       one_may (format_record x p h) 0 0 v room
       (record {
         record_is = record { first = omega (arith, low); second = omega (arith, small); overlay = (refl, omega (arith, small), omega (arith, length-header h), omega (arith, length-header h)) };
@@ -50,9 +51,10 @@ module _ {D : Type 0} (v : View D) (x : ℕ) (low : x < 2 ^ 64) where
       })
       tt counted (omega arith) (omega arith) tt
 
-  pub row_may : (over : ℕ) (at : Place) (slot : RowSlot) → over < 2 ^ 64 → LiesOnPage at slot → at.page < 30000 → at.page < v.now.counted → heads_in x v.meta.tables.opens < 2 ^ 64 - 1
+  pub row_may : (over : ℕ) (at : Place) (slot : RowSlot) → over < 2 ^ 64 → LiesOnPage at slot → v.now.counted ≤ 30000 → at.page < v.now.counted → heads_in x v.meta.tables.opens < 2 ^ 64 - 1
       → HasRoomForOne 0 0 v → MayLog (row_record x over at slot) v
-  row_may over at slot other lies small counted heads room =
+  row_may over at slot other lies most counted heads room =
+      let small : at.page < 30000 = omega (arith, most, counted) in
       one_may (row_record x over at slot) 0 0 v room
       (record {
         record_is = record { first = omega (arith, low); second = omega (arith, other); overlay = (refl, omega (arith, small), omega (arith, long), inside) };
@@ -66,7 +68,7 @@ module _ {D : Type 0} (v : View D) (x : ℕ) (low : x < 2 ^ 64) where
       inside : start_of (slot_size (slot_width slot)) at.slot + length (slot_bytes (slot_width slot) slot) ≤ 4096
       inside = subst (λ n. start_of (slot_size (slot_width slot)) at.slot + n ≤ 4096) (sym long) lies.inside
 
-  pub front_may : (p e : ℕ) (bucket : Option ℕ) → p < 30000 → e < 32 → 2 < v.now.counted → IfSome bucket (λ b. b < 8) → HasRoomForOne 0 0 v → MayLog (front_record x p e bucket) v
+  pub front_may : (p e : ℕ) (bucket : Option ℕ) → p < 30000 → e < 32 → 64 ≤ v.now.counted → IfSome bucket (λ b. b < 8) → HasRoomForOne 0 0 v → MayLog (front_record x p e bucket) v
   front_may p e None small few counted there room =
       one_may (front_record x p e None) 0 0 v room
       (record {

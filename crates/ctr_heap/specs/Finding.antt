@@ -3,8 +3,11 @@ use Rattle.std.specs.Prelude.{◌≡◌, ℕ, ℤ, false, true, List, slice_inde
 use Rattle.ctr_page.specs.declared.checks.Chain.TheVariants.{Rows}
 use Rattle.ctr_page.specs.declared.walk.BadChain.{BadChain}
 use Rattle.ctr_page.specs.declared.rows.Place.{Place}
+use Rattle.ctr_page.specs.Places.{slot_size, room_for}
+use Rattle.ctr_page.specs.Columns.{kinds_width}
 use Rattle.ctr_area.specs.Areas.{Area}
 use Rattle.ctr_area.specs.Chains.{places_from}
+use Rattle.ctr_area.specs.Checked.{kinds_at}
 use Rattle.ctr_area.specs.Sound.{IsAmong, IsUsedSlot, AreKeyed}
 use Rattle.ctr_walk.specs.Along.{ChainSought}
 use Rattle.ctr_walk.specs.Tables.{chain_sought, EndsChain}
@@ -28,6 +31,10 @@ EndsBucket counted pages e bucket sought result =
 -- the first page of a bucket, by its number; 0 for none
 abbrev pub first_of_bucket : Area → ℕ → ℕ → ℕ
 first_of_bucket area e bucket = slice_index (area.firsts e).buckets bucket
+
+-- how many slots a page of a table has
+abbrev pub slots_on_page : Area → ℕ → ℕ
+slots_on_page area e = room_for (slot_size (kinds_width (kinds_at area e)))
 
 -- The search tells a used slot of the table that has the key; or no slot has it, where each key is
 -- in its bucket.

@@ -6,7 +6,7 @@ ghost use Rattle.ctr_page.specs.Places.{bucket_of as bucket_by};
 ghost use Rattle.ctr_record_effects.specs.States.{pages_in, area_in};
 ghost use Rattle.ctr_heap.specs.declared.slots.SlotSought.TheVariants.{Key as KeySought, Free as FreeSought};
 ghost use Rattle.ctr_walk.specs.Damage.{damage_told, EndsTold, ReadsPages};
-ghost use Rattle.ctr_heap.specs.Finding.{EndsBucket, FindsKey, FindsFree};
+ghost use Rattle.ctr_heap.specs.Finding.{EndsBucket, FindsKey, FindsFree, slots_on_page};
 
 use crate::found::{a_search_tells_a_free_slot, a_search_tells_the_key};
 use crate::slots::SlotSought;
@@ -24,17 +24,18 @@ pub fn find<D: Disk, O: Origin>(
     key: i64,
 ) -> Result<Option<Place>, StoreFault>
     requires going { store.old.stopped ≡ false }
-    requires counted { (64 ≤ store.old.now.counted) × (store.old.now.counted ≤ 30000) }
     requires there { entry < 32 }
     // Damage is of the table's entry or of the first page that fails its checks, and is told where that stands in the file of pages.
     ensures ends { WhereSound O.first D.Disk (EndsTold (damage_told D.Disk store.new) (EndsBucket store.old.now.counted (pages_in store.old.now) entry (bucket_by key) (KeySought key)) result) }
     // It is exactly the slot of the key.
     ensures finds { WhereSound O.first D.Disk (AreReadable (area_in store.old.now) → IfOk result (FindsKey (area_in store.old.now) entry key)) }
-    // It stands on a counted page.
+    // It stands on a counted page, among the slots that a page of the table has.
     ensures inside { IfOk result (λ found. IfSome found (λ at. at.page < store.old.now.counted)) }
+    ensures on_page { WhereSound O.first D.Disk (IfOk result (λ found. IfSome found (λ at. at.slot < slots_on_page (area_in store.old.now) entry))) }
     ensures leaves { ReadsPages O.first D.Disk store.old store.new result }
 {
     a_search_tells_the_key();
+    store.counts_pages();
     let bucket = bucket_of(key);
     search_chain(store, Chain::Rows { entry, bucket }, &SlotSought::Key(key))
 }
@@ -46,15 +47,16 @@ pub fn free_slot<D: Disk, O: Origin>(
     bucket: u8,
 ) -> Result<Option<Place>, StoreFault>
     requires going { store.old.stopped ≡ false }
-    requires counted { (64 ≤ store.old.now.counted) × (store.old.now.counted ≤ 30000) }
     requires there { (entry < 32) × (bucket < 8) }
     ensures ends { WhereSound O.first D.Disk (EndsTold (damage_told D.Disk store.new) (EndsBucket store.old.now.counted (pages_in store.old.now) entry bucket FreeSought) result) }
     // There is none exactly where all slots of the bucket's chain are used.
     ensures finds { WhereSound O.first D.Disk (AreReadable (area_in store.old.now) → IfOk result (FindsFree (area_in store.old.now) entry bucket)) }
-    // It stands on a counted page.
+    // It stands on a counted page, among the slots that a page of the table has.
     ensures inside { IfOk result (λ found. IfSome found (λ at. at.page < store.old.now.counted)) }
+    ensures on_page { WhereSound O.first D.Disk (IfOk result (λ found. IfSome found (λ at. at.slot < slots_on_page (area_in store.old.now) entry))) }
     ensures leaves { ReadsPages O.first D.Disk store.old store.new result }
 {
     a_search_tells_a_free_slot();
+    store.counts_pages();
     search_chain(store, Chain::Rows { entry, bucket }, &SlotSought::Free)
 }

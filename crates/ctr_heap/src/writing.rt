@@ -57,13 +57,13 @@ pub fn format<D: Disk, O: Origin>(
 ) -> Result<(), StoreFault>
     requires room { HasRoomForOne 0 0 store.old }
     requires counted { p < store.old.now.counted }
-    requires small { p < MOST_PAGES }
     requires fits { IsHeader header.now }
     ensures one { LogsOne O.first D.Disk (format_record x p header.now) store.old store.new result }
     // It has the header, nothing is used on it, and nothing else in the pages changes.
     ensures empty { WhereSound O.first D.Disk (3 ≤ p → OnOk result (area_in store.new.now ≡ with_blank p header.now (area_in store.old.now))) }
 {
     a_format_clears_its_page();
+    store.counts_pages();
     let bytes = header_made(header);
     let rec = Record::Format {
         x,
@@ -84,7 +84,7 @@ pub fn put_slot<D: Disk, O: Origin>(
 ) -> Result<(), StoreFault>
     requires room { HasRoomForOne 0 0 store.old }
     requires heads { heads_in x store.old.meta.tables.opens < 2 ^ 64 - 1 }
-    requires counted { (place.page < store.old.now.counted) × (place.page < MOST_PAGES) }
+    requires counted { place.page < store.old.now.counted }
     requires lies { LiesOnPage place slot.now }
     ensures one { LogsOne O.first D.Disk (row_record x over place slot.now) store.old store.new result }
     // The slot at the place is this one, and nothing else in the pages changes.
@@ -92,6 +92,7 @@ pub fn put_slot<D: Disk, O: Origin>(
         → OnOk result (area_in store.new.now ≡ with_slot place (slot_said (columns_on (pages_in store.old.now) place.page) slot.now) (area_in store.old.now))) }
 {
     a_slot_is_laid();
+    store.counts_pages();
     let w = slot.head.payload.as_slice().len();
     let mut bytes = [0; SLOT_MOST];
     let size = make_slot(w, slot, &mut bytes);
@@ -134,7 +135,6 @@ pub fn link<D: Disk, O: Origin>(
     bucket: Option<u8>,
 ) -> Result<(), StoreFault>
     requires room { HasRoomForOne 0 0 store.old }
-    requires counted { 2 < store.old.now.counted }
     requires small { p < MOST_PAGES }
     requires entry { entry < 32 }
     requires bucket { IfSome bucket (λ b. b < 8) }
@@ -144,6 +144,7 @@ pub fn link<D: Disk, O: Origin>(
         → OnOk result (area_in store.new.now ≡ with_firsts entry (with_front bucket p ((area_in store.old.now).firsts entry)) (area_in store.old.now))) }
 {
     a_link_changes_its_chain();
+    store.counts_pages();
     let bytes = number_made(p);
     let rec = Record::Link {
         x,

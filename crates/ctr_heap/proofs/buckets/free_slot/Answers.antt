@@ -1,11 +1,13 @@
+use Rattle.std.proofs.Common.{◌<◌}
 use Rattle.ctr_page.specs.declared.checks.Chain.TheVariants.{Rows}
 use Rattle.ctr_record_effects.specs.States.{pages_in, area_in}
 use Rattle.ctr_walk.specs.Damage.{damage_told}
+use Rattle.ctr_walk.proofs.Ends.{told_there}
 use Rattle.ctr_walk.proofs.Said.{told_finds}
 use Rattle.ctr_walk.proofs.Telling.{bounded}
 use Rattle.ctr_heap.specs.declared.slots.SlotSought.TheVariants.{Free}
 use Rattle.ctr_heap.specs.Slots.{EndsSlots}
-use Rattle.ctr_heap.specs.Finding.{FindsFree}
+use Rattle.ctr_heap.specs.Finding.{FindsFree, slots_on_page}
 use Rattle.ctr_heap.proofs.Telling.{free_told}
 use Rattle.ctr_heap.proofs.buckets.free_slot.Goals as goal
 
@@ -13,4 +15,10 @@ pub returns-clause-finds : goal.returns-clause-finds
 returns-clause-finds g c = λ told sound readable.
     let s = c.args.store.now.now in
     told_finds s.counted (pages_in s) (Rows c.args.entry c.args.bucket) (EndsSlots Free) (damage_told g.D.Disk c.search_chain.new.store) (FindsFree (area_in s) c.args.entry c.args.bucket) c.search_chain.result
-    (free_told (pages_in s) c.args.entry s.counted 0 readable (bounded s.counted c.requires.counted.1) c.args.bucket) (c.search_chain.ensures.ends told sound)
+    (free_told (pages_in s) c.args.entry s.counted 0 readable (bounded s.counted c.counts_pages.ensures.1) c.args.bucket) (c.search_chain.ensures.ends told sound)
+
+pub returns-clause-on_page : goal.returns-clause-on_page
+returns-clause-on_page g c = λ told sound.
+    let s = c.args.store.now.now in
+    told_there (damage_told g.D.Disk c.search_chain.new.store) s.counted (pages_in s) (Rows c.args.entry c.args.bucket) (EndsSlots Free) (λ at. at.slot < slots_on_page (area_in s) c.args.entry)
+    (λ at ends. ends.1) c.search_chain.result (c.search_chain.ensures.ends told sound)

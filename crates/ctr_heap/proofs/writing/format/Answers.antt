@@ -9,17 +9,17 @@ use Rattle.ctr_record_effects.specs.Changing.{laid_clear, format_record}
 use Rattle.ctr_store.specs.Store.{MayLog, Logs}
 use Rattle.ctr_walk.specs.OneRecord.{LogsOne}
 use Rattle.ctr_walk.proofs.Records.{both_ok}
-use Rattle.ctr_walk.proofs.Limits.{in_limit}
+use Rattle.ctr_walk.proofs.Limits.{below_limit}
 use Rattle.ctr_heap.proofs.OneRecord.{format_may}
 use Rattle.ctr_heap.proofs.writing.format.Goals as goal
 
 pub log_on_page-requires-clause-may : goal.log_on_page-requires-clause-may
 log_on_page-requires-clause-may g c =
     subst (λ (r : Record). MayLog r c.args.store.now) (sym (ap (λ (o : Overlay). Format c.args.x c.args.p o) (c.over_cleared.ensures ∙ ap (laid_clear c.args.p) c.header_made-bytes.ensures)))
-    (format_may c.args.store.now c.args.x c.ranges.x.fits c.args.p c.args.header.now c.requires.small c.requires.counted c.requires.room)
+    (format_may c.args.store.now c.args.x c.ranges.x.fits c.args.p c.args.header.now c.counts_pages.ensures.1 c.requires.counted c.requires.room)
 
 pub log_on_page-requires-clause-there : goal.log_on_page-requires-clause-there
-log_on_page-requires-clause-there g c = in_limit c.args.p c.requires.small
+log_on_page-requires-clause-there g c = below_limit c.args.p c.args.store.now.now.counted c.requires.counted c.counts_pages.ensures.1
 
 pub returns-clause-one : goal.returns-clause-one
 returns-clause-one g c =

@@ -22,7 +22,7 @@ log_on_page-requires-clause-may g c =
     let e = c.args.entry in
     let laid = c.over_entry.ensures ∙ (λ i. laid_in_entry e (c.front_at.ensures.place i) (c.number_made-bytes.ensures i)) in
     subst (λ (r : Record). MayLog r c.args.store.now) (sym (ap (λ (o : Overlay). Link x p o) laid ∙ front_is x p e c.args.bucket))
-    (front_may c.args.store.now x c.ranges.x.fits p e c.args.bucket c.requires.small c.requires.entry c.requires.counted c.requires.bucket c.requires.room)
+    (front_may c.args.store.now x c.ranges.x.fits p e c.args.bucket c.requires.small c.requires.entry c.counts_pages.ensures.0 c.requires.bucket c.requires.room)
 
 pub returns-clause-one : goal.returns-clause-one
 returns-clause-one g c =

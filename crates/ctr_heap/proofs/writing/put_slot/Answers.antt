@@ -10,12 +10,12 @@ use Rattle.ctr_record_effects.specs.States.{pages_in, area_in}
 use Rattle.ctr_record_effects.specs.Changing.{laid_on_place}
 use Rattle.ctr_store.specs.Store.{Logs}
 use Rattle.ctr_walk.proofs.Records.{both_ok}
-use Rattle.ctr_walk.proofs.Limits.{in_limit}
+use Rattle.ctr_walk.proofs.Limits.{below_limit}
 use Rattle.ctr_heap.proofs.OneRecord.{slot_laid}
 use Rattle.ctr_heap.proofs.writing.put_slot.Goals as goal
 
 pub log_on_page-requires-clause-there : goal.log_on_page-requires-clause-there
-log_on_page-requires-clause-there g c = in_limit c.args.place.page c.requires.counted.1
+log_on_page-requires-clause-there g c = below_limit c.args.place.page c.args.store.now.now.counted c.requires.counted c.counts_pages.ensures.1
 
 pub returns-clause-laid : goal.returns-clause-laid
 returns-clause-laid g c = λ told sound place.
