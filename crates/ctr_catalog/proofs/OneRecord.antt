@@ -1,21 +1,15 @@
 -- What may be logged where there is room for one record more.
-use Rattle.std.proofs.Common.{ℕ, ◌+◌, ◌/◌, ◌^◌, ◌<◌, ◌≤◌, List, length, refl, arith}
+use Rattle.std.proofs.Common.{ℕ, ◌^◌, ◌<◌, ◌≤◌, List, length, refl, arith}
 use Rattle.ctr_types.specs.declared.value.Column.{Column}
 use Rattle.ctr_bytes.proofs.FieldLaws.{length-spelled}
 use Rattle.ctr_value.specs.Columns.{ColumnsFit}
-use Rattle.ctr_redo.specs.States.{page_limit}
 use Rattle.ctr_area.proofs.Made.{length-new}
 use Rattle.ctr_record_effects.specs.Changing.{create_record, drop_record, uncreate_record, undrop_record}
 use Rattle.ctr_store.specs.Store.{View, MayLog}
 use Rattle.ctr_walk.specs.OneRecord.{HasRoomForOne}
 use Rattle.ctr_walk.proofs.Records.{one_may}
 
--- a page of the catalog is one that there may be
-pub catalog_in_limit : (e : ℕ) → e < 32 → 1 + e / 16 < page_limit
-unfolding page_limit
-catalog_in_limit e few = omega (arith, few)
-
-module _ {D : Type 0} (v : View D) (e : ℕ) (few : e < 32) (counted : 2 < v.now.counted) where
+module _ {D : Type 0} (v : View D) (e : ℕ) (few : e < 32) (counted : 64 ≤ v.now.counted) where
   module _ (x : ℕ) (low : x < 2 ^ 64) where
     pub create_may : (name : List ℕ) (cs : List Column) → length name ≤ 16 → ColumnsFit cs → HasRoomForOne 0 1 v → MayLog (create_record x e name cs) v
     create_may name cs short fits room =

@@ -1,5 +1,5 @@
 -- The table of a name that a snapshot sees, and whether one was changed since it was taken.
-use Rattle.std.specs.Prelude.{◌≡◌, ℕ, ◌+◌, ◌*◌, ◌/◌, ◌%◌, ◌==◌, ◌<◌, Bool, false, not, ◌&&◌, List, ⊤, Option, None, Some, Result, Ok, Err, if◌then◌else◌}
+use Rattle.std.specs.Prelude.{◌≡◌, ℕ, ◌+◌, ◌*◌, ◌/◌, ◌%◌, ◌<◌, Bool, false, not, ◌&&◌, List, ⊤, Option, None, Some, Result, Ok, Err, if◌then◌else◌}
 use Rattle.ctr_model.specs.State.{same_name}
 use Rattle.ctr_snap.specs.Seeing.{SnapshotTaken}
 use Rattle.ctr_records.specs.declared.decoding.BadRecord.{BadRecord}

@@ -8,7 +8,6 @@ ghost use Rattle.ctr_walk.specs.Damage.{damage_told, searched, EndsOnPage, EndsT
 ghost use Rattle.ctr_catalog.specs.Finding.{NamedSaid, stands_seen, change_since, is_made_so, change_made, checks_at, entry_seen, changed_in, EndsEntries, EndsEntry};
 
 use crate::entries::is_live_of;
-use crate::writing::page_of;
 use ctr_base::Origin;
 use ctr_disk::{Disk, StoreFault};
 use ctr_meta::{Meta, is_changed, is_seen};
@@ -16,7 +15,7 @@ use ctr_page::{BadPage, check_entry, read_entry};
 use ctr_snap::Snapshot;
 use ctr_store::Store;
 use ctr_types::{Name, Xid};
-use ctr_walk::{SearchFault, found_on, tell};
+use ctr_walk::{SearchFault, catalog_page, found_on, tell};
 
 /// Who made a table, and who dropped it, 0 for nobody.
 #[derive(Clone, Copy, Debug, PartialEq, Eq)]
@@ -56,7 +55,7 @@ fn named_at<D: Disk, O: Origin>(
     ensures said { WhereSound O.first D.Disk (IfOk (searched result) (EndsOnPage (1 + entry / 16) (NamedSaid counted name.now (entry % 16) (pages_in store.old.now (1 + entry / 16))))) }
     ensures leaves { LeavesPage O.first D.Disk store.old store.new (searched result) }
 {
-    let at = page_of(entry);
+    let at = catalog_page(entry);
     let page = store.page(at)?;
     found_on(at, named_in(name, entry % 16, counted, page))
 }
@@ -109,11 +108,11 @@ fn search_entries<D: Disk, O: Origin>(
     me: Option<Xid>,
 ) -> Result<Option<u8>, SearchFault>
     requires going { store.old.stopped ≡ false }
-    requires some { 0 < store.old.now.counted }
     ensures ends { WhereSound O.first D.Disk (IfOk (searched result) (EndsEntries (checks_at store.old.now.counted (pages_in store.old.now)) (entry_seen store.old.meta.tables snapshot.now me name.now (area_in store.old.now)))) }
     ensures inside { IfOk result (λ found. IfSome found (λ e. e < 32)) }
     ensures leaves { LeavesPage O.first D.Disk store.old store.new (searched result) }
 {
+    store.counts_pages();
     let counted = store.counted();
     for entry in 0..32 {
         let found = named_at(store, name, entry, counted)?;
@@ -134,7 +133,6 @@ pub fn find<D: Disk, O: Origin>(
     me: Option<Xid>,
 ) -> Result<Option<u8>, StoreFault>
     requires going { store.old.stopped ≡ false }
-    requires some { 0 < store.old.now.counted }
     ensures ends { WhereSound O.first D.Disk (EndsTold (damage_told D.Disk store.new) (EndsEntries (checks_at store.old.now.counted (pages_in store.old.now)) (entry_seen store.old.meta.tables snapshot.now me name.now (area_in store.old.now))) result) }
     // It is an entry of the catalog.
     ensures inside { IfOk result (λ found. IfSome found (λ e. e < 32)) }
@@ -152,11 +150,11 @@ fn change_of<D: Disk, O: Origin>(
     snapshot: &Snapshot,
 ) -> Result<Option<Xid>, SearchFault>
     requires going { store.old.stopped ≡ false }
-    requires some { 0 < store.old.now.counted }
     requires there { entry < 32 }
     ensures ends { WhereSound O.first D.Disk (IfOk (searched result) (EndsEntry (checks_at store.old.now.counted (pages_in store.old.now) entry) (changed_in store.old.meta.tables snapshot.now name.now (area_in store.old.now) entry) entry)) }
     ensures leaves { LeavesPage O.first D.Disk store.old store.new (searched result) }
 {
+    store.counts_pages();
     let counted = store.counted();
     let found = named_at(store, name, entry, counted)?;
     Ok(change_found(store.meta(), snapshot, found))
@@ -172,7 +170,6 @@ pub fn changed<D: Disk, O: Origin>(
     snapshot: &Snapshot,
 ) -> Result<Option<Xid>, StoreFault>
     requires going { store.old.stopped ≡ false }
-    requires some { 0 < store.old.now.counted }
     requires there { entry < 32 }
     ensures ends { WhereSound O.first D.Disk (EndsTold (damage_told D.Disk store.new) (EndsEntry (checks_at store.old.now.counted (pages_in store.old.now) entry) (changed_in store.old.meta.tables snapshot.now name.now (area_in store.old.now) entry) entry) result) }
     ensures leaves { ReadsPages O.first D.Disk store.old store.new result }

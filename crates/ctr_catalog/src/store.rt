@@ -35,11 +35,11 @@ fn free_on<D: Disk, O: Origin>(
 /// The lowest free entry of the catalog, or none; or the damage of the first entry that fails its checks.
 fn search_free<D: Disk, O: Origin>(store: &mut Store<D, O>) -> Result<Option<u8>, SearchFault>
     requires going { store.old.stopped ≡ false }
-    requires some { 0 < store.old.now.counted }
     ensures ends { WhereSound O.first D.Disk (IfOk (searched result) (EndsCatalog store.old.now.counted (pages_in store.old.now))) }
     ensures few { IfOk result (λ found. IfSome found (λ n. n < 32)) }
     ensures leaves { LeavesPage O.first D.Disk store.old store.new (searched result) }
 {
+    store.counts_pages();
     let counted = store.counted();
     if let Some(entry) = free_on(store, 1, counted)? {
         return Ok(Some(entry));
@@ -56,7 +56,6 @@ pub fn find_free_entry<D: Disk, O: Origin>(
     store: &mut Store<D, O>,
 ) -> Result<Option<u8>, StoreFault>
     requires going { store.old.stopped ≡ false }
-    requires some { 0 < store.old.now.counted }
     ensures ends { WhereSound O.first D.Disk (EndsTold (damage_told D.Disk store.new) (EndsCatalog store.old.now.counted (pages_in store.old.now)) result) }
     ensures few { IfOk result (λ found. IfSome found (λ n. n < 32)) }
     ensures leaves { ReadsPages O.first D.Disk store.old store.new result }

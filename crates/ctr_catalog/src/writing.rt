@@ -23,10 +23,10 @@ use ctr_record_effects::{
     a_drop_changes_its_title, a_new_table_has_its_entry, an_uncreate_changes_its_title,
     an_undrop_changes_its_title, over_entry, over_page,
 };
-use ctr_records::{PageNo, Record, SlogItem};
+use ctr_records::{Record, SlogItem};
 use ctr_store::Store;
 use ctr_types::{Name, Schema, Xid};
-use ctr_walk::{a_record_behind_a_page, log_on_page};
+use ctr_walk::{a_record_behind_a_page, catalog_page, log_on_page};
 
 /// Why no table was made.
 #[derive(Clone, Copy, Debug, PartialEq, Eq)]
@@ -42,13 +42,6 @@ const ENTRY: usize = 256;
 
 /// Where an entry has its dropper.
 const DROPPER_AT: u8 = 9;
-
-/// The page of the catalog that an entry stands on.
-pub(crate) fn page_of(entry: u8) -> PageNo
-    ensures { result ≡ 1 + entry / 16 }
-{
-    1 + (entry / 16) as PageNo
-}
 
 /// The bytes of the entry of a new table.
 fn entry_made(x: Xid, name: &Name, schema: &Schema) -> [u8; ENTRY]
@@ -76,21 +69,21 @@ fn log_created<D: Disk, O: Origin>(
     schema: &Schema,
 ) -> Result<(), StoreFault>
     requires room { HasRoomForOne 0 1 store.old }
-    requires counted { 2 < store.old.now.counted }
     requires there { entry < 32 }
     requires fits { ColumnsFit schema.now.columns }
     ensures one { LogsOne O.first D.Disk (create_record x entry name.now schema.now.columns) store.old store.new result }
     ensures made { WhereSound O.first D.Disk (OnOk result (ChangesEntry entry (new_title x name.now schema.now.columns) empty_chains (area_in store.old.now) (area_in store.new.now))) }
 {
     a_new_table_has_its_entry();
+    store.counts_pages();
     has_room(name);
     let bytes = entry_made(x, name, schema);
     let rec = Record::Create {
         x,
         e: entry,
-        overlay: over_page(page_of(entry), 256 * (entry % 16) as u16, &bytes),
+        overlay: over_page(catalog_page(entry), 256 * (entry % 16) as u16, &bytes),
     };
-    log_on_page(store, page_of(entry), &rec)
+    log_on_page(store, catalog_page(entry), &rec)
 }
 
 /// Makes a table for a transaction, in the lowest free entry of the catalog, by one record, which isn't hardened yet; it answers the
@@ -102,7 +95,6 @@ pub fn create<D: Disk, O: Origin>(
     schema: &Schema,
 ) -> Result<u8, CatalogRefusal>
     requires room { HasRoomForOne 0 1 store.old }
-    requires counted { 2 < store.old.now.counted }
     requires fits { ColumnsFit schema.now.columns }
     // CatalogFull comes exactly where no entry is free.
     ensures ends { WhereSound O.first D.Disk (EndsMaking (damage_told D.Disk store.new) (λ e. create_record x e name.now schema.now.columns) store.old store.new result) }
@@ -139,54 +131,54 @@ pub fn drop_table<D: Disk, O: Origin>(
     entry: u8,
 ) -> Result<(), StoreFault>
     requires room { HasRoomForOne 0 1 store.old }
-    requires counted { 2 < store.old.now.counted }
     requires there { entry < 32 }
     ensures one { LogsOne O.first D.Disk (drop_record x entry) store.old store.new result }
     // The transaction is its dropper, and nothing else in the pages changes.
     ensures dropped { WhereSound O.first D.Disk (OnOk result (area_in store.new.now ≡ with_title entry (record ((area_in store.old.now).title entry) { dropper = x }) (area_in store.old.now))) }
 {
     a_drop_changes_its_title();
+    store.counts_pages();
     let bytes = number_made(x);
     let rec = Record::Drop {
         x,
         e: entry,
         overlay: over_entry(entry, DROPPER_AT, &bytes),
     };
-    log_on_page(store, page_of(entry), &rec)
+    log_on_page(store, catalog_page(entry), &rec)
 }
 
 /// The table of an entry was never made: it is dead.
 fn uncreate<D: Disk, O: Origin>(store: &mut Store<D, O>, entry: u8) -> Result<(), StoreFault>
     requires room { HasRoomForOne 0 0 store.old }
-    requires counted { 2 < store.old.now.counted }
     requires there { entry < 32 }
     ensures one { LogsOne O.first D.Disk (uncreate_record entry) store.old store.new result }
     ensures dead { WhereSound O.first D.Disk (((area_in store.old.now).title entry).state ≢ 0
         → OnOk result (area_in store.new.now ≡ with_title entry (record ((area_in store.old.now).title entry) { state = 2 }) (area_in store.old.now))) }
 {
     an_uncreate_changes_its_title();
+    store.counts_pages();
     let rec = Record::Uncreate {
         e: entry,
         overlay: over_entry(entry, 0, &[2]),
     };
-    log_on_page(store, page_of(entry), &rec)
+    log_on_page(store, catalog_page(entry), &rec)
 }
 
 /// Nobody dropped the table of an entry.
 fn undrop<D: Disk, O: Origin>(store: &mut Store<D, O>, entry: u8) -> Result<(), StoreFault>
     requires room { HasRoomForOne 0 0 store.old }
-    requires counted { 2 < store.old.now.counted }
     requires there { entry < 32 }
     ensures one { LogsOne O.first D.Disk (undrop_record entry) store.old store.new result }
     ensures kept { WhereSound O.first D.Disk (OnOk result (area_in store.new.now ≡ with_title entry (record ((area_in store.old.now).title entry) { dropper = 0 }) (area_in store.old.now))) }
 {
     an_undrop_changes_its_title();
+    store.counts_pages();
     let bytes = number_made(0);
     let rec = Record::Undrop {
         e: entry,
         overlay: over_entry(entry, DROPPER_AT, &bytes),
     };
-    log_on_page(store, page_of(entry), &rec)
+    log_on_page(store, catalog_page(entry), &rec)
 }
 
 /// Undoes an item of the secondary log, by one record, which isn't hardened yet: a page is free again, a table that was made is dead, one
@@ -196,7 +188,6 @@ pub fn undo_item<D: Disk, O: Origin>(
     item: &SlogItem,
 ) -> Result<(), StoreFault>
     requires room { HasRoomForOne 0 0 store.old }
-    requires counted { 2 < store.old.now.counted }
     requires fits { ItemFits item.now }
     ensures one { (byte : ℕ) × LogsOne O.first D.Disk (undo_record item.now byte) store.old store.new result }
     // What the item says of one page or one title is undone, and nothing else in the pages changes.

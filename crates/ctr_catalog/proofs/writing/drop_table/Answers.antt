@@ -10,16 +10,17 @@ use Rattle.ctr_record_effects.specs.States.{area_in}
 use Rattle.ctr_store.specs.Store.{MayLog, Logs}
 use Rattle.ctr_walk.specs.OneRecord.{LogsOne}
 use Rattle.ctr_walk.proofs.Records.{both_ok}
-use Rattle.ctr_catalog.proofs.OneRecord.{catalog_in_limit, drop_may}
+use Rattle.ctr_walk.proofs.Limits.{catalog_in_limit}
+use Rattle.ctr_catalog.proofs.OneRecord.{drop_may}
 use Rattle.ctr_catalog.proofs.writing.drop_table.Goals as goal
 
 pub log_on_page-requires-clause-may : goal.log_on_page-requires-clause-may
 log_on_page-requires-clause-may g c =
     subst (λ (r : Record). MayLog r c.args.store.now) (sym (ap (λ (o : Overlay). Drop c.args.x c.args.entry o) (c.over_entry.ensures ∙ ap (laid_in_entry c.args.entry 9) c.number_made-bytes.ensures)))
-    (drop_may c.args.store.now c.args.entry c.requires.there c.requires.counted c.args.x c.ranges.x.fits c.requires.room)
+    (drop_may c.args.store.now c.args.entry c.requires.there c.counts_pages.ensures.0 c.args.x c.ranges.x.fits c.requires.room)
 
 pub log_on_page-requires-clause-there : goal.log_on_page-requires-clause-there
-log_on_page-requires-clause-there g c = subst (λ (p : ℕ). p < page_limit) (sym c.page_of.ensures) (catalog_in_limit c.args.entry c.requires.there)
+log_on_page-requires-clause-there g c = subst (λ (p : ℕ). p < page_limit) (sym c.catalog_page.ensures) (catalog_in_limit c.args.entry c.requires.there)
 
 pub returns-clause-one : goal.returns-clause-one
 returns-clause-one g c =
@@ -35,4 +36,4 @@ returns-clause-dropped g c = λ told sound.
     (area_in c.log_on_page.new.store.now ≡ with_title e (record ((area_in s).title e) { dropper = c.args.x }) (area_in s))
     (λ logs whole. ap area_in logs.now ∙ c.a_drop_changes_its_title.ensures s c.args.x e whole c.requires.there (let low = c.ranges.x.fits in omega (arith, low)))
     ((returns-clause-one g c).logs told sound)
-    (subst (λ (p : ℕ). OnOk c.log_on_page.result (length (page_at p s.pages) ≡ 4096)) c.page_of.ensures (c.log_on_page.ensures.whole told sound))
+    (subst (λ (p : ℕ). OnOk c.log_on_page.result (length (page_at p s.pages) ≡ 4096)) c.catalog_page.ensures (c.log_on_page.ensures.whole told sound))

@@ -11,23 +11,24 @@ use Rattle.ctr_record_effects.specs.Changing.{laid_at, create_record}
 use Rattle.ctr_store.specs.Store.{MayLog, Logs}
 use Rattle.ctr_walk.specs.OneRecord.{LogsOne}
 use Rattle.ctr_walk.proofs.Records.{both_ok}
-use Rattle.ctr_catalog.proofs.OneRecord.{catalog_in_limit, create_may}
+use Rattle.ctr_walk.proofs.Limits.{catalog_in_limit}
+use Rattle.ctr_catalog.proofs.OneRecord.{create_may}
 use Rattle.ctr_catalog.proofs.writing.log_created.Goals as goal
 
 pub log_on_page-requires-clause-may : goal.log_on_page-requires-clause-may
 log_on_page-requires-clause-may g c =
     let e = c.args.entry in
-    let laid = c.over_page.ensures ∙ (λ i. laid_at (c.page_of.ensures i) (256 * (e % 16)) (c.entry_made-bytes.ensures i)) in
+    let laid = c.over_page.ensures ∙ (λ i. laid_at (c.catalog_page.ensures i) (256 * (e % 16)) (c.entry_made-bytes.ensures i)) in
     subst (λ (r : Record). MayLog r c.args.store.now) (sym (ap (λ (o : Overlay). Create c.args.x e o) laid))
-    (create_may c.args.store.now e c.requires.there c.requires.counted c.args.x c.ranges.x.fits c.args.name.now c.args.schema.now.columns c.has_room.ensures.1 c.requires.fits c.requires.room)
+    (create_may c.args.store.now e c.requires.there c.counts_pages.ensures.0 c.args.x c.ranges.x.fits c.args.name.now c.args.schema.now.columns c.has_room.ensures.1 c.requires.fits c.requires.room)
 
 pub log_on_page-requires-clause-there : goal.log_on_page-requires-clause-there
-log_on_page-requires-clause-there g c = subst (λ (p : ℕ). p < page_limit) (sym c.page_of-2.ensures) (catalog_in_limit c.args.entry c.requires.there)
+log_on_page-requires-clause-there g c = subst (λ (p : ℕ). p < page_limit) (sym c.catalog_page-2.ensures) (catalog_in_limit c.args.entry c.requires.there)
 
 pub returns-clause-one : goal.returns-clause-one
 returns-clause-one g c =
     let e = c.args.entry in
-    let laid = c.over_page.ensures ∙ (λ i. laid_at (c.page_of.ensures i) (256 * (e % 16)) (c.entry_made-bytes.ensures i)) in
+    let laid = c.over_page.ensures ∙ (λ i. laid_at (c.catalog_page.ensures i) (256 * (e % 16)) (c.entry_made-bytes.ensures i)) in
     subst (λ (r : Record). LogsOne g.O.Origin.first g.D.Disk r c.args.store.now c.log_on_page.new.store c.log_on_page.result)
     (ap (λ (o : Overlay). Create c.args.x e o) laid) c.log_on_page.ensures.one
 
@@ -44,4 +45,4 @@ returns-clause-made g c = λ told sound.
     (λ logs whole. subst (λ (a : Area). ChangesEntry e (new_title x name columns) empty_chains (area_in s) a) (sym (ap area_in logs.now))
     (c.a_new_table_has_its_entry.ensures s x e name columns whole c.requires.there (let low = c.ranges.x.fits in omega (arith, low)) c.has_room.ensures.1 c.requires.fits))
     ((returns-clause-one g c).logs told sound)
-    (subst (λ (p : ℕ). OnOk c.log_on_page.result (length (page_at p s.pages) ≡ 4096)) c.page_of-2.ensures (c.log_on_page.ensures.whole told sound))
+    (subst (λ (p : ℕ). OnOk c.log_on_page.result (length (page_at p s.pages) ≡ 4096)) c.catalog_page-2.ensures (c.log_on_page.ensures.whole told sound))
