@@ -26,8 +26,9 @@ pub blank_is : (w : ℕ) → IsEntry w (blank_entry w)
 blank_is w = record { used = omega arith; key = omega arith; version = (omega arith, omega arith, length-replicate w 0); older = (omega arith, omega arith) }
 
 module _ {D : Type 0} (v : View D) (x : ℕ) (low : x < 2 ^ 64) where
-  pub keep_may : (at : Place) (entry : VersionEntry) → EntryLies at entry → at.page < 30000 → at.page < v.now.counted → HasRoomForOne 0 0 v → MayLog (keep_record x at entry) v
-  keep_may at entry lies small counted room =
+  pub keep_may : (at : Place) (entry : VersionEntry) → EntryLies at entry → v.now.counted ≤ 30000 → at.page < v.now.counted → HasRoomForOne 0 0 v → MayLog (keep_record x at entry) v
+  keep_may at entry lies most counted room =
+      let small : at.page < 30000 = omega (arith, most, counted) in
       one_may (keep_record x at entry) 0 0 v room
       (record {
         record_is = record { first = omega (arith, low); second = omega arith; overlay = (refl, omega (arith, small), omega (arith, long), inside) };
@@ -42,8 +43,9 @@ module _ {D : Type 0} (v : View D) (x : ℕ) (low : x < 2 ^ 64) where
       inside = subst (λ n. start_of (kept_size (entry_width entry)) at.slot + n ≤ 4096) (sym long) lies.inside
 
 module _ {D : Type 0} (v : View D) where
-  pub blank_may : (at : Place) (w : ℕ) → w ≤ 2048 → start_of (kept_size w) at.slot + kept_size w ≤ 4096 → at.page < 30000 → at.page < v.now.counted → HasRoomForOne 0 0 v → MayLog (blank_record at w) v
-  blank_may at w narrow fits small counted room =
+  pub blank_may : (at : Place) (w : ℕ) → w ≤ 2048 → start_of (kept_size w) at.slot + kept_size w ≤ 4096 → v.now.counted ≤ 30000 → at.page < v.now.counted → HasRoomForOne 0 0 v → MayLog (blank_record at w) v
+  blank_may at w narrow fits most counted room =
+      let small : at.page < 30000 = omega (arith, most, counted) in
       one_may (blank_record at w) 0 0 v room
       (record {
         record_is = record { first = omega arith; second = omega arith; overlay = (refl, omega (arith, small), omega (arith, long), inside) };

@@ -40,8 +40,33 @@ pub chain_ok : {A B : Type 0} (r : Result A BadChain) (f : A → Result B BadCha
 chain_ok (Ok x) f y e = (x, refl, e)
 chain_ok (Err d) f y e = absurd cc
 
-pub behind_catalog : (counted p : ℕ) → there_check counted p ≡ Ok tt → 3 ≤ p
-behind_catalog counted p e = ltb-false p 3 (guard_ok (nat_lt p 3) (wrong 0 3 p) (at_most 0 (counted - 1) p) tt e).0
+-- a page that is there is counted, has its header, and is behind the catalog
+pub is_there : (header : Result ⊤ BadRecord) (counted p : ℕ) → there_check header counted p ≡ Ok tt → (p ≤ counted - 1) × (header ≡ Ok tt) × (3 ≤ p)
+is_there header counted p e =
+    let last : ⊤ → Result ⊤ BadRecord = λ _. cond (nat_lt p 3) (Err (wrong 0 3 p)) (Ok tt) in
+    let low = bind_ok (at_most 0 (counted - 1) p) (λ _. header >>= last) tt e in
+    let passes = bind_ok header last tt low.2 in
+    (most_ok 0 (counted - 1) p low.1, passes.1, ltb-false p 3 (guard_ok (nat_lt p 3) (wrong 0 3 p) (Ok tt) tt passes.2).0)
+
+-- so there may be one
+pub within : (header : Result ⊤ BadRecord) (counted p : ℕ) → 0 < counted → counted ≤ 30000 → there_check header counted p ≡ Ok tt → p < 30000
+within header counted p some few is = let low = (is_there header counted p is).0 in omega (arith, low, some, few)
+
+-- what is checked of a page that isn't counted doesn't depend on what stands there
+pub by_there : (P : Result ⊤ BadRecord → Type 0) (header other : Result ⊤ BadRecord) (rest last : ⊤ → Result ⊤ BadRecord) (counted p : ℕ) → 0 < counted → counted ≤ 30000
+    → (p < 30000 → (there_check header counted p >>= rest) ≡ (there_check other counted p >>= last)) → P (there_check header counted p >>= rest) → P (there_check other counted p >>= last)
+by_there P header other rest last counted p some few same holds =
+    by (at_most 0 (counted - 1) p) refl
+  where
+    low : p ≤ counted - 1 → p < 30000
+    low le = omega (arith, le, some, few)
+
+    by : (r : Result ⊤ BadRecord) → at_most 0 (counted - 1) p ≡ r → P (there_check other counted p >>= last)
+    by (Ok x) is = subst P (same (low (most_ok 0 (counted - 1) p is))) holds
+    by (Err bad) is =
+        let one : (there_check header counted p >>= rest) ≡ Err bad = ap (λ (r : Result ⊤ BadRecord). (r >>= λ _. header >>= λ _. cond (nat_lt p 3) (Err (wrong 0 3 p)) (Ok tt)) >>= rest) is in
+        let two : (there_check other counted p >>= last) ≡ Err bad = ap (λ (r : Result ⊤ BadRecord). (r >>= λ _. other >>= λ _. cond (nat_lt p 3) (Err (wrong 0 3 p)) (Ok tt)) >>= last) is in
+        subst P (one ∙ sym two) holds
 
 -- what is behind the catalog has a header
 pub header_here : (pages : ℕ → List ℕ) (p : ℕ) → 3 ≤ p → header_on pages p ≡ header_in (pages p)
@@ -59,11 +84,8 @@ pub page_of_table : (kind counted : ℕ) (pages : ℕ → List ℕ) (p : ℕ) (t
 page_of_table kind counted pages p t said =
     let page = pages p in
     let owner = told_ok p (owner_check kind counted p page) (chain_ok (told_of p (owner_check kind counted p page)) (λ _. told_of (1 + owner_of page / 16) (catalog_check counted pages (owner_of page))) tt said.0).1 in
-    let f2 : ⊤ → Result ⊤ BadRecord = λ _. at_most 1 31 (field 1 1 page) in
-    let f1 : ⊤ → Result ⊤ BadRecord = λ _. expect 0 kind (field 1 0 page) >>= f2 in
-    let there = bind_ok (there_check counted p) f1 tt owner in
-    let is = bind_ok (expect 0 kind (field 1 0 page)) f2 tt there.2 in
-    let behind = behind_catalog counted p there.1 in
+    let is = is_there (expect 0 kind (field 1 0 page)) counted p (bind_ok (there_check (expect 0 kind (field 1 0 page)) counted p) (λ _. at_most 1 31 (field 1 1 page)) tt owner).1 in
+    let behind = is.2 in
     let header = header_here pages p behind in
     let named : (header_on pages p).entry ≡ t.entry = ap (λ (h : Header). h.entry) header ∙ sym said.1 in
     let same : kinds_said t ≡ kinds_of (columns_on pages p) = said.2 ∙ ap (λ e. kinds_of (columns_in (entry_bytes pages e))) (sym named) in
@@ -124,11 +146,10 @@ pub older_read : (counted : ℕ) (pages : ℕ → List ℕ) (e : ℕ) (q : Place
 unfolding header_check
 older_read counted pages e q is =
     let l = pages q.page in
-    let there = bind_ok (there_check counted q.page) (λ _. kept_on_check counted e (kinds_at (area_of pages) e) q.slot l) tt is in
-    let header = bind_ok (header_check (Versions e) counted l) _ tt there.2 in
-    let kind = bind_ok (expect 0 2 (field 1 0 l)) _ tt header.1 in
+    let there = is_there (header_check (Versions e) counted l) counted q.page (bind_ok (there_check (header_check (Versions e) counted l) counted q.page) (λ _. kept_on_check counted e (kinds_at (area_of pages) e) q.slot l) tt is).1 in
+    let kind = bind_ok (expect 0 2 (field 1 0 l)) _ tt there.1 in
     let entry = bind_ok (expect 1 e (field 1 1 l)) _ tt kind.2 in
-    let here = header_here pages q.page (behind_catalog counted q.page there.1) in
+    let here = header_here pages q.page there.2 in
     (ap (λ (h : Header). h.kind) here ∙ sym (expect_ok 0 2 (field 1 0 l) kind.1), ap (λ (h : Header). h.entry) here ∙ sym (expect_ok 1 e (field 1 1 l) entry.1))
 
 -- it has a place of its number

@@ -3,8 +3,11 @@ use Rattle.std.specs.Prelude.{◌≡◌, ℕ, false, true, List, Option, None, S
 use Rattle.ctr_page.specs.declared.checks.Chain.TheVariants.{Versions}
 use Rattle.ctr_page.specs.declared.walk.BadChain.{BadChain}
 use Rattle.ctr_page.specs.declared.rows.Place.{Place}
+use Rattle.ctr_page.specs.Places.{kept_size, room_for}
+use Rattle.ctr_page.specs.Columns.{kinds_width}
 use Rattle.ctr_area.specs.Areas.{Area}
 use Rattle.ctr_area.specs.Chains.{older_places}
+use Rattle.ctr_area.specs.Checked.{kinds_at}
 use Rattle.ctr_area.specs.Sound.{IsAmong}
 use Rattle.ctr_walk.specs.Tables.{EndsChain}
 use Rattle.ctr_pvs.specs.Entries.{EndsFree}
@@ -15,6 +18,10 @@ abbrev pub EndsVersions : ℕ → (ℕ → List ℕ) → ℕ → Result (Option 
 EndsVersions counted pages e result = EndsChain counted pages (Versions e) EndsFree result
 
 -- ---- in the area
+
+-- how many version entries a page of a table has
+abbrev pub entries_on_page : Area → ℕ → ℕ
+entries_on_page area e = room_for (kept_size (kinds_width (kinds_at area e)))
 
 -- The search tells a version entry of the table that isn't used; or all of them are used.
 abbrev pub FindsFreeEntry : Area → ℕ → Option Place → Type 0

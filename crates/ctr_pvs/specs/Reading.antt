@@ -56,7 +56,7 @@ WidthSaid counted t number page (Err bad) =
 -- the version entry at a place to which a chain of the table leads
 abbrev pub kept_at_check : ℕ → (ℕ → List ℕ) → ℕ → Place → Result ⊤ BadRecord
 kept_at_check counted pages e at =
-    there_check counted at.page
+    there_check (header_check (Versions e) counted (pages at.page)) counted at.page
     >>= λ _. kept_on_check counted e (kinds_at (area_of pages) e) at.slot (pages at.page)
 
 -- The version entry at a place: the table of its page, and then the version entry, by the table's

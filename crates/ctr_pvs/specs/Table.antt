@@ -16,17 +16,20 @@ use Rattle.ctr_pvs.specs.declared.table.TableOf.{TableOf}
 
 -- ---- checks, in the order in which they are told
 
--- the page is behind those of the catalog, and is counted
-abbrev pub there_check : ℕ → ℕ → Result ⊤ BadRecord
-there_check counted p = if nat_lt p 3 then Err (wrong 0 3 p) else at_most 0 (counted - 1) p
+-- The check of a page to which a pointer leads, whose header has this check: the page is counted,
+-- the header passes, and the page is behind those of the catalog.
+abbrev pub there_check : Result ⊤ BadRecord → ℕ → ℕ → Result ⊤ BadRecord
+there_check header counted p = do
+  there ← at_most 0 (counted - 1) p
+  passes ← header
+  if nat_lt p 3 then Err (wrong 0 3 p) else Ok tt
 
--- The check that a page is of the kind that is wanted, and names one of the 32 entries of the
+-- The check that a page is there, of the kind that is wanted, and names one of the 32 entries of the
 -- catalog.
 abbrev pub owner_check : ℕ → ℕ → ℕ → List ℕ → Result ⊤ BadRecord
-owner_check kind counted p page = do
-  there ← there_check counted p
-  is ← expect KIND_AT kind (field 1 KIND_AT page)
-  at_most OWNER_AT 31 (field 1 OWNER_AT page)
+owner_check kind counted p page =
+    there_check (expect KIND_AT kind (field 1 KIND_AT page)) counted p
+    >>= λ _. at_most OWNER_AT 31 (field 1 OWNER_AT page)
 
 -- the entry of a number on a page of the catalog passes, and isn't free
 abbrev pub named_check : ℕ → ℕ → List ℕ → Result ⊤ BadRecord

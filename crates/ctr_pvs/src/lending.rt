@@ -2,6 +2,7 @@
 ghost use Rattle.std.specs.Prelude.{◌≡◌, ◌≤◌, ◌<◌, ◌+◌, false, IfOk, length};
 ghost use Rattle.std.specs.Borrow.{sem};
 ghost use Rattle.std.specs.Io.BufRead.{Rests};
+ghost use Rattle.ctr_base.specs.declared.growing.TheConstants.{MOST_PAGES};
 ghost use Rattle.ctr_base.specs.Base.{WhereSound};
 ghost use Rattle.ctr_store.specs.Store.{LeavesPage};
 ghost use Rattle.ctr_store.specs.contracts.store.Store.{the_row as store-row};
@@ -101,7 +102,7 @@ fn check_kept<D: Disk, O: Origin>(
 ) -> Result<usize, SearchFault>
     requires going { store.old.stopped ≡ false }
     requires some { 0 < counted }
-    requires there { place.page < 30000 }
+    requires there { place.page < MOST_PAGES }
     requires few { table.now.count ≤ 7 }
     ensures said { WhereSound O.first D.Disk (IfOk (searched result) (EndsOnPage place.page (WidthSaid counted table.now place.slot (pages_in store.old.now place.page)))) }
     ensures fits { IfOk result (λ w. (w ≤ 2048) × (start_place (size_of_kept w) place.slot + size_of_kept w ≤ PAGE_SIZE)) }
@@ -114,11 +115,12 @@ fn check_kept<D: Disk, O: Origin>(
 // The width of a table's rows, by the place of a version entry that passes; or the first damage on the way to it.
 fn width_at<D: Disk, O: Origin>(store: &mut Store<D, O>, place: Place) -> Result<usize, SearchFault>
     requires going { store.old.stopped ≡ false }
-    requires counted { (place.page < store.old.now.counted) × (store.old.now.counted ≤ 30000) }
+    requires counted { place.page < store.old.now.counted }
     ensures ends { WhereSound O.first D.Disk (IfOk (searched result) (EndsAt (version_check_at store.old.now.counted (pages_in store.old.now) place) (pages_in store.old.now) place)) }
     ensures fits { IfOk result (λ w. (w ≤ 2048) × (start_place (size_of_kept w) place.slot + size_of_kept w ≤ PAGE_SIZE)) }
     ensures leaves { LeavesPage O.first D.Disk store.old store.new (searched result) }
 {
+    store.counts_pages();
     let counted = store.counted();
     let table = table_on(store, 2, place.page)?;
     check_kept(store, &table, counted, place)
@@ -131,7 +133,7 @@ fn lend<D: Disk, O: Origin>(
     w: usize,
 ) -> Result<LentVersion<'_>, StoreFault>
     requires going { store.old.stopped ≡ false }
-    requires there { place.page < 30000 }
+    requires there { place.page < MOST_PAGES }
     requires width { w ≤ 2048 }
     requires inside { start_place (size_of_kept w) place.slot + size_of_kept w ≤ PAGE_SIZE }
     ensures said { WhereSound O.first D.Disk (IfOk result (λ l. entry_lent l ≡ older_at w place.slot (pages_in store.old.now place.page))) }
@@ -149,13 +151,14 @@ pub fn version<D: Disk, O: Origin>(
     place: Place,
 ) -> Result<LentVersion<'_>, StoreFault>
     requires going { store.old.stopped ≡ false }
-    requires counted { (place.page < store.old.now.counted) × (store.old.now.counted ≤ 30000) }
+    requires counted { place.page < store.old.now.counted }
     ensures finds { WhereSound O.first D.Disk (IfOk result (IsKeptAt (pages_in store.old.now) place)) }
     // What is lent can be made.
     ensures fits { IfOk result (λ l. IsEntry (length l.payload.now) (entry_lent l)) }
     // Damage is told where it stands in the file of pages.
     ensures* after { sem 𝓛 (Rests (store-row D.row O.row D.Disk O.Origin) store.entry (λ new. LendsVersion O.first D.Disk place store.old new result)) }
 {
+    store.counts_pages();
     let found = width_at(store, place);
     let w = tell(store, found)?;
     lend(store, place, w)

@@ -14,5 +14,5 @@ pub use entries::free_entry_on;
 pub use lending::{LentVersion, version};
 pub use reading::{row_in, version_in};
 pub use search::find_free_entry;
-pub use table::{TableOf, catalog_page, check_there, table_on};
+pub use table::{TableOf, check_there, table_on};
 pub use writing::{free_entry, keep};

@@ -4,7 +4,7 @@ ghost use Rattle.ctr_base.specs.Base.{WhereSound};
 ghost use Rattle.ctr_area.specs.Sound.{AreReadable};
 ghost use Rattle.ctr_walk.specs.Damage.{damage_told, EndsTold, ReadsPages};
 ghost use Rattle.ctr_record_effects.specs.States.{pages_in, area_in};
-ghost use Rattle.ctr_pvs.specs.Along.{EndsVersions, FindsFreeEntry};
+ghost use Rattle.ctr_pvs.specs.Along.{EndsVersions, FindsFreeEntry, entries_on_page};
 
 use crate::entries::FreeEntry;
 use ctr_base::Origin;
@@ -20,15 +20,16 @@ pub fn find_free_entry<D: Disk, O: Origin>(
     entry: u8,
 ) -> Result<Option<Place>, StoreFault>
     requires going { store.old.stopped ≡ false }
-    requires counted { (64 ≤ store.old.now.counted) × (store.old.now.counted ≤ 30000) }
     requires there { entry < 32 }
     // Damage is of the table's entry or of the first page that fails its checks, and is told where that stands in the file of pages.
     ensures ends { WhereSound O.first D.Disk (EndsTold (damage_told D.Disk store.new) (EndsVersions store.old.now.counted (pages_in store.old.now) entry) result) }
     // There is none exactly where all version entries of the table are used.
     ensures finds { WhereSound O.first D.Disk (AreReadable (area_in store.old.now) → IfOk result (FindsFreeEntry (area_in store.old.now) entry)) }
-    // It stands on a counted page.
+    // It stands on a counted page, among the version entries that a page of the table has.
     ensures inside { IfOk result (λ found. IfSome found (λ at. at.page < store.old.now.counted)) }
+    ensures on_page { WhereSound O.first D.Disk (IfOk result (λ found. IfSome found (λ at. at.slot < entries_on_page (area_in store.old.now) entry))) }
     ensures leaves { ReadsPages O.first D.Disk store.old store.new result }
 {
+    store.counts_pages();
     search_chain(store, Chain::Versions { entry }, &FreeEntry)
 }

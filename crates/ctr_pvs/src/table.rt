@@ -1,5 +1,6 @@
 // The table that a page is of.
 ghost use Rattle.std.specs.Prelude.{◌≡◌, ◌≤◌, ◌<◌, ◌+◌, ◌*◌, ◌/◌, ◌%◌, false, IfOk, length, take};
+ghost use Rattle.ctr_base.specs.declared.growing.TheConstants.{MOST_PAGES};
 ghost use Rattle.ctr_base.specs.Base.{WhereSound};
 ghost use Rattle.ctr_store.specs.Store.{LeavesPage};
 ghost use Rattle.ctr_page.specs.declared.table.TheConstants.{PAGE_SIZE};
@@ -13,7 +14,7 @@ use ctr_page::{BadPage, check_entry, read_entry, read_header};
 use ctr_records::{BadRecord, PageNo, at_most, expect};
 use ctr_store::Store;
 use ctr_types::Kind;
-use ctr_walk::{SearchFault, found_on};
+use ctr_walk::{SearchFault, catalog_page, found_on};
 
 /// The bytes of an entry of the catalog.
 const ENTRY: u64 = 256;
@@ -42,11 +43,14 @@ impl TableOf {
     }
 }
 
-/// Checks that a page is behind those of the catalog, and is counted.
-pub fn check_there(counted: u32, p: PageNo) -> Result<(), BadPage>
+/// Checks a page to which a pointer leads, whose header has this check: the page is counted, the header passes, and the page is
+/// behind those of the catalog.
+pub fn check_there(header: Result<(), BadPage>, counted: u32, p: PageNo) -> Result<(), BadPage>
     requires some { 0 < counted }
-    ensures { result ≡ there_check counted p }
+    ensures { result ≡ there_check header counted p }
 {
+    at_most(0, (counted - 1) as u64, p as u64)?;
+    header?;
     if p < FIRST {
         return Err(BadRecord {
             at: 0,
@@ -54,7 +58,7 @@ pub fn check_there(counted: u32, p: PageNo) -> Result<(), BadPage>
             got: p as u128,
         });
     }
-    at_most(0, (counted - 1) as u64, p as u64)
+    Ok(())
 }
 
 /// The entry of the catalog that a page of a kind names, which is behind those of the catalog.
@@ -64,9 +68,8 @@ fn owner_in(kind: u8, counted: u32, p: PageNo, page: &[u8]) -> Result<u8, BadPag
     ensures said { OwnerSaid kind counted p page.now result }
     ensures few { IfOk result (λ e. e < 32) }
 {
-    check_there(counted, p)?;
     let header = read_header(page);
-    expect(0, kind as u128, header.kind as u128)?;
+    check_there(expect(0, kind as u128, header.kind as u128), counted, p)?;
     at_most(1, 31, header.entry as u64)?;
     Ok(header.entry)
 }
@@ -80,7 +83,7 @@ fn owner_on<D: Disk, O: Origin>(
 ) -> Result<u8, SearchFault>
     requires going { store.old.stopped ≡ false }
     requires some { 0 < counted }
-    requires there { p < 30000 }
+    requires there { p < MOST_PAGES }
     ensures said { WhereSound O.first D.Disk (IfOk (searched result) (EndsOnPage p (OwnerSaid kind counted p (pages_in store.old.now p)))) }
     ensures few { IfOk result (λ e. e < 32) }
     ensures leaves { LeavesPage O.first D.Disk store.old store.new (searched result) }
@@ -113,13 +116,6 @@ fn table_in(entry: u8, counted: u32, page: &[u8]) -> Result<TableOf, BadPage>
     })
 }
 
-/// The page of the catalog that an entry stands on.
-pub fn catalog_page(entry: u8) -> PageNo
-    ensures { result ≡ 1 + entry / 16 }
-{
-    1 + (entry / 16) as PageNo
-}
-
 /// The same of an entry of a store's catalog.
 fn table_at<D: Disk, O: Origin>(
     store: &mut Store<D, O>,
@@ -146,12 +142,12 @@ pub fn table_on<D: Disk, O: Origin>(
     p: PageNo,
 ) -> Result<TableOf, SearchFault>
     requires going { store.old.stopped ≡ false }
-    requires counted { store.old.now.counted ≤ 30000 }
     requires there { p < store.old.now.counted }
     ensures said { WhereSound O.first D.Disk (IfOk (searched result) (TableSaid kind store.old.now.counted (pages_in store.old.now) p)) }
     ensures fits { IfOk result TableFits }
     ensures leaves { LeavesPage O.first D.Disk store.old store.new (searched result) }
 {
+    store.counts_pages();
     let counted = store.counted();
     let entry = owner_on(store, kind, counted, p)?;
     table_at(store, entry, counted)

@@ -2,7 +2,6 @@
 ghost use Rattle.std.specs.Prelude.{◌≡◌, ◌≤◌, ◌<◌, ◌+◌, ℕ, false, OnOk, IfOk, length, take};
 ghost use Rattle.ctr_redo.specs.States.{page_at};
 ghost use Rattle.ctr_page.specs.Making.{kept_bytes};
-ghost use Rattle.ctr_model.specs.declared.limits.TheConstants.{MOST_PAGES};
 ghost use Rattle.ctr_base.specs.Base.{WhereSound};
 ghost use Rattle.ctr_page.specs.declared.table.TheConstants.{PAGE_SIZE};
 ghost use Rattle.ctr_page.specs.Places.{kept_size as size_of_kept, start_of as start_place};
@@ -46,7 +45,7 @@ pub fn keep<D: Disk, O: Origin>(
     version: &VersionEntry,
 ) -> Result<(), StoreFault>
     requires room { HasRoomForOne 0 0 store.old }
-    requires counted { (place.page < store.old.now.counted) × (place.page < MOST_PAGES) }
+    requires counted { place.page < store.old.now.counted }
     requires lies { EntryLies place version.now }
     ensures one { LogsOne O.first D.Disk (keep_record x place version.now) store.old store.new result }
     // The version entry at the place is this one, and nothing else in the pages changes.
@@ -56,6 +55,7 @@ pub fn keep<D: Disk, O: Origin>(
     ensures shows { WhereSound O.first D.Disk ((e : ℕ) → MayKeep store.old.now e place version.now → OnOk result (KeepsVersion e place version.now store.old.now store.new.now)) }
 {
     a_version_is_laid();
+    store.counts_pages();
     a_keep_shows_the_same();
     a_kept_version_is_spare();
     let w = version.version.payload.as_slice().len();
@@ -96,7 +96,7 @@ fn lay_blank<D: Disk, O: Origin>(
     w: usize,
 ) -> Result<(), StoreFault>
     requires room { HasRoomForOne 0 0 store.old }
-    requires counted { (place.page < store.old.now.counted) × (place.page < MOST_PAGES) }
+    requires counted { place.page < store.old.now.counted }
     requires narrow { w ≤ 2048 }
     requires inside { start_place (size_of_kept w) place.slot + size_of_kept w ≤ PAGE_SIZE }
     ensures one { LogsOne O.first D.Disk (blank_record place w) store.old store.new result }
@@ -105,6 +105,7 @@ fn lay_blank<D: Disk, O: Origin>(
     ensures whole { WhereSound O.first D.Disk (OnOk result (length (page_at place.page store.old.now.pages) ≡ PAGE_SIZE)) }
 {
     a_version_is_laid();
+    store.counts_pages();
     let size = kept_size(w);
     let bytes = blank_made(w);
     let rec = Record::Trim {
@@ -119,7 +120,7 @@ fn width_to_free<D: Disk, O: Origin>(
     place: Place,
 ) -> Result<usize, SearchFault>
     requires going { store.old.stopped ≡ false }
-    requires counted { (place.page < store.old.now.counted) × (store.old.now.counted ≤ 30000) }
+    requires counted { place.page < store.old.now.counted }
     ensures ends { WhereSound O.first D.Disk (IfOk (searched result) (EndsAt (drop_check store.old.now.counted (pages_in store.old.now) place) (pages_in store.old.now) place)) }
     ensures fits { IfOk result (λ w. (w ≤ 2048) × (start_place (size_of_kept w) place.slot + size_of_kept w ≤ PAGE_SIZE)) }
     ensures leaves { LeavesPage O.first D.Disk store.old store.new (searched result) }
@@ -137,7 +138,7 @@ pub fn free_entry<D: Disk, O: Origin>(
     place: Place,
 ) -> Result<(), StoreFault>
     requires room { HasRoomForOne 0 0 store.old }
-    requires counted { (place.page < store.old.now.counted) × (store.old.now.counted ≤ 30000) }
+    requires counted { place.page < store.old.now.counted }
     // Damage is told where it stands in the file of pages.
     ensures ends { WhereSound O.first D.Disk (EndsTold (damage_told D.Disk store.new) (λ r. r ≡ drop_check store.old.now.counted (pages_in store.old.now) place) result) }
     ensures one { DropsEntry O.first D.Disk place store.old store.new result }

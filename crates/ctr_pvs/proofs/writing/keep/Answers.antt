@@ -14,12 +14,12 @@ use Rattle.ctr_walk.proofs.Records.{both_ok}
 use Rattle.ctr_record_laws.specs.Owed.{OwedByKeep, IsSpareCopy}
 use Rattle.ctr_pvs.specs.Showing.{older_laid, KeepsVersion}
 use Rattle.ctr_pvs.proofs.OneRecord.{entry_laid}
-use Rattle.ctr_walk.proofs.Limits.{in_limit}
+use Rattle.ctr_walk.proofs.Limits.{below_limit}
 use Rattle.ctr_pvs.proofs.Showing.{shows_by}
 use Rattle.ctr_pvs.proofs.writing.keep.Goals as goal
 
 pub log_on_page-requires-clause-there : goal.log_on_page-requires-clause-there
-log_on_page-requires-clause-there g c = in_limit c.args.place.page c.requires.counted.1
+log_on_page-requires-clause-there g c = below_limit c.args.place.page c.args.store.now.now.counted c.requires.counted c.counts_pages.ensures.1
 
 pub returns-clause-kept : goal.returns-clause-kept
 returns-clause-kept g c = λ told sound place.

@@ -14,11 +14,11 @@ use Rattle.ctr_walk.specs.OneRecord.{LogsOne}
 use Rattle.ctr_walk.proofs.Records.{both_ok}
 use Rattle.ctr_pvs.specs.Writing.{blank_entry, blank_record}
 use Rattle.ctr_pvs.proofs.OneRecord.{blank_is, blank_may}
-use Rattle.ctr_walk.proofs.Limits.{in_limit}
+use Rattle.ctr_walk.proofs.Limits.{below_limit}
 use Rattle.ctr_pvs.proofs.writing.lay_blank.Goals as goal
 
 pub log_on_page-requires-clause-there : goal.log_on_page-requires-clause-there
-log_on_page-requires-clause-there g c = in_limit c.args.place.page c.requires.counted.1
+log_on_page-requires-clause-there g c = below_limit c.args.place.page c.args.store.now.now.counted c.requires.counted c.counts_pages.ensures.1
 
 pub log_on_page-requires-clause-may : goal.log_on_page-requires-clause-may
 log_on_page-requires-clause-may g c =
@@ -26,7 +26,7 @@ log_on_page-requires-clause-may g c =
     let w = c.args.w in
     let laid = c.over_place.ensures ∙ (λ i. laid_on_place at (c.kept_size-size.ensures.value i) (take (c.kept_size-size.ensures.value i) c.blank_made-bytes.result)) ∙ ap (laid_on_place at (kept_size w)) c.blank_made-bytes.ensures in
     subst (λ (r : Record). MayLog r c.args.store.now) (sym (ap (λ (o : Overlay). Trim o) laid))
-    (blank_may c.args.store.now at w c.requires.narrow c.requires.inside c.requires.counted.1 c.requires.counted.0 c.requires.room)
+    (blank_may c.args.store.now at w c.requires.narrow c.requires.inside c.counts_pages.ensures.1 c.requires.counted c.requires.room)
 
 pub returns-clause-one : goal.returns-clause-one
 returns-clause-one g c =
