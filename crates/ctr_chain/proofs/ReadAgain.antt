@@ -1,24 +1,26 @@
 -- The version that a search found passes its checks where it stands, and its row is the one that is seen.
 use Rattle.std.proofs.Common.{◌≡◌, ℕ, zero, suc, ◌<◌, ◌≤◌, cond, Bool, true, false, List, Option, None, Some, Result, Ok, Err, refl, sym, ◌∙◌, ap, subst, arith}
-use Rattle.std.specs.Prelude.{◌==◌}
+use Rattle.std.specs.Prelude.{◌==◌, ⊤}
 use Rattle.ctr_versions.proofs.Keys.{known}
 use Rattle.ctr_types.specs.declared.memory.OutOfMemory.{OutOfMemory}
 use Rattle.ctr_types.specs.declared.value.Row.{Row}
 use Rattle.ctr_bytes.specs.Following.{◌>>=◌}
 use Rattle.ctr_records.specs.declared.decoding.BadRecord.{BadRecord}
 use Rattle.ctr_records.proofs.Reading.{bind_ok}
+use Rattle.ctr_page.specs.declared.checks.Chain.TheVariants.{Versions}
 use Rattle.ctr_page.specs.declared.walk.BadChain.{BadChain}
 use Rattle.ctr_page.specs.declared.walk.BadChain.TheVariants.{TooLong}
 use Rattle.ctr_page.specs.declared.rows.Place.{Place}
 use Rattle.ctr_page.specs.Reading.{slot_at, older_at}
 use Rattle.ctr_page.specs.Columns.{kinds_width}
+use Rattle.ctr_page.specs.Damage.{header_check}
 use Rattle.ctr_area.specs.Areas.{Slot, Older, Area}
 use Rattle.ctr_area.specs.Reading.{area_of, columns_on}
 use Rattle.ctr_area.specs.Checked.{kinds_at}
 use Rattle.ctr_pvs.specs.declared.table.TableOf.{TableOf}
 use Rattle.ctr_pvs.specs.Table.{there_check, told_of, TableSaid}
 use Rattle.ctr_pvs.specs.Reading.{kinds_said, kept_on_check, row_on_check, kept_at_check, row_check_at}
-use Rattle.ctr_pvs.proofs.Told.{IsPageOf, page_of_table, told_ok, chain_ok}
+use Rattle.ctr_pvs.proofs.Told.{IsPageOf, page_of_table, told_ok, chain_ok, within}
 use Rattle.ctr_chain.specs.declared.seeking.Found.{Found}
 use Rattle.ctr_chain.specs.declared.seeking.VersionAt.{VersionAt}
 use Rattle.ctr_chain.specs.declared.seeking.VersionAt.TheVariants.{Head, Previous, Kept}
@@ -27,7 +29,6 @@ use Rattle.ctr_chain.specs.Reading.{place_of_version, found_check, row_there, Ro
 use Rattle.ctr_chain.specs.Seeking.{EntriesOf, most_entries, sought_along, xid_if_any, sought_in, entries_on, sought_at, version_found}
 use Rattle.ctr_chain.specs.Visible.{visible_row}
 use Rattle.ctr_chain.proofs.Chain.{row_found}
-use Rattle.ctr_chain.proofs.Looked.{within}
 use Rattle.ctr_chain.proofs.RowsSaid.{row_if, version_seen, head_same, previous_same, kept_same}
 use Rattle.ctr_chain.proofs.Slots.{row_told, slot_reads}
 use Rattle.ctr_chain.proofs.Steps.{kinds_read, reads}
@@ -111,18 +112,21 @@ module _ (sought : ℕ → Bool) (counted : ℕ) (pages : ℕ → List ℕ) (at 
         let behind = (chain_ok (row_check_at counted pages at) (λ _. sought_in sought (entries_on counted pages at.page) at.page (area.slot at)) (Some (record { xid = x; at = Kept p })) is).2 in
         ap (λ e. kept_at_check counted pages e p) said.1 ∙ in_passes sought (entries_on counted pages at.page) at.page (area.slot at) (record { xid = x; at = Kept p }) behind
 
+    abbrev header : Place → Result ⊤ BadRecord
+    header p = header_check (Versions t.entry) counted (pages p.page)
+
     -- so what was found is on a page that is there
     there : (v : VersionAt) → Is v → (place_of_version at v).page < 30000
     there Head is = omega (arith, below, few)
     there Previous is = omega (arith, below, few)
-    there (Kept p) is = within counted p.page some few (bind_ok (there_check counted p.page) (λ _. kept_on_check counted t.entry (kinds_at (area_of pages) t.entry) p.slot (pages p.page)) tt (entry_passes p is)).1
+    there (Kept p) is = within (header p) counted p.page some few (bind_ok (there_check (header p) counted p.page) (λ _. kept_on_check counted t.entry (kinds_at (area_of pages) t.entry) p.slot (pages p.page)) tt (entry_passes p is)).1
 
     passes : (v : VersionAt) → Is v → found_check counted t v (place_of_version at v).slot (pages (place_of_version at v).page) ≡ Ok tt
     passes Head is = slot_passes (Some (record { xid = x; at = Head })) is
     passes Previous is = slot_passes (Some (record { xid = x; at = Previous })) is
     passes (Kept p) is =
         ap (λ ks. kept_on_check counted t.entry ks p.slot (pages p.page)) said.2
-        ∙ (bind_ok (there_check counted p.page) (λ _. kept_on_check counted t.entry (kinds_at (area_of pages) t.entry) p.slot (pages p.page)) tt (entry_passes p is)).2
+        ∙ (bind_ok (there_check (header p) counted p.page) (λ _. kept_on_check counted t.entry (kinds_at (area_of pages) t.entry) p.slot (pages p.page)) tt (entry_passes p is)).2
 
     -- and its row is the one that the area has there
     row_is : (v : VersionAt) → Is v → row_if (version_found area at v) ≡ row_there v (kinds_said t) (place_of_version at v).slot (pages (place_of_version at v).page)

@@ -32,11 +32,12 @@ fn newest_found<D: Disk, O: Origin>(
     place: Place,
 ) -> Result<Option<Xid>, SearchFault>
     requires going { store.old.stopped ≡ false }
-    requires counted { (place.page < store.old.now.counted) × (64 ≤ store.old.now.counted) × (store.old.now.counted ≤ 30000) }
+    requires counted { place.page < store.old.now.counted }
     ensures ends { WhereSound O.first D.Disk (IfOk (searched result) (λ r. r ≡ xids_found (sought_at (is_committed_in store.old.meta.tables) store.old.now.counted (pages_in store.old.now) place))) }
     ensures finds { WhereSound O.first D.Disk (IfOk result (λ x. x ≡ first_xid (is_committed_in store.old.meta.tables) (chain_of (area_in store.old.now).older ((area_in store.old.now).slot place)))) }
     ensures leaves { LeavesPage O.first D.Disk store.old store.new (searched result) }
 {
+    store.counts_pages();
     let searched = seek(store, place, &Sought::Committed)?;
     Ok(xid_found(searched.found))
 }
@@ -49,7 +50,7 @@ pub fn newest<D: Disk, O: Origin>(
     place: Place,
 ) -> Result<Option<Xid>, StoreFault>
     requires going { store.old.stopped ≡ false }
-    requires counted { (place.page < store.old.now.counted) × (64 ≤ store.old.now.counted) × (store.old.now.counted ≤ 30000) }
+    requires counted { place.page < store.old.now.counted }
     // Damage is of the first on the way that fails its checks, or of a chain that is too long, and is told where that stands in the file.
     ensures ends { WhereSound O.first D.Disk (EndsTold (damage_told D.Disk store.new) (λ r. r ≡ xids_found (sought_at (is_committed_in store.old.meta.tables) store.old.now.counted (pages_in store.old.now) place)) result) }
     // It is the first of the row's chain that is committed.

@@ -1,6 +1,8 @@
 // The transactions of the versions of a row, as they are read.
 ghost use Rattle.std.specs.Prelude.{◌≡◌, ◌≤◌, ◌<◌, false, IfOk, length};
 ghost use Rattle.ctr_base.specs.Base.{WhereSound};
+ghost use Rattle.ctr_base.specs.declared.growing.TheConstants.{MOST_PAGES};
+ghost use Rattle.ctr_store.specs.Parts.{MayCount};
 ghost use Rattle.ctr_store.specs.Store.{LeavesPage};
 ghost use Rattle.ctr_page.specs.declared.table.TheConstants.{PAGE_SIZE};
 ghost use Rattle.ctr_record_effects.specs.States.{pages_in};
@@ -9,7 +11,7 @@ ghost use Rattle.ctr_chain.specs.Looking.{xid_there, look_of_slot, look_of_entry
 
 use ctr_base::Origin;
 use ctr_disk::Disk;
-use ctr_page::{BadPage, Place, RowSlot, Version, VersionEntry};
+use ctr_page::{BadPage, Chain, Place, RowSlot, Version, VersionEntry, check_header};
 use ctr_pvs::{TableOf, check_there, row_in, version_in};
 use ctr_store::Store;
 use ctr_types::Xid;
@@ -93,7 +95,7 @@ pub(crate) fn look_at_row<D: Disk, O: Origin>(
 ) -> Result<SlotLook, SearchFault>
     requires going { store.old.stopped ≡ false }
     requires some { 0 < counted }
-    requires there { place.page < 30000 }
+    requires there { place.page < MOST_PAGES }
     requires few { table.now.count ≤ 7 }
     ensures looks { WhereSound O.first D.Disk (IfOk (searched result) (EndsOnPage place.page (LooksAtRow counted table.now place.slot (pages_in store.old.now place.page)))) }
     ensures leaves { LeavesPage O.first D.Disk store.old store.new (searched result) }
@@ -113,7 +115,8 @@ fn entry_looked(
     requires whole { length page.now ≡ PAGE_SIZE }
     ensures { LooksAtEntry counted table.now place page.now result }
 {
-    check_there(counted, place.page)?;
+    let header = check_header(Chain::Versions { entry: table.entry }, counted, page);
+    check_there(header, counted, place.page)?;
     let entry = version_in(table, counted, place.slot, page)?;
     Ok(look_of_entry(&entry))
 }
@@ -126,7 +129,7 @@ pub(crate) fn look_at_entry<D: Disk, O: Origin>(
     place: Place,
 ) -> Result<KeptLook, SearchFault>
     requires going { store.old.stopped ≡ false }
-    requires some { (0 < counted) × (counted ≤ 30000) }
+    requires some { MayCount counted }
     requires few { table.now.count ≤ 7 }
     ensures looks { WhereSound O.first D.Disk (IfOk (searched result) (EndsOnPage place.page (LooksAtEntry counted table.now place (pages_in store.old.now place.page)))) }
     ensures leaves { LeavesPage O.first D.Disk store.old store.new (searched result) }

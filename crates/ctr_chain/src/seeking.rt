@@ -1,6 +1,7 @@
 // The search through the versions of a row.
 ghost use Rattle.std.specs.Prelude.{◌≡◌, ◌≢◌, ◌≤◌, ◌<◌, ◌*◌, false, IfOk};
 ghost use Rattle.ctr_base.specs.Base.{WhereSound};
+ghost use Rattle.ctr_store.specs.Parts.{MayCount};
 ghost use Rattle.ctr_store.specs.Store.{LeavesPage};
 ghost use Rattle.ctr_record_effects.specs.States.{pages_in, area_in};
 ghost use Rattle.ctr_page.specs.Columns.{kinds_width as width_of_kinds};
@@ -94,7 +95,7 @@ fn found_in(sought: &Sought, meta: &Meta, look: SlotLook) -> Option<Option<Found
 /// The most version entries that a chain of a table can have: as many as fit on the counted pages.
 fn most_entries(table: &TableOf, counted: u32) -> u32
     requires few { table.now.count ≤ 7 }
-    requires counted { (64 ≤ counted) × (counted ≤ 30000) }
+    requires counted { MayCount counted }
     ensures value { result ≡ most_in_chain counted * room_of (size_of_kept (width_of_kinds (kinds_said table.now))) }
     ensures some { 0 < result }
 {
@@ -113,7 +114,7 @@ fn seek_along<D: Disk, O: Origin>(
 ) -> Result<Option<Found>, SearchFault>
     requires going { store.old.stopped ≡ false }
     requires some { from.page ≢ 0 }
-    requires counted { (64 ≤ counted) × (counted ≤ 30000) }
+    requires counted { MayCount counted }
     requires few { table.now.count ≤ 7 }
     ensures ends { WhereSound O.first D.Disk (kinds_said table.now ≡ kinds_at (area_in store.old.now) table.now.entry
         → IfOk (searched result) (λ r. r ≡ sought_along (sought_by store.old.meta.tables sought.now) (record { counted = counted; pages = pages_in store.old.now; entry = table.now.entry })
@@ -155,11 +156,12 @@ pub(crate) fn seek<D: Disk, O: Origin>(
     sought: &Sought,
 ) -> Result<Searched, SearchFault>
     requires going { store.old.stopped ≡ false }
-    requires counted { (place.page < store.old.now.counted) × (64 ≤ store.old.now.counted) × (store.old.now.counted ≤ 30000) }
+    requires counted { place.page < store.old.now.counted }
     ensures said { WhereSound O.first D.Disk (IfOk (searched result) (SearchSaid (sought_by store.old.meta.tables sought.now) store.old.now.counted (pages_in store.old.now) place)) }
     ensures fits { IfOk result (λ s. TableFits s.table) }
     ensures leaves { LeavesPage O.first D.Disk store.old store.new (searched result) }
 {
+    store.counts_pages();
     let counted = store.counted();
     let table = table_on(store, 1, place.page)?;
     let look = look_at_row(store, &table, counted, place)?;

@@ -49,11 +49,12 @@ fn visible_found<D: Disk, O: Origin>(
     me: Option<Xid>,
 ) -> Result<Given, SearchFault>
     requires going { store.old.stopped ≡ false }
-    requires counted { (place.page < store.old.now.counted) × (64 ≤ store.old.now.counted) × (store.old.now.counted ≤ 30000) }
+    requires counted { place.page < store.old.now.counted }
     ensures ends { WhereSound O.first D.Disk (IfOk (searched result) (EndsReading (sought_at (xid_is_seen store.old.meta.tables snapshot.now me) store.old.now.counted (pages_in store.old.now) place))) }
     ensures shows { WhereSound O.first D.Disk (IfOk result (GivesRow (visible_row (xid_is_seen store.old.meta.tables snapshot.now me) (area_in store.old.now) place))) }
     ensures leaves { LeavesPage O.first D.Disk store.old store.new (searched result) }
 {
+    store.counts_pages();
     let counted = store.counted();
     let searched = seek(store, place, &Sought::Seen { snapshot, me })?;
     let Some(found) = searched.found else {
@@ -73,7 +74,7 @@ pub fn visible<D: Disk, O: Origin>(
     me: Option<Xid>,
 ) -> Result<Option<Row>, ReadRefusal>
     requires going { store.old.stopped ≡ false }
-    requires counted { (place.page < store.old.now.counted) × (64 ≤ store.old.now.counted) × (store.old.now.counted ≤ 30000) }
+    requires counted { place.page < store.old.now.counted }
     // Damage is of the first on the way that fails its checks, or of a chain that is too long, and is told where that stands in the file.
     ensures ends { WhereSound O.first D.Disk (EndsTold (damage_told D.Disk store.new) (EndsReading (sought_at (xid_is_seen store.old.meta.tables snapshot.now me) store.old.now.counted (pages_in store.old.now) place)) (as_read result)) }
     // It is the row that the session sees. Memory runs out only where there is one.

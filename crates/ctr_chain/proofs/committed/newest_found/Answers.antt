@@ -21,4 +21,4 @@ returns-clause-finds g c = λ told sound.
     let a = c.args.store.now in
     let test = is_committed_in a.meta.tables in
     let found = c.in_ok-searched.searched.found in
-    c.xid_found.ensures ∙ xid_is_found test (area_in a.now) c.args.place found (row_found test a.now.counted (pages_in a.now) c.args.place found refl c.requires.counted.2 (c.in_ok-searched.ensures.said told sound).0)
+    c.xid_found.ensures ∙ xid_is_found test (area_in a.now) c.args.place found (row_found test a.now.counted (pages_in a.now) c.args.place found refl c.counts_pages.ensures.1 (c.in_ok-searched.ensures.said told sound).0)

@@ -1,4 +1,4 @@
-use Rattle.std.proofs.Common.{sym, subst}
+use Rattle.std.proofs.Common.{sym, subst, arith}
 use Rattle.std.specs.Prelude.{IfOk}
 use Rattle.ctr_record_effects.specs.States.{pages_in}
 use Rattle.ctr_walk.specs.Damage.{searched, EndsOnPage}
@@ -14,5 +14,5 @@ returns-clause-looks g c = λ told sound.
     let page = pages_in c.args.store.now.now at.page in
     let looks = LooksAtEntry c.args.counted c.args.table.now at page in
     subst (λ r. IfOk (searched r) (EndsOnPage at.page looks)) (sym c.found_on.ensures)
-    (ends_on at.page looks c.entry_looked.result (looks_on c.args.counted c.args.table.now at c.in_ok-page.page.now page c.entry_looked.result c.requires.some.0 c.requires.some.1
+    (ends_on at.page looks c.entry_looked.result (looks_on c.args.counted c.args.table.now at c.in_ok-page.page.now page c.entry_looked.result (let least = c.requires.some.0 in omega (arith, least)) c.requires.some.1
     (λ low. c.in_ok-page.ensures.shown told sound (in_limit at.page low)) c.entry_looked.ensures))

@@ -47,19 +47,19 @@ module _ (g : Over) (c : After-read_row g) where
   found told sound = (said told sound).0 ∙ ap (λ (o : Option Found). Ok o) c.in-Some.is
 
   some : 0 < s.counted
-  some = omega (arith, c.requires.counted.1)
+  some = let least = c.counts_pages.ensures.0 in omega (arith, least)
 
   -- what was read there, by the pages of the beginning
   read : IsTrue g.D.Disk.tells → IsSoundImage g.O.Origin.first → IfOk (searched c.read_row.result) (EndsOnPage from.page (RowSaidAt s.counted t c.in-Some.found.at from.slot (pages_in s from.page)))
   read told sound =
-      let low = found_there test s.counted (pages_in s) at t (said told sound).1 refl some c.requires.counted.2 c.requires.counted.0 c.in-Some.found (found told sound) in
+      let low = found_there test s.counted (pages_in s) at t (said told sound).1 refl some c.counts_pages.ensures.1 c.requires.counted c.in-Some.found (found told sound) in
       subst (λ n. IfOk (searched c.read_row.result) (EndsOnPage from.page (RowSaidAt n t c.in-Some.found.at from.slot (pages_in s from.page)))) c.counted-counted.ensures
       (subst (λ (st : State). IfOk (searched c.read_row.result) (EndsOnPage from.page (RowSaidAt c.counted-counted.result t c.in-Some.found.at from.slot (pages_in st from.page)))) (c.in_ok-searched.ensures.leaves.logs told sound).now
       (c.read_row.ensures.said told sound low))
 
   -- it isn't damaged, as it was checked on the way
   sound_there : IsTrue g.D.Disk.tells → IsSoundImage g.O.Origin.first → (bad : BadRecord) → RowSaidAt s.counted t c.in-Some.found.at from.slot (pages_in s from.page) (Err bad) → ⊥
-  sound_there told sound bad wrong = never_bad test s.counted (pages_in s) at t (said told sound).1 refl some c.requires.counted.2 c.requires.counted.0 c.in-Some.found (found told sound) bad wrong
+  sound_there told sound bad wrong = never_bad test s.counted (pages_in s) at t (said told sound).1 refl some c.counts_pages.ensures.1 c.requires.counted c.in-Some.found (found told sound) bad wrong
 
   ends : IsTrue g.D.Disk.tells → IsSoundImage g.O.Origin.first → IfOk (searched c.read_row.result) (EndsReading (sought_at test s.counted (pages_in s) at))
   ends told sound =
@@ -69,7 +69,7 @@ module _ (g : Over) (c : After-read_row g) where
   shows : IsTrue g.D.Disk.tells → IsSoundImage g.O.Origin.first → IfOk c.read_row.result (GivesRow (visible_row test (area_in s) at))
   shows told sound =
       ok_by from.page (RowSaidAt s.counted t c.in-Some.found.at from.slot (pages_in s from.page)) (GivesRow (visible_row test (area_in s) at)) c.read_row.result
-      (λ given read. gives_seen test s.counted (pages_in s) at t (said told sound).1 refl some c.requires.counted.2 c.requires.counted.0 c.in-Some.found (found told sound) given read) (read told sound)
+      (λ given read. gives_seen test s.counted (pages_in s) at t (said told sound).1 refl some c.counts_pages.ensures.1 c.requires.counted c.in-Some.found (found told sound) given read) (read told sound)
 
 pub returns-in_err-searched-clause-ends : goal.returns-in_err-searched-clause-ends
 returns-in_err-searched-clause-ends g c =
@@ -86,7 +86,7 @@ returns-in_default-clause-shows g c = λ told sound.
     let at = c.args.place in
     let test = xid_is_seen c.args.store.now.meta.tables c.args.snapshot.now c.args.me in
     let said = c.in_ok-searched.ensures.said told sound in
-    sym (nothing_seen test (area_in s) at (row_found test s.counted (pages_in s) at None refl c.requires.counted.2 (said.0 ∙ ap (λ (o : Option Found). Ok o) c.in_default.is)))
+    sym (nothing_seen test (area_in s) at (row_found test s.counted (pages_in s) at None refl c.counts_pages.ensures.1 (said.0 ∙ ap (λ (o : Option Found). Ok o) c.in_default.is)))
 
 pub returns-clause-ends : goal.returns-clause-ends
 returns-clause-ends g c = λ told sound. ends g (goal.at.returns-clause-ends g c).After-read_row told sound
