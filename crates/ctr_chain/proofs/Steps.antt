@@ -6,21 +6,19 @@ use Rattle.ctr_versions.proofs.Keys.{known}
 use Rattle.ctr_types.specs.declared.value.Column.{Column}
 use Rattle.ctr_bytes.specs.Following.{◌>>=◌}
 use Rattle.ctr_records.specs.declared.decoding.BadRecord.{BadRecord}
-use Rattle.ctr_page.specs.declared.checks.Chain.TheVariants.{Versions}
 use Rattle.ctr_page.specs.declared.walk.BadChain.{BadChain}
 use Rattle.ctr_page.specs.declared.walk.BadChain.TheVariants.{OnPage, TooLong}
 use Rattle.ctr_page.specs.declared.rows.Place.{Place}
 use Rattle.ctr_page.specs.declared.rows.VersionEntry.{VersionEntry}
 use Rattle.ctr_page.specs.Reading.{older_at}
 use Rattle.ctr_page.specs.Columns.{kinds_of, kinds_width, columns_in}
-use Rattle.ctr_page.specs.Damage.{header_check}
 use Rattle.ctr_page.proofs.Holding.{kinds_wide}
 use Rattle.ctr_area.specs.Areas.{Older, free_older}
 use Rattle.ctr_area.specs.Reading.{version_said, older_said, entry_bytes, header_on, columns_on, width_on, area_of}
 use Rattle.ctr_area.specs.Checked.{kinds_at}
 use Rattle.ctr_pvs.specs.declared.table.TableOf.{TableOf}
-use Rattle.ctr_pvs.specs.Table.{there_check, told_of}
-use Rattle.ctr_pvs.specs.Reading.{kinds_said, kept_on_check, kept_at_check}
+use Rattle.ctr_pvs.specs.Table.{told_of}
+use Rattle.ctr_pvs.specs.Reading.{kinds_said, versions_there, kept_on_check, kept_at_check}
 use Rattle.ctr_pvs.proofs.Told.{older_read}
 use Rattle.ctr_chain.specs.declared.looking.KeptLook.{KeptLook}
 use Rattle.ctr_chain.specs.declared.seeking.Found.{Found}
@@ -56,7 +54,7 @@ module _ (sought : ℕ → Bool) (counted : ℕ) (pages : ℕ → List ℕ) (t :
   older = (area_of pages).older
 
   same_check : (at : Place) → entry_check_at counted t at (pages at.page) ≡ kept_at_check counted pages t.entry at
-  same_check at = ap (λ ks. there_check (header_check (Versions t.entry) counted (pages at.page)) counted at.page >>= λ _. kept_on_check counted t.entry ks at.slot (pages at.page)) kinds
+  same_check at = ap (λ ks. versions_there counted t.entry at.page (pages at.page) >>= λ _. kept_on_check counted t.entry ks at.slot (pages at.page)) kinds
 
   -- its columns are the table's
   pub kinds_read : (at : Place) → kept_at_check counted pages t.entry at ≡ Ok tt → kinds_said t ≡ kinds_of (columns_on pages at.page)

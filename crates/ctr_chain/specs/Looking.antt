@@ -2,18 +2,15 @@
 use Rattle.std.specs.Prelude.{◌≡◌, ℕ, ◌==◌, List, Option, None, Some, ⊤, Result, Ok, Err, if◌then◌else◌}
 use Rattle.ctr_bytes.specs.Following.{◌>>=◌}
 use Rattle.ctr_records.specs.declared.decoding.BadRecord.{BadRecord}
-use Rattle.ctr_page.specs.declared.checks.Chain.TheVariants.{Versions}
 use Rattle.ctr_page.specs.declared.rows.Place.{Place}
 use Rattle.ctr_page.specs.declared.rows.Version.{Version}
 use Rattle.ctr_page.specs.declared.rows.RowSlot.{RowSlot}
 use Rattle.ctr_page.specs.declared.rows.VersionEntry.{VersionEntry}
 use Rattle.ctr_page.specs.Reading.{slot_at, older_at}
 use Rattle.ctr_page.specs.Columns.{kinds_width}
-use Rattle.ctr_page.specs.Damage.{header_check}
 use Rattle.ctr_area.specs.Areas.{nowhere}
 use Rattle.ctr_pvs.specs.declared.table.TableOf.{TableOf}
-use Rattle.ctr_pvs.specs.Table.{there_check}
-use Rattle.ctr_pvs.specs.Reading.{kinds_said, kept_on_check, row_on_check}
+use Rattle.ctr_pvs.specs.Reading.{kinds_said, versions_there, kept_on_check, row_on_check}
 use Rattle.ctr_chain.specs.declared.looking.SlotLook.{SlotLook}
 use Rattle.ctr_chain.specs.declared.looking.KeptLook.{KeptLook}
 
@@ -45,7 +42,7 @@ LooksAtRow counted t number page (Err bad) =
 -- what is wrong with the version entry at a place of a page, by the table
 abbrev pub entry_check_at : ℕ → TableOf → Place → List ℕ → Result ⊤ BadRecord
 entry_check_at counted t at page =
-    there_check (header_check (Versions t.entry) counted page) counted at.page
+    versions_there counted t.entry at.page page
     >>= λ _. kept_on_check counted t.entry (kinds_said t) at.slot page
 
 -- the version entry was looked at, or it is damaged

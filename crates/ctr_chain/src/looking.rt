@@ -11,8 +11,8 @@ ghost use Rattle.ctr_chain.specs.Looking.{xid_there, look_of_slot, look_of_entry
 
 use ctr_base::Origin;
 use ctr_disk::Disk;
-use ctr_page::{BadPage, Chain, Place, RowSlot, Version, VersionEntry, check_header};
-use ctr_pvs::{TableOf, check_there, row_in, version_in};
+use ctr_page::{BadPage, Place, RowSlot, Version, VersionEntry};
+use ctr_pvs::{TableOf, check_versions_there, row_in, version_in};
 use ctr_store::Store;
 use ctr_types::Xid;
 use ctr_walk::{SearchFault, found_on};
@@ -115,8 +115,7 @@ fn entry_looked(
     requires whole { length page.now ≡ PAGE_SIZE }
     ensures { LooksAtEntry counted table.now place page.now result }
 {
-    let header = check_header(Chain::Versions { entry: table.entry }, counted, page);
-    check_there(header, counted, place.page)?;
+    check_versions_there(table.entry, counted, place.page, page)?;
     let entry = version_in(table, counted, place.slot, page)?;
     Ok(look_of_entry(&entry))
 }

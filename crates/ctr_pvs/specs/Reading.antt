@@ -53,10 +53,14 @@ WidthSaid counted t number page (Ok w) =
 WidthSaid counted t number page (Err bad) =
     kept_on_check counted t.entry (kinds_said t) number page ≡ Err bad
 
+-- the check of a page to which a chain of versions of an entry of the catalog leads
+abbrev pub versions_there : ℕ → ℕ → ℕ → List ℕ → Result ⊤ BadRecord
+versions_there counted e p page = there_check (header_check (Versions e) counted page) counted p
+
 -- the version entry at a place to which a chain of the table leads
 abbrev pub kept_at_check : ℕ → (ℕ → List ℕ) → ℕ → Place → Result ⊤ BadRecord
 kept_at_check counted pages e at =
-    there_check (header_check (Versions e) counted (pages at.page)) counted at.page
+    versions_there counted e at.page (pages at.page)
     >>= λ _. kept_on_check counted e (kinds_at (area_of pages) e) at.slot (pages at.page)
 
 -- The version entry at a place: the table of its page, and then the version entry, by the table's

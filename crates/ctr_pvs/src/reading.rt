@@ -3,14 +3,14 @@ ghost use Rattle.std.specs.Prelude.{◌≡◌, ◌≤◌, ◌<◌, IfOk, length}
 ghost use Rattle.ctr_page.specs.declared.table.TheConstants.{PAGE_SIZE};
 ghost use Rattle.ctr_page.specs.Columns.{kinds_width as width_of_kinds};
 ghost use Rattle.ctr_page.specs.Making.{IsSlot, IsEntry};
-ghost use Rattle.ctr_pvs.specs.Reading.{kinds_said, lies_check, VersionSaid, RowSaid};
+ghost use Rattle.ctr_pvs.specs.Reading.{kinds_said, lies_check, versions_there, VersionSaid, RowSaid};
 
-use crate::table::TableOf;
+use crate::table::{TableOf, check_there};
 use ctr_page::{
     BadPage, Chain, RowSlot, VersionEntry, check_header, check_slot, check_version, kept_size,
     kinds_width, read_header, read_slot, read_version, room_for, slot_size,
 };
-use ctr_records::at_most;
+use ctr_records::{PageNo, at_most};
 
 /// Checks that a page has a slot or a version entry of a number, where they are of this size.
 pub(crate) fn check_lies(size: usize, number: u16) -> Result<(), BadPage>
@@ -19,6 +19,16 @@ pub(crate) fn check_lies(size: usize, number: u16) -> Result<(), BadPage>
 {
     let most = room_for(size).saturating_sub(1);
     at_most(0, most as u64, number as u64)
+}
+
+/// Checks a page to which a chain of versions of an entry of the catalog leads, where so many pages are counted.
+pub fn check_versions_there(entry: u8, counted: u32, p: PageNo, page: &[u8]) -> Result<(), BadPage>
+    requires some { 0 < counted }
+    requires whole { length page.now ≡ PAGE_SIZE }
+    ensures { result ≡ versions_there counted entry p page.now }
+{
+    let header = check_header(Chain::Versions { entry }, counted, page);
+    check_there(header, counted, p)
 }
 
 /// The version entry of a number on a page to which a chain of versions of a table leads, where so many pages are counted: the page's

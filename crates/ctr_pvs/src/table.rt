@@ -45,7 +45,11 @@ impl TableOf {
 
 /// Checks a page to which a pointer leads, whose header has this check: the page is counted, the header passes, and the page is
 /// behind those of the catalog.
-pub fn check_there(header: Result<(), BadPage>, counted: u32, p: PageNo) -> Result<(), BadPage>
+pub(crate) fn check_there(
+    header: Result<(), BadPage>,
+    counted: u32,
+    p: PageNo,
+) -> Result<(), BadPage>
     requires some { 0 < counted }
     ensures { result ≡ there_check header counted p }
 {

@@ -18,8 +18,8 @@ use Rattle.ctr_page.specs.Making.{slot_bytes, IsSlot, IsEntry, IsPrevious}
 use Rattle.ctr_area.specs.Reading.{area_of}
 use Rattle.ctr_area.specs.Checked.{kinds_at}
 use Rattle.ctr_pvs.specs.declared.table.TableOf.{TableOf}
-use Rattle.ctr_pvs.specs.Table.{there_check, told_of}
-use Rattle.ctr_pvs.specs.Reading.{kinds_said, kept_on_check, kept_at_check}
+use Rattle.ctr_pvs.specs.Table.{told_of}
+use Rattle.ctr_pvs.specs.Reading.{kinds_said, versions_there, kept_on_check, kept_at_check}
 use Rattle.ctr_revert.specs.declared.slots.FromSlot.{FromSlot}
 use Rattle.ctr_revert.specs.Reverting.{if_used, entry_at_place, blank_slot, slot_by_entry, slot_without_head, MadePrevious, MadeFrom, behind_check, MadeByEntry, EntrySaidFrom, IsMadeOr, LosesHead, EndsBehind}
 
@@ -120,4 +120,4 @@ module _ (counted : ℕ) (pages : ℕ → List ℕ) (t : TableOf) (f : FromSlot)
   -- or its damage is told
   pub ends_damaged : (bad : BadRecord) → EntrySaidFrom counted t f (pages f.older.page) (Err bad) → EndsBehind counted pages t f (Err (OnPage f.older.page bad))
   ends_damaged bad said = ends_behind (Err (OnPage f.older.page bad)) (λ kinds.
-      ap (λ ks. told_of f.older.page (there_check counted f.older.page >>= check ks)) (sym kinds) ∙ ap (told_of f.older.page) said)
+      ap (λ ks. told_of f.older.page (versions_there counted t.entry f.older.page (pages f.older.page) >>= check ks)) (sym kinds) ∙ ap (told_of f.older.page) said)

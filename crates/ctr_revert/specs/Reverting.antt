@@ -29,8 +29,8 @@ use Rattle.ctr_record_effects.specs.Changing.{laid_on_place}
 use Rattle.ctr_revert.specs.declared.slots.FromSlot.{FromSlot}
 use Rattle.ctr_revert.specs.declared.slots.SlotLaid.{SlotLaid}
 use Rattle.ctr_pvs.specs.declared.table.TableOf.{TableOf}
-use Rattle.ctr_pvs.specs.Table.{there_check, told_of, owner_of}
-use Rattle.ctr_pvs.specs.Reading.{kinds_said, kept_on_check, kept_at_check, row_on_check, row_check_at}
+use Rattle.ctr_pvs.specs.Table.{told_of, owner_of}
+use Rattle.ctr_pvs.specs.Reading.{kinds_said, versions_there, kept_on_check, kept_at_check, row_on_check, row_check_at}
 
 -- ---- in the area
 
@@ -151,13 +151,13 @@ MadeByEntry w used key next (Some bytes) = ByEntry w used key next bytes
 abbrev pub EntrySaidFrom : ℕ → TableOf → FromSlot → List ℕ → Result (Option (List ℕ)) BadRecord
     → Type 0
 EntrySaidFrom counted t f page (Ok made) =
-    (there_check counted f.older.page ≡ Ok tt)
+    (versions_there counted t.entry f.older.page page ≡ Ok tt)
     × (kept_on_check counted t.entry (kinds_said t) f.older.slot page ≡ Ok tt)
     × IsEntry (kinds_width (kinds_said t)) (older_at (kinds_width (kinds_said t)) f.older.slot page)
     × MadeByEntry (kinds_width (kinds_said t)) f.used f.key
     (if_used (older_at (kinds_width (kinds_said t)) f.older.slot page)) made
 EntrySaidFrom counted t f page (Err bad) =
-    (there_check counted f.older.page
+    (versions_there counted t.entry f.older.page page
     >>= λ _. kept_on_check counted t.entry (kinds_said t) f.older.slot page) ≡ Err bad
 
 -- The bytes are those that were made, or those of a free slot where none were made.

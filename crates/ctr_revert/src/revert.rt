@@ -1,8 +1,9 @@
 // One record takes the head from a row.
 ghost use Rattle.std.specs.Prelude.{◌≡◌, ◌≤◌, ◌<◌, ◌+◌, true, false, Ok, ⊤, IfOk, OnOk, length, take, ℕ};
+ghost use Rattle.ctr_base.specs.declared.growing.TheConstants.{MOST_PAGES};
 ghost use Rattle.ctr_base.specs.Base.{WhereSound};
+ghost use Rattle.ctr_store.specs.Parts.{MayCount};
 ghost use Rattle.ctr_store.specs.Store.{View, LeavesPage};
-ghost use Rattle.ctr_model.specs.declared.limits.TheConstants.{MOST_PAGES};
 ghost use Rattle.ctr_page.specs.declared.table.TheConstants.{PAGE_SIZE};
 ghost use Rattle.ctr_page.specs.Places.{slot_size as size_of_slot, start_of as start_place};
 ghost use Rattle.ctr_page.specs.Columns.{kinds_width as width_of_kinds};
@@ -20,7 +21,7 @@ use crate::slots::{FromSlot, SLOT_MOST, SlotLaid, blank_bytes, from_entry, from_
 use ctr_base::Origin;
 use ctr_disk::{Disk, StoreFault};
 use ctr_page::{BadPage, Place, kinds_width, slot_size};
-use ctr_pvs::{TableOf, check_there, row_in, table_on, version_in};
+use ctr_pvs::{TableOf, check_versions_there, row_in, table_on, version_in};
 use ctr_record_effects::{a_slot_is_laid, over_place};
 use ctr_record_laws::{a_revert_leaves_its_entry, a_revert_takes_the_head, pages_are_in_bounds};
 use ctr_records::Record;
@@ -52,7 +53,7 @@ fn look_slot<D: Disk, O: Origin>(
 ) -> Result<FromSlot, SearchFault>
     requires going { store.old.stopped ≡ false }
     requires some { 0 < counted }
-    requires there { place.page < 30000 }
+    requires there { place.page < MOST_PAGES }
     requires few { table.now.count ≤ 7 }
     ensures said { WhereSound O.first D.Disk (IfOk (searched result) (EndsOnPage place.page (SlotSaidFrom counted table.now place (pages_in store.old.now place.page)))) }
     ensures inside { OnOk result (start_place (size_of_slot (width_of_kinds (kinds_said table.now))) place.slot + size_of_slot (width_of_kinds (kinds_said table.now)) ≤ PAGE_SIZE) }
@@ -74,7 +75,7 @@ fn behind_on(
     requires whole { length page.now ≡ PAGE_SIZE }
     ensures { EntrySaidFrom counted table.now from.now page.now result }
 {
-    check_there(counted, from.older.page)?;
+    check_versions_there(table.entry, counted, from.older.page, page)?;
     let entry = version_in(table, counted, from.older.slot, page)?;
     Ok(from_entry(kinds_width(table.kinds()), from.used, from.key, entry))
 }
@@ -87,7 +88,7 @@ fn look_behind<D: Disk, O: Origin>(
     from: &FromSlot,
 ) -> Result<Option<SlotBytes>, SearchFault>
     requires going { store.old.stopped ≡ false }
-    requires some { (0 < counted) × (counted ≤ 30000) }
+    requires some { MayCount counted }
     requires few { table.now.count ≤ 7 }
     ensures said { WhereSound O.first D.Disk (IfOk (searched result) (EndsOnPage from.now.older.page (EntrySaidFrom counted table.now from.now (pages_in store.old.now from.now.older.page)))) }
     ensures leaves { LeavesPage O.first D.Disk store.old store.new (searched result) }
@@ -106,12 +107,13 @@ fn lay<D: Disk, O: Origin>(
     bytes: &SlotBytes,
 ) -> Result<(), StoreFault>
     requires room { HasRoomForOne 0 0 store.old }
-    requires counted { (place.page < store.old.now.counted) × (place.page < MOST_PAGES) }
+    requires counted { place.page < store.old.now.counted }
     requires narrow { w ≤ 2048 }
     requires inside { (size_of_slot w ≤ 2072) × (start_place (size_of_slot w) place.slot + size_of_slot w ≤ PAGE_SIZE) }
     ensures one { LogsOne O.first D.Disk (lost_record x place w (take (size_of_slot w) bytes.now)) store.old store.new result }
     ensures whole { WhereSound O.first D.Disk (OnOk result (length (pages_in store.old.now place.page) ≡ PAGE_SIZE)) }
 {
+    store.counts_pages();
     let size = slot_size(w);
     let rec = Record::Revert {
         x,
@@ -128,7 +130,7 @@ fn bytes_behind<D: Disk, O: Origin>(
     from: &FromSlot,
 ) -> Result<SlotBytes, SearchFault>
     requires going { store.old.stopped ≡ false }
-    requires some { (0 < counted) × (counted ≤ 30000) }
+    requires some { MayCount counted }
     requires few { table.now.count ≤ 7 }
     ensures ends { WhereSound O.first D.Disk (IfOk (searched result) (BytesSaid counted (pages_in store.old.now) table.now from.now)) }
     // It goes on from what the reading of a page left.
@@ -151,11 +153,12 @@ fn search_row<D: Disk, O: Origin>(
     place: Place,
 ) -> Result<SlotLaid, SearchFault>
     requires going { store.old.stopped ≡ false }
-    requires counted { (place.page < store.old.now.counted) × (store.old.now.counted ≤ 30000) }
+    requires counted { place.page < store.old.now.counted }
     ensures ends { WhereSound O.first D.Disk (IfOk (searched result) (EndsRow store.old.now.counted (pages_in store.old.now) place)) }
     ensures fits { IfOk result (LiesThere place.slot) }
     ensures leaves { LeavesPage O.first D.Disk store.old store.new (searched result) }
 {
+    store.counts_pages();
     let counted = store.counted();
     let table = table_on(store, 1, place.page)?;
     let from = look_slot(store, &table, counted, place)?;
@@ -175,7 +178,7 @@ pub fn revert_row<D: Disk, O: Origin>(
     place: Place,
 ) -> Result<(), StoreFault>
     requires room { HasRoomForOne 0 0 store.old }
-    requires counted { (place.page < store.old.now.counted) × (store.old.now.counted ≤ 30000) }
+    requires counted { place.page < store.old.now.counted }
     // Damage is told where it stands in the file of pages.
     ensures ends { WhereSound O.first D.Disk (EndsReverting (damage_told D.Disk store.new) place store.old store.new result) }
     ensures one { RevertsRow O.first D.Disk place store.old store.new result }

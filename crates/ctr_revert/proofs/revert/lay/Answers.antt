@@ -1,5 +1,5 @@
-use Rattle.ctr_walk.proofs.Limits.{in_limit}
+use Rattle.ctr_walk.proofs.Limits.{below_limit}
 use Rattle.ctr_revert.proofs.revert.lay.Goals as goal
 
 pub log_on_page-requires-clause-there : goal.log_on_page-requires-clause-there
-log_on_page-requires-clause-there g c = in_limit c.args.place.page c.requires.counted.1
+log_on_page-requires-clause-there g c = below_limit c.args.place.page c.args.store.now.now.counted c.requires.counted c.counts_pages.ensures.1

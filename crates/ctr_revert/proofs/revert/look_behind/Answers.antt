@@ -1,4 +1,4 @@
-use Rattle.std.proofs.Common.{sym, subst}
+use Rattle.std.proofs.Common.{sym, subst, arith}
 use Rattle.std.specs.Prelude.{IfOk}
 use Rattle.ctr_record_effects.specs.States.{pages_in}
 use Rattle.ctr_walk.specs.Damage.{searched, EndsOnPage}
@@ -15,5 +15,5 @@ returns-clause-said g c = λ told sound.
     let at = f.older.page in
     let page = pages_in c.args.store.now.now at in
     subst (λ r. IfOk (searched r) (EndsOnPage at (EntrySaidFrom c.args.counted t f page))) (sym c.found_on.ensures)
-    (ends_on at (EntrySaidFrom c.args.counted t f page) c.behind_on.result (entry_on c.args.counted t f c.in_ok-page.page.now page c.behind_on.result c.requires.some.0 c.requires.some.1
+    (ends_on at (EntrySaidFrom c.args.counted t f page) c.behind_on.result (entry_on c.args.counted t f c.in_ok-page.page.now page c.behind_on.result (let least = c.requires.some.0 in omega (arith, least)) c.requires.some.1
     (λ low. c.in_ok-page.ensures.shown told sound (in_limit at low)) c.behind_on.ensures))
