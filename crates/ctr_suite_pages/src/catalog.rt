@@ -98,7 +98,7 @@ fn make_table(store: &mut Mem, x: u64, name: &Name, schema: &Schema) -> Result<T
     requires going { store.old.stopped ≡ false }
     ensures going { OnOk result (store.new.stopped ≡ false) }
 {
-    if !columns_fit(schema.columns.as_slice()) || !ready(store, 0, 1)? || store.counted() <= 2 {
+    if !columns_fit(schema.columns.as_slice()) || !ready(store, 0, 1)? {
         return Ok(Told::NotAsked);
     }
     match create(store, x, name, schema) {
@@ -133,7 +133,7 @@ pub fn drop_entry(store: &mut Mem, x: u64, entry: u8) -> Result<Told, StoreFault
     requires going { store.old.stopped ≡ false }
     ensures going { OnOk result (store.new.stopped ≡ false) }
 {
-    if entry >= 32 || !ready(store, 0, 1)? || store.counted() <= 2 {
+    if entry >= 32 || !ready(store, 0, 1)? {
         return Ok(Told::NotAsked);
     }
     drop_table(store, x, entry)?;
@@ -161,7 +161,7 @@ pub fn undo(store: &mut Mem) -> Result<Told, StoreFault>
         return Ok(Told::None);
     };
     let item = *item;
-    if !item_fits(&item) || !ready(store, 0, 0)? || store.counted() <= 2 {
+    if !item_fits(&item) || !ready(store, 0, 0)? {
         return Ok(Told::NotAsked);
     }
     undo_item(store, &item)?;
@@ -182,9 +182,6 @@ pub fn named(
     let Ok(name) = name_of(alloc, name) else {
         return Ok(Told::NotAsked);
     };
-    if store.counted() == 0 {
-        return Ok(Told::NotAsked);
-    }
     match find(store, &name, snapshot, me)? {
         Some(entry) => Ok(Told::Number(entry as u64)),
         None => Ok(Told::None),
@@ -205,7 +202,7 @@ pub fn changer(
     let Ok(name) = name_of(alloc, name) else {
         return Ok(Told::NotAsked);
     };
-    if store.counted() == 0 || entry >= 32 {
+    if entry >= 32 {
         return Ok(Told::NotAsked);
     }
     match changed(store, entry, &name, snapshot)? {

@@ -3,22 +3,22 @@ ghost use Rattle.std.specs.Prelude.{◌≡◌, false, OnOk};
 
 use crate::told::Told;
 use crate::turns::{Mem, ready};
-use ctr_alloc::{NextFree, Search, alloc, free, next_free};
+use ctr_alloc::{NextFree, alloc, free, next_free};
 use ctr_disk::StoreFault;
 use ctr_heap::{format, link};
 use ctr_page::Header;
 
 /// The next free page, and its allocation.
-pub fn take(store: &mut Mem, search: &mut Search, x: u64) -> Result<Told, StoreFault>
+pub fn take(store: &mut Mem, x: u64) -> Result<Told, StoreFault>
     requires going { store.old.stopped ≡ false }
     ensures going { OnOk result (store.new.stopped ≡ false) }
 {
-    let p = match next_free(store, search)? {
+    let p = match next_free(store)? {
         NextFree::Page(p) => p,
         NextFree::Grow => return Ok(Told::Grow),
         NextFree::Full => return Ok(Told::Full),
     };
-    if !ready(store, 0, 1)? || p >= 30_000 || store.counted() == 0 {
+    if !ready(store, 0, 1)? || p >= 30_000 {
         return Ok(Told::NotAsked);
     }
     alloc(store, x, p)?;
@@ -26,15 +26,14 @@ pub fn take(store: &mut Mem, search: &mut Search, x: u64) -> Result<Told, StoreF
 }
 
 /// A page is free again.
-pub fn give_back(store: &mut Mem, search: &mut Search, page: u32) -> Result<Told, StoreFault>
+pub fn give_back(store: &mut Mem, page: u32) -> Result<Told, StoreFault>
     requires going { store.old.stopped ≡ false }
     ensures going { OnOk result (store.new.stopped ≡ false) }
 {
-    if !ready(store, 0, 0)? || page >= 30_000 || store.counted() == 0 {
+    if !ready(store, 0, 0)? || page >= 30_000 {
         return Ok(Told::NotAsked);
     }
     free(store, page)?;
-    search.freed(page);
     Ok(Told::Done)
 }
 
@@ -55,7 +54,7 @@ pub fn make_empty(store: &mut Mem, x: u64, page: u32, header: Header) -> Result<
     requires going { store.old.stopped ≡ false }
     ensures going { OnOk result (store.new.stopped ≡ false) }
 {
-    if !ready(store, 0, 0)? || page >= 30_000 || page >= store.counted() {
+    if !ready(store, 0, 0)? || page >= store.counted() {
         return Ok(Told::NotAsked);
     }
     format(store, x, page, &header)?;
@@ -76,7 +75,7 @@ pub fn put_in_front(
     if page >= 30_000 || entry >= 32 || bucket.is_some_and(|bucket| bucket >= 8) {
         return Ok(Told::NotAsked);
     }
-    if !ready(store, 0, 0)? || store.counted() <= 2 {
+    if !ready(store, 0, 0)? {
         return Ok(Told::NotAsked);
     }
     link(store, x, page, entry, bucket)?;

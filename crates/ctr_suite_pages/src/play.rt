@@ -13,7 +13,6 @@ use crate::told::Told;
 use crate::turns::{Mem, abort, begin, commit, settle};
 use crate::versions::{add_page, entry as entry_at, lay, put_off, revert, slot, spare, trim};
 use crate::writes::{write, write_each};
-use ctr_alloc::Search;
 use ctr_disk::StoreFault;
 use ctr_mem_disk::Image;
 use std::alloc::AllocError;
@@ -43,7 +42,7 @@ fn take_some(store: &mut Mem, player: &mut Player, count: u64) -> Result<Told, S
     requires going { store.old.stopped ≡ false }
     ensures going { OnOk result (store.new.stopped ≡ false) }
 {
-    let told = take(store, &mut player.search, player.x)?;
+    let told = take(store, player.x)?;
     if count <= 1 {
         return Ok(told);
     }
@@ -58,7 +57,7 @@ fn play_page(store: &mut Mem, player: &mut Player, step: PageStep) -> Result<Tol
 {
     match step {
         PageStep::Take { count } => take_some(store, player, count),
-        PageStep::Free { page } => give_back(store, &mut player.search, page),
+        PageStep::Free { page } => give_back(store, page),
         PageStep::Grow { count } => grow(store, count),
         PageStep::Format { page, header } => make_empty(store, player.x, page, header),
         PageStep::Link {
@@ -97,23 +96,21 @@ fn play_row(store: &mut Mem, player: &mut Player, step: RowStep) -> Result<Told,
 {
     let x = player.x;
     match step {
-        RowStep::Put { entry, width, key } => {
-            put(store, &mut player.search, x, entry, width, key)
-        }
+        RowStep::Put { entry, width, key } => { put(store, x, entry, width, key) }
         RowStep::Fill {
             entry,
             width,
             from,
             count,
-        } => fill(store, &mut player.search, x, entry, width, from, count),
+        } => fill(store, x, entry, width, from, count),
         RowStep::Find { entry, key } => found(store, entry, key),
         RowStep::Seek { entry, from, count } => {
             let some = seek(store, entry, from, count, 0)?;
             Ok(Told::Of(some, count))
         }
         RowStep::Room { entry, bucket } => room(store, entry, bucket),
-        RowStep::Write(row) => write(store, &mut player.search, x, row),
-        RowStep::Each { row, count } => write_each(store, &mut player.search, row, count),
+        RowStep::Write(row) => write(store, x, row),
+        RowStep::Each { row, count } => write_each(store, row, count),
         RowStep::Read { place, number, own } => match player.snapshot(number) {
             Some(snapshot) => read(player.alloc, store, place, snapshot, player.as_own(own)),
             None => Ok(Told::NotAsked),
@@ -128,7 +125,7 @@ fn play_version(store: &mut Mem, player: &mut Player, step: VersionStep) -> Resu
     ensures going { OnOk result (store.new.stopped ≡ false) }
 {
     match step {
-        VersionStep::Versions { entry } => add_page(store, &mut player.search, player.x, entry),
+        VersionStep::Versions { entry } => add_page(store, player.x, entry),
         VersionStep::Spare { entry } => spare(store, entry),
         VersionStep::Row {
             place,
@@ -250,7 +247,6 @@ fn play_part(files: &mut Image, player: &mut Player, lines: &[Line]) -> bool {
     let (Some(first), Some(last)) = (lines.first(), lines.last()) else {
         return true;
     };
-    player.search = Search::new();
     match opened(player.alloc, files) {
         Some(store) => play_on(store, files, player, lines) && play_last(files, player, last),
         None => {

@@ -3,7 +3,6 @@ use crate::page::Page;
 use crate::suite::Line;
 use crate::told::Told;
 use crate::turns::{Mem, snap};
-use ctr_alloc::Search;
 use ctr_snap::Snapshot;
 use std::alloc::Global;
 
@@ -12,8 +11,6 @@ use std::alloc::Global;
 pub struct Player {
     pub alloc: Global,
     pub page: Page,
-    /// Where the next search for a page begins.
-    pub search: Search,
     /// The last transaction.
     pub x: u64,
     /// The snapshots that were taken, each with its number, the last of a number behind others.
@@ -27,7 +24,6 @@ impl Player {
         Player {
             alloc,
             page: Page::new(alloc),
-            search: Search::new(),
             x: 0,
             snapshots: Vec::new(alloc),
             done: 0,

@@ -14,9 +14,9 @@ use std::alloc::Global;
 
 // Whether the calls on a row at a place may be made.
 fn may_read(store: &Mem, place: Place) -> bool
-    ensures { IsTrue result → (place.page < store.now.now.counted) × (64 ≤ store.now.now.counted) × (store.now.now.counted ≤ 30000) }
+    ensures { IsTrue result → place.page < store.now.now.counted }
 {
-    place.page < store.counted() && store.counted() >= 64 && store.counted() <= 30_000
+    place.page < store.counted()
 }
 
 // The first value behind the key, of a text its length; or the key.

@@ -5,7 +5,6 @@ ghost use Rattle.ctr_page.specs.Places.{start_of, slot_size as size_of_slot};
 use crate::pages::{make_empty, put_in_front, take};
 use crate::told::Told;
 use crate::turns::{Mem, ready};
-use ctr_alloc::Search;
 use ctr_disk::StoreFault;
 use ctr_heap::{find, free_slot, put_slot};
 use ctr_page::{Header, Place, RowSlot, Version, bucket_of, read_entry, slot_size};
@@ -41,7 +40,7 @@ fn lay(
     if !lies(place, width) || !ready(store, 0, 0)? || store.meta().heads(x) == u64::MAX {
         return Ok(Told::NotAsked);
     }
-    if place.page >= 30_000 || place.page >= store.counted() {
+    if place.page >= store.counted() {
         return Ok(Told::NotAsked);
     }
     let slot = RowSlot {
@@ -59,19 +58,12 @@ fn lay(
     Ok(Told::At(place))
 }
 
-/// Whether the calls of an entry may be made.
-pub fn may_ask(store: &Mem, entry: u8) -> bool
-    ensures { IsTrue result → (entry < 32) × (64 ≤ store.now.now.counted) × (store.now.now.counted ≤ 30000) }
-{
-    entry < 32 && store.counted() >= 64 && store.counted() <= 30_000
-}
-
 /// The slot of a key.
 pub fn found(store: &mut Mem, entry: u8, key: i64) -> Result<Told, StoreFault>
     requires going { store.old.stopped ≡ false }
     ensures going { OnOk result (store.new.stopped ≡ false) }
 {
-    if !may_ask(store, entry) {
+    if entry >= 32 {
         return Ok(Told::NotAsked);
     }
     match find(store, entry, key)? {
@@ -85,7 +77,7 @@ pub fn room(store: &mut Mem, entry: u8, bucket: u8) -> Result<Told, StoreFault>
     requires going { store.old.stopped ≡ false }
     ensures going { OnOk result (store.new.stopped ≡ false) }
 {
-    if bucket >= 8 || !may_ask(store, entry) {
+    if bucket >= 8 || entry >= 32 {
         return Ok(Told::NotAsked);
     }
     match free_slot(store, entry, bucket)? {
@@ -105,18 +97,12 @@ fn first_of(store: &mut Mem, entry: u8, bucket: u8) -> Result<u32, StoreFault>
 }
 
 /// A page more in a bucket's chain, at the front.
-fn add_page(
-    store: &mut Mem,
-    search: &mut Search,
-    x: u64,
-    entry: u8,
-    bucket: u8,
-) -> Result<Told, StoreFault>
+fn add_page(store: &mut Mem, x: u64, entry: u8, bucket: u8) -> Result<Told, StoreFault>
     requires going { store.old.stopped ≡ false }
     requires bucket { bucket < 8 }
     ensures going { OnOk result (store.new.stopped ≡ false) }
 {
-    let told = take(store, search, x)?;
+    let told = take(store, x)?;
     let Told::Number(page) = told else {
         return Ok(told);
     };
@@ -134,32 +120,19 @@ fn add_page(
 }
 
 /// A free slot for a key that has none, on a page more where there is no other.
-pub fn place_for(
-    store: &mut Mem,
-    search: &mut Search,
-    x: u64,
-    entry: u8,
-    key: i64,
-) -> Result<Told, StoreFault>
+pub fn place_for(store: &mut Mem, x: u64, entry: u8, key: i64) -> Result<Told, StoreFault>
     requires going { store.old.stopped ≡ false }
     ensures going { OnOk result (store.new.stopped ≡ false) }
 {
     let bucket = bucket_of(key);
     match room(store, entry, bucket)? {
-        Told::None => add_page(store, search, x, entry, bucket),
+        Told::None => add_page(store, x, entry, bucket),
         free => Ok(free),
     }
 }
 
 /// The row of a key, with zeros: over the one that is there, in a free slot, or on a page more.
-pub fn put(
-    store: &mut Mem,
-    search: &mut Search,
-    x: u64,
-    entry: u8,
-    width: usize,
-    key: i64,
-) -> Result<Told, StoreFault>
+pub fn put(store: &mut Mem, x: u64, entry: u8, width: usize, key: i64) -> Result<Told, StoreFault>
     requires going { store.old.stopped ≡ false }
     ensures going { OnOk result (store.new.stopped ≡ false) }
 {
@@ -168,7 +141,7 @@ pub fn put(
         Told::None => {}
         other => return Ok(other),
     }
-    match place_for(store, search, x, entry, key)? {
+    match place_for(store, x, entry, key)? {
         Told::At(place) => lay(store, x, 0, place, width, key),
         other => Ok(other),
     }
@@ -177,7 +150,6 @@ pub fn put(
 /// Rows of so many keys, from one on: where the last stands.
 pub fn fill(
     store: &mut Mem,
-    search: &mut Search,
     x: u64,
     entry: u8,
     width: usize,
@@ -187,19 +159,11 @@ pub fn fill(
     requires going { store.old.stopped ≡ false }
     ensures going { OnOk result (store.new.stopped ≡ false) }
 {
-    let told = put(store, search, x, entry, width, from)?;
+    let told = put(store, x, entry, width, from)?;
     if count <= 1 {
         return Ok(told);
     }
-    fill(
-        store,
-        search,
-        x,
-        entry,
-        width,
-        from.wrapping_add(1),
-        count - 1,
-    )
+    fill(store, x, entry, width, from.wrapping_add(1), count - 1)
 }
 
 /// How many of so many keys are found, from one on, behind some that were.

@@ -3,10 +3,9 @@ ghost use Rattle.std.specs.Prelude.{◌≡◌, ◌≤◌, ◌+◌, false, IsTrue
 ghost use Rattle.ctr_page.specs.Places.{start_of, kept_size as size_of_kept};
 
 use crate::pages::{make_empty, put_in_front, take};
-use crate::rows::{WIDEST, lies, may_ask};
+use crate::rows::{WIDEST, lies};
 use crate::told::{Seen, Told};
 use crate::turns::{Mem, ready};
-use ctr_alloc::Search;
 use ctr_disk::StoreFault;
 use ctr_heap::put_slot;
 use ctr_page::{Header, Place, RowSlot, Version, VersionEntry, kept_size, read_entry, read_slot};
@@ -45,11 +44,11 @@ fn seen(version: &Version) -> Seen {
 }
 
 /// A page more for the versions of a table, at the front of their chain.
-pub fn add_page(store: &mut Mem, search: &mut Search, x: u64, entry: u8) -> Result<Told, StoreFault>
+pub fn add_page(store: &mut Mem, x: u64, entry: u8) -> Result<Told, StoreFault>
     requires going { store.old.stopped ≡ false }
     ensures going { OnOk result (store.new.stopped ≡ false) }
 {
-    let told = take(store, search, x)?;
+    let told = take(store, x)?;
     let Told::Number(number) = told else {
         return Ok(told);
     };
@@ -83,7 +82,7 @@ pub fn lay(
     if !lies(place, width) || !ready(store, 0, 0)? || store.meta().heads(x) == u64::MAX {
         return Ok(Told::NotAsked);
     }
-    if place.page >= 30_000 || place.page >= store.counted() {
+    if place.page >= store.counted() {
         return Ok(Told::NotAsked);
     }
     let new = payload(says);
@@ -127,7 +126,7 @@ pub fn put_off(
     if !entry_lies(place, width) || !ready(store, 0, 0)? {
         return Ok(Told::NotAsked);
     }
-    if place.page >= 30_000 || place.page >= store.counted() {
+    if place.page >= store.counted() {
         return Ok(Told::NotAsked);
     }
     let bytes = payload(version.says);
@@ -150,7 +149,7 @@ pub fn spare(store: &mut Mem, entry: u8) -> Result<Told, StoreFault>
     requires going { store.old.stopped ≡ false }
     ensures going { OnOk result (store.new.stopped ≡ false) }
 {
-    if !may_ask(store, entry) {
+    if entry >= 32 {
         return Ok(Told::NotAsked);
     }
     match find_free_entry(store, entry)? {
@@ -164,7 +163,7 @@ pub fn trim(store: &mut Mem, place: Place) -> Result<Told, StoreFault>
     requires going { store.old.stopped ≡ false }
     ensures going { OnOk result (store.new.stopped ≡ false) }
 {
-    if !ready(store, 0, 0)? || place.page >= store.counted() || store.counted() > 30_000 {
+    if !ready(store, 0, 0)? || place.page >= store.counted() {
         return Ok(Told::NotAsked);
     }
     free_entry(store, place)?;
@@ -176,7 +175,7 @@ pub fn revert(store: &mut Mem, place: Place) -> Result<Told, StoreFault>
     requires going { store.old.stopped ≡ false }
     ensures going { OnOk result (store.new.stopped ≡ false) }
 {
-    if !ready(store, 0, 0)? || place.page >= store.counted() || store.counted() > 30_000 {
+    if !ready(store, 0, 0)? || place.page >= store.counted() {
         return Ok(Told::NotAsked);
     }
     revert_row(store, place)?;
@@ -209,8 +208,7 @@ pub fn entry(store: &mut Mem, place: Place) -> Result<Told, StoreFault>
     requires going { store.old.stopped ≡ false }
     ensures going { OnOk result (store.new.stopped ≡ false) }
 {
-    let counted = store.counted();
-    if counted > 30_000 || place.page >= counted {
+    if place.page >= store.counted() {
         return Ok(Told::NotAsked);
     }
     let lent = version(store, place)?;

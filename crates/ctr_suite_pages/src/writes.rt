@@ -10,7 +10,6 @@ use crate::rows::{WIDEST, found, lies, place_for};
 use crate::told::Told;
 use crate::turns::{Mem, begin, commit, ready};
 use crate::versions::{add_page, entry_lies, payload, spare};
-use ctr_alloc::Search;
 use ctr_disk::StoreFault;
 use ctr_heap::{Way, first, put_slot, replaced, to_keep, way_of, written};
 use ctr_page::{Place, RowSlot, Version, VersionEntry, read_slot};
@@ -61,17 +60,17 @@ fn may_lay(store: &mut Mem, x: u64, place: Place, width: usize) -> Result<bool, 
     requires going { store.old.stopped ≡ false }
     ensures going { OnOk result (store.new.stopped ≡ false) }
     ensures room { IfOk result (λ is. IsTrue is → HasRoomForOne 0 0 store.new × (heads_in x store.new.meta.tables.opens < 2 ^ 64 - 1)) }
-    ensures place { IfOk result (λ is. IsTrue is → (place.page < store.new.now.counted) × (place.page < 30000)) }
+    ensures place { IfOk result (λ is. IsTrue is → place.page < store.new.now.counted) }
     ensures lies { IfOk result (λ is. IsTrue is → (width ≤ WIDEST) × (start_of (size_of_slot width) place.slot + size_of_slot width ≤ 4096)) }
 {
     if !lies(place, width) || !ready(store, 0, 0)? || store.meta().heads(x) == u64::MAX {
         return Ok(false);
     }
-    Ok(place.page < 30_000 && place.page < store.counted())
+    Ok(place.page < store.counted())
 }
 
 // A version entry that isn't used, on a page more where there is none.
-fn entry_for(store: &mut Mem, search: &mut Search, x: u64, entry: u8) -> Result<Told, StoreFault>
+fn entry_for(store: &mut Mem, x: u64, entry: u8) -> Result<Told, StoreFault>
     requires going { store.old.stopped ≡ false }
     ensures going { OnOk result (store.new.stopped ≡ false) }
 {
@@ -79,7 +78,7 @@ fn entry_for(store: &mut Mem, search: &mut Search, x: u64, entry: u8) -> Result<
         Told::None => {}
         free => return Ok(free),
     }
-    match add_page(store, search, x, entry)? {
+    match add_page(store, x, entry)? {
         Told::Number(_) => spare(store, entry),
         other => Ok(other),
     }
@@ -88,7 +87,6 @@ fn entry_for(store: &mut Mem, search: &mut Search, x: u64, entry: u8) -> Result<
 // A version is kept off its row; where.
 fn keep_first(
     store: &mut Mem,
-    search: &mut Search,
     x: u64,
     row: NewRow,
     version: &VersionEntry,
@@ -97,14 +95,14 @@ fn keep_first(
     requires fits { IsEntry row.width version.now }
     ensures going { OnOk result (store.new.stopped ≡ false) }
 {
-    let place = match entry_for(store, search, x, row.entry)? {
+    let place = match entry_for(store, x, row.entry)? {
         Told::At(place) => place,
         other => return Ok(other),
     };
     if !entry_lies(place, row.width) || !ready(store, 0, 0)? {
         return Ok(Told::NotAsked);
     }
-    if place.page >= 30_000 || place.page >= store.counted() {
+    if place.page >= store.counted() {
         return Ok(Told::NotAsked);
     }
     keep(store, x, place, version)?;
@@ -150,13 +148,7 @@ fn put_over(
 }
 
 // Writes a row over the one at a place.
-fn write_over(
-    store: &mut Mem,
-    search: &mut Search,
-    x: u64,
-    row: NewRow,
-    place: Place,
-) -> Result<Told, StoreFault>
+fn write_over(store: &mut Mem, x: u64, row: NewRow, place: Place) -> Result<Told, StoreFault>
     requires going { store.old.stopped ≡ false }
     ensures going { OnOk result (store.new.stopped ≡ false) }
 {
@@ -171,7 +163,7 @@ fn write_over(
     let way = way_of(&slot, store.meta().fate(slot.head.xid) == Fate::Committed);
     let kept = match to_keep(way, &slot) {
         None => Place { page: 0, slot: 0 },
-        Some(version) => match keep_first(store, search, x, row, &version)? {
+        Some(version) => match keep_first(store, x, row, &version)? {
             Told::At(kept) => kept,
             other => return Ok(other),
         },
@@ -180,16 +172,11 @@ fn write_over(
 }
 
 // Writes the first version of a row.
-fn write_first(
-    store: &mut Mem,
-    search: &mut Search,
-    x: u64,
-    row: NewRow,
-) -> Result<Told, StoreFault>
+fn write_first(store: &mut Mem, x: u64, row: NewRow) -> Result<Told, StoreFault>
     requires going { store.old.stopped ≡ false }
     ensures going { OnOk result (store.new.stopped ≡ false) }
 {
-    let place = match place_for(store, search, x, row.entry, row.key)? {
+    let place = match place_for(store, x, row.entry, row.key)? {
         Told::At(place) => place,
         other => return Ok(other),
     };
@@ -203,34 +190,29 @@ fn write_first(
 }
 
 /// Writes the row of a key, over the one that is there, in a free slot or on a page more: its place, and where a version was kept first.
-pub fn write(store: &mut Mem, search: &mut Search, x: u64, row: NewRow) -> Result<Told, StoreFault>
+pub fn write(store: &mut Mem, x: u64, row: NewRow) -> Result<Told, StoreFault>
     requires going { store.old.stopped ≡ false }
     ensures going { OnOk result (store.new.stopped ≡ false) }
 {
     match found(store, row.entry, row.key)? {
-        Told::At(place) => write_over(store, search, x, row, place),
-        Told::None => write_first(store, search, x, row),
+        Told::At(place) => write_over(store, x, row, place),
+        Told::None => write_first(store, x, row),
         other => Ok(other),
     }
 }
 
 /// So many transactions, one behind another, write the row of a key and commit: each says its own number. The last one's answer.
-pub fn write_each(
-    store: &mut Mem,
-    search: &mut Search,
-    row: NewRow,
-    count: u64,
-) -> Result<Told, StoreFault>
+pub fn write_each(store: &mut Mem, row: NewRow, count: u64) -> Result<Told, StoreFault>
     requires going { store.old.stopped ≡ false }
     ensures going { OnOk result (store.new.stopped ≡ false) }
 {
     let Told::Number(x) = begin(store)? else {
         return Ok(Told::NotAsked);
     };
-    let told = write(store, search, x, row.saying(x.to_le_bytes()[0]))?;
+    let told = write(store, x, row.saying(x.to_le_bytes()[0]))?;
     let _committed = commit(store, x)?;
     if count <= 1 {
         return Ok(told);
     }
-    write_each(store, search, row, count - 1)
+    write_each(store, row, count - 1)
 }

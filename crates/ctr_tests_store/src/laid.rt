@@ -53,7 +53,6 @@ pub fn first_page(state: u8) -> [u8; 50] {
 pub fn opened<D: Disk + Drop, O: Origin>(alloc: Global, disk: D) -> Option<Store<D, O>>
     requires { O.first ≡ D.reads disk }
     ensures going { IfSome result (λ store. store.stopped ≡ false) }
-    ensures counted { IfSome result (λ store. (64 ≤ store.now.counted) × (store.now.counted ≤ 30000)) }
 {
     match Store::<D, O>::open(alloc, disk, 8) {
         Ok(store) => Some(store),

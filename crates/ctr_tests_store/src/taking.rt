@@ -2,7 +2,7 @@
 ghost use Rattle.std.specs.Prelude.{◌≡◌};
 
 use crate::laid::{Laid, disk_of, opened};
-use ctr_alloc::{NextFree, Search, next_free};
+use ctr_alloc::{NextFree, next_free};
 use ctr_base::Origin;
 use ctr_disk::Disk;
 use ctr_mem_disk::SilentDisk;
@@ -15,7 +15,7 @@ fn next<D: Disk + Drop, O: Origin>(alloc: Global, disk: D) -> Option<NextFree>
     requires { O.first ≡ D.reads disk }
 {
     let mut store = opened::<D, O>(alloc, disk)?;
-    next_free(&mut store, &mut Search::new()).ok()
+    next_free(&mut store).ok()
 }
 
 // The same where page 0 begins with these bytes at home.
