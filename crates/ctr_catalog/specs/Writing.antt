@@ -10,7 +10,8 @@ use Rattle.ctr_page.specs.Searching.{IsFirst}
 use Rattle.ctr_page.specs.declared.walk.BadChain.{BadChain}
 use Rattle.ctr_area.specs.Areas.{Area}
 use Rattle.ctr_area.specs.Reading.{area_of}
-use Rattle.ctr_area.specs.Changes.{with_taken, with_title}
+use Rattle.ctr_area.specs.Sound.{undone}
+use Rattle.ctr_area.specs.Changes.{with_taken}
 use Rattle.ctr_store.specs.Store.{View, LeavesPage}
 use Rattle.ctr_walk.specs.OneRecord.{LogsOne, WhyNotLogged}
 use Rattle.ctr_walk.specs.Damage.{EndsTold, ReadsPages}
@@ -66,5 +67,5 @@ HasMade (DropOf x e) area = Unit {0}
 abbrev pub area_undone : SlogItem → Area → Area
 area_undone (AllocOf x p) area = with_taken p false area
 area_undone (FreeOf p) area = with_taken p false area
-area_undone (CreateOf x e) area = with_title e (record (area.title e) { state = 2 }) area
-area_undone (DropOf x e) area = with_title e (record (area.title e) { dropper = 0 }) area
+area_undone (CreateOf x e) area = record area { title = undone (CreateOf x e) area.title }
+area_undone (DropOf x e) area = record area { title = undone (DropOf x e) area.title }

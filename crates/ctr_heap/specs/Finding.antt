@@ -1,5 +1,5 @@
 -- The search of a bucket of a table, and what it finds.
-use Rattle.std.specs.Prelude.{◌≡◌, ℕ, ℤ, false, true, List, slice_index, Option, None, Some, Result}
+use Rattle.std.specs.Prelude.{◌≡◌, ℕ, ℤ, false, true, List, Option, None, Some, Result}
 use Rattle.ctr_page.specs.declared.checks.Chain.TheVariants.{Rows}
 use Rattle.ctr_page.specs.declared.walk.BadChain.{BadChain}
 use Rattle.ctr_page.specs.declared.rows.Place.{Place}
@@ -10,7 +10,7 @@ use Rattle.ctr_area.specs.Chains.{places_from}
 use Rattle.ctr_area.specs.Checked.{kinds_at}
 use Rattle.ctr_area.specs.Sound.{IsAmong, IsUsedSlot, AreKeyed}
 use Rattle.ctr_walk.specs.Along.{ChainSought}
-use Rattle.ctr_walk.specs.Tables.{chain_sought, EndsChain}
+use Rattle.ctr_walk.specs.Tables.{chain_sought, first_of_chain, EndsChain}
 use Rattle.ctr_heap.specs.declared.slots.SlotSought.{SlotSought}
 use Rattle.ctr_heap.specs.Slots.{EndsSlots}
 
@@ -28,10 +28,6 @@ EndsBucket counted pages e bucket sought result =
 
 -- ---- in the area
 
--- the first page of a bucket, by its number; 0 for none
-abbrev pub first_of_bucket : Area → ℕ → ℕ → ℕ
-first_of_bucket area e bucket = slice_index (area.firsts e).buckets bucket
-
 -- how many slots a page of a table has
 abbrev pub slots_on_page : Area → ℕ → ℕ
 slots_on_page area e = room_for (slot_size (kinds_width (kinds_at area e)))
@@ -46,7 +42,7 @@ FindsKey area e key None =
 -- The search tells a free slot of the bucket's chain; or each of them is used.
 abbrev pub FindsFree : Area → ℕ → ℕ → Option Place → Type 0
 FindsFree area e bucket (Some at) =
-    IsAmong at (places_from area (first_of_bucket area e bucket)) × ((area.slot at).used ≡ false)
+    IsAmong at (places_from area (first_of_chain area (Rows e bucket))) × ((area.slot at).used ≡ false)
 FindsFree area e bucket None =
-    (at : Place) → IsAmong at (places_from area (first_of_bucket area e bucket))
+    (at : Place) → IsAmong at (places_from area (first_of_chain area (Rows e bucket)))
     → (area.slot at).used ≡ true

@@ -1,6 +1,6 @@
 -- How a used slot is written: in which way, which of its versions is to be kept first, and when a
 -- Row may be logged for it.
-use Rattle.std.specs.Prelude.{◌≡◌, ℕ, Bool, true, false, List, length, Option, None, Some, is_some, IfSome}
+use Rattle.std.specs.Prelude.{◌≡◌, ℕ, Bool, true, false, List, Option, None, Some, is_some, IfSome}
 use Rattle.ctr_types.specs.declared.value.Column.{Column}
 use Rattle.ctr_page.specs.declared.rows.Place.{Place}
 use Rattle.ctr_page.specs.declared.rows.RowSlot.{RowSlot}
@@ -10,12 +10,9 @@ use Rattle.ctr_area.specs.Areas.{RowVersion, Slot, Area}
 use Rattle.ctr_area.specs.Reading.{slot_said}
 use Rattle.ctr_area.specs.Sound.{IsUsedSlot}
 use Rattle.ctr_record_laws.specs.Owed.{IsSpareCopy, Writing, OverHead, HeadMoves, PreviousKept, HeadKept}
+use Rattle.ctr_heap.specs.Writing.{slot_width}
 use Rattle.ctr_heap.specs.declared.ways.Way.{Way}
 use Rattle.ctr_heap.specs.declared.ways.Way.TheVariants.{ReplaceHead, MoveHead, KeepPrevious, KeepHead}
-
--- the width of a slot's rows
-abbrev pub width_of : RowSlot → ℕ
-width_of s = length s.head.payload
 
 -- The table of writes. A head that isn't committed is replaced. A committed one becomes the previous
 -- version where the slot has room for one; where there is one already, that is to be kept first.
@@ -23,10 +20,10 @@ width_of s = length s.head.payload
 abbrev pub IsWay : Bool → RowSlot → Way → Type 0
 IsWay committed s ReplaceHead = committed ≡ false
 IsWay committed s MoveHead =
-    (committed ≡ true) × (has_previous (width_of s) ≡ true) × (s.previous ≡ None)
+    (committed ≡ true) × (has_previous (slot_width s) ≡ true) × (s.previous ≡ None)
 IsWay committed s KeepPrevious =
-    (committed ≡ true) × (has_previous (width_of s) ≡ true) × (is_some s.previous ≡ true)
-IsWay committed s KeepHead = (committed ≡ true) × (has_previous (width_of s) ≡ false)
+    (committed ≡ true) × (has_previous (slot_width s) ≡ true) × (is_some s.previous ≡ true)
+IsWay committed s KeepHead = (committed ≡ true) × (has_previous (slot_width s) ≡ false)
 
 -- the version of a slot that is to be kept first, if any
 abbrev pub kept_version : Way → Slot → Option RowVersion
@@ -48,7 +45,7 @@ pub record IsReadyForWrite (area : Area) (e : ℕ) (at : Place) (s : RowSlot) (w
     : Type 0 where
   pub columns : List Column
   pub said : area.slot at ≡ slot_said columns s
-  pub fits : IsSlot (width_of s) s
+  pub fits : IsSlot (slot_width s) s
   pub used : IsUsedSlot area e at
   pub kept : IfSome (kept_version way (area.slot at))
       (λ v. IsSpareCopy area e (area.slot at) v q)

@@ -10,7 +10,9 @@ ghost use Rattle.ctr_heap.specs.declared.slots.SlotSought.TheVariants.{Key, Free
 ghost use Rattle.ctr_page.specs.Walking.{most_in_chain};
 ghost use Rattle.ctr_area.specs.Reading.{area_of};
 ghost use Rattle.ctr_heap.specs.Slots.{seeks_in};
-ghost use Rattle.ctr_heap.specs.Finding.{bucket_sought, first_of_bucket};
+ghost use Rattle.ctr_heap.specs.Finding.{bucket_sought};
+ghost use Rattle.ctr_page.specs.declared.checks.Chain.TheVariants.{Rows};
+ghost use Rattle.ctr_walk.specs.Tables.{first_of_chain};
 ghost use Rattle.ctr_page.specs.Places.{bucket_of};
 ghost use Rattle.ctr_walk.specs.Along.{EndsAlong};
 
@@ -43,10 +45,10 @@ pub fn a_search_tells_the_key()
 pub fn a_search_tells_a_free_slot()
     // What it has found stands on a page of the chain, and isn't used.
     ensures found { (pages : ℕ → List ℕ) (e bucket counted last : ℕ) (at : Place) → AreReadable (area_of pages) → counted ≤ pages_bound
-        → EndsAlong (bucket_sought pages counted e bucket Free) pages (most_in_chain counted) last (first_of_bucket (area_of pages) e bucket) (Ok (Some at))
-        → IsAmong at (places_from (area_of pages) (first_of_bucket (area_of pages) e bucket)) × (((area_of pages).slot at).used ≡ false) }
+        → EndsAlong (bucket_sought pages counted e bucket Free) pages (most_in_chain counted) last (first_of_chain (area_of pages) (Rows e bucket)) (Ok (Some at))
+        → IsAmong at (places_from (area_of pages) (first_of_chain (area_of pages) (Rows e bucket))) × (((area_of pages).slot at).used ≡ false) }
     // Where it has found none, all slots on the pages of the chain are used.
     ensures none { (pages : ℕ → List ℕ) (e bucket counted last : ℕ) → AreReadable (area_of pages) → counted ≤ pages_bound
-        → EndsAlong (bucket_sought pages counted e bucket Free) pages (most_in_chain counted) last (first_of_bucket (area_of pages) e bucket) (Ok None)
-        → (at : Place) → IsAmong at (places_from (area_of pages) (first_of_bucket (area_of pages) e bucket)) → ((area_of pages).slot at).used ≡ true }
+        → EndsAlong (bucket_sought pages counted e bucket Free) pages (most_in_chain counted) last (first_of_chain (area_of pages) (Rows e bucket)) (Ok None)
+        → (at : Place) → IsAmong at (places_from (area_of pages) (first_of_chain (area_of pages) (Rows e bucket))) → ((area_of pages).slot at).used ≡ true }
 {}
