@@ -15,9 +15,10 @@ use Rattle.ctr_page.specs.Reading.{slot_at}
 use Rattle.ctr_page.specs.Columns.{kinds_width}
 use Rattle.ctr_area.specs.Areas.{Slot, free_slot}
 use Rattle.ctr_area.specs.Reading.{version_said, slot_said, header_on, columns_on, width_on, area_of}
-use Rattle.ctr_pvs.specs.declared.table.TableOf.{TableOf}
+use Rattle.ctr_walk.specs.declared.table.TableOf.{TableOf}
 use Rattle.ctr_pvs.specs.Table.{told_of, TableSaid}
-use Rattle.ctr_pvs.specs.Reading.{kinds_said, row_on_check, row_check_at}
+use Rattle.ctr_walk.specs.Tables.{kinds_said}
+use Rattle.ctr_pvs.specs.Reading.{row_on_check, row_check_at}
 use Rattle.ctr_pvs.proofs.Told.{IsPageOf, page_of_table, by_table}
 use Rattle.ctr_chain.specs.declared.looking.SlotLook.{SlotLook}
 use Rattle.ctr_chain.specs.declared.seeking.Found.{Found}

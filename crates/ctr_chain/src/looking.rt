@@ -12,10 +12,10 @@ ghost use Rattle.ctr_chain.specs.Looking.{xid_there, look_of_slot, look_of_entry
 use ctr_base::Origin;
 use ctr_disk::Disk;
 use ctr_page::{BadPage, Place, RowSlot, Version, VersionEntry};
-use ctr_pvs::{TableOf, check_versions_there, row_in, version_in};
+use ctr_pvs::{check_versions_there, row_in, version_in};
 use ctr_store::Store;
 use ctr_types::Xid;
-use ctr_walk::{SearchFault, found_on};
+use ctr_walk::{SearchFault, TableOf, found_on};
 
 /// Whose the versions of a slot are, 0 for none, and where the next one is.
 #[derive(Clone, Copy, Debug, PartialEq, Eq)]

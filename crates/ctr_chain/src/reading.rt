@@ -12,10 +12,10 @@ use crate::seeking::VersionAt;
 use ctr_base::Origin;
 use ctr_disk::Disk;
 use ctr_page::{BadPage, Place};
-use ctr_pvs::{TableOf, row_in, version_in};
+use ctr_pvs::{row_in, version_in};
 use ctr_store::Store;
 use ctr_types::{OutOfMemory, Row};
-use ctr_walk::{SearchFault, found_on};
+use ctr_walk::{SearchFault, TableOf, found_on};
 use std::alloc::Global;
 
 /// A row, or none for a tombstone, unless memory runs out.

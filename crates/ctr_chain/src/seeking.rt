@@ -8,7 +8,7 @@ ghost use Rattle.ctr_page.specs.Columns.{kinds_width as width_of_kinds};
 ghost use Rattle.ctr_page.specs.Places.{kept_size as size_of_kept, room_for as room_of};
 ghost use Rattle.ctr_page.specs.Walking.{most_in_chain};
 ghost use Rattle.ctr_area.specs.Checked.{kinds_at};
-ghost use Rattle.ctr_pvs.specs.Reading.{kinds_said};
+ghost use Rattle.ctr_walk.specs.Tables.{kinds_said};
 ghost use Rattle.ctr_walk.specs.Damage.{searched};
 ghost use Rattle.ctr_chain.specs.Seeing.{sought_by};
 ghost use Rattle.ctr_chain.specs.Seeking.{sought_along, FoundIn, SearchSaid};
@@ -19,12 +19,12 @@ use ctr_base::Origin;
 use ctr_disk::Disk;
 use ctr_meta::{Meta, is_seen};
 use ctr_page::{BadChain, Place, kept_size, kinds_width, room_for};
-use ctr_pvs::{TableOf, table_on};
+use ctr_pvs::table_on;
 use ctr_records::PageNo;
 use ctr_snap::Snapshot;
 use ctr_store::Store;
 use ctr_types::{Fate, Xid};
-use ctr_walk::SearchFault;
+use ctr_walk::{SearchFault, TableOf};
 
 /// Which version of a row is sought.
 #[derive(Drop)]

@@ -15,9 +15,10 @@ use Rattle.ctr_page.specs.declared.walk.BadChain.{BadChain}
 use Rattle.ctr_page.specs.Places.{kept_size}
 use Rattle.ctr_page.specs.Columns.{kinds_width}
 use Rattle.ctr_area.specs.Reading.{width_on}
-use Rattle.ctr_pvs.specs.declared.table.TableOf.{TableOf}
+use Rattle.ctr_walk.specs.declared.table.TableOf.{TableOf}
 use Rattle.ctr_pvs.specs.Table.{TableSaid}
-use Rattle.ctr_pvs.specs.Reading.{kinds_said, lies_check, PassesAt}
+use Rattle.ctr_walk.specs.Tables.{kinds_said}
+use Rattle.ctr_pvs.specs.Reading.{lies_check, PassesAt}
 use Rattle.ctr_pvs.specs.Writing.{blank_record, drop_check, DropsEntry}
 use Rattle.ctr_area.specs.Changes.{IsPlaceOf}
 use Rattle.ctr_pvs.proofs.Told.{page_of_table, by_table, place_of_version}

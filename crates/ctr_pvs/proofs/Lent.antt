@@ -19,10 +19,11 @@ use Rattle.ctr_walk.specs.Damage.{damage_told, EndsTold}
 use Rattle.ctr_walk.proofs.Joins.{pages_join}
 use Rattle.ctr_walk.proofs.Damages.{reads}
 use Rattle.ctr_record_effects.specs.States.{pages_in}
-use Rattle.ctr_pvs.specs.declared.table.TableOf.{TableOf}
+use Rattle.ctr_walk.specs.declared.table.TableOf.{TableOf}
 use Rattle.ctr_pvs.specs.declared.lending.LentVersion.{LentVersion}
 use Rattle.ctr_pvs.specs.Table.{TableSaid}
-use Rattle.ctr_pvs.specs.Reading.{kinds_said, kept_on_check, lies_check, WidthSaid, version_check_at, PassesAt}
+use Rattle.ctr_walk.specs.Tables.{kinds_said}
+use Rattle.ctr_pvs.specs.Reading.{kept_on_check, lies_check, WidthSaid, version_check_at, PassesAt}
 use Rattle.ctr_pvs.specs.Lending.{entry_lent, IsKeptAt, VersionSaidAt, LendsVersion}
 use Rattle.ctr_pvs.proofs.Told.{page_of_table, by_table, lies_of_entry}
 

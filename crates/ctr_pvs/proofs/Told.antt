@@ -26,9 +26,10 @@ use Rattle.ctr_area.specs.Checked.{kinds_at}
 use Rattle.ctr_area.specs.Changes.{IsPlaceOf}
 use Rattle.ctr_area.proofs.Written.{one_of_two}
 use Rattle.ctr_walk.proofs.Said.{bytes_of_entry}
-use Rattle.ctr_pvs.specs.declared.table.TableOf.{TableOf}
+use Rattle.ctr_walk.specs.declared.table.TableOf.{TableOf}
 use Rattle.ctr_pvs.specs.Table.{there_check, owner_check, catalog_check, told_of, owner_of, table_check, KindsSaid, OwnerSaid, TableSaid}
-use Rattle.ctr_pvs.specs.Reading.{kinds_said, lies_check, kept_on_check, kept_at_check, row_on_check, row_check_at}
+use Rattle.ctr_walk.specs.Tables.{kinds_said}
+use Rattle.ctr_pvs.specs.Reading.{lies_check, kept_on_check, kept_at_check, row_on_check, row_check_at}
 
 -- what is wrong on a page isn't, where it passes
 pub told_ok : (p : ℕ) (r : Result ⊤ BadRecord) → told_of p r ≡ Ok tt → r ≡ Ok tt

@@ -1,5 +1,5 @@
 -- Version entries as they are read: each is checked where it is read.
-use Rattle.std.specs.Prelude.{◌≡◌, ◌≤◌, ℕ, ◌-◌, List, take, ⊤, Result, Ok, Err}
+use Rattle.std.specs.Prelude.{◌≡◌, ◌≤◌, ℕ, ◌-◌, List, ⊤, Result, Ok, Err}
 use Rattle.ctr_types.specs.declared.value.Kind.{Kind}
 use Rattle.ctr_bytes.specs.Fields.{field}
 use Rattle.ctr_bytes.specs.Following.{◌>>=◌}
@@ -17,12 +17,9 @@ use Rattle.ctr_page.specs.Columns.{kinds_width, slot_start, kept_start}
 use Rattle.ctr_page.specs.Damage.{header_check, slot_check, kept_check}
 use Rattle.ctr_area.specs.Reading.{header_on, width_on, area_of}
 use Rattle.ctr_area.specs.Checked.{kinds_at}
-use Rattle.ctr_pvs.specs.declared.table.TableOf.{TableOf}
+use Rattle.ctr_walk.specs.declared.table.TableOf.{TableOf}
+use Rattle.ctr_walk.specs.Tables.{kinds_said}
 use Rattle.ctr_pvs.specs.Table.{there_check, told_of, owner_of, table_check}
-
--- the kinds of the columns behind the key
-abbrev pub kinds_said : TableOf → List Kind
-kinds_said t = take t.count t.kinds
 
 -- a page has a slot or a version entry of this number, where they are of this size
 abbrev pub lies_check : ℕ → ℕ → Result ⊤ BadRecord

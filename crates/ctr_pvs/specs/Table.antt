@@ -12,7 +12,7 @@ use Rattle.ctr_page.specs.Columns.{entry_at, columns_in, kinds_of}
 use Rattle.ctr_page.specs.Damage.{entry_check}
 use Rattle.ctr_area.specs.Reading.{area_of}
 use Rattle.ctr_area.specs.Checked.{kinds_at}
-use Rattle.ctr_pvs.specs.declared.table.TableOf.{TableOf}
+use Rattle.ctr_walk.specs.declared.table.TableOf.{TableOf}
 
 -- ---- checks, in the order in which they are told
 

@@ -16,14 +16,14 @@ ghost use Rattle.ctr_pvs.specs.Reading.{WidthSaid, version_check_at, EndsAt};
 ghost use Rattle.ctr_pvs.specs.Lending.{entry_lent, IsKeptAt, LendsVersion};
 
 use crate::reading::version_in;
-use crate::table::{TableOf, table_on};
+use crate::table::table_on;
 use ctr_base::Origin;
 use ctr_disk::{Disk, StoreFault};
 use ctr_page::{BadPage, Place, Version, VersionEntry, kinds_width, read_version};
 use ctr_records::Bytes;
 use ctr_store::Store;
 use ctr_types::Xid;
-use ctr_walk::{SearchFault, found_on, tell};
+use ctr_walk::{SearchFault, TableOf, found_on, tell};
 
 /// A version entry as it is kept, with its payload lent from its page.
 #[derive(Clone, Copy, Debug)]

@@ -14,5 +14,5 @@ pub use entries::free_entry_on;
 pub use lending::{LentVersion, version};
 pub use reading::{check_versions_there, row_in, version_in};
 pub use search::find_free_entry;
-pub use table::{TableOf, table_on};
+pub use table::table_on;
 pub use writing::{free_entry, keep};

@@ -3,14 +3,16 @@ ghost use Rattle.std.specs.Prelude.{◌≡◌, ◌≤◌, ◌<◌, IfOk, length}
 ghost use Rattle.ctr_page.specs.declared.table.TheConstants.{PAGE_SIZE};
 ghost use Rattle.ctr_page.specs.Columns.{kinds_width as width_of_kinds};
 ghost use Rattle.ctr_page.specs.Making.{IsSlot, IsEntry};
-ghost use Rattle.ctr_pvs.specs.Reading.{kinds_said, lies_check, versions_there, VersionSaid, RowSaid};
+ghost use Rattle.ctr_walk.specs.Tables.{kinds_said};
+ghost use Rattle.ctr_pvs.specs.Reading.{lies_check, versions_there, VersionSaid, RowSaid};
 
-use crate::table::{TableOf, check_there};
+use crate::table::check_there;
 use ctr_page::{
     BadPage, Chain, RowSlot, VersionEntry, check_header, check_slot, check_version, kept_size,
     kinds_width, read_header, read_slot, read_version, room_for, slot_size,
 };
 use ctr_records::{PageNo, at_most};
+use ctr_walk::TableOf;
 
 /// Checks that a page has a slot or a version entry of a number, where they are of this size.
 pub(crate) fn check_lies(size: usize, number: u16) -> Result<(), BadPage>

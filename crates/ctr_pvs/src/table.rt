@@ -13,35 +13,13 @@ use ctr_disk::Disk;
 use ctr_page::{BadPage, check_entry, read_entry, read_header};
 use ctr_records::{BadRecord, PageNo, at_most, expect};
 use ctr_store::Store;
-use ctr_types::Kind;
-use ctr_walk::{SearchFault, catalog_page, found_on};
+use ctr_walk::{SearchFault, TableOf, catalog_page, found_on};
 
 /// The bytes of an entry of the catalog.
 const ENTRY: u64 = 256;
 
 /// The first page behind those of the catalog.
 const FIRST: PageNo = 3;
-
-/// The table that a page is of.
-#[derive(Clone, Copy, Debug, PartialEq, Eq)]
-pub struct TableOf {
-    /// Its entry of the catalog.
-    pub entry: u8,
-    /// What the columns behind the key hold: so many of these.
-    pub kinds: [Kind; 7],
-    pub count: usize,
-}
-
-impl TableOf {
-    /// What the columns behind the key hold.
-    pub fn kinds(&self) -> &[Kind]
-        requires { self.now.count ≤ 7 }
-        ensures value { result.now ≡ take self.now.count self.now.kinds }
-        ensures few { length result.now ≤ 7 }
-    {
-        &self.kinds[..self.count]
-    }
-}
 
 /// Checks a page to which a pointer leads, whose header has this check: the page is counted, the header passes, and the page is
 /// behind those of the catalog.

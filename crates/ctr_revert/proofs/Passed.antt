@@ -14,8 +14,9 @@ use Rattle.ctr_page.specs.declared.rows.Place.{Place}
 use Rattle.ctr_page.specs.Places.{slot_size, start_of}
 use Rattle.ctr_page.specs.Columns.{kinds_width, slot_start}
 use Rattle.ctr_page.specs.Damage.{header_check, slot_check}
-use Rattle.ctr_pvs.specs.declared.table.TableOf.{TableOf}
-use Rattle.ctr_pvs.specs.Reading.{kinds_said, lies_check, versions_there, kept_on_check, VersionSaid, row_on_check, RowSaid}
+use Rattle.ctr_walk.specs.declared.table.TableOf.{TableOf}
+use Rattle.ctr_walk.specs.Tables.{kinds_said}
+use Rattle.ctr_pvs.specs.Reading.{lies_check, versions_there, kept_on_check, VersionSaid, row_on_check, RowSaid}
 use Rattle.ctr_pvs.proofs.Told.{lies_inside, slot_small, within, by_there}
 use Rattle.ctr_revert.specs.declared.slots.FromSlot.{FromSlot}
 use Rattle.ctr_revert.specs.Reverting.{if_used, MadeFrom, SlotSaidFrom, MadeByEntry, EntrySaidFrom}

@@ -28,9 +28,10 @@ use Rattle.ctr_record_effects.specs.States.{pages_in}
 use Rattle.ctr_record_effects.specs.Changing.{laid_on_place}
 use Rattle.ctr_revert.specs.declared.slots.FromSlot.{FromSlot}
 use Rattle.ctr_revert.specs.declared.slots.SlotLaid.{SlotLaid}
-use Rattle.ctr_pvs.specs.declared.table.TableOf.{TableOf}
+use Rattle.ctr_walk.specs.declared.table.TableOf.{TableOf}
 use Rattle.ctr_pvs.specs.Table.{told_of, owner_of}
-use Rattle.ctr_pvs.specs.Reading.{kinds_said, versions_there, kept_on_check, kept_at_check, row_on_check, row_check_at}
+use Rattle.ctr_walk.specs.Tables.{kinds_said}
+use Rattle.ctr_pvs.specs.Reading.{versions_there, kept_on_check, kept_at_check, row_on_check, row_check_at}
 
 -- ---- in the area
 

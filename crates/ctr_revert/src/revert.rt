@@ -8,7 +8,7 @@ ghost use Rattle.ctr_page.specs.declared.table.TheConstants.{PAGE_SIZE};
 ghost use Rattle.ctr_page.specs.Places.{slot_size as size_of_slot, start_of as start_place};
 ghost use Rattle.ctr_page.specs.Columns.{kinds_width as width_of_kinds};
 ghost use Rattle.ctr_area.specs.Changes.{with_slot};
-ghost use Rattle.ctr_pvs.specs.Reading.{kinds_said};
+ghost use Rattle.ctr_walk.specs.Tables.{kinds_said};
 ghost use Rattle.ctr_walk.specs.OneRecord.{HasRoomForOne, LogsOne};
 ghost use Rattle.ctr_walk.specs.Damage.{damage_told, searched, EndsOnPage};
 ghost use Rattle.ctr_record_effects.specs.States.{pages_in, area_in};
@@ -21,13 +21,13 @@ use crate::slots::{FromSlot, SLOT_MOST, SlotLaid, blank_bytes, from_entry, from_
 use ctr_base::Origin;
 use ctr_disk::{Disk, StoreFault};
 use ctr_page::{BadPage, Place, kinds_width, slot_size};
-use ctr_pvs::{TableOf, check_versions_there, row_in, table_on, version_in};
+use ctr_pvs::{check_versions_there, row_in, table_on, version_in};
 use ctr_record_effects::{a_slot_is_laid, over_place};
 use ctr_record_laws::{a_revert_leaves_its_entry, a_revert_takes_the_head, pages_are_in_bounds};
 use ctr_records::Record;
 use ctr_store::Store;
 use ctr_types::Xid;
-use ctr_walk::{SearchFault, found_on, log_on_page, tell};
+use ctr_walk::{SearchFault, TableOf, found_on, log_on_page, tell};
 
 /// The bytes of a slot.
 type SlotBytes = [u8; SLOT_MOST];

@@ -1,5 +1,5 @@
 -- What an entry of the catalog says of a chain is what the area has.
-use Rattle.std.proofs.Common.{◌≡◌, ◌≢◌, inl, inr, ℕ, zero, suc, ◌+◌, ◌*◌, ◌/◌, ◌%◌, ◌<◌, cond, List, [], ◌∷◌, map, take, slice_index, Option, None, Some, Result, Ok, Err, refl, sym, ◌∙◌, ap, subst, arith}
+use Rattle.std.proofs.Common.{◌≡◌, ◌≢◌, inl, inr, ℕ, zero, suc, ◌+◌, ◌*◌, ◌/◌, ◌%◌, ◌<◌, cond, List, [], ◌∷◌, map, slice_index, Option, None, Some, Result, Ok, Err, refl, sym, ◌∙◌, ap, subst, arith}
 use Rattle.std.specs.Prelude.{IfOk}
 use Rattle.std.proofs.lemmas.Bool.{lt-ltb, eq-eqb, ne_eqb}
 use Rattle.ctr_disk.specs.declared.fault.StoreFault.{StoreFault}
@@ -20,7 +20,7 @@ use Rattle.ctr_area.specs.Checked.{kinds_at}
 use Rattle.ctr_walk.specs.Damage.{EndsTold}
 use Rattle.ctr_walk.specs.declared.table.ChainPages.{ChainPages}
 use Rattle.ctr_walk.specs.Along.{ChainSought, EndsAlong}
-use Rattle.ctr_walk.specs.Tables.{IsChain, first_among, first_at, entry_number, first_said, ChainSaid, EndsByKinds, chain_sought, first_of_chain, EndsChain}
+use Rattle.ctr_walk.specs.Tables.{IsChain, kinds_said, first_among, first_at, entry_number, first_said, ChainSaid, EndsByKinds, chain_sought, first_of_chain, EndsChain}
 use Rattle.ctr_walk.proofs.Ends.{at_end}
 
 -- ---- on a page
@@ -87,8 +87,8 @@ module _ (counted : ℕ) (pages : ℕ → List ℕ) (chain : Chain) (ends : Ends
     by_kinds kinds = record { chain = chain; counted = counted; ends = ends kinds counted }
 
     pub pages_end : {E : Type 0} (found : ChainPages) (result : Result (Result (Option Place) BadChain) E) → ChainSaid counted chain page (Ok (Some found))
-        → IfOk result (EndsAlong (by_kinds (take found.count found.kinds)) pages (most_in_chain counted) 0 found.first) → IfOk result (EndsChain counted pages chain ends)
-    pages_end found result said along = if_ok result (EndsAlong (by_kinds (take found.count found.kinds)) pages (most_in_chain counted) 0 found.first) (EndsChain counted pages chain ends)
+        → IfOk result (EndsAlong (by_kinds (kinds_said found.table)) pages (most_in_chain counted) 0 found.first) → IfOk result (EndsChain counted pages chain ends)
+    pages_end found result said along = if_ok result (EndsAlong (by_kinds (kinds_said found.table)) pages (most_in_chain counted) 0 found.first) (EndsChain counted pages chain ends)
         (λ r a. inr (
           said.0,
           subst (λ p. EndsAlong (chain_sought pages counted chain ends) pages (most_in_chain counted) 0 p r) (sym said.1 ∙ sym first_here)

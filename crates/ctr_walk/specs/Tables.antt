@@ -15,7 +15,12 @@ use Rattle.ctr_area.specs.Areas.{Firsts, Area}
 use Rattle.ctr_area.specs.Reading.{firsts_of, area_of}
 use Rattle.ctr_area.specs.Checked.{kinds_at}
 use Rattle.ctr_walk.specs.Along.{ChainSought, EndsAlong}
+use Rattle.ctr_walk.specs.declared.table.TableOf.{TableOf}
 use Rattle.ctr_walk.specs.declared.table.ChainPages.{ChainPages}
+
+-- the kinds of a table's columns behind the key
+abbrev pub kinds_said : TableOf → List Kind
+kinds_said t = take t.count t.kinds
 
 -- A chain is of one of the 32 entries of the catalog, and of one of the 8 buckets.
 abbrev pub IsChain : Chain → Type 0
@@ -52,11 +57,11 @@ ChainSaid counted chain page (Ok None) =
     (chain_table_check counted chain page ≡ Ok tt) × (first_said chain page ≡ 0)
 ChainSaid counted chain page (Ok (Some found)) =
     (chain_table_check counted chain page ≡ Ok tt) × (first_said chain page ≡ found.first)
-    × (take found.count found.kinds ≡ kinds_of (columns_in (entry_at (entry_number chain) page).bytes))
+    × (kinds_said found.table ≡ kinds_of (columns_in (entry_at (entry_number chain) page).bytes))
 
 -- the first page is there, and is counted
 abbrev pub PagesFit : ℕ → ChainPages → Type 0
-PagesFit counted found = (found.first ≢ 0) × (found.first < counted) × (found.count ≤ 7)
+PagesFit counted found = (found.first ≢ 0) × (found.first < counted) × (found.table.count ≤ 7)
 
 -- ---- in a store
 

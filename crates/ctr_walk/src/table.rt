@@ -5,7 +5,7 @@ ghost use Rattle.ctr_walk.specs.Damage.{damage_told, searched, EndsOnPage, EndsT
 ghost use Rattle.ctr_record_effects.specs.States.{pages_in};
 ghost use Rattle.ctr_page.specs.Damage.{chain_entry};
 ghost use Rattle.ctr_page.specs.declared.table.TheConstants.{PAGE_SIZE, ENTRY_SIZE};
-ghost use Rattle.ctr_walk.specs.Tables.{IsChain, first_at, ChainSaid, PagesFit, EndsChain};
+ghost use Rattle.ctr_walk.specs.Tables.{IsChain, kinds_said, first_at, ChainSaid, PagesFit, EndsChain};
 ghost use Rattle.ctr_store.specs.Store.{LeavesPage};
 
 use crate::along::{PageSought, search_pages};
@@ -18,14 +18,33 @@ use ctr_records::PageNo;
 use ctr_store::Store;
 use ctr_types::Kind;
 
-/// The pages of a chain.
+/// The table of an entry of the catalog.
+#[derive(Clone, Copy, Debug, PartialEq, Eq)]
+pub struct TableOf {
+    /// Its entry of the catalog.
+    pub entry: u8,
+    /// What the columns behind the key hold: so many of these.
+    pub kinds: [Kind; 7],
+    pub count: usize,
+}
+
+impl TableOf {
+    /// What the columns behind the key hold.
+    pub fn kinds(&self) -> &[Kind]
+        requires { self.now.count ≤ 7 }
+        ensures value { result.now ≡ kinds_said self.now }
+        ensures few { length result.now ≤ 7 }
+    {
+        &self.kinds[..self.count]
+    }
+}
+
+/// The pages of a chain, and its table.
 #[derive(Clone, Copy, Debug, PartialEq, Eq)]
 pub(crate) struct ChainPages {
     /// Their first one.
     pub(crate) first: PageNo,
-    /// What the columns behind the key hold: so many of these.
-    pub(crate) kinds: [Kind; 7],
-    pub(crate) count: usize,
+    pub(crate) table: TableOf,
 }
 
 /// The entry of the catalog that a chain is of.
@@ -65,7 +84,8 @@ fn pages_said(chain: Chain, counted: u32, page: &[u8]) -> Result<Option<ChainPag
     ensures said { ChainSaid counted chain page.now result }
     ensures fits { IfOk result (λ found. IfSome found (PagesFit counted)) }
 {
-    let at = entry_of(chain) % 16;
+    let entry = entry_of(chain);
+    let at = entry % 16;
     check_entry(counted, at, page)?;
     let table = read_entry(page, at);
     if table.state == 0 {
@@ -77,8 +97,11 @@ fn pages_said(chain: Chain, counted: u32, page: &[u8]) -> Result<Option<ChainPag
     }
     Ok(Some(ChainPages {
         first,
-        kinds: table.kinds(),
-        count: table.count() as usize - 1,
+        table: TableOf {
+            entry,
+            kinds: table.kinds(),
+            count: table.count() as usize - 1,
+        },
     }))
 }
 
@@ -117,7 +140,7 @@ fn search_table<D: Disk, O: Origin, S: PageSought>(
     let Some(pages) = pages_of(store, chain, counted)? else {
         return Ok(None);
     };
-    let kinds = &pages.kinds[..pages.count];
+    let kinds = pages.table.kinds();
     search_pages(store, pages.first, chain, kinds, counted, sought)
 }
 

@@ -16,7 +16,8 @@ use Rattle.ctr_walk.specs.Damage.{searched, EndsOnPage}
 use Rattle.ctr_walk.proofs.Joins.{answers_ok, pages_join}
 use Rattle.ctr_walk.proofs.Searches.{without, passed, passed_page, leaves_behind}
 use Rattle.ctr_pvs.specs.Table.{TableSaid}
-use Rattle.ctr_pvs.specs.Reading.{kinds_said, row_on_check}
+use Rattle.ctr_walk.specs.Tables.{kinds_said}
+use Rattle.ctr_pvs.specs.Reading.{row_on_check}
 use Rattle.ctr_pvs.proofs.Told.{no_table_first, by_table}
 use Rattle.ctr_area.specs.Reading.{area_of}
 use Rattle.ctr_chain.specs.declared.seeking.Found.{Found}

@@ -5,7 +5,7 @@ use Rattle.ctr_area.specs.Reading.{area_of}
 use Rattle.ctr_area.specs.Checked.{kinds_at}
 use Rattle.ctr_record_effects.specs.States.{pages_in}
 use Rattle.ctr_walk.proofs.PagesRead.{HasRead}
-use Rattle.ctr_pvs.specs.Reading.{kinds_said}
+use Rattle.ctr_walk.specs.Tables.{kinds_said}
 use Rattle.ctr_chain.specs.Seeing.{sought_by}
 use Rattle.ctr_chain.specs.Seeking.{EntriesOf, sought_along}
 use Rattle.ctr_chain.proofs.seeking.seek_along.Given as goal

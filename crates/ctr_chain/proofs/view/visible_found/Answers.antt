@@ -11,7 +11,7 @@ use Rattle.ctr_walk.proofs.Searches.{passed, by_page, ok_by}
 use Rattle.ctr_meta.specs.Seen.{xid_is_seen}
 use Rattle.ctr_chain.specs.declared.seeking.Found.{Found}
 use Rattle.ctr_chain.specs.Reading.{place_of_version, RowSaidAt}
-use Rattle.ctr_pvs.specs.declared.table.TableOf.{TableOf}
+use Rattle.ctr_walk.specs.declared.table.TableOf.{TableOf}
 use Rattle.ctr_records.specs.declared.decoding.BadRecord.{BadRecord}
 use Rattle.ctr_chain.specs.Rows.{GivesRow}
 use Rattle.ctr_chain.specs.Visible.{EndsReading, visible_row}

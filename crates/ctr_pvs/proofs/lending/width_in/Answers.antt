@@ -1,7 +1,8 @@
 use Rattle.std.proofs.Common.{◌≡◌, ◌∙◌, ap, arith}
 use Rattle.ctr_page.specs.Columns.{kinds_width}
 use Rattle.ctr_page.specs.Places.{kept_size}
-use Rattle.ctr_pvs.specs.Reading.{kinds_said, lies_check}
+use Rattle.ctr_walk.specs.Tables.{kinds_said}
+use Rattle.ctr_pvs.specs.Reading.{lies_check}
 use Rattle.ctr_pvs.proofs.Told.{lies_inside, lies_of_entry}
 use Rattle.ctr_pvs.proofs.lending.width_in.Goals as goal
 

@@ -8,7 +8,8 @@ use Rattle.ctr_store.specs.Store.{LeavesPage}
 use Rattle.ctr_walk.specs.Damage.{searched, EndsOnPage}
 use Rattle.ctr_walk.proofs.Searches.{ends_on, found_ok, passed, passed_page, leaves_on, leaves_without}
 use Rattle.ctr_pvs.specs.Table.{TableSaid}
-use Rattle.ctr_pvs.specs.Reading.{kinds_said, lies_check, EndsAt}
+use Rattle.ctr_walk.specs.Tables.{kinds_said}
+use Rattle.ctr_pvs.specs.Reading.{lies_check, EndsAt}
 use Rattle.ctr_pvs.specs.Writing.{drop_check}
 use Rattle.ctr_pvs.proofs.Told.{no_table_first, by_table, lies_there}
 use Rattle.ctr_pvs.proofs.Freeing.{freeing_passes}

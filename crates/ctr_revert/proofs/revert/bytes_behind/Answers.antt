@@ -5,7 +5,7 @@ use Rattle.ctr_record_effects.specs.States.{pages_in}
 use Rattle.ctr_walk.specs.Damage.{searched}
 use Rattle.ctr_walk.proofs.Joins.{answers_ok, pages_join}
 use Rattle.ctr_walk.proofs.Searches.{passed_page, leaves_behind}
-use Rattle.ctr_pvs.specs.Reading.{kinds_said}
+use Rattle.ctr_walk.specs.Tables.{kinds_said}
 use Rattle.ctr_revert.specs.Reverting.{EntrySaidFrom, IsMadeOr, BytesSaid}
 use Rattle.ctr_revert.proofs.Lost.{by_reading, ends_kept, ends_damaged, none_of}
 use Rattle.ctr_revert.proofs.revert.bytes_behind.Goals as goal
