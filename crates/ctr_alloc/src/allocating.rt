@@ -1,6 +1,6 @@
 // One record allocates a page of a store, or gives it back.
 ghost use Rattle.std.specs.Prelude.{◌≡◌, ◌<◌, ◌/◌, ◌%◌, ℕ, true, false, slice_index, IfOk, OnOk};
-ghost use Rattle.ctr_model.specs.declared.limits.TheConstants.{MOST_PAGES};
+ghost use Rattle.ctr_base.specs.declared.growing.TheConstants.{MOST_PAGES};
 ghost use Rattle.ctr_area.specs.Changes.{with_taken as area_with_taken, IsBitSet};
 ghost use Rattle.ctr_base.specs.Base.{WhereSound};
 ghost use Rattle.ctr_store.specs.Store.{LeavesPage};

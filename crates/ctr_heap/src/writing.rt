@@ -1,6 +1,6 @@
 // One record lays a slot, makes a page empty, or puts one at the front of a chain.
 ghost use Rattle.std.specs.Prelude.{◌≡◌, ◌≤◌, ◌<◌, ◌+◌, ◌/◌, ◌-◌, ◌^◌, IfSome, OnOk};
-ghost use Rattle.ctr_model.specs.declared.limits.TheConstants.{MOST_PAGES};
+ghost use Rattle.ctr_base.specs.declared.growing.TheConstants.{MOST_PAGES};
 ghost use Rattle.ctr_meta.specs.Tables.{heads_in};
 ghost use Rattle.ctr_base.specs.Base.{WhereSound};
 ghost use Rattle.ctr_bytes.specs.Fields.{spelled};
