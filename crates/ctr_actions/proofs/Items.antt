@@ -33,7 +33,7 @@ left_keeps w z (a ∷ items) isnt (inr in_) = known (is_wanted w a)
     (λ other. subst (IsAmong z) (sym (ap (λ b. cond b items (a ∷ left_out w items)) other)) (inr (left_keeps w z items isnt in_)))
 
 -- and none comes
-left_back : (w : Wanted) (z : SlogItem) (items : List SlogItem) → IsAmong z (left_out w items) → IsAmong z items
+pub left_back : (w : Wanted) (z : SlogItem) (items : List SlogItem) → IsAmong z (left_out w items) → IsAmong z items
 left_back w z [] in_ = in_
 left_back w z (a ∷ items) in_ = known (is_wanted w a)
     (λ wanted. inr (subst (IsAmong z) (ap (λ b. cond b items (a ∷ left_out w items)) wanted) in_))

@@ -8,3 +8,5 @@ pub mod Latest
 pub mod Needed
 pub mod Stays
 pub mod Gains
+pub mod Order
+pub mod Bounded

@@ -1,7 +1,7 @@
 -- What one record does, by whom: its kinds by name, what each owes, and what it leaves. The number
 -- is that of the transaction that acts: of a session, of one that is rolled back, or of an orphan
 -- that undo undoes. The cleaner and the flusher act for nobody, with the number 0.
-use Rattle.std.specs.Prelude.{◌≡◌, ℕ, Bool, true, false, List, Ok}
+use Rattle.std.specs.Prelude.{◌≡◌, ◌≢◌, ℕ, Bool, true, false, List, Ok}
 use Rattle.ctr_types.specs.declared.value.Column.{Column}
 use Rattle.ctr_records.specs.declared.record.SlogItem.{SlogItem}
 use Rattle.ctr_records.specs.declared.record.SlogItem.TheVariants.{AllocOf, FreeOf, CreateOf, DropOf}
@@ -16,6 +16,7 @@ use Rattle.ctr_page.specs.declared.rows.Place.{Place}
 use Rattle.ctr_area.specs.Areas.{Title, Older, Area, no_pages, free_older}
 use Rattle.ctr_area.specs.Sound.{IsAmong, how_many}
 use Rattle.ctr_area.specs.Changes.{with_taken, with_blank, with_firsts, with_bucket, with_older, with_title, new_title, empty_chains, ChangesEntry}
+use Rattle.ctr_record_laws.specs.Bounds.{IsInBounds}
 use Rattle.ctr_record_laws.specs.Owed.{OwedByKeep, RowMove, row_moved, row_counted, OwedByRow, Reverting, OwedByRevert, reverted_at, Trimming, OwedByTrim, trimmed_at, OwedByCut, cut_at, OwedByAlloc, OwedByFormat, OwedByLink, OwedByOlderLink, OwedByUnlink, OwedByOlderUnlink, OwedByUncreate, OwedByUndrop, OwedByDrop, OwedByCreate, OwedByDying, OwedByFreeing, OwedByAbort, OwedByCommit, OwedByBegin, OwedByForget}
 use Rattle.ctr_record_laws.specs.Loose.{IsLoose}
 use Rattle.ctr_actions.specs.Sites.{Site}
@@ -189,3 +190,11 @@ undoing (DropOf x e) = Undrops e
 -- how many items are a transaction's
 abbrev pub items_of : ℕ → Tables → ℕ
 items_of x tables = how_many (is_item_by x) tables.items
+
+-- What the area that is left isn't in its bounds without: an area that the action carries is; and a
+-- free entry isn't linked to.
+abbrev pub LeavesBounds : Action → Site → Type 0
+LeavesBounds (Creates e name columns left) s = IsInBounds left
+LeavesBounds (FreesEntry e title left) s = IsInBounds left
+LeavesBounds (LinksOlder p e) s = (s.area.title e).state ≢ 0
+LeavesBounds a s = Unit {0}

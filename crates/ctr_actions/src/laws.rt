@@ -1,20 +1,19 @@
 // Laws of actions.
-ghost use Rattle.std.specs.Prelude.{◌⊎◌, ◌≡◌, ◌≢◌, ◌≤◌, ◌+◌, ℕ, true, Ok, length};
+ghost use Rattle.std.specs.Prelude.{◌⊎◌, ◌≡◌, ◌≢◌, ◌≤◌, ℕ, true, Ok};
 ghost use Rattle.ctr_records.specs.declared.record.Overlay.{Overlay};
-ghost use Rattle.ctr_records.specs.declared.record.SlogItem.{SlogItem};
 ghost use Rattle.ctr_meta.specs.Needs.{needs};
 ghost use Rattle.ctr_meta.specs.Effects.{effect};
 ghost use Rattle.ctr_page.specs.declared.rows.Place.{Place};
 ghost use Rattle.ctr_area.specs.Areas.{RowVersion};
 ghost use Rattle.ctr_area.specs.Chains.{pages_bound};
 ghost use Rattle.ctr_area.specs.Images.{is_live};
-ghost use Rattle.ctr_area.specs.Sound.{IsAmong, IsUsedSlot};
+ghost use Rattle.ctr_area.specs.Sound.{IsUsedSlot};
 ghost use Rattle.ctr_record_laws.specs.Bounds.{IsInBounds};
-ghost use Rattle.ctr_record_laws.specs.Owed.{RowMove, OwedByRow, IsLastItem};
+ghost use Rattle.ctr_record_laws.specs.Owed.{RowMove, OwedByRow};
 ghost use Rattle.ctr_record_laws.specs.Loose.{IsSpareFor};
 ghost use Rattle.ctr_record_laws.specs.Shows.{ShowTheSame};
 ghost use Rattle.ctr_actions.specs.Sites.{Site, IsSoundSite, IsSameEngine};
-ghost use Rattle.ctr_actions.specs.Actions.{Action, FreesOlder, Owes, after, IsQuiet, undoing, items_of};
+ghost use Rattle.ctr_actions.specs.Actions.{Action, FreesOlder, Owes, after, IsQuiet, LeavesBounds};
 ghost use Rattle.ctr_actions.specs.Records.{record_of};
 ghost use Rattle.ctr_actions.specs.Facts.{Fact, Holds, IsAway, IsBeside, IsOtherRow, IsOfNoTable};
 
@@ -58,6 +57,12 @@ pub fn an_action_stays_sound()
     an_unlink_stays_sound();
     a_forget_stays_sound();
 }
+
+/// What it leaves is in its bounds, where an area that it carries is, and a version chain that it links to is that of an entry that
+/// isn't free. Between states that is given.
+pub fn an_action_stays_in_bounds()
+    ensures { (x : ℕ) (a : Action) (s : Site) → IsInBounds s.area → IsSoundSite s → Owes x a s → LeavesBounds a s → IsInBounds (after x a s).area }
+{}
 
 /// The record of an action that owes nothing more fits the tables, and its effect is what the action makes of them.
 pub fn an_action_meets_its_needs()
@@ -126,15 +131,6 @@ pub fn locked_rows_are_away()
 /// A live table is another one than that of an entry that is created or freed, or whose bucket loses a page.
 pub fn live_tables_are_away()
     ensures { (x : ℕ) (a : Action) (s : Site) (e f : ℕ) → Owes x a s → IsOfNoTable a f → is_live (s.area.title e) ≡ true → e ≢ f }
-{}
-
-/// The latest item of a transaction can be undone, and then it has an item less; whatever item is undone, the secondary log has one less.
-pub fn the_latest_item_can_be_undone()
-    ensures owed { (x : ℕ) (s : Site) (i : SlogItem) → IsLastItem x i s.tables.items → Owes x (undoing i) s }
-    ensures fewer { (x : ℕ) (s : Site) (i : SlogItem) → IsInBounds s.area → IsSoundSite s → IsLastItem x i s.tables.items
-        → items_of x s.tables ≡ items_of x (after x (undoing i) s).tables + 1 }
-    ensures shorter { (x : ℕ) (s : Site) (i : SlogItem) → IsAmong i s.tables.items
-        → length s.tables.items ≡ length (after x (undoing i) s).tables.items + 1 }
 {}
 
 /// Where the file grows, what is sound stays so, and so does what a transaction counts on.

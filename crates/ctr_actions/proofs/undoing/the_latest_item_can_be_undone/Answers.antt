@@ -1,5 +1,5 @@
 use Rattle.ctr_actions.proofs.Latest.{undoing_owed, one_item_less, log_shorter}
-use Rattle.ctr_actions.proofs.laws.the_latest_item_can_be_undone.Goals as goal
+use Rattle.ctr_actions.proofs.undoing.the_latest_item_can_be_undone.Goals as goal
 
 pub returns-clause-owed : goal.returns-clause-owed
 returns-clause-owed c = undoing_owed
