@@ -11,9 +11,9 @@ use Rattle.ctr_record_laws.specs.Loose.{IsSpareFor}
 use Rattle.ctr_actions.specs.Sites.{Site}
 use Rattle.ctr_actions.specs.Actions.{Action, Allocates, Formats, Links, LinksOlder, Commits, Frees, Aborts, Writes, Creates, Drops, Uncreates, Undrops, Reverts, Trims, FreesOlder, MakesDead, Unlinks, FreesEntry}
 
--- Its transaction is open; a page is its own to link; it is, and is empty with a header; a slot of
--- a table is as it was read; a version of what stands there was kept; the title of a table is
--- this.
+-- Its transaction is open; a page is its own to link; it has no page to link but these; a page is
+-- its own, and is empty with a header; a slot of a table is as it was read; a version of what
+-- stands there was kept; the title of a table is this.
 pub data Fact : Type 0 where
   IsOpen : Fact
   HasPage : ℕ → Fact
@@ -34,9 +34,10 @@ Holds x (HasSlot e at slot) s = IsUsedSlot s.area e at × (s.area.slot at ≡ sl
 Holds x (HasCopy e at version q) s = IsUsedSlot s.area e at × IsSpareFor s.area e at version q
 Holds x (HasTable e title) s = s.area.title e ≡ title
 
--- Another's action is away from a fact, by the locks and the uses of tables. A row is written,
--- reverted or trimmed in another slot, and another copy is freed; a bucket's page leaves another
--- table; and another entry of the catalog is created or freed, dropped or dead, or that is undone.
+-- An action is away from a fact: a row is written, reverted or trimmed in another slot, and another
+-- copy is freed; a bucket of another table loses a page; another entry of the catalog is created or
+-- freed, dropped or made dead, or that is undone. Of another's action that follows from locks, and
+-- from the uses of tables.
 abbrev pub IsAway : Action → Fact → Type 0
 IsAway (Writes m) (HasSlot e at slot) = at ≢ m.at
 IsAway (Writes m) (HasCopy e at version q) = at ≢ m.at

@@ -1,5 +1,5 @@
 // Laws of actions.
-ghost use Rattle.std.specs.Prelude.{◌⊎◌, ◌≡◌, ◌≢◌, ◌≤◌, ℕ, true, Ok};
+ghost use Rattle.std.specs.Prelude.{◌⊎◌, ◌≡◌, ◌≢◌, ◌≤◌, ℕ, Bool, true, false, Ok};
 ghost use Rattle.ctr_records.specs.declared.record.Overlay.{Overlay};
 ghost use Rattle.ctr_meta.specs.Needs.{needs};
 ghost use Rattle.ctr_meta.specs.Effects.{effect};
@@ -13,7 +13,7 @@ ghost use Rattle.ctr_record_laws.specs.Owed.{RowMove, OwedByRow};
 ghost use Rattle.ctr_record_laws.specs.Loose.{IsSpareFor};
 ghost use Rattle.ctr_record_laws.specs.Shows.{ShowTheSame};
 ghost use Rattle.ctr_actions.specs.Sites.{Site, IsSoundSite, IsSameEngine};
-ghost use Rattle.ctr_actions.specs.Actions.{Action, FreesOlder, Owes, after, IsQuiet, LeavesBounds};
+ghost use Rattle.ctr_actions.specs.Actions.{Action, FreesOlder, MakesDead, Owes, after, IsQuiet, LeavesBounds};
 ghost use Rattle.ctr_actions.specs.Records.{record_of};
 ghost use Rattle.ctr_actions.specs.Facts.{Fact, Holds, IsAway, IsBeside, IsOtherRow, IsOfNoTable};
 
@@ -131,6 +131,11 @@ pub fn locked_rows_are_away()
 /// A live table is another one than that of an entry that is created or freed, or whose bucket loses a page.
 pub fn live_tables_are_away()
     ensures { (x : ℕ) (a : Action) (s : Site) (e f : ℕ) → Owes x a s → IsOfNoTable a f → is_live (s.area.title e) ≡ true → e ≢ f }
+{}
+
+/// A table whose dropper not everyone sees is another one than that which is made dead.
+pub fn tables_in_use_stay_live()
+    ensures { (x : ℕ) (passes : ℕ → Bool) (s : Site) (e f : ℕ) → Owes x (MakesDead passes f) s → passes (s.area.title e).dropper ≡ false → e ≢ f }
 {}
 
 /// Where the file grows, what is sound stays so, and so does what a transaction counts on.

@@ -12,7 +12,7 @@ pub use laws::{
     a_quiet_action_leaves_the_engine, a_quiet_action_shows_the_same, an_action_meets_its_needs,
     an_action_stays_in_bounds, an_action_stays_sound, another_leaves_what_is_held,
     growth_keeps_a_site, live_tables_are_away, locked_rows_are_away,
-    ones_own_action_leaves_what_is_held, what_is_held_stays,
+    ones_own_action_leaves_what_is_held, tables_in_use_stay_live, what_is_held_stays,
 };
 pub use states::{a_logged_record_is_its_action, what_is_done_stays};
 pub use undoing::{
