@@ -13,7 +13,7 @@ use Rattle.ctr_meta.proofs.XidLaws.{in_head, in_rest}
 use Rattle.ctr_meta.specs.Effects.{with_item}
 use Rattle.ctr_meta.specs.Tables.{Tables, is_in}
 use Rattle.ctr_record_laws.proofs.Heads.{listed_open}
-use Rattle.ctr_record_laws.proofs.Members.{among_rest, among_parts, on_page, count_append, bit}
+use Rattle.ctr_record_laws.proofs.Members.{among_front, among_rest, among_parts, on_page, count_append, bit}
 use Rattle.ctr_record_laws.specs.Bounds.{IsInBounds}
 use Rattle.ctr_page.specs.declared.rows.Place.{Place}
 use Rattle.ctr_records.specs.declared.record.SlogItem.{SlogItem}
@@ -68,7 +68,7 @@ module _ (counted : ℕ) (tables : Tables) (area : Area) (p e : ℕ) (sound : Is
   -- ---- from a bucket
 
   module _ (bucket : ℕ) (there : bucket < length (area.firsts e).buckets) (first : first_page area e bucket ≡ p)
-      (heads : (at : Place) → at.page ≡ p → (area.slot at).used ≡ true → is_committed_in tables (area.slot at).head.0 ≡ true) where
+      (heads : (at : Place) → IsUsedSlot area e at → at.page ≡ p → is_committed_in tables (area.slot at).head.0 ≡ true) where
     abbrev buckets : List ℕ
     buckets = (area.firsts e).buckets
 
@@ -82,12 +82,17 @@ module _ (counted : ℕ) (tables : Tables) (area : Area) (p e : ℕ) (sound : Is
     abbrev without_page : Firsts
     without_page = with_bucket bucket next (area.firsts e)
 
+    -- the places on it are those of slots
+    in_table : (at : Place) → IsAmong at (places_on p 0 (area.room p)) → IsAmong at (slot_places area e)
+    in_table at on_it = one_among (places_from area) at buckets bucket there
+        (subst (λ f. IsAmong at (places_from area f)) (sym first) (subst (IsAmong at) (sym places) (among_front at (places_on p 0 (area.room p)) (places_from area next) on_it)))
+
     -- no head on it is counted
     no_heads : (h : ℕ × ℕ) → IsAmong h (tables.opens ++ tables.aborted) → how_many (is_headed_by area.slot h.0) (places_on p 0 (area.room p)) ≡ 0
     no_heads h in_ = none_pass (is_headed_by area.slot h.0) (places_on p 0 (area.room p))
         (λ at on_it. known (area.slot at).used
         (λ used. ap (λ b. b && ((area.slot at).head.0 == h.0)) used
-        ∙ ne_eqb (area.slot at).head.0 h.0 (λ is. false≢true (sym (listed_open tables h.0 (listed_one h in_)) ∙ ap (is_committed_in tables) (sym is) ∙ heads at (on_page p 0 (area.room p) at on_it) used)))
+        ∙ ne_eqb (area.slot at).head.0 h.0 (λ is. false≢true (sym (listed_open tables h.0 (listed_one h in_)) ∙ ap (is_committed_in tables) (sym is) ∙ heads at (in_table at on_it, used) (on_page p 0 (area.room p) at on_it))))
         (λ free. ap (λ b. b && ((area.slot at).head.0 == h.0)) free))
       where
         in_list : (h : ℕ × ℕ) (ps : List (ℕ × ℕ)) → IsAmong h ps → is_in h.0 ps ≡ true

@@ -298,7 +298,7 @@ pub record OwedByUnlink (tables : Tables) (area : Area) (p e bucket : ℕ) : Typ
   pub there : bucket < length (area.firsts e).buckets
   pub first : first_page area e bucket ≡ p
   pub some : 0 < p
-  pub heads : (at : Place) → at.page ≡ p → (area.slot at).used ≡ true
+  pub heads : (at : Place) → IsUsedSlot area e at → at.page ≡ p
       → is_committed_in tables (area.slot at).head.0 ≡ true
 
 -- What an Unlink from a version chain owes: the page is its first one, and the table has no used
