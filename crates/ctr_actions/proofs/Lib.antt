@@ -10,3 +10,4 @@ pub mod Stays
 pub mod Gains
 pub mod Order
 pub mod Bounded
+pub mod Bare

@@ -2,3 +2,4 @@ pub mod Sites
 pub mod Actions
 pub mod Records
 pub mod Facts
+pub mod Cleaning

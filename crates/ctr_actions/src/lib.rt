@@ -2,11 +2,13 @@
 //! computes them.
 #![tactic(auto)]
 
+mod cleaning;
 mod held;
 mod laws;
 mod states;
 mod undoing;
 
+pub use cleaning::a_site_with_nothing_to_clean_is_bare;
 pub use held::{an_action_gives_its_fact, what_is_held_pays};
 pub use laws::{
     a_quiet_action_leaves_the_engine, a_quiet_action_shows_the_same, an_action_meets_its_needs,
