@@ -10,7 +10,7 @@ use Rattle.ctr_model.specs.declared.database.Change.{Change}
 use Rattle.ctr_model.specs.declared.state.State.{State}
 use Rattle.ctr_model.specs.Database.{table_at}
 use Rattle.ctr_model.specs.Refusals.{row_of}
-use Rattle.ctr_versions.specs.Chains.{Numbers, value_seen, is_by, by, written_by, newest_since, Behind, AllCommitted, value_at_number, changed_since, ShowsKey}
+use Rattle.ctr_versions.specs.Chains.{Numbers, value_seen, is_by, by, written_by, newest_since, Behind, AllCommitted, value_at_number, changed_since, AllTold, ShowsKey}
 use Rattle.ctr_versions.specs.Keys.{schema_change, row_change, left_by, row_writes, schema_named}
 use Rattle.ctr_versions.specs.Versions.{Made, Versions, names_at, rows_of, schemas, IsTableAt, IsTableSince, IsFrom, VersionsStand, ByX, Wrote}
 use Rattle.ctr_versions.proofs.Chains.{with_number, SameNumber, seen_alike, by_alike, others_number, asked_shows, created_shows, early_value}
@@ -127,17 +127,23 @@ module _ (low : ℕ) (number : Numbers) (state : State) (versions : Versions) (x
         let created = wrote.created name made key (own_is ∙ ap Some same) in
         (created_over (left_by (row_change name key)) state.asked own number x base chain wrote.is_open created.0 created.1).rows j (omega (arith, late))
 
-    changes_at : (m : ℕ) → IsTableSince low next versions name made m → (w : Option (Option Made)) → written_by x names ≡ w → newest_since next m chain ≡ changed_since m (row_writes name key (longer own state).asked)
+    -- since m the chain shows the row's changes
+    abbrev Since : ℕ → Type 0
+    Since m = (newest_since next m chain ≡ changed_since m (row_writes name key (longer own state).asked)) × AllTold next m (row_writes name key (longer own state).asked) chain
+
+    changes_at : (m : ℕ) → IsTableSince low next versions name made m → (w : Option (Option Made)) → written_by x names ≡ w → Since m
     changes_at m since None own_is =
-        let later : value_seen (by next (m + k)) names ≡ Some made = since.1 (m + k) (omega arith) in
-        (asked_here (m + k) (omega arith) own_is later).changes m (since.0, λ j le. sym (seen_names j own_is) ∙ since.1 j le)
+        let shows = asked_here (m + k) (omega arith) own_is (since.1 (m + k) (omega arith)) in
+        let before_ : IsTableSince low number versions name made m = (since.0, λ j le. sym (seen_names j own_is) ∙ since.1 j le) in
+        (shows.changes m before_, shows.told m before_)
     changes_at m since (Some None) own_is = absurd (false≢true (ap is_some (sym (own_names (m + k) None (omega arith) own_is) ∙ since.1 (m + k) (omega arith))))
     changes_at m since (Some (Some mine)) own_is =
         let same : Some mine ≡ Some made = sym (own_names (m + k) (Some mine) (omega arith) own_is) ∙ since.1 (m + k) (omega arith) in
         let is : written_by x names ≡ Some (Some made) = own_is ∙ ap Some same in
         let created = wrote.created name made key is in
+        let shows = created_over (left_by (row_change name key)) state.asked own number x base chain wrote.is_open created.0 created.1 in
         ⊎_elim
-        (λ late. (created_over (left_by (row_change name key)) state.asked own number x base chain wrote.is_open created.0 created.1).changes m late)
+        (λ late. (shows.changes m late, shows.told m late))
         (λ early. absurd (wrote.fresh name made m is (sym (seen_tests (by number m) (by next m) names (early_by number x k m wrote.is_open (omega (arith, early)))) ∙ since.1 m (omega arith))))
         (cases_lt (length state.asked) m)
 
@@ -151,7 +157,8 @@ module _ (low : ℕ) (number : Numbers) (state : State) (versions : Versions) (x
     asked_rows : ShowsKey (IsTableAt low next versions name made) (IsTableSince low next versions name made) next base (row_writes name key (longer own state).asked) chain
     asked_rows = record {
       rows = λ j at. rows_at_any j at (cases_lt (length state.asked) j);
-      changes = λ m since. changes_at m since (written_by x names) refl;
+      changes = λ m since. (changes_at m since (written_by x names) refl).0;
+      told = λ m since. (changes_at m since (written_by x names) refl).1;
       behind = still_behind number x k chain over.behind;
     }
 

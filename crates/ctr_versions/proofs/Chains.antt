@@ -8,7 +8,7 @@ use Rattle.std.proofs.lemmas.Map.{update_here, update_apart}
 use Rattle.std.proofs.lemmas.Cmp.{nat_eq_equiv}
 use Rattle.std.proofs.lemmas.Bool.{le-leb, lt-leb, le-ltb, lt-ltb, cases_lt, eqb-true, ne_eqb, eq-eqb, false≢true}
 use Rattle.std.proofs.lemmas.List.{take-append-le, take-append-drop, length-take-le, drop-append-le, take_all, drop_all, length_push, length-drop}
-use Rattle.ctr_versions.specs.Chains.{IsUnwritten, Numbers, value_seen, is_by, by, by_or_own, newest, above, newest_since, written_by, AllCommitted, Behind, overlay, value_at_number, last_write, changed_since, ShowsKey}
+use Rattle.ctr_versions.specs.Chains.{IsUnwritten, Numbers, value_seen, is_by, by, by_or_own, newest, above, newest_since, written_by, AllCommitted, Behind, overlay, value_at_number, last_write, changed_since, AllTold, ShowsKey}
 
 -- ---- an uncommitted version in front
 
@@ -28,6 +28,7 @@ module _ {V : Type 0} (at since : ℕ → Type 0) (number : Numbers) (base : Opt
   push_shows chain x v none all shows = record {
     rows = λ j here. skip_seen number j x v chain none ∙ shows.rows j here;
     changes = λ n here. ap (above n) (skip_newest number x v chain none) ∙ shows.changes n here;
+    told = λ n here. (λ k is below. absurd (false≢true (ap is_some (sym none ∙ is))), shows.told n here);
     behind = all;
   }
 
@@ -36,6 +37,7 @@ module _ {V : Type 0} (at since : ℕ → Type 0) (number : Numbers) (base : Opt
   pop_shows chain x v none shows = record {
     rows = λ j here. sym (skip_seen number j x v chain none) ∙ shows.rows j here;
     changes = λ n here. ap (above n) (sym (skip_newest number x v chain none)) ∙ shows.changes n here;
+    told = λ n here. (shows.told n here).1;
     behind = committed_behind number chain shows.behind;
   }
 
@@ -43,7 +45,7 @@ module _ {V : Type 0} (at since : ℕ → Type 0) (number : Numbers) (base : Opt
 
 module _ {V : Type 0} (at since : ℕ → Type 0) (number : Numbers) (base : Option V) (writes : List (Option (Option V))) where
   pub narrowed : (at' since' : ℕ → Type 0) (chain : List (ℕ × Option V)) → ((j : ℕ) → at' j → at j) → ((n : ℕ) → since' n → since n) → ShowsKey at since number base writes chain → ShowsKey at' since' number base writes chain
-  narrowed at' since' chain rows changes shows = record { rows = λ j here. shows.rows j (rows j here); changes = λ n here. shows.changes n (changes n here); behind = shows.behind }
+  narrowed at' since' chain rows changes shows = record { rows = λ j here. shows.rows j (rows j here); changes = λ n here. shows.changes n (changes n here); told = λ n here. shows.told n (changes n here); behind = shows.behind }
 
 abbrev pub SameNumber : {V : Type 0} → Numbers → Numbers → ℕ × Option V → Type 0
 SameNumber number other v = other v.0 ≡ number v.0
@@ -68,11 +70,16 @@ behind_alike : {V : Type 0} (number other : Numbers) (chain : List (ℕ × Optio
 behind_alike number other [] all behind = tt
 behind_alike number other (v ∷ vs) all behind = committed_alike number other vs all.1 behind
 
+told_alike : {V : Type 0} (number other : Numbers) (n : ℕ) (writes : List (Option (Option V))) (chain : List (ℕ × Option V)) → AllByRecursion (SameNumber number other) chain → AllTold number n writes chain → AllTold other n writes chain
+told_alike number other n writes [] all told = tt
+told_alike number other n writes (v ∷ vs) all told = (λ k is. told.0 k (sym all.0 ∙ is), told_alike number other n writes vs all.1 told.1)
+
 module _ {V : Type 0} (at since : ℕ → Type 0) (number : Numbers) (base : Option V) (writes : List (Option (Option V))) where
   pub renumbered : (other : Numbers) (chain : List (ℕ × Option V)) → AllByRecursion (SameNumber number other) chain → ShowsKey at since number base writes chain → ShowsKey at since other base writes chain
   renumbered other chain all shows = record {
     rows = λ j here. seen_alike (by number j) (by other j) chain (by_alike number other j chain all) ∙ shows.rows j here;
     changes = λ n here. ap (above n) (newest_alike number other chain all) ∙ shows.changes n here;
+    told = λ n here. told_alike number other n writes chain all (shows.told n here);
     behind = behind_alike number other chain all shows.behind;
   }
 
@@ -154,12 +161,24 @@ same_change ws n =
     ⊎_elim (λ lt. late_change (ws ++ None ∷ []) n (subst (λ m. m ≤ n) (sym (length_push ws None)) (omega (arith, lt))) ∙ sym (late_change ws n (omega (arith, lt)))) (early_change ws None n)
     (cases_lt (length ws) n)
 
+past : (l k n : ℕ) → k ≡ l + 1 → l < n → n < k → ⊥
+past l k n is lt above_ = omega (arith, is, lt, above_)
+
+told_when : {V : Type 0} (number : Numbers) (n : ℕ) (writes : List (Option (Option V))) (chain : List (ℕ × Option V)) → is_some (changed_since n writes) ≡ true → AllTold number n writes chain
+told_when number n writes [] is = tt
+told_when number n writes (v ∷ vs) is = (λ k at below. is, told_when number n writes vs is)
+
 module _ {V : Type 0} (at since : ℕ → Type 0) (number : Numbers) (base : Option V) (writes : List (Option (Option V))) where
+  told_silent : (n : ℕ) (chain : List (ℕ × Option V)) → AllTold number n writes chain → AllTold number n (writes ++ None ∷ []) chain
+  told_silent n [] told = tt
+  told_silent n (v ∷ vs) told = (λ k is below. ap is_some (same_change writes n) ∙ told.0 k is below, told_silent n vs told.1)
+
   -- a transaction asks that didn't write the key
   pub silent_shows : (chain : List (ℕ × Option V)) → ShowsKey at since number base writes chain → ShowsKey at since number base (writes ++ None ∷ []) chain
   silent_shows chain shows = record {
     rows = λ j here. shows.rows j here ∙ sym (same_value base writes j);
     changes = λ n here. shows.changes n here ∙ sym (same_change writes n);
+    told = λ n here. told_silent n chain (shows.told n here);
     behind = shows.behind;
   }
 
@@ -183,12 +202,27 @@ module _ {V : Type 0} (at since : ℕ → Type 0) (number : Numbers) (base : Opt
       ap (λ o. above n (option_or o (newest (with_number number x (length writes + 1)) vs))) (update_here number x (Some (length writes + 1)))
       ∙ ap (λ b. cond b (Some (length writes + 1)) None) (lt-ltb n (length writes + 1) (omega (arith, early))) ∙ sym (early_change writes (Some v) n early)
 
+  -- none of the others has a number above those that have asked
+  told_late : (n x k : ℕ) (w : Option V) → length writes < n → (chain : List (ℕ × Option V)) → AllTold number n writes chain → AllByRecursion (SameNumber number (with_number number x k)) chain → AllTold (with_number number x k) n (writes ++ Some w ∷ []) chain
+  told_late n x k w late [] told alike = tt
+  told_late n x k w late (v ∷ vs) told alike =
+      (λ m is above_. absurd (false≢true (ap is_some (sym (late_change writes n (omega (arith, late)))) ∙ told.0 m (sym alike.0 ∙ is) above_)), told_late n x k w late vs told.1 alike.1)
+
+  asked_told : (x : ℕ) (v : Option V) (vs : List (ℕ × Option V)) → number x ≡ None → ShowsKey at since number base writes ((x, v) ∷ vs) → (n : ℕ) → since n → (length writes < n) ⊎ (n ≤ length writes)
+      → AllTold (with_number number x (length writes + 1)) n (writes ++ Some v ∷ []) ((x, v) ∷ vs)
+  asked_told x v vs none shows n here (inl late) = (
+    λ k is above_. absurd (past (length writes) k n (ap (λ o. unwrap_or o k) (sym is ∙ update_here number x (Some (length writes + 1)))) late above_),
+    told_late n x (length writes + 1) v late vs (shows.told n here).1 (others_number number x (length writes + 1) vs none shows.behind),
+  )
+  asked_told x v vs none shows n here (inr early) = told_when (with_number number x (length writes + 1)) n (writes ++ Some v ∷ []) ((x, v) ∷ vs) (ap is_some (early_change writes (Some v) n early))
+
   -- a transaction asks that wrote the key
   written_shows : (x : ℕ) (v : Option V) (vs : List (ℕ × Option V)) → number x ≡ None → ShowsKey at since number base writes ((x, v) ∷ vs)
       → ShowsKey at since (with_number number x (length writes + 1)) base (writes ++ Some v ∷ []) ((x, v) ∷ vs)
   written_shows x v vs none shows = record {
     rows = λ j here. asked_rows x v vs none shows j here (cases_lt (length writes) j);
     changes = λ n here. asked_changes x v vs n (cases_lt (length writes) n);
+    told = λ n here. asked_told x v vs none shows n here (cases_lt (length writes) n);
     behind = committed_alike number (with_number number x (length writes + 1)) vs (others_number number x (length writes + 1) vs none shows.behind) shows.behind;
   }
 
@@ -198,6 +232,7 @@ module _ {V : Type 0} (at since : ℕ → Type 0) (number : Numbers) (base : Opt
   asked_shows [] x w none own shows = subst (λ w. ShowsKey at since (with_number number x (length writes + 1)) base (writes ++ w ∷ []) []) own (record {
     rows = λ j here. shows.rows j here ∙ sym (same_value base writes j);
     changes = λ n here. shows.changes n here ∙ sym (same_change writes n);
+    told = λ n here. tt;
     behind = tt;
   })
   asked_shows (v ∷ vs) x w none own shows =
@@ -247,12 +282,17 @@ module _ {V : Type 0} (number : Numbers) (base : Option V) (writes : List (Optio
   created_committed [] by_x = tt
   created_committed (v ∷ vs) by_x = (ap is_some (asked_number v.0 by_x.0), created_committed vs by_x.1)
 
+  created_told : (chain : List (ℕ × Option V)) (u : Option V) → AllByRecursion ByX chain → (n : ℕ) → length writes < n → AllTold (with_number number x (length writes + 1)) n (writes ++ Some u ∷ []) chain
+  created_told [] u by_x n late = tt
+  created_told (v ∷ vs) u by_x n late = (λ k is above_. absurd (past (length writes) k n (ap (λ o. unwrap_or o k) (sym is ∙ asked_number v.0 by_x.0)) late above_), created_told vs u by_x.1 n late)
+
   -- the transaction asks that made the table: all versions are its own, and it has left u
   pub created_shows : (chain : List (ℕ × Option V)) (u : Option V) → AllByRecursion ByX chain → value_seen (λ y. y == x) chain ≡ u
       → ShowsKey (λ j. length writes < j) (λ n. length writes < n) (with_number number x (length writes + 1)) base (writes ++ Some u ∷ []) chain
   created_shows chain u by_x own = record {
     rows = λ j late. created_seen chain by_x j late ∙ own ∙ sym (late_value base writes (Some u) j late);
     changes = λ n late. created_newest chain by_x n late ∙ sym (late_change (writes ++ Some u ∷ []) n (subst (λ m. m ≤ n) (sym (length_push writes (Some u))) (omega (arith, late))));
+    told = λ n late. created_told chain u by_x n late;
     behind = committed_behind (with_number number x (length writes + 1)) chain (created_committed chain by_x);
   }
 

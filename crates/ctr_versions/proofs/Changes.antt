@@ -4,7 +4,7 @@ use Rattle.std.specs.Prelude.{is_some}
 use Rattle.std.specs.Option.{option_or}
 use Rattle.std.specs.List.{AllByRecursion}
 use Rattle.std.proofs.lemmas.Bool.{true≢false, eq-eqb, ne_eqb, false_from_ne_true}
-use Rattle.ctr_versions.specs.Chains.{Numbers, value_seen, by, newest, above, written_by, AllCommitted, Behind, ShowsKey}
+use Rattle.ctr_versions.specs.Chains.{Numbers, value_seen, by, newest, above, written_by, AllCommitted, Behind, IsTold, ShowsKey}
 use Rattle.ctr_versions.specs.Changes.{write, revert, cut, without_tombstone, IsOld}
 use Rattle.ctr_versions.specs.Versions.{ByX}
 use Rattle.ctr_versions.proofs.Chains.{push_shows, pop_shows, committed_none, seen_by, not_above}
@@ -29,6 +29,26 @@ module _ {V : Type 0} (at since : ℕ → Type 0) (number : Numbers) (base : Opt
         | true ↦ λ is. push_shows at since number base writes (h ∷ rest) x v none (is, shows.behind) shows
         | false ↦ λ is. push_shows at since number base writes rest x v none shows.behind (pop_shows at since number base writes rest h.0 h.1 (is_none (number h.0) is) shows)
       ] refl
+
+-- ---- what stands in a chain was there before
+
+module _ {V : Type 0} (P : ℕ × Option V → Type 0) where
+  pub write_all : (number : Numbers) (x : ℕ) (v : Option V) (chain : List (ℕ × Option V)) → P (x, v) → AllByRecursion P chain → AllByRecursion P (write number x v chain)
+  write_all number x v [] here all = (here, tt)
+  write_all number x v (h ∷ rest) here all = elim (is_some (number h.0)) as (λ b. AllByRecursion P (cond b ((x, v) ∷ h ∷ rest) ((x, v) ∷ rest))) [ true ↦ (here, all) | false ↦ (here, all.1) ]
+
+  pub revert_all : (number : Numbers) (chain : List (ℕ × Option V)) → AllByRecursion P chain → AllByRecursion P (revert number chain)
+  revert_all number [] all = tt
+  revert_all number (h ∷ rest) all = elim (is_some (number h.0)) as (λ b. AllByRecursion P (cond b (h ∷ rest) rest)) [ true ↦ all | false ↦ all.1 ]
+
+  pub cut_all : (old : ℕ → Bool) (chain : List (ℕ × Option V)) → AllByRecursion P chain → AllByRecursion P (cut old chain)
+  cut_all old [] all = tt
+  cut_all old (v ∷ vs) all = elim (old v.0) as (λ b. AllByRecursion P (cond b (v ∷ []) (v ∷ cut old vs))) [ true ↦ (all.0, tt) | false ↦ (all.0, cut_all old vs all.1) ]
+
+  pub freed_all : (old : ℕ → Bool) (chain : List (ℕ × Option V)) → AllByRecursion P chain → AllByRecursion P (without_tombstone old chain)
+  freed_all old [] all = tt
+  freed_all old ((x, Some v) ∷ vs) all = all
+  freed_all old ((x, None) ∷ vs) all = elim (old x) as (λ b. AllByRecursion P (cond b [] ((x, None) ∷ vs))) [ true ↦ tt | false ↦ all ]
 
 -- ---- cleaning
 
@@ -65,6 +85,7 @@ module _ {V : Type 0} (number : Numbers) (low : ℕ) (old : ℕ → Bool) (is_ol
     cut_shows chain shows = record {
       rows = λ j here. cut_seen j (at_low j here) chain ∙ shows.rows j here;
       changes = λ n here. ap (above n) (cut_newest chain) ∙ shows.changes n here;
+      told = λ n here. cut_all (λ v. IsTold number n writes v.0) old chain (shows.told n here);
       behind = cut_behind chain shows.behind;
     }
 
@@ -76,6 +97,7 @@ module _ {V : Type 0} (number : Numbers) (low : ℕ) (old : ℕ → Bool) (is_ol
           | true ↦ λ is. let k = is_old x is in record {
             rows = λ j here. sym (ap (λ b. cond b None (value_seen (by number j) vs)) (seen_old number low old is_old x j is (at_low j here))) ∙ shows.rows j here;
             changes = λ n here. sym (ap (λ o. above n (option_or o (newest number vs))) k.1 ∙ not_above k.0 n (below k.0 n k.2 (since_low n here))) ∙ shows.changes n here;
+            told = λ n here. tt;
             behind = tt;
           }
           | false ↦ λ is. shows
@@ -144,23 +166,3 @@ pub freed_alone : {V : Type 0} (number : Numbers) (low : ℕ) (old : ℕ → Boo
 freed_alone number low old is_old y none [] all = refl
 freed_alone number low old is_old y none ((x, Some v) ∷ vs) all = refl
 freed_alone number low old is_old y none ((x, None) ∷ vs) all = ap (λ b. cond b [] ((x, None) ∷ vs)) (unpassed number low old is_old x y none all.0)
-
--- ---- what stands in a chain was there before
-
-module _ {V : Type 0} (P : ℕ × Option V → Type 0) where
-  pub write_all : (number : Numbers) (x : ℕ) (v : Option V) (chain : List (ℕ × Option V)) → P (x, v) → AllByRecursion P chain → AllByRecursion P (write number x v chain)
-  write_all number x v [] here all = (here, tt)
-  write_all number x v (h ∷ rest) here all = elim (is_some (number h.0)) as (λ b. AllByRecursion P (cond b ((x, v) ∷ h ∷ rest) ((x, v) ∷ rest))) [ true ↦ (here, all) | false ↦ (here, all.1) ]
-
-  pub revert_all : (number : Numbers) (chain : List (ℕ × Option V)) → AllByRecursion P chain → AllByRecursion P (revert number chain)
-  revert_all number [] all = tt
-  revert_all number (h ∷ rest) all = elim (is_some (number h.0)) as (λ b. AllByRecursion P (cond b (h ∷ rest) rest)) [ true ↦ all | false ↦ all.1 ]
-
-  pub cut_all : (old : ℕ → Bool) (chain : List (ℕ × Option V)) → AllByRecursion P chain → AllByRecursion P (cut old chain)
-  cut_all old [] all = tt
-  cut_all old (v ∷ vs) all = elim (old v.0) as (λ b. AllByRecursion P (cond b (v ∷ []) (v ∷ cut old vs))) [ true ↦ (all.0, tt) | false ↦ (all.0, cut_all old vs all.1) ]
-
-  pub freed_all : (old : ℕ → Bool) (chain : List (ℕ × Option V)) → AllByRecursion P chain → AllByRecursion P (without_tombstone old chain)
-  freed_all old [] all = tt
-  freed_all old ((x, Some v) ∷ vs) all = all
-  freed_all old ((x, None) ∷ vs) all = elim (old x) as (λ b. AllByRecursion P (cond b [] ((x, None) ∷ vs))) [ true ↦ tt | false ↦ all ]

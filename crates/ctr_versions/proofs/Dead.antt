@@ -129,7 +129,7 @@ module _ (low : ℕ) (number : Numbers) (state : State) (old new : Versions) (id
     rows = λ name made k.
         subst (λ c. ShowsKey (λ j. (low ≤ j) × (value_seen (by number j) c ≡ Some made)) (λ n. (low ≤ n) × ((j : ℕ) → n ≤ j → value_seen (by number j) c ≡ Some made)) number (row_of (table_at state.base name) k) (row_writes name k state.asked) (rows_of new made.id k)) (sym (same_names low number state old new id key [] set name))
         (slot low number state old new id key [] set (λ c. ShowsKey (IsTableAt low number old name made) (IsTableSince low number old name made) number (row_of (table_at state.base name) k) (row_writes name k state.asked) c) made.id k
-        (λ one two. record { rows = λ j at. absurd (dead name made j one at.0 at.1); changes = λ n since. absurd (dead name made n one since.0 (since.1 n (itself n))); behind = tt })
+        (λ one two. record { rows = λ j at. absurd (dead name made j one at.0 at.1); changes = λ n since. absurd (dead name made n one since.0 (since.1 n (itself n))); told = λ n since. tt; behind = tt })
         (λ is. stands.rows name made k));
   }
     where

@@ -107,8 +107,11 @@ pub none_since : (X : Type 0) (n : ℕ) → None ≡ changed_since {V = X} n []
 none_since X zero = refl
 none_since X (suc n) = refl
 
+pub never : (k n : ℕ) → k ≡ 0 → n < k → ⊥
+never k n is below = omega (arith, is, below)
+
 nothing_shows : (X : Type 0) (at since : ℕ → Type 0) (number : Numbers) → ShowsKey {V = X} at since number None [] []
-nothing_shows X at since number = record { rows = λ j here. none_at X j; changes = λ n here. none_since X n; behind = tt }
+nothing_shows X at since number = record { rows = λ j here. none_at X j; changes = λ n here. none_since X n; told = λ n here. tt; behind = tt }
 
 -- with no tables
 pub empty_stands : (low : ℕ) (number : Numbers) → VersionsStand low number [] [] (record { names = []; slots = [] })
@@ -124,6 +127,7 @@ pub first_shows : {X : Type 0} (at since : ℕ → Type 0) (number : Numbers) (b
 first_shows {X} at since number b v is = record {
   rows = λ j here. ap (λ o. cond (is_by j o) (Some v) None) is ∙ first_at j;
   changes = λ n here. ap (λ o. above n (option_or o None)) is ∙ not_above 0 n (omega arith) ∙ none_since X n;
+  told = λ n here. (λ k at below. absurd (never k n (ap (λ o. unwrap_or o k) (sym at ∙ is)) below), tt);
   behind = tt;
 }
   where

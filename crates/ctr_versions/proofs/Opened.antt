@@ -1,13 +1,13 @@
 -- Versions as they stand at open, with nothing asked yet: the base is what they show.
 use Rattle.std.proofs.Common.{◌≡◌, ◌⊎◌, ⊎_elim, inl, inr, ℕ, zero, suc, ℤ, true, false, cond, List, [], ◌∷◌, length, Option, Some, None, refl, sym, ◌∙◌, ap, arith}
-use Rattle.std.specs.Prelude.{is_some, T}
+use Rattle.std.specs.Prelude.{is_some, unwrap_or, T}
 use Rattle.std.specs.Option.{option_or}
 use Rattle.std.specs.Ordering.{nat_cmp, int_cmp}
 use Rattle.std.specs.FinMap.Entries.{find, is_sorted}
 use Rattle.std.proofs.lemmas.Bool.{false≢true, le-leb}
 use Rattle.ctr_model.specs.Database.{Database, name_cmp, table_at}
 use Rattle.ctr_model.specs.Refusals.{row_of}
-use Rattle.ctr_versions.specs.Chains.{Numbers, value_seen, is_by, by, newest, above, newest_since, Behind, value_at_number, ShowsKey}
+use Rattle.ctr_versions.specs.Chains.{Numbers, value_seen, is_by, by, newest, above, newest_since, Behind, value_at_number, AllTold, ShowsKey}
 use Rattle.ctr_versions.specs.Keys.{schema_named}
 use Rattle.ctr_versions.specs.Xids.{Xids, place_from, has_committed, number_of, AreSound}
 use Rattle.ctr_versions.specs.Engine.{AreBy, IsDrawn, ShowsState}
@@ -17,7 +17,7 @@ use Rattle.ctr_versions.proofs.Chains.{not_above}
 use Rattle.ctr_versions.proofs.Versions.{seen-map}
 use Rattle.ctr_versions.proofs.Reading.{schema_read, key_read}
 use Rattle.ctr_versions.proofs.Asked.{seen_tests}
-use Rattle.ctr_versions.proofs.Engine.{none_since}
+use Rattle.ctr_versions.proofs.Engine.{none_since, never}
 
 -- each number that is committed was so before
 abbrev pub IsOpened : Numbers → Type 0
@@ -47,10 +47,15 @@ module _ (number : Numbers) (opened : IsOpened number) where
   first_value v zero = refl
   first_value v (suc j) = refl
 
+  opened_told : {V : Type 0} (n : ℕ) (chain : List (ℕ × Option V)) → AllTold number n [] chain
+  opened_told n [] = tt
+  opened_told n (v ∷ vs) = (λ k is below. ⊎_elim (λ none. absurd (false≢true (ap is_some (sym none ∙ is)))) (λ old. absurd (never k n (ap (λ o. unwrap_or o k) (sym is ∙ old)) below)) (opened v.0), opened_told n vs)
+
   opened_shows : {X : Type 0} (at since : ℕ → Type 0) (base : Option X) (chain : List (ℕ × Option X)) → Behind number chain → ((j : ℕ) → at j → value_seen (by number 0) chain ≡ base) → ShowsKey at since number base [] chain
   opened_shows {X} at since base chain behind is = record {
     rows = λ j here. seen_tests (by number 0) (by number j) chain (same_by j) ∙ is j here ∙ first_value base j;
     changes = λ n here. none_since_open n chain ∙ none_since X n;
+    told = λ n here. opened_told n chain;
     behind = behind;
   }
 

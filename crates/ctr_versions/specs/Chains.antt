@@ -3,7 +3,7 @@
 -- A chain has the versions of one key, the newest first: each with the transaction that wrote it,
 -- and a value or none. A version without a value is a tombstone. Nothing here says how a chain is
 -- kept.
-use Rattle.std.specs.Prelude.{◌≡◌, ℕ, ◌+◌, ◌==◌, nat_le, nat_lt, Bool, true, false, ◌||◌, List, [], ◌∷◌, take, drop, Option, Some, None, is_some, unwrap_or, if◌then◌else◌}
+use Rattle.std.specs.Prelude.{◌≡◌, ℕ, ◌+◌, ◌<◌, ◌==◌, nat_le, nat_lt, Bool, true, false, ◌||◌, List, [], ◌∷◌, take, drop, Option, Some, None, is_some, unwrap_or, if◌then◌else◌}
 use Rattle.std.specs.Option.{option_or}
 use Rattle.std.specs.List.{AllByRecursion}
 
@@ -93,12 +93,24 @@ IsUnwritten w = w ≡ None
 
 -- ---- a chain shows a key
 
+-- Where the transaction has a number above n, the key was changed since n.
+abbrev pub IsTold : {V : Type 0} → Numbers → ℕ → List (Option (Option V)) → ℕ → Type 0
+IsTold number n writes x =
+    (k : ℕ) → number x ≡ Some k → n < k → is_some (changed_since n writes) ≡ true
+
+-- that holds of each version's transaction
+abbrev pub AllTold : {V : Type 0} → Numbers → ℕ → List (Option (Option V)) → List (ℕ × Option V)
+    → Type 0
+AllTold number n writes chain = AllByRecursion (λ v. IsTold number n writes v.0) chain
+
 -- The chain shows the model's values of a key at these numbers and, since those, its last changes:
--- the first committer wins where its number is newer than the snapshot's. Only the head may be by
--- a transaction that isn't committed. Base and writes are the model's: the value at 0, and what
--- each transaction that asked has left.
+-- the first committer wins where its number is newer than the snapshot's. A version with a number
+-- is a change of the key since each of those below. Only the head may be by a transaction that
+-- isn't committed. Base and writes are the model's: the value at 0, and what each transaction that
+-- asked has left.
 pub record ShowsKey {V : Type 0} (at since : ℕ → Type 0) (number : Numbers) (base : Option V)
     (writes : List (Option (Option V))) (chain : List (ℕ × Option V)) : Type 0 where
   pub rows : (j : ℕ) → at j → value_seen (by number j) chain ≡ value_at_number base writes j
   pub changes : (n : ℕ) → since n → newest_since number n chain ≡ changed_since n writes
+  pub told : (n : ℕ) → since n → AllTold number n writes chain
   pub behind : Behind number chain
