@@ -12,13 +12,13 @@ use Rattle.ctr_versions.specs.Chains.{IsUnwritten, Numbers, value_seen, is_by, b
 
 -- ---- an uncommitted version in front
 
-skip_seen : {V : Type 0} (number : Numbers) (j x : ℕ) (v : Option V) (chain : List (ℕ × Option V)) → number x ≡ None → value_seen (by number j) ((x, v) ∷ chain) ≡ value_seen (by number j) chain
+pub skip_seen : {V : Type 0} (number : Numbers) (j x : ℕ) (v : Option V) (chain : List (ℕ × Option V)) → number x ≡ None → value_seen (by number j) ((x, v) ∷ chain) ≡ value_seen (by number j) chain
 skip_seen number j x v chain none = ap (λ o. cond (is_by j o) v (value_seen (by number j) chain)) none
 
-skip_newest : {V : Type 0} (number : Numbers) (x : ℕ) (v : Option V) (chain : List (ℕ × Option V)) → number x ≡ None → newest number ((x, v) ∷ chain) ≡ newest number chain
+pub skip_newest : {V : Type 0} (number : Numbers) (x : ℕ) (v : Option V) (chain : List (ℕ × Option V)) → number x ≡ None → newest number ((x, v) ∷ chain) ≡ newest number chain
 skip_newest number x v chain none = ap (λ o. option_or o (newest number chain)) none
 
-committed_behind : {V : Type 0} (number : Numbers) (chain : List (ℕ × Option V)) → AllCommitted number chain → Behind number chain
+pub committed_behind : {V : Type 0} (number : Numbers) (chain : List (ℕ × Option V)) → AllCommitted number chain → Behind number chain
 committed_behind number [] all = tt
 committed_behind number (v ∷ vs) all = all.1
 

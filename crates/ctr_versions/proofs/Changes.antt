@@ -4,7 +4,7 @@ use Rattle.std.specs.Prelude.{is_some}
 use Rattle.std.specs.Option.{option_or}
 use Rattle.std.specs.List.{AllByRecursion}
 use Rattle.std.proofs.lemmas.Bool.{true≢false, eq-eqb, ne_eqb, false_from_ne_true}
-use Rattle.ctr_versions.specs.Chains.{Numbers, value_seen, by, newest, above, written_by, AllCommitted, Behind, IsTold, ShowsKey}
+use Rattle.ctr_versions.specs.Chains.{Numbers, value_seen, by, newest, above, newest_since, written_by, AllCommitted, Behind, IsTold, ShowsKey}
 use Rattle.ctr_versions.specs.Changes.{write, revert, cut, without_tombstone, IsOld}
 use Rattle.ctr_versions.specs.Versions.{ByX}
 use Rattle.ctr_versions.proofs.Chains.{push_shows, pop_shows, committed_none, seen_by, not_above}
@@ -64,7 +64,7 @@ module _ {V : Type 0} (number : Numbers) (low : ℕ) (old : ℕ → Bool) (is_ol
         | false ↦ λ is. ap (λ o. cond (by number j v.0) v.1 o) (cut_seen j le vs)
       ] refl
 
-  cut_newest : (chain : List (ℕ × Option V)) → newest number (cut old chain) ≡ newest number chain
+  pub cut_newest : (chain : List (ℕ × Option V)) → newest number (cut old chain) ≡ newest number chain
   cut_newest [] = refl
   cut_newest (v ∷ vs) =
       elim (old v.0) as (λ b. old v.0 ≡ b → newest number (cond b (v ∷ []) (v ∷ cut old vs)) ≡ option_or (number v.0) (newest number vs)) [
@@ -76,9 +76,35 @@ module _ {V : Type 0} (number : Numbers) (low : ℕ) (old : ℕ → Bool) (is_ol
   cut_committed [] all = tt
   cut_committed (v ∷ vs) all = elim (old v.0) as (λ b. AllCommitted number (cond b (v ∷ []) (v ∷ cut old vs))) [ true ↦ (all.0, tt) | false ↦ (all.0, cut_committed vs all.1) ]
 
-  cut_behind : (chain : List (ℕ × Option V)) → Behind number chain → Behind number (cut old chain)
+  pub cut_behind : (chain : List (ℕ × Option V)) → Behind number chain → Behind number (cut old chain)
   cut_behind [] all = tt
   cut_behind (v ∷ vs) all = elim (old v.0) as (λ b. Behind number (cond b (v ∷ []) (v ∷ cut old vs))) [ true ↦ tt | false ↦ cut_committed vs all ]
+
+  pub freed_seen : (j : ℕ) → low ≤ j → (chain : List (ℕ × Option V)) → value_seen (by number j) (without_tombstone old chain) ≡ value_seen (by number j) chain
+  freed_seen j le [] = refl
+  freed_seen j le ((x, Some w) ∷ vs) = refl
+  freed_seen j le ((x, None) ∷ vs) =
+      elim (old x) as (λ b. old x ≡ b → value_seen (by number j) (cond b [] ((x, None) ∷ vs)) ≡ value_seen (by number j) ((x, None) ∷ vs)) [
+        | true ↦ λ is. sym (ap (λ b. cond b None (value_seen (by number j) vs)) (seen_old number low old is_old x j is le))
+        | false ↦ λ is. refl
+      ] refl
+
+  pub freed_since : (n : ℕ) → low ≤ n → (chain : List (ℕ × Option V)) → newest_since number n (without_tombstone old chain) ≡ newest_since number n chain
+  freed_since n le [] = refl
+  freed_since n le ((x, Some w) ∷ vs) = refl
+  freed_since n le ((x, None) ∷ vs) =
+      elim (old x) as (λ b. old x ≡ b → newest_since number n (cond b [] ((x, None) ∷ vs)) ≡ newest_since number n ((x, None) ∷ vs)) [
+        | true ↦ λ is. let k = is_old x is in sym (ap (λ o. above n (option_or o (newest number vs))) k.1 ∙ not_above k.0 n (below k.0 k.2))
+        | false ↦ λ is. refl
+      ] refl
+    where
+      below : (k : ℕ) → k ≤ low → k ≤ n
+      below k under = omega (arith, under, le)
+
+  pub freed_behind : (chain : List (ℕ × Option V)) → Behind number chain → Behind number (without_tombstone old chain)
+  freed_behind [] all = tt
+  freed_behind ((x, Some w) ∷ vs) all = all
+  freed_behind ((x, None) ∷ vs) all = elim (old x) as (λ b. Behind number (cond b [] ((x, None) ∷ vs))) [ true ↦ tt | false ↦ all ]
 
   module _ (at since : ℕ → Type 0) (base : Option V) (writes : List (Option (Option V))) (at_low : (j : ℕ) → at j → low ≤ j) (since_low : (n : ℕ) → since n → low ≤ n) where
     pub cut_shows : (chain : List (ℕ × Option V)) → ShowsKey at since number base writes chain → ShowsKey at since number base writes (cut old chain)
@@ -90,21 +116,12 @@ module _ {V : Type 0} (number : Numbers) (low : ℕ) (old : ℕ → Bool) (is_ol
     }
 
     pub freed_shows : (chain : List (ℕ × Option V)) → ShowsKey at since number base writes chain → ShowsKey at since number base writes (without_tombstone old chain)
-    freed_shows [] shows = shows
-    freed_shows ((x, Some v) ∷ vs) shows = shows
-    freed_shows ((x, None) ∷ vs) shows =
-        elim (old x) as (λ b. old x ≡ b → ShowsKey at since number base writes (cond b [] ((x, None) ∷ vs))) [
-          | true ↦ λ is. let k = is_old x is in record {
-            rows = λ j here. sym (ap (λ b. cond b None (value_seen (by number j) vs)) (seen_old number low old is_old x j is (at_low j here))) ∙ shows.rows j here;
-            changes = λ n here. sym (ap (λ o. above n (option_or o (newest number vs))) k.1 ∙ not_above k.0 n (below k.0 n k.2 (since_low n here))) ∙ shows.changes n here;
-            told = λ n here. tt;
-            behind = tt;
-          }
-          | false ↦ λ is. shows
-        ] refl
-      where
-        below : (k n : ℕ) → k ≤ low → low ≤ n → k ≤ n
-        below k n a b = omega (arith, a, b)
+    freed_shows chain shows = record {
+      rows = λ j here. freed_seen j (at_low j here) chain ∙ shows.rows j here;
+      changes = λ n here. freed_since n (since_low n here) chain ∙ shows.changes n here;
+      told = λ n here. freed_all (λ v. IsTold number n writes v.0) old chain (shows.told n here);
+      behind = freed_behind chain shows.behind;
+    }
 
   -- what an open transaction has written stays
   pub cut_written : (y : ℕ) (chain : List (ℕ × Option V)) → written_by y (cut old chain) ≡ written_by y chain

@@ -19,7 +19,8 @@ use Rattle.ctr_versions.specs.Laws.{sees_found, sees_of, me_found, me_of, IsOpen
 use Rattle.ctr_versions.proofs.Steps.{spent_step, begin_step, draw_step, write_step, ask_step, rollback_step, answer_step, end_step}
 use Rattle.ctr_versions.proofs.Reading.{session_moved}
 use Rattle.ctr_versions.proofs.Cleaning.{cut_step, free_step, revert_step, name_step}
-use Rattle.ctr_versions.proofs.Dead.{name_cut_step, name_free_step, name_revert_step, dead_step}
+use Rattle.ctr_versions.proofs.Dead.{dead_step}
+use Rattle.ctr_versions.proofs.Undoing.{name_cut_step, name_free_step, name_revert_step}
 use Rattle.ctr_versions.proofs.Marks.{marked, marked_old, marked_shows}
 
 -- the session that shows a transaction is the one that is found
@@ -156,7 +157,7 @@ module _ (engine new : EngineHeld) where
 
   pub name_revert_keeps : (name : List ℕ) → SetsName engine new name (revert (number_of engine.xids) (names_at engine.versions name)) → NameRevertKeeps name engine new
   name_revert_keeps name sets low state shows nobodys = subst (λ (e : EngineHeld). ShowsState low e state) (sym sets.rest)
-      (name_revert_step low engine state shows new.versions name (λ s t session at_t at calm none. unwritten (names_at engine.versions name) nobodys s session at) sets.set)
+      (name_revert_step low engine state shows new.versions name (λ x working. subst (λ y. written_by y (names_at engine.versions name) ≡ None) working.me (unwritten (names_at engine.versions name) nobodys working.s working.session working.there)) sets.set)
 
   pub dead_keeps : (id : ℕ) (key : ℤ) → SetsRow engine new id key [] → DeadKeeps id key engine new
   dead_keeps id key sets low state shows dead nobodys = subst (λ (e : EngineHeld). ShowsState low e state) (sym sets.rest)

@@ -15,6 +15,7 @@ pub mod Cleaning
 pub mod Locks
 pub mod Opened
 pub mod Dead
+pub mod Undoing
 pub mod Reading
 pub mod Marks
 pub mod Loading

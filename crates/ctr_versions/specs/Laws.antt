@@ -133,12 +133,15 @@ abbrev pub CleaningKeeps : EngineHeld → EngineHeld → Type 0
 CleaningKeeps old new = (low : ℕ) (state : State) → ShowsState low old state
     → (lower : ℕ) × ShowsState lower new state
 
+-- no session has this number
+abbrev pub IsNoSessions : List (ℕ × SessionHeld) → ℕ → Type 0
+IsNoSessions sessions x = (s : ℕ) (session : SessionHeld) → find nat_cmp s sessions ≡ Some session
+    → session.me ≡ x → ⊥
+
 -- the head of a chain isn't by a session
 abbrev pub IsNobodys : {V : Type 0} → EngineHeld → List (ℕ × Option V) → Type 0
 IsNobodys engine [] = Unit {0}
-IsNobodys engine (h ∷ rest) =
-    (s : ℕ) (session : SessionHeld) → find nat_cmp s engine.sessions ≡ Some session
-    → session.me ≡ h.0 → ⊥
+IsNobodys engine (h ∷ rest) = IsNoSessions engine.sessions h.0
 
 -- Where a key's head is nobody's, as it is where nobody has the key's lock, it gives way.
 abbrev pub RevertKeeps : ℕ → ℤ → EngineHeld → EngineHeld → Type 0

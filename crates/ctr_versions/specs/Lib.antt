@@ -9,3 +9,4 @@ pub mod Steps
 pub mod Laws
 pub mod Loading
 pub mod Heads
+pub mod Undoing

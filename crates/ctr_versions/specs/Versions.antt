@@ -170,8 +170,12 @@ pub record IsTableOf (number : Numbers) (versions : Versions) (me n : ℕ) (tabl
   pub own : (made : Made) → written_by me (names_at versions table) ≡ Some (Some made)
       → made.id ≡ id
 
+-- no name is the table of this number, at whatever test
+abbrev pub IsUnnamed : ℕ → Versions → Type 0
+IsUnnamed id versions = (name : List ℕ) (made : Made) (test : ℕ → Bool)
+    → value_seen test (names_at versions name) ≡ Some made → made.id ≡ id → ⊥
+
 -- no table of this number was made
 pub record IsUnmadeTable (id : ℕ) (versions : Versions) : Type 0 where
   pub rows : (key : ℤ) → rows_of versions id key ≡ []
-  pub names : (name : List ℕ) (made : Made) (test : ℕ → Bool)
-      → value_seen test (names_at versions name) ≡ Some made → made.id ≡ id → ⊥
+  pub names : IsUnnamed id versions

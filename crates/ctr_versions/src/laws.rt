@@ -1,5 +1,6 @@
 // What an engine shows. A call does nothing: what it ensures is the law.
 ghost use Rattle.ctr_versions.specs.Laws.{SessionsSeeTheirViews, RowsStandAtEachNumber, NewerSchemasAreChanged, NewerRowsAreChanged, GrantsAreShown};
+ghost use Rattle.ctr_versions.specs.Undoing.{NamesGiveWay, UndoneHeadsGo, UndoneHeadsChange, OrphansAreMarked, UnnamedTablesLoseRows};
 
 /// What a session sees in the versions is the view that the model gives it.
 pub fn sessions_see_their_views()
@@ -21,4 +22,15 @@ pub fn grants_are_shown()
 pub fn first_committer_wins()
     ensures schemas { NewerSchemasAreChanged }
     ensures rows { NewerRowsAreChanged }
+{}
+
+/// What undo and the cleaner do record by record leaves the state that is shown: a name's chain gives way to
+/// one that shows the same; a head that is undone goes, or is another version of its transaction; an open
+/// transaction that no session has is marked as rolled back; a table that no name is loses rows.
+pub fn single_records_are_shown()
+    ensures chains { NamesGiveWay }
+    ensures heads { UndoneHeadsGo }
+    ensures changes { UndoneHeadsChange }
+    ensures orphans { OrphansAreMarked }
+    ensures rows { UnnamedTablesLoseRows }
 {}
