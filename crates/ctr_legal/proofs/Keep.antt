@@ -28,7 +28,7 @@ use Rattle.ctr_versions.proofs.Keys.{same_text, some_is}
 use Rattle.ctr_versions.proofs.Conflicts.{none_of_both, schema_changed, quiet_from}
 use Rattle.ctr_versions.proofs.Written.{same_itself}
 use Rattle.ctr_legal.specs.Cover.{IsCovered, ArePending}
-use Rattle.ctr_legal.specs.Kept.{AreApart, IsSteady, IsFirm, IsFit, IsKept}
+use Rattle.ctr_legal.specs.Kept.{AreApart, IsSteady, IsFirm, IsFit, IsClear, IsKept}
 use Rattle.ctr_legal.proofs.Cover.{less_any, covered_more, covered_lock, covered_hold, covered_write, covered_name, IsOfName, other_passes, not_self, pending_put, pending_without, pending_asked, pending_answered}
 
 -- ---- what no refusal tells
@@ -63,20 +63,27 @@ pub record Grants (state : State) (s : ℕ) (me : Transaction) (a : Act) (statem
   pub present : when (is_none (table_at (view state me) name) && not (creates statement)) refusal.NoTable ≡ None
   pub idle : first_session (is_busy (changes_schema statement) name) (others s state) ≡ None
   pub unchanged : schema_changed_by state me name ≡ None
+  pub unstuck : has_name name state.stuck ≡ false
   pub keys : AllByRecursion (λ (r : Option Refusal). r ≡ None) (key_refusals state s me name (key_locked a statement))
 
 pub idle_first : (stuck : Bool) (o : Option ℕ) → cond stuck (Some 0) o ≡ None → o ≡ None
 idle_first true o is = absurd (true≢false (ap is_some is))
 idle_first false o is = is
 
+free_first : (stuck : Bool) (o : Option ℕ) → cond stuck (Some 0) o ≡ None → stuck ≡ false
+free_first true o is = absurd (true≢false (ap is_some is))
+free_first false o is = refl
+
 pub grants : (state : State) (s : ℕ) (me : Transaction) (a : Act) (statement : Statement) (name : List ℕ) → table_of statement ≡ Some name → refusal_of state s me a statement ≡ None → Grants state s me a statement name
 grants state s me a statement name is none =
     let all : first_of (table_refusals state s me a statement name) ≡ None =
     ap (option_and_then (λ n. first_of (table_refusals state s me a statement n))) (sym is) ∙ none in
     let each = all_none (table_refusals state s me a statement name) all in
+    let busy : busy_by state s statement name ≡ None = unmapped (λ (n : ℕ). refusal.TableBusy n) (busy_by state s statement name) each.1.1.0 in
     record {
       present = each.0;
-      idle = idle_first (has_name name state.stuck) (first_session (is_busy (changes_schema statement) name) (others s state)) (unmapped (λ (n : ℕ). refusal.TableBusy n) (busy_by state s statement name) each.1.1.0);
+      idle = idle_first (has_name name state.stuck) (first_session (is_busy (changes_schema statement) name) (others s state)) busy;
+      unstuck = free_first (has_name name state.stuck) (first_session (is_busy (changes_schema statement) name) (others s state)) busy;
       unchanged = unmapped (λ (n : ℕ). refusal.SchemaChanged n) (schema_changed_by state me name) each.1.1.1.0;
       keys = all_behind (value_refusals statement (table_at (view state me) name)) (key_refusals state s me name (key_locked a statement)) each.1.1.1.1;
     }
@@ -137,12 +144,13 @@ module _ (state : State) (s : ℕ) (kept : IsKept state) (asked : List (List Cha
       le_trans n le = omega (arith, le, longer)
 
   -- the session's transaction is another, which keeps with the others
-  kept_put : (t : Transaction) → IsFit (length asked) t → IsCovered t → ((r : ℕ) (u : Transaction) → (r == s) ≡ false → find nat_cmp r state.sessions ≡ Some u → AreApart t u × AreApart u t) → (t.asked ≡ None → IsFirm asked t) → (t.writer ≡ false → t.own ≡ [])
+  kept_put : (t : Transaction) → IsFit (length asked) t → IsCovered t → IsClear state.stuck t → ((r : ℕ) (u : Transaction) → (r == s) ≡ false → find nat_cmp r state.sessions ≡ Some u → AreApart t u × AreApart u t) → (t.asked ≡ None → IsFirm asked t) → (t.writer ≡ false → t.own ≡ [])
       → ArePending (with_transaction s t (record state { asked = asked; answered = answered })) → IsKept (with_transaction s t (record state { asked = asked; answered = answered }))
-  kept_put t fit covered apart firm reader pending = record {
+  kept_put t fit covered clear apart firm reader pending = record {
     answered = within;
     fits = each_put (λ r u. IsFit (length asked) u) s t state.sessions fit (λ r u two at. fit_later u (kept.fits r u at));
     covered = each_put (λ r u. IsCovered u) s t state.sessions covered (λ r u two at. kept.covered r u at);
+    clear = each_put (λ r u. IsClear state.stuck u) s t state.sessions clear (λ r u two at. kept.clear r u at);
     apart = λ p q a b is at_p at_q. each_put (λ p a. (q : ℕ) (b : Transaction) → (p == q) ≡ false → find nat_cmp q (put nat_cmp s t state.sessions) ≡ Some b → AreApart a b) s t state.sessions
         (λ q b is at. (apart q b (turned s q is) (sym (find-put-other q s t state.sessions (turned s q is)) ∙ at)).0)
         (λ r u two at_r q b is at. each_put (λ q b. (r == q) ≡ false → AreApart u b) s t state.sessions (λ other. (apart r u two at_r).1) (λ q b three at_q other. kept.apart r q u b other at_r at_q) q b at is)
@@ -157,6 +165,7 @@ module _ (state : State) (s : ℕ) (kept : IsKept state) (asked : List (List Cha
     answered = within;
     fits = each_without (λ r u. IsFit (length asked) u) s state.sessions (λ r u two at. fit_later u (kept.fits r u at));
     covered = each_without (λ r u. IsCovered u) s state.sessions (λ r u two at. kept.covered r u at);
+    clear = each_without (λ r u. IsClear state.stuck u) s state.sessions (λ r u two at. kept.clear r u at);
     apart = λ p q a b is at_p at_q. each_without (λ p a. (q : ℕ) (b : Transaction) → (p == q) ≡ false → find nat_cmp q (without nat_cmp s state.sessions) ≡ Some b → AreApart a b) s state.sessions
         (λ r u two at_r q b is at. each_without (λ q b. (r == q) ≡ false → AreApart u b) s state.sessions (λ q b three at_q other. kept.apart r q u b other at_r at_q) q b at is)
         p a at_p q b is at_q;
@@ -205,12 +214,24 @@ module _ (state : State) (s : ℕ) (kept : IsKept state) (me : Transaction) (at 
   named : (P : List ℕ → Type 0) (n name : List ℕ) → same_name n name ≡ true → P n → P name
   named P n name same p = subst P (same_text n name same) p
 
+  -- what uses and holds nothing more is as clear as it was
+  as_clear : (t : Transaction) → t.uses ≡ me.uses → t.holds ≡ me.holds → IsClear state.stuck t
+  as_clear t uses holds = let was = kept.clear s me at in record {
+    uses = λ n stuck is. was.uses n stuck (ap (has_name n) (sym uses) ∙ is);
+    holds = λ n stuck is. was.holds n stuck (ap (has_name n) (sym holds) ∙ is);
+  }
+
+  -- a name more that recovery doesn't hold
+  clear_more : (names : List (List ℕ)) (name : List ℕ) → has_name name state.stuck ≡ false → ((n : List ℕ) → has_name n state.stuck ≡ true → has_name n names ≡ true → ⊥) → (n : List ℕ) → has_name n state.stuck ≡ true → has_name n (names ++ name ∷ []) ≡ true → ⊥
+  clear_more names name free was n stuck is = pushed (λ m. same_name m n) names name (λ old. was n stuck old) (λ same. clash _ free (named (λ q. has_name q state.stuck ≡ true) n name (sym_same name n same) stuck)) is
+
   -- the name is used
-  pub kept_use : (schema : Bool) (name : List ℕ) → first_session (is_busy schema name) (others s state) ≡ None → schema_changed_by state me name ≡ None → IsKept (with_transaction s (record me { uses = me.uses ++ name ∷ [] }) state)
-  kept_use schema name idle unchanged =
+  pub kept_use : (schema : Bool) (name : List ℕ) → first_session (is_busy schema name) (others s state) ≡ None → schema_changed_by state me name ≡ None → has_name name state.stuck ≡ false → IsKept (with_transaction s (record me { uses = me.uses ++ name ∷ [] }) state)
+  kept_use schema name idle unchanged unstuck =
       let new : Transaction = record me { uses = me.uses ++ name ∷ [] } in
       kept_put state s kept state.asked state.answered (omega arith) kept.answered (λ r u two at_r firm. firm) new (let f = kept.fits s me at in record { snapshot = f.snapshot; number = f.number })
       (covered_more me new refl (λ n k none. none) (λ n none. less_any (λ m. same_name m n) me.uses name none) (λ n none. none) (kept.covered s me at))
+      (record { uses = clear_more me.uses name unstuck (kept.clear s me at).uses; holds = (kept.clear s me at).holds })
       (λ r u two at_r. let b = before r u two at_r in (
         record { holds = b.0.holds; uses = b.0.uses; locks = b.0.locks },
         record { holds = b.1.holds; locks = b.1.locks; uses = λ n held is. pushed (λ m. same_name m n) me.uses name (λ old. b.1.uses n held old) (λ same. unheld schema name idle r u two at_r (named (λ q. has_name q u.holds ≡ true) n name (sym_same name n same) held)) is },
@@ -223,9 +244,9 @@ module _ (state : State) (s : ℕ) (kept : IsKept state) (me : Transaction) (at 
       (pending_put state s new mine kept.pending)
 
   -- a key is locked, and its table used
-  pub kept_lock : (schema : Bool) (name : List ℕ) (key : ℤ) → first_session (is_busy schema name) (others s state) ≡ None → schema_changed_by state me name ≡ None → locked_by state s name key ≡ None
+  pub kept_lock : (schema : Bool) (name : List ℕ) (key : ℤ) → first_session (is_busy schema name) (others s state) ≡ None → schema_changed_by state me name ≡ None → has_name name state.stuck ≡ false → locked_by state s name key ≡ None
       → IsKept (with_transaction s (record me { writer = true; locks = me.locks ++ record { table = name; key = key } ∷ []; uses = me.uses ++ name ∷ [] }) state)
-  kept_lock schema name key idle unchanged free =
+  kept_lock schema name key idle unchanged unstuck free =
       let lock : KeyLock = record { table = name; key = key } in
       let new : Transaction = record me { writer = true; locks = me.locks ++ lock ∷ []; uses = me.uses ++ name ∷ [] } in
       let no_other : (n : List ℕ) (k : ℤ) (r : ℕ) (u : Transaction) → (r == s) ≡ false → find nat_cmp r state.sessions ≡ Some u → is_lock_of n k lock ≡ true → has_lock n k u ≡ true → ⊥ = λ n k r u two at_r is held.
@@ -233,6 +254,7 @@ module _ (state : State) (s : ℕ) (kept : IsKept state) (me : Transaction) (at 
       clash _ (other_passes state s r u two at_r (has_lock name key) free) ((λ i. has_lock (same_text name n parts.0 i) (same_int key k parts.1 i) u) ∙ held) in
       kept_put state s kept state.asked state.answered (omega arith) kept.answered (λ r u two at_r firm. firm) new (let f = kept.fits s me at in record { snapshot = f.snapshot; number = f.number })
       (covered_lock me lock name (kept.covered s me at))
+      (record { uses = clear_more me.uses name unstuck (kept.clear s me at).uses; holds = (kept.clear s me at).holds })
       (λ r u two at_r. let b = before r u two at_r in (
         record { holds = b.0.holds; uses = b.0.uses; locks = λ n k is held. pushed (is_lock_of n k) me.locks lock (λ old. b.0.locks n k old held) (λ hit. no_other n k r u two at_r hit held) is },
         record {
@@ -249,12 +271,13 @@ module _ (state : State) (s : ℕ) (kept : IsKept state) (me : Transaction) (at 
       (pending_put state s new mine kept.pending)
 
   -- a name is held
-  pub kept_hold : (name : List ℕ) → first_session (is_busy true name) (others s state) ≡ None → schema_changed_by state me name ≡ None → IsKept (with_transaction s (record me { writer = true; holds = me.holds ++ name ∷ [] }) state)
-  kept_hold name idle unchanged =
+  pub kept_hold : (name : List ℕ) → first_session (is_busy true name) (others s state) ≡ None → schema_changed_by state me name ≡ None → has_name name state.stuck ≡ false → IsKept (with_transaction s (record me { writer = true; holds = me.holds ++ name ∷ [] }) state)
+  kept_hold name idle unchanged unstuck =
       let new : Transaction = record me { writer = true; holds = me.holds ++ name ∷ [] } in
       let back : (P : List ℕ → Type 0) (n : List ℕ) → same_name name n ≡ true → P n → P name = λ P n same p. named P n name (sym_same name n same) p in
       kept_put state s kept state.asked state.answered (omega arith) kept.answered (λ r u two at_r firm. firm) new (let f = kept.fits s me at in record { snapshot = f.snapshot; number = f.number })
       (covered_hold me name (kept.covered s me at))
+      (record { uses = (kept.clear s me at).uses; holds = clear_more me.holds name unstuck (kept.clear s me at).holds })
       (λ r u two at_r. let b = before r u two at_r in (
         record {
           holds = λ n is held. pushed (λ m. same_name m n) me.holds name (λ old. b.0.holds n old held) (λ same. unheld true name idle r u two at_r (back (λ q. has_name q u.holds ≡ true) n same held)) is;
@@ -275,13 +298,14 @@ module _ (state : State) (s : ℕ) (kept : IsKept state) (me : Transaction) (at 
       (pending_put state s new mine kept.pending)
 
   pub kept_itself : IsKept (with_transaction s me state)
-  kept_itself = kept_put state s kept state.asked state.answered (omega arith) kept.answered (λ r u two at_r firm. firm) me (kept.fits s me at) (kept.covered s me at) before (kept.firm s me at) (kept.readers s me at) (pending_put state s me mine kept.pending)
+  kept_itself = kept_put state s kept state.asked state.answered (omega arith) kept.answered (λ r u two at_r firm. firm) me (kept.fits s me at) (kept.covered s me at) (kept.clear s me at) before (kept.firm s me at) (kept.readers s me at) (pending_put state s me mine kept.pending)
 
   -- a change under a lock
   kept_change : me.writer ≡ true → (c : List Change) → IsCovered (record me { own = me.own ++ c }) → IsKept (with_transaction s (record me { own = me.own ++ c }) state)
   kept_change writer c covered =
       let new : Transaction = record me { own = me.own ++ c } in
       kept_put state s kept state.asked state.answered (omega arith) kept.answered (λ r u two at_r firm. firm) new (let f = kept.fits s me at in record { snapshot = f.snapshot; number = f.number }) covered
+      (as_clear new refl refl)
       (λ r u two at_r. let b = before r u two at_r in (record { holds = b.0.holds; uses = b.0.uses; locks = b.0.locks }, record { holds = b.1.holds; uses = b.1.uses; locks = b.1.locks }))
       (λ none. record { uses = (kept.firm s me at unasked).uses; holds = (kept.firm s me at unasked).holds })
       (λ reader. absurd (clash _ reader writer))
@@ -309,6 +333,7 @@ module _ (state : State) (s : ℕ) (kept : IsKept state) (me : Transaction) (at 
       (record me { asked = Some (length state.asked + 1) })
       (record { snapshot = le_push me.snapshot (kept.fits s me at).snapshot; number = λ k is. at_end k is })
       (let c = kept.covered s me at in record { rows = c.rows; uses = c.uses; names = c.names })
+      (as_clear (record me { asked = Some (length state.asked + 1) }) refl refl)
       (λ r u two at_r. let b = before r u two at_r in (record { holds = b.0.holds; uses = b.0.uses; locks = b.0.locks }, record { holds = b.1.holds; uses = b.1.uses; locks = b.1.locks }))
       (λ none. absurd (true≢false (ap is_some none)))
       (kept.readers s me at)
@@ -331,6 +356,7 @@ kept_begin state s kept none =
     kept_put state s kept state.asked state.answered (omega arith) kept.answered (λ r u two at_r firm. firm) (begun state.answered)
     (record { snapshot = kept.answered; number = λ k is. absurd (false≢true (ap is_some is)) })
     (record { rows = λ n k free unheld. refl; uses = λ n k free unheld. refl; names = λ n unheld. refl })
+    (record { uses = λ n stuck is. absurd (false≢true is); holds = λ n stuck is. absurd (false≢true is) })
     (λ r u two at_r. (
       record { holds = λ n is. absurd (false≢true is); uses = λ n is. absurd (false≢true is); locks = λ n k is. absurd (false≢true is) },
       record { holds = λ n held is. absurd (false≢true is); uses = λ n held is. absurd (false≢true is); locks = λ n k held is. absurd (false≢true is) },

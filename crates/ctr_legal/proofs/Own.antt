@@ -1,5 +1,5 @@
 -- Sessions that have asked for their commits wait with numbers of their own.
-use Rattle.std.proofs.Common.{◌≡◌, ◌⊎◌, inl, inr, ⊎_elim, ℕ, ◌+◌, ◌<◌, ◌==◌, Bool, true, false, List, [], ◌∷◌, length, Option, Some, None, refl, sym, ◌∙◌, ap, subst, arith}
+use Rattle.std.proofs.Common.{◌≡◌, ◌⊎◌, inl, inr, ⊎_elim, ℕ, ◌+◌, ◌<◌, ◌==◌, true, false, List, [], ◌∷◌, length, Option, Some, None, refl, sym, ◌∙◌, ap, subst, arith}
 use Rattle.std.specs.Prelude.{is_some}
 use Rattle.std.proofs.lemmas.Bool.{false≢true, eqb-true, eq-eqb}
 use Rattle.ctr_types.specs.declared.statement.Statement.{Statement}
@@ -12,11 +12,9 @@ use Rattle.ctr_types.specs.declared.tape.Entry.{Entry}
 use Rattle.ctr_model.specs.declared.state.State.{State}
 use Rattle.ctr_model.specs.declared.state.Transaction.{Transaction}
 use Rattle.ctr_model.specs.declared.tape.Point.{Point}
-use Rattle.ctr_model.specs.declared.tape.Progress.{Progress}
-use Rattle.ctr_model.specs.Database.{Database}
 use Rattle.ctr_model.specs.State.{transaction_of}
 use Rattle.ctr_model.specs.Reply.{next_from, next_state}
-use Rattle.ctr_model.specs.Tape.{statement_of, progress_of, goes_on, Comes, IsActOf, IsRelease, passed, passed_by, final, Legal, at_start}
+use Rattle.ctr_model.specs.Tape.{statement_of, progress_of, goes_on, Comes, IsActOf, passed, passed_by, final, Legal, at_start}
 use Rattle.ctr_model.proofs.Sessions.{known, find-put-same}
 use Rattle.ctr_versions.proofs.Keys.{some_is}
 use Rattle.ctr_legal.specs.Kept.{IsKept}

@@ -1,6 +1,6 @@
 -- Wherever a legal tape leads, the state keeps what it is to keep and each session is ready.
-use Rattle.std.proofs.Common.{◌≡◌, ⊎_elim, inl, ℕ, zero, suc, ◌+◌, ◌<◌, ◌==◌, Bool, true, false, cond, List, [], ◌∷◌, ◌++◌, length, Option, Some, None, refl, sym, ◌∙◌, ap, subst, arith}
-use Rattle.std.specs.Prelude.{unwrap_or, is_some, nat_le, ◌&&◌, slice_get, option_and_then}
+use Rattle.std.proofs.Common.{◌≡◌, ⊎_elim, inl, ℕ, zero, suc, ◌+◌, ◌<◌, ◌==◌, Bool, true, false, cond, not, List, [], ◌∷◌, ◌++◌, length, Option, Some, None, refl, sym, ◌∙◌, ap, subst, arith}
+use Rattle.std.specs.Prelude.{unwrap_or, is_some, nat_le, ◌&&◌, ◌||◌, slice_get, option_and_then}
 use Rattle.std.proofs.lemmas.Bool.{false≢true, true≢false, eqb-true, and_parts}
 use Rattle.ctr_types.specs.declared.statement.Statement.{Statement}
 use Rattle.ctr_types.specs.declared.statement.Line.{Line}
@@ -13,7 +13,7 @@ use Rattle.ctr_model.specs.declared.state.Transaction.{Transaction}
 use Rattle.ctr_model.specs.declared.tape.Point.{Point}
 use Rattle.ctr_model.specs.declared.tape.Progress.{Progress}
 use Rattle.ctr_model.specs.Database.{Database, table_at, after}
-use Rattle.ctr_model.specs.State.{rows_at, transaction_of, at_rest}
+use Rattle.ctr_model.specs.State.{same_name, has_name, rows_at, transaction_of, at_rest}
 use Rattle.ctr_model.specs.Reply.{without_name, reply_from, next_from, next_state}
 use Rattle.ctr_model.specs.Tape.{acts_of, statement_of, progress_of, goes_on, advanced, Comes, IsActOf, IsRelease, passed_by, passed, final, Legal, at_start}
 use Rattle.ctr_model.proofs.Sessions.{known, find-put-other, find-put-same}
@@ -45,6 +45,18 @@ ready_stays state next statement act.Ask o same ready = ready
 ready_stays state next statement act.Answer o same ready = tt
 ready_stays state next statement act.Rollback o same ready = ready
 ready_stays state next statement (act.Release name) o same ready = absurd ready
+
+-- a name that is among fewer was among all
+still_named : (n name : List ℕ) (names : List (List ℕ)) → has_name n (without_name name names) ≡ true → has_name n names ≡ true
+still_named n name [] is = is
+still_named n name (m ∷ ms) is = elim (same_name m name) as (λ b. has_name n (cond (not b) (m ∷ without_name name ms) (without_name name ms)) ≡ true → (same_name m n || has_name n ms) ≡ true) [
+  | true ↦ λ rest. ap (λ b. same_name m n || b) (still_named n name ms rest) ∙ last (same_name m n)
+  | false ↦ elim (same_name m n) as (λ b. (b || has_name n (without_name name ms)) ≡ true → (b || has_name n ms) ≡ true) [ true ↦ λ is. refl | false ↦ still_named n name ms ]
+] is
+  where
+    last : (b : Bool) → (b || true) ≡ true
+    last true = refl
+    last false = refl
 
 -- ---- one entry
 
@@ -165,8 +177,9 @@ module _ (lines : List Line) (p : Point) (e : Entry) (reached : IsReached lines 
           (λ two. other_waiting q two t k);
     }
 
-  stuck_kept : (names : List (List ℕ)) → IsKept (record p.state { stuck = names })
-  stuck_kept names = let kept = reached.kept in record { answered = kept.answered; fits = kept.fits; covered = kept.covered; apart = kept.apart; firm = kept.firm; readers = kept.readers; pending = kept.pending }
+  -- fewer names are held by recovery
+  fewer_kept : (name : List ℕ) → IsKept (record p.state { stuck = without_name name p.state.stuck })
+  fewer_kept name = let kept = reached.kept in record { answered = kept.answered; fits = kept.fits; covered = kept.covered; clear = λ s t at. let c = kept.clear s t at in record { uses = λ n stuck is. c.uses n (still_named n name p.state.stuck stuck) is; holds = λ n stuck is. c.holds n (still_named n name p.state.stuck stuck) is }; apart = kept.apart; firm = kept.firm; readers = kept.readers; pending = kept.pending }
 
   abbrev Still : State → Type 0
   Still next = IsKept next × ((q : ℕ) → transaction_of next q ≡ transaction_of p.state q) × ((j : ℕ) → rows_at next j ≡ rows_at p.state j)
@@ -177,7 +190,7 @@ module _ (lines : List Line) (p : Point) (e : Entry) (reached : IsReached lines 
       let next : State = next_state p.state e.session e.act None e.reply in
       let still : Still (next_state p.state e.session (act.Release is.name) None reply.Released) = elim (transaction_of p.state e.session) as (λ o. Still (next_from p.state e.session o (act.Release is.name) None reply.Released)) [
         | Some me ↦ (reached.kept, λ q. refl, λ j. refl)
-        | None ↦ (stuck_kept (without_name is.name p.state.stuck), λ q. refl, λ j. refl)
+        | None ↦ (fewer_kept is.name, λ q. refl, λ j. refl)
       ] in
       let moved : Still next = subst (λ a. Still (next_state p.state e.session a None e.reply)) (sym is.act) (subst (λ r. Still (next_state p.state e.session (act.Release is.name) None r)) (sym is.released) still) in
       record {
@@ -205,6 +218,7 @@ start_reached lines moment base stuck = record {
     answered = omega arith;
     fits = λ s t at. absurd (false≢true (ap is_some at));
     covered = λ s t at. absurd (false≢true (ap is_some at));
+    clear = λ s t at. absurd (false≢true (ap is_some at));
     apart = λ s r t u two at at_r. absurd (false≢true (ap is_some at));
     firm = λ s t at. absurd (false≢true (ap is_some at));
     readers = λ s t at. absurd (false≢true (ap is_some at));

@@ -121,14 +121,14 @@ module _ (state : State) (s : ℕ) (kept : IsKept state) (me : Transaction) (at 
   hold_kept : (statement : Statement) (name : List ℕ) → table_of statement ≡ Some name → changes_schema statement ≡ true → IsUnrefused state s me act.Lock statement → IsKept (with_transaction s (record me { writer = true; holds = me.holds ++ name ∷ [] }) state)
   hold_kept statement name named changes free =
       let g = grants state s me act.Lock statement name named free.none in
-      kept_hold state s kept me at free.unasked name (ap (λ b. first_session (is_busy b name) (others s state)) (sym changes) ∙ g.idle) g.unchanged
+      kept_hold state s kept me at free.unasked name (ap (λ b. first_session (is_busy b name) (others s state)) (sym changes) ∙ g.idle) g.unchanged g.unstuck
 
   -- a key is locked
   key_kept : (statement : Statement) (name : List ℕ) (key : ℤ) → table_of statement ≡ Some name → key_written statement ≡ Some key → IsUnrefused state s me act.Lock statement
       → IsKept (with_transaction s (record me { writer = true; locks = me.locks ++ record { table = name; key = key } ∷ []; uses = me.uses ++ name ∷ [] }) state)
   key_kept statement name key named keyed free =
       let g = grants state s me act.Lock statement name named free.none in
-      kept_lock state s kept me at free.unasked (changes_schema statement) name key g.idle g.unchanged (key_free state s me name key (subst (λ o. AllByRecursion (λ (r : Option Refusal). r ≡ None) (key_refusals state s me name o)) keyed g.keys))
+      kept_lock state s kept me at free.unasked (changes_schema statement) name key g.idle g.unchanged g.unstuck (key_free state s me name key (subst (λ o. AllByRecursion (λ (r : Option Refusal). r ≡ None) (key_refusals state s me name o)) keyed g.keys))
 
   locked_kept : (statement : Statement) → changes_schema statement ≡ is_none (key_written statement) → IsUnrefused state s me act.Lock statement → IsKept (with_transaction s (granted act.Lock statement me) state)
   locked_kept st.Begin is free = absurd (false≢true is)
@@ -144,7 +144,7 @@ module _ (state : State) (s : ℕ) (kept : IsKept state) (me : Transaction) (at 
   used_kept : (statement : Statement) → IsUnrefused state s me act.Read statement → IsKept (with_transaction s (on_table with_use (table_of statement) me) state)
   used_kept statement free = elim (table_of statement) as (λ o. table_of statement ≡ o → IsKept (with_transaction s (on_table with_use o me) state)) [
     | None ↦ λ is. kept_itself state s kept me at free.unasked
-    | Some name ↦ λ is. let g = grants state s me act.Read statement name is free.none in kept_use state s kept me at free.unasked (changes_schema statement) name g.idle g.unchanged
+    | Some name ↦ λ is. let g = grants state s me act.Read statement name is free.none in kept_use state s kept me at free.unasked (changes_schema statement) name g.idle g.unchanged g.unstuck
   ] refl
 
   -- a row is written under its lock

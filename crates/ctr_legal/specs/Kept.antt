@@ -1,5 +1,5 @@
--- What a state keeps on every legal tape: locks are apart, changes lie under locks, and names in
--- use are steady.
+-- What a state keeps on every legal tape: locks are apart, changes lie under locks, names in use are
+-- steady, and recovery holds none of them.
 use Rattle.std.specs.Prelude.{◌≡◌, ℕ, ℤ, ◌==◌, ◌≤◌, true, false, List, [], drop, length, Some, None}
 use Rattle.std.specs.List.{AllByRecursion}
 use Rattle.ctr_model.specs.declared.database.Change.{Change}
@@ -33,13 +33,20 @@ pub record IsFit (asked : ℕ) (t : Transaction) : Type 0 where
   pub snapshot : t.snapshot ≤ asked
   pub number : (k : ℕ) → t.asked ≡ Some k → k ≤ asked
 
+-- Recovery holds no name that the transaction uses or holds.
+pub record IsClear (stuck : List (List ℕ)) (t : Transaction) : Type 0 where
+  pub uses : (name : List ℕ) → has_name name stuck ≡ true → has_name name t.uses ≡ true → ⊥
+  pub holds : (name : List ℕ) → has_name name stuck ≡ true → has_name name t.holds ≡ true → ⊥
+
 -- Each transaction fits what was asked, is covered by its locks, has written nothing without one,
--- and is firm until it asks itself; each two are apart; who asked and isn't answered is still there.
+-- is clear of recovery, and is firm until it asks itself; each two are apart; who asked and isn't
+-- answered is still there.
 pub record IsKept (state : State) : Type 0 where
   pub answered : state.answered ≤ length state.asked
   pub fits : (s : ℕ) (t : Transaction) → transaction_of state s ≡ Some t
       → IsFit (length state.asked) t
   pub covered : (s : ℕ) (t : Transaction) → transaction_of state s ≡ Some t → IsCovered t
+  pub clear : (s : ℕ) (t : Transaction) → transaction_of state s ≡ Some t → IsClear state.stuck t
   pub apart : (s r : ℕ) (t u : Transaction) → (s == r) ≡ false → transaction_of state s ≡ Some t
       → transaction_of state r ≡ Some u → AreApart t u
   pub firm : (s : ℕ) (t : Transaction) → transaction_of state s ≡ Some t → t.asked ≡ None

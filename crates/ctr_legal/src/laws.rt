@@ -2,7 +2,7 @@
 ghost use Rattle.ctr_legal.specs.Laws.{LegalTapesAreReached, LegalTapesGrow, WaitingAreAnswered, RepliesTell, NumbersAreOwn};
 
 /// Wherever a legal tape leads, changes lie under locks, locks of two sessions are apart, names in use
-/// are steady, and each session is ready for its next act.
+/// are steady and not held by recovery, and each session is ready for its next act.
 pub fn legal_tapes_are_reached()
     ensures { LegalTapesAreReached }
 {}
