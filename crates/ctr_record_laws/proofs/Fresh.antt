@@ -36,7 +36,7 @@ zero_pages : (header : ℕ → Header) (ps : List ℕ) → AreZeros ps → flat_
 zero_pages header [] zeros = refl
 zero_pages header (p ∷ ps) zeros = λ i. page_ends header pages_bound p zeros.0 i ++ zero_pages header ps zeros.1 i
 
-zero_places : (area : Area) (ps : List ℕ) → AreZeros ps → flat_map (places_from area) ps ≡ []
+pub zero_places : (area : Area) (ps : List ℕ) → AreZeros ps → flat_map (places_from area) ps ≡ []
 zero_places area [] zeros = refl
 zero_places area (p ∷ ps) zeros = λ i. flat_map (λ q. places_on q 0 (area.room q)) (page_ends area.header pages_bound p zeros.0 i) ++ zero_places area ps zeros.1 i
 

@@ -77,7 +77,7 @@ set_gathered area (q ∷ ps) (suc b) p lt unused places =
     less n lt = omega (arith, lt)
 
 -- slots and chains that are what they were
-gathered_same : (old new : Area) (places : List Place) → ((at : Place) → IsAmong at places → new.slot at ≡ old.slot at)
+pub gathered_same : (old new : Area) (places : List Place) → ((at : Place) → IsAmong at places → new.slot at ≡ old.slot at)
     → ((at : Place) → IsAmong at places → (old.slot at).used ≡ true → chain_of new.older (old.slot at) ≡ chain_of old.older (old.slot at))
     → rows_gathered new.older new.slot places ≡ rows_gathered old.older old.slot places
 gathered_same old new [] slots chains = refl
