@@ -1,0 +1,14 @@
+pub mod Later
+pub mod Entries
+pub mod Chains
+pub mod Shape
+pub mod Scan
+pub mod Names
+pub mod Catalog
+pub mod Items
+pub mod Owner
+pub mod Rows
+pub mod Whole
+pub mod Order
+pub mod Held
+pub mod Holding

@@ -1,0 +1,2 @@
+//! Chains of names.
+#![tactic(auto)]
