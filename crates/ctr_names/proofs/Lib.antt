@@ -12,3 +12,7 @@ pub mod Whole
 pub mod Order
 pub mod Held
 pub mod Holding
+pub mod Stand
+pub mod Front
+pub mod Ranked
+pub mod Search

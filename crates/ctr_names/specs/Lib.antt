@@ -1,2 +1,3 @@
 pub mod Stand
 pub mod Held
+pub mod Search
