@@ -23,14 +23,9 @@ use Rattle.ctr_area.specs.Areas.{Title}
 use Rattle.ctr_area.specs.Sound.{IsSchemaItem}
 use Rattle.ctr_record_laws.proofs.Members.{among_front, among_parts}
 use Rattle.ctr_record_laws.proofs.Named.{IsOfPage, alloc_of_page, free_of_page}
-use Rattle.ctr_names.specs.Held.{HoldsNames, IsHeldBy}
+use Rattle.ctr_names.specs.Held.{HaveSameTables, HoldsNames, IsHeldBy}
 use Rattle.ctr_names.proofs.Held.{holds_moved, holds_released}
 use Rattle.ctr_names.proofs.Items.{left_fewer, left_keeps, schema_map}
-
--- the same items of tables are in both
-pub record HaveSameTables (old new : List SlogItem) : Type 0 where
-  pub back : (y f : ℕ) → IsSchemaItem y f new → IsSchemaItem y f old
-  pub still : (y f : ℕ) → IsSchemaItem y f old → IsSchemaItem y f new
 
 pub same_items : (items : List SlogItem) → HaveSameTables items items
 same_items items = record { back = λ y f i. i; still = λ y f i. i }

@@ -15,4 +15,5 @@ pub mod Holding
 pub mod Stand
 pub mod Front
 pub mod Ranked
+pub mod Fates
 pub mod Search

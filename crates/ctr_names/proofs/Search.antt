@@ -23,11 +23,12 @@ use Rattle.ctr_area.specs.Areas.{Area, Title}
 use Rattle.ctr_area.specs.Images.{is_committed_in, is_live, is_named_so, is_standing, made_by_entry, name_chain, versions_in}
 use Rattle.ctr_area.specs.Sound.{IsAmong, IsSchemaItem, IsSoundArea, stands_for, xids_in}
 use Rattle.ctr_record_laws.specs.Bounds.{IsInBounds}
-use Rattle.ctr_record_laws.specs.Owed.{IsNameFreeFor}
+use Rattle.ctr_record_laws.specs.Owed.{AgreeOnCommits, IsNameFreeFor}
 use Rattle.ctr_record_laws.proofs.Latest.{live_some}
 use Rattle.ctr_names.specs.Search.{IsLooking, Looker, ShowsNames, finds}
 use Rattle.ctr_names.proofs.Chains.{AreAllBy, Version, entries_in, name_by, seen-merged}
 use Rattle.ctr_names.proofs.Entries.{name_of, named_so}
+use Rattle.ctr_names.proofs.Fates.{agrees}
 use Rattle.ctr_names.proofs.Front.{in_front, rest, stands_undropped, undropped_for, x_zero}
 use Rattle.ctr_names.proofs.Names.{names_here}
 use Rattle.ctr_names.proofs.Owner.{owner, shape}
@@ -40,6 +41,9 @@ module _ (counted low : ℕ) (tables : Tables) (area : Area) (xids : Xids) (stat
 
   abbrev number : Numbers
   number = number_of xids
+
+  agree : AgreeOnCommits number tables
+  agree = agrees tables xids names.xids_are
 
   abbrev me : ℕ
   me = look.session.me
@@ -64,7 +68,7 @@ module _ (counted low : ℕ) (tables : Tables) (area : Area) (xids : Xids) (stat
   me_none = (looks.shown.wrote looks.calm).is_open
 
   me_open : committed me ≡ false
-  me_open = sym (names.agree me) ∙ ap is_some me_none
+  me_open = sym (agree me) ∙ ap is_some me_none
 
   not_me : (y : ℕ) → committed y ≡ true → y ≡ me → ⊥
   not_me y c same = false≢true (sym me_open ∙ ap committed (sym same) ∙ c)
@@ -146,10 +150,10 @@ module _ (counted low : ℕ) (tables : Tables) (area : Area) (xids : Xids) (stat
       where
         none_number : (o : Option ℕ) → number 0 ≡ o → number 0 ≡ None
         none_number None is = is
-        none_number (Some k) is = absurd (false≢true (sym (names.agree 0) ∙ ap is_some is))
+        none_number (Some k) is = absurd (false≢true (sym (agree 0) ∙ ap is_some is))
 
     others_found : (f : ℕ) → f < 32 → is_named_so name (f, area.title f) ≡ true → is_standing (finds xids look.session) (area.title f) ≡ true → value_seen seen chain ≡ Some (made_by_entry (f, area.title f))
-    others_found f lt named found = seen_at ∙ found_shows low tables area number names.agree names.one n looks.shown.from name f lt named stands
+    others_found f lt named found = seen_at ∙ found_shows low tables area number agree names.one n looks.shown.from name f lt named stands
       where
         its : (is_live (area.title f) ≡ true) × (seen (area.title f).creator ≡ true) × (((area.title f).dropper ≡ 0) ⊎ (seen (area.title f).dropper ≡ false))
         its = found_parts (area.title f) found
@@ -161,7 +165,7 @@ module _ (counted low : ℕ) (tables : Tables) (area : Area) (xids : Xids) (stat
         stands = λ i. its.0 i && ((sym (maker_same f lt named) ∙ its.1) i && not (unseen i))
 
     others_none : ((f : ℕ) → f < 32 → is_named_so name (f, area.title f) ≡ true → is_standing (finds xids look.session) (area.title f) ≡ false) → value_seen seen chain ≡ None
-    others_none missed = seen_at ∙ none_shows low tables area number names.agree names.one n looks.shown.from name
+    others_none missed = seen_at ∙ none_shows low tables area number agree names.one n looks.shown.from name
         (λ f lt named. known (is_standing (by number n) (area.title f)) (λ stands. absurd (never f lt named stands)) (λ isnt. isnt))
       where
         never : (f : ℕ) → f < 32 → is_named_so name (f, area.title f) ≡ true → is_standing (by number n) (area.title f) ≡ true → ⊥
@@ -180,7 +184,7 @@ module _ (counted low : ℕ) (tables : Tables) (area : Area) (xids : Xids) (stat
     -- who is told of the name is within the snapshot
     within : (y : ℕ) → IsTold number n (schema_writes name state.asked) y → committed y ≡ true → by number n y ≡ true
     within y is c = elim (number y) as (λ o. number y ≡ o → by number n y ≡ true) [
-      | None ↦ λ none. absurd (false≢true (ap is_some (sym none) ∙ names.agree y ∙ c))
+      | None ↦ λ none. absurd (false≢true (ap is_some (sym none) ∙ agree y ∙ c))
       | Some k ↦ λ some. ap (is_by n) some ∙ le-leb k n (⊎_elim (λ above_. absurd (false≢true (ap is_some (sym quiet) ∙ is k some above_))) (λ le. le) (cases_lt n k))
     ] refl
 

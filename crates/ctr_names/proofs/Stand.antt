@@ -14,14 +14,14 @@ use Rattle.ctr_meta.specs.Effects.{committed, forgotten_by, rolled_back, with_ab
 use Rattle.ctr_meta.specs.Tables.{Tables, heads_at, heads_in, is_in, without_xid}
 use Rattle.ctr_area.specs.Areas.{Area, Title}
 use Rattle.ctr_area.specs.Changes.{with_title}
-use Rattle.ctr_area.specs.Images.{is_committed_in, is_live, is_standing, numbers}
+use Rattle.ctr_area.specs.Images.{is_committed_in, is_live, is_standing}
 use Rattle.ctr_area.specs.Sound.{IsOneOf, IsSchemaItem, IsSoundArea, xids_in}
 use Rattle.ctr_record_laws.specs.Owed.{AgreeOnCommits, OwedByAbort, OwedByCommit}
 use Rattle.ctr_record_laws.proofs.Commit.{commit_sound}
 use Rattle.ctr_record_laws.proofs.Heads.{listed_drawn, listed_open}
 use Rattle.ctr_record_laws.proofs.Latest.{title_apart, title_here}
 use Rattle.ctr_record_laws.proofs.Xids.{among_in, in_among, not_both}
-use Rattle.ctr_names.specs.Stand.{IsDropNewer, NamesStand}
+use Rattle.ctr_names.specs.Stand.{HasNext, IsDropNewer, NamesStand, StaysWithCommits}
 
 -- ---- at open every number is 0
 
@@ -69,19 +69,24 @@ stand_kept low old new title now each names = record {
 -- ---- a commit
 
 module _ (low counted : ℕ) (tables : Tables) (area : Area) (number new : Numbers) (x n : ℕ) (sound : IsSoundArea counted tables area) (owed : OwedByCommit tables x) (newer : IsDropNewer tables area.title x)
-    (agree : AgreeOnCommits number tables) (agree_now : AgreeOnCommits new (committed x tables)) (none : number x ≡ None) (numbers : (y : ℕ) → new y ≡ with_number number x (n + 1) y) (bounded : (y i : ℕ) → number y ≡ Some i → i ≤ n) where
+    (agree : AgreeOnCommits number tables) (agree_now : AgreeOnCommits new (committed x tables)) (next : HasNext number new x n) where
+  numbers : (y : ℕ) → new y ≡ with_number number x (n + 1) y
+  numbers y = ⊎_elim
+      (λ same. ap new same ∙ next.here ∙ sym (ap (with_number number x (n + 1)) same ∙ update_here number x (Some (n + 1))))
+      (λ apart. next.others y apart ∙ sym (update_apart number x (Some (n + 1)) y apart)) (cases_eq y x)
+
   of_x : (y i : ℕ) → y ≡ x → new y ≡ Some i → i ≡ n + 1
-  of_x y i same is = ap (λ (o : Option ℕ). unwrap_or o 0) (sym is ∙ numbers y ∙ ap (with_number number x (n + 1)) same ∙ update_here number x (Some (n + 1)))
+  of_x y i same is = ap (λ (o : Option ℕ). unwrap_or o 0) (sym is ∙ ap new same ∙ next.here)
 
   of_other : (y i : ℕ) → (y ≡ x → ⊥) → new y ≡ Some i → number y ≡ Some i
-  of_other y i apart is = sym (numbers y ∙ update_apart number x (Some (n + 1)) y apart) ∙ is
+  of_other y i apart is = sym (next.others y apart) ∙ is
 
   -- no number is above the last
   late_by : (j y : ℕ) → n + 1 ≤ j → by new j y ≡ is_committed_in (committed x tables) y
   late_by j y late = of_option (new y) refl ∙ agree_now y
     where
       within : (i : ℕ) → new y ≡ Some i → i ≤ j
-      within i is = ⊎_elim (λ same. at_last i (of_x y i same is)) (λ apart. earlier i (bounded y i (of_other y i apart is))) (cases_eq y x)
+      within i is = ⊎_elim (λ same. at_last i (of_x y i same is)) (λ apart. earlier i (next.bounded y i (of_other y i apart is))) (cases_eq y x)
         where
           at_last : (i : ℕ) → i ≡ n + 1 → i ≤ j
           at_last i is = omega (arith, is, late)
@@ -96,13 +101,13 @@ module _ (low counted : ℕ) (tables : Tables) (area : Area) (number new : Numbe
   pub stand_commit : NamesStand low number area.title → NamesStand low new area.title
   stand_commit names = record {
     one = λ j from. ⊎_elim
-        (λ early. subst (λ test. IsOneOf area.title (is_standing test)) (λ i y. sym (ap (is_by j) (numbers y) ∙ early_by number x (n + 1) j none early y) i) (names.one j from))
+        (λ early. subst (λ test. IsOneOf area.title (is_standing test)) (λ i y. sym (ap (is_by j) (numbers y) ∙ early_by number x (n + 1) j next.none early y) i) (names.one j from))
         (λ late. subst (λ test. IsOneOf area.title (is_standing test)) (λ i y. sym (late_by j y late) i) (commit_sound counted tables area x sound owed).names.standing)
         (cases_lt j (n + 1));
     ranked = λ e f i k lt_e lt_f live_e live_f same of_e of_f le. ⊎_elim
         (λ f_x. let k_is = of_x (area.title f).dropper k f_x of_f in ⊎_elim
         (λ e_x. equal i k (of_x (area.title e).dropper i e_x of_e) k_is)
-        (λ e_other. below i k (bounded (area.title e).dropper i (of_other (area.title e).dropper i e_other of_e)) k_is)
+        (λ e_other. below i k (next.bounded (area.title e).dropper i (of_other (area.title e).dropper i e_other of_e)) k_is)
         (cases_eq (area.title e).dropper x))
         (λ f_other. let f_was = of_other (area.title f).dropper k f_other of_f in ⊎_elim
         (λ e_x. absurd (never (area.title f).dropper (area.title e).dropper le e_x
@@ -205,18 +210,18 @@ module _ (counted : ℕ) (tables : Tables) (area : Area) (sound : IsSoundArea co
 
   -- who is committed as before has the number of before: then names stand over the end of one that no item has
   stand_left : (now : Tables) (low x : ℕ) (number new : Numbers) → is_committed_in tables x ≡ false → 0 < x → ((f : ℕ) → IsSchemaItem x f tables.items → ⊥) → ((y : ℕ) → (y ≡ x → ⊥) → is_committed_in now y ≡ is_committed_in tables y)
-      → ((y : ℕ) → is_committed_in now y ≡ is_committed_in tables y → new y ≡ number y) → NamesStand low number area.title → NamesStand low new area.title
+      → StaysWithCommits tables now number new → NamesStand low number area.title → NamesStand low new area.title
   stand_left now low x number new open_ some none alike numbers = stand_same low number new area.title
       (λ f lt alive. let apart = titles_apart x open_ some none f lt alive in (numbers (area.title f).creator (alike (area.title f).creator apart.0), numbers (area.title f).dropper (alike (area.title f).dropper apart.1)))
 
-  pub stand_abort : (low : ℕ) (number new : Numbers) (x : ℕ) → OwedByAbort tables x → ((y : ℕ) → is_committed_in (rolled_back x tables) y ≡ is_committed_in tables y → new y ≡ number y) → NamesStand low number area.title → NamesStand low new area.title
+  pub stand_abort : (low : ℕ) (number new : Numbers) (x : ℕ) → OwedByAbort tables x → StaysWithCommits tables (rolled_back x tables) number new → NamesStand low number area.title → NamesStand low new area.title
   stand_abort low number new x owed numbers = stand_left (rolled_back x tables) low x number new (listed_open tables x (inl owed.is_open)) (listed_drawn tables.next area tables sound.below x (inl owed.is_open)).0 none (abort_alike tables x) numbers
     where
       none : (f : ℕ) → IsSchemaItem x f tables.items → ⊥
       none f (inl in_) = true≢false (sym (eq-eqb x x refl) ∙ owed.none (CreateOf x f) in_)
       none f (inr in_) = true≢false (sym (eq-eqb x x refl) ∙ owed.none (DropOf x f) in_)
 
-  pub stand_forget : (low : ℕ) (number new : Numbers) (x : ℕ) → is_in x tables.aborted ≡ true → ((y : ℕ) → is_committed_in (forgotten_by x tables) y ≡ is_committed_in tables y → new y ≡ number y) → NamesStand low number area.title → NamesStand low new area.title
+  pub stand_forget : (low : ℕ) (number new : Numbers) (x : ℕ) → is_in x tables.aborted ≡ true → StaysWithCommits tables (forgotten_by x tables) number new → NamesStand low number area.title → NamesStand low new area.title
   stand_forget low number new x is numbers = stand_left (forgotten_by x tables) low x number new (listed_open tables x (inr is)) (listed_drawn tables.next area tables sound.below x (inr is)).0 none (forget_alike tables x) numbers
     where
       none : (f : ℕ) → IsSchemaItem x f tables.items → ⊥

@@ -40,3 +40,12 @@ names_of_items title (AllocOf x p ∷ is) = names_of_items title is
 names_of_items title (FreeOf p ∷ is) = names_of_items title is
 names_of_items title (CreateOf x e ∷ is) = (title e).name ∷ names_of_items title is
 names_of_items title (DropOf x e ∷ is) = (title e).name ∷ names_of_items title is
+
+-- the same items of tables are in both lists
+pub record HaveSameTables (old new : List SlogItem) : Type 0 where
+  pub back : (y f : ℕ) → IsSchemaItem y f new → IsSchemaItem y f old
+  pub still : (y f : ℕ) → IsSchemaItem y f old → IsSchemaItem y f new
+
+-- the tables of items have the names that they had
+abbrev pub KeepNames : List SlogItem → (ℕ → Title) → (ℕ → Title) → Type 0
+KeepNames items title now = (y f : ℕ) → IsSchemaItem y f items → (now f).name ≡ (title f).name

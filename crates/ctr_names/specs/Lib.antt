@@ -1,3 +1,4 @@
+pub mod Shape
 pub mod Stand
 pub mod Held
 pub mod Search

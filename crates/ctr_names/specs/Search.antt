@@ -1,5 +1,5 @@
 -- What a session looks for in the catalog, and when it is at rest to be found.
-use Rattle.std.specs.Prelude.{◌≡◌, ℕ, ◌≤◌, ◌==◌, Bool, ◌&&◌, not, List, length, Some, None}
+use Rattle.std.specs.Prelude.{◌≡◌, ℕ, ◌<◌, ◌==◌, Bool, true, false, ◌&&◌, not, List, Option, Some, None}
 use Rattle.ctr_model.specs.declared.state.State.{State}
 use Rattle.ctr_model.specs.declared.state.Transaction.{Transaction}
 use Rattle.ctr_versions.specs.Chains.{changed_since}
@@ -9,17 +9,21 @@ use Rattle.ctr_versions.specs.Versions.{VersionsStand, IsOrdered}
 use Rattle.ctr_versions.specs.Engine.{SessionHeld, session_sees, IsCalm, ShowsSession}
 use Rattle.ctr_meta.specs.Tables.{Tables}
 use Rattle.ctr_area.specs.Areas.{Area}
-use Rattle.ctr_area.specs.Images.{is_committed_in, versions_in}
-use Rattle.ctr_area.specs.Sound.{IsSchemaItem}
-use Rattle.ctr_record_laws.specs.Owed.{AgreeOnCommits}
+use Rattle.ctr_area.specs.Images.{is_committed_in, is_named_so, is_standing, versions_in}
+use Rattle.ctr_area.specs.Sound.{IsSchemaItem, xids_in}
 use Rattle.ctr_names.specs.Stand.{NamesStand}
 
--- The chains of an area show a state, whose transactions are these: from the low number on they have
--- its rows, and at most one table of each name stands. Nobody has a number above all that asked.
+-- The transactions of an engine are those of tables.
+pub record IsOfTables (tables : Tables) (xids : Xids) : Type 0 where
+  pub next : xids.next ≡ tables.next
+  pub live : xids.live ≡ xids_in tables.opens
+  pub aborted : xids.aborted ≡ xids_in tables.aborted
+
+-- The chains of an area show a state, and the transactions are those of its tables: from the low
+-- number on the chains have the state's rows, and at most one table of each name stands.
 pub record ShowsNames (low : ℕ) (tables : Tables) (area : Area) (xids : Xids) (state : State)
     : Type 0 where
-  pub agree : AgreeOnCommits (number_of xids) tables
-  pub bounded : (y i : ℕ) → number_of xids y ≡ Some i → i ≤ length state.asked
+  pub xids_are : IsOfTables tables xids
   pub chains : VersionsStand low (number_of xids) state.base state.asked
       (versions_in (is_committed_in tables) area)
   pub one : NamesStand low (number_of xids) area.title
@@ -45,3 +49,18 @@ pub record IsLooking (low : ℕ) (tables : Tables) (area : Area) (xids : Xids) (
 -- what a session finds of a transaction: 0 is nobody
 abbrev pub finds : Xids → SessionHeld → ℕ → Bool
 finds xids session x = not (x == 0) && session_sees xids session x
+
+-- the number that a session has drawn, or none
+abbrev pub IsNumberOf : SessionHeld → Option ℕ → Type 0
+IsNumberOf session None = session.me ≡ 0
+IsNumberOf session (Some me) = me ≡ session.me
+
+-- An entry of the catalog is the live one of a name that stands by a test of who is seen.
+abbrev pub IsFound : (ℕ → Bool) → List ℕ → Area → ℕ → Type 0
+IsFound sees name area f = (f < 32) × (is_named_so name (f, area.title f) ≡ true)
+    × (is_standing sees (area.title f) ≡ true)
+
+-- no entry is
+abbrev pub IsNoneFound : (ℕ → Bool) → List ℕ → Area → Type 0
+IsNoneFound sees name area = (f : ℕ) → f < 32 → is_named_so name (f, area.title f) ≡ true
+    → is_standing sees (area.title f) ≡ false

@@ -1,5 +1,5 @@
 -- Tables of one name over time.
-use Rattle.std.specs.Prelude.{◌≡◌, ℕ, ◌≤◌, ◌<◌, true, Some}
+use Rattle.std.specs.Prelude.{◌≡◌, ℕ, ◌+◌, ◌≤◌, ◌<◌, true, Some, None}
 use Rattle.ctr_versions.specs.Chains.{Numbers, by}
 use Rattle.ctr_meta.specs.Tables.{Tables}
 use Rattle.ctr_area.specs.Areas.{Title}
@@ -21,3 +21,16 @@ IsDropNewer tables title x = (e f : ℕ) → e < 32 → f < 32
     → is_live (title e) ≡ true → is_live (title f) ≡ true → (title e).name ≡ (title f).name
     → (title e).dropper ≡ x → is_committed_in tables (title f).dropper ≡ true
     → (title f).dropper < x
+
+-- A transaction without a number gets the one behind n, above which nobody has one; the others keep
+-- theirs.
+pub record HasNext (number new : Numbers) (x n : ℕ) : Type 0 where
+  pub none : number x ≡ None
+  pub here : new x ≡ Some (n + 1)
+  pub others : (y : ℕ) → (y ≡ x → ⊥) → new y ≡ number y
+  pub bounded : (y i : ℕ) → number y ≡ Some i → i ≤ n
+
+-- who is committed by the new tables as by the old ones has the number of before
+abbrev pub StaysWithCommits : Tables → Tables → Numbers → Numbers → Type 0
+StaysWithCommits old new number number_now = (y : ℕ)
+    → is_committed_in new y ≡ is_committed_in old y → number_now y ≡ number y
