@@ -25,13 +25,14 @@ pub record IsHeldBy (sessions : List (ℕ × SessionHeld)) (state : State) (y : 
 
 -- An item of a table is by a session that holds the table's name, or recovery holds the name; and
 -- recovery holds a name only while there is an item of it that is nobody's.
-pub record HoldsNames (items : List SlogItem) (title : ℕ → Title) (sessions : List (ℕ × SessionHeld))
-    (state : State) : Type 0 where
+pub record HoldsNames (items : List SlogItem) (title : ℕ → Title)
+    (sessions : List (ℕ × SessionHeld)) (state : State) : Type 0 where
   pub owned : (y f : ℕ) → IsSchemaItem y f items
       → IsHeldBy sessions state y (title f).name
       ⊎ (IsNoSessions sessions y × (has_name (title f).name state.stuck ≡ true))
   pub left : (name : List ℕ) → has_name name state.stuck ≡ true
-      → (y : ℕ) × (f : ℕ) × IsSchemaItem y f items × ((title f).name ≡ name) × IsNoSessions sessions y
+      → (y : ℕ) × (f : ℕ) × IsSchemaItem y f items × ((title f).name ≡ name)
+      × IsNoSessions sessions y
 
 -- the names of the tables that items made or dropped
 abbrev pub names_of_items : (ℕ → Title) → List SlogItem → List (List ℕ)

@@ -1,4 +1,4 @@
--- What a session looks for in the catalog, and when it is at rest to be found.
+-- What a session finds in the catalog, and what it stands on there.
 use Rattle.std.specs.Prelude.{◌≡◌, ℕ, ◌<◌, ◌==◌, Bool, true, false, ◌&&◌, not, List, Option, Some, None}
 use Rattle.ctr_model.specs.declared.state.State.{State}
 use Rattle.ctr_model.specs.declared.state.Transaction.{Transaction}
@@ -35,8 +35,8 @@ pub record Looker : Type 0 where
   pub t : Transaction
   pub name : List ℕ
 
--- It shows its transaction, is neither asked nor within its rollback; and where it has made or dropped
--- a table of the name itself, nobody has changed the name since its snapshot.
+-- It shows its transaction, is neither asked nor within its rollback; and where it has made or
+-- dropped a table of the name itself, nobody has changed the name since its snapshot.
 pub record IsLooking (low : ℕ) (tables : Tables) (area : Area) (xids : Xids) (state : State)
     (look : Looker) : Type 0 where
   pub shown : ShowsSession low state.answered xids (versions_in (is_committed_in tables) area)
