@@ -32,11 +32,11 @@ use Rattle.ctr_versions.proofs.Steps.{set_versions, set_xids, same_session, renu
 
 -- ---- the chain of the schemas
 
-newest_schemas : (number : Numbers) (chain : List (ℕ × Option Made)) → newest number (schemas chain) ≡ newest number chain
+pub newest_schemas : (number : Numbers) (chain : List (ℕ × Option Made)) → newest number (schemas chain) ≡ newest number chain
 newest_schemas number [] = refl
 newest_schemas number (v ∷ vs) = ap (option_or (number v.0)) (newest_schemas number vs)
 
-written_schemas : (y : ℕ) (chain : List (ℕ × Option Made)) → written_by y (schemas chain) ≡ option_map (λ (o : Option Made). option_map (λ (m : Made). m.schema) o) (written_by y chain)
+pub written_schemas : (y : ℕ) (chain : List (ℕ × Option Made)) → written_by y (schemas chain) ≡ option_map (λ (o : Option Made). option_map (λ (m : Made). m.schema) o) (written_by y chain)
 written_schemas y [] = refl
 written_schemas y (h ∷ rest) = elim (y == h.0) as (λ b. cond b (Some (option_map (λ (m : Made). m.schema) h.1)) None ≡ option_map (λ (o : Option Made). option_map (λ (m : Made). m.schema) o) (cond b (Some h.1) None)) [ true ↦ refl | false ↦ refl ]
 
@@ -52,7 +52,7 @@ by_schemas : (P : ℕ → Type 0) (chain : List (ℕ × Option Made)) → AllByR
 by_schemas P [] all = tt
 by_schemas P (v ∷ vs) all = (all.0, by_schemas P vs all.1)
 
-of_schemas : (P : ℕ → Type 0) (chain : List (ℕ × Option Made)) → AllByRecursion (IsBy P) (schemas chain) → AllByRecursion (IsBy P) chain
+pub of_schemas : (P : ℕ → Type 0) (chain : List (ℕ × Option Made)) → AllByRecursion (IsBy P) (schemas chain) → AllByRecursion (IsBy P) chain
 of_schemas P [] all = tt
 of_schemas P (v ∷ vs) all = (all.0, of_schemas P vs all.1)
 
