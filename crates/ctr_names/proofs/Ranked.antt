@@ -5,15 +5,16 @@ use Rattle.std.specs.Option.{option_or}
 use Rattle.std.specs.Prelude.{is_some}
 use Rattle.std.proofs.lemmas.Bool.{cases_lt, false≢true, le-leb, leb-true}
 use Rattle.ctr_types.specs.declared.value.Schema.{Schema}
-use Rattle.ctr_versions.specs.Chains.{AllTold, IsTold, IsUnwritten, Numbers, by, is_by, last_write, newest, value_seen}
+use Rattle.ctr_versions.specs.Chains.{AllTold, IsTold, IsUnwritten, Numbers, by, is_by, last_write, value_seen}
 use Rattle.ctr_versions.specs.Versions.{schemas}
+use Rattle.ctr_versions.proofs.Undoing.{of_schemas}
 use Rattle.ctr_meta.specs.Tables.{Tables}
 use Rattle.ctr_area.specs.Areas.{Area, Title}
 use Rattle.ctr_area.specs.Images.{is_committed_in, is_live, is_named_so, is_standing, made_by_entry, name_chain}
 use Rattle.ctr_record_laws.specs.Bounds.{IsInBounds}
 use Rattle.ctr_record_laws.specs.Owed.{AgreeOnCommits}
 use Rattle.ctr_names.specs.Stand.{NamesStand}
-use Rattle.ctr_names.proofs.Chains.{AreAllBy, Version, entries_in}
+use Rattle.ctr_names.proofs.Chains.{entries_in}
 use Rattle.ctr_names.proofs.Entries.{name_of}
 use Rattle.ctr_names.proofs.Scan.{IsRanked, none_standing_shows, standing_shows}
 
@@ -65,19 +66,10 @@ pub steady_none : {V : Type 0} (k : ℕ) (ws : List (Option (Option V))) → All
 steady_none k [] all = refl
 steady_none k (w ∷ ws) all = (λ i. option_or (steady_none (k + 1) ws all.1 i) (cond (is_some (all.0 i)) (Some k) None))
 
--- of schemas as of the tables
-schemas_back : (P : ℕ → Type 0) (ws : List Version) → AllByRecursion (λ (v : ℕ × Option Schema). P v.0) (schemas ws) → AreAllBy P ws
-schemas_back P [] all = tt
-schemas_back P (w ∷ ws) all = (all.0, schemas_back P ws all.1)
-
-schemas_newest : (number : Numbers) (ws : List Version) → newest number (schemas ws) ≡ newest number ws
-schemas_newest number [] = refl
-schemas_newest number (w ∷ ws) = ap (option_or (number w.0)) (schemas_newest number ws)
-
 -- Who made a table of a name or dropped it, with a number above n, is among those that changed it since.
 pub told_entry : (number : Numbers) (n : ℕ) (writes : List (Option (Option Schema))) (test : ℕ → Bool) (title : ℕ → Title) (name : List ℕ) → AllTold number n writes (schemas (name_chain test title name))
     → (f : ℕ) → f < 32 → is_named_so name (f, title f) ≡ true → IsTold number n writes (title f).creator × (((title f).dropper ≡ 0) ⊎ IsTold number n writes (title f).dropper)
-told_entry number n writes test title name told = entries_in (IsTold number n writes) test title name (schemas_back (IsTold number n writes) (name_chain test title name) told)
+told_entry number n writes test title name told = entries_in (IsTold number n writes) test title name (of_schemas (IsTold number n writes) (name_chain test title name) told)
 
 -- live entries are of the catalog
 pub within_catalog : (area : Area) → IsInBounds area → (f : ℕ) → is_live (area.title f) ≡ true → f < 32
