@@ -91,8 +91,9 @@ module _ (counted : ℕ) (tables : Tables) (area : Area) (x : ℕ) (sound : IsSo
   stays : (y : ℕ) → (y ≡ x → ⊥) → IsAmong y live → IsAmong y (xids_in now.opens)
   stays y apart in_ = still_among x y tables.opens apart in_
 
-  agree : AgreeOnNames (is_committed_in tables) (is_committed_in now) live (xids_in now.opens) tables.items area.title
-  agree = record {
+  -- names are as they were, by who counts as committed
+  pub abort_agrees : AgreeOnNames (is_committed_in tables) (is_committed_in now) live (xids_in now.opens) tables.items area.title
+  abort_agrees = record {
     more = more;
     nobody = refl;
     creators = λ f lt alive. others (area.title f).creator (creator_not counted tables area x sound x_open (λ e in_ item. no_create e item) f lt alive);
@@ -137,7 +138,7 @@ module _ (counted : ℕ) (tables : Tables) (area : Area) (x : ℕ) (sound : IsSo
     };
     keys = sound.keys;
     pointers = sound.pointers;
-    names = names_agree (is_committed_in tables) (is_committed_in now) live (xids_in now.opens) tables.items area.title agree sound.names;
+    names = names_agree (is_committed_in tables) (is_committed_in now) live (xids_in now.opens) tables.items area.title abort_agrees sound.names;
     below = record {
       slots = sound.below.slots;
       older = sound.below.older;

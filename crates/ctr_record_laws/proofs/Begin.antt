@@ -114,8 +114,8 @@ module _ (counted : ℕ) (tables : Tables) (area : Area) (sound : IsSoundArea co
           above : (y : ℕ) → x ≤ y → (y ≡ x → ⊥) → x + 1 ≤ y
           above y le apart = ⊎_elim (λ lt. omega (arith, lt)) (λ ge. absurd (apart (omega (arith, le, ge)))) (cases_lt x y)
 
-  same_test : is_committed_in now ≡ is_committed_in tables
-  same_test = λ i y. committed_same y i
+  pub begin_test : is_committed_in now ≡ is_committed_in tables
+  begin_test = λ i y. committed_same y i
 
   -- ---- names
 
@@ -201,7 +201,7 @@ module _ (counted : ℕ) (tables : Tables) (area : Area) (sound : IsSoundArea co
   pub begin_sound : IsSoundArea counted now area
   begin_sound = record {
     readable = sound.readable;
-    behind = subst (λ test. AreBehind test area) (sym same_test) sound.behind;
+    behind = subst (λ test. AreBehind test area) (sym begin_test) sound.behind;
     counts = counts;
     owned = record {
       once = sound.owned.once;
@@ -213,6 +213,6 @@ module _ (counted : ℕ) (tables : Tables) (area : Area) (sound : IsSoundArea co
     };
     keys = sound.keys;
     pointers = sound.pointers;
-    names = subst (λ test. AreNamed test live_now tables.items area.title) (sym same_test) names;
+    names = subst (λ test. AreNamed test live_now tables.items area.title) (sym begin_test) names;
     below = below;
   }

@@ -110,17 +110,17 @@ module _ (counted : ℕ) (tables : Tables) (area : Area) (x : ℕ) (sound : IsSo
       (λ is. among_in y now.opens (still_among x y tables.opens apart (in_among y tables.opens is)) ∙ sym is)
       (λ isnt. known (is_in y now.opens) (λ is. absurd (false≢true (sym isnt ∙ among_in y tables.opens (among_without x y tables.opens (in_among y now.opens is))))) (λ out. out ∙ sym isnt))
 
-  others : (y : ℕ) → (y ≡ x → ⊥) → new y ≡ old y
-  others y apart = λ i. nat_lt 0 y && (nat_lt y tables.next && (not (same_open y apart i) && not (is_in y tables.aborted)))
+  pub commit_others : (y : ℕ) → (y ≡ x → ⊥) → new y ≡ old y
+  commit_others y apart = λ i. nat_lt 0 y && (nat_lt y tables.next && (not (same_open y apart i) && not (is_in y tables.aborted)))
 
   parts : AreAllOnce live × AreAllOnce (xids_in tables.aborted)
   parts = once_parts live (xids_in tables.aborted) sound.below.once
 
   more : (y : ℕ) → old y ≡ true → new y ≡ true
-  more y is = others y (λ same_. false≢true (sym x_open ∙ ap old (sym same_) ∙ is)) ∙ is
+  more y is = commit_others y (λ same_. false≢true (sym x_open ∙ ap old (sym same_) ∙ is)) ∙ is
 
-  x_committed : new x ≡ true
-  x_committed = known (new x) (λ is. is)
+  pub commit_here : new x ≡ true
+  commit_here = known (new x) (λ is. is)
       (λ isnt. absurd (⊎_elim
       (λ open_. (once_less x tables.opens parts.0).1 (in_among x now.opens open_))
       (λ gone. not_both live (xids_in tables.aborted) x sound.below.once x_live (in_among x tables.aborted gone))
@@ -133,7 +133,7 @@ module _ (counted : ℕ) (tables : Tables) (area : Area) (x : ℕ) (sound : IsSo
   was_or_x : (y : ℕ) → new y ≡ true → (old y || (y == x)) ≡ true
   was_or_x y is = known (y == x)
       (λ same_. ap (λ b. old y || b) same_ ∙ either (old y))
-      (λ apart. ap (λ b. b || (y == x)) (sym (others y (λ same_. false≢true (sym apart ∙ eq-eqb y x same_))) ∙ is))
+      (λ apart. ap (λ b. b || (y == x)) (sym (commit_others y (λ same_. false≢true (sym apart ∙ eq-eqb y x same_))) ∙ is))
     where
       either : (b : Bool) → (b || true) ≡ true
       either true = refl
@@ -141,8 +141,8 @@ module _ (counted : ℕ) (tables : Tables) (area : Area) (x : ℕ) (sound : IsSo
 
   not_x : (y : ℕ) → new y ≡ false → (old y || (y == x)) ≡ false
   not_x y isnt =
-      let apart : y ≡ x → ⊥ = λ same_. false≢true (sym isnt ∙ ap new same_ ∙ x_committed) in
-      λ i. (sym (others y apart) ∙ isnt) i || ne_eqb y x apart i
+      let apart : y ≡ x → ⊥ = λ same_. false≢true (sym isnt ∙ ap new same_ ∙ commit_here) in
+      λ i. (sym (commit_others y apart) ∙ isnt) i || ne_eqb y x apart i
 
   -- ---- items
 
@@ -257,8 +257,8 @@ module _ (counted : ℕ) (tables : Tables) (area : Area) (x : ℕ) (sound : IsSo
     as_before f not_made not_dropped counts =
         let is = drop k (filter (is_item_by y) items) in
         same_by (undone_titles f).creator (undone_titles f).dropper
-        (sym (ap new (same_creator is area.title f) ∙ others (area.title f).creator not_made ∙ ap old (sym (same_creator is area.title f))))
-        (⊎_elim (λ z. sym (ap new z ∙ sym (ap old z))) (λ was. sym (ap new was ∙ others (area.title f).dropper not_dropped ∙ ap old (sym was))) (same_dropper is area.title f))
+        (sym (ap new (same_creator is area.title f) ∙ commit_others (area.title f).creator not_made ∙ ap old (sym (same_creator is area.title f))))
+        (⊎_elim (λ z. sym (ap new z ∙ sym (ap old z))) (λ was. sym (ap new was ∙ commit_others (area.title f).dropper not_dropped ∙ ap old (sym was))) (same_dropper is area.title f))
         ∙ counts
       where
         same_by : (c d : ℕ) → old c ≡ new c → old d ≡ new d → ((old c || (c == y)) && not (old d || (d == y))) ≡ ((new c || (c == y)) && not (new d || (d == y)))
@@ -278,14 +278,14 @@ module _ (counted : ℕ) (tables : Tables) (area : Area) (x : ℕ) (sound : IsSo
   names = record {
     creators = λ e lt is. ⊎_elim (λ c. inl (more (area.title e).creator c))
         (λ open_. known ((area.title e).creator == x)
-        (λ mine. inl (ap new (eqb-true (area.title e).creator x mine) ∙ x_committed))
+        (λ mine. inl (ap new (eqb-true (area.title e).creator x mine) ∙ commit_here))
         (λ not_mine. inr (
           live_still (area.title e).creator (λ same_. false≢true (sym not_mine ∙ eq-eqb (area.title e).creator x same_)) open_.0,
           still_in (CreateOf (area.title e).creator e) (ap not not_mine) open_.1,
         ))) (sound.names.creators e lt is);
     droppers = λ e lt is. ⊎_elim (λ z. inl z) (λ more_. inr (⊎_elim (λ c. inl (more (area.title e).dropper c))
         (λ open_. known ((area.title e).dropper == x)
-        (λ mine. inl (ap new (eqb-true (area.title e).dropper x mine) ∙ x_committed))
+        (λ mine. inl (ap new (eqb-true (area.title e).dropper x mine) ∙ commit_here))
         (λ not_mine. inr (
           live_still (area.title e).dropper (λ same_. false≢true (sym not_mine ∙ eq-eqb (area.title e).dropper x same_)) open_.0,
           still_in (DropOf (area.title e).dropper e) (ap not not_mine) open_.1,

@@ -64,8 +64,9 @@ module _ (counted : ℕ) (tables : Tables) (area : Area) (x : ℕ) (sound : IsSo
   more : (y : ℕ) → is_committed_in tables y ≡ true → is_committed_in now y ≡ true
   more y is = others y (λ same_. false≢true (sym x_open ∙ ap (is_committed_in tables) (sym same_) ∙ is)) ∙ is
 
-  agree : AgreeOnNames (is_committed_in tables) (is_committed_in now) live live tables.items area.title
-  agree = record {
+  -- names are as they were, by who counts as committed
+  pub forget_agrees : AgreeOnNames (is_committed_in tables) (is_committed_in now) live live tables.items area.title
+  forget_agrees = record {
     more = more;
     nobody = refl;
     creators = λ f lt alive. others (area.title f).creator (creator_not counted tables area x sound x_open (λ e in_ item. never_live in_) f lt alive);
@@ -86,7 +87,7 @@ module _ (counted : ℕ) (tables : Tables) (area : Area) (x : ℕ) (sound : IsSo
     owned = sound.owned;
     keys = sound.keys;
     pointers = sound.pointers;
-    names = names_agree (is_committed_in tables) (is_committed_in now) live live tables.items area.title agree sound.names;
+    names = names_agree (is_committed_in tables) (is_committed_in now) live live tables.items area.title forget_agrees sound.names;
     below = record {
       slots = sound.below.slots;
       older = sound.below.older;
