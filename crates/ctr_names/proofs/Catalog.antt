@@ -2,15 +2,17 @@
 use Rattle.std.proofs.Common.{Bool, List, None, Option, Some, [], ap, arith, cond, false, not, refl, subst, suc, sym, true, zero, ℕ, ⊎_elim, ◌+◌, ◌<◌, ◌==◌, ◌∙◌, ◌∷◌, ◌≡◌, ◌≤◌}
 use Rattle.std.specs.List.{AllByRecursion, filter}
 use Rattle.std.specs.Prelude.{is_some, ◌&&◌}
+use Rattle.std.proofs.Math.Bool.{and-false}
 use Rattle.std.proofs.lemmas.Bool.{and_parts, cases_eq, eq-eqb, eqb-true, false≢true, ne_eqb}
 use Rattle.ctr_model.specs.State.{same_name}
 use Rattle.ctr_versions.specs.Chains.{Numbers, newest}
 use Rattle.ctr_versions.specs.Changes.{write}
 use Rattle.ctr_versions.specs.Versions.{Made, NamesSet}
-use Rattle.ctr_versions.proofs.Keys.{known}
+use Rattle.ctr_versions.proofs.Keys.{known, same_text}
+use Rattle.ctr_versions.proofs.Written.{same_itself}
 use Rattle.ctr_area.specs.Areas.{Area, Title}
 use Rattle.ctr_area.specs.Changes.{with_title}
-use Rattle.ctr_area.specs.Images.{Numbered, all_numbered, all_put_first, entry_numbers, is_named_so, is_newer, made_by_entry, name_chain, name_versions, newest_first, placed, put_first, versions_by_entry, versions_in}
+use Rattle.ctr_area.specs.Images.{Numbered, all_numbered, all_put_first, entry_numbers, is_live, is_named_so, is_newer, made_by_entry, name_chain, name_versions, newest_first, placed, put_first, versions_by_entry, versions_in}
 use Rattle.ctr_record_laws.proofs.Latest.{title_apart, title_here}
 use Rattle.ctr_names.proofs.Chains.{Version, undropped_versions}
 use Rattle.ctr_names.proofs.Entries.{all_passing, all_sorted, left_same, numbered}
@@ -117,6 +119,19 @@ merged_write number x open_ v (h ∷ rest) own = by_number (number h.0) refl
         ∙ sym (ap (λ o. cond (is_some o) ((x, v) ∷ h ∷ rest) ((x, v) ∷ rest)) is)
 
 -- ---- one title of an area
+
+-- two names that are apart are so both ways
+pub other_name : (a b : List ℕ) → same_name a b ≡ false → same_name b a ≡ false
+other_name a b apart = known (same_name b a)
+    (λ is. absurd (false≢true (sym apart ∙ ap (same_name a) (same_text b a is) ∙ same_itself a)))
+    (λ isnt. isnt)
+
+-- a title that keeps its name is of no other
+pub apart_names : (titles : ℕ → Title) (name : List ℕ) (e : ℕ) (title : Title) → (titles e).name ≡ name → title.name ≡ name → (other : List ℕ) → same_name name other ≡ false → (is_named_so other (e, titles e) ≡ false) × (is_named_so other (e, title) ≡ false)
+apart_names titles name e title was is other apart = (
+  ap (λ n. is_live (titles e) && same_name other n) was ∙ ap (λ b. is_live (titles e) && b) (other_name name other apart) ∙ and-false (is_live (titles e)),
+  ap (λ n. is_live title && same_name other n) is ∙ ap (λ b. is_live title && b) (other_name name other apart) ∙ and-false (is_live title),
+)
 
 module _ (committed : ℕ → Bool) (area : Area) (e : ℕ) (title : Title) (name : List ℕ) where
   abbrev after : Area

@@ -17,3 +17,8 @@ pub mod Front
 pub mod Ranked
 pub mod Fates
 pub mod Search
+pub mod Making
+pub mod Unmaking
+pub mod Past
+pub mod Dying
+pub mod Agree

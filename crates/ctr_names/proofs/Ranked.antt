@@ -59,6 +59,14 @@ module _ (low : ℕ) (tables : Tables) (area : Area) (number : Numbers) (agree :
   pub none_shows : ((f : ℕ) → f < 32 → is_named_so name (f, area.title f) ≡ true → is_standing sees (area.title f) ≡ false) → value_seen sees (name_chain committed area.title name) ≡ None
   none_shows = none_standing_shows committed sees gone refl area.title name ranked (one.one j from)
 
+-- nobody is seen at no number
+pub nobody_seen : (number : Numbers) (tables : Tables) → AgreeOnCommits number tables → (j : ℕ) → by number j 0 ≡ false
+nobody_seen number tables agree j = ap (is_by j) (none_number (number 0) refl)
+  where
+    none_number : (o : Option ℕ) → number 0 ≡ o → number 0 ≡ None
+    none_number None is = is
+    none_number (Some k) is = absurd (false≢true (sym (agree 0) ∙ ap is_some is))
+
 -- ---- who changed a name
 
 -- who is steady is unchanged

@@ -29,11 +29,11 @@ use Rattle.ctr_names.specs.Search.{IsLooking, Looker, ShowsNames, finds}
 use Rattle.ctr_names.proofs.Chains.{AreAllBy, Version, entries_in, name_by, seen-merged}
 use Rattle.ctr_names.proofs.Entries.{name_of, named_so}
 use Rattle.ctr_names.proofs.Fates.{agrees}
-use Rattle.ctr_names.proofs.Front.{in_front, rest, stands_undropped, undropped_for, x_zero}
+use Rattle.ctr_names.proofs.Front.{in_front, others_behind, stands_undropped, undropped_for, x_zero}
 use Rattle.ctr_names.proofs.Names.{names_here}
 use Rattle.ctr_names.proofs.Owner.{owner, shape}
-use Rattle.ctr_names.proofs.Ranked.{found_shows, none_shows, told_entry, within_catalog}
-use Rattle.ctr_names.proofs.Shape.{settled_of}
+use Rattle.ctr_names.proofs.Ranked.{found_shows, nobody_seen, none_shows, told_entry, within_catalog}
+use Rattle.ctr_names.proofs.Shape.{dropped_shape, settled_of}
 
 module _ (counted low : ℕ) (tables : Tables) (area : Area) (xids : Xids) (state : State) (look : Looker) (sound : IsSoundArea counted tables area) (bounds : IsInBounds area) (names : ShowsNames low tables area xids state) (looks : IsLooking low tables area xids state look) where
   abbrev committed : ℕ → Bool
@@ -146,11 +146,7 @@ module _ (counted low : ℕ) (tables : Tables) (area : Area) (xids : Xids) (stat
         ⊎_elim (λ z. inl z) (λ apart. ⊎_elim (λ z. inl z) (λ old. inr (seen_other (area.title f).dropper apart old)) (old_entry f lt named).1) (apart_entry f lt its.0 its.1).1
 
     nobody_by : by number n 0 ≡ false
-    nobody_by = ap (is_by n) (none_number (number 0) refl)
-      where
-        none_number : (o : Option ℕ) → number 0 ≡ o → number 0 ≡ None
-        none_number None is = is
-        none_number (Some k) is = absurd (false≢true (sym (agree 0) ∙ ap is_some is))
+    nobody_by = nobody_seen number tables agree n
 
     others_found : (f : ℕ) → f < 32 → is_named_so name (f, area.title f) ≡ true → is_standing (finds xids look.session) (area.title f) ≡ true → value_seen seen chain ≡ Some (made_by_entry (f, area.title f))
     others_found f lt named found = seen_at ∙ found_shows low tables area number agree names.one n looks.shown.from name f lt named stands
@@ -238,7 +234,7 @@ module _ (counted low : ℕ) (tables : Tables) (area : Area) (xids : Xids) (stat
     own_found f lt named found =
         let its = name_of area.title name f named in
         let stands = stands_undropped counted tables area sound me open_now name own f lt its.0 its.1 (found_undropped own quiet_since f lt named found) in
-        let behind = rest counted tables area sound me open_now name own f lt its.0 its.1 stands in
+        let behind = others_behind counted tables area sound me open_now name own f lt its.0 its.1 stands in
         ap (value_seen seen) (in_front counted tables area sound me open_now name own f lt its.0 its.1 stands)
         ∙ seen-merged seen ((area.title f).creator, Some (made_by_entry (f, area.title f))) behind
         ∙ ap (λ b. cond b (Some (made_by_entry (f, area.title f))) (value_seen seen behind)) (found_parts (area.title f) found).1
@@ -265,15 +261,11 @@ module _ (counted low : ℕ) (tables : Tables) (area : Area) (xids : Xids) (stat
             (λ d. let its = sound.names.drops me g d in
             me_zero (sym its.1 ∙ (still g (within_catalog area bounds g its.0) (named_so area.title name g its.0 is_g) (ap committed its.1 ∙ me_open)).1)) item
 
-        dropped : (same ws : List Version) (Quiet All : Type 0) → ((ws ≡ same) × Quiet) ⊎ ((v : Option Made) × (ws ≡ (me, v) ∷ same) × (All → v ≡ None)) → (Quiet → ⊥) → All → ws ≡ (me, None) ∷ same
-        dropped same ws Quiet All (inl still) busy all = absurd (busy still.1)
-        dropped same ws Quiet All (inr more) busy all = more.1 ∙ ap (λ v. (me, v) ∷ same) (more.2 all)
-
         chain_is : chain ≡ (me, None) ∷ settled_rest
-        chain_is = dropped settled_rest chain
+        chain_is = dropped_shape me chain settled_rest settled_rest
             ((f : ℕ) → f < 32 → is_named_so name (f, area.title f) ≡ true → committed (area.title f).dropper ≡ false → (committed (area.title f).creator ≡ true) × ((area.title f).dropper ≡ 0))
             ((f : ℕ) → f < 32 → is_named_so name (f, area.title f) ≡ true → committed (area.title f).dropper ≡ false → (area.title f).dropper ≡ me)
-            (shape counted tables area sound name me me_open me_zero own) not_quiet all_dropped
+            (shape counted tables area sound name me me_open me_zero own) not_quiet all_dropped refl
 
   -- ---- both
 

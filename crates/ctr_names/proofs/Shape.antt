@@ -1,14 +1,17 @@
 -- The chain of a name is a version of the one transaction that has the name, before a chain of committed
 -- versions that no open transaction touches: lists of entries alone.
-use Rattle.std.proofs.Common.{Bool, List, None, Option, Some, [], ap, cond, false, inl, inr, map, refl, subst, sym, true, ℕ, ⊎_elim, ◌∙◌, ◌∷◌, ◌≡◌, ◌⊎◌}
+use Rattle.std.proofs.Common.{Bool, List, None, Option, Some, [], ap, cond, false, inl, inr, map, not, refl, subst, sym, true, ℕ, ⊎_elim, ◌∙◌, ◌∷◌, ◌≡◌, ◌⊎◌}
 use Rattle.std.specs.List.{AllByRecursion, filter}
 use Rattle.std.specs.Prelude.{◌&&◌}
+use Rattle.std.proofs.Math.Bool.{and-false}
 use Rattle.std.proofs.lemmas.Bool.{eq-eqb, false≢true, ne_eqb}
 use Rattle.ctr_versions.specs.Versions.{Made}
+use Rattle.ctr_versions.proofs.Keys.{known}
 use Rattle.ctr_area.specs.Areas.{Title}
 use Rattle.ctr_area.specs.Images.{Numbered, all_put_first, is_named_so, is_newer, made_by_entry, name_versions, newest_first, placed, put_first, versions_by_entry}
 use Rattle.ctr_names.proofs.Chains.{Version, all_put, before, by_before, dropped_versions, own_versions, undropped_versions}
 use Rattle.ctr_names.proofs.Entries.{InPairs, all_sorted, filter_twice, is_in_yet, is_out, left_same, numbered, picked_same}
+use Rattle.ctr_names.proofs.Items.{further}
 use Rattle.ctr_names.proofs.Later.{earlier_none, earlier_other, later_none, later_own, newer_later, older_earlier}
 
 -- the table of an entry, as if nobody had dropped it
@@ -151,6 +154,11 @@ module _ (committed : ℕ → Bool) (nobody : committed 0 ≡ false) where
           λ dropped. refl,
         )
 
+-- what such a chain is where the transaction has dropped all that there was
+pub dropped_shape : (x : ℕ) (ws rest same : List Version) (Quiet All : Type 0) → ((ws ≡ rest) × Quiet) ⊎ ((v : Option Made) × (ws ≡ (x, v) ∷ rest) × (All → v ≡ None)) → (Quiet → ⊥) → All → rest ≡ same → ws ≡ (x, None) ∷ same
+dropped_shape x ws rest same Quiet All (inl quiet) busy all is = absurd (busy quiet.1)
+dropped_shape x ws rest same Quiet All (inr more) busy all is = more.1 ∙ (λ i. (x, more.2 all i) ∷ is i)
+
 -- ---- the chain without what an open transaction has of it
 
 abbrev pub settled_of : (committed : ℕ → Bool) → committed 0 ≡ false → (ℕ → Title) → List ℕ → List Version
@@ -176,3 +184,16 @@ module _ (committed : ℕ → Bool) (nobody : committed 0 ≡ false) (name : Lis
       gone : filter (is_out committed) (filter (is_named_so name) (numbered new 0 32)) ≡ filter (is_out committed) (filter (is_named_so name) (numbered old 0 32))
       gone = filter_twice (is_out committed) (is_named_so name) (numbered new 0 32) ∙ left_same e old new others (λ f. is_named_so name f && is_out committed f) out_now out_was 0 32
           ∙ sym (filter_twice (is_out committed) (is_named_so name) (numbered old 0 32))
+
+  -- one open transaction has dropped it, another, or nobody
+  pub settled_redropped : (d : ℕ) → new e ≡ record (old e) { dropper = d } → committed d ≡ false → committed (old e).dropper ≡ false → settled_of committed nobody new name ≡ settled_of committed nobody old name
+  settled_redropped d here open_now open_was = settled_unchanged
+      (ap (λ (v : Title). is_named_so name (e, v) && committed v.dropper) here ∙ ap (λ b. is_named_so name (e, old e) && b) open_now ∙ and-false (is_named_so name (e, old e)))
+      (ap (λ b. is_named_so name (e, old e) && b) open_was ∙ and-false (is_named_so name (e, old e)))
+      (known (is_kept_made committed name (e, old e))
+      (λ is. inr (same_test ∙ is, is, ap (λ (v : Title). undropped (e, v)) here))
+      (λ isnt. inl (same_test ∙ isnt, isnt)))
+    where
+      same_test : is_kept_made committed name (e, new e) ≡ is_kept_made committed name (e, old e)
+      same_test = ap (λ (v : Title). is_kept_made committed name (e, v)) here ∙ (λ i. (is_named_so name (e, old e) && not (open_now i)) && committed (old e).creator)
+          ∙ sym (λ i. (is_named_so name (e, old e) && not (open_was i)) && committed (old e).creator)

@@ -1,26 +1,27 @@
 -- Tables of one name over time: at open, over a commit, and over records on titles and transactions.
-use Rattle.std.proofs.Common.{List, None, Option, Some, [], ap, arith, cond, false, inl, inr, not, refl, subst, sym, true, ℕ, ⊎_elim, ◌++◌, ◌+◌, ◌<◌, ◌==◌, ◌∙◌, ◌∷◌, ◌≡◌, ◌≤◌, ◌⊎◌}
-use Rattle.std.specs.Prelude.{is_some, nat_eq, nat_lt, unwrap_or, ◌&&◌}
+use Rattle.std.proofs.Common.{None, Option, Some, ap, arith, false, inl, inr, not, refl, subst, sym, true, ℕ, ⊎_elim, ◌+◌, ◌<◌, ◌==◌, ◌∙◌, ◌≡◌, ◌≤◌, ◌⊎◌}
+use Rattle.std.specs.Prelude.{is_some, unwrap_or, ◌&&◌}
 use Rattle.std.proofs.Math.Bool.{and-false}
-use Rattle.std.proofs.lemmas.Bool.{cases_eq, cases_lt, eq-eqb, eqb-true, false≢true, le-leb, ne_eqb, true≢false}
+use Rattle.std.proofs.lemmas.Bool.{cases_eq, cases_lt, eq-eqb, eqb-true, false≢true, le-leb}
 use Rattle.std.proofs.lemmas.Map.{update_apart, update_here}
 use Rattle.ctr_versions.specs.Chains.{Numbers, by, is_by}
 use Rattle.ctr_versions.proofs.Asked.{early_by}
 use Rattle.ctr_versions.proofs.Chains.{with_number}
 use Rattle.ctr_versions.proofs.Keys.{known}
 use Rattle.ctr_versions.proofs.Opened.{IsOpened}
-use Rattle.ctr_records.specs.declared.record.SlogItem.TheVariants.{CreateOf, DropOf}
-use Rattle.ctr_meta.specs.Effects.{committed, forgotten_by, rolled_back, with_aborted}
-use Rattle.ctr_meta.specs.Tables.{Tables, heads_at, heads_in, is_in, without_xid}
+use Rattle.ctr_meta.specs.Effects.{committed, forgotten_by, rolled_back}
+use Rattle.ctr_meta.specs.Tables.{Tables, is_in}
 use Rattle.ctr_area.specs.Areas.{Area, Title}
 use Rattle.ctr_area.specs.Changes.{with_title}
 use Rattle.ctr_area.specs.Images.{is_committed_in, is_live, is_standing}
-use Rattle.ctr_area.specs.Sound.{IsOneOf, IsSchemaItem, IsSoundArea, xids_in}
+use Rattle.ctr_area.specs.Sound.{IsOneOf, IsSchemaItem, IsSoundArea}
 use Rattle.ctr_record_laws.specs.Owed.{AgreeOnCommits, OwedByAbort, OwedByCommit}
+use Rattle.ctr_record_laws.proofs.Abort.{abort_agrees}
 use Rattle.ctr_record_laws.proofs.Commit.{commit_sound}
-use Rattle.ctr_record_laws.proofs.Heads.{listed_drawn, listed_open}
+use Rattle.ctr_record_laws.proofs.Forget.{forget_agrees}
+use Rattle.ctr_record_laws.proofs.Heads.{listed_drawn}
 use Rattle.ctr_record_laws.proofs.Latest.{title_apart, title_here}
-use Rattle.ctr_record_laws.proofs.Xids.{among_in, in_among, not_both}
+use Rattle.ctr_record_laws.proofs.Xids.{among_in}
 use Rattle.ctr_names.specs.Stand.{HasNext, IsDropNewer, NamesStand, StaysWithCommits}
 
 -- ---- at open every number is 0
@@ -170,26 +171,6 @@ module _ (low : ℕ) (number : Numbers) (area : Area) (e : ℕ) (u : Title) (nam
 
 -- ---- an Abort, a Forget
 
-other_left : (x y : ℕ) (ps : List (ℕ × ℕ)) → (y ≡ x → ⊥) → is_in y (without_xid x ps) ≡ is_in y ps
-other_left x y [] apart = refl
-other_left x y (p ∷ ps) apart = known (x == p.0)
-    (λ is. ap (λ b. is_in y (cond b ps (p ∷ without_xid x ps))) is ∙ sym (ap (λ b. is_some (cond b (Some p.1) (heads_at y ps))) (ne_eqb y p.0 (λ e. apart (e ∙ sym (eqb-true x p.0 is))))))
-    (λ isnt. ap (λ b. is_in y (cond b ps (p ∷ without_xid x ps))) isnt
-    ∙ elim (y == p.0) as (λ b. is_some (cond b (Some p.1) (heads_at y (without_xid x ps))) ≡ is_some (cond b (Some p.1) (heads_at y ps))) [ true ↦ refl | false ↦ other_left x y ps apart ])
-
-other_more : (x h y : ℕ) (ps : List (ℕ × ℕ)) → (y ≡ x → ⊥) → is_in y (ps ++ (x, h) ∷ []) ≡ is_in y ps
-other_more x h y [] apart = ap (λ b. is_some (cond b (Some h) None)) (ne_eqb y x apart)
-other_more x h y (p ∷ ps) apart = elim (y == p.0) as (λ b. is_some (cond b (Some p.1) (heads_at y (ps ++ (x, h) ∷ []))) ≡ is_some (cond b (Some p.1) (heads_at y ps))) [ true ↦ refl | false ↦ other_more x h y ps apart ]
-
-other_aborted : (x h y : ℕ) (ps : List (ℕ × ℕ)) → (y ≡ x → ⊥) → is_in y (with_aborted x h ps) ≡ is_in y ps
-other_aborted x h y ps apart = elim (nat_eq h 0) as (λ b. is_in y (cond b ps (ps ++ (x, h) ∷ [])) ≡ is_in y ps) [ true ↦ refl | false ↦ other_more x h y ps apart ]
-
-abort_alike : (tables : Tables) (x y : ℕ) → (y ≡ x → ⊥) → is_committed_in (rolled_back x tables) y ≡ is_committed_in tables y
-abort_alike tables x y apart = λ i. nat_lt 0 y && (nat_lt y tables.next && (not (other_left x y tables.opens apart i) && not (other_aborted x (heads_in x tables.opens) y tables.aborted apart i)))
-
-forget_alike : (tables : Tables) (x y : ℕ) → (y ≡ x → ⊥) → is_committed_in (forgotten_by x tables) y ≡ is_committed_in tables y
-forget_alike tables x y apart = λ i. nat_lt 0 y && (nat_lt y tables.next && (not (is_in y tables.opens) && not (other_left x y tables.aborted apart i)))
-
 module _ (counted : ℕ) (tables : Tables) (area : Area) (sound : IsSoundArea counted tables area) where
   -- whoever has an item is open
   pub item_open : (y f : ℕ) → IsSchemaItem y f tables.items → is_in y tables.opens ≡ true
@@ -198,31 +179,10 @@ module _ (counted : ℕ) (tables : Tables) (area : Area) (sound : IsSoundArea co
   pub item_drawn : (y f : ℕ) → IsSchemaItem y f tables.items → (0 < y) × (y < tables.next)
   item_drawn y f item = listed_drawn tables.next area tables sound.below y (inl (item_open y f item))
 
-  -- one that isn't committed and has no item made and dropped no live table
-  titles_apart : (x : ℕ) → is_committed_in tables x ≡ false → 0 < x → ((f : ℕ) → IsSchemaItem x f tables.items → ⊥) → (f : ℕ) → f < 32 → is_live (area.title f) ≡ true → ((area.title f).creator ≡ x → ⊥) × ((area.title f).dropper ≡ x → ⊥)
-  titles_apart x open_ some none f lt alive = (
-    λ is. ⊎_elim (λ c. false≢true (sym open_ ∙ ap (is_committed_in tables) (sym is) ∙ c)) (λ its. none f (subst (λ z. IsSchemaItem z f tables.items) is (inl its.1))) (sound.names.creators f lt alive),
-    λ is. ⊎_elim (λ z. never x some (sym is ∙ z)) (λ more. ⊎_elim (λ c. false≢true (sym open_ ∙ ap (is_committed_in tables) (sym is) ∙ c)) (λ its. none f (subst (λ z. IsSchemaItem z f tables.items) is (inr its.1))) more) (sound.names.droppers f lt alive),
-  )
-    where
-      never : (x : ℕ) → 0 < x → x ≡ 0 → ⊥
-      never x lt z = omega (arith, lt, z)
-
-  -- who is committed as before has the number of before: then names stand over the end of one that no item has
-  stand_left : (now : Tables) (low x : ℕ) (number new : Numbers) → is_committed_in tables x ≡ false → 0 < x → ((f : ℕ) → IsSchemaItem x f tables.items → ⊥) → ((y : ℕ) → (y ≡ x → ⊥) → is_committed_in now y ≡ is_committed_in tables y)
-      → StaysWithCommits tables now number new → NamesStand low number area.title → NamesStand low new area.title
-  stand_left now low x number new open_ some none alike numbers = stand_same low number new area.title
-      (λ f lt alive. let apart = titles_apart x open_ some none f lt alive in (numbers (area.title f).creator (alike (area.title f).creator apart.0), numbers (area.title f).dropper (alike (area.title f).dropper apart.1)))
-
   pub stand_abort : (low : ℕ) (number new : Numbers) (x : ℕ) → OwedByAbort tables x → StaysWithCommits tables (rolled_back x tables) number new → NamesStand low number area.title → NamesStand low new area.title
-  stand_abort low number new x owed numbers = stand_left (rolled_back x tables) low x number new (listed_open tables x (inl owed.is_open)) (listed_drawn tables.next area tables sound.below x (inl owed.is_open)).0 none (abort_alike tables x) numbers
-    where
-      none : (f : ℕ) → IsSchemaItem x f tables.items → ⊥
-      none f (inl in_) = true≢false (sym (eq-eqb x x refl) ∙ owed.none (CreateOf x f) in_)
-      none f (inr in_) = true≢false (sym (eq-eqb x x refl) ∙ owed.none (DropOf x f) in_)
+  stand_abort low number new x owed numbers = stand_same low number new area.title
+      (λ f lt alive. let its = abort_agrees counted tables area x sound owed in (numbers (area.title f).creator (its.creators f lt alive), numbers (area.title f).dropper (its.droppers f lt alive)))
 
   pub stand_forget : (low : ℕ) (number new : Numbers) (x : ℕ) → is_in x tables.aborted ≡ true → StaysWithCommits tables (forgotten_by x tables) number new → NamesStand low number area.title → NamesStand low new area.title
-  stand_forget low number new x is numbers = stand_left (forgotten_by x tables) low x number new (listed_open tables x (inr is)) (listed_drawn tables.next area tables sound.below x (inr is)).0 none (forget_alike tables x) numbers
-    where
-      none : (f : ℕ) → IsSchemaItem x f tables.items → ⊥
-      none f item = not_both (xids_in tables.opens) (xids_in tables.aborted) x sound.below.once (in_among x tables.opens (item_open x f item)) (in_among x tables.aborted is)
+  stand_forget low number new x is numbers = stand_same low number new area.title
+      (λ f lt alive. let its = forget_agrees counted tables area x sound is in (numbers (area.title f).creator (its.creators f lt alive), numbers (area.title f).dropper (its.droppers f lt alive)))

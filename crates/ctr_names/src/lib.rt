@@ -1,10 +1,11 @@
-//! Chains of names: what the entries of the catalog are to the chain of a name, what a search of the catalog finds of it,
-//! and who keeps a name from others. Definitions and laws; no program computes them.
+//! Chains of names: what the entries of the catalog are to the chain of a name, what each record on them does to it, what a
+//! search of the catalog finds of it, and who keeps a name from others. Definitions and laws; no program computes them.
 #![tactic(auto)]
 
 mod finding;
 mod keeping;
 mod owners;
+mod records;
 mod standing;
 
 pub use finding::{
@@ -18,6 +19,11 @@ pub use keeping::{
 pub use owners::{
     a_name_has_one_owner, one_title_is_of_one_chain, only_heads_are_open,
     the_rows_of_an_image_are_shown,
+};
+pub use records::{
+    a_create_writes_its_name, a_drop_writes_its_name, a_dying_table_shows_the_same,
+    a_freed_entry_shows_the_same, an_undone_item_takes_its_version,
+    records_on_transactions_leave_names,
 };
 pub use standing::{
     names_stand_at_open, names_stand_over_a_commit, names_stand_over_an_end,
