@@ -42,7 +42,7 @@ names_of_items title (FreeOf p ∷ is) = names_of_items title is
 names_of_items title (CreateOf x e ∷ is) = (title e).name ∷ names_of_items title is
 names_of_items title (DropOf x e ∷ is) = (title e).name ∷ names_of_items title is
 
--- the same items of tables are in both lists
+-- Two lists have the same items of tables in them.
 pub record HaveSameTables (old new : List SlogItem) : Type 0 where
   pub back : (y f : ℕ) → IsSchemaItem y f new → IsSchemaItem y f old
   pub still : (y f : ℕ) → IsSchemaItem y f old → IsSchemaItem y f new

@@ -35,7 +35,7 @@ pub record Looker : Type 0 where
   pub t : Transaction
   pub name : List ℕ
 
--- It shows its transaction, is neither asked nor within its rollback; and where it has made or
+-- A looker shows its transaction, is neither asked nor within a rollback; and where it has made or
 -- dropped a table of the name itself, nobody has changed the name since its snapshot.
 pub record IsLooking (low : ℕ) (tables : Tables) (area : Area) (xids : Xids) (state : State)
     (look : Looker) : Type 0 where
@@ -60,7 +60,7 @@ abbrev pub IsFound : (ℕ → Bool) → List ℕ → Area → ℕ → Type 0
 IsFound sees name area f = (f < 32) × (is_named_so name (f, area.title f) ≡ true)
     × (is_standing sees (area.title f) ≡ true)
 
--- no entry is
+-- No entry of the catalog is the live one of a name that stands by a test of who is seen.
 abbrev pub IsNoneFound : (ℕ → Bool) → List ℕ → Area → Type 0
 IsNoneFound sees name area = (f : ℕ) → f < 32 → is_named_so name (f, area.title f) ≡ true
     → is_standing sees (area.title f) ≡ false

@@ -15,7 +15,7 @@ HasOwnInFront committed x chain = AllPass committed chain
     ⊎ ((v : Option Made) × (rest : List (ℕ × Option Made)) × (chain ≡ (x, v) ∷ rest)
     × AllPass committed rest)
 
--- This transaction's version in front of a name's chain goes, or becomes another one of its own.
+-- A transaction's version in front of a name's chain goes, or becomes another of the transaction's.
 pub record LosesOwn (x : ℕ) (old new : Versions) (name : List ℕ) : Type 0 where
   pub v : Option Made
   pub rest : List (ℕ × Option Made)

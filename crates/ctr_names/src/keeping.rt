@@ -38,8 +38,8 @@ pub fn names_are_kept_over_sessions()
     ensures begun { (items : List SlogItem) (title : ℕ → Title) (sessions : List (ℕ × SessionHeld)) (state : State) (s : ℕ) (b : SessionHeld) (u : Transaction) → HoldsNames items title sessions state
         → ((y f : ℕ) → IsSchemaItem y f items → 0 < y) → b.me ≡ 0 → find nat_cmp s state.sessions ≡ None
         → HoldsNames items title (put nat_cmp s b sessions) (with_transaction s u state) }
-    ensures drawn { (items : List SlogItem) (title : ℕ → Title) (sessions : List (ℕ × SessionHeld)) (state : State) (s : ℕ) (a b : SessionHeld) (u : Transaction) → HoldsNames items title sessions state
-        → find nat_cmp s sessions ≡ Some a → a.me ≡ 0 → ((y f : ℕ) → IsSchemaItem y f items → (0 < y) × (y < b.me))
+    ensures drawn { (items : List SlogItem) (title : ℕ → Title) (sessions : List (ℕ × SessionHeld)) (state : State) (s : ℕ) (a b : SessionHeld) (u : Transaction)
+        → HoldsNames items title sessions state → find nat_cmp s sessions ≡ Some a → a.me ≡ 0 → ((y f : ℕ) → IsSchemaItem y f items → (0 < y) × (y < b.me))
         → HoldsNames items title (put nat_cmp s b sessions) (with_transaction s u state) }
     ensures undoing { (items : List SlogItem) (title : ℕ → Title) (sessions : List (ℕ × SessionHeld)) (state : State) (s : ℕ) (a b : SessionHeld) → HoldsNames items title sessions state
         → find nat_cmp s sessions ≡ Some a → b.me ≡ a.me → HoldsNames items title (put nat_cmp s b sessions) state }
