@@ -6,7 +6,7 @@ use Rattle.ctr_area.specs.Areas.{Area}
 use Rattle.ctr_area.specs.Images.{image_rows, versions_in}
 use Rattle.ctr_area.specs.Sound.{IsSoundArea}
 use Rattle.ctr_record_effects.specs.States.{area_in}
-use Rattle.ctr_pvs.specs.Showing.{HasSoundArea, ShowsTheSame}
+use Rattle.ctr_record_effects.specs.Standing.{HasSoundArea, ShowsTheSame}
 
 -- a state whose pages are an area that is sound with as many pages and with these tables
 pub sound_by : (t : State) (counted : ℕ) (tables : Tables) (area : Area) → area_in t ≡ area → t.counted ≡ counted → t.tables ≡ tables → IsSoundArea counted tables area → HasSoundArea t

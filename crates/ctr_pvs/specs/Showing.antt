@@ -1,29 +1,14 @@
 -- What the record of a version entry owes to the chains of versions, and what is shown behind it.
-use Rattle.std.specs.Prelude.{◌≡◌, ℕ, Bool}
+use Rattle.std.specs.Prelude.{◌≡◌, ℕ}
 use Rattle.ctr_redo.specs.States.{State}
 use Rattle.ctr_page.specs.declared.rows.Place.{Place}
 use Rattle.ctr_page.specs.declared.rows.VersionEntry.{VersionEntry}
 use Rattle.ctr_area.specs.Areas.{RowVersion, Slot, Older}
 use Rattle.ctr_area.specs.Reading.{older_said, columns_on}
-use Rattle.ctr_area.specs.Images.{image_rows, versions_in}
-use Rattle.ctr_area.specs.Sound.{IsSoundArea}
 use Rattle.ctr_record_laws.specs.Owed.{OwedByKeep, older_copy, IsSpareCopy}
 use Rattle.ctr_record_effects.specs.States.{pages_in, area_in}
+use Rattle.ctr_record_effects.specs.Standing.{HasSoundArea, ShowsTheSame}
 use Rattle.ctr_pvs.specs.Writing.{HasPlaceOfVersion}
-
--- the pages of a state are sound with its tables
-abbrev pub HasSoundArea : State → Type 0
-HasSoundArea s = IsSoundArea s.counted s.tables (area_in s)
-
--- A state is sound, with the tables of another one, and shows the same: the chains of names and
--- rows, and the rows of an image, whoever is committed.
-pub record ShowsTheSame (old new : State) : Type 0 where
-  pub versions : (committed : ℕ → Bool)
-      → versions_in committed (area_in new) ≡ versions_in committed (area_in old)
-  pub rows : (committed : ℕ → Bool)
-      → image_rows committed (area_in new) ≡ image_rows committed (area_in old)
-  pub tables : new.tables ≡ old.tables
-  pub sound : HasSoundArea new
 
 -- a version entry by the columns of the page that it is laid on
 abbrev pub older_laid : State → Place → VersionEntry → Older

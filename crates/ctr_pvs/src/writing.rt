@@ -14,7 +14,8 @@ ghost use Rattle.ctr_store.specs.Store.{LeavesPage};
 ghost use Rattle.ctr_record_effects.specs.States.{pages_in, area_in};
 ghost use Rattle.ctr_pvs.specs.Reading.{EndsAt};
 ghost use Rattle.ctr_record_laws.specs.Owed.{IsInNoChain};
-ghost use Rattle.ctr_pvs.specs.Showing.{HasSoundArea, ShowsTheSame, MayKeep, KeepsVersion};
+ghost use Rattle.ctr_record_effects.specs.Standing.{HasSoundArea, ShowsTheSame};
+ghost use Rattle.ctr_pvs.specs.Showing.{MayKeep, KeepsVersion};
 ghost use Rattle.ctr_pvs.specs.Writing.{EntryLies, keep_record, HasPlaceOfVersion, blank_entry, blank_record, drop_check, DropsEntry};
 
 use crate::reading::check_lies;

@@ -11,7 +11,7 @@ use Rattle.ctr_area.specs.Images.{versions_in}
 use Rattle.ctr_record_laws.specs.Owed.{AgreeOnCommits}
 use Rattle.ctr_record_effects.specs.States.{area_in}
 use Rattle.ctr_record_laws.specs.Loose.{IsLoose}
-use Rattle.ctr_pvs.specs.Showing.{HasSoundArea}
+use Rattle.ctr_record_effects.specs.Standing.{HasSoundArea}
 
 -- the slot at a place of a state
 abbrev pub slot_of : State → Place → Slot

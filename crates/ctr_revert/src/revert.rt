@@ -13,7 +13,7 @@ ghost use Rattle.ctr_walk.specs.OneRecord.{HasRoomForOne, LogsOne};
 ghost use Rattle.ctr_walk.specs.Damage.{damage_told, searched, EndsOnPage};
 ghost use Rattle.ctr_record_effects.specs.States.{pages_in, area_in};
 ghost use Rattle.ctr_record_laws.specs.Owed.{Reverting, OwedByRevert};
-ghost use Rattle.ctr_pvs.specs.Showing.{HasSoundArea};
+ghost use Rattle.ctr_record_effects.specs.Standing.{HasSoundArea};
 ghost use Rattle.ctr_revert.specs.Taking.{TakesHead};
 ghost use Rattle.ctr_revert.specs.Reverting.{without_head, KeepsKey, lost_record, SlotSaidFrom, EntrySaidFrom, BytesSaid, EndsRow, LiesThere, EndsReverting, RevertsRow};
 

@@ -14,7 +14,7 @@ use Rattle.ctr_walk.proofs.Damages.{told_ends, told_ok, reads_err}
 use Rattle.ctr_walk.proofs.Records.{both_ok, one_behind}
 use Rattle.ctr_pvs.specs.Reading.{PassesAt, EndsAt}
 use Rattle.ctr_pvs.specs.Writing.{blank_record, drop_check}
-use Rattle.ctr_pvs.specs.Showing.{ShowsTheSame}
+use Rattle.ctr_record_effects.specs.Standing.{ShowsTheSame}
 use Rattle.ctr_pvs.proofs.Freeing.{told_as, drops, on_place}
 use Rattle.ctr_pvs.proofs.Showing.{shows_by}
 use Rattle.ctr_pvs.proofs.writing.free_entry.Given.{Over}
