@@ -21,10 +21,10 @@ use Rattle.ctr_record_laws.proofs.Owning.{page_wanted, flat_among}
 use Rattle.ctr_record_laws.proofs.Undone.{filter_append, filter_among, counted_member}
 use Rattle.ctr_record_laws.proofs.Xids.{both_same, more_same, less_same}
 use Rattle.ctr_record_laws.specs.Bounds.{IsInBounds}
-use Rattle.ctr_record_laws.specs.Owed.{loses_head, HasNoItems}
+use Rattle.ctr_record_laws.specs.Owed.{loses_head, HasNoItems, IsLastItem}
 use Rattle.ctr_versions.proofs.Keys.{known}
 use Rattle.ctr_actions.specs.Sites.{Site, IsSoundSite}
-use Rattle.ctr_actions.specs.Actions.{Action, Begins, Allocates, Formats, Links, LinksOlder, Keeps, Writes, Creates, Drops, Commits, Frees, Uncreates, Undrops, Aborts, Reclaims, Reverts, Trims, Cuts, FreesOlder, MakesDead, Unlinks, UnlinksOlder, FreesEntry, Forgets, Checkpoints, Owes, after, undoing}
+use Rattle.ctr_actions.specs.Actions.{Action, Begins, Allocates, Formats, Links, LinksOlder, Keeps, Writes, Creates, Drops, Commits, Frees, Uncreates, Undrops, Aborts, Reclaims, Reverts, Trims, Cuts, FreesOlder, MakesDead, Unlinks, UnlinksOlder, FreesEntry, Forgets, Checkpoints, Owes, after, undoing, items_of}
 use Rattle.ctr_actions.proofs.Items.{left_back}
 use Rattle.ctr_actions.proofs.Latest.{last_among}
 use Rattle.ctr_actions.proofs.Owners.{one_item}
@@ -87,6 +87,20 @@ undone_goes x s (CreateOf y e) front rest bounds sound items = ap (left_out (Cre
 undone_goes x s (DropOf y e) front rest bounds sound items = ap (left_out (Dropping e)) items
     ∙ left_one (Dropping e) (DropOf y e) front rest (eq-eqb e e refl)
     (λ j in_ wanted. test_once s bounds sound (DropOf y e) front rest items (is_dropping e) (sound.names.once e).1 (eq-eqb e e refl) j in_ (sym (dropping_wanted e j) ∙ wanted))
+
+-- the items before and behind one
+split_there : (z : SlogItem) (items : List SlogItem) → IsAmong z items → (front : List SlogItem) × (rest : List SlogItem) × (items ≡ front ++ z ∷ rest)
+split_there z [] in_ = absurd in_
+split_there z (a ∷ items) (inl is) = ([], items, ap (λ i. i ∷ items) (sym is))
+split_there z (a ∷ items) (inr in_) = let further = split_there z items in_ in (a ∷ further.0, further.1, ap (λ l. a ∷ l) further.2)
+
+-- the latest item goes: the transaction has one less
+pub one_item_less : (x : ℕ) (s : Site) (i : SlogItem) → IsInBounds s.area → IsSoundSite s → IsLastItem x i s.tables.items → items_of x s.tables ≡ items_of x (after x (undoing i) s).tables + 1
+one_item_less x s i bounds sound last =
+    let found = last_among x i s.tables.items last in
+    let there = split_there i s.tables.items found.0 in
+    ap (how_many (is_item_by x)) there.2 ∙ count_with (is_item_by x) i there.0 there.1 ∙ ap (λ b. how_many (is_item_by x) (there.0 ++ there.1) + bit b) found.1
+    ∙ ap (λ is. how_many (is_item_by x) is + 1) (sym (undone_goes x s i there.0 there.1 bounds sound there.2))
 
 -- ---- what stands in front stays
 
