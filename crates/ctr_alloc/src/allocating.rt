@@ -1,14 +1,17 @@
 // One record allocates a page of a store, or gives it back.
 ghost use Rattle.std.specs.Prelude.{◌≡◌, ◌<◌, ◌/◌, ◌%◌, ℕ, true, false, slice_index, IfOk, OnOk};
 ghost use Rattle.ctr_base.specs.declared.growing.TheConstants.{MOST_PAGES};
-ghost use Rattle.ctr_area.specs.Changes.{with_taken as area_with_taken, IsBitSet};
+ghost use Rattle.ctr_area.specs.Changes.{IsBitSet};
 ghost use Rattle.ctr_base.specs.Base.{WhereSound};
 ghost use Rattle.ctr_store.specs.Store.{LeavesPage};
 ghost use Rattle.ctr_walk.specs.OneRecord.{HasRoomForOne, LogsOne};
-ghost use Rattle.ctr_record_effects.specs.States.{pages_in, area_in, IsWholePage};
+ghost use Rattle.ctr_record_effects.specs.States.{pages_in, IsWholePage};
 ghost use Rattle.ctr_record_effects.specs.Changing.{alloc_record, free_record};
+ghost use Rattle.ctr_actions.specs.Sites.{site_of};
+ghost use Rattle.ctr_actions.specs.Actions.{Allocates, Frees, after};
 
 use crate::bits::{with_free, with_taken};
+use ctr_actions::a_logged_record_is_its_action;
 use ctr_base::Origin;
 use ctr_disk::{Disk, StoreFault};
 use ctr_record_effects::{a_free_changes_its_bit, an_alloc_changes_its_bit};
@@ -58,10 +61,11 @@ pub fn alloc<D: Disk, O: Origin>(
     requires room { HasRoomForOne 0 1 store.old }
     requires small { p < MOST_PAGES }
     ensures one { (byte : ℕ) × LogsOne O.first D.Disk (alloc_record x p byte) store.old store.new result }
-    // The page is allocated, and nothing else in the pages changes.
-    ensures taken { WhereSound O.first D.Disk (OnOk result (area_in store.new.now ≡ area_with_taken p true (area_in store.old.now))) }
+    // The page is allocated and the transaction's own, and nothing else in the pages and the tables changes.
+    ensures leaves { WhereSound O.first D.Disk (OnOk result (site_of store.new.now ≡ after x (Allocates p) (site_of store.old.now))) }
 {
     a_record_behind_a_page::<D, u8, ()>();
+    a_logged_record_is_its_action();
     store.counts_pages();
     an_alloc_changes_its_bit();
     let byte = byte_with(store, p, true)?;
@@ -82,10 +86,11 @@ pub fn free<D: Disk, O: Origin>(store: &mut Store<D, O>, p: PageNo) -> Result<()
     requires room { HasRoomForOne 0 0 store.old }
     requires small { p < MOST_PAGES }
     ensures one { (byte : ℕ) × LogsOne O.first D.Disk (free_record p byte) store.old store.new result }
-    // The page is free, and nothing else in the pages changes.
-    ensures freed { WhereSound O.first D.Disk (OnOk result (area_in store.new.now ≡ area_with_taken p false (area_in store.old.now))) }
+    // The page is free, the secondary log has it no more, and nothing else in the pages and the tables changes.
+    ensures leaves { (x : ℕ) → WhereSound O.first D.Disk (OnOk result (site_of store.new.now ≡ after x (Frees p) (site_of store.old.now))) }
 {
     a_record_behind_a_page::<D, u8, ()>();
+    a_logged_record_is_its_action();
     store.counts_pages();
     a_free_changes_its_bit();
     let byte = byte_with(store, p, false)?;

@@ -1,11 +1,12 @@
-use Rattle.std.proofs.Common.{ℕ, Ok, Err, Result, sym, ap, ◌∙◌, subst}
+use Rattle.std.proofs.Common.{ℕ, ◌/◌, [], ◌∷◌, Ok, Err, Result, refl, sym, ap, ◌∙◌, subst}
 use Rattle.std.proofs.lemmas.Result.{err_from_is_err_and}
 use Rattle.ctr_disk.specs.declared.fault.StoreFault.{StoreFault}
 use Rattle.ctr_records.specs.declared.record.Overlay.{Overlay}
 use Rattle.ctr_records.specs.declared.record.Record.{Record}
 use Rattle.ctr_records.specs.declared.record.Record.TheVariants.{Free}
-use Rattle.ctr_record_effects.specs.States.{area_in}
-use Rattle.ctr_record_effects.specs.Changing.{free_record}
+use Rattle.ctr_record_effects.specs.Changing.{free_record, laid_at}
+use Rattle.ctr_actions.specs.Sites.{site_of}
+use Rattle.ctr_actions.specs.Actions.{Frees}
 use Rattle.ctr_store.specs.Store.{MayLog}
 use Rattle.ctr_walk.specs.OneRecord.{AnswersLog}
 use Rattle.ctr_walk.proofs.Records.{may_still, unread, logged_behind, refused_behind}
@@ -31,12 +32,13 @@ returns-in-Ok-clause-one g c =
     let log = subst (λ (r : Record). AnswersLog g.O.Origin.first g.D.Disk r c.byte_with.new.store c.log_record.new.store answered) (ap (λ (o : Overlay). Free c.args.p o) c.over_bits.ensures) c.in-Ok.ensures in
     (byte, logged_behind g.O.Origin.first g.D.Disk (free_record c.args.p byte) c.args.store.now c.byte_with.new.store c.log_record.new.store byte c.in_ok-byte.ensures.leaves c.in-Ok.field-0 tt log)
 
-pub returns-in-Ok-clause-freed : goal.returns-in-Ok-clause-freed
+pub returns-in-Ok-clause-leaves : goal.returns-in-Ok-clause-leaves
 unfolding returns-in-Ok-clause-one
-returns-in-Ok-clause-freed g c = λ told sound.
+returns-in-Ok-clause-leaves g c = λ x told sound.
     let byte = c.in_ok-byte.byte in
     let one = (returns-in-Ok-clause-one g c).1 in
-    ap area_in (one.logs told sound).now ∙ c.a_free_changes_its_bit.ensures c.args.store.now.now c.args.p byte (c.in_ok-byte.ensures.whole told sound) c.requires.small (c.in_ok-byte.ensures.byte told sound)
+    ap site_of (one.logs told sound).now ∙ c.a_logged_record_is_its_action.ensures.leaves x (Frees c.args.p) c.args.store.now.now (laid_at 0 (c.args.p / 8) (byte ∷ [])) refl
+    (c.a_free_changes_its_bit.ensures c.args.store.now.now c.args.p byte (c.in_ok-byte.ensures.whole told sound) c.requires.small (c.in_ok-byte.ensures.byte told sound))
 
 pub returns-in-Err-clause-one : goal.returns-in-Err-clause-one
 returns-in-Err-clause-one g c =
