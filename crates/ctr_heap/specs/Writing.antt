@@ -8,10 +8,13 @@ use Rattle.ctr_page.specs.declared.table.TheConstants.{PAGE_SIZE, FIRSTS_AT, VER
 use Rattle.ctr_page.specs.Places.{slot_size, start_of}
 use Rattle.ctr_page.specs.Making.{slot_bytes, IsSlot}
 use Rattle.ctr_page.specs.Readable.{PartsHaveRoom}
-use Rattle.ctr_area.specs.Areas.{Firsts}
-use Rattle.ctr_area.specs.Reading.{entry_bytes, width_on, area_of}
-use Rattle.ctr_area.specs.Changes.{with_bucket, IsPlaceOf}
+use Rattle.ctr_redo.specs.States.{State}
+use Rattle.ctr_area.specs.Reading.{entry_bytes, width_on, area_of, slot_said, columns_on}
+use Rattle.ctr_area.specs.Changes.{IsPlaceOf}
+use Rattle.ctr_record_laws.specs.Owed.{RowMove, slot_by, loses_head}
+use Rattle.ctr_record_effects.specs.States.{pages_in, area_in}
 use Rattle.ctr_record_effects.specs.Changing.{laid_on_place, link_record, link_older_record}
+use Rattle.ctr_actions.specs.Actions.{Action, Links, LinksOlder}
 
 -- ---- a slot
 
@@ -35,6 +38,15 @@ row_record x over at slot =
 abbrev pub HasPlaceFor : (ℕ → List ℕ) → Place → RowSlot → Type 0
 HasPlaceFor pages at slot = IsPlaceOf 1 pages at × (width_on pages at.page ≡ slot_width slot)
 
+-- The slot that is laid over a place is the one that a move leaves there, by the same transaction, and
+-- its head replaces that of the one that loses it.
+pub record LaysMove (s : State) (x over : ℕ) (at : Place) (slot : RowSlot) (m : RowMove) : Type 0
+  where
+    pub by : m.xid ≡ x
+    pub here : m.at ≡ at
+    pub left : slot_by m (area_in s) ≡ slot_said (columns_on (pages_in s) at.page) slot
+    pub loses : over ≡ loses_head s.tables ((area_in s).slot m.at)
+
 -- ---- the front of a chain
 
 -- where it stands in an entry of the catalog: that of a bucket, or of the versions
@@ -47,10 +59,10 @@ abbrev pub front_record : ℕ → ℕ → ℕ → Option ℕ → Record
 front_record x p e (Some bucket) = link_record x p e bucket
 front_record x p e None = link_older_record x p e
 
--- the first pages, where that of a bucket, or of the versions, is this one
-abbrev pub with_front : Option ℕ → ℕ → Firsts → Firsts
-with_front (Some bucket) p firsts = with_bucket bucket p firsts
-with_front None p firsts = record firsts { versions = p }
+-- and that is this action
+abbrev pub front_action : ℕ → ℕ → Option ℕ → Action
+front_action p e (Some bucket) = Links p e bucket
+front_action p e None = LinksOlder p e
 
 -- the entry isn't free, and its parts have room, as they have where it passes its checks
 abbrev pub IsOfTable : (ℕ → List ℕ) → ℕ → Type 0

@@ -6,12 +6,16 @@ ghost use Rattle.ctr_base.specs.Base.{WhereSound};
 ghost use Rattle.ctr_bytes.specs.Fields.{spelled};
 ghost use Rattle.ctr_page.specs.Making.{IsHeader, header_bytes};
 ghost use Rattle.ctr_area.specs.Reading.{slot_said, columns_on};
-ghost use Rattle.ctr_area.specs.Changes.{with_blank, with_slot, with_firsts};
+ghost use Rattle.ctr_area.specs.Changes.{with_slot};
 ghost use Rattle.ctr_walk.specs.OneRecord.{HasRoomForOne, LogsOne};
 ghost use Rattle.ctr_record_effects.specs.States.{pages_in, area_in};
 ghost use Rattle.ctr_record_effects.specs.Changing.{format_record};
-ghost use Rattle.ctr_heap.specs.Writing.{LiesOnPage, row_record, HasPlaceFor, front_place, front_record, with_front, IsOfTable};
+ghost use Rattle.ctr_record_laws.specs.Owed.{RowMove};
+ghost use Rattle.ctr_actions.specs.Sites.{site_of};
+ghost use Rattle.ctr_actions.specs.Actions.{Formats, Writes, after};
+ghost use Rattle.ctr_heap.specs.Writing.{LiesOnPage, row_record, HasPlaceFor, LaysMove, front_place, front_record, front_action, IsOfTable};
 
+use ctr_actions::a_logged_record_is_its_action;
 use ctr_base::Origin;
 use ctr_bytes::put_u32;
 use ctr_disk::{Disk, StoreFault};
@@ -59,9 +63,10 @@ pub fn format<D: Disk, O: Origin>(
     requires counted { p < store.old.now.counted }
     requires fits { IsHeader header.now }
     ensures one { LogsOne O.first D.Disk (format_record x p header.now) store.old store.new result }
-    // It has the header, nothing is used on it, and nothing else in the pages changes.
-    ensures empty { WhereSound O.first D.Disk (3 ≤ p → OnOk result (area_in store.new.now ≡ with_blank p header.now (area_in store.old.now))) }
+    // It has the header, nothing is used on it, and nothing else in the pages and the tables changes.
+    ensures leaves { WhereSound O.first D.Disk (3 ≤ p → OnOk result (site_of store.new.now ≡ after x (Formats p header.now) (site_of store.old.now))) }
 {
+    a_logged_record_is_its_action();
     a_format_clears_its_page();
     store.counts_pages();
     let bytes = header_made(header);
@@ -90,8 +95,12 @@ pub fn put_slot<D: Disk, O: Origin>(
     // The slot at the place is this one, and nothing else in the pages changes.
     ensures laid { WhereSound O.first D.Disk (HasPlaceFor (pages_in store.old.now) place slot.now
         → OnOk result (area_in store.new.now ≡ with_slot place (slot_said (columns_on (pages_in store.old.now) place.page) slot.now) (area_in store.old.now))) }
+    // Where that is the slot that a move leaves, this is the move, and heads are counted so.
+    ensures leaves { WhereSound O.first D.Disk (HasPlaceFor (pages_in store.old.now) place slot.now → (m : RowMove) → LaysMove store.old.now x over place slot.now m
+        → OnOk result (site_of store.new.now ≡ after x (Writes m) (site_of store.old.now))) }
 {
     a_slot_is_laid();
+    a_logged_record_is_its_action();
     store.counts_pages();
     let w = slot.head.payload.as_slice().len();
     let mut bytes = [0; SLOT_MOST];
@@ -139,10 +148,11 @@ pub fn link<D: Disk, O: Origin>(
     requires entry { entry < 32 }
     requires bucket { IfSome bucket (λ b. b < 8) }
     ensures one { LogsOne O.first D.Disk (front_record x p entry bucket) store.old store.new result }
-    // The chain begins with the page, and nothing else in the pages changes.
-    ensures front { WhereSound O.first D.Disk (IsOfTable (pages_in store.old.now) entry
-        → OnOk result (area_in store.new.now ≡ with_firsts entry (with_front bucket p ((area_in store.old.now).firsts entry)) (area_in store.old.now))) }
+    // The chain begins with the page, which is the transaction's own no more, and nothing else in the pages and the tables changes.
+    ensures leaves { WhereSound O.first D.Disk (IsOfTable (pages_in store.old.now) entry
+        → OnOk result (site_of store.new.now ≡ after x (front_action p entry bucket) (site_of store.old.now))) }
 {
+    a_logged_record_is_its_action();
     a_link_changes_its_chain();
     store.counts_pages();
     let bytes = number_made(p);

@@ -1,11 +1,12 @@
-use Rattle.std.proofs.Common.{◌≡◌, [], ◌∷◌, length, sym, ap, ◌∙◌, subst}
+use Rattle.std.proofs.Common.{◌≡◌, [], ◌∷◌, length, refl, sym, ap, ◌∙◌, subst}
 use Rattle.ctr_records.specs.declared.record.Overlay.{Overlay}
 use Rattle.ctr_records.specs.declared.record.Record.{Record}
 use Rattle.ctr_records.specs.declared.record.Record.TheVariants.{Format}
 use Rattle.ctr_redo.specs.States.{page_at}
-use Rattle.ctr_area.specs.Changes.{with_blank}
-use Rattle.ctr_record_effects.specs.States.{area_in}
+use Rattle.ctr_page.specs.Making.{header_bytes}
 use Rattle.ctr_record_effects.specs.Changing.{laid_clear, format_record}
+use Rattle.ctr_actions.specs.Sites.{site_of}
+use Rattle.ctr_actions.specs.Actions.{Formats, after}
 use Rattle.ctr_store.specs.Store.{MayLog, Logs}
 use Rattle.ctr_walk.specs.OneRecord.{LogsOne}
 use Rattle.ctr_walk.proofs.Records.{both_ok}
@@ -26,14 +27,15 @@ returns-clause-one g c =
     subst (λ (r : Record). LogsOne g.O.Origin.first g.D.Disk r c.args.store.now c.log_on_page.new.store c.log_on_page.result)
     (ap (λ (o : Overlay). Format c.args.x c.args.p o) (c.over_cleared.ensures ∙ ap (laid_clear c.args.p) c.header_made-bytes.ensures)) c.log_on_page.ensures.one
 
-pub returns-clause-empty : goal.returns-clause-empty
+pub returns-clause-leaves : goal.returns-clause-leaves
 unfolding returns-clause-one
-returns-clause-empty g c = λ told sound third.
+returns-clause-leaves g c = λ told sound third.
     let x = c.args.x in
     let p = c.args.p in
     let h = c.args.header.now in
     let s = c.args.store.now.now in
     both_ok c.log_on_page.result (Logs (format_record x p h ∷ []) c.args.store.now c.log_on_page.new.store) (length (page_at p s.pages) ≡ 4096)
-    (area_in c.log_on_page.new.store.now ≡ with_blank p h (area_in s))
-    (λ logs whole. ap area_in logs.now ∙ c.a_format_clears_its_page.ensures s x p h whole third c.requires.fits)
+    (site_of c.log_on_page.new.store.now ≡ after x (Formats p h) (site_of s))
+    (λ logs whole. ap site_of logs.now
+    ∙ c.a_logged_record_is_its_action.ensures.leaves x (Formats p h) s (laid_clear p (header_bytes h)) refl (c.a_format_clears_its_page.ensures s x p h whole third c.requires.fits))
     ((returns-clause-one g c).logs told sound) (c.log_on_page.ensures.whole told sound)

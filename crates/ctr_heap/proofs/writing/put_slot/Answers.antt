@@ -1,13 +1,17 @@
 use Rattle.std.proofs.Common.{◌≡◌, [], ◌∷◌, length, Some, sym, ap, ◌∙◌, subst}
 use Rattle.ctr_records.specs.declared.record.Record.{Record}
 use Rattle.ctr_records.specs.declared.record.Record.TheVariants.{Row}
-use Rattle.ctr_redo.specs.States.{page_at}
+use Rattle.ctr_meta.specs.Effects.{one_head_less, one_head_more}
+use Rattle.ctr_redo.specs.States.{step, page_at}
 use Rattle.ctr_page.specs.Places.{slot_size}
 use Rattle.ctr_page.specs.Making.{slot_bytes, IsSlot}
 use Rattle.ctr_area.specs.Reading.{slot_said, columns_on}
 use Rattle.ctr_area.specs.Changes.{with_slot}
+use Rattle.ctr_record_laws.specs.Owed.{loses_head}
 use Rattle.ctr_record_effects.specs.States.{pages_in, area_in}
 use Rattle.ctr_record_effects.specs.Changing.{laid_on_place}
+use Rattle.ctr_actions.specs.Sites.{site_of}
+use Rattle.ctr_actions.specs.Actions.{Writes, after}
 use Rattle.ctr_store.specs.Store.{Logs}
 use Rattle.ctr_walk.proofs.Records.{both_ok}
 use Rattle.ctr_walk.proofs.Limits.{below_limit}
@@ -32,3 +36,22 @@ returns-clause-laid g c = λ told sound place.
     ∙ c.a_slot_is_laid.ensures s r at slot whole place.0 (subst (λ w. IsSlot w slot) (sym place.1) c.requires.lies.is)
     (ap Some laid ∙ sym (ap (λ w. Some (laid_on_place at (slot_size w) (slot_bytes w slot))) place.1)))
     (c.log_on_page.ensures.one.logs told sound) (c.log_on_page.ensures.whole told sound)
+
+pub returns-clause-leaves : goal.returns-clause-leaves
+unfolding returns-clause-laid
+returns-clause-leaves g c = λ told sound place m lays.
+    let x = c.args.x in
+    let at = c.args.place in
+    let s = c.args.store.now.now in
+    let o = c.over_place.result in
+    let r : Record = Row x c.args.over o in
+    let loses = loses_head s.tables ((area_in s).slot m.at) in
+    let slot = slot_said (columns_on (pages_in s) at.page) c.args.slot.now in
+    both_ok c.log_on_page.result (Logs (r ∷ []) c.args.store.now c.log_on_page.new.store) (area_in c.log_on_page.new.store.now ≡ with_slot at slot (area_in s))
+    (site_of c.log_on_page.new.store.now ≡ after x (Writes m) (site_of s))
+    (λ logs is.
+    let same : c.log_on_page.new.store.now ≡ step (Row x loses o) s = logs.now ∙ ap (λ v. step (Row x v o) s) lays.loses in
+    ap site_of same
+    ∙ c.a_logged_record_is_its_action.ensures.leaves x (Writes m) s o (ap (λ y. one_head_less loses (one_head_more y s.tables)) (sym lays.by))
+    (sym (ap area_in same) ∙ is ∙ (λ i. with_slot (sym lays.here i) (sym lays.left i) (area_in s))))
+    (c.log_on_page.ensures.one.logs told sound) (returns-clause-laid g c told sound place)
