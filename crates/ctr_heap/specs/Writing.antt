@@ -38,8 +38,8 @@ row_record x over at slot =
 abbrev pub HasPlaceFor : (ℕ → List ℕ) → Place → RowSlot → Type 0
 HasPlaceFor pages at slot = IsPlaceOf 1 pages at × (width_on pages at.page ≡ slot_width slot)
 
--- The slot that is laid over a place is the one that a move leaves there, by the same transaction, and
--- its head replaces that of the one that loses it.
+-- The slot that is laid over a place is the one that a move leaves there, by the same transaction,
+-- and its head replaces that of the one that loses it.
 pub record LaysMove (s : State) (x over : ℕ) (at : Place) (slot : RowSlot) (m : RowMove) : Type 0
   where
     pub by : m.xid ≡ x

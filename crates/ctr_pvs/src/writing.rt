@@ -6,7 +6,7 @@ ghost use Rattle.ctr_base.specs.Base.{WhereSound};
 ghost use Rattle.ctr_page.specs.declared.table.TheConstants.{PAGE_SIZE};
 ghost use Rattle.ctr_page.specs.Places.{kept_size as size_of_kept, start_of as start_place};
 ghost use Rattle.ctr_area.specs.Areas.{free_older};
-ghost use Rattle.ctr_area.specs.Reading.{older_said, columns_on, width_on};
+ghost use Rattle.ctr_area.specs.Reading.{width_on};
 ghost use Rattle.ctr_area.specs.Changes.{with_older, IsPlaceOf};
 ghost use Rattle.ctr_walk.specs.OneRecord.{HasRoomForOne, LogsOne};
 ghost use Rattle.ctr_walk.specs.Damage.{damage_told, searched, EndsTold};
@@ -15,11 +15,14 @@ ghost use Rattle.ctr_record_effects.specs.States.{pages_in, area_in};
 ghost use Rattle.ctr_pvs.specs.Reading.{EndsAt};
 ghost use Rattle.ctr_record_laws.specs.Owed.{IsInNoChain};
 ghost use Rattle.ctr_record_effects.specs.Standing.{HasSoundArea, ShowsTheSame};
-ghost use Rattle.ctr_pvs.specs.Showing.{MayKeep, KeepsVersion};
+ghost use Rattle.ctr_actions.specs.Sites.{site_of};
+ghost use Rattle.ctr_actions.specs.Actions.{Keeps, FreesOlder, after};
+ghost use Rattle.ctr_pvs.specs.Showing.{older_laid, MayKeep, KeepsVersion};
 ghost use Rattle.ctr_pvs.specs.Writing.{EntryLies, keep_record, HasPlaceOfVersion, blank_entry, blank_record, drop_check, DropsEntry};
 
 use crate::reading::check_lies;
 use crate::table::table_on;
+use ctr_actions::a_logged_record_is_its_action;
 use ctr_base::Origin;
 use ctr_disk::{Disk, StoreFault};
 use ctr_page::{Place, Version, VersionEntry, kept_size, kinds_width, make_version};
@@ -49,13 +52,14 @@ pub fn keep<D: Disk, O: Origin>(
     requires counted { place.page < store.old.now.counted }
     requires lies { EntryLies place version.now }
     ensures one { LogsOne O.first D.Disk (keep_record x place version.now) store.old store.new result }
-    // The version entry at the place is this one, and nothing else in the pages changes.
-    ensures kept { WhereSound O.first D.Disk (HasPlaceOfVersion (pages_in store.old.now) place version.now
-        → OnOk result (area_in store.new.now ≡ with_older place (older_said (columns_on (pages_in store.old.now) place.page) version.now) (area_in store.old.now))) }
+    // The version entry at the place is this one, and nothing else in the pages and the tables changes.
+    ensures leaves { WhereSound O.first D.Disk ((e : ℕ) → HasPlaceOfVersion (pages_in store.old.now) place version.now
+        → OnOk result (site_of store.new.now ≡ after x (Keeps e place (older_laid store.old.now place version.now)) (site_of store.old.now))) }
     // In a sound state nothing else is shown than before.
     ensures shows { WhereSound O.first D.Disk ((e : ℕ) → MayKeep store.old.now e place version.now → OnOk result (KeepsVersion e place version.now store.old.now store.new.now)) }
 {
     a_version_is_laid();
+    a_logged_record_is_its_action();
     store.counts_pages();
     a_keep_shows_the_same();
     a_kept_version_is_spare();
@@ -143,12 +147,13 @@ pub fn free_entry<D: Disk, O: Origin>(
     // Damage is told where it stands in the file of pages.
     ensures ends { WhereSound O.first D.Disk (EndsTold (damage_told D.Disk store.new) (λ r. r ≡ drop_check store.old.now.counted (pages_in store.old.now) place) result) }
     ensures one { DropsEntry O.first D.Disk place store.old store.new result }
-    // The version entry isn't used, and nothing else in the pages changes.
-    ensures freed { WhereSound O.first D.Disk (OnOk result (area_in store.new.now ≡ with_older place free_older (area_in store.old.now))) }
+    // The version entry isn't used, and nothing else in the pages and the tables changes.
+    ensures leaves { (x e : ℕ) → WhereSound O.first D.Disk (OnOk result (site_of store.new.now ≡ after x (FreesOlder e place) (site_of store.old.now))) }
     // Where no chain has it, nothing else is shown than before.
     ensures shows { WhereSound O.first D.Disk (HasSoundArea store.old.now → IsInNoChain (area_in store.old.now) place
         → OnOk result (ShowsTheSame store.old.now store.new.now)) }
 {
+    a_logged_record_is_its_action();
     a_free_entry_shows_the_same();
     let found = width_to_free(store, place);
     let w = tell(store, found)?;

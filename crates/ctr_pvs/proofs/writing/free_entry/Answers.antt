@@ -1,19 +1,23 @@
-use Rattle.std.proofs.Common.{◌≡◌, ◌+◌, ◌≤◌, inl, [], ◌∷◌, Ok, Err, sym, ap, subst}
+use Rattle.std.proofs.Common.{◌≡◌, ◌+◌, ◌≤◌, inl, [], ◌∷◌, Ok, Err, refl, sym, ap, ◌∙◌, subst}
 use Rattle.std.specs.Prelude.{IsTrue, OnOk, ⊤}
 use Rattle.std.proofs.lemmas.Result.{err_from_is_err_and}
 use Rattle.ctr_base.specs.Base.{IsSoundImage}
 use Rattle.ctr_redo.specs.States.{State}
 use Rattle.ctr_page.specs.Places.{kept_size, start_of}
+use Rattle.ctr_page.specs.Making.{kept_bytes}
 use Rattle.ctr_area.specs.Areas.{free_older}
 use Rattle.ctr_area.specs.Changes.{with_older}
 use Rattle.ctr_store.specs.Store.{Logs}
 use Rattle.ctr_record_effects.specs.States.{pages_in, area_in}
+use Rattle.ctr_record_effects.specs.Changing.{laid_on_place}
+use Rattle.ctr_actions.specs.Sites.{site_of}
+use Rattle.ctr_actions.specs.Actions.{FreesOlder, after}
 use Rattle.ctr_walk.specs.Damage.{damage_told}
 use Rattle.ctr_walk.specs.OneRecord.{LogsOne}
 use Rattle.ctr_walk.proofs.Damages.{told_ends, told_ok, reads_err}
 use Rattle.ctr_walk.proofs.Records.{both_ok, one_behind}
 use Rattle.ctr_pvs.specs.Reading.{PassesAt, EndsAt}
-use Rattle.ctr_pvs.specs.Writing.{blank_record, drop_check}
+use Rattle.ctr_pvs.specs.Writing.{blank_entry, blank_record, drop_check}
 use Rattle.ctr_record_effects.specs.Standing.{ShowsTheSame}
 use Rattle.ctr_pvs.proofs.Freeing.{told_as, drops, on_place}
 use Rattle.ctr_pvs.proofs.Showing.{shows_by}
@@ -69,6 +73,17 @@ pub returns-clause-one : goal.returns-clause-one
 returns-clause-one g c =
     let at = (goal.at.returns-clause-one g c).After-lay_blank in
     drops g.O.Origin.first g.D.Disk c.args.place c.in_ok-w.w c.args.store.now c.lay_blank.new.store c.lay_blank.result (one g at) (λ told sound. (passes g at told sound).wide)
+
+pub returns-clause-leaves : goal.returns-clause-leaves
+returns-clause-leaves g c = λ x e told sound.
+    let k = (goal.at.returns-clause-leaves g c).After-lay_blank in
+    let at = c.args.place in
+    let w = c.in_ok-w.w in
+    let s = c.args.store.now.now in
+    let t = c.lay_blank.new.store.now in
+    both_ok c.lay_blank.result (Logs (blank_record at w ∷ []) c.args.store.now c.lay_blank.new.store) (area_in t ≡ with_older at free_older (area_in s)) (site_of t ≡ after x (FreesOlder e at) (site_of s))
+    (λ logs is. ap site_of logs.now ∙ c.a_logged_record_is_its_action.ensures.leaves x (FreesOlder e at) s (laid_on_place at (kept_size w) (kept_bytes (blank_entry w))) refl (sym (ap area_in logs.now) ∙ is))
+    ((one g k).logs told sound) (freed g k told sound)
 
 pub returns-clause-shows : goal.returns-clause-shows
 returns-clause-shows g c = λ told sound state unlinked.

@@ -1,14 +1,15 @@
-use Rattle.std.proofs.Common.{◌≡◌, [], ◌∷◌, length, Some, sym, ap, ◌∙◌, subst}
+use Rattle.std.proofs.Common.{◌≡◌, [], ◌∷◌, length, Some, refl, sym, ap, ◌∙◌, subst}
 use Rattle.ctr_records.specs.declared.record.Record.{Record}
 use Rattle.ctr_records.specs.declared.record.Record.TheVariants.{Keep}
 use Rattle.ctr_redo.specs.States.{State, page_at}
 use Rattle.ctr_page.specs.Places.{kept_size}
 use Rattle.ctr_page.specs.Making.{kept_bytes, IsEntry}
 use Rattle.ctr_area.specs.Areas.{Area}
-use Rattle.ctr_area.specs.Reading.{older_said, columns_on}
 use Rattle.ctr_area.specs.Changes.{with_older}
-use Rattle.ctr_record_effects.specs.States.{pages_in, area_in}
+use Rattle.ctr_record_effects.specs.States.{area_in}
 use Rattle.ctr_record_effects.specs.Changing.{laid_on_place}
+use Rattle.ctr_actions.specs.Sites.{Site, site_of}
+use Rattle.ctr_actions.specs.Actions.{Keeps, after}
 use Rattle.ctr_store.specs.Store.{Logs}
 use Rattle.ctr_walk.proofs.Records.{both_ok}
 use Rattle.ctr_record_laws.specs.Owed.{OwedByKeep, IsSpareCopy}
@@ -21,8 +22,8 @@ use Rattle.ctr_pvs.proofs.writing.keep.Goals as goal
 pub log_on_page-requires-clause-there : goal.log_on_page-requires-clause-there
 log_on_page-requires-clause-there g c = below_limit c.args.place.page c.args.store.now.now.counted c.requires.counted c.counts_pages.ensures.1
 
-pub returns-clause-kept : goal.returns-clause-kept
-returns-clause-kept g c = λ told sound place.
+pub returns-clause-leaves : goal.returns-clause-leaves
+returns-clause-leaves g c = λ told sound e place.
     let at = c.args.place in
     let entry = c.args.version.now in
     let s = c.args.store.now.now in
@@ -31,14 +32,15 @@ returns-clause-kept g c = λ told sound place.
     let bytes = entry_laid entry c.as_slice-w.result.now c.make_version-size.result c.make_version-size.new.into _ c.as_slice-w.ensures c.requires.lies.is c.make_version-size.ensures.number c.make_version-size.ensures.bytes in
     let laid = c.over_place.ensures ∙ (λ i. laid_on_place at (size i) (bytes i)) in
     both_ok c.log_on_page.result (Logs (r ∷ []) c.args.store.now c.log_on_page.new.store) (length (page_at at.page s.pages) ≡ 4096)
-    (area_in c.log_on_page.new.store.now ≡ with_older at (older_said (columns_on (pages_in s) at.page) entry) (area_in s))
-    (λ logs whole. ap area_in logs.now
-    ∙ c.a_version_is_laid.ensures s r at entry whole place.0 (subst (λ w. IsEntry w entry) (sym place.1) c.requires.lies.is)
-    (ap Some laid ∙ sym (ap (λ w. Some (laid_on_place at (kept_size w) (kept_bytes entry))) place.1)))
+    (site_of c.log_on_page.new.store.now ≡ after c.args.x (Keeps e at (older_laid s at entry)) (site_of s))
+    (λ logs whole. ap site_of logs.now
+    ∙ c.a_logged_record_is_its_action.ensures.leaves c.args.x (Keeps e at (older_laid s at entry)) s c.over_place.result refl
+    (c.a_version_is_laid.ensures s r at entry whole place.0 (subst (λ w. IsEntry w entry) (sym place.1) c.requires.lies.is)
+    (ap Some laid ∙ sym (ap (λ w. Some (laid_on_place at (kept_size w) (kept_bytes entry))) place.1))))
     (c.log_on_page.ensures.one.logs told sound) (c.log_on_page.ensures.whole told sound)
 
 pub returns-clause-shows : goal.returns-clause-shows
-unfolding returns-clause-kept
+unfolding returns-clause-leaves
 returns-clause-shows g c = λ told sound e may.
     let at = c.args.place in
     let entry = c.args.version.now in
@@ -47,8 +49,10 @@ returns-clause-shows g c = λ told sound e may.
     let r : Record = Keep c.args.x c.over_place.result in
     let older = older_laid s at entry in
     let law = c.a_keep_shows_the_same.ensures in
-    both_ok c.log_on_page.result (Logs (r ∷ []) c.args.store.now c.log_on_page.new.store) (area_in t ≡ with_older at older (area_in s)) (KeepsVersion e at entry s t)
-    (λ logs is. record {
+    both_ok c.log_on_page.result (Logs (r ∷ []) c.args.store.now c.log_on_page.new.store) (site_of t ≡ after c.args.x (Keeps e at older) (site_of s)) (KeepsVersion e at entry s t)
+    (λ logs left.
+    let is : area_in t ≡ with_older at older (area_in s) = ap (λ (z : Site). z.area) left in
+    record {
       shows = shows_by s t (with_older at older (area_in s)) is (ap (λ (x : State). x.counted) logs.now) (ap (λ (x : State). x.tables) logs.now)
           (λ committed. law.versions s.counted s.tables (area_in s) e at older committed may.sound may.owed)
           (λ committed. law.rows s.counted s.tables (area_in s) e at older committed may.sound may.owed)
@@ -57,4 +61,4 @@ returns-clause-shows g c = λ told sound e may.
           subst (λ (area : Area). IsSpareCopy area e slot version at) (sym (is ∙ ap (λ o. with_older at o (area_in s)) copy))
           (c.a_kept_version_is_spare.ensures s.counted s.tables (area_in s) e at slot version may.sound (subst (OwedByKeep s.tables (area_in s) e at) copy may.owed));
     })
-    (c.log_on_page.ensures.one.logs told sound) (returns-clause-kept g c told sound may.place)
+    (c.log_on_page.ensures.one.logs told sound) (returns-clause-leaves g c told sound e may.place)
