@@ -3,7 +3,6 @@ use Rattle.std.specs.Prelude.{◌≡◌, ◌≢◌, ℕ, Bool, None}
 use Rattle.ctr_versions.specs.Chains.{Numbers}
 use Rattle.ctr_versions.specs.Changes.{revert}
 use Rattle.ctr_versions.specs.Versions.{rows_of, RowsSet}
-use Rattle.ctr_meta.specs.Effects.{one_aborted_less}
 use Rattle.ctr_redo.specs.States.{State}
 use Rattle.ctr_page.specs.declared.rows.Place.{Place}
 use Rattle.ctr_area.specs.Areas.{Slot}
@@ -18,14 +17,13 @@ abbrev pub slot_of : State → Place → Slot
 slot_of s at = (area_in s).slot at
 
 -- The chain of the slot's key in a table has lost its head, and every other chain is what it was,
--- whoever is committed; the head's transaction has a head less, and the state is sound. Where a version
--- entry gave the new head, it stays used, and no chain has it.
+-- whoever is committed, and the state is sound. Where a version entry gave the new head, it stays
+-- used, and no chain has it.
 pub record TakesHead (e : ℕ) (at : Place) (old new : State) : Type 0 where
   pub chains : (number : Numbers) (committed : ℕ → Bool) → AgreeOnCommits number old.tables
       → RowsSet (versions_in committed (area_in old)) (versions_in committed (area_in new)) e
       (slot_of old at).key
       (revert number (rows_of (versions_in committed (area_in old)) e (slot_of old at).key))
-  pub tables : new.tables ≡ one_aborted_less (slot_of old at).head.0 old.tables
   pub sound : HasSoundArea new
   pub leaves : (slot_of old at).previous ≡ None → (slot_of old at).pointer.page ≢ 0
       → IsLoose (area_in new) e (slot_of old at).pointer

@@ -12,12 +12,16 @@ ghost use Rattle.ctr_walk.specs.Tables.{kinds_said};
 ghost use Rattle.ctr_walk.specs.OneRecord.{HasRoomForOne, LogsOne};
 ghost use Rattle.ctr_walk.specs.Damage.{damage_told, searched, EndsOnPage};
 ghost use Rattle.ctr_record_effects.specs.States.{pages_in, area_in};
-ghost use Rattle.ctr_record_laws.specs.Owed.{Reverting, OwedByRevert};
+ghost use Rattle.ctr_area.specs.Sound.{IsUsedSlot};
+ghost use Rattle.ctr_record_laws.specs.Owed.{Reverting, FitsReverting, OwedByRevert};
+ghost use Rattle.ctr_actions.specs.Sites.{site_of};
+ghost use Rattle.ctr_actions.specs.Actions.{Reverts, after};
 ghost use Rattle.ctr_record_effects.specs.Standing.{HasSoundArea};
 ghost use Rattle.ctr_revert.specs.Taking.{TakesHead};
 ghost use Rattle.ctr_revert.specs.Reverting.{without_head, KeepsKey, lost_record, SlotSaidFrom, EntrySaidFrom, BytesSaid, EndsRow, LiesThere, EndsReverting, RevertsRow};
 
 use crate::slots::{FromSlot, SLOT_MOST, SlotLaid, blank_bytes, from_entry, from_slot, or_blank};
+use ctr_actions::a_logged_record_is_its_action;
 use ctr_base::Origin;
 use ctr_disk::{Disk, StoreFault};
 use ctr_page::{BadPage, Place, kinds_width, slot_size};
@@ -185,11 +189,16 @@ pub fn revert_row<D: Disk, O: Origin>(
     // The slot is without its head, and nothing else in the pages changes.
     ensures reverted { WhereSound O.first D.Disk (KeepsKey (area_in store.old.now) place → ((area_in store.old.now).slot place).used ≡ true
         → OnOk result (area_in store.new.now ≡ with_slot place (without_head (area_in store.old.now).older ((area_in store.old.now).slot place)) (area_in store.old.now))) }
-    // In a sound state its chain has lost its head, which may go, and nothing else is shown than before.
+    // In a sound state, whosever the head is, it is reverted in the way that fits the slot, and nothing else in the pages and the tables changes.
+    ensures leaves { WhereSound O.first D.Disk (HasSoundArea store.old.now
+        → (x e : ℕ) (way : Reverting) → IsUsedSlot (area_in store.old.now) e place → FitsReverting way ((area_in store.old.now).slot place)
+        → OnOk result (site_of store.new.now ≡ after x (Reverts e place way) (site_of store.old.now))) }
+    // There its chain has lost its head, which may go, and nothing else is shown than before.
     ensures takes { WhereSound O.first D.Disk (HasSoundArea store.old.now
         → (e : ℕ) (way : Reverting) → OwedByRevert store.old.now.tables (area_in store.old.now) e place way → OnOk result (TakesHead e place store.old.now store.new.now)) }
 {
     a_slot_is_laid();
+    a_logged_record_is_its_action();
     pages_are_in_bounds();
     a_revert_takes_the_head();
     a_revert_leaves_its_entry();

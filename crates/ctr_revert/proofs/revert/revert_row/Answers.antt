@@ -1,18 +1,25 @@
-use Rattle.std.proofs.Common.{◌≡◌, inl, [], ◌∷◌, length, true, Ok, Err, sym, ◌∙◌, ap, subst}
+use Rattle.std.proofs.Common.{◌≡◌, ℕ, inl, [], ◌∷◌, length, true, Ok, Err, refl, sym, ◌∙◌, ap, subst}
 use Rattle.std.specs.Prelude.{IsTrue, OnOk, ⊤}
 use Rattle.std.proofs.lemmas.Result.{err_from_is_err_and}
 use Rattle.ctr_base.specs.Base.{IsSoundImage}
-use Rattle.ctr_redo.specs.States.{State}
+use Rattle.ctr_records.specs.declared.record.Record.TheVariants.{Revert}
+use Rattle.ctr_redo.specs.States.{State, step}
 use Rattle.ctr_versions.specs.Changes.{revert}
 use Rattle.ctr_versions.specs.Versions.{rows_of, RowsSet}
 use Rattle.ctr_meta.specs.Effects.{one_aborted_less}
 use Rattle.ctr_area.specs.Areas.{Area}
 use Rattle.ctr_area.specs.Images.{versions_in}
 use Rattle.ctr_area.specs.Changes.{with_slot}
-use Rattle.ctr_record_laws.specs.Owed.{reverted_at, ToKept}
+use Rattle.ctr_area.specs.Sound.{IsUsedSlot}
+use Rattle.ctr_page.specs.Places.{slot_size}
+use Rattle.ctr_record_laws.specs.Owed.{Reverting, ToKept, FitsReverting, reverted_at}
 use Rattle.ctr_record_laws.specs.Loose.{IsLoose}
 use Rattle.ctr_store.specs.Store.{Logs}
 use Rattle.ctr_record_effects.specs.States.{pages_in, area_in}
+use Rattle.ctr_record_effects.specs.Changing.{laid_on_place}
+use Rattle.ctr_record_effects.specs.Standing.{HasSoundArea}
+use Rattle.ctr_actions.specs.Sites.{Site, site_of}
+use Rattle.ctr_actions.specs.Actions.{Reverts, after}
 use Rattle.ctr_walk.specs.Damage.{damage_told}
 use Rattle.ctr_walk.specs.OneRecord.{LogsOne}
 use Rattle.ctr_walk.proofs.Damages.{told_ends, told_ok, reads_err}
@@ -85,37 +92,55 @@ module _ (g : Over) (c : After-lay g) where
       c.a_slot_is_laid.ensures keeps used c.lay.result (one g c)
       (subst (λ (s : State). OnOk c.lay.result (length (pages_in s p.page) ≡ 4096)) same (c.lay.ensures.whole told sound))
 
+  -- and the site, where it is sound
+  site_left : IsTrue g.D.Disk.tells → IsSoundImage g.O.Origin.first → HasSoundArea c.args.store.now.now → (x e : ℕ) (way : Reverting) → IsUsedSlot (area_in c.args.store.now.now) e c.args.place
+      → FitsReverting way ((area_in c.args.store.now.now).slot c.args.place) → OnOk c.lay.result (site_of c.lay.new.store.now ≡ after x (Reverts e c.args.place way) (site_of c.args.store.now.now))
+  site_left told sound state x e way used fits =
+      let a = c.args.store.now in
+      let s = a.now in
+      let t = c.lay.new.store.now in
+      let p = c.args.place in
+      let l = c.in_ok-laid.laid in
+      let o = laid_on_place p (slot_size l.w) (bytes_laid l) in
+      let passed = passes g c told sound in
+      let lost = ((area_in s).slot p).head.0 in
+      let head : l.x ≡ lost = passed.head.head ∙ head_said s.counted (pages_in s) p passed.of_kind used.1 in
+      both_ok c.lay.result (Logs (lost_record l.x p l.w (bytes_laid l) ∷ []) a c.lay.new.store) (area_in t ≡ with_slot p (without_head (area_in s).older ((area_in s).slot p)) (area_in s))
+      (site_of t ≡ after x (Reverts e p way) (site_of s))
+      (λ logs is.
+      let same : t ≡ step (Revert lost o) s = logs.now ∙ ap (λ v. step (Revert v o) s) head in
+      ap site_of same
+      ∙ c.a_logged_record_is_its_action.ensures.leaves x (Reverts e p way) s o refl
+      (sym (ap area_in same) ∙ is ∙ ap (λ z. with_slot p z (area_in s)) (same_slot s.counted s.tables (pages_in s) e p state used way fits)))
+      ((one g c).logs told sound) (reverted told sound (keeps_key s.counted s.tables (pages_in s) e p state used) used.1)
+
 pub returns-clause-reverted : goal.returns-clause-reverted
 returns-clause-reverted g c = reverted g (goal.at.returns-clause-reverted g c).After-lay
+
+pub returns-clause-leaves : goal.returns-clause-leaves
+returns-clause-leaves g c = site_left g (goal.at.returns-clause-leaves g c).After-lay
 
 pub returns-clause-takes : goal.returns-clause-takes
 returns-clause-takes g c = λ told sound state e way owed.
     let k = (goal.at.returns-clause-takes g c).After-lay in
-    let a = c.args.store.now in
-    let s = a.now in
+    let s = c.args.store.now.now in
     let t = c.lay.new.store.now in
     let p = c.args.place in
-    let l = c.in_ok-laid.laid in
-    let r = lost_record l.x p l.w (bytes_laid l) in
-    let passed = passes g k told sound in
     let law = c.a_revert_takes_the_head.ensures in
     let bounds = c.pages_are_in_bounds.ensures (pages_in s) in
     let used = owed.used in
-    let same = same_slot s.counted s.tables (pages_in s) e p state used way owed.fits in
-    let head : l.x ≡ ((area_in s).slot p).head.0 = passed.head.head ∙ head_said s.counted (pages_in s) p passed.of_kind used.1 in
-    both_ok c.lay.result (Logs (r ∷ []) a c.lay.new.store) (area_in t ≡ with_slot p (without_head (area_in s).older ((area_in s).slot p)) (area_in s)) (TakesHead e p s t)
-    (λ logs is.
-    let left : area_in t ≡ reverted_at p way (area_in s) = is ∙ ap (λ z. with_slot p z (area_in s)) same in
-    let tables : t.tables ≡ one_aborted_less ((area_in s).slot p).head.0 s.tables = ap (λ (x : State). x.tables) logs.now ∙ ap (λ x. one_aborted_less x s.tables) head in
+    both_ok c.lay.result (site_of t ≡ after 0 (Reverts e p way) (site_of s)) (area_in t ≡ with_slot p (without_head (area_in s).older ((area_in s).slot p)) (area_in s)) (TakesHead e p s t)
+    (λ site is.
+    let left : area_in t ≡ reverted_at p way (area_in s) = ap (λ (z : Site). z.area) site in
     record {
       chains = λ number committed agree.
           subst (λ (z : Area). RowsSet (versions_in committed (area_in s)) (versions_in committed z) e (slot_of s p).key (revert number (rows_of (versions_in committed (area_in s)) e (slot_of s p).key))) (sym left)
           (law.step number s.counted s.tables (area_in s) e p way committed bounds state agree owed);
-      tables = tables;
       leaves = λ none some.
           let kept : area_in t ≡ reverted_at p ToKept (area_in s) = is ∙ ap (λ z. with_slot p z (area_in s)) (same_slot s.counted s.tables (pages_in s) e p state used ToKept (none, some)) in
           subst (λ (z : Area). IsLoose z e (slot_of s p).pointer ((area_in s).older (slot_of s p).pointer)) (sym kept)
           (c.a_revert_leaves_its_entry.ensures.loose s.counted s.tables (area_in s) e p state (record { used = used; gone = owed.gone; fits = (none, some) }));
-      sound = sound_by t s.counted (one_aborted_less ((area_in s).slot p).head.0 s.tables) (reverted_at p way (area_in s)) left (ap (λ (x : State). x.counted) logs.now) tables (law.sound s.counted s.tables (area_in s) e p way bounds state owed);
+      sound = sound_by t s.counted (one_aborted_less ((area_in s).slot p).head.0 s.tables) (reverted_at p way (area_in s)) left (ap (λ (z : Site). z.counted) site) (ap (λ (z : Site). z.tables) site)
+          (law.sound s.counted s.tables (area_in s) e p way bounds state owed);
     })
-    ((one g k).logs told sound) (reverted g k told sound (keeps_key s.counted s.tables (pages_in s) e p state used) used.1)
+    (site_left g k told sound state 0 e way used owed.fits) (reverted g k told sound (keeps_key s.counted s.tables (pages_in s) e p state used) used.1)
