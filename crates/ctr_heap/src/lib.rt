@@ -13,7 +13,7 @@ mod ways;
 mod writing;
 
 pub use buckets::{find, free_slot};
-pub use fitting::a_way_fits_its_slot;
+pub use fitting::{a_way_fits_its_slot, what_is_written_is_a_move};
 pub use found::{a_key_is_in_its_bucket, a_search_tells_a_free_slot, a_search_tells_the_key};
 pub use rewriting::{first, replaced, to_keep, written};
 pub use slots::{SlotSought, found_in_area, search_slots};
