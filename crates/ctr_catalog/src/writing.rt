@@ -1,5 +1,5 @@
 // One record makes a table, drops one, or undoes an item of the secondary log.
-ghost use Rattle.std.specs.Prelude.{◌≡◌, ◌≢◌, ◌<◌, ◌+◌, ◌/◌, ℕ, IfOk, OnOk};
+ghost use Rattle.std.specs.Prelude.{◌≡◌, ◌≢◌, ◌<◌, ℕ, IfOk, OnOk};
 ghost use Rattle.ctr_bytes.specs.Fields.{spelled};
 ghost use Rattle.ctr_types.specs.Names.{IsName};
 ghost use Rattle.ctr_value.specs.Columns.{ColumnsFit};

@@ -1,5 +1,6 @@
 // The row of a version that was found, read from the page that it stands on.
 ghost use Rattle.std.specs.Prelude.{◌≡◌, ◌≤◌, ◌<◌, false, IfOk, length};
+ghost use Rattle.ctr_base.specs.declared.growing.TheConstants.{MOST_PAGES};
 ghost use Rattle.ctr_base.specs.Base.{WhereSound};
 ghost use Rattle.ctr_store.specs.Store.{LeavesPage};
 ghost use Rattle.ctr_page.specs.declared.table.TheConstants.{PAGE_SIZE};
@@ -74,7 +75,7 @@ pub(crate) fn read_row<D: Disk, O: Origin>(
     requires going { store.old.stopped ≡ false }
     requires some { 0 < counted }
     requires few { table.now.count ≤ 7 }
-    ensures said { WhereSound O.first D.Disk ((place_of_version row at).page < 30000
+    ensures said { WhereSound O.first D.Disk ((place_of_version row at).page < MOST_PAGES
         → IfOk (searched result) (EndsOnPage (place_of_version row at).page (RowSaidAt counted table.now at (place_of_version row at).slot (pages_in store.old.now (place_of_version row at).page)))) }
     ensures leaves { LeavesPage O.first D.Disk store.old store.new (searched result) }
 {

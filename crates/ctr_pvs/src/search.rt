@@ -1,5 +1,5 @@
 // A free version entry of a table, along the chain of its version pages.
-ghost use Rattle.std.specs.Prelude.{◌≡◌, ◌≤◌, ◌<◌, false, IfOk, IfSome};
+ghost use Rattle.std.specs.Prelude.{◌≡◌, ◌<◌, false, IfOk, IfSome};
 ghost use Rattle.ctr_base.specs.Base.{WhereSound};
 ghost use Rattle.ctr_area.specs.Sound.{AreReadable};
 ghost use Rattle.ctr_walk.specs.Damage.{damage_told, EndsTold, ReadsPages};

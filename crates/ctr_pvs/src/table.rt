@@ -1,5 +1,5 @@
 // The table that a page is of.
-ghost use Rattle.std.specs.Prelude.{◌≡◌, ◌≤◌, ◌<◌, ◌+◌, ◌*◌, ◌/◌, ◌%◌, false, IfOk, length, take};
+ghost use Rattle.std.specs.Prelude.{◌≡◌, ◌≤◌, ◌<◌, ◌+◌, ◌*◌, ◌/◌, ◌%◌, false, IfOk, length};
 ghost use Rattle.ctr_base.specs.declared.growing.TheConstants.{MOST_PAGES};
 ghost use Rattle.ctr_base.specs.Base.{WhereSound};
 ghost use Rattle.ctr_store.specs.Store.{LeavesPage};

@@ -1,5 +1,5 @@
 // Reads along the versions of a row, and what they cost.
-ghost use Rattle.std.specs.Prelude.{◌≡◌, ◌≤◌, ◌<◌, false, IsTrue, OnOk};
+ghost use Rattle.std.specs.Prelude.{◌≡◌, ◌<◌, false, IsTrue, OnOk};
 
 use crate::files::opened;
 use crate::told::Told;

@@ -1,5 +1,5 @@
 // Steps on rows.
-ghost use Rattle.std.specs.Prelude.{◌≡◌, ◌≤◌, ◌<◌, ◌+◌, false, IsTrue, OnOk, length};
+ghost use Rattle.std.specs.Prelude.{◌≡◌, ◌≤◌, ◌<◌, ◌+◌, false, IsTrue, OnOk};
 ghost use Rattle.ctr_page.specs.Places.{start_of, slot_size as size_of_slot};
 
 use crate::pages::{make_empty, put_in_front, take};

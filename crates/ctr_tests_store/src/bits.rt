@@ -1,5 +1,5 @@
 // The pages of a new database, one after another; pages that are given back; and no page left.
-ghost use Rattle.std.specs.Prelude.{◌≡◌, ◌≤◌, ◌<◌, length};
+ghost use Rattle.std.specs.Prelude.{◌≡◌, ◌<◌, length};
 
 use ctr_alloc::{NextFree, next_free_on, with_free, with_taken};
 use std::test::Fail;
@@ -61,10 +61,7 @@ fn no_page_is_left_of_30_000(rt: HostRuntime) -> Result<(), Fail> {
     assert_eq!(rt; next_free_on(30_000, &page), NextFree::Full);
     assert_eq!(rt; next_free_on(29_952, &page), NextFree::Grow);
     page[3749] = 0x7f;
-    assert_eq!(rt;
-        next_free_on(30_000, &page),
-        NextFree::Page(29_999)
-    );
+    assert_eq!(rt; next_free_on(30_000, &page), NextFree::Page(29_999));
     page[3749] = 0xff;
     page[3750] = 0;
     assert_eq!(rt; next_free_on(30_000, &page), NextFree::Full);

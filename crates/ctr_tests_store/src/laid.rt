@@ -1,5 +1,5 @@
 // A database that is laid by hand, and a store that is opened on it.
-ghost use Rattle.std.specs.Prelude.{◌≡◌, ◌≤◌, false, IfSome};
+ghost use Rattle.std.specs.Prelude.{◌≡◌, false, IfSome};
 
 use ctr_base::Origin;
 use ctr_disk::Disk;
