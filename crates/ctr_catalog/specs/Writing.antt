@@ -1,5 +1,5 @@
 -- What makes a table leaves, and what undoes an item of the secondary log.
-use Rattle.std.specs.Prelude.{◌≢◌, ◌⊎◌, ℕ, false, List, ⊤, Option, None, Some, Result, Ok, Err}
+use Rattle.std.specs.Prelude.{◌≢◌, ◌⊎◌, ℕ, List, ⊤, Option, None, Some, Result, Ok, Err}
 use Rattle.ctr_disk.specs.declared.disk.Disk.{Ghosts}
 use Rattle.ctr_disk.specs.Image.{Image}
 use Rattle.ctr_disk.specs.declared.fault.StoreFault.{StoreFault}
@@ -10,8 +10,6 @@ use Rattle.ctr_page.specs.Searching.{IsFirst}
 use Rattle.ctr_page.specs.declared.walk.BadChain.{BadChain}
 use Rattle.ctr_area.specs.Areas.{Area}
 use Rattle.ctr_area.specs.Reading.{area_of}
-use Rattle.ctr_area.specs.Sound.{undone}
-use Rattle.ctr_area.specs.Changes.{with_taken}
 use Rattle.ctr_store.specs.Store.{View, LeavesPage}
 use Rattle.ctr_walk.specs.OneRecord.{LogsOne, WhyNotLogged}
 use Rattle.ctr_walk.specs.Damage.{EndsTold, ReadsPages}
@@ -62,10 +60,3 @@ HasMade (AllocOf x p) area = Unit {0}
 HasMade (FreeOf p) area = Unit {0}
 HasMade (CreateOf x e) area = (area.title e).state ≢ 0
 HasMade (DropOf x e) area = Unit {0}
-
--- a page is free; a table is dead, or isn't dropped
-abbrev pub area_undone : SlogItem → Area → Area
-area_undone (AllocOf x p) area = with_taken p false area
-area_undone (FreeOf p) area = with_taken p false area
-area_undone (CreateOf x e) area = record area { title = undone (CreateOf x e) area.title }
-area_undone (DropOf x e) area = record area { title = undone (DropOf x e) area.title }

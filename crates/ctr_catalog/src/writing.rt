@@ -5,15 +5,18 @@ ghost use Rattle.ctr_types.specs.Names.{IsName};
 ghost use Rattle.ctr_value.specs.Columns.{ColumnsFit};
 ghost use Rattle.ctr_base.specs.Base.{WhereSound};
 ghost use Rattle.ctr_page.specs.Columns.{new_entry_bytes};
-ghost use Rattle.ctr_area.specs.Changes.{new_title, empty_chains, with_title, ChangesEntry};
+ghost use Rattle.ctr_area.specs.Changes.{new_title, empty_chains, ChangesEntry};
 ghost use Rattle.ctr_walk.specs.OneRecord.{HasRoomForOne, LogsOne};
 ghost use Rattle.ctr_record_effects.specs.States.{area_in};
+ghost use Rattle.ctr_actions.specs.Sites.{site_of};
+ghost use Rattle.ctr_actions.specs.Actions.{Creates, Drops, Uncreates, Undrops, after, undoing};
 ghost use Rattle.ctr_record_effects.specs.Changing.{create_record, drop_record, uncreate_record, undrop_record};
 ghost use Rattle.ctr_records.specs.Members.{ItemFits};
 ghost use Rattle.ctr_walk.specs.Damage.{damage_told};
-ghost use Rattle.ctr_catalog.specs.Writing.{EndsMaking, MakesTable, undo_record, HasMade, area_undone};
+ghost use Rattle.ctr_catalog.specs.Writing.{EndsMaking, MakesTable, undo_record, HasMade};
 
 use crate::store::find_free_entry;
+use ctr_actions::a_logged_record_is_its_action;
 use ctr_alloc::free;
 use ctr_base::Origin;
 use ctr_bytes::put_u64;
@@ -73,8 +76,10 @@ fn log_created<D: Disk, O: Origin>(
     requires fits { ColumnsFit schema.now.columns }
     ensures one { LogsOne O.first D.Disk (create_record x entry name.now schema.now.columns) store.old store.new result }
     ensures made { WhereSound O.first D.Disk (OnOk result (ChangesEntry entry (new_title x name.now schema.now.columns) empty_chains (area_in store.old.now) (area_in store.new.now))) }
+    ensures leaves { WhereSound O.first D.Disk (OnOk result (site_of store.new.now ≡ after x (Creates entry name.now schema.now.columns (area_in store.new.now)) (site_of store.old.now))) }
 {
     a_new_table_has_its_entry();
+    a_logged_record_is_its_action();
     store.counts_pages();
     has_room(name);
     let bytes = entry_made(x, name, schema);
@@ -102,6 +107,8 @@ pub fn create<D: Disk, O: Origin>(
     ensures one { MakesTable O.first D.Disk (λ e. create_record x e name.now schema.now.columns) store.old store.new result }
     // The entry has the title of the new table and no page; other entries and what stands on their pages stay.
     ensures made { WhereSound O.first D.Disk (IfOk result (λ e. ChangesEntry e (new_title x name.now schema.now.columns) empty_chains (area_in store.old.now) (area_in store.new.now))) }
+    // There is an item to undo this, and nothing else in the tables changes.
+    ensures leaves { WhereSound O.first D.Disk (IfOk result (λ e. site_of store.new.now ≡ after x (Creates e name.now schema.now.columns (area_in store.new.now)) (site_of store.old.now))) }
 {
     a_record_behind_a_page::<D, (), u8>();
     let entry = match find_free_entry(store) {
@@ -133,10 +140,11 @@ pub fn drop_table<D: Disk, O: Origin>(
     requires room { HasRoomForOne 0 1 store.old }
     requires there { entry < 32 }
     ensures one { LogsOne O.first D.Disk (drop_record x entry) store.old store.new result }
-    // The transaction is its dropper, and nothing else in the pages changes.
-    ensures dropped { WhereSound O.first D.Disk (OnOk result (area_in store.new.now ≡ with_title entry (record ((area_in store.old.now).title entry) { dropper = x }) (area_in store.old.now))) }
+    // The transaction is its dropper, there is an item to undo this, and nothing else in the pages and the tables changes.
+    ensures leaves { WhereSound O.first D.Disk (OnOk result (site_of store.new.now ≡ after x (Drops entry) (site_of store.old.now))) }
 {
     a_drop_changes_its_title();
+    a_logged_record_is_its_action();
     store.counts_pages();
     let bytes = number_made(x);
     let rec = Record::Drop {
@@ -152,10 +160,11 @@ fn uncreate<D: Disk, O: Origin>(store: &mut Store<D, O>, entry: u8) -> Result<()
     requires room { HasRoomForOne 0 0 store.old }
     requires there { entry < 32 }
     ensures one { LogsOne O.first D.Disk (uncreate_record entry) store.old store.new result }
-    ensures dead { WhereSound O.first D.Disk (((area_in store.old.now).title entry).state ≢ 0
-        → OnOk result (area_in store.new.now ≡ with_title entry (record ((area_in store.old.now).title entry) { state = 2 }) (area_in store.old.now))) }
+    ensures leaves { (x : ℕ) → WhereSound O.first D.Disk (((area_in store.old.now).title entry).state ≢ 0
+        → OnOk result (site_of store.new.now ≡ after x (Uncreates entry) (site_of store.old.now))) }
 {
     an_uncreate_changes_its_title();
+    a_logged_record_is_its_action();
     store.counts_pages();
     let rec = Record::Uncreate {
         e: entry,
@@ -169,9 +178,10 @@ fn undrop<D: Disk, O: Origin>(store: &mut Store<D, O>, entry: u8) -> Result<(), 
     requires room { HasRoomForOne 0 0 store.old }
     requires there { entry < 32 }
     ensures one { LogsOne O.first D.Disk (undrop_record entry) store.old store.new result }
-    ensures kept { WhereSound O.first D.Disk (OnOk result (area_in store.new.now ≡ with_title entry (record ((area_in store.old.now).title entry) { dropper = 0 }) (area_in store.old.now))) }
+    ensures leaves { (x : ℕ) → WhereSound O.first D.Disk (OnOk result (site_of store.new.now ≡ after x (Undrops entry) (site_of store.old.now))) }
 {
     an_undrop_changes_its_title();
+    a_logged_record_is_its_action();
     store.counts_pages();
     let bytes = number_made(0);
     let rec = Record::Undrop {
@@ -190,9 +200,9 @@ pub fn undo_item<D: Disk, O: Origin>(
     requires room { HasRoomForOne 0 0 store.old }
     requires fits { ItemFits item.now }
     ensures one { (byte : ℕ) × LogsOne O.first D.Disk (undo_record item.now byte) store.old store.new result }
-    // What the item says of one page or one title is undone, and nothing else in the pages changes.
-    ensures undone { WhereSound O.first D.Disk (HasMade item.now (area_in store.old.now)
-        → OnOk result (area_in store.new.now ≡ area_undone item.now (area_in store.old.now))) }
+    // What the item says of one page or one title is undone, the item is gone, and nothing else in the pages and the tables changes.
+    ensures leaves { (x : ℕ) → WhereSound O.first D.Disk (HasMade item.now (area_in store.old.now)
+        → OnOk result (site_of store.new.now ≡ after x (undoing item.now) (site_of store.old.now))) }
 {
     match *item {
         SlogItem::AllocOf(_, p) => free(store, p),

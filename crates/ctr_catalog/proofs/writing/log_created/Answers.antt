@@ -1,5 +1,9 @@
-use Rattle.std.proofs.Common.{◌≡◌, ℕ, ◌+◌, ◌*◌, ◌/◌, ◌%◌, ◌<◌, [], ◌∷◌, length, sym, ap, ◌∙◌, subst, arith}
+use Rattle.std.proofs.Common.{◌≡◌, ℕ, ◌+◌, ◌*◌, ◌/◌, ◌%◌, ◌<◌, [], ◌∷◌, length, sym, ap, ◌∙◌, subst, refl, arith}
 use Rattle.std.specs.Prelude.{OnOk}
+use Rattle.ctr_disk.proofs.Moments.{on_ok}
+use Rattle.ctr_page.specs.Columns.{new_entry_bytes}
+use Rattle.ctr_actions.specs.Sites.{site_of}
+use Rattle.ctr_actions.specs.Actions.{Creates, after}
 use Rattle.ctr_records.specs.declared.record.Overlay.{Overlay}
 use Rattle.ctr_records.specs.declared.record.Record.{Record}
 use Rattle.ctr_records.specs.declared.record.Record.TheVariants.{Create}
@@ -46,3 +50,15 @@ returns-clause-made g c = λ told sound.
     (c.a_new_table_has_its_entry.ensures s x e name columns whole c.requires.there (let low = c.ranges.x.fits in omega (arith, low)) c.has_room.ensures.1 c.requires.fits))
     ((returns-clause-one g c).logs told sound)
     (subst (λ (p : ℕ). OnOk c.log_on_page.result (length (page_at p s.pages) ≡ 4096)) c.catalog_page-2.ensures (c.log_on_page.ensures.whole told sound))
+
+pub returns-clause-leaves : goal.returns-clause-leaves
+unfolding returns-clause-one
+returns-clause-leaves g c = λ told sound.
+    let e = c.args.entry in
+    let s = c.args.store.now.now in
+    let made = create_record c.args.x e c.args.name.now c.args.schema.now.columns in
+    let laid = laid_at (1 + e / 16) (256 * (e % 16)) (new_entry_bytes c.args.x c.args.name.now c.args.schema.now.columns) in
+    on_ok c.log_on_page.result (Logs (made ∷ []) c.args.store.now c.log_on_page.new.store)
+    (site_of c.log_on_page.new.store.now ≡ after c.args.x (Creates e c.args.name.now c.args.schema.now.columns (area_in c.log_on_page.new.store.now)) (site_of s))
+    (λ logs. ap site_of logs.now ∙ c.a_logged_record_is_its_action.ensures.leaves c.args.x (Creates e c.args.name.now c.args.schema.now.columns (area_in c.log_on_page.new.store.now)) s laid refl (sym (ap area_in logs.now)))
+    ((returns-clause-one g c).logs told sound)
