@@ -2,6 +2,7 @@ pub mod Looked
 pub mod Chain
 pub mod Steps
 pub mod Most
+pub mod Numbered
 pub mod Slots
 pub mod RowsSaid
 pub mod ReadAgain

@@ -8,7 +8,9 @@ mod looking;
 mod reading;
 mod rows;
 mod seeking;
+mod showing;
 mod view;
 
 pub use committed::newest;
+pub use showing::a_slot_is_read_as_its_row;
 pub use view::{ReadRefusal, visible};

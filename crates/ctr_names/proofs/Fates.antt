@@ -1,14 +1,17 @@
 -- How a transaction stands by the tables is how it stands by its number.
-use Rattle.std.proofs.Common.{Bool, List, None, Option, Some, [], ap, arith, cond, false, inl, inr, not, refl, sym, true, ℕ, ⊎_elim, ◌<◌, ◌==◌, ◌∙◌, ◌∷◌, ◌≡◌}
-use Rattle.std.specs.Prelude.{is_some, nat_lt, ◌&&◌, ◌||◌}
+use Rattle.std.proofs.Common.{suc, zero, Bool, List, None, Option, Some, [], ap, arith, cond, false, inl, inr, not, refl, sym, true, ℕ, ⊎_elim, ◌<◌, ◌==◌, ◌∙◌, ◌∷◌, ◌≡◌}
+use Rattle.std.specs.Prelude.{is_some, nat_le, nat_lt, unwrap_or, ◌&&◌, ◌||◌}
 use Rattle.std.proofs.Math.Bool.{and-true}
-use Rattle.std.proofs.lemmas.Bool.{cases_eq, cases_lt, eq-eqb, lt-ltb, ne_eqb}
-use Rattle.ctr_snap.specs.Seeing.{has, is_own, sees, sees_or_own}
+use Rattle.std.proofs.lemmas.Bool.{cases_eq, cases_lt, eq-eqb, false≢true, le-leb, le-ltb, lt-leb, lt-ltb, ne_eqb}
+use Rattle.ctr_snap.specs.Seeing.{SnapshotTaken, has, is_committed, is_own, sees, sees_or_own}
+use Rattle.ctr_types.specs.declared.xid.Fate.{Fate}
 use Rattle.ctr_types.specs.declared.xid.Fate.TheVariants as fate
-use Rattle.ctr_versions.specs.Engine.{SessionHeld, session_sees}
-use Rattle.ctr_versions.specs.Xids.{Xids, fate_of, has_committed, number_of, place_from}
+use Rattle.ctr_versions.specs.Chains.{above, is_by}
+use Rattle.ctr_versions.specs.Engine.{IsSeenIfOld, SessionHeld, session_sees}
+use Rattle.ctr_versions.specs.Xids.{IsSnapshotOf, Xids, fate_of, has_committed, number_of, place_from}
 use Rattle.ctr_versions.proofs.Keys.{known}
-use Rattle.ctr_meta.specs.Seen.{xid_is_seen}
+use Rattle.ctr_versions.proofs.Xids.{committed_fate, number_committed, sees_is}
+use Rattle.ctr_meta.specs.Seen.{xid_is_changed, xid_is_seen}
 use Rattle.ctr_meta.specs.Tables.{Tables, fate_in, heads_at, is_in}
 use Rattle.ctr_area.specs.Areas.{Area}
 use Rattle.ctr_area.specs.Images.{is_committed_in}
@@ -68,3 +71,39 @@ module _ (counted : ℕ) (tables : Tables) (area : Area) (sound : IsSoundArea co
       own : (o : Option ℕ) → IsNumberOf session o → (x ≡ 0 → ⊥) → is_own o x ≡ (x == session.me)
       own None none some = sym (ap (λ m. x == m) none ∙ ne_eqb x 0 some)
       own (Some m) is some = ap (λ m. x == m) is
+
+  -- A transaction is changed, for the catalog's test and a row's, exactly where its commit's number is above that of the
+  -- snapshot; one that was committed before the run the snapshot has seen.
+  pub changed_same : (snapshot : SnapshotTaken) (n : ℕ) → IsSnapshotOf xids snapshot n → (y : ℕ) → IsSeenIfOld xids snapshot y → xid_is_changed tables snapshot y ≡ is_some (above n (number_of xids y))
+  changed_same snapshot n stands y if_old = ⊎_elim
+      (λ none. ap (λ b. not b && changes (fate_in y tables)) (eq-eqb y 0 none) ∙ sym (ap (λ o. is_some (above n o)) (ap (number_of xids) none)))
+      (λ some. (λ i. not (ne_eqb y 0 some i) && changes (sym (fates_same y (above_zero some)) i))
+      ∙ (λ i. committed_fate xids y i && not (sees snapshot (fate_of xids y) y))
+      ∙ of_number (number_of xids y) refl)
+      (cases_eq y 0)
+    where
+      changes : Fate → Bool
+      changes f = is_committed f && not (sees snapshot f y)
+
+      above_zero : (y ≡ 0 → ⊥) → 0 < y
+      above_zero some = ⊎_elim (λ lt. lt) (λ le. absurd (some (omega (arith, le)))) (cases_lt 0 y)
+
+      never : (k : ℕ) → suc k ≡ 0 → ⊥
+      never k is = omega (arith, is)
+
+      no_number : (b : Bool) (k : ℕ) → cond b (Some k) None ≡ None → b ≡ false
+      no_number true k is = absurd (false≢true (sym (ap is_some is)))
+      no_number false k is = refl
+
+      turned : (k : ℕ) → not (nat_le k n) ≡ is_some (cond (nat_lt n k) (Some k) None)
+      turned k = ⊎_elim
+          (λ lt. (λ i. not (lt-leb k n lt i)) ∙ sym (ap (λ b. is_some (cond b (Some k) None)) (lt-ltb n k lt)))
+          (λ le. (λ i. not (le-leb k n le i)) ∙ sym (ap (λ b. is_some (cond b (Some k) None)) (le-ltb n k le)))
+          (cases_lt n k)
+
+      of_number : (o : Option ℕ) → number_of xids y ≡ o → (has_committed xids y && not (sees snapshot (fate_of xids y) y)) ≡ is_some (above n (number_of xids y))
+      of_number None none = ap (λ b. b && not (sees snapshot (fate_of xids y) y)) (no_number (has_committed xids y) (place_from 1 y xids.commits) none) ∙ sym (ap (λ o. is_some (above n o)) none)
+      of_number (Some zero) old = (λ i. number_committed xids y zero old i && not ((sees_is xids snapshot y ∙ (λ j. number_committed xids y zero old j && if_old old j)) i))
+          ∙ sym (ap (λ b. is_some {T = ℕ} (cond b (Some 0) None)) (le-ltb n 0 (omega arith))) ∙ sym (ap (λ o. is_some (above n o)) old)
+      of_number (Some (suc k)) new = (λ i. number_committed xids y (suc k) new i && not ((stands.sees_by y (λ old. never k (ap (λ (o : Option ℕ). unwrap_or o 0) (sym new ∙ old))) ∙ ap (is_by n) new) i))
+          ∙ turned (suc k) ∙ sym (ap (λ o. is_some (above n o)) new)

@@ -17,6 +17,7 @@ pub mod Front
 pub mod Ranked
 pub mod Fates
 pub mod Search
+pub mod Told
 pub mod Making
 pub mod Unmaking
 pub mod Past

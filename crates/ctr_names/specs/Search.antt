@@ -1,14 +1,16 @@
 -- What a session finds in the catalog, and what it stands on there.
-use Rattle.std.specs.Prelude.{◌≡◌, ℕ, ◌<◌, ◌==◌, Bool, true, false, ◌&&◌, not, List, Option, Some, None}
+use Rattle.std.specs.Prelude.{◌≡◌, ℕ, ◌<◌, ◌==◌, Bool, true, false, ◌&&◌, ◌||◌, not, List, Option, Some, None}
 use Rattle.ctr_model.specs.declared.state.State.{State}
 use Rattle.ctr_model.specs.declared.state.Transaction.{Transaction}
+use Rattle.ctr_snap.specs.Seeing.{SnapshotTaken}
 use Rattle.ctr_versions.specs.Chains.{changed_since}
 use Rattle.ctr_versions.specs.Keys.{schema_writes}
 use Rattle.ctr_versions.specs.Xids.{Xids, number_of}
 use Rattle.ctr_versions.specs.Versions.{VersionsStand, IsOrdered}
 use Rattle.ctr_versions.specs.Engine.{SessionHeld, session_sees, IsCalm, ShowsSession}
 use Rattle.ctr_meta.specs.Tables.{Tables}
-use Rattle.ctr_area.specs.Areas.{Area}
+use Rattle.ctr_meta.specs.Seen.{xid_is_changed}
+use Rattle.ctr_area.specs.Areas.{Area, Title}
 use Rattle.ctr_area.specs.Images.{is_committed_in, is_named_so, is_standing, versions_in}
 use Rattle.ctr_area.specs.Sound.{IsSchemaItem, xids_in}
 use Rattle.ctr_names.specs.Stand.{NamesStand}
@@ -64,3 +66,8 @@ IsFound sees name area f = (f < 32) × (is_named_so name (f, area.title f) ≡ t
 abbrev pub IsNoneFound : (ℕ → Bool) → List ℕ → Area → Type 0
 IsNoneFound sees name area = (f : ℕ) → f < 32 → is_named_so name (f, area.title f) ≡ true
     → is_standing sees (area.title f) ≡ false
+
+-- Who made the table of an entry, or who dropped it, is committed, and the snapshot doesn't see it.
+abbrev pub is_changed_for : Tables → SnapshotTaken → Title → Bool
+is_changed_for tables snapshot title =
+    xid_is_changed tables snapshot title.dropper || xid_is_changed tables snapshot title.creator

@@ -1,21 +1,22 @@
 // What is found in the catalog is what the chain of the name shows.
-ghost use Rattle.std.specs.Prelude.{◌≡◌, ◌<◌, ◌≤◌, ℕ, Some, None, true, false, List, Option};
+ghost use Rattle.std.specs.Prelude.{◌≡◌, ◌<◌, ◌≤◌, ℕ, Some, None, true, false, List, Option, is_some};
 ghost use Rattle.ctr_model.specs.declared.state.State.{State};
 ghost use Rattle.ctr_model.specs.State.{view};
-ghost use Rattle.ctr_versions.specs.Chains.{Numbers, value_seen, by, changed_since};
+ghost use Rattle.ctr_snap.specs.Seeing.{SnapshotTaken};
+ghost use Rattle.ctr_versions.specs.Chains.{Numbers, value_seen, by, above, changed_since};
 ghost use Rattle.ctr_versions.specs.Keys.{schema_writes, schema_named};
-ghost use Rattle.ctr_versions.specs.Xids.{Xids};
+ghost use Rattle.ctr_versions.specs.Xids.{Xids, IsSnapshotOf, number_of};
 ghost use Rattle.ctr_versions.specs.Versions.{names_at};
-ghost use Rattle.ctr_versions.specs.Engine.{SessionHeld, session_sees};
+ghost use Rattle.ctr_versions.specs.Engine.{SessionHeld, IsSeenIfOld, session_sees};
 ghost use Rattle.ctr_meta.specs.Tables.{Tables};
-ghost use Rattle.ctr_meta.specs.Seen.{xid_is_seen};
+ghost use Rattle.ctr_meta.specs.Seen.{xid_is_seen, xid_is_changed};
 ghost use Rattle.ctr_area.specs.Areas.{Area};
-ghost use Rattle.ctr_area.specs.Images.{is_committed_in, is_live, made_by_entry, versions_in};
+ghost use Rattle.ctr_area.specs.Images.{is_committed_in, is_live, is_named_so, made_by_entry, versions_in};
 ghost use Rattle.ctr_area.specs.Sound.{IsAmong, IsSoundArea, xids_in, stands_for};
 ghost use Rattle.ctr_record_laws.specs.Bounds.{IsInBounds};
 ghost use Rattle.ctr_record_laws.specs.Owed.{AgreeOnCommits, IsNameFreeFor};
 ghost use Rattle.ctr_names.specs.Stand.{NamesStand};
-ghost use Rattle.ctr_names.specs.Search.{IsOfTables, ShowsNames, Looker, IsLooking, finds, IsNumberOf, IsFound, IsNoneFound};
+ghost use Rattle.ctr_names.specs.Search.{IsOfTables, ShowsNames, Looker, IsLooking, finds, IsNumberOf, IsFound, IsNoneFound, is_changed_for};
 
 /// The entry of a name that stands at a commit number from the low one on is what the chain shows there, and where none
 /// stands it shows none, whatever the order in which entries are looked at.
@@ -63,4 +64,18 @@ pub fn a_held_name_can_be_made_or_dropped()
         → IsAmong look.session.me (xids_in tables.opens) → IsNameFreeFor look.session.me tables.items area.title look.name
         → changed_since look.t.snapshot (schema_writes look.name state.asked) ≡ None → schema_named (view state look.t) look.name ≡ None
         → f < 32 → is_live (area.title f) ≡ true → (area.title f).name ≡ look.name → stands_for (is_committed_in tables) look.session.me (area.title f) ≡ false }
+{}
+
+/// Whom the tables' own test tells to have changed something since a snapshot has a later commit number than that. Where
+/// one of these made or dropped a live table of a name, the model says that the name was changed; where none did, that it
+/// wasn't.
+pub fn who_changed_a_name_is_told()
+    ensures test { (counted : ℕ) (tables : Tables) (area : Area) (xids : Xids) (snapshot : SnapshotTaken) (n x : ℕ) → IsSoundArea counted tables area
+        → IsOfTables tables xids → IsSnapshotOf xids snapshot n → IsSeenIfOld xids snapshot x → xid_is_changed tables snapshot x ≡ is_some (above n (number_of xids x)) }
+    ensures changed { (counted low : ℕ) (tables : Tables) (area : Area) (xids : Xids) (state : State) (look : Looker) (f : ℕ) → IsSoundArea counted tables area
+        → ShowsNames low tables area xids state → IsLooking low tables area xids state look → f < 32 → is_named_so look.name (f, area.title f) ≡ true
+        → is_changed_for tables look.session.snapshot (area.title f) ≡ true → is_some (changed_since look.t.snapshot (schema_writes look.name state.asked)) ≡ true }
+    ensures steady { (counted low : ℕ) (tables : Tables) (area : Area) (xids : Xids) (state : State) (look : Looker) → IsSoundArea counted tables area
+        → ShowsNames low tables area xids state → IsLooking low tables area xids state look → ((f : ℕ) → f < 32 → is_named_so look.name (f, area.title f) ≡ true
+        → is_changed_for tables look.session.snapshot (area.title f) ≡ false) → changed_since look.t.snapshot (schema_writes look.name state.asked) ≡ None }
 {}

@@ -10,7 +10,7 @@ mod standing;
 
 pub use finding::{
     a_held_name_can_be_made_or_dropped, the_view_has_what_is_found, what_a_session_finds_is_shown,
-    what_stands_at_a_number_is_shown,
+    what_stands_at_a_number_is_shown, who_changed_a_name_is_told,
 };
 pub use keeping::{
     a_held_name_is_alone, names_are_kept_over_items, names_are_kept_over_sessions,

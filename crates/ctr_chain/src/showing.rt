@@ -1,0 +1,25 @@
+// What is read of a used slot is what its row's chain shows.
+ghost use Rattle.std.specs.Prelude.{◌≡◌, ℕ, Bool};
+ghost use Rattle.std.specs.Option.{option_and_then};
+ghost use Rattle.ctr_versions.specs.Chains.{Numbers, value_seen, newest};
+ghost use Rattle.ctr_versions.specs.Versions.{rows_of};
+ghost use Rattle.ctr_meta.specs.Tables.{Tables};
+ghost use Rattle.ctr_page.specs.declared.rows.Place.{Place};
+ghost use Rattle.ctr_area.specs.Areas.{Area};
+ghost use Rattle.ctr_area.specs.Chains.{chain_of};
+ghost use Rattle.ctr_area.specs.Images.{is_committed_in, versions_in};
+ghost use Rattle.ctr_area.specs.Sound.{IsSoundArea, IsUsedSlot};
+ghost use Rattle.ctr_record_laws.specs.Bounds.{IsInBounds};
+ghost use Rattle.ctr_record_laws.specs.Owed.{AgreeOnCommits};
+ghost use Rattle.ctr_chain.specs.Seeing.{first_xid};
+ghost use Rattle.ctr_chain.specs.Visible.{visible_row};
+
+/// The row that is seen of a used slot is what the chain of its row shows, for whoever looks; and whose its newest
+/// committed version is has the number of the newest one of that chain.
+pub fn a_slot_is_read_as_its_row()
+    ensures visible { (counted : ℕ) (tables : Tables) (area : Area) (test : ℕ → Bool) (e : ℕ) (at : Place) → IsSoundArea counted tables area → IsInBounds area → IsUsedSlot area e at
+        → visible_row test area at ≡ value_seen test (rows_of (versions_in (is_committed_in tables) area) e (area.slot at).key) }
+    ensures newest { (counted : ℕ) (tables : Tables) (area : Area) (number : Numbers) (e : ℕ) (at : Place) → IsSoundArea counted tables area → IsInBounds area → IsUsedSlot area e at
+        → AgreeOnCommits number tables → option_and_then number (first_xid (is_committed_in tables) (chain_of area.older (area.slot at)))
+        ≡ newest number (rows_of (versions_in (is_committed_in tables) area) e (area.slot at).key) }
+{}
