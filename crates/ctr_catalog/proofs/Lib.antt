@@ -3,3 +3,4 @@ pub mod Lowest
 pub mod OneRecord
 pub mod Made
 pub mod Found
+pub mod Searched

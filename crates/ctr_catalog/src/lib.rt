@@ -5,10 +5,12 @@
 
 mod entries;
 mod finding;
+mod showing;
 mod store;
 mod writing;
 
 pub use entries::{ENTRIES_ON_PAGE, find_free, found_in_area};
 pub use finding::{changed, find};
+pub use showing::{what_changed_answers_is_told, what_find_answers_is_found};
 pub use store::{a_free_entry_is_the_lowest, find_free_entry};
 pub use writing::{CatalogRefusal, create, drop_table, undo_item};

@@ -12,5 +12,5 @@ mod showing;
 mod view;
 
 pub use committed::newest;
-pub use showing::a_slot_is_read_as_its_row;
+pub use showing::{a_changed_row_is_told, a_slot_is_read_as_its_row};
 pub use view::{ReadRefusal, visible};

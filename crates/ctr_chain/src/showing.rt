@@ -1,8 +1,13 @@
 // What is read of a used slot is what its row's chain shows.
-ghost use Rattle.std.specs.Prelude.{◌≡◌, ℕ, Bool};
-ghost use Rattle.std.specs.Option.{option_and_then};
-ghost use Rattle.ctr_versions.specs.Chains.{Numbers, value_seen, newest};
+ghost use Rattle.std.specs.Prelude.{◌≡◌, ℕ, Bool, false, is_some};
+ghost use Rattle.std.specs.Option.{option_and_then, option_map_or};
+ghost use Rattle.ctr_snap.specs.Seeing.{SnapshotTaken};
+ghost use Rattle.ctr_versions.specs.Chains.{Numbers, value_seen, newest, newest_since};
+ghost use Rattle.ctr_versions.specs.Engine.{IsSeenIfOld};
+ghost use Rattle.ctr_versions.specs.Xids.{Xids, IsSnapshotOf, number_of};
 ghost use Rattle.ctr_versions.specs.Versions.{rows_of};
+ghost use Rattle.ctr_versions.specs.Engine.{AreBy};
+ghost use Rattle.ctr_meta.specs.Seen.{xid_is_changed};
 ghost use Rattle.ctr_meta.specs.Tables.{Tables};
 ghost use Rattle.ctr_page.specs.declared.rows.Place.{Place};
 ghost use Rattle.ctr_area.specs.Areas.{Area};
@@ -11,6 +16,7 @@ ghost use Rattle.ctr_area.specs.Images.{is_committed_in, versions_in};
 ghost use Rattle.ctr_area.specs.Sound.{IsSoundArea, IsUsedSlot};
 ghost use Rattle.ctr_record_laws.specs.Bounds.{IsInBounds};
 ghost use Rattle.ctr_record_laws.specs.Owed.{AgreeOnCommits};
+ghost use Rattle.ctr_names.specs.Search.{IsOfTables};
 ghost use Rattle.ctr_chain.specs.Seeing.{first_xid};
 ghost use Rattle.ctr_chain.specs.Visible.{visible_row};
 
@@ -22,4 +28,13 @@ pub fn a_slot_is_read_as_its_row()
     ensures newest { (counted : ℕ) (tables : Tables) (area : Area) (number : Numbers) (e : ℕ) (at : Place) → IsSoundArea counted tables area → IsInBounds area → IsUsedSlot area e at
         → AgreeOnCommits number tables → option_and_then number (first_xid (is_committed_in tables) (chain_of area.older (area.slot at)))
         ≡ newest number (rows_of (versions_in (is_committed_in tables) area) e (area.slot at).key) }
+{}
+
+/// Where the newest committed version of a used slot is by whom a snapshot, by the tables' own test, doesn't see, the
+/// newest version of its row's chain is newer than the snapshot's number; and else it isn't, or there is none.
+pub fn a_changed_row_is_told()
+    ensures { (counted : ℕ) (tables : Tables) (area : Area) (xids : Xids) (snapshot : SnapshotTaken) (n e : ℕ) (at : Place) → IsSoundArea counted tables area → IsInBounds area → IsUsedSlot area e at
+        → IsOfTables tables xids → IsSnapshotOf xids snapshot n → AreBy (IsSeenIfOld xids snapshot) (versions_in (is_committed_in tables) area)
+        → option_map_or (xid_is_changed tables snapshot) (first_xid (is_committed_in tables) (chain_of area.older (area.slot at))) false
+        ≡ is_some (newest_since (number_of xids) n (rows_of (versions_in (is_committed_in tables) area) e (area.slot at).key)) }
 {}
