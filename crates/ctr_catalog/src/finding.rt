@@ -133,11 +133,12 @@ pub fn find<D: Disk, O: Origin>(
     me: Option<Xid>,
 ) -> Result<Option<u8>, StoreFault>
     requires going { store.old.stopped ≡ false }
-    ensures ends { WhereSound O.first D.Disk (EndsTold (damage_told D.Disk store.new) (EndsEntries (checks_at store.old.now.counted (pages_in store.old.now)) (entry_seen store.old.meta.tables snapshot.now me name.now (area_in store.old.now))) result) }
+    ensures ends { WhereSound O.first D.Disk (EndsTold (damage_told D.Disk store.new) (EndsEntries (checks_at store.old.now.counted (pages_in store.old.now)) (entry_seen store.old.now.tables snapshot.now me name.now (area_in store.old.now))) result) }
     // It is an entry of the catalog.
     ensures inside { IfOk result (λ found. IfSome found (λ e. e < 32)) }
     ensures leaves { ReadsPages O.first D.Disk store.old store.new result }
 {
+    let _tables = store.meta();
     let found = search_entries(store, name, snapshot, me);
     tell(store, found)
 }
@@ -171,9 +172,10 @@ pub fn changed<D: Disk, O: Origin>(
 ) -> Result<Option<Xid>, StoreFault>
     requires going { store.old.stopped ≡ false }
     requires there { entry < 32 }
-    ensures ends { WhereSound O.first D.Disk (EndsTold (damage_told D.Disk store.new) (EndsEntry (checks_at store.old.now.counted (pages_in store.old.now) entry) (changed_in store.old.meta.tables snapshot.now name.now (area_in store.old.now) entry) entry) result) }
+    ensures ends { WhereSound O.first D.Disk (EndsTold (damage_told D.Disk store.new) (EndsEntry (checks_at store.old.now.counted (pages_in store.old.now) entry) (changed_in store.old.now.tables snapshot.now name.now (area_in store.old.now) entry) entry) result) }
     ensures leaves { ReadsPages O.first D.Disk store.old store.new result }
 {
+    let _tables = store.meta();
     let found = change_of(store, entry, name, snapshot);
     tell(store, found)
 }

@@ -52,11 +52,12 @@ pub fn newest<D: Disk, O: Origin>(
     requires going { store.old.stopped ≡ false }
     requires counted { place.page < store.old.now.counted }
     // Damage is of the first on the way that fails its checks, or of a chain that is too long, and is told where that stands in the file.
-    ensures ends { WhereSound O.first D.Disk (EndsTold (damage_told D.Disk store.new) (λ r. r ≡ xids_found (sought_at (is_committed_in store.old.meta.tables) store.old.now.counted (pages_in store.old.now) place)) result) }
+    ensures ends { WhereSound O.first D.Disk (EndsTold (damage_told D.Disk store.new) (λ r. r ≡ xids_found (sought_at (is_committed_in store.old.now.tables) store.old.now.counted (pages_in store.old.now) place)) result) }
     // It is the first of the row's chain that is committed.
-    ensures finds { WhereSound O.first D.Disk (IfOk result (λ x. x ≡ first_xid (is_committed_in store.old.meta.tables) (chain_of (area_in store.old.now).older ((area_in store.old.now).slot place)))) }
+    ensures finds { WhereSound O.first D.Disk (IfOk result (λ x. x ≡ first_xid (is_committed_in store.old.now.tables) (chain_of (area_in store.old.now).older ((area_in store.old.now).slot place)))) }
     ensures leaves { ReadsPages O.first D.Disk store.old store.new result }
 {
+    let _tables = store.meta();
     let found = newest_found(store, place);
     tell(store, found)
 }

@@ -76,11 +76,12 @@ pub fn visible<D: Disk, O: Origin>(
     requires going { store.old.stopped ≡ false }
     requires counted { place.page < store.old.now.counted }
     // Damage is of the first on the way that fails its checks, or of a chain that is too long, and is told where that stands in the file.
-    ensures ends { WhereSound O.first D.Disk (EndsTold (damage_told D.Disk store.new) (EndsReading (sought_at (xid_is_seen store.old.meta.tables snapshot.now me) store.old.now.counted (pages_in store.old.now) place)) (as_read result)) }
+    ensures ends { WhereSound O.first D.Disk (EndsTold (damage_told D.Disk store.new) (EndsReading (sought_at (xid_is_seen store.old.now.tables snapshot.now me) store.old.now.counted (pages_in store.old.now) place)) (as_read result)) }
     // It is the row that the session sees. Memory runs out only where there is one.
-    ensures shows { WhereSound O.first D.Disk (IfOk (as_read result) (GivesRow (visible_row (xid_is_seen store.old.meta.tables snapshot.now me) (area_in store.old.now) place))) }
+    ensures shows { WhereSound O.first D.Disk (IfOk (as_read result) (GivesRow (visible_row (xid_is_seen store.old.now.tables snapshot.now me) (area_in store.old.now) place))) }
     ensures leaves { ReadsPages O.first D.Disk store.old store.new (as_read result) }
 {
+    let _tables = store.meta();
     let found = visible_found(alloc, store, place, snapshot, me);
     answer(tell(store, found))
 }

@@ -1,5 +1,7 @@
+use Rattle.std.proofs.Common.{subst}
 use Rattle.ctr_record_effects.specs.States.{pages_in, area_in}
-use Rattle.ctr_walk.specs.Damage.{damage_told}
+use Rattle.ctr_meta.specs.Tables.{Tables}
+use Rattle.ctr_walk.specs.Damage.{damage_told, EndsTold}
 use Rattle.ctr_walk.proofs.Damages.{told_ends}
 use Rattle.ctr_catalog.specs.Finding.{checks_at, changed_in, EndsEntry}
 use Rattle.ctr_catalog.proofs.finding.changed.Goals as goal
@@ -8,4 +10,6 @@ pub returns-clause-ends : goal.returns-clause-ends
 returns-clause-ends g c = λ told sound.
     let s = c.args.store.now in
     let e = c.change_of-found.ensures in
-    told_ends (damage_told g.D.Disk c.tell.new.store) (EndsEntry (checks_at s.now.counted (pages_in s.now) c.args.entry) (changed_in s.meta.tables c.args.snapshot.now c.args.name.now (area_in s.now) c.args.entry) c.args.entry) c.change_of-found.result c.tell.result c.tell.ensures.told (told, sound) (e.leaves.refused told sound) (e.ends told sound)
+    subst (λ (tables : Tables). EndsTold (damage_told g.D.Disk c.tell.new.store) (EndsEntry (checks_at s.now.counted (pages_in s.now) c.args.entry) (changed_in tables c.args.snapshot.now c.args.name.now (area_in s.now) c.args.entry) c.args.entry) c.tell.result)
+    (c.meta-tables.ensures.now told sound c.requires.going)
+    (told_ends (damage_told g.D.Disk c.tell.new.store) (EndsEntry (checks_at s.now.counted (pages_in s.now) c.args.entry) (changed_in s.meta.tables c.args.snapshot.now c.args.name.now (area_in s.now) c.args.entry) c.args.entry) c.change_of-found.result c.tell.result c.tell.ensures.told (told, sound) (e.leaves.refused told sound) (e.ends told sound))

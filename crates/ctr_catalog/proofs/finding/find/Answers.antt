@@ -1,7 +1,8 @@
-use Rattle.std.proofs.Common.{◌<◌, Option, ℕ}
+use Rattle.std.proofs.Common.{subst, ◌<◌, Option, ℕ}
 use Rattle.std.specs.Prelude.{IfSome}
 use Rattle.ctr_record_effects.specs.States.{pages_in, area_in}
-use Rattle.ctr_walk.specs.Damage.{damage_told}
+use Rattle.ctr_meta.specs.Tables.{Tables}
+use Rattle.ctr_walk.specs.Damage.{damage_told, EndsTold}
 use Rattle.ctr_walk.proofs.Damages.{told_ends, told_ok}
 use Rattle.ctr_catalog.specs.Finding.{checks_at, entry_seen, EndsEntries}
 use Rattle.ctr_catalog.proofs.finding.find.Goals as goal
@@ -10,7 +11,9 @@ pub returns-clause-ends : goal.returns-clause-ends
 returns-clause-ends g c = λ told sound.
     let s = c.args.store.now in
     let e = c.search_entries-found.ensures in
-    told_ends (damage_told g.D.Disk c.tell.new.store) (EndsEntries (checks_at s.now.counted (pages_in s.now)) (entry_seen s.meta.tables c.args.snapshot.now c.args.me c.args.name.now (area_in s.now))) c.search_entries-found.result c.tell.result c.tell.ensures.told (told, sound) (e.leaves.refused told sound) (e.ends told sound)
+    subst (λ (tables : Tables). EndsTold (damage_told g.D.Disk c.tell.new.store) (EndsEntries (checks_at s.now.counted (pages_in s.now)) (entry_seen tables c.args.snapshot.now c.args.me c.args.name.now (area_in s.now))) c.tell.result)
+    (c.meta-tables.ensures.now told sound c.requires.going)
+    (told_ends (damage_told g.D.Disk c.tell.new.store) (EndsEntries (checks_at s.now.counted (pages_in s.now)) (entry_seen s.meta.tables c.args.snapshot.now c.args.me c.args.name.now (area_in s.now))) c.search_entries-found.result c.tell.result c.tell.ensures.told (told, sound) (e.leaves.refused told sound) (e.ends told sound))
 
 pub returns-clause-inside : goal.returns-clause-inside
 returns-clause-inside g c =

@@ -4,9 +4,10 @@ use Rattle.ctr_record_effects.specs.States.{pages_in, area_in}
 use Rattle.ctr_walk.specs.Damage.{damage_told, EndsTold}
 use Rattle.ctr_walk.proofs.Damages.{told_ends, told_ok}
 use Rattle.ctr_meta.specs.Seen.{xid_is_seen}
+use Rattle.ctr_meta.specs.Tables.{Tables}
 use Rattle.ctr_chain.specs.Rows.{GivesRow}
 use Rattle.ctr_chain.specs.Seeking.{sought_at}
-use Rattle.ctr_chain.specs.Visible.{EndsReading, visible_row}
+use Rattle.ctr_chain.specs.Visible.{as_read, EndsReading, visible_row}
 use Rattle.ctr_chain.proofs.view.visible.Goals as goal
 
 pub returns-clause-ends : goal.returns-clause-ends
@@ -14,12 +15,16 @@ returns-clause-ends g c = λ told sound.
     let a = c.args.store.now in
     let e = c.visible_found-found.ensures in
     let ends = EndsReading (sought_at (xid_is_seen a.meta.tables c.args.snapshot.now c.args.me) a.now.counted (pages_in a.now) c.args.place) in
-    subst (EndsTold (damage_told g.D.Disk c.tell.new.store) ends) (sym c.answer.ensures)
-    (told_ends (damage_told g.D.Disk c.tell.new.store) ends c.visible_found-found.result c.tell.result c.tell.ensures.told (told, sound) (e.leaves.refused told sound) (e.ends told sound))
+    subst (λ (tables : Tables). EndsTold (damage_told g.D.Disk c.tell.new.store) (EndsReading (sought_at (xid_is_seen tables c.args.snapshot.now c.args.me) a.now.counted (pages_in a.now) c.args.place)) (as_read c.answer.result))
+    (c.meta-tables.ensures.now told sound c.requires.going)
+    (subst (EndsTold (damage_told g.D.Disk c.tell.new.store) ends) (sym c.answer.ensures)
+    (told_ends (damage_told g.D.Disk c.tell.new.store) ends c.visible_found-found.result c.tell.result c.tell.ensures.told (told, sound) (e.leaves.refused told sound) (e.ends told sound)))
 
 pub returns-clause-shows : goal.returns-clause-shows
 returns-clause-shows g c = λ told sound.
     let a = c.args.store.now in
     let shown = GivesRow (visible_row (xid_is_seen a.meta.tables c.args.snapshot.now c.args.me) (area_in a.now) c.args.place) in
-    subst (λ r. IfOk r shown) (sym c.answer.ensures)
-    (told_ok _ (damage_told g.D.Disk c.tell.new.store) shown c.visible_found-found.result c.tell.result c.tell.ensures.told (c.visible_found-found.ensures.shows told sound))
+    subst (λ (tables : Tables). IfOk (as_read c.answer.result) (GivesRow (visible_row (xid_is_seen tables c.args.snapshot.now c.args.me) (area_in a.now) c.args.place)))
+    (c.meta-tables.ensures.now told sound c.requires.going)
+    (subst (λ r. IfOk r shown) (sym c.answer.ensures)
+    (told_ok _ (damage_told g.D.Disk c.tell.new.store) shown c.visible_found-found.result c.tell.result c.tell.ensures.told (c.visible_found-found.ensures.shows told sound)))
