@@ -1,5 +1,5 @@
 -- The number of the first committed version is that of the newest.
-use Rattle.std.proofs.Common.{ap, subst, ◌≡◌, ℕ, Bool, true, false, cond, List, [], ◌∷◌, Option, Some, None, refl, sym, ◌∙◌}
+use Rattle.std.proofs.Common.{arith, ◌<◌, ap, subst, ◌≡◌, ℕ, Bool, true, false, cond, List, [], ◌∷◌, Option, Some, None, refl, sym, ◌∙◌}
 use Rattle.std.specs.List.{AllByRecursion}
 use Rattle.std.specs.Option.{option_and_then, option_map_or, option_map, option_or}
 use Rattle.std.specs.Prelude.{is_some, unwrap_or}
@@ -40,3 +40,15 @@ first_by P test x (v ∷ vs) all is =
 pub told_above : (test : ℕ → Bool) (number : Numbers) (n : ℕ) (first : Option ℕ) → ((x : ℕ) → first ≡ Some x → test x ≡ is_some (above n (number x))) → option_map_or test first false ≡ is_some (above n (option_and_then number first))
 told_above test number n None same = refl
 told_above test number n (Some x) same = same x refl
+
+-- who is above nobody isn't nobody, and one that is below another leaves that above nobody
+pub above_none : (x : ℕ) → 0 < x → x ≡ 0 → ⊥
+above_none x lt none = omega (arith, lt, none)
+
+pub first_drawn : (x next : ℕ) → 0 < x → x < next → 0 < next
+first_drawn x next some below = omega (arith, some, below)
+
+-- what follows of each
+pub all_from : (P Q : ℕ → Type 0) → ((x : ℕ) → P x → Q x) → (chain : List RowVersion) → AllByRecursion (λ (v : RowVersion). P v.0) chain → AllByRecursion (λ (v : RowVersion). Q v.0) chain
+all_from P Q follows [] all = tt
+all_from P Q follows (v ∷ vs) all = (follows v.0 all.0, all_from P Q follows vs all.1)

@@ -1,13 +1,12 @@
 // What is read of a used slot is what its row's chain shows.
-ghost use Rattle.std.specs.Prelude.{◌≡◌, ℕ, Bool, false, is_some};
+ghost use Rattle.std.specs.Prelude.{◌≡◌, ℕ, Bool, Option, false, is_some};
 ghost use Rattle.std.specs.Option.{option_and_then, option_map_or};
 ghost use Rattle.ctr_snap.specs.Seeing.{SnapshotTaken};
 ghost use Rattle.ctr_versions.specs.Chains.{Numbers, value_seen, newest, newest_since};
-ghost use Rattle.ctr_versions.specs.Engine.{IsSeenIfOld};
+ghost use Rattle.ctr_versions.specs.Engine.{AreBy, IsSeenIfOld, SessionHeld, session_sees};
 ghost use Rattle.ctr_versions.specs.Xids.{Xids, IsSnapshotOf, number_of};
 ghost use Rattle.ctr_versions.specs.Versions.{rows_of};
-ghost use Rattle.ctr_versions.specs.Engine.{AreBy};
-ghost use Rattle.ctr_meta.specs.Seen.{xid_is_changed};
+ghost use Rattle.ctr_meta.specs.Seen.{xid_is_changed, xid_is_seen};
 ghost use Rattle.ctr_meta.specs.Tables.{Tables};
 ghost use Rattle.ctr_page.specs.declared.rows.Place.{Place};
 ghost use Rattle.ctr_area.specs.Areas.{Area};
@@ -16,15 +15,18 @@ ghost use Rattle.ctr_area.specs.Images.{is_committed_in, versions_in};
 ghost use Rattle.ctr_area.specs.Sound.{IsSoundArea, IsUsedSlot};
 ghost use Rattle.ctr_record_laws.specs.Bounds.{IsInBounds};
 ghost use Rattle.ctr_record_laws.specs.Owed.{AgreeOnCommits};
-ghost use Rattle.ctr_names.specs.Search.{IsOfTables};
+ghost use Rattle.ctr_names.specs.Search.{IsOfTables, IsNumberOf};
 ghost use Rattle.ctr_chain.specs.Seeing.{first_xid};
 ghost use Rattle.ctr_chain.specs.Visible.{visible_row};
 
-/// The row that is seen of a used slot is what the chain of its row shows, for whoever looks; and whose its newest
-/// committed version is has the number of the newest one of that chain.
+/// The row that is seen of a used slot is what the chain of its row shows, for whoever looks, and so to a session; and
+/// whose its newest committed version is has the number of the newest one of that chain.
 pub fn a_slot_is_read_as_its_row()
     ensures visible { (counted : ℕ) (tables : Tables) (area : Area) (test : ℕ → Bool) (e : ℕ) (at : Place) → IsSoundArea counted tables area → IsInBounds area → IsUsedSlot area e at
         → visible_row test area at ≡ value_seen test (rows_of (versions_in (is_committed_in tables) area) e (area.slot at).key) }
+    ensures session { (counted : ℕ) (tables : Tables) (area : Area) (xids : Xids) (session : SessionHeld) (me : Option ℕ) (e : ℕ) (at : Place) → IsSoundArea counted tables area → IsInBounds area → IsUsedSlot area e at
+        → IsOfTables tables xids → IsNumberOf session me → visible_row (xid_is_seen tables session.snapshot me) area at
+        ≡ value_seen (session_sees xids session) (rows_of (versions_in (is_committed_in tables) area) e (area.slot at).key) }
     ensures newest { (counted : ℕ) (tables : Tables) (area : Area) (number : Numbers) (e : ℕ) (at : Place) → IsSoundArea counted tables area → IsInBounds area → IsUsedSlot area e at
         → AgreeOnCommits number tables → option_and_then number (first_xid (is_committed_in tables) (chain_of area.older (area.slot at)))
         ≡ newest number (rows_of (versions_in (is_committed_in tables) area) e (area.slot at).key) }
