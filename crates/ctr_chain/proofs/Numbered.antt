@@ -47,8 +47,3 @@ above_none x lt none = omega (arith, lt, none)
 
 pub first_drawn : (x next : ℕ) → 0 < x → x < next → 0 < next
 first_drawn x next some below = omega (arith, some, below)
-
--- what follows of each
-pub all_from : (P Q : ℕ → Type 0) → ((x : ℕ) → P x → Q x) → (chain : List RowVersion) → AllByRecursion (λ (v : RowVersion). P v.0) chain → AllByRecursion (λ (v : RowVersion). Q v.0) chain
-all_from P Q follows [] all = tt
-all_from P Q follows (v ∷ vs) all = (follows v.0 all.0, all_from P Q follows vs all.1)
