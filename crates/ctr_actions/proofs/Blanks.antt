@@ -12,12 +12,12 @@ use Rattle.ctr_page.specs.declared.header.Header.{Header}
 use Rattle.ctr_page.specs.declared.rows.Place.{Place}
 use Rattle.ctr_record_laws.specs.Owed.{slot_by, reverted_slot, trimmed_slot, cut_at, OwedByFormat, IsEmptyPage}
 use Rattle.ctr_actions.specs.Sites.{Site, IsSoundSite}
-use Rattle.ctr_actions.specs.Actions.{Action, Begins, Allocates, Formats, Links, LinksOlder, Keeps, Writes, Creates, Drops, Commits, Frees, Uncreates, Undrops, Aborts, Reclaims, Reverts, Trims, Cuts, FreesOlder, MakesDead, Unlinks, UnlinksOlder, FreesEntry, Forgets, Checkpoints, Owes, after}
+use Rattle.ctr_actions.specs.Actions.{Action, Begins, Allocates, Formats, Links, LinksOlder, Keeps, Writes, Creates, Drops, Commits, Frees, Uncreates, Undrops, Aborts, Reclaims, Reverts, Trims, Cuts, FreesOlder, MakesDead, Unlinks, UnlinksOlder, FreesEntry, Forgets, Checkpoints, Owes, site_after}
 use Rattle.ctr_actions.specs.Facts.{HasBlank, IsAway, IsBeside}
 use Rattle.ctr_actions.proofs.Owners.{slot_elsewhere, older_elsewhere}
 
 module _ (x p : ℕ) (s : Site) (bounds : IsInBounds s.area) (sound : IsSoundSite s) (mine : OwedByFormat s.tables x p) where
-  pub header_stays : (y : ℕ) (a : Action) (h : Header) → Owes y a s → IsBeside a (HasBlank p h) → (after y a s).area.header p ≡ s.area.header p
+  pub header_stays : (y : ℕ) (a : Action) (h : Header) → Owes y a s → IsBeside a (HasBlank p h) → (site_after y a s).area.header p ≡ s.area.header p
   header_stays y Begins h owed beside = refl
   header_stays y (Allocates q) h owed beside = refl
   header_stays y (Formats q g) h owed beside = ap (λ b. cond b g (s.area.header p)) (ne_eqb p q beside)
@@ -72,7 +72,7 @@ module _ (x p : ℕ) (s : Site) (bounds : IsInBounds s.area) (sound : IsSoundSit
             (λ isnt. ap (λ (t : Older). t.used) (older_apart s.area r ending b isnt)) ∙ (empty b here).1,
       )
 
-  pub empty_stays : (y : ℕ) (a : Action) (h : Header) → Owes y a s → s.area.header p ≡ h → IsAway a (HasBlank p h) → IsBeside a (HasBlank p h) → IsEmptyPage s.area p → IsEmptyPage (after y a s).area p
+  pub empty_stays : (y : ℕ) (a : Action) (h : Header) → Owes y a s → s.area.header p ≡ h → IsAway a (HasBlank p h) → IsBeside a (HasBlank p h) → IsEmptyPage s.area p → IsEmptyPage (site_after y a s).area p
   empty_stays y Begins h owed is away beside empty = empty
   empty_stays y (Allocates q) h owed is away beside empty = empty
   empty_stays y (Formats q g) h owed is away beside empty = λ b here.

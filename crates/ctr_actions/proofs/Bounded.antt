@@ -14,7 +14,7 @@ use Rattle.ctr_record_laws.specs.Bounds.{IsInBounds}
 use Rattle.ctr_value.specs.Payload.{width}
 use Rattle.ctr_versions.proofs.Keys.{known}
 use Rattle.ctr_actions.specs.Sites.{Site, IsSoundSite}
-use Rattle.ctr_actions.specs.Actions.{Action, Begins, Allocates, Formats, Links, LinksOlder, Keeps, Writes, Creates, Drops, Commits, Frees, Uncreates, Undrops, Aborts, Reclaims, Reverts, Trims, Cuts, FreesOlder, MakesDead, Unlinks, UnlinksOlder, FreesEntry, Forgets, Checkpoints, Owes, after, LeavesBounds}
+use Rattle.ctr_actions.specs.Actions.{Action, Begins, Allocates, Formats, Links, LinksOlder, Keeps, Writes, Creates, Drops, Commits, Frees, Uncreates, Undrops, Aborts, Reclaims, Reverts, Trims, Cuts, FreesOlder, MakesDead, Unlinks, UnlinksOlder, FreesEntry, Forgets, Checkpoints, Owes, site_after, LeavesBounds}
 use Rattle.ctr_actions.proofs.Latest.{last_among}
 
 none : {k : ℕ} → k < 0 → ⊥
@@ -59,7 +59,7 @@ module _ (x : ℕ) (s : Site) (bounds : IsInBounds s.area) (sound : IsSoundSite 
       let few = room_few (h.kind == 1) (width (drop 1 (s.area.title h.entry).columns)) in
       elim here as (λ b. cond b (room_by s.area h) was ≤ 170) [ true ↦ few | false ↦ le ]
 
-  pub bounded : (a : Action) → Owes x a s → LeavesBounds a s → IsInBounds (after x a s).area
+  pub bounded : (a : Action) → Owes x a s → LeavesBounds a s → IsInBounds (site_after x a s).area
   bounded Begins owed leaves = bounds
   bounded (Allocates q) owed leaves = record { titles = bounds.titles; entries = bounds.entries; free = bounds.free; rooms = bounds.rooms }
   bounded (Formats q g) owed leaves = record {

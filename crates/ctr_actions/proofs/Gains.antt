@@ -22,25 +22,25 @@ use Rattle.ctr_record_laws.specs.Owed.{OwedByFormat, HasNoItems}
 use Rattle.ctr_versions.proofs.Keys.{known}
 use Rattle.ctr_area.specs.Sound.{xids_in}
 use Rattle.ctr_actions.specs.Sites.{Site, IsSoundSite}
-use Rattle.ctr_actions.specs.Actions.{Action, Begins, Allocates, Formats, Links, LinksOlder, Keeps, Writes, Creates, Drops, Commits, Frees, Uncreates, Undrops, Aborts, Reclaims, Reverts, Trims, Cuts, FreesOlder, MakesDead, Unlinks, UnlinksOlder, FreesEntry, Forgets, Checkpoints, Owes, after, items_of}
-use Rattle.ctr_actions.specs.Facts.{IsOpen, HasBlank, HasNoPageBut, Holds, LetsGo}
+use Rattle.ctr_actions.specs.Actions.{Action, Begins, Allocates, Formats, Links, LinksOlder, Keeps, Writes, Creates, Drops, Commits, Frees, Uncreates, Undrops, Aborts, Reclaims, Reverts, Trims, Cuts, FreesOlder, MakesDead, Unlinks, UnlinksOlder, FreesEntry, Forgets, Checkpoints, Owes, site_after, item_count}
+use Rattle.ctr_actions.specs.Facts.{IsOpen, HasBlank, HasNoPageBut, HoldsFact, LetsGo}
 use Rattle.ctr_actions.proofs.Items.{only_stays}
 use Rattle.ctr_actions.proofs.Owners.{taken_alone}
 
-pub begun_open : (x : ℕ) (s : Site) → Holds x IsOpen (after x Begins s)
-begun_open x s = among_in x (after x Begins s).tables.opens (subst (IsAmong x) (sym (xids_append s.tables.opens ((x, 0) ∷ []))) (among_rest x (xids_in s.tables.opens) (x ∷ []) (inl refl)))
+pub begun_open : (x : ℕ) (s : Site) → HoldsFact x IsOpen (site_after x Begins s)
+begun_open x s = among_in x (site_after x Begins s).tables.opens (subst (IsAmong x) (sym (xids_append s.tables.opens ((x, 0) ∷ []))) (among_rest x (xids_in s.tables.opens) (x ∷ []) (inl refl)))
 
-pub blank_made : (x p : ℕ) (h : Header) (s : Site) → OwedByFormat s.tables x p → Holds x (HasBlank p h) (after x (Formats p h) s)
+pub blank_made : (x p : ℕ) (h : Header) (s : Site) → OwedByFormat s.tables x p → HoldsFact x (HasBlank p h) (site_after x (Formats p h) s)
 blank_made x p h s owed = (
   owed,
   (λ at here. (ap (λ b. (cond b free_slot (s.area.slot at)).used) (eq-eqb at.page p here), ap (λ b. (cond b free_older (s.area.older at)).used) (eq-eqb at.page p here))),
   ap (λ b. cond b h (s.area.header p)) (eq-eqb p p refl),
 )
 
-pub more_pages : (x p : ℕ) (ps : List ℕ) (s : Site) → Holds x (HasNoPageBut ps) s → Holds x (HasNoPageBut (p ∷ ps)) (after x (Allocates p) s)
+pub more_pages : (x p : ℕ) (ps : List ℕ) (s : Site) → HoldsFact x (HasNoPageBut ps) s → HoldsFact x (HasNoPageBut (p ∷ ps)) (site_after x (Allocates p) s)
 more_pages x p ps s only = only_stays x x s (p ∷ ps) (λ q in_. inr (only q in_)) (Allocates p) (inl (inl refl))
 
-module _ (x p : ℕ) (ps : List ℕ) (s : Site) (bounds : IsInBounds s.area) (sound : IsSoundSite s) (only : Holds x (HasNoPageBut (p ∷ ps)) s) where
+module _ (x p : ℕ) (ps : List ℕ) (s : Site) (bounds : IsInBounds s.area) (sound : IsSoundSite s) (only : HoldsFact x (HasNoPageBut (p ∷ ps)) s) where
   abbrev items : List SlogItem
   items = s.tables.items
 
@@ -54,7 +54,7 @@ module _ (x p : ℕ) (ps : List ℕ) (s : Site) (bounds : IsInBounds s.area) (so
   of_allocation : (i : SlogItem) → is_wanted (Allocation x p) i ≡ true → page_of_item i ≡ p ∷ []
   of_allocation i wanted = ap page_of_item (allocation_is x p i wanted)
 
-  pub page_gone : (a : Action) → Owes x a s → LetsGo a p → Holds x (HasNoPageBut ps) (after x a s)
+  pub page_gone : (a : Action) → Owes x a s → LetsGo a p → HoldsFact x (HasNoPageBut ps) (site_after x a s)
   page_gone Begins owed gone = absurd gone
   page_gone (Allocates q) owed gone = absurd gone
   page_gone (Formats q g) owed gone = absurd gone
@@ -81,7 +81,7 @@ module _ (x p : ℕ) (ps : List ℕ) (s : Site) (bounds : IsInBounds s.area) (so
   page_gone (Forgets z) owed gone = absurd gone
   page_gone (Checkpoints lists) owed gone = absurd gone
 
-pub none_left : (x : ℕ) (s : Site) → items_of x s.tables ≡ 0 → HasNoItems x s.tables.items
+pub none_left : (x : ℕ) (s : Site) → item_count x s.tables ≡ 0 → HasNoItems x s.tables.items
 none_left x s none i in_ = known (is_item_by x i) (λ own. absurd (some (how_many (is_item_by x) s.tables.items) (counted_member (is_item_by x) i s.tables.items own in_) none)) (λ isnt. isnt)
   where
     some : (n : ℕ) → 1 ≤ n → n ≡ 0 → ⊥

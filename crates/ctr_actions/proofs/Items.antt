@@ -19,7 +19,7 @@ use Rattle.ctr_record_laws.specs.Bounds.{IsInBounds}
 use Rattle.ctr_record_laws.specs.Owed.{loses_head, OwedByFormat}
 use Rattle.ctr_versions.proofs.Keys.{known}
 use Rattle.ctr_actions.specs.Sites.{Site, IsSoundSite}
-use Rattle.ctr_actions.specs.Actions.{Action, Begins, Allocates, Formats, Links, LinksOlder, Keeps, Writes, Creates, Drops, Commits, Frees, Uncreates, Undrops, Aborts, Reclaims, Reverts, Trims, Cuts, FreesOlder, MakesDead, Unlinks, UnlinksOlder, FreesEntry, Forgets, Checkpoints, Owes, after}
+use Rattle.ctr_actions.specs.Actions.{Action, Begins, Allocates, Formats, Links, LinksOlder, Keeps, Writes, Creates, Drops, Commits, Frees, Uncreates, Undrops, Aborts, Reclaims, Reverts, Trims, Cuts, FreesOlder, MakesDead, Unlinks, UnlinksOlder, FreesEntry, Forgets, Checkpoints, Owes, site_after}
 use Rattle.ctr_actions.specs.Facts.{HasPage, HasNoPageBut, IsBeside}
 use Rattle.ctr_actions.proofs.Owners.{allocator, is_taken_by_one, page_named, left_apart}
 
@@ -62,7 +62,7 @@ module _ (x p : ℕ) (s : Site) (bounds : IsInBounds s.area) (sound : IsSoundSit
   other : (y q : ℕ) → p ≢ q → is_wanted (Allocation y q) it ≡ false
   other y q apart = ap (λ b. nat_eq x y && b) (ne_eqb p q apart) ∙ elim (nat_eq x y) as (λ b. (b && false) ≡ false) [ true ↦ refl | false ↦ refl ]
 
-  pub page_stays : (y : ℕ) (a : Action) → Owes y a s → IsBeside a (HasPage p) → OwedByFormat (after y a s).tables x p
+  pub page_stays : (y : ℕ) (a : Action) → Owes y a s → IsBeside a (HasPage p) → OwedByFormat (site_after y a s).tables x p
   page_stays y Begins owed beside = mine
   page_stays y (Allocates q) owed beside = further (AllocOf y q)
   page_stays y (Formats q g) owed beside = mine
@@ -101,7 +101,7 @@ module _ (x y : ℕ) (s : Site) (ps : List ℕ) (only : (r : ℕ) → IsAmong (A
   went : (r : ℕ) (w : Wanted) → IsAmong (AllocOf x r) (without_item w s.tables).items → IsAmong r ps
   went r w in_ = only r (left_back w (AllocOf x r) s.tables.items in_)
 
-  pub only_stays : (a : Action) → IsBeside a (HasNoPageBut ps) ⊎ (x ≢ y) → (n : ℕ) → IsAmong (AllocOf x n) (after y a s).tables.items → IsAmong n ps
+  pub only_stays : (a : Action) → IsBeside a (HasNoPageBut ps) ⊎ (x ≢ y) → (n : ℕ) → IsAmong (AllocOf x n) (site_after y a s).tables.items → IsAmong n ps
   only_stays Begins either n in_ = only n in_
   only_stays (Allocates q) either n in_ = ⊎_elim (λ was. only n was)
       (λ new. ⊎_elim (λ is. ⊎_elim (λ beside. subst (λ k. IsAmong k ps) (sym (ap page_named is)) beside) (λ apart. absurd (apart (ap allocator is))) either) (λ none. absurd none) new)

@@ -15,7 +15,7 @@ use Rattle.ctr_record_laws.proofs.Undone.{filter_among}
 use Rattle.ctr_record_laws.specs.Owed.{IsLastItem}
 use Rattle.ctr_versions.proofs.Keys.{known}
 use Rattle.ctr_actions.specs.Sites.{Site}
-use Rattle.ctr_actions.specs.Actions.{Owes, after, undoing}
+use Rattle.ctr_actions.specs.Actions.{Owes, site_after, undoing}
 use Rattle.ctr_actions.proofs.Items.{wanted_itself}
 
 -- ---- what is among those of a transaction is among all, and is its own
@@ -60,7 +60,7 @@ log_less w i items wanted in_ =
     let one = (taken_out w items (any_there w i items wanted in_)).2 in
     ap length one.more_is ∙ one_longer _ one.front one.rest ∙ ap (λ is. length is + 1) (sym one.less_is)
 
-pub log_shorter : (x : ℕ) (s : Site) (i : SlogItem) → IsAmong i s.tables.items → length s.tables.items ≡ length (after x (undoing i) s).tables.items + 1
+pub log_shorter : (x : ℕ) (s : Site) (i : SlogItem) → IsAmong i s.tables.items → length s.tables.items ≡ length (site_after x (undoing i) s).tables.items + 1
 log_shorter x s (AllocOf y p) in_ = log_less (OfPage p) (AllocOf y p) s.tables.items (eq-eqb p p refl) in_
 log_shorter x s (FreeOf p) in_ = log_less (OfPage p) (FreeOf p) s.tables.items (eq-eqb p p refl) in_
 log_shorter x s (CreateOf y e) in_ = log_less (Creation e) (CreateOf y e) s.tables.items (eq-eqb e e refl) in_

@@ -9,12 +9,12 @@ use Rattle.ctr_record_laws.proofs.Members.{among_front}
 use Rattle.ctr_record_laws.proofs.Xids.{among_in, in_among, same_in, both_same, more_same, less_same}
 use Rattle.ctr_record_laws.specs.Owed.{loses_head}
 use Rattle.ctr_actions.specs.Sites.{Site}
-use Rattle.ctr_actions.specs.Actions.{Action, Begins, Allocates, Formats, Links, LinksOlder, Keeps, Writes, Creates, Drops, Commits, Frees, Uncreates, Undrops, Aborts, Reclaims, Reverts, Trims, Cuts, FreesOlder, MakesDead, Unlinks, UnlinksOlder, FreesEntry, Forgets, Checkpoints, after}
+use Rattle.ctr_actions.specs.Actions.{Action, Begins, Allocates, Formats, Links, LinksOlder, Keeps, Writes, Creates, Drops, Commits, Frees, Uncreates, Undrops, Aborts, Reclaims, Reverts, Trims, Cuts, FreesOlder, MakesDead, Unlinks, UnlinksOlder, FreesEntry, Forgets, Checkpoints, site_after}
 use Rattle.ctr_actions.specs.Facts.{IsOpen, IsBeside}
 
-pub open_stays : (x y : ℕ) (a : Action) (s : Site) → IsBeside a IsOpen ⊎ (x ≢ y) → is_in x s.tables.opens ≡ true → is_in x (after y a s).tables.opens ≡ true
+pub open_stays : (x y : ℕ) (a : Action) (s : Site) → IsBeside a IsOpen ⊎ (x ≢ y) → is_in x s.tables.opens ≡ true → is_in x (site_after y a s).tables.opens ≡ true
 open_stays x y Begins s either open_ =
-    among_in x (after y Begins s).tables.opens (subst (IsAmong x) (sym (xids_append s.tables.opens ((y, 0) ∷ []))) (among_front x (xids_in s.tables.opens) (y ∷ []) (in_among x s.tables.opens open_)))
+    among_in x (site_after y Begins s).tables.opens (subst (IsAmong x) (sym (xids_append s.tables.opens ((y, 0) ∷ []))) (among_front x (xids_in s.tables.opens) (y ∷ []) (in_among x s.tables.opens open_)))
 open_stays x y (Allocates q) s either open_ = open_
 open_stays x y (Formats q g) s either open_ = open_
 open_stays x y (Links q f k) s either open_ = open_
@@ -27,11 +27,11 @@ open_stays x y (Writes m) s either open_ =
     same_in x less.opens tables.opens (both_same tables more less (more_same m.xid tables) (less_same (loses_head tables (s.area.slot m.at)) more)).opens ∙ open_
 open_stays x y (Creates f name columns left) s either open_ = open_
 open_stays x y (Drops f) s either open_ = open_
-open_stays x y Commits s either open_ = ⊎_elim (λ never. absurd never) (λ apart. among_in x (after y Commits s).tables.opens (still_among y x s.tables.opens apart (in_among x s.tables.opens open_))) either
+open_stays x y Commits s either open_ = ⊎_elim (λ never. absurd never) (λ apart. among_in x (site_after y Commits s).tables.opens (still_among y x s.tables.opens apart (in_among x s.tables.opens open_))) either
 open_stays x y (Frees q) s either open_ = open_
 open_stays x y (Uncreates f) s either open_ = open_
 open_stays x y (Undrops f) s either open_ = open_
-open_stays x y Aborts s either open_ = ⊎_elim (λ never. absurd never) (λ apart. among_in x (after y Aborts s).tables.opens (still_among y x s.tables.opens apart (in_among x s.tables.opens open_))) either
+open_stays x y Aborts s either open_ = ⊎_elim (λ never. absurd never) (λ apart. among_in x (site_after y Aborts s).tables.opens (still_among y x s.tables.opens apart (in_among x s.tables.opens open_))) either
 open_stays x y (Reclaims q) s either open_ = open_
 open_stays x y (Reverts f b way) s either open_ = open_
 open_stays x y (Trims passes f b way) s either open_ = open_

@@ -24,7 +24,7 @@ use Rattle.ctr_record_laws.specs.Bounds.{IsInBounds}
 use Rattle.ctr_record_laws.specs.Owed.{loses_head, HasNoItems, IsLastItem}
 use Rattle.ctr_versions.proofs.Keys.{known}
 use Rattle.ctr_actions.specs.Sites.{Site, IsSoundSite}
-use Rattle.ctr_actions.specs.Actions.{Action, Begins, Allocates, Formats, Links, LinksOlder, Keeps, Writes, Creates, Drops, Commits, Frees, Uncreates, Undrops, Aborts, Reclaims, Reverts, Trims, Cuts, FreesOlder, MakesDead, Unlinks, UnlinksOlder, FreesEntry, Forgets, Checkpoints, Owes, after, undoing, items_of}
+use Rattle.ctr_actions.specs.Actions.{Action, Begins, Allocates, Formats, Links, LinksOlder, Keeps, Writes, Creates, Drops, Commits, Frees, Uncreates, Undrops, Aborts, Reclaims, Reverts, Trims, Cuts, FreesOlder, MakesDead, Unlinks, UnlinksOlder, FreesEntry, Forgets, Checkpoints, Owes, site_after, undoing, item_count}
 use Rattle.ctr_actions.proofs.Items.{left_back}
 use Rattle.ctr_actions.proofs.Latest.{last_among}
 use Rattle.ctr_actions.proofs.Owners.{one_item}
@@ -76,7 +76,7 @@ dropping_wanted e (FreeOf q) = refl
 dropping_wanted e (CreateOf z f) = refl
 dropping_wanted e (DropOf z f) = refl
 
-pub undone_goes : (x : ℕ) (s : Site) (i : SlogItem) (front rest : List SlogItem) → IsInBounds s.area → IsSoundSite s → s.tables.items ≡ front ++ i ∷ rest → (after x (undoing i) s).tables.items ≡ front ++ rest
+pub undone_goes : (x : ℕ) (s : Site) (i : SlogItem) (front rest : List SlogItem) → IsInBounds s.area → IsSoundSite s → s.tables.items ≡ front ++ i ∷ rest → (site_after x (undoing i) s).tables.items ≡ front ++ rest
 undone_goes x s (AllocOf y p) front rest bounds sound items = ap (left_out (OfPage p)) items
     ∙ left_one (OfPage p) (AllocOf y p) front rest (eq-eqb p p refl) (page_once s bounds sound (AllocOf y p) front rest items p refl)
 undone_goes x s (FreeOf p) front rest bounds sound items = ap (left_out (OfPage p)) items
@@ -95,7 +95,7 @@ split_there z (a ∷ items) (inl is) = ([], items, ap (λ i. i ∷ items) (sym i
 split_there z (a ∷ items) (inr in_) = let further = split_there z items in_ in (a ∷ further.0, further.1, ap (λ l. a ∷ l) further.2)
 
 -- the latest item goes: the transaction has one less
-pub one_item_less : (x : ℕ) (s : Site) (i : SlogItem) → IsInBounds s.area → IsSoundSite s → IsLastItem x i s.tables.items → items_of x s.tables ≡ items_of x (after x (undoing i) s).tables + 1
+pub one_item_less : (x : ℕ) (s : Site) (i : SlogItem) → IsInBounds s.area → IsSoundSite s → IsLastItem x i s.tables.items → item_count x s.tables ≡ item_count x (site_after x (undoing i) s).tables + 1
 one_item_less x s i bounds sound last =
     let found = last_among x i s.tables.items last in
     let there = split_there i s.tables.items found.0 in
@@ -173,7 +173,7 @@ module _ (x : ℕ) (s : Site) (bounds : IsInBounds s.area) (sound : IsSoundSite 
   other : (y : ℕ) → x ≢ y → (x == y) ≡ false
   other y apart = known (x == y) (λ is. absurd (apart (eqb-true x y is))) (λ isnt. isnt)
 
-  pub front_stays : (a : Action) → Owes x a s → ((p : ℕ) → a ≡ Reclaims p → IsAmong (FreeOf p) front → ⊥) → Stays (after x a s).tables.items
+  pub front_stays : (a : Action) → Owes x a s → ((p : ℕ) → a ≡ Reclaims p → IsAmong (FreeOf p) front → ⊥) → Stays (site_after x a s).tables.items
   front_stays Begins owed out = as_was
   front_stays (Allocates q) owed out = came (AllocOf x q) (λ y apart. ap (λ b. cond b true false) (other y apart))
   front_stays (Formats q g) owed out = as_was

@@ -9,10 +9,10 @@ use Rattle.ctr_area.specs.Sound.{IsAmong, IsUsedSlot}
 use Rattle.ctr_page.specs.declared.rows.Place.{Place}
 use Rattle.ctr_record_laws.specs.Loose.{IsSameSlot}
 use Rattle.ctr_actions.specs.Sites.{Site}
-use Rattle.ctr_actions.specs.Actions.{Action, Begins, Allocates, Formats, Links, LinksOlder, Keeps, Writes, Creates, Drops, Commits, Frees, Uncreates, Undrops, Aborts, Reclaims, Reverts, Trims, Cuts, FreesOlder, MakesDead, Unlinks, UnlinksOlder, FreesEntry, Forgets, Checkpoints, Owes, after}
+use Rattle.ctr_actions.specs.Actions.{Action, Begins, Allocates, Formats, Links, LinksOlder, Keeps, Writes, Creates, Drops, Commits, Frees, Uncreates, Undrops, Aborts, Reclaims, Reverts, Trims, Cuts, FreesOlder, MakesDead, Unlinks, UnlinksOlder, FreesEntry, Forgets, Checkpoints, Owes, site_after}
 use Rattle.ctr_actions.specs.Facts.{HasSlot, HasCopy, HasTable, IsAway}
 
-pub title_stays : (y : ℕ) (a : Action) (e : ℕ) (title : Title) (s : Site) → Owes y a s → IsAway a (HasTable e title) → (after y a s).area.title e ≡ s.area.title e
+pub title_stays : (y : ℕ) (a : Action) (e : ℕ) (title : Title) (s : Site) → Owes y a s → IsAway a (HasTable e title) → (site_after y a s).area.title e ≡ s.area.title e
 title_stays y Begins e title s owed away = refl
 title_stays y (Allocates q) e title s owed away = refl
 title_stays y (Formats q g) e title s owed away = refl

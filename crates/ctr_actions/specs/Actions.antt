@@ -96,89 +96,89 @@ Owes x (Forgets y) s = OwedByForget s.tables y
 Owes x (Checkpoints lists) s = (listed s.tables.next lists ≡ s.tables)
     × (list_needs s.tables.next (checkpoint_bytes s.tables.next lists) ≡ Ok tt)
 
--- What it leaves.
-abbrev pub after : ℕ → Action → Site → Site
-after x Begins s = record s { tables = opened_by x s.tables }
-after x (Allocates p) s = record s {
+-- the site that an action leaves
+abbrev pub site_after : ℕ → Action → Site → Site
+site_after x Begins s = record s { tables = opened_by x s.tables }
+site_after x (Allocates p) s = record s {
   tables = with_item (AllocOf x p) s.tables;
   area = with_taken p true s.area;
 }
-after x (Formats p h) s = record s { area = with_blank p h s.area }
-after x (Links p e b) s = record s {
+site_after x (Formats p h) s = record s { area = with_blank p h s.area }
+site_after x (Links p e b) s = record s {
   tables = without_item (Allocation x p) s.tables;
   area = with_firsts e (with_bucket b p (s.area.firsts e)) s.area;
 }
-after x (LinksOlder p e) s = record s {
+site_after x (LinksOlder p e) s = record s {
   tables = without_item (Allocation x p) s.tables;
   area = with_firsts e (record (s.area.firsts e) { versions = p }) s.area;
 }
-after x (Keeps e at older) s = record s { area = with_older at older s.area }
-after x (Writes m) s = record s {
+site_after x (Keeps e at older) s = record s { area = with_older at older s.area }
+site_after x (Writes m) s = record s {
   tables = row_counted m s.area s.tables;
   area = row_moved m s.area;
 }
-after x (Creates e name columns left) s = record s {
+site_after x (Creates e name columns left) s = record s {
   tables = with_item (CreateOf x e) s.tables;
   area = left;
 }
-after x (Drops e) s = record s {
+site_after x (Drops e) s = record s {
   tables = with_item (DropOf x e) s.tables;
   area = with_title e (record (s.area.title e) { dropper = x }) s.area;
 }
-after x Commits s = record s { tables = committed x s.tables }
-after x (Frees p) s = record s {
+site_after x Commits s = record s { tables = committed x s.tables }
+site_after x (Frees p) s = record s {
   tables = without_item (OfPage p) s.tables;
   area = with_taken p false s.area;
 }
-after x (Uncreates e) s = record s {
+site_after x (Uncreates e) s = record s {
   tables = without_item (Creation e) s.tables;
   area = with_title e (record (s.area.title e) { state = 2 }) s.area;
 }
-after x (Undrops e) s = record s {
+site_after x (Undrops e) s = record s {
   tables = without_item (Dropping e) s.tables;
   area = with_title e (record (s.area.title e) { dropper = 0 }) s.area;
 }
-after x Aborts s = record s { tables = rolled_back x s.tables }
-after x (Reclaims p) s = record s {
+site_after x Aborts s = record s { tables = rolled_back x s.tables }
+site_after x (Reclaims p) s = record s {
   tables = without_item (OfPage p) s.tables;
   area = with_taken p false s.area;
 }
-after x (Reverts e at way) s = record s {
+site_after x (Reverts e at way) s = record s {
   tables = one_aborted_less (s.area.slot at).head.0 s.tables;
   area = reverted_at at way s.area;
 }
-after x (Trims passes e at way) s = record s { area = trimmed_at at way s.area }
-after x (Cuts passes e at q) s = record s { area = cut_at q s.area }
-after x (FreesOlder e q) s = record s { area = with_older q free_older s.area }
-after x (MakesDead passes e) s = record s {
+site_after x (Trims passes e at way) s = record s { area = trimmed_at at way s.area }
+site_after x (Cuts passes e at q) s = record s { area = cut_at q s.area }
+site_after x (FreesOlder e q) s = record s { area = with_older q free_older s.area }
+site_after x (MakesDead passes e) s = record s {
   area = with_title e (record (s.area.title e) { state = 2 }) s.area;
 }
-after x (Unlinks p e b) s = record s {
+site_after x (Unlinks p e b) s = record s {
   tables = with_item (FreeOf p) s.tables;
   area = with_firsts e (with_bucket b (s.area.header p).next (s.area.firsts e)) s.area;
 }
-after x (UnlinksOlder p e) s = record s {
+site_after x (UnlinksOlder p e) s = record s {
   tables = with_item (FreeOf p) s.tables;
   area = with_firsts e (record (s.area.firsts e) { versions = (s.area.header p).next }) s.area;
 }
-after x (FreesEntry e title left) s = record s { area = left }
-after x (Forgets y) s = record s { tables = forgotten_by y s.tables }
-after x (Checkpoints lists) s = s
+site_after x (FreesEntry e title left) s = record s { area = left }
+site_after x (Forgets y) s = record s { tables = forgotten_by y s.tables }
+site_after x (Checkpoints lists) s = s
 
--- It is for room, or for a version that no chain has: the chains of names and rows are what they
--- were, and so are transactions with their heads.
-abbrev pub IsQuiet : Action → Type 0
-IsQuiet (Allocates p) = Unit {0}
-IsQuiet (Formats p h) = Unit {0}
-IsQuiet (Links p e b) = Unit {0}
-IsQuiet (LinksOlder p e) = Unit {0}
-IsQuiet (Keeps e at older) = Unit {0}
-IsQuiet (Frees p) = Unit {0}
-IsQuiet (Reclaims p) = Unit {0}
-IsQuiet (FreesOlder e q) = Unit {0}
-IsQuiet (UnlinksOlder p e) = Unit {0}
-IsQuiet (Checkpoints lists) = Unit {0}
-IsQuiet a = ⊥
+-- An action is quiet: it is for room, or for a version that no chain has; the chains of names and
+-- rows are what they were, and so are transactions with their heads.
+abbrev pub IsQuietAction : Action → Type 0
+IsQuietAction (Allocates p) = Unit {0}
+IsQuietAction (Formats p h) = Unit {0}
+IsQuietAction (Links p e b) = Unit {0}
+IsQuietAction (LinksOlder p e) = Unit {0}
+IsQuietAction (Keeps e at older) = Unit {0}
+IsQuietAction (Frees p) = Unit {0}
+IsQuietAction (Reclaims p) = Unit {0}
+IsQuietAction (FreesOlder e q) = Unit {0}
+IsQuietAction (UnlinksOlder p e) = Unit {0}
+IsQuietAction (Checkpoints lists) = Unit {0}
+IsQuietAction a = ⊥
 
 -- what undoes an item of the secondary log
 abbrev pub undoing : SlogItem → Action
@@ -188,8 +188,8 @@ undoing (CreateOf x e) = Uncreates e
 undoing (DropOf x e) = Undrops e
 
 -- how many items are a transaction's
-abbrev pub items_of : ℕ → Tables → ℕ
-items_of x tables = how_many (is_item_by x) tables.items
+abbrev pub item_count : ℕ → Tables → ℕ
+item_count x tables = how_many (is_item_by x) tables.items
 
 -- What the area that is left isn't in its bounds without: an area that the action carries is; and a
 -- free entry isn't linked to.

@@ -24,15 +24,15 @@ pub data Fact : Type 0 where
   HasTable : ℕ → Title → Fact
 
 -- The fact holds of a transaction.
-abbrev pub Holds : ℕ → Fact → Site → Type 0
-Holds x IsOpen s = is_in x s.tables.opens ≡ true
-Holds x (HasPage p) s = OwedByFormat s.tables x p
-Holds x (HasNoPageBut ps) s = (p : ℕ) → IsAmong (AllocOf x p) s.tables.items → IsAmong p ps
-Holds x (HasBlank p h) s =
+abbrev pub HoldsFact : ℕ → Fact → Site → Type 0
+HoldsFact x IsOpen s = is_in x s.tables.opens ≡ true
+HoldsFact x (HasPage p) s = OwedByFormat s.tables x p
+HoldsFact x (HasNoPageBut ps) s = (p : ℕ) → IsAmong (AllocOf x p) s.tables.items → IsAmong p ps
+HoldsFact x (HasBlank p h) s =
     OwedByFormat s.tables x p × IsEmptyPage s.area p × (s.area.header p ≡ h)
-Holds x (HasSlot e at slot) s = IsUsedSlot s.area e at × (s.area.slot at ≡ slot)
-Holds x (HasCopy e at version q) s = IsUsedSlot s.area e at × IsSpareFor s.area e at version q
-Holds x (HasTable e title) s = s.area.title e ≡ title
+HoldsFact x (HasSlot e at slot) s = IsUsedSlot s.area e at × (s.area.slot at ≡ slot)
+HoldsFact x (HasCopy e at version q) s = IsUsedSlot s.area e at × IsSpareFor s.area e at version q
+HoldsFact x (HasTable e title) s = s.area.title e ≡ title
 
 -- An action is away from a fact: a row is written, reverted or trimmed in another slot, and another
 -- copy is freed; a bucket of another table loses a page; another entry of the catalog is created or

@@ -6,7 +6,7 @@ use Rattle.ctr_records.specs.declared.record.Record.TheVariants.{Checkpoint, Beg
 use Rattle.ctr_redo.specs.States.{State}
 use Rattle.ctr_record_laws.specs.Owed.{loses_head}
 use Rattle.ctr_actions.specs.Sites.{Site, site_of}
-use Rattle.ctr_actions.specs.Actions.{Action, Begins, Allocates, Formats, Links, LinksOlder, Keeps, Writes, Creates, Drops, Commits, Frees, Uncreates, Undrops, Aborts, Reclaims, Reverts, Trims, Cuts, FreesOlder, MakesDead, Unlinks, UnlinksOlder, FreesEntry, Forgets, Checkpoints, Owes, after}
+use Rattle.ctr_actions.specs.Actions.{Action, Begins, Allocates, Formats, Links, LinksOlder, Keeps, Writes, Creates, Drops, Commits, Frees, Uncreates, Undrops, Aborts, Reclaims, Reverts, Trims, Cuts, FreesOlder, MakesDead, Unlinks, UnlinksOlder, FreesEntry, Forgets, Checkpoints, Owes, site_after}
 
 -- The record, with the overlay that it lays; those that lay none have none.
 abbrev pub record_of : ℕ → Action → Site → Overlay → Record
@@ -39,4 +39,4 @@ record_of x (Checkpoints lists) s o = Checkpoint s.tables.next lists
 -- A state is left by an action, which owes nothing more in the one before.
 pub record Does (x : ℕ) (a : Action) (s t : State) : Type 0 where
   pub owed : Owes x a (site_of s)
-  pub leaves : site_of t ≡ after x a (site_of s)
+  pub leaves : site_of t ≡ site_after x a (site_of s)

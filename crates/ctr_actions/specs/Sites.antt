@@ -17,7 +17,7 @@ pub record Site : Type 0 where
 abbrev pub site_of : State → Site
 site_of s = record { counted = s.counted; tables = s.tables; area = area_in s }
 
--- It is sound.
+-- the pages of a site are sound with its tables
 abbrev pub IsSoundSite : Site → Type 0
 IsSoundSite s = IsSoundArea s.counted s.tables s.area
 

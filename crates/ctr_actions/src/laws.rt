@@ -13,9 +13,9 @@ ghost use Rattle.ctr_record_laws.specs.Owed.{RowMove, OwedByRow};
 ghost use Rattle.ctr_record_laws.specs.Loose.{IsSpareFor};
 ghost use Rattle.ctr_record_laws.specs.Shows.{ShowTheSame};
 ghost use Rattle.ctr_actions.specs.Sites.{Site, IsSoundSite, IsSameEngine};
-ghost use Rattle.ctr_actions.specs.Actions.{Action, FreesOlder, MakesDead, Owes, after, IsQuiet, LeavesBounds};
+ghost use Rattle.ctr_actions.specs.Actions.{Action, FreesOlder, MakesDead, Owes, site_after, IsQuietAction, LeavesBounds};
 ghost use Rattle.ctr_actions.specs.Records.{record_of};
-ghost use Rattle.ctr_actions.specs.Facts.{Fact, Holds, IsAway, IsBeside, IsOtherRow, IsOfNoTable};
+ghost use Rattle.ctr_actions.specs.Facts.{Fact, HoldsFact, IsAway, IsBeside, IsOtherRow, IsOfNoTable};
 
 use ctr_record_laws::{
     a_begin_stays_sound, a_commit_stays_sound, a_create_stays_sound, a_cut_ends_its_chain,
@@ -32,8 +32,8 @@ use ctr_record_laws::{
 
 /// What is sound stays so over any action that owes nothing more, and as many pages are counted.
 pub fn an_action_stays_sound()
-    ensures sound { (x : ℕ) (a : Action) (s : Site) → IsInBounds s.area → s.counted ≤ pages_bound → IsSoundSite s → Owes x a s → IsSoundSite (after x a s) }
-    ensures counted { (x : ℕ) (a : Action) (s : Site) → (after x a s).counted ≡ s.counted }
+    ensures sound { (x : ℕ) (a : Action) (s : Site) → IsInBounds s.area → s.counted ≤ pages_bound → IsSoundSite s → Owes x a s → IsSoundSite (site_after x a s) }
+    ensures counted { (x : ℕ) (a : Action) (s : Site) → (site_after x a s).counted ≡ s.counted }
 {
     a_begin_stays_sound();
     an_alloc_stays_sound();
@@ -61,20 +61,20 @@ pub fn an_action_stays_sound()
 /// What it leaves is in its bounds, where an area that it carries is, and a version chain that it links to is that of an entry that
 /// isn't free. Between states that is given.
 pub fn an_action_stays_in_bounds()
-    ensures { (x : ℕ) (a : Action) (s : Site) → IsInBounds s.area → IsSoundSite s → Owes x a s → LeavesBounds a s → IsInBounds (after x a s).area }
+    ensures { (x : ℕ) (a : Action) (s : Site) → IsInBounds s.area → IsSoundSite s → Owes x a s → LeavesBounds a s → IsInBounds (site_after x a s).area }
 {}
 
 /// The record of an action that owes nothing more fits the tables, and its effect is what the action makes of them.
 pub fn an_action_meets_its_needs()
     ensures fits { (x : ℕ) (a : Action) (s : Site) (o : Overlay) → IsInBounds s.area → IsSoundSite s → Owes x a s → needs (record_of x a s o) s.tables ≡ Ok tt }
-    ensures leaves { (x : ℕ) (a : Action) (s : Site) (o : Overlay) → Owes x a s → effect (record_of x a s o) s.tables ≡ (after x a s).tables }
+    ensures leaves { (x : ℕ) (a : Action) (s : Site) (o : Overlay) → Owes x a s → effect (record_of x a s o) s.tables ≡ (site_after x a s).tables }
 {
     a_record_leaves_what_the_next_owes();
 }
 
 /// An action for room, or for a version that no chain has, shows the same.
 pub fn a_quiet_action_shows_the_same()
-    ensures { (x : ℕ) (a : Action) (s : Site) → IsInBounds s.area → s.counted ≤ pages_bound → IsSoundSite s → IsQuiet a → Owes x a s → ShowTheSame s.area (after x a s).area }
+    ensures { (x : ℕ) (a : Action) (s : Site) → IsInBounds s.area → s.counted ≤ pages_bound → IsSoundSite s → IsQuietAction a → Owes x a s → ShowTheSame s.area (site_after x a s).area }
 {
     records_on_pages_show_the_same();
     a_keep_shows_the_same();
@@ -83,7 +83,7 @@ pub fn a_quiet_action_shows_the_same()
 
 /// Nothing that an engine of versions reads changes by it.
 pub fn a_quiet_action_leaves_the_engine()
-    ensures { (x : ℕ) (a : Action) (s : Site) → IsInBounds s.area → s.counted ≤ pages_bound → IsSoundSite s → IsQuiet a → Owes x a s → IsSameEngine s (after x a s) }
+    ensures { (x : ℕ) (a : Action) (s : Site) → IsInBounds s.area → s.counted ≤ pages_bound → IsSoundSite s → IsQuietAction a → Owes x a s → IsSameEngine s (site_after x a s) }
 {
     a_quiet_action_shows_the_same();
 }
@@ -91,7 +91,7 @@ pub fn a_quiet_action_leaves_the_engine()
 /// What a transaction counts on stays over an action that is away from it, and is another's or beside it.
 pub fn what_is_held_stays()
     ensures { (x y : ℕ) (a : Action) (fact : Fact) (s : Site) → IsInBounds s.area → s.counted ≤ pages_bound → IsSoundSite s
-        → Owes y a s → IsAway a fact → IsBeside a fact ⊎ (x ≢ y) → Holds x fact s → Holds x fact (after y a s) }
+        → Owes y a s → IsAway a fact → IsBeside a fact ⊎ (x ≢ y) → HoldsFact x fact s → HoldsFact x fact (site_after y a s) }
 {
     a_spare_copy_stays_spare();
     records_elsewhere_leave_a_slot();
@@ -104,7 +104,7 @@ pub fn what_is_held_stays()
 /// So it stays over the action of another one, of undo or of the cleaner, that is away from it.
 pub fn another_leaves_what_is_held()
     ensures { (x y : ℕ) (a : Action) (fact : Fact) (s : Site) → IsInBounds s.area → s.counted ≤ pages_bound → IsSoundSite s
-        → x ≢ y → Owes y a s → IsAway a fact → Holds x fact s → Holds x fact (after y a s) }
+        → x ≢ y → Owes y a s → IsAway a fact → HoldsFact x fact s → HoldsFact x fact (site_after y a s) }
 {
     what_is_held_stays();
 }
@@ -112,7 +112,7 @@ pub fn another_leaves_what_is_held()
 /// And over its own that is beside it.
 pub fn ones_own_action_leaves_what_is_held()
     ensures { (x : ℕ) (a : Action) (fact : Fact) (s : Site) → IsInBounds s.area → s.counted ≤ pages_bound → IsSoundSite s
-        → Owes x a s → IsAway a fact → IsBeside a fact → Holds x fact s → Holds x fact (after x a s) }
+        → Owes x a s → IsAway a fact → IsBeside a fact → HoldsFact x fact s → HoldsFact x fact (site_after x a s) }
 {
     what_is_held_stays();
 }
@@ -141,7 +141,7 @@ pub fn tables_in_use_stay_live()
 /// Where the file grows, what is sound stays so, and so does what a transaction counts on.
 pub fn growth_keeps_a_site()
     ensures sound { (s : Site) (more : ℕ) → s.counted ≤ more → IsSoundSite s → IsSoundSite (record s { counted = more }) }
-    ensures held { (x : ℕ) (fact : Fact) (s : Site) (more : ℕ) → Holds x fact s → Holds x fact (record s { counted = more }) }
+    ensures held { (x : ℕ) (fact : Fact) (s : Site) (more : ℕ) → HoldsFact x fact s → HoldsFact x fact (record s { counted = more }) }
 {
     growth_stays_sound();
 }

@@ -8,7 +8,7 @@ ghost use Rattle.ctr_walk.specs.OneRecord.{HasRoomForOne, LogsOne};
 ghost use Rattle.ctr_record_effects.specs.States.{pages_in, IsWholePage};
 ghost use Rattle.ctr_record_effects.specs.Changing.{alloc_record, free_record};
 ghost use Rattle.ctr_actions.specs.Sites.{site_of};
-ghost use Rattle.ctr_actions.specs.Actions.{Allocates, Frees, after};
+ghost use Rattle.ctr_actions.specs.Actions.{Allocates, Frees, site_after};
 
 use crate::bits::{with_free, with_taken};
 use ctr_actions::a_logged_record_is_its_action;
@@ -62,7 +62,7 @@ pub fn alloc<D: Disk, O: Origin>(
     requires small { p < MOST_PAGES }
     ensures one { (byte : ℕ) × LogsOne O.first D.Disk (alloc_record x p byte) store.old store.new result }
     // The page is allocated and the transaction's own, and nothing else in the pages and the tables changes.
-    ensures leaves { WhereSound O.first D.Disk (OnOk result (site_of store.new.now ≡ after x (Allocates p) (site_of store.old.now))) }
+    ensures leaves { WhereSound O.first D.Disk (OnOk result (site_of store.new.now ≡ site_after x (Allocates p) (site_of store.old.now))) }
 {
     a_record_behind_a_page::<D, u8, ()>();
     a_logged_record_is_its_action();
@@ -87,7 +87,7 @@ pub fn free<D: Disk, O: Origin>(store: &mut Store<D, O>, p: PageNo) -> Result<()
     requires small { p < MOST_PAGES }
     ensures one { (byte : ℕ) × LogsOne O.first D.Disk (free_record p byte) store.old store.new result }
     // The page is free, the secondary log has it no more, and nothing else in the pages and the tables changes.
-    ensures leaves { (x : ℕ) → WhereSound O.first D.Disk (OnOk result (site_of store.new.now ≡ after x (Frees p) (site_of store.old.now))) }
+    ensures leaves { (x : ℕ) → WhereSound O.first D.Disk (OnOk result (site_of store.new.now ≡ site_after x (Frees p) (site_of store.old.now))) }
 {
     a_record_behind_a_page::<D, u8, ()>();
     a_logged_record_is_its_action();

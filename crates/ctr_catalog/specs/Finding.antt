@@ -69,8 +69,8 @@ changed_in tables s name area e = change_made (change_since tables s) (made_by n
 abbrev pub checks_at : ℕ → (ℕ → List ℕ) → ℕ → Result ⊤ BadRecord
 checks_at counted pages e = entry_check counted (ENTRY_SIZE * (e % 16)) (pages (1 + e / 16))
 
--- Where a search through all entries ends: at the first that is sought, or none is; or at the damage of
--- the first that fails its check, on its page.
+-- Where a search through all entries ends: at the first that is sought, or none is; or at the
+-- damage of the first that fails its check, on its page.
 abbrev pub EndsEntries : (ℕ → Result ⊤ BadRecord) → (ℕ → Bool) → Result (Option ℕ) BadChain → Type 0
 EndsEntries check sought (Ok found) = EndsSearch check sought 0 32 (Ok found)
 EndsEntries check sought (Err (OnPage q bad)) =

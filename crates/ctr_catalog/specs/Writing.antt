@@ -25,9 +25,9 @@ use Rattle.ctr_catalog.specs.Free.{EndsCatalog, is_free_entry}
 abbrev pub HasLowestFree : (ℕ → List ℕ) → Option ℕ → Type 0
 HasLowestFree pages found = IsFirst (is_free_entry (area_of pages)) 0 32 found
 
--- Where the making of a table ends, by the entries of the catalog: it has the lowest free one; or none
--- is free; or one is damaged, as that is told; or there is a free one and its record was refused,
--- for one of the two causes that there are.
+-- Where the making of a table ends, by the entries of the catalog: it has the lowest free one; or
+-- none is free; or one is damaged, as that is told; or there is a free one and its record was
+-- refused, for one of the two causes that there are.
 abbrev pub EndsMaking : {D : Type 0} → (BadChain → StoreFault) → (ℕ → Record) → View D → View D
     → Result ℕ CatalogRefusal → Type 0
 EndsMaking told made a b (Ok e) = HasLowestFree (pages_in a.now) (Some e)
@@ -36,8 +36,8 @@ EndsMaking told made a b (Err (Store cause)) =
     EndsTold told (EndsCatalog a.now.counted (pages_in a.now)) (Err cause)
     ⊎ ((e : ℕ) × HasLowestFree (pages_in a.now) (Some e) × WhyNotLogged (made e) a b cause)
 
--- Its record is logged, by the entry; where no entry is free, or one is damaged, pages were read; where
--- the store refused, nothing is logged.
+-- Its record is logged, by the entry; where no entry is free, or one is damaged, pages were read;
+-- where the store refused, nothing is logged.
 abbrev pub MakesTable : {D : Type 0} → Image → Ghosts D → (ℕ → Record) → View D → View D
     → Result ℕ CatalogRefusal → Type 0
 MakesTable first g made a b (Ok e) = LogsOne {T = ℕ} first g (made e) a b (Ok e)

@@ -8,14 +8,14 @@ ghost use Rattle.ctr_records.specs.declared.decoding.BadRecord.{BadRecord};
 ghost use Rattle.ctr_meta.specs.Tables.{Tables};
 ghost use Rattle.ctr_area.specs.Areas.{Area};
 ghost use Rattle.ctr_area.specs.Sound.{IsSoundArea};
-ghost use Rattle.ctr_names.specs.Search.{IsOfTables, ShowsNames, Looker, IsLooking, IsNumberOf, IsFound, IsNoneFound, finds};
+ghost use Rattle.ctr_names.specs.Search.{IsOfTables, ShowsNames, Looker, IsLooking, IsNumberOf, IsEntryFound, IsNoneFound, finds};
 ghost use Rattle.ctr_catalog.specs.Finding.{EndsEntries, entry_seen, changed_in};
 
 /// The entry that `find` answers is found by the session that looks, and where it answers none, none is.
 pub fn what_find_answers_is_found()
     ensures found { (counted : ℕ) (tables : Tables) (area : Area) (xids : Xids) (look : Looker) (me : Option ℕ) (check : ℕ → Result ⊤ BadRecord) (f : ℕ) → IsSoundArea counted tables area
         → IsOfTables tables xids → IsNumberOf look.session me → EndsEntries check (entry_seen tables look.session.snapshot me look.name area) (Ok (Some f))
-        → IsFound (finds xids look.session) look.name area f }
+        → IsEntryFound (finds xids look.session) look.name area f }
     ensures none { (counted : ℕ) (tables : Tables) (area : Area) (xids : Xids) (look : Looker) (me : Option ℕ) (check : ℕ → Result ⊤ BadRecord) → IsSoundArea counted tables area
         → IsOfTables tables xids → IsNumberOf look.session me → EndsEntries check (entry_seen tables look.session.snapshot me look.name area) (Ok None)
         → IsNoneFound (finds xids look.session) look.name area }

@@ -9,7 +9,7 @@ ghost use Rattle.ctr_area.specs.Changes.{new_title, empty_chains, ChangesEntry};
 ghost use Rattle.ctr_walk.specs.OneRecord.{HasRoomForOne, LogsOne};
 ghost use Rattle.ctr_record_effects.specs.States.{area_in};
 ghost use Rattle.ctr_actions.specs.Sites.{site_of};
-ghost use Rattle.ctr_actions.specs.Actions.{Creates, Drops, Uncreates, Undrops, after, undoing};
+ghost use Rattle.ctr_actions.specs.Actions.{Creates, Drops, Uncreates, Undrops, site_after, undoing};
 ghost use Rattle.ctr_record_effects.specs.Changing.{create_record, drop_record, uncreate_record, undrop_record};
 ghost use Rattle.ctr_records.specs.Members.{ItemFits};
 ghost use Rattle.ctr_walk.specs.Damage.{damage_told};
@@ -76,7 +76,7 @@ fn log_created<D: Disk, O: Origin>(
     requires fits { ColumnsFit schema.now.columns }
     ensures one { LogsOne O.first D.Disk (create_record x entry name.now schema.now.columns) store.old store.new result }
     ensures made { WhereSound O.first D.Disk (OnOk result (ChangesEntry entry (new_title x name.now schema.now.columns) empty_chains (area_in store.old.now) (area_in store.new.now))) }
-    ensures leaves { WhereSound O.first D.Disk (OnOk result (site_of store.new.now ≡ after x (Creates entry name.now schema.now.columns (area_in store.new.now)) (site_of store.old.now))) }
+    ensures leaves { WhereSound O.first D.Disk (OnOk result (site_of store.new.now ≡ site_after x (Creates entry name.now schema.now.columns (area_in store.new.now)) (site_of store.old.now))) }
 {
     a_new_table_has_its_entry();
     a_logged_record_is_its_action();
@@ -108,7 +108,7 @@ pub fn create<D: Disk, O: Origin>(
     // The entry has the title of the new table and no page; other entries and what stands on their pages stay.
     ensures made { WhereSound O.first D.Disk (IfOk result (λ e. ChangesEntry e (new_title x name.now schema.now.columns) empty_chains (area_in store.old.now) (area_in store.new.now))) }
     // There is an item to undo this, and nothing else in the tables changes.
-    ensures leaves { WhereSound O.first D.Disk (IfOk result (λ e. site_of store.new.now ≡ after x (Creates e name.now schema.now.columns (area_in store.new.now)) (site_of store.old.now))) }
+    ensures leaves { WhereSound O.first D.Disk (IfOk result (λ e. site_of store.new.now ≡ site_after x (Creates e name.now schema.now.columns (area_in store.new.now)) (site_of store.old.now))) }
 {
     a_record_behind_a_page::<D, (), u8>();
     let entry = match find_free_entry(store) {
@@ -141,7 +141,7 @@ pub fn drop_table<D: Disk, O: Origin>(
     requires there { entry < 32 }
     ensures one { LogsOne O.first D.Disk (drop_record x entry) store.old store.new result }
     // The transaction is its dropper, there is an item to undo this, and nothing else in the pages and the tables changes.
-    ensures leaves { WhereSound O.first D.Disk (OnOk result (site_of store.new.now ≡ after x (Drops entry) (site_of store.old.now))) }
+    ensures leaves { WhereSound O.first D.Disk (OnOk result (site_of store.new.now ≡ site_after x (Drops entry) (site_of store.old.now))) }
 {
     a_drop_changes_its_title();
     a_logged_record_is_its_action();
@@ -161,7 +161,7 @@ fn uncreate<D: Disk, O: Origin>(store: &mut Store<D, O>, entry: u8) -> Result<()
     requires there { entry < 32 }
     ensures one { LogsOne O.first D.Disk (uncreate_record entry) store.old store.new result }
     ensures leaves { (x : ℕ) → WhereSound O.first D.Disk (((area_in store.old.now).title entry).state ≢ 0
-        → OnOk result (site_of store.new.now ≡ after x (Uncreates entry) (site_of store.old.now))) }
+        → OnOk result (site_of store.new.now ≡ site_after x (Uncreates entry) (site_of store.old.now))) }
 {
     an_uncreate_changes_its_title();
     a_logged_record_is_its_action();
@@ -178,7 +178,7 @@ fn undrop<D: Disk, O: Origin>(store: &mut Store<D, O>, entry: u8) -> Result<(), 
     requires room { HasRoomForOne 0 0 store.old }
     requires there { entry < 32 }
     ensures one { LogsOne O.first D.Disk (undrop_record entry) store.old store.new result }
-    ensures leaves { (x : ℕ) → WhereSound O.first D.Disk (OnOk result (site_of store.new.now ≡ after x (Undrops entry) (site_of store.old.now))) }
+    ensures leaves { (x : ℕ) → WhereSound O.first D.Disk (OnOk result (site_of store.new.now ≡ site_after x (Undrops entry) (site_of store.old.now))) }
 {
     an_undrop_changes_its_title();
     a_logged_record_is_its_action();
@@ -202,7 +202,7 @@ pub fn undo_item<D: Disk, O: Origin>(
     ensures one { (byte : ℕ) × LogsOne O.first D.Disk (undo_record item.now byte) store.old store.new result }
     // What the item says of one page or one title is undone, the item is gone, and nothing else in the pages and the tables changes.
     ensures leaves { (x : ℕ) → WhereSound O.first D.Disk (HasMade item.now (area_in store.old.now)
-        → OnOk result (site_of store.new.now ≡ after x (undoing item.now) (site_of store.old.now))) }
+        → OnOk result (site_of store.new.now ≡ site_after x (undoing item.now) (site_of store.old.now))) }
 {
     match *item {
         SlogItem::AllocOf(_, p) => free(store, p),

@@ -1,4 +1,5 @@
--- What is looked at of the versions of a row: their transactions, 0 for none, and where the next one is.
+-- What is looked at of the versions of a row: their transactions, 0 for none, and where the next
+-- one is.
 use Rattle.std.specs.Prelude.{◌≡◌, ℕ, ◌==◌, List, Option, None, Some, ⊤, Result, Ok, Err, if◌then◌else◌}
 use Rattle.ctr_bytes.specs.Following.{◌>>=◌}
 use Rattle.ctr_records.specs.declared.decoding.BadRecord.{BadRecord}

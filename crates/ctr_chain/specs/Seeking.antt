@@ -1,5 +1,5 @@
--- The search through the versions of a row, as they are read: the head and the previous version in the
--- slot, and the others along the pointers. Each is checked where it is read.
+-- The search through the versions of a row, as they are read: the head and the previous version in
+-- the slot, and the others along the pointers. Each is checked where it is read.
 use Rattle.std.specs.Prelude.{◌≡◌, ◌≢◌, ◌⊎◌, true, false, ℕ, zero, suc, ◌*◌, ◌==◌, Bool, List, Option, None, Some, Result, Ok, Err, if◌then◌else◌}
 use Rattle.std.specs.Option.{option_map}
 use Rattle.ctr_bytes.specs.Following.{◌>>=◌}
@@ -34,8 +34,8 @@ most_entries r =
     most_in_chain r.counted * room_for (kept_size (kinds_width (kinds_at (area_of r.pages) r.entry)))
 
 -- Where the search along the pointers ends, from a place on behind a page, of which so many may be
--- left: at the first version that is sought; at the damage of one; or where there is no more. One too
--- many is damage of the last page that was read.
+-- left: at the first version that is sought; at the damage of one; or where there is no more. One
+-- too many is damage of the last page that was read.
 abbrev pub sought_along : (ℕ → Bool) → EntriesOf → ℕ → ℕ → Place → Result (Option Found) BadChain
 sought_along sought r zero last at =
     if at.page == 0 then Ok None else Err (TooLong last (most_entries r))
@@ -74,8 +74,8 @@ abbrev pub entries_on : ℕ → (ℕ → List ℕ) → ℕ → EntriesOf
 entries_on counted pages p =
     record { counted = counted; pages = pages; entry = owner_of (pages p) }
 
--- The search through the versions of the row at a place: its page and its table's entry of the catalog
--- are read first.
+-- The search through the versions of the row at a place: its page and its table's entry of the
+-- catalog are read first.
 abbrev pub sought_at : (ℕ → Bool) → ℕ → (ℕ → List ℕ) → Place → Result (Option Found) BadChain
 sought_at sought counted pages at =
     row_check_at counted pages at

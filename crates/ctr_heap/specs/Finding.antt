@@ -19,8 +19,8 @@ abbrev pub bucket_sought : (ℕ → List ℕ) → ℕ → ℕ → ℕ → SlotSo
 bucket_sought pages counted e bucket sought =
     chain_sought pages counted (Rows e bucket) (EndsSlots sought)
 
--- Where the search of a bucket ends: at the damage of the table's entry; or the entry passes, and it
--- ends along the bucket's chain.
+-- Where the search of a bucket ends: at the damage of the table's entry; or the entry passes, and
+-- it ends along the bucket's chain.
 abbrev pub EndsBucket : ℕ → (ℕ → List ℕ) → ℕ → ℕ → SlotSought → Result (Option Place) BadChain
     → Type 0
 EndsBucket counted pages e bucket sought result =

@@ -14,9 +14,9 @@ use Rattle.ctr_heap.specs.Writing.{slot_width}
 use Rattle.ctr_heap.specs.declared.ways.Way.{Way}
 use Rattle.ctr_heap.specs.declared.ways.Way.TheVariants.{ReplaceHead, MoveHead, KeepPrevious, KeepHead}
 
--- The table of writes. A head that isn't committed is replaced. A committed one becomes the previous
--- version where the slot has room for one; where there is one already, that is to be kept first.
--- Where it has no room, the head is to be kept first.
+-- The table of writes. A head that isn't committed is replaced. A committed one becomes the
+-- previous version where the slot has room for one; where there is one already, that is to be kept
+-- first. Where it has no room, the head is to be kept first.
 abbrev pub IsWay : Bool → RowSlot → Way → Type 0
 IsWay committed s ReplaceHead = committed ≡ false
 IsWay committed s MoveHead =

@@ -59,7 +59,7 @@ abbrev pub front_record : ℕ → ℕ → ℕ → Option ℕ → Record
 front_record x p e (Some bucket) = link_record x p e bucket
 front_record x p e None = link_older_record x p e
 
--- and that is this action
+-- the action of putting a page in front of a chain of rows, or of the chain of versions
 abbrev pub front_action : ℕ → ℕ → Option ℕ → Action
 front_action p e (Some bucket) = Links p e bucket
 front_action p e None = LinksOlder p e

@@ -12,7 +12,7 @@ ghost use Rattle.ctr_record_effects.specs.States.{pages_in, area_in};
 ghost use Rattle.ctr_record_effects.specs.Changing.{format_record};
 ghost use Rattle.ctr_record_laws.specs.Owed.{RowMove};
 ghost use Rattle.ctr_actions.specs.Sites.{site_of};
-ghost use Rattle.ctr_actions.specs.Actions.{Formats, Writes, after};
+ghost use Rattle.ctr_actions.specs.Actions.{Formats, Writes, site_after};
 ghost use Rattle.ctr_heap.specs.Writing.{LiesOnPage, row_record, HasPlaceFor, LaysMove, front_place, front_record, front_action, IsOfTable};
 
 use ctr_actions::a_logged_record_is_its_action;
@@ -64,7 +64,7 @@ pub fn format<D: Disk, O: Origin>(
     requires fits { IsHeader header.now }
     ensures one { LogsOne O.first D.Disk (format_record x p header.now) store.old store.new result }
     // It has the header, nothing is used on it, and nothing else in the pages and the tables changes.
-    ensures leaves { WhereSound O.first D.Disk (3 ≤ p → OnOk result (site_of store.new.now ≡ after x (Formats p header.now) (site_of store.old.now))) }
+    ensures leaves { WhereSound O.first D.Disk (3 ≤ p → OnOk result (site_of store.new.now ≡ site_after x (Formats p header.now) (site_of store.old.now))) }
 {
     a_logged_record_is_its_action();
     a_format_clears_its_page();
@@ -97,7 +97,7 @@ pub fn put_slot<D: Disk, O: Origin>(
         → OnOk result (area_in store.new.now ≡ with_slot place (slot_said (columns_on (pages_in store.old.now) place.page) slot.now) (area_in store.old.now))) }
     // Where that is the slot that a move leaves, this is the move, and heads are counted so.
     ensures leaves { WhereSound O.first D.Disk (HasPlaceFor (pages_in store.old.now) place slot.now → (m : RowMove) → LaysMove store.old.now x over place slot.now m
-        → OnOk result (site_of store.new.now ≡ after x (Writes m) (site_of store.old.now))) }
+        → OnOk result (site_of store.new.now ≡ site_after x (Writes m) (site_of store.old.now))) }
 {
     a_slot_is_laid();
     a_logged_record_is_its_action();
@@ -150,7 +150,7 @@ pub fn link<D: Disk, O: Origin>(
     ensures one { LogsOne O.first D.Disk (front_record x p entry bucket) store.old store.new result }
     // The chain begins with the page, which is the transaction's own no more, and nothing else in the pages and the tables changes.
     ensures leaves { WhereSound O.first D.Disk (IsOfTable (pages_in store.old.now) entry
-        → OnOk result (site_of store.new.now ≡ after x (front_action p entry bucket) (site_of store.old.now))) }
+        → OnOk result (site_of store.new.now ≡ site_after x (front_action p entry bucket) (site_of store.old.now))) }
 {
     a_logged_record_is_its_action();
     a_link_changes_its_chain();

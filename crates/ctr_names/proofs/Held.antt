@@ -20,7 +20,7 @@ use Rattle.ctr_area.specs.Areas.{Title}
 use Rattle.ctr_area.specs.Sound.{IsSchemaItem}
 use Rattle.ctr_record_laws.specs.Owed.{IsNameFreeFor}
 use Rattle.ctr_record_laws.proofs.Named.{IsOfPage, alloc_of_page, free_of_page}
-use Rattle.ctr_names.specs.Held.{HoldsNames, IsHeldBy, names_of_items}
+use Rattle.ctr_names.specs.Held.{HoldsNames, IsNameHeldBy, names_of_items}
 use Rattle.ctr_names.proofs.Items.{behind_page, create_or, drop_or, further}
 
 none_found : {X : Type 0} (s : ℕ) (x : X) → find nat_cmp s [] ≡ Some x → ⊥
@@ -89,15 +89,15 @@ name_alone items title sessions state s session name held at free others y f ite
 -- ---- over a record
 
 module _ (old new : List SlogItem) (title now : ℕ → Title) (sessions next : List (ℕ × SessionHeld)) (before after : State)
-    (back : (y f : ℕ) → IsSchemaItem y f new → (IsSchemaItem y f old × ((now f).name ≡ (title f).name)) ⊎ IsHeldBy next after y (now f).name)
-    (held : (y f : ℕ) → IsSchemaItem y f new → IsHeldBy sessions before y (title f).name → IsHeldBy next after y (title f).name)
+    (back : (y f : ℕ) → IsSchemaItem y f new → (IsSchemaItem y f old × ((now f).name ≡ (title f).name)) ⊎ IsNameHeldBy next after y (now f).name)
+    (held : (y f : ℕ) → IsSchemaItem y f new → IsNameHeldBy sessions before y (title f).name → IsNameHeldBy next after y (title f).name)
     (nobodys : (y f : ℕ) → IsSchemaItem y f old → IsNoSessions sessions y → IsNoSessions next y) where
   -- recovery holds what it held: each item that is nobody's is still there
   pub holds_moved : ((y f : ℕ) → IsSchemaItem y f old → IsNoSessions sessions y → IsSchemaItem y f new × ((now f).name ≡ (title f).name)) → after.stuck ≡ before.stuck → HoldsNames old title sessions before → HoldsNames new now next after
   holds_moved still stuck holds = record {
     owned = λ y f item. ⊎_elim
         (λ was. ⊎_elim
-        (λ its. inl (subst (IsHeldBy next after y) (sym was.1) (held y f item its)))
+        (λ its. inl (subst (IsNameHeldBy next after y) (sym was.1) (held y f item its)))
         (λ its. inr (nobodys y f was.0 its.0, (λ i. has_name (was.1 i) (stuck i)) ∙ its.1))
         (holds.owned y f was.0))
         (λ its. inl its) (back y f item);
@@ -111,7 +111,7 @@ module _ (old new : List SlogItem) (title now : ℕ → Title) (sessions next : 
   holds_released name still last stuck holds = record {
     owned = λ y f item. ⊎_elim
         (λ was. ⊎_elim
-        (λ its. inl (subst (IsHeldBy next after y) (sym was.1) (held y f item its)))
+        (λ its. inl (subst (IsNameHeldBy next after y) (sym was.1) (held y f item its)))
         (λ its. inr (nobodys y f was.0 its.0, (λ i. has_name (was.1 i) (stuck i)) ∙ has_without (title f).name before.stuck its.1 (last y f item its.0)))
         (holds.owned y f was.0))
         (λ its. inl its) (back y f item);

@@ -23,7 +23,7 @@ use Rattle.ctr_area.specs.Areas.{Title}
 use Rattle.ctr_area.specs.Sound.{IsSchemaItem}
 use Rattle.ctr_record_laws.proofs.Members.{among_front, among_parts}
 use Rattle.ctr_record_laws.proofs.Named.{IsOfPage, alloc_of_page, free_of_page}
-use Rattle.ctr_names.specs.Held.{HaveSameTables, HoldsNames, IsHeldBy}
+use Rattle.ctr_names.specs.Held.{HaveSameTables, HoldsNames, IsNameHeldBy}
 use Rattle.ctr_names.proofs.Held.{holds_moved, holds_released}
 use Rattle.ctr_names.proofs.Items.{left_fewer, left_keeps, schema_map}
 
@@ -62,8 +62,8 @@ freed_items p items = out_items (OfPage p) items (λ y f. refl) (λ y f. refl)
 -- who holds a name does so still, where that is another session, or this one does
 pub held_moved : (s y : ℕ) (name : List ℕ) (sessions next : List (ℕ × SessionHeld)) (state after : State)
     → ((r : ℕ) → (r == s) ≡ false → find nat_cmp r next ≡ find nat_cmp r sessions) → ((r : ℕ) → (r == s) ≡ false → find nat_cmp r after.sessions ≡ find nat_cmp r state.sessions)
-    → ((a : SessionHeld) (t : Transaction) → find nat_cmp s sessions ≡ Some a → find nat_cmp s state.sessions ≡ Some t → a.me ≡ y → has_name name t.holds ≡ true → IsHeldBy next after y name)
-    → IsHeldBy sessions state y name → IsHeldBy next after y name
+    → ((a : SessionHeld) (t : Transaction) → find nat_cmp s sessions ≡ Some a → find nat_cmp s state.sessions ≡ Some t → a.me ≡ y → has_name name t.holds ≡ true → IsNameHeldBy next after y name)
+    → IsNameHeldBy sessions state y name → IsNameHeldBy next after y name
 held_moved s y name sessions next state after others transactions here its = known (its.s == s)
     (λ one. let same = eqb-true its.s s one in
     here its.session its.t (ap (λ q. find nat_cmp q sessions) (sym same) ∙ its.at) (ap (λ q. find nat_cmp q state.sessions) (sym same) ∙ its.is_t) its.me its.holds)
@@ -92,7 +92,7 @@ module _ (items : List SlogItem) (title : ℕ → Title) (sessions : List (ℕ �
   -- a session moves, with the items as they were
   pub holds_session : (s : ℕ) (next : List (ℕ × SessionHeld)) (after : State)
       → ((r : ℕ) → (r == s) ≡ false → find nat_cmp r next ≡ find nat_cmp r sessions) → ((r : ℕ) → (r == s) ≡ false → find nat_cmp r after.sessions ≡ find nat_cmp r state.sessions)
-      → ((y f : ℕ) (a : SessionHeld) (t : Transaction) → IsSchemaItem y f items → find nat_cmp s sessions ≡ Some a → find nat_cmp s state.sessions ≡ Some t → a.me ≡ y → has_name (title f).name t.holds ≡ true → IsHeldBy next after y (title f).name)
+      → ((y f : ℕ) (a : SessionHeld) (t : Transaction) → IsSchemaItem y f items → find nat_cmp s sessions ≡ Some a → find nat_cmp s state.sessions ≡ Some t → a.me ≡ y → has_name (title f).name t.holds ≡ true → IsNameHeldBy next after y (title f).name)
       → ((y f : ℕ) (b : SessionHeld) → IsSchemaItem y f items → IsNoSessions sessions y → find nat_cmp s next ≡ Some b → b.me ≡ y → ⊥)
       → after.stuck ≡ state.stuck → HoldsNames items title next after
   holds_session s next after others transactions here none stuck = holds_moved items items title title sessions next state after
@@ -146,9 +146,9 @@ module _ (items : List SlogItem) (title : ℕ → Title) (sessions : List (ℕ �
 
   -- a session that holds the name makes or drops a table of it
   pub holds_more : (i : SlogItem) (x e : ℕ) (now : ℕ → Title) → ((y f : ℕ) → IsSchemaItem y f (items ++ i ∷ []) → IsSchemaItem y f items ⊎ ((y ≡ x) × (f ≡ e))) → ((y f : ℕ) → IsSchemaItem y f items → (now f).name ≡ (title f).name)
-      → IsHeldBy sessions state x (now e).name → HoldsNames (items ++ i ∷ []) now sessions state
+      → IsNameHeldBy sessions state x (now e).name → HoldsNames (items ++ i ∷ []) now sessions state
   holds_more i x e now parts names mine = holds_moved items (items ++ i ∷ []) title now sessions sessions state state
-      (λ y f item. ⊎_elim (λ was. inl (was, names y f was)) (λ here. inr (subst (λ z. IsHeldBy sessions state z (now f).name) (sym here.0) (subst (λ g. IsHeldBy sessions state x (now g).name) (sym here.1) mine))) (parts y f item))
+      (λ y f item. ⊎_elim (λ was. inl (was, names y f was)) (λ here. inr (subst (λ z. IsNameHeldBy sessions state z (now f).name) (sym here.0) (subst (λ g. IsNameHeldBy sessions state x (now g).name) (sym here.1) mine))) (parts y f item))
       (λ y f item its. its) (λ y f item its. its)
       (λ y f item its. (schema_map y f items (items ++ i ∷ []) (λ c. among_front (CreateOf y f) items (i ∷ []) c) (λ d. among_front (DropOf y f) items (i ∷ []) d) item, names y f item)) refl holds
 
@@ -165,7 +165,7 @@ module _ (items : List SlogItem) (title : ℕ → Title) (sessions : List (ℕ �
       → IsSchemaItem z g new → (title g).name ≡ name → IsNoSessions sessions z → HoldsNames new now sessions state
   holds_fewer new now name z g back still names item is nobodys = record {
     owned = λ y f item. ⊎_elim
-        (λ its. inl (subst (IsHeldBy sessions state y) (sym (names y f (back y f item))) its))
+        (λ its. inl (subst (IsNameHeldBy sessions state y) (sym (names y f (back y f item))) its))
         (λ its. inr (its.0, ap (λ n. has_name n state.stuck) (names y f (back y f item)) ∙ its.1))
         (holds.owned y f (back y f item));
     left = λ other has_. let one = holds.left other has_ in

@@ -13,7 +13,7 @@ use Rattle.ctr_area.specs.Areas.{Title}
 use Rattle.ctr_area.specs.Sound.{IsSchemaItem}
 
 -- a session has this number, and its transaction holds the name
-pub record IsHeldBy (sessions : List (ℕ × SessionHeld)) (state : State) (y : ℕ) (name : List ℕ)
+pub record IsNameHeldBy (sessions : List (ℕ × SessionHeld)) (state : State) (y : ℕ) (name : List ℕ)
     : Type 0 where
   pub s : ℕ
   pub session : SessionHeld
@@ -28,7 +28,7 @@ pub record IsHeldBy (sessions : List (ℕ × SessionHeld)) (state : State) (y : 
 pub record HoldsNames (items : List SlogItem) (title : ℕ → Title)
     (sessions : List (ℕ × SessionHeld)) (state : State) : Type 0 where
   pub owned : (y f : ℕ) → IsSchemaItem y f items
-      → IsHeldBy sessions state y (title f).name
+      → IsNameHeldBy sessions state y (title f).name
       ⊎ (IsNoSessions sessions y × (has_name (title f).name state.stuck ≡ true))
   pub left : (name : List ℕ) → has_name name state.stuck ≡ true
       → (y : ℕ) × (f : ℕ) × IsSchemaItem y f items × ((title f).name ≡ name)

@@ -58,8 +58,8 @@ IsNumberOf session None = session.me ≡ 0
 IsNumberOf session (Some me) = me ≡ session.me
 
 -- An entry of the catalog is the live one of a name that stands by a test of who is seen.
-abbrev pub IsFound : (ℕ → Bool) → List ℕ → Area → ℕ → Type 0
-IsFound sees name area f = (f < 32) × (is_named_so name (f, area.title f) ≡ true)
+abbrev pub IsEntryFound : (ℕ → Bool) → List ℕ → Area → ℕ → Type 0
+IsEntryFound sees name area f = (f < 32) × (is_named_so name (f, area.title f) ≡ true)
     × (is_standing sees (area.title f) ≡ true)
 
 -- No entry of the catalog is the live one of a name that stands by a test of who is seen.

@@ -6,14 +6,14 @@ use Rattle.ctr_meta.specs.Tables.{Tables}
 use Rattle.ctr_area.specs.Images.{is_committed_in}
 
 -- all versions are by transactions that pass
-abbrev pub AllPass : (ℕ → Bool) → List (ℕ × Option Made) → Type 0
-AllPass test chain = AllByRecursion (λ (v : ℕ × Option Made). test v.0 ≡ true) chain
+abbrev pub AllVersionsPass : (ℕ → Bool) → List (ℕ × Option Made) → Type 0
+AllVersionsPass test chain = AllByRecursion (λ (v : ℕ × Option Made). test v.0 ≡ true) chain
 
 -- A chain is of committed versions alone, or has one version of this transaction in front of such.
 abbrev pub HasOwnInFront : (ℕ → Bool) → ℕ → List (ℕ × Option Made) → Type 0
-HasOwnInFront committed x chain = AllPass committed chain
+HasOwnInFront committed x chain = AllVersionsPass committed chain
     ⊎ ((v : Option Made) × (rest : List (ℕ × Option Made)) × (chain ≡ (x, v) ∷ rest)
-    × AllPass committed rest)
+    × AllVersionsPass committed rest)
 
 -- A transaction's version in front of a name's chain goes, or becomes another of the transaction's.
 pub record LosesOwn (x : ℕ) (old new : Versions) (name : List ℕ) : Type 0 where

@@ -16,13 +16,13 @@ ghost use Rattle.ctr_area.specs.Sound.{IsAmong, IsSoundArea, xids_in, stands_for
 ghost use Rattle.ctr_record_laws.specs.Bounds.{IsInBounds};
 ghost use Rattle.ctr_record_laws.specs.Owed.{AgreeOnCommits, IsNameFreeFor};
 ghost use Rattle.ctr_names.specs.Stand.{NamesStand};
-ghost use Rattle.ctr_names.specs.Search.{IsOfTables, ShowsNames, Looker, IsLooking, finds, IsNumberOf, IsFound, IsNoneFound, is_changed_for};
+ghost use Rattle.ctr_names.specs.Search.{IsOfTables, ShowsNames, Looker, IsLooking, finds, IsNumberOf, IsEntryFound, IsNoneFound, is_changed_for};
 
 /// The entry of a name that stands at a commit number from the low one on is what the chain shows there, and where none
 /// stands it shows none, whatever the order in which entries are looked at.
 pub fn what_stands_at_a_number_is_shown()
     ensures found { (low : ℕ) (tables : Tables) (area : Area) (number : Numbers) (j : ℕ) (name : List ℕ) (f : ℕ) → AgreeOnCommits number tables
-        → NamesStand low number area.title → low ≤ j → IsFound (by number j) name area f
+        → NamesStand low number area.title → low ≤ j → IsEntryFound (by number j) name area f
         → value_seen (by number j) (names_at (versions_in (is_committed_in tables) area) name) ≡ Some (made_by_entry (f, area.title f)) }
     ensures none { (low : ℕ) (tables : Tables) (area : Area) (number : Numbers) (j : ℕ) (name : List ℕ) → AgreeOnCommits number tables
         → NamesStand low number area.title → low ≤ j → IsNoneFound (by number j) name area
@@ -35,7 +35,7 @@ pub fn what_a_session_finds_is_shown()
     ensures test { (counted : ℕ) (tables : Tables) (area : Area) (xids : Xids) (session : SessionHeld) (me : Option ℕ) (x : ℕ) → IsSoundArea counted tables area
         → IsOfTables tables xids → IsNumberOf session me → xid_is_seen tables session.snapshot me x ≡ finds xids session x }
     ensures found { (counted low : ℕ) (tables : Tables) (area : Area) (xids : Xids) (state : State) (look : Looker) (f : ℕ) → IsSoundArea counted tables area
-        → IsInBounds area → ShowsNames low tables area xids state → IsLooking low tables area xids state look → IsFound (finds xids look.session) look.name area f
+        → IsInBounds area → ShowsNames low tables area xids state → IsLooking low tables area xids state look → IsEntryFound (finds xids look.session) look.name area f
         → value_seen (session_sees xids look.session) (names_at (versions_in (is_committed_in tables) area) look.name) ≡ Some (made_by_entry (f, area.title f)) }
     ensures none { (counted low : ℕ) (tables : Tables) (area : Area) (xids : Xids) (state : State) (look : Looker) → IsSoundArea counted tables area
         → IsInBounds area → ShowsNames low tables area xids state → IsLooking low tables area xids state look → IsNoneFound (finds xids look.session) look.name area
@@ -45,7 +45,7 @@ pub fn what_a_session_finds_is_shown()
 /// The session's view has the table that is found, and none of the name where none is.
 pub fn the_view_has_what_is_found()
     ensures found { (counted low : ℕ) (tables : Tables) (area : Area) (xids : Xids) (state : State) (look : Looker) (f : ℕ) → IsSoundArea counted tables area
-        → IsInBounds area → ShowsNames low tables area xids state → IsLooking low tables area xids state look → IsFound (finds xids look.session) look.name area f
+        → IsInBounds area → ShowsNames low tables area xids state → IsLooking low tables area xids state look → IsEntryFound (finds xids look.session) look.name area f
         → schema_named (view state look.t) look.name ≡ Some (made_by_entry (f, area.title f)).schema }
     ensures none { (counted low : ℕ) (tables : Tables) (area : Area) (xids : Xids) (state : State) (look : Looker) → IsSoundArea counted tables area
         → IsInBounds area → ShowsNames low tables area xids state → IsLooking low tables area xids state look → IsNoneFound (finds xids look.session) look.name area
@@ -58,7 +58,7 @@ pub fn a_held_name_can_be_made_or_dropped()
     ensures drop { (counted low : ℕ) (tables : Tables) (area : Area) (xids : Xids) (state : State) (look : Looker) (f : ℕ) → IsSoundArea counted tables area
         → IsInBounds area → ShowsNames low tables area xids state → IsLooking low tables area xids state look
         → IsNameFreeFor look.session.me tables.items area.title look.name → changed_since look.t.snapshot (schema_writes look.name state.asked) ≡ None
-        → IsFound (finds xids look.session) look.name area f → (area.title f).dropper ≡ 0 }
+        → IsEntryFound (finds xids look.session) look.name area f → (area.title f).dropper ≡ 0 }
     ensures create { (counted low : ℕ) (tables : Tables) (area : Area) (xids : Xids) (state : State) (look : Looker) (f : ℕ) → IsSoundArea counted tables area
         → IsInBounds area → ShowsNames low tables area xids state → IsLooking low tables area xids state look
         → IsAmong look.session.me (xids_in tables.opens) → IsNameFreeFor look.session.me tables.items area.title look.name

@@ -14,7 +14,7 @@ ghost use Rattle.ctr_versions.specs.Laws.{IsNoSessions};
 ghost use Rattle.ctr_area.specs.Areas.{Title};
 ghost use Rattle.ctr_area.specs.Sound.{IsSchemaItem};
 ghost use Rattle.ctr_record_laws.specs.Owed.{IsNameFreeFor};
-ghost use Rattle.ctr_names.specs.Held.{IsHeldBy, HoldsNames, names_of_items, HaveSameTables, KeepNames};
+ghost use Rattle.ctr_names.specs.Held.{IsNameHeldBy, HoldsNames, names_of_items, HaveSameTables, KeepNames};
 
 /// As a run begins recovery keeps the names of all items.
 pub fn recovery_keeps_the_names_of_items()
@@ -56,7 +56,7 @@ pub fn names_are_kept_over_items()
         → HaveSameTables items new → KeepNames items title now → HoldsNames new now sessions state }
     ensures more { (items : List SlogItem) (title now : ℕ → Title) (sessions : List (ℕ × SessionHeld)) (state : State) (i : SlogItem) (x e : ℕ) → HoldsNames items title sessions state
         → ((y f : ℕ) → IsSchemaItem y f (items ++ i ∷ []) → IsSchemaItem y f items ⊎ ((y ≡ x) × (f ≡ e))) → KeepNames items title now
-        → IsHeldBy sessions state x (now e).name → HoldsNames (items ++ i ∷ []) now sessions state }
+        → IsNameHeldBy sessions state x (now e).name → HoldsNames (items ++ i ∷ []) now sessions state }
     ensures less { (items new : List SlogItem) (title now : ℕ → Title) (sessions : List (ℕ × SessionHeld)) (state : State) (s : ℕ) (a : SessionHeld) → HoldsNames items title sessions state
         → find nat_cmp s sessions ≡ Some a → ((y f : ℕ) → IsSchemaItem y f new → IsSchemaItem y f items)
         → ((y f : ℕ) → (y ≡ a.me → ⊥) → IsSchemaItem y f items → IsSchemaItem y f new) → KeepNames items title now → HoldsNames new now sessions state }

@@ -85,8 +85,8 @@ EndsAt check pages at (Err bad) = check ≡ Err bad
 
 -- ---- slots
 
--- The slot of a number on a page of rows of an entry of the catalog: the header, where the bucket is
--- the one that it says; the number; the slot.
+-- The slot of a number on a page of rows of an entry of the catalog: the header, where the bucket
+-- is the one that it says; the number; the slot.
 abbrev pub row_on_check : ℕ → ℕ → List Kind → ℕ → List ℕ → Result ⊤ BadRecord
 row_on_check counted e kinds number page = do
   header ← header_check (Rows e (field 1 BUCKET_AT page)) counted page

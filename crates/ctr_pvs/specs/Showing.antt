@@ -7,7 +7,7 @@ use Rattle.ctr_area.specs.Areas.{RowVersion, Slot, Older}
 use Rattle.ctr_area.specs.Reading.{older_said, columns_on}
 use Rattle.ctr_record_laws.specs.Owed.{OwedByKeep, older_copy, IsSpareCopy}
 use Rattle.ctr_record_effects.specs.States.{pages_in, area_in}
-use Rattle.ctr_record_effects.specs.Standing.{HasSoundArea, ShowsTheSame}
+use Rattle.ctr_record_effects.specs.Standing.{HasSoundArea, ShowsAlike}
 use Rattle.ctr_pvs.specs.Writing.{HasPlaceOfVersion}
 
 -- a version entry by the columns of the page that it is laid on
@@ -24,7 +24,7 @@ pub record MayKeep (s : State) (e : ℕ) (at : Place) (entry : VersionEntry) : T
 -- All is shown as before; and where it is a version of a slot of the table, it is a spare copy
 -- there.
 pub record KeepsVersion (e : ℕ) (at : Place) (entry : VersionEntry) (old new : State) : Type 0 where
-  pub shows : ShowsTheSame old new
+  pub shows : ShowsAlike old new
   pub spare : (slot : Slot) (version : RowVersion)
       → older_laid old at entry ≡ older_copy slot version
       → IsSpareCopy (area_in new) e slot version at

@@ -24,8 +24,8 @@ there_check header counted p = do
   passes ← header
   if nat_lt p 3 then Err (wrong 0 3 p) else Ok tt
 
--- The check that a page is there, of the kind that is wanted, and names one of the 32 entries of the
--- catalog.
+-- The check that a page is there, of the kind that is wanted, and names one of the 32 entries of
+-- the catalog.
 abbrev pub owner_check : ℕ → ℕ → ℕ → List ℕ → Result ⊤ BadRecord
 owner_check kind counted p page =
     there_check (expect KIND_AT kind (field 1 KIND_AT page)) counted p
@@ -76,8 +76,8 @@ OwnerSaid kind counted p page (Err bad) = owner_check kind counted p page ≡ Er
 abbrev pub TableFits : TableOf → Type 0
 TableFits t = (t.entry < 32) × (t.count ≤ 7)
 
--- The table of a page: the entry that the page names, and the kinds of its columns behind the key; or
--- what is wrong on the way there.
+-- The table of a page: the entry that the page names, and the kinds of its columns behind the key;
+-- or what is wrong on the way there.
 abbrev pub TableSaid : ℕ → ℕ → (ℕ → List ℕ) → ℕ → Result TableOf BadChain → Type 0
 TableSaid kind counted pages p (Ok t) =
     (table_check kind counted pages p ≡ Ok tt) × (t.entry ≡ owner_of (pages p))

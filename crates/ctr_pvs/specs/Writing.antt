@@ -62,8 +62,8 @@ blank_entry w = record {
 abbrev pub blank_record : Place → ℕ → Record
 blank_record at w = Trim (laid_on_place at (kept_size w) (kept_bytes (blank_entry w)))
 
--- What is wrong on the way to a version entry that is to be freed: its page, the table's entry of the
--- catalog, its number. What stands in it isn't looked at.
+-- What is wrong on the way to a version entry that is to be freed: its page, the table's entry of
+-- the catalog, its number. What stands in it isn't looked at.
 abbrev pub drop_check : ℕ → (ℕ → List ℕ) → Place → Result ⊤ BadChain
 drop_check counted pages at =
     table_check 2 counted pages at.page

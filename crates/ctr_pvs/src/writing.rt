@@ -14,9 +14,9 @@ ghost use Rattle.ctr_store.specs.Store.{LeavesPage};
 ghost use Rattle.ctr_record_effects.specs.States.{pages_in, area_in};
 ghost use Rattle.ctr_pvs.specs.Reading.{EndsAt};
 ghost use Rattle.ctr_record_laws.specs.Owed.{IsInNoChain};
-ghost use Rattle.ctr_record_effects.specs.Standing.{HasSoundArea, ShowsTheSame};
+ghost use Rattle.ctr_record_effects.specs.Standing.{HasSoundArea, ShowsAlike};
 ghost use Rattle.ctr_actions.specs.Sites.{site_of};
-ghost use Rattle.ctr_actions.specs.Actions.{Keeps, FreesOlder, after};
+ghost use Rattle.ctr_actions.specs.Actions.{Keeps, FreesOlder, site_after};
 ghost use Rattle.ctr_pvs.specs.Showing.{older_laid, MayKeep, KeepsVersion};
 ghost use Rattle.ctr_pvs.specs.Writing.{EntryLies, keep_record, HasPlaceOfVersion, blank_entry, blank_record, drop_check, DropsEntry};
 
@@ -54,7 +54,7 @@ pub fn keep<D: Disk, O: Origin>(
     ensures one { LogsOne O.first D.Disk (keep_record x place version.now) store.old store.new result }
     // The version entry at the place is this one, and nothing else in the pages and the tables changes.
     ensures leaves { WhereSound O.first D.Disk ((e : ℕ) → HasPlaceOfVersion (pages_in store.old.now) place version.now
-        → OnOk result (site_of store.new.now ≡ after x (Keeps e place (older_laid store.old.now place version.now)) (site_of store.old.now))) }
+        → OnOk result (site_of store.new.now ≡ site_after x (Keeps e place (older_laid store.old.now place version.now)) (site_of store.old.now))) }
     // In a sound state nothing else is shown than before.
     ensures shows { WhereSound O.first D.Disk ((e : ℕ) → MayKeep store.old.now e place version.now → OnOk result (KeepsVersion e place version.now store.old.now store.new.now)) }
 {
@@ -148,10 +148,10 @@ pub fn free_entry<D: Disk, O: Origin>(
     ensures ends { WhereSound O.first D.Disk (EndsTold (damage_told D.Disk store.new) (λ r. r ≡ drop_check store.old.now.counted (pages_in store.old.now) place) result) }
     ensures one { DropsEntry O.first D.Disk place store.old store.new result }
     // The version entry isn't used, and nothing else in the pages and the tables changes.
-    ensures leaves { (x e : ℕ) → WhereSound O.first D.Disk (OnOk result (site_of store.new.now ≡ after x (FreesOlder e place) (site_of store.old.now))) }
+    ensures leaves { (x e : ℕ) → WhereSound O.first D.Disk (OnOk result (site_of store.new.now ≡ site_after x (FreesOlder e place) (site_of store.old.now))) }
     // Where no chain has it, nothing else is shown than before.
     ensures shows { WhereSound O.first D.Disk (HasSoundArea store.old.now → IsInNoChain (area_in store.old.now) place
-        → OnOk result (ShowsTheSame store.old.now store.new.now)) }
+        → OnOk result (ShowsAlike store.old.now store.new.now)) }
 {
     a_logged_record_is_its_action();
     a_free_entry_shows_the_same();

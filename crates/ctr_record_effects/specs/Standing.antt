@@ -15,7 +15,7 @@ HasSoundArea s = IsSoundArea s.counted s.tables (area_in s)
 
 -- A state is sound, with the tables of another one, and shows the same: the chains of names and
 -- rows, and the rows of an image, whoever is committed.
-pub record ShowsTheSame (old new : State) : Type 0 where
+pub record ShowsAlike (old new : State) : Type 0 where
   pub versions : (committed : ℕ → Bool)
       → versions_in committed (area_in new) ≡ versions_in committed (area_in old)
   pub rows : (committed : ℕ → Bool)
@@ -25,15 +25,15 @@ pub record ShowsTheSame (old new : State) : Type 0 where
 
 -- A state that a database may be in: no check of its pages fails wherever a chain leads, they are
 -- sound with its tables, no more are counted than there may be, and a transaction can be drawn.
-pub record IsSoundState (s : State) : Type 0 where
+pub record IsDatabaseState (s : State) : Type 0 where
   pub passed : ArePassed s.counted (pages_in s)
   pub sound : HasSoundArea s
   pub few : s.counted ≤ pages_bound
   pub some : 0 < s.tables.next
 
--- An image stands for a database, in this state. Its root, its log of one or two generations and its
--- homes are whole and fold to the state, where a second generation's Checkpoint is the tables before
--- it; and the state is sound.
+-- An image stands for a database, in this state. Its root, its log of one or two generations and
+-- its homes are whole and fold to the state, where a second generation's Checkpoint is the tables
+-- before it; and the state is sound.
 pub record StandsForDatabase (image : Image) (s : State) : Type 0 where
   pub folds : FoldsTo image s
-  pub sound : IsSoundState s
+  pub sound : IsDatabaseState s

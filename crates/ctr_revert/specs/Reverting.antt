@@ -42,7 +42,8 @@ behind_head next slot None =
     if next.used then record slot { head = next.version; pointer = next.pointer } else free_slot
 
 -- The slot whose head gives way to the next version of its chain: the previous one; or that of the
--- version entry at its pointer, which isn't in the chain any more; where there is neither, it is free.
+-- version entry at its pointer, which isn't in the chain any more; where there is neither, it is
+-- free.
 abbrev pub without_head : (Place → Older) → Slot → Slot
 without_head older slot = behind_head (older slot.pointer) slot slot.previous
 
@@ -217,8 +218,8 @@ pub record LiesThere (number : ℕ) (l : SlotLaid) : Type 0 where
   pub small : slot_size l.w ≤ 2072
   pub inside : start_of (slot_size l.w) number + slot_size l.w ≤ PAGE_SIZE
 
--- Where the call ends: all passes; or what is wrong is told; or all passes, and the record that takes
--- the head was refused.
+-- Where the call ends: all passes; or what is wrong is told; or all passes, and the record that
+-- takes the head was refused.
 abbrev pub EndsReverting : {D : Type 0} → (BadChain → StoreFault) → Place → View D → View D
     → Result ⊤ StoreFault → Type 0
 EndsReverting told at a b (Ok x) = revert_check a.now.counted (pages_in a.now) at ≡ Ok tt

@@ -15,7 +15,7 @@ ghost use Rattle.ctr_record_effects.specs.States.{pages_in, area_in};
 ghost use Rattle.ctr_area.specs.Sound.{IsUsedSlot};
 ghost use Rattle.ctr_record_laws.specs.Owed.{Reverting, FitsReverting, OwedByRevert};
 ghost use Rattle.ctr_actions.specs.Sites.{site_of};
-ghost use Rattle.ctr_actions.specs.Actions.{Reverts, after};
+ghost use Rattle.ctr_actions.specs.Actions.{Reverts, site_after};
 ghost use Rattle.ctr_record_effects.specs.Standing.{HasSoundArea};
 ghost use Rattle.ctr_revert.specs.Taking.{TakesHead};
 ghost use Rattle.ctr_revert.specs.Reverting.{without_head, KeepsKey, lost_record, SlotSaidFrom, EntrySaidFrom, BytesSaid, EndsRow, LiesThere, EndsReverting, RevertsRow};
@@ -192,7 +192,7 @@ pub fn revert_row<D: Disk, O: Origin>(
     // In a sound state, whosever the head is, it is reverted in the way that fits the slot, and nothing else in the pages and the tables changes.
     ensures leaves { WhereSound O.first D.Disk (HasSoundArea store.old.now
         → (x e : ℕ) (way : Reverting) → IsUsedSlot (area_in store.old.now) e place → FitsReverting way ((area_in store.old.now).slot place)
-        → OnOk result (site_of store.new.now ≡ after x (Reverts e place way) (site_of store.old.now))) }
+        → OnOk result (site_of store.new.now ≡ site_after x (Reverts e place way) (site_of store.old.now))) }
     // There its chain has lost its head, which may go, and nothing else is shown than before.
     ensures takes { WhereSound O.first D.Disk (HasSoundArea store.old.now
         → (e : ℕ) (way : Reverting) → OwedByRevert store.old.now.tables (area_in store.old.now) e place way → OnOk result (TakesHead e place store.old.now store.new.now)) }

@@ -3,13 +3,13 @@ use Rattle.ctr_area.specs.Chains.{pages_bound}
 use Rattle.ctr_record_laws.specs.Bounds.{IsInBounds}
 use Rattle.ctr_record_laws.specs.Shows.{ShowTheSame}
 use Rattle.ctr_actions.specs.Sites.{Site, IsSoundSite}
-use Rattle.ctr_actions.specs.Actions.{Action, Begins, Allocates, Formats, Links, LinksOlder, Keeps, Writes, Creates, Drops, Commits, Frees, Uncreates, Undrops, Aborts, Reclaims, Reverts, Trims, Cuts, FreesOlder, MakesDead, Unlinks, UnlinksOlder, FreesEntry, Forgets, Checkpoints, Owes, after, IsQuiet}
+use Rattle.ctr_actions.specs.Actions.{Action, Begins, Allocates, Formats, Links, LinksOlder, Keeps, Writes, Creates, Drops, Commits, Frees, Uncreates, Undrops, Aborts, Reclaims, Reverts, Trims, Cuts, FreesOlder, MakesDead, Unlinks, UnlinksOlder, FreesEntry, Forgets, Checkpoints, Owes, site_after, IsQuietAction}
 use Rattle.ctr_actions.proofs.laws.a_quiet_action_shows_the_same.Goals as goal
 
 pub returns : goal.returns
 returns c = each
   where
-    each : (x : ℕ) (a : Action) (s : Site) → IsInBounds s.area → s.counted ≤ pages_bound → IsSoundSite s → IsQuiet a → Owes x a s → ShowTheSame s.area (after x a s).area
+    each : (x : ℕ) (a : Action) (s : Site) → IsInBounds s.area → s.counted ≤ pages_bound → IsSoundSite s → IsQuietAction a → Owes x a s → ShowTheSame s.area (site_after x a s).area
     each x Begins s bounds few sound quiet owed = absurd quiet
     each x (Allocates q) s bounds few sound quiet owed = c.records_on_pages_show_the_same.ensures.taken s.area q true
     each x (Formats q g) s bounds few sound quiet owed = c.records_on_pages_show_the_same.ensures.format s.counted s.tables s.area x q g bounds sound owed

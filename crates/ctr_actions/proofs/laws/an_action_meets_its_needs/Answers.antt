@@ -13,7 +13,7 @@ use Rattle.ctr_record_laws.proofs.Items.{any_there}
 use Rattle.ctr_record_laws.specs.Bounds.{IsInBounds}
 use Rattle.std.specs.List.{list_any}
 use Rattle.ctr_actions.specs.Sites.{Site, IsSoundSite}
-use Rattle.ctr_actions.specs.Actions.{Action, Begins, Allocates, Formats, Links, LinksOlder, Keeps, Writes, Creates, Drops, Commits, Frees, Uncreates, Undrops, Aborts, Reclaims, Reverts, Trims, Cuts, FreesOlder, MakesDead, Unlinks, UnlinksOlder, FreesEntry, Forgets, Checkpoints, Owes, after}
+use Rattle.ctr_actions.specs.Actions.{Action, Begins, Allocates, Formats, Links, LinksOlder, Keeps, Writes, Creates, Drops, Commits, Frees, Uncreates, Undrops, Aborts, Reclaims, Reverts, Trims, Cuts, FreesOlder, MakesDead, Unlinks, UnlinksOlder, FreesEntry, Forgets, Checkpoints, Owes, site_after}
 use Rattle.ctr_actions.specs.Records.{record_of}
 use Rattle.ctr_actions.proofs.Latest.{last_among}
 use Rattle.ctr_actions.proofs.Needed.{expected, is_there, commit_fits, abort_fits, forget_fits, revert_fits, row_fits}
@@ -55,7 +55,7 @@ returns-clause-fits c = each
 pub returns-clause-leaves : goal.returns-clause-leaves
 returns-clause-leaves c = each
   where
-    each : (x : ℕ) (a : Action) (s : Site) (o : Overlay) → Owes x a s → effect (record_of x a s o) s.tables ≡ (after x a s).tables
+    each : (x : ℕ) (a : Action) (s : Site) (o : Overlay) → Owes x a s → effect (record_of x a s o) s.tables ≡ (site_after x a s).tables
     each x Begins s o owed = refl
     each x (Allocates q) s o owed = refl
     each x (Formats q g) s o owed = refl

@@ -6,13 +6,13 @@ use Rattle.ctr_records.specs.declared.record.SlogItem.TheVariants.{FreeOf}
 use Rattle.ctr_record_laws.proofs.Items.{any_there}
 use Rattle.ctr_record_laws.specs.Bounds.{IsInBounds}
 use Rattle.ctr_actions.specs.Sites.{Site, IsSoundSite}
-use Rattle.ctr_actions.specs.Actions.{Action, Begins, Allocates, Formats, Links, LinksOlder, Keeps, Writes, Creates, Drops, Commits, Frees, Uncreates, Undrops, Aborts, Reclaims, Reverts, Trims, Cuts, FreesOlder, MakesDead, Unlinks, UnlinksOlder, FreesEntry, Forgets, Checkpoints, Owes, after}
+use Rattle.ctr_actions.specs.Actions.{Action, Begins, Allocates, Formats, Links, LinksOlder, Keeps, Writes, Creates, Drops, Commits, Frees, Uncreates, Undrops, Aborts, Reclaims, Reverts, Trims, Cuts, FreesOlder, MakesDead, Unlinks, UnlinksOlder, FreesEntry, Forgets, Checkpoints, Owes, site_after}
 use Rattle.ctr_actions.proofs.laws.an_action_stays_sound.Goals as goal
 
 pub returns-clause-sound : goal.returns-clause-sound
 returns-clause-sound c = each
   where
-    each : (x : ℕ) (a : Action) (s : Site) → IsInBounds s.area → s.counted ≤ pages_bound → IsSoundSite s → Owes x a s → IsSoundSite (after x a s)
+    each : (x : ℕ) (a : Action) (s : Site) → IsInBounds s.area → s.counted ≤ pages_bound → IsSoundSite s → Owes x a s → IsSoundSite (site_after x a s)
     each x Begins s bounds few sound owed = c.a_begin_stays_sound.ensures s.counted s.tables s.area x sound owed
     each x (Allocates q) s bounds few sound owed = c.an_alloc_stays_sound.ensures s.counted s.tables s.area x q sound owed
     each x (Formats q g) s bounds few sound owed = c.a_format_stays_sound.ensures s.counted s.tables s.area x q g bounds sound owed
@@ -42,7 +42,7 @@ returns-clause-sound c = each
 pub returns-clause-counted : goal.returns-clause-counted
 returns-clause-counted c = each
   where
-    each : (x : ℕ) (a : Action) (s : Site) → (after x a s).counted ≡ s.counted
+    each : (x : ℕ) (a : Action) (s : Site) → (site_after x a s).counted ≡ s.counted
     each x Begins s = refl
     each x (Allocates q) s = refl
     each x (Formats q g) s = refl

@@ -8,8 +8,8 @@ use Rattle.ctr_record_laws.specs.Bounds.{IsInBounds}
 use Rattle.ctr_record_laws.specs.Owed.{slot_by, reverted_slot, trimmed_slot}
 use Rattle.ctr_record_laws.specs.Loose.{IsSpareFor, IsSameSlot}
 use Rattle.ctr_actions.specs.Sites.{Site, IsSoundSite}
-use Rattle.ctr_actions.specs.Actions.{Action, Begins, Allocates, Formats, Links, LinksOlder, Keeps, Writes, Creates, Drops, Commits, Frees, Uncreates, Undrops, Aborts, Reclaims, Reverts, Trims, Cuts, FreesOlder, MakesDead, Unlinks, UnlinksOlder, FreesEntry, Forgets, Checkpoints, Owes, after}
-use Rattle.ctr_actions.specs.Facts.{Fact, IsOpen, HasPage, HasNoPageBut, HasBlank, HasSlot, HasCopy, HasTable, Holds, IsAway, IsBeside}
+use Rattle.ctr_actions.specs.Actions.{Action, Begins, Allocates, Formats, Links, LinksOlder, Keeps, Writes, Creates, Drops, Commits, Frees, Uncreates, Undrops, Aborts, Reclaims, Reverts, Trims, Cuts, FreesOlder, MakesDead, Unlinks, UnlinksOlder, FreesEntry, Forgets, Checkpoints, Owes, site_after}
+use Rattle.ctr_actions.specs.Facts.{Fact, IsOpen, HasPage, HasNoPageBut, HasBlank, HasSlot, HasCopy, HasTable, HoldsFact, IsAway, IsBeside}
 use Rattle.ctr_actions.proofs.Opens.{open_stays}
 use Rattle.ctr_actions.proofs.Items.{page_stays, only_stays}
 use Rattle.ctr_actions.proofs.Beside.{beside_page, beside_blank, blank_page}
@@ -21,7 +21,7 @@ pub returns : goal.returns
 returns c = each
   where
     slot : (y : ℕ) (a : Action) (e : ℕ) (at : Place) (of : Slot) (s : Site) → IsInBounds s.area → s.counted ≤ pages_bound → IsSoundSite s → Owes y a s → IsAway a (HasSlot e at of)
-        → IsUsedSlot s.area e at → IsSameSlot s.area (after y a s).area e at
+        → IsUsedSlot s.area e at → IsSameSlot s.area (site_after y a s).area e at
     slot y Begins e at of s bounds few sound owed away used = record { used = used; same = refl }
     slot y (Allocates q) e at of s bounds few sound owed away used = record { used = used; same = refl }
     slot y (Formats q g) e at of s bounds few sound owed away used = c.records_on_pages_leave_a_slot.ensures.format s.counted s.tables s.area e at y q g bounds sound owed used
@@ -49,7 +49,7 @@ returns c = each
     slot y (Checkpoints lists) e at of s bounds few sound owed away used = record { used = used; same = refl }
 
     copy : (y : ℕ) (a : Action) (e : ℕ) (at : Place) (v : RowVersion) (p : Place) (s : Site) → IsInBounds s.area → s.counted ≤ pages_bound → IsSoundSite s → Owes y a s → IsAway a (HasCopy e at v p)
-        → IsUsedSlot s.area e at → IsSpareFor s.area e at v p → IsSpareFor (after y a s).area e at v p
+        → IsUsedSlot s.area e at → IsSpareFor s.area e at v p → IsSpareFor (site_after y a s).area e at v p
     copy y Begins e at v p s bounds few sound owed away used spare = spare
     copy y (Allocates q) e at v p s bounds few sound owed away used spare = c.records_on_pages_leave_a_copy_spare.ensures.taken s.area e at p v q true spare
     copy y (Formats q g) e at v p s bounds few sound owed away used spare = c.records_on_pages_leave_a_copy_spare.ensures.format s.counted s.tables s.area e at p v y q g bounds sound owed used spare
@@ -76,7 +76,7 @@ returns c = each
     copy y (Forgets z) e at v p s bounds few sound owed away used spare = spare
     copy y (Checkpoints lists) e at v p s bounds few sound owed away used spare = spare
 
-    each : (x y : ℕ) (a : Action) (fact : Fact) (s : Site) → IsInBounds s.area → s.counted ≤ pages_bound → IsSoundSite s → Owes y a s → IsAway a fact → IsBeside a fact ⊎ (x ≢ y) → Holds x fact s → Holds x fact (after y a s)
+    each : (x y : ℕ) (a : Action) (fact : Fact) (s : Site) → IsInBounds s.area → s.counted ≤ pages_bound → IsSoundSite s → Owes y a s → IsAway a fact → IsBeside a fact ⊎ (x ≢ y) → HoldsFact x fact s → HoldsFact x fact (site_after y a s)
     each x y a IsOpen s bounds few sound owed away either holds = open_stays x y a s either holds
     each x y a (HasPage p) s bounds few sound owed away either holds =
         page_stays x p s bounds sound holds y a owed (⊎_elim (λ beside. beside) (λ apart. beside_page x y p s bounds sound apart holds a owed) either)

@@ -7,7 +7,7 @@ use Rattle.ctr_records.specs.declared.record.Record.TheVariants.{Drop}
 use Rattle.ctr_redo.specs.States.{page_limit, page_at}
 use Rattle.ctr_record_effects.specs.Changing.{laid_in_entry, drop_record}
 use Rattle.ctr_actions.specs.Sites.{site_of}
-use Rattle.ctr_actions.specs.Actions.{Drops, after}
+use Rattle.ctr_actions.specs.Actions.{Drops, site_after}
 use Rattle.ctr_store.specs.Store.{MayLog, Logs}
 use Rattle.ctr_walk.specs.OneRecord.{LogsOne}
 use Rattle.ctr_walk.proofs.Records.{both_ok}
@@ -34,7 +34,7 @@ returns-clause-leaves g c = λ told sound.
     let e = c.args.entry in
     let s = c.args.store.now.now in
     both_ok c.log_on_page.result (Logs (drop_record c.args.x e ∷ []) c.args.store.now c.log_on_page.new.store) (length (page_at (1 + e / 16) s.pages) ≡ 4096)
-    (site_of c.log_on_page.new.store.now ≡ after c.args.x (Drops e) (site_of s))
+    (site_of c.log_on_page.new.store.now ≡ site_after c.args.x (Drops e) (site_of s))
     (λ logs whole. ap site_of logs.now ∙ c.a_logged_record_is_its_action.ensures.leaves c.args.x (Drops e) s (laid_in_entry e 9 (spelled 8 c.args.x)) refl (c.a_drop_changes_its_title.ensures s c.args.x e whole c.requires.there (let low = c.ranges.x.fits in omega (arith, low))))
     ((returns-clause-one g c).logs told sound)
     (subst (λ (p : ℕ). OnOk c.log_on_page.result (length (page_at p s.pages) ≡ 4096)) c.catalog_page.ensures (c.log_on_page.ensures.whole told sound))

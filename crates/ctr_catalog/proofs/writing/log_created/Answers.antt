@@ -3,7 +3,7 @@ use Rattle.std.specs.Prelude.{OnOk}
 use Rattle.ctr_disk.proofs.Moments.{on_ok}
 use Rattle.ctr_page.specs.Columns.{new_entry_bytes}
 use Rattle.ctr_actions.specs.Sites.{site_of}
-use Rattle.ctr_actions.specs.Actions.{Creates, after}
+use Rattle.ctr_actions.specs.Actions.{Creates, site_after}
 use Rattle.ctr_records.specs.declared.record.Overlay.{Overlay}
 use Rattle.ctr_records.specs.declared.record.Record.{Record}
 use Rattle.ctr_records.specs.declared.record.Record.TheVariants.{Create}
@@ -59,6 +59,6 @@ returns-clause-leaves g c = λ told sound.
     let made = create_record c.args.x e c.args.name.now c.args.schema.now.columns in
     let laid = laid_at (1 + e / 16) (256 * (e % 16)) (new_entry_bytes c.args.x c.args.name.now c.args.schema.now.columns) in
     on_ok c.log_on_page.result (Logs (made ∷ []) c.args.store.now c.log_on_page.new.store)
-    (site_of c.log_on_page.new.store.now ≡ after c.args.x (Creates e c.args.name.now c.args.schema.now.columns (area_in c.log_on_page.new.store.now)) (site_of s))
+    (site_of c.log_on_page.new.store.now ≡ site_after c.args.x (Creates e c.args.name.now c.args.schema.now.columns (area_in c.log_on_page.new.store.now)) (site_of s))
     (λ logs. ap site_of logs.now ∙ c.a_logged_record_is_its_action.ensures.leaves c.args.x (Creates e c.args.name.now c.args.schema.now.columns (area_in c.log_on_page.new.store.now)) s laid refl (sym (ap area_in logs.now)))
     ((returns-clause-one g c).logs told sound)

@@ -6,7 +6,7 @@ use Rattle.ctr_records.specs.declared.record.Record.TheVariants.{Uncreate}
 use Rattle.ctr_redo.specs.States.{page_limit, page_at}
 use Rattle.ctr_record_effects.specs.Changing.{laid_in_entry, uncreate_record}
 use Rattle.ctr_actions.specs.Sites.{site_of}
-use Rattle.ctr_actions.specs.Actions.{Uncreates, after}
+use Rattle.ctr_actions.specs.Actions.{Uncreates, site_after}
 use Rattle.ctr_store.specs.Store.{MayLog, Logs}
 use Rattle.ctr_walk.specs.OneRecord.{LogsOne}
 use Rattle.ctr_walk.proofs.Records.{both_ok}
@@ -33,7 +33,7 @@ returns-clause-leaves g c = λ x told sound used.
     let e = c.args.entry in
     let s = c.args.store.now.now in
     both_ok c.log_on_page.result (Logs (uncreate_record e ∷ []) c.args.store.now c.log_on_page.new.store) (length (page_at (1 + e / 16) s.pages) ≡ 4096)
-    (site_of c.log_on_page.new.store.now ≡ after x (Uncreates e) (site_of s))
+    (site_of c.log_on_page.new.store.now ≡ site_after x (Uncreates e) (site_of s))
     (λ logs whole. ap site_of logs.now ∙ c.a_logged_record_is_its_action.ensures.leaves x (Uncreates e) s (laid_in_entry e 0 (2 ∷ [])) refl (c.an_uncreate_changes_its_title.ensures s e whole c.requires.there used))
     ((returns-clause-one g c).logs told sound)
     (subst (λ (p : ℕ). OnOk c.log_on_page.result (length (page_at p s.pages) ≡ 4096)) c.catalog_page.ensures (c.log_on_page.ensures.whole told sound))

@@ -6,7 +6,7 @@ use Rattle.ctr_redo.specs.States.{page_at}
 use Rattle.ctr_page.specs.Making.{header_bytes}
 use Rattle.ctr_record_effects.specs.Changing.{laid_clear, format_record}
 use Rattle.ctr_actions.specs.Sites.{site_of}
-use Rattle.ctr_actions.specs.Actions.{Formats, after}
+use Rattle.ctr_actions.specs.Actions.{Formats, site_after}
 use Rattle.ctr_store.specs.Store.{MayLog, Logs}
 use Rattle.ctr_walk.specs.OneRecord.{LogsOne}
 use Rattle.ctr_walk.proofs.Records.{both_ok}
@@ -35,7 +35,7 @@ returns-clause-leaves g c = λ told sound third.
     let h = c.args.header.now in
     let s = c.args.store.now.now in
     both_ok c.log_on_page.result (Logs (format_record x p h ∷ []) c.args.store.now c.log_on_page.new.store) (length (page_at p s.pages) ≡ 4096)
-    (site_of c.log_on_page.new.store.now ≡ after x (Formats p h) (site_of s))
+    (site_of c.log_on_page.new.store.now ≡ site_after x (Formats p h) (site_of s))
     (λ logs whole. ap site_of logs.now
     ∙ c.a_logged_record_is_its_action.ensures.leaves x (Formats p h) s (laid_clear p (header_bytes h)) refl (c.a_format_clears_its_page.ensures s x p h whole third c.requires.fits))
     ((returns-clause-one g c).logs told sound) (c.log_on_page.ensures.whole told sound)

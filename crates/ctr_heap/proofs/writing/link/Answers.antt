@@ -8,7 +8,7 @@ use Rattle.ctr_bytes.specs.Fields.{spelled}
 use Rattle.ctr_record_effects.specs.States.{pages_in}
 use Rattle.ctr_record_effects.specs.Changing.{laid_in_entry}
 use Rattle.ctr_actions.specs.Sites.{site_of}
-use Rattle.ctr_actions.specs.Actions.{Links, LinksOlder, after}
+use Rattle.ctr_actions.specs.Actions.{Links, LinksOlder, site_after}
 use Rattle.ctr_store.specs.Store.{MayLog, Logs}
 use Rattle.ctr_walk.specs.OneRecord.{LogsOne}
 use Rattle.ctr_walk.proofs.Records.{both_ok}
@@ -46,12 +46,12 @@ returns-clause-leaves g c = λ told sound table.
     let e = c.args.entry in
     let s = c.args.store.now.now in
     both_ok c.log_on_page.result (Logs (front_record x p e c.args.bucket ∷ []) c.args.store.now c.log_on_page.new.store) (length (page_at (1 + e / 16) s.pages) ≡ 4096)
-    (site_of c.log_on_page.new.store.now ≡ after x (front_action p e c.args.bucket) (site_of s))
+    (site_of c.log_on_page.new.store.now ≡ site_after x (front_action p e c.args.bucket) (site_of s))
     (λ logs whole. ap site_of logs.now ∙ front c.args.bucket c.requires.bucket table whole)
     ((returns-clause-one g c).logs told sound) (c.log_on_page.ensures.whole told sound)
   where
     front : (bucket : Option ℕ) → IfSome bucket (λ b. b < 8) → IsOfTable (pages_in c.args.store.now.now) c.args.entry → length (page_at (1 + c.args.entry / 16) c.args.store.now.now.pages) ≡ 4096
-        → site_of (step (front_record c.args.x c.args.p c.args.entry bucket) c.args.store.now.now) ≡ after c.args.x (front_action c.args.p c.args.entry bucket) (site_of c.args.store.now.now)
+        → site_of (step (front_record c.args.x c.args.p c.args.entry bucket) c.args.store.now.now) ≡ site_after c.args.x (front_action c.args.p c.args.entry bucket) (site_of c.args.store.now.now)
     front (Some b) few table whole =
         c.a_logged_record_is_its_action.ensures.leaves c.args.x (Links c.args.p c.args.entry b) c.args.store.now.now (laid_in_entry c.args.entry (front_place (Some b)) (spelled 4 c.args.p)) refl
         (c.a_link_changes_its_chain.ensures.bucket c.args.store.now.now c.args.x c.args.p c.args.entry b whole c.requires.entry few (omega (arith, c.requires.small)) table.0 table.1)

@@ -11,7 +11,7 @@ use Rattle.ctr_record_laws.specs.Owed.{loses_head}
 use Rattle.ctr_record_effects.specs.States.{pages_in, area_in}
 use Rattle.ctr_record_effects.specs.Changing.{laid_on_place}
 use Rattle.ctr_actions.specs.Sites.{site_of}
-use Rattle.ctr_actions.specs.Actions.{Writes, after}
+use Rattle.ctr_actions.specs.Actions.{Writes, site_after}
 use Rattle.ctr_store.specs.Store.{Logs}
 use Rattle.ctr_walk.proofs.Records.{both_ok}
 use Rattle.ctr_walk.proofs.Limits.{below_limit}
@@ -48,7 +48,7 @@ returns-clause-leaves g c = λ told sound place m lays.
     let loses = loses_head s.tables ((area_in s).slot m.at) in
     let slot = slot_said (columns_on (pages_in s) at.page) c.args.slot.now in
     both_ok c.log_on_page.result (Logs (r ∷ []) c.args.store.now c.log_on_page.new.store) (area_in c.log_on_page.new.store.now ≡ with_slot at slot (area_in s))
-    (site_of c.log_on_page.new.store.now ≡ after x (Writes m) (site_of s))
+    (site_of c.log_on_page.new.store.now ≡ site_after x (Writes m) (site_of s))
     (λ logs is.
     let same : c.log_on_page.new.store.now ≡ step (Row x loses o) s = logs.now ∙ ap (λ v. step (Row x v o) s) lays.loses in
     ap site_of same

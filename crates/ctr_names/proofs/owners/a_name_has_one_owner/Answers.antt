@@ -1,6 +1,6 @@
 use Rattle.std.proofs.Common.{◌≡◌, ◌<◌, ℕ, ⊎_elim, inl, inr, sym, ◌∙◌, subst, arith}
 use Rattle.ctr_area.specs.Images.{is_committed_in}
-use Rattle.ctr_names.specs.Shape.{AllPass, HasOwnInFront}
+use Rattle.ctr_names.specs.Shape.{AllVersionsPass, HasOwnInFront}
 use Rattle.ctr_names.proofs.Names.{names_here}
 use Rattle.ctr_names.proofs.Owner.{owner, shape, settled_here, settled_committed}
 use Rattle.ctr_names.proofs.owners.a_name_has_one_owner.Goals as goal
@@ -18,6 +18,6 @@ returns-clause-front c = λ counted tables area name x sound open_ some alone.
     let settled = settled_committed counted tables area sound name x open_ (not_zero x some) alone in
     subst (HasOwnInFront (is_committed_in tables) x) (sym (names_here (is_committed_in tables) area name))
     (⊎_elim
-    (λ quiet. inl (subst (AllPass (is_committed_in tables)) (sym quiet.0) settled))
+    (λ quiet. inl (subst (AllVersionsPass (is_committed_in tables)) (sym quiet.0) settled))
     (λ more. inr (more.0, settled_here counted tables area sound name x open_ (not_zero x some) alone, more.1, settled))
     (shape counted tables area sound name x open_ (not_zero x some) alone))

@@ -11,14 +11,14 @@ use Rattle.ctr_store.specs.Store.{Logs}
 use Rattle.ctr_record_effects.specs.States.{pages_in, area_in}
 use Rattle.ctr_record_effects.specs.Changing.{laid_on_place}
 use Rattle.ctr_actions.specs.Sites.{site_of}
-use Rattle.ctr_actions.specs.Actions.{FreesOlder, after}
+use Rattle.ctr_actions.specs.Actions.{FreesOlder, site_after}
 use Rattle.ctr_walk.specs.Damage.{damage_told}
 use Rattle.ctr_walk.specs.OneRecord.{LogsOne}
 use Rattle.ctr_walk.proofs.Damages.{told_ends, told_ok, reads_err}
 use Rattle.ctr_walk.proofs.Records.{both_ok, one_behind}
 use Rattle.ctr_pvs.specs.Reading.{PassesAt, EndsAt}
 use Rattle.ctr_pvs.specs.Writing.{blank_entry, blank_record, drop_check}
-use Rattle.ctr_record_effects.specs.Standing.{ShowsTheSame}
+use Rattle.ctr_record_effects.specs.Standing.{ShowsAlike}
 use Rattle.ctr_pvs.proofs.Freeing.{told_as, drops, on_place}
 use Rattle.ctr_pvs.proofs.Showing.{shows_by}
 use Rattle.ctr_pvs.proofs.writing.free_entry.Given.{Over}
@@ -81,7 +81,7 @@ returns-clause-leaves g c = λ x e told sound.
     let w = c.in_ok-w.w in
     let s = c.args.store.now.now in
     let t = c.lay_blank.new.store.now in
-    both_ok c.lay_blank.result (Logs (blank_record at w ∷ []) c.args.store.now c.lay_blank.new.store) (area_in t ≡ with_older at free_older (area_in s)) (site_of t ≡ after x (FreesOlder e at) (site_of s))
+    both_ok c.lay_blank.result (Logs (blank_record at w ∷ []) c.args.store.now c.lay_blank.new.store) (area_in t ≡ with_older at free_older (area_in s)) (site_of t ≡ site_after x (FreesOlder e at) (site_of s))
     (λ logs is. ap site_of logs.now ∙ c.a_logged_record_is_its_action.ensures.leaves x (FreesOlder e at) s (laid_on_place at (kept_size w) (kept_bytes (blank_entry w))) refl (sym (ap area_in logs.now) ∙ is))
     ((one g k).logs told sound) (freed g k told sound)
 
@@ -93,7 +93,7 @@ returns-clause-shows g c = λ told sound state unlinked.
     let t = c.lay_blank.new.store.now in
     let area = with_older at free_older (area_in s) in
     let law = c.a_free_entry_shows_the_same.ensures in
-    both_ok c.lay_blank.result (Logs (blank_record at c.in_ok-w.w ∷ []) c.args.store.now c.lay_blank.new.store) (area_in t ≡ area) (ShowsTheSame s t)
+    both_ok c.lay_blank.result (Logs (blank_record at c.in_ok-w.w ∷ []) c.args.store.now c.lay_blank.new.store) (area_in t ≡ area) (ShowsAlike s t)
     (λ logs is. shows_by s t area is (ap (λ (x : State). x.counted) logs.now) (ap (λ (x : State). x.tables) logs.now)
     (λ committed. law.versions (area_in s) at committed unlinked) (λ committed. law.rows (area_in s) at committed unlinked) (law.sound s.counted s.tables (area_in s) at state unlinked))
     ((one g k).logs told sound) (freed g k told sound)

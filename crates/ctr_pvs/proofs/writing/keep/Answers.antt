@@ -9,7 +9,7 @@ use Rattle.ctr_area.specs.Changes.{with_older}
 use Rattle.ctr_record_effects.specs.States.{area_in}
 use Rattle.ctr_record_effects.specs.Changing.{laid_on_place}
 use Rattle.ctr_actions.specs.Sites.{Site, site_of}
-use Rattle.ctr_actions.specs.Actions.{Keeps, after}
+use Rattle.ctr_actions.specs.Actions.{Keeps, site_after}
 use Rattle.ctr_store.specs.Store.{Logs}
 use Rattle.ctr_walk.proofs.Records.{both_ok}
 use Rattle.ctr_record_laws.specs.Owed.{OwedByKeep, IsSpareCopy}
@@ -32,7 +32,7 @@ returns-clause-leaves g c = λ told sound e place.
     let bytes = entry_laid entry c.as_slice-w.result.now c.make_version-size.result c.make_version-size.new.into _ c.as_slice-w.ensures c.requires.lies.is c.make_version-size.ensures.number c.make_version-size.ensures.bytes in
     let laid = c.over_place.ensures ∙ (λ i. laid_on_place at (size i) (bytes i)) in
     both_ok c.log_on_page.result (Logs (r ∷ []) c.args.store.now c.log_on_page.new.store) (length (page_at at.page s.pages) ≡ 4096)
-    (site_of c.log_on_page.new.store.now ≡ after c.args.x (Keeps e at (older_laid s at entry)) (site_of s))
+    (site_of c.log_on_page.new.store.now ≡ site_after c.args.x (Keeps e at (older_laid s at entry)) (site_of s))
     (λ logs whole. ap site_of logs.now
     ∙ c.a_logged_record_is_its_action.ensures.leaves c.args.x (Keeps e at (older_laid s at entry)) s c.over_place.result refl
     (c.a_version_is_laid.ensures s r at entry whole place.0 (subst (λ w. IsEntry w entry) (sym place.1) c.requires.lies.is)
@@ -49,7 +49,7 @@ returns-clause-shows g c = λ told sound e may.
     let r : Record = Keep c.args.x c.over_place.result in
     let older = older_laid s at entry in
     let law = c.a_keep_shows_the_same.ensures in
-    both_ok c.log_on_page.result (Logs (r ∷ []) c.args.store.now c.log_on_page.new.store) (site_of t ≡ after c.args.x (Keeps e at older) (site_of s)) (KeepsVersion e at entry s t)
+    both_ok c.log_on_page.result (Logs (r ∷ []) c.args.store.now c.log_on_page.new.store) (site_of t ≡ site_after c.args.x (Keeps e at older) (site_of s)) (KeepsVersion e at entry s t)
     (λ logs left.
     let is : area_in t ≡ with_older at older (area_in s) = ap (λ (z : Site). z.area) left in
     record {

@@ -19,7 +19,7 @@ use Rattle.ctr_record_effects.specs.States.{pages_in, area_in}
 use Rattle.ctr_record_effects.specs.Changing.{laid_on_place}
 use Rattle.ctr_record_effects.specs.Standing.{HasSoundArea}
 use Rattle.ctr_actions.specs.Sites.{Site, site_of}
-use Rattle.ctr_actions.specs.Actions.{Reverts, after}
+use Rattle.ctr_actions.specs.Actions.{Reverts, site_after}
 use Rattle.ctr_walk.specs.Damage.{damage_told}
 use Rattle.ctr_walk.specs.OneRecord.{LogsOne}
 use Rattle.ctr_walk.proofs.Damages.{told_ends, told_ok, reads_err}
@@ -94,7 +94,7 @@ module _ (g : Over) (c : After-lay g) where
 
   -- and the site, where it is sound
   site_left : IsTrue g.D.Disk.tells → IsSoundImage g.O.Origin.first → HasSoundArea c.args.store.now.now → (x e : ℕ) (way : Reverting) → IsUsedSlot (area_in c.args.store.now.now) e c.args.place
-      → FitsReverting way ((area_in c.args.store.now.now).slot c.args.place) → OnOk c.lay.result (site_of c.lay.new.store.now ≡ after x (Reverts e c.args.place way) (site_of c.args.store.now.now))
+      → FitsReverting way ((area_in c.args.store.now.now).slot c.args.place) → OnOk c.lay.result (site_of c.lay.new.store.now ≡ site_after x (Reverts e c.args.place way) (site_of c.args.store.now.now))
   site_left told sound state x e way used fits =
       let a = c.args.store.now in
       let s = a.now in
@@ -106,7 +106,7 @@ module _ (g : Over) (c : After-lay g) where
       let lost = ((area_in s).slot p).head.0 in
       let head : l.x ≡ lost = passed.head.head ∙ head_said s.counted (pages_in s) p passed.of_kind used.1 in
       both_ok c.lay.result (Logs (lost_record l.x p l.w (bytes_laid l) ∷ []) a c.lay.new.store) (area_in t ≡ with_slot p (without_head (area_in s).older ((area_in s).slot p)) (area_in s))
-      (site_of t ≡ after x (Reverts e p way) (site_of s))
+      (site_of t ≡ site_after x (Reverts e p way) (site_of s))
       (λ logs is.
       let same : t ≡ step (Revert lost o) s = logs.now ∙ ap (λ v. step (Revert v o) s) head in
       ap site_of same
@@ -129,7 +129,7 @@ returns-clause-takes g c = λ told sound state e way owed.
     let law = c.a_revert_takes_the_head.ensures in
     let bounds = c.pages_are_in_bounds.ensures (pages_in s) in
     let used = owed.used in
-    both_ok c.lay.result (site_of t ≡ after 0 (Reverts e p way) (site_of s)) (area_in t ≡ with_slot p (without_head (area_in s).older ((area_in s).slot p)) (area_in s)) (TakesHead e p s t)
+    both_ok c.lay.result (site_of t ≡ site_after 0 (Reverts e p way) (site_of s)) (area_in t ≡ with_slot p (without_head (area_in s).older ((area_in s).slot p)) (area_in s)) (TakesHead e p s t)
     (λ site is.
     let left : area_in t ≡ reverted_at p way (area_in s) = ap (λ (z : Site). z.area) site in
     record {
