@@ -1,0 +1,14 @@
+pub mod Tables
+pub mod Carry
+pub mod Opened
+pub mod Pages
+pub mod Rows
+pub mod Fates
+pub mod Aborts
+pub mod Turns
+pub mod Catalog
+pub mod Emptied
+pub mod Begun
+pub mod Shown
+pub mod Moved
+pub mod Opening

@@ -1,0 +1,3 @@
+pub mod Paged
+pub mod Shown
+pub mod Moving
