@@ -1,0 +1,144 @@
+-- Commits are answered, the one that asked first or all that wait, whoever flushed.
+use Rattle.std.proofs.Common.{◌≡◌, ℕ, zero, suc, ◌+◌, ◌<◌, ◌≤◌, ◌==◌, List, [], ◌∷◌, ◌++◌, length, Option, Some, refl, sym, ◌∙◌, ap, subst, arith}
+use Rattle.std.specs.Prelude.{is_some}
+use Rattle.std.specs.Option.{option_map}
+use Rattle.std.specs.Ordering.{nat_cmp}
+use Rattle.std.specs.FinMap.Entries.{find}
+use Rattle.std.proofs.lemmas.Bool.{false≢true, eqb-true}
+use Rattle.ctr_types.specs.declared.statement.Line.{Line}
+use Rattle.ctr_types.specs.declared.tape.Entry.{Entry}
+use Rattle.ctr_types.specs.declared.tape.Act.TheVariants as act
+use Rattle.ctr_types.specs.declared.tape.Reply.TheVariants as reply
+use Rattle.ctr_model.specs.declared.state.State.{State}
+use Rattle.ctr_model.specs.declared.state.Transaction.{Transaction}
+use Rattle.ctr_model.specs.declared.tape.Point.{Point}
+use Rattle.ctr_model.specs.Database.{Database}
+use Rattle.ctr_model.specs.Maps.{without}
+use Rattle.ctr_model.specs.Reply.{next_from}
+use Rattle.ctr_model.specs.State.{without_transaction}
+use Rattle.ctr_model.specs.Tape.{progress_of, statement_of, final, at_start}
+use Rattle.ctr_model.proofs.Sessions.{find-without-other, find-without-same}
+use Rattle.ctr_legal.specs.Laws.{answer_entry, IsAnsweredNext}
+use Rattle.ctr_legal.proofs.Reached.{waiting_answered, final_push}
+use Rattle.ctr_versions.proofs.Keys.{known}
+use Rattle.ctr_versions.specs.Engine.{SessionHeld}
+use Rattle.ctr_versions.specs.Laws.{IsNoSessions}
+use Rattle.ctr_actions.specs.Sites.{Site}
+use Rattle.ctr_actions.specs.Facts.{Fact}
+use Rattle.ctr_paged.specs.Shown.{Scene}
+use Rattle.ctr_paged.specs.Moving.{answered_one}
+use Rattle.ctr_paged.proofs.Shown.{shown_answered}
+use Rattle.ctr_kept.specs.Carried.{AreCarried}
+use Rattle.ctr_kept.specs.Turns.{AnswersEach}
+use Rattle.ctr_kept.specs.Walk.{Mind, scene_of, HaveBegun, KeepsScene, Keeps}
+use Rattle.ctr_kept.proofs.Undo.{left_moved}
+use Rattle.ctr_kept.proofs.Walking.{begun_moved, keeps_reached, keeps_entry}
+
+-- ---- a session is gone: of the others nothing has changed
+
+still_there : {X : Type 0} (s r : ℕ) (x : X) (m : List (ℕ × X)) → find nat_cmp r (without nat_cmp s m) ≡ Some x → find nat_cmp r m ≡ Some x
+still_there s r x m at = known (r == s)
+    (λ one. absurd (false≢true (ap is_some (sym (ap (λ q. find nat_cmp q (without nat_cmp s m)) (eqb-true r s one) ∙ find-without-same s m) ∙ at))))
+    (λ two. sym (find-without-other r s m two) ∙ at)
+
+carried_fewer : (s : ℕ) (site : Site) (scene : Scene) (facts : ℕ → List Fact) → AreCarried site scene facts → AreCarried site (answered_one s scene) facts
+carried_fewer s site scene facts carried = record {
+  held = λ r b fact at in_. carried.held r b fact (still_there s r b scene.run.sessions at) in_;
+  under = λ r t fact at in_. carried.under r t fact (still_there s r t scene.state.sessions at) in_;
+  tables = carried.tables;
+}
+
+nobodys_fewer : (s y : ℕ) (sessions : List (ℕ × SessionHeld)) → IsNoSessions sessions y → IsNoSessions (without nat_cmp s sessions) y
+nobodys_fewer s y sessions nobodys r b at = nobodys r b (still_there s r b sessions at)
+
+begun_fewer : (s : ℕ) (since : List (ℕ × ℕ)) (scene : Scene) → HaveBegun since scene → HaveBegun (without nat_cmp s since) (answered_one s scene)
+begun_fewer s since scene begun = begun_moved s since (without nat_cmp s since) scene (answered_one s scene)
+    (λ r two. find-without-other r s since two) (λ r two. find-without-other r s scene.run.sessions two) (λ r two. find-without-other r s scene.state.sessions two)
+    (find-without-same s since ∙ ap (option_map (λ (t : Transaction). t.snapshot)) (sym (find-without-same s scene.state.sessions)))
+    (λ t b is_t at. absurd (false≢true (ap is_some (sym (find-without-same s scene.run.sessions) ∙ at)))) begun
+
+module _ (lines : List Line) (moment : ℕ) (base : Database) (stuck : List (List ℕ)) (size now : ℕ) (site : Site) (w : Mind)
+    (keeps : Keeps lines (at_start moment base stuck) size now site w) where
+  abbrev point : Point
+  point = final lines (at_start moment base stuck) w.tape
+
+  abbrev scene : Scene
+  scene = scene_of lines (at_start moment base stuck) w
+
+  abbrev answered_mind : ℕ → ℕ → Mind
+  answered_mind s later = record w {
+    run = record w.run { sessions = without nat_cmp s w.run.sessions; answered = w.run.answered + 1 };
+    since = without nat_cmp s w.since;
+    tape = w.tape ++ answer_entry point s later ∷ [];
+  }
+
+  -- the commit that was asked first is answered, whoever flushed; nothing else moves
+  pub answer_turn : (later : ℕ) → now ≤ later → point.state.answered < length point.state.asked → (s : ℕ) × Keeps lines (at_start moment base stuck) size later site (answered_mind s later)
+      × ((final lines (at_start moment base stuck) (w.tape ++ answer_entry point s later ∷ [])).state ≡ without_transaction s (record point.state { answered = point.state.answered + 1 }))
+  answer_turn later le more =
+      let next = waiting_answered lines point later (keeps_reached lines moment base stuck size now site w keeps) (further keeps.later le) more in
+      (next.0, one next.0 next.1, leads next.0 next.1)
+    where
+      further : {a b c : ℕ} → a ≤ b → b ≤ c → a ≤ c
+      further p q = omega (arith, p, q)
+
+      leads : (s : ℕ) → IsAnsweredNext lines point later s → (final lines (at_start moment base stuck) (w.tape ++ answer_entry point s later ∷ [])).state ≡ without_transaction s (record point.state { answered = point.state.answered + 1 })
+      leads s next = ap (λ (p : Point). p.state) (final_push lines (at_start moment base stuck) w.tape (answer_entry point s later))
+          ∙ ap (λ (o : Option Transaction). next_from point.state s o act.Answer (statement_of lines s ((progress_of point s).finished + 1)) (reply.Answered (point.state.answered + 1))) next.there
+
+      one : (s : ℕ) → IsAnsweredNext lines point later s → Keeps lines (at_start moment base stuck) size later site (answered_mind s later)
+      one s next = keeps_entry lines moment base stuck size now site w keeps (answer_entry point s later) site (answered_mind s later) next.comes refl
+          (subst (λ (o : Option Transaction). KeepsScene size site (answered_mind s later) (record { run = (answered_mind s later).run; state = next_from point.state s o act.Answer (statement_of lines s ((progress_of point s).finished + 1)) (reply.Answered (point.state.answered + 1)) })) (sym next.there) (record {
+            low = keeps.scene.low;
+            shown = shown_answered keeps.scene.low site scene keeps.scene.shown s (point.state.answered + 1) next.me next.there next.asked more;
+            begun = begun_fewer s w.since scene keeps.scene.begun;
+            carried = carried_fewer s site scene w.facts keeps.scene.carried;
+            undo = (left_moved site.tables w.run.sessions w.undo keeps.scene.undo.0 site.tables (without nat_cmp s w.run.sessions) refl keeps.scene.undo.0.are_open (λ y in_. nobodys_fewer s y w.run.sessions (keeps.scene.undo.0.nobodys y in_)), keeps.scene.undo.1);
+          }))
+
+-- ---- all that wait are answered
+
+pub answers_all : (lines : List Line) (moment : ℕ) (base : Database) (stuck : List (List ℕ)) (size later : ℕ) (site : Site) (n now : ℕ) (w : Mind) → Keeps lines (at_start moment base stuck) size now site w → now ≤ later
+    → length (final lines (at_start moment base stuck) w.tape).state.asked ≡ (final lines (at_start moment base stuck) w.tape).state.answered + n → AnswersEach (record { lines = lines; moment = moment; base = base; stuck = stuck; size = size }) later site w n
+answers_all lines moment base stuck size later site zero now w keeps le is = record {
+  mind = w;
+  entries = [];
+  keeps = record { legal = keeps.legal; later = up keeps.later le; scene = keeps.scene };
+  tape = nothing w.tape;
+  moments = tt;
+  answered = omega arith;
+  asked = refl;
+}
+  where
+    up : {a b c : ℕ} → a ≤ b → b ≤ c → a ≤ c
+    up p q = omega (arith, p, q)
+
+    nothing : (l : List Entry) → l ≡ l ++ []
+    nothing [] = refl
+    nothing (x ∷ l) = ap (λ m. x ∷ m) (nothing l)
+answers_all lines moment base stuck size later site (suc n) now w keeps le is =
+    let one = answer_turn lines moment base stuck size now site w keeps later le (more (length (final lines (at_start moment base stuck) w.tape).state.asked) (final lines (at_start moment base stuck) w.tape).state.answered is) in
+    let w1 = answered_mind lines moment base stuck size now site w keeps one.0 later in
+    let rest = answers_all lines moment base stuck size later site n later w1 one.1 (omega arith)
+    (ap (λ (st : State). length st.asked) one.2 ∙ next (length (final lines (at_start moment base stuck) w.tape).state.asked) (final lines (at_start moment base stuck) w.tape).state.answered is ∙ ap (λ (st : State). st.answered + n) (sym one.2)) in record {
+      mind = rest.mind;
+      entries = answer_entry (final lines (at_start moment base stuck) w.tape) one.0 later ∷ rest.entries;
+      keeps = rest.keeps;
+      tape = rest.tape ∙ joined w.tape (answer_entry (final lines (at_start moment base stuck) w.tape) one.0 later) rest.entries;
+      moments = (refl, rest.moments);
+      answered = rest.answered ∙ ap (λ (st : State). st.answered + n) one.2 ∙ last (final lines (at_start moment base stuck) w.tape).state.answered;
+      asked = rest.asked ∙ ap (λ (st : State). st.asked) one.2;
+    }
+  where
+    more : (l a : ℕ) → l ≡ a + suc n → a < l
+    more l a is = omega (arith, is)
+
+    next : (l a : ℕ) → l ≡ a + suc n → l ≡ a + 1 + n
+    next l a is = omega (arith, is)
+
+    last : (a : ℕ) → a + 1 + n ≡ a + suc n
+    last a = omega arith
+
+    joined : (l : List Entry) (e : Entry) (es : List Entry) → (l ++ e ∷ []) ++ es ≡ l ++ e ∷ es
+    joined [] e es = refl
+    joined (x ∷ l) e es = ap (λ m. x ∷ m) (joined l e es)

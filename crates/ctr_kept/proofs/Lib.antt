@@ -1,0 +1,9 @@
+pub mod Undo
+pub mod Carried
+pub mod Walking
+pub mod LeftBy
+pub mod Turning
+pub mod SessionTurns
+pub mod RecoveryTurns
+pub mod Beginning
+pub mod Answering

@@ -1,0 +1,5 @@
+use Rattle.ctr_kept.proofs.SessionTurns.{drawn_turn}
+use Rattle.ctr_kept.proofs.sessions.a_number_is_drawn.Goals as goal
+
+pub returns : goal.returns
+returns c = λ r now s site w seat e mine keeps comes owed bounds moves snapshot drawn carries. drawn_turn r.lines r.moment r.base r.stuck r.size now site w keeps s seat.session seat.t seat.at seat.is_t e.n e.later e.statement e.is_it c.another_leaves_what_is_held.ensures mine comes owed bounds moves snapshot drawn carries

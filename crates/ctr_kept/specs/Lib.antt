@@ -1,0 +1,4 @@
+pub mod Carried
+pub mod Undo
+pub mod Walk
+pub mod Turns

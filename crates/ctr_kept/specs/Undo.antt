@@ -1,0 +1,53 @@
+-- Undo's list: the items of the start that are left, and behind them the transactions that were
+-- open then.
+use Rattle.std.specs.Prelude.{◌≡◌, ℕ, ◌+◌, true, List, ◌++◌, length}
+use Rattle.ctr_records.specs.declared.record.SlogItem.{SlogItem}
+use Rattle.ctr_records.specs.declared.record.SlogItem.TheVariants.{AllocOf, FreeOf, CreateOf, DropOf}
+use Rattle.ctr_versions.specs.Engine.{SessionHeld}
+use Rattle.ctr_versions.specs.Laws.{IsNoSessions}
+use Rattle.ctr_meta.specs.Tables.{Tables, is_in}
+use Rattle.ctr_area.specs.Sound.{IsAmong, AreAllOnce, xids_in}
+use Rattle.ctr_record_laws.specs.Owed.{HasNoItems}
+use Rattle.ctr_actions.specs.Actions.{Action, Reclaims}
+
+-- The items that are left, in the order of the secondary log; the transactions that are left; and
+-- how many turns of undo there were.
+pub record Undo : Type 0 where
+  pub items : List SlogItem
+  pub orphans : List ℕ
+  pub turns : ℕ
+
+-- how many turns there are to come
+abbrev pub left_of : Undo → ℕ
+left_of u = length u.items + length u.orphans
+
+-- undo's list as a run begins
+abbrev pub undo_at : Tables → Undo
+undo_at tables = record { items = tables.items; orphans = xids_in tables.opens; turns = 0 }
+
+-- an item is of one of these transactions, or of none
+abbrev pub IsTheirs : List ℕ → SlogItem → Type 0
+IsTheirs xs (AllocOf y p) = IsAmong y xs
+IsTheirs xs (FreeOf p) = Unit {0}
+IsTheirs xs (CreateOf y e) = IsAmong y xs
+IsTheirs xs (DropOf y e) = IsAmong y xs
+
+-- The items of the tables are those left of the start, and behind them those of this run, of which
+-- none is of who is left; who is left is open, once, and no session's.
+pub record IsUndoLeft (tables : Tables) (sessions : List (ℕ × SessionHeld)) (u : Undo) : Type 0 where
+  pub run : List SlogItem
+  pub items : tables.items ≡ u.items ++ run
+  pub theirs : (i : SlogItem) → IsAmong i u.items → IsTheirs u.orphans i
+  pub own : (x : ℕ) → IsAmong x u.orphans → HasNoItems x run
+  pub are_open : (x : ℕ) → IsAmong x u.orphans → is_in x tables.opens ≡ true
+  pub nobodys : (x : ℕ) → IsAmong x u.orphans → IsNoSessions sessions x
+  pub once : AreAllOnce u.orphans
+
+-- Of a start: what was done and what is left is the size of its undo.
+abbrev pub CountsTo : ℕ → Undo → Type 0
+CountsTo size u = u.turns + left_of u ≡ size
+
+-- What is done doesn't give back a page that is on undo's list: that page left its chain before the
+-- start, and undo gives it back.
+abbrev pub SparesUndo : Action → Undo → Type 0
+SparesUndo a u = (p : ℕ) → a ≡ Reclaims p → IsAmong (FreeOf p) u.items → ⊥

@@ -1,0 +1,19 @@
+//! What a World on pages keeps between any two turns, and that each kind of turn keeps it. Definitions, and laws of them.
+//! No program computes them.
+#![tactic(auto)]
+
+mod recovery;
+mod sessions;
+mod silent;
+mod walks;
+
+pub use recovery::{
+    a_page_is_given_back, a_table_is_undone, an_action_of_nobodys_is_kept, an_orphan_is_ended,
+    undo_is_counted,
+};
+pub use sessions::{
+    a_commit_is_asked_for, a_number_is_drawn, a_rollback_ends, a_turn_without_an_entry_is_kept,
+    a_write_is_kept,
+};
+pub use silent::{a_reader_ends, a_rollback_begins, a_session_begins, locks_and_reads_are_kept};
+pub use walks::{a_walk_begins, commits_are_answered, time_and_growth_are_kept};

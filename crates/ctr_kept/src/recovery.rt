@@ -1,0 +1,81 @@
+// Turns of undo and of the cleaner.
+ghost use Rattle.std.specs.Prelude.{◌≡◌, ◌≤◌, ◌+◌, ◌++◌, ℕ, List, [], ◌∷◌, None};
+ghost use Rattle.ctr_records.specs.declared.record.SlogItem.{SlogItem};
+ghost use Rattle.ctr_records.specs.declared.record.SlogItem.TheVariants.{AllocOf, FreeOf, CreateOf, DropOf};
+ghost use Rattle.ctr_model.specs.State.{transaction_of};
+ghost use Rattle.ctr_versions.specs.Laws.{IsNoSessions};
+ghost use Rattle.ctr_meta.specs.declared.items.Wanted.TheVariants.{Creation, Dropping};
+ghost use Rattle.ctr_area.specs.Sound.{IsAmong};
+ghost use Rattle.ctr_record_laws.specs.Bounds.{IsInBounds};
+ghost use Rattle.ctr_actions.specs.Sites.{Site};
+ghost use Rattle.ctr_actions.specs.Actions.{Action, Frees, Reclaims, Uncreates, Undrops, Aborts, Owes, site_after};
+ghost use Rattle.ctr_paged.specs.Moving.{IsItemOfName, MovesTo};
+ghost use Rattle.ctr_paged.specs.Shown.{IsShown};
+ghost use Rattle.ctr_kept.specs.Carried.{IsAwayFromAll};
+ghost use Rattle.ctr_kept.specs.Undo.{Undo, left_of, CountsTo, SparesUndo};
+ghost use Rattle.ctr_kept.specs.Walk.{Mind};
+ghost use Rattle.ctr_kept.specs.Turns.{Start, KeepsRun, state_now, scene_now, undone_mind, release_entry};
+
+use ctr_actions::another_leaves_what_is_held;
+
+/// Undo gives a page back: one that an orphan took and didn't link, or one that left its chain before the stop.
+pub fn a_page_is_given_back()
+    ensures taken { (c : Start) (now later x p : ℕ) (site : Site) (w : Mind) (front : List SlogItem) → KeepsRun c now site w → now ≤ later
+        → w.undo.items ≡ front ++ AllocOf x p ∷ []
+        → IsInBounds (site_after x (Frees p) site).area → KeepsRun c later (site_after x (Frees p) site) (undone_mind front w) }
+    ensures left { (c : Start) (now later x p : ℕ) (site : Site) (w : Mind) (front : List SlogItem) → KeepsRun c now site w → now ≤ later
+        → IsNoSessions w.run.sessions x → w.undo.items ≡ front ++ FreeOf p ∷ []
+        → IsInBounds (site_after x (Reclaims p) site).area → KeepsRun c later (site_after x (Reclaims p) site) (undone_mind front w) }
+{
+    another_leaves_what_is_held();
+}
+
+/// Undo undoes an orphan's making or drop of a table, the latest item that is left. Where other items of the name are left no entry is made;
+/// with the last one recovery releases the name.
+pub fn a_table_is_undone()
+    ensures created { (c : Start) (now later x e : ℕ) (site : Site) (w : Mind) (front : List SlogItem) → KeepsRun c now site w → now ≤ later
+        → w.undo.items ≡ front ++ CreateOf x e ∷ []
+        → IsInBounds (site_after x (Uncreates e) site).area → (z g : ℕ) → IsItemOfName e (Creation e) site z g → IsNoSessions w.run.sessions z
+        → KeepsRun c later (site_after x (Uncreates e) site) (undone_mind front w) }
+    ensures last_created { (c : Start) (now later x e : ℕ) (site : Site) (w : Mind) (front : List SlogItem) → KeepsRun c now site w → now ≤ later
+        → w.undo.items ≡ front ++ CreateOf x e ∷ []
+        → IsInBounds (site_after x (Uncreates e) site).area → transaction_of (state_now c w) 0 ≡ None → ((y f : ℕ) → IsItemOfName e (Creation e) site y f → ⊥)
+        → KeepsRun c later (site_after x (Uncreates e) site) (record (undone_mind front w) { tape = w.tape ++ release_entry (site.area.title e).name later ∷ [] }) }
+    ensures dropped { (c : Start) (now later x e : ℕ) (site : Site) (w : Mind) (front : List SlogItem) → KeepsRun c now site w → now ≤ later
+        → w.undo.items ≡ front ++ DropOf x e ∷ []
+        → IsInBounds (site_after x (Undrops e) site).area → (z g : ℕ) → IsItemOfName e (Dropping e) site z g → IsNoSessions w.run.sessions z
+        → KeepsRun c later (site_after x (Undrops e) site) (undone_mind front w) }
+    ensures last_dropped { (c : Start) (now later x e : ℕ) (site : Site) (w : Mind) (front : List SlogItem) → KeepsRun c now site w → now ≤ later
+        → w.undo.items ≡ front ++ DropOf x e ∷ []
+        → IsInBounds (site_after x (Undrops e) site).area → transaction_of (state_now c w) 0 ≡ None → ((y f : ℕ) → IsItemOfName e (Dropping e) site y f → ⊥)
+        → KeepsRun c later (site_after x (Undrops e) site) (record (undone_mind front w) { tape = w.tape ++ release_entry (site.area.title e).name later ∷ [] }) }
+{
+    another_leaves_what_is_held();
+}
+
+/// Behind all items undo marks the transactions that were open at the start, one a turn.
+pub fn an_orphan_is_ended()
+    ensures { (c : Start) (now later x : ℕ) (site : Site) (w : Mind) (rest : List ℕ) → KeepsRun c now site w → now ≤ later → w.undo.items ≡ []
+        → w.undo.orphans ≡ x ∷ rest → IsInBounds (site_after x Aborts site).area
+        → KeepsRun c later (site_after x Aborts site) (record w { undo = record w.undo { orphans = rest; turns = w.undo.turns + 1 } }) }
+{
+    another_leaves_what_is_held();
+}
+
+/// An action of the cleaner's or the flusher's, which no session and no orphan does, and which is away from what sessions carry: nothing of a run
+/// changes. The low number may have risen before.
+pub fn an_action_of_nobodys_is_kept()
+    ensures { (c : Start) (now later low y : ℕ) (site : Site) (w : Mind) (a : Action) (k : KeepsRun c now site w) → now ≤ later
+        → IsShown low site (scene_now c w) → Owes y a site → IsInBounds (site_after y a site).area
+        → MovesTo low y a site (scene_now c w) (scene_now c w) → IsNoSessions w.run.sessions y → (IsAmong y w.undo.orphans → ⊥)
+        → IsAwayFromAll a site (scene_now c w) w.facts → SparesUndo a w.undo
+        → KeepsRun c later (site_after y a site) w }
+{
+    another_leaves_what_is_held();
+}
+
+/// Undo took as many turns as the start has items and open transactions, where nothing is left; and before that at most so many.
+pub fn undo_is_counted()
+    ensures all { (size : ℕ) (u : Undo) → CountsTo size u → left_of u ≡ 0 → u.turns ≡ size }
+    ensures some { (size : ℕ) (u : Undo) → CountsTo size u → u.turns ≤ size }
+{}
