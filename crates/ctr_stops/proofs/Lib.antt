@@ -1,0 +1,4 @@
+pub mod Fronts
+pub mod Survives
+pub mod Turns
+pub mod Opened

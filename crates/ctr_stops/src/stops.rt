@@ -1,0 +1,81 @@
+// Over each kind of turn.
+ghost use Rattle.std.specs.Prelude.{◌≡◌, ◌≤◌, ℕ, List, [], ◌∷◌, ◌++◌, length, take};
+ghost use Rattle.std.specs.List.{AllByRecursion};
+ghost use Rattle.ctr_types.specs.declared.tape.Entry.{Entry};
+ghost use Rattle.ctr_disk.specs.Device.{LeavesOnly};
+ghost use Rattle.ctr_disk.specs.Image.{Image};
+ghost use Rattle.ctr_records.specs.declared.record.Record.{Record};
+ghost use Rattle.ctr_model.specs.declared.database.Change.{Change};
+ghost use Rattle.ctr_model.specs.Database.{Database, after_all};
+ghost use Rattle.ctr_model.specs.State.{at_rest};
+ghost use Rattle.ctr_model.specs.Texts.{answers};
+ghost use Rattle.ctr_area.specs.Chains.{pages_bound};
+ghost use Rattle.ctr_redo.specs.States.{State, grown};
+ghost use Rattle.ctr_record_effects.specs.States.{area_in};
+ghost use Rattle.ctr_record_effects.specs.Standing.{StandsForDatabase};
+ghost use Rattle.ctr_store.specs.Opening.{LeavesFirst};
+ghost use Rattle.ctr_store.specs.StoreOpening.{OpensStore};
+ghost use Rattle.ctr_store.specs.Store.{View, LeavesFront, LeavesGrowing, GrowsByExtent, Logs};
+ghost use Rattle.ctr_names.specs.Held.{names_of_items};
+ghost use Rattle.ctr_actions.specs.Sites.{site_of};
+ghost use Rattle.ctr_paged.specs.Paged.{at_open};
+ghost use Rattle.ctr_paged.specs.Shown.{IsShown};
+ghost use Rattle.ctr_stops.specs.Fronts.{rows_of_state};
+ghost use Rattle.ctr_stops.specs.Stops.{HasFirstCommits, Course, asking_more, KeepsCommits, ShowsAll, NotesAt, LeavesPrefixAt, LeftSince};
+
+use ctr_disk::Disk;
+use ctr_paged::an_image_opens;
+
+/// A store that is opened on an image that stands for a database has its state, and a stop in the opening leaves its rows, or
+/// what it might have left before.
+pub fn an_opened_store_keeps_commits<D: Disk>()
+    ensures now { (image : Image) (s : State) (v : View D) → StandsForDatabase image s → OpensStore image v → v.now ≡ s }
+    ensures commits { (image : Image) (s : State) (disk : D) (v : View D) → StandsForDatabase image s → OpensStore image v
+        → LeavesOnly D.Disk disk v.disk (LeavesFirst image (D.Disk.images disk))
+        → KeepsCommits D.Disk (record { opened = disk; base = rows_of_state s; asked = [] }) [] v }
+{}
+
+/// However a call ends, with a fault too, a stop leaves a prefix at each moment until then; and so it does in a growth.
+pub fn a_call_that_ends_leaves_a_prefix<D: Disk>()
+    ensures call { (c : Course D) (es : List Entry) (a b : View D) → KeepsCommits D.Disk c es a → LeavesFront D.Disk a b
+        → LeftSince D.Disk (D.Disk.moment_of c.opened) b.disk (LeavesPrefixAt (D.Disk.images c.opened) c.base c.asked es) }
+    ensures growth { (c : Course D) (es : List Entry) (a b : View D) → KeepsCommits D.Disk c es a → a.hardened.counted ≤ grown a.hardened.counted
+        → grown a.hardened.counted ≤ pages_bound → LeavesGrowing D.Disk a b
+        → LeftSince D.Disk (D.Disk.moment_of c.opened) b.disk (LeavesPrefixAt (D.Disk.images c.opened) c.base c.asked es) }
+{}
+
+/// A record is logged, and what is shown then has all that asked; or none is, as pages are read or go home, or what waits is
+/// hardened. No answer comes with it.
+pub fn a_record_more_leaves_a_prefix<D: Disk>()
+    ensures logged { (c : Course D) (es entries : List Entry) (more : List (List Change)) (r : Record) (a b : View D) → KeepsCommits D.Disk c es a
+        → LeavesFront D.Disk a b → Logs (r ∷ []) a b → ShowsAll c.base (c.asked ++ more) b → answers es ≤ length (c.asked ++ more)
+        → NotesAt (D.Disk.moment_of b.disk) es entries → KeepsCommits D.Disk (asking_more more c) (es ++ entries) b }
+    ensures none { (c : Course D) (es entries : List Entry) (a b : View D) → KeepsCommits D.Disk c es a
+        → LeavesFront D.Disk a b → Logs [] a b → NotesAt (D.Disk.moment_of b.disk) es entries → KeepsCommits D.Disk c (es ++ entries) b }
+{}
+
+/// Where nothing waits any more, as many answers may come as have asked.
+pub fn answers_leave_a_prefix<D: Disk>()
+    ensures { (c : Course D) (es entries : List Entry) (a b : View D) → KeepsCommits D.Disk c es a
+        → LeavesFront D.Disk a b → LeavesFront D.Disk b b → Logs [] a b → b.waiting ≡ [] → ShowsAll c.base c.asked b
+        → answers (es ++ entries) ≤ length c.asked → AllByRecursion (λ (e : Entry). e.moment ≡ D.Disk.moment_of b.disk) entries
+        → KeepsCommits D.Disk c (es ++ entries) b }
+{}
+
+/// More pages are counted.
+pub fn a_growth_leaves_a_prefix<D: Disk>()
+    ensures { (c : Course D) (es : List Entry) (a b : View D) → KeepsCommits D.Disk c es a → a.hardened.counted ≤ grown a.hardened.counted
+        → grown a.hardened.counted ≤ pages_bound → LeavesGrowing D.Disk a b → GrowsByExtent D.Disk a b → b.waiting ≡ a.waiting
+        → KeepsCommits D.Disk c es b }
+{}
+
+/// What is left opens, on the rows of its prefix.
+pub fn what_is_left_opens()
+    ensures { (base : Database) (asked : List (List Change)) (least : ℕ) (image : Image) (left : HasFirstCommits base asked least image)
+        → IsShown 0 (site_of left.stands.state) (record {
+          run = at_open;
+          state = at_rest (after_all (take left.k asked) base) (names_of_items (area_in left.stands.state).title left.stands.state.tables.items);
+        }) }
+{
+    an_image_opens();
+}
