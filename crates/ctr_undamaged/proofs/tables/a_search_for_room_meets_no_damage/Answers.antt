@@ -1,0 +1,8 @@
+use Rattle.ctr_record_effects.specs.States.{pages_in}
+use Rattle.ctr_pvs.specs.Along.{EndsVersions}
+use Rattle.ctr_undamaged.proofs.Entries.{meets}
+use Rattle.ctr_undamaged.proofs.Walks.{versions_whole}
+use Rattle.ctr_undamaged.proofs.tables.a_search_for_room_meets_no_damage.Goals as goal
+
+pub returns : goal.returns
+returns c = λ s e sound lt. meets (EndsVersions s.counted (pages_in s) e) (versions_whole s.counted s.tables (pages_in s) sound.passed sound.sound sound.few e lt)

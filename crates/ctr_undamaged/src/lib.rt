@@ -1,0 +1,8 @@
+//! A search on pages that pass their checks meets no damage. Definitions, and laws of them. No program computes them.
+#![tactic(auto)]
+
+mod catalog;
+mod tables;
+
+pub use catalog::a_catalog_search_meets_no_damage;
+pub use tables::{a_bucket_search_meets_no_damage, a_search_for_room_meets_no_damage};

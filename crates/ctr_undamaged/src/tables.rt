@@ -1,0 +1,20 @@
+// The searches along the chains of a table. A call does nothing: what it ensures is the law.
+ghost use Rattle.std.specs.Prelude.{◌<◌, ℕ};
+ghost use Rattle.ctr_redo.specs.States.{State};
+ghost use Rattle.ctr_record_effects.specs.States.{pages_in};
+ghost use Rattle.ctr_record_effects.specs.Standing.{IsDatabaseState};
+ghost use Rattle.ctr_heap.specs.declared.slots.SlotSought.{SlotSought};
+ghost use Rattle.ctr_heap.specs.Finding.{EndsBucket};
+ghost use Rattle.ctr_pvs.specs.Along.{EndsVersions};
+ghost use Rattle.ctr_undamaged.specs.Undamaged.{MeetsNoDamage};
+
+/// In a state that may be a database's the search of a bucket meets no damage, for a key and for a free slot: of one of the 32
+/// entries, and of any bucket, which has no page where the entry is free.
+pub fn a_bucket_search_meets_no_damage()
+    ensures { (s : State) (e bucket : ℕ) (sought : SlotSought) → IsDatabaseState s → e < 32 → MeetsNoDamage (EndsBucket s.counted (pages_in s) e bucket sought) }
+{}
+
+/// Nor does the search for a free version entry of one of the 32 entries.
+pub fn a_search_for_room_meets_no_damage()
+    ensures { (s : State) (e : ℕ) → IsDatabaseState s → e < 32 → MeetsNoDamage (EndsVersions s.counted (pages_in s) e) }
+{}
