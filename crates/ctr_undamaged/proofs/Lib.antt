@@ -1,3 +1,5 @@
 pub mod Entries
 pub mod Inside
 pub mod Walks
+pub mod There
+pub mod Behind

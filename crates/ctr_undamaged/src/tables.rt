@@ -1,11 +1,16 @@
 // The searches along the chains of a table. A call does nothing: what it ensures is the law.
-ghost use Rattle.std.specs.Prelude.{◌<◌, ℕ};
+ghost use Rattle.std.specs.Prelude.{◌≡◌, ◌<◌, ℕ, ⊤};
+ghost use Rattle.ctr_page.specs.declared.rows.Place.{Place};
 ghost use Rattle.ctr_redo.specs.States.{State};
-ghost use Rattle.ctr_record_effects.specs.States.{pages_in};
+ghost use Rattle.ctr_area.specs.Chains.{older_places};
+ghost use Rattle.ctr_area.specs.Sound.{IsAmong};
+ghost use Rattle.ctr_record_effects.specs.States.{pages_in, area_in};
 ghost use Rattle.ctr_record_effects.specs.Standing.{IsDatabaseState};
 ghost use Rattle.ctr_heap.specs.declared.slots.SlotSought.{SlotSought};
 ghost use Rattle.ctr_heap.specs.Finding.{EndsBucket};
 ghost use Rattle.ctr_pvs.specs.Along.{EndsVersions};
+ghost use Rattle.ctr_pvs.specs.Lending.{VersionSaidAt};
+ghost use Rattle.ctr_pvs.specs.Writing.{drop_check};
 ghost use Rattle.ctr_undamaged.specs.Undamaged.{MeetsNoDamage};
 
 /// In a state that may be a database's the search of a bucket meets no damage, for a key and for a free slot: of one of the 32
@@ -17,4 +22,11 @@ pub fn a_bucket_search_meets_no_damage()
 /// Nor does the search for a free version entry of one of the 32 entries.
 pub fn a_search_for_room_meets_no_damage()
     ensures { (s : State) (e : ℕ) → IsDatabaseState s → e < 32 → MeetsNoDamage (EndsVersions s.counted (pages_in s) e) }
+{}
+
+/// Nor is any met on the way to a version entry of a table: to one that is read, and to one that is freed.
+pub fn a_version_entry_is_read_without_damage()
+    ensures read { (s : State) (e : ℕ) (at : Place) → IsDatabaseState s → IsAmong at (older_places (area_in s) e) → MeetsNoDamage (VersionSaidAt s.counted (pages_in s) at) }
+    ensures freed { (s : State) (e : ℕ) (at : Place) → IsDatabaseState s → IsAmong at (older_places (area_in s) e)
+        → MeetsNoDamage {T = ⊤} (λ r. r ≡ drop_check s.counted (pages_in s) at) }
 {}
