@@ -3,3 +3,4 @@ pub mod Inside
 pub mod Walks
 pub mod There
 pub mod Behind
+pub mod Lost

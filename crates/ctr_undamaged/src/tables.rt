@@ -2,7 +2,7 @@
 ghost use Rattle.std.specs.Prelude.{◌≡◌, ◌<◌, ℕ, ⊤};
 ghost use Rattle.ctr_page.specs.declared.rows.Place.{Place};
 ghost use Rattle.ctr_redo.specs.States.{State};
-ghost use Rattle.ctr_area.specs.Chains.{older_places};
+ghost use Rattle.ctr_area.specs.Chains.{slot_places, older_places};
 ghost use Rattle.ctr_area.specs.Sound.{IsAmong};
 ghost use Rattle.ctr_record_effects.specs.States.{pages_in, area_in};
 ghost use Rattle.ctr_record_effects.specs.Standing.{IsDatabaseState};
@@ -10,6 +10,7 @@ ghost use Rattle.ctr_heap.specs.declared.slots.SlotSought.{SlotSought};
 ghost use Rattle.ctr_heap.specs.Finding.{EndsBucket};
 ghost use Rattle.ctr_pvs.specs.Along.{EndsVersions};
 ghost use Rattle.ctr_pvs.specs.Lending.{VersionSaidAt};
+ghost use Rattle.ctr_pvs.specs.Table.{TableSaid};
 ghost use Rattle.ctr_pvs.specs.Writing.{drop_check};
 ghost use Rattle.ctr_undamaged.specs.Undamaged.{MeetsNoDamage};
 
@@ -29,4 +30,10 @@ pub fn a_version_entry_is_read_without_damage()
     ensures read { (s : State) (e : ℕ) (at : Place) → IsDatabaseState s → IsAmong at (older_places (area_in s) e) → MeetsNoDamage (VersionSaidAt s.counted (pages_in s) at) }
     ensures freed { (s : State) (e : ℕ) (at : Place) → IsDatabaseState s → IsAmong at (older_places (area_in s) e)
         → MeetsNoDamage {T = ⊤} (λ r. r ≡ drop_check s.counted (pages_in s) at) }
+{}
+
+/// Nor where a page's table is asked for, by a place of the table: on a page of rows, and on one of versions.
+pub fn a_table_is_known_without_damage()
+    ensures rows { (s : State) (e : ℕ) (at : Place) → IsDatabaseState s → IsAmong at (slot_places (area_in s) e) → MeetsNoDamage (TableSaid 1 s.counted (pages_in s) at.page) }
+    ensures versions { (s : State) (e : ℕ) (at : Place) → IsDatabaseState s → IsAmong at (older_places (area_in s) e) → MeetsNoDamage (TableSaid 2 s.counted (pages_in s) at.page) }
 {}

@@ -1,13 +1,14 @@
 // The searches through the versions of a row. A call does nothing: what it ensures is the law.
-ghost use Rattle.std.specs.Prelude.{◌≡◌, ℕ, Bool};
+ghost use Rattle.std.specs.Prelude.{◌≡◌, ℕ, Bool, ⊤};
 ghost use Rattle.ctr_page.specs.declared.rows.Place.{Place};
 ghost use Rattle.ctr_redo.specs.States.{State};
 ghost use Rattle.ctr_area.specs.Chains.{slot_places};
-ghost use Rattle.ctr_area.specs.Sound.{IsAmong};
+ghost use Rattle.ctr_area.specs.Sound.{IsAmong, IsUsedSlot};
 ghost use Rattle.ctr_record_effects.specs.States.{pages_in, area_in};
 ghost use Rattle.ctr_record_effects.specs.Standing.{IsDatabaseState};
 ghost use Rattle.ctr_chain.specs.Seeking.{sought_at, xids_found};
 ghost use Rattle.ctr_chain.specs.Visible.{EndsReading};
+ghost use Rattle.ctr_revert.specs.Reverting.{revert_check};
 ghost use Rattle.ctr_undamaged.specs.Undamaged.{MeetsNoDamage};
 
 /// In a state that may be a database's the search through the versions of the row at a slot of a table meets no damage, whichever
@@ -17,4 +18,10 @@ pub fn a_row_is_read_without_damage()
         → MeetsNoDamage (λ r. r ≡ xids_found (sought_at sought s.counted (pages_in s) at)) }
     ensures row { (s : State) (sought : ℕ → Bool) (e : ℕ) (at : Place) → IsDatabaseState s → IsAmong at (slot_places (area_in s) e)
         → MeetsNoDamage (EndsReading (sought_at sought s.counted (pages_in s) at)) }
+{}
+
+/// Nor is any met where a used slot is to lose its head: in the slot, and in the version entry behind it.
+pub fn a_head_is_taken_without_damage()
+    ensures { (s : State) (e : ℕ) (at : Place) → IsDatabaseState s → IsUsedSlot (area_in s) e at
+        → MeetsNoDamage {T = ⊤} (λ r. r ≡ revert_check s.counted (pages_in s) at) }
 {}
