@@ -7,7 +7,7 @@ mod versions;
 
 pub use catalog::a_catalog_search_meets_no_damage;
 pub use tables::{
-    a_bucket_search_meets_no_damage, a_search_for_room_meets_no_damage,
+    a_bucket_search_meets_no_damage, a_free_slot_is_the_tables, a_search_for_room_meets_no_damage,
     a_table_is_known_without_damage, a_version_entry_is_read_without_damage,
 };
 pub use versions::{a_head_is_taken_without_damage, a_row_is_read_without_damage};

@@ -1,13 +1,14 @@
 // The searches along the chains of a table. A call does nothing: what it ensures is the law.
-ghost use Rattle.std.specs.Prelude.{◌≡◌, ◌<◌, ℕ, ⊤};
+ghost use Rattle.std.specs.Prelude.{◌≡◌, ◌<◌, ℕ, ⊤, Some};
 ghost use Rattle.ctr_page.specs.declared.rows.Place.{Place};
 ghost use Rattle.ctr_redo.specs.States.{State};
+ghost use Rattle.ctr_area.specs.Areas.{Area};
 ghost use Rattle.ctr_area.specs.Chains.{slot_places, older_places};
 ghost use Rattle.ctr_area.specs.Sound.{IsAmong};
 ghost use Rattle.ctr_record_effects.specs.States.{pages_in, area_in};
 ghost use Rattle.ctr_record_effects.specs.Standing.{IsDatabaseState};
 ghost use Rattle.ctr_heap.specs.declared.slots.SlotSought.{SlotSought};
-ghost use Rattle.ctr_heap.specs.Finding.{EndsBucket};
+ghost use Rattle.ctr_heap.specs.Finding.{EndsBucket, FindsFree};
 ghost use Rattle.ctr_pvs.specs.Along.{EndsVersions};
 ghost use Rattle.ctr_pvs.specs.Lending.{VersionSaidAt};
 ghost use Rattle.ctr_pvs.specs.Table.{TableSaid};
@@ -36,4 +37,9 @@ pub fn a_version_entry_is_read_without_damage()
 pub fn a_table_is_known_without_damage()
     ensures rows { (s : State) (e : ℕ) (at : Place) → IsDatabaseState s → IsAmong at (slot_places (area_in s) e) → MeetsNoDamage (TableSaid 1 s.counted (pages_in s) at.page) }
     ensures versions { (s : State) (e : ℕ) (at : Place) → IsDatabaseState s → IsAmong at (older_places (area_in s) e) → MeetsNoDamage (TableSaid 2 s.counted (pages_in s) at.page) }
+{}
+
+/// A free slot that the search of a bucket answers is a place of the table, as these laws want it.
+pub fn a_free_slot_is_the_tables()
+    ensures { (area : Area) (e bucket : ℕ) (at : Place) → FindsFree area e bucket (Some at) → IsAmong at (slot_places area e) }
 {}
