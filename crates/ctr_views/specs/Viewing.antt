@@ -1,0 +1,33 @@
+-- Who reads of pages: a session in a transaction, and what it finds there.
+use Rattle.std.specs.Prelude.{◌≡◌, ℕ, Bool, List, Option, Some, ⊤, Result, Ok}
+use Rattle.std.specs.Ordering.{nat_cmp}
+use Rattle.std.specs.FinMap.Entries.{find}
+use Rattle.ctr_records.specs.declared.decoding.BadRecord.{BadRecord}
+use Rattle.ctr_model.specs.declared.state.Transaction.{Transaction}
+use Rattle.ctr_versions.specs.Engine.{SessionHeld, IsCalm}
+use Rattle.ctr_meta.specs.Seen.{xid_is_seen}
+use Rattle.ctr_names.specs.Search.{IsNumberOf}
+use Rattle.ctr_actions.specs.Sites.{Site}
+use Rattle.ctr_catalog.specs.Finding.{entry_seen, EndsEntries}
+use Rattle.ctr_paged.specs.Shown.{Scene}
+
+-- A session of the scene is in this transaction, hasn't asked for its commit, and isn't within its
+-- rollback. It reads with the number that it has drawn, or none.
+pub record Viewer (scene : Scene) : Type 0 where
+  pub s : ℕ
+  pub session : SessionHeld
+  pub t : Transaction
+  pub me : Option ℕ
+  pub at : find nat_cmp s scene.run.sessions ≡ Some session
+  pub is_t : find nat_cmp s scene.state.sessions ≡ Some t
+  pub calm : IsCalm session t
+  pub is_me : IsNumberOf session me
+
+-- what it sees of a transaction, by the tables' own test
+abbrev pub sees : {scene : Scene} → Site → Viewer scene → ℕ → Bool
+sees site v = xid_is_seen site.tables v.session.snapshot v.me
+
+-- the search of the catalog for a name ends with this, whatever checks the entries
+abbrev pub Finds : {scene : Scene} → Site → Viewer scene → List ℕ → Option ℕ → Type 0
+Finds site v name found = (check : ℕ → Result ⊤ BadRecord)
+    × EndsEntries check (entry_seen site.tables v.session.snapshot v.me name site.area) (Ok found)

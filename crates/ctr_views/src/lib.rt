@@ -1,0 +1,7 @@
+//! What a session finds and reads on pages is its view, and what was changed since its snapshot. Definitions and laws; no
+//! program computes them.
+#![tactic(auto)]
+
+mod names;
+
+pub use names::{what_changed_answers_is_in_the_model, what_find_answers_is_in_the_view};
