@@ -3,5 +3,7 @@
 #![tactic(auto)]
 
 mod names;
+mod rows;
 
 pub use names::{what_changed_answers_is_in_the_model, what_find_answers_is_in_the_view};
+pub use rows::the_view_has_what_slots_show;
