@@ -1,15 +1,23 @@
 -- Who reads of pages: a session in a transaction, and what it finds there.
 use Rattle.std.specs.Prelude.{◌≡◌, ℕ, Bool, List, Option, Some, ⊤, Result, Ok}
+use Rattle.std.specs.Option.{option_and_then}
 use Rattle.std.specs.Ordering.{nat_cmp}
 use Rattle.std.specs.FinMap.Entries.{find}
 use Rattle.ctr_records.specs.declared.decoding.BadRecord.{BadRecord}
 use Rattle.ctr_model.specs.declared.state.Transaction.{Transaction}
+use Rattle.ctr_versions.specs.Chains.{above}
 use Rattle.ctr_versions.specs.Engine.{SessionHeld, IsCalm}
+use Rattle.ctr_versions.specs.Xids.{number_of}
 use Rattle.ctr_meta.specs.Seen.{xid_is_seen}
+use Rattle.ctr_page.specs.declared.rows.Place.{Place}
+use Rattle.ctr_area.specs.Chains.{chain_of}
+use Rattle.ctr_area.specs.Images.{is_committed_in}
 use Rattle.ctr_names.specs.Search.{IsNumberOf}
 use Rattle.ctr_actions.specs.Sites.{Site}
-use Rattle.ctr_catalog.specs.Finding.{entry_seen, EndsEntries}
+use Rattle.ctr_paged.specs.Paged.{xids_of}
 use Rattle.ctr_paged.specs.Shown.{Scene}
+use Rattle.ctr_catalog.specs.Finding.{entry_seen, EndsEntries}
+use Rattle.ctr_chain.specs.Seeing.{first_xid}
 
 -- A session of the scene is in this transaction, hasn't asked for its commit, and isn't within its
 -- rollback. It reads with the number that it has drawn, or none.
@@ -31,3 +39,13 @@ sees site v = xid_is_seen site.tables v.session.snapshot v.me
 abbrev pub Finds : {scene : Scene} → Site → Viewer scene → List ℕ → Option ℕ → Type 0
 Finds site v name found = (check : ℕ → Result ⊤ BadRecord)
     × EndsEntries check (entry_seen site.tables v.session.snapshot v.me name site.area) (Ok found)
+
+-- whose the newest committed version in a slot is, or none
+abbrev pub newest_in : Site → Place → Option ℕ
+newest_in site at =
+    first_xid (is_committed_in site.tables) (chain_of site.area.older (site.area.slot at))
+
+-- the commit number of a transaction, where there is one and it is above that of the snapshot
+abbrev pub number_since : {scene : Scene} → Site → Viewer scene → Option ℕ → Option ℕ
+number_since {scene} site v found = above v.t.snapshot
+    (option_and_then (number_of (xids_of site.tables scene.run.commits)) found)

@@ -2,8 +2,10 @@
 //! program computes them.
 #![tactic(auto)]
 
+mod changes;
 mod names;
 mod rows;
 
+pub use changes::what_newest_answers_is_in_the_model;
 pub use names::{what_changed_answers_is_in_the_model, what_find_answers_is_in_the_view};
 pub use rows::the_view_has_what_slots_show;
