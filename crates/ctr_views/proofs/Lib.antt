@@ -1,3 +1,4 @@
 pub mod Looking
 pub mod Reading
 pub mod Changed
+pub mod Scanning

@@ -1,14 +1,19 @@
 -- The table that is found is that of the view, and what its slots show are the view's rows.
 use Rattle.std.proofs.Common.{◌≡◌, ℕ, ℤ, Bool, List, Option, Some, None, sym, ◌∙◌, ap}
 use Rattle.std.specs.Option.{option_map}
+use Rattle.std.specs.Prelude.{T}
+use Rattle.std.specs.Ordering.{int_cmp}
+use Rattle.std.specs.FinMap.Entries.{is_sorted}
 use Rattle.ctr_types.specs.declared.value.Row.{Row}
 use Rattle.ctr_model.specs.Database.{table_at}
 use Rattle.ctr_model.specs.Refusals.{row_of}
 use Rattle.ctr_model.specs.State.{view}
 use Rattle.ctr_versions.specs.Chains.{value_seen}
 use Rattle.ctr_versions.specs.Engine.{session_sees}
-use Rattle.ctr_versions.specs.Versions.{Made, Versions, names_at, rows_of, table_seen}
+use Rattle.ctr_versions.specs.Listing.{entries_seen}
+use Rattle.ctr_versions.specs.Versions.{Made, Versions, names_at, rows_of, slots_of, table_seen}
 use Rattle.ctr_versions.specs.Xids.{Xids}
+use Rattle.ctr_versions.proofs.Listing.{is_sorted-shown}
 use Rattle.ctr_versions.proofs.Reading.{row_read, session_reads}
 use Rattle.ctr_area.specs.Images.{is_committed_in, made_by_entry, versions_in}
 use Rattle.ctr_legal.specs.Kept.{IsFirm}
@@ -54,3 +59,10 @@ module _ (low : ℕ) (site : Site) (scene : Scene) (shown : IsShown low site sce
 
   pub none_viewed : (key : ℤ) → IsNoSlot site.area e key → viewed key ≡ None
   none_viewed key none = row_viewed key ∙ ap (value_seen seen) (slot_wasnt (is_committed_in site.tables) site.area e key found.0 (λ b in_ used is. none b (in_, used) is))
+
+  -- the rows that its own test sees
+  abbrev pub seen_rows : List (ℤ × Row)
+  seen_rows = entries_seen seen (slots_of versions e)
+
+  pub seen_sorted : T (is_sorted int_cmp seen_rows)
+  seen_sorted = is_sorted-shown int_cmp seen (slots_of versions e) (rows_sorted (is_committed_in site.tables) site.area e)
