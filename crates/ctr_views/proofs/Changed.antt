@@ -1,6 +1,6 @@
 -- The table that is found is the one of the snapshot, and its rows tell who changed them since.
-use Rattle.std.proofs.Common.{⊎_elim, ◌≡◌, ℕ, zero, suc, ◌+◌, ℤ, Bool, true, false, cond, List, [], ◌∷◌, Option, Some, None, refl, sym, ◌∙◌, ap}
-use Rattle.std.specs.Prelude.{take, drop, is_some, unwrap_or}
+use Rattle.std.proofs.Common.{⊎_elim, ◌≡◌, ℕ, ◌+◌, ℤ, Bool, true, false, cond, List, [], ◌∷◌, Option, Some, None, refl, sym, ◌∙◌, ap}
+use Rattle.std.specs.Prelude.{drop, is_some, unwrap_or}
 use Rattle.std.specs.List.{AllByRecursion, list_any}
 use Rattle.std.specs.Option.{option_map, option_or}
 use Rattle.std.proofs.lemmas.Bool.{false≢true, or_cases, or_parts}
@@ -10,13 +10,13 @@ use Rattle.ctr_model.specs.declared.database.Change.{Change}
 use Rattle.ctr_model.specs.declared.database.Change.TheVariants as change
 use Rattle.ctr_model.specs.Refusals.{answered_since, is_create_of, is_touching, last_with, row_changed_by, schema_changed_by}
 use Rattle.ctr_model.specs.State.{same_name}
-use Rattle.ctr_versions.specs.Chains.{IsUnwritten, Numbers, above, by, changed_since, last_write, newest, newest_since, value_seen, written_by}
+use Rattle.ctr_versions.specs.Chains.{IsUnwritten, Numbers, above, by, changed_since, newest, newest_since, value_seen, written_by}
 use Rattle.ctr_versions.specs.Engine.{ShowsSession}
 use Rattle.ctr_versions.specs.Keys.{left_by, row_writes, schema_change, schema_writes}
 use Rattle.ctr_versions.specs.Versions.{ByX, IsTableSince, Made, Wrote, names_at, rows_of}
 use Rattle.ctr_versions.specs.Xids.{number_of}
 use Rattle.ctr_versions.proofs.Chains.{own_seen}
-use Rattle.ctr_versions.proofs.Conflicts.{none_of_both, row_conflict, schema_changed, steady}
+use Rattle.ctr_versions.proofs.Conflicts.{row_conflict, steady}
 use Rattle.ctr_versions.proofs.Engine.{session_alike}
 use Rattle.ctr_versions.proofs.Keys.{known}
 use Rattle.ctr_versions.proofs.Undoing.{newest_schemas, written_schemas}
@@ -26,6 +26,7 @@ use Rattle.ctr_names.specs.Search.{IsEntryFound}
 use Rattle.ctr_actions.specs.Sites.{Site}
 use Rattle.ctr_paged.specs.Shown.{Scene, IsShown}
 use Rattle.ctr_views.specs.Viewing.{Viewer, sees}
+use Rattle.ctr_views.proofs.Answered.{schema_unchanged}
 use Rattle.ctr_views.proofs.Looking.{session_shown}
 use Rattle.ctr_views.proofs.Reading.{xids, versions, made, found_made}
 
@@ -67,20 +68,6 @@ left_some name (c ∷ cs) some is = elim (left_by (schema_change name) cs) as (�
     by_change (change.Remove table key) is here = false≢true is
     by_change (change.Create table schema) is here = false≢true (sym (ap is_some here) ∙ ap (λ b. is_some (cond b (Some (Some schema)) None)) is)
     by_change (change.Drop table) is here = false≢true is
-
--- the first of them have no write where all have none
-few_none : {V : Type 0} (k a : ℕ) (ws : List (Option (Option V))) → last_write k ws ≡ None → last_write k (take a ws) ≡ None
-few_none k zero ws none = refl
-few_none k (suc a) [] none = refl
-few_none k (suc a) (w ∷ ws) none =
-    let parts = none_of_both (last_write (k + 1) ws) (is_some w) k none in
-    λ i. option_or (few_none (k + 1) a ws parts.0 i) (cond (parts.1 i) (Some k) None)
-
-taken_none : {V : Type 0} (k n a : ℕ) (ws : List (Option (Option V))) → last_write k (drop n ws) ≡ None → last_write k (drop n (take a ws)) ≡ None
-taken_none k zero a ws none = few_none k a ws none
-taken_none k (suc n) zero ws none = refl
-taken_none k (suc n) (suc a) [] none = refl
-taken_none k (suc n) (suc a) (w ∷ ws) none = taken_none k n a ws none
 
 -- versions of one that isn't committed alone have no newest
 own_newest : (number : Numbers) (me : ℕ) (chain : List (ℕ × Option Row)) → number me ≡ None → AllByRecursion (ByX me) chain → newest number chain ≡ None
@@ -142,7 +129,7 @@ module _ (low : ℕ) (site : Site) (scene : Scene) (shown : IsShown low site sce
   rows_told uncreated key = (shown.paged.shows.stands.rows name table key).changes n (found_since uncreated)
 
   schema_same : schema_changed_by scene.state v.t name ≡ None
-  schema_same = schema_changed scene.state v.t name ∙ taken_none (n + 1) n scene.state.answered (schema_writes name scene.state.asked) quiet
+  schema_same = schema_unchanged scene.state v.t name quiet
 
   -- in a table that the session made itself, all rows are its own
   created_none : list_any (is_create_of name) v.t.own ≡ true → (key : ℤ) → newest_since number n (rows key) ≡ None

@@ -1,4 +1,5 @@
 pub mod Looking
 pub mod Reading
+pub mod Answered
 pub mod Changed
 pub mod Scanning

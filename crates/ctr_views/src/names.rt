@@ -1,8 +1,10 @@
 // What is found in the catalog, and who changed it: a law for each refusal that tells of a name.
-ghost use Rattle.std.specs.Prelude.{◌≡◌, ◌<◌, ℕ, List, Some, None, is_some, true};
+ghost use Rattle.std.specs.Prelude.{◌≡◌, ◌<◌, ℕ, List, Some, None, is_some, true, drop};
+ghost use Rattle.std.specs.List.{AllByRecursion};
 ghost use Rattle.ctr_model.specs.Database.{table_at};
+ghost use Rattle.ctr_model.specs.Refusals.{schema_changed_by};
 ghost use Rattle.ctr_model.specs.State.{view};
-ghost use Rattle.ctr_versions.specs.Chains.{changed_since};
+ghost use Rattle.ctr_versions.specs.Chains.{IsUnwritten, changed_since};
 ghost use Rattle.ctr_versions.specs.Keys.{schema_writes, schema_named};
 ghost use Rattle.ctr_area.specs.Images.{made_by_entry};
 ghost use Rattle.ctr_legal.specs.Kept.{IsFirm};
@@ -34,6 +36,12 @@ pub fn what_changed_answers_is_in_the_model()
     ensures steady { (low : ℕ) (site : Site) (scene : Scene) (v : Viewer scene) (name : List ℕ) → IsShown low site scene → IsFirm scene.state.asked v.t
         → ((e : ℕ) → e < 32 → changed_in site.tables v.session.snapshot name site.area e ≡ None)
         → changed_since v.t.snapshot (schema_writes name scene.state.asked) ≡ None }
+    // The model refuses so: for a change that is answered, and for none where none is told.
+    ensures refused { (low : ℕ) (site : Site) (scene : Scene) (v : Viewer scene) (name : List ℕ) (e x : ℕ) → IsShown low site scene → IsFirm scene.state.asked v.t
+        → e < 32 → changed_in site.tables v.session.snapshot name site.area e ≡ Some x
+        → AllByRecursion IsUnwritten (drop scene.state.answered (schema_writes name scene.state.asked)) → is_some (schema_changed_by scene.state v.t name) ≡ true }
+    ensures unrefused { (low : ℕ) (site : Site) (scene : Scene) (v : Viewer scene) (name : List ℕ) → IsShown low site scene → IsFirm scene.state.asked v.t
+        → ((e : ℕ) → e < 32 → changed_in site.tables v.session.snapshot name site.area e ≡ None) → schema_changed_by scene.state v.t name ≡ None }
 {
     what_changed_answers_is_told();
 }
