@@ -3,3 +3,4 @@ pub mod Reading
 pub mod Answered
 pub mod Changed
 pub mod Scanning
+pub mod Newest

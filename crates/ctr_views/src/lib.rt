@@ -7,5 +7,8 @@ mod names;
 mod rows;
 
 pub use changes::what_newest_answers_is_in_the_model;
-pub use names::{what_changed_answers_is_in_the_model, what_find_answers_is_in_the_view};
+pub use names::{
+    the_newest_change_of_a_name_is_told, what_changed_answers_is_in_the_model,
+    what_find_answers_is_in_the_view,
+};
 pub use rows::{a_scan_gives_the_table, the_view_has_what_slots_show};

@@ -1,5 +1,5 @@
 // What is found in the catalog, and who changed it: a law for each refusal that tells of a name.
-ghost use Rattle.std.specs.Prelude.{◌≡◌, ◌<◌, ℕ, List, Some, None, is_some, true, drop};
+ghost use Rattle.std.specs.Prelude.{◌≡◌, ◌<◌, ◌≤◌, ℕ, List, Some, None, is_some, true, drop};
 ghost use Rattle.std.specs.List.{AllByRecursion};
 ghost use Rattle.ctr_model.specs.Database.{table_at};
 ghost use Rattle.ctr_model.specs.Refusals.{schema_changed_by};
@@ -12,7 +12,7 @@ ghost use Rattle.ctr_names.specs.Search.{IsEntryFound};
 ghost use Rattle.ctr_actions.specs.Sites.{Site};
 ghost use Rattle.ctr_catalog.specs.Finding.{changed_in};
 ghost use Rattle.ctr_paged.specs.Shown.{Scene, IsShown};
-ghost use Rattle.ctr_views.specs.Viewing.{Viewer, sees, Finds};
+ghost use Rattle.ctr_views.specs.Viewing.{Viewer, sees, Finds, number_since};
 
 use ctr_catalog::{what_changed_answers_is_told, what_find_answers_is_found};
 
@@ -45,3 +45,17 @@ pub fn what_changed_answers_is_in_the_model()
 {
     what_changed_answers_is_told();
 }
+
+/// With which number: the last change of a name since the session's snapshot is by one that `changed` answers, and none
+/// that it answers has a greater number. The model refuses with it, where nobody who asked and isn't answered has the name.
+pub fn the_newest_change_of_a_name_is_told()
+    ensures newest { (low : ℕ) (site : Site) (scene : Scene) (v : Viewer scene) (name : List ℕ) (k : ℕ) → IsShown low site scene
+        → changed_since v.t.snapshot (schema_writes name scene.state.asked) ≡ Some k
+        → (e : ℕ) × (e < 32) × (x : ℕ) × (changed_in site.tables v.session.snapshot name site.area e ≡ Some x) × (number_since site v (Some x) ≡ Some k) }
+    ensures most { (low : ℕ) (site : Site) (scene : Scene) (v : Viewer scene) (name : List ℕ) (e x : ℕ) → IsShown low site scene
+        → e < 32 → changed_in site.tables v.session.snapshot name site.area e ≡ Some x
+        → (j : ℕ) × (number_since site v (Some x) ≡ Some j) × ((k : ℕ) → changed_since v.t.snapshot (schema_writes name scene.state.asked) ≡ Some k → j ≤ k) }
+    ensures refused { (low : ℕ) (site : Site) (scene : Scene) (v : Viewer scene) (name : List ℕ) → IsShown low site scene
+        → AllByRecursion IsUnwritten (drop scene.state.answered (schema_writes name scene.state.asked))
+        → schema_changed_by scene.state v.t name ≡ changed_since v.t.snapshot (schema_writes name scene.state.asked) }
+{}
