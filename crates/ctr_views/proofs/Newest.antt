@@ -173,7 +173,7 @@ module _ (low : ℕ) (site : Site) (scene : Scene) (shown : IsShown low site sce
 
   -- who is told has a number, which is at most that of the last change
   abbrev IsAtMost : ℕ → Type 0
-  IsAtMost x = (j : ℕ) × (above n (number x) ≡ Some j) × ((k : ℕ) → changed_since n (schema_writes name scene.state.asked) ≡ Some k → j ≤ k)
+  IsAtMost x = (is_some (changed_since n (schema_writes name scene.state.asked)) ≡ true) × (j : ℕ) × (above n (number x) ≡ Some j) × ((k : ℕ) → changed_since n (schema_writes name scene.state.asked) ≡ Some k → j ≤ k)
 
   within : (x j k : ℕ) → n < j → number x ≡ Some j → ((m : ℕ) → low ≤ m → IsTold number m (schema_writes name scene.state.asked) x) → changed_since n (schema_writes name scene.state.asked) ≡ Some k → j ≤ k
   within x zero k lt is one last = absurd (omega (arith, lt))
@@ -188,11 +188,9 @@ module _ (low : ℕ) (site : Site) (scene : Scene) (shown : IsShown low site sce
 
   at_most : (x : ℕ) → told x ≡ true → (x ≡ 0) ⊎ IfOld x → ((m : ℕ) → low ≤ m → (x ≡ 0) ⊎ IsTold number m (schema_writes name scene.state.asked) x) → IsAtMost x
   at_most x is old one =
-      let some = ⊎_elim (λ none. absurd (false≢true (ap told (sym none) ∙ is))) (λ old. some_above n (number x) (sym (told_as x old) ∙ is)) old in (
-        some.0,
-        ap (above n) some.1 ∙ above_some n some.0 some.2,
-        λ k last. within x some.0 k some.2 some.1 (λ m le. ⊎_elim (λ none. absurd (false≢true (ap told (sym none) ∙ is))) (λ one. one) (one m le)) last,
-      )
+      let some = ⊎_elim (λ none. absurd (false≢true (ap told (sym none) ∙ is))) (λ old. some_above n (number x) (sym (told_as x old) ∙ is)) old in
+      let each : (m : ℕ) → low ≤ m → IsTold number m (schema_writes name scene.state.asked) x = λ m le. ⊎_elim (λ none. absurd (false≢true (ap told (sym none) ∙ is))) (λ one. one) (one m le) in
+      (each n its.from some.0 some.1 some.2, some.0, ap (above n) some.1 ∙ above_some n some.0 some.2, λ k last. within x some.0 k some.2 some.1 each last)
 
   pub told_at_most : (f x : ℕ) → f < 32 → changed_in site.tables v.session.snapshot name site.area f ≡ Some x → IsAtMost x
   told_at_most f x lt is =
@@ -208,3 +206,11 @@ module _ (low : ℕ) (site : Site) (scene : Scene) (shown : IsShown low site sce
     where
       one_some : (a : ℕ) → Some a ≡ Some x → a ≡ x
       one_some a e = ap (λ (o : Option ℕ). unwrap_or o a) e
+
+  -- Where nobody is told of any entry, there is no change.
+  pub none_is_told : ((f : ℕ) → f < 32 → changed_in site.tables v.session.snapshot name site.area f ≡ None) → changed_since n (schema_writes name scene.state.asked) ≡ None
+  none_is_told none = by_last (changed_since n (schema_writes name scene.state.asked)) refl
+    where
+      by_last : (o : Option ℕ) → changed_since n (schema_writes name scene.state.asked) ≡ o → changed_since n (schema_writes name scene.state.asked) ≡ None
+      by_last None is = is
+      by_last (Some k) is = let one = newest_is_told k is in absurd (false≢true (ap is_some (sym (none one.0 one.1) ∙ one.3)))

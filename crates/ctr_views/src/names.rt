@@ -14,7 +14,7 @@ ghost use Rattle.ctr_catalog.specs.Finding.{changed_in};
 ghost use Rattle.ctr_paged.specs.Shown.{Scene, IsShown};
 ghost use Rattle.ctr_views.specs.Viewing.{Viewer, sees, Finds, number_since};
 
-use ctr_catalog::{what_changed_answers_is_told, what_find_answers_is_found};
+use ctr_catalog::what_find_answers_is_found;
 
 /// NoTable and TableExists: an entry that the search of a session finds is that of its view's table, with these columns; and
 /// where it finds none, the view has no table of the name.
@@ -30,21 +30,19 @@ pub fn what_find_answers_is_in_the_view()
 /// SchemaChanged: where `changed` answers somebody of an entry, a table of the name was made or dropped since the session's
 /// snapshot, and where it answers nobody of each of the 32, none was.
 pub fn what_changed_answers_is_in_the_model()
-    ensures changed { (low : ℕ) (site : Site) (scene : Scene) (v : Viewer scene) (name : List ℕ) (e x : ℕ) → IsShown low site scene → IsFirm scene.state.asked v.t
+    ensures changed { (low : ℕ) (site : Site) (scene : Scene) (v : Viewer scene) (name : List ℕ) (e x : ℕ) → IsShown low site scene
         → e < 32 → changed_in site.tables v.session.snapshot name site.area e ≡ Some x
         → is_some (changed_since v.t.snapshot (schema_writes name scene.state.asked)) ≡ true }
-    ensures steady { (low : ℕ) (site : Site) (scene : Scene) (v : Viewer scene) (name : List ℕ) → IsShown low site scene → IsFirm scene.state.asked v.t
+    ensures steady { (low : ℕ) (site : Site) (scene : Scene) (v : Viewer scene) (name : List ℕ) → IsShown low site scene
         → ((e : ℕ) → e < 32 → changed_in site.tables v.session.snapshot name site.area e ≡ None)
         → changed_since v.t.snapshot (schema_writes name scene.state.asked) ≡ None }
     // The model refuses so: for a change that is answered, and for none where none is told.
-    ensures refused { (low : ℕ) (site : Site) (scene : Scene) (v : Viewer scene) (name : List ℕ) (e x : ℕ) → IsShown low site scene → IsFirm scene.state.asked v.t
+    ensures refused { (low : ℕ) (site : Site) (scene : Scene) (v : Viewer scene) (name : List ℕ) (e x : ℕ) → IsShown low site scene
         → e < 32 → changed_in site.tables v.session.snapshot name site.area e ≡ Some x
         → AllByRecursion IsUnwritten (drop scene.state.answered (schema_writes name scene.state.asked)) → is_some (schema_changed_by scene.state v.t name) ≡ true }
-    ensures unrefused { (low : ℕ) (site : Site) (scene : Scene) (v : Viewer scene) (name : List ℕ) → IsShown low site scene → IsFirm scene.state.asked v.t
+    ensures unrefused { (low : ℕ) (site : Site) (scene : Scene) (v : Viewer scene) (name : List ℕ) → IsShown low site scene
         → ((e : ℕ) → e < 32 → changed_in site.tables v.session.snapshot name site.area e ≡ None) → schema_changed_by scene.state v.t name ≡ None }
-{
-    what_changed_answers_is_told();
-}
+{}
 
 /// With which number: the last change of a name since the session's snapshot is by one that `changed` answers, and none
 /// that it answers has a greater number. The model refuses with it, where nobody who asked and isn't answered has the name.
