@@ -1,5 +1,5 @@
-//! What a session finds and reads on pages is its view, and what was changed since its snapshot. Definitions and laws; no
-//! program computes them.
+//! What a session finds and reads on pages is its view, and who changed it since its snapshot, where a scene is shown.
+//! Definitions and laws; no program computes them.
 #![tactic(auto)]
 
 mod changes;
