@@ -19,16 +19,15 @@ use ctr_chain::{a_changed_row_is_told, a_slot_is_read_as_its_row};
 
 /// RowChanged: in a table that is the one of the session's snapshot, and that the session didn't make itself, the newest
 /// committed version in a used slot has a number above the snapshot's exactly where the row was changed since, and it is
-/// that of the last change; the tables' own test tells as much. Where no used slot has the key, it wasn't changed.
+/// that of the last change. Where no used slot has the key, it wasn't changed.
 pub fn what_newest_answers_is_in_the_model()
     ensures number { (low : ℕ) (site : Site) (scene : Scene) (v : Viewer scene) (name : List ℕ) (e : ℕ) (at : Place) → IsShown low site scene → IsFirm scene.state.asked v.t
         → IsEntryFound (sees site v) name site.area e → IsUsedSlot site.area e at → changed_since v.t.snapshot (schema_writes name scene.state.asked) ≡ None
         → list_any (is_create_of name) v.t.own ≡ false
         → number_since site v (newest_in site at) ≡ changed_since v.t.snapshot (row_writes name (site.area.slot at).key scene.state.asked) }
-    ensures told { (low : ℕ) (site : Site) (scene : Scene) (v : Viewer scene) (name : List ℕ) (e : ℕ) (at : Place) → IsShown low site scene → IsFirm scene.state.asked v.t
-        → IsEntryFound (sees site v) name site.area e → IsUsedSlot site.area e at → changed_since v.t.snapshot (schema_writes name scene.state.asked) ≡ None
-        → list_any (is_create_of name) v.t.own ≡ false
-        → option_map_or (xid_is_changed site.tables v.session.snapshot) (newest_in site at) false ≡ is_some (changed_since v.t.snapshot (row_writes name (site.area.slot at).key scene.state.asked)) }
+    // The tables' own test tells whether there is such a number, of whatever table.
+    ensures told { (low : ℕ) (site : Site) (scene : Scene) (v : Viewer scene) (e : ℕ) (at : Place) → IsShown low site scene → IsUsedSlot site.area e at
+        → option_map_or (xid_is_changed site.tables v.session.snapshot) (newest_in site at) false ≡ is_some (number_since site v (newest_in site at)) }
     ensures none { (low : ℕ) (site : Site) (scene : Scene) (v : Viewer scene) (name : List ℕ) (e : ℕ) (key : ℤ) → IsShown low site scene → IsFirm scene.state.asked v.t
         → IsEntryFound (sees site v) name site.area e → IsNoSlot site.area e key → changed_since v.t.snapshot (schema_writes name scene.state.asked) ≡ None
         → list_any (is_create_of name) v.t.own ≡ false → changed_since v.t.snapshot (row_writes name key scene.state.asked) ≡ None }

@@ -17,11 +17,11 @@ returns-clause-number c = λ low site scene v name e at shown firm found used qu
     ∙ rows_told low site scene shown v firm name e found quiet uncreated (site.area.slot at).key
 
 pub returns-clause-told : goal.returns-clause-told
-returns-clause-told c = λ low site scene v name e at shown firm found used quiet uncreated.
+returns-clause-told c = λ low site scene v e at shown used.
     let xids = xids_of site.tables scene.run.commits in
     let its = session_shown low site scene shown v in
     c.a_changed_row_is_told.ensures site.counted site.tables site.area xids v.session.snapshot v.t.snapshot e at shown.paged.sound shown.paged.bounds used (of_tables low site scene shown) its.snapshot its.old
-    ∙ ap is_some (rows_told low site scene shown v firm name e found quiet uncreated (site.area.slot at).key)
+    ∙ ap (λ o. is_some (above v.t.snapshot o)) (sym (c.a_slot_is_read_as_its_row.ensures.newest site.counted site.tables site.area (number_of xids) e at shown.paged.sound shown.paged.bounds used (agrees site.tables xids (of_tables low site scene shown))))
 
 pub returns-clause-none : goal.returns-clause-none
 returns-clause-none c = λ low site scene v name e key shown firm found none quiet uncreated.
