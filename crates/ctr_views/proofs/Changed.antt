@@ -25,7 +25,7 @@ use Rattle.ctr_legal.specs.Kept.{IsFirm}
 use Rattle.ctr_names.specs.Search.{IsEntryFound}
 use Rattle.ctr_actions.specs.Sites.{Site}
 use Rattle.ctr_paged.specs.Shown.{Scene, IsShown}
-use Rattle.ctr_views.specs.Viewing.{Viewer, sees}
+use Rattle.ctr_views.specs.Viewing.{Viewer, sees_by}
 use Rattle.ctr_views.proofs.Answered.{schema_unchanged}
 use Rattle.ctr_views.proofs.Looking.{session_shown}
 use Rattle.ctr_views.proofs.Reading.{xids, versions, made, found_made}
@@ -76,7 +76,7 @@ own_newest number me (v ∷ vs) none all = ap (λ o. option_or o (newest number 
 
 -- ---- the table that is found
 
-module _ (low : ℕ) (site : Site) (scene : Scene) (shown : IsShown low site scene) (v : Viewer scene) (firm : IsFirm scene.state.asked v.t) (name : List ℕ) (e : ℕ) (found : IsEntryFound (sees site v) name site.area e)
+module _ (low : ℕ) (site : Site) (scene : Scene) (shown : IsShown low site scene) (v : Viewer scene) (firm : IsFirm scene.state.asked v.t) (name : List ℕ) (e : ℕ) (found : IsEntryFound (sees_by site v) name site.area e)
     (quiet : changed_since v.t.snapshot (schema_writes name scene.state.asked) ≡ None) where
   abbrev number : Numbers
   number = number_of (xids low site scene shown v firm name e found)

@@ -19,7 +19,7 @@ use Rattle.ctr_names.proofs.Fates.{found_same}
 use Rattle.ctr_actions.specs.Sites.{Site}
 use Rattle.ctr_paged.specs.Paged.{xids_of}
 use Rattle.ctr_paged.specs.Shown.{Scene, IsShown}
-use Rattle.ctr_views.specs.Viewing.{Viewer, sees}
+use Rattle.ctr_views.specs.Viewing.{Viewer, sees_by}
 
 -- what is found is one
 pub one_found : {X : Type 0} (a b : X) (o : Option X) → o ≡ Some a → o ≡ Some b → a ≡ b
@@ -41,13 +41,13 @@ module _ (low : ℕ) (site : Site) (scene : Scene) (shown : IsShown low site sce
         (one_found its.0 v.session (find nat_cmp v.s scene.run.sessions) its.1 v.at) its.2
 
     -- its test is the one of the tables
-    pub sees_as : (λ (x : ℕ). sees site v x) ≡ finds (xids_of site.tables scene.run.commits) v.session
+    pub sees_as : (λ (x : ℕ). sees_by site v x) ≡ finds (xids_of site.tables scene.run.commits) v.session
     sees_as = λ i x. found_same site.counted site.tables site.area shown.paged.sound (xids_of site.tables scene.run.commits) of_tables v.session v.me v.is_me x i
 
-    pub found_as : (name : List ℕ) (e : ℕ) → IsEntryFound (finds (xids_of site.tables scene.run.commits) v.session) name site.area e → IsEntryFound (sees site v) name site.area e
+    pub found_as : (name : List ℕ) (e : ℕ) → IsEntryFound (finds (xids_of site.tables scene.run.commits) v.session) name site.area e → IsEntryFound (sees_by site v) name site.area e
     found_as name e its = subst (λ test. IsEntryFound test name site.area e) (sym sees_as) its
 
-    pub as_found : (name : List ℕ) (e : ℕ) → IsEntryFound (sees site v) name site.area e → IsEntryFound (finds (xids_of site.tables scene.run.commits) v.session) name site.area e
+    pub as_found : (name : List ℕ) (e : ℕ) → IsEntryFound (sees_by site v) name site.area e → IsEntryFound (finds (xids_of site.tables scene.run.commits) v.session) name site.area e
     as_found name e its = subst (λ test. IsEntryFound test name site.area e) sees_as its
 
     module _ (firm : IsFirm scene.state.asked v.t) (name : List ℕ) where

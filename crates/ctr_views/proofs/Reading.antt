@@ -23,11 +23,11 @@ use Rattle.ctr_names.proofs.Search.{sought_shows}
 use Rattle.ctr_actions.specs.Sites.{Site}
 use Rattle.ctr_paged.specs.Paged.{xids_of, engine_at}
 use Rattle.ctr_paged.specs.Shown.{Scene, IsShown}
-use Rattle.ctr_views.specs.Viewing.{Viewer, sees}
+use Rattle.ctr_views.specs.Viewing.{Viewer, sees_by}
 use Rattle.ctr_views.specs.Scanning.{IsNoSlot}
 use Rattle.ctr_views.proofs.Looking.{names_shown, session_shown, look, looking, as_found}
 
-module _ (low : ℕ) (site : Site) (scene : Scene) (shown : IsShown low site scene) (v : Viewer scene) (firm : IsFirm scene.state.asked v.t) (name : List ℕ) (e : ℕ) (found : IsEntryFound (sees site v) name site.area e) where
+module _ (low : ℕ) (site : Site) (scene : Scene) (shown : IsShown low site scene) (v : Viewer scene) (firm : IsFirm scene.state.asked v.t) (name : List ℕ) (e : ℕ) (found : IsEntryFound (sees_by site v) name site.area e) where
   abbrev pub xids : Xids
   xids = xids_of site.tables scene.run.commits
 

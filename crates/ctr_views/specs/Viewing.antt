@@ -32,8 +32,8 @@ pub record Viewer (scene : Scene) : Type 0 where
   pub is_me : IsNumberOf session me
 
 -- what it sees of a transaction, by the tables' own test
-abbrev pub sees : {scene : Scene} → Site → Viewer scene → ℕ → Bool
-sees site v = xid_is_seen site.tables v.session.snapshot v.me
+abbrev pub sees_by : {scene : Scene} → Site → Viewer scene → ℕ → Bool
+sees_by site v = xid_is_seen site.tables v.session.snapshot v.me
 
 -- the search of the catalog for a name ends with this, whatever checks the entries
 abbrev pub Finds : {scene : Scene} → Site → Viewer scene → List ℕ → Option ℕ → Type 0

@@ -12,7 +12,7 @@ ghost use Rattle.ctr_names.specs.Search.{IsEntryFound};
 ghost use Rattle.ctr_actions.specs.Sites.{Site};
 ghost use Rattle.ctr_catalog.specs.Finding.{changed_in};
 ghost use Rattle.ctr_paged.specs.Shown.{Scene, IsShown};
-ghost use Rattle.ctr_views.specs.Viewing.{Viewer, sees, Finds, number_since};
+ghost use Rattle.ctr_views.specs.Viewing.{Viewer, sees_by, Finds, number_since};
 
 use ctr_catalog::what_find_answers_is_found;
 
@@ -20,7 +20,7 @@ use ctr_catalog::what_find_answers_is_found;
 /// where it finds none, the view has no table of the name.
 pub fn what_find_answers_is_in_the_view()
     ensures found { (low : ℕ) (site : Site) (scene : Scene) (v : Viewer scene) (name : List ℕ) (e : ℕ) → IsShown low site scene → IsFirm scene.state.asked v.t
-        → Finds site v name (Some e) → IsEntryFound (sees site v) name site.area e × (schema_named (view scene.state v.t) name ≡ Some (made_by_entry (e, site.area.title e)).schema) }
+        → Finds site v name (Some e) → IsEntryFound (sees_by site v) name site.area e × (schema_named (view scene.state v.t) name ≡ Some (made_by_entry (e, site.area.title e)).schema) }
     ensures none { (low : ℕ) (site : Site) (scene : Scene) (v : Viewer scene) (name : List ℕ) → IsShown low site scene → IsFirm scene.state.asked v.t
         → Finds site v name None → table_at (view scene.state v.t) name ≡ None }
 {

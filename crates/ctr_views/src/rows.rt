@@ -13,7 +13,7 @@ ghost use Rattle.ctr_actions.specs.Sites.{Site};
 ghost use Rattle.ctr_chain.specs.Visible.{visible_row};
 ghost use Rattle.ctr_paged.specs.Shown.{Scene, IsShown};
 ghost use Rattle.ctr_views.specs.Scanning.{IsNoSlot, AreScanned, rows_scanned};
-ghost use Rattle.ctr_views.specs.Viewing.{Viewer, sees};
+ghost use Rattle.ctr_views.specs.Viewing.{Viewer, sees_by};
 
 use ctr_chain::a_slot_is_read_as_its_row;
 
@@ -21,10 +21,10 @@ use ctr_chain::a_slot_is_read_as_its_row;
 /// has no row at it.
 pub fn the_view_has_what_slots_show()
     ensures used { (low : ℕ) (site : Site) (scene : Scene) (v : Viewer scene) (name : List ℕ) (e : ℕ) (at : Place) → IsShown low site scene → IsFirm scene.state.asked v.t
-        → IsEntryFound (sees site v) name site.area e → IsUsedSlot site.area e at
-        → row_of (table_at (view scene.state v.t) name) (site.area.slot at).key ≡ visible_row (sees site v) site.area at }
+        → IsEntryFound (sees_by site v) name site.area e → IsUsedSlot site.area e at
+        → row_of (table_at (view scene.state v.t) name) (site.area.slot at).key ≡ visible_row (sees_by site v) site.area at }
     ensures none { (low : ℕ) (site : Site) (scene : Scene) (v : Viewer scene) (name : List ℕ) (e : ℕ) (key : ℤ) → IsShown low site scene → IsFirm scene.state.asked v.t
-        → IsEntryFound (sees site v) name site.area e → IsNoSlot site.area e key
+        → IsEntryFound (sees_by site v) name site.area e → IsNoSlot site.area e key
         → row_of (table_at (view scene.state v.t) name) key ≡ None }
 {
     a_slot_is_read_as_its_row();
@@ -34,14 +34,14 @@ pub fn the_view_has_what_slots_show()
 /// those that are gathered slot by slot. Each row of the view stands in a used slot, and no two of them have one key.
 pub fn a_scan_gives_the_table()
     ensures scanned { (low : ℕ) (site : Site) (scene : Scene) (v : Viewer scene) (name : List ℕ) (e : ℕ) (rows : List (ℤ × Row)) → IsShown low site scene → IsFirm scene.state.asked v.t
-        → IsEntryFound (sees site v) name site.area e → AreScanned (sees site v) site.area e rows
+        → IsEntryFound (sees_by site v) name site.area e → AreScanned (sees_by site v) site.area e rows
         → table_at (view scene.state v.t) name ≡ Some (record { schema = record { columns = (site.area.title e).columns }; rows = rows }) }
     ensures gathered { (low : ℕ) (site : Site) (scene : Scene) (v : Viewer scene) (name : List ℕ) (e : ℕ) → IsShown low site scene → IsFirm scene.state.asked v.t
-        → IsEntryFound (sees site v) name site.area e
-        → table_at (view scene.state v.t) name ≡ Some (record { schema = record { columns = (site.area.title e).columns }; rows = rows_scanned (sees site v) site.area (slot_places site.area e) }) }
+        → IsEntryFound (sees_by site v) name site.area e
+        → table_at (view scene.state v.t) name ≡ Some (record { schema = record { columns = (site.area.title e).columns }; rows = rows_scanned (sees_by site v) site.area (slot_places site.area e) }) }
     ensures stands { (low : ℕ) (site : Site) (scene : Scene) (v : Viewer scene) (name : List ℕ) (e : ℕ) (key : ℤ) (row : Row) → IsShown low site scene → IsFirm scene.state.asked v.t
-        → IsEntryFound (sees site v) name site.area e → row_of (table_at (view scene.state v.t) name) key ≡ Some row
-        → (at : Place) × IsUsedSlot site.area e at × ((site.area.slot at).key ≡ key) × (visible_row (sees site v) site.area at ≡ Some row) }
+        → IsEntryFound (sees_by site v) name site.area e → row_of (table_at (view scene.state v.t) name) key ≡ Some row
+        → (at : Place) × IsUsedSlot site.area e at × ((site.area.slot at).key ≡ key) × (visible_row (sees_by site v) site.area at ≡ Some row) }
     ensures once { (low : ℕ) (site : Site) (scene : Scene) (e : ℕ) (a b : Place) → IsShown low site scene → IsUsedSlot site.area e a → IsUsedSlot site.area e b
         → (site.area.slot a).key ≡ (site.area.slot b).key → a ≡ b }
 {
