@@ -5,3 +5,4 @@ pub mod Reshaped
 pub mod Kept
 pub mod Grown
 pub mod Sound
+pub mod Apart

@@ -1,14 +1,18 @@
 -- Where the bytes of an action lie, and what of them must pass its checks.
-use Rattle.std.specs.Prelude.{◌≡◌, ◌≢◌, ℕ, ◌+◌, ◌*◌, ◌/◌, ◌%◌, ◌<◌, ◌≤◌, List}
+use Rattle.std.specs.Prelude.{◌≡◌, ◌≢◌, ℕ, ◌+◌, ◌*◌, ◌/◌, ◌%◌, ◌<◌, ◌≤◌, List, length}
 use Rattle.ctr_bytes.specs.Fields.{field}
 use Rattle.ctr_page.specs.declared.checks.Chain.TheVariants.{Rows, Versions}
 use Rattle.ctr_page.specs.declared.rows.Place.{Place}
-use Rattle.ctr_page.specs.declared.table.TheConstants.{ENTRY_SIZE, HEADER_SIZE}
+use Rattle.ctr_page.specs.declared.table.TheConstants.{PAGE_SIZE, ENTRY_SIZE, HEADER_SIZE}
 use Rattle.ctr_page.specs.Columns.{kinds_width, slot_start, kept_start}
 use Rattle.ctr_page.specs.Damage.{header_check, slot_check, kept_check, entry_check}
 use Rattle.ctr_page.specs.Places.{slot_size, kept_size, start_of}
+use Rattle.ctr_records.specs.declared.record.Record.{Record}
+use Rattle.ctr_redo.specs.States.{State, step}
 use Rattle.ctr_area.specs.Areas.{Area}
 use Rattle.ctr_area.specs.Checked.{Passes, kinds_at}
+use Rattle.ctr_record_effects.specs.States.{pages_in, area_in, IsWholePage}
+use Rattle.ctr_record_effects.specs.Changing.{laid_on_place, Lays}
 use Rattle.ctr_actions.specs.Actions.{Action, Formats, Links, LinksOlder, Keeps, Writes, Creates, Drops, Uncreates, Undrops, Reverts, Trims, Cuts, FreesOlder, MakesDead, Unlinks, UnlinksOlder, FreesEntry}
 
 -- from a byte on, so many bytes say the same numbers
@@ -37,15 +41,21 @@ pub record LiesAtPlace (at : Place) (size : ℕ) (old new : ℕ → List ℕ) : 
   pub others : (n : ℕ) → n ≢ at.slot
       → SayTheSame (start_of size n) size (old at.page) (new at.page)
 
--- a slot of a table, by the columns that an area has of it
+-- how large a slot of a table is, by the columns that an area has of it
+abbrev pub slot_size_in : Area → ℕ → ℕ
+slot_size_in area e = slot_size (kinds_width (kinds_at area e))
+
+-- How large a version entry of a table is, likewise.
+abbrev pub older_size_in : Area → ℕ → ℕ
+older_size_in area e = kept_size (kinds_width (kinds_at area e))
+
+-- The bytes of a slot of a table lie at its place.
 abbrev pub LiesAtSlot : Area → ℕ → Place → (ℕ → List ℕ) → (ℕ → List ℕ) → Type 0
-LiesAtSlot area e at old new =
-    LiesAtPlace at (slot_size (kinds_width (kinds_at area e))) old new
+LiesAtSlot area e at old new = LiesAtPlace at (slot_size_in area e) old new
 
 -- The bytes of a version entry of a table lie at its place.
 abbrev pub LiesAtOlder : Area → ℕ → Place → (ℕ → List ℕ) → (ℕ → List ℕ) → Type 0
-LiesAtOlder area e at old new =
-    LiesAtPlace at (kept_size (kinds_width (kinds_at area e))) old new
+LiesAtOlder area e at old new = LiesAtPlace at (older_size_in area e) old new
 
 -- Where the bytes of an action lie: at what it changes, and nowhere else. The area is that before.
 abbrev pub LiesAs : Action → Area → (ℕ → List ℕ) → (ℕ → List ℕ) → Type 0
@@ -67,6 +77,19 @@ LiesAs (Unlinks p e b) area old new = LiesInEntry e old new
 LiesAs (UnlinksOlder p e) area old new = LiesInEntry e old new
 LiesAs (FreesEntry e title left) area old new = LiesInEntry e old new
 LiesAs a area old new = LiesOnMap old new
+
+-- A record lays bytes over what stands at a place of a whole page, where all that stands on it has
+-- this size: no more bytes than that.
+pub record LaysAtPlace (r : Record) (at : Place) (size : ℕ) (bytes : List ℕ) (s : State) : Type 0
+  where
+    pub lays : Lays r (laid_on_place at size bytes)
+    pub whole : IsWholePage at.page s
+    pub inside : start_of size at.slot ≤ PAGE_SIZE
+    pub short : length bytes ≤ size
+
+-- The bytes of a record lie as an action says, where it is logged in a state.
+abbrev pub RecordLies : Action → Record → State → Type 0
+RecordLies a r s = LiesAs a (area_in s) (pages_in s) (pages_in (step r s))
 
 -- the check of a slot passes, read by the columns that an area has of its table
 abbrev pub SlotPassesIn : ℕ → Area → (ℕ → List ℕ) → ℕ → Place → Type 0

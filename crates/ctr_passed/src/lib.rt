@@ -2,5 +2,10 @@
 #![tactic(auto)]
 
 mod laws;
+mod lying;
 
 pub use laws::{a_sound_state_stays_sound, an_action_keeps_pages_passed};
+pub use lying::{
+    chains_lie_as_their_actions, pages_lie_as_their_actions, slots_lie_as_their_actions,
+    tables_lie_as_their_actions, versions_lie_as_their_actions,
+};
