@@ -110,26 +110,35 @@ header_same chain counted old new same =
 
 -- ---- entries of the catalog: one that passes has eight columns at most
 
-module _ (start : ℕ) (old new : List ℕ) (same : SayTheSame start 256 old new) where
-  firsts_same : (n counted at : ℕ) → start ≤ at → at + 4 * n ≤ start + 256 → firsts_check n counted at new ≡ firsts_check n counted at old
+module _ (from size : ℕ) (old new : List ℕ) (same : SayTheSame from size old new) where
+  pub firsts_same : (n counted at : ℕ) → from ≤ at → at + 4 * n ≤ from + size → firsts_check n counted at new ≡ firsts_check n counted at old
   firsts_same zero counted at le fits = refl
   firsts_same (suc n) counted at le fits = both (counted_check counted at new) (firsts_check n counted (at + 4) new) (counted_check counted at old) (firsts_check n counted (at + 4) old)
-      (counted_same start 256 old new same counted at le (omega (arith, fits))) (firsts_same n counted (at + 4) (omega (arith, le)) (omega (arith, fits)))
+      (counted_same from size old new same counted at le (omega (arith, fits))) (firsts_same n counted (at + 4) (omega (arith, le)) (omega (arith, fits)))
 
-  from_1_same : (most at : ℕ) → start ≤ at → at + 1 ≤ start + 256 → from_1_check most at new ≡ from_1_check most at old
+  from_1_same : (most at : ℕ) → from ≤ at → at + 1 ≤ from + size → from_1_check most at new ≡ from_1_check most at old
   unfolding from_1_check
   from_1_same most at le fits = let one = same 1 at le fits in λ i. cond (eqb (one i) 0) (Err (record { at = at; want = 1; got = 0 })) (at_most at most (one i))
 
-  column_same : (most at : ℕ) → start ≤ at → at + 18 ≤ start + 256 → column_check most at new ≡ column_check most at old
+  column_same : (most at : ℕ) → from ≤ at → at + 18 ≤ from + size → column_check most at new ≡ column_check most at old
   unfolding column_check
   column_same most at le fits = both (from_1_check 16 at new) (at_most (column_kind_at at) most (field 1 (column_kind_at at) new)) (from_1_check 16 at old) (at_most (column_kind_at at) most (field 1 (column_kind_at at) old))
       (from_1_same 16 at le (omega (arith, fits))) (ap (at_most (column_kind_at at) most) (same 1 (column_kind_at at) (omega (arith, le)) (omega (arith, fits))))
 
-  columns_same : (n at : ℕ) → start ≤ at → at + 18 * n ≤ start + 256 → columns_check n at new ≡ columns_check n at old
+  columns_same : (n at : ℕ) → from ≤ at → at + 18 * n ≤ from + size → columns_check n at new ≡ columns_check n at old
   columns_same zero at le fits = refl
   columns_same (suc n) at le fits = both (column_check 64 at new) (columns_check n (at + 18) new) (column_check 64 at old) (columns_check n (at + 18) old)
       (column_same 64 at le (omega (arith, fits))) (columns_same n (at + 18) (omega (arith, le)) (omega (arith, fits)))
 
+-- the checks of an entry from its name on, but for its first pages
+abbrev pub name_on_check : ℕ → List ℕ → Result ⊤ BadRecord
+name_on_check start page =
+    from_1_check 16 (start + 17) page >>= λ _.
+    from_1_check 8 (start + 34) page >>= λ _.
+    column_check 0 (start + 34 + 1) page >>= λ _.
+    columns_check (field 1 (start + 34) page - 1) (start + 34 + 1 + 18) page
+
+module _ (start : ℕ) (old new : List ℕ) (same : SayTheSame (start + 17) 162 old new) where
   -- the second check has the same outcome where the first one passes
   both_if : (r s u v : Result ⊤ BadRecord) → r ≡ u → (u ≡ Ok tt → s ≡ v) → (r >>= λ _. s) ≡ (u >>= λ _. v)
   both_if r s u v first second = (λ i. first i >>= λ _. s) ∙ by u second
@@ -151,19 +160,24 @@ module _ (start : ℕ) (old new : List ℕ) (same : SayTheSame start 256 old new
 
   columns_here : field 1 (start + 34) old ≤ 8 → columns_check (field 1 (start + 34) new - 1) (start + 34 + 1 + 18) new ≡ columns_check (field 1 (start + 34) old - 1) (start + 34 + 1 + 18) old
   columns_here le = ap (λ n. columns_check (n - 1) (start + 34 + 1 + 18) new) (same 1 (start + 34) (omega arith) (omega arith))
-      ∙ columns_same (field 1 (start + 34) old - 1) (start + 34 + 1 + 18) (omega arith) (within (field 1 (start + 34) old) le)
+      ∙ columns_same (start + 17) 162 old new same (field 1 (start + 34) old - 1) (start + 34 + 1 + 18) (omega arith) (within (field 1 (start + 34) old) le)
     where
-      within : (n : ℕ) → n ≤ 8 → start + 34 + 1 + 18 + 18 * (n - 1) ≤ start + 256
+      within : (n : ℕ) → n ≤ 8 → start + 34 + 1 + 18 + 18 * (n - 1) ≤ start + 17 + 162
       within n le = omega (arith, le)
 
+  pub name_on_same : name_on_check start new ≡ name_on_check start old
+  name_on_same =
+      both (from_1_check 16 (start + 17) new) _ (from_1_check 16 (start + 17) old) _ (from_1_same (start + 17) 162 old new same 16 (start + 17) (omega arith) (omega arith))
+      (both_if (from_1_check 8 (start + 34) new) _ (from_1_check 8 (start + 34) old) _ (from_1_same (start + 17) 162 old new same 8 (start + 34) (omega arith) (omega arith))
+      (λ passes. both (column_check 0 (start + 34 + 1) new) _ (column_check 0 (start + 34 + 1) old) _ (column_same (start + 17) 162 old new same 0 (start + 34 + 1) (omega arith) (omega arith)) (columns_here (number_few passes))))
+
+module _ (start : ℕ) (old new : List ℕ) (same : SayTheSame start 256 old new) where
   used_entry_same : (counted : ℕ) → used_entry_check counted start new ≡ used_entry_check counted start old
   unfolding used_entry_check
   used_entry_same counted =
-      both (firsts_check 9 counted (start + 179) new) _ (firsts_check 9 counted (start + 179) old) _ (firsts_same 9 counted (start + 179) (omega arith) (omega arith))
+      both (firsts_check 9 counted (start + 179) new) _ (firsts_check 9 counted (start + 179) old) _ (firsts_same start 256 old new same 9 counted (start + 179) (omega arith) (omega arith))
       (both (at_most start 2 (field 1 start new)) _ (at_most start 2 (field 1 start old)) _ (ap (at_most start 2) (same 1 start (omega arith) (omega arith)))
-      (both (from_1_check 16 (start + 17) new) _ (from_1_check 16 (start + 17) old) _ (from_1_same 16 (start + 17) (omega arith) (omega arith))
-      (both_if (from_1_check 8 (start + 34) new) _ (from_1_check 8 (start + 34) old) _ (from_1_same 8 (start + 34) (omega arith) (omega arith))
-      (λ passes. both (column_check 0 (start + 34 + 1) new) _ (column_check 0 (start + 34 + 1) old) _ (column_same 0 (start + 34 + 1) (omega arith) (omega arith)) (columns_here (number_few passes))))))
+      (name_on_same start old new (λ n k ge le. same n k (omega (arith, ge)) (omega (arith, le)))))
 
   pub entry_same : (counted : ℕ) → entry_check counted start new ≡ entry_check counted start old
   unfolding entry_check

@@ -6,3 +6,6 @@ pub mod Kept
 pub mod Grown
 pub mod Sound
 pub mod Apart
+pub mod Entries
+pub mod Blank
+pub mod Fresh

@@ -1,12 +1,15 @@
 -- Where the bytes of an action lie, and what of them must pass its checks.
-use Rattle.std.specs.Prelude.{◌≡◌, ◌≢◌, ℕ, ◌+◌, ◌*◌, ◌/◌, ◌%◌, ◌<◌, ◌≤◌, List, length}
+use Rattle.std.specs.Prelude.{◌≡◌, ◌≢◌, ℕ, ◌+◌, ◌*◌, ◌/◌, ◌%◌, ◌<◌, ◌≤◌, List, length, replicate}
 use Rattle.ctr_bytes.specs.Fields.{field}
 use Rattle.ctr_page.specs.declared.checks.Chain.TheVariants.{Rows, Versions}
+use Rattle.ctr_page.specs.declared.header.Header.{Header}
 use Rattle.ctr_page.specs.declared.rows.Place.{Place}
 use Rattle.ctr_page.specs.declared.table.TheConstants.{PAGE_SIZE, ENTRY_SIZE, HEADER_SIZE}
 use Rattle.ctr_page.specs.Columns.{kinds_width, slot_start, kept_start}
 use Rattle.ctr_page.specs.Damage.{header_check, slot_check, kept_check, entry_check}
 use Rattle.ctr_page.specs.Places.{slot_size, kept_size, start_of}
+use Rattle.ctr_page.specs.Making.{header_bytes}
+use Rattle.ctr_page.specs.Reading.{put_over}
 use Rattle.ctr_records.specs.declared.record.Record.{Record}
 use Rattle.ctr_redo.specs.States.{State, step}
 use Rattle.ctr_area.specs.Areas.{Area}
@@ -141,3 +144,11 @@ LaidPasses (Unlinks p e b) counted area pages = EntryPasses counted pages e
 LaidPasses (UnlinksOlder p e) counted area pages = EntryPasses counted pages e
 LaidPasses (FreesEntry e title left) counted area pages = EntryPasses counted pages e
 LaidPasses a counted area pages = Unit {0}
+
+-- What a record lays passes, where it is logged in a state as this action.
+abbrev pub RecordPasses : Action → Record → State → Type 0
+RecordPasses a r s = LaidPasses a s.counted (area_in (step r s)) (pages_in (step r s))
+
+-- The page is blank: it has a header, and zeros behind it.
+abbrev pub IsBlankPage : ℕ → Header → State → Type 0
+IsBlankPage p h s = pages_in s p ≡ put_over 0 (header_bytes h) (replicate PAGE_SIZE 0)

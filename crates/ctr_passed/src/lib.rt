@@ -1,9 +1,11 @@
 //! Pages pass their checks, whatever record is logged next. Definitions, and laws of them. No program computes them.
 #![tactic(auto)]
 
+mod checks;
 mod laws;
 mod lying;
 
+pub use checks::{a_formatted_page_is_blank, chains_pass_their_checks, tables_pass_their_checks};
 pub use laws::{a_sound_state_stays_sound, an_action_keeps_pages_passed};
 pub use lying::{
     chains_lie_as_their_actions, pages_lie_as_their_actions, slots_lie_as_their_actions,

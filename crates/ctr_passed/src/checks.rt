@@ -1,0 +1,52 @@
+// What each record lays passes its own checks, in a state of a database.
+ghost use Rattle.std.specs.Prelude.{◌≡◌, ◌≢◌, ◌+◌, ◌/◌, ◌^◌, ◌<◌, ◌≤◌, ◌∷◌, [], ℕ, Bool, false, List};
+ghost use Rattle.ctr_types.specs.declared.value.Column.{Column};
+ghost use Rattle.ctr_types.specs.Names.{IsName};
+ghost use Rattle.ctr_value.specs.Columns.{ColumnsFit};
+ghost use Rattle.ctr_records.specs.declared.record.Record.{Record};
+ghost use Rattle.ctr_redo.specs.Overlaid.{touches};
+ghost use Rattle.ctr_redo.specs.States.{State, step};
+ghost use Rattle.ctr_page.specs.declared.header.Header.{Header};
+ghost use Rattle.ctr_area.specs.Areas.{Title, Area};
+ghost use Rattle.ctr_record_laws.specs.Owed.{rows_header, versions_header};
+ghost use Rattle.ctr_record_effects.specs.States.{area_in, IsWholePage};
+ghost use Rattle.ctr_record_effects.specs.Standing.{IsDatabaseState};
+ghost use Rattle.ctr_record_effects.specs.Changing.{format_record, link_record, link_older_record, unlink_record, unlink_older_record, create_record, uncreate_record, drop_record, undrop_record, laid_in_entry, Lays};
+ghost use Rattle.ctr_actions.specs.Actions.{Links, LinksOlder, Creates, Drops, Uncreates, Undrops, MakesDead, Unlinks, UnlinksOlder, FreesEntry};
+ghost use Rattle.ctr_passed.specs.Laid.{RecordPasses, IsBlankPage};
+
+/// A Format leaves its page blank, and it stays blank behind each record that isn't on it.
+pub fn a_formatted_page_is_blank()
+    ensures made { (s : State) (x p : ℕ) (h : Header) → IsWholePage p s → IsBlankPage p h (step (format_record x p h) s) }
+    ensures stays { (s : State) (r : Record) (p : ℕ) (h : Header) → touches r p ≡ false → IsBlankPage p h s → IsBlankPage p h (step r s) }
+{}
+
+/// What a Link of a blank page lays passes, and so does that page, where it and the next one are counted; so does what an
+/// Unlink lays, where the next page is counted.
+pub fn chains_pass_their_checks()
+    ensures links { (s : State) (x p e b next : ℕ) → IsDatabaseState s → IsWholePage (1 + e / 16) s → e < 32 → b < 8
+        → 3 ≤ p → p < s.counted → next < s.counted → IsBlankPage p (rows_header e b next) s
+        → RecordPasses (Links p e b) (link_record x p e b) s }
+    ensures links_older { (s : State) (x p e next : ℕ) → IsDatabaseState s → IsWholePage (1 + e / 16) s → e < 32
+        → 3 ≤ p → p < s.counted → next < s.counted → IsBlankPage p (versions_header e next) s
+        → RecordPasses (LinksOlder p e) (link_older_record x p e) s }
+    ensures unlinks { (s : State) (p next e b : ℕ) → IsDatabaseState s → IsWholePage (1 + e / 16) s → e < 32 → b < 8 → next < s.counted
+        → RecordPasses (Unlinks p e b) (unlink_record p next e b) s }
+    ensures unlinks_older { (s : State) (p next e : ℕ) → IsDatabaseState s → IsWholePage (1 + e / 16) s → e < 32 → next < s.counted
+        → RecordPasses (UnlinksOlder p e) (unlink_older_record p next e) s }
+{}
+
+/// What the records of a table lay passes: a new entry; a state of one that isn't free, or a free one; who drops it, whoever
+/// it is.
+pub fn tables_pass_their_checks()
+    ensures creates { (s : State) (x e : ℕ) (name : List ℕ) (columns : List Column) (left : Area) → IsWholePage (1 + e / 16) s → e < 32
+        → x < 256 ^ 8 → IsName name → ColumnsFit columns → RecordPasses (Creates e name columns left) (create_record x e name columns) s }
+    ensures uncreates { (s : State) (e : ℕ) → IsDatabaseState s → IsWholePage (1 + e / 16) s → e < 32 → ((area_in s).title e).state ≢ 0
+        → RecordPasses (Uncreates e) (uncreate_record e) s }
+    ensures drops { (s : State) (x e : ℕ) → IsDatabaseState s → IsWholePage (1 + e / 16) s → e < 32 → RecordPasses (Drops e) (drop_record x e) s }
+    ensures undrops { (s : State) (e : ℕ) → IsDatabaseState s → IsWholePage (1 + e / 16) s → e < 32 → RecordPasses (Undrops e) (undrop_record e) s }
+    ensures makes_dead { (s : State) (r : Record) (passes : ℕ → Bool) (e : ℕ) → IsDatabaseState s → IsWholePage (1 + e / 16) s → e < 32
+        → ((area_in s).title e).state ≢ 0 → Lays r (laid_in_entry e 0 (2 ∷ [])) → RecordPasses (MakesDead passes e) r s }
+    ensures frees { (s : State) (r : Record) (e : ℕ) (title : Title) (left : Area) → IsDatabaseState s → IsWholePage (1 + e / 16) s → e < 32
+        → Lays r (laid_in_entry e 0 (0 ∷ [])) → RecordPasses (FreesEntry e title left) r s }
+{}
