@@ -1,9 +1,10 @@
 -- Bytes that are put over those of a page, and what they leave: other pages, and what they don't meet on their own.
-use Rattle.std.proofs.Common.{◌≡◌, ◌≢◌, ⊎_elim, ℕ, ◌+◌, ◌*◌, ◌/◌, ◌%◌, ◌<◌, ◌≤◌, cond, List, length, refl, sym, ap, subst, arith}
+use Rattle.std.proofs.Common.{◌≡◌, ◌≢◌, ⊎_elim, ℕ, zero, suc, ◌+◌, ◌*◌, ◌/◌, ◌%◌, ◌<◌, ◌≤◌, false, cond, List, [], ◌∷◌, length, refl, sym, ◌∙◌, ap, subst, arith}
 use Rattle.std.proofs.lemmas.Bool.{eq-eqb, ne_eqb, cases_lt, cases_eq}
 use Rattle.ctr_bytes.specs.Fields.{field}
 use Rattle.ctr_records.specs.declared.record.Record.{Record}
-use Rattle.ctr_redo.specs.States.{State, step}
+use Rattle.ctr_redo.specs.Overlaid.{touches, changed_by}
+use Rattle.ctr_redo.specs.States.{State, pages_after, step, page_at}
 use Rattle.ctr_page.specs.declared.rows.Place.{Place}
 use Rattle.ctr_page.specs.Places.{start_of}
 use Rattle.ctr_page.specs.Reading.{put_over}
@@ -15,7 +16,8 @@ use Rattle.ctr_area.proofs.Written.{catalog_page}
 use Rattle.ctr_record_effects.specs.States.{pages_in, IsWholePage}
 use Rattle.ctr_record_effects.specs.Changing.{laid_in_entry, Lays}
 use Rattle.ctr_record_effects.proofs.Laid.{bytes_laid}
-use Rattle.ctr_passed.specs.Laid.{SayTheSame, LiesOnMap, LiesOnOnePage, LiesInEntry, LiesAtPlace, LaysAtPlace}
+use Rattle.ctr_passed.specs.Laid.{SayTheSame, LiesOnMap, LiesOnOnePage, LiesInEntry, LiesAtPlace}
+use Rattle.ctr_passed.specs.Logged.{LaysAtPlace}
 
 -- ---- on their own page
 
@@ -100,3 +102,17 @@ place_lies s r at size bytes laid =
     let inside = laid.inside in
     subst (LiesAtPlace at size (pages_in s)) (sym (bytes_laid s r at.page (start_of size at.slot) bytes laid.lays laid.whole))
     (at_place at size bytes (pages_in s) laid.short (omega (arith, laid.whole, inside)))
+
+-- ---- a page stays behind a record that isn't on it
+
+after_apart : (k q : ℕ) (r : Record) (ps : List (List ℕ)) → touches r (k + q) ≡ false → page_at q (pages_after k r ps) ≡ page_at q ps
+after_apart k q r [] off = refl
+after_apart k zero r (b ∷ bs) off =
+    let same : k + 0 ≡ k = omega arith in
+    ap (λ (c : _). cond c (changed_by r b) b) (ap (touches r) (sym same) ∙ off)
+after_apart k (suc q) r (b ∷ bs) off =
+    let same : k + suc q ≡ k + 1 + q = omega arith in
+    after_apart (k + 1) q r bs (ap (touches r) (sym same) ∙ off)
+
+pub page_apart : (s : State) (r : Record) (p : ℕ) → touches r p ≡ false → pages_in (step r s) p ≡ pages_in s p
+page_apart s r p off = let same : 0 + p ≡ p = omega arith in after_apart 0 p r s.pages (ap (touches r) same ∙ off)

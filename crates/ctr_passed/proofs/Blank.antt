@@ -1,14 +1,11 @@
 -- A page with its header and zeros passes its checks, by whatever columns it is read.
-use Rattle.std.proofs.Common.{◌≡◌, ℕ, zero, suc, ◌+◌, ◌-◌, ◌^◌, ◌≤◌, ◌<◌, false, cond, List, [], ◌∷◌, ◌++◌, length, drop, replicate, Ok, Err, refl, sym, ◌∙◌, ap, subst, arith}
+use Rattle.std.proofs.Common.{◌≡◌, ℕ, ◌+◌, ◌-◌, ◌^◌, ◌≤◌, ◌<◌, cond, List, ◌++◌, length, drop, replicate, Ok, Err, refl, sym, ◌∙◌, ap, subst, arith}
 use Rattle.std.specs.Prelude.{◌==◌}
 use Rattle.std.proofs.lemmas.Bool.{eq-eqb}
 use Rattle.ctr_types.specs.declared.value.Kind.{Kind}
 use Rattle.ctr_bytes.specs.Fields.{spelled, field}
 use Rattle.ctr_bytes.proofs.FieldLaws.{length-spelled, got_byte}
-use Rattle.ctr_records.specs.declared.record.Record.{Record}
 use Rattle.ctr_records.specs.Damage.{wrong, expect, at_most}
-use Rattle.ctr_redo.specs.Overlaid.{touches, changed_by}
-use Rattle.ctr_redo.specs.States.{State, pages_after, step, page_at}
 use Rattle.ctr_page.specs.declared.checks.Chain.{Chain}
 use Rattle.ctr_page.specs.declared.checks.Chain.TheVariants.{Rows, Versions}
 use Rattle.ctr_page.specs.declared.header.Header.{Header}
@@ -21,7 +18,6 @@ use Rattle.ctr_area.specs.Areas.{Area}
 use Rattle.ctr_area.specs.Checked.{Passes, kinds_at}
 use Rattle.ctr_area.proofs.Bytes.{zero_at, byte_after}
 use Rattle.ctr_record_laws.specs.Owed.{rows_header, versions_header}
-use Rattle.ctr_record_effects.specs.States.{pages_in}
 use Rattle.ctr_passed.specs.Laid.{RowsPagePasses, OlderPagePasses}
 use Rattle.ctr_passed.proofs.Entries.{both_pass, most_passes}
 
@@ -66,20 +62,6 @@ module _ (h : Header) (fits : IsHeader h) where
       (both_pass (expect 1 (chain_entry chain) (field 1 1 blank)) _ (expected 1 (chain_entry chain) (field 1 1 blank) (entry ∙ sym (ap (λ (x : Header). x.entry) read)))
       (both_pass (expect 2 (chain_bucket chain) (field 1 2 blank)) (at_most 4 (counted - 1) (field 4 4 blank)) (expected 2 (chain_bucket chain) (field 1 2 blank) (bucket ∙ sym (ap (λ (x : Header). x.bucket) read)))
       (most_passes 4 (counted - 1) (field 4 4 blank) (subst (λ n. n ≤ counted - 1) (sym (ap (λ (x : Header). x.next) read)) next))))
-
--- ---- a page stays behind a record that isn't on it
-
-after_apart : (k q : ℕ) (r : Record) (ps : List (List ℕ)) → touches r (k + q) ≡ false → page_at q (pages_after k r ps) ≡ page_at q ps
-after_apart k q r [] off = refl
-after_apart k zero r (b ∷ bs) off =
-    let same : k + 0 ≡ k = omega arith in
-    ap (λ (c : _). cond c (changed_by r b) b) (ap (touches r) (sym same) ∙ off)
-after_apart k (suc q) r (b ∷ bs) off =
-    let same : k + suc q ≡ k + 1 + q = omega arith in
-    after_apart (k + 1) q r bs (ap (touches r) (sym same) ∙ off)
-
-pub page_apart : (s : State) (r : Record) (p : ℕ) → touches r p ≡ false → pages_in (step r s) p ≡ pages_in s p
-page_apart s r p off = let same : 0 + p ≡ p = omega arith in after_apart 0 p r s.pages (ap (touches r) same ∙ off)
 
 -- ---- of a chain
 

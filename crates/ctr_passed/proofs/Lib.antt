@@ -9,3 +9,5 @@ pub mod Apart
 pub mod Entries
 pub mod Blank
 pub mod Fresh
+pub mod Slots
+pub mod Placed

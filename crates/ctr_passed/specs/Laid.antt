@@ -1,21 +1,14 @@
 -- Where the bytes of an action lie, and what of them must pass its checks.
-use Rattle.std.specs.Prelude.{◌≡◌, ◌≢◌, ℕ, ◌+◌, ◌*◌, ◌/◌, ◌%◌, ◌<◌, ◌≤◌, List, length, replicate}
+use Rattle.std.specs.Prelude.{◌≡◌, ◌≢◌, ℕ, ◌+◌, ◌*◌, ◌/◌, ◌%◌, ◌<◌, ◌≤◌, List}
 use Rattle.ctr_bytes.specs.Fields.{field}
 use Rattle.ctr_page.specs.declared.checks.Chain.TheVariants.{Rows, Versions}
-use Rattle.ctr_page.specs.declared.header.Header.{Header}
 use Rattle.ctr_page.specs.declared.rows.Place.{Place}
-use Rattle.ctr_page.specs.declared.table.TheConstants.{PAGE_SIZE, ENTRY_SIZE, HEADER_SIZE}
+use Rattle.ctr_page.specs.declared.table.TheConstants.{ENTRY_SIZE, HEADER_SIZE}
 use Rattle.ctr_page.specs.Columns.{kinds_width, slot_start, kept_start}
 use Rattle.ctr_page.specs.Damage.{header_check, slot_check, kept_check, entry_check}
 use Rattle.ctr_page.specs.Places.{slot_size, kept_size, start_of}
-use Rattle.ctr_page.specs.Making.{header_bytes}
-use Rattle.ctr_page.specs.Reading.{put_over}
-use Rattle.ctr_records.specs.declared.record.Record.{Record}
-use Rattle.ctr_redo.specs.States.{State, step}
 use Rattle.ctr_area.specs.Areas.{Area}
 use Rattle.ctr_area.specs.Checked.{Passes, kinds_at}
-use Rattle.ctr_record_effects.specs.States.{pages_in, area_in, IsWholePage}
-use Rattle.ctr_record_effects.specs.Changing.{laid_on_place, Lays}
 use Rattle.ctr_actions.specs.Actions.{Action, Formats, Links, LinksOlder, Keeps, Writes, Creates, Drops, Uncreates, Undrops, Reverts, Trims, Cuts, FreesOlder, MakesDead, Unlinks, UnlinksOlder, FreesEntry}
 
 -- from a byte on, so many bytes say the same numbers
@@ -44,13 +37,17 @@ pub record LiesAtPlace (at : Place) (size : ℕ) (old new : ℕ → List ℕ) : 
   pub others : (n : ℕ) → n ≢ at.slot
       → SayTheSame (start_of size n) size (old at.page) (new at.page)
 
--- how large a slot of a table is, by the columns that an area has of it
-abbrev pub slot_size_in : Area → ℕ → ℕ
-slot_size_in area e = slot_size (kinds_width (kinds_at area e))
+-- the width of the rows of a table, by the columns that an area has of it
+abbrev pub width_in : Area → ℕ → ℕ
+width_in area e = kinds_width (kinds_at area e)
 
--- How large a version entry of a table is, likewise.
+-- how large a slot of a table is
+abbrev pub slot_size_in : Area → ℕ → ℕ
+slot_size_in area e = slot_size (width_in area e)
+
+-- How large a version entry of a table is.
 abbrev pub older_size_in : Area → ℕ → ℕ
-older_size_in area e = kept_size (kinds_width (kinds_at area e))
+older_size_in area e = kept_size (width_in area e)
 
 -- The bytes of a slot of a table lie at its place.
 abbrev pub LiesAtSlot : Area → ℕ → Place → (ℕ → List ℕ) → (ℕ → List ℕ) → Type 0
@@ -80,19 +77,6 @@ LiesAs (Unlinks p e b) area old new = LiesInEntry e old new
 LiesAs (UnlinksOlder p e) area old new = LiesInEntry e old new
 LiesAs (FreesEntry e title left) area old new = LiesInEntry e old new
 LiesAs a area old new = LiesOnMap old new
-
--- A record lays bytes over what stands at a place of a whole page, where all that stands on it has
--- this size: no more bytes than that.
-pub record LaysAtPlace (r : Record) (at : Place) (size : ℕ) (bytes : List ℕ) (s : State) : Type 0
-  where
-    pub lays : Lays r (laid_on_place at size bytes)
-    pub whole : IsWholePage at.page s
-    pub inside : start_of size at.slot ≤ PAGE_SIZE
-    pub short : length bytes ≤ size
-
--- The bytes of a record lie as an action says, where it is logged in a state.
-abbrev pub RecordLies : Action → Record → State → Type 0
-RecordLies a r s = LiesAs a (area_in s) (pages_in s) (pages_in (step r s))
 
 -- the check of a slot passes, read by the columns that an area has of its table
 abbrev pub SlotPassesIn : ℕ → Area → (ℕ → List ℕ) → ℕ → Place → Type 0
@@ -144,11 +128,3 @@ LaidPasses (Unlinks p e b) counted area pages = EntryPasses counted pages e
 LaidPasses (UnlinksOlder p e) counted area pages = EntryPasses counted pages e
 LaidPasses (FreesEntry e title left) counted area pages = EntryPasses counted pages e
 LaidPasses a counted area pages = Unit {0}
-
--- What a record lays passes, where it is logged in a state as this action.
-abbrev pub RecordPasses : Action → Record → State → Type 0
-RecordPasses a r s = LaidPasses a s.counted (area_in (step r s)) (pages_in (step r s))
-
--- The page is blank: it has a header, and zeros behind it.
-abbrev pub IsBlankPage : ℕ → Header → State → Type 0
-IsBlankPage p h s = pages_in s p ≡ put_over 0 (header_bytes h) (replicate PAGE_SIZE 0)

@@ -7,13 +7,16 @@ ghost use Rattle.ctr_records.specs.declared.record.Record.{Record};
 ghost use Rattle.ctr_redo.specs.Overlaid.{touches};
 ghost use Rattle.ctr_redo.specs.States.{State, step};
 ghost use Rattle.ctr_page.specs.declared.header.Header.{Header};
-ghost use Rattle.ctr_area.specs.Areas.{Title, Area};
-ghost use Rattle.ctr_record_laws.specs.Owed.{rows_header, versions_header};
+ghost use Rattle.ctr_page.specs.declared.rows.Place.{Place};
+ghost use Rattle.ctr_page.specs.declared.rows.RowSlot.{RowSlot};
+ghost use Rattle.ctr_page.specs.declared.rows.VersionEntry.{VersionEntry};
+ghost use Rattle.ctr_area.specs.Areas.{Title, Older, Area};
+ghost use Rattle.ctr_record_laws.specs.Owed.{RowMove, Reverting, Trimming, rows_header, versions_header};
 ghost use Rattle.ctr_record_effects.specs.States.{area_in, IsWholePage};
 ghost use Rattle.ctr_record_effects.specs.Standing.{IsDatabaseState};
 ghost use Rattle.ctr_record_effects.specs.Changing.{format_record, link_record, link_older_record, unlink_record, unlink_older_record, create_record, uncreate_record, drop_record, undrop_record, laid_in_entry, Lays};
-ghost use Rattle.ctr_actions.specs.Actions.{Links, LinksOlder, Creates, Drops, Uncreates, Undrops, MakesDead, Unlinks, UnlinksOlder, FreesEntry};
-ghost use Rattle.ctr_passed.specs.Laid.{RecordPasses, IsBlankPage};
+ghost use Rattle.ctr_actions.specs.Actions.{Links, LinksOlder, Keeps, Writes, Creates, Drops, Uncreates, Undrops, Reverts, Trims, Cuts, FreesOlder, MakesDead, Unlinks, UnlinksOlder, FreesEntry};
+ghost use Rattle.ctr_passed.specs.Logged.{RecordPasses, IsBlankPage, LaysSlot, LaysOlder};
 
 /// A Format leaves its page blank, and it stays blank behind each record that isn't on it.
 pub fn a_formatted_page_is_blank()
@@ -49,4 +52,23 @@ pub fn tables_pass_their_checks()
         → ((area_in s).title e).state ≢ 0 → Lays r (laid_in_entry e 0 (2 ∷ [])) → RecordPasses (MakesDead passes e) r s }
     ensures frees { (s : State) (r : Record) (e : ℕ) (title : Title) (left : Area) → IsDatabaseState s → IsWholePage (1 + e / 16) s → e < 32
         → Lays r (laid_in_entry e 0 (0 ∷ [])) → RecordPasses (FreesEntry e title left) r s }
+{}
+
+/// A slot that a record lays over a place of its table passes where it is one of the table's, whatever writes it.
+pub fn slots_pass_their_checks()
+    ensures writes { (s : State) (r : Record) (m : RowMove) (slot : RowSlot) → LaysSlot r m.entry m.at slot s → RecordPasses (Writes m) r s }
+    ensures reverts { (s : State) (r : Record) (e : ℕ) (at : Place) (way : Reverting) (slot : RowSlot) → LaysSlot r e at slot s
+        → RecordPasses (Reverts e at way) r s }
+    ensures trims { (s : State) (r : Record) (passes : ℕ → Bool) (e : ℕ) (at : Place) (way : Trimming) (slot : RowSlot) → LaysSlot r e at slot s
+        → RecordPasses (Trims passes e at way) r s }
+{}
+
+/// A version entry that a record lays over a place of its table, likewise.
+pub fn versions_pass_their_checks()
+    ensures keeps { (s : State) (r : Record) (e : ℕ) (at : Place) (older : Older) (entry : VersionEntry) → LaysOlder r e at entry s
+        → RecordPasses (Keeps e at older) r s }
+    ensures cuts { (s : State) (r : Record) (passes : ℕ → Bool) (e : ℕ) (at q : Place) (entry : VersionEntry) → LaysOlder r e q entry s
+        → RecordPasses (Cuts passes e at q) r s }
+    ensures frees { (s : State) (r : Record) (e : ℕ) (q : Place) (entry : VersionEntry) → LaysOlder r e q entry s
+        → RecordPasses (FreesOlder e q) r s }
 {}

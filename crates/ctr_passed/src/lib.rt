@@ -5,9 +5,13 @@ mod checks;
 mod laws;
 mod lying;
 
-pub use checks::{a_formatted_page_is_blank, chains_pass_their_checks, tables_pass_their_checks};
+pub use checks::{
+    a_formatted_page_is_blank, chains_pass_their_checks, slots_pass_their_checks,
+    tables_pass_their_checks, versions_pass_their_checks,
+};
 pub use laws::{a_sound_state_stays_sound, an_action_keeps_pages_passed};
 pub use lying::{
-    chains_lie_as_their_actions, pages_lie_as_their_actions, slots_lie_as_their_actions,
+    chains_lie_as_their_actions, pages_lie_as_their_actions,
+    records_without_bytes_lie_as_their_actions, slots_lie_as_their_actions,
     tables_lie_as_their_actions, versions_lie_as_their_actions,
 };

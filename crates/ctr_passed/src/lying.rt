@@ -3,6 +3,7 @@ ghost use Rattle.std.specs.Prelude.{◌+◌, ◌*◌, ◌/◌, ◌^◌, ◌<◌,
 ghost use Rattle.ctr_types.specs.declared.value.Column.{Column};
 ghost use Rattle.ctr_value.specs.Columns.{ColumnsFit};
 ghost use Rattle.ctr_records.specs.declared.record.Record.{Record};
+ghost use Rattle.ctr_records.specs.declared.record.Record.TheVariants.{Begin, Commit, Abort, Forget, Checkpoint};
 ghost use Rattle.ctr_redo.specs.States.{State};
 ghost use Rattle.ctr_page.specs.declared.header.Header.{Header};
 ghost use Rattle.ctr_page.specs.declared.rows.Place.{Place};
@@ -11,8 +12,9 @@ ghost use Rattle.ctr_area.specs.Areas.{Title, Older, Area};
 ghost use Rattle.ctr_record_laws.specs.Owed.{RowMove, Reverting, Trimming};
 ghost use Rattle.ctr_record_effects.specs.States.{area_in, IsWholePage};
 ghost use Rattle.ctr_record_effects.specs.Changing.{alloc_record, free_record, format_record, link_record, link_older_record, unlink_record, unlink_older_record, create_record, uncreate_record, drop_record, undrop_record, laid_in_entry, Lays};
-ghost use Rattle.ctr_actions.specs.Actions.{Allocates, Formats, Links, LinksOlder, Keeps, Writes, Creates, Drops, Frees, Uncreates, Undrops, Reclaims, Reverts, Trims, Cuts, FreesOlder, MakesDead, Unlinks, UnlinksOlder, FreesEntry};
-ghost use Rattle.ctr_passed.specs.Laid.{slot_size_in, older_size_in, LaysAtPlace, RecordLies};
+ghost use Rattle.ctr_actions.specs.Actions.{Begins, Allocates, Formats, Links, LinksOlder, Keeps, Writes, Creates, Drops, Commits, Frees, Uncreates, Undrops, Aborts, Reclaims, Reverts, Trims, Cuts, FreesOlder, MakesDead, Unlinks, UnlinksOlder, FreesEntry, Forgets, Checkpoints};
+ghost use Rattle.ctr_passed.specs.Laid.{slot_size_in, older_size_in};
+ghost use Rattle.ctr_passed.specs.Logged.{LaysAtPlace, RecordLies};
 
 /// An Alloc and a Free lie on the map of allocated pages, and a Format on its page.
 pub fn pages_lie_as_their_actions()
@@ -63,4 +65,13 @@ pub fn versions_lie_as_their_actions()
         → RecordLies (Cuts passes e at q) r s }
     ensures frees { (s : State) (r : Record) (e : ℕ) (q : Place) (bytes : List ℕ) → LaysAtPlace r q (older_size_in (area_in s) e) bytes s
         → RecordLies (FreesOlder e q) r s }
+{}
+
+/// A record that lays no bytes leaves all pages as they were.
+pub fn records_without_bytes_lie_as_their_actions()
+    ensures begins { (s : State) (x : ℕ) → RecordLies Begins (Begin x) s }
+    ensures commits { (s : State) (x : ℕ) → RecordLies Commits (Commit x) s }
+    ensures aborts { (s : State) (x : ℕ) → RecordLies Aborts (Abort x) s }
+    ensures forgets { (s : State) (x : ℕ) → RecordLies (Forgets x) (Forget x) s }
+    ensures checkpoints { (s : State) (next : ℕ) (lists : List ℕ) → RecordLies (Checkpoints lists) (Checkpoint next lists) s }
 {}

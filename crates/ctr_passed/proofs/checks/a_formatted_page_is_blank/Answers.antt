@@ -5,7 +5,7 @@ use Rattle.ctr_record_effects.specs.States.{pages_in}
 use Rattle.ctr_record_effects.specs.Changing.{format_record}
 use Rattle.ctr_record_effects.proofs.Laid.{clear_laid}
 use Rattle.ctr_passed.proofs.Apart.{page_there}
-use Rattle.ctr_passed.proofs.Blank.{page_apart}
+use Rattle.ctr_passed.proofs.Apart.{page_apart}
 use Rattle.ctr_passed.proofs.checks.a_formatted_page_is_blank.Goals as goal
 
 pub returns-clause-made : goal.returns-clause-made
