@@ -1,5 +1,5 @@
--- What a state keeps on every legal tape: locks are apart, changes lie under locks, names in use are
--- steady, and recovery holds none of them.
+-- What a state keeps on every legal tape: locks are apart, changes lie under locks, names in use
+-- are steady, and recovery holds none of them.
 use Rattle.std.specs.Prelude.{◌≡◌, ℕ, ℤ, ◌==◌, ◌≤◌, true, false, List, [], drop, length, Some, None}
 use Rattle.std.specs.List.{AllByRecursion}
 use Rattle.ctr_model.specs.declared.database.Change.{Change}

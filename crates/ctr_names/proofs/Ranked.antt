@@ -5,7 +5,7 @@ use Rattle.std.specs.Option.{option_or}
 use Rattle.std.specs.Prelude.{is_some}
 use Rattle.std.proofs.lemmas.Bool.{cases_lt, false≢true, le-leb, leb-true}
 use Rattle.ctr_types.specs.declared.value.Schema.{Schema}
-use Rattle.ctr_versions.specs.Chains.{AllTold, IsTold, IsUnwritten, Numbers, by, is_by, last_write, value_seen}
+use Rattle.ctr_versions.specs.Chains.{AllTold, IsChangeTold, IsUnwritten, Numbers, by, is_by, last_write, value_seen}
 use Rattle.ctr_versions.specs.Versions.{schemas}
 use Rattle.ctr_versions.proofs.Undoing.{of_schemas}
 use Rattle.ctr_meta.specs.Tables.{Tables}
@@ -76,8 +76,8 @@ steady_none k (w ∷ ws) all = (λ i. option_or (steady_none (k + 1) ws all.1 i)
 
 -- Who made a table of a name or dropped it, with a number above n, is among those that changed it since.
 pub told_entry : (number : Numbers) (n : ℕ) (writes : List (Option (Option Schema))) (test : ℕ → Bool) (title : ℕ → Title) (name : List ℕ) → AllTold number n writes (schemas (name_chain test title name))
-    → (f : ℕ) → f < 32 → is_named_so name (f, title f) ≡ true → IsTold number n writes (title f).creator × (((title f).dropper ≡ 0) ⊎ IsTold number n writes (title f).dropper)
-told_entry number n writes test title name told = entries_in (IsTold number n writes) test title name (of_schemas (IsTold number n writes) (name_chain test title name) told)
+    → (f : ℕ) → f < 32 → is_named_so name (f, title f) ≡ true → IsChangeTold number n writes (title f).creator × (((title f).dropper ≡ 0) ⊎ IsChangeTold number n writes (title f).dropper)
+told_entry number n writes test title name told = entries_in (IsChangeTold number n writes) test title name (of_schemas (IsChangeTold number n writes) (name_chain test title name) told)
 
 -- live entries are of the catalog
 pub within_catalog : (area : Area) → IsInBounds area → (f : ℕ) → is_live (area.title f) ≡ true → f < 32

@@ -7,7 +7,7 @@ use Rattle.std.proofs.lemmas.Bool.{and_parts, cases_eq, cases_lt, eq-eqb, false�
 use Rattle.ctr_model.specs.State.{view}
 use Rattle.ctr_model.specs.declared.state.State.{State}
 use Rattle.ctr_snap.specs.Seeing.{sees}
-use Rattle.ctr_versions.specs.Chains.{AllTold, IsTold, Numbers, by, changed_since, is_by, value_seen}
+use Rattle.ctr_versions.specs.Chains.{AllTold, IsChangeTold, Numbers, by, changed_since, is_by, value_seen}
 use Rattle.ctr_versions.specs.Engine.{IsSeenIfOld, session_sees}
 use Rattle.ctr_versions.specs.Keys.{schema_named, schema_writes}
 use Rattle.ctr_versions.specs.Versions.{Made, names_at, rows_of, schemas}
@@ -178,13 +178,13 @@ module _ (counted low : ℕ) (tables : Tables) (area : Area) (xids : Xids) (stat
     told = subst (λ ws. AllTold number n (schema_writes name state.asked) (schemas ws)) (names_here committed area name) ((names.chains.tables name).told n looks.shown.from)
 
     -- who is told of the name is within the snapshot
-    within : (y : ℕ) → IsTold number n (schema_writes name state.asked) y → committed y ≡ true → by number n y ≡ true
+    within : (y : ℕ) → IsChangeTold number n (schema_writes name state.asked) y → committed y ≡ true → by number n y ≡ true
     within y is c = elim (number y) as (λ o. number y ≡ o → by number n y ≡ true) [
       | None ↦ λ none. absurd (false≢true (ap is_some (sym none) ∙ agree y ∙ c))
       | Some k ↦ λ some. ap (is_by n) some ∙ le-leb k n (⊎_elim (λ above_. absurd (false≢true (ap is_some (sym quiet) ∙ is k some above_))) (λ le. le) (cases_lt n k))
     ] refl
 
-    seen_committed : (y : ℕ) → IfOld y → IsTold number n (schema_writes name state.asked) y → committed y ≡ true → seen y ≡ true
+    seen_committed : (y : ℕ) → IfOld y → IsChangeTold number n (schema_writes name state.asked) y → committed y ≡ true → seen y ≡ true
     seen_committed y old is c = seen_other y (not_me y c) old ∙ within y is c
 
     seen_maker : (f : ℕ) → f < 32 → is_named_so name (f, area.title f) ≡ true → seen (area.title f).creator ≡ true

@@ -4,7 +4,7 @@ use Rattle.std.specs.Option.{option_or}
 use Rattle.std.specs.Prelude.{is_some, nat_lt}
 use Rattle.std.proofs.lemmas.Bool.{false≢true, ltb-true, or_cases, or_parts}
 use Rattle.ctr_model.specs.declared.state.State.{State}
-use Rattle.ctr_versions.specs.Chains.{AllTold, IsTold, Numbers, above, changed_since, newest, newest_since}
+use Rattle.ctr_versions.specs.Chains.{AllTold, IsChangeTold, Numbers, above, changed_since, newest, newest_since}
 use Rattle.ctr_versions.specs.Engine.{IsSeenIfOld}
 use Rattle.ctr_versions.specs.Keys.{schema_writes}
 use Rattle.ctr_versions.specs.Versions.{schemas}
@@ -53,7 +53,7 @@ module _ (counted low : ℕ) (tables : Tables) (area : Area) (xids : Xids) (stat
   IfOld = IsSeenIfOld xids look.session.snapshot
 
   abbrev IsOne : ℕ → Type 0
-  IsOne = IsTold number n (schema_writes look.name state.asked)
+  IsOne = IsChangeTold number n (schema_writes look.name state.asked)
 
   old_entry : (f : ℕ) → f < 32 → is_named_so look.name (f, area.title f) ≡ true → IfOld (area.title f).creator × (((area.title f).dropper ≡ 0) ⊎ IfOld (area.title f).dropper)
   old_entry = entries_in IfOld committed area.title look.name (subst (AreAllBy IfOld) (names_here committed area look.name) (looks.shown.old.names look.name))

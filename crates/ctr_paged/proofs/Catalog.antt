@@ -9,7 +9,7 @@ use Rattle.ctr_model.specs.declared.state.State.{State}
 use Rattle.ctr_model.specs.declared.state.Transaction.{Transaction}
 use Rattle.ctr_model.specs.State.{with_transaction, same_name}
 use Rattle.ctr_versions.proofs.Keys.{known, some_is}
-use Rattle.ctr_versions.specs.Chains.{Numbers, value_seen, by, written_by, is_by, changed_since, IsTold, AllTold}
+use Rattle.ctr_versions.specs.Chains.{Numbers, value_seen, by, written_by, is_by, changed_since, IsChangeTold, AllTold}
 use Rattle.ctr_versions.specs.Changes.{write, IsOld}
 use Rattle.ctr_versions.specs.Xids.{number_of, fate_of, is_before}
 use Rattle.ctr_versions.specs.Versions.{IsUnmadeTable, Made, name_written, names_at, rows_of, NamesSet, schemas}
@@ -51,7 +51,7 @@ use Rattle.ctr_record_laws.proofs.Uncreate.{uncreate_sound}
 use Rattle.ctr_record_laws.proofs.Undrop.{undrop_sound}
 use Rattle.ctr_names.proofs.Unmaking.{uncreate_takes, undrop_takes}
 use Rattle.ctr_names.specs.Shape.{LosesOwn, below_in}
-use Rattle.ctr_versions.specs.Undoing.{IsNotAtWork, HasUndoneHead, IsAtWork}
+use Rattle.ctr_versions.specs.Undoing.{IsNotAtWork, HasUndoneHead, IsWorking}
 use Rattle.ctr_record_laws.proofs.Entry.{dying_sound, freeing_sound}
 use Rattle.ctr_names.proofs.Agree.{freed_same}
 use Rattle.ctr_names.proofs.Dying.{dying_set, dying_same}
@@ -159,8 +159,8 @@ module _ (low : ℕ) (site : Site) (run : Run) (state : State) (paged : ShowsPag
         told = ⊎_elim
             (λ z k is lt. absurd (false≢true (ap is_some (sym (ap number z) ∙ is))))
             (λ its. its)
-            (entries_in (IsTold number t.snapshot (schema_writes name state.asked)) committed site.area.title name
-            (of_schemas (IsTold number t.snapshot (schema_writes name state.asked)) (name_chain committed site.area.title name)
+            (entries_in (IsChangeTold number t.snapshot (schema_writes name state.asked)) committed site.area.title name
+            (of_schemas (IsChangeTold number t.snapshot (schema_writes name state.asked)) (name_chain committed site.area.title name)
             (subst (λ ws. AllTold number t.snapshot (schema_writes name state.asked) (schemas ws)) (names_here committed site.area name) ((paged.shows.stands.tables name).told t.snapshot mine_shown.from))) f lt named).1
 
         seen_before : is_before session.snapshot d ≡ true → d < x
@@ -306,7 +306,7 @@ module _ (low : ℕ) (site : Site) (run : Run) (state : State) (paged : ShowsPag
   dying_shows passes mark e is passes_old owed bounds =
       paged_moved low site run state paged after site.tables state bounds (dying_sound site.counted site.tables site.area e paged.sound passes owed) (same_tables site.tables) kept
       (chain_step low engine state paged.shows (versions_in committed after) name (names_at (versions_in committed after) name) (dying_set site.tables site.area e owed.live)
-      (dying_same site.counted low mark e site.tables site.area number (λ y. IsAtWork y engine state) paged.sound paged.some (agree site.tables run.commits) (subst (IsOld number low) same passes_old) (subst (λ test. OwedByDying test site.tables site.area e) same owed)))
+      (dying_same site.counted low mark e site.tables site.area number (λ y. IsWorking y engine state) paged.sound paged.some (agree site.tables run.commits) (subst (IsOld number low) same passes_old) (subst (λ test. OwedByDying test site.tables site.area e) same owed)))
       paged.modelled refl refl
     where
       same : passes ≡ below_in site.tables mark

@@ -4,7 +4,7 @@ use Rattle.std.specs.Prelude.{is_some}
 use Rattle.std.specs.Option.{option_or}
 use Rattle.std.specs.List.{AllByRecursion}
 use Rattle.std.proofs.lemmas.Bool.{true≢false, eq-eqb, ne_eqb, false_from_ne_true}
-use Rattle.ctr_versions.specs.Chains.{Numbers, value_seen, by, newest, above, newest_since, written_by, AllCommitted, Behind, IsTold, ShowsKey}
+use Rattle.ctr_versions.specs.Chains.{Numbers, value_seen, by, newest, above, newest_since, written_by, AllCommitted, Behind, IsChangeTold, ShowsKey}
 use Rattle.ctr_versions.specs.Changes.{write, revert, cut, without_tombstone, IsOld}
 use Rattle.ctr_versions.specs.Versions.{ByX}
 use Rattle.ctr_versions.proofs.Chains.{push_shows, pop_shows, committed_none, seen_by, not_above}
@@ -111,7 +111,7 @@ module _ {V : Type 0} (number : Numbers) (low : ℕ) (old : ℕ → Bool) (is_ol
     cut_shows chain shows = record {
       rows = λ j here. cut_seen j (at_low j here) chain ∙ shows.rows j here;
       changes = λ n here. ap (above n) (cut_newest chain) ∙ shows.changes n here;
-      told = λ n here. cut_all (λ v. IsTold number n writes v.0) old chain (shows.told n here);
+      told = λ n here. cut_all (λ v. IsChangeTold number n writes v.0) old chain (shows.told n here);
       behind = cut_behind chain shows.behind;
     }
 
@@ -119,7 +119,7 @@ module _ {V : Type 0} (number : Numbers) (low : ℕ) (old : ℕ → Bool) (is_ol
     freed_shows chain shows = record {
       rows = λ j here. freed_seen j (at_low j here) chain ∙ shows.rows j here;
       changes = λ n here. freed_since n (since_low n here) chain ∙ shows.changes n here;
-      told = λ n here. freed_all (λ v. IsTold number n writes v.0) old chain (shows.told n here);
+      told = λ n here. freed_all (λ v. IsChangeTold number n writes v.0) old chain (shows.told n here);
       behind = freed_behind chain shows.behind;
     }
 

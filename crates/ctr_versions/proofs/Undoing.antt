@@ -13,7 +13,7 @@ use Rattle.ctr_model.specs.Database.{table_at}
 use Rattle.ctr_model.specs.State.{same_name}
 use Rattle.ctr_model.specs.Refusals.{row_of}
 use Rattle.ctr_snap.specs.Seeing.{has}
-use Rattle.ctr_versions.specs.Chains.{Numbers, value_seen, is_by, by, newest, above, written_by, AllCommitted, Behind, IsTold, ShowsKey}
+use Rattle.ctr_versions.specs.Chains.{Numbers, value_seen, is_by, by, newest, above, written_by, AllCommitted, Behind, IsChangeTold, ShowsKey}
 use Rattle.ctr_versions.specs.Changes.{revert, cut, without_tombstone, IsOld}
 use Rattle.ctr_versions.specs.Keys.{schema_change, left_by, schema_writes, row_writes, schema_named}
 use Rattle.ctr_versions.specs.Listing.{chain_at}
@@ -21,7 +21,7 @@ use Rattle.ctr_versions.specs.Xids.{number_of, aborted}
 use Rattle.ctr_versions.specs.Versions.{Made, Versions, names_at, rows_of, schemas, IsFrom, IsTableAt, IsTableSince, VersionsStand, Wrote, AreOwn, NamesSet}
 use Rattle.ctr_versions.specs.Engine.{EngineHeld, IsBy, AreBy, IsDrawn, IsSeenIfOld, ShowsState}
 use Rattle.ctr_versions.specs.Laws.{IsNoSessions}
-use Rattle.ctr_versions.specs.Undoing.{IsAtWork, writers, ShowsTheSame, HasUndoneHead}
+use Rattle.ctr_versions.specs.Undoing.{IsWorking, writers, ShowsTheSame, HasUndoneHead}
 use Rattle.ctr_versions.proofs.Keys.{known, same_text}
 use Rattle.ctr_versions.proofs.Chains.{skip_seen, skip_newest, committed_behind, committed_none, narrowed}
 use Rattle.ctr_versions.proofs.Changes.{cut_seen, cut_newest, cut_behind, cut_written, cut_all, freed_seen, freed_since, freed_behind, freed_written, freed_all, revert_others, revert_all}
@@ -82,7 +82,7 @@ same_key : (low : ℕ) (number : Numbers) (at_work : ℕ → Type 0) (old new : 
 same_key low number at_work old new same base writes key = record {
   rows = λ j le. seen-map (λ (m : Made). m.schema) (by number j) new ∙ ap (option_map (λ (m : Made). m.schema)) (same.seen j le) ∙ sym (seen-map (λ (m : Made). m.schema) (by number j) old) ∙ key.rows j le;
   changes = λ n le. ap (above n) (newest_schemas number new) ∙ same.since n le ∙ sym (ap (above n) (newest_schemas number old)) ∙ key.changes n le;
-  told = λ n le. by_schemas (IsTold number n writes) new (by_writers (IsTold number n writes) old new same.writers (of_schemas (IsTold number n writes) old (key.told n le)));
+  told = λ n le. by_schemas (IsChangeTold number n writes) new (by_writers (IsChangeTold number n writes) old new same.writers (of_schemas (IsChangeTold number n writes) old (key.told n le)));
   behind = behind_of number new same.behind;
 }
 
@@ -177,7 +177,7 @@ module _ (low : ℕ) (engine : EngineHeld) (state : State) (shows : ShowsState l
   names = names_at engine.versions name
 
   abbrev Working : ℕ → Type 0
-  Working x = IsAtWork x engine state
+  Working x = IsWorking x engine state
 
   names_behind : Behind number names
   names_behind = behind_schemas number names (shows.stands.tables name).behind

@@ -94,14 +94,14 @@ IsUnwritten w = w ≡ None
 -- ---- a chain shows a key
 
 -- Where the transaction has a number above n, the key was changed since n.
-abbrev pub IsTold : {V : Type 0} → Numbers → ℕ → List (Option (Option V)) → ℕ → Type 0
-IsTold number n writes x =
+abbrev pub IsChangeTold : {V : Type 0} → Numbers → ℕ → List (Option (Option V)) → ℕ → Type 0
+IsChangeTold number n writes x =
     (k : ℕ) → number x ≡ Some k → n < k → is_some (changed_since n writes) ≡ true
 
 -- that holds of each version's transaction
 abbrev pub AllTold : {V : Type 0} → Numbers → ℕ → List (Option (Option V)) → List (ℕ × Option V)
     → Type 0
-AllTold number n writes chain = AllByRecursion (λ v. IsTold number n writes v.0) chain
+AllTold number n writes chain = AllByRecursion (λ v. IsChangeTold number n writes v.0) chain
 
 -- The chain shows the model's values of a key at these numbers and, since those, its last changes:
 -- the first committer wins where its number is newer than the snapshot's. A version with a number

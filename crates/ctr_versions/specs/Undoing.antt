@@ -14,7 +14,7 @@ use Rattle.ctr_versions.specs.Engine.{SessionHeld, EngineHeld, IsCalm, ShowsStat
 use Rattle.ctr_versions.specs.Laws.{IsNoSessions}
 
 -- A session of this number hasn't asked for its commit, and isn't within its rollback.
-pub record IsAtWork (x : ℕ) (engine : EngineHeld) (state : State) : Type 0 where
+pub record IsWorking (x : ℕ) (engine : EngineHeld) (state : State) : Type 0 where
   pub s : ℕ
   pub t : Transaction
   pub session : SessionHeld
@@ -25,7 +25,7 @@ pub record IsAtWork (x : ℕ) (engine : EngineHeld) (state : State) : Type 0 whe
 
 -- none of this number is
 abbrev pub IsNotAtWork : ℕ → EngineHeld → State → Type 0
-IsNotAtWork x engine state = IsAtWork x engine state → ⊥
+IsNotAtWork x engine state = IsWorking x engine state → ⊥
 
 -- ---- a chain of a name
 
@@ -52,7 +52,7 @@ abbrev pub NamesGiveWay : Type 0
 NamesGiveWay = (low : ℕ) (engine : EngineHeld) (state : State) (new : Versions) (name : List ℕ)
     (chain : List (ℕ × Option Made)) → ShowsState low engine state
     → NamesSet engine.versions new name chain
-    → ShowsTheSame low (number_of engine.xids) (λ x. IsAtWork x engine state)
+    → ShowsTheSame low (number_of engine.xids) (λ x. IsWorking x engine state)
     (names_at engine.versions name) chain → ShowsState low (record engine { versions = new }) state
 
 -- the head of a name's chain is by this transaction, which isn't committed and isn't at work
@@ -69,7 +69,7 @@ UndoneHeadsGo = (low : ℕ) (engine : EngineHeld) (state : State) (new : Version
     → HasUndoneHead x v rest engine state name → NamesSet engine.versions new name rest
     → ShowsState low (record engine { versions = new }) state
 
--- It may be another version of the same transaction.
+-- Such a head may become another version of the same transaction.
 abbrev pub UndoneHeadsChange : Type 0
 UndoneHeadsChange = (low : ℕ) (engine : EngineHeld) (state : State) (new : Versions)
     (name : List ℕ) (x : ℕ) (v w : Option Made) (rest : List (ℕ × Option Made))

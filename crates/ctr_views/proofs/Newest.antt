@@ -5,7 +5,7 @@ use Rattle.std.specs.List.{AllByRecursion, filter}
 use Rattle.std.specs.Option.{option_or}
 use Rattle.std.proofs.lemmas.Bool.{and_parts, false≢true, lt-ltb, ltb-true}
 use Rattle.ctr_model.specs.State.{same_name}
-use Rattle.ctr_versions.specs.Chains.{AllTold, IsTold, Numbers, above, changed_since, newest, newest_since}
+use Rattle.ctr_versions.specs.Chains.{AllTold, IsChangeTold, Numbers, above, changed_since, newest, newest_since}
 use Rattle.ctr_versions.specs.Engine.{IsSeenIfOld, ShowsSession}
 use Rattle.ctr_versions.specs.Keys.{schema_writes}
 use Rattle.ctr_versions.specs.Versions.{schemas}
@@ -175,7 +175,7 @@ module _ (low : ℕ) (site : Site) (scene : Scene) (shown : IsShown low site sce
   abbrev IsAtMost : ℕ → Type 0
   IsAtMost x = (is_some (changed_since n (schema_writes name scene.state.asked)) ≡ true) × (j : ℕ) × (above n (number x) ≡ Some j) × ((k : ℕ) → changed_since n (schema_writes name scene.state.asked) ≡ Some k → j ≤ k)
 
-  within : (x j k : ℕ) → n < j → number x ≡ Some j → ((m : ℕ) → low ≤ m → IsTold number m (schema_writes name scene.state.asked) x) → changed_since n (schema_writes name scene.state.asked) ≡ Some k → j ≤ k
+  within : (x j k : ℕ) → n < j → number x ≡ Some j → ((m : ℕ) → low ≤ m → IsChangeTold number m (schema_writes name scene.state.asked) x) → changed_since n (schema_writes name scene.state.asked) ≡ Some k → j ≤ k
   within x zero k lt is one last = absurd (omega (arith, lt))
   within x (suc m) k lt is one last =
       let from = its.from in
@@ -186,10 +186,10 @@ module _ (low : ℕ) (site : Site) (scene : Scene) (shown : IsShown low site sce
       let below = found.2 in
       omega (arith, below, same)
 
-  at_most : (x : ℕ) → told x ≡ true → (x ≡ 0) ⊎ IfOld x → ((m : ℕ) → low ≤ m → (x ≡ 0) ⊎ IsTold number m (schema_writes name scene.state.asked) x) → IsAtMost x
+  at_most : (x : ℕ) → told x ≡ true → (x ≡ 0) ⊎ IfOld x → ((m : ℕ) → low ≤ m → (x ≡ 0) ⊎ IsChangeTold number m (schema_writes name scene.state.asked) x) → IsAtMost x
   at_most x is old one =
       let some = ⊎_elim (λ none. absurd (false≢true (ap told (sym none) ∙ is))) (λ old. some_above n (number x) (sym (told_as x old) ∙ is)) old in
-      let each : (m : ℕ) → low ≤ m → IsTold number m (schema_writes name scene.state.asked) x = λ m le. ⊎_elim (λ none. absurd (false≢true (ap told (sym none) ∙ is))) (λ one. one) (one m le) in
+      let each : (m : ℕ) → low ≤ m → IsChangeTold number m (schema_writes name scene.state.asked) x = λ m le. ⊎_elim (λ none. absurd (false≢true (ap told (sym none) ∙ is))) (λ one. one) (one m le) in
       (each n its.from some.0 some.1 some.2, some.0, ap (above n) some.1 ∙ above_some n some.0 some.2, λ k last. within x some.0 k some.2 some.1 each last)
 
   pub told_at_most : (f x : ℕ) → f < 32 → changed_in site.tables v.session.snapshot name site.area f ≡ Some x → IsAtMost x
