@@ -4,3 +4,5 @@ pub mod Telling
 pub mod Ready
 pub mod Reached
 pub mod Own
+pub mod Tapes
+pub mod Answered

@@ -29,9 +29,10 @@ use Rattle.ctr_world.specs.Crash.{reached, HasCommits, IsPrefixAt, Survives, Res
 use Rattle.ctr_world.specs.Turns.{AnswersAll}
 use Rattle.ctr_world.specs.World.{RunsFrom, state_reached}
 use Rattle.ctr_world.proofs.AloneLemmas.{others_twice}
-use Rattle.ctr_world.proofs.CrashLemmas.{order, has_less, survives_call}
+use Rattle.ctr_legal.proofs.Answered.{order}
+use Rattle.ctr_world.proofs.CrashLemmas.{has_less, survives_call}
 use Rattle.ctr_world.proofs.RunLemmas.{Longer, longer, more_runs, rows_same}
-use Rattle.ctr_world.proofs.TapeLemmas.{base_on, answers_on}
+use Rattle.ctr_legal.proofs.Tapes.{base_on, answers_on}
 
 -- ---- the records that wait
 

@@ -28,9 +28,9 @@ use Rattle.ctr_world.specs.Crash.{reached, HasCommits, IsPrefixAt, Survives, Res
 use Rattle.ctr_world.specs.Turns.{HasStatementLeft}
 use Rattle.ctr_world.specs.World.{IsRunLine, WalksOn, RunsFrom, Kept, Ends, state_reached}
 use Rattle.ctr_world.proofs.AloneLemmas.{others_same}
-use Rattle.ctr_world.proofs.CrashLemmas.{order}
+use Rattle.ctr_legal.proofs.Answered.{order}
 use Rattle.ctr_world.proofs.RunLemmas.{rests_has}
-use Rattle.ctr_world.proofs.TapeLemmas.{base_on, stuck_on, answers_on}
+use Rattle.ctr_legal.proofs.Tapes.{base_on, stuck_on, answers_on}
 
 -- ---- just opened
 

@@ -25,7 +25,7 @@ use Rattle.ctr_world.specs.Held.{Held}
 use Rattle.ctr_world.specs.declared.opening.Opening.{Ghosts as Opening}
 use Rattle.ctr_world.specs.Crash.{reached, HasCommits, IsPrefixAt, Survives, Rests, OnlyLogChanges}
 use Rattle.ctr_world.specs.World.{RunsFrom, state_reached}
-use Rattle.ctr_world.proofs.TapeLemmas.{final_append, base_on, asked_on, answers_on}
+use Rattle.ctr_legal.proofs.Tapes.{final_append, base_on, asked_on, answers_on}
 use Rattle.ctr_world.proofs.CrashLemmas.{survives_more}
 
 -- rows at a number that was asked, where more is asked

@@ -1,17 +1,16 @@
 -- The eight sessions of a World, each at its own lines.
-use Rattle.std.proofs.Common.{◌≡◌, ℕ, zero, suc, ◌+◌, ◌-◌, ◌<◌, ◌≤◌, List, [], ◌∷◌, length, refl, sym, ◌∙◌, ap, subst, arith}
+use Rattle.std.proofs.Common.{◌≡◌, ℕ, zero, suc, ◌+◌, ◌-◌, ◌<◌, List, [], ◌∷◌, length, refl, sym, ◌∙◌, ap, arith}
 use Rattle.std.specs.Prelude.{get_or}
 use Rattle.ctr_types.specs.declared.statement.Line.{Line}
 use Rattle.ctr_log.specs.Logs.{Log}
 use Rattle.ctr_model.specs.Database.{Database}
 use Rattle.ctr_model.specs.declared.tape.Progress.{Progress}
 use Rattle.ctr_model.specs.Tape.{at_start, progress_of, final}
-use Rattle.ctr_gather.specs.Records.{IsSession}
 use Rattle.ctr_steps.specs.declared.runners.Runner.{Runner}
 use Rattle.ctr_steps.specs.declared.runners.Stage.{Stage}
 use Rattle.ctr_steps.specs.declared.runners.Stage.TheVariants as stage
 use Rattle.ctr_steps.specs.declared.steps.Steps.{Steps}
-use Rattle.ctr_steps.specs.Runners.{runner_at, made_at, progress_at, vacant, session_places, AreRunners, IsUnbegun}
+use Rattle.ctr_steps.specs.Runners.{runner_at, made_at, progress_at, vacant, session_places, AreRunners}
 use Rattle.ctr_steps.specs.Steps.{HasBounds}
 use Rattle.ctr_world.specs.Turns.{AreEight, AreSessions, AreUnbegun}
 use Rattle.ctr_world.proofs.KeptLemmas.{session_of}

@@ -1,5 +1,5 @@
 -- A survey: what is told of a database whose disk isn't written.
-use Rattle.std.specs.Prelude.{◌≡◌, List, length}
+use Rattle.std.specs.Prelude.{◌≡◌, length}
 use Rattle.ctr_disk.specs.declared.disk.Disk.{Ghosts}
 use Rattle.ctr_disk.specs.Device.{OnlyReads, IsDurableFrom}
 use Rattle.ctr_model.specs.declared.tape.Survey.{Survey}
