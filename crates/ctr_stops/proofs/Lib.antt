@@ -2,3 +2,4 @@ pub mod Fronts
 pub mod Survives
 pub mod Turns
 pub mod Opened
+pub mod Together

@@ -72,7 +72,7 @@ module _ {D : Type 0} (dev : Ghosts D) (earlier : (d : D) (s t : ℕ) (c : Image
       fronts_now : HasFronts course.base course.asked (answers (es ++ entries)) b
       fronts_now = fronts_answered course.base course.asked (answers es) a keeps.fronts (answers (es ++ entries)) b logs none (first_less course.base course.asked (length course.asked) (answers (es ++ entries)) b.now most first)
 
-  same_counted : a.now.counted ≡ a.hardened.counted
+  pub same_counted : a.now.counted ≡ a.hardened.counted
   same_counted = ap (λ (s : _). s.counted) keeps.fronts.now ∙ steps_counted a.waiting a.hardened
 
   -- the file grew

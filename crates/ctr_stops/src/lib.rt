@@ -3,8 +3,10 @@
 #![tactic(auto)]
 
 mod stops;
+mod world;
 
 pub use stops::{
     a_call_that_ends_leaves_a_prefix, a_growth_leaves_a_prefix, a_record_more_leaves_a_prefix,
     an_opened_store_keeps_commits, answers_leave_a_prefix, what_is_left_opens,
 };
+pub use world::{a_turn_of_a_world_is_kept, a_world_begins, answers_and_growth_are_kept};
