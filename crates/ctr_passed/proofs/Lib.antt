@@ -11,3 +11,4 @@ pub mod Blank
 pub mod Fresh
 pub mod Slots
 pub mod Placed
+pub mod Owing

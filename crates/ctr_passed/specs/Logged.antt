@@ -36,6 +36,10 @@ RecordLies a r s = LiesAs a (area_in s) (pages_in s) (pages_in (step r s))
 abbrev pub RecordPasses : Action → Record → State → Type 0
 RecordPasses a r s = LaidPasses a s.counted (area_in (step r s)) (pages_in (step r s))
 
+-- A record is laid as an action: its bytes lie as that says, and what it lays passes.
+abbrev pub IsLaidAs : Action → Record → State → Type 0
+IsLaidAs a r s = RecordLies a r s × RecordPasses a r s
+
 -- The page is blank: it has a header, and zeros behind it.
 abbrev pub IsBlankPage : ℕ → Header → State → Type 0
 IsBlankPage p h s = pages_in s p ≡ put_over 0 (header_bytes h) (replicate PAGE_SIZE 0)

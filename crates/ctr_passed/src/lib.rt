@@ -4,6 +4,7 @@
 mod checks;
 mod laws;
 mod lying;
+mod owed;
 
 pub use checks::{
     a_formatted_page_is_blank, chains_pass_their_checks, slots_pass_their_checks,
@@ -15,3 +16,4 @@ pub use lying::{
     records_without_bytes_lie_as_their_actions, slots_lie_as_their_actions,
     tables_lie_as_their_actions, versions_lie_as_their_actions,
 };
+pub use owed::owed_records_are_laid_as_their_actions;
