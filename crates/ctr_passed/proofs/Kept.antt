@@ -47,7 +47,7 @@ reread counted pages old new titles firsts headers rooms passed = record {
 -- ---- where a place of a table is
 
 -- a version entry that a pointer leads to is one of the table's
-along_older : (area : Area) (e : ℕ) (key : _) (n : ℕ) (at q : Place) → Leads n area.older (IsKeptFor area e key) at → IsAmong q (places_along n area.older at) → IsAmong q (older_places area e)
+pub along_older : (area : Area) (e : ℕ) (key : _) (n : ℕ) (at q : Place) → Leads n area.older (IsKeptFor area e key) at → IsAmong q (places_along n area.older at) → IsAmong q (older_places area e)
 along_older area e key zero at q leads in_ = absurd in_
 along_older area e key (suc n) at q leads in_ = known (at.page == 0)
     (λ is. absurd (subst (IsAmong q) (ap (λ b. cond b [] (at ∷ places_along n area.older (area.older at).pointer)) is) in_))
@@ -58,13 +58,13 @@ along_older area e key (suc n) at q leads in_ = known (at.page == 0)
     leads)
 
 -- the first that passes is one of them
-first_in : (passes : ℕ → Bool) (older : Place → Older) (q : Place) (ps : List Place) → IsFirstPassing passes older q ps → IsAmong q ps
+pub first_in : (passes : ℕ → Bool) (older : Place → Older) (q : Place) (ps : List Place) → IsFirstPassing passes older q ps → IsAmong q ps
 first_in passes older q [] first = absurd first
 first_in passes older q (p ∷ ps) (inl here) = inl (sym here.0)
 first_in passes older q (p ∷ ps) (inr later) = inr (first_in passes older q ps later.1)
 
 -- the slot that a Row writes
-row_here : (tables : Tables) (area : Area) (m : RowMove) → OwedByRow tables area m → IsAmong m.at (slot_places area m.entry)
+pub row_here : (tables : Tables) (area : Area) (m : RowMove) → OwedByRow tables area m → IsAmong m.at (slot_places area m.entry)
 row_here tables area m owed = by m.writing owed.fits
   where
     by : (w : Writing) → FitsWriting w (is_committed_in tables) area m.entry m.key m.at → IsAmong m.at (slot_places area m.entry)

@@ -12,3 +12,4 @@ pub mod Fresh
 pub mod Slots
 pub mod Placed
 pub mod Owing
+pub mod Putting

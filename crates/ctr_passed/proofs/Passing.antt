@@ -62,7 +62,7 @@ module _ (counted : ℕ) (tables : Tables) (area : Area) (bounds : IsInBounds ar
   beyond : (q p : ℕ) → q ≡ p → q < 3 → 3 ≤ p → ⊥
   beyond q p is lt ge = omega (arith, is, lt, ge)
 
-  slot_header : (e : ℕ) (at : Place) → IsAmong at (slot_places area e) → ((area.header at.page).kind ≡ 1) × ((area.header at.page).entry ≡ e)
+  pub slot_header : (e : ℕ) (at : Place) → IsAmong at (slot_places area e) → ((area.header at.page).kind ≡ 1) × ((area.header at.page).entry ≡ e)
   slot_header e at in_ =
       let found = among_flat (places_from area) at (area.firsts e).buckets in_ in
       let b = index_of found.0 (area.firsts e).buckets found.1 in

@@ -84,3 +84,17 @@ pub record LaysOlder (r : Record) (e : ℕ) (at : Place) (older : VersionEntry) 
     pub made : IsOlderOf s.counted ((area_in s).title e).columns older
     pub behind_catalog : 3 ≤ at.page
     pub laid : LaysAtPlace r at (older_size_in (area_in s) e) (kept_bytes older) s
+
+-- A record lays a slot that is well made, on a whole page, over what stands at a place of a table.
+pub record PutsSlot (r : Record) (e : ℕ) (at : Place) (slot : RowSlot) (s : State) : Type 0 where
+  pub made : IsSlotOf s.counted ((area_in s).title e).columns slot
+  pub whole : IsWholePage at.page s
+  pub lays : Lays r (laid_on_place at (slot_size_in (area_in s) e)
+      (slot_bytes (width_in (area_in s) e) slot))
+
+-- A record lays a version entry that is well made, likewise.
+pub record PutsOlder (r : Record) (e : ℕ) (at : Place) (older : VersionEntry) (s : State) : Type 0
+  where
+    pub made : IsOlderOf s.counted ((area_in s).title e).columns older
+    pub whole : IsWholePage at.page s
+    pub lays : Lays r (laid_on_place at (older_size_in (area_in s) e) (kept_bytes older))

@@ -16,4 +16,7 @@ pub use lying::{
     records_without_bytes_lie_as_their_actions, slots_lie_as_their_actions,
     tables_lie_as_their_actions, versions_lie_as_their_actions,
 };
-pub use owed::owed_records_are_laid_as_their_actions;
+pub use owed::{
+    owed_records_are_laid_as_their_actions, owed_slots_are_laid_as_their_actions,
+    owed_versions_are_laid_as_their_actions,
+};

@@ -2,15 +2,26 @@
 ghost use Rattle.std.specs.Prelude.{◌+◌, ◌/◌, ◌∷◌, [], ℕ, Bool};
 ghost use Rattle.ctr_records.specs.declared.record.Record.{Record};
 ghost use Rattle.ctr_redo.specs.States.{State};
-ghost use Rattle.ctr_record_laws.specs.Owed.{OwedByLink, OwedByOlderLink, OwedByUnlink, OwedByOlderUnlink, OwedByUncreate, OwedByUndrop, OwedByDrop, OwedByDying};
+ghost use Rattle.ctr_page.specs.declared.rows.Place.{Place};
+ghost use Rattle.ctr_page.specs.declared.rows.RowSlot.{RowSlot};
+ghost use Rattle.ctr_page.specs.declared.rows.VersionEntry.{VersionEntry};
+ghost use Rattle.ctr_area.specs.Areas.{Older};
+ghost use Rattle.ctr_record_laws.specs.Loose.{IsLoose};
+ghost use Rattle.ctr_record_laws.specs.Owed.{OwedByKeep, RowMove, OwedByRow, Reverting, OwedByRevert, Trimming, OwedByTrim, OwedByCut, OwedByLink, OwedByOlderLink, OwedByUnlink, OwedByOlderUnlink, OwedByUncreate, OwedByUndrop, OwedByDrop, OwedByDying};
 ghost use Rattle.ctr_record_effects.specs.States.{area_in, IsWholePage};
 ghost use Rattle.ctr_record_effects.specs.Standing.{IsDatabaseState};
 ghost use Rattle.ctr_record_effects.specs.Changing.{link_record, link_older_record, unlink_record, unlink_older_record, uncreate_record, drop_record, undrop_record, laid_in_entry, Lays};
-ghost use Rattle.ctr_actions.specs.Actions.{Links, LinksOlder, Drops, Uncreates, Undrops, MakesDead, Unlinks, UnlinksOlder};
-ghost use Rattle.ctr_passed.specs.Logged.{IsLaidAs, IsBlankPage};
+ghost use Rattle.ctr_actions.specs.Actions.{Links, LinksOlder, Keeps, Writes, Drops, Uncreates, Undrops, Reverts, Trims, Cuts, FreesOlder, MakesDead, Unlinks, UnlinksOlder};
+ghost use Rattle.ctr_passed.specs.Logged.{IsLaidAs, IsBlankPage, PutsSlot, PutsOlder};
 
-use crate::checks::{chains_pass_their_checks, tables_pass_their_checks};
-use crate::lying::{chains_lie_as_their_actions, tables_lie_as_their_actions};
+use crate::checks::{
+    chains_pass_their_checks, slots_pass_their_checks, tables_pass_their_checks,
+    versions_pass_their_checks,
+};
+use crate::lying::{
+    chains_lie_as_their_actions, slots_lie_as_their_actions, tables_lie_as_their_actions,
+    versions_lie_as_their_actions,
+};
 
 /// In a state of a database what an action owes is enough for its record in an entry of the catalog to be laid as it, where
 /// the entry's page is whole; and where a page that is linked is blank.
@@ -36,4 +47,30 @@ pub fn owed_records_are_laid_as_their_actions()
     chains_pass_their_checks();
     tables_lie_as_their_actions();
     tables_pass_their_checks();
+}
+
+/// And what an action owes of a slot is enough for its record to be laid as it, where the slot that it lays is well made.
+pub fn owed_slots_are_laid_as_their_actions()
+    ensures writes { (s : State) (r : Record) (m : RowMove) (slot : RowSlot) → IsDatabaseState s → OwedByRow s.tables (area_in s) m
+        → PutsSlot r m.entry m.at slot s → IsLaidAs (Writes m) r s }
+    ensures reverts { (s : State) (r : Record) (e : ℕ) (at : Place) (way : Reverting) (slot : RowSlot) → IsDatabaseState s
+        → OwedByRevert s.tables (area_in s) e at way → PutsSlot r e at slot s → IsLaidAs (Reverts e at way) r s }
+    ensures trims { (s : State) (r : Record) (passes : ℕ → Bool) (e : ℕ) (at : Place) (way : Trimming) (slot : RowSlot) → IsDatabaseState s
+        → OwedByTrim passes s.tables (area_in s) e at way → PutsSlot r e at slot s → IsLaidAs (Trims passes e at way) r s }
+{
+    slots_lie_as_their_actions();
+    slots_pass_their_checks();
+}
+
+/// And of a version entry, likewise.
+pub fn owed_versions_are_laid_as_their_actions()
+    ensures keeps { (s : State) (r : Record) (e : ℕ) (at : Place) (older : Older) (entry : VersionEntry) → IsDatabaseState s
+        → OwedByKeep s.tables (area_in s) e at older → PutsOlder r e at entry s → IsLaidAs (Keeps e at older) r s }
+    ensures cuts { (s : State) (r : Record) (passes : ℕ → Bool) (e : ℕ) (at q : Place) (entry : VersionEntry) → IsDatabaseState s
+        → OwedByCut passes (area_in s) e at q → PutsOlder r e q entry s → IsLaidAs (Cuts passes e at q) r s }
+    ensures frees { (s : State) (r : Record) (e : ℕ) (q : Place) (entry : VersionEntry) → IsDatabaseState s
+        → IsLoose (area_in s) e q ((area_in s).older q) → PutsOlder r e q entry s → IsLaidAs (FreesOlder e q) r s }
+{
+    versions_lie_as_their_actions();
+    versions_pass_their_checks();
 }
