@@ -55,8 +55,8 @@ LeadsInside counted w at =
 abbrev pub IsVersionOf : List Column → ℤ → Version → Type 0
 IsVersionOf columns key v = (v.tombstone ≤ 1) × HoldsRow columns key v
 
--- A slot is one of a table with these columns: free, or in use with rows of its key, and it leads to
--- a counted page or nowhere.
+-- A slot is one of a table with these columns: free, or in use with rows of its key, and it leads
+-- to a counted page or nowhere.
 pub record IsSlotOf (counted : ℕ) (columns : List Column) (slot : RowSlot) : Type 0 where
   pub is : IsSlot (kinds_width (kinds_of columns)) slot
   pub state : slot.used ≤ 1
