@@ -281,7 +281,7 @@ module _ (lines : List Line) (moment : ℕ) (base : Database) (stuck : List (Lis
         entry_keeps act.Rollback reply.RolledBack (site_after b.me Aborts site) (told act.Rollback reply.RolledBack gone) comes refl
         (action_scene size site w scene keeps.scene s (without nat_cmp s w.since) [] (told act.Rollback reply.RolledBack gone) refl refl refl (without_its s scene) leaves legal me b.me Aborts is_me owed tt (alone some) no_orphan bounds moves (gone_moves (site_after b.me Aborts site)))
 
--- ---- BEGIN
+-- ---- BEGIN, and what is refused outside a transaction
 
 module _ (lines : List Line) (moment : ℕ) (base : Database) (stuck : List (List ℕ)) (size now : ℕ) (site : Site) (w : Mind)
     (keeps : Keeps lines (at_start moment base stuck) size now site w) (s n later : ℕ) (statement : Statement) (is_statement : statement_of lines s n ≡ Some statement)
@@ -323,3 +323,21 @@ module _ (lines : List Line) (moment : ℕ) (base : Database) (stuck : List (Lis
 
       no_zero : IsAmong 0 w.undo.orphans → ⊥
       no_zero in_ = zero_lt (listed_drawn site.tables.next site.area site.tables keeps.scene.shown.paged.sound.below 0 (inl (keeps.scene.undo.0.are_open 0 in_))).0
+
+  -- a session in no transaction is refused
+  pub outside_turn : (a : Act) (why : Refusal) → Comes lines outside (record { session = s; statement = n; act = a; reply = reply.Refused why; moment = later })
+      → Keeps lines (at_start moment base stuck) size later site (record w { tape = w.tape ++ record { session = s; statement = n; act = a; reply = reply.Refused why; moment = later } ∷ [] })
+  outside_turn a why comes = keeps_entry lines moment base stuck size now site w keeps refused site v comes refl
+      (subst (λ (o : Option Transaction). KeepsScene size site v (record { run = w.run; state = next_from outside.state s o a (statement_of lines s n) (reply.Refused why) })) (sym none) (record {
+        low = keeps.scene.low;
+        shown = keeps.scene.shown;
+        begun = keeps.scene.begun;
+        carried = keeps.scene.carried;
+        undo = keeps.scene.undo;
+      }))
+    where
+      refused : Entry
+      refused = record { session = s; statement = n; act = a; reply = reply.Refused why; moment = later }
+
+      v : Mind
+      v = record w { tape = w.tape ++ refused ∷ [] }

@@ -15,5 +15,8 @@ pub use sessions::{
     a_commit_is_asked_for, a_number_is_drawn, a_rollback_ends, a_turn_without_an_entry_is_kept,
     a_write_is_kept,
 };
-pub use silent::{a_reader_ends, a_rollback_begins, a_session_begins, locks_and_reads_are_kept};
+pub use silent::{
+    a_reader_ends, a_refusal_outside_is_kept, a_rollback_begins, a_session_begins,
+    locks_and_reads_are_kept,
+};
 pub use walks::{a_walk_begins, commits_are_answered, time_and_growth_are_kept};

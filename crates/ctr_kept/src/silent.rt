@@ -22,6 +22,12 @@ pub fn a_session_begins()
         → KeepsRun c e.later site (telling e act.Begin (reply.Began (state_now c w).answered) w (begun_mind s site (state_now c w).answered w)) }
 {}
 
+/// A session that is in no transaction is refused: for want of one, or its BEGIN for want of memory.
+pub fn a_refusal_outside_is_kept()
+    ensures { (c : Start) (now s : ℕ) (site : Site) (w : Mind) (e : Telling c s) (a : Act) (why : Refusal) → KeepsRun c now site w → transaction_of (state_now c w) s ≡ None
+        → MayCome c w e a (reply.Refused why) → KeepsRun c e.later site (telling e a (reply.Refused why) w w) }
+{}
+
 /// A Lock is granted to a session that has its number; rows are read; an act is refused.
 pub fn locks_and_reads_are_kept()
     ensures granted { (c : Start) (now s : ℕ) (site : Site) (w : Mind) (seat : InTransaction c w s) (e : Telling c s) (mine : List Fact) → KeepsRun c now site w
