@@ -1,5 +1,5 @@
 -- Commits are answered, the one that asked first or all that wait, whoever flushed.
-use Rattle.std.proofs.Common.{◌≡◌, ℕ, zero, suc, ◌+◌, ◌<◌, ◌≤◌, ◌==◌, List, [], ◌∷◌, ◌++◌, length, Option, Some, refl, sym, ◌∙◌, ap, subst, arith}
+use Rattle.std.proofs.Common.{◌≡◌, ⊎_elim, inl, inr, None, ℕ, zero, suc, ◌+◌, ◌<◌, ◌≤◌, ◌==◌, List, [], ◌∷◌, ◌++◌, length, Option, Some, refl, sym, ◌∙◌, ap, subst, arith}
 use Rattle.std.specs.Prelude.{is_some}
 use Rattle.std.specs.Option.{option_map}
 use Rattle.std.specs.Ordering.{nat_cmp}
@@ -15,7 +15,7 @@ use Rattle.ctr_model.specs.declared.tape.Point.{Point}
 use Rattle.ctr_model.specs.Database.{Database}
 use Rattle.ctr_model.specs.Maps.{without}
 use Rattle.ctr_model.specs.Reply.{next_from}
-use Rattle.ctr_model.specs.State.{without_transaction}
+use Rattle.ctr_model.specs.State.{transaction_of, without_transaction}
 use Rattle.ctr_model.specs.Tape.{progress_of, statement_of, final, at_start}
 use Rattle.ctr_model.proofs.Sessions.{find-without-other, find-without-same}
 use Rattle.ctr_legal.specs.Laws.{answer_entry, IsAnsweredNext}
@@ -74,10 +74,10 @@ module _ (lines : List Line) (moment : ℕ) (base : Database) (stuck : List (Lis
 
   -- the commit that was asked first is answered, whoever flushed; nothing else moves
   pub answer_turn : (later : ℕ) → now ≤ later → point.state.answered < length point.state.asked → (s : ℕ) × Keeps lines (at_start moment base stuck) size later site (answered_mind s later)
-      × ((final lines (at_start moment base stuck) (w.tape ++ answer_entry point s later ∷ [])).state ≡ without_transaction s (record point.state { answered = point.state.answered + 1 }))
+      × ((final lines (at_start moment base stuck) (w.tape ++ answer_entry point s later ∷ [])).state ≡ without_transaction s (record point.state { answered = point.state.answered + 1 })) × IsAnsweredNext lines point later s
   answer_turn later le more =
       let next = waiting_answered lines point later (keeps_reached lines moment base stuck size now site w keeps) (further keeps.later le) more in
-      (next.0, one next.0 next.1, leads next.0 next.1)
+      (next.0, one next.0 next.1, leads next.0 next.1, next.1)
     where
       further : {a b c : ℕ} → a ≤ b → b ≤ c → a ≤ c
       further p q = omega (arith, p, q)
@@ -106,8 +106,14 @@ answers_all lines moment base stuck size later site zero now w keeps le is = rec
   keeps = record { legal = keeps.legal; later = up keeps.later le; scene = keeps.scene };
   tape = nothing w.tape;
   moments = tt;
+  are_answers = tt;
+  many = refl;
   answered = omega arith;
   asked = refl;
+  facts = refl;
+  undo = refl;
+  commits = refl;
+  each = λ s. inl (refl, refl);
 }
   where
     up : {a b c : ℕ} → a ≤ b → b ≤ c → a ≤ c
@@ -119,15 +125,32 @@ answers_all lines moment base stuck size later site zero now w keeps le is = rec
 answers_all lines moment base stuck size later site (suc n) now w keeps le is =
     let one = answer_turn lines moment base stuck size now site w keeps later le (more (length (final lines (at_start moment base stuck) w.tape).state.asked) (final lines (at_start moment base stuck) w.tape).state.answered is) in
     let w1 = answered_mind lines moment base stuck size now site w keeps one.0 later in
+    let state_is = one.2 in
+    let answered_next = one.3 in
     let rest = answers_all lines moment base stuck size later site n later w1 one.1 (omega arith)
-    (ap (λ (st : State). length st.asked) one.2 ∙ next (length (final lines (at_start moment base stuck) w.tape).state.asked) (final lines (at_start moment base stuck) w.tape).state.answered is ∙ ap (λ (st : State). st.answered + n) (sym one.2)) in record {
+    (ap (λ (st : State). length st.asked) state_is ∙ next (length (final lines (at_start moment base stuck) w.tape).state.asked) (final lines (at_start moment base stuck) w.tape).state.answered is ∙ ap (λ (st : State). st.answered + n) (sym state_is)) in record {
       mind = rest.mind;
       entries = answer_entry (final lines (at_start moment base stuck) w.tape) one.0 later ∷ rest.entries;
       keeps = rest.keeps;
       tape = rest.tape ∙ joined w.tape (answer_entry (final lines (at_start moment base stuck) w.tape) one.0 later) rest.entries;
       moments = (refl, rest.moments);
-      answered = rest.answered ∙ ap (λ (st : State). st.answered + n) one.2 ∙ last (final lines (at_start moment base stuck) w.tape).state.answered;
-      asked = rest.asked ∙ ap (λ (st : State). st.asked) one.2;
+      are_answers = (refl, rest.are_answers);
+      many = ap suc rest.many;
+      answered = rest.answered ∙ ap (λ (st : State). st.answered + n) state_is ∙ last (final lines (at_start moment base stuck) w.tape).state.answered;
+      asked = rest.asked ∙ ap (λ (st : State). st.asked) state_is;
+      facts = rest.facts;
+      undo = rest.undo;
+      commits = rest.commits;
+      each = λ s. known (s == one.0)
+          (λ here. let at = eqb-true s one.0 here in
+          let gone : transaction_of (final lines (at_start moment base stuck) w1.tape).state s ≡ None = ap (λ (st : State). transaction_of st s) state_is ∙ ap (λ q. find nat_cmp q (without nat_cmp one.0 (final lines (at_start moment base stuck) w.tape).state.sessions)) at ∙ find-without-same one.0 (final lines (at_start moment base stuck) w.tape).state.sessions in
+          inr (answered_next.me, (final lines (at_start moment base stuck) w.tape).state.answered + 1, ap (transaction_of (final lines (at_start moment base stuck) w.tape).state) at ∙ answered_next.there, answered_next.asked,
+          ⊎_elim (λ same. same.0 ∙ gone) (λ other. other.4) (rest.each s)))
+          (λ apart. let state_same : transaction_of (final lines (at_start moment base stuck) w1.tape).state s ≡ transaction_of (final lines (at_start moment base stuck) w.tape).state s =
+          ap (λ (st : State). transaction_of st s) state_is ∙ find-without-other s one.0 (final lines (at_start moment base stuck) w.tape).state.sessions apart in
+          ⊎_elim
+          (λ same. inl (same.0 ∙ state_same, same.1 ∙ find-without-other s one.0 w.run.sessions apart))
+          (λ other. inr (other.0, other.1, sym state_same ∙ other.2, other.3, other.4)) (rest.each s));
     }
   where
     more : (l a : ℕ) → l ≡ a + suc n → a < l

@@ -1,5 +1,5 @@
 -- Turns: of whom they are, and which entry they make.
-use Rattle.std.specs.Prelude.{◌≡◌, ℕ, ◌+◌, true, List, [], ◌∷◌, ◌++◌, length, Some}
+use Rattle.std.specs.Prelude.{◌≡◌, ◌⊎◌, ℕ, ◌+◌, true, List, [], ◌∷◌, ◌++◌, length, Some, None}
 use Rattle.std.specs.List.{AllByRecursion}
 use Rattle.std.specs.Ordering.{nat_cmp}
 use Rattle.std.specs.FinMap.Entries.{find, put}
@@ -152,12 +152,26 @@ release_entry name later = record {
   moment = later;
 }
 
--- All that wait were answered, at one moment: as many entries as were asked and not answered.
+-- A session is as it was, in its transaction or in none; or it has asked for its commit, and is gone.
+abbrev pub StaysOrGoes : Start → Mind → Mind → ℕ → Type 0
+StaysOrGoes c w v s = ((transaction_of (state_now c v) s ≡ transaction_of (state_now c w) s)
+    × (find nat_cmp s v.run.sessions ≡ find nat_cmp s w.run.sessions))
+    ⊎ ((t : Transaction) × (k : ℕ) × (transaction_of (state_now c w) s ≡ Some t)
+    × (t.asked ≡ Some k) × (transaction_of (state_now c v) s ≡ None))
+
+-- All that wait were answered, at one moment: as many answers as were asked and not answered. What
+-- sessions count on, undo's list and who asked are as before, and so is each session that didn't ask.
 pub record AnswersEach (c : Start) (later : ℕ) (site : Site) (w : Mind) (n : ℕ) : Type 0 where
   pub mind : Mind
   pub entries : List Entry
   pub keeps : KeepsRun c later site mind
   pub tape : mind.tape ≡ w.tape ++ entries
   pub moments : AllByRecursion (λ (e : Entry). e.moment ≡ later) entries
+  pub are_answers : AllByRecursion (λ (e : Entry). e.act ≡ act.Answer) entries
+  pub many : length entries ≡ n
   pub answered : (state_now c mind).answered ≡ (state_now c w).answered + n
   pub asked : (state_now c mind).asked ≡ (state_now c w).asked
+  pub facts : mind.facts ≡ w.facts
+  pub undo : mind.undo ≡ w.undo
+  pub commits : mind.run.commits ≡ w.run.commits
+  pub each : (s : ℕ) → StaysOrGoes c w mind s
