@@ -144,8 +144,13 @@ answers_all lines moment base stuck size later site (suc n) now w keeps le is =
       each = λ s. known (s == one.0)
           (λ here. let at = eqb-true s one.0 here in
           let gone : transaction_of (final lines (at_start moment base stuck) w1.tape).state s ≡ None = ap (λ (st : State). transaction_of st s) state_is ∙ ap (λ q. find nat_cmp q (without nat_cmp one.0 (final lines (at_start moment base stuck) w.tape).state.sessions)) at ∙ find-without-same one.0 (final lines (at_start moment base stuck) w.tape).state.sessions in
-          inr (answered_next.me, (final lines (at_start moment base stuck) w.tape).state.answered + 1, ap (transaction_of (final lines (at_start moment base stuck) w.tape).state) at ∙ answered_next.there, answered_next.asked,
-          ⊎_elim (λ same. same.0 ∙ gone) (λ other. other.4) (rest.each s)))
+          inr (
+            answered_next.me,
+            (final lines (at_start moment base stuck) w.tape).state.answered + 1,
+            ap (transaction_of (final lines (at_start moment base stuck) w.tape).state) at ∙ answered_next.there,
+            answered_next.asked,
+            ⊎_elim (λ same. same.0 ∙ gone) (λ other. other.4) (rest.each s),
+          ))
           (λ apart. let state_same : transaction_of (final lines (at_start moment base stuck) w1.tape).state s ≡ transaction_of (final lines (at_start moment base stuck) w.tape).state s =
           ap (λ (st : State). transaction_of st s) state_is ∙ find-without-other s one.0 (final lines (at_start moment base stuck) w.tape).state.sessions apart in
           ⊎_elim

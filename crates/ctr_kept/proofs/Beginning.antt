@@ -1,5 +1,5 @@
 -- A walk begins.
-use Rattle.std.proofs.Common.{ℕ, ◌<◌, ◌≤◌, List, refl, ap, arith}
+use Rattle.std.proofs.Common.{inl, [], ℕ, ◌<◌, ◌≤◌, List, refl, ap, arith}
 use Rattle.std.specs.Prelude.{is_some}
 use Rattle.std.proofs.lemmas.Bool.{false≢true}
 use Rattle.ctr_types.specs.declared.statement.Line.{Line}
@@ -8,6 +8,10 @@ use Rattle.ctr_area.specs.Chains.{pages_bound}
 use Rattle.ctr_area.specs.Images.{is_committed_in, image_rows, undo_size}
 use Rattle.ctr_record_laws.specs.Bounds.{IsInBounds}
 use Rattle.ctr_names.specs.Held.{names_of_items}
+use Rattle.ctr_record_laws.proofs.Heads.{listed_drawn}
+use Rattle.ctr_record_laws.proofs.Xids.{among_in}
+use Rattle.ctr_actions.specs.Actions.{Begins, site_after}
+use Rattle.ctr_actions.specs.Facts.{HasNoPageBut, HoldsFact}
 use Rattle.ctr_actions.specs.Sites.{Site, IsSoundSite}
 use Rattle.ctr_paged.proofs.Opening.{shown_opened}
 use Rattle.ctr_kept.specs.Walk.{mind_at, Keeps}
@@ -26,3 +30,10 @@ walk_begins lines moment site bounds few sound some = record {
     undo = (left_at_open site.counted site.tables site.area sound, counts_at_open site.tables);
   };
 }
+
+-- no item is of a number that isn't drawn yet
+pub no_page_yet : (site : Site) → IsSoundSite site → HoldsFact site.tables.next (HasNoPageBut []) (site_after site.tables.next Begins site)
+no_page_yet site sound p in_ = absurd (beyond (listed_drawn site.tables.next site.area site.tables sound.below site.tables.next (inl (among_in site.tables.next site.tables.opens (sound.owned.allocs site.tables.next p in_)))).1)
+  where
+    beyond : site.tables.next < site.tables.next → ⊥
+    beyond lt = omega (arith, lt)

@@ -1,5 +1,5 @@
 -- What others carry stays, whoever acts.
-use Rattle.std.proofs.Common.{◌≡◌, ◌≢◌, ⊎_elim, ℕ, ◌≤◌, ◌==◌, true, false, List, Some, refl, sym, ◌∙◌, ap, subst}
+use Rattle.std.proofs.Common.{Bool, ◌≡◌, ◌≢◌, ⊎_elim, ℕ, ◌≤◌, ◌==◌, true, false, List, Some, refl, sym, ◌∙◌, ap, subst}
 use Rattle.std.specs.Ordering.{nat_cmp}
 use Rattle.std.specs.FinMap.Entries.{find}
 use Rattle.std.proofs.lemmas.Bool.{false≢true, eqb-true}
@@ -12,7 +12,7 @@ use Rattle.ctr_versions.specs.Engine.{SessionHeld}
 use Rattle.ctr_page.specs.declared.rows.Place.{Place}
 use Rattle.ctr_area.specs.Areas.{Title, Slot}
 use Rattle.ctr_area.specs.Chains.{pages_bound}
-use Rattle.ctr_area.specs.Images.{is_live}
+use Rattle.ctr_area.specs.Images.{is_live, is_committed_in}
 use Rattle.ctr_area.specs.Sound.{IsAmong}
 use Rattle.ctr_record_laws.specs.Bounds.{IsInBounds}
 use Rattle.ctr_record_laws.specs.Owed.{RowMove}
@@ -183,3 +183,20 @@ module _ (leaves : AnotherLeaves) (site : Site) (bounds : IsInBounds site.area) 
         (its.0, subst (λ q. IsAmong (HasTable e its.0) (now q)) (sym q) its.1))
         (λ two. let its = carried.tables s fact e (subst (IsAmong fact) (same s two) in_) is in (its.0, subst (IsAmong (HasTable e its.0)) (sym (same s two)) its.1));
   }
+
+-- ---- a table that becomes dead
+
+-- a table that is counted on has no dropper, and nobody passes by the number 0
+pub dying_away : (site : Site) (y e : ℕ) (passes : ℕ → Bool) → Owes y (MakesDead passes e) site → (x : ℕ) (t : Transaction) (fact : Fact)
+    → ((f : ℕ) → passes (site.area.title f).dropper ≡ false → f ≢ e) → HoldsFact x fact site → IsUnderLock t fact site → IsAway (MakesDead passes e) fact
+dying_away site y e passes owed x t IsOpen apart holds under = tt
+dying_away site y e passes owed x t (HasPage p) apart holds under = tt
+dying_away site y e passes owed x t (HasNoPageBut ps) apart holds under = tt
+dying_away site y e passes owed x t (HasBlank p h) apart holds under = tt
+dying_away site y e passes owed x t (HasSlot f at slot) apart holds under = tt
+dying_away site y e passes owed x t (HasCopy f at v q) apart holds under = tt
+dying_away site y e passes owed x t (HasTable f title) apart holds under = apart f (ap passes (ap (λ (u : Title). u.dropper) holds ∙ under.2) ∙ nobody (passes 0) (owed.old 0))
+  where
+    nobody : (b : Bool) → (b ≡ true → is_committed_in site.tables 0 ≡ true) → b ≡ false
+    nobody true is = absurd (false≢true (is refl))
+    nobody false is = refl

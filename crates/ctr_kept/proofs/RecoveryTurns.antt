@@ -1,5 +1,5 @@
 -- Turns of nobody's: undo's, the cleaner's, and the growth of the file.
-use Rattle.std.proofs.Common.{◌≡◌, ◌≢◌, ⊎_elim, inl, inr, ℕ, ◌+◌, ◌≤◌, true, false, Bool, cond, List, [], ◌∷◌, ◌++◌, Option, Some, None, refl, sym, ◌∙◌, ap, subst, arith}
+use Rattle.std.proofs.Common.{◌<◌, ◌≡◌, ◌≢◌, ⊎_elim, inl, inr, ℕ, ◌+◌, ◌≤◌, true, false, Bool, cond, List, [], ◌∷◌, ◌++◌, Option, Some, None, refl, sym, ◌∙◌, ap, subst, arith}
 use Rattle.std.specs.Prelude.{◌||◌, not}
 use Rattle.std.specs.Option.{option_map}
 use Rattle.std.specs.Ordering.{nat_cmp}
@@ -25,6 +25,7 @@ use Rattle.ctr_meta.specs.declared.items.Wanted.TheVariants.{Allocation, Creatio
 use Rattle.ctr_area.specs.Areas.{Title}
 use Rattle.ctr_area.specs.Chains.{pages_bound}
 use Rattle.ctr_area.specs.Sound.{IsAmong, IsSchemaItem}
+use Rattle.ctr_record_laws.proofs.Heads.{listed_drawn}
 use Rattle.ctr_record_laws.specs.Bounds.{IsInBounds}
 use Rattle.ctr_record_laws.proofs.Items.{any_there}
 use Rattle.ctr_record_laws.proofs.Members.{among_front, among_rest}
@@ -125,14 +126,27 @@ module _ (leaves : AnotherLeaves) (lines : List Line) (moment : ℕ) (base : Dat
   -- ---- undo
 
   -- a transaction that was open at the start, behind all items
-  pub orphan_turn : (later x : ℕ) (rest : List ℕ) → now ≤ later → w.undo.items ≡ [] → w.undo.orphans ≡ x ∷ rest → IsInBounds (site_after x Aborts site).area
-      → Keeps lines (at_start moment base stuck) size later (site_after x Aborts site) (record w { undo = record w.undo { orphans = rest; turns = w.undo.turns + 1 } })
-  orphan_turn later x rest le none is bounds =
-      let here : IsAmong x w.undo.orphans = subst (IsAmong x) (sym is) (inl refl) in
-      let v : Mind = record w { undo = record w.undo { orphans = rest; turns = w.undo.turns + 1 } } in
+  pub orphan_turn : (later x : ℕ) (front back : List ℕ) → now ≤ later → w.undo.items ≡ [] → w.undo.orphans ≡ front ++ x ∷ back → IsInBounds (site_after x Aborts site).area
+      → Keeps lines (at_start moment base stuck) size later (site_after x Aborts site) (record w { undo = record w.undo { orphans = front ++ back; turns = w.undo.turns + 1 } })
+  orphan_turn later x front back le none is bounds =
+      let here : IsAmong x w.undo.orphans = subst (IsAmong x) (sym is) (among_rest x front (x ∷ back) (inl refl)) in
+      let v : Mind = record w { undo = record w.undo { orphans = front ++ back; turns = w.undo.turns + 1 } } in
       keeps_on lines moment base stuck size now site w keeps later (site_after x Aborts site) v le refl
       (nobodys_scene x Aborts v scene (orphan_owes site.tables w.run.sessions w.undo left x none here) bounds (inr (left.nobodys x here, refl)) refl refl refl refl (left.nobodys x here) (λ s b t at is_t fact in_ holds under its. tt)
-      (left_orphan site.tables w.run.sessions w.undo left x rest none is, counts_orphan size w.undo x rest is keeps.scene.undo.1))
+      (left_orphan site.tables w.run.sessions w.undo left x front back none is, counts_orphan size w.undo x front back is keeps.scene.undo.1))
+
+  -- nobody has the next number
+  next_nobodys : IsNoSessions w.run.sessions site.tables.next
+  next_nobodys r b at same = beyond b.me (keeps.scene.shown.paged.shows.below r b at) same
+    where
+      beyond : (d : ℕ) → d < site.tables.next → d ≡ site.tables.next → ⊥
+      beyond d lt is = omega (arith, lt, is)
+
+  next_no_orphan : IsAmong site.tables.next w.undo.orphans → ⊥
+  next_no_orphan in_ = beyond (listed_drawn site.tables.next site.area site.tables keeps.scene.shown.paged.sound.below site.tables.next (inl (left.are_open site.tables.next in_))).1
+    where
+      beyond : site.tables.next < site.tables.next → ⊥
+      beyond lt = omega (arith, lt)
 
   in_undo : (front : List SlogItem) (i : SlogItem) → w.undo.items ≡ front ++ i ∷ [] → IsAmong i w.undo.items
   in_undo front i is = subst (IsAmong i) (sym is) (among_rest i front (i ∷ []) (inl refl))
@@ -156,13 +170,14 @@ module _ (leaves : AnotherLeaves) (lines : List Line) (moment : ℕ) (base : Dat
         counts_item size w.undo front (AllocOf x p) is keeps.scene.undo.1,
       ))
 
-  -- a page that left its chain before the stop; the number is one that no session has
-  pub free_turn : (later x p : ℕ) (front : List SlogItem) → now ≤ later → IsNoSessions w.run.sessions x → w.undo.items ≡ front ++ FreeOf p ∷ [] → IsInBounds (site_after x (Reclaims p) site).area → Keeps lines (at_start moment base stuck) size later (site_after x (Reclaims p) site) (undone front)
-  free_turn later x p front le nobodys is bounds =
+  -- a page that left its chain before the stop
+  pub free_turn : (later p : ℕ) (front : List SlogItem) → now ≤ later → w.undo.items ≡ front ++ FreeOf p ∷ [] → IsInBounds (site_after site.tables.next (Reclaims p) site).area
+      → Keeps lines (at_start moment base stuck) size later (site_after site.tables.next (Reclaims p) site) (undone front)
+  free_turn later p front le is bounds =
       let there = in_items (FreeOf p) (in_undo front (FreeOf p) is) in
-      keeps_on lines moment base stuck size now site w keeps later (site_after x (Reclaims p) site) (undone front) le refl
-      (nobodys_scene x (Reclaims p) (undone front) scene there bounds refl refl refl refl refl nobodys (λ s b t at is_t fact in_ holds under its. tt) (
-        left_item site.tables w.run.sessions w.undo left front (FreeOf p) is (site_after x (Reclaims p) site).tables (goes x (FreeOf p) front is) refl,
+      keeps_on lines moment base stuck size now site w keeps later (site_after site.tables.next (Reclaims p) site) (undone front) le refl
+      (nobodys_scene site.tables.next (Reclaims p) (undone front) scene there bounds refl refl refl refl refl next_nobodys (λ s b t at is_t fact in_ holds under its. tt) (
+        left_item site.tables w.run.sessions w.undo left front (FreeOf p) is (site_after site.tables.next (Reclaims p) site).tables (goes site.tables.next (FreeOf p) front is) refl,
         counts_item size w.undo front (FreeOf p) is keeps.scene.undo.1,
       ))
 
@@ -244,18 +259,18 @@ module _ (leaves : AnotherLeaves) (lines : List Line) (moment : ℕ) (base : Dat
   -- ---- the cleaner, and the flusher
 
   -- the low number may have risen before
-  pub nobodys_turn : (later low y : ℕ) (a : Action) → now ≤ later → IsShown low site scene → Owes y a site → IsInBounds (site_after y a site).area → MovesTo low y a site scene scene → IsNoSessions w.run.sessions y → (IsAmong y w.undo.orphans → ⊥)
+  pub nobodys_turn : (later low : ℕ) (a : Action) → now ≤ later → IsShown low site scene → Owes site.tables.next a site → IsInBounds (site_after site.tables.next a site).area → MovesTo low site.tables.next a site scene scene
       → ((s : ℕ) (b : SessionHeld) (t : Transaction) → find nat_cmp s w.run.sessions ≡ Some b → find nat_cmp s point.state.sessions ≡ Some t → IsAwayFrom a b.me t (w.facts s) site) → SparesUndo a w.undo
-      → Keeps lines (at_start moment base stuck) size later (site_after y a site) w
-  nobodys_turn later low y a le shown owed bounds to nobodys not_orphan away spares =
+      → Keeps lines (at_start moment base stuck) size later (site_after site.tables.next a site) w
+  nobodys_turn later low a le shown owed bounds to away spares =
       let paged = shown.paged in
-      keeps_on lines moment base stuck size now site w keeps later (site_after y a site) w le refl (record {
+      keeps_on lines moment base stuck size now site w keeps later (site_after site.tables.next a site) w le refl (record {
         low = low;
-        shown = moved low site scene shown y a scene owed bounds to;
+        shown = moved low site scene shown site.tables.next a scene owed bounds to;
         begun = record { since_is = keeps.scene.begun.since_is; drawn = keeps.scene.begun.drawn };
-        carried = carried_all leaves site paged.bounds paged.few paged.sound y a owed scene scene w.facts keeps.scene.carried refl refl
-            (λ r c at_c. paged.modelled r c at_c) (λ r t is_t. let one = paged.shows.inside r t is_t in (one.0, one.1)) (λ r c at_c same. nobodys r c at_c same) away;
-        undo = (left_by site paged.bounds paged.sound w.run.sessions w.undo left y not_orphan a owed spares, keeps.scene.undo.1);
+        carried = carried_all leaves site paged.bounds paged.few paged.sound site.tables.next a owed scene scene w.facts keeps.scene.carried refl refl
+            (λ r c at_c. paged.modelled r c at_c) (λ r t is_t. let one = paged.shows.inside r t is_t in (one.0, one.1)) (λ r c at_c same. next_nobodys r c at_c same) away;
+        undo = (left_by site paged.bounds paged.sound w.run.sessions w.undo left site.tables.next next_no_orphan a owed spares, keeps.scene.undo.1);
       })
 
 module _ (lines : List Line) (moment : ℕ) (base : Database) (stuck : List (List ℕ)) (size now : ℕ) (site : Site) (w : Mind)

@@ -1,5 +1,5 @@
 -- Undo's list over turns, and how many turns it takes.
-use Rattle.std.proofs.Common.{◌≡◌, inl, inr, ℕ, suc, ◌+◌, ◌≤◌, true, cond, List, [], ◌∷◌, ◌++◌, length, refl, sym, ◌∙◌, ap, subst, arith, length-append}
+use Rattle.std.proofs.Common.{⊎_elim, ◌≡◌, inl, inr, ℕ, suc, ◌+◌, ◌≤◌, true, cond, List, [], ◌∷◌, ◌++◌, length, refl, sym, ◌∙◌, ap, subst, arith, length-append}
 use Rattle.std.specs.Prelude.{is_some}
 use Rattle.std.specs.List.{filter}
 use Rattle.std.proofs.lemmas.Bool.{false≢true}
@@ -14,7 +14,7 @@ use Rattle.ctr_area.specs.Areas.{Area}
 use Rattle.ctr_area.specs.Sound.{IsAmong, AreAllOnce, xids_in, IsSoundArea}
 use Rattle.ctr_record_laws.specs.Owed.{HasNoItems, OwedByAbort, IsLastItem}
 use Rattle.ctr_record_laws.proofs.Leaving.{still_among}
-use Rattle.ctr_record_laws.proofs.Members.{among_front}
+use Rattle.ctr_record_laws.proofs.Members.{among_parts, among_rest, among_front}
 use Rattle.ctr_record_laws.proofs.Xids.{among_in, in_among, once_parts}
 use Rattle.ctr_record_laws.proofs.Undone.{filter_append}
 use Rattle.ctr_versions.specs.Laws.{IsNoSessions}
@@ -33,8 +33,8 @@ counts_at_open tables = let same = len_xids tables.opens in omega (arith, same)
 pub counts_item : (size : ℕ) (u : Undo) (front : List SlogItem) (i : SlogItem) → u.items ≡ front ++ i ∷ [] → CountsTo size u → CountsTo size (record u { items = front; turns = u.turns + 1 })
 counts_item size u front i is counts = let long = ap length is ∙ length-append front (i ∷ []) in omega (arith, long, counts)
 
-pub counts_orphan : (size : ℕ) (u : Undo) (x : ℕ) (rest : List ℕ) → u.orphans ≡ x ∷ rest → CountsTo size u → CountsTo size (record u { orphans = rest; turns = u.turns + 1 })
-counts_orphan size u x rest is counts = let long = ap length is in omega (arith, long, counts)
+pub counts_orphan : (size : ℕ) (u : Undo) (x : ℕ) (front back : List ℕ) → u.orphans ≡ front ++ x ∷ back → CountsTo size u → CountsTo size (record u { orphans = front ++ back; turns = u.turns + 1 })
+counts_orphan size u x front back is counts = let long = ap length is ∙ length-append front (x ∷ back) in let less = length-append front back in omega (arith, long, less, counts)
 
 -- clause (iv): as many turns as the size of the start's undo, where none is left; before that at most so many
 pub all_done : (size : ℕ) (u : Undo) → CountsTo size u → left_of u ≡ 0 → u.turns ≡ size
@@ -65,6 +65,19 @@ module _ (counted : ℕ) (tables : Tables) (area : Area) (sound : IsSoundArea co
       their (FreeOf p) in_ = tt
       their (CreateOf y e) in_ = sound.owned.creates y e in_
       their (DropOf y e) in_ = sound.owned.drops y e in_
+
+-- ---- one of several goes
+
+put_among : (front back : List ℕ) (x y : ℕ) → IsAmong y (front ++ back) → IsAmong y (front ++ x ∷ back)
+put_among front back x y in_ = ⊎_elim (λ before. among_front y front (x ∷ back) before) (λ behind. among_rest y front (x ∷ back) (inr behind)) (among_parts y front back in_)
+
+once_without : (front back : List ℕ) (x : ℕ) → AreAllOnce (front ++ x ∷ back) → AreAllOnce (front ++ back) × (IsAmong x (front ++ back) → ⊥)
+once_without [] back x once = (once.1, once.0)
+once_without (z ∷ front) back x once =
+    let rest = once_without front back x once.1 in (
+      ((λ in_. once.0 (put_among front back x z in_)), rest.0),
+      ⊎_elim (λ here. once.0 (subst (λ q. IsAmong q (front ++ x ∷ back)) here (among_rest x front (x ∷ back) (inl refl)))) rest.1,
+    )
 
 -- ---- over turns
 
@@ -103,15 +116,15 @@ module _ (tables : Tables) (sessions : List (ℕ × SessionHeld)) (u : Undo) (le
   pub orphan_owes : (x : ℕ) → u.items ≡ [] → IsAmong x u.orphans → OwedByAbort tables x
   orphan_owes x none theirs = record { is_open = left.are_open x theirs; none = λ i in_. left.own x theirs i (subst (IsAmong i) (left.items ∙ ap (λ l. l ++ left.run) none) in_) }
 
-  pub left_orphan : (x : ℕ) (rest : List ℕ) → u.items ≡ [] → u.orphans ≡ x ∷ rest → IsUndoLeft (rolled_back x tables) sessions (record u { orphans = rest; turns = u.turns + 1 })
-  left_orphan x rest none is =
-      let once : AreAllOnce (x ∷ rest) = subst AreAllOnce is left.once in
-      let more : (y : ℕ) → IsAmong y rest → IsAmong y u.orphans = λ y in_. subst (IsAmong y) (sym is) (inr in_) in record {
+  pub left_orphan : (x : ℕ) (front back : List ℕ) → u.items ≡ [] → u.orphans ≡ front ++ x ∷ back → IsUndoLeft (rolled_back x tables) sessions (record u { orphans = front ++ back; turns = u.turns + 1 })
+  left_orphan x front back none is =
+      let once = once_without front back x (subst AreAllOnce is left.once) in
+      let more : (y : ℕ) → IsAmong y (front ++ back) → IsAmong y u.orphans = λ y in_. subst (IsAmong y) (sym is) (put_among front back x y in_) in record {
         run = left.run;
         items = left.items;
         theirs = λ i in_. absurd (subst (IsAmong i) none in_);
         own = λ y in_. left.own y (more y in_);
-        are_open = λ y in_. among_in y (without_xid x tables.opens) (still_among x y tables.opens (λ same. once.0 (subst (λ q. IsAmong q rest) same in_)) (in_among y tables.opens (left.are_open y (more y in_))));
+        are_open = λ y in_. among_in y (without_xid x tables.opens) (still_among x y tables.opens (λ same. once.1 (subst (λ q. IsAmong q (front ++ back)) same in_)) (in_among y tables.opens (left.are_open y (more y in_))));
         nobodys = λ y in_. left.nobodys y (more y in_);
-        once = once.1;
+        once = once.0;
       }

@@ -14,13 +14,15 @@ use Rattle.ctr_actions.specs.Actions.{Action, Begins, Allocates, Formats, Links,
 use Rattle.ctr_actions.specs.Facts.{Fact, HasBlank, HasSlot, HasCopy, HasTable, HoldsFact, IsAway}
 use Rattle.ctr_paged.specs.Shown.{Scene}
 
--- The lock or use by which a transaction may count on a fact. A table that is counted on is live.
+-- The lock or use by which a transaction may count on a fact. A table that is counted on is live, and
+-- nobody has dropped it.
 abbrev pub IsUnderLock : Transaction → Fact → Site → Type 0
 IsUnderLock t (HasSlot e at slot) site = has_lock (site.area.title e).name slot.key t ≡ true
 IsUnderLock t (HasCopy e at v q) site =
     has_lock (site.area.title e).name (site.area.slot at).key t ≡ true
 IsUnderLock t (HasTable e title) site = (is_live title ≡ true)
     × ((has_name title.name t.uses ≡ true) ⊎ (has_name title.name t.holds ≡ true))
+    × (title.dropper ≡ 0)
 IsUnderLock t fact site = Unit {0}
 
 -- The lock or hold by which a session's transaction may act. What undo and the cleaner do lies

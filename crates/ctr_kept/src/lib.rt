@@ -8,12 +8,12 @@ mod silent;
 mod walks;
 
 pub use recovery::{
-    a_page_is_given_back, a_table_is_undone, an_action_of_nobodys_is_kept, an_orphan_is_ended,
-    undo_is_counted,
+    a_dying_table_is_away, a_page_is_given_back, a_table_is_undone, an_action_of_nobodys_is_kept,
+    an_orphan_is_ended, undo_is_counted,
 };
 pub use sessions::{
     a_commit_is_asked_for, a_number_is_drawn, a_rollback_ends, a_turn_without_an_entry_is_kept,
-    a_write_is_kept,
+    a_write_is_kept, who_draws_a_number_has_no_page,
 };
 pub use silent::{
     a_reader_ends, a_refusal_outside_is_kept, a_rollback_begins, a_session_begins,

@@ -1,5 +1,5 @@
 // Turns of undo and of the cleaner.
-ghost use Rattle.std.specs.Prelude.{◌≡◌, ◌≤◌, ◌+◌, ◌++◌, ℕ, List, [], ◌∷◌, None};
+ghost use Rattle.std.specs.Prelude.{Bool, ◌≡◌, ◌≤◌, ◌+◌, ◌++◌, ℕ, List, [], ◌∷◌, None};
 ghost use Rattle.ctr_records.specs.declared.record.SlogItem.{SlogItem};
 ghost use Rattle.ctr_records.specs.declared.record.SlogItem.TheVariants.{AllocOf, FreeOf, CreateOf, DropOf};
 ghost use Rattle.ctr_model.specs.State.{transaction_of};
@@ -8,7 +8,9 @@ ghost use Rattle.ctr_meta.specs.declared.items.Wanted.TheVariants.{Creation, Dro
 ghost use Rattle.ctr_area.specs.Sound.{IsAmong};
 ghost use Rattle.ctr_record_laws.specs.Bounds.{IsInBounds};
 ghost use Rattle.ctr_actions.specs.Sites.{Site};
-ghost use Rattle.ctr_actions.specs.Actions.{Action, Frees, Reclaims, Uncreates, Undrops, Aborts, Owes, site_after};
+ghost use Rattle.ctr_actions.specs.Facts.{Fact};
+ghost use Rattle.ctr_paged.specs.Shown.{Scene};
+ghost use Rattle.ctr_actions.specs.Actions.{Action, Frees, Reclaims, MakesDead, Uncreates, Undrops, Aborts, Owes, site_after};
 ghost use Rattle.ctr_paged.specs.Moving.{IsItemOfName, MovesTo};
 ghost use Rattle.ctr_paged.specs.Shown.{IsShown};
 ghost use Rattle.ctr_kept.specs.Carried.{IsAwayFromAll};
@@ -16,16 +18,15 @@ ghost use Rattle.ctr_kept.specs.Undo.{Undo, left_of, CountsTo, SparesUndo};
 ghost use Rattle.ctr_kept.specs.Walk.{Mind};
 ghost use Rattle.ctr_kept.specs.Turns.{Start, KeepsRun, state_now, scene_now, undone_mind, release_entry};
 
-use ctr_actions::another_leaves_what_is_held;
+use ctr_actions::{another_leaves_what_is_held, tables_in_use_stay_live};
 
 /// Undo gives a page back: one that an orphan took and didn't link, or one that left its chain before the stop.
 pub fn a_page_is_given_back()
     ensures taken { (c : Start) (now later x p : ℕ) (site : Site) (w : Mind) (front : List SlogItem) → KeepsRun c now site w → now ≤ later
         → w.undo.items ≡ front ++ AllocOf x p ∷ []
         → IsInBounds (site_after x (Frees p) site).area → KeepsRun c later (site_after x (Frees p) site) (undone_mind front w) }
-    ensures left { (c : Start) (now later x p : ℕ) (site : Site) (w : Mind) (front : List SlogItem) → KeepsRun c now site w → now ≤ later
-        → IsNoSessions w.run.sessions x → w.undo.items ≡ front ++ FreeOf p ∷ []
-        → IsInBounds (site_after x (Reclaims p) site).area → KeepsRun c later (site_after x (Reclaims p) site) (undone_mind front w) }
+    ensures left { (c : Start) (now later p : ℕ) (site : Site) (w : Mind) (front : List SlogItem) → KeepsRun c now site w → now ≤ later → w.undo.items ≡ front ++ FreeOf p ∷ []
+        → IsInBounds (site_after site.tables.next (Reclaims p) site).area → KeepsRun c later (site_after site.tables.next (Reclaims p) site) (undone_mind front w) }
 {
     another_leaves_what_is_held();
 }
@@ -53,25 +54,30 @@ pub fn a_table_is_undone()
     another_leaves_what_is_held();
 }
 
-/// Behind all items undo marks the transactions that were open at the start, one a turn.
+/// Behind all items undo marks the transactions that were open at the start, one a turn, in whatever order.
 pub fn an_orphan_is_ended()
-    ensures { (c : Start) (now later x : ℕ) (site : Site) (w : Mind) (rest : List ℕ) → KeepsRun c now site w → now ≤ later → w.undo.items ≡ []
-        → w.undo.orphans ≡ x ∷ rest → IsInBounds (site_after x Aborts site).area
-        → KeepsRun c later (site_after x Aborts site) (record w { undo = record w.undo { orphans = rest; turns = w.undo.turns + 1 } }) }
+    ensures { (c : Start) (now later x : ℕ) (site : Site) (w : Mind) (front back : List ℕ) → KeepsRun c now site w → now ≤ later → w.undo.items ≡ [] → w.undo.orphans ≡ front ++ x ∷ back
+        → IsInBounds (site_after x Aborts site).area → KeepsRun c later (site_after x Aborts site) (record w { undo = record w.undo { orphans = front ++ back; turns = w.undo.turns + 1 } }) }
 {
     another_leaves_what_is_held();
 }
 
-/// An action of the cleaner's or the flusher's, which no session and no orphan does, and which is away from what sessions carry: nothing of a run
-/// changes. The low number may have risen before.
+/// An action of the cleaner's or the flusher's, which act with a number that nobody has drawn yet, and which is away from what sessions carry: nothing
+/// of a run changes. The low number may have risen before.
 pub fn an_action_of_nobodys_is_kept()
-    ensures { (c : Start) (now later low y : ℕ) (site : Site) (w : Mind) (a : Action) (k : KeepsRun c now site w) → now ≤ later
-        → IsShown low site (scene_now c w) → Owes y a site → IsInBounds (site_after y a site).area
-        → MovesTo low y a site (scene_now c w) (scene_now c w) → IsNoSessions w.run.sessions y → (IsAmong y w.undo.orphans → ⊥)
+    ensures { (c : Start) (now later low : ℕ) (site : Site) (w : Mind) (a : Action) (k : KeepsRun c now site w) → now ≤ later → IsShown low site (scene_now c w)
+        → Owes site.tables.next a site → IsInBounds (site_after site.tables.next a site).area → MovesTo low site.tables.next a site (scene_now c w) (scene_now c w)
         → IsAwayFromAll a site (scene_now c w) w.facts → SparesUndo a w.undo
-        → KeepsRun c later (site_after y a site) w }
+        → KeepsRun c later (site_after site.tables.next a site) w }
 {
     another_leaves_what_is_held();
+}
+
+/// A table that becomes dead is away from what sessions carry, since nobody has dropped a table that one counts on.
+pub fn a_dying_table_is_away()
+    ensures { (y e : ℕ) (passes : ℕ → Bool) (site : Site) (scene : Scene) (facts : ℕ → List Fact) → Owes y (MakesDead passes e) site → IsAwayFromAll (MakesDead passes e) site scene facts }
+{
+    tables_in_use_stay_live();
 }
 
 /// Undo took as many turns as the start has items and open transactions, where nothing is left; and before that at most so many.

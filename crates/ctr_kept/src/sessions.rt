@@ -8,9 +8,9 @@ ghost use Rattle.ctr_model.specs.State.{view};
 ghost use Rattle.ctr_versions.specs.Laws.{with_own};
 ghost use Rattle.ctr_sessions.specs.Sessions.{IsDrawnFor};
 ghost use Rattle.ctr_record_laws.specs.Bounds.{IsInBounds};
-ghost use Rattle.ctr_actions.specs.Sites.{Site};
+ghost use Rattle.ctr_actions.specs.Sites.{Site, IsSoundSite};
 ghost use Rattle.ctr_actions.specs.Actions.{Action, Begins, Commits, Aborts, Owes, site_after};
-ghost use Rattle.ctr_actions.specs.Facts.{Fact};
+ghost use Rattle.ctr_actions.specs.Facts.{Fact, HasNoPageBut, HoldsFact};
 ghost use Rattle.ctr_paged.specs.Moving.{with_its, without_its, MovesTo};
 ghost use Rattle.ctr_kept.specs.Carried.{Covers};
 ghost use Rattle.ctr_kept.specs.Walk.{Mind};
@@ -42,6 +42,11 @@ pub fn a_number_is_drawn()
 {
     another_leaves_what_is_held();
 }
+
+/// Who draws a number has no page yet, so that its COMMIT finds none to link where each page that it takes is linked.
+pub fn who_draws_a_number_has_no_page()
+    ensures { (site : Site) → IsSoundSite site → HoldsFact site.tables.next (HasNoPageBut []) (site_after site.tables.next Begins site) }
+{}
 
 /// A Write is one change: a row is written, or a table is made or dropped.
 pub fn a_write_is_kept()

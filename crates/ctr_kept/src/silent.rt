@@ -56,7 +56,8 @@ pub fn a_reader_ends()
         → KeepsRun c e.later site (telling e act.Rollback reply.RolledBack w (gone_mind s w)) }
 {}
 
-/// A ROLLBACK of several turns begins, without an entry: from now on nothing is said of what the session sees.
+/// A ROLLBACK of several turns begins, without an entry and without a record of its own: it is a part of the turn that undoes the first item. From now on
+/// nothing is said of what the session sees.
 pub fn a_rollback_begins()
     ensures { (c : Start) (now later s : ℕ) (site : Site) (w : Mind) (seat : InTransaction c w s) (mine : List Fact) → KeepsRun c now site w → now ≤ later
         → Carries seat.session.me seat.t mine site

@@ -30,7 +30,7 @@ module _ {D : Type 0} (dev : Ghosts D) (earlier : (d : D) (s t : ℕ) (c : Image
   survives_the_growth le few leaves = survives_call dev earlier (dev.moment_of course.opened) (dev.images course.opened) course.base course.asked es a.disk b.disk (FoldsGrown a.hardened) keeps.later keeps.survives leaves
       (λ c folds. image_in_growth course.base course.asked (answers es) a keeps.fronts c le few folds)
 
-  enough : LeavesFront dev a b → (c : Image) → dev.since b.disk (dev.moment_of b.disk) c → HasFirstCommits course.base course.asked (answers es) c
+  pub enough : LeavesFront dev a b → (c : Image) → dev.since b.disk (dev.moment_of b.disk) c → HasFirstCommits course.base course.asked (answers es) c
   enough leaves c left = image_in_call course.base course.asked (answers es) a keeps.fronts c (leaves.front.each c (earlier b.disk (dev.moment_of a.disk) (dev.moment_of b.disk) c leaves.front.later left))
 
   shown_first : (more : List (List Change)) → ShowsAll course.base (course.asked ++ more) b → HasFirst course.base (course.asked ++ more) (length (course.asked ++ more)) b.now

@@ -42,6 +42,9 @@ pub fn a_call_that_ends_leaves_a_prefix<D: Disk>()
     ensures growth { (c : Course D) (es : List Entry) (a b : View D) → KeepsCommits D.Disk c es a → a.hardened.counted ≤ grown a.hardened.counted
         → grown a.hardened.counted ≤ pages_bound → LeavesGrowing D.Disk a b
         → LeftSince D.Disk (D.Disk.moment_of c.opened) b.disk (LeavesPrefixAt (D.Disk.images c.opened) c.base c.asked es) }
+    // At its end it leaves the rows of a prefix, and not what it might have left at the start.
+    ensures end { (c : Course D) (es : List Entry) (a b : View D) → KeepsCommits D.Disk c es a → LeavesFront D.Disk a b
+        → (image : Image) → D.Disk.since b.disk (D.Disk.moment_of b.disk) image → HasFirstCommits c.base c.asked (answers es) image }
 {}
 
 /// A record is logged, and what is shown then has all that asked; or none is, as pages are read or go home, or what waits is

@@ -5,4 +5,4 @@ pub returns-clause-taken : goal.returns-clause-taken
 returns-clause-taken c = λ r now later x p site w front keeps le is bounds. page_turn c.another_leaves_what_is_held.ensures r.lines r.moment r.base r.stuck r.size now site w keeps later x p front le is bounds
 
 pub returns-clause-left : goal.returns-clause-left
-returns-clause-left c = λ r now later x p site w front keeps le nobodys is bounds. free_turn c.another_leaves_what_is_held.ensures r.lines r.moment r.base r.stuck r.size now site w keeps later x p front le nobodys is bounds
+returns-clause-left c = λ r now later p site w front keeps le is bounds. free_turn c.another_leaves_what_is_held.ensures r.lines r.moment r.base r.stuck r.size now site w keeps later p front le is bounds
