@@ -61,6 +61,8 @@ pub fn alloc<D: Disk, O: Origin>(
     requires room { HasRoomForOne 0 1 store.old }
     requires small { p < MOST_PAGES }
     ensures one { (byte : ℕ) × LogsOne O.first D.Disk (alloc_record x p byte) store.old store.new result }
+    // The map of pages is there, whole.
+    ensures whole { WhereSound O.first D.Disk (OnOk result (IsWholePage 0 store.old.now)) }
     // The page is allocated and the transaction's own, and nothing else in the pages and the tables changes.
     ensures leaves { WhereSound O.first D.Disk (OnOk result (site_of store.new.now ≡ site_after x (Allocates p) (site_of store.old.now))) }
 {
@@ -86,6 +88,7 @@ pub fn free<D: Disk, O: Origin>(store: &mut Store<D, O>, p: PageNo) -> Result<()
     requires room { HasRoomForOne 0 0 store.old }
     requires small { p < MOST_PAGES }
     ensures one { (byte : ℕ) × LogsOne O.first D.Disk (free_record p byte) store.old store.new result }
+    ensures whole { WhereSound O.first D.Disk (OnOk result (IsWholePage 0 store.old.now)) }
     // The page is free, the secondary log has it no more, and nothing else in the pages and the tables changes.
     ensures leaves { (x : ℕ) → WhereSound O.first D.Disk (OnOk result (site_of store.new.now ≡ site_after x (Frees p) (site_of store.old.now))) }
 {

@@ -1,5 +1,5 @@
 // One record makes a table, drops one, or undoes an item of the secondary log.
-ghost use Rattle.std.specs.Prelude.{◌≡◌, ◌≢◌, ◌<◌, ℕ, IfOk, OnOk};
+ghost use Rattle.std.specs.Prelude.{◌≡◌, ◌≢◌, ◌<◌, ◌+◌, ◌/◌, ℕ, IfOk, OnOk};
 ghost use Rattle.ctr_bytes.specs.Fields.{spelled};
 ghost use Rattle.ctr_types.specs.Names.{IsName};
 ghost use Rattle.ctr_value.specs.Columns.{ColumnsFit};
@@ -7,7 +7,7 @@ ghost use Rattle.ctr_base.specs.Base.{WhereSound};
 ghost use Rattle.ctr_page.specs.Columns.{new_entry_bytes};
 ghost use Rattle.ctr_area.specs.Changes.{new_title, empty_chains, ChangesEntry};
 ghost use Rattle.ctr_walk.specs.OneRecord.{HasRoomForOne, LogsOne};
-ghost use Rattle.ctr_record_effects.specs.States.{area_in};
+ghost use Rattle.ctr_record_effects.specs.States.{area_in, IsWholePage};
 ghost use Rattle.ctr_actions.specs.Sites.{site_of};
 ghost use Rattle.ctr_actions.specs.Actions.{Creates, Drops, Uncreates, Undrops, site_after, undoing};
 ghost use Rattle.ctr_record_effects.specs.Changing.{create_record, drop_record, uncreate_record, undrop_record};
@@ -75,6 +75,7 @@ fn log_created<D: Disk, O: Origin>(
     requires there { entry < 32 }
     requires fits { ColumnsFit schema.now.columns }
     ensures one { LogsOne O.first D.Disk (create_record x entry name.now schema.now.columns) store.old store.new result }
+    ensures whole { WhereSound O.first D.Disk (OnOk result (IsWholePage (1 + entry / 16) store.old.now)) }
     ensures made { WhereSound O.first D.Disk (OnOk result (ChangesEntry entry (new_title x name.now schema.now.columns) empty_chains (area_in store.old.now) (area_in store.new.now))) }
     ensures leaves { WhereSound O.first D.Disk (OnOk result (site_of store.new.now ≡ site_after x (Creates entry name.now schema.now.columns (area_in store.new.now)) (site_of store.old.now))) }
 {
@@ -105,6 +106,7 @@ pub fn create<D: Disk, O: Origin>(
     ensures ends { WhereSound O.first D.Disk (EndsMaking (damage_told D.Disk store.new) (λ e. create_record x e name.now schema.now.columns) store.old store.new result) }
     ensures few { IfOk result (λ e. e < 32) }
     ensures one { MakesTable O.first D.Disk (λ e. create_record x e name.now schema.now.columns) store.old store.new result }
+    ensures whole { WhereSound O.first D.Disk (IfOk result (λ e. IsWholePage (1 + e / 16) store.old.now)) }
     // The entry has the title of the new table and no page; other entries and what stands on their pages stay.
     ensures made { WhereSound O.first D.Disk (IfOk result (λ e. ChangesEntry e (new_title x name.now schema.now.columns) empty_chains (area_in store.old.now) (area_in store.new.now))) }
     // There is an item to undo this, and nothing else in the tables changes.
@@ -140,6 +142,7 @@ pub fn drop_table<D: Disk, O: Origin>(
     requires room { HasRoomForOne 0 1 store.old }
     requires there { entry < 32 }
     ensures one { LogsOne O.first D.Disk (drop_record x entry) store.old store.new result }
+    ensures whole { WhereSound O.first D.Disk (OnOk result (IsWholePage (1 + entry / 16) store.old.now)) }
     // The transaction is its dropper, there is an item to undo this, and nothing else in the pages and the tables changes.
     ensures leaves { WhereSound O.first D.Disk (OnOk result (site_of store.new.now ≡ site_after x (Drops entry) (site_of store.old.now))) }
 {
@@ -160,6 +163,7 @@ fn uncreate<D: Disk, O: Origin>(store: &mut Store<D, O>, entry: u8) -> Result<()
     requires room { HasRoomForOne 0 0 store.old }
     requires there { entry < 32 }
     ensures one { LogsOne O.first D.Disk (uncreate_record entry) store.old store.new result }
+    ensures whole { WhereSound O.first D.Disk (OnOk result (IsWholePage (1 + entry / 16) store.old.now)) }
     ensures leaves { (x : ℕ) → WhereSound O.first D.Disk (((area_in store.old.now).title entry).state ≢ 0
         → OnOk result (site_of store.new.now ≡ site_after x (Uncreates entry) (site_of store.old.now))) }
 {
@@ -178,6 +182,7 @@ fn undrop<D: Disk, O: Origin>(store: &mut Store<D, O>, entry: u8) -> Result<(), 
     requires room { HasRoomForOne 0 0 store.old }
     requires there { entry < 32 }
     ensures one { LogsOne O.first D.Disk (undrop_record entry) store.old store.new result }
+    ensures whole { WhereSound O.first D.Disk (OnOk result (IsWholePage (1 + entry / 16) store.old.now)) }
     ensures leaves { (x : ℕ) → WhereSound O.first D.Disk (OnOk result (site_of store.new.now ≡ site_after x (Undrops entry) (site_of store.old.now))) }
 {
     an_undrop_changes_its_title();

@@ -8,7 +8,7 @@ ghost use Rattle.ctr_page.specs.Making.{IsHeader, header_bytes};
 ghost use Rattle.ctr_area.specs.Reading.{slot_said, columns_on};
 ghost use Rattle.ctr_area.specs.Changes.{with_slot};
 ghost use Rattle.ctr_walk.specs.OneRecord.{HasRoomForOne, LogsOne};
-ghost use Rattle.ctr_record_effects.specs.States.{pages_in, area_in};
+ghost use Rattle.ctr_record_effects.specs.States.{pages_in, area_in, IsWholePage};
 ghost use Rattle.ctr_record_effects.specs.Changing.{format_record};
 ghost use Rattle.ctr_record_laws.specs.Owed.{RowMove};
 ghost use Rattle.ctr_actions.specs.Sites.{site_of};
@@ -63,6 +63,7 @@ pub fn format<D: Disk, O: Origin>(
     requires counted { p < store.old.now.counted }
     requires fits { IsHeader header.now }
     ensures one { LogsOne O.first D.Disk (format_record x p header.now) store.old store.new result }
+    ensures whole { WhereSound O.first D.Disk (OnOk result (IsWholePage p store.old.now)) }
     // It has the header, nothing is used on it, and nothing else in the pages and the tables changes.
     ensures leaves { WhereSound O.first D.Disk (3 ≤ p → OnOk result (site_of store.new.now ≡ site_after x (Formats p header.now) (site_of store.old.now))) }
 {
@@ -92,6 +93,7 @@ pub fn put_slot<D: Disk, O: Origin>(
     requires counted { place.page < store.old.now.counted }
     requires lies { LiesOnPage place slot.now }
     ensures one { LogsOne O.first D.Disk (row_record x over place slot.now) store.old store.new result }
+    ensures whole { WhereSound O.first D.Disk (OnOk result (IsWholePage place.page store.old.now)) }
     // The slot at the place is this one, and nothing else in the pages changes.
     ensures laid { WhereSound O.first D.Disk (HasPlaceFor (pages_in store.old.now) place slot.now
         → OnOk result (area_in store.new.now ≡ with_slot place (slot_said (columns_on (pages_in store.old.now) place.page) slot.now) (area_in store.old.now))) }
@@ -148,6 +150,7 @@ pub fn link<D: Disk, O: Origin>(
     requires entry { entry < 32 }
     requires bucket { IfSome bucket (λ b. b < 8) }
     ensures one { LogsOne O.first D.Disk (front_record x p entry bucket) store.old store.new result }
+    ensures whole { WhereSound O.first D.Disk (OnOk result (IsWholePage (1 + entry / 16) store.old.now)) }
     // The chain begins with the page, which is the transaction's own no more, and nothing else in the pages and the tables changes.
     ensures leaves { WhereSound O.first D.Disk (IsOfTable (pages_in store.old.now) entry
         → OnOk result (site_of store.new.now ≡ site_after x (front_action p entry bucket) (site_of store.old.now))) }

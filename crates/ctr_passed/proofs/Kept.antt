@@ -82,7 +82,7 @@ module _ (site : Site) (bounds : IsInBounds site.area) (sound : IsSoundSite site
   item_off : (x p : ℕ) → OwedByFormat site.tables x p → (e : ℕ) → IsAmong p (table_pages area e) → ⊥
   item_off x p owed e in_ = item_alone site.counted site.tables area bounds sound.owned p (item_page x p site.tables.items owed).1 e in_
 
-  item_third : (x p : ℕ) → OwedByFormat site.tables x p → 3 ≤ p
+  pub item_third : (x p : ℕ) → OwedByFormat site.tables x p → 3 ≤ p
   item_third x p owed = (each_of (λ p. (3 ≤ p) × (p < site.counted) × (area.taken p ≡ true)) p (owned_pages site.tables.items area) sound.owned.inside
       (among_rest p (flat_map (table_pages area) entry_numbers) (flat_map page_of_item site.tables.items) (item_page x p site.tables.items owed).1)).0
 

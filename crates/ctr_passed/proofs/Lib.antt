@@ -13,3 +13,4 @@ pub mod Slots
 pub mod Placed
 pub mod Owing
 pub mod Putting
+pub mod OwnPage

@@ -5,6 +5,7 @@ mod checks;
 mod laws;
 mod lying;
 mod owed;
+mod own;
 
 pub use checks::{
     a_formatted_page_is_blank, chains_pass_their_checks, slots_pass_their_checks,
@@ -20,3 +21,4 @@ pub use owed::{
     owed_records_are_laid_as_their_actions, owed_slots_are_laid_as_their_actions,
     owed_versions_are_laid_as_their_actions,
 };
+pub use own::an_own_page_stays_blank;

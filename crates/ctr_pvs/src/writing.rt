@@ -11,7 +11,7 @@ ghost use Rattle.ctr_area.specs.Changes.{with_older, IsPlaceOf};
 ghost use Rattle.ctr_walk.specs.OneRecord.{HasRoomForOne, LogsOne};
 ghost use Rattle.ctr_walk.specs.Damage.{damage_told, searched, EndsTold};
 ghost use Rattle.ctr_store.specs.Store.{LeavesPage};
-ghost use Rattle.ctr_record_effects.specs.States.{pages_in, area_in};
+ghost use Rattle.ctr_record_effects.specs.States.{pages_in, area_in, IsWholePage};
 ghost use Rattle.ctr_pvs.specs.Reading.{EndsAt};
 ghost use Rattle.ctr_record_laws.specs.Owed.{IsInNoChain};
 ghost use Rattle.ctr_record_effects.specs.Standing.{HasSoundArea, ShowsAlike};
@@ -52,6 +52,7 @@ pub fn keep<D: Disk, O: Origin>(
     requires counted { place.page < store.old.now.counted }
     requires lies { EntryLies place version.now }
     ensures one { LogsOne O.first D.Disk (keep_record x place version.now) store.old store.new result }
+    ensures whole { WhereSound O.first D.Disk (OnOk result (IsWholePage place.page store.old.now)) }
     // The version entry at the place is this one, and nothing else in the pages and the tables changes.
     ensures leaves { WhereSound O.first D.Disk ((e : ℕ) → HasPlaceOfVersion (pages_in store.old.now) place version.now
         → OnOk result (site_of store.new.now ≡ site_after x (Keeps e place (older_laid store.old.now place version.now)) (site_of store.old.now))) }

@@ -2,10 +2,12 @@
 #![tactic(auto)]
 
 mod catalog;
+mod places;
 mod tables;
 mod versions;
 
 pub use catalog::a_catalog_search_meets_no_damage;
+pub use places::{a_place_of_a_table_fits, a_table_can_be_linked_to};
 pub use tables::{
     a_bucket_search_meets_no_damage, a_free_slot_is_the_tables, a_search_for_room_meets_no_damage,
     a_table_is_known_without_damage, a_version_entry_is_read_without_damage,
