@@ -7,3 +7,4 @@ pub mod SessionTurns
 pub mod RecoveryTurns
 pub mod Beginning
 pub mod Answering
+pub mod Nobody

@@ -1,7 +1,8 @@
 // Turns of undo and of the cleaner.
-ghost use Rattle.std.specs.Prelude.{Bool, ◌≡◌, ◌≤◌, ◌+◌, ◌++◌, ℕ, List, [], ◌∷◌, None};
+ghost use Rattle.std.specs.Prelude.{Bool, ◌<◌, ◌≡◌, ◌≤◌, ◌+◌, ◌++◌, ℕ, List, [], ◌∷◌, None};
 ghost use Rattle.ctr_records.specs.declared.record.SlogItem.{SlogItem};
 ghost use Rattle.ctr_records.specs.declared.record.SlogItem.TheVariants.{AllocOf, FreeOf, CreateOf, DropOf};
+ghost use Rattle.ctr_types.specs.declared.statement.Line.{Line};
 ghost use Rattle.ctr_model.specs.State.{transaction_of};
 ghost use Rattle.ctr_versions.specs.Laws.{IsNoSessions};
 ghost use Rattle.ctr_meta.specs.declared.items.Wanted.TheVariants.{Creation, Dropping};
@@ -30,6 +31,11 @@ pub fn a_page_is_given_back()
 {
     another_leaves_what_is_held();
 }
+
+/// Where no line of the script is of a session 0, that is never in a transaction: recovery's acts are of it.
+pub fn recovery_is_in_no_transaction()
+    ensures { (c : Start) (now : ℕ) (site : Site) (w : Mind) → KeepsRun c now site w → ((l : Line) → IsAmong l c.lines → 0 < l.session) → transaction_of (state_now c w) 0 ≡ None }
+{}
 
 /// Undo undoes an orphan's making or drop of a table, the latest item that is left. Where other items of the name are left no entry is made;
 /// with the last one recovery releases the name.
