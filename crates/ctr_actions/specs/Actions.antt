@@ -1,6 +1,7 @@
 -- What one record does, by whom: its kinds by name, what each owes, and what it leaves. The number
 -- is that of the transaction that acts: of a session, of one that is rolled back, or of an orphan
--- that undo undoes. The cleaner and the flusher act for nobody, with the number 0.
+-- that undo undoes. The cleaner and the flusher act for nobody, with the next number, which is not
+-- drawn yet: what their actions leave has no number in it.
 use Rattle.std.specs.Prelude.{◌≡◌, ◌≢◌, ℕ, Bool, true, false, List, Ok}
 use Rattle.ctr_types.specs.declared.value.Column.{Column}
 use Rattle.ctr_records.specs.declared.record.SlogItem.{SlogItem}
