@@ -1,14 +1,10 @@
 -- The row of a version, by the area and by the kinds of its columns.
-use Rattle.std.proofs.Common.{◌≡◌, ℕ, ℤ, cond, Bool, true, false, List, [], ◌∷◌, map, drop, Option, None, Some, refl, sym, ◌∙◌, ap}
+use Rattle.std.proofs.Common.{◌≡◌, ℕ, ℤ, cond, Bool, true, false, List, [], ◌∷◌, Option, None, Some, refl, sym, ◌∙◌, ap}
 use Rattle.std.specs.Prelude.{◌==◌}
 use Rattle.std.specs.Option.{option_map}
 use Rattle.ctr_types.specs.declared.value.Column.{Column}
 use Rattle.ctr_types.specs.declared.value.Row.{Row}
-use Rattle.ctr_types.specs.declared.value.Value.{Value}
-use Rattle.ctr_types.specs.declared.value.Value.TheVariants as value
 use Rattle.ctr_versions.specs.Chains.{value_seen}
-use Rattle.ctr_value.specs.Payload.{field_width}
-use Rattle.ctr_value.specs.Values.{value_said, values_in}
 use Rattle.ctr_page.specs.declared.rows.Place.{Place}
 use Rattle.ctr_page.specs.declared.rows.Version.{Version}
 use Rattle.ctr_page.specs.declared.rows.RowSlot.{RowSlot}
@@ -18,7 +14,7 @@ use Rattle.ctr_area.specs.Areas.{RowVersion, Slot, Older, Area, free_slot, free_
 use Rattle.ctr_area.specs.Reading.{row_said, version_said, slot_said, older_said}
 use Rattle.ctr_area.specs.Chains.{chain_of}
 use Rattle.ctr_chain.specs.declared.seeking.Found.{Found}
-use Rattle.ctr_chain.specs.Rows.{values_of, row_by_kinds, row_of_version, row_if_any, head_row, previous_row, kept_row}
+use Rattle.ctr_chain.specs.Rows.{row_of_version, row_if_any, head_row, previous_row, kept_row}
 use Rattle.ctr_chain.specs.Seeing.{first_version}
 use Rattle.ctr_chain.specs.Seeking.{version_found, FindsFirst}
 use Rattle.ctr_chain.specs.Visible.{visible_row}
@@ -47,15 +43,8 @@ version_seen test area at f finds = first_seen test (chain_of area.older (area.s
 
 -- ---- by the kinds of the columns
 
-values_same : (cs : List Column) (fields : List ℕ) → values_in cs fields ≡ values_of (map (λ (c : Column). c.kind) cs) fields
-values_same [] fields = refl
-values_same (c ∷ cs) fields = ap (λ vs. value_said c.kind fields ∷ vs) (values_same cs (drop (field_width c.kind) fields))
-
-row_same : (cs : List Column) (key : ℤ) (payload : List ℕ) → row_said cs key payload ≡ row_by_kinds (kinds_of cs) key payload
-row_same cs key payload = ap (λ (vs : List Value). record { values = value.Int key ∷ vs }) (values_same (drop 1 cs) payload)
-
 version_same : (cs : List Column) (key : ℤ) (v : Version) → (version_said cs key v).1 ≡ row_of_version (kinds_of cs) key v
-version_same cs key v = ap (λ r. cond (v.tombstone == 0) (Some r) None) (row_same cs key v.payload)
+version_same cs key v = refl
 
 any_same : (cs : List Column) (key : ℤ) (v : Option Version) → row_if (option_map (version_said cs key) v) ≡ row_if_any (kinds_of cs) key v
 any_same cs key None = refl

@@ -1,24 +1,12 @@
 -- The row of a version, by what its payload says, whatever bytes it has.
-use Rattle.std.specs.Prelude.{◌≡◌, ℕ, ℤ, ◌==◌, List, [], ◌∷◌, drop, Option, None, Some, Result, Ok, Err, if◌then◌else◌}
+use Rattle.std.specs.Prelude.{◌≡◌, ℤ, ◌==◌, List, Option, None, Some, Result, Ok, Err, if◌then◌else◌}
 use Rattle.ctr_types.specs.declared.memory.OutOfMemory.{OutOfMemory}
 use Rattle.ctr_types.specs.declared.value.Kind.{Kind}
 use Rattle.ctr_types.specs.declared.value.Row.{Row}
-use Rattle.ctr_types.specs.declared.value.Value.{Value}
-use Rattle.ctr_types.specs.declared.value.Value.TheVariants as value
-use Rattle.ctr_value.specs.Payload.{field_width}
-use Rattle.ctr_value.specs.Values.{value_said}
+use Rattle.ctr_value.specs.Values.{row_by_kinds}
 use Rattle.ctr_page.specs.declared.rows.Version.{Version}
 use Rattle.ctr_page.specs.declared.rows.RowSlot.{RowSlot}
 use Rattle.ctr_page.specs.declared.rows.VersionEntry.{VersionEntry}
-
--- the values of fields of these kinds, one behind another
-abbrev pub values_of : List Kind → List ℕ → List Value
-values_of [] fields = []
-values_of (k ∷ ks) fields = value_said k fields ∷ values_of ks (drop (field_width k) fields)
-
--- the row of a key, by its payload, with columns of these kinds behind the key
-abbrev pub row_by_kinds : List Kind → ℤ → List ℕ → Row
-row_by_kinds kinds key payload = record { values = value.Int key ∷ values_of kinds payload }
 
 -- the row of a version, or none for a tombstone
 abbrev pub row_of_version : List Kind → ℤ → Version → Option Row

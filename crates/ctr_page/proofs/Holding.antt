@@ -14,6 +14,7 @@ use Rattle.ctr_bytes.specs.Fields.{spelled, field}
 use Rattle.ctr_bytes.proofs.FieldLaws.{AreBytes, field-append, field-drop, field_fits, spelled_field, got_byte, side}
 use Rattle.ctr_value.specs.Payload.{IsOf, AreOf, IsKeyed, field_width, width, IsField, IsPayload, IsRowOf}
 use Rattle.ctr_value.specs.Values.{value_said, values_in, row_values}
+pub use Rattle.ctr_value.proofs.PayloadLaws.{kinds_wide}
 use Rattle.ctr_value.proofs.PayloadLoops.{text_found}
 use Rattle.ctr_records.specs.declared.decoding.BadRecord.{BadRecord}
 use Rattle.ctr_bytes.specs.Following.{◌>>=◌}
@@ -81,11 +82,6 @@ texts_hold (c ∷ cs) at page below fits e =
     let rest : drop w bytes ≡ piece (at + w) (width cs) page = drop-take w (width cs) (drop at page) ∙ ap (take (width cs)) (drop-drop w at page) in
     let held = subst (λ l. AreOf cs (values_in cs l) × IsPayload cs (values_in cs l) (piece (at + w) (width cs) page)) (sym rest) others in
     ((first.0, held.0), (take w (drop at page), piece (at + w) (width cs) page, first.1, held.1, sym (side at w (width cs) page)))
-
--- the kinds have the width of their columns
-pub kinds_wide : (cs : List Column) → kinds_width (map (λ (c : Column). c.kind) cs) ≡ width cs
-kinds_wide [] = refl
-kinds_wide (c ∷ cs) = ap (λ n. field_width c.kind + n) (kinds_wide cs)
 
 row_holds : (cs : List Column) (key : ℤ) (at : ℕ) (page : List ℕ) → AreBytes page → IsKeyed cs → FitsSigned w64 key → at + width (drop 1 cs) ≤ length page → texts_check (kinds_of cs) at page ≡ Ok tt
     → IsRowOf cs key (piece at (width (drop 1 cs)) page) (row_values cs key (piece at (width (drop 1 cs)) page))

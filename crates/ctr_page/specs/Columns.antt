@@ -5,7 +5,7 @@ use Rattle.ctr_types.specs.declared.value.Column.{Column}
 use Rattle.ctr_types.specs.declared.value.Kind.{Kind}
 use Rattle.ctr_types.specs.declared.value.Kind.TheVariants.{Int, Chars}
 use Rattle.ctr_bytes.specs.Fields.{spelled, field}
-use Rattle.ctr_value.specs.Payload.{field_width}
+pub use Rattle.ctr_value.specs.Payload.{kinds_width}
 use Rattle.ctr_value.specs.Columns.{column_bytes}
 use Rattle.ctr_page.specs.declared.entry.CatalogEntry.{CatalogEntry}
 use Rattle.ctr_page.specs.declared.table.TheConstants.{ENTRY_SIZE, CREATOR_AT, DROPPER_AT, NAME_AT, NAME_MOST, COLUMNS_AT, COLUMN_SIZE, MOST_COLUMNS, FIRSTS_AT, VERSIONS_AT}
@@ -66,11 +66,6 @@ versions_first_in bytes = field 4 VERSIONS_AT bytes
 -- what the columns behind the key hold
 abbrev pub kinds_of : List Column → List Kind
 kinds_of cs = map (λ (c : Column). c.kind) (drop 1 cs)
-
--- the width of a row with such columns behind its key
-abbrev pub kinds_width : List Kind → ℕ
-kinds_width [] = 0
-kinds_width (k ∷ ks) = field_width k + kinds_width ks
 
 -- where a slot of such rows stands on a page
 abbrev pub slot_start : List Kind → ℕ → ℕ

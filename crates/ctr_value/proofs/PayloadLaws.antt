@@ -1,5 +1,5 @@
 -- A row is determined by its key and its payload, and no row has a payload with a bad field.
-use Rattle.std.proofs.Common.{◌≡◌, inl, inr, ℕ, ◌+◌, ◌-◌, ℤ, List, [], ◌∷◌, ◌++◌, length, take, drop, replicate, get_or, slice_index, refl, sym, ◌∙◌, ap, subst, arith, length-append}
+use Rattle.std.proofs.Common.{◌≡◌, inl, inr, ℕ, ◌+◌, ◌-◌, ℤ, List, [], ◌∷◌, ◌++◌, map, length, take, drop, replicate, get_or, slice_index, refl, sym, ◌∙◌, ap, subst, arith, length-append}
 use Rattle.std.specs.Prelude.{FitsSigned}
 use Rattle.std.specs.Int.{w64, cast_unsigned, cast_signed}
 use Rattle.std.proofs.Math.Facts.{Fits-of_z}
@@ -12,7 +12,7 @@ use Rattle.ctr_types.specs.declared.value.Value.{Value}
 use Rattle.ctr_types.specs.declared.value.Value.TheVariants as value
 use Rattle.ctr_model.specs.Refusals.{key_of}
 use Rattle.ctr_bytes.specs.Fields.{spelled, field}
-use Rattle.ctr_value.specs.Payload.{IsOf, AreOf, IsRow, field_width, width, field_of, payload_of, IsField, IsPayload, IsRowOf, IsBadField, HasBadField}
+use Rattle.ctr_value.specs.Payload.{IsOf, AreOf, IsRow, field_width, kinds_width, width, field_of, payload_of, IsField, IsPayload, IsRowOf, IsBadField, HasBadField}
 use Rattle.ctr_bytes.proofs.FieldLaws.{length-spelled, field_at}
 
 -- a value takes the room of its column
@@ -29,6 +29,11 @@ payload_len [] (v ∷ vs) h = absurd h
 payload_len (c ∷ cs) [] h = absurd h
 payload_len (c ∷ cs) (v ∷ vs) h =
     omega (arith, length-append (field_of c.kind v) (payload_of cs vs), value_len c.kind v h.0, payload_len cs vs h.1)
+
+-- the kinds have the width of their columns
+pub kinds_wide : (cs : List Column) → kinds_width (map (λ (c : Column). c.kind) cs) ≡ width cs
+kinds_wide [] = refl
+kinds_wide (c ∷ cs) = ap (λ n. field_width c.kind + n) (kinds_wide cs)
 
 -- whatever stands behind a text
 pub field_len : (k : Kind) (v : Value) (bytes : List ℕ) → IsOf k v → IsField k v bytes → length bytes ≡ field_width k

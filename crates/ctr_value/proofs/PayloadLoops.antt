@@ -1,8 +1,10 @@
 -- Fields that are written and read one after the other.
-use Rattle.std.proofs.Common.{◌≡◌, inl, inr, ℕ, ℤ, suc, ◌+◌, ◌-◌, ◌<◌, ◌≤◌, List, [], ◌∷◌, ◌++◌, length, take, drop, get_or, slice_index, refl, sym, ◌∙◌, ap, subst, arith, append_assoc, length-append, length-drop}
+use Rattle.std.proofs.Common.{◌≡◌, ℕ, ℤ, suc, ◌+◌, ◌-◌, ◌<◌, ◌≤◌, List, [], ◌∷◌, ◌++◌, map, set, length, take, drop, get_or, slice_index, refl, sym, ◌∙◌, ap, subst, arith, append_assoc, length-append, length-drop}
 use Rattle.std.specs.Prelude.{FitsSigned}
-use Rattle.std.specs.Int.{w64}
-use Rattle.std.proofs.lemmas.List.{append-nil, drop-drop, drop_more, drop_all, length-take-le, take-append-drop, take_all, take_at}
+use Rattle.std.specs.Int.{w64, cast_signed}
+use Rattle.std.proofs.Math.Facts.{sfits_to_z}
+use Rattle.std.proofs.lemmas.Int.{of_z-to_z}
+use Rattle.std.proofs.lemmas.List.{append-nil, drop-drop, drop_more, drop_all, length-take-le, take-append-drop, take_all, take_at, take_more, take_more_set, map-append}
 use Rattle.ctr_types.specs.declared.value.Column.{Column}
 use Rattle.ctr_types.specs.declared.value.Kind.{Kind}
 use Rattle.ctr_types.specs.declared.value.Kind.TheVariants as kind
@@ -10,76 +12,38 @@ use Rattle.ctr_types.specs.declared.value.Value.{Value}
 use Rattle.ctr_types.specs.declared.value.Value.TheVariants as value
 use Rattle.ctr_value.specs.declared.payload.PayloadError.{PayloadError}
 use Rattle.ctr_value.specs.declared.payload.PayloadError.TheVariants as error
-use Rattle.ctr_value.specs.Payload.{IsOf, AreOf, IsKeyed, IsRow, field_width, width, field_of, payload_of, IsField, IsPayload, IsRowOf, IsBadField, HasBadField, IsNoPayload}
-use Rattle.ctr_bytes.proofs.FieldLaws.{side}
+use Rattle.ctr_value.specs.Payload.{IsOf, AreOf, IsKeyed, IsRow, field_width, width, field_of, payload_of, IsField, IsPayload, IsRowOf, HasField, HasBadField, IsNoPayload}
+use Rattle.ctr_bytes.specs.Fields.{spelled, field}
+use Rattle.ctr_bytes.proofs.FieldLaws.{AreBytes, field_fits, spelled_field, side}
 use Rattle.ctr_value.proofs.PayloadLaws.{value_len, payload_wide, bad_none}
 
 pub width_next : (cs : List Column) (i : ℕ) (c : Column) → i < length cs → c ≡ get_or cs i c → width (drop i cs) ≡ field_width c.kind + width (drop (i + 1) cs)
 width_next cs i c lt is = ap width (drop_more cs i c lt ∙ ap (λ (d : Column). d ∷ drop (i + 1) cs) (sym is))
 
--- ---- reading
+-- ---- checking
 
--- the columns before i were read, up to at
-pub record HasRead (cs : List Column) (bytes : List ℕ) (old new : List Value) (i at : ℕ) : Type 0 where
-  pub vs : List Value
-  pub added : new ≡ old ++ vs
-  pub are : (rest : List Value) → AreOf (drop i cs) rest → AreOf cs (vs ++ rest)
-  pub so : (rest : List Value) → IsPayload (drop i cs) rest (drop at bytes) → IsPayload cs (vs ++ rest) bytes
-  pub room : at + width (drop i cs) ≡ length bytes
-  pub later : (place want got : ℕ) → HasBadField (drop i cs) at bytes place want got → HasBadField cs 0 bytes place want got
+-- a number is spelled by any bytes
+pub number_there : (at : ℕ) (bytes : List ℕ) → AreBytes bytes → at + 8 ≤ length bytes → HasField kind.Int at bytes
+number_there at bytes below room =
+    let x = field 8 at bytes in
+    let small = field_fits 8 at bytes below in
+    (value.Int (cast_signed w64 x), sfits_to_z (record { fits = small }), sym (ap (spelled 8) (of_z-to_z w64 x small) ∙ spelled_field 8 at bytes room below))
 
-pub none_read : (cs : List Column) (bytes : List ℕ) (old : List Value) → length bytes ≡ width cs → HasRead cs bytes old old 0 0
-none_read cs bytes old e = record {
-  vs = [];
-  added = sym (append-nil old);
-  are = λ rest a. a;
-  so = λ rest p. p;
-  room = omega (arith, e);
-  later = λ place want got b. b;
-}
+-- a field, and those behind it
+pub more_there : (all cs : List Column) (c : Column) (at next : ℕ) (bytes : List ℕ) → all ≡ c ∷ cs → next ≡ at + field_width c.kind → HasField c.kind at bytes
+    → (vs : List Value) × AreOf cs vs × IsPayload cs vs (drop next bytes) → (vs : List Value) × AreOf all vs × IsPayload all vs (drop at bytes)
+more_there all cs c at next bytes is on first others =
+    let split : drop at bytes ≡ take (field_width c.kind) (drop at bytes) ++ drop next bytes =
+    sym (take-append-drop (field_width c.kind) (drop at bytes)) ∙ ap (λ (l : List ℕ). take (field_width c.kind) (drop at bytes) ++ l) (drop-drop (field_width c.kind) at bytes ∙ ap (λ n. drop n bytes) (sym on)) in
+    subst (λ (l : List Column). (vs : List Value) × AreOf l vs × IsPayload l vs (drop at bytes)) (sym is)
+    (first.0 ∷ others.0, (first.1, others.1), (take (field_width c.kind) (drop at bytes), drop next bytes, first.2, others.2, split))
 
-pub one_read : (cs : List Column) (bytes : List ℕ) (old new : List Value) (i at : ℕ) (c : Column) (v : Value) → i < length cs → c ≡ get_or cs i c
-    → HasRead cs bytes old new i at → IsOf c.kind v → IsField c.kind v (take (field_width c.kind) (drop at bytes)) → HasRead cs bytes old (new ++ v ∷ []) (i + 1) (at + field_width c.kind)
-one_read cs bytes old new i at c v lt is p ok field =
-    let d : drop i cs ≡ c ∷ drop (i + 1) cs = drop_more cs i c lt ∙ ap (λ (x : Column). x ∷ drop (i + 1) cs) (sym is) in
-    let a_step : (rest : List Value) → AreOf (drop (i + 1) cs) rest → AreOf (drop i cs) (v ∷ rest) = λ rest a. subst (λ (l : List Column). AreOf l (v ∷ rest)) (sym d) (ok, a) in
-    let split : drop at bytes ≡ take (field_width c.kind) (drop at bytes) ++ drop (at + field_width c.kind) bytes =
-    sym (take-append-drop (field_width c.kind) (drop at bytes)) ∙ ap (λ (l : List ℕ). take (field_width c.kind) (drop at bytes) ++ l) (drop-drop (field_width c.kind) at bytes) in
-    let p_step : (rest : List Value) → IsPayload (drop (i + 1) cs) rest (drop (at + field_width c.kind) bytes) → IsPayload (drop i cs) (v ∷ rest) (drop at bytes) =
-    λ rest q. subst (λ (l : List Column). IsPayload l (v ∷ rest) (drop at bytes)) (sym d) (take (field_width c.kind) (drop at bytes), drop (at + field_width c.kind) bytes, field, q, split) in
-    record {
-      vs = p.vs ++ v ∷ [];
-      added = ap (λ (l : List Value). l ++ v ∷ []) p.added ∙ append_assoc old p.vs (v ∷ []);
-      are = λ rest a. subst (λ (l : List Value). AreOf cs l) (sym (append_assoc p.vs (v ∷ []) rest)) (p.are (v ∷ rest) (a_step rest a));
-      so = λ rest q. subst (λ (l : List Value). IsPayload cs l bytes) (sym (append_assoc p.vs (v ∷ []) rest)) (p.so (v ∷ rest) (p_step rest q));
-      room = omega (arith, p.room, width_next cs i c lt is);
-      later = λ place want got b. p.later place want got (subst (λ (l : List Column). HasBadField l at bytes place want got) (sym d) (inr ((v, ok, field), b)));
-    }
-
--- a bad field behind those that were read
-pub bad_next : (cs : List Column) (bytes : List ℕ) (old new : List Value) (i at : ℕ) (c : Column) → i < length cs → c ≡ get_or cs i c → HasRead cs bytes old new i at
-    → (place want got : ℕ) → IsBadField c.kind at bytes place want got → HasBadField cs 0 bytes place want got
-bad_next cs bytes old new i at c lt is p place want got b =
-    let d : drop i cs ≡ c ∷ drop (i + 1) cs = drop_more cs i c lt ∙ ap (λ (x : Column). x ∷ drop (i + 1) cs) (sym is) in
-    p.later place want got (subst (λ (l : List Column). HasBadField l at bytes place want got) (sym d) (inl b))
-
-pub all_read : (cs : List Column) (bytes : List ℕ) (old new : List Value) (i at : ℕ) → length cs ≤ i → HasRead cs bytes old new i at
-    → (vs : List Value) × (new ≡ old ++ vs) × AreOf cs vs × IsPayload cs vs bytes
-all_read cs bytes old new i at le p =
-    let none : drop i cs ≡ [] = drop_all i cs le in
-    let ended : AreOf (drop i cs) [] = subst (λ (l : List Column). AreOf l []) (sym none) tt in
-    let whole : length bytes ≤ at = let w : width (drop i cs) ≡ 0 = ap width none in omega (arith, p.room) in
-    let last : IsPayload (drop i cs) [] (drop at bytes) = subst (λ (l : List Column). IsPayload l [] (drop at bytes)) (sym none) (drop_all at bytes whole) in (
-      p.vs,
-      p.added,
-      subst (λ (l : List Value). AreOf cs l) (append-nil p.vs) (p.are [] ended),
-      subst (λ (l : List Value). IsPayload cs l bytes) (append-nil p.vs) (p.so [] last),
-    )
-
--- why it isn't read, by what follows from it
-pub refuses_by : (P Q : ℕ → ℕ → ℕ → Type 0) → ((place want got : ℕ) → P place want got → Q place want got) → (e : PayloadError) → IsNoPayload P e → IsNoPayload Q e
-refuses_by P Q f error.OutOfMemory h = tt
-refuses_by P Q f (error.Bad place want got) h = (f place want got h.0, h.1)
+-- the kinds before the next, and the next
+pub kinds_more : (cs : List Column) (ks : List Kind) (i : ℕ) (c : Column) → i < length cs → i < length ks → c ≡ get_or cs i c → take i ks ≡ map (λ (c : Column). c.kind) (take i cs)
+    → take (i + 1) (set ks i c.kind) ≡ map (λ (c : Column). c.kind) (take (i + 1) cs)
+kinds_more cs ks i c lt room is so =
+    let next : take (i + 1) cs ≡ take i cs ++ c ∷ [] = take_more cs i c lt ∙ ap (λ (x : Column). take i cs ++ x ∷ []) (sym is) in
+    take_more_set ks i c.kind room ∙ ap (λ (l : List Kind). l ++ c.kind ∷ []) so ∙ sym (ap (map (λ (c : Column). c.kind)) next ∙ map-append (λ (c : Column). c.kind) (take i cs) (c ∷ []))
 
 -- ---- writing
 
@@ -174,9 +138,10 @@ pub only_memory : (cs : List Column) (key : ℤ) (bytes : List ℕ) (vs : List V
 only_memory cs key bytes vs error.OutOfMemory h r = refl
 only_memory cs key bytes vs (error.Bad at want got) h r = absurd (bad_none (drop 1 cs) (drop 1 vs) 0 at want got bytes r.0 (behind_row cs vs h.0) h.2)
 
-pub row_read : (cs : List Column) (key : ℤ) (values vs : List Value) (bytes : List ℕ) → IsKeyed cs → FitsSigned w64 key → values ≡ value.Int key ∷ vs → AreOf (drop 1 cs) vs → IsPayload (drop 1 cs) vs bytes
-    → IsRowOf cs key bytes values
-row_read [] key values vs bytes keyed fits is are so = absurd keyed
-row_read (c ∷ cs) key values vs bytes keyed fits is are so =
+-- the row of a payload whose fields are those of values is what it says
+pub row_read : (cs : List Column) (key : ℤ) (vs : List Value) (bytes : List ℕ) → IsKeyed cs → FitsSigned w64 key → AreOf (drop 1 cs) vs → IsPayload (drop 1 cs) vs bytes
+    → IsRowOf cs key bytes (value.Int key ∷ vs)
+row_read [] key vs bytes keyed fits are so = absurd keyed
+row_read (c ∷ cs) key vs bytes keyed fits are so =
     let first : IsOf c.kind (value.Int key) = subst (λ (k : Kind). IsOf k (value.Int key)) (sym keyed) fits in
-    subst (λ (l : List Value). IsRowOf (c ∷ cs) key bytes l) (sym is) ((keyed, (first, are)), refl, so)
+    ((keyed, (first, are)), refl, so)

@@ -1,5 +1,5 @@
 -- What a payload says is the row that it is of.
-use Rattle.std.proofs.Common.{◌≡◌, ℕ, ℤ, List, [], ◌∷◌, ◌++◌, length, take, drop, refl, sym, ◌∙◌, ap, subst, append_assoc}
+use Rattle.std.proofs.Common.{◌≡◌, ℕ, ℤ, List, [], ◌∷◌, ◌++◌, map, length, take, drop, refl, sym, ◌∙◌, ap, subst, append_assoc}
 use Rattle.std.specs.Int.{w64, cast_unsigned, cast_signed}
 use Rattle.std.proofs.Math.Facts.{Fits-of_z}
 use Rattle.std.proofs.lemmas.Int.{to_z-of_z}
@@ -7,12 +7,13 @@ use Rattle.std.proofs.lemmas.List.{append-nil, take_at, drop_at}
 use Rattle.ctr_types.specs.declared.value.Column.{Column}
 use Rattle.ctr_types.specs.declared.value.Kind.{Kind}
 use Rattle.ctr_types.specs.declared.value.Kind.TheVariants as kind
+use Rattle.ctr_types.specs.declared.value.Row.{Row}
 use Rattle.ctr_types.specs.declared.value.Value.{Value}
 use Rattle.ctr_types.specs.declared.value.Value.TheVariants as value
 use Rattle.ctr_bytes.specs.Fields.{field}
 use Rattle.ctr_bytes.proofs.FieldLaws.{field_at, got_byte}
 use Rattle.ctr_value.specs.Payload.{IsOf, AreOf, field_width, IsField, IsPayload, IsRowOf}
-use Rattle.ctr_value.specs.Values.{value_said, values_in, row_values}
+use Rattle.ctr_value.specs.Values.{value_said, values_of, values_in, row_by_kinds, row_values}
 use Rattle.ctr_value.proofs.PayloadLaws.{field_len}
 
 text_read : (text padding rest : List ℕ) → value_said (kind.Chars 0) (length text ∷ ((text ++ padding) ++ rest)) ≡ value.Chars text
@@ -52,3 +53,9 @@ row_said (c ∷ cs) key bytes (value.Chars t ∷ vs) h = absurd (subst (λ (x : 
 row_said (c ∷ cs) key bytes (value.Int n ∷ vs) h =
     let rest : values_in cs bytes ≡ vs = ap (values_in cs) (sym (append-nil bytes)) ∙ values_read cs vs bytes [] h.0.1.1 h.2 in
     ap (λ (x : ℤ). value.Int x ∷ vs) h.1 ∙ ap (λ (xs : List Value). value.Int key ∷ xs) (sym rest)
+
+-- the row by the kinds of the columns behind the key is what the payload says
+pub by_kinds : (cs behind : List Column) (ks : List Kind) (key given : ℤ) (bytes : List ℕ) (row : Row) → behind ≡ drop 1 cs → ks ≡ map (λ (c : Column). c.kind) behind → given ≡ key
+    → row ≡ row_by_kinds ks given bytes → row.values ≡ row_values cs key bytes
+by_kinds cs behind ks key given bytes row columns kinds same is =
+    ap (λ (r : Row). r.values) is ∙ ap (λ (l : List Kind). value.Int given ∷ values_of l bytes) (kinds ∙ ap (map (λ (c : Column). c.kind)) columns) ∙ ap (λ (z : ℤ). value.Int z ∷ values_in (drop 1 cs) bytes) same

@@ -43,6 +43,11 @@ abbrev pub field_width : Kind → ℕ
 field_width kind.Int = 8
 field_width (kind.Chars most) = most + 1
 
+-- the bytes of fields of these kinds
+abbrev pub kinds_width : List Kind → ℕ
+kinds_width [] = 0
+kinds_width (k ∷ ks) = field_width k + kinds_width ks
+
 -- the bytes of these columns' fields
 abbrev pub width : List Column → ℕ
 width [] = 0

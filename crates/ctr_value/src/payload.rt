@@ -1,17 +1,17 @@
 // The payload of a row: its values after the key, each in the width of its column.
-ghost use Rattle.std.specs.Prelude.{◌≡◌, ◌≤◌, ◌<◌, ◌+◌, ◌-◌, ℕ, ℤ, replicate, List, ◌∷◌, ◌++◌, length, take, drop, IfOk, OnOk, IfErr, MatchResult};
-ghost use Rattle.ctr_types.specs.declared.value.Kind.TheVariants.{Chars};
+ghost use Rattle.std.specs.Prelude.{◌≡◌, ◌≤◌, ◌<◌, ◌+◌, ◌-◌, ℕ, ℤ, replicate, List, ◌∷◌, ◌++◌, length, map, take, drop, IfOk, OnOk, IfErr, MatchResult};
 ghost use Rattle.ctr_types.specs.declared.value.Column.{Column};
+ghost use Rattle.ctr_types.specs.declared.value.Kind.TheVariants.{Chars};
 ghost use Rattle.ctr_types.specs.declared.value.Value.{Value};
-ghost use Rattle.ctr_types.specs.declared.value.Value.TheVariants as value;
 ghost use Rattle.ctr_model.specs.Refusals.{key_of};
 ghost use Rattle.ctr_value.specs.Values.{row_values};
 ghost use Rattle.ctr_value.specs.declared.payload.PayloadError.TheVariants.{OutOfMemory};
-ghost use Rattle.ctr_value.specs.Payload.{IsOf, AreOf, IsKeyed, IsRow, field_width as width_of_field, width as width_of_all, field_of, payload_of, IsField, IsPayload, IsRowOf, IsBadField, HasBadField, IsBadPayload, IsNoPayload};
+ghost use Rattle.ctr_value.specs.Payload.{IsOf, AreOf, IsKeyed, IsRow, field_width as width_of_field, width as width_of_all, field_of, payload_of, IsField, IsPayload, IsRowOf, HasField, IsBadField, HasBadField, IsBadPayload, IsNoPayload};
 
-use ctr_bytes::{get_i64, put_i64};
-use ctr_types::{Column, Kind, List, Row, Schema, Text, Value};
-use std::alloc::{AllocError, AllocFailed, Global};
+use crate::said::row_by_kinds;
+use ctr_bytes::put_i64;
+use ctr_types::{Column, Kind, OutOfMemory as NoMemory, Row, Schema, Value};
+use std::alloc::Global;
 
 /// Why a payload isn't read.
 #[derive(Clone, Copy, Debug, PartialEq, Eq)]
@@ -21,18 +21,10 @@ pub enum PayloadError {
     Bad { at: usize, want: usize, got: usize },
 }
 
-impl From<AllocError> for PayloadError {
+impl From<NoMemory> for PayloadError {
     ghost from_gives = { λ _ e. e ≡ OutOfMemory };
 
-    fn from(_: AllocError) -> PayloadError {
-        PayloadError::OutOfMemory
-    }
-}
-
-impl<T: Drop> From<AllocFailed<T>> for PayloadError {
-    ghost from_gives = { λ _ e. e ≡ OutOfMemory };
-
-    fn from(_: AllocFailed<T>) -> PayloadError {
+    fn from(_: NoMemory) -> PayloadError {
         PayloadError::OutOfMemory
     }
 }
@@ -131,10 +123,10 @@ pub fn encode_row(schema: &Schema, row: &Row, into: &mut [u8])
     );
 }
 
-// The text of a field at a place, of so many bytes at most.
-fn text_at(alloc: Global, most: u8, at: usize, payload: &[u8]) -> Result<Text, PayloadError>
+// Checks the text of a field at a place: it is no longer than its column.
+fn check_text(most: u8, at: usize, payload: &[u8]) -> Result<(), PayloadError>
     requires { at + (most + 1) ≤ length payload.now }
-    ensures found { IfOk result (λ text. IsOf (Chars most) (value.Chars text) × IsField (Chars most) (value.Chars text) (take (most + 1) (drop at payload.now))) }
+    ensures passed { OnOk result (HasField (Chars most) at payload.now) }
     ensures refused { IfErr result (IsNoPayload (IsBadField (Chars most) at payload.now)) }
 {
     let len = payload[at];
@@ -145,40 +137,44 @@ fn text_at(alloc: Global, most: u8, at: usize, payload: &[u8]) -> Result<Text, P
             got: len as usize,
         });
     }
-    let front = at + 1;
-    Ok(Text::from_slice(alloc, &payload[front..front + len as usize])?)
+    Ok(())
 }
 
-// The value of a field at a place.
-fn value_at(alloc: Global, kind: Kind, at: usize, payload: &[u8]) -> Result<Value, PayloadError>
+// Checks the field of a column at a place.
+fn check_field(kind: Kind, at: usize, payload: &[u8]) -> Result<(), PayloadError>
     requires { at + width_of_field kind ≤ length payload.now }
-    ensures found { IfOk result (λ v. IsOf kind v × IsField kind v (take (width_of_field kind) (drop at payload.now))) }
+    ensures passed { OnOk result (HasField kind at payload.now) }
     ensures refused { IfErr result (IsNoPayload (IsBadField kind at payload.now)) }
 {
     match kind {
-        Kind::Int => Ok(Value::Int(get_i64(payload, at))),
-        Kind::Chars(most) => Ok(Value::Chars(text_at(alloc, most, at, payload)?)),
+        Kind::Int => Ok(()),
+        Kind::Chars(most) => check_text(most, at, payload),
     }
 }
 
-// Adds the values of these columns' fields, which take all of the payload.
-fn read_values(
-    alloc: Global,
-    columns: &[Column],
-    payload: &[u8],
-    values: &mut Vec<Value>,
-) -> Result<(), PayloadError>
-    requires { length payload.now ≡ width_of_all columns.now }
-    ensures found { OnOk result ((vs : List Value) × (values.new.items ≡ values.old.items ++ vs) × AreOf columns.now vs × IsPayload columns.now vs payload.now) }
-    ensures refused { IfErr result (IsNoPayload (HasBadField columns.now 0 payload.now)) }
+// Checks these columns' fields, which take all of the payload from a place on.
+fn check_fields(columns: &[Column], at: usize, payload: &[u8]) -> Result<(), PayloadError>
+    requires { at + width_of_all columns.now ≡ length payload.now }
+    ensures passed { OnOk result ((vs : List Value) × AreOf columns.now vs × IsPayload columns.now vs (drop at payload.now)) }
+    ensures refused { IfErr result (IsNoPayload (HasBadField columns.now at payload.now)) }
 {
-    let mut at = 0;
+    let Some((column, others)) = columns.split_first() else {
+        return Ok(());
+    };
+    check_field(column.kind, at, payload)?;
+    check_fields(others, at + field_width(column.kind), payload)
+}
+
+// The kinds of these columns, with others behind them.
+fn kinds_of(columns: &[Column]) -> [Kind; 8]
+    requires { length columns.now ≤ 8 }
+    ensures { take (length columns.now) result ≡ map (λ (c : Column). c.kind) columns.now }
+{
+    let mut kinds = [Kind::Int; 8];
     for i in 0..columns.len() {
-        let kind = columns[i].kind;
-        values.push(value_at(alloc, kind, at, payload)?)?;
-        at += field_width(kind);
+        kinds[i] = columns[i].kind;
     }
-    Ok(())
+    kinds
 }
 
 /// Reads the row of a key from its payload, which may be any bytes. What follows a text in its
@@ -207,12 +203,10 @@ pub fn decode_row(
             got: payload.len(),
         });
     }
-    let mut values = Vec::with_capacity(alloc, schema.columns.len())?;
-    values.push(Value::Int(key))?;
-    read_values(alloc, columns, payload, &mut values)?;
-    Ok(Row {
-        values: List::from_vec(values),
-    })
+    check_fields(columns, 0, payload)?;
+    let kinds = kinds_of(columns);
+    let row = row_by_kinds(alloc, &kinds[..columns.len()], key, payload)?;
+    Ok(row)
 }
 
 /// A row is determined by its key and its payload.

@@ -1,6 +1,6 @@
 use Rattle.std.proofs.Common.{cond, Some, None, ap}
 use Rattle.std.proofs.lemmas.Bool.{eq-eqb}
-use Rattle.ctr_chain.specs.Rows.{row_by_kinds}
+use Rattle.ctr_value.specs.Values.{row_by_kinds}
 use Rattle.ctr_chain.proofs.rows.version_row.Goals as goal
 
 -- where there is no memory, there is a row
