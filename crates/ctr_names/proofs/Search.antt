@@ -149,7 +149,7 @@ module _ (counted low : ℕ) (tables : Tables) (area : Area) (xids : Xids) (stat
     nobody_by = nobody_seen number tables agree n
 
     others_found : (f : ℕ) → f < 32 → is_named_so name (f, area.title f) ≡ true → is_standing (finds xids look.session) (area.title f) ≡ true → value_seen seen chain ≡ Some (made_by_entry (f, area.title f))
-    others_found f lt named found = seen_at ∙ found_shows low tables area number agree names.one n looks.shown.from name f lt named stands
+    others_found f lt named found = seen_at ∙ found_shows low tables area number agree names.one n (looks.shown.from looks.calm.1) name f lt named stands
       where
         its : (is_live (area.title f) ≡ true) × (seen (area.title f).creator ≡ true) × (((area.title f).dropper ≡ 0) ⊎ (seen (area.title f).dropper ≡ false))
         its = found_parts (area.title f) found
@@ -161,7 +161,7 @@ module _ (counted low : ℕ) (tables : Tables) (area : Area) (xids : Xids) (stat
         stands = λ i. its.0 i && ((sym (maker_same f lt named) ∙ its.1) i && not (unseen i))
 
     others_none : ((f : ℕ) → f < 32 → is_named_so name (f, area.title f) ≡ true → is_standing (finds xids look.session) (area.title f) ≡ false) → value_seen seen chain ≡ None
-    others_none missed = seen_at ∙ none_shows low tables area number agree names.one n looks.shown.from name
+    others_none missed = seen_at ∙ none_shows low tables area number agree names.one n (looks.shown.from looks.calm.1) name
         (λ f lt named. known (is_standing (by number n) (area.title f)) (λ stands. absurd (never f lt named stands)) (λ isnt. isnt))
       where
         never : (f : ℕ) → f < 32 → is_named_so name (f, area.title f) ≡ true → is_standing (by number n) (area.title f) ≡ true → ⊥
@@ -175,7 +175,7 @@ module _ (counted low : ℕ) (tables : Tables) (area : Area) (xids : Xids) (stat
 
   module _ (mine : IsNameFreeFor me tables.items area.title name) (quiet : changed_since n (schema_writes name state.asked) ≡ None) where
     told : AllTold number n (schema_writes name state.asked) (schemas chain)
-    told = subst (λ ws. AllTold number n (schema_writes name state.asked) (schemas ws)) (names_here committed area name) ((names.chains.tables name).told n looks.shown.from)
+    told = subst (λ ws. AllTold number n (schema_writes name state.asked) (schemas ws)) (names_here committed area name) ((names.chains.tables name).told n (looks.shown.from looks.calm.1))
 
     -- who is told of the name is within the snapshot
     within : (y : ℕ) → IsChangeTold number n (schema_writes name state.asked) y → committed y ≡ true → by number n y ≡ true
@@ -291,7 +291,7 @@ module _ (counted low : ℕ) (tables : Tables) (area : Area) (xids : Xids) (stat
 
   viewed : option_map (λ (m : Made). m.schema) (value_seen seen (names_at (versions_in committed area) name)) ≡ schema_named (view state look.t) name
   viewed = schema_read seen (versions_in committed area) name names.chains.sorted
-      ∙ ap (λ db. schema_named db name) (view_shown low number state (versions_in committed area) names.ordered names.chains me n look.t.own looks.shown.from (looks.shown.wrote looks.calm) seen
+      ∙ ap (λ db. schema_named db name) (view_shown low number state (versions_in committed area) names.ordered names.chains me n look.t.own (looks.shown.from looks.calm.1) (looks.shown.wrote looks.calm) seen
       (λ other. session_alike xids look.session n looks.shown.snapshot (names_at (versions_in committed area) other) (looks.shown.old.names other))
       (λ id key. session_alike xids look.session n looks.shown.snapshot (rows_of (versions_in committed area) id key) (looks.shown.old.rows id key)))
 

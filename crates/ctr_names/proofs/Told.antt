@@ -59,7 +59,7 @@ module _ (counted low : ℕ) (tables : Tables) (area : Area) (xids : Xids) (stat
   old_entry = entries_in IfOld committed area.title look.name (subst (AreAllBy IfOld) (names_here committed area look.name) (looks.shown.old.names look.name))
 
   told : AllTold number n (schema_writes look.name state.asked) (schemas chain)
-  told = subst (λ ws. AllTold number n (schema_writes look.name state.asked) (schemas ws)) (names_here committed area look.name) ((names.chains.tables look.name).told n looks.shown.from)
+  told = subst (λ ws. AllTold number n (schema_writes look.name state.asked) (schemas ws)) (names_here committed area look.name) ((names.chains.tables look.name).told n (looks.shown.from looks.calm.1))
 
   by_number : (y : ℕ) → IfOld y → xid_is_changed tables look.session.snapshot y ≡ is_some (above n (number y))
   by_number = changed_same counted tables area sound xids names.xids_are look.session.snapshot n looks.shown.snapshot
@@ -91,7 +91,7 @@ module _ (counted low : ℕ) (tables : Tables) (area : Area) (xids : Xids) (stat
 
   pub steady_untold : ((f : ℕ) → f < 32 → is_named_so look.name (f, area.title f) ≡ true → is_changed_for tables look.session.snapshot (area.title f) ≡ false) → changed_since n (schema_writes look.name state.asked) ≡ None
   steady_untold steady =
-      sym ((names.chains.tables look.name).changes n looks.shown.from)
+      sym ((names.chains.tables look.name).changes n (looks.shown.from looks.calm.1))
       ∙ ap (λ ws. newest_since number n (schemas ws)) (names_here committed area look.name)
       ∙ ap (above n) (newest_schemas number chain)
       ∙ late_none number n chain (name_by (λ y. is_some (above n (number y)) ≡ false) committed area.title look.name each)

@@ -144,9 +144,9 @@ module _ (low : ℕ) (site : Site) (run : Run) (state : State) (paged : ShowsPag
     -- ---- Drop
 
     -- Where nobody has changed the name since the snapshot, every committed drop of it is earlier.
-    pub drops_before : (name : List ℕ) → 0 < x → changed_since t.snapshot (schema_writes name state.asked) ≡ None
+    pub drops_before : (name : List ℕ) → 0 < x → session.undoing ≡ false → changed_since t.snapshot (schema_writes name state.asked) ≡ None
         → (f : ℕ) → f < 32 → is_live (site.area.title f) ≡ true → (site.area.title f).name ≡ name → committed (site.area.title f).dropper ≡ true → (site.area.title f).dropper < x
-    drops_before name some steady f lt alive is gone = by (number d) refl
+    drops_before name some calm steady f lt alive is gone = by (number d) refl
       where
         d : ℕ
         d = (site.area.title f).dropper
@@ -161,7 +161,7 @@ module _ (low : ℕ) (site : Site) (run : Run) (state : State) (paged : ShowsPag
             (λ its. its)
             (entries_in (IsChangeTold number t.snapshot (schema_writes name state.asked)) committed site.area.title name
             (of_schemas (IsChangeTold number t.snapshot (schema_writes name state.asked)) (name_chain committed site.area.title name)
-            (subst (λ ws. AllTold number t.snapshot (schema_writes name state.asked) (schemas ws)) (names_here committed site.area name) ((paged.shows.stands.tables name).told t.snapshot mine_shown.from))) f lt named).1
+            (subst (λ ws. AllTold number t.snapshot (schema_writes name state.asked) (schemas ws)) (names_here committed site.area name) ((paged.shows.stands.tables name).told t.snapshot (mine_shown.from calm)))) f lt named).1
 
         seen_before : is_before session.snapshot d ≡ true → d < x
         seen_before is_b =
@@ -187,9 +187,9 @@ module _ (low : ℕ) (site : Site) (run : Run) (state : State) (paged : ShowsPag
             never : (k : ℕ) → suc k ≡ 0 → ⊥
             never k is = omega (arith, is)
 
-    pub drop_shows : (e : ℕ) → OwedByDrop site.tables site.area x e → IsInBounds (with_title e (record (site.area.title e) { dropper = x }) site.area) → changed_since t.snapshot (schema_writes (site.area.title e).name state.asked) ≡ None
+    pub drop_shows : (e : ℕ) → OwedByDrop site.tables site.area x e → IsInBounds (with_title e (record (site.area.title e) { dropper = x }) site.area) → session.undoing ≡ false → changed_since t.snapshot (schema_writes (site.area.title e).name state.asked) ≡ None
         → ShowsPaged low (record site { tables = with_item (DropOf x e) site.tables; area = with_title e (record (site.area.title e) { dropper = x }) site.area }) run (with_transaction s (with_own (name_written (site.area.title e).name None) t) state)
-    drop_shows e owed bounds steady = record {
+    drop_shows e owed bounds calm steady = record {
       bounds = bounds;
       few = paged.few;
       sound = sound_now;
@@ -203,7 +203,7 @@ module _ (low : ℕ) (site : Site) (run : Run) (state : State) (paged : ShowsPag
           (λ is. let f_e = eqb-true f e is in
           let b_x : b.me ≡ x = sym mine ∙ ap (λ h. (after.title h).dropper) f_e ∙ ap (λ (v : Title). v.dropper) here in
           subst (λ y. (after.title g).dropper < y) (sym b_x) (subst (λ (v : Title). v.dropper < x) (sym g_same)
-          (drops_before name some steady g lt_g (ap is_live (sym g_same) ∙ live_g) (ap (λ (v : Title). v.name) (sym g_same) ∙ sym names ∙ ap (λ h. (after.title h).name) f_e ∙ ap (λ (v : Title). v.name) here) (ap (λ (v : Title). committed v.dropper) (sym g_same) ∙ gone))))
+          (drops_before name some calm steady g lt_g (ap is_live (sym g_same) ∙ live_g) (ap (λ (v : Title). v.name) (sym g_same) ∙ sym names ∙ ap (λ h. (after.title h).name) f_e ∙ ap (λ (v : Title). v.name) here) (ap (λ (v : Title). committed v.dropper) (sym g_same) ∙ gone))))
           (λ isnt. let f_same = title_apart site.area e u f (λ is. false≢true (sym isnt ∙ eq-eqb f e is)) in
           subst (λ (v : Title). v.dropper < b.me) (sym g_same) (paged.drops r b at_r open_ f g lt_f lt_g (ap is_live (sym f_same) ∙ live_f) (ap is_live (sym g_same) ∙ live_g)
           (ap (λ (v : Title). v.name) (sym f_same) ∙ names ∙ ap (λ (v : Title). v.name) g_same) (ap (λ (v : Title). v.dropper) (sym f_same) ∙ mine) (ap (λ (v : Title). committed v.dropper) (sym g_same) ∙ gone)));

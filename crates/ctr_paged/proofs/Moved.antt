@@ -118,7 +118,7 @@ module _ (low : ℕ) (site : Site) (scene : Scene) (shown : IsShown low site sce
   moved x (Drops e) b owed bounds (writes, steady) =
       subst (IsShown low (site_after x (Drops e) site)) (sym writes.leads) (subst (λ y. IsShown low (site_after y (Drops e) site) (with_its writes.by.s (with_own (name_written (site.area.title e).name None) writes.by.t) scene)) writes.by.me
       (shown_dropped low site scene shown writes.by.s writes.by.session writes.by.t writes.by.at writes.by.is_t writes.by.unasked e
-      (subst (λ y. OwedByDrop site.tables site.area y e) (sym writes.by.me) owed) (subst (λ y. IsInBounds (site_after y (Drops e) site).area) (sym writes.by.me) bounds) steady writes.holds))
+      (subst (λ y. OwedByDrop site.tables site.area y e) (sym writes.by.me) owed) (subst (λ y. IsInBounds (site_after y (Drops e) site).area) (sym writes.by.me) bounds) writes.calm steady writes.holds))
   moved x Commits b owed bounds asks =
       subst (IsShown low (site_after x Commits site)) (sym asks.leads) (subst (λ y. IsShown low (site_after y Commits site) (record {
         run = record scene.run { commits = scene.run.commits ++ y ∷ [] };

@@ -255,11 +255,11 @@ module _ (low : ℕ) (site : Site) (scene : Scene) (shown : IsShown low site sce
         old_names y f item = ap (λ (v : Title). v.name) (title_apart area e title f (λ is. false≢true (sym (ap (λ n. n == 1) owed.free) ∙ ap (λ g. is_live (area.title g)) (sym is) ∙ live_item y f item)))
 
     -- a table is dropped
-    pub shown_dropped : (e : ℕ) → OwedByDrop tables area session.me e → IsInBounds (with_title e (record (area.title e) { dropper = session.me }) area) → changed_since t.snapshot (schema_writes (area.title e).name state.asked) ≡ None
+    pub shown_dropped : (e : ℕ) → OwedByDrop tables area session.me e → IsInBounds (with_title e (record (area.title e) { dropper = session.me }) area) → session.undoing ≡ false → changed_since t.snapshot (schema_writes (area.title e).name state.asked) ≡ None
         → has_name (area.title e).name t.holds ≡ true
         → IsShown low (site_after session.me (Drops e) site) (record scene { state = with_transaction s (with_own (name_written (area.title e).name None) t) state })
-    shown_dropped e owed bounds steady holds = record {
-      paged = drop_shows low site run state paged s session t at is_t unasked e owed bounds steady;
+    shown_dropped e owed bounds calm steady holds = record {
+      paged = drop_shows low site run state paged s session t at is_t unasked e owed bounds calm steady;
       holds = holds_granted (tables.items ++ DropOf session.me e ∷ []) (with_title e v area).title run.sessions state
           (holds_more tables.items area.title run.sessions state shown.holds (DropOf session.me e) session.me e (with_title e v area).title (drop_parts session.me e tables.items) (λ y f item. titled_name area e v refl f)
           (subst (λ n. IsNameHeldBy run.sessions state session.me n) (sym (titled_name area e v refl e)) (held_by_me (area.title e).name holds)))

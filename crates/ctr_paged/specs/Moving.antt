@@ -99,9 +99,11 @@ pub record WritesRow (x : ℕ) (m : RowMove) (site : Site) (a b : Scene) : Type 
   pub free : IsFreeKey (engine_at site a.run) a.state.sessions by.s m.entry m.key
   pub leads : b ≡ with_its by.s (with_own (row_written table m.key m.row) by.t) a
 
--- The table of a name that the session holds is made, or is dropped.
+-- The table of a name that the session holds is made, or is dropped, by a session that isn't within
+-- its rollback.
 pub record WritesName (x : ℕ) (name : List ℕ) (made : Option Made) (a b : Scene) : Type 0 where
   pub by : IsActing a x
+  pub calm : by.session.undoing ≡ false
   pub holds : has_name name by.t.holds ≡ true
   pub leads : b ≡ with_its by.s (with_own (name_written name made) by.t) a
 

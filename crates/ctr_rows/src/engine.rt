@@ -481,5 +481,8 @@ fn least_named(mark: Xid, sessions: &[(u8, Session)]) -> Xid
     let Some((first, rest)) = sessions.split_first() else {
         return mark;
     };
+    if first.1.undoing {
+        return least_named(mark, rest);
+    }
     least_named(first.1.snapshot.lower(mark), rest)
 }

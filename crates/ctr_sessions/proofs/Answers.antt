@@ -105,7 +105,7 @@ module _ (low : ℕ) (state : State) (s : ℕ) (me : Transaction) (seat : Seat) 
   pub schema_same : (schema : Bool) (name : List ℕ) → first_session (is_busy schema name) (others s state) ≡ None → newest_since number me.snapshot (names name) ≡ schema_changed_by state me name
   schema_same schema name idle =
       ap (λ o. above me.snapshot o) (sym (newest-schemas number (names name)))
-      ∙ schema_conflict low number state engine.versions is_seat.shows.shows.stands me mine.from mine.to is_seat.shows.shows.answered name (quiet_name state s is_seat.kept me is_seat.here.there is_seat.here.unasked schema name idle)
+      ∙ schema_conflict low number state engine.versions is_seat.shows.shows.stands me (mine.from is_seat.here.calm) mine.to is_seat.shows.shows.answered name (quiet_name state s is_seat.kept me is_seat.here.there is_seat.here.unasked schema name idle)
 
   -- what is left of a name that the session has, or hasn't, written
   left_of : (name : List ℕ) (w : Option (Option Made)) → written_by seat.session.me (names name) ≡ w → left_by (schema_change name) me.own ≡ option_map (λ (o : Option Made). option_map (λ (m : Made). m.schema) o) w
@@ -118,8 +118,8 @@ module _ (low : ℕ) (state : State) (s : ℕ) (me : Transaction) (seat : Seat) 
       elim (written_by seat.session.me (names name)) as (λ o. written_by seat.session.me (names name) ≡ o → cond (is_some o) None (newest_since number me.snapshot (rows_of engine.versions made.id key)) ≡ row_changed_by state me name key) [
         | Some w ↦ λ head. sym (ap (λ b. cond b None (last_with (is_touching name (Some key)) (me.snapshot + 1) (answered_since state me))) (was_created name me.own made.schema (left_of name (Some (Some made)) (own_made name made w is head))))
         | None ↦ λ head.
-            row_conflict low number state engine.versions is_seat.shows.shows.stands me mine.from mine.to is_seat.shows.shows.answered name made key (uncreated name me.own (left_of name None head)) (sym (schema_same schema name idle) ∙ unchanged)
-            (since_steady low number engine.versions name made me.snapshot mine.from unchanged (shared_seen name made head is))
+            row_conflict low number state engine.versions is_seat.shows.shows.stands me (mine.from is_seat.here.calm) mine.to is_seat.shows.shows.answered name made key (uncreated name me.own (left_of name None head)) (sym (schema_same schema name idle) ∙ unchanged)
+            (since_steady low number engine.versions name made me.snapshot (mine.from is_seat.here.calm) unchanged (shared_seen name made head is))
             (quiet_key state s me is_seat.here.there is_seat.here.unasked is_seat.kept.pending is_seat.kept.covered schema name key free idle).1
       ] refl
 

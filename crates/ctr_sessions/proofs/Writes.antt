@@ -111,7 +111,7 @@ module _ (low : ℕ) (state : State) (s : ℕ) (me : Transaction) (seat : Seat) 
 
   -- a table that it uses is the one of each later number
   steady_names : (name : List ℕ) → has_name name me.uses ≡ true → newest_since number me.snapshot (names name) ≡ None
-  steady_names name used = ap (λ o. above me.snapshot o) (sym (newest-schemas number (names name))) ∙ (is_seat.shows.shows.stands.tables name).changes me.snapshot mine.from
+  steady_names name used = ap (λ o. above me.snapshot o) (sym (newest-schemas number (names name))) ∙ (is_seat.shows.shows.stands.tables name).changes me.snapshot (mine.from is_seat.here.calm)
       ∙ last_none (me.snapshot + 1) (drop me.snapshot (schema_writes name state.asked)) ((is_seat.kept.firm s me is_seat.here.there is_seat.here.unasked).uses name used)
 
   either : {A : Type 0} (name : List ℕ) (made : Made) → made_seen seat name ≡ Some made → (written_by seat.session.me (names name) ≡ Some (Some made) → A) → (written_by seat.session.me (names name) ≡ None → A) → A

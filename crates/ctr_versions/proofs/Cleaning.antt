@@ -39,8 +39,9 @@ mark_is_old xids s n mark is low x passes =
 
 -- ---- the low number rises to one that no snapshot is below
 
-pub raise_step : (low higher : ℕ) (engine : EngineHeld) (state : State) → low ≤ higher → higher ≤ state.answered → ((s : ℕ) (t : Transaction) → find nat_cmp s state.sessions ≡ Some t → higher ≤ t.snapshot) → ShowsState low engine state → ShowsState higher engine state
-raise_step low higher engine state le lowest each shows = record {
+pub raise_step : (low higher : ℕ) (engine : EngineHeld) (state : State) → low ≤ higher → higher ≤ state.answered → (shows : ShowsState low engine state)
+    → ((s : ℕ) (t : Transaction) (at : find nat_cmp s state.sessions ≡ Some t) → (shows.inside s t at).0.undoing ≡ false → higher ≤ t.snapshot) → ShowsState higher engine state
+raise_step low higher engine state le lowest shows each = record {
   sound = shows.sound;
   counted = shows.counted;
   same_answered = shows.same_answered;

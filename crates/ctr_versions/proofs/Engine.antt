@@ -45,7 +45,7 @@ module _ (xids : Xids) (session : SessionHeld) (n : ℕ) (is : IsSnapshotOf xids
 pub session_shows : (low : ℕ) (engine : EngineHeld) (state : State) (session : SessionHeld) (t : Transaction) → IsOrdered state.base → ShowsState low engine state
     → ShowsSession low state.answered engine.xids engine.versions session t → IsCalm session t → database_seen (session_sees engine.xids session) engine.versions ≡ view state t
 session_shows low engine state session t ordered shows mine unasked =
-    view_shown low (number_of engine.xids) state engine.versions ordered shows.stands session.me t.snapshot t.own mine.from (mine.wrote unasked) (session_sees engine.xids session)
+    view_shown low (number_of engine.xids) state engine.versions ordered shows.stands session.me t.snapshot t.own (mine.from unasked.1) (mine.wrote unasked) (session_sees engine.xids session)
     (λ name. session_alike engine.xids session t.snapshot mine.snapshot (names_at engine.versions name) (mine.old.names name))
     (λ id key. session_alike engine.xids session t.snapshot mine.snapshot (rows_of engine.versions id key) (mine.old.rows id key))
 

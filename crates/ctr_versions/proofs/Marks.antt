@@ -3,7 +3,7 @@ use Rattle.std.proofs.Common.{◌≡◌, ℕ, zero, suc, ◌≤◌, ◌<◌, tru
 use Rattle.std.specs.Prelude.{unwrap_or, max, is_some}
 use Rattle.std.specs.Ordering.{is_eq, nat_cmp}
 use Rattle.std.specs.FinMap.Entries.{find}
-use Rattle.std.proofs.lemmas.Bool.{false≢true, cases_lt}
+use Rattle.std.proofs.lemmas.Bool.{false≢true, true≢false, cases_lt}
 use Rattle.ctr_model.specs.declared.state.State.{State}
 use Rattle.ctr_model.specs.declared.state.Transaction.{Transaction}
 use Rattle.ctr_snap.specs.Seeing.{named, AreFrom}
@@ -59,12 +59,23 @@ from_back : (mark : ℕ) (xs ys : List ℕ) → AreFrom mark (xs ++ ys) → AreF
 from_back mark [] ys all = all
 from_back mark (x ∷ xs) ys all = from_back mark xs ys all.1
 
-from_named : (mark s : ℕ) (session : SessionHeld) (sessions : List (ℕ × SessionHeld)) → AreFrom mark (sessions_named sessions) → find nat_cmp s sessions ≡ Some session → AreFrom mark (named session.snapshot)
-from_named mark s session [] all is = absurd (false≢true (ap is_some is))
-from_named mark s session (e ∷ es) all is =
+-- of the first session, where it isn't within its rollback, and of the others
+named_parts : (mark : ℕ) (e : ℕ × SessionHeld) (es : List (ℕ × SessionHeld)) → AreFrom mark (sessions_named (e ∷ es)) → (e.1.undoing ≡ false → AreFrom mark (named e.1.snapshot)) × AreFrom mark (sessions_named es)
+named_parts mark e es all =
+    elim e.1.undoing as (λ b. AreFrom mark (cond b (sessions_named es) (named e.1.snapshot ++ sessions_named es)) → (b ≡ false → AreFrom mark (named e.1.snapshot)) × AreFrom mark (sessions_named es)) [
+      | true ↦ λ rest. (λ calm. absurd (true≢false calm), rest)
+      | false ↦ λ both. (λ calm. from_front mark (named e.1.snapshot) (sessions_named es) both, from_back mark (named e.1.snapshot) (sessions_named es) both)
+    ] all
+
+from_named : (mark s : ℕ) (session : SessionHeld) (sessions : List (ℕ × SessionHeld)) → AreFrom mark (sessions_named sessions) → find nat_cmp s sessions ≡ Some session → session.undoing ≡ false → AreFrom mark (named session.snapshot)
+from_named mark s session [] all is calm = absurd (false≢true (ap is_some is))
+from_named mark s session (e ∷ es) all is calm =
+    let parts = named_parts mark e es all in
     elim (is_eq (nat_cmp s e.0)) as (λ b. cond b (Some e.1) (find nat_cmp s es) ≡ Some session → AreFrom mark (named session.snapshot)) [
-      | true ↦ λ one. subst (λ (a : SessionHeld). AreFrom mark (named a.snapshot)) (ap (λ o. unwrap_or o e.1) one) (from_front mark (named e.1.snapshot) (sessions_named es) all)
-      | false ↦ λ rest. from_named mark s session es (from_back mark (named e.1.snapshot) (sessions_named es) all) rest
+      | true ↦ λ one.
+          let same : e.1 ≡ session = ap (λ o. unwrap_or o e.1) one in
+          subst (λ (a : SessionHeld). AreFrom mark (named a.snapshot)) same (parts.0 (ap (λ (a : SessionHeld). a.undoing) same ∙ calm))
+      | false ↦ λ rest. from_named mark s session es parts.1 rest calm
     ] is
 
 -- ---- everyone sees what is committed below the mark
@@ -87,11 +98,11 @@ module _ (low : ℕ) (engine : EngineHeld) (state : State) (shows : ShowsState l
       (low_number engine.xids (taken engine.xids engine.answered) engine.answered mark x k (taken_is_of engine.xids engine.answered shows.sound)
       (below.0, from_front mark (unanswered engine.xids engine.answered) (sessions_named engine.sessions) below.1) is lt)
 
-  within_session : (s : ℕ) (t : Transaction) → find nat_cmp s state.sessions ≡ Some t → (x k : ℕ) → x < mark → number x ≡ Some k → k ≤ t.snapshot
-  within_session s t at x k lt is =
+  within_session : (s : ℕ) (t : Transaction) → (at : find nat_cmp s state.sessions ≡ Some t) → (shows.inside s t at).0.undoing ≡ false → (x k : ℕ) → x < mark → number x ≡ Some k → k ≤ t.snapshot
+  within_session s t at calm x k lt is =
       let one = shows.inside s t at in
       low_number engine.xids one.0.snapshot t.snapshot mark x k one.2.snapshot
-      (from_named mark s one.0 engine.sessions (from_back mark (unanswered engine.xids engine.answered) (sessions_named engine.sessions) below.1) one.1) is lt
+      (from_named mark s one.0 engine.sessions (from_back mark (unanswered engine.xids engine.answered) (sessions_named engine.sessions) below.1) one.1 calm) is lt
 
   pub marked_old : IsOld number marked (below_mark engine.xids mark)
   marked_old x passes = let one = below_number engine.xids mark x passes in (one.0, one.1, highest_at low number mark x one.0 one.2 one.1)
@@ -99,4 +110,5 @@ module _ (low : ℕ) (engine : EngineHeld) (state : State) (shows : ShowsState l
   pub marked_shows : ShowsState marked engine state
   marked_shows = raise_step low marked engine state (highest_from low number mark)
       (highest_within low number mark state.answered shows.lowest within_answered)
-      (λ s t at. highest_within low number mark t.snapshot ((shows.inside s t at).2.from) (within_session s t at)) shows
+      shows
+      (λ s t at calm. highest_within low number mark t.snapshot ((shows.inside s t at).2.from calm) (within_session s t at calm))

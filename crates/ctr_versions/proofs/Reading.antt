@@ -66,7 +66,7 @@ pub session_moved : (low answered : ℕ) (xids : Xids) (versions : Versions) (se
 session_moved low answered xids versions session t u snapshot own asked theirs = record {
   snapshot = subst (λ n. IsSnapshotOf xids session.snapshot n) (sym snapshot) theirs.snapshot;
   old = theirs.old;
-  from = subst (λ n. low ≤ n) (sym snapshot) theirs.from;
+  from = λ calm. subst (λ n. low ≤ n) (sym snapshot) (theirs.from calm);
   to = subst (λ n. n ≤ answered) (sym snapshot) theirs.to;
   wrote = λ quiet. subst (λ n. Wrote (number_of xids) versions session.me n u.own) (sym snapshot) (subst (λ cs. Wrote (number_of xids) versions session.me t.snapshot cs) (sym own) (theirs.wrote (sym asked ∙ quiet.0, quiet.1)));
   live = λ quiet lt. theirs.live (sym asked ∙ quiet) lt;

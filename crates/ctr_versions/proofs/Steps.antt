@@ -178,7 +178,7 @@ begin_step low engine state s shows =
     let mine : ShowsSession low state.answered engine.xids engine.versions session (begun state.answered) = record {
       snapshot = subst (λ n. IsSnapshotOf engine.xids (taken engine.xids engine.answered) n) shows.same_answered (taken_is_of engine.xids engine.answered shows.sound);
       old = by_every (IsSeenIfOld engine.xids (taken engine.xids engine.answered)) (taken_old engine.xids engine.answered) engine.versions;
-      from = shows.lowest;
+      from = λ calm. shows.lowest;
       to = omega arith;
       wrote = λ unasked. nothing_wrote (number_of engine.xids) engine.versions engine.xids.next 0 state.answered refl (λ lt bound. none_positive lt) shows.drawn;
       live = λ unasked lt. absurd (none_positive lt);
@@ -371,7 +371,7 @@ undo_step low engine state s session shows at_s = set_sessions low engine state 
       record {
         snapshot = theirs.snapshot;
         old = theirs.old;
-        from = theirs.from;
+        from = λ calm. absurd (true≢false calm);
         to = theirs.to;
         wrote = λ calm. absurd (true≢false calm.1);
         live = theirs.live;

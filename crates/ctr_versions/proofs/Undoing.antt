@@ -190,7 +190,7 @@ module _ (low : ℕ) (engine : EngineHeld) (state : State) (shows : ShowsState l
         old.0,
         old.1,
         same_session low state.answered engine.xids engine.versions new old.0 t (kept (IsSeenIfOld engine.xids old.0.snapshot) old.2.old)
-            (λ calm wrote. same_wrote low number state engine.versions new name chain set Working same old.0.me t.snapshot t.own (record { s = s; t = t; session = old.0; is_t = at; there = old.1; calm = calm; me = refl }) old.2.from wrote) old.2,
+            (λ calm wrote. same_wrote low number state engine.versions new name chain set Working same old.0.me t.snapshot t.own (record { s = s; t = t; session = old.0; is_t = at; there = old.1; calm = calm; me = refl }) (old.2.from calm.1) wrote) old.2,
       ))
 
   -- ---- a head that is undone

@@ -70,7 +70,7 @@ place_by k (suc a) x (y ∷ ys) once =
     more : k + suc a ≡ suc k + a
     more = omega arith
 
-place_push : (k x : ℕ) (xs : List ℕ) → has x xs ≡ false → place_from k x (xs ++ x ∷ []) ≡ k + length xs
+pub place_push : (k x : ℕ) (xs : List ℕ) → has x xs ≡ false → place_from k x (xs ++ x ∷ []) ≡ k + length xs
 place_push k x [] none = ap (λ b. cond b k 0) (eq-eqb x x refl) ∙ omega arith
 place_push k x (y ∷ ys) none =
     let parts = or_parts (x == y) (has x ys) none in
@@ -82,7 +82,7 @@ place_none k x (y ∷ ys) none =
     let parts = or_parts (x == y) (has x ys) none in
     ap (λ b. cond b k (place_from (k + 1) x ys)) parts.0 ∙ place_none (k + 1) x ys parts.1
 
-place_other : (k x y : ℕ) (xs : List ℕ) → (y ≡ x → ⊥) → place_from k y (xs ++ x ∷ []) ≡ place_from k y xs
+pub place_other : (k x y : ℕ) (xs : List ℕ) → (y ≡ x → ⊥) → place_from k y (xs ++ x ∷ []) ≡ place_from k y xs
 place_other k x y [] apart = ap (λ b. cond b k 0) (ne_eqb y x apart)
 place_other k x y (z ∷ zs) apart = ap (λ p. cond (y == z) k p) (place_other (k + 1) x y zs apart)
 

@@ -51,12 +51,13 @@ IsCalm session t = (t.asked ≡ None) × (session.undoing ≡ false)
 
 -- The session shows the transaction: its snapshot stands for the transaction's number, and sees
 -- what stands of those that were committed before the run; what it wrote is the transaction's own
--- changes. One that has asked has its commit number, and no more is said of what it sees.
+-- changes. One that has asked has its commit number, and no more is said of what it sees; nor is it
+-- of one that is within its rollback, whose number the low one may have passed.
 pub record ShowsSession (low answered : ℕ) (xids : Xids) (versions : Versions)
     (session : SessionHeld) (t : Transaction) : Type 0 where
   pub snapshot : IsSnapshotOf xids session.snapshot t.snapshot
   pub old : AreBy (IsSeenIfOld xids session.snapshot) versions
-  pub from : low ≤ t.snapshot
+  pub from : session.undoing ≡ false → low ≤ t.snapshot
   pub to : t.snapshot ≤ answered
   pub wrote : IsCalm session t → Wrote (number_of xids) versions session.me t.snapshot t.own
   pub live : t.asked ≡ None → 0 < session.me → has session.me xids.live ≡ true

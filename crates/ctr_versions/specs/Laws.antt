@@ -1,7 +1,7 @@
 -- One law for each change: the engine that it leaves shows the model's next state. A public call
 -- whose engine goes from old to new promises its law of these two; how it keeps them isn't spoken
 -- of.
-use Rattle.std.specs.Prelude.{◌≡◌, ℕ, ◌+◌, ◌<◌, ◌≤◌, ℤ, Bool, true, false, List, [], ◌∷◌, ◌++◌, length, drop, Option, Some, None}
+use Rattle.std.specs.Prelude.{◌≡◌, ℕ, ◌+◌, ◌<◌, ◌≤◌, ℤ, Bool, true, false, List, [], ◌∷◌, ◌++◌, length, drop, Option, Some, None, if◌then◌else◌}
 use Rattle.std.specs.List.{AllByRecursion, list_any}
 use Rattle.std.specs.Ordering.{nat_cmp}
 use Rattle.std.specs.FinMap.Entries.{find}
@@ -165,13 +165,14 @@ abbrev pub DeadKeeps : ℕ → ℤ → EngineHeld → EngineHeld → Type 0
 DeadKeeps id key old new = (low : ℕ) (state : State) → ShowsState low old state
     → IsDead id low old → IsNobodys old (rows_of old.versions id key) → ShowsState low new state
 
--- the numbers that the snapshots of sessions name
+-- the numbers that live snapshots name: those of the sessions that aren't within their rollback
 abbrev pub sessions_named : List (ℕ × SessionHeld) → List ℕ
 sessions_named [] = []
-sessions_named (e ∷ es) = named e.1.snapshot ++ sessions_named es
+sessions_named (e ∷ es) =
+    if e.1.undoing then sessions_named es else named e.1.snapshot ++ sessions_named es
 
 -- The low mark of an engine: the least of the next number, of those that are open or asked and not
--- answered, and of those that a session's snapshot names.
+-- answered, and of those that a live snapshot names.
 abbrev pub mark_of : EngineHeld → ℕ
 mark_of engine = least engine.xids.next
     (unanswered engine.xids engine.answered ++ sessions_named engine.sessions)

@@ -107,10 +107,10 @@ module _ (low : ℕ) (site : Site) (scene : Scene) (shown : IsShown low site sce
       ∙ found_made low site scene shown v firm name e found
 
   unchanged : newest_since number n chain ≡ None
-  unchanged = ap (above n) (sym (newest_schemas number chain)) ∙ (shown.paged.shows.stands.tables name).changes n its.from ∙ quiet
+  unchanged = ap (above n) (sym (newest_schemas number chain)) ∙ (shown.paged.shows.stands.tables name).changes n (its.from v.calm.1) ∙ quiet
 
   since : written_by me chain ≡ None → IsTableSince low number (versions low site scene shown v firm name e found) name table n
-  since none = (its.from, λ j le. steady number n j chain unchanged le ∙ own_or_by None none)
+  since none = (its.from v.calm.1, λ j le. steady number n j chain unchanged le ∙ own_or_by None none)
 
   unwritten : list_any (is_create_of name) v.t.own ≡ false → (w : Option (Option Made)) → written_by me chain ≡ w → written_by me chain ≡ None
   unwritten uncreated None is = is
@@ -146,4 +146,4 @@ module _ (low : ℕ) (site : Site) (scene : Scene) (shown : IsShown low site sce
   pub rows_refused : (key : ℤ) → AllByRecursion IsUnwritten (drop scene.state.answered (row_writes name key scene.state.asked)) → newest_since number n (rows key) ≡ row_changed_by scene.state v.t name key
   rows_refused key settled = known (list_any (is_create_of name) v.t.own)
       (λ created. created_none created key ∙ sym (ap (λ b. cond b None (last_with (is_touching name (Some key)) (n + 1) (answered_since scene.state v.t))) created))
-      (λ uncreated. row_conflict low number scene.state (versions low site scene shown v firm name e found) shown.paged.shows.stands v.t its.from its.to shown.paged.shows.answered name table key uncreated schema_same (found_since uncreated) settled)
+      (λ uncreated. row_conflict low number scene.state (versions low site scene shown v firm name e found) shown.paged.shows.stands v.t (its.from v.calm.1) its.to shown.paged.shows.answered name table key uncreated schema_same (found_since uncreated) settled)

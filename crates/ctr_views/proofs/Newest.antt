@@ -167,7 +167,7 @@ module _ (low : ℕ) (site : Site) (scene : Scene) (shown : IsShown low site sce
   -- The last change is by one who is told.
   pub newest_is_told : (k : ℕ) → changed_since n (schema_writes name scene.state.asked) ≡ Some k → IsTheLast k
   newest_is_told k is =
-      let parts = above_parts n k (newest number chain) (last_by n its.from ∙ is) in
+      let parts = above_parts n k (newest number chain) (last_by n (its.from v.calm.1) ∙ is) in
       let entry = newest_entry number refl committed site.area.title name k parts.0 in
       by_entry k entry.0 parts.1 entry.1 entry.2 entry.3
 
@@ -178,7 +178,7 @@ module _ (low : ℕ) (site : Site) (scene : Scene) (shown : IsShown low site sce
   within : (x j k : ℕ) → n < j → number x ≡ Some j → ((m : ℕ) → low ≤ m → IsChangeTold number m (schema_writes name scene.state.asked) x) → changed_since n (schema_writes name scene.state.asked) ≡ Some k → j ≤ k
   within x zero k lt is one last = absurd (omega (arith, lt))
   within x (suc m) k lt is one last =
-      let from = its.from in
+      let from = its.from v.calm.1 in
       let newest_is = (above_parts n k (newest number chain) (last_by n from ∙ last)).0 in
       let some = ap is_some (last_by m (omega (arith, lt, from))) ∙ one m (omega (arith, lt, from)) (suc m) is (omega arith) in
       let found = some_above m (Some k) (ap (λ o. is_some (above m o)) (sym newest_is) ∙ some) in
@@ -190,7 +190,7 @@ module _ (low : ℕ) (site : Site) (scene : Scene) (shown : IsShown low site sce
   at_most x is old one =
       let some = ⊎_elim (λ none. absurd (false≢true (ap told (sym none) ∙ is))) (λ old. some_above n (number x) (sym (told_as x old) ∙ is)) old in
       let each : (m : ℕ) → low ≤ m → IsChangeTold number m (schema_writes name scene.state.asked) x = λ m le. ⊎_elim (λ none. absurd (false≢true (ap told (sym none) ∙ is))) (λ one. one) (one m le) in
-      (each n its.from some.0 some.1 some.2, some.0, ap (above n) some.1 ∙ above_some n some.0 some.2, λ k last. within x some.0 k some.2 some.1 each last)
+      (each n (its.from v.calm.1) some.0 some.1 some.2, some.0, ap (above n) some.1 ∙ above_some n some.0 some.2, λ k last. within x some.0 k some.2 some.1 each last)
 
   pub told_at_most : (f x : ℕ) → f < 32 → changed_in site.tables v.session.snapshot name site.area f ≡ Some x → IsAtMost x
   told_at_most f x lt is =
