@@ -1,12 +1,15 @@
 -- What a flush leaves, and what goes on behind it.
-use Rattle.std.proofs.Common.{◌≡◌, inl, inr, ⊎_elim, ℕ, ◌+◌, ◌<◌, ◌≤◌, List, [], ◌++◌, length, sym, ◌∙◌, ap, subst, arith, length-append}
+use Rattle.std.proofs.Common.{◌≡◌, inl, inr, ⊎_elim, ℕ, ◌+◌, ◌^◌, ◌<◌, ◌≤◌, List, [], ◌∷◌, ◌++◌, length, Result, sym, ◌∙◌, ap, subst, arith, length-append}
+use Rattle.std.proofs.lemmas.Bool.{cases_lt}
 use Rattle.std.proofs.lemmas.List.{append-nil, take_all, drop_all, length-map}
 use Rattle.ctr_types.specs.declared.file.File.{File}
 use Rattle.ctr_disk.specs.declared.disk.Disk.{Ghosts}
+use Rattle.ctr_disk.specs.declared.fault.StoreFault.{StoreFault}
 use Rattle.ctr_home.specs.declared.root.Root.{Root}
 use Rattle.ctr_disk.specs.Device.{LeavesOnly, IsDurable}
 use Rattle.ctr_disk.specs.Image.{OtherFilesStay}
 use Rattle.ctr_disk.proofs.Moments.{weaker}
+use Rattle.ctr_log.specs.Logs.{end_behind, IsEmptied, CountsFlush}
 use Rattle.ctr_log.specs.Kept.{kept_log, HoldsLog, WritesBehind, KeepsPrefix, GoesOnWith}
 use Rattle.ctr_records.specs.declared.record.Record.{Record}
 use Rattle.ctr_records.specs.Read.{record_in}
@@ -21,10 +24,34 @@ use Rattle.ctr_redo.proofs.PageLaws.{overlaid-append}
 use Rattle.ctr_redo.proofs.StateLaws.{state_more}
 use Rattle.ctr_redo.proofs.ImageLaws.{KeepsHomes, logs_apart, more_stored, sound_flushed, folds_flushed}
 use Rattle.ctr_base.specs.declared.base.Base.{Base}
-use Rattle.ctr_base.specs.Base.{stored_of, waiting_of, now_of, home_of, MaySave, IsQuiet, MovesBase}
+use Rattle.ctr_base.specs.Base.{stored_of, waiting_of, now_of, home_of, MaySave, IsQuiet, MovesBase, KeepsBase}
 use Rattle.ctr_base.specs.BaseLaws.{writes_holds, by_is_log}
 
+-- the log ends no earlier than its gate stands
+gate_low : (place : ℕ) (rs : List (List ℕ)) → place ≤ end_behind place rs
+gate_low place [] = omega arith
+gate_low place (r ∷ rs) = omega arith
+
 module _ {D O : Type 0} (g : Ghosts D) where
+  -- what is kept of a flush of what waits, however it ended
+  pub flush_kept : {T : Type 0} (a b : Base D O) (result : Result T StoreFault) → b.root ≡ a.root → IsEmptied a.log b.log result → CountsFlush g a.log.place a.disk b.disk result
+      → (a.log.buffered ≡ [] → ⊥) → KeepsBase g a b
+  flush_kept a b result root emptied counts some = record {
+    root = root;
+    file = emptied.file;
+    older = emptied.older;
+    start = emptied.start;
+    ends = emptied.ends;
+    goes = record {
+      later = counts.later;
+      stray = ⊎_elim (λ low. inl (counts.stray.below low)) (λ high. inr (omega (arith, high, gate_low a.log.place a.log.buffered))) (cases_lt (a.log.place + 2 ^ 61) (2 ^ 63));
+    };
+    size = emptied.size;
+    next = emptied.number;
+    waits = emptied.waits;
+    stray = λ none. absurd (some none);
+  }
+
   pub flush_leaves : (a : Base D O) (d : D) → IsQuiet g a → LeavesOnly g a.disk d (KeepsPrefix a.log.file a.root.file a.root.first a.log.buffered (g.reads a.disk))
       → LeavesOnly g a.disk d (FoldsFront (state_of (stored_of g a)) (waiting_of a))
   flush_leaves a d quiet crash =

@@ -1,5 +1,5 @@
 -- The log and the homes below a pool, on which nothing is pending, and how they change.
-use Rattle.std.specs.Prelude.{IsTrue, ◌≡◌, ◌≢◌, ◌⊎◌, ℕ, ◌+◌, ◌*◌, ◌^◌, ◌<◌, ◌≤◌, List, length, take, drop, Result, Ok, Err, Some, ⊤}
+use Rattle.std.specs.Prelude.{IsTrue, ◌≡◌, ◌≢◌, ◌⊎◌, ℕ, ◌+◌, ◌*◌, ◌^◌, ◌<◌, ◌≤◌, List, [], length, take, drop, Result, Ok, Err, Some, ⊤}
 use Rattle.ctr_disk.specs.declared.disk.Disk.{Ghosts}
 use Rattle.ctr_disk.specs.Device.{LeavesOnly, IsDurable}
 use Rattle.ctr_disk.specs.Image.{Image, content}
@@ -93,7 +93,7 @@ pub record GoesOnTo {D : Type 0} (g : Ghosts D) (old new : D) (end : ℕ) : Type
 
 -- However a call ends, the root, the log's generation and the number of the next record are those
 -- of before; the log's buffer isn't smaller, and in it the same records wait, or none, so that the
--- log ends at the same place.
+-- log ends at the same place. Where none waited, no call of the disk went past the last place.
 pub record KeepsBase {D O : Type 0} (g : Ghosts D) (a b : Base D O) : Type 0 where
   pub root : b.root ≡ a.root
   pub file : b.log.file ≡ a.log.file
@@ -104,6 +104,7 @@ pub record KeepsBase {D O : Type 0} (g : Ghosts D) (a b : Base D O) : Type 0 whe
   pub size : buffer_size a.log ≤ buffer_size b.log
   pub next : b.log.first + length b.log.buffered ≡ a.log.first + length a.log.buffered
   pub waits : WaitsOrNone a.log b.log
+  pub stray : a.log.buffered ≡ [] → g.strays_of b.disk ≡ g.strays_of a.disk
 
 -- ---- what holds of every disk, and what holds besides where the first image was sound
 

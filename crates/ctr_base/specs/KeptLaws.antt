@@ -1,5 +1,5 @@
 -- What each call of the backing keeps, however it ends, joined over calls.
-use Rattle.std.proofs.Common.{◌≡◌, ◌⊎◌, inl, inr, ⊎_elim, ℕ, ◌+◌, ◌^◌, ◌≤◌, refl, ◌∙◌, arith}
+use Rattle.std.proofs.Common.{◌≡◌, ◌⊎◌, inl, inr, ⊎_elim, ℕ, [], ◌+◌, ◌^◌, ◌≤◌, refl, ◌∙◌, arith}
 use Rattle.ctr_disk.specs.declared.disk.Disk.{Ghosts}
 use Rattle.ctr_log.specs.Logs.{Log, WaitsOrNone, log_end}
 use Rattle.ctr_base.specs.declared.base.Base.{Base}
@@ -43,6 +43,7 @@ base_kept g b = record {
   size = omega arith;
   next = refl;
   waits = inl refl;
+  stray = λ none. refl;
 }
 
 -- a base is kept where time goes on over its disk alone, with no stray
@@ -59,6 +60,7 @@ read_kept g b d later same = record {
   size = omega arith;
   next = refl;
   waits = inl refl;
+  stray = λ none. same;
 }
 
 -- what is kept by one call and by the next is kept by both
@@ -79,9 +81,14 @@ base_kept_on g a b c ab bc =
       size = omega (arith, m, n);
       next = bc.next ∙ ab.next;
       waits = still_waits a.log b.log c.log ab.waits bc.waits;
+      stray = λ none. bc.stray (none_behind a.log b.log none ab.waits) ∙ ab.stray none;
     }
   where
     still_waits : (x y z : Log) → WaitsOrNone x y → WaitsOrNone y z → WaitsOrNone x z
     still_waits x y z (inl xy) (inl yz) = inl (yz ∙ xy)
     still_waits x y z (inr none) (inl yz) = inr (yz ∙ none)
     still_waits x y z first (inr none) = inr none
+
+    none_behind : (x y : Log) → x.buffered ≡ [] → WaitsOrNone x y → y.buffered ≡ []
+    none_behind x y none (inl same) = same ∙ none
+    none_behind x y none (inr gone) = gone

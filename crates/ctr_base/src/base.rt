@@ -29,7 +29,7 @@ impl<D: Disk, O: Origin> Base<D, O> {
     ghost use Rattle.ctr_base.specs.Base.{home_of, MaySave, MayPut, IsSoundImage, StandsQuiet, LeavesIf, MovesIf, KeepsBase, IsHome, GoesHome, FindsNumber};
     ghost use Rattle.ctr_pool.specs.Below.{IsFound};
 
-    /// Makes what waits durable.
+    /// Makes what waits durable. Where nothing does, the disk is left alone.
     pub fn flush(&mut self) -> Result<(), StoreFault>
         requires { IsTrue D.tells → StandsQuiet O.first D.Disk self.old }
         ensures keeps { KeepsBase D.Disk self.old self.new }
@@ -40,6 +40,9 @@ impl<D: Disk, O: Origin> Base<D, O> {
         ensures refused { OnErr result (result ≡ Err Fault) }
         ensures faults { HasFault Fault (D.faults_of self.old.disk) (D.faults_of self.new.disk) result }
     {
+        if self.log.waiting() == 0 {
+            return Ok(());
+        }
         self.log.flush(&mut self.disk)?;
         self.durable = self.log.next();
         Ok(())

@@ -1,6 +1,7 @@
--- The earliest item that is wanted.
+-- The earliest item that is wanted, and what holds of all items.
 use Rattle.std.proofs.Common.{◌≡◌, ℕ, zero, suc, ◌<◌, Bool, true, false, cond, List, [], ◌∷◌, length, get_or, refl, ap, ◌∙◌, arith}
-use Rattle.std.specs.Prelude.{remove}
+use Rattle.std.specs.Prelude.{remove, filter}
+use Rattle.std.specs.List.{AllByRecursion}
 use Rattle.ctr_records.specs.declared.record.SlogItem.{SlogItem}
 use Rattle.ctr_meta.specs.declared.items.Wanted.{Wanted}
 use Rattle.ctr_meta.specs.Items.{is_wanted, left_out}
@@ -27,3 +28,21 @@ out_none w (i ∷ is) d none =
 pub out_none_any : (w : Wanted) (is : List SlogItem) → ((k : ℕ) (d : SlogItem) → k < length is → is_wanted w (get_or is k d) ≡ false) → left_out w is ≡ is
 out_none_any w [] none = refl
 out_none_any w (i ∷ is) none = out_none w (i ∷ is) i (λ k less. none k i less)
+
+-- ---- what holds of all items
+
+pub all_filter : (P : SlogItem → Type 0) (p : SlogItem → Bool) (is : List SlogItem) → AllByRecursion P is → AllByRecursion P (filter p is)
+all_filter P p [] all = tt
+all_filter P p (i ∷ is) all = by (p i) (all_filter P p is all.1)
+  where
+    by : (b : Bool) → AllByRecursion P (filter p is) → AllByRecursion P (cond b (i ∷ filter p is) (filter p is))
+    by true rest = (all.0, rest)
+    by false rest = rest
+
+pub all_out : (P : SlogItem → Type 0) (w : Wanted) (is : List SlogItem) → AllByRecursion P is → AllByRecursion P (left_out w is)
+all_out P w [] all = tt
+all_out P w (i ∷ is) all = by (is_wanted w i) (all_out P w is all.1)
+  where
+    by : (b : Bool) → AllByRecursion P (left_out w is) → AllByRecursion P (cond b is (i ∷ left_out w is))
+    by true rest = all.1
+    by false rest = (all.0, rest)

@@ -1,5 +1,7 @@
 -- What the fields of a Meta stand for.
 use Rattle.std.specs.Prelude.{◌-◌, ◌≤◌, min, length, vec_len, vec_capacity}
+use Rattle.std.specs.List.{AllByRecursion}
+use Rattle.ctr_records.specs.Members.{ItemFits}
 use Rattle.ctr_meta.specs.declared.meta.Meta.TheInside.{Inside}
 use Rattle.ctr_meta.specs.Tables.{Tables}
 use Rattle.ctr_meta.specs.Kept.{TablesKept, XidsFit}
@@ -22,7 +24,9 @@ kept_here a = record {
   items_room = vec_capacity a.items - vec_len a.items;
 }
 
--- the transactions are as they may be, and each that is open can be aborted without memory
+-- The transactions are as they may be, and each that is open can be aborted without memory; each
+-- item is of a page or of an entry of the catalog that there may be.
 pub record TablesStand (a : Inside) : Type 0 where
   pub xids : XidsFit (tables_in a)
   pub ends : length a.opens.entries ≤ a.aborted.spare
+  pub items : AllByRecursion ItemFits a.items.items

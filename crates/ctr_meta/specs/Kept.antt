@@ -62,10 +62,12 @@ pub record MayApply (r : Record) (k : TablesKept) : Type 0 where
   pub items_fit : items_added r ≤ k.items_room
   pub numbers_fit : NumbersFit r k.tables
 
--- the room that is left when so many transactions and items were added
+-- The room that is left when so many transactions and items were added. The room of an item that
+-- goes comes back.
 abbrev pub RoomLeft : ℕ → ℕ → TablesKept → TablesKept → Type 0
 RoomLeft opens items old new =
     (old.opens_room ≤ new.opens_room + opens) × (old.items_room ≤ new.items_room + items)
+    × (length old.tables.items + old.items_room ≤ length new.tables.items + new.items_room)
 
 -- What holds of transactions before a record whose needs are met holds after it.
 abbrev pub XidsLast : Record → Tables → Type 0

@@ -1,6 +1,8 @@
 // Items of the secondary log.
-ghost use Rattle.std.specs.Prelude.{◌≡◌, ◌≤◌, ◌<◌, ◌+◌, ◌++◌, [], ◌∷◌, not, filter, count_by, vec_len, vec_capacity};
-ghost use Rattle.std.specs.List.{list_any};
+ghost use Rattle.std.specs.Prelude.{◌≡◌, ◌≤◌, ◌<◌, ◌+◌, ◌++◌, List, [], ◌∷◌, None, IfSome, not, filter, count_by, vec_len, vec_capacity};
+ghost use Rattle.std.specs.List.{list_any, AllByRecursion};
+ghost use Rattle.ctr_records.specs.declared.record.SlogItem.{SlogItem as Item};
+ghost use Rattle.ctr_records.specs.Members.{ItemFits};
 ghost use Rattle.ctr_meta.specs.Items.{is_alloc_by, is_schema_by, is_item_by, is_wanted, left_out};
 
 use ctr_records::{PageNo, SlogItem};
@@ -41,6 +43,12 @@ fn is_schema_by(x: Xid, item: SlogItem) -> bool
     }
 }
 
+fn is_item_by(x: Xid, item: SlogItem) -> bool
+    ensures { result ≡ is_item_by x item }
+{
+    is_alloc_by(x, item) || is_schema_by(x, item)
+}
+
 impl Wanted {
     fn is(self, item: SlogItem) -> bool
         ensures { result ≡ is_wanted self item }
@@ -67,10 +75,23 @@ pub fn allocs_by(x: Xid, items: &[SlogItem]) -> usize
 pub fn items_by(x: Xid, items: &[SlogItem]) -> usize
     ensures { result ≡ count_by (is_item_by x) items.now }
 {
-    items
-        .iter()
-        .filter(|i| is_alloc_by(x, **i) || is_schema_by(x, **i))
-        .count()
+    items.iter().filter(|i| is_item_by(x, **i)).count()
+}
+
+/// The latest item of a transaction, if it has any: they are looked at once, from the last on.
+pub fn latest_by(x: Xid, items: &[SlogItem]) -> Option<SlogItem>
+    ensures latest { IfSome result (λ i. (earlier : List Item) × (filter (is_item_by x) items.now ≡ earlier ++ i ∷ [])) }
+    ensures none { result ≡ None → filter (is_item_by x) items.now ≡ [] }
+    ensures fits { AllByRecursion ItemFits items.now → IfSome result ItemFits }
+{
+    let count = items.len();
+    for back in 0..count {
+        let item = items[count - 1 - back];
+        if is_item_by(x, item) {
+            return Some(item);
+        }
+    }
+    None
 }
 
 /// Whether an item that is wanted is there.

@@ -1,14 +1,17 @@
 // The tables, and what each record does to them.
-ghost use Rattle.std.specs.Prelude.{◌≡◌, ◌≤◌, ◌<◌, ◌+◌, ◌-◌, ◌*◌, ◌^◌, ℕ, IsTrue, ◌↔◌, true, Ok, length, IfOk, OnOk, ⊤};
+ghost use Rattle.std.specs.Prelude.{◌≡◌, ◌≤◌, ◌<◌, ◌+◌, ◌-◌, ◌*◌, ◌^◌, ◌∷◌, ◌++◌, ℕ, List, [], IsTrue, ◌↔◌, true, None, Ok, filter, length, map, IfOk, IfSome, OnOk, ⊤};
+ghost use Rattle.std.specs.List.{AllByRecursion};
 ghost use Rattle.ctr_records.specs.declared.record.SlogItem.{SlogItem as Item};
-ghost use Rattle.ctr_records.specs.Members.{opens_listed, aborted_listed, items_listed, HasMembers};
+ghost use Rattle.ctr_records.specs.Members.{opens_listed, aborted_listed, items_listed, HasMembers, ItemFits};
+ghost use Rattle.ctr_snap.specs.Seeing.{least};
+ghost use Rattle.ctr_meta.specs.Items.{is_item_by};
 ghost use Rattle.ctr_meta.specs.Tables.{no_tables, is_in, heads_in, heads_of, fate_in};
 ghost use Rattle.ctr_meta.specs.Effects.{listed, opened_by, committed, rolled_back, forgotten_by, with_item, without_item, one_head_more, one_aborted_less, one_head_less, effect};
 ghost use Rattle.ctr_meta.specs.Needs.{open_need, item_need, commit_needs, abort_needs, forget_need, row_needs, revert_need, head_there, needs};
 ghost use Rattle.ctr_meta.specs.Kept.{XidsFit, IsLogged, opens_added, items_added, NumbersFit, MayApply, RoomLeft};
 
 use crate::Wanted;
-use crate::items::{allocs_by, has_wanted, items_by, settle, take_out};
+use crate::items::{allocs_by, has_wanted, items_by, latest_by, settle, take_out};
 use crate::listing::{counts_in, read_items, read_pairs};
 use crate::needs::{expect, there};
 use crate::xids::Xids;
@@ -68,6 +71,20 @@ impl Meta {
         self.opens.pairs(alloc)
     }
 
+    /// The open transactions without their heads, in the same order.
+    pub fn open_xids(&self, alloc: Global) -> Result<Vec<Xid>, OutOfMemory>
+        ensures { IfOk result (λ v. v.items ≡ map (λ (p : ℕ × ℕ). p.0) self.now.tables.opens) }
+    {
+        self.opens.xids(alloc)
+    }
+
+    /// The least of a number and the open transactions. It takes no memory.
+    pub fn least_open(&self, mark: Xid) -> Xid
+        ensures { result ≡ least mark (map (λ (p : ℕ × ℕ). p.0) self.now.tables.opens) }
+    {
+        self.opens.least(mark)
+    }
+
     /// Those in the aborted transaction map with their heads, in order of abort.
     pub fn aborted(&self, alloc: Global) -> Result<Vec<(Xid, u64)>, OutOfMemory>
         ensures { IfOk result (λ v. v.items ≡ self.now.tables.aborted) }
@@ -104,9 +121,23 @@ impl Meta {
 
     /// The items of the secondary log, in the order in which they were added.
     pub fn items(&self) -> &[SlogItem]
-        ensures { result.now ≡ self.now.tables.items }
+        ensures items { result.now ≡ self.now.tables.items }
+        // Each is of a page or of an entry of the catalog that there may be.
+        ensures fit { AllByRecursion ItemFits result.now }
     {
         &self.items
+    }
+
+    /// The latest item of a transaction, or none where it has no item: the first that a rollback undoes. The items are looked
+    /// at once, from the last on.
+    pub fn latest_item(&self, x: Xid) -> Option<SlogItem>
+        // Of all items the transaction's are earlier ones, and this one behind them; or there are none.
+        ensures latest { IfSome result (λ i. (earlier : List Item) × (filter (is_item_by x) self.now.tables.items ≡ earlier ++ i ∷ [])) }
+        ensures none { result ≡ None → filter (is_item_by x) self.now.tables.items ≡ [] }
+        // It is of a page or of an entry of the catalog that there may be.
+        ensures fits { IfSome result ItemFits }
+    {
+        latest_by(x, &self.items)
     }
 
     /// Takes room for so many more transactions and items.
@@ -162,7 +193,8 @@ impl Meta {
     }
 
     fn add_item(&mut self, item: SlogItem)
-        requires { 1 ≤ self.old.items_room }
+        requires room { 1 ≤ self.old.items_room }
+        requires fits { ItemFits item }
         ensures tables { self.new.tables ≡ with_item item self.old.tables }
         ensures room { RoomLeft 0 1 self.old self.new }
     {

@@ -1,9 +1,11 @@
 // A list of transactions with their heads, in the order in which they were added.
-ghost use Rattle.std.specs.Prelude.{◌≡◌, ◌≤◌, ◌<◌, ◌+◌, ◌^◌, ◌++◌, [], ◌∷◌, None, length, is_some, if◌then◌else◌, IfOk, OnOk};
+ghost use Rattle.std.specs.Prelude.{◌≡◌, ◌≤◌, ◌<◌, ◌+◌, ◌^◌, ◌++◌, [], ◌∷◌, None, length, map, ℕ, is_some, if◌then◌else◌, IfOk, OnOk};
+ghost use Rattle.ctr_snap.specs.Seeing.{least};
 ghost use Rattle.ctr_meta.specs.Tables.{heads_at, is_in, heads_in, without_xid, with_heads};
 
 use ctr_types::{OutOfMemory, Xid};
 use indexmap::IndexMap;
+use indexmap::map::Slice;
 use std::alloc::Global;
 use std::marker::Model;
 
@@ -116,4 +118,28 @@ impl Xids {
             .collect(alloc)?;
         Ok(pairs)
     }
+
+    /// All of them without their heads, in their order.
+    pub fn xids(&self, alloc: Global) -> Result<Vec<Xid>, OutOfMemory>
+        ensures { IfOk result (λ v. v.items ≡ map (λ (p : ℕ × ℕ). p.0) self.now.entries) }
+    {
+        let xids = self.heads.iter().map(|(x, _)| *x).collect(alloc)?;
+        Ok(xids)
+    }
+
+    /// The least of a number and all of them.
+    pub fn least(&self, mark: Xid) -> Xid
+        ensures { result ≡ least mark (map (λ (p : ℕ × ℕ). p.0) self.now.entries) }
+    {
+        least_in(self.heads.as_slice(), mark)
+    }
+}
+
+fn least_in(heads: Slice<'_, Xid, u64>, mark: Xid) -> Xid
+    ensures { result ≡ least mark (map (λ (p : ℕ × ℕ). p.0) heads.entry) }
+{
+    let Some(((x, _), rest)) = heads.split_first() else {
+        return mark;
+    };
+    least_in(rest, mark.min(*x))
 }

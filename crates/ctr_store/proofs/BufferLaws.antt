@@ -11,6 +11,7 @@ use Rattle.ctr_records.specs.Spelling.{record_bytes}
 use Rattle.ctr_records.specs.Read.{record_in}
 use Rattle.ctr_records.proofs.ReadBack.{record_read}
 use Rattle.ctr_home.specs.declared.root.Root.{Root}
+use Rattle.ctr_meta.specs.Effects.{effect}
 use Rattle.ctr_meta.specs.Kept.{TablesKept, RoomLeft, opens_added, items_added}
 use Rattle.ctr_redo.specs.Images.{records_in}
 use Rattle.ctr_base.specs.declared.base.Base.{Base}
@@ -144,14 +145,15 @@ module _ {D O : Type 0} where
 
   -- a record that was appended
   pub logs_room : (g : Ghosts D) (r : Record) (s t : Parts D O) → t.base.disk ≡ s.base.disk → t.base.log ≡ record s.base.log { buffered = s.base.log.buffered ++ record_bytes r ∷ []; room = t.base.log.room }
-      → s.base.log.room ≤ t.base.log.room + (8 + length (record_bytes r)) → RoomLeft (opens_added r) (items_added r) s.meta t.meta → t.base.root ≡ s.base.root → LogsRoom g r s t
-  logs_room g r s t disk added room left root =
+      → s.base.log.room ≤ t.base.log.room + (8 + length (record_bytes r)) → t.meta.tables ≡ effect r s.meta.tables → RoomLeft (opens_added r) (items_added r) s.meta t.meta → t.base.root ≡ s.base.root → LogsRoom g r s t
+  logs_room g r s t disk added room tables left root =
       let waits = ap (λ (l : Log). l.buffered) added in
       record {
         size = omega (arith, room, ap size_of waits, pushed_bytes s.base.log.buffered (record_bytes r));
         waits = inl waits;
         next = omega (arith, ap (λ (l : Log). l.first) added, ap (λ (l : List (List ℕ)). length l) waits, length-append s.base.log.buffered (record_bytes r ∷ []));
         ends = ends_logged g r s.base t.base disk added waits;
+        tables = tables;
         left = left;
         pages = ap (λ (x : Root). x.pages) root;
       }
@@ -166,6 +168,7 @@ module _ {D O : Type 0} where
         waits = by keeps.waits logs.waits;
         next = logs.next ∙ ap (λ (n : ℕ). n + 1) keeps.next;
         ends = ends_behind g (record_end r) s.base m.base t.base keeps logs.ends;
+        tables = logs.tables ∙ ap (λ (k : TablesKept). effect r k.tables) meta;
         left = subst (λ (k : TablesKept). RoomLeft (opens_added r) (items_added r) k t.meta) meta logs.left;
         pages = logs.pages ∙ ap (λ (x : Root). x.pages) keeps.root;
       }

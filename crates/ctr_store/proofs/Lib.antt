@@ -11,3 +11,4 @@ pub mod SoundLaws
 pub mod OpenLaws
 pub mod StoreLaws
 mod CreateLaws
+pub mod Hardened

@@ -1,5 +1,5 @@
 -- What callers see of a call on the parts.
-use Rattle.std.proofs.Common.{◌≡◌, ◌∙◌, ◌<◌, ◌==◌, ◌+◌, ◌-◌, if◌then◌else◌, ℕ, Option, None, Bool, true, false, List, [], ◌∷◌, length, drop, Result, Ok, Err, refl, sym, ap, subst, arith}
+use Rattle.std.proofs.Common.{◌≡◌, ◌⊎◌, ⊎_elim, inl, inr, ◌∙◌, ◌<◌, ◌≤◌, ◌^◌, ◌==◌, ◌+◌, ◌-◌, if◌then◌else◌, ℕ, Option, None, Bool, true, false, List, [], ◌∷◌, length, drop, Result, Ok, Err, refl, sym, ap, subst, arith}
 use Rattle.std.specs.Prelude.{IsTrue, OnOk, OnErr, IfOk, IfErr, is_err}
 use Rattle.std.proofs.lemmas.List.{append-nil}
 use Rattle.ctr_log.specs.Logs.{frames}
@@ -20,7 +20,7 @@ use Rattle.ctr_base.specs.Growth.{GrowsBase, AreBlank}
 use Rattle.ctr_base.specs.BaseLaws.{rests_leaves}
 use Rattle.ctr_redo.specs.States.{State, state_of, grown, page_at}
 use Rattle.ctr_store.specs.Parts.{IsFold, HasBuffer, record_end, CanLog, EndsWithin, LogsRecord, LogsRoom, pages_held, some_dirty}
-use Rattle.ctr_store.specs.Store.{View, Logs, LeavesFront, ReachesEnd, MovesOn, LeavesPage, MayLog, KeepsRoom, GrowsByExtent, TakesRecord, WritesHome, waiting_bytes}
+use Rattle.ctr_store.specs.Store.{View, Logs, LeavesFront, ReachesEnd, HasLongLog, StraysOnlyLong, MovesOn, LeavesPage, MayLog, KeepsRoom, GrowsByExtent, TakesRecord, WritesHome, waiting_bytes}
 use Rattle.ctr_store.specs.StoreInside.{view_of}
 use Rattle.ctr_store.proofs.BufferLaws.{kept_bytes, logged_bytes, since_held, end_at_most, ends_kept}
 use Rattle.ctr_store.proofs.RecordLaws.{record_short, wrote_is}
@@ -43,6 +43,13 @@ sound_fault P (Err e) is = λ p. cc is
 pub on_ok_both : {T E P Q R : Type 0} (r : Result T E) → (P → Q → R) → OnOk r P → OnOk r Q → OnOk r R
 on_ok_both (Ok x) f p q = f p q
 on_ok_both (Err e) f p q = tt
+
+-- where strays come a crash leaves a long log, where the log ends no more than this further on
+pub strays_long : {D : Type 0} (g : Ghosts D) (a b : View D) (more : ℕ) → more ≤ 2 ^ 20 → LeavesFront g a b → MovesOn g a b → b.gate ≤ a.gate + more → StraysOnlyLong g a b
+strays_long g a b more small front moves near = ⊎_elim
+    (λ same. inl same)
+    (λ far. inr (weaker g a.disk b.disk (ReachesEnd a) (HasLongLog a) front.long (λ i long. omega (arith, far, near, small, long))))
+    moves.stray
 
 module _ {D O : Type 0} (g : Ghosts D) where
   -- a call that logs nothing
@@ -97,6 +104,7 @@ module _ {D O : Type 0} (g : Ghosts D) where
         next = logs.next;
         room = omega (arith, logged_bytes g r s t logs);
         gate = logs.ends.near;
+        tables = logs.tables;
         left = logs.left;
         counted = logs.pages;
       }

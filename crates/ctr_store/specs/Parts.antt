@@ -10,7 +10,7 @@ use Rattle.ctr_home.specs.declared.block.Home.TheVariants.{First}
 use Rattle.ctr_home.specs.Blocks.{home_place, value_place}
 use Rattle.ctr_records.specs.declared.record.Record.{Record}
 use Rattle.ctr_records.specs.Spelling.{record_bytes}
-use Rattle.ctr_meta.specs.Effects.{tables_of}
+use Rattle.ctr_meta.specs.Effects.{effect, tables_of}
 use Rattle.ctr_meta.specs.Kept.{IsLogged, MayApply, RoomLeft, opens_added, items_added}
 use Rattle.ctr_pool.specs.declared.frame.Frame.{Frame}
 use Rattle.ctr_pool.specs.Frames.{frame_of, page_shown, since_in}
@@ -127,7 +127,8 @@ abbrev pub record_end : Record → ℕ
 record_end r = 29 + length (record_bytes r)
 
 -- A record more waits, behind those that waited or alone. The log's buffer isn't smaller, the next
--- number is one more, this room is left in the tables, and as many pages are counted.
+-- number is one more, the tables that are kept are those with the record and this room is left in
+-- them, and as many pages are counted.
 pub record LogsRoom {D O : Type 0} (g : Ghosts D) (r : Record) (s t : Parts D O) : Type 0 where
   pub size : buffer_size s.base.log ≤ buffer_size t.base.log
   pub waits : (t.base.log.buffered ≡ s.base.log.buffered ++ record_bytes r ∷ [])
@@ -135,6 +136,7 @@ pub record LogsRoom {D O : Type 0} (g : Ghosts D) (r : Record) (s t : Parts D O)
   pub next : t.base.log.first + length t.base.log.buffered
       ≡ s.base.log.first + length s.base.log.buffered + 1
   pub ends : EndsWithin g (record_end r) s.base t.base
+  pub tables : t.meta.tables ≡ effect r s.meta.tables
   pub left : RoomLeft (opens_added r) (items_added r) s.meta t.meta
   pub pages : t.base.root.pages ≡ s.base.root.pages
 

@@ -11,6 +11,7 @@ use Rattle.ctr_records.specs.declared.record.Record.{Record}
 use Rattle.ctr_records.specs.Spelling.{record_bytes}
 use Rattle.ctr_records.specs.declared.decoding.BadRecord.{BadRecord}
 use Rattle.ctr_meta.specs.Kept.{TablesKept, IsLogged, NumbersFit, RoomLeft, opens_added, items_added}
+use Rattle.ctr_meta.specs.Effects.{effect}
 use Rattle.ctr_meta.specs.Needs.{needs}
 use Rattle.ctr_redo.specs.Overlaid.{overlay_of}
 use Rattle.ctr_redo.specs.States.{State, steps, counting, grown}
@@ -111,8 +112,7 @@ pub record LeavesFront {D : Type 0} (g : Ghosts D) (a b : View D) : Type 0 where
 
 -- However a call ends, the disk's clock didn't go back, the log's generation is the one of before,
 -- and its end no earlier. No call of the disk went past the last place of a file, but where the log
--- ends at 2^62 + 2^61 or further on. Where a crash leaves the log's file nearly to that end (the long
--- files of `LeavesFront`), each image's file of the log then has 2^62 bytes.
+-- ends at 2^62 + 2^61 or further on.
 pub record MovesOn {D : Type 0} (g : Ghosts D) (a b : View D) : Type 0 where
   pub later : g.moment_of a.disk ≤ g.moment_of b.disk
   pub file : b.file ≡ a.file
@@ -120,6 +120,16 @@ pub record MovesOn {D : Type 0} (g : Ghosts D) (a b : View D) : Type 0 where
   pub older : b.older ≡ a.older
   pub gate : a.gate ≤ b.gate
   pub stray : (g.strays_of b.disk ≡ g.strays_of a.disk) ⊎ (2 ^ 62 + 2 ^ 61 ≤ b.gate)
+
+-- the file of the log has 2^62 bytes in an image
+abbrev pub HasLongLog : {D : Type 0} → View D → Image → Type 0
+HasLongLog v image = 2 ^ 62 ≤ length (content v.file image)
+
+-- No call of the disk went past the last place of a file, but where each image that a crash leaves
+-- has a file of the log of 2^62 bytes.
+abbrev pub StraysOnlyLong : {D : Type 0} → Ghosts D → View D → View D → Type 0
+StraysOnlyLong g a b = (g.strays_of b.disk ≡ g.strays_of a.disk)
+    ⊎ LeavesOnly g a.disk b.disk (HasLongLog a)
 
 -- The first of what waited is hardened now, these records wait behind the rest, and pages and
 -- tables are those of before with them.
@@ -153,13 +163,14 @@ abbrev pub RefusesUnfit : {D T : Type 0} → Record → View D → View D → Re
 RefusesUnfit r a b result = (bad : BadRecord) → unmet_need r a ≡ Err bad
     → (result ≡ Err (record_damage a.file a.place bad)) × (b ≡ a)
 
--- A record has this number, the next one is one more, this room is left, the log ends behind the
--- record, and as many pages are counted.
+-- A record has this number, the next one is one more, the log ends behind the record, the tables that
+-- are kept are those with the record, this room is left, and as many pages are counted.
 pub record TakesRecord {D : Type 0} (r : Record) (lsn : ℕ) (a b : View D) : Type 0 where
   pub number : lsn ≡ a.next
   pub next : b.next ≡ a.next + 1
   pub room : a.room ≤ b.room + (8 + length (record_bytes r))
   pub gate : b.gate ≤ a.gate + record_end r
+  pub tables : b.meta.tables ≡ effect r a.meta.tables
   pub left : RoomLeft (opens_added r) (items_added r) a.meta b.meta
   pub counted : b.now.counted ≡ a.now.counted
 

@@ -1,5 +1,6 @@
-// How the redo of a log begins and ends, and that what a crash leaves can be opened. A call does nothing: what it ensures is the law.
-ghost use Rattle.std.specs.Prelude.{◌≡◌, ◌+◌, ℕ, List, [], length, take};
+// How the redo of a log begins and ends, that what a crash leaves can be opened, and where strays come. A call does nothing: what it
+// ensures is the law.
+ghost use Rattle.std.specs.Prelude.{◌≡◌, ◌+◌, ℕ, List, [], length, take, ⊤, Result};
 ghost use Rattle.ctr_disk.specs.Image.{Image};
 ghost use Rattle.ctr_redo.specs.States.{State};
 ghost use Rattle.ctr_redo.specs.Images.{FoldsFront, FoldsGrown, IsNewDatabase};
@@ -10,6 +11,8 @@ ghost use Rattle.ctr_base.specs.Base.{stored_of, IsSoundImage, StandsQuiet};
 ghost use Rattle.ctr_store.specs.declared.parts.Parts.{Parts as Whole};
 ghost use Rattle.ctr_store.specs.Parts.{IsFold};
 ghost use Rattle.ctr_store.specs.Redo.{StartsRedo, RedoesPages, IsNextRecord};
+ghost use Rattle.ctr_store.specs.Store.{View, LeavesFront, MovesOn, MayLog, TakesRecord, CountsUp, StraysOnlyLong};
+ghost use Rattle.ctr_disk.specs.declared.fault.StoreFault.{StoreFault};
 
 use ctr_base::Origin;
 use ctr_disk::Disk;
@@ -29,4 +32,13 @@ pub fn what_a_crash_leaves_is_sound()
     ensures front { (s : State) (rs : List Record) (image : Image) → FoldsFront s rs image → IsSoundImage image }
     ensures grown { (s : State) (image : Image) → FoldsGrown s image → IsSoundImage image }
     ensures made { (image : Image) → IsNewDatabase image → IsSoundImage image }
+{}
+
+/// However a call ends, strays come only where each image that a crash leaves of it has a file of the log of 2^62 bytes: of a call that
+/// logs nothing and of one whose record was refused, behind which the log ends where it did; of one that logged a record; and of a growth,
+/// in which none come.
+pub fn strays_come_only_of_long_logs<D: Disk>()
+    ensures call { (a b : View D) → LeavesFront D.Disk a b → MovesOn D.Disk a b → b.gate ≡ a.gate → StraysOnlyLong D.Disk a b }
+    ensures logged { (r : Record) (lsn : ℕ) (a b : View D) → MayLog r a → LeavesFront D.Disk a b → MovesOn D.Disk a b → TakesRecord r lsn a b → StraysOnlyLong D.Disk a b }
+    ensures growth { (a b : View D) (result : Result ⊤ StoreFault) → CountsUp D.Disk a b result → StraysOnlyLong D.Disk a b }
 {}

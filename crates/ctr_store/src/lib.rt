@@ -12,7 +12,7 @@ mod spelling;
 mod store;
 
 pub use creating::{CreateError, create};
-pub use laws::{redo_makes_the_fold, what_a_crash_leaves_is_sound};
+pub use laws::{redo_makes_the_fold, strays_come_only_of_long_logs, what_a_crash_leaves_is_sound};
 pub use opening::BUFFER_BYTES;
 pub use parts::Parts;
 pub use seen::Seen;

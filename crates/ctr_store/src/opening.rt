@@ -1,7 +1,6 @@
 // Opening: the root, the log with its records' checks, and the pages that its records are on.
 ghost use Rattle.std.specs.Prelude.{◌≡◌, ◌⊎◌, ◌≤◌, ◌<◌, ◌+◌, IsTrue, ℕ, [], Ok, Err, None, length, IfOk, IfErr, OnOk};
-ghost use Rattle.ctr_types.specs.Faults.{HasFault};
-ghost use Rattle.ctr_disk.specs.Device.{WhereTold, LeavesOnly, IsDurable, OnlyReads};
+ghost use Rattle.ctr_disk.specs.Device.{WhereTold, LeavesOnly, IsDurable, OnlyReads, CountsAs};
 ghost use Rattle.ctr_home.specs.declared.block.Block.TheVariants.{Root as RootBlock};
 ghost use Rattle.ctr_home.specs.declared.root.Form.TheVariants.{Paged};
 ghost use Rattle.ctr_home.specs.Blocks.{value_of};
@@ -56,7 +55,7 @@ fn read_log<D: Disk, O: Origin>(
     ensures refused { WhereTold D.Disk (IfErr result (RefusesLog root.now (D.reads disk.old))) }
     ensures undamaged { WhereTold D.Disk (IsSound root.now (D.reads disk.old) → IfErr result (λ e. (e ≡ ReadStore StoreFailed) ⊎ (e ≡ ReadMemory))) }
     ensures quiet { OnlyReads D.Disk disk.old disk.new }
-    ensures faults { HasFault (ReadStore StoreFailed) (D.faults_of disk.old) (D.faults_of disk.new) result }
+    ensures counts { CountsAs D.Disk (ReadStore StoreFailed) disk.old disk.new result }
 {
     let mut seen = Seen::<D, O>::new(alloc, root.pages);
     let mut log = read_all(alloc, disk, root, &mut seen)?;
@@ -75,7 +74,7 @@ fn read_front<D: Disk, O: Origin>(alloc: Global, disk: &mut D) -> Result<(Root, 
     ensures undamaged { WhereSound O.first D.Disk (IfErr result IsUndamaged) }
     ensures quiet { OnlyReads D.Disk disk.old disk.new }
     ensures durable { OnOk result (IsDurable D.Disk disk.new) }
-    ensures faults { HasFault Fault (D.faults_of disk.old) (D.faults_of disk.new) result }
+    ensures counts { CountsAs D.Disk Fault disk.old disk.new result }
 {
     let Some(root) = find_root(disk)? else {
         return Err(OpenError::NoDatabase);
@@ -101,7 +100,7 @@ fn bring_forward<D: Disk, O: Origin>(
     ensures refused { WhereTold D.Disk (IfErr result (λ e. IsSoundImage O.first → (e.0 ≡ Fault) ⊎ (e.0 ≡ NoMemory))) }
     ensures later { WhereTold D.Disk (IfErr result (λ e. IsLater root O.first e.0)) }
     ensures room { IfOk result (λ s. IsEmptyWithRoom s.base.log × (s.base.root ≡ root)) }
-    ensures counts { (D.moment_of disk ≤ D.moment_of (disk_left result)) × HasFault Fault (D.faults_of disk) (D.faults_of (disk_left result)) (opening_told result) }
+    ensures counts { CountsAs D.Disk Fault disk (disk_left result) (opening_told result) }
 {
     let Found { log, meta, visits } = found;
     let Ok(pool) = Pool::new(alloc, frames) else {
@@ -166,7 +165,7 @@ fn finish<D: Disk, O: Origin>(
     ensures undamaged { WhereSound O.first D.Disk (IfErr result (λ e. IsUndamaged e.0)) }
     ensures ready { IfOk result IsNewlyOpened }
     ensures goes { WhereSound O.first D.Disk (LeavesOnly D.Disk disk (disk_left result) (FoldsFront (state_of (stored_in root O.first)) [])) }
-    ensures counts { (D.moment_of disk ≤ D.moment_of (disk_left result)) × HasFault Fault (D.faults_of disk) (D.faults_of (disk_left result)) (opening_told result) }
+    ensures counts { CountsAs D.Disk Fault disk (disk_left result) (opening_told result) }
 {
     match bring_forward::<D, O>(alloc, disk, frames, root, found) {
         Ok(parts) => refuse_worn(parts),
@@ -184,8 +183,8 @@ impl<D: Disk, O: Origin> Parts<D, O> {
         ensures undamaged { WhereSound O.first D.Disk (IfErr result (λ e. IsUndamaged e.0)) }
         ensures ready { IfOk result IsNewlyOpened }
         ensures any_moment { WhereSound O.first D.Disk (LeavesOnly D.Disk disk (disk_left result) (LeavesFirst O.first (D.images disk))) }
-        // It says that the disk failed only where a call of it did.
-        ensures counts { (D.moment_of disk ≤ D.moment_of (disk_left result)) × HasFault Fault (D.faults_of disk) (D.faults_of (disk_left result)) (opening_told result) }
+        // It says that the disk failed only where a call of it did, and no call went past the last place of a file.
+        ensures counts { CountsAs D.Disk Fault disk (disk_left result) (opening_told result) }
     {
         let mut disk = disk;
         match read_front::<D, O>(alloc, &mut disk) {

@@ -6,7 +6,7 @@ ghost use Rattle.ctr_meta.specs.Kept.{RoomLeft};
 ghost use Rattle.ctr_base.specs.Base.{WhereSound};
 ghost use Rattle.std.specs.Borrow.{sem};
 ghost use Rattle.std.specs.Io.BufRead.{Rests};
-ghost use Rattle.ctr_disk.specs.Device.{WhereTold, LeavesOnly};
+ghost use Rattle.ctr_disk.specs.Device.{WhereTold, LeavesOnly, CountsAs};
 ghost use Rattle.ctr_redo.specs.States.{page_limit, page_at};
 ghost use Rattle.ctr_store.specs.Opening.{LeavesFirst, IsUndamaged, opening_told};
 ghost use Rattle.ctr_log.specs.declared.opening.OpenError.TheVariants.{Fault as OpenFault};
@@ -69,8 +69,8 @@ impl<D: Disk, O: Origin> Store<D, O> {
         // What a crash leaves behind it is all that was opened.
         ensures durable { WhereSound O.first D.Disk (IfOk result (λ v. LeavesFront D.Disk v v)) }
         ensures any_moment { WhereSound O.first D.Disk (LeavesOnly D.Disk disk (store_left result) (LeavesFirst O.first (D.images disk))) }
-        // It says that the disk failed only where a call of it did.
-        ensures counts { (D.moment_of disk ≤ D.moment_of (store_left result)) × HasFault OpenFault (D.faults_of disk) (D.faults_of (store_left result)) (opening_told result) }
+        // It says that the disk failed only where a call of it did, and no call went past the last place of a file.
+        ensures counts { CountsAs D.Disk OpenFault disk (store_left result) (opening_told result) }
     {
         match Parts::<D, O>::open(alloc, disk, frames) {
             Ok(parts) => Ok(Store {
@@ -141,6 +141,21 @@ impl<D: Disk, O: Origin> Store<D, O> {
         self.parts.pool.unchanged() >= TURN_FRAMES && !self.is_short()
     }
 
+    /// Whether no record waits: all that was logged is durable.
+    pub fn is_hardened(&self) -> bool
+        ensures yes { result ≡ true → self.now.waiting ≡ [] }
+        ensures no { self.now.waiting ≡ [] → result ≡ true }
+    {
+        self.parts.base.log.bytes_waiting() == 0
+    }
+
+    /// The disk's moment.
+    pub fn moment(&self) -> u64
+        ensures { result ≡ D.moment_of self.now.disk }
+    {
+        self.parts.base.disk.moment()
+    }
+
     // Whether the log's buffer has less room than a turn needs.
     fn is_short(&self) -> bool
         ensures short { result ≡ nat_lt self.now.room TURN_BYTES }
@@ -181,6 +196,7 @@ impl<D: Disk, O: Origin> Store<D, O> {
     pub fn log(&mut self, rec: &Record) -> Result<Lsn, StoreFault>
         requires may { MayLog rec.now self.old }
         ensures takes { IfOk result (λ lsn. TakesRecord rec.now lsn self.old self.new) }
+        ensures untaken { OnErr result (self.new.gate ≡ self.old.gate) }
         ensures any_moment { WhereSound O.first D.Disk (LeavesFront D.Disk self.old self.new) }
         ensures logs { WhereSound O.first D.Disk (OnOk result (Logs (rec.now ∷ []) self.old self.new)) }
         ensures unfit { RefusesUnfit rec.now self.old self.new result }

@@ -26,5 +26,9 @@ pub returns-in-Ok-clause-counts : goal.returns-in-Ok-clause-counts
 returns-in-Ok-clause-counts g c =
     let d = g.D.Disk in
     let s = c.in-Ok.parts in
-    let same = ap (λ x. d.faults_of x) c.refuse_worn.ensures.disk ∙ c.in-Ok.ensures.counts.1.fine (λ is. cc is) in
-    (omega (arith, ap (λ x. d.moment_of x) c.refuse_worn.ensures.disk, c.in-Ok.ensures.counts.0), worn_faults (worn_by (s.base.log.first + length s.base.log.buffered) s.meta.tables.next) c.refuse_worn.result (d.faults_of c.args.disk) (d.faults_of (disk_left c.refuse_worn.result)) c.refuse_worn.ensures.worn same)
+    let left = ap (λ x. d.faults_of x) c.refuse_worn.ensures.disk ∙ c.in-Ok.ensures.counts.faults.fine (λ is. cc is) in
+    record {
+      later = omega (arith, ap (λ x. d.moment_of x) c.refuse_worn.ensures.disk, c.in-Ok.ensures.counts.later);
+      faults = worn_faults (worn_by (s.base.log.first + length s.base.log.buffered) s.meta.tables.next) c.refuse_worn.result (d.faults_of c.args.disk) (d.faults_of (disk_left c.refuse_worn.result)) c.refuse_worn.ensures.worn left;
+      stray = ap (λ x. d.strays_of x) c.refuse_worn.ensures.disk ∙ c.in-Ok.ensures.counts.stray;
+    }

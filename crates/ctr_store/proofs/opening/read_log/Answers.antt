@@ -65,12 +65,17 @@ returns-in_err-log-clause-undamaged g c told sound =
     (log_undamaged (λ n. IsTrue g.D.Disk.tells → CountsPages g.O.Origin.first n) root image c.new-seen.result c.read_all.new.visitor r.0 c.in_err-log.field-0.0 sound
     (λ n counts. counts told root (c.requires.says told)) (fresh_seen (λ n. IsTrue g.D.Disk.tells → CountsPages g.O.Origin.first n) root.pages c.new-seen.result c.new-seen.ensures (λ t r says. ap (λ (x : Root). x.pages) (one_root (value_of RootBlock g.O.Origin.first) c.args.root.now r (c.requires.says t) says))) r.1 (r.5 told) (r.4 told))
 
-pub returns-in_err-log-clause-faults : goal.returns-in_err-log-clause-faults
-returns-in_err-log-clause-faults g c =
+pub returns-in_err-log-clause-counts : goal.returns-in_err-log-clause-counts
+returns-in_err-log-clause-counts g c =
     let p = err_from_is_err_and c.from_residual.result c.from_residual.ensures.1 in
     let root = c.args.root.now in
     let counts = λ (n : ℕ). IsTrue g.D.Disk.tells → CountsPages g.O.Origin.first n in
     let d = g.D.Disk in
     let r = c.in_err-log.ensures.refused in
     let none = fresh_seen counts root.pages c.new-seen.result c.new-seen.ensures (λ t r says. ap (λ (x : Root). x.pages) (one_root (value_of RootBlock g.O.Origin.first) root r (c.requires.says t) says)) in
-    rw (p.1, p.2) (log_faults counts c.new-seen.result r.0 c.in_err-log.field-0.0 none r.1 r.3 (d.faults_of c.args.disk.now) (d.faults_of c.read_all.new.disk) r.2.faults)
+    rw (p.1, p.2)
+    (record {
+      later = r.2.later;
+      faults = log_faults counts c.new-seen.result r.0 c.in_err-log.field-0.0 none r.1 r.3 (d.faults_of c.args.disk.now) (d.faults_of c.read_all.new.disk) r.2.faults;
+      stray = r.2.stray;
+    })

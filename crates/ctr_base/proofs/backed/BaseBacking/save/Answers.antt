@@ -1,6 +1,7 @@
 use Rattle.ctr_pool.specs.Pages.{PageHeld}
 use Rattle.std.proofs.Common.{refl}
 use Rattle.ctr_base.specs.BaseLaws.{leaves_joined, moves_joined, puts_home}
+use Rattle.ctr_base.specs.KeptLaws.{base_kept_on}
 use Rattle.ctr_base.proofs.backed.BaseBacking.save.Goals as goal
 
 pub put_home-requires-clause-goes : goal.put_home-requires-clause-goes
@@ -14,6 +15,12 @@ put_home-requires-clause-goes g c told =
       may = (e.holds told).still c.args.page r.1 v r.2;
       durable = λ sound. e.durable told c.args.page r.1 v sound (r.2.sound sound) refl;
     }
+
+pub returns-in_err-put_home-clause-keeps : goal.returns-in_err-put_home-clause-keeps
+returns-in_err-put_home-clause-keeps g c = base_kept_on g.D.Disk c.args.self.now c.make_durable.new.self c.put_home.new.self c.make_durable.ensures.keeps c.put_home.ensures.keeps
+
+pub returns-clause-keeps : goal.returns-clause-keeps
+returns-clause-keeps g c = base_kept_on g.D.Disk c.args.self.now c.make_durable.new.self c.put_home.new.self c.make_durable.ensures.keeps c.put_home.ensures.keeps
 
 pub returns-in_err-put_home-clause-goes : goal.returns-in_err-put_home-clause-goes
 returns-in_err-put_home-clause-goes g c told sound =

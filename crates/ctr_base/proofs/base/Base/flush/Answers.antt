@@ -1,5 +1,6 @@
 use Rattle.std.specs.Prelude.{IsTrue}
-use Rattle.std.proofs.Common.{◌≡◌, refl, sym, subst}
+use Rattle.std.proofs.Common.{◌≡◌, ℕ, List, length, refl, sym, ap, subst, arith}
+use Rattle.std.proofs.lemmas.List.{nil_from_length}
 use Rattle.ctr_disk.specs.Device.{LeavesOnly, IsSettled}
 use Rattle.ctr_redo.specs.States.{state_of}
 use Rattle.ctr_redo.specs.Images.{FoldsFront}
@@ -9,9 +10,9 @@ use Rattle.ctr_base.specs.Base.{IsSoundImage, HasGate, LeavesBase, stored_of, wa
 use Rattle.ctr_log.specs.Logs.{IsFlushing, with_batch}
 use Rattle.ctr_redo.proofs.ImageLaws.{logs_apart}
 use Rattle.ctr_base.specs.declared.base.Base.{Base}
-use Rattle.ctr_base.specs.BaseLaws.{holds_if, stands_flushed, homes_flushed}
+use Rattle.ctr_base.specs.BaseLaws.{holds_if, holds_still, rests_leaves, stands_still, stands_flushed, homes_flushed}
 use Rattle.ctr_base.proofs.HomeLaws.{since_still}
-use Rattle.ctr_base.proofs.FlushLaws.{flush_leaves, flush_moves, flush_quiet, flush_holds, Flushed}
+use Rattle.ctr_base.proofs.FlushLaws.{flush_kept, flush_leaves, flush_moves, flush_quiet, flush_holds, Flushed}
 use Rattle.ctr_base.proofs.base.Base.flush.Given.{Over}
 use Rattle.ctr_base.proofs.base.Base.flush.Goals.{After-flush}
 use Rattle.ctr_base.proofs.base.Base.flush.Goals as goal
@@ -31,6 +32,28 @@ leaves g c b disk told sound =
       front = subst (λ (n : g.row.D.Denot). LeavesOnly d a.disk n (FoldsFront (state_of (stored_of d a)) (waiting_of a))) (sym disk) (flush_leaves d a new quiet (c.flush.ensures.kept_any_moment a.root.file a.root.first settled quiet.writes));
       gate = subst (λ (n : g.row.D.Denot). LeavesOnly d a.disk n (HasGate a.log)) (sym disk) (weaker d a.disk new Flushing (HasGate a.log) (c.flush.ensures.any_moment goes.0 goes.1 settled goes.2) (λ i is. is.long));
     }
+
+-- nothing waits, so all is as it is
+pub returns-then-waiting-eq0-clause-goes : goal.returns-then-waiting-eq0-clause-goes
+returns-then-waiting-eq0-clause-goes g c told = rests_leaves g.D.Disk g.O.Origin.first g.met.D.Disk.only_now c.args.self.now (c.requires told)
+
+pub returns-then-waiting-eq0-clause-moves : goal.returns-then-waiting-eq0-clause-moves
+returns-then-waiting-eq0-clause-moves g c told = (λ sound. stands_still g.D.Disk c.args.self.now, c.requires told)
+
+pub returns-then-waiting-eq0-clause-holds : goal.returns-then-waiting-eq0-clause-holds
+returns-then-waiting-eq0-clause-holds g c told = holds_still g.D.Disk g.O.Origin.first c.args.self.now
+
+pub returns-then-waiting-eq0-clause-none : goal.returns-then-waiting-eq0-clause-none
+returns-then-waiting-eq0-clause-none g c = nil_from_length c.args.self.now.log.buffered (omega (arith, c.waiting.ensures, c.if-waiting-eq0.true))
+
+-- something waits, and however the flush ended this is kept
+pub returns-in_err-flush-clause-keeps : goal.returns-in_err-flush-clause-keeps
+returns-in_err-flush-clause-keeps g c =
+    flush_kept g.D.Disk c.args.self.now _ c.flush.result refl c.flush.ensures.emptied c.flush.ensures.counts (λ none. omega (arith, c.waiting.ensures, c.if-waiting-eq0.false, ap (λ (l : List (List ℕ)). length l) none))
+
+pub returns-clause-keeps : goal.returns-clause-keeps
+returns-clause-keeps g c =
+    flush_kept g.D.Disk c.args.self.now _ c.flush.result refl c.flush.ensures.emptied c.flush.ensures.counts (λ none. omega (arith, c.waiting.ensures, c.if-waiting-eq0.false, ap (λ (l : List (List ℕ)). length l) none))
 
 pub returns-in_err-flush-clause-goes : goal.returns-in_err-flush-clause-goes
 returns-in_err-flush-clause-goes g c told sound = leaves g (goal.at.returns-in_err-flush-clause-goes g c).After-flush _ refl told sound

@@ -11,4 +11,5 @@ invariant_of-self c =
     record {
       xids = subst (λ (l : List (ℕ × ℕ)). XidsFit (record { next = a.next + 1; opens = l; aborted = a.aborted.entries; items = a.items.items })) put (begun_fits a.next a.opens.entries a.aborted.entries a.items.items a.items.items c.self.invariant.xids 0);
       ends = omega (arith, c.add.ensures.len, c.requires.room, ap (λ (k : TablesKept). k.opens_room) c.self.view_is);
+      items = c.self.invariant.items;
     }

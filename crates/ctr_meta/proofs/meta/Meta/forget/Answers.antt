@@ -9,4 +9,5 @@ invariant_of-self c =
     record {
       xids = subst (λ (l : List (ℕ × ℕ)). XidsFit (record { next = a.next; opens = a.opens.entries; aborted = l; items = a.items.items })) (sym c.remove.ensures.entries) (forgotten_fits a.next a.opens.entries a.aborted.entries a.items.items a.items.items c.self.invariant.xids c.args.x);
       ends = omega (arith, c.remove.ensures.spare, c.self.invariant.ends);
+      items = c.self.invariant.items;
     }

@@ -9,4 +9,5 @@ invariant_of-self c =
     record {
       xids = subst (λ (l : List (ℕ × ℕ)). XidsFit (record { next = a.next; opens = l; aborted = a.aborted.entries; items = a.items.items })) (sym c.set.ensures.entries) (set_open_fits a.next a.opens.entries a.aborted.entries a.items.items a.items.items c.self.invariant.xids c.args.x (c.unwrap_or-heads.result + 1));
       ends = omega (arith, c.set.ensures.len, c.self.invariant.ends);
+      items = c.self.invariant.items;
     }

@@ -12,6 +12,7 @@ invariant_of-self-else-heads-gt0 c =
     record {
       xids = subst (λ (l : List (ℕ × ℕ)). XidsFit (record { next = a.next; opens = l; aborted = a.aborted.entries; items = a.items.items })) (sym c.remove.ensures.entries) (ended_fits a.next a.opens.entries a.aborted.entries a.items.items a.items.items c.self.invariant.xids c.args.x);
       ends = omega (arith, c.remove.ensures.len, c.self.invariant.ends);
+      items = c.self.invariant.items;
     }
 
 pub invariant_of-self : goal.invariant_of-self
@@ -27,4 +28,5 @@ invariant_of-self c =
       xids = subst (λ (l : List (ℕ × ℕ)). XidsFit (record { next = a.next; opens = c.remove.new.self.entries; aborted = l; items = a.items.items })) (sym c.add.ensures.entries)
           (subst (λ (l : List (ℕ × ℕ)). XidsFit (record { next = a.next; opens = l; aborted = a.aborted.entries ++ (x, h) ∷ []; items = a.items.items })) (sym c.remove.ensures.entries) (rolled_fits a.next o a.aborted.entries a.items.items a.items.items c.self.invariant.xids x h there));
       ends = omega (arith, one, c.add.ensures.spare, c.self.invariant.ends);
+      items = c.self.invariant.items;
     }

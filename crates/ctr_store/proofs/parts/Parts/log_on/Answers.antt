@@ -43,4 +43,4 @@ pub returns-clause-room : goal.returns-clause-room
 returns-clause-room g c =
     let s = c.args.self.now in
     let e = c.append_record-lsn.ensures in
-    logs_room g.D.Disk c.args.rec.now s (record s { base = record s.base { log = c.append_record-lsn.new.log }; pool = c.change.new.self; meta = c.apply.new.self }) refl e.added e.room_left c.apply.ensures.room refl
+    logs_room g.D.Disk c.args.rec.now s (record s { base = record s.base { log = c.append_record-lsn.new.log }; pool = c.change.new.self; meta = c.apply.new.self }) refl e.added e.room_left c.apply.ensures.tables c.apply.ensures.room refl

@@ -1,6 +1,6 @@
 use Rattle.std.proofs.Common.{◌≡◌, ◌∙◌, ◌≤◌, [], ◌∷◌, false, sym, ap, subst}
-use Rattle.std.specs.Prelude.{IfOk}
-use Rattle.std.proofs.lemmas.Result.{on_ok_weaker}
+use Rattle.std.specs.Prelude.{IfOk, OnErr}
+use Rattle.std.proofs.lemmas.Result.{on_ok_weaker, on_err_weaker}
 use Rattle.ctr_types.specs.Faults.{HasFault}
 use Rattle.ctr_disk.specs.declared.fault.StoreFault.TheVariants.{Fault}
 use Rattle.ctr_base.specs.BaseLaws.{rests_leaves}
@@ -54,6 +54,11 @@ returns-clause-takes g c =
     let shown = view_of g.D.Disk c.log-logged.new.self c.is_err-self-inside.result in
     subst (λ (v : View g.row.D.Denot). IfOk c.log-logged.result (λ lsn. TakesRecord r lsn v shown)) c.self.view_is
     (takes_seen g.D.Disk r c.self.inside.parts c.log-logged.new.self c.self.inside.stopped c.is_err-self-inside.result c.log-logged.result c.log-logged.ensures.takes)
+
+pub returns-clause-untaken : goal.returns-clause-untaken
+returns-clause-untaken g c =
+    let shown = view_of g.D.Disk c.log-logged.new.self c.is_err-self-inside.result in
+    subst (λ (v : View g.row.D.Denot). OnErr c.log-logged.result (shown.gate ≡ v.gate)) c.self.view_is (on_err_weaker c.log-logged.result (λ kept. kept.ends) c.log-logged.ensures.keeps)
 
 pub returns-clause-logs : goal.returns-clause-logs
 returns-clause-logs g c told sound =
