@@ -2,12 +2,12 @@
 use Rattle.std.specs.Prelude.{◌≡◌, ℕ, Bool, true}
 use Rattle.ctr_area.specs.Images.{is_live}
 use Rattle.ctr_actions.specs.Sites.{Site}
-use Rattle.ctr_actions.specs.Actions.{Action, Reverts, Trims, Cuts, FreesOlder, MakesDead, Unlinks, UnlinksOlder, FreesEntry, Forgets, Owes}
+use Rattle.ctr_actions.specs.Actions.{Action, Reclaims, Reverts, Trims, Cuts, FreesOlder, MakesDead, Unlinks, UnlinksOlder, FreesEntry, Forgets, Owes}
 
 -- Its cases, by a test of which transactions everyone sees: a head of an aborted transaction is
 -- reverted; in a live table a chain is cut, a tombstone goes, and a version entry is freed that no
--- chain has; a dropped table is made dead; a dead entry loses its pages and is freed; an aborted
--- transaction without a head is forgotten.
+-- chain has; a dropped table is made dead; a dead entry loses its pages and is freed; a page that
+-- left its chain is free again; an aborted transaction without a head is forgotten.
 abbrev pub IsCleaning : (ℕ → Bool) → Action → Site → Type 0
 IsCleaning passes (Reverts e at way) s = Unit {0}
 IsCleaning passes (Trims test e at way) s =
@@ -18,6 +18,7 @@ IsCleaning passes (MakesDead test e) s = test ≡ passes
 IsCleaning passes (Unlinks p e b) s = (s.area.title e).state ≡ 2
 IsCleaning passes (UnlinksOlder p e) s = (s.area.title e).state ≡ 2
 IsCleaning passes (FreesEntry e title left) s = Unit {0}
+IsCleaning passes (Reclaims p) s = Unit {0}
 IsCleaning passes (Forgets y) s = Unit {0}
 IsCleaning passes a s = ⊥
 

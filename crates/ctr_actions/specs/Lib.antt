@@ -3,3 +3,4 @@ pub mod Actions
 pub mod Records
 pub mod Facts
 pub mod Cleaning
+pub mod Words

@@ -1,11 +1,6 @@
 // What an action gives to who acts, and what that is good for.
 ghost use Rattle.std.specs.Prelude.{◌≡◌, ◌<◌, ℕ, List, [], ◌∷◌, length};
-ghost use Rattle.ctr_page.specs.declared.header.Header.{Header};
-ghost use Rattle.ctr_page.specs.declared.rows.Place.{Place};
-ghost use Rattle.ctr_area.specs.Areas.{RowVersion};
-ghost use Rattle.ctr_area.specs.Sound.{IsUsedSlot};
-ghost use Rattle.ctr_record_laws.specs.Bounds.{IsInBounds};
-ghost use Rattle.ctr_record_laws.specs.Owed.{older_copy, rows_header, versions_header, first_page};
+ghost use Rattle.ctr_actions.specs.Words.{Header, Place, RowVersion, IsUsedSlot, IsInBounds, older_copy, rows_header, versions_header, first_page};
 ghost use Rattle.ctr_actions.specs.Sites.{Site, IsSoundSite};
 ghost use Rattle.ctr_actions.specs.Actions.{Action, Begins, Allocates, Formats, Links, LinksOlder, Keeps, Commits, Aborts, Owes, site_after, item_count};
 ghost use Rattle.ctr_actions.specs.Facts.{IsOpen, HasPage, HasNoPageBut, HasBlank, HasCopy, HoldsFact, LetsGo};

@@ -1,17 +1,6 @@
 // Laws of actions.
 ghost use Rattle.std.specs.Prelude.{◌⊎◌, ◌≡◌, ◌≢◌, ◌≤◌, ℕ, Bool, true, false, Ok};
-ghost use Rattle.ctr_records.specs.declared.record.Overlay.{Overlay};
-ghost use Rattle.ctr_meta.specs.Needs.{needs};
-ghost use Rattle.ctr_meta.specs.Effects.{effect};
-ghost use Rattle.ctr_page.specs.declared.rows.Place.{Place};
-ghost use Rattle.ctr_area.specs.Areas.{RowVersion};
-ghost use Rattle.ctr_area.specs.Chains.{pages_bound};
-ghost use Rattle.ctr_area.specs.Images.{is_live};
-ghost use Rattle.ctr_area.specs.Sound.{IsUsedSlot};
-ghost use Rattle.ctr_record_laws.specs.Bounds.{IsInBounds};
-ghost use Rattle.ctr_record_laws.specs.Owed.{RowMove, OwedByRow};
-ghost use Rattle.ctr_record_laws.specs.Loose.{IsSpareFor};
-ghost use Rattle.ctr_record_laws.specs.Shows.{ShowTheSame};
+ghost use Rattle.ctr_actions.specs.Words.{Overlay, needs, effect, Place, RowVersion, pages_bound, is_live, IsUsedSlot, IsInBounds, RowMove, OwedByRow, IsSpareFor, ShowTheSame};
 ghost use Rattle.ctr_actions.specs.Sites.{Site, IsSoundSite, IsSameEngine};
 ghost use Rattle.ctr_actions.specs.Actions.{Action, FreesOlder, MakesDead, Owes, site_after, IsQuietAction, LeavesBounds};
 ghost use Rattle.ctr_actions.specs.Records.{record_of};

@@ -1,11 +1,6 @@
 // Actions between states of a store.
 ghost use Rattle.std.specs.Prelude.{◌⊎◌, ◌≡◌, ◌≢◌, ◌≤◌, ℕ};
-ghost use Rattle.ctr_records.specs.declared.record.Overlay.{Overlay};
-ghost use Rattle.ctr_meta.specs.Effects.{effect};
-ghost use Rattle.ctr_redo.specs.States.{State, step};
-ghost use Rattle.ctr_record_effects.specs.States.{area_in};
-ghost use Rattle.ctr_area.specs.Chains.{pages_bound};
-ghost use Rattle.ctr_record_laws.specs.Bounds.{IsInBounds};
+ghost use Rattle.ctr_actions.specs.Words.{Overlay, effect, State, step, area_in, pages_bound, IsInBounds};
 ghost use Rattle.ctr_actions.specs.Sites.{IsSoundSite, site_of};
 ghost use Rattle.ctr_actions.specs.Actions.{Action, Owes, site_after};
 ghost use Rattle.ctr_actions.specs.Records.{record_of, Does};

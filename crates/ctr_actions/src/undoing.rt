@@ -1,11 +1,6 @@
 // Laws of the secondary log's items: which can be undone, and in which order they stand.
 ghost use Rattle.std.specs.Prelude.{◌≡◌, ◌≢◌, ◌+◌, ℕ, true, false, List, ◌∷◌, ◌++◌, length};
-ghost use Rattle.ctr_records.specs.declared.record.SlogItem.{SlogItem};
-ghost use Rattle.ctr_records.specs.declared.record.SlogItem.TheVariants.{FreeOf};
-ghost use Rattle.ctr_meta.specs.Items.{is_item_by};
-ghost use Rattle.ctr_area.specs.Sound.{IsAmong};
-ghost use Rattle.ctr_record_laws.specs.Bounds.{IsInBounds};
-ghost use Rattle.ctr_record_laws.specs.Owed.{IsLastItem, HasNoItems};
+ghost use Rattle.ctr_actions.specs.Words.{SlogItem, FreeOf, is_item_by, IsAmong, IsInBounds, IsLastItem, HasNoItems};
 ghost use Rattle.ctr_actions.specs.Sites.{Site, IsSoundSite};
 ghost use Rattle.ctr_actions.specs.Actions.{Action, Reclaims, Owes, site_after, undoing, item_count};
 

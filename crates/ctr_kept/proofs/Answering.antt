@@ -31,6 +31,7 @@ use Rattle.ctr_paged.proofs.Shown.{shown_answered}
 use Rattle.ctr_kept.specs.Carried.{AreCarried}
 use Rattle.ctr_kept.specs.Turns.{AnswersEach}
 use Rattle.ctr_kept.specs.Walk.{Mind, scene_of, HaveBegun, KeepsScene, Keeps}
+use Rattle.ctr_kept.proofs.Rolling.{rolls_moved}
 use Rattle.ctr_kept.proofs.Undo.{left_moved}
 use Rattle.ctr_kept.proofs.Walking.{begun_moved, keeps_reached, keeps_entry}
 
@@ -95,6 +96,8 @@ module _ (lines : List Line) (moment : ℕ) (base : Database) (stuck : List (Lis
             carried = carried_fewer s site scene w.facts keeps.scene.carried;
             undo = (left_moved site.tables w.run.sessions w.undo keeps.scene.undo.0 site.tables (without nat_cmp s w.run.sessions) refl keeps.scene.undo.0.are_open (λ y in_. nobodys_fewer s y w.run.sessions (keeps.scene.undo.0.nobodys y in_)), keeps.scene.undo.1);
           }))
+          (rolls_moved lines point (answer_entry point s later) next.comes w.run (answered_mind s later).run keeps.rolls (λ r two. find-without-other r s w.run.sessions two)
+          (λ b at undoing. absurd (false≢true (ap is_some (sym (find-without-same s w.run.sessions) ∙ at)))))
 
 -- ---- all that wait are answered
 
@@ -103,7 +106,7 @@ pub answers_all : (lines : List Line) (moment : ℕ) (base : Database) (stuck : 
 answers_all lines moment base stuck size later site zero now w keeps le is = record {
   mind = w;
   entries = [];
-  keeps = record { legal = keeps.legal; later = up keeps.later le; scene = keeps.scene };
+  keeps = record { legal = keeps.legal; later = up keeps.later le; scene = keeps.scene; rolls = keeps.rolls };
   tape = nothing w.tape;
   moments = tt;
   are_answers = tt;

@@ -29,6 +29,7 @@ walk_begins lines moment site bounds few sound some = record {
     carried = record { held = λ s b fact at in_. absurd in_; under = λ s t fact at in_. absurd in_; tables = λ s fact e in_ is. absurd in_ };
     undo = (left_at_open site.counted site.tables site.area sound, counts_at_open site.tables);
   };
+  rolls = λ s b at undoing. absurd (false≢true (ap is_some at));
 }
 
 -- no item is of a number that isn't drawn yet

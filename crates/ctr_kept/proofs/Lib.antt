@@ -8,3 +8,4 @@ pub mod RecoveryTurns
 pub mod Beginning
 pub mod Answering
 pub mod Nobody
+pub mod Rolling

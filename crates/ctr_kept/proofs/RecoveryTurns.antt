@@ -44,6 +44,7 @@ use Rattle.ctr_kept.specs.Undo.{IsUndoLeft, CountsTo, SparesUndo}
 use Rattle.ctr_kept.specs.Walk.{Mind, scene_of, HaveBegun, KeepsScene, Keeps}
 use Rattle.ctr_kept.proofs.Carried.{AnotherLeaves, carried_all}
 use Rattle.ctr_kept.proofs.LeftBy.{left_by}
+use Rattle.ctr_kept.proofs.Rolling.{rolls_same}
 use Rattle.ctr_kept.proofs.Undo.{with_latest, left_item, item_is_last, orphan_owes, left_orphan, counts_item, counts_orphan}
 use Rattle.ctr_kept.proofs.Walking.{keeps_reached, keeps_on, keeps_entry}
 
@@ -133,7 +134,7 @@ module _ (leaves : AnotherLeaves) (lines : List Line) (moment : ℕ) (base : Dat
       let v : Mind = record w { undo = record w.undo { orphans = front ++ back; turns = w.undo.turns + 1 } } in
       keeps_on lines moment base stuck size now site w keeps later (site_after x Aborts site) v le refl
       (nobodys_scene x Aborts v scene (orphan_owes site.tables w.run.sessions w.undo left x none here) bounds (inr (left.nobodys x here, refl)) refl refl refl refl (left.nobodys x here) (λ s b t at is_t fact in_ holds under its. tt)
-      (left_orphan site.tables w.run.sessions w.undo left x front back none is, counts_orphan size w.undo x front back is keeps.scene.undo.1))
+      (left_orphan site.tables w.run.sessions w.undo left x front back none is, counts_orphan size w.undo x front back is keeps.scene.undo.1)) keeps.rolls
 
   -- nobody has the next number
   next_nobodys : IsNoSessions w.run.sessions site.tables.next
@@ -169,6 +170,7 @@ module _ (leaves : AnotherLeaves) (lines : List Line) (moment : ℕ) (base : Dat
         left_item site.tables w.run.sessions w.undo left front (AllocOf x p) is (site_after x (Frees p) site).tables (goes x (AllocOf x p) front is) refl,
         counts_item size w.undo front (AllocOf x p) is keeps.scene.undo.1,
       ))
+      keeps.rolls
 
   -- a page that left its chain before the stop
   pub free_turn : (later p : ℕ) (front : List SlogItem) → now ≤ later → w.undo.items ≡ front ++ FreeOf p ∷ [] → IsInBounds (site_after site.tables.next (Reclaims p) site).area
@@ -180,6 +182,7 @@ module _ (leaves : AnotherLeaves) (lines : List Line) (moment : ℕ) (base : Dat
         left_item site.tables w.run.sessions w.undo left front (FreeOf p) is (site_after site.tables.next (Reclaims p) site).tables (goes site.tables.next (FreeOf p) front is) refl,
         counts_item size w.undo front (FreeOf p) is keeps.scene.undo.1,
       ))
+      keeps.rolls
 
   -- ---- an item of a table, the latest that is left
 
@@ -199,7 +202,7 @@ module _ (leaves : AnotherLeaves) (lines : List Line) (moment : ℕ) (base : Dat
     -- the name has other items left
     more_items : (z g : ℕ) → IsItemOfName e wanted site z g → IsNoSessions w.run.sessions z → Keeps lines (at_start moment base stuck) size later (site_after x a site) (undone front)
     more_items z g other nobodys = keeps_on lines moment base stuck size now site w keeps later (site_after x a site) (undone front) le refl
-        (scene_now (undone front) scene (record { nobodys = left.nobodys x here; leads = inl (z, g, other, nobodys, refl) }) refl refl refl refl refl)
+        (scene_now (undone front) scene (record { nobodys = left.nobodys x here; leads = inl (z, g, other, nobodys, refl) }) refl refl refl refl refl) keeps.rolls
 
     -- it was the last one of the name, which is released
     abbrev release_entry : Entry
@@ -212,6 +215,7 @@ module _ (leaves : AnotherLeaves) (lines : List Line) (moment : ℕ) (base : Dat
     last_of_name nobody last = keeps_entry lines moment base stuck size now site w keeps release_entry (site_after x a site) released comes refl
         (subst (λ (o : Option Transaction). KeepsScene size (site_after x a site) released (record { run = w.run; state = next_from point.state 0 o (act.Release (site.area.title e).name) None reply.Released })) (sym nobody)
         (scene_now released (record { run = w.run; state = record point.state { stuck = without_name (site.area.title e).name point.state.stuck } }) (record { nobodys = left.nobodys x here; leads = inr (last, refl) }) refl refl refl refl refl))
+        (rolls_same lines point release_entry comes w.run keeps.rolls (λ is. cc is))
       where
         further : {a b c : ℕ} → a ≤ b → b ≤ c → a ≤ c
         further p q = omega (arith, p, q)
@@ -272,6 +276,7 @@ module _ (leaves : AnotherLeaves) (lines : List Line) (moment : ℕ) (base : Dat
             (λ r c at_c. paged.modelled r c at_c) (λ r t is_t. let one = paged.shows.inside r t is_t in (one.0, one.1)) (λ r c at_c same. next_nobodys r c at_c same) away;
         undo = (left_by site paged.bounds paged.sound w.run.sessions w.undo left site.tables.next next_no_orphan a owed spares, keeps.scene.undo.1);
       })
+      keeps.rolls
 
 module _ (lines : List Line) (moment : ℕ) (base : Database) (stuck : List (List ℕ)) (size now : ℕ) (site : Site) (w : Mind)
     (keeps : Keeps lines (at_start moment base stuck) size now site w) where
@@ -287,7 +292,7 @@ module _ (lines : List Line) (moment : ℕ) (base : Database) (stuck : List (Lis
       tables = keeps.scene.carried.tables;
     };
     undo = keeps.scene.undo;
-  })
+  }) keeps.rolls
     where
       still : (x : ℕ) (fact : Fact) → HoldsFact x fact site → HoldsFact x fact (record site { counted = more })
       still x IsOpen holds = holds
@@ -309,7 +314,7 @@ module _ (lines : List Line) (moment : ℕ) (base : Database) (stuck : List (Lis
 
   -- time passes: pages are read, go home, or what waits is hardened
   pub later_turn : (later : ℕ) → now ≤ later → Keeps lines (at_start moment base stuck) size later site w
-  later_turn later le = record { legal = keeps.legal; later = further keeps.later le; scene = keeps.scene }
+  later_turn later le = record { legal = keeps.legal; later = further keeps.later le; scene = keeps.scene; rolls = keeps.rolls }
     where
       further : {a b c : ℕ} → a ≤ b → b ≤ c → a ≤ c
       further p q = omega (arith, p, q)

@@ -1,10 +1,10 @@
 -- Whole turns of a session: what is kept before one is kept behind it.
-use Rattle.std.proofs.Common.{◌≡◌, ◌≢◌, ℕ, ◌+◌, ◌<◌, ◌≤◌, ◌==◌, true, false, List, [], ◌∷◌, ◌++◌, length, inl, Option, Some, None, refl, sym, ◌∙◌, ap, subst, arith}
+use Rattle.std.proofs.Common.{◌≡◌, ◌≢◌, ℕ, ◌+◌, ◌<◌, ◌≤◌, ◌==◌, true, false, List, [], ◌∷◌, ◌++◌, length, inl, ⊎_elim, Option, Some, None, refl, sym, ◌∙◌, ap, subst, arith}
 use Rattle.std.specs.Prelude.{is_some}
 use Rattle.std.specs.Option.{option_map}
 use Rattle.std.specs.Ordering.{nat_cmp}
 use Rattle.std.specs.FinMap.Entries.{find, put}
-use Rattle.std.proofs.lemmas.Bool.{false≢true, eq-eqb}
+use Rattle.std.proofs.lemmas.Bool.{false≢true, eqb-true, eq-eqb}
 use Rattle.ctr_types.specs.declared.statement.Line.{Line}
 use Rattle.ctr_types.specs.declared.statement.Statement.{Statement}
 use Rattle.ctr_types.specs.declared.tape.Act.{Act}
@@ -22,10 +22,10 @@ use Rattle.ctr_model.specs.Database.{Database}
 use Rattle.ctr_model.specs.Maps.{without}
 use Rattle.ctr_model.specs.Reply.{with_granted, with_read, changes_of, next_inside, next_from, next_state}
 use Rattle.ctr_model.specs.State.{view, begun, transaction_of, with_transaction}
-use Rattle.ctr_model.specs.Tape.{final, statement_of, Comes, at_start}
+use Rattle.ctr_model.specs.Tape.{final, passed, statement_of, Comes, at_start}
 use Rattle.ctr_model.proofs.Sessions.{find-put-other, find-put-same, find-without-other, find-without-same}
 use Rattle.ctr_legal.specs.Kept.{IsKept}
-use Rattle.ctr_versions.proofs.Keys.{some_is}
+use Rattle.ctr_versions.proofs.Keys.{known, some_is}
 use Rattle.ctr_versions.specs.Engine.{SessionHeld}
 use Rattle.ctr_versions.specs.Laws.{IsGranted, with_own}
 use Rattle.ctr_sessions.specs.Sessions.{IsDrawnFor}
@@ -41,8 +41,9 @@ use Rattle.ctr_paged.specs.Moving.{held_as, with_its, without_its, begun_now, Ho
 use Rattle.ctr_paged.proofs.Shown.{shown_begun, shown_granted, shown_ended, shown_undoing}
 use Rattle.ctr_kept.specs.Carried.{IsUnderLock, Covers}
 use Rattle.ctr_kept.specs.Turns.{Carries}
-use Rattle.ctr_kept.specs.Walk.{Mind, scene_of, with_facts, KeepsScene, Keeps}
+use Rattle.ctr_kept.specs.Walk.{Mind, scene_of, with_facts, KeepsScene, IsAtRollback, AreAtRollback, Keeps}
 use Rattle.ctr_kept.proofs.Carried.{AnotherLeaves}
+use Rattle.ctr_kept.proofs.Rolling.{rolled_back, rolls_or_answered, rolls_moved, rolls_on, rolls_same}
 use Rattle.ctr_kept.proofs.Turning.{MovesOne, silent_scene, action_scene}
 use Rattle.ctr_kept.proofs.Walking.{keeps_reached, keeps_on, keeps_entry}
 
@@ -64,14 +65,15 @@ module _ (lines : List Line) (moment : ℕ) (base : Database) (stuck : List (Lis
   no_orphan : IsAmong b.me w.undo.orphans → ⊥
   no_orphan in_ = keeps.scene.undo.0.nobodys b.me in_ s b at refl
 
-  -- it goes on, held so, in this transaction of the same snapshot
-  put_moves : (c : SessionHeld) (u : Transaction) (mine : List Fact) (run : Run) (state : State) (next : Site) → run.sessions ≡ put nat_cmp s c w.run.sessions → state.sessions ≡ put nat_cmp s u point.state.sessions
+  -- it goes on, held so, in this transaction of the same snapshot; of the others nothing has changed
+  goes_moves : (c : SessionHeld) (u : Transaction) (mine : List Fact) (run : Run) (state : State) (next : Site) → ((r : ℕ) → (r == s) ≡ false → find nat_cmp r run.sessions ≡ find nat_cmp r w.run.sessions) → find nat_cmp s run.sessions ≡ Some c
+      → ((r : ℕ) → (r == s) ≡ false → transaction_of state r ≡ transaction_of point.state r) → transaction_of state s ≡ Some u
       → u.snapshot ≡ me.snapshot → IsDrawnFor c u → Carries c.me u mine next → (IsAmong c.me w.undo.orphans → ⊥) → MovesOne s w w.since mine scene (record { run = run; state = state }) next
-  put_moves c u mine run state next runs states snapshot drawn carries not_orphan = record {
-    sessions = λ r two. ap (find nat_cmp r) runs ∙ find-put-other r s c w.run.sessions two;
-    transactions = λ r two. ap (find nat_cmp r) states ∙ find-put-other r s u point.state.sessions two;
+  goes_moves c u mine run state next sessions here transactions there snapshot drawn carries not_orphan = record {
+    sessions = sessions;
+    transactions = transactions;
     snapshots = λ r two. refl;
-    since_is = keeps.scene.begun.since_is s ∙ ap (option_map (λ (t : Transaction). t.snapshot)) is_me ∙ ap Some (sym snapshot) ∙ ap (option_map (λ (t : Transaction). t.snapshot)) (sym t_there);
+    since_is = keeps.scene.begun.since_is s ∙ ap (option_map (λ (t : Transaction). t.snapshot)) is_me ∙ ap Some (sym snapshot) ∙ ap (option_map (λ (t : Transaction). t.snapshot)) (sym there);
     drawn = λ t d is_t at_d. subst (λ (a : SessionHeld). IsDrawnFor a t) (c_is d at_d) (subst (IsDrawnFor c) (u_is t is_t) drawn);
     held = λ d fact at_d in_. subst (λ (a : SessionHeld). HoldsFact a.me fact next) (c_is d at_d) (carries.held fact in_).0;
     under = λ t fact is_t in_. subst (λ v. IsUnderLock v fact next) (u_is t is_t) (carries.held fact in_).1;
@@ -79,38 +81,16 @@ module _ (lines : List Line) (moment : ℕ) (base : Database) (stuck : List (Lis
     not_orphan = λ d at_d in_. not_orphan (subst (λ (a : SessionHeld). IsAmong a.me w.undo.orphans) (sym (c_is d at_d)) in_);
   }
     where
-      b_there : find nat_cmp s run.sessions ≡ Some c
-      b_there = ap (find nat_cmp s) runs ∙ find-put-same s c w.run.sessions
-
-      t_there : find nat_cmp s state.sessions ≡ Some u
-      t_there = ap (find nat_cmp s) states ∙ find-put-same s u point.state.sessions
-
       c_is : (d : SessionHeld) → find nat_cmp s run.sessions ≡ Some d → c ≡ d
-      c_is d at_d = some_is c d (sym b_there ∙ at_d)
+      c_is d at_d = some_is c d (sym here ∙ at_d)
 
-      u_is : (t : Transaction) → find nat_cmp s state.sessions ≡ Some t → u ≡ t
-      u_is t is_t = some_is u t (sym t_there ∙ is_t)
+      u_is : (t : Transaction) → transaction_of state s ≡ Some t → u ≡ t
+      u_is t is_t = some_is u t (sym there ∙ is_t)
 
   -- it goes on as it is held, in this transaction
   same_moves : (u : Transaction) (mine : List Fact) (run : Run) (state : State) (next : Site) → run.sessions ≡ w.run.sessions → ((r : ℕ) → (r == s) ≡ false → transaction_of state r ≡ transaction_of point.state r) → transaction_of state s ≡ Some u
       → u.snapshot ≡ me.snapshot → IsDrawnFor b u → Carries b.me u mine next → MovesOne s w w.since mine scene (record { run = run; state = state }) next
-  same_moves u mine run state next runs others there snapshot drawn carries = record {
-    sessions = λ r two. ap (find nat_cmp r) runs;
-    transactions = others;
-    snapshots = λ r two. refl;
-    since_is = keeps.scene.begun.since_is s ∙ ap (option_map (λ (t : Transaction). t.snapshot)) is_me ∙ ap Some (sym snapshot) ∙ ap (option_map (λ (t : Transaction). t.snapshot)) (sym there);
-    drawn = λ t d is_t at_d. subst (λ (a : SessionHeld). IsDrawnFor a t) (b_is d at_d) (subst (IsDrawnFor b) (u_is t is_t) drawn);
-    held = λ d fact at_d in_. subst (λ (a : SessionHeld). HoldsFact a.me fact next) (b_is d at_d) (carries.held fact in_).0;
-    under = λ t fact is_t in_. subst (λ v. IsUnderLock v fact next) (u_is t is_t) (carries.held fact in_).1;
-    tables = carries.tables;
-    not_orphan = λ d at_d in_. no_orphan (subst (λ (a : SessionHeld). IsAmong a.me w.undo.orphans) (sym (b_is d at_d)) in_);
-  }
-    where
-      b_is : (d : SessionHeld) → find nat_cmp s run.sessions ≡ Some d → b ≡ d
-      b_is d at_d = some_is b d (sym at ∙ ap (find nat_cmp s) (sym runs) ∙ at_d)
-
-      u_is : (t : Transaction) → transaction_of state s ≡ Some t → u ≡ t
-      u_is t is_t = some_is u t (sym there ∙ is_t)
+  same_moves u mine run state next runs others there snapshot drawn carries = goes_moves b u mine run state next (λ r two. ap (find nat_cmp r) runs) (ap (find nat_cmp s) runs ∙ at) others there snapshot drawn carries no_orphan
 
   -- its transaction is another one, the others' are as they were
   its_moves : (u : Transaction) (mine : List Fact) (next : Site) → u.snapshot ≡ me.snapshot → IsDrawnFor b u → Carries b.me u mine next → MovesOne s w w.since mine scene (with_its s u scene) next
@@ -149,30 +129,22 @@ module _ (lines : List Line) (moment : ℕ) (base : Database) (stuck : List (Lis
       keeps_on lines moment base stuck size now site w keeps later (site_after b.me a site) (carrying mine) le refl
       (action_scene size site w scene keeps.scene s w.since mine (carrying mine) refl refl refl scene leaves legal me b.me a is_me owed covers (alone some) no_orphan bounds moves
       (same_moves me mine w.run point.state (site_after b.me a site) refl (λ r two. refl) is_me refl (keeps.scene.begun.drawn s me b is_me at) carries))
+      keeps.rolls
 
   -- a rollback begins: from now on nothing is said of what the session sees
-  pub undoing_turn : (later : ℕ) (mine : List Fact) → now ≤ later → Carries b.me me mine site
+  pub undoing_turn : (later : ℕ) (mine : List Fact) → now ≤ later → IsAtRollback lines point s → Carries b.me me mine site
       → Keeps lines (at_start moment base stuck) size later site (record (carrying mine) { run = held_as s (record b { undoing = true }) w.run })
-  undoing_turn later mine le carries =
+  undoing_turn later mine le rolling carries =
       let c : SessionHeld = record b { undoing = true } in
       let v : Mind = record (carrying mine) { run = held_as s c w.run } in
       keeps_on lines moment base stuck size now site w keeps later site v le refl
       (silent_scene size site w scene keeps.scene s w.since mine v refl refl refl (record { run = held_as s c w.run; state = point.state })
-      (record {
-        sessions = λ r two. find-put-other r s c w.run.sessions two;
-        transactions = λ r two. refl;
-        snapshots = λ r two. refl;
-        since_is = keeps.scene.begun.since_is s;
-        drawn = λ t d is_t at_d. let was = keeps.scene.begun.drawn s t b is_t at in subst (λ (a : SessionHeld). IsDrawnFor a t) (c_is c d at_d) (record { writer = was.writer; reader = was.reader });
-        held = λ d fact at_d in_. subst (λ (a : SessionHeld). HoldsFact a.me fact site) (c_is c d at_d) (carries.held fact in_).0;
-        under = λ t fact is_t in_. subst (λ v. IsUnderLock v fact site) (some_is me t (sym is_me ∙ is_t)) (carries.held fact in_).1;
-        tables = carries.tables;
-        not_orphan = λ d at_d in_. no_orphan (subst (λ (a : SessionHeld). IsAmong a.me w.undo.orphans) (sym (c_is c d at_d)) in_);
-      })
+      (goes_moves c me mine (held_as s c w.run) point.state site (λ r two. find-put-other r s c w.run.sessions two) (find-put-same s c w.run.sessions) (λ r two. refl) is_me refl
+      (let was = keeps.scene.begun.drawn s me b is_me at in record { writer = was.writer; reader = was.reader }) (record { held = carries.held; tables = carries.tables }) no_orphan)
       (shown_undoing keeps.scene.low site scene keeps.scene.shown s b me at is_me))
-    where
-      c_is : (c d : SessionHeld) → find nat_cmp s (put nat_cmp s c w.run.sessions) ≡ Some d → c ≡ d
-      c_is c d at_d = some_is c d (sym (find-put-same s c w.run.sessions) ∙ at_d)
+      (λ r d at_d undoing. known (r == s)
+      (λ one. subst (IsAtRollback lines point) (sym (eqb-true r s one)) rolling)
+      (λ two. keeps.rolls r d (sym (find-put-other r s c w.run.sessions two) ∙ at_d) undoing))
 
   -- ---- with an entry
 
@@ -184,10 +156,19 @@ module _ (lines : List Line) (moment : ℕ) (base : Database) (stuck : List (Lis
     told a r v = record v { tape = w.tape ++ entry a r ∷ [] }
 
     entry_keeps : (a : Act) (r : Reply) (next : Site) (v : Mind) → Comes lines point (entry a r) → v.tape ≡ w.tape ++ entry a r ∷ [] → KeepsScene size next v (record { run = v.run; state = next_inside point.state s me a (Some statement) r })
-        → Keeps lines (at_start moment base stuck) size later next v
-    entry_keeps a r next v comes longer kept = keeps_entry lines moment base stuck size now site w keeps (entry a r) next v comes longer
+        → AreAtRollback lines (passed lines point (entry a r)) v.run → Keeps lines (at_start moment base stuck) size later next v
+    entry_keeps a r next v comes longer kept rolls = keeps_entry lines moment base stuck size now site w keeps (entry a r) next v comes longer
         (subst (λ o. KeepsScene size next v (record { run = v.run; state = next_state point.state s a o r })) (sym is_statement)
-        (subst (λ (o : Option Transaction). KeepsScene size next v (record { run = v.run; state = next_from point.state s o a (Some statement) r })) (sym is_me) kept))
+        (subst (λ (o : Option Transaction). KeepsScene size next v (record { run = v.run; state = next_from point.state s o a (Some statement) r })) (sym is_me) kept)) rolls
+
+    -- it is held as it was, and this was no ROLLBACK
+    rolls_held : (a : Act) (r : Reply) → Comes lines point (entry a r) → (act.Rollback ≡ a → ⊥) → AreAtRollback lines (passed lines point (entry a r)) w.run
+    rolls_held a r comes other = rolls_same lines point (entry a r) comes w.run keeps.rolls other
+
+    -- it is gone
+    rolls_gone : (a : Act) (r : Reply) → Comes lines point (entry a r) → AreAtRollback lines (passed lines point (entry a r)) (record w.run { sessions = without nat_cmp s w.run.sessions })
+    rolls_gone a r comes = rolls_moved lines point (entry a r) comes w.run (record w.run { sessions = without nat_cmp s w.run.sessions }) keeps.rolls
+        (λ q two. find-without-other q s w.run.sessions two) (λ d at_d undoing. absurd (false≢true (ap is_some (sym (find-without-same s w.run.sessions) ∙ at_d))))
 
     -- a lock, a use or a hold is granted to a session that has its number, or only reads
     pub granted_turn : (mine : List Fact) → Comes lines point (entry act.Lock reply.Granted) → IsGranted me (with_granted act.Lock (Some statement) me) → HoldsAll me (with_granted act.Lock (Some statement) me) → IsDrawnFor b (with_granted act.Lock (Some statement) me)
@@ -198,6 +179,7 @@ module _ (lines : List Line) (moment : ℕ) (base : Database) (stuck : List (Lis
         entry_keeps act.Lock reply.Granted site v comes refl
         (silent_scene size site w scene keeps.scene s w.since mine v refl refl refl (with_its s u scene) (its_moves u mine site granted.snapshot drawn carries)
         (shown_granted keeps.scene.low site scene keeps.scene.shown s me u is_me granted holds))
+        (rolls_held act.Lock reply.Granted comes (λ is. cc is))
 
     -- rows are read
     pub read_turn : (rows : Rows) (mine : List Fact) → Comes lines point (entry act.Read (reply.Rows rows)) → IsGranted me (with_read (Some statement) me) → HoldsAll me (with_read (Some statement) me) → IsDrawnFor b (with_read (Some statement) me)
@@ -208,6 +190,7 @@ module _ (lines : List Line) (moment : ℕ) (base : Database) (stuck : List (Lis
         entry_keeps act.Read (reply.Rows rows) site v comes refl
         (silent_scene size site w scene keeps.scene s w.since mine v refl refl refl (with_its s u scene) (its_moves u mine site granted.snapshot drawn carries)
         (shown_granted keeps.scene.low site scene keeps.scene.shown s me u is_me granted holds))
+        (rolls_held act.Read (reply.Rows rows) comes (λ is. cc is))
 
     -- an act is refused
     pub refused_turn : (a : Act) (why : Refusal) (mine : List Fact) → Comes lines point (entry a (reply.Refused why)) → Carries b.me me mine site → Keeps lines (at_start moment base stuck) size later site (told a (reply.Refused why) (carrying mine))
@@ -215,6 +198,8 @@ module _ (lines : List Line) (moment : ℕ) (base : Database) (stuck : List (Lis
         let v = told a (reply.Refused why) (carrying mine) in
         entry_keeps a (reply.Refused why) site v comes refl
         (silent_scene size site w scene keeps.scene s w.since mine v refl refl refl scene (same_moves me mine w.run point.state site refl (λ r two. refl) is_me refl (keeps.scene.begun.drawn s me b is_me at) carries) keeps.scene.shown)
+        (rolls_moved lines point (entry a (reply.Refused why)) comes w.run w.run keeps.rolls (λ r two. refl)
+        (λ d at_d undoing. ⊎_elim (λ still. still) (λ answered. absurd (cc (rolled_back point.state s me (reply.Refused why) is_me answered.1))) (rolls_or_answered lines point (entry a (reply.Refused why)) comes (keeps.rolls s d at_d undoing))))
 
     -- the first Lock: the session's number is drawn with it
     pub drawn_turn : AnotherLeaves → (mine : List Fact) → Comes lines point (entry act.Lock reply.Granted) → Owes site.tables.next Begins site → IsInBounds (site_after site.tables.next Begins site).area
@@ -229,7 +214,10 @@ module _ (lines : List Line) (moment : ℕ) (base : Database) (stuck : List (Lis
         entry_keeps act.Lock reply.Granted (site_after site.tables.next Begins site) v comes refl
         (action_scene size site w scene keeps.scene s w.since mine v refl refl refl (record { run = held_as s c w.run; state = with_transaction s u point.state }) leaves legal me site.tables.next Begins is_me owed tt
         (λ r d two at_d same. beyond d.me (keeps.scene.shown.paged.shows.below r d at_d) same) new_one bounds moves
-        (put_moves c u mine (held_as s c w.run) (with_transaction s u point.state) (site_after site.tables.next Begins site) refl refl snapshot drawn carries new_one))
+        (goes_moves c u mine (held_as s c w.run) (with_transaction s u point.state) (site_after site.tables.next Begins site) (λ r two. find-put-other r s c w.run.sessions two) (find-put-same s c w.run.sessions)
+        (λ r two. find-put-other r s u point.state.sessions two) (find-put-same s u point.state.sessions) snapshot drawn carries new_one))
+        (rolls_on lines point (entry act.Lock reply.Granted) comes w.run (held_as s c w.run) keeps.rolls (λ r two. find-put-other r s c w.run.sessions two)
+        (λ d at_d undoing. (b, at, ap (λ (f : SessionHeld). f.undoing) (some_is c d (sym (find-put-same s c w.run.sessions) ∙ at_d)) ∙ undoing)) (λ is. cc is))
       where
         beyond : (d : ℕ) → d < site.tables.next → d ≡ site.tables.next → ⊥
         beyond d lt is = omega (arith, lt, is)
@@ -248,6 +236,7 @@ module _ (lines : List Line) (moment : ℕ) (base : Database) (stuck : List (Lis
         (subst (λ l. KeepsScene size (site_after b.me a site) v (record { run = w.run; state = with_transaction s (record me { own = me.own ++ l }) point.state })) (sym is)
         (action_scene size site w scene keeps.scene s w.since mine v refl refl refl (with_its s u scene) leaves legal me b.me a is_me owed covers (alone some) no_orphan bounds moves
         (its_moves u mine (site_after b.me a site) refl (let was = keeps.scene.begun.drawn s me b is_me at in record { writer = was.writer; reader = was.reader }) carries)))
+        (rolls_held act.Write reply.Done comes (λ is. cc is))
 
     -- COMMIT asks: from here on the session carries nothing
     pub asked_turn : AnotherLeaves → Comes lines point (entry act.Ask (reply.Asked (length point.state.asked + 1))) → 0 < b.me → Owes b.me Commits site → IsInBounds (site_after b.me Commits site).area
@@ -259,6 +248,7 @@ module _ (lines : List Line) (moment : ℕ) (base : Database) (stuck : List (Lis
         (action_scene size site w scene keeps.scene s w.since [] v refl refl refl asking_scene leaves legal me b.me Commits is_me owed tt (alone some) no_orphan bounds moves
         (same_moves u [] asking_scene.run asking_scene.state (site_after b.me Commits site) refl (λ r two. find-put-other r s u point.state.sessions two) (find-put-same s u point.state.sessions) refl
         (let was = keeps.scene.begun.drawn s me b is_me at in record { writer = was.writer; reader = was.reader }) (record { held = λ fact in_. absurd in_; tables = λ fact e in_ is. absurd in_ })))
+        (rolls_held act.Ask (reply.Asked (length point.state.asked + 1)) comes (λ is. cc is))
 
     -- the session's transaction ends: of a reader at COMMIT or ROLLBACK
     abbrev gone : Mind
@@ -269,10 +259,10 @@ module _ (lines : List Line) (moment : ℕ) (base : Database) (stuck : List (Lis
         (shown_ended keeps.scene.low site scene keeps.scene.shown s (λ a at_a. ap (λ (d : SessionHeld). d.me) (some_is a b (sym at_a ∙ at)) ∙ zero_))
 
     pub read_only_turn : Comes lines point (entry act.Ask reply.ReadOnly) → b.me ≡ 0 → Keeps lines (at_start moment base stuck) size later site (told act.Ask reply.ReadOnly gone)
-    read_only_turn comes zero_ = entry_keeps act.Ask reply.ReadOnly site (told act.Ask reply.ReadOnly gone) comes refl (reader_ends zero_ (told act.Ask reply.ReadOnly gone) refl refl refl)
+    read_only_turn comes zero_ = entry_keeps act.Ask reply.ReadOnly site (told act.Ask reply.ReadOnly gone) comes refl (reader_ends zero_ (told act.Ask reply.ReadOnly gone) refl refl refl) (rolls_gone act.Ask reply.ReadOnly comes)
 
     pub reader_back_turn : Comes lines point (entry act.Rollback reply.RolledBack) → b.me ≡ 0 → Keeps lines (at_start moment base stuck) size later site (told act.Rollback reply.RolledBack gone)
-    reader_back_turn comes zero_ = entry_keeps act.Rollback reply.RolledBack site (told act.Rollback reply.RolledBack gone) comes refl (reader_ends zero_ (told act.Rollback reply.RolledBack gone) refl refl refl)
+    reader_back_turn comes zero_ = entry_keeps act.Rollback reply.RolledBack site (told act.Rollback reply.RolledBack gone) comes refl (reader_ends zero_ (told act.Rollback reply.RolledBack gone) refl refl refl) (rolls_gone act.Rollback reply.RolledBack comes)
 
     -- a rollback ends, by one mark
     pub rolled_back_turn : AnotherLeaves → Comes lines point (entry act.Rollback reply.RolledBack) → 0 < b.me → Owes b.me Aborts site → IsInBounds (site_after b.me Aborts site).area → MovesTo keeps.scene.low b.me Aborts site scene (without_its s scene)
@@ -280,6 +270,7 @@ module _ (lines : List Line) (moment : ℕ) (base : Database) (stuck : List (Lis
     rolled_back_turn leaves comes some owed bounds moves =
         entry_keeps act.Rollback reply.RolledBack (site_after b.me Aborts site) (told act.Rollback reply.RolledBack gone) comes refl
         (action_scene size site w scene keeps.scene s (without nat_cmp s w.since) [] (told act.Rollback reply.RolledBack gone) refl refl refl (without_its s scene) leaves legal me b.me Aborts is_me owed tt (alone some) no_orphan bounds moves (gone_moves (site_after b.me Aborts site)))
+        (rolls_gone act.Rollback reply.RolledBack comes)
 
 -- ---- BEGIN, and what is refused outside a transaction
 
@@ -317,6 +308,8 @@ module _ (lines : List Line) (moment : ℕ) (base : Database) (stuck : List (Lis
         not_orphan = λ b at in_. no_zero (subst (λ (a : SessionHeld). IsAmong a.me w.undo.orphans) (some_is b (begun_now site w.run) (sym at ∙ find-put-same s (begun_now site w.run) w.run.sessions)) in_);
       })
       (shown_begun keeps.scene.low site (scene_of lines (at_start moment base stuck) w) keeps.scene.shown s none)))
+      (rolls_moved lines outside began comes w.run began_mind.run keeps.rolls (λ r two. find-put-other r s (begun_now site w.run) w.run.sessions two)
+      (λ b at undoing. absurd (false≢true (ap (λ (a : SessionHeld). a.undoing) (some_is (begun_now site w.run) b (sym (find-put-same s (begun_now site w.run) w.run.sessions) ∙ at)) ∙ undoing))))
     where
       zero_lt : 0 < 0 → ⊥
       zero_lt lt = omega (arith, lt)
@@ -335,6 +328,8 @@ module _ (lines : List Line) (moment : ℕ) (base : Database) (stuck : List (Lis
         carried = keeps.scene.carried;
         undo = keeps.scene.undo;
       }))
+      (rolls_moved lines outside refused comes w.run w.run keeps.rolls (λ r two. refl)
+      (λ b at undoing. let inside = keeps.scene.shown.paged.modelled s b at in absurd (false≢true (ap is_some (sym none ∙ inside.1)))))
     where
       refused : Entry
       refused = record { session = s; statement = n; act = a; reply = reply.Refused why; moment = later }

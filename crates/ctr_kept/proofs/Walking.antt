@@ -20,7 +20,7 @@ use Rattle.ctr_actions.specs.Sites.{Site}
 use Rattle.ctr_paged.specs.Paged.{engine_at}
 use Rattle.ctr_paged.specs.Shown.{Scene}
 use Rattle.ctr_paged.proofs.Begun.{begun_shows}
-use Rattle.ctr_kept.specs.Walk.{Mind, HaveBegun, KeepsScene, Keeps}
+use Rattle.ctr_kept.specs.Walk.{Mind, HaveBegun, KeepsScene, AreAtRollback, Keeps}
 
 -- one session moves: the others' snapshots and numbers are as they were
 pub begun_moved : (s : ℕ) (since now : List (ℕ × ℕ)) (scene next : Scene)
@@ -54,22 +54,24 @@ module _ (lines : List Line) (moment : ℕ) (base : Database) (stuck : List (Lis
     keeps_begun = begun_shows keeps.scene.low site w.run point.state w.since keeps.scene.shown.paged keeps.scene.begun.since_is keeps.scene.begun.drawn
 
     -- a turn without an entry keeps the same state
-    pub keeps_on : (later : ℕ) (next : Site) (v : Mind) → now ≤ later → v.tape ≡ w.tape → KeepsScene size next v (record { run = v.run; state = point.state }) → Keeps lines start size later next v
-    keeps_on later next v le same kept = record {
+    pub keeps_on : (later : ℕ) (next : Site) (v : Mind) → now ≤ later → v.tape ≡ w.tape → KeepsScene size next v (record { run = v.run; state = point.state }) → AreAtRollback lines point v.run → Keeps lines start size later next v
+    keeps_on later next v le same kept rolls = record {
       legal = subst (Legal lines start) (sym same) keeps.legal;
       later = further (subst (λ t. (final lines start t).moment ≤ now) (sym same) keeps.later) le;
       scene = subst (λ t. KeepsScene size next v (record { run = v.run; state = (final lines start t).state })) (sym same) kept;
+      rolls = subst (λ t. AreAtRollback lines (final lines start t) v.run) (sym same) rolls;
     }
       where
         further : {a b c : ℕ} → a ≤ b → b ≤ c → a ≤ c
         further p q = omega (arith, p, q)
 
     -- a turn with an entry keeps the model's next state
-    pub keeps_entry : (e : Entry) (next : Site) (v : Mind) → Comes lines point e → v.tape ≡ w.tape ++ e ∷ [] → KeepsScene size next v (record { run = v.run; state = (passed lines point e).state }) → Keeps lines start size e.moment next v
-    keeps_entry e next v comes longer kept = record {
+    pub keeps_entry : (e : Entry) (next : Site) (v : Mind) → Comes lines point e → v.tape ≡ w.tape ++ e ∷ [] → KeepsScene size next v (record { run = v.run; state = (passed lines point e).state }) → AreAtRollback lines (passed lines point e) v.run → Keeps lines start size e.moment next v
+    keeps_entry e next v comes longer kept rolls = record {
       legal = subst (Legal lines start) (sym longer) (legal_push lines start w.tape e keeps.legal comes);
       later = subst (λ (p : Point). p.moment ≤ e.moment) (sym at_end) (omega arith);
       scene = subst (λ (p : Point). KeepsScene size next v (record { run = v.run; state = p.state })) (sym at_end) kept;
+      rolls = subst (λ (p : Point). AreAtRollback lines p v.run) (sym at_end) rolls;
     }
       where
         at_end : final lines start v.tape ≡ passed lines point e

@@ -2,3 +2,4 @@ pub mod Carried
 pub mod Undo
 pub mod Walk
 pub mod Turns
+pub mod Words

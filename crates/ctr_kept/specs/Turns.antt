@@ -1,5 +1,5 @@
 -- Turns: of whom they are, and which entry they make.
-use Rattle.std.specs.Prelude.{◌≡◌, ◌⊎◌, ℕ, ◌+◌, true, List, [], ◌∷◌, ◌++◌, length, Some, None}
+use Rattle.std.specs.Prelude.{◌≡◌, ◌⊎◌, ℕ, ◌+◌, ◌≤◌, true, List, [], ◌∷◌, ◌++◌, length, Some, None}
 use Rattle.std.specs.List.{AllByRecursion}
 use Rattle.std.specs.Ordering.{nat_cmp}
 use Rattle.std.specs.FinMap.Entries.{find, put}
@@ -65,24 +65,26 @@ pub record InTransaction (c : Start) (w : Mind) (s : ℕ) : Type 0 where
   pub at : find nat_cmp s w.run.sessions ≡ Some session
   pub is_t : transaction_of (state_now c w) s ≡ Some t
 
--- a statement of a session, of which an act is told at a moment
-pub record Telling (c : Start) (s : ℕ) : Type 0 where
+-- A statement of a session, of which an act is told at a moment: not before the call that tells it
+-- began, which is now.
+pub record Telling (c : Start) (now s : ℕ) : Type 0 where
   pub n : ℕ
   pub later : ℕ
+  pub in_call : now ≤ later
   pub statement : Statement
   pub is_it : statement_of c.lines s n ≡ Some statement
 
 -- the entry of an act with its reply
-abbrev pub entry_of : {c : Start} → (s : ℕ) → Telling c s → Act → Reply → Entry
+abbrev pub entry_of : {c : Start} {now : ℕ} → (s : ℕ) → Telling c now s → Act → Reply → Entry
 entry_of s e a r = record { session = s; statement = e.n; act = a; reply = r; moment = e.later }
 
 -- the entry may come next
-abbrev pub MayCome : {s : ℕ} → (c : Start) → Mind → Telling c s → Act → Reply → Type 0
-MayCome {s} c w e a r = Comes c.lines (point_now c w) (entry_of s e a r)
+abbrev pub MayCome : {now s : ℕ} → (c : Start) → Mind → Telling c now s → Act → Reply → Type 0
+MayCome {now} {s} c w e a r = Comes c.lines (point_now c w) (entry_of s e a r)
 
 -- the mind, once the act is told on the tape
-abbrev pub telling : {c : Start} {s : ℕ} → Telling c s → Act → Reply → Mind → Mind → Mind
-telling {c} {s} e a r w v = record v { tape = w.tape ++ entry_of s e a r ∷ [] }
+abbrev pub telling : {c : Start} {now s : ℕ} → Telling c now s → Act → Reply → Mind → Mind → Mind
+telling {c} {now} {s} e a r w v = record v { tape = w.tape ++ entry_of s e a r ∷ [] }
 
 -- the session carries these facts from now on
 abbrev pub carrying : ℕ → List Fact → Mind → Mind
@@ -135,7 +137,7 @@ asked_scene {c} {w} {s} seat = record {
 }
 
 -- what the Lock of a statement brings to a transaction
-abbrev pub granted_to : {c : Start} {s : ℕ} → Telling c s → Transaction → Transaction
+abbrev pub granted_to : {c : Start} {now s : ℕ} → Telling c now s → Transaction → Transaction
 granted_to e t = with_granted act.Lock (Some e.statement) t
 
 -- undo's list without its latest item, a turn more

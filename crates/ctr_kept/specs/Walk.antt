@@ -1,14 +1,15 @@
 -- What a World on pages keeps between any two turns.
-use Rattle.std.specs.Prelude.{◌≡◌, ℕ, ◌≤◌, ◌==◌, List, [], Some, if◌then◌else◌}
+use Rattle.std.specs.Prelude.{◌≡◌, ℕ, ◌+◌, ◌≤◌, ◌==◌, true, List, [], Some, if◌then◌else◌}
 use Rattle.std.specs.Option.{option_map}
 use Rattle.std.specs.Ordering.{nat_cmp}
 use Rattle.std.specs.FinMap.Entries.{find}
 use Rattle.ctr_types.specs.declared.statement.Line.{Line}
+use Rattle.ctr_types.specs.declared.statement.Statement.TheVariants as st
 use Rattle.ctr_types.specs.declared.tape.Entry.{Entry}
 use Rattle.ctr_model.specs.declared.state.Transaction.{Transaction}
 use Rattle.ctr_model.specs.declared.tape.Point.{Point}
 use Rattle.ctr_model.specs.State.{transaction_of}
-use Rattle.ctr_model.specs.Tape.{final, Legal}
+use Rattle.ctr_model.specs.Tape.{statement_of, progress_of, final, Legal}
 use Rattle.ctr_versions.specs.Engine.{SessionHeld}
 use Rattle.ctr_sessions.specs.Sessions.{IsDrawnFor}
 use Rattle.ctr_actions.specs.Sites.{Site}
@@ -48,13 +49,24 @@ pub record KeepsScene (size : ℕ) (site : Site) (w : Mind) (scene : Scene) : Ty
   pub carried : AreCarried site scene w.facts
   pub undo : IsUndoLeft site.tables scene.run.sessions w.undo × CountsTo size w.undo
 
--- From the start the tape is legal, and not later than now; and the scene that it has reached is
--- kept.
+-- the next statement of a session is a ROLLBACK, of which nothing is answered yet
+abbrev pub IsAtRollback : List Line → Point → ℕ → Type 0
+IsAtRollback lines p s =
+    statement_of lines s ((progress_of p s).finished + 1) ≡ Some st.Rollback
+
+-- Each session that is within its rollback is at a ROLLBACK.
+abbrev pub AreAtRollback : List Line → Point → Run → Type 0
+AreAtRollback lines p run = (s : ℕ) (b : SessionHeld) → find nat_cmp s run.sessions ≡ Some b
+    → b.undoing ≡ true → IsAtRollback lines p s
+
+-- From the start the tape is legal, and not later than now; the scene that it has reached is kept;
+-- and who is within a rollback is at its ROLLBACK.
 pub record Keeps (lines : List Line) (start : Point) (size now : ℕ) (site : Site) (w : Mind)
     : Type 0 where
   pub legal : Legal lines start w.tape
   pub later : (final lines start w.tape).moment ≤ now
   pub scene : KeepsScene size site w (scene_of lines start w)
+  pub rolls : AreAtRollback lines (final lines start w.tape) w.run
 
 -- as it begins: nobody is in a transaction, and all of the start's undo is left
 abbrev pub mind_at : Site → Mind

@@ -17,6 +17,6 @@ pub use sessions::{
 };
 pub use silent::{
     a_reader_ends, a_refusal_outside_is_kept, a_rollback_begins, a_session_begins,
-    locks_and_reads_are_kept,
+    locks_and_reads_are_kept, who_rolls_back_is_at_its_rollback,
 };
 pub use walks::{a_walk_begins, commits_are_answered, time_and_growth_are_kept};

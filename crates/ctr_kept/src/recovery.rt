@@ -1,19 +1,6 @@
 // Turns of undo and of the cleaner.
 ghost use Rattle.std.specs.Prelude.{Bool, ◌<◌, ◌≡◌, ◌≤◌, ◌+◌, ◌++◌, ℕ, List, [], ◌∷◌, None};
-ghost use Rattle.ctr_records.specs.declared.record.SlogItem.{SlogItem};
-ghost use Rattle.ctr_records.specs.declared.record.SlogItem.TheVariants.{AllocOf, FreeOf, CreateOf, DropOf};
-ghost use Rattle.ctr_types.specs.declared.statement.Line.{Line};
-ghost use Rattle.ctr_model.specs.State.{transaction_of};
-ghost use Rattle.ctr_versions.specs.Laws.{IsNoSessions};
-ghost use Rattle.ctr_meta.specs.declared.items.Wanted.TheVariants.{Creation, Dropping};
-ghost use Rattle.ctr_area.specs.Sound.{IsAmong};
-ghost use Rattle.ctr_record_laws.specs.Bounds.{IsInBounds};
-ghost use Rattle.ctr_actions.specs.Sites.{Site};
-ghost use Rattle.ctr_actions.specs.Facts.{Fact};
-ghost use Rattle.ctr_paged.specs.Shown.{Scene};
-ghost use Rattle.ctr_actions.specs.Actions.{Action, Frees, Reclaims, MakesDead, Uncreates, Undrops, Aborts, Owes, site_after};
-ghost use Rattle.ctr_paged.specs.Moving.{IsItemOfName, MovesTo};
-ghost use Rattle.ctr_paged.specs.Shown.{IsShown};
+ghost use Rattle.ctr_kept.specs.Words.{SlogItem, AllocOf, FreeOf, CreateOf, DropOf, Line, transaction_of, IsNoSessions, Creation, Dropping, IsAmong, IsInBounds, Site, Fact, Scene, Action, Frees, Reclaims, MakesDead, Uncreates, Undrops, Aborts, Owes, site_after, IsItemOfName, MovesTo, IsShown};
 ghost use Rattle.ctr_kept.specs.Carried.{IsAwayFromAll};
 ghost use Rattle.ctr_kept.specs.Undo.{Undo, left_of, CountsTo, SparesUndo};
 ghost use Rattle.ctr_kept.specs.Walk.{Mind};

@@ -2,16 +2,7 @@
 ghost use Rattle.std.specs.Prelude.{◌≡◌, ◌<◌, ◌≤◌, ◌+◌, ℕ, List, [], ◌∷◌, length};
 ghost use Rattle.ctr_types.specs.declared.tape.Act.TheVariants as act;
 ghost use Rattle.ctr_types.specs.declared.tape.Reply.TheVariants as reply;
-ghost use Rattle.ctr_model.specs.declared.database.Change.{Change};
-ghost use Rattle.ctr_model.specs.Reply.{changes_of};
-ghost use Rattle.ctr_model.specs.State.{view};
-ghost use Rattle.ctr_versions.specs.Laws.{with_own};
-ghost use Rattle.ctr_sessions.specs.Sessions.{IsDrawnFor};
-ghost use Rattle.ctr_record_laws.specs.Bounds.{IsInBounds};
-ghost use Rattle.ctr_actions.specs.Sites.{Site, IsSoundSite};
-ghost use Rattle.ctr_actions.specs.Actions.{Action, Begins, Commits, Aborts, Owes, site_after};
-ghost use Rattle.ctr_actions.specs.Facts.{Fact, HasNoPageBut, HoldsFact};
-ghost use Rattle.ctr_paged.specs.Moving.{with_its, without_its, MovesTo};
+ghost use Rattle.ctr_kept.specs.Words.{Change, changes_of, view, with_own, IsDrawnFor, IsInBounds, Site, IsSoundSite, Action, Begins, Commits, Aborts, Owes, site_after, Fact, HasNoPageBut, HoldsFact, with_its, without_its, MovesTo};
 ghost use Rattle.ctr_kept.specs.Carried.{Covers};
 ghost use Rattle.ctr_kept.specs.Walk.{Mind};
 ghost use Rattle.ctr_kept.specs.Turns.{Start, KeepsRun, InTransaction, Telling, MayCome, telling, carrying, Carries, granted_to, drawn_mind, gone_mind, drawn_scene, asked_scene, state_now, scene_now};
@@ -31,7 +22,7 @@ pub fn a_turn_without_an_entry_is_kept()
 
 /// The first Lock of a session draws its number.
 pub fn a_number_is_drawn()
-    ensures { (c : Start) (now s : ℕ) (site : Site) (w : Mind) (seat : InTransaction c w s) (e : Telling c s) (mine : List Fact) (k : KeepsRun c now site w)
+    ensures { (c : Start) (now s : ℕ) (site : Site) (w : Mind) (seat : InTransaction c w s) (e : Telling c now s) (mine : List Fact) (k : KeepsRun c now site w)
         → MayCome c w e act.Lock reply.Granted
         → Owes site.tables.next Begins site → IsInBounds (site_after site.tables.next Begins site).area
         → MovesTo k.scene.low site.tables.next Begins site (scene_now c w) (drawn_scene seat site.tables.next (granted_to e seat.t))
@@ -50,7 +41,7 @@ pub fn who_draws_a_number_has_no_page()
 
 /// A Write is one change: a row is written, or a table is made or dropped.
 pub fn a_write_is_kept()
-    ensures { (c : Start) (now s : ℕ) (site : Site) (w : Mind) (seat : InTransaction c w s) (e : Telling c s) (a : Action) (change : Change) (mine : List Fact) (k : KeepsRun c now site w)
+    ensures { (c : Start) (now s : ℕ) (site : Site) (w : Mind) (seat : InTransaction c w s) (e : Telling c now s) (a : Action) (change : Change) (mine : List Fact) (k : KeepsRun c now site w)
         → MayCome c w e act.Write reply.Done → 0 < seat.session.me → changes_of (view (state_now c w) seat.t) e.statement ≡ change ∷ []
         → Owes seat.session.me a site → Covers seat.t a site
         → IsInBounds (site_after seat.session.me a site).area
@@ -63,7 +54,7 @@ pub fn a_write_is_kept()
 
 /// COMMIT asks, with the next number of all that asked. From here on the session carries nothing.
 pub fn a_commit_is_asked_for()
-    ensures { (c : Start) (now s : ℕ) (site : Site) (w : Mind) (seat : InTransaction c w s) (e : Telling c s) (k : KeepsRun c now site w)
+    ensures { (c : Start) (now s : ℕ) (site : Site) (w : Mind) (seat : InTransaction c w s) (e : Telling c now s) (k : KeepsRun c now site w)
         → MayCome c w e act.Ask (reply.Asked (length (state_now c w).asked + 1))
         → 0 < seat.session.me → Owes seat.session.me Commits site → IsInBounds (site_after seat.session.me Commits site).area
         → MovesTo k.scene.low seat.session.me Commits site (scene_now c w) (asked_scene seat)
@@ -74,7 +65,7 @@ pub fn a_commit_is_asked_for()
 
 /// A ROLLBACK ends by one mark.
 pub fn a_rollback_ends()
-    ensures { (c : Start) (now s : ℕ) (site : Site) (w : Mind) (seat : InTransaction c w s) (e : Telling c s) (k : KeepsRun c now site w)
+    ensures { (c : Start) (now s : ℕ) (site : Site) (w : Mind) (seat : InTransaction c w s) (e : Telling c now s) (k : KeepsRun c now site w)
         → MayCome c w e act.Rollback reply.RolledBack → 0 < seat.session.me
         → Owes seat.session.me Aborts site → IsInBounds (site_after seat.session.me Aborts site).area
         → MovesTo k.scene.low seat.session.me Aborts site (scene_now c w) (without_its s (scene_now c w))

@@ -1,11 +1,6 @@
 // A walk begins, time passes, commits are answered.
 ghost use Rattle.std.specs.Prelude.{◌≡◌, ◌<◌, ◌≤◌, ◌+◌, ℕ, List, length};
-ghost use Rattle.ctr_types.specs.declared.statement.Line.{Line};
-ghost use Rattle.ctr_area.specs.Chains.{pages_bound};
-ghost use Rattle.ctr_area.specs.Images.{is_committed_in, image_rows, undo_size};
-ghost use Rattle.ctr_record_laws.specs.Bounds.{IsInBounds};
-ghost use Rattle.ctr_names.specs.Held.{names_of_items};
-ghost use Rattle.ctr_actions.specs.Sites.{Site, IsSoundSite};
+ghost use Rattle.ctr_kept.specs.Words.{Line, pages_bound, is_committed_in, image_rows, undo_size, IsInBounds, names_of_items, Site, IsSoundSite};
 ghost use Rattle.ctr_kept.specs.Walk.{Mind, mind_at};
 ghost use Rattle.ctr_kept.specs.Turns.{Start, KeepsRun, state_now, AnswersEach};
 

@@ -1,21 +1,6 @@
 // What each record lays passes its own checks, in a state of a database.
 ghost use Rattle.std.specs.Prelude.{◌≡◌, ◌≢◌, ◌+◌, ◌/◌, ◌^◌, ◌<◌, ◌≤◌, ◌∷◌, [], ℕ, Bool, false, List};
-ghost use Rattle.ctr_types.specs.declared.value.Column.{Column};
-ghost use Rattle.ctr_types.specs.Names.{IsName};
-ghost use Rattle.ctr_value.specs.Columns.{ColumnsFit};
-ghost use Rattle.ctr_records.specs.declared.record.Record.{Record};
-ghost use Rattle.ctr_redo.specs.Overlaid.{touches};
-ghost use Rattle.ctr_redo.specs.States.{State, step};
-ghost use Rattle.ctr_page.specs.declared.header.Header.{Header};
-ghost use Rattle.ctr_page.specs.declared.rows.Place.{Place};
-ghost use Rattle.ctr_page.specs.declared.rows.RowSlot.{RowSlot};
-ghost use Rattle.ctr_page.specs.declared.rows.VersionEntry.{VersionEntry};
-ghost use Rattle.ctr_area.specs.Areas.{Title, Older, Area};
-ghost use Rattle.ctr_record_laws.specs.Owed.{RowMove, Reverting, Trimming, rows_header, versions_header};
-ghost use Rattle.ctr_record_effects.specs.States.{area_in, IsWholePage};
-ghost use Rattle.ctr_record_effects.specs.Standing.{IsDatabaseState};
-ghost use Rattle.ctr_record_effects.specs.Changing.{format_record, link_record, link_older_record, unlink_record, unlink_older_record, create_record, uncreate_record, drop_record, undrop_record, laid_in_entry, Lays};
-ghost use Rattle.ctr_actions.specs.Actions.{Links, LinksOlder, Keeps, Writes, Creates, Drops, Uncreates, Undrops, Reverts, Trims, Cuts, FreesOlder, MakesDead, Unlinks, UnlinksOlder, FreesEntry};
+ghost use Rattle.ctr_passed.specs.Words.{Column, IsName, ColumnsFit, Record, touches, State, step, Header, Place, RowSlot, VersionEntry, Title, Older, Area, RowMove, Reverting, Trimming, rows_header, versions_header, area_in, IsWholePage, IsDatabaseState, format_record, link_record, link_older_record, unlink_record, unlink_older_record, create_record, uncreate_record, drop_record, undrop_record, laid_in_entry, Lays, Links, LinksOlder, Keeps, Writes, Creates, Drops, Uncreates, Undrops, Reverts, Trims, Cuts, FreesOlder, MakesDead, Unlinks, UnlinksOlder, FreesEntry};
 ghost use Rattle.ctr_passed.specs.Logged.{RecordPasses, IsBlankPage, LaysSlot, LaysOlder};
 
 /// A Format leaves its page blank, and it stays blank behind each record that isn't on it.

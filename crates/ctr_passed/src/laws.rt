@@ -1,12 +1,6 @@
 // Pages that pass their checks stay so, and a sound state stays sound. A call does nothing: what it ensures is the law.
 ghost use Rattle.std.specs.Prelude.{◌≤◌, ℕ};
-ghost use Rattle.ctr_redo.specs.States.{State, counting};
-ghost use Rattle.ctr_area.specs.Chains.{pages_bound};
-ghost use Rattle.ctr_area.specs.Checked.{ArePassed};
-ghost use Rattle.ctr_record_effects.specs.States.{pages_in, area_in};
-ghost use Rattle.ctr_record_effects.specs.Standing.{IsDatabaseState};
-ghost use Rattle.ctr_actions.specs.Actions.{Action};
-ghost use Rattle.ctr_actions.specs.Records.{Does};
+ghost use Rattle.ctr_passed.specs.Words.{State, counting, pages_bound, ArePassed, pages_in, area_in, IsDatabaseState, Action, Does};
 ghost use Rattle.ctr_passed.specs.Laid.{LiesAs, LaidPasses};
 
 use ctr_actions::what_is_done_stays;

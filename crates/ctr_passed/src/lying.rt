@@ -1,18 +1,6 @@
 // The bytes of each record lie as its action says: at what the action changes, and nowhere else.
 ghost use Rattle.std.specs.Prelude.{◌+◌, ◌*◌, ◌/◌, ◌^◌, ◌<◌, ◌≤◌, ℕ, Bool, List, length};
-ghost use Rattle.ctr_types.specs.declared.value.Column.{Column};
-ghost use Rattle.ctr_value.specs.Columns.{ColumnsFit};
-ghost use Rattle.ctr_records.specs.declared.record.Record.{Record};
-ghost use Rattle.ctr_records.specs.declared.record.Record.TheVariants.{Begin, Commit, Abort, Forget, Checkpoint};
-ghost use Rattle.ctr_redo.specs.States.{State};
-ghost use Rattle.ctr_page.specs.declared.header.Header.{Header};
-ghost use Rattle.ctr_page.specs.declared.rows.Place.{Place};
-ghost use Rattle.ctr_page.specs.declared.table.TheConstants.{ENTRY_SIZE};
-ghost use Rattle.ctr_area.specs.Areas.{Title, Older, Area};
-ghost use Rattle.ctr_record_laws.specs.Owed.{RowMove, Reverting, Trimming};
-ghost use Rattle.ctr_record_effects.specs.States.{area_in, IsWholePage};
-ghost use Rattle.ctr_record_effects.specs.Changing.{alloc_record, free_record, format_record, link_record, link_older_record, unlink_record, unlink_older_record, create_record, uncreate_record, drop_record, undrop_record, laid_in_entry, Lays};
-ghost use Rattle.ctr_actions.specs.Actions.{Begins, Allocates, Formats, Links, LinksOlder, Keeps, Writes, Creates, Drops, Commits, Frees, Uncreates, Undrops, Aborts, Reclaims, Reverts, Trims, Cuts, FreesOlder, MakesDead, Unlinks, UnlinksOlder, FreesEntry, Forgets, Checkpoints};
+ghost use Rattle.ctr_passed.specs.Words.{Column, ColumnsFit, Record, Begin, Commit, Abort, Forget, Checkpoint, State, Header, Place, ENTRY_SIZE, Title, Older, Area, RowMove, Reverting, Trimming, area_in, IsWholePage, alloc_record, free_record, format_record, link_record, link_older_record, unlink_record, unlink_older_record, create_record, uncreate_record, drop_record, undrop_record, laid_in_entry, Lays, Begins, Allocates, Formats, Links, LinksOlder, Keeps, Writes, Creates, Drops, Commits, Frees, Uncreates, Undrops, Aborts, Reclaims, Reverts, Trims, Cuts, FreesOlder, MakesDead, Unlinks, UnlinksOlder, FreesEntry, Forgets, Checkpoints};
 ghost use Rattle.ctr_passed.specs.Laid.{slot_size_in, older_size_in};
 ghost use Rattle.ctr_passed.specs.Logged.{LaysAtPlace, RecordLies};
 

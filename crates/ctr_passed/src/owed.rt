@@ -1,17 +1,6 @@
 // Records in the catalog are laid as their actions, by what these owe.
 ghost use Rattle.std.specs.Prelude.{◌+◌, ◌/◌, ◌∷◌, [], ℕ, Bool};
-ghost use Rattle.ctr_records.specs.declared.record.Record.{Record};
-ghost use Rattle.ctr_redo.specs.States.{State};
-ghost use Rattle.ctr_page.specs.declared.rows.Place.{Place};
-ghost use Rattle.ctr_page.specs.declared.rows.RowSlot.{RowSlot};
-ghost use Rattle.ctr_page.specs.declared.rows.VersionEntry.{VersionEntry};
-ghost use Rattle.ctr_area.specs.Areas.{Older};
-ghost use Rattle.ctr_record_laws.specs.Loose.{IsLoose};
-ghost use Rattle.ctr_record_laws.specs.Owed.{OwedByKeep, RowMove, OwedByRow, Reverting, OwedByRevert, Trimming, OwedByTrim, OwedByCut, OwedByLink, OwedByOlderLink, OwedByUnlink, OwedByOlderUnlink, OwedByUncreate, OwedByUndrop, OwedByDrop, OwedByDying};
-ghost use Rattle.ctr_record_effects.specs.States.{area_in, IsWholePage};
-ghost use Rattle.ctr_record_effects.specs.Standing.{IsDatabaseState};
-ghost use Rattle.ctr_record_effects.specs.Changing.{link_record, link_older_record, unlink_record, unlink_older_record, uncreate_record, drop_record, undrop_record, laid_in_entry, Lays};
-ghost use Rattle.ctr_actions.specs.Actions.{Links, LinksOlder, Keeps, Writes, Drops, Uncreates, Undrops, Reverts, Trims, Cuts, FreesOlder, MakesDead, Unlinks, UnlinksOlder};
+ghost use Rattle.ctr_passed.specs.Words.{Record, State, Place, RowSlot, VersionEntry, Older, IsLoose, OwedByKeep, RowMove, OwedByRow, Reverting, OwedByRevert, Trimming, OwedByTrim, OwedByCut, OwedByLink, OwedByOlderLink, OwedByUnlink, OwedByOlderUnlink, OwedByUncreate, OwedByUndrop, OwedByDrop, OwedByDying, area_in, IsWholePage, IsDatabaseState, link_record, link_older_record, unlink_record, unlink_older_record, uncreate_record, drop_record, undrop_record, laid_in_entry, Lays, Links, LinksOlder, Keeps, Writes, Drops, Uncreates, Undrops, Reverts, Trims, Cuts, FreesOlder, MakesDead, Unlinks, UnlinksOlder};
 ghost use Rattle.ctr_passed.specs.Logged.{IsLaidAs, IsBlankPage, PutsSlot, PutsOlder};
 
 use crate::checks::{

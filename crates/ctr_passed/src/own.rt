@@ -1,20 +1,6 @@
 // A page of one's own, between its Format and its Link.
 ghost use Rattle.std.specs.Prelude.{◌≡◌, ◌≢◌, ◌⊎◌, ◌<◌, ◌∷◌, [], ℕ};
-ghost use Rattle.ctr_redo.specs.States.{State};
-ghost use Rattle.ctr_page.specs.declared.header.Header.{Header};
-ghost use Rattle.ctr_page.specs.declared.rows.Place.{Place};
-ghost use Rattle.ctr_page.specs.Places.{room_for};
-ghost use Rattle.ctr_page.specs.Reading.{slot_at, older_at};
-ghost use Rattle.ctr_area.specs.Sound.{IsAmong};
-ghost use Rattle.ctr_area.specs.Chains.{slot_places, older_places};
-ghost use Rattle.ctr_area.specs.Changes.{IsPlaceOf};
-ghost use Rattle.ctr_area.specs.Reading.{columns_on, width_on, slot_said, older_said};
-ghost use Rattle.ctr_record_effects.specs.States.{pages_in, area_in, IsWholePage};
-ghost use Rattle.ctr_record_effects.specs.Standing.{IsDatabaseState};
-ghost use Rattle.ctr_actions.specs.Sites.{site_of};
-ghost use Rattle.ctr_actions.specs.Actions.{Action};
-ghost use Rattle.ctr_actions.specs.Records.{Does};
-ghost use Rattle.ctr_actions.specs.Facts.{HasPage, HasBlank, HoldsFact, IsBeside};
+ghost use Rattle.ctr_passed.specs.Words.{State, Header, Place, room_for, slot_at, older_at, IsAmong, slot_places, older_places, IsPlaceOf, columns_on, width_on, slot_said, older_said, pages_in, area_in, IsWholePage, IsDatabaseState, site_of, Action, Does, HasPage, HasBlank, HoldsFact, IsBeside};
 ghost use Rattle.ctr_passed.specs.Laid.{LiesAs, width_in, slot_size_in, older_size_in};
 ghost use Rattle.ctr_passed.specs.Logged.{IsBlankPage, IsSlotOf, IsOlderOf};
 

@@ -3,3 +3,4 @@ pub mod Survives
 pub mod Turns
 pub mod Opened
 pub mod Together
+pub mod Blanks

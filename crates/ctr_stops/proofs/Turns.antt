@@ -33,8 +33,9 @@ module _ {D : Type 0} (dev : Ghosts D) (earlier : (d : D) (s t : ℕ) (c : Image
   pub enough : LeavesFront dev a b → (c : Image) → dev.since b.disk (dev.moment_of b.disk) c → HasFirstCommits course.base course.asked (answers es) c
   enough leaves c left = image_in_call course.base course.asked (answers es) a keeps.fronts c (leaves.front.each c (earlier b.disk (dev.moment_of a.disk) (dev.moment_of b.disk) c leaves.front.later left))
 
-  shown_first : (more : List (List Change)) → ShowsAll course.base (course.asked ++ more) b → HasFirst course.base (course.asked ++ more) (length (course.asked ++ more)) b.now
-  shown_first more all = subst (λ l. HasFirst course.base l (length l) b.now) all.asked
+  -- what is shown has all that asked
+  shown_first : (order : List (List Change)) → ShowsAll course.base order b → HasFirst course.base order (length order) b.now
+  shown_first order all = subst (λ l. HasFirst course.base l (length l) b.now) all.asked
       (subst (λ d. HasFirst d all.scene.state.asked (length all.scene.state.asked) b.now) all.base (first_shown all.low b.now all.scene all.sound all.shown))
 
   -- a record was logged; none of the entries that came is an answer
@@ -42,7 +43,7 @@ module _ {D : Type 0} (dev : Ghosts D) (earlier : (d : D) (s t : ℕ) (c : Image
       → NotesAt (dev.moment_of b.disk) es entries → KeepsCommits dev (asking_more more course) (es ++ entries) b
   kept_logged r more entries leaves logs shows most notes = record {
     fronts = subst (λ n. HasFronts course.base (course.asked ++ more) n b) (sym notes.none) (fronts_logged course.base course.asked (answers es) a keeps.fronts r more b logs
-        (first_less course.base (course.asked ++ more) (length (course.asked ++ more)) (answers es) b.now most (shown_first more shows)));
+        (first_less course.base (course.asked ++ more) (length (course.asked ++ more)) (answers es) b.now most (shown_first (course.asked ++ more) shows)));
     survives = survives_noted dev earlier (dev.moment_of course.opened) (dev.images course.opened) course.base course.asked more (course.asked ++ more) es entries b.disk (survives_the_call leaves) notes.at refl notes.none (enough leaves);
     later = further keeps.later leaves.front.later;
   }
@@ -65,12 +66,8 @@ module _ {D : Type 0} (dev : Ghosts D) (earlier : (d : D) (s t : ℕ) (c : Image
     later = further keeps.later leaves.front.later;
   }
     where
-      first : HasFirst course.base course.asked (length course.asked) b.now
-      first = subst (λ l. HasFirst course.base l (length l) b.now) shows.asked
-          (subst (λ d. HasFirst d shows.scene.state.asked (length shows.scene.state.asked) b.now) shows.base (first_shown shows.low b.now shows.scene shows.sound shows.shown))
-
       fronts_now : HasFronts course.base course.asked (answers (es ++ entries)) b
-      fronts_now = fronts_answered course.base course.asked (answers es) a keeps.fronts (answers (es ++ entries)) b logs none (first_less course.base course.asked (length course.asked) (answers (es ++ entries)) b.now most first)
+      fronts_now = fronts_answered course.base course.asked (answers es) a keeps.fronts (answers (es ++ entries)) b logs none (first_less course.base course.asked (length course.asked) (answers (es ++ entries)) b.now most (shown_first course.asked shows))
 
   pub same_counted : a.now.counted ≡ a.hardened.counted
   same_counted = ap (λ (s : _). s.counted) keeps.fronts.now ∙ steps_counted a.waiting a.hardened

@@ -1,3 +1,5 @@
 pub mod Fronts
 pub mod Stops
+pub mod Pages
 pub mod World
+pub mod Words

@@ -11,6 +11,7 @@ use Rattle.ctr_actions.specs.Sites.{site_of}
 use Rattle.ctr_kept.specs.Walk.{Mind}
 use Rattle.ctr_kept.specs.Turns.{Start, KeepsRun, state_now}
 use Rattle.ctr_stops.specs.Fronts.{rows_of_state}
+use Rattle.ctr_stops.specs.Pages.{HoldsPages}
 use Rattle.ctr_stops.specs.Stops.{Course, KeepsCommits}
 
 -- what a run begins with whose store holds this state
@@ -31,11 +32,13 @@ course_of c opened w = record {
   asked = (state_now c w).asked;
 }
 
--- The tape leads to what stands in the store. At each moment until now a stop left a prefix of the
--- commit order, and however much of what waits is lost it is one; and from now on a crash leaves
+-- The tape leads to what stands in the store, whose state may be a database's, with pages blank
+-- that sessions count on as empty. At each moment until now a stop left a prefix of the commit
+-- order, and however much of what waits is lost it is one; and from now on a crash leaves
 -- what is hardened with some of what waits.
 pub record KeepsWorld {D : Type 0} (g : Ghosts D) (c : Start) (opened : D) (v : View D) (w : Mind)
     : Type 0 where
   pub walks : KeepsRun c (g.moment_of v.disk) (site_of v.now) w
+  pub pages : HoldsPages w v.now
   pub commits : KeepsCommits g (course_of c opened w) w.tape v
   pub rests : LeavesFront g v v

@@ -1,25 +1,7 @@
 // Over each kind of turn.
 ghost use Rattle.std.specs.Prelude.{◌≡◌, ◌≤◌, ℕ, List, [], ◌∷◌, ◌++◌, length, take};
 ghost use Rattle.std.specs.List.{AllByRecursion};
-ghost use Rattle.ctr_types.specs.declared.tape.Entry.{Entry};
-ghost use Rattle.ctr_disk.specs.Device.{LeavesOnly};
-ghost use Rattle.ctr_disk.specs.Image.{Image};
-ghost use Rattle.ctr_records.specs.declared.record.Record.{Record};
-ghost use Rattle.ctr_model.specs.declared.database.Change.{Change};
-ghost use Rattle.ctr_model.specs.Database.{Database, after_all};
-ghost use Rattle.ctr_model.specs.State.{at_rest};
-ghost use Rattle.ctr_model.specs.Texts.{answers};
-ghost use Rattle.ctr_area.specs.Chains.{pages_bound};
-ghost use Rattle.ctr_redo.specs.States.{State, grown};
-ghost use Rattle.ctr_record_effects.specs.States.{area_in};
-ghost use Rattle.ctr_record_effects.specs.Standing.{StandsForDatabase};
-ghost use Rattle.ctr_store.specs.Opening.{LeavesFirst};
-ghost use Rattle.ctr_store.specs.StoreOpening.{OpensStore};
-ghost use Rattle.ctr_store.specs.Store.{View, LeavesFront, LeavesGrowing, GrowsByExtent, Logs};
-ghost use Rattle.ctr_names.specs.Held.{names_of_items};
-ghost use Rattle.ctr_actions.specs.Sites.{site_of};
-ghost use Rattle.ctr_paged.specs.Paged.{at_open};
-ghost use Rattle.ctr_paged.specs.Shown.{IsShown};
+ghost use Rattle.ctr_stops.specs.Words.{Entry, LeavesOnly, Image, Record, Change, Database, after_all, at_rest, answers, pages_bound, State, grown, area_in, StandsForDatabase, LeavesFirst, OpensStore, View, LeavesFront, LeavesGrowing, GrowsByExtent, Logs, names_of_items, site_of, at_open, IsShown};
 ghost use Rattle.ctr_stops.specs.Fronts.{rows_of_state};
 ghost use Rattle.ctr_stops.specs.Stops.{HasFirstCommits, Course, asking_more, KeepsCommits, ShowsAll, NotesAt, LeavesPrefixAt, LeftSince};
 

@@ -1,24 +1,13 @@
 // What a World keeps of its walk and of its store, together.
 ghost use Rattle.std.specs.Prelude.{◌≡◌, ◌≤◌, ℕ, List, [], ◌∷◌, ◌++◌};
-ghost use Rattle.ctr_types.specs.declared.statement.Line.{Line};
-ghost use Rattle.ctr_types.specs.declared.tape.Entry.{Entry};
-ghost use Rattle.ctr_disk.specs.Device.{LeavesOnly};
-ghost use Rattle.ctr_disk.specs.Image.{Image};
-ghost use Rattle.ctr_area.specs.Chains.{pages_bound};
-ghost use Rattle.ctr_records.specs.declared.record.Record.{Record};
-ghost use Rattle.ctr_redo.specs.States.{State, grown};
-ghost use Rattle.ctr_record_effects.specs.Standing.{IsDatabaseState, StandsForDatabase};
-ghost use Rattle.ctr_store.specs.Opening.{LeavesFirst};
-ghost use Rattle.ctr_store.specs.StoreOpening.{OpensStore};
-ghost use Rattle.ctr_store.specs.Store.{View, LeavesFront, LeavesGrowing, GrowsByExtent, Logs};
-ghost use Rattle.ctr_actions.specs.Sites.{site_of};
-ghost use Rattle.ctr_kept.specs.Walk.{Mind, mind_at};
-ghost use Rattle.ctr_kept.specs.Turns.{Start, KeepsRun, AnswersEach, state_now};
+ghost use Rattle.ctr_stops.specs.Words.{Line, Entry, LeavesOnly, Image, pages_bound, Record, State, grown, StandsForDatabase, LeavesFirst, OpensStore, View, LeavesFront, LeavesGrowing, GrowsByExtent, Logs, site_of, Mind, mind_at, Start, KeepsRun, AnswersEach, state_now};
+ghost use Rattle.ctr_stops.specs.Pages.{HoldsPages, CountsOnNoMore};
 ghost use Rattle.ctr_stops.specs.Stops.{NotesAt};
 ghost use Rattle.ctr_stops.specs.World.{starting, KeepsWorld};
 
 use ctr_disk::Disk;
 use ctr_model::states_grow;
+use ctr_passed::a_sound_state_stays_sound;
 
 /// A World begins on a store that was opened on an image that stands for a database.
 pub fn a_world_begins<D: Disk>()
@@ -31,17 +20,17 @@ pub fn a_world_begins<D: Disk>()
 pub fn a_turn_of_a_world_is_kept<D: Disk>()
     ensures logged { (c : Start) (opened : D) (a b : View D) (w v : Mind) (entries : List Entry) (r : Record) → KeepsWorld D.Disk c opened a w
         → v.tape ≡ w.tape ++ entries → KeepsRun c (D.Disk.moment_of b.disk) (site_of b.now) v → NotesAt (D.Disk.moment_of b.disk) w.tape entries
-        → IsDatabaseState b.now → LeavesFront D.Disk a b → LeavesFront D.Disk b b → Logs (r ∷ []) a b → KeepsWorld D.Disk c opened b v }
+        → HoldsPages v b.now → LeavesFront D.Disk a b → LeavesFront D.Disk b b → Logs (r ∷ []) a b → KeepsWorld D.Disk c opened b v }
     ensures none { (c : Start) (opened : D) (a b : View D) (w v : Mind) (entries : List Entry) → KeepsWorld D.Disk c opened a w
         → v.tape ≡ w.tape ++ entries → KeepsRun c (D.Disk.moment_of b.disk) (site_of b.now) v → NotesAt (D.Disk.moment_of b.disk) w.tape entries
-        → (state_now c v).asked ≡ (state_now c w).asked → LeavesFront D.Disk a b → LeavesFront D.Disk b b → Logs [] a b → KeepsWorld D.Disk c opened b v }
+        → (state_now c v).asked ≡ (state_now c w).asked → CountsOnNoMore w v → LeavesFront D.Disk a b → LeavesFront D.Disk b b → Logs [] a b → KeepsWorld D.Disk c opened b v }
 {
     states_grow();
 }
 
 /// Where nothing waits any more, all that asked may be answered at once; and more pages may be counted.
 pub fn answers_and_growth_are_kept<D: Disk>()
-    ensures answers { (c : Start) (opened : D) (a b : View D) (w : Mind) (n : ℕ) → KeepsWorld D.Disk c opened a w → IsDatabaseState b.now
+    ensures answers { (c : Start) (opened : D) (a b : View D) (w : Mind) (n : ℕ) → KeepsWorld D.Disk c opened a w
         → LeavesFront D.Disk a b → LeavesFront D.Disk b b → Logs [] a b → b.waiting ≡ []
         → (all : AnswersEach c (D.Disk.moment_of b.disk) (site_of b.now) w n) → KeepsWorld D.Disk c opened b all.mind }
     ensures growth { (c : Start) (opened : D) (a b : View D) (w : Mind) → KeepsWorld D.Disk c opened a w → grown a.now.counted ≤ pages_bound
@@ -49,4 +38,5 @@ pub fn answers_and_growth_are_kept<D: Disk>()
         → KeepsWorld D.Disk c opened b w }
 {
     states_grow();
+    a_sound_state_stays_sound();
 }

@@ -5,4 +5,4 @@ pub returns-clause-answers : goal.returns-clause-answers
 returns-clause-answers g c = λ start opened a b w n world. world_answered g.D.Disk g.met.D.Disk.earlier c.states_grow.ensures start opened a b w world n
 
 pub returns-clause-growth : goal.returns-clause-growth
-returns-clause-growth g c = λ start opened a b w world. world_grown g.D.Disk g.met.D.Disk.earlier c.states_grow.ensures start opened a b w world
+returns-clause-growth g c = λ start opened a b w world. world_grown g.D.Disk g.met.D.Disk.earlier c.states_grow.ensures start opened a b w world c.a_sound_state_stays_sound.ensures.growth

@@ -1,0 +1,28 @@
+-- The words of other crates in which this one says its laws.
+pub use Rattle.ctr_versions.specs.Laws.{IsNoSessions}
+pub use Rattle.ctr_area.specs.Chains.{pages_bound}
+pub use Rattle.ctr_redo.specs.States.{State, counting, grown}
+pub use Rattle.ctr_record_effects.specs.States.{pages_in, area_in}
+pub use Rattle.ctr_actions.specs.Sites.{site_of}
+pub use Rattle.ctr_actions.specs.Actions.{Action}
+pub use Rattle.ctr_actions.specs.Records.{Does}
+pub use Rattle.ctr_actions.specs.Facts.{Fact}
+pub use Rattle.ctr_passed.specs.Laid.{LiesAs, LaidPasses}
+pub use Rattle.ctr_kept.specs.Walk.{Mind, with_facts, mind_at}
+pub use Rattle.ctr_kept.specs.Turns.{Start, KeepsRun, InTransaction, AnswersEach, state_now}
+pub use Rattle.ctr_types.specs.declared.tape.Entry.{Entry}
+pub use Rattle.ctr_disk.specs.Device.{LeavesOnly}
+pub use Rattle.ctr_disk.specs.Image.{Image}
+pub use Rattle.ctr_records.specs.declared.record.Record.{Record}
+pub use Rattle.ctr_model.specs.declared.database.Change.{Change}
+pub use Rattle.ctr_model.specs.Database.{Database, after_all}
+pub use Rattle.ctr_model.specs.State.{at_rest}
+pub use Rattle.ctr_model.specs.Texts.{answers}
+pub use Rattle.ctr_record_effects.specs.Standing.{StandsForDatabase}
+pub use Rattle.ctr_store.specs.Opening.{LeavesFirst}
+pub use Rattle.ctr_store.specs.StoreOpening.{OpensStore}
+pub use Rattle.ctr_store.specs.Store.{View, LeavesFront, LeavesGrowing, GrowsByExtent, Logs}
+pub use Rattle.ctr_names.specs.Held.{names_of_items}
+pub use Rattle.ctr_paged.specs.Paged.{at_open}
+pub use Rattle.ctr_paged.specs.Shown.{IsShown}
+pub use Rattle.ctr_types.specs.declared.statement.Line.{Line}
