@@ -8,7 +8,7 @@ ghost use Rattle.ctr_catalog.specs.declared.entries.TheConstants.{ENTRIES_ON_PAG
 ghost use Rattle.ctr_catalog.specs.Entries.{is_live_of, is_unused, checks_entry, frees_in};
 ghost use Rattle.ctr_page.specs.Columns.{entry_at as entry_of};
 
-use ctr_page::{BadPage, CatalogEntry, check_entry, read_entry};
+use ctr_page::{BadPage, CatalogEntry, EntryState, check_entry, read_entry};
 use ctr_types::Name;
 
 /// How many entries a page of the catalog has.
@@ -19,7 +19,7 @@ pub(crate) fn is_live_of(name: &Name, entry: &CatalogEntry) -> bool
     requires parts { HasParts entry.now }
     ensures { result ≡ is_live_of name.now entry.now }
 {
-    entry.state == 1 && entry.name() == name.as_slice()
+    entry.state == EntryState::LIVE && entry.name() == name.as_slice()
 }
 
 /// The lowest free entry on a page of the catalog, where so many pages are counted; or the damage of the
@@ -31,7 +31,7 @@ pub fn find_free(counted: u32, page: &[u8]) -> Result<Option<u8>, BadPage>
 {
     for entry in 0..ENTRIES_ON_PAGE {
         check_entry(counted, entry, page)?;
-        if read_entry(page, entry).state == 0 {
+        if read_entry(page, entry).state == EntryState::FREE {
             return Ok(Some(entry));
         }
     }

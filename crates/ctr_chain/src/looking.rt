@@ -11,7 +11,7 @@ ghost use Rattle.ctr_chain.specs.Looking.{xid_there, look_of_slot, look_of_entry
 
 use ctr_base::Origin;
 use ctr_disk::Disk;
-use ctr_page::{BadPage, Place, RowSlot, Version, VersionEntry};
+use ctr_page::{BadPage, Place, RowSlot, Use, Version, VersionEntry};
 use ctr_pvs::{check_versions_there, row_in, version_in};
 use ctr_store::Store;
 use ctr_types::Xid;
@@ -47,7 +47,7 @@ fn xid_there(version: &Option<Version>) -> Xid
 fn look_of_slot(slot: &RowSlot) -> SlotLook
     ensures { result ≡ look_of_slot slot.now }
 {
-    if slot.used != 1 {
+    if slot.used != Use::USED {
         return SlotLook {
             head: 0,
             previous: 0,
@@ -64,7 +64,7 @@ fn look_of_slot(slot: &RowSlot) -> SlotLook
 fn look_of_entry(entry: &VersionEntry) -> KeptLook
     ensures { result ≡ look_of_entry entry.now }
 {
-    if entry.used != 1 {
+    if entry.used != Use::USED {
         return KeptLook {
             xid: 0,
             older: NOWHERE,

@@ -4,7 +4,7 @@ ghost use Rattle.ctr_page.specs.Columns.{kinds_width as width_of_kinds};
 ghost use Rattle.ctr_page.specs.Making.{IsVersion, IsPrevious, IsSlot, IsEntry};
 ghost use Rattle.ctr_chain.specs.Rows.{row_of_version, row_if_any, head_row, previous_row, kept_row, GivesRow};
 
-use ctr_page::{RowSlot, Version, VersionEntry};
+use ctr_page::{RowSlot, Tombstone, Use, Version, VersionEntry};
 use ctr_types::{Kind, OutOfMemory, Row};
 use ctr_value::row_by_kinds;
 use std::alloc::Global;
@@ -20,7 +20,7 @@ fn version_row(
     requires fits { IsVersion (width_of_kinds kinds.now) version.now }
     ensures { GivesRow (row_of_version kinds.now key version.now) result }
 {
-    if version.tombstone != 0 {
+    if version.tombstone != Tombstone::NONE {
         return Ok(None);
     }
     match row_by_kinds(alloc, kinds, key, version.payload.as_slice()) {
@@ -39,7 +39,7 @@ pub(crate) fn head_row(
     requires fits { IsSlot (width_of_kinds kinds.now) slot.now }
     ensures { GivesRow (head_row kinds.now slot.now) result }
 {
-    if slot.used != 1 {
+    if slot.used != Use::USED {
         return Ok(None);
     }
     version_row(alloc, kinds, slot.key, &slot.head)
@@ -72,7 +72,7 @@ pub(crate) fn previous_row(
     requires fits { IsSlot (width_of_kinds kinds.now) slot.now }
     ensures { GivesRow (previous_row kinds.now slot.now) result }
 {
-    if slot.used != 1 {
+    if slot.used != Use::USED {
         return Ok(None);
     }
     row_if_any(alloc, kinds, slot.key, &slot.previous)
@@ -88,7 +88,7 @@ pub(crate) fn kept_row(
     requires fits { IsEntry (width_of_kinds kinds.now) entry.now }
     ensures { GivesRow (kept_row kinds.now entry.now) result }
 {
-    if entry.used != 1 {
+    if entry.used != Use::USED {
         return Ok(None);
     }
     version_row(alloc, kinds, entry.key, &entry.version)

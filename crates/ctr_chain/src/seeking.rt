@@ -18,7 +18,7 @@ use crate::looking::{SlotLook, look_at_entry, look_at_row};
 use ctr_base::Origin;
 use ctr_disk::Disk;
 use ctr_meta::{Meta, is_seen};
-use ctr_page::{BadChain, Place, kept_size, kinds_width, room_for};
+use ctr_page::{BadChain, PageKind, Place, kept_size, kinds_width, room_for};
 use ctr_pvs::table_on;
 use ctr_records::PageNo;
 use ctr_snap::Snapshot;
@@ -163,7 +163,7 @@ pub(crate) fn seek<D: Disk, O: Origin>(
 {
     store.counts_pages();
     let counted = store.counted();
-    let table = table_on(store, 1, place.page)?;
+    let table = table_on(store, PageKind::ROWS, place.page)?;
     let look = look_at_row(store, &table, counted, place)?;
     if let Some(found) = found_in(sought, store.meta(), look) {
         return Ok(Searched { table, found });

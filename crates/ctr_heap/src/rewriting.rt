@@ -11,7 +11,7 @@ ghost use Rattle.ctr_record_laws.specs.Owed.{older_copy, FirstVersion, written_s
 ghost use Rattle.ctr_heap.specs.Ways.{IsWay, kept_version, writing_by};
 
 use crate::ways::Way;
-use ctr_page::{Place, RowSlot, Version, VersionEntry};
+use ctr_page::{Place, RowSlot, Use, Version, VersionEntry};
 use ctr_records::Bytes;
 use ctr_types::Xid;
 
@@ -23,7 +23,7 @@ fn entry_of<'a>(slot: &RowSlot<'a>, version: &Version<'a>) -> VersionEntry<'a>
     ensures { result ≡ record { used = 1; key = slot.now.key; version = version.now; older = slot.now.older } }
 {
     VersionEntry {
-        used: 1,
+        used: Use::USED,
         key: slot.key,
         version: Version {
             xid: version.xid,
@@ -89,7 +89,7 @@ pub fn first<'a>(key: i64, head: Version<'a>) -> RowSlot<'a>
     ensures fits { (w : ℕ) → IsVersion w head.entry → IsSlot w result }
 {
     RowSlot {
-        used: 1,
+        used: Use::USED,
         key,
         head,
         previous: None,

@@ -8,7 +8,7 @@ ghost use Rattle.ctr_area.specs.Reading.{header_on, columns_on, area_of};
 ghost use Rattle.ctr_heap.specs.declared.slots.SlotSought.{SlotSought};
 ghost use Rattle.ctr_heap.specs.Slots.{slot_is, EndsSlots, seeks_in};
 
-use ctr_page::{BadPage, RowSlot, check_slot, kinds_width, read_slot, room_for, slot_size};
+use ctr_page::{BadPage, RowSlot, Use, check_slot, kinds_width, read_slot, room_for, slot_size};
 use ctr_types::Kind;
 use ctr_walk::PageSought;
 
@@ -27,8 +27,8 @@ impl SlotSought {
         ensures { result ≡ slot_is self slot.now }
     {
         match self {
-            SlotSought::Key(key) => slot.used == 1 && slot.key == key,
-            SlotSought::Free => slot.used == 0,
+            SlotSought::Key(key) => slot.used == Use::USED && slot.key == key,
+            SlotSought::Free => slot.used == Use::FREE,
         }
     }
 }

@@ -10,6 +10,7 @@ ghost use Rattle.ctr_page.specs.Columns.{entry_at as entry_of, kinds_of, slot_st
 ghost use Rattle.ctr_page.specs.Readable.{HoldsRows, HoldsOlder, HasParts, FirstsAreCounted};
 ghost use Rattle.ctr_page.specs.Damage.{chain_kind, chain_entry, chain_bucket, counted_check, header_check, place_check, pointer_check, text_check, texts_check, version_check, some_version_check, previous_check, used_slot_check, used_kept_check, slot_check, kept_check, from_1_check, firsts_check, column_check, columns_check, used_entry_check, entry_check, DamageDiffers};
 
+use crate::header::PageKind;
 use crate::table::{
     BUCKET_AT, COLUMN_SIZE, COLUMNS_AT, ENTRY_SIZE, FIRSTS_AT, HEAD_AT, HEADER_SIZE, KIND_AT,
     MOST_COLUMNS, NAME_AT, NAME_MOST, NEXT_AT, OWNER_AT, TOMBSTONE_AT, VERSION_SIZE, has_previous,
@@ -34,12 +35,12 @@ pub enum Chain {
 }
 
 impl Chain {
-    fn kind(self) -> u8
+    fn kind(self) -> PageKind
         ensures { result ≡ chain_kind self }
     {
         match self {
-            Chain::Rows { .. } => 1,
-            Chain::Versions { .. } => 2,
+            Chain::Rows { .. } => PageKind::ROWS,
+            Chain::Versions { .. } => PageKind::VERSIONS,
         }
     }
 
@@ -92,7 +93,7 @@ pub fn check_header(chain: Chain, counted: u32, page: &[u8]) -> Result<(), BadPa
 {
     expect(
         KIND_AT as u64,
-        chain.kind() as u128,
+        chain.kind().byte() as u128,
         get_u8(page, KIND_AT) as u128,
     )?;
     expect(

@@ -16,12 +16,53 @@ use ctr_bytes::{get_u8, get_u32, get_u64};
 use ctr_records::{Bytes, PageNo};
 use ctr_types::{Column, Kind, Name, Schema, Xid};
 use ctr_value::put_text;
+use std::marker::Model;
+
+/// Whether an entry of the catalog has a table. Its byte on the disk may be none of these; it is kept as it stood.
+#[derive(Clone, Copy, Debug, PartialEq, Eq)]
+pub struct EntryState {
+    byte: u8,
+}
+
+impl Model for EntryState {
+    ghost use Rattle.std.specs.Prelude.{ℕ};
+
+    ghost Value = { ℕ };
+
+    ghost view = { λ s. s.byte };
+
+    ghost inverse = { λ n. record { byte = n } };
+}
+
+impl EntryState {
+    /// No table.
+    pub const FREE: EntryState = EntryState { byte: 0 };
+
+    /// A table.
+    pub const LIVE: EntryState = EntryState { byte: 1 };
+
+    /// A table that was dropped, for good: its pages are still to be freed.
+    pub const DEAD: EntryState = EntryState { byte: 2 };
+
+    /// The state that a byte says, whatever byte it is.
+    pub fn from_byte(byte: u8) -> EntryState
+        ensures { result ≡ byte }
+    {
+        EntryState { byte }
+    }
+
+    /// The byte that says it.
+    pub fn byte(self) -> u8
+        ensures { result ≡ self }
+    {
+        self.byte
+    }
+}
 
 /// An entry of the catalog: a table that was made.
 #[derive(Debug, Drop)]
 pub struct CatalogEntry<'a> {
-    /// 0 free, 1 live, 2 dead.
-    pub state: u8,
+    pub state: EntryState,
     /// Who made the table.
     pub creator: Xid,
     /// Who dropped it; 0 for nobody.
@@ -39,7 +80,7 @@ pub fn read_entry<'a>(page: &'a [u8], at: u8) -> CatalogEntry<'a>
     let start = ENTRY_SIZE * at as usize;
     let bytes = &page[start..start + ENTRY_SIZE];
     CatalogEntry {
-        state: get_u8(bytes, 0),
+        state: EntryState::from_byte(get_u8(bytes, 0)),
         creator: get_u64(bytes, CREATOR_AT),
         dropper: get_u64(bytes, DROPPER_AT),
         bytes: Bytes::new(bytes),
@@ -187,7 +228,7 @@ fn put_entry(creator: Xid, name: &Name, columns: &[Column], into: &mut [u8]) -> 
     ensures put { PutsBytes 0 (new_entry_bytes creator name.now columns.now) into.old into.new result }
     ensures end { result ≡ ENTRY_SIZE }
 {
-    let at = put_byte(into, 0, 1);
+    let at = put_byte(into, 0, EntryState::LIVE.byte());
     let at = put_long(into, at, creator);
     let at = put_long(into, at, 0);
     let at = put_name(into, at, name);

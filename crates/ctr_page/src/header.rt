@@ -7,12 +7,53 @@ use crate::putting::{put_byte, put_long, put_word};
 use crate::table::{BUCKET_AT, HEADER_SIZE, KIND_AT, NEXT_AT, OWNER_AT};
 use ctr_bytes::{get_u8, get_u32};
 use ctr_records::PageNo;
+use std::marker::Model;
+
+/// What a page holds. A page comes from a disk, so its byte may be none of these; it is kept as it stood.
+#[derive(Clone, Copy, Debug, PartialEq, Eq)]
+pub struct PageKind {
+    byte: u8,
+}
+
+impl Model for PageKind {
+    ghost use Rattle.std.specs.Prelude.{ℕ};
+
+    ghost Value = { ℕ };
+
+    ghost view = { λ k. k.byte };
+
+    ghost inverse = { λ n. record { byte = n } };
+}
+
+impl PageKind {
+    /// Nothing yet.
+    pub const BLANK: PageKind = PageKind { byte: 0 };
+
+    /// Rows, of a bucket of a table.
+    pub const ROWS: PageKind = PageKind { byte: 1 };
+
+    /// Older versions of a table's rows.
+    pub const VERSIONS: PageKind = PageKind { byte: 2 };
+
+    /// The kind that a byte says, whatever byte it is.
+    pub fn from_byte(byte: u8) -> PageKind
+        ensures { result ≡ byte }
+    {
+        PageKind { byte }
+    }
+
+    /// The byte that says it.
+    pub fn byte(self) -> u8
+        ensures { result ≡ self }
+    {
+        self.byte
+    }
+}
 
 /// What the first bytes of a page say.
 #[derive(Clone, Copy, Debug, PartialEq, Eq)]
 pub struct Header {
-    /// 0 blank, 1 rows, 2 versions.
-    pub kind: u8,
+    pub kind: PageKind,
     /// The table's entry of the catalog.
     pub entry: u8,
     /// The bucket; 0 in a page of versions.
@@ -28,7 +69,7 @@ pub fn read_header(page: &[u8]) -> Header
     ensures fits { IsHeader result }
 {
     Header {
-        kind: get_u8(page, KIND_AT),
+        kind: PageKind::from_byte(get_u8(page, KIND_AT)),
         entry: get_u8(page, OWNER_AT),
         bucket: get_u8(page, BUCKET_AT),
         next: get_u32(page, NEXT_AT),
@@ -40,7 +81,7 @@ fn put_header(header: &Header, into: &mut [u8]) -> usize
     ensures put { PutsBytes 0 (header_bytes header.now) into.old into.new result }
     ensures number { result ≡ HEADER_SIZE }
 {
-    let at = put_byte(into, KIND_AT, header.kind);
+    let at = put_byte(into, KIND_AT, header.kind.byte());
     let at = put_byte(into, at, header.entry);
     let at = put_byte(into, at, header.bucket);
     let at = put_byte(into, at, 0);

@@ -15,10 +15,11 @@ pub use checks::{
     BadPage, Chain, check_entry, check_header, check_slot, check_version, damage_differs,
     kinds_width,
 };
-pub use entry::{CatalogEntry, make_entry, read_entry};
-pub use header::{Header, make_header, read_header};
+pub use entry::{CatalogEntry, EntryState, make_entry, read_entry};
+pub use header::{Header, PageKind, make_header, read_header};
 pub use rows::{
-    Place, RowSlot, Version, VersionEntry, make_slot, make_version, read_slot, read_version,
+    Place, RowSlot, Tombstone, Use, Version, VersionEntry, make_slot, make_version, read_slot,
+    read_version,
 };
 pub use table::{bucket_of, kept_size, room_for, slot_size};
 pub use walk::BadChain;

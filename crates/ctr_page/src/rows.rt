@@ -12,6 +12,83 @@ use crate::table::{
 use ctr_bytes::{get_i64, get_u8, get_u16, get_u32, get_u64};
 use ctr_records::{Bytes, PageNo};
 use ctr_types::Xid;
+use std::marker::Model;
+
+/// Whether a slot or a version entry is used: exactly where its byte is 1. Any byte is kept as it stood.
+#[derive(Clone, Copy, Debug, PartialEq, Eq)]
+pub struct Use {
+    byte: u8,
+}
+
+impl Model for Use {
+    ghost use Rattle.std.specs.Prelude.{ℕ};
+
+    ghost Value = { ℕ };
+
+    ghost view = { λ u. u.byte };
+
+    ghost inverse = { λ n. record { byte = n } };
+}
+
+impl Use {
+    /// It can be taken.
+    pub const FREE: Use = Use { byte: 0 };
+
+    /// It has a row, or a version of one.
+    pub const USED: Use = Use { byte: 1 };
+
+    /// The use that a byte says, whatever byte it is.
+    pub fn from_byte(byte: u8) -> Use
+        ensures { result ≡ byte }
+    {
+        Use { byte }
+    }
+
+    /// The byte that says it.
+    pub fn byte(self) -> u8
+        ensures { result ≡ self }
+    {
+        self.byte
+    }
+}
+
+/// Whether a version is a tombstone: exactly where its byte isn't 0. Any byte is kept as it stood.
+#[derive(Clone, Copy, Debug, PartialEq, Eq)]
+pub struct Tombstone {
+    byte: u8,
+}
+
+impl Model for Tombstone {
+    ghost use Rattle.std.specs.Prelude.{ℕ};
+
+    ghost Value = { ℕ };
+
+    ghost view = { λ t. t.byte };
+
+    ghost inverse = { λ n. record { byte = n } };
+}
+
+impl Tombstone {
+    /// The version has a row.
+    pub const NONE: Tombstone = Tombstone { byte: 0 };
+
+    /// The row is deleted.
+    pub const DELETED: Tombstone = Tombstone { byte: 1 };
+
+    /// What a byte says, whatever byte it is.
+    pub fn from_byte(byte: u8) -> Tombstone
+        ensures { result ≡ byte }
+    {
+        Tombstone { byte }
+    }
+
+    /// The byte that says it.
+    pub fn byte(self) -> u8
+        ensures { result ≡ self }
+    {
+        self.byte
+    }
+}
 
 /// The place of a slot or a version entry. Page 0 stands for none.
 #[derive(Clone, Copy, Debug, PartialEq, Eq)]
@@ -26,8 +103,8 @@ pub struct Place {
 pub struct Version<'a> {
     /// Whose it is.
     pub xid: Xid,
-    /// 1 where the row is deleted, else 0.
-    pub tombstone: u8,
+    /// Whether the row is deleted.
+    pub tombstone: Tombstone,
     /// The row without its key, or zeros.
     pub payload: Bytes<'a>,
 }
@@ -35,8 +112,8 @@ pub struct Version<'a> {
 /// A row.
 #[derive(Debug, Drop)]
 pub struct RowSlot<'a> {
-    /// 1 where it is used, 0 where it is free.
-    pub used: u8,
+    /// Whether it is used.
+    pub used: Use,
     pub key: i64,
     /// The newest version.
     pub head: Version<'a>,
@@ -49,8 +126,8 @@ pub struct RowSlot<'a> {
 /// An older version of a row, off its slot.
 #[derive(Debug, Drop)]
 pub struct VersionEntry<'a> {
-    /// 1 where it is used, 0 where it is free.
-    pub used: u8,
+    /// Whether it is used.
+    pub used: Use,
     pub key: i64,
     pub version: Version<'a>,
     /// Where the next older version is kept.
@@ -78,7 +155,7 @@ fn version_in<'a>(bytes: &'a [u8], w: usize, at: usize) -> Version<'a>
     let payload = at + VERSION_SIZE;
     Version {
         xid: get_u64(bytes, at),
-        tombstone: get_u8(bytes, at + TOMBSTONE_AT),
+        tombstone: Tombstone::from_byte(get_u8(bytes, at + TOMBSTONE_AT)),
         payload: Bytes::new(&bytes[payload..payload + w]),
     }
 }
@@ -106,7 +183,7 @@ fn slot_in<'a>(bytes: &'a [u8], w: usize) -> RowSlot<'a>
     ensures fits { IsSlot w result }
 {
     RowSlot {
-        used: get_u8(bytes, 0),
+        used: Use::from_byte(get_u8(bytes, 0)),
         key: get_i64(bytes, KEY_AT),
         head: version_in(bytes, w, HEAD_AT),
         previous: previous_in(bytes, w),
@@ -121,7 +198,7 @@ fn older_in<'a>(bytes: &'a [u8], w: usize) -> VersionEntry<'a>
     ensures fits { IsEntry w result }
 {
     VersionEntry {
-        used: get_u8(bytes, 0),
+        used: Use::from_byte(get_u8(bytes, 0)),
         key: get_i64(bytes, KEY_AT),
         version: version_in(bytes, w, HEAD_AT),
         older: place_in(bytes, kept_pointer_at(w)),
@@ -173,7 +250,7 @@ fn put_version(into: &mut [u8], at: usize, version: &Version) -> usize
     ensures end { result ≡ at + 9 + length version.now.payload }
 {
     let at = put_long(into, at, version.xid);
-    let at = put_byte(into, at, version.tombstone);
+    let at = put_byte(into, at, version.tombstone.byte());
     put_bytes(into, at, version.payload.as_slice())
 }
 
@@ -202,7 +279,7 @@ fn put_slot(w: usize, slot: &RowSlot, into: &mut [u8]) -> usize
     ensures put { PutsBytes 0 (slot_bytes w slot.now) into.old into.new result }
     ensures end { result ≡ size_of_slot w }
 {
-    let at = put_byte(into, 0, slot.used);
+    let at = put_byte(into, 0, slot.used.byte());
     let at = put_key(into, at, slot.key);
     let _ = put_version(into, at, &slot.head);
     let at = put_previous(into, w, &slot.previous);
@@ -216,7 +293,7 @@ fn put_kept(w: usize, entry: &VersionEntry, into: &mut [u8]) -> usize
     ensures put { PutsBytes 0 (kept_bytes entry.now) into.old into.new result }
     ensures end { result ≡ size_of_kept w }
 {
-    let at = put_byte(into, 0, entry.used);
+    let at = put_byte(into, 0, entry.used.byte());
     let at = put_key(into, at, entry.key);
     let at = put_version(into, at, &entry.version);
     put_pointer(into, at, &entry.older)

@@ -1,6 +1,6 @@
 -- A version entry that is lent is the one that the area has at its place.
-use Rattle.std.proofs.Common.{◌≡◌, ℕ, cond, List, Result, Ok, Err, sym, ◌∙◌, ap}
-use Rattle.std.specs.Prelude.{⊤, IsTrue, IfOk, OnErr}
+use Rattle.std.proofs.Common.{◌≡◌, ℕ, cond, List, Result, Ok, Err, sym, ◌∙◌, ap, subst}
+use Rattle.std.specs.Prelude.{⊤, length, IsTrue, IfOk, OnErr}
 use Rattle.std.proofs.lemmas.Bool.{eq-eqb}
 use Rattle.ctr_disk.specs.declared.disk.Disk.{Ghosts}
 use Rattle.ctr_disk.specs.Image.{Image}
@@ -24,7 +24,7 @@ use Rattle.ctr_pvs.specs.declared.lending.LentVersion.{LentVersion}
 use Rattle.ctr_pvs.specs.Table.{TableSaid}
 use Rattle.ctr_walk.specs.Tables.{kinds_said}
 use Rattle.ctr_pvs.specs.Reading.{kept_on_check, lies_check, WidthSaid, version_check_at, PassesAt}
-use Rattle.ctr_pvs.specs.Lending.{entry_lent, IsKeptAt, VersionSaidAt, LendsVersion}
+use Rattle.ctr_pvs.specs.Lending.{entry_lent, VersionLiesAt, IsKeptAt, VersionSaidAt, LendsVersion}
 use Rattle.ctr_pvs.proofs.Told.{page_of_table, by_table, lies_of_entry}
 
 -- the table of the page was found, and the version entry passes
@@ -46,6 +46,11 @@ kept_there check pages at w l passes is =
     let cs = columns_on pages at.page in
     ap (older_said cs) (is ∙ ap (λ v. older_at v at.slot (pages at.page)) passes.wide)
     ∙ sym (ap (λ b. cond b (older_said cs (older_at (width_on pages at.page) at.slot (pages at.page))) free_older) (eq-eqb (header_on pages at.page).kind 2 passes.of_kind))
+
+-- it lies where one of its width does
+pub lies_still : (at : Place) (w : ℕ) (result : Result LentVersion StoreFault) → VersionLiesAt at w → IfOk result (λ l. length l.payload.now ≡ w) → IfOk result (λ l. VersionLiesAt at (length l.payload.now))
+lies_still at w (Ok l) lies is = subst (VersionLiesAt at) (sym is) lies
+lies_still at w (Err e) lies is = tt
 
 -- What is lent behind the page on which all passed.
 module _ {D : Type 0} (first : Image) (g : Ghosts D) (at : Place) (a b : View D) (w : ℕ) (one : LeavesPage {T = ℕ} first g a b (Ok w))

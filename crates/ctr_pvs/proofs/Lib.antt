@@ -5,3 +5,4 @@ pub mod Telling
 pub mod Freeing
 pub mod Lent
 pub mod Showing
+pub mod LentSlots

@@ -10,15 +10,15 @@ use Rattle.ctr_bytes.specs.Following.{◌>>=◌}
 use Rattle.ctr_records.specs.declared.decoding.BadRecord.{BadRecord}
 use Rattle.ctr_records.specs.Damage.{wrong, expect, at_most}
 use Rattle.ctr_records.proofs.Reading.{bind_ok, guard_ok, expect_ok}
-use Rattle.ctr_page.specs.declared.checks.Chain.TheVariants.{Versions}
+use Rattle.ctr_page.specs.declared.checks.Chain.TheVariants.{Rows, Versions}
 use Rattle.ctr_page.specs.declared.walk.BadChain.{BadChain}
 use Rattle.ctr_page.specs.declared.walk.BadChain.TheVariants.{OnPage}
 use Rattle.ctr_page.specs.declared.header.Header.{Header}
 use Rattle.ctr_page.specs.declared.rows.Place.{Place}
 use Rattle.ctr_page.specs.Places.{slot_size, kept_size, room_for, start_of}
 use Rattle.ctr_page.specs.Reading.{header_in}
-use Rattle.ctr_page.specs.Columns.{kinds_of, kinds_width, columns_in, kept_start}
-use Rattle.ctr_page.specs.Damage.{header_check, kept_check}
+use Rattle.ctr_page.specs.Columns.{kinds_of, kinds_width, columns_in, slot_start, kept_start}
+use Rattle.ctr_page.specs.Damage.{header_check, slot_check, kept_check}
 use Rattle.ctr_page.proofs.Holding.{kinds_wide, most_ok}
 use Rattle.ctr_page.proofs.Searches.{lies_on_page}
 use Rattle.ctr_area.specs.Reading.{no_header, entry_bytes, header_on, columns_on, width_on, size_on, area_of}
@@ -160,6 +160,14 @@ lies_of_entry counted e kinds number page is =
     let rest : ⊤ → Result ⊤ BadRecord = λ _. lies_check (kept_size (kinds_width kinds)) number >>= last in
     let header = bind_ok (header_check (Versions e) counted page) rest tt is in
     (bind_ok (lies_check (kept_size (kinds_width kinds)) number) last tt header.2).1
+
+-- so has a slot
+pub lies_of_slot : (counted e : ℕ) (kinds : List Kind) (number : ℕ) (page : List ℕ) → row_on_check counted e kinds number page ≡ Ok tt → lies_check (slot_size (kinds_width kinds)) number ≡ Ok tt
+lies_of_slot counted e kinds number page is =
+    let last : ⊤ → Result ⊤ BadRecord = λ _. slot_check kinds counted (slot_start kinds number) page in
+    let rest : ⊤ → Result ⊤ BadRecord = λ _. lies_check (slot_size (kinds_width kinds)) number >>= last in
+    let header = bind_ok (header_check (Rows e (field 1 2 page)) counted page) rest tt is in
+    (bind_ok (lies_check (slot_size (kinds_width kinds)) number) last tt header.2).1
 
 -- a page has a place of a number that passes
 pub lies_below : (size number : ℕ) → 0 < size → size ≤ 4080 → lies_check size number ≡ Ok tt → number < room_for size

@@ -1,11 +1,13 @@
 -- A version entry that is lent from its page.
-use Rattle.std.specs.Prelude.{◌≡◌, ℕ, IsTrue, List, Result, Ok, Err}
+use Rattle.std.specs.Prelude.{◌≡◌, ◌≤◌, ℕ, ◌+◌, IsTrue, List, Result, Ok, Err}
 use Rattle.ctr_disk.specs.declared.disk.Disk.{Ghosts}
 use Rattle.ctr_disk.specs.Image.{Image}
 use Rattle.ctr_disk.specs.declared.fault.StoreFault.{StoreFault}
 use Rattle.ctr_page.specs.declared.rows.Place.{Place}
 use Rattle.ctr_page.specs.declared.rows.VersionEntry.{VersionEntry}
 use Rattle.ctr_page.specs.declared.walk.BadChain.{BadChain}
+use Rattle.ctr_page.specs.declared.table.TheConstants.{PAGE_SIZE}
+use Rattle.ctr_page.specs.Places.{kept_size, start_of}
 use Rattle.ctr_area.specs.Reading.{older_said, columns_on, area_of}
 use Rattle.ctr_base.specs.Base.{IsSoundImage}
 use Rattle.ctr_store.specs.Store.{View}
@@ -22,6 +24,10 @@ entry_lent l = record {
   version = record { xid = l.xid; tombstone = l.tombstone; payload = l.payload.now };
   older = l.older;
 }
+
+-- A version entry of rows so wide has its bytes on a page at a place.
+abbrev pub VersionLiesAt : Place → ℕ → Type 0
+VersionLiesAt at w = (w ≤ 2048) × (start_of (kept_size w) at.slot + kept_size w ≤ PAGE_SIZE)
 
 -- What is lent is the version entry that the pages have at a place.
 abbrev pub IsKeptAt : (ℕ → List ℕ) → Place → LentVersion → Type 0

@@ -5,3 +5,4 @@ pub mod Entries
 pub mod Along
 pub mod Lending
 pub mod Showing
+pub mod Slots

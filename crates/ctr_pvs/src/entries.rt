@@ -3,7 +3,7 @@ ghost use Rattle.std.specs.Prelude.{◌≡◌, ◌≤◌, ◌<◌, length};
 ghost use Rattle.ctr_page.specs.declared.table.TheConstants.{PAGE_SIZE};
 ghost use Rattle.ctr_pvs.specs.Entries.{EndsFree};
 
-use ctr_page::{BadPage, check_version, kept_size, kinds_width, read_version, room_for};
+use ctr_page::{BadPage, Use, check_version, kept_size, kinds_width, read_version, room_for};
 use ctr_types::Kind;
 use ctr_walk::PageSought;
 
@@ -31,7 +31,7 @@ pub fn free_entry_on(kinds: &[Kind], counted: u32, page: &[u8]) -> Result<Option
     let count = room_for(kept_size(w)) as u16;
     for number in 0..count {
         check_version(kinds, counted, number, page)?;
-        if read_version(page, w, number).used == 0 {
+        if read_version(page, w, number).used == Use::FREE {
             return Ok(Some(number));
         }
     }

@@ -13,13 +13,15 @@ ghost use Rattle.ctr_page.specs.Making.{IsEntry};
 ghost use Rattle.ctr_record_effects.specs.States.{pages_in};
 ghost use Rattle.ctr_walk.specs.Damage.{searched, EndsOnPage};
 ghost use Rattle.ctr_pvs.specs.Reading.{WidthSaid, version_check_at, EndsAt};
-ghost use Rattle.ctr_pvs.specs.Lending.{entry_lent, IsKeptAt, LendsVersion};
+ghost use Rattle.ctr_pvs.specs.Lending.{entry_lent, VersionLiesAt, IsKeptAt, LendsVersion};
 
 use crate::reading::version_in;
 use crate::table::table_on;
 use ctr_base::Origin;
 use ctr_disk::{Disk, StoreFault};
-use ctr_page::{BadPage, Place, Version, VersionEntry, kinds_width, read_version};
+use ctr_page::{
+    BadPage, PageKind, Place, Tombstone, Use, Version, VersionEntry, kinds_width, read_version,
+};
 use ctr_records::Bytes;
 use ctr_store::Store;
 use ctr_types::Xid;
@@ -47,11 +49,11 @@ impl<'a> LentVersion<'a> {
         ensures { result ≡ entry_lent self.now }
     {
         VersionEntry {
-            used: self.used,
+            used: Use::from_byte(self.used),
             key: self.key,
             version: Version {
                 xid: self.xid,
-                tombstone: self.tombstone,
+                tombstone: Tombstone::from_byte(self.tombstone),
                 payload: Bytes::new(self.payload),
             },
             older: self.older,
@@ -70,10 +72,10 @@ fn lent(entry: VersionEntry) -> LentVersion
         older,
     } = entry;
     LentVersion {
-        used,
+        used: used.byte(),
         key,
         xid: version.xid,
-        tombstone: version.tombstone,
+        tombstone: version.tombstone.byte(),
         payload: version.payload.as_slice(),
         older,
     }
@@ -122,7 +124,7 @@ fn width_at<D: Disk, O: Origin>(store: &mut Store<D, O>, place: Place) -> Result
 {
     store.counts_pages();
     let counted = store.counted();
-    let table = table_on(store, 2, place.page)?;
+    let table = table_on(store, PageKind::VERSIONS, place.page)?;
     check_kept(store, &table, counted, place)
 }
 
@@ -138,6 +140,7 @@ fn lend<D: Disk, O: Origin>(
     requires inside { start_place (size_of_kept w) place.slot + size_of_kept w ≤ PAGE_SIZE }
     ensures said { WhereSound O.first D.Disk (IfOk result (λ l. entry_lent l ≡ older_at w place.slot (pages_in store.old.now place.page))) }
     ensures fits { IfOk result (λ l. IsEntry (length l.payload.now) (entry_lent l)) }
+    ensures wide { IfOk result (λ l. length l.payload.now ≡ w) }
     ensures* after { sem 𝓛 (Rests (store-row D.row O.row D.Disk O.Origin) store.entry (λ new. LeavesPage O.first D.Disk store.old new result)) }
 {
     let page = store.page(place.page)?;
@@ -153,8 +156,9 @@ pub fn version<D: Disk, O: Origin>(
     requires going { store.old.stopped ≡ false }
     requires counted { place.page < store.old.now.counted }
     ensures finds { WhereSound O.first D.Disk (IfOk result (IsKeptAt (pages_in store.old.now) place)) }
-    // What is lent can be made.
+    // What is lent can be made, and a version entry of rows so wide lies on a page at the place.
     ensures fits { IfOk result (λ l. IsEntry (length l.payload.now) (entry_lent l)) }
+    ensures lies { IfOk result (λ l. VersionLiesAt place (length l.payload.now)) }
     // Damage is told where it stands in the file of pages.
     ensures* after { sem 𝓛 (Rests (store-row D.row O.row D.Disk O.Origin) store.entry (λ new. LendsVersion O.first D.Disk place store.old new result)) }
 {

@@ -10,7 +10,7 @@ ghost use Rattle.ctr_pvs.specs.Table.{there_check, KindsSaid, OwnerSaid, TableFi
 
 use ctr_base::Origin;
 use ctr_disk::Disk;
-use ctr_page::{BadPage, check_entry, read_entry, read_header};
+use ctr_page::{BadPage, EntryState, PageKind, check_entry, read_entry, read_header};
 use ctr_records::{BadRecord, PageNo, at_most, expect};
 use ctr_store::Store;
 use ctr_walk::{SearchFault, TableOf, catalog_page, found_on};
@@ -44,14 +44,15 @@ pub(crate) fn check_there(
 }
 
 /// The entry of the catalog that a page of a kind names, which is behind those of the catalog.
-fn owner_in(kind: u8, counted: u32, p: PageNo, page: &[u8]) -> Result<u8, BadPage>
+fn owner_in(kind: PageKind, counted: u32, p: PageNo, page: &[u8]) -> Result<u8, BadPage>
     requires some { 0 < counted }
     requires whole { length page.now ≡ PAGE_SIZE }
     ensures said { OwnerSaid kind counted p page.now result }
     ensures few { IfOk result (λ e. e < 32) }
 {
     let header = read_header(page);
-    check_there(expect(0, kind as u128, header.kind as u128), counted, p)?;
+    let said = expect(0, kind.byte() as u128, header.kind.byte() as u128);
+    check_there(said, counted, p)?;
     at_most(1, 31, header.entry as u64)?;
     Ok(header.entry)
 }
@@ -59,7 +60,7 @@ fn owner_in(kind: u8, counted: u32, p: PageNo, page: &[u8]) -> Result<u8, BadPag
 /// The same of a page of a store.
 fn owner_on<D: Disk, O: Origin>(
     store: &mut Store<D, O>,
-    kind: u8,
+    kind: PageKind,
     counted: u32,
     p: PageNo,
 ) -> Result<u8, SearchFault>
@@ -84,7 +85,7 @@ fn table_in(entry: u8, counted: u32, page: &[u8]) -> Result<TableOf, BadPage>
     let at = entry % 16;
     check_entry(counted, at, page)?;
     let table = read_entry(page, at);
-    if table.state == 0 {
+    if table.state == EntryState::FREE {
         return Err(BadRecord {
             at: ENTRY * at as u64,
             want: 1,
@@ -116,11 +117,11 @@ fn table_at<D: Disk, O: Origin>(
     found_on(at, table_in(entry, counted, page))
 }
 
-/// The table that a page of rows (kind 1) or of versions (2) is of: the page and the entry of the catalog that it names are read,
+/// The table that a page of rows or of versions, by its kind, is of: the page and the entry of the catalog that it names are read,
 /// and checked as they are read. It logs nothing, and takes no memory.
 pub fn table_on<D: Disk, O: Origin>(
     store: &mut Store<D, O>,
-    kind: u8,
+    kind: PageKind,
     p: PageNo,
 ) -> Result<TableOf, SearchFault>
     requires going { store.old.stopped ≡ false }

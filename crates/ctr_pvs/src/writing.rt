@@ -25,7 +25,9 @@ use crate::table::table_on;
 use ctr_actions::a_logged_record_is_its_action;
 use ctr_base::Origin;
 use ctr_disk::{Disk, StoreFault};
-use ctr_page::{Place, Version, VersionEntry, kept_size, kinds_width, make_version};
+use ctr_page::{
+    PageKind, Place, Tombstone, Use, Version, VersionEntry, kept_size, kinds_width, make_version,
+};
 use ctr_record_effects::{a_version_is_laid, over_place};
 use ctr_record_laws::{
     a_free_entry_shows_the_same, a_keep_shows_the_same, a_kept_version_is_spare,
@@ -81,11 +83,11 @@ fn blank_made(w: usize) -> [u8; ENTRY_MOST]
 {
     let zeros = [0; WIDEST];
     let blank = VersionEntry {
-        used: 0,
+        used: Use::FREE,
         key: 0,
         version: Version {
             xid: 0,
-            tombstone: 0,
+            tombstone: Tombstone::NONE,
             payload: Bytes::new(&zeros[..w]),
         },
         older: Place { page: 0, slot: 0 },
@@ -131,7 +133,7 @@ fn width_to_free<D: Disk, O: Origin>(
     ensures fits { IfOk result (λ w. (w ≤ 2048) × (start_place (size_of_kept w) place.slot + size_of_kept w ≤ PAGE_SIZE)) }
     ensures leaves { LeavesPage O.first D.Disk store.old store.new (searched result) }
 {
-    let table = table_on(store, 2, place.page)?;
+    let table = table_on(store, PageKind::VERSIONS, place.page)?;
     let w = kinds_width(table.kinds());
     found_on(place.page, check_lies(kept_size(w), place.slot))?;
     Ok(w)

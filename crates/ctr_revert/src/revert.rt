@@ -24,7 +24,7 @@ use crate::slots::{FromSlot, SLOT_MOST, SlotLaid, blank_bytes, from_entry, from_
 use ctr_actions::a_logged_record_is_its_action;
 use ctr_base::Origin;
 use ctr_disk::{Disk, StoreFault};
-use ctr_page::{BadPage, Place, kinds_width, slot_size};
+use ctr_page::{BadPage, PageKind, Place, kinds_width, slot_size};
 use ctr_pvs::{check_versions_there, row_in, table_on, version_in};
 use ctr_record_effects::{a_slot_is_laid, over_place};
 use ctr_record_laws::{a_revert_leaves_its_entry, a_revert_takes_the_head, pages_are_in_bounds};
@@ -164,7 +164,7 @@ fn search_row<D: Disk, O: Origin>(
 {
     store.counts_pages();
     let counted = store.counted();
-    let table = table_on(store, 1, place.page)?;
+    let table = table_on(store, PageKind::ROWS, place.page)?;
     let from = look_slot(store, &table, counted, place)?;
     let bytes = bytes_behind(store, &table, counted, &from)?;
     Ok(SlotLaid {

@@ -4,7 +4,7 @@ ghost use Rattle.ctr_page.specs.Places.{slot_size as size_of_slot};
 ghost use Rattle.ctr_page.specs.Making.{slot_bytes, IsSlot, IsEntry};
 ghost use Rattle.ctr_revert.specs.Reverting.{blank_slot, MadeFrom, MadeByEntry, IsMadeOr, if_used};
 
-use ctr_page::{Place, RowSlot, Version, VersionEntry, make_slot};
+use ctr_page::{Place, RowSlot, Tombstone, Use, Version, VersionEntry, make_slot};
 use ctr_records::Bytes;
 use ctr_types::Xid;
 
@@ -19,7 +19,7 @@ const WIDEST: usize = 2_048;
 pub(crate) struct FromSlot {
     /// Whose the head is.
     pub(crate) x: Xid,
-    pub(crate) used: u8,
+    pub(crate) used: Use,
     pub(crate) key: i64,
     /// Where the next version behind the slot is kept.
     pub(crate) older: Place,
@@ -90,7 +90,7 @@ pub(crate) fn from_slot(w: usize, slot: RowSlot) -> FromSlot
 /// The bytes of a slot of a key whose head is that of a version entry, or none where the entry isn't used.
 pub(crate) fn from_entry(
     w: usize,
-    used: u8,
+    used: Use,
     key: i64,
     entry: VersionEntry,
 ) -> Option<[u8; SLOT_MOST]>
@@ -99,7 +99,7 @@ pub(crate) fn from_entry(
     requires fits { IsEntry w entry }
     ensures { MadeByEntry w used key (if_used entry.entry) result }
 {
-    if entry.used != 1 {
+    if entry.used != Use::USED {
         return None;
     }
     let VersionEntry { version, older, .. } = entry;
@@ -121,11 +121,11 @@ pub(crate) fn blank_bytes(w: usize) -> [u8; SLOT_MOST]
 {
     let zeros = [0; WIDEST];
     let blank = RowSlot {
-        used: 0,
+        used: Use::FREE,
         key: 0,
         head: Version {
             xid: 0,
-            tombstone: 0,
+            tombstone: Tombstone::NONE,
             payload: Bytes::new(&zeros[..w]),
         },
         previous: None,

@@ -6,7 +6,7 @@ use crate::turns::{Mem, ready};
 use ctr_alloc::{NextFree, alloc, free, next_free};
 use ctr_disk::StoreFault;
 use ctr_heap::{format, link};
-use ctr_page::Header;
+use ctr_page::{Header, PageKind};
 
 /// The next free page, and its allocation.
 pub fn take(store: &mut Mem, x: u64) -> Result<Told, StoreFault>
@@ -47,6 +47,16 @@ pub fn grow(store: &mut Mem, count: u64) -> Result<Told, StoreFault>
     }
     store.grow_extent()?;
     grow(store, count - 1)
+}
+
+/// The header of a page of rows.
+pub fn rows_header(entry: u8, bucket: u8, next: u32) -> Header {
+    Header {
+        kind: PageKind::ROWS,
+        entry,
+        bucket,
+        next,
+    }
 }
 
 /// A page is empty, with this header.

@@ -3,15 +3,15 @@ ghost use Rattle.std.specs.Prelude.{◌≡◌, false, IsTrue, OnOk};
 
 use crate::catalog::{changer, drop_entry, make, named, undo};
 use crate::files::{alter_page, count_pages, files_of, made, opened};
-use crate::pages::{give_back, grow, make_empty, put_in_front, take};
+use crate::pages::{give_back, grow, make_empty, put_in_front, rows_header, take};
 use crate::player::Player;
 use crate::reads::{cost, newest_of, read};
-use crate::rows::{fill, found, put, room, seek};
+use crate::rows::{fill, first, found, put, room, seek};
 use crate::steps::{OutsideStep, PageStep, RowStep, Step, TableStep, TurnStep, VersionStep};
 use crate::suite::Line;
 use crate::told::Told;
 use crate::turns::{Mem, abort, begin, commit, settle};
-use crate::versions::{add_page, entry as entry_at, lay, put_off, revert, slot, spare, trim};
+use crate::versions::{add_page, entry as entry_at, lay, lent, put_off, revert, slot, spare, trim};
 use crate::writes::{write, write_each};
 use ctr_disk::StoreFault;
 use ctr_mem_disk::Image;
@@ -59,7 +59,12 @@ fn play_page(store: &mut Mem, player: &mut Player, step: PageStep) -> Result<Tol
         PageStep::Take { count } => take_some(store, player, count),
         PageStep::Free { page } => give_back(store, page),
         PageStep::Grow { count } => grow(store, count),
-        PageStep::Format { page, header } => make_empty(store, player.x, page, header),
+        PageStep::Format {
+            page,
+            entry,
+            bucket,
+            next,
+        } => make_empty(store, player.x, page, rows_header(entry, bucket, next)),
         PageStep::Link {
             page,
             entry,
@@ -86,6 +91,7 @@ fn play_table(store: &mut Mem, player: &mut Player, step: TableStep) -> Result<T
             Some(snapshot) => changer(alloc, store, entry, name, snapshot),
             None => Ok(Told::NotAsked),
         },
+        TableStep::First { entry, bucket } => first(store, entry, bucket),
     }
 }
 
@@ -146,6 +152,7 @@ fn play_version(store: &mut Mem, player: &mut Player, step: VersionStep) -> Resu
         VersionStep::Revert { place } => revert(store, place),
         VersionStep::Slot { place, width } => slot(store, place, width),
         VersionStep::Entry { place } => entry_at(store, place),
+        VersionStep::Lent { place } => lent(store, place),
     }
 }
 

@@ -2,7 +2,6 @@
 use crate::steps::{OutsideStep, PageStep, RowStep, Step, TableStep, TurnStep, VersionStep};
 use crate::words::{place, version};
 use crate::writes::NewRow;
-use ctr_page::Header;
 use ctr_suite::Words;
 use ctr_types::Kind;
 
@@ -20,16 +19,6 @@ fn turn_step(verb: &[u8], words: &mut Words) -> Option<TurnStep> {
     Some(step)
 }
 
-// The header of a page of rows.
-fn header(words: &mut Words) -> Header {
-    Header {
-        kind: 1,
-        entry: words.value(),
-        bucket: words.value(),
-        next: words.value(),
-    }
-}
-
 fn page_step(verb: &[u8], words: &mut Words) -> Option<PageStep> {
     let step = match verb {
         b"take" => PageStep::Take {
@@ -43,7 +32,9 @@ fn page_step(verb: &[u8], words: &mut Words) -> Option<PageStep> {
         },
         b"format" => PageStep::Format {
             page: words.value(),
-            header: header(words),
+            entry: words.value(),
+            bucket: words.value(),
+            next: words.value(),
         },
         b"link" => PageStep::Link {
             page: words.value(),
@@ -90,6 +81,14 @@ fn table_step<'a>(verb: &[u8], words: &mut Words<'a>) -> Option<TableStep<'a>> {
         b"changed" => TableStep::Changed {
             entry: words.value(),
             name: words.word(),
+        },
+        b"first" => TableStep::First {
+            entry: words.value(),
+            bucket: if words.has_more() {
+                Some(words.value())
+            } else {
+                None
+            },
         },
         _ => return None,
     };
@@ -206,6 +205,9 @@ fn place_step(verb: &[u8], words: &mut Words) -> Option<VersionStep> {
             width: words.value(),
         },
         b"entry" => VersionStep::Entry {
+            place: place(words),
+        },
+        b"lent" => VersionStep::Lent {
             place: place(words),
         },
         _ => return None,

@@ -1,14 +1,16 @@
 // Steps on rows.
-ghost use Rattle.std.specs.Prelude.{◌≡◌, ◌≤◌, ◌<◌, ◌+◌, false, IsTrue, OnOk};
+ghost use Rattle.std.specs.Prelude.{◌≡◌, ◌≤◌, ◌<◌, ◌+◌, false, IsTrue, IfSome, OnOk};
 ghost use Rattle.ctr_page.specs.Places.{start_of, slot_size as size_of_slot};
+ghost use Rattle.ctr_walk.specs.Tables.{IsChain};
 
-use crate::pages::{make_empty, put_in_front, take};
+use crate::pages::{make_empty, put_in_front, rows_header, take};
 use crate::told::Told;
 use crate::turns::{Mem, ready};
 use ctr_disk::StoreFault;
 use ctr_heap::{find, free_slot, put_slot};
-use ctr_page::{Header, Place, RowSlot, Version, bucket_of, read_entry, slot_size};
+use ctr_page::{Chain, Place, RowSlot, Tombstone, Use, Version, bucket_of, slot_size};
 use ctr_records::Bytes;
+use ctr_walk::first_page;
 
 /// The widest payload.
 pub const WIDEST: usize = 512;
@@ -44,11 +46,11 @@ fn lay(
         return Ok(Told::NotAsked);
     }
     let slot = RowSlot {
-        used: 1,
+        used: Use::USED,
         key,
         head: Version {
             xid: x,
-            tombstone: 0,
+            tombstone: Tombstone::NONE,
             payload: Bytes::new(&zeros[..width]),
         },
         previous: None,
@@ -86,14 +88,37 @@ pub fn room(store: &mut Mem, entry: u8, bucket: u8) -> Result<Told, StoreFault>
     }
 }
 
-/// The first page of a bucket.
-fn first_of(store: &mut Mem, entry: u8, bucket: u8) -> Result<u32, StoreFault>
+// The chain of a bucket, or that of the versions.
+fn chain_of(entry: u8, bucket: Option<u8>) -> Option<Chain>
+    ensures { IfSome result IsChain }
+{
+    if entry >= 32 {
+        return None;
+    }
+    match bucket {
+        None => Some(Chain::Versions { entry }),
+        Some(bucket) => {
+            if bucket < 8 {
+                Some(Chain::Rows { entry, bucket })
+            } else {
+                None
+            }
+        }
+    }
+}
+
+/// The first page of a chain, by its bucket or for the versions.
+pub fn first(store: &mut Mem, entry: u8, bucket: Option<u8>) -> Result<Told, StoreFault>
     requires going { store.old.stopped ≡ false }
-    requires bucket { bucket < 8 }
     ensures going { OnOk result (store.new.stopped ≡ false) }
 {
-    let page = store.page(1 + (entry / 16) as u32)?;
-    Ok(read_entry(page, entry % 16).first(bucket))
+    let Some(chain) = chain_of(entry, bucket) else {
+        return Ok(Told::NotAsked);
+    };
+    match first_page(store, chain)? {
+        Some(page) => Ok(Told::Number(page as u64)),
+        None => Ok(Told::None),
+    }
 }
 
 /// A page more in a bucket's chain, at the front.
@@ -102,18 +127,16 @@ fn add_page(store: &mut Mem, x: u64, entry: u8, bucket: u8) -> Result<Told, Stor
     requires bucket { bucket < 8 }
     ensures going { OnOk result (store.new.stopped ≡ false) }
 {
+    if entry >= 32 {
+        return Ok(Told::NotAsked);
+    }
     let told = take(store, x)?;
     let Told::Number(page) = told else {
         return Ok(told);
     };
     let page = u32::try_from(page).unwrap_or(0);
-    let next = first_of(store, entry, bucket)?;
-    let header = Header {
-        kind: 1,
-        entry,
-        bucket,
-        next,
-    };
+    let first = first_page(store, Chain::Rows { entry, bucket })?;
+    let header = rows_header(entry, bucket, first.unwrap_or(0));
     let _made = make_empty(store, x, page, header)?;
     let _linked = put_in_front(store, x, page, entry, Some(bucket))?;
     room(store, entry, bucket)

@@ -1,7 +1,7 @@
 // The steps of a case. Each of their calls is of one crate.
 use crate::told::Seen;
 use crate::writes::NewRow;
-use ctr_page::{Header, Place};
+use ctr_page::Place;
 use ctr_types::Kind;
 
 /// A step.
@@ -33,15 +33,30 @@ pub enum TurnStep {
 #[derive(Clone, Copy)]
 pub enum PageStep {
     /// `next_free`, and `alloc` of the page, so many times.
-    Take { count: u64 },
+    Take {
+        count: u64,
+    },
     /// `free`.
-    Free { page: u32 },
+    Free {
+        page: u32,
+    },
     /// `grow_extent`, so many times.
-    Grow { count: u64 },
-    /// `format`.
-    Format { page: u32, header: Header },
+    Grow {
+        count: u64,
+    },
+    /// `format` of a page of rows.
+    Format {
+        page: u32,
+        entry: u8,
+        bucket: u8,
+        next: u32,
+    },
     /// `link`.
-    Link { page: u32, entry: u8, bucket: u8 },
+    Link {
+        page: u32,
+        entry: u8,
+        bucket: u8,
+    },
 }
 
 /// Entries of the catalog.
@@ -67,6 +82,11 @@ pub enum TableStep<'a> {
     Changed {
         entry: u8,
         name: &'a [u8],
+    },
+    /// `first_page` of a bucket's chain, or of that of the versions.
+    First {
+        entry: u8,
+        bucket: Option<u8>,
     },
 }
 
@@ -164,6 +184,10 @@ pub enum VersionStep {
     },
     /// `version`.
     Entry {
+        place: Place,
+    },
+    /// `row`.
+    Lent {
         place: Place,
     },
 }

@@ -8,10 +8,14 @@ use crate::told::{Seen, Told};
 use crate::turns::{Mem, ready};
 use ctr_disk::StoreFault;
 use ctr_heap::put_slot;
-use ctr_page::{Header, Place, RowSlot, Version, VersionEntry, kept_size, read_entry, read_slot};
-use ctr_pvs::{find_free_entry, free_entry, keep, version};
+use ctr_page::{
+    Chain, Header, PageKind, Place, RowSlot, Tombstone, Use, Version, VersionEntry, kept_size,
+    read_slot,
+};
+use ctr_pvs::{find_free_entry, free_entry, keep, row, version};
 use ctr_records::Bytes;
 use ctr_revert::revert_row;
+use ctr_walk::first_page;
 
 /// Whether a place on a page has a version entry of rows so wide.
 pub fn entry_lies(place: Place, width: usize) -> bool
@@ -48,17 +52,20 @@ pub fn add_page(store: &mut Mem, x: u64, entry: u8) -> Result<Told, StoreFault>
     requires going { store.old.stopped ≡ false }
     ensures going { OnOk result (store.new.stopped ≡ false) }
 {
+    if entry >= 32 {
+        return Ok(Told::NotAsked);
+    }
     let told = take(store, x)?;
     let Told::Number(number) = told else {
         return Ok(told);
     };
     let page = u32::try_from(number).unwrap_or(0);
-    let catalog = store.page(1 + (entry / 16) as u32)?;
+    let first = first_page(store, Chain::Versions { entry })?;
     let header = Header {
-        kind: 2,
+        kind: PageKind::VERSIONS,
         entry,
         bucket: 0,
-        next: read_entry(catalog, entry % 16).versions(),
+        next: first.unwrap_or(0),
     };
     let _made = make_empty(store, x, page, header)?;
     let _linked = put_in_front(store, x, page, entry, None)?;
@@ -88,11 +95,11 @@ pub fn lay(
     let new = payload(says);
     let old = payload(previous.says);
     let slot = RowSlot {
-        used: 1,
+        used: Use::USED,
         key,
         head: Version {
             xid: x,
-            tombstone: 0,
+            tombstone: Tombstone::NONE,
             payload: Bytes::new(&new[..width]),
         },
         previous: if width > 200 || previous.x == 0 {
@@ -100,7 +107,7 @@ pub fn lay(
         } else {
             Some(Version {
                 xid: previous.x,
-                tombstone: 0,
+                tombstone: Tombstone::NONE,
                 payload: Bytes::new(&old[..width]),
             })
         },
@@ -131,11 +138,11 @@ pub fn put_off(
     }
     let bytes = payload(version.says);
     let entry = VersionEntry {
-        used: 1,
+        used: Use::USED,
         key,
         version: Version {
             xid: version.x,
-            tombstone: 0,
+            tombstone: Tombstone::NONE,
             payload: Bytes::new(&bytes[..width]),
         },
         older,
@@ -192,7 +199,7 @@ pub fn slot(store: &mut Mem, place: Place, width: usize) -> Result<Told, StoreFa
     }
     let page = store.page(place.page)?;
     let slot = read_slot(page, width, place.slot);
-    if slot.used == 0 {
+    if slot.used == Use::FREE {
         return Ok(Told::Unused);
     }
     Ok(Told::Row {
@@ -220,5 +227,26 @@ pub fn entry(store: &mut Mem, place: Place) -> Result<Told, StoreFault>
         head: seen(&lent.entry().version),
         previous: None,
         older: lent.older,
+    })
+}
+
+/// The slot at a place, lent from its page.
+pub fn lent(store: &mut Mem, place: Place) -> Result<Told, StoreFault>
+    requires going { store.old.stopped ≡ false }
+    ensures going { OnOk result (store.new.stopped ≡ false) }
+{
+    if place.page >= store.counted() {
+        return Ok(Told::NotAsked);
+    }
+    let lent = row(store, place)?;
+    if lent.used == 0 {
+        return Ok(Told::Unused);
+    }
+    let slot = lent.slot();
+    Ok(Told::Row {
+        key: slot.key,
+        head: seen(&slot.head),
+        previous: slot.previous.as_ref().map(seen),
+        older: slot.older,
     })
 }

@@ -12,7 +12,7 @@ use crate::turns::{Mem, begin, commit, ready};
 use crate::versions::{add_page, entry_lies, payload, spare};
 use ctr_disk::StoreFault;
 use ctr_heap::{Way, first, put_slot, replaced, to_keep, way_of, written};
-use ctr_page::{Place, RowSlot, Version, VersionEntry, read_slot};
+use ctr_page::{Place, RowSlot, Tombstone, Version, VersionEntry, read_slot};
 use ctr_pvs::keep;
 use ctr_records::Bytes;
 use ctr_types::Fate;
@@ -50,7 +50,11 @@ fn version_by<'a>(x: u64, row: NewRow, bytes: &'a [u8; WIDEST]) -> Version<'a>
 {
     Version {
         xid: x,
-        tombstone: if row.says.is_none() { 1 } else { 0 },
+        tombstone: if row.says.is_none() {
+            Tombstone::DELETED
+        } else {
+            Tombstone::NONE
+        },
         payload: Bytes::new(&bytes[..row.width]),
     }
 }

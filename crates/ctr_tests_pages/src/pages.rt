@@ -3,9 +3,9 @@ ghost use Rattle.std.specs.Prelude.{◌≡◌, ◌<◌, length, IfOk};
 ghost use Rattle.ctr_value.specs.Columns.{ColumnsFit};
 
 use ctr_page::{
-    BadPage, Chain, Header, Place, RowSlot, Version, bucket_of, check_entry, check_header,
-    check_slot, check_version, kept_size, make_entry, make_header, make_slot, make_version,
-    read_entry, read_header, read_slot, read_version, room_for, slot_size,
+    BadPage, Chain, EntryState, Header, PageKind, Place, RowSlot, Use, Version, bucket_of,
+    check_entry, check_header, check_slot, check_version, kept_size, make_entry, make_header,
+    make_slot, make_version, read_entry, read_header, read_slot, read_version, room_for, slot_size,
 };
 use ctr_types::{Column, Kind, List, Name, OutOfMemory, Schema, Text};
 use std::alloc::Global;
@@ -78,7 +78,7 @@ const SLOT: &[u8] = b"\x01\xff\xff\xff\xff\xff\xff\xff\xff\
 fn show_version(alloc: Global, version: &Version) -> Result<String, OutOfMemory> {
     let bytes = version.payload.as_slice();
     let first = if bytes.is_empty() { 0 } else { bytes[0] };
-    Ok(format!(in alloc; "{}.{}.{}", version.xid, version.tombstone, first)?)
+    Ok(format!(in alloc; "{}.{}.{}", version.xid, version.tombstone.byte(), first)?)
 }
 
 fn show_slot(alloc: Global, slot: &RowSlot) -> Result<String, OutOfMemory> {
@@ -89,7 +89,12 @@ fn show_slot(alloc: Global, slot: &RowSlot) -> Result<String, OutOfMemory> {
     };
     Ok(format!(in alloc;
         "{} {} {} {} {}.{}",
-        slot.used, slot.key, head, previous, slot.older.page, slot.older.slot
+        slot.used.byte(),
+        slot.key,
+        head,
+        previous,
+        slot.older.page,
+        slot.older.slot
     )?)
 }
 
@@ -125,7 +130,7 @@ fn a_version_entry_is_read_and_made(rt: HostRuntime) -> Result<(), Fail> {
     assert_eq!(rt; text.as_str(), "6.0.11");
     assert_eq!(rt;
         (entry.used, entry.key, entry.older),
-        (1, 9, Place { page: 7, slot: 3 })
+        (Use::USED, 9, Place { page: 7, slot: 3 })
     );
     let mut bytes = [0xee; 33];
     assert_eq!(rt; make_version(8, &entry, &mut bytes), 32);
@@ -141,7 +146,7 @@ fn a_header_is_read_and_made(rt: HostRuntime) -> Result<(), Fail> {
     assert_eq!(rt;
         header,
         Header {
-            kind: 1,
+            kind: PageKind::ROWS,
             entry: 3,
             bucket: 2,
             next: 5
@@ -197,7 +202,10 @@ fn an_entry_of_the_catalog_is_made_and_read(rt: HostRuntime) -> Result<(), Fail>
     assert!(rt; begin_so(&bytes, TITLE));
     assert!(rt; zeros_from(&bytes, 71));
     let entry = read_entry(&bytes, 0);
-    assert_eq!(rt; (entry.state, entry.creator, entry.dropper), (1, 5, 0));
+    assert_eq!(rt;
+        (entry.state, entry.creator, entry.dropper),
+        (EntryState::LIVE, 5, 0)
+    );
     assert_eq!(rt;
         (entry.count(), entry.kind(0), entry.kind(1)),
         (2, Kind::Int, Kind::Chars(4))

@@ -10,6 +10,7 @@ use Rattle.ctr_disk.specs.Image.{Image}
 use Rattle.ctr_disk.specs.declared.fault.StoreFault.{StoreFault}
 use Rattle.ctr_records.specs.declared.record.Record.{Record}
 use Rattle.ctr_records.specs.declared.decoding.BadRecord.{BadRecord}
+use Rattle.ctr_meta.specs.Effects.{effect}
 use Rattle.ctr_meta.specs.Kept.{TablesKept, IsLogged, NumbersFit, RoomLeft, opens_added, items_added}
 use Rattle.ctr_meta.specs.Needs.{needs}
 use Rattle.ctr_redo.specs.Overlaid.{overlay_of}
@@ -87,6 +88,7 @@ module _ {D : Type 0} (r : Record) (a b : View D) (keeps : KeepsRoom a b) where
         next = takes.next ∙ ap (λ (n : ℕ). n + 1) keeps.next;
         room = omega (arith, room, more);
         gate = omega (arith, takes.gate, keeps.gate);
+        tables = takes.tables ∙ ap (λ (m : TablesKept). effect r m.tables) keeps.meta;
         left = subst (λ (m : TablesKept). RoomLeft (opens_added r) (items_added r) m c.meta) keeps.meta takes.left;
         counted = takes.counted ∙ keeps.counted;
       }

@@ -59,6 +59,10 @@ pub entry_few : (chain : Chain) → IsChain chain → chain_entry chain < 32
 entry_few (Rows e bucket) is = is.0
 entry_few (Versions e) is = is
 
+-- the first page of a chain is the one that the table's entry says
+pub first_here : (pages : ℕ → List ℕ) (chain : Chain) → IsChain chain → first_of_chain (area_of pages) chain ≡ first_said chain (pages (1 + chain_entry chain / 16))
+first_here pages chain is = ap (λ l. first_among (firsts_of (entry_in l)) chain) (bytes_of_entry pages (chain_entry chain) (entry_few chain is))
+
 if_ok : {T E : Type 0} (result : Result T E) (P Q : T → Type 0) → ((x : T) → P x → Q x) → IfOk result P → IfOk result Q
 if_ok (Ok x) P Q f p = f x p
 if_ok (Err e) P Q f p = tt
@@ -71,9 +75,6 @@ module _ (counted : ℕ) (pages : ℕ → List ℕ) (chain : Chain) (ends : Ends
   page = pages (1 + e / 16)
 
   module _ (is : IsChain chain) where
-    first_here : first_of_chain (area_of pages) chain ≡ first_said chain page
-    first_here = ap (λ l. first_among (firsts_of (entry_in l)) chain) (bytes_of_entry pages e (entry_few chain is))
-
     kinds_here : kinds_at (area_of pages) e ≡ kinds_of (columns_in (entry_at (e % 16) page).bytes)
     kinds_here = ap (λ l. kinds_of (columns_in l)) (bytes_of_entry pages e (entry_few chain is))
 
@@ -81,7 +82,7 @@ module _ (counted : ℕ) (pages : ℕ → List ℕ) (chain : Chain) (ends : Ends
     bad_entry bad said = inl (bad, said, refl)
 
     pub no_page : ChainSaid counted chain page (Ok None) → EndsChain counted pages chain ends (Ok None)
-    no_page said = inr (said.0, at_end (chain_sought pages counted chain ends) pages (most_in_chain counted) 0 (first_of_chain (area_of pages) chain) (first_here ∙ said.1))
+    no_page said = inr (said.0, at_end (chain_sought pages counted chain ends) pages (most_in_chain counted) 0 (first_of_chain (area_of pages) chain) (first_here pages chain is ∙ said.1))
 
     abbrev by_kinds : List Kind → ChainSought
     by_kinds kinds = record { chain = chain; counted = counted; ends = ends kinds counted }
@@ -91,7 +92,7 @@ module _ (counted : ℕ) (pages : ℕ → List ℕ) (chain : Chain) (ends : Ends
     pages_end found result said along = if_ok result (EndsAlong (by_kinds (kinds_said found.table)) pages (most_in_chain counted) 0 found.first) (EndsChain counted pages chain ends)
         (λ r a. inr (
           said.0,
-          subst (λ p. EndsAlong (chain_sought pages counted chain ends) pages (most_in_chain counted) 0 p r) (sym said.1 ∙ sym first_here)
+          subst (λ p. EndsAlong (chain_sought pages counted chain ends) pages (most_in_chain counted) 0 p r) (sym said.1 ∙ sym (first_here pages chain is))
               (subst (λ ks. EndsAlong (by_kinds ks) pages (most_in_chain counted) 0 found.first r) (said.2 ∙ sym kinds_here) a),
         )) along
 

@@ -15,6 +15,7 @@ use Rattle.ctr_area.specs.Areas.{Firsts, Area}
 use Rattle.ctr_area.specs.Reading.{firsts_of, area_of}
 use Rattle.ctr_area.specs.Checked.{kinds_at}
 use Rattle.ctr_walk.specs.Along.{ChainSought, EndsAlong}
+use Rattle.ctr_walk.specs.Damage.{EndsOnPage}
 use Rattle.ctr_walk.specs.declared.table.TableOf.{TableOf}
 use Rattle.ctr_walk.specs.declared.table.ChainPages.{ChainPages}
 
@@ -59,6 +60,17 @@ ChainSaid counted chain page (Ok (Some found)) =
     (chain_table_check counted chain page ≡ Ok tt) × (first_said chain page ≡ found.first)
     × (kinds_said found.table ≡ kinds_of (columns_in (entry_at (entry_number chain) page).bytes))
 
+-- a first page is that of a chain, of which 0 is none
+abbrev pub IsFirstPage : ℕ → Option ℕ → Type 0
+IsFirstPage first None = first ≡ 0
+IsFirstPage first (Some p) = (first ≢ 0) × (p ≡ first)
+
+-- What is said of a chain's first page: the check of the table's entry fails; or it passes, and the page is
+-- this one, or there is none.
+abbrev pub FirstSaid : Result ⊤ BadRecord → ℕ → Result (Option ℕ) BadRecord → Type 0
+FirstSaid check first (Err bad) = check ≡ Err bad
+FirstSaid check first (Ok found) = (check ≡ Ok tt) × IsFirstPage first found
+
 -- the first page is there, and is counted
 abbrev pub PagesFit : ℕ → ChainPages → Type 0
 PagesFit counted found = (found.first ≢ 0) × (found.first < counted) × (found.table.count ≤ 7)
@@ -92,3 +104,11 @@ EndsChain counted pages chain ends result =
     ⊎ ((chain_table_check counted chain (pages (1 + chain_entry chain / 16)) ≡ Ok tt)
     × EndsAlong (chain_sought pages counted chain ends) pages (most_in_chain counted) 0
     (first_of_chain (area_of pages) chain) result)
+
+-- Where a call ends that asks for the first page of a chain: at the damage of the table's entry, on its page
+-- of the catalog; or the entry passes, and the page is the one that the area has.
+abbrev pub EndsFirst : ℕ → (ℕ → List ℕ) → Chain → Result (Option ℕ) BadChain → Type 0
+EndsFirst counted pages chain result =
+    EndsOnPage (1 + chain_entry chain / 16)
+    (FirstSaid (chain_table_check counted chain (pages (1 + chain_entry chain / 16)))
+    (first_of_chain (area_of pages) chain)) result

@@ -16,4 +16,4 @@ pub use damage::tell;
 pub use fault::{SearchFault, found_on};
 pub use joining::{a_record_behind_a_page, log_record, pages_read_join};
 pub use on_page::{a_record_may_be_logged, log_on_page};
-pub use table::{TableOf, catalog_page, search_chain};
+pub use table::{TableOf, catalog_page, first_page, search_chain};

@@ -1,11 +1,11 @@
 // The chains of pages of a table, by its entry of the catalog.
-ghost use Rattle.std.specs.Prelude.{◌≡◌, ◌≤◌, ◌<◌, ◌+◌, ◌/◌, ◌%◌, false, IfOk, IfSome, length};
+ghost use Rattle.std.specs.Prelude.{◌≡◌, ◌≢◌, ◌≤◌, ◌<◌, ◌+◌, ◌/◌, ◌%◌, false, IfOk, IfSome, length};
 ghost use Rattle.ctr_base.specs.Base.{WhereSound};
 ghost use Rattle.ctr_walk.specs.Damage.{damage_told, searched, EndsOnPage, EndsTold, ReadsPages};
 ghost use Rattle.ctr_record_effects.specs.States.{pages_in};
 ghost use Rattle.ctr_page.specs.Damage.{chain_entry};
 ghost use Rattle.ctr_page.specs.declared.table.TheConstants.{PAGE_SIZE, ENTRY_SIZE};
-ghost use Rattle.ctr_walk.specs.Tables.{IsChain, kinds_said, first_at, ChainSaid, PagesFit, EndsChain};
+ghost use Rattle.ctr_walk.specs.Tables.{IsChain, kinds_said, first_at, first_said as first_on, chain_table_check, ChainSaid, FirstSaid, PagesFit, EndsChain, EndsFirst};
 ghost use Rattle.ctr_store.specs.Store.{LeavesPage};
 
 use crate::along::{PageSought, search_pages};
@@ -13,7 +13,7 @@ use crate::damage::tell;
 use crate::fault::{SearchFault, found_on};
 use ctr_base::Origin;
 use ctr_disk::{Disk, StoreFault};
-use ctr_page::{BadPage, CatalogEntry, Chain, Place, check_entry, read_entry};
+use ctr_page::{BadPage, CatalogEntry, Chain, EntryState, Place, check_entry, read_entry};
 use ctr_records::PageNo;
 use ctr_store::Store;
 use ctr_types::Kind;
@@ -88,7 +88,7 @@ fn pages_said(chain: Chain, counted: u32, page: &[u8]) -> Result<Option<ChainPag
     let at = entry % 16;
     check_entry(counted, at, page)?;
     let table = read_entry(page, at);
-    if table.state == 0 {
+    if table.state == EntryState::FREE {
         return Ok(None);
     }
     let first = first_of(&table, chain);
@@ -160,5 +160,55 @@ pub fn search_chain<D: Disk, O: Origin, S: PageSought>(
     ensures leaves { ReadsPages O.first D.Disk store.old store.new result }
 {
     let found = search_table(store, chain, sought);
+    tell(store, found)
+}
+
+/// What a page of the catalog says of the first page of a chain.
+fn first_said(chain: Chain, counted: u32, page: &[u8]) -> Result<Option<PageNo>, BadPage>
+    requires some { 0 < counted }
+    requires there { IsChain chain }
+    requires whole { length page.now ≡ PAGE_SIZE }
+    ensures said { FirstSaid (chain_table_check counted chain page.now) (first_on chain page.now) result }
+    ensures fits { IfOk result (λ found. IfSome found (λ p. (p ≢ 0) × (p < counted))) }
+{
+    let Some(pages) = pages_said(chain, counted, page)? else {
+        return Ok(None);
+    };
+    Ok(Some(pages.first))
+}
+
+/// The same of a store.
+fn first_of_store<D: Disk, O: Origin>(
+    store: &mut Store<D, O>,
+    chain: Chain,
+) -> Result<Option<PageNo>, SearchFault>
+    requires going { store.old.stopped ≡ false }
+    requires there { IsChain chain }
+    ensures ends { WhereSound O.first D.Disk (IfOk (searched result) (EndsFirst store.old.now.counted (pages_in store.old.now) chain)) }
+    ensures inside { IfOk result (λ found. IfSome found (λ p. (p ≢ 0) × (p < store.old.now.counted))) }
+    ensures leaves { LeavesPage O.first D.Disk store.old store.new (searched result) }
+{
+    store.counts_pages();
+    let counted = store.counted();
+    let at = catalog_page(entry_of(chain));
+    let page = store.page(at)?;
+    found_on(at, first_said(chain, counted, page))
+}
+
+/// The first page of a chain of a table, or none where the chain has no page: its entry of the catalog says it, and is checked as it
+/// is read. It logs nothing, and takes no memory.
+pub fn first_page<D: Disk, O: Origin>(
+    store: &mut Store<D, O>,
+    chain: Chain,
+) -> Result<Option<PageNo>, StoreFault>
+    requires going { store.old.stopped ≡ false }
+    requires there { IsChain chain }
+    // Damage is of the table's entry, and is told where that stands in the file of pages.
+    ensures ends { WhereSound O.first D.Disk (EndsTold (damage_told D.Disk store.new) (EndsFirst store.old.now.counted (pages_in store.old.now) chain) result) }
+    // The page is counted, and isn't page 0.
+    ensures inside { IfOk result (λ found. IfSome found (λ p. (p ≢ 0) × (p < store.old.now.counted))) }
+    ensures leaves { ReadsPages O.first D.Disk store.old store.new result }
+{
+    let found = first_of_store(store, chain);
     tell(store, found)
 }

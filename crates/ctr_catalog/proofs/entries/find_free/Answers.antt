@@ -1,5 +1,5 @@
 use Rattle.std.proofs.Common.{◌≡◌, false, sym, ap, ◌∙◌}
-use Rattle.std.proofs.lemmas.Bool.{ne_eqb}
+use Rattle.std.specs.Prelude.{◌==◌}
 use Rattle.ctr_page.specs.declared.entry.CatalogEntry.{CatalogEntry}
 use Rattle.ctr_page.specs.Columns.{entry_at}
 use Rattle.ctr_page.proofs.Searches.{passes_one}
@@ -10,5 +10,5 @@ pub loop-entry-preserved : goal.loop-entry-preserved
 loop-entry-preserved c =
     let read : c.read_entry.result ≡ entry_at c.loop-entry.entry c.args.page.now = c.read_entry.ensures.read in
     let isnt : is_unused (entry_at c.loop-entry.entry c.args.page.now) ≡ false =
-    ne_eqb (entry_at c.loop-entry.entry c.args.page.now).state 0 (λ none. c.if-read_entry-eq0.false (ap (λ (e : CatalogEntry). e.state) read ∙ none)) in
+    ap (λ (e : CatalogEntry). e.state == 0) (sym read) ∙ sym c.if-eq.ensures in
     passes_one (checks_entry c.args.counted c.args.page.now) (λ n. is_unused (entry_at n c.args.page.now)) 0 c.loop-entry.entry c.loop-entry.invariant (sym c.in_ok-check_entry.ensures.checked) isnt

@@ -1,6 +1,5 @@
 use Rattle.std.proofs.Common.{◌≡◌, ◌<◌, false, sym, ap, subst, ◌∙◌, arith}
 use Rattle.std.specs.Prelude.{◌==◌}
-use Rattle.std.proofs.lemmas.Bool.{ne_eqb}
 use Rattle.ctr_page.specs.declared.rows.VersionEntry.{VersionEntry}
 use Rattle.ctr_page.specs.Columns.{kinds_width}
 use Rattle.ctr_page.specs.Places.{kept_size, room_for}
@@ -24,5 +23,5 @@ read_version-requires-clause-inside c =
 pub loop-number-preserved : goal.loop-number-preserved
 loop-number-preserved c =
     let isnt : is_free_version (kinds_width c.args.kinds.now) c.args.page.now c.loop-number.number ≡ false =
-    ap (λ w. (older_at w c.loop-number.number c.args.page.now).used == 0) (sym c.kinds_width-w.ensures.value) ∙ ap (λ (v : VersionEntry). v.used == 0) (sym c.read_version.ensures.read) ∙ ne_eqb c.read_version.result.used 0 c.if-read_version-eq0.false in
+    ap (λ w. (older_at w c.loop-number.number c.args.page.now).used == 0) (sym c.kinds_width-w.ensures.value) ∙ ap (λ (v : VersionEntry). v.used == 0) (sym c.read_version.ensures.read) ∙ sym c.if-eq.ensures in
     passes_one (checks_version c.args.kinds.now c.args.counted c.args.page.now) (is_free_version (kinds_width c.args.kinds.now) c.args.page.now) 0 c.loop-number.number c.loop-number.invariant (sym c.in_ok-check_version.ensures.checked) isnt

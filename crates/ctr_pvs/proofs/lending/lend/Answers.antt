@@ -20,6 +20,7 @@ returns g c =
       record {
         said = λ told sound. said ∙ ap (older_at c.args.w c.args.place.slot) (c.in_ok-page.ensures.shown told sound (in_limit c.args.place.page c.requires.there));
         fits = subst (λ n. IsEntry n (entry_lent c.lent.result)) (sym fits.version.2) fits;
+        wide = fits.version.2;
         after = tt;
       },
     )

@@ -1,6 +1,6 @@
 use Rattle.std.proofs.Common.{◌≡◌, ◌*◌, ◌%◌, ◌-◌, ◌≤◌, cond, take, Result, Ok, Err, refl, sym, ◌∙◌, ap, subst}
 use Rattle.std.specs.Prelude.{◌==◌, ⊤}
-use Rattle.std.proofs.lemmas.Bool.{eq-eqb, ne_eqb}
+use Rattle.std.proofs.lemmas.Bool.{eq-eqb, ne_eqb, eqb-true, eqb-false}
 use Rattle.ctr_bytes.specs.Fields.{field}
 use Rattle.ctr_bytes.specs.Following.{◌>>=◌}
 use Rattle.ctr_records.specs.declared.decoding.BadRecord.{BadRecord}
@@ -9,10 +9,10 @@ use Rattle.ctr_page.specs.declared.entry.CatalogEntry.{CatalogEntry}
 use Rattle.ctr_page.specs.Columns.{entry_at, kinds_of, columns_in}
 use Rattle.ctr_pvs.proofs.table.table_in.Goals as goal
 
-pub returns-then-table-eq0-clause-said : goal.returns-then-table-eq0-clause-said
-returns-then-table-eq0-clause-said c =
+pub returns-then-eq-clause-said : goal.returns-then-eq-clause-said
+returns-then-eq-clause-said c =
     let n = c.args.entry % 16 in
-    let state : (entry_at n c.args.page.now).state ≡ 0 = ap (λ (t : CatalogEntry). t.state) (sym c.read_entry-table.ensures.read) ∙ c.if-table-eq0.true in
+    let state : (entry_at n c.args.page.now).state ≡ 0 = ap (λ (t : CatalogEntry). t.state) (sym c.read_entry-table.ensures.read) ∙ eqb-true c.read_entry-table.result.state 0 (sym c.if-eq.ensures) in
     let f : ⊤ → Result ⊤ BadRecord = λ _. cond ((entry_at n c.args.page.now).state == 0) (Err (wrong (256 * n) 1 0)) (Ok tt) in
     ap (λ (r : Result ⊤ BadRecord). r >>= f) (sym c.in_ok-check_entry.ensures.checked)
     ∙ ap (λ b. cond b (Err (wrong (256 * n) 1 0)) (Ok tt)) (eq-eqb (entry_at n c.args.page.now).state 0 state)
@@ -21,7 +21,7 @@ pub returns-clause-said : goal.returns-clause-said
 returns-clause-said c =
     let n = c.args.entry % 16 in
     let same = ap (λ (t : CatalogEntry). t.state) (sym c.read_entry-table.ensures.read) in
-    let used : (entry_at n c.args.page.now).state ≡ 0 → ⊥ = λ is. c.if-table-eq0.false (sym same ∙ is) in
+    let used : (entry_at n c.args.page.now).state ≡ 0 → ⊥ = λ is. eqb-false c.read_entry-table.result.state 0 (sym c.if-eq.ensures) (sym same ∙ is) in
     let f : ⊤ → Result ⊤ BadRecord = λ _. cond ((entry_at n c.args.page.now).state == 0) (Err (wrong (256 * n) 1 0)) (Ok tt) in
     let parts = c.in_ok-check_entry.ensures.parts refl used in (
       ap (λ (r : Result ⊤ BadRecord). r >>= f) (sym c.in_ok-check_entry.ensures.checked) ∙ ap (λ b. cond b (Err (wrong (256 * n) 1 0)) (Ok tt)) (ne_eqb (entry_at n c.args.page.now).state 0 used),

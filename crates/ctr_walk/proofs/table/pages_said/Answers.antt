@@ -1,4 +1,5 @@
 use Rattle.std.proofs.Common.{◌≡◌, ◌-◌, ◌*◌, ◌%◌, ◌<◌, ◌≤◌, ℕ, refl, sym, ◌∙◌, ap, subst, arith}
+use Rattle.std.proofs.lemmas.Bool.{eqb-false}
 use Rattle.ctr_page.specs.declared.entry.CatalogEntry.{CatalogEntry}
 use Rattle.ctr_page.specs.Columns.{entry_at}
 use Rattle.ctr_page.specs.Damage.{entry_check}
@@ -14,7 +15,7 @@ returns-clause-fits c =
     let page = c.args.page.now in
     let entry = entry_at (entry_number chain) page in
     let read : c.read_entry-table.result ≡ entry = c.read_entry-table.ensures.read ∙ ap (λ e. entry_at (e % 16) page) c.entry_of-entry.ensures in
-    let used : entry.state ≡ 0 → ⊥ = λ is. c.if-table-eq0.false (ap (λ (t : CatalogEntry). t.state) read ∙ is) in
+    let used : entry.state ≡ 0 → ⊥ = λ is. eqb-false c.read_entry-table.result.state 0 (sym c.if-eq.ensures) (ap (λ (t : CatalogEntry). t.state) read ∙ is) in
     let bytes : first_at chain entry.bytes ≡ c.first_of-first.result = ap (λ (t : CatalogEntry). first_at chain t.bytes) (sym read) ∙ sym c.first_of-first.ensures in
     let passes = sym (c.in_ok-check_entry.ensures.checked ∙ ap (λ e. entry_check c.args.counted (256 * (e % 16)) page) c.entry_of-entry.ensures) in
     let parts = subst (λ e. HasParts (entry_at (e % 16) page)) c.entry_of-entry.ensures (c.in_ok-check_entry.ensures.parts refl) used in
