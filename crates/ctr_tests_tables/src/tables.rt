@@ -236,3 +236,33 @@ fn a_transaction_stands_as_the_tables_say(rt: HostRuntime) -> Result<(), Fail> {
     assert_eq!(rt; heads, [0, 1, 2]);
     Ok(())
 }
+
+// The latest items of 2, 4 and 3 as the tables begin; and of 4 and 2 once 4 has allocated page 9.
+type Latest = ([Option<SlogItem>; 3], [Option<SlogItem>; 2]);
+
+fn latest_on(alloc: Global, meta: &mut Meta) -> Result<Latest, OutOfMemory> {
+    begin(alloc, meta)?;
+    let first = [
+        meta.latest_item(2),
+        meta.latest_item(4),
+        meta.latest_item(3),
+    ];
+    let bytes = record(alloc, 6, 4, 9)?;
+    play(alloc, meta, &bytes)?;
+    Ok((first, [meta.latest_item(4), meta.latest_item(2)]))
+}
+
+fn latest(alloc: Global) -> Result<Latest, OutOfMemory> {
+    let mut meta = Meta::new(alloc);
+    latest_on(alloc, &mut meta)
+}
+
+#[test]
+fn the_latest_item_of_a_transaction_is_told(rt: HostRuntime) -> Result<(), Fail> {
+    let (first, then) = latest(rt.alloc())?;
+    let page = SlogItem::AllocOf(2, 7);
+    let wanted = [Some(page), Some(SlogItem::CreateOf(4, 1)), None];
+    assert_eq!(rt; first, wanted);
+    assert_eq!(rt; then, [Some(SlogItem::AllocOf(4, 9)), Some(page)]);
+    Ok(())
+}
