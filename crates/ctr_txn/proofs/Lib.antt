@@ -1,0 +1,9 @@
+pub mod Numbering
+pub mod Slots
+pub mod Running
+pub mod Rooming
+pub mod Runs
+pub mod Acting
+pub mod Naming
+pub mod Showing
+pub mod OneRecord

@@ -1,0 +1,16 @@
+//! The transactions of sessions over a store: their snapshots and numbers, who asked for a commit, and what room is kept
+//! for what they still do.
+#![tactic(auto)]
+
+mod laws;
+mod logging;
+mod numbers;
+mod reserving;
+mod turns;
+mod txn;
+mod txns;
+
+pub use laws::{the_room_of_all_stays, the_run_is_of_the_sessions};
+pub use numbers::Numbers;
+pub use txn::{Asked, Txn};
+pub use txns::{SESSIONS, Txns};
