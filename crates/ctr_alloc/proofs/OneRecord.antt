@@ -16,7 +16,6 @@ module _ {D : Type 0} (v : View D) (p byte : ℕ) (small : p < 30000) (counted :
     counted = omega (arith, counted);
     opens = room.opens_fit;
     items = room.items_fit;
-    numbers = tt;
     room = room.room;
     number = room.number;
   }
@@ -29,7 +28,6 @@ module _ {D : Type 0} (v : View D) (p byte : ℕ) (small : p < 30000) (counted :
     counted = omega (arith, counted);
     opens = room.opens_fit;
     items = room.items_fit;
-    numbers = tt;
     room = room.room;
     number = room.number;
   }

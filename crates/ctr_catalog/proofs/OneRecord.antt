@@ -19,7 +19,7 @@ module _ {D : Type 0} (v : View D) (e : ℕ) (few : e < 32) (counted : 64 ≤ v.
           record_is = record { first = omega (arith, low); second = omega (arith, few); overlay = (refl, omega (arith, few), omega (arith, long), omega (arith, long)) };
           members = tt;
         })
-        tt (omega (arith, few, counted)) (omega arith) (omega arith) tt
+        tt (omega (arith, few, counted)) (omega arith) (omega arith)
 
     pub drop_may : HasRoomForOne 0 1 v → MayLog (drop_record x e) v
     drop_may room =
@@ -28,16 +28,16 @@ module _ {D : Type 0} (v : View D) (e : ℕ) (few : e < 32) (counted : 64 ≤ v.
           record_is = record { first = omega (arith, low); second = omega (arith, few); overlay = (refl, omega (arith, few), omega (arith, length-spelled 8 x), omega (arith, length-spelled 8 x)) };
           members = tt;
         })
-        tt (omega (arith, few, counted)) (omega arith) (omega arith) tt
+        tt (omega (arith, few, counted)) (omega arith) (omega arith)
 
   pub uncreate_may : HasRoomForOne 0 0 v → MayLog (uncreate_record e) v
   uncreate_may room =
       one_may (uncreate_record e) 0 0 v room
       (record { record_is = record { first = omega (arith, few); second = omega arith; overlay = (refl, omega (arith, few), omega arith, omega arith) }; members = tt })
-      tt (omega (arith, few, counted)) (omega arith) (omega arith) tt
+      tt (omega (arith, few, counted)) (omega arith) (omega arith)
 
   pub undrop_may : HasRoomForOne 0 0 v → MayLog (undrop_record e) v
   undrop_may room =
       one_may (undrop_record e) 0 0 v room
       (record { record_is = record { first = omega (arith, few); second = omega arith; overlay = (refl, omega (arith, few), omega (arith, length-spelled 8 0), omega (arith, length-spelled 8 0)) }; members = tt })
-      tt (omega (arith, few, counted)) (omega arith) (omega arith) tt
+      tt (omega (arith, few, counted)) (omega arith) (omega arith)

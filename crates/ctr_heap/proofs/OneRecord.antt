@@ -5,7 +5,6 @@ use Rattle.std.proofs.lemmas.List.{take_at}
 use Rattle.ctr_bytes.specs.Fields.{spelled}
 use Rattle.ctr_bytes.proofs.FieldLaws.{length-spelled}
 use Rattle.ctr_records.specs.declared.record.Record.TheVariants.{Link}
-use Rattle.ctr_meta.specs.Tables.{heads_in}
 use Rattle.ctr_page.specs.declared.header.Header.{Header}
 use Rattle.ctr_page.specs.declared.rows.Place.{Place}
 use Rattle.ctr_page.specs.declared.rows.RowSlot.{RowSlot}
@@ -49,18 +48,18 @@ module _ {D : Type 0} (v : View D) (x : ℕ) (low : x < 2 ^ 64) where
         record_is = record { first = omega (arith, low); second = omega (arith, small); overlay = (refl, omega (arith, small), omega (arith, length-header h), omega (arith, length-header h)) };
         members = tt;
       })
-      tt counted (omega arith) (omega arith) tt
+      tt counted (omega arith) (omega arith)
 
-  pub row_may : (over : ℕ) (at : Place) (slot : RowSlot) → over < 2 ^ 64 → LiesOnPage at slot → v.now.counted ≤ 30000 → at.page < v.now.counted → heads_in x v.meta.tables.opens < 2 ^ 64 - 1
+  pub row_may : (over : ℕ) (at : Place) (slot : RowSlot) → over < 2 ^ 64 → LiesOnPage at slot → v.now.counted ≤ 30000 → at.page < v.now.counted
       → HasRoomForOne 0 0 v → MayLog (row_record x over at slot) v
-  row_may over at slot other lies most counted heads room =
+  row_may over at slot other lies most counted room =
       let small : at.page < 30000 = omega (arith, most, counted) in
       one_may (row_record x over at slot) 0 0 v room
       (record {
         record_is = record { first = omega (arith, low); second = omega (arith, other); overlay = (refl, omega (arith, small), omega (arith, long), inside) };
         members = tt;
       })
-      tt counted (omega arith) (omega arith) heads
+      tt counted (omega arith) (omega arith)
     where
       long : length (slot_bytes (slot_width slot) slot) ≡ slot_size (slot_width slot)
       long = length-slot (slot_width slot) slot lies.is
@@ -75,11 +74,11 @@ module _ {D : Type 0} (v : View D) (x : ℕ) (low : x < 2 ^ 64) where
         record_is = record { first = omega (arith, low); second = omega (arith, small); overlay = (refl, omega (arith, few), omega (arith, length-spelled 4 p), omega (arith, length-spelled 4 p)) };
         members = tt;
       })
-      tt (omega (arith, few, counted)) (omega arith) (omega arith) tt
+      tt (omega (arith, few, counted)) (omega arith) (omega arith)
   front_may p e (Some b) small few counted there room =
       one_may (front_record x p e (Some b)) 0 0 v room
       (record {
         record_is = record { first = omega (arith, low); second = omega (arith, small); overlay = (refl, omega (arith, few), omega (arith, length-spelled 4 p), omega (arith, there, length-spelled 4 p)) };
         members = tt;
       })
-      tt (omega (arith, few, counted)) (omega arith) (omega arith) tt
+      tt (omega (arith, few, counted)) (omega arith) (omega arith)

@@ -1,7 +1,6 @@
 // One record lays a slot, makes a page empty, or puts one at the front of a chain.
 ghost use Rattle.std.specs.Prelude.{◌≡◌, ◌≤◌, ◌<◌, ◌+◌, ◌/◌, ◌-◌, ◌^◌, IfSome, OnOk};
 ghost use Rattle.ctr_base.specs.declared.growing.TheConstants.{MOST_PAGES};
-ghost use Rattle.ctr_meta.specs.Tables.{heads_in};
 ghost use Rattle.ctr_base.specs.Base.{WhereSound};
 ghost use Rattle.ctr_bytes.specs.Fields.{spelled};
 ghost use Rattle.ctr_page.specs.Making.{IsHeader, header_bytes};
@@ -89,7 +88,6 @@ pub fn put_slot<D: Disk, O: Origin>(
     slot: &RowSlot,
 ) -> Result<(), StoreFault>
     requires room { HasRoomForOne 0 0 store.old }
-    requires heads { heads_in x store.old.meta.tables.opens < 2 ^ 64 - 1 }
     requires counted { place.page < store.old.now.counted }
     requires lies { LiesOnPage place slot.now }
     ensures one { LogsOne O.first D.Disk (row_record x over place slot.now) store.old store.new result }

@@ -34,7 +34,7 @@ module _ {D : Type 0} (v : View D) (x : ℕ) (low : x < 2 ^ 64) where
         record_is = record { first = omega (arith, low); second = omega arith; overlay = (refl, omega (arith, small), omega (arith, long), inside) };
         members = tt;
       })
-      tt counted (omega arith) (omega arith) tt
+      tt counted (omega arith) (omega arith)
     where
       long : length (kept_bytes entry) ≡ kept_size (entry_width entry)
       long = length-kept (entry_width entry) entry lies.is
@@ -51,7 +51,7 @@ module _ {D : Type 0} (v : View D) where
         record_is = record { first = omega arith; second = omega arith; overlay = (refl, omega (arith, small), omega (arith, long), inside) };
         members = tt;
       })
-      tt counted (omega arith) (omega arith) tt
+      tt counted (omega arith) (omega arith)
     where
       long : length (kept_bytes (blank_entry w)) ≡ kept_size w
       long = length-kept w (blank_entry w) (blank_is w)

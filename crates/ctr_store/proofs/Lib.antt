@@ -1,5 +1,6 @@
 pub mod RecordLaws
 pub mod BufferLaws
+pub mod NumberLaws
 pub mod PartsLaws
 pub mod PlaceLaws
 pub mod SeenLaws

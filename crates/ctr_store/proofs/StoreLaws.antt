@@ -1,5 +1,5 @@
 -- What callers see of a call on the parts.
-use Rattle.std.proofs.Common.{◌≡◌, ◌⊎◌, ⊎_elim, inl, inr, ◌∙◌, ◌<◌, ◌≤◌, ◌^◌, ◌==◌, ◌+◌, ◌-◌, if◌then◌else◌, ℕ, Option, None, Bool, true, false, List, [], ◌∷◌, length, drop, Result, Ok, Err, refl, sym, ap, subst, arith}
+use Rattle.std.proofs.Common.{◌≡◌, ⊎_elim, inl, inr, ◌∙◌, ◌<◌, ◌≤◌, ◌^◌, ◌==◌, ◌+◌, ◌-◌, if◌then◌else◌, ℕ, Option, None, Bool, true, false, List, [], ◌∷◌, length, drop, Result, Ok, Err, refl, sym, ap, subst, arith}
 use Rattle.std.specs.Prelude.{IsTrue, OnOk, OnErr, IfOk, IfErr, is_err}
 use Rattle.std.proofs.lemmas.List.{append-nil}
 use Rattle.ctr_log.specs.Logs.{frames}
@@ -21,7 +21,9 @@ use Rattle.ctr_base.specs.BaseLaws.{rests_leaves}
 use Rattle.ctr_redo.specs.States.{State, state_of, grown, page_at}
 use Rattle.ctr_store.specs.Parts.{IsFold, HasBuffer, record_end, CanLog, EndsWithin, LogsRecord, LogsRoom, pages_held, some_dirty}
 use Rattle.ctr_store.specs.Store.{View, Logs, LeavesFront, ReachesEnd, HasLongLog, StraysOnlyLong, MovesOn, LeavesPage, MayLog, KeepsRoom, GrowsByExtent, TakesRecord, WritesHome, waiting_bytes}
+use Rattle.ctr_store.specs.Numbers.{NumbersAt}
 use Rattle.ctr_store.specs.StoreInside.{view_of}
+use Rattle.ctr_store.proofs.NumberLaws.{numbers_fit}
 use Rattle.ctr_store.proofs.BufferLaws.{kept_bytes, logged_bytes, since_held, end_at_most, ends_kept}
 use Rattle.ctr_store.proofs.RecordLaws.{record_short, wrote_is}
 
@@ -67,16 +69,23 @@ module _ {D O : Type 0} (g : Ghosts D) where
     long = weaker g s.base.disk t.base.disk (HasGate s.base.log) (ReachesEnd (view_of g s b)) leaves.gate (λ i long. omega (arith, long, has.most, end_at_most s.base.log.place s.base.log.buffered));
   }
 
+  -- and between two calls
+  pub rests_seen : (first : Image) → ((d : D) (c : Image) → g.since d (g.moment_of d) c → g.images d c) → (s : Parts D O) (b : Bool) → HasBuffer s.base.log → IsFold first g s → IsSoundImage first → LeavesFront g (view_of g s b) (view_of g s b)
+  rests_seen first only_now s b has fold sound = front_seen s s b b has (rests_leaves g first only_now s.base fold.over.at_rest sound)
+
   -- what callers see is enough for a record
-  pub can_of : (r : Record) (s : Parts D O) (b : Bool) → HasBuffer s.base.log → MayLog r (view_of g s b) → needs r s.meta.tables ≡ Ok tt → CanLog r s
-  can_of r s b buffer may fits =
+  pub can_of : (r : Record) (s : Parts D O) (b : Bool) → HasBuffer s.base.log → NumbersAt (s.base.log.first + length s.base.log.buffered) s.meta.tables → MayLog r (view_of g s b) → needs r s.meta.tables ≡ Ok tt → CanLog r s
+  can_of r s b buffer numbers may fits =
       let room = may.room in
       let size = buffer.size in
+      let number = may.number in
+      let most = 2 ^ 63 + (s.base.log.first + length s.base.log.buffered) in
+      let low : most < 2 ^ 64 - 1 = omega (arith, number) in
       record {
         logged = may.logged;
         change = may.change;
         counted = may.counted;
-        may = record { fits = fits; opens_fit = may.opens; items_fit = may.items; numbers_fit = may.numbers };
+        may = record { fits = fits; opens_fit = may.opens; items_fit = may.items; numbers_fit = numbers_fit r most most s.meta.tables low low numbers };
         room = omega (arith, room, size, record_short r may.logged.record_is may.change);
         number = may.number;
       }
@@ -158,7 +167,7 @@ module _ {D O : Type 0} (g : Ghosts D) where
     now = grows.now;
     blank = λ p low high inside.
         ap (λ (x : State). page_at p x.pages) grows.now ∙ blank p low (subst (λ (r : Root). p < r.pages) grows.root high) inside;
-    durable = front_seen t t c c has (rests_leaves g first only_now t.base fold.over.at_rest sound);
+    durable = rests_seen first only_now t c has fold sound;
   }
 
   -- a page that is lent, or a call for one that was refused

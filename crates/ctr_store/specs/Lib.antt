@@ -1,4 +1,5 @@
 pub mod Changes
+pub mod Numbers
 pub mod Parts
 pub mod PageChecks
 pub mod Redo

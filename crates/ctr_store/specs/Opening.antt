@@ -1,5 +1,5 @@
 -- What an opening finds, and how it is refused.
-use Rattle.std.specs.Prelude.{◌≡◌, ◌≢◌, ◌⊎◌, ◌∷◌, ◌++◌, ◌+◌, ◌≤◌, ◌<◌, List, [], ℕ, length, nat_lt, if◌then◌else◌, ⊤, Option, Some, None, Result, Ok, Err}
+use Rattle.std.specs.Prelude.{◌≡◌, ◌≢◌, ◌⊎◌, ◌∷◌, ◌++◌, ◌+◌, ◌^◌, ◌≤◌, ◌<◌, List, [], ℕ, length, nat_lt, if◌then◌else◌, ⊤, Option, Some, None, Result, Ok, Err}
 use Rattle.ctr_disk.specs.Image.{Image}
 use Rattle.ctr_home.specs.declared.root.Root.{Root}
 use Rattle.ctr_disk.specs.declared.fault.StoreFault.{StoreFault}
@@ -16,6 +16,7 @@ use Rattle.ctr_base.specs.Base.{stored_of, IsSoundImage}
 use Rattle.ctr_store.specs.declared.parts.Parts.{Parts}
 use Rattle.ctr_store.specs.declared.opening.TheConstants.{BUFFER_BYTES}
 use Rattle.ctr_store.specs.Parts.{IsFold, MayCount}
+use Rattle.ctr_store.specs.Numbers.{HeadsWithin}
 use Rattle.ctr_log.specs.declared.reading.ReadError.{ReadError}
 use Rattle.ctr_log.specs.declared.reading.ReadError.TheVariants as read
 use Rattle.ctr_log.specs.Logs.{Log}
@@ -146,12 +147,13 @@ worn_in root image =
 abbrev pub IsEmptyWithRoom : Log → Type 0
 IsEmptyWithRoom log = (log.buffered ≡ []) × (BUFFER_BYTES ≤ log.room)
 
--- Whatever the disk tells, what was opened has nothing that waits, no number is worn, and it counts
--- as many pages as a root may.
+-- Whatever the disk tells, what was opened has nothing that waits, no number is worn, no transaction
+-- has more than 2^63 heads, and it counts as many pages as a root may.
 pub record IsNewlyOpened {D O : Type 0} (s : Parts D O) : Type 0 where
   pub room : IsEmptyWithRoom s.base.log
   pub next : s.base.log.first + length s.base.log.buffered < worn_at
   pub xid : s.meta.tables.next < worn_at
+  pub heads : HeadsWithin (2 ^ 63) s.meta.tables
   pub pages : MayCount s.base.root.pages
 
 -- an error that comes behind the log's: damage is of a page

@@ -10,7 +10,7 @@ use Rattle.ctr_disk.specs.Device.{LeavesOnly}
 use Rattle.ctr_records.specs.declared.record.Record.{Record}
 use Rattle.ctr_records.specs.Spelling.{record_bytes}
 use Rattle.ctr_records.specs.declared.decoding.BadRecord.{BadRecord}
-use Rattle.ctr_meta.specs.Kept.{TablesKept, IsLogged, NumbersFit, RoomLeft, opens_added, items_added}
+use Rattle.ctr_meta.specs.Kept.{TablesKept, IsLogged, RoomLeft, opens_added, items_added}
 use Rattle.ctr_meta.specs.Effects.{effect}
 use Rattle.ctr_meta.specs.Needs.{needs}
 use Rattle.ctr_redo.specs.Overlaid.{overlay_of}
@@ -149,7 +149,6 @@ pub record MayLog {D : Type 0} (r : Record) (v : View D) : Type 0 where
   pub counted : LiesInside v.now.counted (overlay_of r)
   pub opens : opens_added r ≤ v.meta.opens_room
   pub items : items_added r ≤ v.meta.items_room
-  pub numbers : NumbersFit r v.meta.tables
   pub room : TURN_BYTES ≤ v.room
   pub number : v.next < 2 ^ 63 - 1
 

@@ -1,5 +1,5 @@
 // Opening: the root, the log with its records' checks, and the pages that its records are on.
-ghost use Rattle.std.specs.Prelude.{◌≡◌, ◌⊎◌, ◌≤◌, ◌<◌, ◌+◌, IsTrue, ℕ, [], Ok, Err, None, length, IfOk, IfErr, OnOk};
+ghost use Rattle.std.specs.Prelude.{◌≡◌, ◌⊎◌, ◌≤◌, ◌<◌, ◌+◌, ◌^◌, IsTrue, ℕ, [], Ok, Err, None, length, IfOk, IfErr, OnOk};
 ghost use Rattle.ctr_disk.specs.Device.{WhereTold, LeavesOnly, IsDurable, OnlyReads, CountsAs};
 ghost use Rattle.ctr_home.specs.declared.block.Block.TheVariants.{Root as RootBlock};
 ghost use Rattle.ctr_home.specs.declared.root.Form.TheVariants.{Paged};
@@ -9,6 +9,7 @@ ghost use Rattle.ctr_store.specs.RecordChecks.{AllPass};
 ghost use Rattle.ctr_store.specs.Opening.{IsEmptyWithRoom, IsNewlyOpened, FindsLog, FindsFront, RefusesLog, RefusesAs, OpensParts, disk_left, opening_told, worn_by, IsWornBy, IsLater, IsUndamaged, AnswersOpen, LeavesFirst};
 ghost use Rattle.ctr_log.specs.declared.opening.OpenError.TheVariants.{Fault, OutOfMemory as NoMemory};
 ghost use Rattle.ctr_redo.specs.States.{state_of};
+ghost use Rattle.ctr_store.specs.Numbers.{HeadsWithin};
 ghost use Rattle.ctr_redo.specs.Images.{stored_in, IsSound, FoldsFront};
 ghost use Rattle.ctr_disk.specs.declared.fault.StoreFault.TheVariants.{Fault as StoreFailed};
 ghost use Rattle.ctr_log.specs.declared.reading.ReadError.TheVariants.{Store as ReadStore, OutOfMemory as ReadMemory};
@@ -52,6 +53,7 @@ fn read_log<D: Disk, O: Origin>(
     ensures found { WhereTold D.Disk (IfOk result (FindsLog (D.reads disk.old) root.now)) }
     ensures passed { IfOk result (λ f. (pages : ℕ) × AllPass pages f.visits) }
     ensures room { IfOk result (λ f. IsEmptyWithRoom f.log) }
+    ensures heads { IfOk result (λ f. HeadsWithin (2 ^ 63) f.meta.tables) }
     ensures refused { WhereTold D.Disk (IfErr result (RefusesLog root.now (D.reads disk.old))) }
     ensures undamaged { WhereTold D.Disk (IsSound root.now (D.reads disk.old) → IfErr result (λ e. (e ≡ ReadStore StoreFailed) ⊎ (e ≡ ReadMemory))) }
     ensures quiet { OnlyReads D.Disk disk.old disk.new }
@@ -70,6 +72,7 @@ fn read_front<D: Disk, O: Origin>(alloc: Global, disk: &mut D) -> Result<(Root, 
     ensures found { WhereTold D.Disk (IfOk result (λ r. FindsFront O.first r.0 r.1)) }
     ensures passed { IfOk result (λ r. ((pages : ℕ) × AllPass pages r.1.visits) × IsEmptyWithRoom r.1.log) }
     ensures root { IfOk result (λ r. IsRootOf Paged r.0) }
+    ensures heads { IfOk result (λ r. HeadsWithin (2 ^ 63) r.1.meta.tables) }
     ensures refused { WhereTold D.Disk (IfErr result (RefusesAs O.first)) }
     ensures undamaged { WhereSound O.first D.Disk (IfErr result IsUndamaged) }
     ensures quiet { OnlyReads D.Disk disk.old disk.new }
@@ -95,11 +98,13 @@ fn bring_forward<D: Disk, O: Origin>(
     requires told { IsTrue D.tells → FindsFront O.first root found × IsDurable D.Disk disk × (D.reads disk ≡ O.first) }
     requires passed { (pages : ℕ) × AllPass pages found.visits }
     requires room { IsEmptyWithRoom found.log }
+    requires heads { HeadsWithin (2 ^ 63) found.meta.tables }
     ensures opened { WhereTold D.Disk (IfOk result (OpensParts O.first D.Disk root)) }
     ensures goes { WhereSound O.first D.Disk (LeavesOnly D.Disk disk (disk_left result) (FoldsFront (state_of (stored_in root O.first)) [])) }
     ensures refused { WhereTold D.Disk (IfErr result (λ e. IsSoundImage O.first → (e.0 ≡ Fault) ⊎ (e.0 ≡ NoMemory))) }
     ensures later { WhereTold D.Disk (IfErr result (λ e. IsLater root O.first e.0)) }
     ensures room { IfOk result (λ s. IsEmptyWithRoom s.base.log × (s.base.root ≡ root)) }
+    ensures heads { IfOk result (λ s. HeadsWithin (2 ^ 63) s.meta.tables) }
     ensures counts { CountsAs D.Disk Fault disk (disk_left result) (opening_told result) }
 {
     let Found { log, meta, visits } = found;
@@ -160,6 +165,7 @@ fn finish<D: Disk, O: Origin>(
     requires told { IsTrue D.tells → FindsFront O.first root found × IsDurable D.Disk disk × (D.reads disk ≡ O.first) }
     requires passed { (pages : ℕ) × AllPass pages found.visits }
     requires room { IsEmptyWithRoom found.log }
+    requires heads { HeadsWithin (2 ^ 63) found.meta.tables }
     requires root { IsRootOf Paged root }
     ensures answer { WhereTold D.Disk (AnswersOpen O.first D.Disk result) }
     ensures undamaged { WhereSound O.first D.Disk (IfErr result (λ e. IsUndamaged e.0)) }

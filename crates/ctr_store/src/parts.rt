@@ -206,7 +206,7 @@ impl<D: Disk, O: Origin> Parts<D, O> {
         ensures goes { WhereTold D.Disk (LeavesIf O.first D.Disk self.old.base self.new.base) }
         ensures logs { WhereTold D.Disk (OnOk result ((IsSoundImage O.first → LogsRecord D.Disk rec.now self.old.base self.new.base) × IsFold O.first D.Disk self.new)) }
         ensures takes { IfOk result (λ lsn. (lsn ≡ self.old.base.log.first + length self.old.base.log.buffered) × LogsRoom D.Disk rec.now self.old self.new) }
-        ensures keeps { OnErr result (KeepsBase D.Disk self.old.base self.new.base) }
+        ensures keeps { OnErr result (KeepsBase D.Disk self.old.base self.new.base × (self.new.meta ≡ self.old.meta)) }
         ensures refused { WhereTold D.Disk (IfErr result (λ e. IsSoundImage O.first → e ≡ Fault)) }
         ensures faults { HasFault Fault (D.faults_of self.old.base.disk) (D.faults_of self.new.base.disk) result }
     {

@@ -1,11 +1,12 @@
 // A visitor of a log that checks each record and lays it into the tables.
-ghost use Rattle.std.specs.Prelude.{◌≡◌, ◌<◌, ◌+◌, MatchResult, [], ◌∷◌, ◌++◌, Ok, IsTrue, IfErr, OnOk, OnErr};
+ghost use Rattle.std.specs.Prelude.{◌≡◌, ◌<◌, ◌+◌, ◌^◌, MatchResult, [], ◌∷◌, ◌++◌, Ok, IsTrue, IfErr, OnOk, OnErr};
 ghost use Rattle.ctr_bytes.specs.Fields.{field};
 ghost use Rattle.ctr_redo.specs.Overlaid.{overlay_of};
 ghost use Rattle.ctr_disk.specs.declared.fault.StoreFault.TheVariants.{Damaged};
 ghost use Rattle.ctr_log.specs.declared.reading.ReadError.TheVariants.{Store, OutOfMemory as NoMemory};
 ghost use Rattle.ctr_store.specs.RecordChecks.{first_record_check, overlay_page_check, record_damage, PassesAs, FailsAs, AllPass, CountsPages, tables_seen};
 ghost use Rattle.ctr_log.specs.Visits.{visit_of};
+ghost use Rattle.ctr_store.specs.Numbers.{HeadsWithin};
 
 use crate::spelling::overlay_of;
 use ctr_base::Origin;
@@ -20,6 +21,9 @@ use std::marker::{Model, PhantomData};
 
 /// Where the first record of a file stands.
 const FIRST_RECORD: u64 = 29;
+
+/// More records than memory can have, 2^60.
+const MOST_RECORDS: usize = 1_152_921_504_606_846_976;
 
 /// The records of a log that it was given, each of which passed its checks, and the tables that they leave.
 #[derive(Drop)]
@@ -139,6 +143,7 @@ impl<D: Disk, O: Origin> Seen<D, O> {
     pub fn into_parts(self) -> (Meta, List<Visit>)
         ensures tables { result.0.tables ≡ self.tables }
         ensures visits { result.1 ≡ self.visits }
+        ensures heads { HeadsWithin (2 ^ 63) result.0.tables }
         ensures passed { AllPass self.pages self.visits × (self.tables ≡ tables_seen self.visits) × (IsTrue D.tells → CountsPages O.first self.pages) }
     {
         let Seen {
@@ -159,11 +164,11 @@ impl<D: Disk, O: Origin> Seen<D, O> {
         ensures pages { self.new.pages ≡ self.old.pages }
         ensures refused { IfErr result (λ e. e ≡ NoMemory) }
     {
-        let room = room_for(rec);
-        self.meta.reserve(room.opens, room.items)?;
-        if !self.meta.has_numbers(rec) {
+        if self.visits.len() >= MOST_RECORDS {
             return Err(ReadError::OutOfMemory);
         }
+        let room = room_for(rec);
+        self.meta.reserve(room.opens, room.items)?;
         self.visits.push(visit)?;
         self.meta.apply(rec);
         Ok(())

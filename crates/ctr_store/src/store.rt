@@ -13,6 +13,7 @@ ghost use Rattle.ctr_log.specs.declared.opening.OpenError.TheVariants.{Fault as 
 ghost use Rattle.ctr_base.specs.declared.growing.TheConstants.{MOST_PAGES};
 ghost use Rattle.ctr_store.specs.declared.opening.TheConstants.{BUFFER_BYTES};
 ghost use Rattle.ctr_store.specs.declared.store.TheConstants.{TURN_BYTES};
+ghost use Rattle.ctr_store.specs.Numbers.{NumbersAt};
 ghost use Rattle.ctr_store.specs.Parts.{MayCount};
 ghost use Rattle.ctr_store.specs.Store.{MovesOn, waiting_bytes, HasTurnRoom, turns_for_room, KeepsFrames, WritesHome, LeavesFront, LeavesPage, Logs, MayLog, unmet_need, RefusesUnfit, TakesRecord, LeavesGrowing, GrowsByExtent, CountsUp, page_home};
 ghost use Rattle.ctr_store.specs.StoreOpening.{AnswersStore, IsOpened, store_left};
@@ -128,6 +129,22 @@ impl<D: Disk, O: Origin> Store<D, O> {
     /// A store counts 64 to 30,000 pages, at each moment. The call does nothing: what it ensures holds of each store.
     pub fn counts_pages(&self)
         ensures { MayCount self.now.now.counted }
+    {
+        let _ = &self.parts;
+    }
+
+    /// Between two calls a crash leaves what is hardened, with a prefix of what waits, where no call was answered an error. The
+    /// call does nothing: what it ensures holds of each store.
+    pub fn rests(&self)
+        ensures { WhereSound O.first D.Disk (self.now.stopped ≡ false → LeavesFront D.Disk self.now self.now) }
+    {
+        let _ = &self.parts;
+    }
+
+    /// Neither the next transaction nor the heads of an open one are more than 2^63 beyond the next LSN, so no number comes to
+    /// its end by a record. The call does nothing: what it ensures holds of each store.
+    pub fn bounds_numbers(&self)
+        ensures { NumbersAt self.now.next self.now.meta.tables }
     {
         let _ = &self.parts;
     }

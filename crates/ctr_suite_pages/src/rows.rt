@@ -39,7 +39,7 @@ fn lay(
     ensures going { OnOk result (store.new.stopped ≡ false) }
 {
     let zeros = [0; WIDEST];
-    if !lies(place, width) || !ready(store, 0, 0)? || store.meta().heads(x) == u64::MAX {
+    if !lies(place, width) || !ready(store, 0, 0)? {
         return Ok(Told::NotAsked);
     }
     if place.page >= store.counted() {

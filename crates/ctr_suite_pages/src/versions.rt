@@ -86,7 +86,7 @@ pub fn lay(
     requires going { store.old.stopped ≡ false }
     ensures going { OnOk result (store.new.stopped ≡ false) }
 {
-    if !lies(place, width) || !ready(store, 0, 0)? || store.meta().heads(x) == u64::MAX {
+    if !lies(place, width) || !ready(store, 0, 0)? {
         return Ok(Told::NotAsked);
     }
     if place.page >= store.counted() {

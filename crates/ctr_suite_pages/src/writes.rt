@@ -1,7 +1,6 @@
 // Rows that are written by the rules of versions: what must be kept is kept first.
-ghost use Rattle.std.specs.Prelude.{◌≡◌, ◌≤◌, ◌<◌, ◌+◌, ◌^◌, ◌-◌, Bool, false, IsTrue, IfOk, OnOk};
+ghost use Rattle.std.specs.Prelude.{◌≡◌, ◌≤◌, ◌<◌, ◌+◌, Bool, false, IsTrue, IfOk, OnOk};
 ghost use Rattle.ctr_walk.specs.OneRecord.{HasRoomForOne};
-ghost use Rattle.ctr_meta.specs.Tables.{heads_in};
 ghost use Rattle.ctr_page.specs.Places.{start_of, slot_size as size_of_slot};
 ghost use Rattle.ctr_page.specs.Making.{IsVersion, IsSlot, IsEntry};
 ghost use Rattle.ctr_heap.specs.Ways.{IsWay};
@@ -63,11 +62,11 @@ fn version_by<'a>(x: u64, row: NewRow, bytes: &'a [u8; WIDEST]) -> Version<'a>
 fn may_lay(store: &mut Mem, x: u64, place: Place, width: usize) -> Result<bool, StoreFault>
     requires going { store.old.stopped ≡ false }
     ensures going { OnOk result (store.new.stopped ≡ false) }
-    ensures room { IfOk result (λ is. IsTrue is → HasRoomForOne 0 0 store.new × (heads_in x store.new.meta.tables.opens < 2 ^ 64 - 1)) }
+    ensures room { IfOk result (λ is. IsTrue is → HasRoomForOne 0 0 store.new) }
     ensures place { IfOk result (λ is. IsTrue is → place.page < store.new.now.counted) }
     ensures lies { IfOk result (λ is. IsTrue is → (width ≤ WIDEST) × (start_of (size_of_slot width) place.slot + size_of_slot width ≤ 4096)) }
 {
-    if !lies(place, width) || !ready(store, 0, 0)? || store.meta().heads(x) == u64::MAX {
+    if !lies(place, width) || !ready(store, 0, 0)? {
         return Ok(false);
     }
     Ok(place.page < store.counted())

@@ -105,8 +105,7 @@ fn log_bytes(store: &mut Mem, bytes: &[u8]) -> Result<bool, StoreFault>
     if store.reserve(room.opens, room.items).is_err() {
         return Ok(false);
     }
-    let fits = store.room() && store.next() < 1 << 62;
-    if !fits || !store.meta().has_numbers(&rec) {
+    if !store.room() || store.next() >= 1 << 62 {
         return Ok(false);
     }
     store.log(&rec)?;

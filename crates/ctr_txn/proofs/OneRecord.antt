@@ -27,15 +27,14 @@ use Rattle.ctr_txn.specs.Steps.{SetsTxn, DrawsOne, AsksOne, txn_drawn, txn_asked
 use Rattle.ctr_txn.proofs.Runs.{sets_run, same_run, ends_run}
 
 module _ {D : Type 0} (v : View D) (x : ℕ) (low : x < 2 ^ 64) where
-  pub begin_may : HasRoomForOne 1 0 v → v.meta.tables.next < 2 ^ 64 - 1 → MayLog (Begin x) v
-  begin_may room small = record {
+  pub begin_may : HasRoomForOne 1 0 v → MayLog (Begin x) v
+  begin_may room = record {
     going = room.going;
     logged = record { record_is = record { first = omega (arith, low); second = omega arith; overlay = refl }; members = tt };
     change = tt;
     counted = tt;
     opens = room.opens_fit;
     items = room.items_fit;
-    numbers = small;
     room = room.room;
     number = room.number;
   }
@@ -48,7 +47,6 @@ module _ {D : Type 0} (v : View D) (x : ℕ) (low : x < 2 ^ 64) where
     counted = tt;
     opens = room.opens_fit;
     items = room.items_fit;
-    numbers = tt;
     room = room.room;
     number = room.number;
   }
@@ -61,7 +59,6 @@ module _ {D : Type 0} (v : View D) (x : ℕ) (low : x < 2 ^ 64) where
     counted = tt;
     opens = room.opens_fit;
     items = room.items_fit;
-    numbers = tt;
     room = room.room;
     number = room.number;
   }

@@ -25,7 +25,6 @@ pub record MayDraw {D : Type 0} (s : ℕ) (a : TxnsHeld) (v : View D) : Type 0 w
   pub over : IsOverStore a v
   pub numbers : HasNumberRoom a
   pub room : HasRoomForOne 1 0 v
-  pub small : v.meta.tables.next < 2 ^ 64 - 1
 
 -- a session may end its transaction, by a commit that is asked for or by a rollback's mark
 pub record MayEnd {D : Type 0} (s : ℕ) (a : TxnsHeld) (v : View D) : Type 0 where

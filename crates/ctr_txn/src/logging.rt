@@ -44,6 +44,7 @@ impl Txns {
         a_logged_record_is_its_action();
         an_action_is_shown();
         self.counts_sessions();
+        store.bounds_numbers();
         let x = store.meta().next();
         match log_record(store, &Record::Begin { x }) {
             Ok(_) => Ok(self.draw(s)),

@@ -8,3 +8,4 @@ pub mod Firsts
 pub mod Ends
 pub mod Said
 pub mod Telling
+pub mod Entries

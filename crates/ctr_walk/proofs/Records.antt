@@ -11,7 +11,7 @@ use Rattle.ctr_disk.specs.declared.fault.StoreFault.{StoreFault}
 use Rattle.ctr_records.specs.declared.record.Record.{Record}
 use Rattle.ctr_records.specs.declared.decoding.BadRecord.{BadRecord}
 use Rattle.ctr_meta.specs.Effects.{effect}
-use Rattle.ctr_meta.specs.Kept.{TablesKept, IsLogged, NumbersFit, RoomLeft, opens_added, items_added}
+use Rattle.ctr_meta.specs.Kept.{TablesKept, IsLogged, RoomLeft, opens_added, items_added}
 use Rattle.ctr_meta.specs.Needs.{needs}
 use Rattle.ctr_redo.specs.Overlaid.{overlay_of}
 use Rattle.ctr_redo.specs.Fitting.{LiesInside}
@@ -38,8 +38,8 @@ both_ok (Err e) P Q R f p q = tt
 
 -- where there is room for one record more
 pub one_may : {D : Type 0} (r : Record) (opens items : ℕ) (v : View D) → HasRoomForOne opens items v → IsLogged r → IsChange r → LiesInside v.now.counted (overlay_of r)
-    → opens_added r ≤ opens → items_added r ≤ items → NumbersFit r v.meta.tables → MayLog r v
-one_may r opens items v room logged change inside few_opens few_items numbers =
+    → opens_added r ≤ opens → items_added r ≤ items → MayLog r v
+one_may r opens items v room logged change inside few_opens few_items =
     let more_opens = room.opens_fit in
     let more_items = room.items_fit in
     record {
@@ -49,7 +49,6 @@ one_may r opens items v room logged change inside few_opens few_items numbers =
       counted = inside;
       opens = omega (arith, few_opens, more_opens);
       items = omega (arith, few_items, more_items);
-      numbers = numbers;
       room = room.room;
       number = room.number;
     }
@@ -71,7 +70,6 @@ module _ {D : Type 0} (r : Record) (a b : View D) (keeps : KeepsRoom a b) where
         counted = subst (λ (n : ℕ). LiesInside n (overlay_of r)) (sym keeps.counted) may.counted;
         opens = subst (λ (m : TablesKept). opens_added r ≤ m.opens_room) (sym keeps.meta) may.opens;
         items = subst (λ (m : TablesKept). items_added r ≤ m.items_room) (sym keeps.meta) may.items;
-        numbers = subst (λ (m : TablesKept). NumbersFit r m.tables) (sym keeps.meta) may.numbers;
         room = omega (arith, room, more);
         number = subst (λ (n : ℕ). n < 2 ^ 63 - 1) (sym keeps.next) may.number;
       }

@@ -2,3 +2,4 @@ pub mod OneRecord
 pub mod Damage
 pub mod Along
 pub mod Tables
+pub mod Columns

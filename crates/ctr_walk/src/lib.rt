@@ -5,6 +5,7 @@
 #![tactic(auto)]
 
 mod along;
+mod columns;
 mod damage;
 mod fault;
 mod joining;
@@ -12,6 +13,7 @@ mod on_page;
 mod table;
 
 pub use along::PageSought;
+pub use columns::an_entry_has_columns;
 pub use damage::tell;
 pub use fault::{SearchFault, found_on};
 pub use joining::{a_record_behind_a_page, log_record, pages_read_join};

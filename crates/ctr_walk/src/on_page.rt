@@ -1,7 +1,7 @@
 // A record on a page, which is read first.
 ghost use Rattle.std.specs.Prelude.{◌≡◌, ◌<◌, ◌≤◌, ℕ, false, OnOk, length};
 ghost use Rattle.ctr_records.specs.declared.record.Record.{Record};
-ghost use Rattle.ctr_meta.specs.Kept.{IsLogged, NumbersFit, opens_added, items_added};
+ghost use Rattle.ctr_meta.specs.Kept.{IsLogged, opens_added, items_added};
 ghost use Rattle.ctr_redo.specs.States.{page_limit, page_at};
 ghost use Rattle.ctr_redo.specs.Overlaid.{overlay_of};
 ghost use Rattle.ctr_redo.specs.Fitting.{LiesInside};
@@ -50,5 +50,5 @@ pub fn log_on_page<D: Disk, O: Origin>(
 /// Where there is room for one record more, a record that is on no page, or on a counted one, may be logged.
 pub fn a_record_may_be_logged<D: Disk>()
     ensures { (r : Record) (opens items : ℕ) (v : View D) → HasRoomForOne opens items v → IsLogged r → IsChange r → LiesInside v.now.counted (overlay_of r)
-        → opens_added r ≤ opens → items_added r ≤ items → NumbersFit r v.meta.tables → MayLog r v }
+        → opens_added r ≤ opens → items_added r ≤ items → MayLog r v }
 {}

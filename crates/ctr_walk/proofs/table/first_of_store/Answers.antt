@@ -1,11 +1,10 @@
-use Rattle.std.proofs.Common.{◌≡◌, ◌∙◌, ◌+◌, ◌/◌, ℕ, List, ◌<◌, sym, ap, subst}
+use Rattle.std.proofs.Common.{◌≡◌, ◌∙◌, ◌+◌, ◌/◌, ℕ, ◌<◌, sym, ap, subst}
 use Rattle.std.specs.Prelude.{IfOk}
 use Rattle.ctr_page.specs.Damage.{chain_entry}
 use Rattle.ctr_redo.specs.States.{page_limit}
-use Rattle.ctr_area.specs.Reading.{area_of}
 use Rattle.ctr_record_effects.specs.States.{pages_in}
 use Rattle.ctr_walk.specs.Damage.{searched, EndsOnPage}
-use Rattle.ctr_walk.specs.Tables.{first_said, first_of_chain, chain_table_check, FirstSaid, EndsFirst}
+use Rattle.ctr_walk.specs.Tables.{first_said, chain_table_check, FirstSaid, EndsFirst}
 use Rattle.ctr_walk.proofs.Limits.{catalog_in_limit}
 use Rattle.ctr_walk.proofs.Said.{entry_few, first_here}
 use Rattle.ctr_walk.proofs.Searches.{ends_there}

@@ -1,11 +1,11 @@
 use Rattle.std.proofs.Common.{◌≡◌, ◌∙◌, Bool, false, sym, ap, subst}
 use Rattle.std.proofs.lemmas.Result.{on_ok_weaker}
 use Rattle.ctr_base.specs.Base.{IsSoundImage}
-use Rattle.ctr_base.specs.BaseLaws.{rests_leaves}
 use Rattle.ctr_store.specs.Store.{View, LeavesPage}
 use Rattle.ctr_store.specs.StoreInside.{view_of}
 use Rattle.ctr_store.proofs.BufferLaws.{buffer_kept, count_kept}
-use Rattle.ctr_store.proofs.StoreLaws.{of_ok, front_seen, page_left, sound_fault}
+use Rattle.ctr_store.proofs.NumberLaws.{numbers_kept}
+use Rattle.ctr_store.proofs.StoreLaws.{of_ok, rests_seen, page_left, sound_fault}
 use Rattle.ctr_store.proofs.store.Store.harden.Goals as goal
 
 pub invariant_of-self : goal.invariant_of-self
@@ -15,6 +15,7 @@ invariant_of-self g c =
       fold = λ told going. of_ok c.harden-hardened.result (sym c.is_err-self-inside.ensures.value ∙ going) (e.fold told);
       buffer = buffer_kept g.D.Disk c.self.inside.parts.base c.harden-hardened.new.self.base e.keeps.0 c.self.invariant.buffer;
       counted = count_kept g.D.Disk c.self.inside.parts.base c.harden-hardened.new.self.base e.keeps.0 c.self.invariant.counted;
+      numbers = numbers_kept g.D.Disk c.self.inside.parts c.harden-hardened.new.self e.keeps.0 e.keeps.1 c.self.invariant.numbers;
     }
 
 pub returns-clause-durable : goal.returns-clause-durable
@@ -23,7 +24,7 @@ returns-clause-durable g c told sound =
     let t = c.harden-hardened.new.self in
     let k = c.is_err-self-inside.result in
     let has = buffer_kept d c.self.inside.parts.base t.base c.harden-hardened.ensures.keeps.0 c.self.invariant.buffer in
-    on_ok_weaker c.harden-hardened.result (λ fold. front_seen d t t k k has (rests_leaves d g.O.Origin.first g.met.D.Disk.only_now t.base fold.over.at_rest sound)) (c.harden-hardened.ensures.fold told)
+    on_ok_weaker c.harden-hardened.result (λ fold. rests_seen d g.O.Origin.first g.met.D.Disk.only_now t k has fold sound) (c.harden-hardened.ensures.fold told)
 
 pub returns-clause-leaves : goal.returns-clause-leaves
 returns-clause-leaves g c =

@@ -3,6 +3,7 @@ use Rattle.std.proofs.lemmas.Result.{on_ok_weaker}
 use Rattle.ctr_store.specs.Store.{View, LeavesPage}
 use Rattle.ctr_store.specs.StoreInside.{view_of}
 use Rattle.ctr_store.proofs.BufferLaws.{buffer_kept, count_kept}
+use Rattle.ctr_store.proofs.NumberLaws.{numbers_kept}
 use Rattle.ctr_store.proofs.StoreLaws.{of_ok, page_left}
 use Rattle.ctr_store.proofs.store.Store.home_of.Goals as goal
 
@@ -11,6 +12,7 @@ invariant_of-self g c = record {
   fold = λ told going. of_ok c.place_of-home.result (sym c.is_err-self-inside.ensures.value ∙ going) (on_ok_weaker c.place_of-home.result (λ x. x.0) (c.place_of-home.ensures.fold told));
   buffer = buffer_kept g.D.Disk c.self.inside.parts.base c.place_of-home.new.self.base c.place_of-home.ensures.keeps.0 c.self.invariant.buffer;
   counted = count_kept g.D.Disk c.self.inside.parts.base c.place_of-home.new.self.base c.place_of-home.ensures.keeps.0 c.self.invariant.counted;
+  numbers = numbers_kept g.D.Disk c.self.inside.parts c.place_of-home.new.self c.place_of-home.ensures.keeps.0 c.place_of-home.ensures.keeps.1 c.self.invariant.numbers;
 }
 
 pub returns-clause-leaves : goal.returns-clause-leaves

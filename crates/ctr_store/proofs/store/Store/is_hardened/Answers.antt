@@ -1,4 +1,4 @@
-use Rattle.std.proofs.Common.{◌≡◌, [], true, refl, sym, ◌∙◌, ap, subst}
+use Rattle.std.proofs.Common.{◌≡◌, [], sym, ◌∙◌, subst}
 use Rattle.std.proofs.lemmas.Bool.{eqb-true, eq-eqb}
 use Rattle.ctr_store.specs.Store.{View}
 use Rattle.ctr_store.proofs.Hardened.{none_waits, no_byte}

@@ -3,6 +3,7 @@ use Rattle.std.specs.Prelude.{IfOk}
 use Rattle.ctr_store.specs.Store.{View, LeavesPage, WritesHome}
 use Rattle.ctr_store.specs.StoreInside.{view_of}
 use Rattle.ctr_store.proofs.BufferLaws.{buffer_kept, count_kept}
+use Rattle.ctr_store.proofs.NumberLaws.{numbers_kept}
 use Rattle.ctr_store.proofs.StoreLaws.{of_ok, home_seen, wrote_seen, page_left}
 use Rattle.ctr_store.proofs.store.Store.write_one_dirty.Goals as goal
 
@@ -29,6 +30,7 @@ invariant_of-self g c =
       fold = λ told going. of_ok c.write_one_dirty-wrote.result (sym c.is_err-self-inside.ensures.value ∙ going) (e.fold told);
       buffer = buffer_kept g.D.Disk c.self.inside.parts.base c.write_one_dirty-wrote.new.self.base e.keeps.0 c.self.invariant.buffer;
       counted = count_kept g.D.Disk c.self.inside.parts.base c.write_one_dirty-wrote.new.self.base e.keeps.0 c.self.invariant.counted;
+      numbers = numbers_kept g.D.Disk c.self.inside.parts c.write_one_dirty-wrote.new.self e.keeps.0 e.keeps.1 c.self.invariant.numbers;
     }
 
 pub returns-clause-home : goal.returns-clause-home

@@ -48,3 +48,9 @@ returns-in-Ok-clause-one g c = subst (λ n. LogsOne g.O.Origin.first g.D.Disk (B
 pub returns-in-Err-clause-one : goal.returns-in-Err-clause-one
 returns-in-Err-clause-one g c = subst (λ n. LogsOne g.O.Origin.first g.D.Disk (Begin n) c.args.store.now c.log_record.new.store (Err c.in-Err.fault)) (c.next-x.ensures.next ∙ ap (λ (k : TablesKept). k.tables.next) c.meta.ensures.tables)
     (refused_now g.O.Origin.first g.D.Disk (Begin c.next-x.result) c.args.store.now c.log_record.new.store c.in-Err.fault c.requires.may.room.going c.in-Err.ensures)
+
+pub draw-requires-clause-small : goal.draw-requires-clause-small
+draw-requires-clause-small g c =
+    let low = c.bounds_numbers.ensures.0 in
+    let number = c.requires.may.room.number in
+    omega (arith, low, number, c.requires.may.over)
