@@ -4,3 +4,4 @@ pub mod OneRecord
 pub mod Made
 pub mod Found
 pub mod Searched
+pub mod Schemas
