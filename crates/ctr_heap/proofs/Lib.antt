@@ -2,3 +2,4 @@ pub mod Sought
 pub mod Keyed
 pub mod Telling
 pub mod OneRecord
+pub mod Made

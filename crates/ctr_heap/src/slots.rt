@@ -1,16 +1,28 @@
 // The slots of a page of rows.
-ghost use Rattle.std.specs.Prelude.{◌≡◌, ◌≤◌, ◌<◌, ℕ, List, length, Ok, Option};
+ghost use Rattle.std.specs.Prelude.{◌≡◌, ◌≤◌, ◌<◌, ◌+◌, ◌↔◌, IsTrue, ℕ, List, length, Ok, Option};
 ghost use Rattle.ctr_types.specs.declared.value.Kind.{Kind};
 ghost use Rattle.ctr_page.specs.declared.table.TheConstants.{PAGE_SIZE};
 ghost use Rattle.ctr_page.specs.Columns.{kinds_of};
+ghost use Rattle.ctr_page.specs.Places.{slot_size as size_of_slot, start_of};
 ghost use Rattle.ctr_page.specs.Searching.{IsFirst};
 ghost use Rattle.ctr_area.specs.Reading.{header_on, columns_on, area_of};
 ghost use Rattle.ctr_heap.specs.declared.slots.SlotSought.{SlotSought};
 ghost use Rattle.ctr_heap.specs.Slots.{slot_is, EndsSlots, seeks_in};
 
-use ctr_page::{BadPage, RowSlot, Use, check_slot, kinds_width, read_slot, room_for, slot_size};
+use ctr_page::{
+    BadPage, Place, RowSlot, Use, check_slot, kinds_width, read_slot, room_for, slot_size,
+};
 use ctr_types::Kind;
 use ctr_walk::PageSought;
+
+/// The bytes of a page.
+const PAGE: usize = 4_096;
+
+/// The bytes of its header.
+const HEADER: usize = 16;
+
+/// The most bytes of a payload that a slot may have.
+const WIDEST: usize = 2_048;
 
 /// Which slot is sought.
 #[derive(Clone, Copy, Debug, PartialEq, Eq)]
@@ -64,6 +76,17 @@ pub fn search_slots(
         }
     }
     Ok(None)
+}
+
+/// Whether a slot of rows so wide, in bytes behind the key, lies on a page at a place: rows of a table are at most 1,792 bytes wide.
+pub fn slot_lies(place: Place, width: usize) -> bool
+    ensures { IsTrue result ↔ ((width ≤ 2048) × (start_of (size_of_slot width) place.slot + size_of_slot width ≤ PAGE_SIZE)) }
+{
+    if width > WIDEST {
+        return false;
+    }
+    let size = slot_size(width);
+    HEADER + place.slot as usize * size + size <= PAGE
 }
 
 /// A search that ends without damage, on a page of rows by the columns of its table, has found the first slot

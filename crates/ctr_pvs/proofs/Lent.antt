@@ -12,6 +12,8 @@ use Rattle.ctr_page.specs.Places.{kept_size}
 use Rattle.ctr_page.specs.Reading.{older_at}
 use Rattle.ctr_area.specs.Areas.{free_older}
 use Rattle.ctr_area.specs.Reading.{older_said, header_on, columns_on, width_on}
+use Rattle.ctr_types.specs.declared.value.Column.{Column}
+use Rattle.ctr_passed.specs.Logged.{IsOlderOf}
 use Rattle.ctr_base.specs.Base.{IsSoundImage}
 use Rattle.ctr_redo.specs.States.{State}
 use Rattle.ctr_store.specs.Store.{View, LeavesPage}
@@ -64,6 +66,11 @@ module _ {D : Type 0} (first : Image) (g : Ghosts D) (at : Place) (a b : View D)
   pub finds : (result : Result LentVersion StoreFault) → IsTrue g.tells → IsSoundImage first → IsRead result → IfOk result (IsKeptAt (pages_in a.now) at)
   finds (Ok l) told sound is = kept_there (version_check_at a.now.counted (pages_in a.now) at) (pages_in a.now) at w l (passes told sound) (read_before l told sound is)
   finds (Err e) told sound is = tt
+
+  pub made : (columns : List Column) (result : Result LentVersion StoreFault) → IsTrue g.tells → IsSoundImage first → IsOlderOf a.now.counted columns (older_at w at.slot (pages_in a.now at.page)) → IsRead result
+      → IfOk result (λ l. IsOlderOf a.now.counted columns (entry_lent l))
+  made columns (Ok l) told sound is read = subst (IsOlderOf a.now.counted columns) (sym (read_before l told sound read)) is
+  made columns (Err e) told sound is read = tt
 
   pub lends : (c : View D) (result : Result LentVersion StoreFault) → LeavesPage {T = LentVersion} first g b c result → (IsTrue g.tells → IsSoundImage first → IsRead result) → LendsVersion first g at a c result
   lends c result two is = record {

@@ -11,6 +11,8 @@ use Rattle.ctr_page.specs.declared.rows.Place.{Place}
 use Rattle.ctr_page.specs.Reading.{slot_at}
 use Rattle.ctr_area.specs.Areas.{free_slot}
 use Rattle.ctr_area.specs.Reading.{slot_said, header_on, columns_on, width_on}
+use Rattle.ctr_types.specs.declared.value.Column.{Column}
+use Rattle.ctr_passed.specs.Logged.{IsSlotOf}
 use Rattle.ctr_base.specs.Base.{IsSoundImage}
 use Rattle.ctr_redo.specs.States.{State}
 use Rattle.ctr_store.specs.Store.{View, LeavesPage}
@@ -60,6 +62,11 @@ module _ {D : Type 0} (first : Image) (g : Ghosts D) (at : Place) (a b : View D)
   pub finds : (result : Result LentSlot StoreFault) → IsTrue g.tells → IsSoundImage first → IsRead result → IfOk result (IsSlotAt (pages_in a.now) at)
   finds (Ok l) told sound is = slot_in_area (row_check_at a.now.counted (pages_in a.now) at) (pages_in a.now) at w l (passes told sound) (read_before l told sound is)
   finds (Err e) told sound is = tt
+
+  pub made : (columns : List Column) (result : Result LentSlot StoreFault) → IsTrue g.tells → IsSoundImage first → IsSlotOf a.now.counted columns (slot_at w at.slot (pages_in a.now at.page)) → IsRead result
+      → IfOk result (λ l. IsSlotOf a.now.counted columns (slot_lent l))
+  made columns (Ok l) told sound is read = subst (IsSlotOf a.now.counted columns) (sym (read_before l told sound read)) is
+  made columns (Err e) told sound is read = tt
 
   pub lends : (c : View D) (result : Result LentSlot StoreFault) → LeavesPage {T = LentSlot} first g b c result → (IsTrue g.tells → IsSoundImage first → IsRead result) → LendsSlot first g at a c result
   lends c result two is = record {

@@ -6,3 +6,4 @@ pub mod Freeing
 pub mod Lent
 pub mod Showing
 pub mod LentSlots
+pub mod Made

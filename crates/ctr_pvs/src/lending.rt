@@ -1,5 +1,7 @@
 // A version entry by its place, lent from its page.
-ghost use Rattle.std.specs.Prelude.{◌≡◌, ◌≤◌, ◌<◌, ◌+◌, false, IfOk, length};
+ghost use Rattle.std.specs.Prelude.{◌≡◌, ◌≤◌, ◌<◌, ◌+◌, false, List, IfOk, length};
+ghost use Rattle.ctr_types.specs.declared.value.Column.{Column};
+ghost use Rattle.ctr_value.specs.Payload.{IsKeyed};
 ghost use Rattle.std.specs.Borrow.{sem};
 ghost use Rattle.std.specs.Io.BufRead.{Rests};
 ghost use Rattle.ctr_base.specs.declared.growing.TheConstants.{MOST_PAGES};
@@ -10,6 +12,10 @@ ghost use Rattle.ctr_page.specs.declared.table.TheConstants.{PAGE_SIZE};
 ghost use Rattle.ctr_page.specs.Places.{kept_size as size_of_kept, start_of as start_place};
 ghost use Rattle.ctr_page.specs.Reading.{older_at};
 ghost use Rattle.ctr_page.specs.Making.{IsEntry};
+ghost use Rattle.ctr_page.specs.Columns.{kinds_of};
+ghost use Rattle.ctr_area.specs.Reading.{columns_on};
+ghost use Rattle.ctr_passed.specs.Logged.{IsOlderOf};
+ghost use Rattle.ctr_walk.specs.Tables.{kinds_said};
 ghost use Rattle.ctr_record_effects.specs.States.{pages_in};
 ghost use Rattle.ctr_walk.specs.Damage.{searched, EndsOnPage};
 ghost use Rattle.ctr_pvs.specs.Reading.{WidthSaid, version_check_at, EndsAt};
@@ -88,6 +94,7 @@ fn width_in(table: &TableOf, counted: u32, number: u16, page: &[u8]) -> Result<u
     requires whole { length page.now ≡ PAGE_SIZE }
     ensures said { WidthSaid counted table.now number page.now result }
     ensures fits { IfOk result (λ w. (w ≤ 2048) × (start_place (size_of_kept w) number + size_of_kept w ≤ PAGE_SIZE)) }
+    ensures made { (columns : List Column) → IsKeyed columns → kinds_of columns ≡ kinds_said table.now → IfOk result (λ w. IsOlderOf counted columns (older_at w number page.now)) }
 {
     match version_in(table, counted, number, page) {
         Ok(_) => Ok(kinds_width(table.kinds())),
@@ -108,6 +115,7 @@ fn check_kept<D: Disk, O: Origin>(
     requires few { table.now.count ≤ 7 }
     ensures said { WhereSound O.first D.Disk (IfOk (searched result) (EndsOnPage place.page (WidthSaid counted table.now place.slot (pages_in store.old.now place.page)))) }
     ensures fits { IfOk result (λ w. (w ≤ 2048) × (start_place (size_of_kept w) place.slot + size_of_kept w ≤ PAGE_SIZE)) }
+    ensures made { WhereSound O.first D.Disk ((columns : List Column) → IsKeyed columns → kinds_of columns ≡ kinds_said table.now → IfOk result (λ w. IsOlderOf counted columns (older_at w place.slot (pages_in store.old.now place.page)))) }
     ensures leaves { LeavesPage O.first D.Disk store.old store.new (searched result) }
 {
     let page = store.page(place.page)?;
@@ -120,6 +128,7 @@ fn width_at<D: Disk, O: Origin>(store: &mut Store<D, O>, place: Place) -> Result
     requires counted { place.page < store.old.now.counted }
     ensures ends { WhereSound O.first D.Disk (IfOk (searched result) (EndsAt (version_check_at store.old.now.counted (pages_in store.old.now) place) (pages_in store.old.now) place)) }
     ensures fits { IfOk result (λ w. (w ≤ 2048) × (start_place (size_of_kept w) place.slot + size_of_kept w ≤ PAGE_SIZE)) }
+    ensures made { WhereSound O.first D.Disk (IfOk result (λ w. IsOlderOf store.old.now.counted (columns_on (pages_in store.old.now) place.page) (older_at w place.slot (pages_in store.old.now place.page)))) }
     ensures leaves { LeavesPage O.first D.Disk store.old store.new (searched result) }
 {
     store.counts_pages();
@@ -159,6 +168,8 @@ pub fn version<D: Disk, O: Origin>(
     // What is lent can be made, and a version entry of rows so wide lies on a page at the place.
     ensures fits { IfOk result (λ l. IsEntry (length l.payload.now) (entry_lent l)) }
     ensures lies { IfOk result (λ l. VersionLiesAt place (length l.payload.now)) }
+    // It is well made by the columns of the table.
+    ensures made { WhereSound O.first D.Disk (IfOk result (λ l. IsOlderOf store.old.now.counted (columns_on (pages_in store.old.now) place.page) (entry_lent l))) }
     // Damage is told where it stands in the file of pages.
     ensures* after { sem 𝓛 (Rests (store-row D.row O.row D.Disk O.Origin) store.entry (λ new. LendsVersion O.first D.Disk place store.old new result)) }
 {

@@ -1,7 +1,10 @@
 // Version entries, checked as they are read.
-ghost use Rattle.std.specs.Prelude.{◌≡◌, ◌≤◌, ◌<◌, IfOk, length};
+ghost use Rattle.std.specs.Prelude.{◌≡◌, ◌≤◌, ◌<◌, List, IfOk, length};
+ghost use Rattle.ctr_types.specs.declared.value.Column.{Column};
+ghost use Rattle.ctr_value.specs.Payload.{IsKeyed};
 ghost use Rattle.ctr_page.specs.declared.table.TheConstants.{PAGE_SIZE};
-ghost use Rattle.ctr_page.specs.Columns.{kinds_width as width_of_kinds};
+ghost use Rattle.ctr_page.specs.Columns.{kinds_of, kinds_width as width_of_kinds};
+ghost use Rattle.ctr_passed.specs.Logged.{IsSlotOf, IsOlderOf};
 ghost use Rattle.ctr_page.specs.Making.{IsSlot, IsEntry};
 ghost use Rattle.ctr_walk.specs.Tables.{kinds_said};
 ghost use Rattle.ctr_pvs.specs.Reading.{lies_check, versions_there, VersionSaid, RowSaid};
@@ -47,6 +50,8 @@ pub fn version_in<'a>(
     ensures said { VersionSaid counted table.now number page.now result }
     // What is read can be made.
     ensures fits { IfOk result (IsEntry (width_of_kinds (kinds_said table.now))) }
+    // It is well made by the table's columns.
+    ensures made { (columns : List Column) → IsKeyed columns → kinds_of columns ≡ kinds_said table.now → IfOk result (IsOlderOf counted columns) }
 {
     let kinds = table.kinds();
     let entry = table.entry;
@@ -69,6 +74,8 @@ pub fn row_in<'a>(
     ensures said { RowSaid counted table.now number page.now result }
     // What is read can be made.
     ensures fits { IfOk result (IsSlot (width_of_kinds (kinds_said table.now))) }
+    // It is well made by the table's columns.
+    ensures made { (columns : List Column) → IsKeyed columns → kinds_of columns ≡ kinds_said table.now → IfOk result (IsSlotOf counted columns) }
 {
     let kinds = table.kinds();
     let entry = table.entry;

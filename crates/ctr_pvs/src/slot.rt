@@ -1,5 +1,7 @@
 // A slot by its place, lent from its page.
-ghost use Rattle.std.specs.Prelude.{◌≡◌, ◌≤◌, ◌<◌, ◌+◌, false, IfOk, length};
+ghost use Rattle.std.specs.Prelude.{◌≡◌, ◌≤◌, ◌<◌, ◌+◌, false, List, IfOk, length};
+ghost use Rattle.ctr_types.specs.declared.value.Column.{Column};
+ghost use Rattle.ctr_value.specs.Payload.{IsKeyed};
 ghost use Rattle.std.specs.Borrow.{sem};
 ghost use Rattle.std.specs.Option.{option_map};
 ghost use Rattle.std.specs.Io.BufRead.{Rests};
@@ -11,6 +13,10 @@ ghost use Rattle.ctr_page.specs.declared.table.TheConstants.{PAGE_SIZE};
 ghost use Rattle.ctr_page.specs.Places.{slot_size as size_of_slot, start_of as start_place};
 ghost use Rattle.ctr_page.specs.Reading.{slot_at};
 ghost use Rattle.ctr_page.specs.Making.{IsSlot};
+ghost use Rattle.ctr_page.specs.Columns.{kinds_of};
+ghost use Rattle.ctr_area.specs.Reading.{columns_on};
+ghost use Rattle.ctr_passed.specs.Logged.{IsSlotOf};
+ghost use Rattle.ctr_walk.specs.Tables.{kinds_said};
 ghost use Rattle.ctr_record_effects.specs.States.{pages_in};
 ghost use Rattle.ctr_walk.specs.Damage.{searched, EndsOnPage};
 ghost use Rattle.ctr_pvs.specs.Reading.{row_check_at};
@@ -144,6 +150,7 @@ fn row_width_in(table: &TableOf, counted: u32, number: u16, page: &[u8]) -> Resu
     requires whole { length page.now ≡ PAGE_SIZE }
     ensures said { RowWidthSaid counted table.now number page.now result }
     ensures fits { IfOk result (λ w. (w ≤ 2048) × (start_place (size_of_slot w) number + size_of_slot w ≤ PAGE_SIZE)) }
+    ensures made { (columns : List Column) → IsKeyed columns → kinds_of columns ≡ kinds_said table.now → IfOk result (λ w. IsSlotOf counted columns (slot_at w number page.now)) }
 {
     match row_in(table, counted, number, page) {
         Ok(_) => Ok(kinds_width(table.kinds())),
@@ -164,6 +171,7 @@ fn check_row<D: Disk, O: Origin>(
     requires few { table.now.count ≤ 7 }
     ensures said { WhereSound O.first D.Disk (IfOk (searched result) (EndsOnPage place.page (RowWidthSaid counted table.now place.slot (pages_in store.old.now place.page)))) }
     ensures fits { IfOk result (SlotLiesAt place) }
+    ensures made { WhereSound O.first D.Disk ((columns : List Column) → IsKeyed columns → kinds_of columns ≡ kinds_said table.now → IfOk result (λ w. IsSlotOf counted columns (slot_at w place.slot (pages_in store.old.now place.page)))) }
     ensures leaves { LeavesPage O.first D.Disk store.old store.new (searched result) }
 {
     let page = store.page(place.page)?;
@@ -179,6 +187,7 @@ fn row_width_at<D: Disk, O: Origin>(
     requires counted { place.page < store.old.now.counted }
     ensures ends { WhereSound O.first D.Disk (IfOk (searched result) (EndsRowAt (row_check_at store.old.now.counted (pages_in store.old.now) place) (pages_in store.old.now) place)) }
     ensures fits { IfOk result (SlotLiesAt place) }
+    ensures made { WhereSound O.first D.Disk (IfOk result (λ w. IsSlotOf store.old.now.counted (columns_on (pages_in store.old.now) place.page) (slot_at w place.slot (pages_in store.old.now place.page)))) }
     ensures leaves { LeavesPage O.first D.Disk store.old store.new (searched result) }
 {
     store.counts_pages();
@@ -218,6 +227,8 @@ pub fn row<D: Disk, O: Origin>(
     // What is lent can be made, and a slot of rows so wide lies on a page at the place.
     ensures fits { IfOk result (λ l. IsSlot (length l.head.payload.now) (slot_lent l)) }
     ensures lies { IfOk result (λ l. SlotLiesAt place (length l.head.payload.now)) }
+    // It is well made by the columns of the table.
+    ensures made { WhereSound O.first D.Disk (IfOk result (λ l. IsSlotOf store.old.now.counted (columns_on (pages_in store.old.now) place.page) (slot_lent l))) }
     // Damage is told where it stands in the file of pages.
     ensures* after { sem 𝓛 (Rests (store-row D.row O.row D.Disk O.Origin) store.entry (λ new. LendsSlot O.first D.Disk place store.old new result)) }
 {

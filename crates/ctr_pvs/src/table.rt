@@ -4,7 +4,10 @@ ghost use Rattle.ctr_base.specs.declared.growing.TheConstants.{MOST_PAGES};
 ghost use Rattle.ctr_base.specs.Base.{WhereSound};
 ghost use Rattle.ctr_store.specs.Store.{LeavesPage};
 ghost use Rattle.ctr_page.specs.declared.table.TheConstants.{PAGE_SIZE};
-ghost use Rattle.ctr_record_effects.specs.States.{pages_in};
+ghost use Rattle.ctr_value.specs.Columns.{ColumnsFit};
+ghost use Rattle.ctr_page.specs.Columns.{entry_at as entry_of, columns_in};
+ghost use Rattle.ctr_area.specs.Reading.{columns_on};
+ghost use Rattle.ctr_record_effects.specs.States.{pages_in, area_in};
 ghost use Rattle.ctr_walk.specs.Damage.{searched, EndsOnPage};
 ghost use Rattle.ctr_pvs.specs.Table.{there_check, KindsSaid, OwnerSaid, TableFits, TableSaid};
 
@@ -13,7 +16,7 @@ use ctr_disk::Disk;
 use ctr_page::{BadPage, EntryState, PageKind, check_entry, read_entry, read_header};
 use ctr_records::{BadRecord, PageNo, at_most, expect};
 use ctr_store::Store;
-use ctr_walk::{SearchFault, TableOf, catalog_page, found_on};
+use ctr_walk::{SearchFault, TableOf, an_entry_has_columns, catalog_page, found_on};
 
 /// The bytes of an entry of the catalog.
 const ENTRY: u64 = 256;
@@ -81,7 +84,9 @@ fn table_in(entry: u8, counted: u32, page: &[u8]) -> Result<TableOf, BadPage>
     requires whole { length page.now ≡ PAGE_SIZE }
     ensures said { KindsSaid counted (entry % 16) page.now result }
     ensures few { IfOk result (λ t. (t.count ≤ 7) × (t.entry ≡ entry)) }
+    ensures columns { IfOk result (λ t. ColumnsFit (columns_in (entry_of (entry % 16) page.now).bytes)) }
 {
+    an_entry_has_columns();
     let at = entry % 16;
     check_entry(counted, at, page)?;
     let table = read_entry(page, at);
@@ -110,6 +115,7 @@ fn table_at<D: Disk, O: Origin>(
     requires there { entry < 32 }
     ensures said { WhereSound O.first D.Disk (IfOk (searched result) (EndsOnPage (1 + entry / 16) (KindsSaid counted (entry % 16) (pages_in store.old.now (1 + entry / 16))))) }
     ensures few { IfOk result (λ t. (t.count ≤ 7) × (t.entry ≡ entry)) }
+    ensures columns { WhereSound O.first D.Disk (IfOk result (λ t. ColumnsFit ((area_in store.old.now).title entry).columns)) }
     ensures leaves { LeavesPage O.first D.Disk store.old store.new (searched result) }
 {
     let at = catalog_page(entry);
@@ -128,6 +134,8 @@ pub fn table_on<D: Disk, O: Origin>(
     requires there { p < store.old.now.counted }
     ensures said { WhereSound O.first D.Disk (IfOk (searched result) (TableSaid kind store.old.now.counted (pages_in store.old.now) p)) }
     ensures fits { IfOk result TableFits }
+    // It has columns that a table may have.
+    ensures columns { WhereSound O.first D.Disk (IfOk result (λ t. ColumnsFit (columns_on (pages_in store.old.now) p))) }
     ensures leaves { LeavesPage O.first D.Disk store.old store.new (searched result) }
 {
     store.counts_pages();

@@ -2,11 +2,13 @@
 #![tactic(auto)]
 
 mod catalog;
+mod laying;
 mod places;
 mod tables;
 mod versions;
 
 pub use catalog::a_catalog_search_meets_no_damage;
+pub use laying::{a_slot_is_put_at_its_place, a_version_is_put_at_its_place};
 pub use places::{a_place_of_a_table_fits, a_table_can_be_linked_to};
 pub use tables::{
     a_bucket_search_meets_no_damage, a_free_slot_is_the_tables, a_search_for_room_meets_no_damage,

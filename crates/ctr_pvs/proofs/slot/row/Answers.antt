@@ -1,6 +1,9 @@
 use Rattle.std.proofs.Common.{Ok, Err, refl}
 use Rattle.std.specs.Prelude.{IsTrue}
 use Rattle.std.proofs.lemmas.Result.{err_from_is_err_and}
+use Rattle.ctr_page.specs.Reading.{slot_at}
+use Rattle.ctr_area.specs.Reading.{columns_on}
+use Rattle.ctr_passed.specs.Logged.{IsSlotOf}
 use Rattle.ctr_base.specs.Base.{IsSoundImage}
 use Rattle.ctr_record_effects.specs.States.{pages_in}
 use Rattle.ctr_walk.specs.Damage.{damage_told}
@@ -9,7 +12,7 @@ use Rattle.ctr_pvs.specs.declared.slot.LentSlot.{LentSlot}
 use Rattle.ctr_pvs.specs.Reading.{row_check_at}
 use Rattle.ctr_pvs.specs.Slots.{SlotLiesAt, PassesRowAt, EndsRowAt, SlotSaidAt}
 use Rattle.ctr_pvs.proofs.Freeing.{told_as}
-use Rattle.ctr_pvs.proofs.LentSlots.{lies_still, finds, lends}
+use Rattle.ctr_pvs.proofs.LentSlots.{lies_still, finds, made, lends}
 use Rattle.ctr_pvs.proofs.slot.row.Goals as goal
 
 pub returns-in_err-w : goal.returns-in_err-w
@@ -31,7 +34,7 @@ returns-in_err-w g c =
           leaves = reads_err g.O.Origin.first g.D.Disk _ LentSlot e c.args.store.now c.tell.new.store (c.in_err-w.ensures.leaves c.args.store.now found.ensures.leaves);
         },
       ),
-      record { finds = λ told sound. tt; fits = tt; lies = tt; after = tt },
+      record { finds = λ told sound. tt; fits = tt; lies = tt; made = λ told sound. tt; after = tt },
     )
 
 pub returns : goal.returns
@@ -51,6 +54,11 @@ returns g c =
         finds = λ told sound. finds g.O.Origin.first g.D.Disk at a b w one passes c.lend_row.result told sound (c.lend_row.ensures.said told sound);
         fits = c.lend_row.ensures.fits;
         lies = lies_still at w c.lend_row.result (told_ok (IsTrue g.D.Disk.tells × IsSoundImage g.O.Origin.first) (damage_told g.D.Disk b) (SlotLiesAt at) found.result (Ok w) c.in_ok-w.ensures.told found.ensures.fits) c.lend_row.ensures.wide;
+        made = λ told sound.
+            let columns = columns_on (pages_in s) at.page in
+            made g.O.Origin.first g.D.Disk at a b w one passes columns c.lend_row.result told sound
+            (told_ok (IsTrue g.D.Disk.tells × IsSoundImage g.O.Origin.first) (damage_told g.D.Disk b) (λ v. IsSlotOf s.counted columns (slot_at v at.slot (pages_in s at.page))) found.result (Ok w) c.in_ok-w.ensures.told (found.ensures.made told sound))
+            (c.lend_row.ensures.said told sound);
         after = tt;
       },
     )

@@ -1,6 +1,10 @@
-use Rattle.std.proofs.Common.{Err, subst}
+use Rattle.std.proofs.Common.{Err, sym, subst}
 use Rattle.std.specs.Prelude.{IfOk}
 use Rattle.std.proofs.lemmas.Result.{err_from_is_err_and}
+use Rattle.ctr_page.specs.Reading.{slot_at}
+use Rattle.ctr_area.specs.Reading.{columns_on}
+use Rattle.ctr_passed.specs.Logged.{IsSlotOf}
+use Rattle.ctr_walk.proofs.Entries.{columns_keyed}
 use Rattle.ctr_redo.specs.States.{State}
 use Rattle.ctr_record_effects.specs.States.{pages_in}
 use Rattle.ctr_walk.specs.Damage.{searched, EndsOnPage}
@@ -9,7 +13,7 @@ use Rattle.ctr_walk.proofs.Searches.{passed, by_page}
 use Rattle.ctr_pvs.specs.Table.{TableSaid}
 use Rattle.ctr_pvs.specs.Reading.{row_on_check, row_check_at}
 use Rattle.ctr_pvs.specs.Slots.{RowWidthSaid, EndsRowAt}
-use Rattle.ctr_pvs.proofs.Told.{no_table_first, by_table}
+use Rattle.ctr_pvs.proofs.Told.{page_of_table, no_table_first, by_table}
 use Rattle.ctr_pvs.proofs.LentSlots.{slot_passes}
 use Rattle.ctr_pvs.proofs.slot.row_width_at.Goals as goal
 
@@ -38,3 +42,15 @@ returns-clause-ends g c = λ told sound.
 pub returns-clause-leaves : goal.returns-clause-leaves
 returns-clause-leaves g c =
     pages_join g.D.Disk c.args.store.now c.table_on.new.store c.check_row.new.store g.O.Origin.first _ _ _ (searched c.check_row.result) c.in_ok-table.ensures.leaves c.check_row.ensures.leaves
+
+pub returns-clause-made : goal.returns-clause-made
+returns-clause-made g c = λ told sound.
+    let n = c.args.store.now.now.counted in
+    let pages = pages_in c.args.store.now.now in
+    let at = c.args.place in
+    let columns = columns_on pages at.page in
+    let page = page_of_table 1 n pages at.page c.in_ok-table.table (c.in_ok-table.ensures.said told sound) in
+    let keyed = columns_keyed columns (c.in_ok-table.ensures.columns told sound) in
+    subst (λ m. IfOk c.check_row.result (λ w. IsSlotOf m columns (slot_at w at.slot (pages at.page)))) c.counted-counted.ensures
+    (subst (λ (s : State). IfOk c.check_row.result (λ w. IsSlotOf c.counted-counted.result columns (slot_at w at.slot (pages_in s at.page)))) (c.in_ok-table.ensures.leaves.logs told sound).now
+    (c.check_row.ensures.made told sound columns keyed (sym page.kinds)))
