@@ -1,0 +1,41 @@
+-- What one turn does to a store, whatever the disk tells.
+use Rattle.std.specs.Prelude.{Result, Ok, OnOk, OnErr, ◌≡◌, Err, ⊤}
+use Rattle.ctr_disk.specs.declared.disk.Disk.{Ghosts}
+use Rattle.ctr_disk.specs.Image.{Image}
+use Rattle.ctr_disk.specs.declared.fault.StoreFault.{StoreFault}
+use Rattle.ctr_disk.specs.declared.fault.StoreFault.TheVariants.{Fault}
+use Rattle.ctr_types.specs.Faults.{HasFault}
+use Rattle.ctr_records.specs.declared.record.Record.{Record}
+use Rattle.ctr_base.specs.Base.{WhereSound}
+use Rattle.ctr_store.specs.Store.{View, LeavesPage, LeavesGrowing, GrowsByExtent, CountsUp}
+use Rattle.ctr_walk.specs.OneRecord.{LogsOne}
+use Rattle.ctr_walk.specs.Damage.{ReadsPages}
+
+-- One record was logged; or there is a cause why it wasn't.
+abbrev pub LogsSome : {D T : Type 0} → Image → Ghosts D → View D → View D → Result T StoreFault
+    → Type 0
+LogsSome first g a b result = (r : Record) × LogsOne first g r a b result
+
+-- More pages are counted; or the disk failed.
+pub record CountsMore {D T : Type 0} (first : Image) (g : Ghosts D) (a b : View D)
+    (result : Result T StoreFault) : Type 0 where
+  pub any_moment : WhereSound first g (LeavesGrowing g a b)
+  pub grows : WhereSound first g (OnOk result (GrowsByExtent g a b))
+  pub counts : CountsUp g a b result
+  pub refused : OnErr result (result ≡ Err Fault)
+  pub faults : HasFault Fault (g.faults_of a.disk) (g.faults_of b.disk) result
+
+-- Pages were read, and then more are counted.
+pub record CountsBehind {D T : Type 0} (first : Image) (g : Ghosts D) (a b : View D)
+    (result : Result T StoreFault) : Type 0 where
+  pub between : View D
+  pub read : LeavesPage {T = ⊤} first g a between (Ok tt)
+  pub more : CountsMore first g between b result
+
+-- A turn that isn't spent on room reads pages, and that is all; or it logs one record; or more pages
+-- are counted.
+pub data Turns {D T : Type 0} (first : Image) (g : Ghosts D) (a b : View D)
+    (result : Result T StoreFault) : Type 0 where
+  Reads : ReadsPages first g a b result → Turns first g a b result
+  LogsARecord : LogsSome first g a b result → Turns first g a b result
+  Grows : CountsBehind first g a b result → Turns first g a b result

@@ -1,0 +1,9 @@
+//! A turn of a session on pages: what it does to the store, and what the record that it logs is to pages and to a World.
+//! Definitions, and laws of them. No program computes them.
+#![tactic(auto)]
+
+mod room;
+mod turns;
+
+pub use room::{a_link_takes_an_item_away, room_is_still_there};
+pub use turns::{a_record_acts, a_turn_goes_on};
