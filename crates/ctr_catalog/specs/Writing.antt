@@ -1,5 +1,5 @@
 -- What makes a table leaves, and what undoes an item of the secondary log.
-use Rattle.std.specs.Prelude.{◌≢◌, ◌⊎◌, ℕ, List, ⊤, Option, None, Some, Result, Ok, Err}
+use Rattle.std.specs.Prelude.{◌≢◌, ◌⊎◌, ℕ, ◌+◌, ◌/◌, List, ⊤, Option, None, Some, Result, Ok, Err}
 use Rattle.ctr_disk.specs.declared.disk.Disk.{Ghosts}
 use Rattle.ctr_disk.specs.Image.{Image}
 use Rattle.ctr_disk.specs.declared.fault.StoreFault.{StoreFault}
@@ -53,6 +53,13 @@ undo_record (AllocOf x p) byte = free_record p byte
 undo_record (FreeOf p) byte = free_record p byte
 undo_record (CreateOf x e) byte = uncreate_record e
 undo_record (DropOf x e) byte = undrop_record e
+
+-- the page that this record is on: that of the map of allocated pages, or of the entry
+abbrev pub undo_page : SlogItem → ℕ
+undo_page (AllocOf x p) = 0
+undo_page (FreeOf p) = 0
+undo_page (CreateOf x e) = 1 + e / 16
+undo_page (DropOf x e) = 1 + e / 16
 
 -- a table that was made has an entry
 abbrev pub HasMade : SlogItem → Area → Type 0

@@ -13,7 +13,7 @@ ghost use Rattle.ctr_actions.specs.Actions.{Creates, Drops, Uncreates, Undrops, 
 ghost use Rattle.ctr_record_effects.specs.Changing.{create_record, drop_record, uncreate_record, undrop_record};
 ghost use Rattle.ctr_records.specs.Members.{ItemFits};
 ghost use Rattle.ctr_walk.specs.Damage.{damage_told};
-ghost use Rattle.ctr_catalog.specs.Writing.{EndsMaking, MakesTable, undo_record, HasMade};
+ghost use Rattle.ctr_catalog.specs.Writing.{EndsMaking, MakesTable, undo_record, undo_page, HasMade};
 
 use crate::store::find_free_entry;
 use ctr_actions::a_logged_record_is_its_action;
@@ -205,6 +205,8 @@ pub fn undo_item<D: Disk, O: Origin>(
     requires room { HasRoomForOne 0 0 store.old }
     requires fits { ItemFits item.now }
     ensures one { (byte : ℕ) × LogsOne O.first D.Disk (undo_record item.now byte) store.old store.new result }
+    // The page of its record is there, whole.
+    ensures whole { WhereSound O.first D.Disk (OnOk result (IsWholePage (undo_page item.now) store.old.now)) }
     // What the item says of one page or one title is undone, the item is gone, and nothing else in the pages and the tables changes.
     ensures leaves { (x : ℕ) → WhereSound O.first D.Disk (HasMade item.now (area_in store.old.now)
         → OnOk result (site_of store.new.now ≡ site_after x (undoing item.now) (site_of store.old.now))) }
