@@ -51,3 +51,9 @@ answers_run s q old new answers = ap run_of answers.new_is ∙ (λ i. record {
 
 pub room_of_all : (s : ℕ) (t : TxnHeld) (old new : TxnsHeld) → IsOneOfEight s → length old.sessions ≡ 8 → SetsTxn s (Some t) old new → item_kept (Some t) ≤ item_kept (txn_of s old) → StaysRoom old new
 room_of_all s t old new is eight sets fewer = stays_room old new (s - 1) (Some t) (inside s old is eight) sets.sessions sets.cleaner fewer
+
+pub room_without : (s : ℕ) (old new : TxnsHeld) → IsOneOfEight s → length old.sessions ≡ 8 → SetsTxn s None old new → StaysRoom old new
+room_without s old new is eight sets = stays_room old new (s - 1) None (inside s old is eight) sets.sessions sets.cleaner (none_kept (item_kept (txn_of s old)))
+  where
+    none_kept : (n : ℕ) → 0 ≤ n
+    none_kept n = omega arith

@@ -22,8 +22,10 @@ pub fn the_run_is_of_the_sessions()
         → run_of new ≡ record (run_of old) { sessions = without nat_cmp s (run_of old).sessions; answered = old.answered + 1 } }
 {}
 
-/// What changes a session's transaction, and takes no more room for an item than was kept for it, leaves the room of all.
+/// What changes a session's transaction, and takes no more room for an item than was kept for it, leaves the room of all; and so
+/// does the end of one.
 pub fn the_room_of_all_stays()
-    ensures { (s : ℕ) (t : TxnHeld) (old new : TxnsHeld) → IsOneOfEight s → length old.sessions ≡ 8 → SetsTxn s (Some t) old new
+    ensures changed { (s : ℕ) (t : TxnHeld) (old new : TxnsHeld) → IsOneOfEight s → length old.sessions ≡ 8 → SetsTxn s (Some t) old new
         → item_kept (Some t) ≤ item_kept (txn_of s old) → StaysRoom old new }
+    ensures ended { (s : ℕ) (old new : TxnsHeld) → IsOneOfEight s → length old.sessions ≡ 8 → SetsTxn s None old new → StaysRoom old new }
 {}
