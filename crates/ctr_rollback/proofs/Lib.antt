@@ -1,0 +1,4 @@
+pub mod Records
+pub mod Others
+pub mod Worlds
+pub mod Txns

@@ -1,0 +1,3 @@
+pub mod Rolling
+pub mod Series
+pub mod Keeping
