@@ -5,5 +5,5 @@
 mod room;
 mod turns;
 
-pub use room::{a_link_takes_an_item_away, room_is_still_there};
+pub use room::{an_item_goes, room_is_still_there};
 pub use turns::{a_record_acts, a_turn_goes_on};

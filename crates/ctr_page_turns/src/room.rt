@@ -1,10 +1,9 @@
 // The room that a turn has, and what it leaves.
 ghost use Rattle.std.specs.Prelude.{◌≡◌, ◌+◌, ℕ, false, Ok, length};
-ghost use Rattle.ctr_records.specs.declared.record.Record.TheVariants.{Link};
-ghost use Rattle.ctr_records.specs.declared.record.Overlay.{Overlay};
+ghost use Rattle.ctr_meta.specs.declared.items.Wanted.{Wanted};
 ghost use Rattle.ctr_meta.specs.Tables.{Tables};
-ghost use Rattle.ctr_meta.specs.Needs.{needs};
-ghost use Rattle.ctr_meta.specs.Effects.{effect};
+ghost use Rattle.ctr_meta.specs.Needs.{item_need};
+ghost use Rattle.ctr_meta.specs.Effects.{without_item};
 ghost use Rattle.ctr_store.specs.Store.{View, KeepsRoom};
 ghost use Rattle.ctr_walk.specs.OneRecord.{HasRoomForOne};
 
@@ -17,7 +16,7 @@ pub fn room_is_still_there<D: Disk>()
     ensures less { (opens items : ℕ) (v : View D) → HasRoomForOne opens (items + 1) v → HasRoomForOne opens items v }
 {}
 
-/// A page that is linked is in the secondary log no more: one item less is there, whose room is to be had again.
-pub fn a_link_takes_an_item_away()
-    ensures { (x p : ℕ) (o : Overlay) (t : Tables) → needs (Link x p o) t ≡ Ok tt → length (effect (Link x p o) t).items + 1 ≡ length t.items }
+/// A record that needs an item of the secondary log, and takes it away, leaves one item less, whose room is to be had again.
+pub fn an_item_goes()
+    ensures { (w : Wanted) (t : Tables) → item_need w t ≡ Ok tt → length (without_item w t).items + 1 ≡ length t.items }
 {}

@@ -1,0 +1,46 @@
+-- What each record leaves of what is counted on.
+use Rattle.std.proofs.Common.{◌≡◌, ◌≢◌, ℕ, Bool, Result, Ok, Err, refl, sym, subst}
+use Rattle.std.specs.Prelude.{IfOk}
+use Rattle.ctr_disk.specs.declared.fault.StoreFault.{StoreFault}
+use Rattle.ctr_page.specs.declared.checks.Chain.{Chain}
+use Rattle.ctr_redo.specs.States.{State}
+use Rattle.ctr_alloc.specs.Free.{IsNextFree}
+use Rattle.ctr_alloc.specs.declared.search.NextFree.{NextFree}
+use Rattle.ctr_actions.specs.Sites.{Site}
+use Rattle.ctr_actions.specs.Facts.{Fact, HoldsFact}
+use Rattle.ctr_extend.specs.declared.ways.OnWay.TheVariants.{Taken, Made}
+use Rattle.ctr_extend.specs.declared.ways.Extended.{Extended}
+use Rattle.ctr_extend.specs.declared.ways.Extended.TheVariants.{On, Linked}
+use Rattle.ctr_extend.specs.Ways.{IsOnWay}
+use Rattle.ctr_extend.specs.Steps.{Makes, PutsInFront, Extends}
+
+-- a fact holds of a site that is the one of which it holds
+pub moved : (x : ℕ) (f : Fact) (s t : Site) → t ≡ s → HoldsFact x f s → HoldsFact x f t
+moved x f s t is held = subst (λ z. HoldsFact x f z) (sym is) held
+
+module _ (x : ℕ) (chain : Chain) (page next : ℕ) (s t : State) where
+  -- a page that was taken is made empty
+  pub made_first : (result : Result Extended StoreFault) → IfOk result (λ e. (e ≡ On (Made page next)) × Makes x chain page next s t)
+      → IfOk result (Extends x chain (Taken page) s t)
+  made_first (Ok e) makes = subst (Extends x chain (Taken page) s t) (sym makes.0) (refl, makes.1)
+  made_first (Err e) makes = tt
+
+  -- a page that is empty is made so once more
+  pub made_again : (was : ℕ) (result : Result Extended StoreFault) → was ≢ next → IfOk result (λ e. (e ≡ On (Made page next)) × Makes x chain page next s t)
+      → IfOk result (Extends x chain (Made page was) s t)
+  made_again was (Ok e) other makes = subst (Extends x chain (Made page was) s t) (sym makes.0) (refl, other, makes.1)
+  made_again was (Err e) other makes = tt
+
+  -- it is put in front
+  pub put_in_front : (result : Result Extended StoreFault) (Left : Extended → Type 0) → IfOk result (λ e. (e ≡ Linked) × Left e) → IfOk result (λ e. PutsInFront x chain page next s t)
+      → IfOk result (Extends x chain (Made page next) s t)
+  put_in_front (Ok e) Left is puts = subst (Extends x chain (Made page next) s t) (sym is.0) puts
+  put_in_front (Err e) Left is puts = tt
+
+-- a page that is empty is taken still
+pub taken_still : (x : ℕ) (chain : Chain) (page next : ℕ) (s : State) → IsOnWay x chain (Made page next) s → IsOnWay x chain (Taken page) s
+taken_still x chain page next s way = record { holds = (way.holds.0.0, way.holds.1); blank = tt }
+
+-- what a search for a free page has found is what was matched
+pub free_so : (counted : ℕ) (taken : ℕ → Bool) (n m : NextFree) → n ≡ m → IsNextFree counted taken n → IsNextFree counted taken m
+free_so counted taken n m is free = subst (λ (k : NextFree). IsNextFree counted taken k) is free

@@ -1,0 +1,88 @@
+-- One turn for a page that a transaction wants for a chain.
+use Rattle.std.specs.Prelude.{◌≡◌, ◌≢◌, ℕ, ◌+◌, ◌<◌, ◌≤◌, true, length}
+use Rattle.ctr_base.specs.declared.growing.TheConstants.{MOST_PAGES}
+use Rattle.ctr_meta.specs.Kept.{TablesKept, RoomLeft}
+use Rattle.ctr_meta.specs.Tables.{is_in}
+use Rattle.ctr_page.specs.declared.checks.Chain.{Chain}
+use Rattle.ctr_page.specs.Damage.{chain_entry}
+use Rattle.ctr_redo.specs.States.{State, counting, grown}
+use Rattle.ctr_record_effects.specs.States.{area_in}
+use Rattle.ctr_record_effects.specs.Standing.{IsDatabaseState}
+use Rattle.ctr_alloc.specs.Free.{AreTakenBelow}
+use Rattle.ctr_walk.specs.Tables.{first_of_chain}
+use Rattle.ctr_actions.specs.Actions.{Allocates, Formats}
+use Rattle.ctr_page_turns.specs.Acts.{ActsBy}
+use Rattle.ctr_extend.specs.declared.ways.OnWay.{OnWay}
+use Rattle.ctr_extend.specs.declared.ways.OnWay.TheVariants.{Wanted, Taken, Made}
+use Rattle.ctr_extend.specs.declared.ways.Extended.{Extended}
+use Rattle.ctr_extend.specs.declared.ways.Extended.TheVariants.{On, Linked, Grown, Full}
+use Rattle.ctr_extend.specs.Ways.{chain_header, link_action, IsOnWay, IsCountedWay}
+
+-- The pages may be a database's, the transaction is open, the table is there, and so far the page is.
+pub record MayExtend (x : ℕ) (chain : Chain) (way : OnWay) (s : State) : Type 0 where
+  pub sound : IsDatabaseState s
+  pub is_open : is_in x s.tables.opens ≡ true
+  pub there : ((area_in s).title (chain_entry chain)).state ≢ 0
+  pub on_way : IsOnWay x chain way s
+
+-- The lowest free page is the transaction's.
+pub record Takes (x : ℕ) (chain : Chain) (p : ℕ) (s t : State) : Type 0 where
+  pub acts : ActsBy x (Allocates p) s t
+  pub lowest : AreTakenBelow p (area_in s).taken
+  pub on_way : IsOnWay x chain (Taken p) t
+
+-- The page is empty, and leads on to the first one of the chain.
+pub record Makes (x : ℕ) (chain : Chain) (p next : ℕ) (s t : State) : Type 0 where
+  pub acts : ActsBy x (Formats p (chain_header chain next)) s t
+  pub first : next ≡ first_of_chain (area_in s) chain
+  pub on_way : IsOnWay x chain (Made p next) t
+
+-- The page is the first one of the chain, and leads on to the one that was.
+pub record PutsInFront (x : ℕ) (chain : Chain) (p next : ℕ) (s t : State) : Type 0 where
+  pub acts : ActsBy x (link_action chain p) s t
+  pub first : next ≡ first_of_chain (area_in s) chain
+  pub on_way : IsOnWay x chain Wanted t
+
+-- No counted page is free, so more are counted. Nothing else in the pages and the tables changes.
+pub record CountsOn (x : ℕ) (chain : Chain) (s t : State) : Type 0 where
+  pub none : AreTakenBelow s.counted (area_in s).taken
+  pub few : s.counted < MOST_PAGES
+  pub grows : t ≡ counting (grown s.counted) s
+  pub on_way : IsOnWay x chain Wanted t
+
+-- No page is free, and no more can be counted. Nothing has changed.
+pub record IsFull (s t : State) : Type 0 where
+  pub none : AreTakenBelow MOST_PAGES (area_in s).taken
+  pub most : MOST_PAGES ≤ s.counted
+  pub same : t ≡ s
+
+-- What a turn does: a page that is wanted is taken, or more are counted, or there is none; one that is
+-- taken is made empty; one that is empty is linked, or made empty again where the chain begins with
+-- another page by now.
+abbrev pub Extends : ℕ → Chain → OnWay → State → State → Extended → Type 0
+Extends x chain Wanted s t (On (Taken p)) = Takes x chain p s t
+Extends x chain Wanted s t Grown = CountsOn x chain s t
+Extends x chain Wanted s t Full = IsFull s t
+Extends x chain (Taken p) s t (On (Made q next)) = (q ≡ p) × Makes x chain p next s t
+Extends x chain (Made p was) s t (On (Made q next)) =
+    (q ≡ p) × (was ≢ next) × Makes x chain p next s t
+Extends x chain (Made p next) s t Linked = PutsInFront x chain p next s t
+Extends x chain way s t e = ⊥
+
+-- ---- whatever the disk tells
+
+-- the page is a counted one behind the catalog
+abbrev pub IsCountedStep : Extended → ℕ → Type 0
+IsCountedStep (On way) counted = IsCountedWay way counted
+IsCountedStep Linked counted = Unit {0}
+IsCountedStep Grown counted = Unit {0}
+IsCountedStep Full counted = Unit {0}
+
+-- The room of the tables: an item is added with a page that is taken, and goes as it is linked.
+abbrev pub LeavesRoom : Extended → TablesKept → TablesKept → Type 0
+LeavesRoom (On Wanted) k l = ⊥
+LeavesRoom (On (Taken p)) k l = RoomLeft 0 1 k l
+LeavesRoom (On (Made p next)) k l = RoomLeft 0 0 k l
+LeavesRoom Linked k l = RoomLeft 0 0 k l × (length l.tables.items + 1 ≡ length k.tables.items)
+LeavesRoom Grown k l = l ≡ k
+LeavesRoom Full k l = l ≡ k

@@ -1,0 +1,14 @@
+//! A page more for a chain of a table, by turns: it is allocated, made empty and put in front, one record each, and what is kept
+//! between two turns is how far it is.
+//!
+//! Nothing here takes memory.
+#![tactic(auto)]
+
+mod linking;
+mod making;
+mod taking;
+mod turn;
+mod ways;
+
+pub use turn::extend;
+pub use ways::{Extended, OnWay};

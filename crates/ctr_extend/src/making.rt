@@ -1,0 +1,77 @@
+// A page that is allocated is made empty.
+ghost use Rattle.std.specs.Prelude.{◌≡◌, ◌<◌, ◌≤◌, IfOk};
+ghost use Rattle.ctr_base.specs.Base.{WhereSound};
+ghost use Rattle.ctr_page.specs.Making.{IsHeader};
+ghost use Rattle.ctr_record_effects.specs.Standing.{IsDatabaseState};
+ghost use Rattle.ctr_walk.specs.OneRecord.{HasRoomForOne};
+ghost use Rattle.ctr_walk.specs.Tables.{IsChain, first_of_chain};
+ghost use Rattle.ctr_record_effects.specs.States.{area_in};
+ghost use Rattle.ctr_page_turns.specs.Turns.{Turns};
+ghost use Rattle.ctr_extend.specs.declared.ways.OnWay.TheVariants.{Taken};
+ghost use Rattle.ctr_extend.specs.Ways.{chain_header, IsOnWay};
+ghost use Rattle.ctr_extend.specs.Steps.{Makes, IsCountedStep, LeavesRoom};
+ghost use Rattle.ctr_extend.specs.declared.ways.Extended.TheVariants.{On as IsOn};
+ghost use Rattle.ctr_extend.specs.declared.ways.OnWay.TheVariants.{Made as IsMade};
+
+use crate::ways::{Extended, OnWay};
+use ctr_actions::{an_action_gives_its_fact, what_is_done_stays};
+use ctr_base::Origin;
+use ctr_disk::{Disk, StoreFault};
+use ctr_heap::format;
+use ctr_page::{Chain, Header, PageKind};
+use ctr_page_turns::{a_record_acts, a_turn_goes_on};
+use ctr_passed::{a_formatted_page_is_blank, pages_lie_as_their_actions};
+use ctr_records::PageNo;
+use ctr_store::Store;
+use ctr_types::Xid;
+
+// The header of a page of a chain.
+fn header_of(chain: Chain, next: PageNo) -> Header
+    ensures is { result ≡ chain_header chain next }
+    ensures fits { IsHeader result }
+{
+    match chain {
+        Chain::Rows { entry, bucket } => Header {
+            kind: PageKind::ROWS,
+            entry,
+            bucket,
+            next,
+        },
+        Chain::Versions { entry } => Header {
+            kind: PageKind::VERSIONS,
+            entry,
+            bucket: 0,
+            next,
+        },
+    }
+}
+
+/// A page that is a transaction's own is made empty, and leads on to a page of its chain.
+pub(crate) fn make<D: Disk, O: Origin>(
+    store: &mut Store<D, O>,
+    x: Xid,
+    chain: Chain,
+    page: PageNo,
+    next: PageNo,
+) -> Result<Extended, StoreFault>
+    requires room { HasRoomForOne 0 0 store.old }
+    requires there { IsChain chain }
+    requires counted { (3 ≤ page) × (page < store.old.now.counted) }
+    ensures turns { Turns O.first D.Disk store.old store.new result }
+    ensures inside { IfOk result (λ e. IsCountedStep e store.new.now.counted) }
+    ensures left { IfOk result (λ e. LeavesRoom e store.old.meta store.new.meta) }
+    ensures steps { WhereSound O.first D.Disk (IsDatabaseState store.old.now → IsOnWay x chain (Taken page) store.old.now → next ≡ first_of_chain (area_in store.old.now) chain
+        → IfOk result (λ e. (e ≡ IsOn (IsMade page next)) × Makes x chain page next store.old.now store.new.now)) }
+{
+    store.counts_pages();
+    a_turn_goes_on::<D, (), Extended>();
+    a_record_acts::<D>();
+    pages_lie_as_their_actions();
+    a_formatted_page_is_blank();
+    an_action_gives_its_fact();
+    what_is_done_stays();
+    match format(store, x, page, &header_of(chain, next)) {
+        Ok(()) => Ok(Extended::On(OnWay::Made { page, next })),
+        Err(fault) => Err(fault),
+    }
+}
