@@ -1,5 +1,6 @@
 -- The laws of runs, by the place of a session.
-use Rattle.std.proofs.Common.{◌≡◌, ℕ, ◌+◌, ◌-◌, ◌≤◌, ◌<◌, Some, None, sym, ◌∙◌, ap, arith, length}
+use Rattle.std.proofs.Common.{◌≡◌, ℕ, ◌+◌, ◌-◌, ◌≤◌, ◌<◌, Option, Some, None, refl, sym, ◌∙◌, ap, arith, length}
+use Rattle.std.specs.Prelude.{IfSome}
 use Rattle.std.specs.Option.{option_map}
 use Rattle.std.specs.Ordering.{nat_cmp}
 use Rattle.std.specs.FinMap.Entries.{find, put}
@@ -8,9 +9,10 @@ use Rattle.ctr_paged.specs.Moving.{held_as}
 use Rattle.ctr_txn.specs.declared.txn.Asked.{Asked}
 use Rattle.ctr_txn.specs.Held.{TxnHeld, TxnsHeld, txn_of, held_from, run_of, IsOneOfEight}
 use Rattle.ctr_txn.specs.Steps.{SetsTxn, AnswersNext}
-use Rattle.ctr_txn.specs.Rooms.{item_kept, StaysRoom}
+use Rattle.ctr_meta.specs.Kept.{TablesKept}
+use Rattle.ctr_txn.specs.Rooms.{item_kept, HasItemRoom, StaysRoom}
 use Rattle.ctr_txn.proofs.Running.{find_held, put_held, without_held, same_held}
-use Rattle.ctr_txn.proofs.Rooming.{stays_room}
+use Rattle.ctr_txn.proofs.Rooming.{stays_room, room_lasts, stays_alike}
 
 place : (s : ℕ) → IsOneOfEight s → 1 + (s - 1) ≡ s
 place s is = let from = is.from in omega (arith, from)
@@ -48,6 +50,17 @@ answers_run s q old new answers = ap run_of answers.new_is ∙ (λ i. record {
   sessions = (without_held 1 (s - 1) old.sessions ∙ ap (λ n. without nat_cmp n (held_from 1 old.sessions)) (place s answers.one)) i;
   answered = old.answered + 1;
 })
+
+-- the room of all behind a change of one session that keeps no more
+pub room_behind : (s : ℕ) (v : Option TxnHeld) (old new : TxnsHeld) → IsOneOfEight s → length old.sessions ≡ 8 → SetsTxn s v old new → item_kept v ≤ item_kept (txn_of s old)
+    → (k l : TablesKept) → k.items_room ≤ l.items_room + 0 → HasItemRoom old k → HasItemRoom new l
+room_behind s v old new is eight sets = room_lasts old new (s - 1) v (inside s old is eight) sets.sessions sets.cleaner
+
+-- the room of all behind an answer, or where there is none
+pub answered_room : (old new : TxnsHeld) → length old.sessions ≡ 8 → (result : Option (ℕ × Asked)) → (result ≡ None → new ≡ old) → IfSome result (λ r. AnswersNext r.0 r.1 old new) → StaysRoom old new
+answered_room old new eight None same next k l left = stays_alike old new (same refl) k l left
+answered_room old new eight (Some r) same next k l left =
+    room_lasts old new (r.0 - 1) None (inside r.0 old next.one eight) (ap (λ (a : TxnsHeld). a.sessions) next.new_is) (ap (λ (a : TxnsHeld). a.cleaner) next.new_is) (omega arith) k l left.1
 
 pub room_of_all : (s : ℕ) (t : TxnHeld) (old new : TxnsHeld) → IsOneOfEight s → length old.sessions ≡ 8 → SetsTxn s (Some t) old new → item_kept (Some t) ≤ item_kept (txn_of s old) → StaysRoom old new
 room_of_all s t old new is eight sets fewer = stays_room old new (s - 1) (Some t) (inside s old is eight) sets.sessions sets.cleaner fewer

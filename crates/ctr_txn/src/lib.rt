@@ -10,7 +10,7 @@ mod turns;
 mod txn;
 mod txns;
 
-pub use laws::{the_room_of_all_stays, the_run_is_of_the_sessions};
+pub use laws::{room_that_is_kept_is_there, the_room_of_all_stays, the_run_is_of_the_sessions};
 pub use numbers::Numbers;
 pub use txn::{Asked, Txn};
 pub use txns::{SESSIONS, Txns};

@@ -12,6 +12,7 @@ ghost use Rattle.ctr_actions.specs.Actions.{Begins, Commits, Aborts, site_after}
 ghost use Rattle.ctr_base.specs.Base.{WhereSound};
 ghost use Rattle.ctr_walk.specs.OneRecord.{LogsOne};
 ghost use Rattle.ctr_txn.specs.Held.{TxnHeld, txn_of, number_drawn};
+ghost use Rattle.ctr_txn.specs.Rooms.{HasItemRoom};
 ghost use Rattle.ctr_txn.specs.Calls.{MayDraw, MayEnd, IsOverStore, DrawsFor, AsksFor, EndsFor, Shows, after_asking};
 
 use crate::txns::Txns;
@@ -35,6 +36,7 @@ impl Txns {
         ensures number { IfOk result (λ x. x ≡ store.old.meta.tables.next) }
         ensures draws { DrawsFor s self.old self.new result }
         ensures over { OnOk result (IsOverStore self.new store.new) }
+        ensures items { OnOk result (HasItemRoom self.old store.old.meta → HasItemRoom self.new store.new.meta) }
         ensures one { LogsOne O.first D.Disk (Begin store.old.meta.tables.next) store.old store.new result }
         ensures leaves { WhereSound O.first D.Disk (OnOk result (site_of store.new.now ≡ site_after store.old.meta.tables.next Begins (site_of store.old.now))) }
         // What is shown is the state in which the session was granted its lock.
@@ -62,6 +64,7 @@ impl Txns {
         requires may { MayEnd s self.old store.old }
         ensures asks { AsksFor s statement self.old self.new result }
         ensures over { OnOk result (IsOverStore self.new store.new) }
+        ensures items { OnOk result (HasItemRoom self.old store.old.meta → HasItemRoom self.new store.new.meta) }
         ensures one { LogsOne O.first D.Disk (Commit (number_drawn s self.old)) store.old store.new result }
         ensures leaves { WhereSound O.first D.Disk (OnOk result (site_of store.new.now ≡ site_after (number_drawn s self.old) Commits (site_of store.old.now))) }
         // What is shown is the state in which it asked, where each page of its own is linked, and nobody else has written in
@@ -89,6 +92,7 @@ impl Txns {
         requires may { MayEnd s self.old store.old }
         ensures ends { EndsFor s self.old self.new result }
         ensures over { OnOk result (IsOverStore self.new store.new) }
+        ensures items { OnOk result (HasItemRoom self.old store.old.meta → HasItemRoom self.new store.new.meta) }
         ensures one { LogsOne O.first D.Disk (Abort (number_drawn s self.old)) store.old store.new result }
         ensures leaves { WhereSound O.first D.Disk (OnOk result (site_of store.new.now ≡ site_after (number_drawn s self.old) Aborts (site_of store.old.now))) }
         // What is shown is the state without the transaction, where no item of its own is left.

@@ -9,7 +9,7 @@ ghost use Rattle.ctr_actions.specs.Sites.{Site};
 ghost use Rattle.ctr_paged.specs.Shown.{IsShown};
 ghost use Rattle.ctr_txn.specs.Held.{TxnHeld, txn_of, scene_with, IsOneOfEight, HasNumberRoom};
 ghost use Rattle.ctr_txn.specs.Steps.{SetsTxn, KeepsNumbers, AnswersNext, txn_room};
-ghost use Rattle.ctr_txn.specs.Rooms.{HasItemRoom};
+ghost use Rattle.ctr_txn.specs.Rooms.{HasItemRoom, StaysRoom};
 ghost use Rattle.ctr_txn.specs.Calls.{answered_state};
 
 use crate::laws::the_run_is_of_the_sessions;
@@ -54,12 +54,14 @@ impl Txns {
         ensures waits { store.now.waiting ≢ [] → (result ≡ None) × (self.new ≡ self.old) }
         ensures none { store.now.waiting ≡ [] → result ≡ None → (self.old.answered ≡ length self.old.numbers.commits) × (self.new ≡ self.old) }
         ensures next { IfSome result (λ r. AnswersNext r.0 r.1 self.old self.new) }
+        ensures items { StaysRoom self.old self.new }
         // What is shown is the state in which it is answered.
         ensures shows { (low : ℕ) (site : Site) (state : State) (t : Transaction) → IsShown low site (scene_with self.old state)
             → IfSome result (λ r. find nat_cmp r.0 state.sessions ≡ Some t → t.asked ≡ Some r.1.k → IsShown low site (scene_with self.new (answered_state r.0 state))) }
     {
         a_turn_without_a_record_is_shown();
         the_run_is_of_the_sessions();
+        self.counts_sessions();
         if !store.is_hardened() {
             return None;
         }

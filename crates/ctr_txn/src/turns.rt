@@ -9,6 +9,7 @@ ghost use Rattle.ctr_actions.specs.Sites.{Site};
 ghost use Rattle.ctr_paged.specs.Shown.{IsShown};
 ghost use Rattle.ctr_txn.specs.Held.{TxnHeld, txn_of, scene_with, IsOneOfEight, IsReading};
 ghost use Rattle.ctr_txn.specs.Steps.{SetsTxn, txn_begun, txn_undoing};
+ghost use Rattle.ctr_txn.specs.Rooms.{StaysRoom};
 
 use crate::laws::the_run_is_of_the_sessions;
 use crate::txns::Txns;
@@ -27,6 +28,7 @@ impl Txns {
         ensures sets { OnOk result (SetsTxn s (Some (txn_begun meta.now.tables self.old)) self.old self.new) }
         ensures numbers { self.new.numbers ≡ self.old.numbers }
         ensures err { OnErr result (self.new ≡ self.old) }
+        ensures items { OnOk result (StaysRoom self.old self.new) }
         // What is shown is the state in which it began.
         ensures shows { (low : ℕ) (site : Site) (state : State) → site.tables ≡ meta.now.tables → find nat_cmp s state.sessions ≡ None → IsShown low site (scene_with self.old state)
             → OnOk result (IsShown low site (scene_with self.new (with_transaction s (begun state.answered) state))) }
@@ -43,6 +45,7 @@ impl Txns {
         requires reader { IsReading s self.old }
         ensures sets { SetsTxn s None self.old self.new }
         ensures numbers { self.new.numbers ≡ self.old.numbers }
+        ensures items { StaysRoom self.old self.new }
         // What is shown is the state without it.
         ensures shows { (low : ℕ) (site : Site) (state : State) → IsShown low site (scene_with self.old state) → IsShown low site (scene_with self.new (without_transaction s state)) }
     {
@@ -59,6 +62,7 @@ impl Txns {
         requires one { IsOneOfEight s }
         ensures sets { (t : TxnHeld) → txn_of s self.old ≡ Some t → SetsTxn s (Some (txn_undoing t)) self.old self.new }
         ensures numbers { self.new.numbers ≡ self.old.numbers }
+        ensures items { (t : TxnHeld) → txn_of s self.old ≡ Some t → StaysRoom self.old self.new }
         // What is shown stays.
         ensures shows { (low : ℕ) (site : Site) (state : State) (b : TxnHeld) (t : Transaction) → txn_of s self.old ≡ Some b → find nat_cmp s state.sessions ≡ Some t
             → IsShown low site (scene_with self.old state) → IsShown low site (scene_with self.new state) }

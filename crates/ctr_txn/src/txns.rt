@@ -1,5 +1,5 @@
 // The transactions of all sessions.
-ghost use Rattle.std.specs.Prelude.{◌≡◌, ℕ, ◌<◌, ◌≤◌, ◌+◌, ◌-◌, ◌^◌, ◌++◌, drop, map, true, false, None, Some, [], length, get_or, IfOk, OnOk, OnErr, IfSome};
+ghost use Rattle.std.specs.Prelude.{◌≡◌, ◌↔◌, IsTrue, ℕ, ◌<◌, ◌≤◌, ◌+◌, ◌-◌, ◌^◌, ◌++◌, drop, map, true, false, None, Some, [], length, get_or, IfOk, OnOk, OnErr, IfSome};
 ghost use Rattle.ctr_snap.specs.Seeing.{has, least};
 ghost use Rattle.ctr_versions.specs.Engine.{SessionHeld};
 ghost use Rattle.ctr_versions.specs.Laws.{sessions_named};
@@ -78,6 +78,35 @@ impl Txns {
         match self.txn(s) {
             Some(txn) => txn.me,
             None => 0,
+        }
+    }
+
+    /// The next number to be drawn.
+    pub fn next(&self) -> Xid
+        ensures { result ≡ self.now.numbers.next }
+    {
+        self.numbers.next()
+    }
+
+    /// Whether a session is in a transaction without a number.
+    pub fn is_reading(&self, s: u8) -> bool
+        requires { IsOneOfEight s }
+        ensures { IsTrue result ↔ IsReading s self.now }
+    {
+        match self.txn(s) {
+            Some(txn) => txn.me == 0,
+            None => false,
+        }
+    }
+
+    /// Whether a session is in a transaction with a number, and hasn't asked for its commit.
+    pub fn is_writing(&self, s: u8) -> bool
+        requires { IsOneOfEight s }
+        ensures { IsTrue result ↔ IsWriting s self.now }
+    {
+        match self.txn(s) {
+            Some(txn) => txn.may_ask(),
+            None => false,
         }
     }
 
@@ -249,6 +278,13 @@ impl Txns {
         ensures gets_back { self.old.cleaner ≡ false → item ≡ true → GetsBack self.old self.new }
     {
         self.cleaner = item;
+    }
+
+    /// Whether room is kept for an item of the cleaner's.
+    pub fn keeps_cleaners(&self) -> bool
+        ensures { result ≡ self.now.cleaner }
+    {
+        self.cleaner
     }
 
     /// The low mark over these tables. It takes no memory.

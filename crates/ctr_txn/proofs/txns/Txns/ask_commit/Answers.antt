@@ -1,4 +1,4 @@
-use Rattle.std.proofs.Common.{ℕ, Ok, Err, refl, sym, ◌∙◌, ap, subst}
+use Rattle.std.proofs.Common.{ℕ, Ok, Err, Some, refl, sym, ◌∙◌, ap, subst}
 use Rattle.ctr_meta.specs.Tables.{Tables}
 use Rattle.ctr_records.specs.declared.record.Record.TheVariants.{Commit}
 use Rattle.ctr_walk.specs.OneRecord.{LogsOne}
@@ -6,8 +6,11 @@ use Rattle.ctr_actions.specs.Sites.{Site, site_of}
 use Rattle.ctr_actions.specs.Actions.{Commits, site_after}
 use Rattle.ctr_paged.specs.Shown.{IsShown}
 use Rattle.ctr_txn.specs.declared.txn.Asked.{Asked}
-use Rattle.ctr_txn.specs.Held.{scene_with, me_in}
+use Rattle.ctr_txn.specs.Held.{scene_with, me_in, txn_of}
 use Rattle.ctr_txn.specs.Calls.{after_asking}
+use Rattle.ctr_txn.specs.Steps.{txn_asked}
+use Rattle.ctr_txn.proofs.Rooming.{as_much}
+use Rattle.ctr_txn.proofs.Runs.{room_behind}
 use Rattle.ctr_txn.proofs.Showing.{found_session}
 use Rattle.ctr_txn.proofs.OneRecord.{asked_run, committed_site, committed_next, logged_now, refused_now}
 use Rattle.ctr_txn.proofs.txns.Txns.ask_commit.Goals as goal
@@ -53,3 +56,12 @@ returns-in-Ok-clause-one g c = subst (λ n. LogsOne {T = ℕ} g.O.Origin.first g
 pub returns-in-Err-clause-one : goal.returns-in-Err-clause-one
 returns-in-Err-clause-one g c = subst (λ n. LogsOne {T = ℕ} g.O.Origin.first g.D.Disk (Commit n) c.args.store.now c.log_record.new.store (Err c.in-Err.fault)) c.me-x.ensures
     (refused_now g.O.Origin.first g.D.Disk (Commit c.me-x.result) c.args.store.now c.log_record.new.store c.in-Err.fault c.requires.may.room.going c.in-Err.ensures)
+
+pub returns-in-Ok-clause-items : goal.returns-in-Ok-clause-items
+returns-in-Ok-clause-items g c room =
+    let old = c.args.self.now in
+    let w = c.requires.may.writer in
+    let q : Asked = record { k = c.ask.result; statement = c.args.statement } in
+    let u = txn_asked q w.t in
+    room_behind c.args.s (Some u) old c.ask.new.self c.requires.may.one c.counts_sessions.ensures (c.ask.ensures.sets w.t w.there).0 (as_much (txn_of c.args.s old) w.t u w.there refl)
+    c.args.store.now.meta c.log_record.new.store.meta c.in-Ok.ensures.takes.left.1 room

@@ -1,4 +1,4 @@
-use Rattle.std.proofs.Common.{◌≤◌, Ok, Err, sym, ◌∙◌, ap, subst, arith}
+use Rattle.std.proofs.Common.{◌≤◌, Ok, Err, Some, refl, sym, ◌∙◌, ap, subst, arith}
 use Rattle.ctr_meta.specs.Tables.{Tables}
 use Rattle.ctr_meta.specs.Kept.{TablesKept}
 use Rattle.ctr_model.specs.State.{with_transaction}
@@ -8,7 +8,10 @@ use Rattle.ctr_actions.specs.Sites.{Site, site_of}
 use Rattle.ctr_actions.specs.Actions.{Begins, site_after}
 use Rattle.ctr_paged.specs.Moving.{held_as}
 use Rattle.ctr_paged.specs.Shown.{IsShown}
-use Rattle.ctr_txn.specs.Held.{scene_with, run_of}
+use Rattle.ctr_txn.specs.Held.{scene_with, run_of, txn_of}
+use Rattle.ctr_txn.specs.Steps.{txn_drawn}
+use Rattle.ctr_txn.proofs.Rooming.{as_much}
+use Rattle.ctr_txn.proofs.Runs.{room_behind}
 use Rattle.ctr_txn.proofs.Showing.{found_session}
 use Rattle.ctr_txn.proofs.OneRecord.{drawn_run, begun_site, logged_now, refused_now}
 use Rattle.ctr_txn.proofs.txns.Txns.first_write.Goals as goal
@@ -54,3 +57,11 @@ draw-requires-clause-small g c =
     let low = c.bounds_numbers.ensures.0 in
     let number = c.requires.may.room.number in
     omega (arith, low, number, c.requires.may.over)
+
+pub returns-in-Ok-clause-items : goal.returns-in-Ok-clause-items
+returns-in-Ok-clause-items g c room =
+    let old = c.args.self.now in
+    let r = c.requires.may.reader in
+    let u = txn_drawn old.numbers.next r.t in
+    room_behind c.args.s (Some u) old c.draw.new.self c.requires.may.one c.counts_sessions.ensures (c.draw.ensures.sets r.t r.there) (as_much (txn_of c.args.s old) r.t u r.there refl)
+    c.args.store.now.meta c.log_record.new.store.meta c.in-Ok.ensures.takes.left.1 room

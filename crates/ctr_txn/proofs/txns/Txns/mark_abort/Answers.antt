@@ -1,4 +1,4 @@
-use Rattle.std.proofs.Common.{Ok, Err, inl, refl, sym, ◌∙◌, ap, subst}
+use Rattle.std.proofs.Common.{Ok, Err, None, arith, inl, refl, sym, ◌∙◌, ap, subst}
 use Rattle.ctr_model.specs.State.{without_transaction}
 use Rattle.ctr_records.specs.declared.record.Record.TheVariants.{Abort}
 use Rattle.ctr_walk.specs.OneRecord.{LogsOne}
@@ -6,6 +6,7 @@ use Rattle.ctr_actions.specs.Sites.{Site, site_of}
 use Rattle.ctr_actions.specs.Actions.{Aborts, site_after}
 use Rattle.ctr_paged.specs.Shown.{IsShown}
 use Rattle.ctr_txn.specs.Held.{scene_with, me_in}
+use Rattle.ctr_txn.proofs.Runs.{room_behind}
 use Rattle.ctr_txn.proofs.Showing.{found_session}
 use Rattle.ctr_txn.proofs.OneRecord.{aborted_run, aborted_site, logged_now, refused_now}
 use Rattle.ctr_txn.proofs.txns.Txns.mark_abort.Goals as goal
@@ -37,3 +38,8 @@ returns-in-Ok-clause-one g c = subst (λ n. LogsOne {T = Unit {0}} g.O.Origin.fi
 pub returns-in-Err-clause-one : goal.returns-in-Err-clause-one
 returns-in-Err-clause-one g c = subst (λ n. LogsOne {T = Unit {0}} g.O.Origin.first g.D.Disk (Abort n) c.args.store.now c.log_record.new.store (Err c.in-Err.fault)) c.me-x.ensures
     (refused_now g.O.Origin.first g.D.Disk (Abort c.me-x.result) c.args.store.now c.log_record.new.store c.in-Err.fault c.requires.may.room.going c.in-Err.ensures)
+
+pub returns-in-Ok-clause-items : goal.returns-in-Ok-clause-items
+returns-in-Ok-clause-items g c room =
+    room_behind c.args.s None c.args.self.now c.end.new.self c.requires.may.one c.counts_sessions.ensures c.end.ensures.sets (omega arith)
+    c.args.store.now.meta c.log_record.new.store.meta c.in-Ok.ensures.takes.left.1 room
