@@ -4,11 +4,13 @@
 //! Nothing here takes memory.
 #![tactic(auto)]
 
+mod laws;
 mod linking;
 mod making;
 mod taking;
 mod turn;
 mod ways;
 
+pub use laws::a_turn_for_a_page_is_kept;
 pub use turn::extend;
 pub use ways::{Extended, OnWay};

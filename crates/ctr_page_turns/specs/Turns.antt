@@ -1,5 +1,5 @@
 -- What one turn does to a store, whatever the disk tells.
-use Rattle.std.specs.Prelude.{Result, Ok, OnOk, OnErr, ◌≡◌, Err, ⊤}
+use Rattle.std.specs.Prelude.{◌≡◌, ◌≤◌, [], ◌∷◌, Result, Ok, Err, OnOk, OnErr, ⊤}
 use Rattle.ctr_disk.specs.declared.disk.Disk.{Ghosts}
 use Rattle.ctr_disk.specs.Image.{Image}
 use Rattle.ctr_disk.specs.declared.fault.StoreFault.{StoreFault}
@@ -7,7 +7,7 @@ use Rattle.ctr_disk.specs.declared.fault.StoreFault.TheVariants.{Fault}
 use Rattle.ctr_types.specs.Faults.{HasFault}
 use Rattle.ctr_records.specs.declared.record.Record.{Record}
 use Rattle.ctr_base.specs.Base.{WhereSound}
-use Rattle.ctr_store.specs.Store.{View, LeavesPage, LeavesGrowing, GrowsByExtent, CountsUp}
+use Rattle.ctr_store.specs.Store.{View, LeavesFront, Logs, LeavesPage, LeavesGrowing, GrowsByExtent, CountsUp}
 use Rattle.ctr_walk.specs.OneRecord.{LogsOne}
 use Rattle.ctr_walk.specs.Damage.{ReadsPages}
 
@@ -39,3 +39,12 @@ pub data Turns {D T : Type 0} (first : Image) (g : Ghosts D) (a b : View D)
   Reads : ReadsPages first g a b result → Turns first g a b result
   LogsARecord : LogsSome first g a b result → Turns first g a b result
   Grows : CountsBehind first g a b result → Turns first g a b result
+
+-- One record was logged, by a call before which a crash leaves what is hardened with some of what
+-- waits, and so it does behind it.
+pub record LogsAtRest {D : Type 0} (g : Ghosts D) (a b : View D) : Type 0 where
+  pub rec : Record
+  pub logs : Logs (rec ∷ []) a b
+  pub front : LeavesFront g a b
+  pub rests : LeavesFront g b b
+  pub later : g.moment_of a.disk ≤ g.moment_of b.disk
