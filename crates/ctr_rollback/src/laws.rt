@@ -9,11 +9,12 @@ ghost use Rattle.ctr_store.specs.Store.{View};
 ghost use Rattle.ctr_kept.specs.Walk.{Mind, IsAtRollback};
 ghost use Rattle.ctr_kept.specs.Turns.{Start, InTransaction, Telling, MayCome, telling, undoing_mind, gone_mind, point_now};
 ghost use Rattle.ctr_stops.specs.World.{KeepsWorld};
+ghost use Rattle.ctr_page_turns.specs.Turns.{LogsAtRest};
 ghost use Rattle.ctr_page_turns.specs.Acts.{ActsBy};
 ghost use Rattle.ctr_rollback.specs.declared.rolling.Rolled.TheVariants.{Undone, Back};
 ghost use Rattle.ctr_rollback.specs.Rolling.{RollsTo, steps_of};
 ghost use Rattle.ctr_rollback.specs.Series.{LeadOn, its_turns};
-ghost use Rattle.ctr_rollback.specs.Keeping.{LogsAtRest, IsWriter};
+ghost use Rattle.ctr_rollback.specs.Keeping.{IsWriter};
 
 use ctr_actions::{an_undone_item_goes_alone, what_is_done_stays};
 use ctr_disk::Disk;
