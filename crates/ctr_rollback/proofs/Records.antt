@@ -12,6 +12,7 @@ use Rattle.ctr_records.specs.declared.record.SlogItem.TheVariants.{AllocOf, Free
 use Rattle.ctr_records.specs.declared.record.Overlay.{Overlay}
 use Rattle.ctr_records.specs.declared.record.Record.{Record}
 use Rattle.ctr_meta.specs.Needs.{needs}
+use Rattle.ctr_meta.specs.Kept.{TablesKept, RoomLeft, opens_added, items_added}
 use Rattle.ctr_meta.specs.Effects.{effect}
 use Rattle.ctr_meta.specs.Tables.{Tables}
 use Rattle.ctr_page.specs.declared.table.TheConstants.{DROPPER_AT}
@@ -67,6 +68,13 @@ undo_next (AllocOf y p) byte tables = refl
 undo_next (FreeOf p) byte tables = refl
 undo_next (CreateOf y e) byte tables = refl
 undo_next (DropOf y e) byte tables = refl
+
+-- nor adds one to the items
+pub undo_leaves_room : (i : SlogItem) (byte : ℕ) (k l : TablesKept) → RoomLeft (opens_added (undo_record i byte)) (items_added (undo_record i byte)) k l → RoomLeft 0 0 k l
+undo_leaves_room (AllocOf y p) byte k l left = left
+undo_leaves_room (FreeOf p) byte k l left = left
+undo_leaves_room (CreateOf y e) byte k l left = left
+undo_leaves_room (DropOf y e) byte k l left = left
 
 -- ---- answers
 

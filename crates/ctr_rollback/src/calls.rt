@@ -12,6 +12,7 @@ ghost use Rattle.ctr_base.specs.Base.{WhereSound};
 ghost use Rattle.ctr_walk.specs.OneRecord.{HasRoomForOne, LogsOne};
 ghost use Rattle.ctr_catalog.specs.Writing.{undo_record};
 ghost use Rattle.ctr_txn.specs.Held.{number_drawn};
+ghost use Rattle.ctr_txn.specs.Rooms.{HasItemRoom};
 ghost use Rattle.ctr_txn.specs.Calls.{MayEnd, IsOverStore, EndsFor};
 ghost use Rattle.ctr_page_turns.specs.Acts.{ActsBy};
 
@@ -79,6 +80,7 @@ pub(crate) fn mark<D: Disk, O: Origin, L: Ledger>(
     requires may { MayEnd s txns.old store.old }
     ensures ends { EndsFor s txns.old txns.new result }
     ensures over { OnOk result (IsOverStore txns.new store.new) }
+    ensures items { OnOk result (HasItemRoom txns.old store.old.meta → HasItemRoom txns.new store.new.meta) }
     ensures one { LogsOne O.first D.Disk (Abort (number_drawn s txns.old)) store.old store.new result }
     ensures acts { WhereSound O.first D.Disk (Owes (number_drawn s txns.old) Aborts (site_of store.old.now)
         → OnOk result (ActsBy (number_drawn s txns.old) Aborts store.old.now store.new.now)) }

@@ -3,7 +3,7 @@ ghost use Rattle.std.specs.Prelude.{OnOk};
 ghost use Rattle.ctr_base.specs.Base.{WhereSound};
 ghost use Rattle.ctr_page_turns.specs.Turns.{LogsSome};
 ghost use Rattle.ctr_txn.specs.Held.{number_drawn};
-ghost use Rattle.ctr_txn.specs.Rooms.{StaysRoom};
+ghost use Rattle.ctr_txn.specs.Rooms.{HasItemRoom};
 ghost use Rattle.ctr_txn.specs.Calls.{MayEnd, IsOverStore};
 ghost use Rattle.ctr_rollback.specs.Rolling.{MayRoll, EndsRoll, RollsTxns, TakesSteps};
 
@@ -14,7 +14,7 @@ use ctr_disk::{Disk, StoreFault};
 use ctr_record_laws::pages_are_in_bounds;
 use ctr_store::Store;
 use ctr_tally::Steps;
-use ctr_txn::{Txns, the_room_of_all_stays};
+use ctr_txn::Txns;
 use std::sync::ledger::Ledger;
 
 /// What a turn of a rollback did.
@@ -38,7 +38,8 @@ pub fn turn<D: Disk, O: Origin, L: Ledger>(
     ensures one { LogsSome O.first D.Disk store.old store.new result }
     // With the first record the session is within its rollback, and with the last its transaction is gone.
     ensures txns { RollsTxns s txns.old txns.new result }
-    ensures room { StaysRoom txns.old txns.new }
+    // The room that is kept for items of all is there still.
+    ensures items { OnOk result (HasItemRoom txns.old store.old.meta → HasItemRoom txns.new store.new.meta) }
     ensures over { OnOk result (IsOverStore txns.new store.new) }
     // An item went, or there was none and this is the mark; it is refused for no other cause than that the disk failed.
     ensures rolls { WhereSound O.first D.Disk (MayRoll (number_drawn s txns.old) store.old.now → EndsRoll (number_drawn s txns.old) store.old.now store.new.now result) }
@@ -47,7 +48,6 @@ pub fn turn<D: Disk, O: Origin, L: Ledger>(
     what_is_held_pays();
     the_latest_item_can_be_undone();
     pages_are_in_bounds();
-    the_room_of_all_stays();
     txns.counts_sessions();
     let x = txns.me(s);
     match next_item(store.meta(), x) {

@@ -1,4 +1,4 @@
-use Rattle.std.proofs.Common.{◌≡◌, ◌+◌, [], refl, sym, ◌∙◌, ap, subst}
+use Rattle.std.proofs.Common.{◌≡◌, ◌+◌, [], sym, ◌∙◌, ap, subst}
 use Rattle.std.specs.Prelude.{filter}
 use Rattle.ctr_records.specs.declared.record.Record.TheVariants.{Abort}
 use Rattle.ctr_meta.specs.Items.{is_item_by}
@@ -10,8 +10,8 @@ use Rattle.ctr_actions.specs.Sites.{Site, site_of}
 use Rattle.ctr_actions.specs.Actions.{item_count}
 use Rattle.ctr_catalog.specs.Writing.{undo_record}
 use Rattle.ctr_txn.specs.Held.{number_drawn}
-use Rattle.ctr_rollback.proofs.Records.{undo_next, none_counted, one_done, one_failed}
-use Rattle.ctr_rollback.proofs.Txns.{writing_still, as_much_kept, room_as_was}
+use Rattle.ctr_rollback.proofs.Records.{undo_next, undo_leaves_room, none_counted, one_done, one_failed}
+use Rattle.ctr_rollback.proofs.Txns.{writing_still}
 use Rattle.ctr_rollback.proofs.rolling.turn.Goals as goal
 
 -- ---- the mark
@@ -21,12 +21,6 @@ returns-in-Ok-clause-one g c = (Abort (number_drawn c.args.s c.args.txns.now), o
 
 pub returns-in-Err-clause-one : goal.returns-in-Err-clause-one
 returns-in-Err-clause-one g c = (Abort (number_drawn c.args.s c.args.txns.now), one_failed g.O.Origin.first g.D.Disk _ c.args.store.now c.mark.new.store c.in-Err.fault c.in-Err.ensures.one)
-
-pub returns-in-Ok-clause-room : goal.returns-in-Ok-clause-room
-returns-in-Ok-clause-room g c = c.the_room_of_all_stays.ensures.ended c.args.s c.args.txns.now c.mark.new.txns c.requires.may.one c.counts_sessions.ensures c.in-Ok.ensures.ends.0.0
-
-pub returns-in-Err-clause-room : goal.returns-in-Err-clause-room
-returns-in-Err-clause-room g c = room_as_was c.args.txns.now c.mark.new.txns c.in-Err.ensures.ends.1
 
 pub returns-in-Ok-clause-txns : goal.returns-in-Ok-clause-txns
 returns-in-Ok-clause-txns g c = (c.in-Ok.ensures.ends.0.1, c.in-Ok.ensures.ends.0.0)
@@ -65,13 +59,11 @@ returns-in-Ok-undo-clause-txns g c =
       c.begin_rollback.ensures.sets,
     )
 
-pub returns-in-Ok-undo-clause-room : goal.returns-in-Ok-undo-clause-room
-returns-in-Ok-undo-clause-room g c =
+pub returns-in-Ok-undo-clause-items : goal.returns-in-Ok-undo-clause-items
+returns-in-Ok-undo-clause-items g c =
+    let one = c.in-Ok-undo.ensures.one in
     let w = c.requires.may.writer in
-    c.the_room_of_all_stays.ensures.changed c.args.s _ c.args.txns.now c.begin_rollback.new.self c.requires.may.one c.counts_sessions.ensures (c.begin_rollback.ensures.sets w.t w.there) (as_much_kept c.args.s c.args.txns.now w)
-
-pub returns-in-Err-undo-clause-room : goal.returns-in-Err-undo-clause-room
-returns-in-Err-undo-clause-room g c = room_as_was c.args.txns.now c.args.txns.now refl
+    c.begin_rollback.ensures.items w.t w.there c.args.store.now.meta c.undo.new.store.meta (undo_leaves_room c.in-Some.item one.0 c.args.store.now.meta c.undo.new.store.meta one.1.takes.left)
 
 pub returns-in-Ok-undo-clause-over : goal.returns-in-Ok-undo-clause-over
 returns-in-Ok-undo-clause-over g c =
