@@ -1,0 +1,10 @@
+//! Tests of turns of sessions on pages, over a store in memory. They need public items alone, so they stand here and not in
+//! the crates of turns, which would be proved twice.
+//!
+//! Who owns a store does nothing else: its turns stand in functions that have it behind `&mut` and answer plain data.
+#![tactic(auto)]
+
+#[cfg(test)]
+mod rolling;
+#[cfg(test)]
+mod stores;
