@@ -1,4 +1,4 @@
-//! A page more for a chain of a table, by turns: it is allocated, made empty and put in front, one record each, and what is kept
+//! A page more for a chain of a table, by turns of one record each: it is allocated, made empty and put in front. What is kept
 //! between two turns is how far it is.
 //!
 //! Nothing here takes memory.

@@ -1,5 +1,5 @@
-//! A turn of a session on pages: what it does to the store, and what the record that it logs is to pages and to a World.
-//! Definitions, and laws of them. No program computes them.
+//! What one turn of a session does to a store, and what the record that it logs is to the pages. Definitions, and laws of
+//! them. No program computes them.
 #![tactic(auto)]
 
 mod room;
