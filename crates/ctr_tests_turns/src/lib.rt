@@ -5,6 +5,10 @@
 #![tactic(auto)]
 
 #[cfg(test)]
+mod extending;
+#[cfg(test)]
 mod rolling;
+#[cfg(test)]
+mod sessions;
 #[cfg(test)]
 mod stores;

@@ -1,11 +1,10 @@
 // A session's rollback, turn by turn.
-ghost use Rattle.std.specs.Prelude.{◌≡◌, false, IfOk, IfSome, OnOk};
-ghost use Rattle.ctr_value.specs.Columns.{ColumnsFit};
+ghost use Rattle.std.specs.Prelude.{◌≡◌, false, OnOk};
 ghost use Rattle.ctr_txn.specs.Calls.{IsOverStore};
 
+use crate::sessions::{begin, draw, make_table};
 use crate::stores::{new_disk, opened, ready};
 use ctr_base::Origin;
-use ctr_catalog::create;
 use ctr_disk::{Disk, StoreFault};
 use ctr_mem_disk::SilentDisk;
 use ctr_records::PageNo;
@@ -13,40 +12,11 @@ use ctr_rollback::{Rolled, turn};
 use ctr_store::Store;
 use ctr_tally::Steps;
 use ctr_txn::Txns;
-use ctr_types::{Column, Kind, List, Name, OutOfMemory, Schema, Text, Xid};
+use ctr_types::Xid;
 use std::alloc::{AllocError, Global};
 use std::marker::Brand;
 use std::sync::ledger::{Blank, Ledger};
 use std::test::Fail;
-
-// Session 1 begins; whether memory was there for that.
-fn begin<D: Disk, O: Origin>(alloc: Global, store: &Store<D, O>, txns: &mut Txns) -> bool
-    ensures { txns.new.numbers ≡ txns.old.numbers }
-{
-    if txns.txn(1).is_some() {
-        return false;
-    }
-    txns.begin(alloc, store.meta(), 1).is_ok()
-}
-
-// It draws its number.
-fn draw<D: Disk, O: Origin>(
-    store: &mut Store<D, O>,
-    txns: &mut Txns,
-) -> Result<Option<Xid>, StoreFault>
-    requires going { store.old.stopped ≡ false }
-    requires over { IsOverStore txns.old store.old }
-    ensures going { OnOk result (store.new.stopped ≡ false) }
-    ensures over { OnOk result (IsOverStore txns.new store.new) }
-{
-    if txns.reserve(store, 1).is_err() || store.meta().next() > 1 << 61 {
-        return Ok(None);
-    }
-    if !ready(store, 1, 0)? || !txns.is_reading(1) {
-        return Ok(None);
-    }
-    Ok(Some(txns.first_write(store, 1)?))
-}
 
 // It takes a page.
 fn take<D: Disk, O: Origin>(store: &mut Store<D, O>, x: Xid, p: PageNo) -> Result<bool, StoreFault>
@@ -61,44 +31,6 @@ fn take<D: Disk, O: Origin>(store: &mut Store<D, O>, x: Xid, p: PageNo) -> Resul
     Ok(true)
 }
 
-// The columns of a table of a key alone.
-fn key_alone(alloc: Global) -> Result<Option<Schema>, OutOfMemory>
-    ensures { IfOk result (λ found. IfSome found (λ schema. ColumnsFit schema.columns)) }
-{
-    let Some(name) = Name::new(Text::from_slice(alloc, b"k")?) else {
-        return Ok(None);
-    };
-    let mut columns = Vec::new(alloc);
-    columns.push(Column {
-        name,
-        kind: Kind::Int,
-    })?;
-    Ok(Some(Schema {
-        columns: List::from_vec(columns),
-    }))
-}
-
-// It makes a table.
-fn make<D: Disk, O: Origin>(
-    store: &mut Store<D, O>,
-    x: Xid,
-    name: &Name,
-    schema: &Schema,
-) -> Result<bool, StoreFault>
-    requires going { store.old.stopped ≡ false }
-    requires fits { ColumnsFit schema.now.columns }
-    ensures going { OnOk result (store.new.stopped ≡ false) }
-    ensures next { OnOk result (store.new.meta.tables.next ≡ store.old.meta.tables.next) }
-{
-    if !ready(store, 0, 1)? {
-        return Ok(false);
-    }
-    match create(store, x, name, schema) {
-        Ok(_) => Ok(true),
-        Err(_) => Err(StoreFault::Fault),
-    }
-}
-
 // It takes two pages, and makes a table between.
 fn write<D: Disk, O: Origin>(
     alloc: Global,
@@ -109,16 +41,7 @@ fn write<D: Disk, O: Origin>(
     ensures going { OnOk result (store.new.stopped ≡ false) }
     ensures next { OnOk result (store.new.meta.tables.next ≡ store.old.meta.tables.next) }
 {
-    let Ok(Some(schema)) = key_alone(alloc) else {
-        return Ok(false);
-    };
-    let Ok(text) = Text::from_slice(alloc, b"t") else {
-        return Ok(false);
-    };
-    let Some(name) = Name::new(text) else {
-        return Ok(false);
-    };
-    Ok(take(store, x, 3)? && make(store, x, &name, &schema)? && take(store, x, 4)?)
+    Ok(take(store, x, 3)? && make_table(alloc, store, x)? && take(store, x, 4)?)
 }
 
 // What the turns of its rollback did, at most so many: how many undid an item before one marked the end.
@@ -157,10 +80,10 @@ fn seen<D: Disk, O: Origin, L: Ledger>(
     requires going { store.old.stopped ≡ false }
     requires over { IsOverStore txns.old store.old }
 {
-    if !begin(alloc, store, txns) {
+    if !begin(alloc, store, txns, 1) {
         return Ok(None);
     }
-    let Some(x) = draw(store, txns)? else {
+    let Some(x) = draw(store, txns, 1)? else {
         return Ok(None);
     };
     if !write(alloc, store, x)? {

@@ -1,5 +1,5 @@
 // Stores in memory, and room for their records.
-ghost use Rattle.std.specs.Prelude.{◌≡◌, ℕ, false, IsTrue, IfOk, IfSome, OnOk};
+ghost use Rattle.std.specs.Prelude.{◌≡◌, false, IsTrue, IfOk, IfSome, OnOk};
 ghost use Rattle.ctr_walk.specs.OneRecord.{HasRoomForOne};
 
 use ctr_base::Origin;
