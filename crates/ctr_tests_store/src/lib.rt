@@ -9,6 +9,8 @@
 #[cfg(test)]
 mod bits;
 #[cfg(test)]
+mod columns;
+#[cfg(test)]
 mod entries;
 #[cfg(test)]
 mod laid;
