@@ -4,7 +4,7 @@ ghost use Rattle.ctr_tests_txn.specs.Stands.{Stands};
 
 use crate::plays::{Play, played};
 use crate::refused::Refused;
-use crate::steps::{ask, begin, lock, told};
+use crate::steps::{ask, open, told};
 use crate::turns::Mem;
 use ctr_txn::Txns;
 use std::alloc::Global;
@@ -32,11 +32,9 @@ fn lock_all(alloc: Global, txns: &mut Txns, store: &mut Mem) -> Result<(), Refus
     ensures stands { OnOk result (Stands txns.new store.new) }
 {
     for s in 1..8_u8 {
-        begin(alloc, txns, store, s)?;
-        lock(txns, store, s)?;
+        open(alloc, txns, store, s)?;
     }
-    begin(alloc, txns, store, 8)?;
-    lock(txns, store, 8)?;
+    open(alloc, txns, store, 8)?;
     Ok(())
 }
 

@@ -4,7 +4,7 @@ ghost use Rattle.ctr_tests_txn.specs.Stands.{Stands};
 
 use crate::plays::{Play, played};
 use crate::refused::Refused;
-use crate::steps::{ask, begin, end_reader, lock, mark};
+use crate::steps::{ask, begin, end_reader, mark, open};
 use crate::turns::Mem;
 use ctr_txn::Txns;
 use ctr_types::Xid;
@@ -33,8 +33,7 @@ impl Marks {
     {
         self.0[0] = txns.low_mark(store.meta());
         begin(alloc, txns, store, 1)?;
-        begin(alloc, txns, store, 2)?;
-        lock(txns, store, 2)?;
+        open(alloc, txns, store, 2)?;
         self.0[1] = txns.low_mark(store.meta());
         commit(txns, store, 2)?;
         self.0[2] = txns.low_mark(store.meta());
@@ -48,15 +47,12 @@ impl Marks {
         requires going { store.old.stopped ≡ false }
         ensures going { OnOk result (store.new.stopped ≡ false) }
     {
-        begin(alloc, txns, store, 4)?;
-        lock(txns, store, 4)?;
+        open(alloc, txns, store, 4)?;
         begin(alloc, txns, store, 5)?;
-        begin(alloc, txns, store, 6)?;
-        lock(txns, store, 6)?;
+        open(alloc, txns, store, 6)?;
         commit(txns, store, 6)?;
         self.0[4] = txns.low_mark(store.meta());
-        begin(alloc, txns, store, 3)?;
-        lock(txns, store, 3)?;
+        open(alloc, txns, store, 3)?;
         self.0[5] = txns.low_mark(store.meta());
         end_reader(txns, 5)?;
         self.0[6] = txns.low_mark(store.meta());
@@ -80,8 +76,7 @@ impl Marks {
     fn ask(&mut self, alloc: Global, txns: &mut Txns, store: &mut Mem) -> Result<(), Refused>
         requires going { store.old.stopped ≡ false }
     {
-        begin(alloc, txns, store, 7)?;
-        lock(txns, store, 7)?;
+        open(alloc, txns, store, 7)?;
         ask(txns, store, 7, 1)?;
         begin(alloc, txns, store, 8)?;
         self.0[10] = txns.low_mark(store.meta());

@@ -3,7 +3,7 @@ ghost use Rattle.std.specs.Prelude.{◌≡◌, false, OnOk};
 
 use crate::plays::{Play, played};
 use crate::refused::Refused;
-use crate::steps::{begin, lock, mark, take_item, told, write};
+use crate::steps::{lock, mark, open, take_item, told, write};
 use crate::turns::Mem;
 use ctr_records::SlogItem;
 use ctr_txn::Txns;
@@ -16,8 +16,7 @@ fn write_two(alloc: Global, txns: &mut Txns, store: &mut Mem) -> Result<(), Refu
     requires going { store.old.stopped ≡ false }
     ensures going { OnOk result (store.new.stopped ≡ false) }
 {
-    begin(alloc, txns, store, 1)?;
-    lock(txns, store, 1)?;
+    open(alloc, txns, store, 1)?;
     write(txns, store, 1, 0)?;
     lock(txns, store, 1)?;
     write(txns, store, 1, 5)
@@ -101,8 +100,7 @@ struct Early {
 
 impl Play for Early {
     fn play(&mut self, alloc: Global, txns: &mut Txns, store: &mut Mem) -> Result<(), Refused> {
-        begin(alloc, txns, store, 1)?;
-        lock(txns, store, 1)?;
+        open(alloc, txns, store, 1)?;
         write(txns, store, 1, 0)?;
         self.marked = mark(txns, store, 1);
         self.me = txns.me(1);

@@ -76,6 +76,15 @@ pub fn lock(txns: &mut Txns, store: &mut Mem, s: u8) -> Result<Xid, Refused>
     Ok(txns.first_write(store, s)?)
 }
 
+/// A transaction begins, and has its first Lock.
+pub fn open(global: Global, txns: &mut Txns, store: &mut Mem, s: u8) -> Result<Xid, Refused>
+    requires going { store.old.stopped ≡ false }
+    ensures stands { OnOk result (Stands txns.new store.new) }
+{
+    begin(global, txns, store, s)?;
+    lock(txns, store, s)
+}
+
 // The number of a session that writes, and for which room for an item is kept.
 fn may_add(txns: &Txns, s: u8) -> Option<Xid>
     requires one { IsOneOfEight s }
