@@ -36,7 +36,7 @@ pub fn draw<D: Disk, O: Origin>(
     ensures going { OnOk result (store.new.stopped ≡ false) }
     ensures over { OnOk result (IsOverStore txns.new store.new) }
 {
-    if txns.reserve(store, s).is_err() || store.meta().next() > 1 << 61 {
+    if txns.reserve(store, s).is_err() {
         return Ok(None);
     }
     if !ready(store, 1, 0)? || !txns.is_reading(s) {

@@ -70,7 +70,7 @@ pub fn lock(txns: &mut Txns, store: &mut Mem, s: u8) -> Result<Xid, Refused>
     if txns.is_writing(s) {
         return Ok(txns.me(s));
     }
-    if !txns.is_reading(s) || !are_over(txns, store) || store.meta().next() == u64::MAX {
+    if !txns.is_reading(s) || !are_over(txns, store) {
         return Err(Refused::NotAsked);
     }
     Ok(txns.first_write(store, s)?)
