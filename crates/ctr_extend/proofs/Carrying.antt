@@ -28,7 +28,7 @@ use Rattle.ctr_extend.specs.declared.ways.OnWay.TheVariants.{Wanted, Taken, Made
 use Rattle.ctr_extend.specs.declared.ways.Extended.{Extended}
 use Rattle.ctr_extend.specs.declared.ways.Extended.TheVariants.{On, Linked, Grown, Full}
 use Rattle.ctr_extend.specs.Ways.{chain_header, link_action, way_facts, IsOnWay, IsBlankWay}
-use Rattle.ctr_extend.specs.Steps.{Extends}
+use Rattle.ctr_extend.specs.Steps.{ExtendsBy}
 use Rattle.ctr_extend.specs.Keeping.{facts_on_way, way_behind, HasLogged}
 
 -- a fact of a blank page tells what stands on it
@@ -55,7 +55,7 @@ module _ (x : ℕ) (t : Transaction) where
   links (Rows e b) p s = record { covers = tt; moves = λ low scene. refl; opens = refl; titles = λ f. refl }
   links (Versions e) p s = record { covers = tt; moves = λ low scene. refl; opens = refl; titles = λ f. refl }
 
-  pub turned : (chain : Chain) (way : OnWay) (e : Extended) (s u : State) → HasLogged e → Extends x chain way s u e → Turned x t chain (way_behind e) s u
+  pub turned : (chain : Chain) (way : OnWay) (e : Extended) (s u : State) → HasLogged e → ExtendsBy x chain way s u e → Turned x t chain (way_behind e) s u
   turned chain Wanted (On Wanted) s u logged is = absurd is
   turned chain Wanted (On (Taken p)) s u logged is = record {
     act = Allocates p;

@@ -12,7 +12,7 @@ use Rattle.ctr_extend.specs.declared.ways.OnWay.TheVariants.{Taken, Made}
 use Rattle.ctr_extend.specs.declared.ways.Extended.{Extended}
 use Rattle.ctr_extend.specs.declared.ways.Extended.TheVariants.{On, Linked}
 use Rattle.ctr_extend.specs.Ways.{IsOnWay}
-use Rattle.ctr_extend.specs.Steps.{Makes, PutsInFront, Extends}
+use Rattle.ctr_extend.specs.Steps.{MakesEmpty, PutsInFront, ExtendsBy}
 
 -- a fact holds of a site that is the one of which it holds
 pub moved : (x : ℕ) (f : Fact) (s t : Site) → t ≡ s → HoldsFact x f s → HoldsFact x f t
@@ -20,21 +20,21 @@ moved x f s t is held = subst (λ z. HoldsFact x f z) (sym is) held
 
 module _ (x : ℕ) (chain : Chain) (page next : ℕ) (s t : State) where
   -- a page that was taken is made empty
-  pub made_first : (result : Result Extended StoreFault) → IfOk result (λ e. (e ≡ On (Made page next)) × Makes x chain page next s t)
-      → IfOk result (Extends x chain (Taken page) s t)
-  made_first (Ok e) makes = subst (Extends x chain (Taken page) s t) (sym makes.0) (refl, makes.1)
+  pub made_first : (result : Result Extended StoreFault) → IfOk result (λ e. (e ≡ On (Made page next)) × MakesEmpty x chain page next s t)
+      → IfOk result (ExtendsBy x chain (Taken page) s t)
+  made_first (Ok e) makes = subst (ExtendsBy x chain (Taken page) s t) (sym makes.0) (refl, makes.1)
   made_first (Err e) makes = tt
 
   -- a page that is empty is made so once more
-  pub made_again : (was : ℕ) (result : Result Extended StoreFault) → was ≢ next → IfOk result (λ e. (e ≡ On (Made page next)) × Makes x chain page next s t)
-      → IfOk result (Extends x chain (Made page was) s t)
-  made_again was (Ok e) other makes = subst (Extends x chain (Made page was) s t) (sym makes.0) (refl, other, makes.1)
+  pub made_again : (was : ℕ) (result : Result Extended StoreFault) → was ≢ next → IfOk result (λ e. (e ≡ On (Made page next)) × MakesEmpty x chain page next s t)
+      → IfOk result (ExtendsBy x chain (Made page was) s t)
+  made_again was (Ok e) other makes = subst (ExtendsBy x chain (Made page was) s t) (sym makes.0) (refl, other, makes.1)
   made_again was (Err e) other makes = tt
 
   -- it is put in front
   pub put_in_front : (result : Result Extended StoreFault) (Left : Extended → Type 0) → IfOk result (λ e. (e ≡ Linked) × Left e) → IfOk result (λ e. PutsInFront x chain page next s t)
-      → IfOk result (Extends x chain (Made page next) s t)
-  put_in_front (Ok e) Left is puts = subst (Extends x chain (Made page next) s t) (sym is.0) puts
+      → IfOk result (ExtendsBy x chain (Made page next) s t)
+  put_in_front (Ok e) Left is puts = subst (ExtendsBy x chain (Made page next) s t) (sym is.0) puts
   put_in_front (Err e) Left is puts = tt
 
 -- a page that is empty is taken still

@@ -15,8 +15,8 @@ use Rattle.ctr_extend.specs.declared.ways.Extended.{Extended}
 use Rattle.ctr_extend.specs.declared.ways.Extended.TheVariants.{On, Linked, Grown, Full}
 use Rattle.ctr_extend.specs.Ways.{way_facts}
 
--- A session that wants a page for a chain of a table carries that its transaction is open, the table,
--- and how far the page is.
+-- A session that wants a page for a chain of a table carries that its transaction is open, the
+-- table, and how far the page is.
 abbrev pub facts_on_way : Title → Chain → OnWay → List Fact
 facts_on_way title chain way = IsOpen ∷ HasTable (chain_entry chain) title ∷ way_facts chain way
 

@@ -18,7 +18,8 @@ use Rattle.ctr_extend.specs.declared.ways.Extended.{Extended}
 use Rattle.ctr_extend.specs.declared.ways.Extended.TheVariants.{On, Linked, Grown, Full}
 use Rattle.ctr_extend.specs.Ways.{chain_header, link_action, IsOnWay, IsCountedWay}
 
--- The pages may be a database's, the transaction is open, the table is there, and so far the page is.
+-- The pages may be a database's, the transaction is open, the table is there, and so far the page
+-- is.
 pub record MayExtend (x : ℕ) (chain : Chain) (way : OnWay) (s : State) : Type 0 where
   pub sound : IsDatabaseState s
   pub is_open : is_in x s.tables.opens ≡ true
@@ -32,7 +33,7 @@ pub record Takes (x : ℕ) (chain : Chain) (p : ℕ) (s t : State) : Type 0 wher
   pub on_way : IsOnWay x chain (Taken p) t
 
 -- The page is empty, and leads on to the first one of the chain.
-pub record Makes (x : ℕ) (chain : Chain) (p next : ℕ) (s t : State) : Type 0 where
+pub record MakesEmpty (x : ℕ) (chain : Chain) (p next : ℕ) (s t : State) : Type 0 where
   pub acts : ActsBy x (Formats p (chain_header chain next)) s t
   pub first : next ≡ first_of_chain (area_in s) chain
   pub on_way : IsOnWay x chain (Made p next) t
@@ -56,18 +57,18 @@ pub record IsFull (s t : State) : Type 0 where
   pub most : MOST_PAGES ≤ s.counted
   pub same : t ≡ s
 
--- What a turn does: a page that is wanted is taken, or more are counted, or there is none; one that is
--- taken is made empty; one that is empty is linked, or made empty again where the chain begins with
--- another page by now.
-abbrev pub Extends : ℕ → Chain → OnWay → State → State → Extended → Type 0
-Extends x chain Wanted s t (On (Taken p)) = Takes x chain p s t
-Extends x chain Wanted s t Grown = CountsOn x chain s t
-Extends x chain Wanted s t Full = IsFull s t
-Extends x chain (Taken p) s t (On (Made q next)) = (q ≡ p) × Makes x chain p next s t
-Extends x chain (Made p was) s t (On (Made q next)) =
-    (q ≡ p) × (was ≢ next) × Makes x chain p next s t
-Extends x chain (Made p next) s t Linked = PutsInFront x chain p next s t
-Extends x chain way s t e = ⊥
+-- What a turn does: a page that is wanted is taken, or more are counted, or there is none; one
+-- that is taken is made empty; one that is empty is linked, or made empty again where the chain
+-- begins with another page by now.
+abbrev pub ExtendsBy : ℕ → Chain → OnWay → State → State → Extended → Type 0
+ExtendsBy x chain Wanted s t (On (Taken p)) = Takes x chain p s t
+ExtendsBy x chain Wanted s t Grown = CountsOn x chain s t
+ExtendsBy x chain Wanted s t Full = IsFull s t
+ExtendsBy x chain (Taken p) s t (On (Made q next)) = (q ≡ p) × MakesEmpty x chain p next s t
+ExtendsBy x chain (Made p was) s t (On (Made q next)) =
+    (q ≡ p) × (was ≢ next) × MakesEmpty x chain p next s t
+ExtendsBy x chain (Made p next) s t Linked = PutsInFront x chain p next s t
+ExtendsBy x chain way s t e = ⊥
 
 -- ---- whatever the disk tells
 

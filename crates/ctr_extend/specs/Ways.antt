@@ -1,5 +1,5 @@
--- A page on its way to the front of a chain of a table: what a transaction counts on of it between two
--- turns.
+-- A page on its way to the front of a chain of a table: what a transaction counts on of it between
+-- two turns.
 use Rattle.std.specs.Prelude.{ℕ, ◌<◌, ◌≤◌, List, [], ◌∷◌}
 use Rattle.std.specs.List.{AllByRecursion}
 use Rattle.ctr_page.specs.declared.checks.Chain.{Chain}
@@ -24,8 +24,8 @@ abbrev pub link_action : Chain → ℕ → Action
 link_action (Rows e b) p = Links p e b
 link_action (Versions e) p = LinksOlder p e
 
--- What a transaction counts on: it has no page to link but this one, which is its own; or is its own,
--- and empty with the header of its chain.
+-- What a transaction counts on: it has no page to link but this one, which is its own; or is its
+-- own, and empty with the header of its chain.
 abbrev pub way_facts : Chain → OnWay → List Fact
 way_facts chain Wanted = HasNoPageBut [] ∷ []
 way_facts chain (Taken p) = HasPage p ∷ HasNoPageBut (p ∷ []) ∷ []

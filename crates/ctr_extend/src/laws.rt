@@ -5,7 +5,7 @@ ghost use Rattle.ctr_kept.specs.Turns.{Start, carrying};
 ghost use Rattle.ctr_stops.specs.World.{KeepsWorld};
 ghost use Rattle.ctr_page_turns.specs.Turns.{LogsAtRest};
 ghost use Rattle.ctr_extend.specs.declared.ways.Extended.{Extended};
-ghost use Rattle.ctr_extend.specs.Steps.{MayExtend, Extends};
+ghost use Rattle.ctr_extend.specs.Steps.{MayExtend, ExtendsBy};
 ghost use Rattle.ctr_extend.specs.Keeping.{WantsPage, facts_on_way, way_behind, HasLogged};
 
 use ctr_actions::what_is_done_stays;
@@ -18,7 +18,7 @@ use ctr_stops::{a_turn_of_a_world_is_kept, an_action_keeps_the_pages};
 pub fn a_turn_for_a_page_is_kept<D: Disk>()
     ensures may { (c : Start) (opened : D) (a : View D) (w : Mind) (wants : WantsPage D.Disk c opened a w) → MayExtend wants.seat.session.me wants.chain wants.way a.now }
     ensures kept { (c : Start) (opened : D) (a b : View D) (w : Mind) (wants : WantsPage D.Disk c opened a w) (e : Extended) → HasLogged e → LogsAtRest D.Disk a b
-        → Extends wants.seat.session.me wants.chain wants.way a.now b.now e
+        → ExtendsBy wants.seat.session.me wants.chain wants.way a.now b.now e
         → KeepsWorld D.Disk c opened b (carrying wants.s (facts_on_way wants.title wants.chain (way_behind e)) w) }
 {
     what_is_done_stays();

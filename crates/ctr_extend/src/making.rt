@@ -9,7 +9,7 @@ ghost use Rattle.ctr_record_effects.specs.States.{area_in};
 ghost use Rattle.ctr_page_turns.specs.Turns.{Turns};
 ghost use Rattle.ctr_extend.specs.declared.ways.OnWay.TheVariants.{Taken};
 ghost use Rattle.ctr_extend.specs.Ways.{chain_header, IsOnWay};
-ghost use Rattle.ctr_extend.specs.Steps.{Makes, IsCountedStep, LeavesRoom};
+ghost use Rattle.ctr_extend.specs.Steps.{MakesEmpty, IsCountedStep, LeavesRoom};
 ghost use Rattle.ctr_extend.specs.declared.ways.Extended.TheVariants.{On as IsOn};
 ghost use Rattle.ctr_extend.specs.declared.ways.OnWay.TheVariants.{Made as IsMade};
 
@@ -61,7 +61,7 @@ pub(crate) fn make<D: Disk, O: Origin>(
     ensures inside { IfOk result (λ e. IsCountedStep e store.new.now.counted) }
     ensures left { IfOk result (λ e. LeavesRoom e store.old.meta store.new.meta) }
     ensures steps { WhereSound O.first D.Disk (IsDatabaseState store.old.now → IsOnWay x chain (Taken page) store.old.now → next ≡ first_of_chain (area_in store.old.now) chain
-        → IfOk result (λ e. (e ≡ IsOn (IsMade page next)) × Makes x chain page next store.old.now store.new.now)) }
+        → IfOk result (λ e. (e ≡ IsOn (IsMade page next)) × MakesEmpty x chain page next store.old.now store.new.now)) }
 {
     store.counts_pages();
     a_turn_goes_on::<D, (), Extended>();

@@ -11,7 +11,7 @@ ghost use Rattle.ctr_store.specs.Store.{View, LeavesPage};
 ghost use Rattle.ctr_walk.specs.OneRecord.{HasRoomForOne};
 ghost use Rattle.ctr_page_turns.specs.Turns.{Turns};
 ghost use Rattle.ctr_extend.specs.declared.ways.OnWay.TheVariants.{Wanted};
-ghost use Rattle.ctr_extend.specs.Steps.{MayExtend, Extends, IsCountedStep, LeavesRoom};
+ghost use Rattle.ctr_extend.specs.Steps.{MayExtend, ExtendsBy, IsCountedStep, LeavesRoom};
 
 use crate::ways::{Extended, OnWay};
 use ctr_actions::{an_action_gives_its_fact, growth_keeps_a_site};
@@ -36,7 +36,7 @@ fn take<D: Disk, O: Origin>(
     ensures inside { IfOk result (λ e. IsCountedStep e store.new.now.counted) }
     ensures left { IfOk result (λ e. LeavesRoom e store.old.meta store.new.meta) }
     ensures steps { (chain : ChainOf) → WhereSound O.first D.Disk (MayExtend x chain Wanted store.old.now → IsNextFree store.old.now.counted (area_in store.old.now).taken (IsPage p)
-        → IfOk result (Extends x chain Wanted store.old.now store.new.now)) }
+        → IfOk result (ExtendsBy x chain Wanted store.old.now store.new.now)) }
 {
     store.counts_pages();
     a_turn_goes_on::<D, (), Extended>();
@@ -57,7 +57,7 @@ fn grow<D: Disk, O: Origin>(store: &mut Store<D, O>) -> Result<Extended, StoreFa
     ensures inside { IfOk result (λ e. IsCountedStep e store.new.now.counted) }
     ensures left { IfOk result (λ e. LeavesRoom e store.old.meta store.new.meta) }
     ensures steps { (x : ℕ) (chain : ChainOf) → WhereSound O.first D.Disk (MayExtend x chain Wanted store.old.now → IsNextFree store.old.now.counted (area_in store.old.now).taken IsGrow
-        → IfOk result (Extends x chain Wanted store.old.now store.new.now)) }
+        → IfOk result (ExtendsBy x chain Wanted store.old.now store.new.now)) }
 {
     a_turn_goes_on::<D, NextFree, ()>();
     a_turn_goes_on::<D, (), Extended>();
@@ -77,7 +77,7 @@ pub(crate) fn have<D: Disk, O: Origin>(
     ensures turns { Turns O.first D.Disk store.old store.new result }
     ensures inside { IfOk result (λ e. IsCountedStep e store.new.now.counted) }
     ensures left { IfOk result (λ e. LeavesRoom e store.old.meta store.new.meta) }
-    ensures steps { (chain : ChainOf) → WhereSound O.first D.Disk (MayExtend x chain Wanted store.old.now → IfOk result (Extends x chain Wanted store.old.now store.new.now)) }
+    ensures steps { (chain : ChainOf) → WhereSound O.first D.Disk (MayExtend x chain Wanted store.old.now → IfOk result (ExtendsBy x chain Wanted store.old.now store.new.now)) }
 {
     a_turn_goes_on::<D, NextFree, Extended>();
     room_is_still_there::<D>();

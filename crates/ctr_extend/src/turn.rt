@@ -6,7 +6,7 @@ ghost use Rattle.ctr_walk.specs.Tables.{IsChain, IsFirstPage};
 ghost use Rattle.ctr_page_turns.specs.Turns.{Turns};
 ghost use Rattle.ctr_extend.specs.declared.ways.OnWay.TheVariants.{Taken, Made};
 ghost use Rattle.ctr_extend.specs.Ways.{IsCountedWay, items_wanted};
-ghost use Rattle.ctr_extend.specs.Steps.{MayExtend, Extends, IsCountedStep, LeavesRoom};
+ghost use Rattle.ctr_extend.specs.Steps.{MayExtend, ExtendsBy, IsCountedStep, LeavesRoom};
 
 use crate::linking::link_in;
 use crate::making::make;
@@ -44,7 +44,7 @@ fn make_first<D: Disk, O: Origin>(
     ensures turns { Turns O.first D.Disk store.old store.new result }
     ensures inside { IfOk result (λ e. IsCountedStep e store.new.now.counted) }
     ensures left { IfOk result (λ e. LeavesRoom e store.old.meta store.new.meta) }
-    ensures steps { WhereSound O.first D.Disk (MayExtend x chain (Taken page) store.old.now → IfOk result (Extends x chain (Taken page) store.old.now store.new.now)) }
+    ensures steps { WhereSound O.first D.Disk (MayExtend x chain (Taken page) store.old.now → IfOk result (ExtendsBy x chain (Taken page) store.old.now store.new.now)) }
 {
     a_turn_goes_on::<D, Option<PageNo>, Extended>();
     room_is_still_there::<D>();
@@ -68,7 +68,7 @@ fn put_in<D: Disk, O: Origin>(
     ensures turns { Turns O.first D.Disk store.old store.new result }
     ensures inside { IfOk result (λ e. IsCountedStep e store.new.now.counted) }
     ensures left { IfOk result (λ e. LeavesRoom e store.old.meta store.new.meta) }
-    ensures steps { WhereSound O.first D.Disk (MayExtend x chain (Made page next) store.old.now → IfOk result (Extends x chain (Made page next) store.old.now store.new.now)) }
+    ensures steps { WhereSound O.first D.Disk (MayExtend x chain (Made page next) store.old.now → IfOk result (ExtendsBy x chain (Made page next) store.old.now store.new.now)) }
 {
     a_turn_goes_on::<D, Option<PageNo>, Extended>();
     room_is_still_there::<D>();
@@ -101,7 +101,7 @@ pub fn extend<D: Disk, O: Origin>(
     // The room of an item goes with a page that is taken, and comes back with one that is linked.
     ensures left { IfOk result (λ e. LeavesRoom e store.old.meta store.new.meta) }
     // What its record owes is met, and the page is further.
-    ensures steps { WhereSound O.first D.Disk (MayExtend x chain way store.old.now → IfOk result (Extends x chain way store.old.now store.new.now)) }
+    ensures steps { WhereSound O.first D.Disk (MayExtend x chain way store.old.now → IfOk result (ExtendsBy x chain way store.old.now store.new.now)) }
 {
     match way {
         OnWay::Wanted => have(store, x),

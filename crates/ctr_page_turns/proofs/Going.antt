@@ -9,7 +9,7 @@ use Rattle.ctr_records.specs.declared.record.Record.{Record}
 use Rattle.ctr_store.specs.Store.{View, LeavesPage}
 use Rattle.ctr_walk.specs.OneRecord.{LogsOne}
 use Rattle.ctr_walk.specs.Damage.{ReadsPages}
-use Rattle.ctr_page_turns.specs.Turns.{CountsMore, Turns, Reads, LogsARecord, Grows}
+use Rattle.ctr_page_turns.specs.Turns.{CountsExtent, Turns, Reads, LogsARecord, Grows}
 
 -- a call that answers with this fault
 abbrev fails_with : (T : Type 0) → StoreFault → Result T StoreFault
@@ -67,7 +67,7 @@ module _ {D : Type 0} (first : Image) (g : Ghosts D) (a b : View D) where
     faults = record { later = one.faults.later; failed = λ is. one.faults.failed (same_error {A = T} {B = S} is); fine = λ isnt. one.faults.fine (λ is. isnt (same_error {A = S} {B = T} is)) };
   }
 
-  more_ok : {S T : Type 0} (x : S) (y : T) → CountsMore {T = S} first g a b (Ok x) → CountsMore {T = T} first g a b (Ok y)
+  more_ok : {S T : Type 0} (x : S) (y : T) → CountsExtent {T = S} first g a b (Ok x) → CountsExtent {T = T} first g a b (Ok y)
   more_ok x y one = record {
     any_moment = one.any_moment;
     grows = one.grows;
@@ -76,7 +76,7 @@ module _ {D : Type 0} (first : Image) (g : Ghosts D) (a b : View D) where
     faults = record { later = one.faults.later; failed = λ is. absurd cc; fine = λ isnt. one.faults.fine (λ is. absurd cc) };
   }
 
-  more_err : {S T : Type 0} (e : StoreFault) → CountsMore {T = S} first g a b (Err e) → CountsMore {T = T} first g a b (Err e)
+  more_err : {S T : Type 0} (e : StoreFault) → CountsExtent {T = S} first g a b (Err e) → CountsExtent {T = T} first g a b (Err e)
   more_err {S} {T} e one = record {
     any_moment = one.any_moment;
     grows = λ told sound. tt;
@@ -119,7 +119,7 @@ module _ {D : Type 0} (first : Image) (g : Ghosts D) where
       → LeavesPage first g a b page → page ≡ Err e → result ≡ Err e → Turns first g a b result
   turn_lost {S} a b e page result read is so = turn_unread {S = S} a b e (Err e) result (leaves_reads a b e (subst (λ (r : Result S StoreFault). LeavesPage first g a b r) is read)) refl so
 
-  pub turn_grown : {S T : Type 0} (a b c : View D) (x : S) (result : Result T StoreFault) → LeavesPage first g a b (Ok x) → CountsMore first g b c result → Turns first g a c result
+  pub turn_grown : {S T : Type 0} (a b c : View D) (x : S) (result : Result T StoreFault) → LeavesPage first g a b (Ok x) → CountsExtent first g b c result → Turns first g a c result
   turn_grown a b c x result read more = Grows (record { between = b; read = page_ok first g a b x tt read; more = more })
 
   -- a turn goes on behind pages that were read, by how calls join behind them

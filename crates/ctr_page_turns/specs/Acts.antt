@@ -6,8 +6,8 @@ use Rattle.ctr_actions.specs.Actions.{Action}
 use Rattle.ctr_actions.specs.Records.{Does}
 use Rattle.ctr_passed.specs.Laid.{LiesAs, LaidPasses}
 
--- A state is left by an action of a transaction, which owes nothing more in the one before. Its bytes lie at
--- what it changes, and pass their checks.
+-- A state is left by an action of a transaction, which owes nothing more in the one before. Its
+-- bytes lie at what it changes, and pass their checks.
 pub record ActsBy (x : ℕ) (a : Action) (s t : State) : Type 0 where
   pub does : Does x a s t
   pub lies : LiesAs a (area_in s) (pages_in s) (pages_in t)

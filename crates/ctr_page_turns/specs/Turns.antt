@@ -17,7 +17,7 @@ abbrev pub LogsSome : {D T : Type 0} → Image → Ghosts D → View D → View 
 LogsSome first g a b result = (r : Record) × LogsOne first g r a b result
 
 -- More pages are counted; or the disk failed.
-pub record CountsMore {D T : Type 0} (first : Image) (g : Ghosts D) (a b : View D)
+pub record CountsExtent {D T : Type 0} (first : Image) (g : Ghosts D) (a b : View D)
     (result : Result T StoreFault) : Type 0 where
   pub any_moment : WhereSound first g (LeavesGrowing g a b)
   pub grows : WhereSound first g (OnOk result (GrowsByExtent g a b))
@@ -30,10 +30,10 @@ pub record CountsBehind {D T : Type 0} (first : Image) (g : Ghosts D) (a b : Vie
     (result : Result T StoreFault) : Type 0 where
   pub between : View D
   pub read : LeavesPage {T = ⊤} first g a between (Ok tt)
-  pub more : CountsMore first g between b result
+  pub more : CountsExtent first g between b result
 
--- A turn that isn't spent on room reads pages, and that is all; or it logs one record; or more pages
--- are counted.
+-- A turn that isn't spent on room reads pages, and that is all; or it logs one record; or more
+-- pages are counted.
 pub data Turns {D T : Type 0} (first : Image) (g : Ghosts D) (a b : View D)
     (result : Result T StoreFault) : Type 0 where
   Reads : ReadsPages first g a b result → Turns first g a b result

@@ -9,7 +9,7 @@ ghost use Rattle.ctr_walk.specs.OneRecord.{LogsOne};
 ghost use Rattle.ctr_actions.specs.Sites.{site_of};
 ghost use Rattle.ctr_actions.specs.Actions.{Action, Owes, site_after};
 ghost use Rattle.ctr_passed.specs.Logged.{IsLaidAs};
-ghost use Rattle.ctr_page_turns.specs.Turns.{CountsMore, Turns};
+ghost use Rattle.ctr_page_turns.specs.Turns.{CountsExtent, Turns};
 ghost use Rattle.ctr_page_turns.specs.Acts.{ActsBy};
 
 use ctr_disk::Disk;
@@ -30,7 +30,7 @@ pub fn a_turn_goes_on<D: Disk, S, T>()
     ensures logged { (first : Image) (a b c : View D) (x : S) (r : Record) (result : Result T StoreFault)
         → LeavesPage first D.Disk a b (Ok x) → LogsOne first D.Disk r b c result → Turns first D.Disk a c result }
     ensures grown { (first : Image) (a b c : View D) (x : S) (result : Result T StoreFault)
-        → LeavesPage first D.Disk a b (Ok x) → CountsMore first D.Disk b c result → Turns first D.Disk a c result }
+        → LeavesPage first D.Disk a b (Ok x) → CountsExtent first D.Disk b c result → Turns first D.Disk a c result }
 {
     pages_read_join::<D, S, T>();
     pages_read_join::<D, S, ()>();

@@ -1,5 +1,5 @@
--- A rollback on pages, one record a turn: a transaction's own items of the secondary log are undone, the
--- latest first, and then it is aborted.
+-- A rollback on pages, one record a turn: a transaction's own items of the secondary log are
+-- undone, the latest first, and then it is aborted.
 use Rattle.std.specs.Prelude.{◌≡◌, ℕ, ◌+◌, ◌≤◌, true, Some, None, Result, Ok, Err}
 use Rattle.ctr_disk.specs.declared.fault.StoreFault.{StoreFault}
 use Rattle.ctr_disk.specs.declared.fault.StoreFault.TheVariants.{Fault}
@@ -20,8 +20,8 @@ pub record MayRoll (x : ℕ) (s : State) : Type 0 where
   pub sound : IsDatabaseState s
   pub is_open : is_in x s.tables.opens ≡ true
 
--- One turn leads from a state to the next. The transaction's latest item is undone, and it has one item
--- less; or it had none left, and is aborted.
+-- One turn leads from a state to the next. The transaction's latest item is undone, and it has one
+-- item less; or it had none left, and is aborted.
 abbrev pub RollsTo : ℕ → State → State → Rolled → Type 0
 RollsTo x s t Undone = (i : SlogItem) × IsLastItem x i s.tables.items × ActsBy x (undoing i) s t
     × (item_count x s.tables ≡ item_count x t.tables + 1)
@@ -32,16 +32,17 @@ abbrev pub EndsRoll : ℕ → State → State → Result Rolled StoreFault → T
 EndsRoll x s t (Ok r) = RollsTo x s t r
 EndsRoll x s t (Err e) = e ≡ Fault
 
--- What a turn leaves of the sessions' transactions: once an item is undone the session is within its
--- rollback, and once it is aborted its transaction is gone. Where the call failed nothing has changed.
+-- What a turn leaves of the sessions' transactions: once an item is undone the session is within
+-- its rollback, and once it is aborted its transaction is gone. Where the call failed nothing has
+-- changed.
 abbrev pub RollsTxns : ℕ → TxnsHeld → TxnsHeld → Result Rolled StoreFault → Type 0
 RollsTxns s old new (Ok Undone) = (new.numbers ≡ old.numbers) × IsWriting s new
     × ((t : TxnHeld) → txn_of s old ≡ Some t → SetsTxn s (Some (txn_undoing t)) old new)
 RollsTxns s old new (Ok Back) = (new.numbers ≡ old.numbers) × SetsTxn s None old new
 RollsTxns s old new (Err e) = new ≡ old
 
--- How many pages a turn reads and how many records it logs, together: one of each for an item, and a
--- record for the mark.
+-- How many pages a turn reads and how many records it logs, together: one of each for an item, and
+-- a record for the mark.
 abbrev pub steps_of : Rolled → ℕ
 steps_of Undone = 2
 steps_of Back = 1

@@ -14,7 +14,7 @@ ghost use Rattle.ctr_page_turns.specs.Acts.{ActsBy};
 ghost use Rattle.ctr_rollback.specs.declared.rolling.Rolled.TheVariants.{Undone, Back};
 ghost use Rattle.ctr_rollback.specs.Rolling.{RollsTo, steps_of};
 ghost use Rattle.ctr_rollback.specs.Series.{LeadOn, its_turns};
-ghost use Rattle.ctr_rollback.specs.Keeping.{IsWriter};
+ghost use Rattle.ctr_rollback.specs.Keeping.{IsActiveWriter};
 
 use ctr_actions::{an_undone_item_goes_alone, what_is_done_stays};
 use ctr_disk::Disk;
@@ -27,10 +27,10 @@ use ctr_stops::{a_turn_of_a_world_is_kept, an_action_keeps_the_pages};
 /// it stays so with each further one. The mark is told on the tape, and with it the transaction is gone.
 pub fn a_turn_of_a_rollback_is_kept<D: Disk>()
     ensures undone { (c : Start) (opened : D) (a b : View D) (w : Mind) (s : ℕ) (seat : InTransaction c w s) → KeepsWorld D.Disk c opened a w
-        → IsWriter seat → IsAtRollback c.lines (point_now c w) s → RollsTo seat.session.me a.now b.now Undone → LogsAtRest D.Disk a b
+        → IsActiveWriter seat → IsAtRollback c.lines (point_now c w) s → RollsTo seat.session.me a.now b.now Undone → LogsAtRest D.Disk a b
         → KeepsWorld D.Disk c opened b (undoing_mind s seat.session [] w) }
     ensures back { (c : Start) (opened : D) (a b : View D) (w : Mind) (s : ℕ) (seat : InTransaction c w s) (e : Telling c (D.Disk.moment_of a.disk) s) → KeepsWorld D.Disk c opened a w
-        → IsWriter seat → MayCome c w e act.Rollback reply.RolledBack → e.later ≡ D.Disk.moment_of b.disk → RollsTo seat.session.me a.now b.now Back → LogsAtRest D.Disk a b
+        → IsActiveWriter seat → MayCome c w e act.Rollback reply.RolledBack → e.later ≡ D.Disk.moment_of b.disk → RollsTo seat.session.me a.now b.now Back → LogsAtRest D.Disk a b
         → KeepsWorld D.Disk c opened b (telling e act.Rollback reply.RolledBack w (gone_mind s w)) }
 {
     a_rollback_begins();

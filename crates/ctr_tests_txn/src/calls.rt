@@ -2,7 +2,7 @@
 // and its answer, and one that rolls back.
 ghost use Rattle.std.specs.Prelude.{◌≡◌, false, OnOk};
 ghost use Rattle.ctr_txn.specs.Held.{IsOneOfEight};
-ghost use Rattle.ctr_tests_txn.specs.Stands.{Stands};
+ghost use Rattle.ctr_tests_txn.specs.StandsReady.{StandsReady};
 
 use crate::plays::{Play, played};
 use crate::refused::Refused;
@@ -96,7 +96,7 @@ impl Calls {
 
     fn lock_first(&mut self, alloc: Global, txns: &mut Txns, store: &mut Mem) -> Result<(), Refused>
         requires going { store.old.stopped ≡ false }
-        ensures stands { OnOk result (Stands txns.new store.new) }
+        ensures stands { OnOk result (StandsReady txns.new store.new) }
     {
         self.first[0] = told_of(txns, 1);
         self.numbers[0] = (txns.number(2), txns.answered(), txns.next());
@@ -109,7 +109,7 @@ impl Calls {
     }
 
     fn ask_first(&mut self, alloc: Global, txns: &mut Txns, store: &mut Mem) -> Result<(), Refused>
-        requires stands { Stands txns.old store.old }
+        requires stands { StandsReady txns.old store.old }
         ensures going { OnOk result (store.new.stopped ≡ false) }
     {
         write(txns, store, 1, 0)?;

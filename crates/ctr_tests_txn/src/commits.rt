@@ -1,6 +1,6 @@
 // Ten thousand commits of one run, each number looked up.
 ghost use Rattle.std.specs.Prelude.{◌≡◌, false, OnOk};
-ghost use Rattle.ctr_tests_txn.specs.Stands.{Stands};
+ghost use Rattle.ctr_tests_txn.specs.StandsReady.{StandsReady};
 
 use crate::plays::{Play, played};
 use crate::refused::Refused;
@@ -29,7 +29,7 @@ struct Commits {
 // Eight sessions begin and lock.
 fn lock_all(alloc: Global, txns: &mut Txns, store: &mut Mem) -> Result<(), Refused>
     requires going { store.old.stopped ≡ false }
-    ensures stands { OnOk result (Stands txns.new store.new) }
+    ensures stands { OnOk result (StandsReady txns.new store.new) }
 {
     for s in 1..8_u8 {
         open(alloc, txns, store, s)?;
@@ -40,7 +40,7 @@ fn lock_all(alloc: Global, txns: &mut Txns, store: &mut Mem) -> Result<(), Refus
 
 // The last session asks first.
 fn ask_all(txns: &mut Txns, store: &mut Mem, round: u64) -> Result<(), Refused>
-    requires stands { Stands txns.old store.old }
+    requires stands { StandsReady txns.old store.old }
     ensures going { OnOk result (store.new.stopped ≡ false) }
 {
     for i in 0..8_u8 {

@@ -1,7 +1,7 @@
 // Eight sessions between their Locks and their Writes, with the cleaner beside them: what they still do takes the room that
 // was kept, and no memory. What runs behind the Locks is handed no allocator.
 ghost use Rattle.std.specs.Prelude.{◌≡◌, false, OnOk};
-ghost use Rattle.ctr_tests_txn.specs.Stands.{Stands};
+ghost use Rattle.ctr_tests_txn.specs.StandsReady.{StandsReady};
 
 use crate::plays::{Play, played};
 use crate::refused::Refused;
@@ -68,7 +68,7 @@ impl Eight {
     // The room of all and the cleaner's is there behind the last Lock.
     fn lock_all(&mut self, txns: &mut Txns, store: &mut Mem) -> Result<(), Refused>
         requires going { store.old.stopped ≡ false }
-        ensures stands { OnOk result (Stands txns.new store.new) }
+        ensures stands { OnOk result (StandsReady txns.new store.new) }
     {
         for s in 1..8_u8 {
             self.numbers[s as usize - 1] = lock(txns, store, s)?;
@@ -79,8 +79,8 @@ impl Eight {
     }
 
     fn write_all(&mut self, txns: &mut Txns, store: &mut Mem) -> Result<(), Refused>
-        requires stands { Stands txns.old store.old }
-        ensures stands { OnOk result (Stands txns.new store.new) }
+        requires stands { StandsReady txns.old store.old }
+        ensures stands { OnOk result (StandsReady txns.new store.new) }
     {
         for s in 1..9_u8 {
             write(txns, store, s, s - 1)?;
@@ -92,8 +92,8 @@ impl Eight {
 
     // The last session asks first.
     fn ask_all(&mut self, txns: &mut Txns, store: &mut Mem) -> Result<(), Refused>
-        requires stands { Stands txns.old store.old }
-        ensures stands { OnOk result (Stands txns.new store.new) }
+        requires stands { StandsReady txns.old store.old }
+        ensures stands { OnOk result (StandsReady txns.new store.new) }
     {
         for i in 0..8_u8 {
             let s = 8 - i;
@@ -110,7 +110,7 @@ impl Eight {
 
     // All that is behind the Locks.
     fn finish(&mut self, txns: &mut Txns, store: &mut Mem) -> Result<(), Refused>
-        requires stands { Stands txns.old store.old }
+        requires stands { StandsReady txns.old store.old }
     {
         self.write_all(txns, store)?;
         self.ask_all(txns, store)?;

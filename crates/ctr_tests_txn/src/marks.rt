@@ -1,6 +1,6 @@
 // The low mark, as transactions come and go.
 ghost use Rattle.std.specs.Prelude.{◌≡◌, false, OnOk};
-ghost use Rattle.ctr_tests_txn.specs.Stands.{Stands};
+ghost use Rattle.ctr_tests_txn.specs.StandsReady.{StandsReady};
 
 use crate::plays::{Play, played};
 use crate::refused::Refused;
@@ -16,7 +16,7 @@ struct Marks([Xid; 13]);
 
 // A session commits, and is answered.
 fn commit(txns: &mut Txns, store: &mut Mem, s: u8) -> Result<(), Refused>
-    requires stands { Stands txns.old store.old }
+    requires stands { StandsReady txns.old store.old }
     ensures going { OnOk result (store.new.stopped ≡ false) }
 {
     ask(txns, store, s, 1)?;

@@ -4,7 +4,7 @@ ghost use Rattle.std.specs.Prelude.{◌≡◌, ◌<◌, false, true, IsTrue, Non
 ghost use Rattle.ctr_walk.specs.OneRecord.{HasRoomForOne};
 ghost use Rattle.ctr_txn.specs.Held.{TxnHeld, txn_of, IsOneOfEight, IsReading, IsWriting, HasNumberRoom};
 ghost use Rattle.ctr_txn.specs.Calls.{IsOverStore};
-ghost use Rattle.ctr_tests_txn.specs.Stands.{Stands};
+ghost use Rattle.ctr_tests_txn.specs.StandsReady.{StandsReady};
 
 use crate::refused::Refused;
 use crate::turns::{Mem, ready};
@@ -51,7 +51,7 @@ pub fn begin(global: Global, txns: &mut Txns, store: &Mem, s: u8) -> Result<u64,
 fn reserve(txns: &mut Txns, store: &mut Mem, s: u8) -> Result<(), Refused>
     requires one { IsOneOfEight s }
     requires room { HasRoomForOne 0 0 store.old }
-    ensures stands { OnOk result (Stands txns.new store.new) }
+    ensures stands { OnOk result (StandsReady txns.new store.new) }
     ensures numbers { OnOk result (HasNumberRoom txns.new) }
     ensures room { OnOk result (HasRoomForOne 1 0 store.new) }
 {
@@ -61,7 +61,7 @@ fn reserve(txns: &mut Txns, store: &mut Mem, s: u8) -> Result<(), Refused>
 /// A Lock: all its room, and the session's number where it has none.
 pub fn lock(txns: &mut Txns, store: &mut Mem, s: u8) -> Result<Xid, Refused>
     requires going { store.old.stopped ≡ false }
-    ensures stands { OnOk result (Stands txns.new store.new) }
+    ensures stands { OnOk result (StandsReady txns.new store.new) }
 {
     if !is_session(s) || !ready(store)? {
         return Err(Refused::NotAsked);
@@ -79,7 +79,7 @@ pub fn lock(txns: &mut Txns, store: &mut Mem, s: u8) -> Result<Xid, Refused>
 /// A transaction begins, and has its first Lock.
 pub fn open(global: Global, txns: &mut Txns, store: &mut Mem, s: u8) -> Result<Xid, Refused>
     requires going { store.old.stopped ≡ false }
-    ensures stands { OnOk result (Stands txns.new store.new) }
+    ensures stands { OnOk result (StandsReady txns.new store.new) }
 {
     begin(global, txns, store, s)?;
     lock(txns, store, s)
@@ -103,12 +103,12 @@ fn may_add(txns: &Txns, s: u8) -> Option<Xid>
 
 // A table is dropped by the room that was kept for the session.
 fn drop_kept(txns: &mut Txns, store: &mut Mem, s: u8, x: Xid, entry: u8) -> Result<(), Refused>
-    requires stands { Stands txns.old store.old }
+    requires stands { StandsReady txns.old store.old }
     requires one { IsOneOfEight s }
     requires item { (t : TxnHeld) × (txn_of s txns.old ≡ Some t) × (t.item ≡ true) }
     requires room { HasRoomForOne 0 0 store.old }
     requires low { entry < 32 }
-    ensures stands { OnOk result (Stands txns.new store.new) }
+    ensures stands { OnOk result (StandsReady txns.new store.new) }
 {
     room_that_is_kept_is_there();
     drop_table(store, x, entry)?;
@@ -118,8 +118,8 @@ fn drop_kept(txns: &mut Txns, store: &mut Mem, s: u8, x: Xid, entry: u8) -> Resu
 
 /// A Write that adds an item: a table is dropped, by the room that was kept for the session.
 pub fn write(txns: &mut Txns, store: &mut Mem, s: u8, entry: u8) -> Result<(), Refused>
-    requires stands { Stands txns.old store.old }
-    ensures stands { OnOk result (Stands txns.new store.new) }
+    requires stands { StandsReady txns.old store.old }
+    ensures stands { OnOk result (StandsReady txns.new store.new) }
 {
     if !is_session(s) || entry >= 32 || !ready(store)? {
         return Err(Refused::NotAsked);
@@ -132,11 +132,11 @@ pub fn write(txns: &mut Txns, store: &mut Mem, s: u8, entry: u8) -> Result<(), R
 
 // The same by the cleaner's room.
 fn drop_cleaners(txns: &mut Txns, store: &mut Mem, x: Xid, entry: u8) -> Result<(), Refused>
-    requires stands { Stands txns.old store.old }
+    requires stands { StandsReady txns.old store.old }
     requires cleaner { txns.old.cleaner ≡ true }
     requires room { HasRoomForOne 0 0 store.old }
     requires low { entry < 32 }
-    ensures stands { OnOk result (Stands txns.new store.new) }
+    ensures stands { OnOk result (StandsReady txns.new store.new) }
 {
     room_that_is_kept_is_there();
     drop_table(store, x, entry)?;
@@ -146,8 +146,8 @@ fn drop_cleaners(txns: &mut Txns, store: &mut Mem, x: Xid, entry: u8) -> Result<
 
 /// The same by the cleaner's room. Whose item it is doesn't matter to the room.
 pub fn write_cleaners(txns: &mut Txns, store: &mut Mem, s: u8, entry: u8) -> Result<(), Refused>
-    requires stands { Stands txns.old store.old }
-    ensures stands { OnOk result (Stands txns.new store.new) }
+    requires stands { StandsReady txns.old store.old }
+    ensures stands { OnOk result (StandsReady txns.new store.new) }
 {
     if !is_session(s) || entry >= 32 || !ready(store)? || !txns.keeps_cleaners() {
         return Err(Refused::NotAsked);
@@ -158,8 +158,8 @@ pub fn write_cleaners(txns: &mut Txns, store: &mut Mem, s: u8, entry: u8) -> Res
 
 /// COMMIT asks.
 pub fn ask(txns: &mut Txns, store: &mut Mem, s: u8, statement: u64) -> Result<u64, Refused>
-    requires stands { Stands txns.old store.old }
-    ensures stands { OnOk result (Stands txns.new store.new) }
+    requires stands { StandsReady txns.old store.old }
+    ensures stands { OnOk result (StandsReady txns.new store.new) }
 {
     if !is_session(s) || !ready(store)? {
         return Err(Refused::NotAsked);

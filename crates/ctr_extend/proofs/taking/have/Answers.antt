@@ -8,7 +8,7 @@ use Rattle.ctr_alloc.specs.declared.search.NextFree.TheVariants as next
 use Rattle.ctr_page_turns.specs.Turns.{Reads}
 use Rattle.ctr_extend.specs.declared.ways.OnWay.TheVariants.{Wanted}
 use Rattle.ctr_extend.specs.declared.ways.Extended.TheVariants.{Full}
-use Rattle.ctr_extend.specs.Steps.{MayExtend, Extends, LeavesRoom}
+use Rattle.ctr_extend.specs.Steps.{MayExtend, ExtendsBy, LeavesRoom}
 use Rattle.ctr_extend.proofs.Steps.{free_so}
 use Rattle.ctr_extend.proofs.taking.have.Goals as goal
 
@@ -39,13 +39,13 @@ returns-in-Full-clause-left g c = c.in-Ok.ensures.leaves.keeps.meta
 pub returns-in-Page-clause-steps : goal.returns-in-Page-clause-steps
 returns-in-Page-clause-steps g c = λ chain told sound may.
     let same = (c.in-Ok.ensures.leaves.logs told sound).now in
-    subst (λ (s : State). MayExtend c.args.x chain Wanted s → IsNextFree s.counted (area_in s).taken (next.Page c.in-Page.p) → IfOk c.take.result (Extends c.args.x chain Wanted s c.take.new.store.now)) same
+    subst (λ (s : State). MayExtend c.args.x chain Wanted s → IsNextFree s.counted (area_in s).taken (next.Page c.in-Page.p) → IfOk c.take.result (ExtendsBy c.args.x chain Wanted s c.take.new.store.now)) same
     (c.take.ensures.steps chain told sound) may (free_so c.args.store.now.now.counted (area_in c.args.store.now.now).taken c.in-Ok.next (next.Page c.in-Page.p) c.in-Page.is (c.in-Ok.ensures.next told sound))
 
 pub returns-in-Grow-clause-steps : goal.returns-in-Grow-clause-steps
 returns-in-Grow-clause-steps g c = λ chain told sound may.
     let same = (c.in-Ok.ensures.leaves.logs told sound).now in
-    subst (λ (s : State). MayExtend c.args.x chain Wanted s → IsNextFree s.counted (area_in s).taken next.Grow → IfOk c.grow.result (Extends c.args.x chain Wanted s c.grow.new.store.now)) same
+    subst (λ (s : State). MayExtend c.args.x chain Wanted s → IsNextFree s.counted (area_in s).taken next.Grow → IfOk c.grow.result (ExtendsBy c.args.x chain Wanted s c.grow.new.store.now)) same
     (c.grow.ensures.steps c.args.x chain told sound) may (free_so c.args.store.now.now.counted (area_in c.args.store.now.now).taken c.in-Ok.next next.Grow c.in-Grow.is (c.in-Ok.ensures.next told sound))
 
 pub returns-in-Full-clause-steps : goal.returns-in-Full-clause-steps

@@ -8,7 +8,7 @@ use Rattle.ctr_walk.specs.Tables.{first_of_chain}
 use Rattle.ctr_extend.specs.declared.ways.OnWay.TheVariants.{Taken, Made}
 use Rattle.ctr_extend.specs.declared.ways.Extended.TheVariants.{On}
 use Rattle.ctr_extend.specs.Ways.{IsOnWay}
-use Rattle.ctr_extend.specs.Steps.{Makes, LeavesRoom}
+use Rattle.ctr_extend.specs.Steps.{MakesEmpty, LeavesRoom}
 use Rattle.ctr_extend.proofs.Steps.{made_first}
 use Rattle.ctr_extend.proofs.turn.make_first.Goals as goal
 
@@ -31,5 +31,5 @@ returns-in-Ok-clause-steps g c = λ told sound may.
     let n = c.number_of.result in
     let same = (c.in-Ok.ensures.leaves.logs told sound).now in
     let steps = subst (λ (s : State). IsDatabaseState s → IsOnWay x chain (Taken page) s → n ≡ first_of_chain (area_in s) chain
-    → IfOk c.make.result (λ e. (e ≡ On (Made page n)) × Makes x chain page n s c.make.new.store.now)) same (c.make.ensures.steps told sound) in
+    → IfOk c.make.result (λ e. (e ≡ On (Made page n)) × MakesEmpty x chain page n s c.make.new.store.now)) same (c.make.ensures.steps told sound) in
     made_first x chain page n c.args.store.now.now c.make.new.store.now c.make.result (steps may.sound may.on_way (c.number_of.ensures (first_of_chain (area_in c.args.store.now.now) chain) (c.in-Ok.ensures.ends told sound).1))

@@ -8,7 +8,7 @@ use Rattle.ctr_walk.specs.Tables.{first_of_chain}
 use Rattle.ctr_extend.specs.declared.ways.OnWay.TheVariants.{Taken, Made}
 use Rattle.ctr_extend.specs.declared.ways.Extended.TheVariants.{On}
 use Rattle.ctr_extend.specs.Ways.{IsOnWay}
-use Rattle.ctr_extend.specs.Steps.{MayExtend, Makes, PutsInFront, LeavesRoom}
+use Rattle.ctr_extend.specs.Steps.{MayExtend, MakesEmpty, PutsInFront, LeavesRoom}
 use Rattle.ctr_extend.proofs.Steps.{made_again, put_in_front, taken_still}
 use Rattle.ctr_extend.proofs.turn.put_in.Goals as goal
 
@@ -35,7 +35,7 @@ returns-then-first-next-clause-steps g c = λ told sound may.
     let n = c.number_of-first.result in
     let same = (c.in-Ok.ensures.leaves.logs told sound).now in
     let steps = subst (λ (s : State). IsDatabaseState s → IsOnWay x chain (Taken page) s → n ≡ first_of_chain (area_in s) chain
-    → IfOk c.make.result (λ e. (e ≡ On (Made page n)) × Makes x chain page n s c.make.new.store.now)) same (c.make.ensures.steps told sound) in
+    → IfOk c.make.result (λ e. (e ≡ On (Made page n)) × MakesEmpty x chain page n s c.make.new.store.now)) same (c.make.ensures.steps told sound) in
     made_again x chain page n c.args.store.now.now c.make.new.store.now c.args.next c.make.result (λ is. c.if-first-next.true (sym is))
     (steps may.sound (taken_still x chain page c.args.next c.args.store.now.now may.on_way) (c.number_of-first.ensures (first_of_chain (area_in c.args.store.now.now) chain) (c.in-Ok.ensures.ends told sound).1))
 

@@ -1,5 +1,5 @@
-use Rattle.ctr_tests_txn.specs.Stands.{Stands}
+use Rattle.ctr_tests_txn.specs.StandsReady.{StandsReady}
 use Rattle.ctr_tests_txn.proofs.commits.ask_all.Given as goal
 
 abbrev pub invariant-loop-i : goal.invariant-loop-i
-invariant-loop-i l = Stands l.txns l.store
+invariant-loop-i l = StandsReady l.txns l.store

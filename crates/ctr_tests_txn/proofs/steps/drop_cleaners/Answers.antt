@@ -1,5 +1,5 @@
 use Rattle.std.proofs.Common.{refl}
-use Rattle.ctr_tests_txn.specs.Stands.{Stands}
+use Rattle.ctr_tests_txn.specs.StandsReady.{StandsReady}
 use Rattle.ctr_tests_txn.proofs.steps.drop_cleaners.Goals as goal
 
 pub drop_table-requires-clause-room : goal.drop_table-requires-clause-room
@@ -16,7 +16,7 @@ drop_table-requires-clause-room c =
 pub returns : goal.returns
 returns c =
     let one = c.in_ok-drop_table.ensures.one in
-    let stands : Stands c.keep_cleaners.new.self c.drop_table.new.store = record {
+    let stands : StandsReady c.keep_cleaners.new.self c.drop_table.new.store = record {
       going = one.going;
       room = c.keep_cleaners.ensures.spends c.requires.cleaner refl c.args.store.now.meta c.drop_table.new.store.meta one.takes.left c.requires.stands.room;
     } in

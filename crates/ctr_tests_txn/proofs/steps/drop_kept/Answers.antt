@@ -1,5 +1,5 @@
 use Rattle.std.proofs.Common.{refl}
-use Rattle.ctr_tests_txn.specs.Stands.{Stands}
+use Rattle.ctr_tests_txn.specs.StandsReady.{StandsReady}
 use Rattle.ctr_tests_txn.proofs.steps.drop_kept.Goals as goal
 
 pub drop_table-requires-clause-room : goal.drop_table-requires-clause-room
@@ -18,7 +18,7 @@ pub returns : goal.returns
 returns c =
     let i = c.requires.item in
     let one = c.in_ok-drop_table.ensures.one in
-    let stands : Stands c.keep_item.new.self c.drop_table.new.store = record {
+    let stands : StandsReady c.keep_item.new.self c.drop_table.new.store = record {
       going = one.going;
       room = c.keep_item.ensures.spends i.0 i.1 i.2 refl c.args.store.now.meta c.drop_table.new.store.meta one.takes.left c.requires.stands.room;
     } in

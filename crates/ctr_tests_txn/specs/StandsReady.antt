@@ -5,6 +5,6 @@ use Rattle.ctr_txn.specs.Held.{TxnsHeld}
 use Rattle.ctr_txn.specs.Rooms.{HasItemRoom}
 
 -- The store goes on, and the room that is kept for all sessions and the cleaner is there.
-pub record Stands {D : Type 0} (a : TxnsHeld) (v : View D) : Type 0 where
+pub record StandsReady {D : Type 0} (a : TxnsHeld) (v : View D) : Type 0 where
   pub going : v.stopped ≡ false
   pub room : HasItemRoom a v.meta
