@@ -1,7 +1,7 @@
 -- One turn for a page that a transaction wants for a chain.
 use Rattle.std.specs.Prelude.{◌≡◌, ◌≢◌, ℕ, ◌+◌, ◌<◌, ◌≤◌, true, length}
 use Rattle.ctr_base.specs.declared.growing.TheConstants.{MOST_PAGES}
-use Rattle.ctr_meta.specs.Kept.{TablesKept, RoomLeft}
+use Rattle.ctr_meta.specs.Kept.{TablesKept}
 use Rattle.ctr_meta.specs.Tables.{is_in}
 use Rattle.ctr_page.specs.declared.checks.Chain.{Chain}
 use Rattle.ctr_page.specs.Damage.{chain_entry}
@@ -12,6 +12,7 @@ use Rattle.ctr_alloc.specs.Free.{AreTakenBelow}
 use Rattle.ctr_walk.specs.Tables.{first_of_chain}
 use Rattle.ctr_actions.specs.Actions.{Allocates, Formats}
 use Rattle.ctr_page_turns.specs.Acts.{ActsBy}
+use Rattle.ctr_page_turns.specs.Rooms.{AddsItems}
 use Rattle.ctr_extend.specs.declared.ways.OnWay.{OnWay}
 use Rattle.ctr_extend.specs.declared.ways.OnWay.TheVariants.{Wanted, Taken, Made}
 use Rattle.ctr_extend.specs.declared.ways.Extended.{Extended}
@@ -79,11 +80,12 @@ IsCountedStep Linked counted = Unit {0}
 IsCountedStep Grown counted = Unit {0}
 IsCountedStep Full counted = Unit {0}
 
--- The room of the tables: an item is added with a page that is taken, and goes as it is linked.
+-- The room of the tables: an item is added with a page that is taken, and goes as it is linked. No
+-- number is drawn.
 abbrev pub LeavesRoom : Extended → TablesKept → TablesKept → Type 0
 LeavesRoom (On Wanted) k l = ⊥
-LeavesRoom (On (Taken p)) k l = RoomLeft 0 1 k l
-LeavesRoom (On (Made p next)) k l = RoomLeft 0 0 k l
-LeavesRoom Linked k l = RoomLeft 0 0 k l × (length l.tables.items + 1 ≡ length k.tables.items)
+LeavesRoom (On (Taken p)) k l = AddsItems 1 k l
+LeavesRoom (On (Made p next)) k l = AddsItems 0 k l
+LeavesRoom Linked k l = AddsItems 0 k l × (length l.tables.items + 1 ≡ length k.tables.items)
 LeavesRoom Grown k l = l ≡ k
 LeavesRoom Full k l = l ≡ k

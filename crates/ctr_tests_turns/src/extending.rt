@@ -3,7 +3,7 @@ ghost use Rattle.std.specs.Prelude.{◌≡◌, ◌≤◌, ◌<◌, false, IsTrue
 ghost use Rattle.ctr_txn.specs.Calls.{IsOverStore};
 ghost use Rattle.ctr_extend.specs.Ways.{IsCountedWay, items_wanted};
 
-use crate::sessions::{begin, draw, make_table};
+use crate::sessions::{begin, draw, made_table};
 use crate::stores::{new_disk, opened, ready};
 use ctr_base::Origin;
 use ctr_disk::{Disk, StoreFault};
@@ -167,7 +167,7 @@ fn extends<D: Disk, O: Origin>(
     let Some(y) = draw(store, txns, 2)? else {
         return Ok(false);
     };
-    Ok(make_table(alloc, store, x)? && meet(store, x, y)? && grows(store, x)?)
+    Ok(made_table(alloc, store, x)? && meet(store, x, y)? && grows(store, x)?)
 }
 
 // The same of a disk.

@@ -2,7 +2,7 @@
 ghost use Rattle.std.specs.Prelude.{◌≡◌, false, OnOk};
 ghost use Rattle.ctr_txn.specs.Calls.{IsOverStore};
 
-use crate::sessions::{begin, draw, make_table};
+use crate::sessions::{begin, draw, made_table};
 use crate::stores::{new_disk, opened, ready};
 use ctr_base::Origin;
 use ctr_disk::{Disk, StoreFault};
@@ -41,7 +41,7 @@ fn write<D: Disk, O: Origin>(
     ensures going { OnOk result (store.new.stopped ≡ false) }
     ensures next { OnOk result (store.new.meta.tables.next ≡ store.old.meta.tables.next) }
 {
-    Ok(take(store, x, 3)? && make_table(alloc, store, x)? && take(store, x, 4)?)
+    Ok(take(store, x, 3)? && made_table(alloc, store, x)? && take(store, x, 4)?)
 }
 
 // What the turns of its rollback did, at most so many: how many undid an item before one marked the end.

@@ -6,7 +6,7 @@ ghost use Rattle.ctr_txn.specs.Calls.{IsOverStore};
 
 use crate::stores::ready;
 use ctr_base::Origin;
-use ctr_catalog::create;
+use ctr_ddl::{Made, make_table};
 use ctr_disk::{Disk, StoreFault};
 use ctr_store::Store;
 use ctr_txn::Txns;
@@ -77,14 +77,11 @@ fn make<D: Disk, O: Origin>(
     if !ready(store, 0, 1)? {
         return Ok(false);
     }
-    match create(store, x, name, schema) {
-        Ok(_) => Ok(true),
-        Err(_) => Err(StoreFault::Fault),
-    }
+    Ok(make_table(store, x, name, schema)? != Made::CatalogFull)
 }
 
 /// A transaction makes the table t, of a key alone; whether memory was there for that.
-pub fn make_table<D: Disk, O: Origin>(
+pub fn made_table<D: Disk, O: Origin>(
     alloc: Global,
     store: &mut Store<D, O>,
     x: Xid,

@@ -26,7 +26,7 @@ pub returns-in-Ok-clause-is : goal.returns-in-Ok-clause-is
 returns-in-Ok-clause-is g c =
     let takes = c.in-Ok.ensures.one.takes in
     let fits = c.in-Ok.ensures.one.fits in
-    (refl, (takes.left, ap (λ (t : Tables). length t.items + 1) takes.tables ∙ c.an_item_goes.ensures (Allocation c.args.x c.args.page) c.args.store.now.meta.tables fits))
+    (refl, ((takes.left, ap (λ (t : Tables). t.next) takes.tables), ap (λ (t : Tables). length t.items + 1) takes.tables ∙ c.an_item_goes.ensures (Allocation c.args.x c.args.page) c.args.store.now.meta.tables fits))
 
 pub returns-in-Ok-clause-steps : goal.returns-in-Ok-clause-steps
 returns-in-Ok-clause-steps g c = λ next told sound may first.

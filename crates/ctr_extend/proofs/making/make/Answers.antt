@@ -1,5 +1,6 @@
-use Rattle.std.proofs.Common.{◌≡◌, ℕ, ◌<◌, inl, [], ◌∷◌, Err, refl, sym, subst}
+use Rattle.std.proofs.Common.{◌≡◌, ℕ, ◌<◌, inl, [], ◌∷◌, Err, refl, sym, ap, subst}
 use Rattle.ctr_page.specs.declared.header.Header.{Header}
+use Rattle.ctr_meta.specs.Tables.{Tables}
 use Rattle.ctr_redo.specs.States.{State}
 use Rattle.ctr_record_effects.specs.Changing.{format_record}
 use Rattle.ctr_store.specs.Store.{Logs}
@@ -26,7 +27,9 @@ pub returns-in-Ok-clause-inside : goal.returns-in-Ok-clause-inside
 returns-in-Ok-clause-inside g c = (c.requires.counted.0, subst (λ (n : ℕ). c.args.page < n) (sym c.in-Ok.ensures.one.takes.counted) c.requires.counted.1)
 
 pub returns-in-Ok-clause-left : goal.returns-in-Ok-clause-left
-returns-in-Ok-clause-left g c = c.in-Ok.ensures.one.takes.left
+returns-in-Ok-clause-left g c =
+    let takes = c.in-Ok.ensures.one.takes in
+    (takes.left, ap (λ (t : Tables). t.next) takes.tables)
 
 pub returns-in-Ok-clause-steps : goal.returns-in-Ok-clause-steps
 returns-in-Ok-clause-steps g c = λ told sound state way first.

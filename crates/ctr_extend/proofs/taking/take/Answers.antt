@@ -1,4 +1,5 @@
-use Rattle.std.proofs.Common.{ℕ, ◌<◌, [], ◌∷◌, Err, refl, sym, subst}
+use Rattle.std.proofs.Common.{ℕ, ◌<◌, [], ◌∷◌, Err, refl, sym, ap, subst}
+use Rattle.ctr_meta.specs.Tables.{Tables}
 use Rattle.ctr_record_effects.specs.Changing.{alloc_record}
 use Rattle.ctr_actions.specs.Sites.{site_of}
 use Rattle.ctr_actions.specs.Actions.{Allocates, site_after}
@@ -23,7 +24,9 @@ pub returns-in-Ok-clause-inside : goal.returns-in-Ok-clause-inside
 returns-in-Ok-clause-inside g c = (c.requires.counted.0, subst (λ (n : ℕ). c.args.p < n) (sym c.in-Ok.ensures.one.1.takes.counted) c.requires.counted.1)
 
 pub returns-in-Ok-clause-left : goal.returns-in-Ok-clause-left
-returns-in-Ok-clause-left g c = c.in-Ok.ensures.one.1.takes.left
+returns-in-Ok-clause-left g c =
+    let takes = c.in-Ok.ensures.one.1.takes in
+    (takes.left, ap (λ (t : Tables). t.next) takes.tables)
 
 pub returns-in-Ok-clause-steps : goal.returns-in-Ok-clause-steps
 returns-in-Ok-clause-steps g c = λ chain told sound may next.

@@ -1,0 +1,25 @@
+use Rattle.std.proofs.Common.{ap}
+use Rattle.ctr_meta.specs.Tables.{Tables}
+use Rattle.ctr_record_effects.specs.Changing.{drop_record}
+use Rattle.ctr_actions.specs.Actions.{Drops}
+use Rattle.ctr_ddl.proofs.dropping.drop_live.Goals as goal
+
+pub returns-in-Ok-clause-one : goal.returns-in-Ok-clause-one
+returns-in-Ok-clause-one g c = (drop_record c.args.x c.args.entry, c.in-Ok.ensures.one)
+
+pub returns-in-Err-clause-one : goal.returns-in-Err-clause-one
+returns-in-Err-clause-one g c = (drop_record c.args.x c.args.entry, c.in-Err.ensures.one)
+
+pub returns-in-Ok-clause-left : goal.returns-in-Ok-clause-left
+returns-in-Ok-clause-left g c =
+    let takes = c.in-Ok.ensures.one.takes in
+    (takes.left, ap (λ (t : Tables). t.next) takes.tables)
+
+pub returns-in-Ok-clause-drops : goal.returns-in-Ok-clause-drops
+returns-in-Ok-clause-drops g c = λ told sound may.
+    let x = c.args.x in
+    let e = c.args.entry in
+    let v = c.args.store.now in
+    let done = c.in-Ok.ensures in
+    c.a_record_acts.ensures x (Drops e) (drop_record x e) v c.drop_table.new.store (done.one.logs told sound) may.owed (done.leaves told sound)
+    (c.owed_records_are_laid_as_their_actions.ensures.drops v.now x e may.sound may.owed (done.whole told sound))

@@ -1,0 +1,41 @@
+// A table is dropped.
+ghost use Rattle.std.specs.Prelude.{◌<◌, OnOk};
+ghost use Rattle.ctr_base.specs.Base.{WhereSound};
+ghost use Rattle.ctr_walk.specs.OneRecord.{HasRoomForOne};
+ghost use Rattle.ctr_actions.specs.Actions.{Drops};
+ghost use Rattle.ctr_page_turns.specs.Turns.{LogsSome};
+ghost use Rattle.ctr_page_turns.specs.Acts.{ActsBy};
+ghost use Rattle.ctr_page_turns.specs.Rooms.{AddsItems};
+ghost use Rattle.ctr_ddl.specs.Tables.{MayDrop};
+
+use ctr_base::Origin;
+use ctr_catalog::drop_table;
+use ctr_disk::{Disk, StoreFault};
+use ctr_page_turns::a_record_acts;
+use ctr_passed::owed_records_are_laid_as_their_actions;
+use ctr_store::Store;
+use ctr_types::Xid;
+
+/// The Write of a DROP TABLE: the transaction is the dropper of a live table, by one record, which isn't hardened yet. The entry is the one
+/// that its search of the catalog has found.
+pub fn drop_live<D: Disk, O: Origin>(
+    store: &mut Store<D, O>,
+    x: Xid,
+    entry: u8,
+) -> Result<(), StoreFault>
+    requires room { HasRoomForOne 0 1 store.old }
+    requires there { entry < 32 }
+    // One record is logged, or why not.
+    ensures one { LogsSome O.first D.Disk store.old store.new result }
+    // The room of an item goes with it, and no number is drawn.
+    ensures left { OnOk result (AddsItems 1 store.old.meta store.new.meta) }
+    // What its record owes is met, and its bytes pass their checks.
+    ensures drops { WhereSound O.first D.Disk (MayDrop x entry store.old.now → OnOk result (ActsBy x (Drops entry) store.old.now store.new.now)) }
+{
+    a_record_acts::<D>();
+    owed_records_are_laid_as_their_actions();
+    match drop_table(store, x, entry) {
+        Ok(()) => Ok(()),
+        Err(fault) => Err(fault),
+    }
+}
