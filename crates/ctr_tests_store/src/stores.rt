@@ -57,21 +57,21 @@ fn log_of(alloc: Global, first: u64, records: &[&[u8]]) -> Result<Vec<u8>, Alloc
 
 // What an opening answers: the next transaction, or why there is none.
 #[derive(Clone, Copy, Debug, PartialEq, Eq)]
-enum Opened {
+enum Outcome {
     Next(u64),
     Refused(OpenError),
 }
 
-fn opened_on<D: Disk + Drop, O: Origin>(alloc: Global, disk: D) -> Opened
+fn opened_on<D: Disk + Drop, O: Origin>(alloc: Global, disk: D) -> Outcome
     requires { O.first ≡ D.reads disk }
 {
     match Store::<D, O>::open(alloc, disk, 8) {
-        Ok(store) => Opened::Next(store.meta().next()),
-        Err((error, _disk)) => Opened::Refused(error),
+        Ok(store) => Outcome::Next(store.meta().next()),
+        Err((error, _disk)) => Outcome::Refused(error),
     }
 }
 
-type Answer = Result<Opened, AllocError>;
+type Answer = Result<Outcome, AllocError>;
 
 // What an opening answers on an image.
 fn opened_image(alloc: Global, image: Image) -> Answer {
@@ -99,7 +99,7 @@ fn opened(alloc: Global, root: &[u8], log: &[u8], size: u64, page: &[u8]) -> Ans
 }
 
 fn damaged(file: File, at: u64, want: u128, got: u128) -> Answer {
-    Ok(Opened::Refused(OpenError::Damaged(Damage {
+    Ok(Outcome::Refused(OpenError::Damaged(Damage {
         file,
         at,
         want,
@@ -113,8 +113,8 @@ fn roots(rt: HostRuntime) -> Result<(), Fail> {
     let log = log_of(alloc, 1, &[&NOTHING])?;
     let log = log.as_slice();
     assert!(rt; log.len() == 64);
-    assert!(rt; opened(alloc, &ROOT, log, SIZE, &[]) == Ok(Opened::Next(1)));
-    assert!(rt; opened(alloc, &[], log, SIZE, &[]) == Ok(Opened::Refused(OpenError::NoDatabase)));
+    assert!(rt; opened(alloc, &ROOT, log, SIZE, &[]) == Ok(Outcome::Next(1)));
+    assert!(rt; opened(alloc, &[], log, SIZE, &[]) == Ok(Outcome::Refused(OpenError::NoDatabase)));
     assert!(rt;
         opened(alloc, &altered(ROOT, 21, 0), log, SIZE, &[]) == damaged(File::Root, 21, 1, 0)
     );
@@ -204,8 +204,8 @@ fn left_well(
 ) -> Result<bool, AllocError> {
     for digits in 0..27 {
         let answer = opened_image(alloc, disk.disk.image_after(count, digits)?)?;
-        let none = Opened::Refused(OpenError::NoDatabase);
-        if answer != Opened::Next(1) && (whole || answer != none) {
+        let none = Outcome::Refused(OpenError::NoDatabase);
+        if answer != Outcome::Next(1) && (whole || answer != none) {
             return Ok(false);
         }
     }

@@ -56,10 +56,10 @@ fn go<D: Disk, O: Origin>(
     requires going { store.old.stopped ≡ false }
     ensures going { OnOk result (store.new.stopped ≡ false) }
 {
-    if bucket >= 8 || !is_counted_way(way, store.counted()) {
+    if bucket >= 8 || !ready(store, 0, items_of(way))? {
         return Ok(None);
     }
-    if !ready(store, 0, items_of(way))? {
+    if !is_counted_way(way, store.counted()) {
         return Ok(None);
     }
     Ok(Some(extend(store, x, Chain::Rows { entry: 0, bucket }, way)?))
@@ -92,23 +92,23 @@ fn does<D: Disk, O: Origin>(
     does(store, x, way_behind(*first), rest)
 }
 
-// Whether turns for pages that aren't linked take all from one page on up to the end.
-fn takes_all<D: Disk, O: Origin>(
+// Whether turns for pages that aren't linked take so many pages, from this one on.
+fn takes<D: Disk, O: Origin>(
     store: &mut Store<D, O>,
     x: Xid,
     p: PageNo,
-    end: PageNo,
+    count: u32,
 ) -> Result<bool, StoreFault>
     requires going { store.old.stopped ≡ false }
     ensures going { OnOk result (store.new.stopped ≡ false) }
 {
-    if p >= end {
+    if count == 0 {
         return Ok(true);
     }
     if !does(store, x, OnWay::Wanted, &[Extended::On(OnWay::Taken(p))])? {
         return Ok(false);
     }
-    takes_all(store, x, p + 1, end)
+    takes(store, x, p.saturating_add(1), count - 1)
 }
 
 // Two sessions want pages of one bucket, and one of them links first.
@@ -146,7 +146,7 @@ fn grows<D: Disk, O: Origin>(store: &mut Store<D, O>, x: Xid) -> Result<bool, St
     ensures going { OnOk result (store.new.stopped ≡ false) }
 {
     let grown = [Extended::Grown, Extended::On(OnWay::Taken(64))];
-    Ok(takes_all(store, x, 6, 64)? && does(store, x, OnWay::Wanted, &grown)?)
+    Ok(takes(store, x, 6, 58)? && does(store, x, OnWay::Wanted, &grown)?)
 }
 
 // Whether turns do all that, in a table of bucket 5 that is made first.
