@@ -1,5 +1,5 @@
 -- What each call makes of the transactions of sessions.
-use Rattle.std.specs.Prelude.{◌≡◌, ℕ, ◌+◌, ◌-◌, ◌≤◌, false, true, length, ◌∷◌, [], ◌++◌, Bool, Option, Some, None, slice_set}
+use Rattle.std.specs.Prelude.{◌≡◌, ℕ, ◌+◌, ◌-◌, ◌≤◌, false, true, List, length, ◌∷◌, [], ◌++◌, Bool, Option, Some, None, slice_set}
 use Rattle.ctr_snap.specs.Seeing.{least}
 use Rattle.ctr_versions.specs.Laws.{sessions_named}
 use Rattle.ctr_versions.specs.Xids.{taken, unanswered}
@@ -75,6 +75,12 @@ pub record AnswersNext (s : ℕ) (asked : Asked) (old new : TxnsHeld) : Type 0 w
     sessions = slice_set old.sessions (s - 1) None;
     answered = old.answered + 1;
   }
+
+-- These commits are answered, one behind another, each as the next one.
+abbrev pub AnswersInTurn : List (ℕ × Asked) → TxnsHeld → TxnsHeld → Type 0
+AnswersInTurn [] old new = new ≡ old
+AnswersInTurn (r ∷ rs) old new =
+    (m : TxnsHeld) × AnswersNext r.0 r.1 old m × AnswersInTurn rs m new
 
 -- The low mark: the least of the next number, of those that are open or asked and aren't answered,
 -- and of those that a live snapshot names.

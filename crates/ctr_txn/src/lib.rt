@@ -2,6 +2,7 @@
 //! for what they still do.
 #![tactic(auto)]
 
+mod answering;
 mod laws;
 mod logging;
 mod numbers;
@@ -10,6 +11,7 @@ mod turns;
 mod txn;
 mod txns;
 
+pub use answering::Answering;
 pub use laws::{room_that_is_kept_is_there, the_room_of_all_stays, the_run_is_of_the_sessions};
 pub use numbers::Numbers;
 pub use txn::{Asked, Txn};

@@ -140,6 +140,13 @@ impl Txns {
         self.answered
     }
 
+    /// How many commits were asked for in this run.
+    pub fn asked(&self) -> u64
+        ensures { result ≡ length self.now.numbers.commits }
+    {
+        self.numbers.commits().len() as u64
+    }
+
     // Those that are open, or asked and aren't answered.
     fn unanswered(&self, alloc: Global, meta: &Meta) -> Result<Vec<Xid>, OutOfMemory>
         ensures { IfOk result (λ xs. xs.items ≡ unanswered (xids_of meta.now.tables self.now.numbers.commits) self.now.answered) }
