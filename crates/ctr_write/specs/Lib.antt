@@ -1,1 +1,4 @@
 pub mod Copies
+pub mod Stages
+pub mod Extending
+pub mod Keeping

@@ -7,3 +7,9 @@
 #![tactic(auto)]
 
 mod copying;
+mod extending;
+mod keeping;
+mod misfit;
+mod stages;
+
+pub use stages::{Stage, Written};

@@ -1,0 +1,12 @@
+use Rattle.std.proofs.Common.{◌≡◌, Result, Ok, Err, sym, subst}
+use Rattle.std.specs.Prelude.{OnOk}
+use Rattle.ctr_disk.specs.declared.fault.StoreFault.{StoreFault}
+use Rattle.ctr_walk.proofs.Joins.{answers_ok}
+use Rattle.ctr_write.proofs.Steps.{none_ok}
+use Rattle.ctr_write.proofs.misfit.misfit.Goals as goal
+
+pub returns-clause-fails : goal.returns-clause-fails
+returns-clause-fails g c = none_ok c.tell.result c.tell.ensures.told.0 c.tell.ensures.told.1
+
+pub returns-clause-leaves : goal.returns-clause-leaves
+returns-clause-leaves g c = λ a one. c.tell.ensures.leaves a (answers_ok g.O.Origin.first g.D.Disk tt (Err _) a c.args.store.now one)

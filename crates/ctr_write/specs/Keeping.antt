@@ -1,0 +1,44 @@
+-- One turn that keeps a version off its row.
+use Rattle.std.specs.Prelude.{◌≡◌, ◌⊎◌, ℕ, true, Some}
+use Rattle.ctr_meta.specs.Tables.{is_in}
+use Rattle.ctr_page.specs.declared.rows.Place.{Place}
+use Rattle.ctr_page.specs.declared.rows.VersionEntry.{VersionEntry}
+use Rattle.ctr_area.specs.Areas.{RowVersion, Slot, Older, Area}
+use Rattle.ctr_area.specs.Reading.{older_said}
+use Rattle.ctr_area.specs.Sound.{IsUsedSlot}
+use Rattle.ctr_record_laws.specs.Owed.{older_copy}
+use Rattle.ctr_redo.specs.States.{State}
+use Rattle.ctr_record_effects.specs.States.{area_in}
+use Rattle.ctr_record_effects.specs.Standing.{IsDatabaseState}
+use Rattle.ctr_actions.specs.Sites.{site_of}
+use Rattle.ctr_actions.specs.Actions.{Keeps}
+use Rattle.ctr_actions.specs.Facts.{HasSlot, HasCopy, HoldsFact}
+use Rattle.ctr_passed.specs.Logged.{IsOlderOf}
+use Rattle.ctr_pvs.specs.Along.{FindsFreeEntry}
+use Rattle.ctr_page_turns.specs.Acts.{ActsBy}
+
+-- a version is one that a slot has
+abbrev pub IsOfSlot : Slot → RowVersion → Type 0
+IsOfSlot slot v = (slot.head ≡ v) ⊎ (slot.previous ≡ Some v)
+
+-- The version entry is the copy of this version of the used slot at a place, by the columns of the
+-- table, and is well made.
+pub record IsCopyFor (e : ℕ) (at : Place) (v : RowVersion) (entry : VersionEntry) (s : State)
+    : Type 0 where
+  pub used : IsUsedSlot (area_in s) e at
+  pub of_slot : IsOfSlot ((area_in s).slot at) v
+  pub made : IsOlderOf s.counted ((area_in s).title e).columns entry
+  pub is : older_said ((area_in s).title e).columns entry ≡ older_copy ((area_in s).slot at) v
+
+-- The pages may be a database's, the transaction is open, and the place is a free one of the table's
+-- versions.
+pub record MayKeepAt (x e : ℕ) (q : Place) (s : State) : Type 0 where
+  pub sound : IsDatabaseState s
+  pub is_open : is_in x s.tables.opens ≡ true
+  pub free : FindsFreeEntry (area_in s) e (Some q)
+
+-- A version of the slot at a place is kept at another one. The slot is what it was.
+pub record KeepsOff (x e : ℕ) (at : Place) (v : RowVersion) (q : Place) (s t : State) : Type 0 where
+  pub acts : ActsBy x (Keeps e q (older_copy ((area_in s).slot at) v)) s t
+  pub has : HoldsFact x (HasSlot e at ((area_in s).slot at)) (site_of t)
+  pub copy : HoldsFact x (HasCopy e at v q) (site_of t)
