@@ -2,3 +2,4 @@ pub mod Copies
 pub mod Stages
 pub mod Extending
 pub mod Keeping
+pub mod Laying

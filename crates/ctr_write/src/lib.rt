@@ -9,6 +9,7 @@
 mod copying;
 mod extending;
 mod keeping;
+mod laying;
 mod misfit;
 mod stages;
 

@@ -1,0 +1,93 @@
+// The row of a key is written.
+ghost use Rattle.std.specs.Prelude.{◌≡◌, ◌≤◌, ◌<◌, ℕ, ℤ, length, IfOk, Ok, ⊤};
+ghost use Rattle.ctr_base.specs.Base.{WhereSound};
+ghost use Rattle.ctr_page.specs.Making.{IsVersion};
+ghost use Rattle.ctr_record_effects.specs.States.{area_in};
+ghost use Rattle.ctr_record_laws.specs.Owed.{IsRoomFor, FirstVersion};
+ghost use Rattle.ctr_store.specs.Store.{View, LeavesPage};
+ghost use Rattle.ctr_walk.specs.OneRecord.{HasRoomForOne};
+ghost use Rattle.ctr_pvs.specs.Slots.{SlotLiesAt};
+ghost use Rattle.ctr_page_turns.specs.Turns.{Turns};
+ghost use Rattle.ctr_write.specs.declared.stages.Written.TheVariants.{Done};
+ghost use Rattle.ctr_write.specs.Stages.{LeavesItem};
+ghost use Rattle.ctr_write.specs.Laying.{MayLay, LaysHead};
+
+use crate::misfit::misfit;
+use crate::stages::Written;
+use ctr_base::Origin;
+use ctr_disk::{Disk, StoreFault};
+use ctr_heap::{first, put_slot, slot_lies};
+use ctr_page::{Place, Version};
+use ctr_page_turns::{a_record_acts, a_turn_goes_on};
+use ctr_passed::owed_slots_are_laid_as_their_actions;
+use ctr_records::Bytes;
+use ctr_store::Store;
+use ctr_types::Xid;
+use ctr_undamaged::{
+    a_free_slot_is_the_tables, a_place_of_a_table_fits, a_slot_is_put_at_its_place,
+};
+
+/// The same version once more, as a slot takes its head with it.
+pub(crate) fn again<'a>(head: &Version<'a>) -> Version<'a>
+    ensures { result ≡ head.now }
+{
+    Version {
+        xid: head.xid,
+        tombstone: head.tombstone,
+        payload: Bytes::new(head.payload.as_slice()),
+    }
+}
+
+// The first version of a row is laid at a place where a slot of it lies.
+fn lay_new<D: Disk, O: Origin>(
+    store: &mut Store<D, O>,
+    x: Xid,
+    place: Place,
+    key: i64,
+    head: &Version,
+) -> Result<Written, StoreFault>
+    requires room { HasRoomForOne 0 0 store.old }
+    requires counted { place.page < store.old.now.counted }
+    requires fits { IsVersion (length head.now.payload) head.now }
+    requires lies { SlotLiesAt place (length head.now.payload) }
+    ensures turns { Turns O.first D.Disk store.old store.new result }
+    ensures is { IfOk result (λ w. (w ≡ Done) × LeavesItem w store.old.meta store.new.meta) }
+    ensures steps { (e : ℕ) → WhereSound O.first D.Disk (MayLay (record { x = x; entry = e; key = key; head = head.now }) store.old.now → IsRoomFor (area_in store.old.now) e key place
+        → IfOk result (λ w. LaysHead (record { x = x; entry = e; key = key; head = head.now }) place FirstVersion store.old.now store.new.now)) }
+{
+    a_turn_goes_on::<D, (), Written>();
+    a_record_acts::<D>();
+    owed_slots_are_laid_as_their_actions();
+    a_slot_is_put_at_its_place();
+    a_place_of_a_table_fits();
+    a_free_slot_is_the_tables();
+    let slot = first(key, again(head));
+    match put_slot(store, x, 0, place, &slot) {
+        Ok(()) => Ok(Written::Done),
+        Err(fault) => Err(fault),
+    }
+}
+
+/// The first version of a row is laid in a free slot of its key's bucket. It goes on behind pages that were read.
+pub(crate) fn lay_first<D: Disk, O: Origin>(
+    store: &mut Store<D, O>,
+    x: Xid,
+    place: Place,
+    key: i64,
+    head: &Version,
+) -> Result<Written, StoreFault>
+    requires room { HasRoomForOne 0 0 store.old }
+    requires counted { place.page < store.old.now.counted }
+    requires fits { IsVersion (length head.now.payload) head.now }
+    ensures turns { (a : View D) → LeavesPage {T = ⊤} O.first D.Disk a store.old (Ok tt) → Turns O.first D.Disk a store.new result }
+    ensures is { IfOk result (λ w. (w ≡ Done) × LeavesItem w store.old.meta store.new.meta) }
+    ensures steps { (e : ℕ) → WhereSound O.first D.Disk (MayLay (record { x = x; entry = e; key = key; head = head.now }) store.old.now → IsRoomFor (area_in store.old.now) e key place
+        → IfOk result (λ w. LaysHead (record { x = x; entry = e; key = key; head = head.now }) place FirstVersion store.old.now store.new.now)) }
+{
+    a_turn_goes_on::<D, (), Written>();
+    let width = head.payload.as_slice().len();
+    if !slot_lies(place, width) {
+        return misfit(store, place.page, width as u64, place.slot as u64);
+    }
+    lay_new(store, x, place, key, head)
+}
