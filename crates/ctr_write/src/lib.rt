@@ -11,6 +11,7 @@ mod extending;
 mod keeping;
 mod laying;
 mod misfit;
+mod over;
 mod stages;
 
 pub use stages::{Stage, Written};
