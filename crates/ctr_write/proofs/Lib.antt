@@ -1,3 +1,5 @@
 pub mod Steps
 pub mod Reading
 pub mod Extended
+pub mod Ending
+pub mod Used

@@ -3,3 +3,4 @@ pub mod Stages
 pub mod Extending
 pub mod Keeping
 pub mod Laying
+pub mod Steps

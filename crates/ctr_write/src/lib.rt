@@ -12,6 +12,8 @@ mod keeping;
 mod laying;
 mod misfit;
 mod over;
+mod placing;
+mod rewriting;
 mod stages;
 
 pub use stages::{Stage, Written};

@@ -1,0 +1,61 @@
+use Rattle.std.proofs.Common.{◌≡◌, ℕ, None, Some, Err, refl, subst}
+use Rattle.std.specs.Prelude.{IfOk}
+use Rattle.ctr_meta.specs.Kept.{TablesKept}
+use Rattle.ctr_page.specs.declared.checks.Chain.TheVariants.{Versions}
+use Rattle.ctr_redo.specs.States.{State}
+use Rattle.ctr_walk.proofs.Joins.{answers_ok}
+use Rattle.ctr_extend.specs.declared.ways.OnWay.TheVariants.{Wanted}
+use Rattle.ctr_extend.specs.Steps.{MayExtend}
+use Rattle.ctr_write.specs.declared.stages.Stage.TheVariants.{Kept}
+use Rattle.ctr_write.specs.declared.stages.Written.TheVariants.{On}
+use Rattle.ctr_write.specs.Stages.{IsCountedWrite, LeavesItem}
+use Rattle.ctr_write.specs.Extending.{ExtendsFor}
+use Rattle.ctr_write.specs.Keeping.{IsCopyFor, MayKeepAt, KeepsOff}
+use Rattle.ctr_write.proofs.Ending.{so_far, left_so, wants_versions, keeps_first, free_at}
+use Rattle.ctr_write.proofs.rewriting.keep_first.Goals as goal
+
+pub returns-in-Err-clause-turns : goal.returns-in-Err-clause-turns
+returns-in-Err-clause-turns g c = c.a_turn_goes_on.ensures.unread g.O.Origin.first c.args.store.now c.find_free_entry.new.store c.in-Err.fault (Err c.in-Err.fault) (Err c.in-Err.fault) c.in-Err.ensures.leaves refl refl
+
+pub returns-in-None-clause-turns : goal.returns-in-None-clause-turns
+returns-in-None-clause-turns g c = c.a_turn_goes_on.ensures.behind g.O.Origin.first c.args.store.now c.find_free_entry.new.store c.more.new.store c.in-Ok.free c.more.result c.in-Ok.ensures.leaves c.more.ensures.turns
+
+pub returns-in-Some-clause-turns : goal.returns-in-Some-clause-turns
+returns-in-Some-clause-turns g c = c.keep_off.ensures.turns c.args.store.now (answers_ok g.O.Origin.first g.D.Disk c.in-Ok.free tt c.args.store.now c.find_free_entry.new.store c.in-Ok.ensures.leaves)
+
+pub returns-in-Some-clause-inside : goal.returns-in-Some-clause-inside
+returns-in-Some-clause-inside g c = so_far (On (Kept c.in-Some.place)) (λ w. LeavesItem w c.find_free_entry.new.store.meta c.keep_off.new.store.meta) (λ w. IsCountedWrite w c.keep_off.new.store.now.counted) c.keep_off.result tt c.keep_off.ensures.is
+
+pub returns-in-None-clause-left : goal.returns-in-None-clause-left
+returns-in-None-clause-left g c = subst (λ (k : TablesKept). IfOk c.more.result (λ w. LeavesItem w k c.more.new.store.meta)) c.in-Ok.ensures.leaves.keeps.meta c.more.ensures.left
+
+pub returns-in-Some-clause-left : goal.returns-in-Some-clause-left
+returns-in-Some-clause-left g c = left_so (On (Kept c.in-Some.place)) c.args.store.now.meta c.find_free_entry.new.store.meta c.keep_off.new.store.meta c.keep_off.result c.in-Ok.ensures.leaves.keeps.meta c.keep_off.ensures.is
+
+pub returns-in-None-clause-steps : goal.returns-in-None-clause-steps
+returns-in-None-clause-steps g c = λ at v told sound may.
+    let x = c.args.x in
+    let e = c.args.entry in
+    let s = c.args.store.now.now in
+    let t = c.more.new.store.now in
+    let chain = Versions e in
+    let same = (c.in-Ok.ensures.leaves.logs told sound).now in
+    let found = c.in-Ok.ensures.finds told sound may.sound.sound.readable in
+    let steps = subst (λ (u : State). MayExtend x chain Wanted u → IfOk c.more.result (ExtendsFor x chain Wanted u t)) same (c.more.ensures.steps told sound) in
+    wants_versions x e at v s t c.in-Ok.free c.more.result c.in-None.is found
+    (steps (record { sound = may.sound; is_open = may.is_open; there = may.there; on_way = record { holds = (may.no_page, tt); blank = tt } }))
+
+pub returns-in-Some-clause-steps : goal.returns-in-Some-clause-steps
+returns-in-Some-clause-steps g c = λ at v told sound may.
+    let x = c.args.x in
+    let e = c.args.entry in
+    let q = c.in-Some.place in
+    let entry = c.args.version.now in
+    let s = c.args.store.now.now in
+    let t = c.keep_off.new.store.now in
+    let same = (c.in-Ok.ensures.leaves.logs told sound).now in
+    let found = c.in-Ok.ensures.finds told sound may.sound.sound.readable in
+    let P : State → Type 0 = λ u. MayKeepAt x e q u → IsCopyFor e at v entry u → IfOk c.keep_off.result (λ w. KeepsOff x e at v q u t) in
+    let steps = subst P same (c.keep_off.ensures.steps e at v told sound) in
+    keeps_first x e at v s t q (λ w. LeavesItem w c.find_free_entry.new.store.meta c.keep_off.new.store.meta) c.keep_off.result c.keep_off.ensures.is
+    (steps (record { sound = may.sound; is_open = may.is_open; free = free_at e s c.in-Ok.free q c.in-Some.is found }) may.copy)
