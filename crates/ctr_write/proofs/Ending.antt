@@ -14,7 +14,7 @@ use Rattle.ctr_extend.specs.declared.ways.OnWay.TheVariants.{Wanted}
 use Rattle.ctr_write.specs.declared.stages.Written.{Written}
 use Rattle.ctr_write.specs.declared.stages.Written.TheVariants.{On, Done}
 use Rattle.ctr_write.specs.declared.stages.Stage.TheVariants.{Kept}
-use Rattle.ctr_write.specs.Stages.{IsCountedWrite, LeavesItem}
+use Rattle.ctr_write.specs.Stages.{LeavesItem}
 use Rattle.ctr_write.specs.Extending.{ExtendsFor}
 use Rattle.ctr_write.specs.Laying.{Wish, LaysHead}
 use Rattle.ctr_write.specs.Keeping.{KeepsOff}

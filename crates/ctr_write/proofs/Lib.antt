@@ -3,3 +3,4 @@ pub mod Reading
 pub mod Extended
 pub mod Ending
 pub mod Used
+pub mod Turning

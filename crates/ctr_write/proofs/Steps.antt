@@ -1,5 +1,5 @@
 -- What each record leaves of what is counted on.
-use Rattle.std.proofs.Common.{◌≡◌, ℕ, ◌+◌, ◌<◌, ◌≤◌, inl, inr, Some, Result, Err, cond, sym, ap, subst}
+use Rattle.std.proofs.Common.{◌≡◌, ℕ, ◌+◌, ◌<◌, ◌≤◌, inl, inr, Result, Err, cond, sym, ap, subst}
 use Rattle.ctr_page.specs.declared.rows.Place.{Place}
 use Rattle.ctr_area.specs.Areas.{RowVersion, Slot}
 use Rattle.std.specs.Prelude.{Option, Bool, false, ◌&&◌, not, OnOk}

@@ -1,5 +1,5 @@
 -- A slot that was copied off its page: each payload stands at the front of bytes of its own.
-use Rattle.std.specs.Prelude.{ℕ, ◌≤◌, take, Option, IfSome}
+use Rattle.std.specs.Prelude.{◌≤◌, take, IfSome}
 use Rattle.std.specs.Option.{option_map}
 use Rattle.ctr_page.specs.declared.rows.Version.{Version}
 use Rattle.ctr_page.specs.declared.rows.RowSlot.{RowSlot}

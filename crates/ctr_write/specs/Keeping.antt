@@ -3,7 +3,7 @@ use Rattle.std.specs.Prelude.{◌≡◌, ◌⊎◌, ℕ, true, Some}
 use Rattle.ctr_meta.specs.Tables.{is_in}
 use Rattle.ctr_page.specs.declared.rows.Place.{Place}
 use Rattle.ctr_page.specs.declared.rows.VersionEntry.{VersionEntry}
-use Rattle.ctr_area.specs.Areas.{RowVersion, Slot, Older, Area}
+use Rattle.ctr_area.specs.Areas.{RowVersion, Slot}
 use Rattle.ctr_area.specs.Reading.{older_said}
 use Rattle.ctr_area.specs.Sound.{IsUsedSlot}
 use Rattle.ctr_record_laws.specs.Owed.{older_copy}

@@ -3,20 +3,15 @@ use Rattle.std.specs.Prelude.{◌≡◌, ◌⊎◌, ℕ, ℤ, true, false, [], S
 use Rattle.ctr_page.specs.declared.checks.Chain.{Chain}
 use Rattle.ctr_page.specs.declared.checks.Chain.TheVariants.{Rows, Versions}
 use Rattle.ctr_page.specs.declared.rows.Place.{Place}
-use Rattle.ctr_page.specs.declared.rows.Version.{Version}
 use Rattle.ctr_page.specs.Places.{bucket_of, has_previous}
 use Rattle.ctr_meta.specs.Kept.{TablesKept, RoomLeft}
-use Rattle.ctr_meta.specs.Tables.{is_in}
 use Rattle.ctr_redo.specs.States.{State}
 use Rattle.ctr_area.specs.Areas.{RowVersion, Slot}
 use Rattle.ctr_record_effects.specs.States.{area_in}
-use Rattle.ctr_record_effects.specs.Standing.{IsDatabaseState}
 use Rattle.ctr_actions.specs.Sites.{site_of}
 use Rattle.ctr_actions.specs.Facts.{HasSlot, HasCopy, HasNoPageBut, HoldsFact}
-use Rattle.ctr_heap.specs.Ways.{IsHeadOf}
 use Rattle.ctr_passed.specs.Laid.{width_in}
 use Rattle.ctr_walk.specs.Tables.{IsChain}
-use Rattle.ctr_extend.specs.declared.ways.OnWay.TheVariants.{Wanted}
 use Rattle.ctr_extend.specs.declared.ways.Extended.TheVariants.{On as OnItsWay, Linked, Grown}
 use Rattle.ctr_extend.specs.Ways.{IsOnWay, IsCountedWay, items_wanted}
 use Rattle.ctr_extend.specs.Steps.{LeavesRoom}

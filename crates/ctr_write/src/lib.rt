@@ -15,5 +15,7 @@ mod over;
 mod placing;
 mod rewriting;
 mod stages;
+mod writing;
 
 pub use stages::{Stage, Written};
+pub use writing::write;

@@ -1,4 +1,3 @@
-use Rattle.std.proofs.Common.{◌≡◌, Err}
 use Rattle.ctr_pvs.specs.declared.slot.LentSlot.{LentSlot}
 use Rattle.ctr_write.proofs.Reading.{reads_fault}
 use Rattle.ctr_write.proofs.copying.read_row.Goals as goal

@@ -1,12 +1,12 @@
-use Rattle.std.proofs.Common.{◌≡◌, ℕ, ◌<◌, inl, inr, Some, Err, List, refl, sym, ◌∙◌, ap, subst}
+use Rattle.std.proofs.Common.{◌≡◌, inl, Err, List, refl, ◌∙◌, ap, subst}
 use Rattle.ctr_types.specs.declared.value.Column.{Column}
-use Rattle.ctr_area.specs.Areas.{RowVersion, Slot, Older}
+use Rattle.ctr_area.specs.Areas.{Older}
 use Rattle.ctr_area.specs.Reading.{older_said}
 use Rattle.ctr_record_laws.specs.Owed.{older_copy}
 use Rattle.ctr_record_effects.specs.States.{area_in}
 use Rattle.ctr_actions.specs.Sites.{site_of}
 use Rattle.ctr_actions.specs.Actions.{Keeps, Owes, site_after}
-use Rattle.ctr_actions.specs.Facts.{HasSlot, HasCopy, HoldsFact}
+use Rattle.ctr_actions.specs.Facts.{HasSlot, HasCopy}
 use Rattle.ctr_pvs.specs.Writing.{keep_record}
 use Rattle.ctr_page_turns.specs.Turns.{LogsARecord}
 use Rattle.ctr_write.specs.declared.stages.Stage.TheVariants.{Kept}

@@ -1,4 +1,4 @@
-use Rattle.std.proofs.Common.{◌≡◌, ℕ, ℤ, w64, to_z, of_z, Err, List, length, refl, sym, ◌∙◌, ap, subst}
+use Rattle.std.proofs.Common.{ℕ, ℤ, w64, to_z, of_z, Err, List, length, refl, sym, ◌∙◌, ap, subst}
 use Rattle.std.proofs.lemmas.Int.{to_z-of_z}
 use Rattle.ctr_types.specs.declared.value.Column.{Column}
 use Rattle.ctr_area.specs.Reading.{slot_said}

@@ -1,6 +1,4 @@
-use Rattle.std.proofs.Common.{◌≡◌, Result, Ok, Err, sym, subst}
-use Rattle.std.specs.Prelude.{OnOk}
-use Rattle.ctr_disk.specs.declared.fault.StoreFault.{StoreFault}
+use Rattle.std.proofs.Common.{Err}
 use Rattle.ctr_walk.proofs.Joins.{answers_ok}
 use Rattle.ctr_write.proofs.Steps.{none_ok}
 use Rattle.ctr_write.proofs.misfit.misfit.Goals as goal

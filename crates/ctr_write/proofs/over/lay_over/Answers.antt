@@ -1,15 +1,14 @@
-use Rattle.std.proofs.Common.{◌≡◌, ℕ, Err, List, length, refl, sym, ◌∙◌, ap, subst}
+use Rattle.std.proofs.Common.{ℕ, Err, List, length, refl, sym, ◌∙◌, ap, subst}
 use Rattle.ctr_types.specs.declared.value.Column.{Column}
 use Rattle.ctr_area.specs.Areas.{Slot}
 use Rattle.ctr_area.specs.Reading.{slot_said, version_said}
-use Rattle.ctr_area.specs.Images.{is_committed_in}
 use Rattle.ctr_page.specs.Making.{IsVersion, IsSlot}
 use Rattle.ctr_page.specs.declared.rows.Version.{Version}
 use Rattle.ctr_record_laws.specs.Owed.{written_slot, loses_head}
 use Rattle.ctr_record_effects.specs.States.{area_in}
 use Rattle.ctr_actions.specs.Sites.{site_of}
 use Rattle.ctr_actions.specs.Actions.{Writes, Owes}
-use Rattle.ctr_heap.specs.Writing.{row_record, LaysMove, slot_width}
+use Rattle.ctr_heap.specs.Writing.{row_record, LaysMove}
 use Rattle.ctr_heap.specs.Ways.{writing_by}
 use Rattle.ctr_page_turns.specs.Turns.{LogsARecord}
 use Rattle.ctr_write.specs.declared.stages.Written.TheVariants.{Done}

@@ -1,4 +1,4 @@
-use Rattle.std.proofs.Common.{◌≡◌, ℕ, None, Some, Err, refl, subst}
+use Rattle.std.proofs.Common.{Err, refl, subst}
 use Rattle.std.specs.Prelude.{IfOk}
 use Rattle.ctr_meta.specs.Kept.{TablesKept}
 use Rattle.ctr_page.specs.declared.checks.Chain.TheVariants.{Versions}

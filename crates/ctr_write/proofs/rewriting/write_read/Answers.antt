@@ -1,11 +1,10 @@
-use Rattle.std.proofs.Common.{◌≡◌, ℕ, ℤ, Bool, List, Option, None, Some, refl, sym, ◌∙◌, ap, subst}
+use Rattle.std.proofs.Common.{◌≡◌, ℤ, Bool, Option, Some, refl, subst}
 use Rattle.std.specs.Prelude.{IfOk, IfSome}
 use Rattle.ctr_area.specs.Images.{is_committed_in}
 use Rattle.ctr_area.specs.Reading.{older_said}
 use Rattle.ctr_record_laws.specs.Owed.{older_copy}
 use Rattle.ctr_record_effects.specs.States.{area_in}
 use Rattle.ctr_passed.specs.Laid.{width_in}
-use Rattle.ctr_passed.specs.Logged.{IsOlderOf}
 use Rattle.ctr_page.specs.declared.rows.VersionEntry.{VersionEntry}
 use Rattle.std.specs.Option.{option_map}
 use Rattle.ctr_heap.specs.Ways.{IsWay, kept_version, writing_by}
