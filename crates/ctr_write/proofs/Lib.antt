@@ -4,3 +4,4 @@ pub mod Extended
 pub mod Ending
 pub mod Used
 pub mod Turning
+pub mod Carried

@@ -4,3 +4,4 @@ pub mod Extending
 pub mod Keeping
 pub mod Laying
 pub mod Steps
+pub mod Carrying

@@ -9,6 +9,7 @@
 mod copying;
 mod extending;
 mod keeping;
+mod laws;
 mod laying;
 mod misfit;
 mod over;
@@ -17,5 +18,6 @@ mod rewriting;
 mod stages;
 mod writing;
 
+pub use laws::a_turn_of_a_write_is_kept;
 pub use stages::{Stage, Written};
 pub use writing::write;
