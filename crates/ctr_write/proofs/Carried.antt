@@ -22,11 +22,11 @@ use Rattle.ctr_kept.specs.Turns.{Carries}
 use Rattle.ctr_extend.proofs.Carrying.{way_held, blank_way}
 use Rattle.ctr_write.specs.declared.stages.Stage.{Stage}
 use Rattle.ctr_write.specs.declared.stages.Stage.TheVariants.{Looking, Extending, Kept}
-use Rattle.ctr_write.specs.Stages.{IsWritten, IsToKeep, IsAtStage}
+use Rattle.ctr_write.specs.Stages.{IsChainFor, IsToKeep, IsAtStage}
 use Rattle.ctr_write.specs.Carrying.{KeptOf, facts_kept, AreOfStage}
 
 -- the chain that a Write wants a page for is of its table
-of_table : (e : ℕ) (key : ℤ) (chain : Chain) → IsWritten e key chain → e ≡ chain_entry chain
+of_table : (e : ℕ) (key : ℤ) (chain : Chain) → IsChainFor e key chain → e ≡ chain_entry chain
 of_table e key chain (inl is) = sym (ap chain_entry is)
 of_table e key chain (inr is) = sym (ap chain_entry is)
 

@@ -18,7 +18,7 @@ use Rattle.ctr_write.specs.Stages.{LeavesItem}
 use Rattle.ctr_write.specs.Extending.{ExtendsFor}
 use Rattle.ctr_write.specs.Laying.{Wish, LaysHead}
 use Rattle.ctr_write.specs.Keeping.{KeepsOff}
-use Rattle.ctr_write.specs.Steps.{EndsFirst, MayPlace, EndsKeeping}
+use Rattle.ctr_write.specs.Steps.{EndsPlacing, MayPlace, EndsKeeping}
 use Rattle.ctr_area.specs.Areas.{RowVersion}
 use Rattle.ctr_pvs.specs.Along.{FindsFreeEntry}
 
@@ -39,7 +39,7 @@ module _ (wish : Wish) (s t : State) where
       record { here = there.0; free = there.1; none = may.none }
 
   pub wants_rows : (b : ℕ) (free : Option Place) (result : Result Written StoreFault) → b ≡ bucket_of wish.key → free ≡ None → FindsFree (area_in s) wish.entry b free
-      → IfOk result (ExtendsFor wish.x (Rows wish.entry b) Wanted s t) → IfOk result (EndsFirst wish s t)
+      → IfOk result (ExtendsFor wish.x (Rows wish.entry b) Wanted s t) → IfOk result (EndsPlacing wish s t)
   wants_rows b free (Ok w) bucket is found extends = inr (record {
     none = subst (λ (n : ℕ). FindsFree (area_in s) wish.entry n None) bucket (subst (λ (o : Option Place). FindsFree (area_in s) wish.entry b o) is found);
     extends = subst (λ (n : ℕ). ExtendsFor wish.x (Rows wish.entry n) Wanted s t w) bucket extends;
@@ -47,7 +47,7 @@ module _ (wish : Wish) (s t : State) where
   wants_rows b free (Err e) bucket is found extends = tt
 
   pub lays_first : (at : Place) (Left : Written → Type 0) (result : Result Written StoreFault) → IsRoomFor (area_in s) wish.entry wish.key at → IfOk result (λ w. (w ≡ Done) × Left w)
-      → IfOk result (λ w. LaysHead wish at FirstVersion s t) → IfOk result (EndsFirst wish s t)
+      → IfOk result (λ w. LaysHead wish at FirstVersion s t) → IfOk result (EndsPlacing wish s t)
   lays_first at Left (Ok w) free ends lays = inl (record { done = ends.0; at = at; free = free; lays = lays })
   lays_first at Left (Err e) free ends lays = tt
 

@@ -1,15 +1,16 @@
 -- What each record leaves of what is counted on.
-use Rattle.std.proofs.Common.{◌≡◌, ℕ, ◌+◌, ◌<◌, ◌≤◌, inl, inr, Result, Err, cond, sym, ap, subst}
+use Rattle.std.proofs.Common.{◌≡◌, ℕ, ◌+◌, ◌<◌, ◌≤◌, inl, inr, Result, Err, cond, sym, ap, subst, refl}
 use Rattle.ctr_page.specs.declared.rows.Place.{Place}
 use Rattle.ctr_area.specs.Areas.{RowVersion, Slot}
-use Rattle.std.specs.Prelude.{Option, Bool, false, ◌&&◌, not, OnOk}
+use Rattle.std.specs.Prelude.{Option, Bool, false, ◌&&◌, not, OnOk, nat_eq, true}
 use Rattle.ctr_page.specs.declared.rows.RowSlot.{RowSlot}
 use Rattle.ctr_page.specs.declared.table.TheConstants.{PAGE_SIZE}
 use Rattle.ctr_page.specs.Places.{slot_size, start_of}
 use Rattle.ctr_page.specs.Making.{IsSlot}
 use Rattle.ctr_pvs.specs.Slots.{SlotLiesAt}
 use Rattle.ctr_heap.specs.Writing.{LiesOnPage}
-use Rattle.ctr_meta.specs.Tables.{Tables}
+use Rattle.ctr_meta.specs.Tables.{Tables, is_in}
+use Rattle.ctr_meta.specs.Effects.{one_head_less}
 use Rattle.ctr_area.specs.Images.{is_committed_in}
 use Rattle.ctr_record_laws.specs.Owed.{loses_head}
 use Rattle.ctr_area.specs.Sound.{IsUsedSlot, PreviousBelow}
@@ -49,3 +50,11 @@ slot_there at slot w is lies =
       is = subst (λ n. IsSlot n slot) wide is;
       inside = subst (λ n. start_of (slot_size n) at.slot + slot_size n ≤ PAGE_SIZE) wide lies.1;
     }
+
+-- a head less for whoever loses it draws no number
+picks : (b : Bool) (t u : Tables) (n : ℕ) → t.next ≡ n → u.next ≡ n → (cond b t u).next ≡ n
+picks true t u n one two = one
+picks false t u n one two = two
+
+pub next_stays : (x : ℕ) (t : Tables) → (one_head_less x t).next ≡ t.next
+next_stays x t = picks (nat_eq x 0) t _ t.next refl (picks (is_in x t.opens) _ _ t.next refl refl)

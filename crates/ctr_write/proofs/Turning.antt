@@ -11,7 +11,7 @@ use Rattle.ctr_record_laws.specs.Owed.{IsSlotOfKey}
 use Rattle.ctr_heap.specs.Finding.{FindsKey}
 use Rattle.ctr_write.specs.declared.stages.Written.{Written}
 use Rattle.ctr_write.specs.Laying.{Wish}
-use Rattle.ctr_write.specs.Steps.{EndsFirst, EndsOver, EndsLooking}
+use Rattle.ctr_write.specs.Steps.{EndsPlacing, EndsOver, EndsLooking}
 
 module _ (area : Area) (e : ℕ) (k key : ℤ) (found : Option Place) where
   pub found_none : k ≡ key → found ≡ None → FindsKey area e k found → AreKeyed area → (at : Place) → IsSlotOfKey area e key at → ⊥
@@ -23,7 +23,7 @@ module _ (area : Area) (e : ℕ) (k key : ℤ) (found : Option Place) where
   found_one at same is finds = subst (λ (j : ℤ). FindsKey area e j (Some at)) same (subst (λ (o : Option Place). FindsKey area e k o) is finds)
 
 module _ (wish : Wish) (kept : Option Place) (s t : State) where
-  pub looks_none : (result : Result Written StoreFault) → ((at : Place) → IsSlotOfKey (area_in s) wish.entry wish.key at → ⊥) → IfOk result (EndsFirst wish s t)
+  pub looks_none : (result : Result Written StoreFault) → ((at : Place) → IsSlotOfKey (area_in s) wish.entry wish.key at → ⊥) → IfOk result (EndsPlacing wish s t)
       → IfOk result (EndsLooking wish kept s t)
   looks_none (Ok w) none ends = inl (none, ends)
   looks_none (Err e) none ends = tt

@@ -15,10 +15,11 @@ use Rattle.ctr_stops.specs.World.{KeepsWorld}
 use Rattle.ctr_extend.specs.Keeping.{facts_on_way}
 use Rattle.ctr_write.specs.declared.stages.Stage.{Stage}
 use Rattle.ctr_write.specs.declared.stages.Stage.TheVariants.{Looking, Extending, Kept}
-use Rattle.ctr_write.specs.Stages.{IsWritten, IsToKeep}
+use Rattle.ctr_write.specs.Stages.{IsChainFor, IsToKeep}
 use Rattle.ctr_write.specs.Laying.{Wish}
 
--- A slot of the key, and the version of it that has to be kept first, in a table with these columns.
+-- A slot of the key, and the version of it that has to be kept first, in a table with these
+-- columns.
 pub record KeptOf (title : Title) (key : ℤ) : Type 0 where
   pub at : Place
   pub slot : Slot
@@ -41,12 +42,12 @@ facts_kept title e of q =
 abbrev pub AreOfStage : Title → ℕ → ℤ → Stage → List Fact → Type 0
 AreOfStage title e key Looking facts = facts ≡ facts_looking title e
 AreOfStage title e key (Extending chain way) facts =
-    IsWritten e key chain × (facts ≡ facts_on_way title chain way)
+    IsChainFor e key chain × (facts ≡ facts_on_way title chain way)
 AreOfStage title e key (Kept q) facts =
     (of : KeptOf title key) × (facts ≡ facts_kept title e of q)
 
 -- A World in which a session that has a number and the lock of a row writes it, and so far it is.
-pub record IsWriting {D : Type 0} (g : Ghosts D) (c : Start) (opened : D) (a : View D) (w : Mind)
+pub record IsAtWrite {D : Type 0} (g : Ghosts D) (c : Start) (opened : D) (a : View D) (w : Mind)
     : Type 0 where
   pub s : ℕ
   pub seat : InTransaction c w s
@@ -64,5 +65,5 @@ pub record IsWriting {D : Type 0} (g : Ghosts D) (c : Start) (opened : D) (a : V
 
 -- what it asks for
 abbrev pub wish_of : {D : Type 0} {g : Ghosts D} {c : Start} {opened : D} {a : View D} {w : Mind}
-    → IsWriting g c opened a w → Wish
+    → IsAtWrite g c opened a w → Wish
 wish_of is = record { x = is.seat.session.me; entry = is.entry; key = is.key; head = is.head }

@@ -5,20 +5,20 @@ use Rattle.ctr_redo.specs.States.{State}
 use Rattle.ctr_extend.specs.declared.ways.OnWay.{OnWay}
 use Rattle.ctr_extend.specs.declared.ways.Extended.{Extended}
 use Rattle.ctr_extend.specs.declared.ways.Extended.TheVariants.{On as OnItsWay, Linked, Grown, Full as IsFull}
-use Rattle.ctr_extend.specs.Steps.{Extends}
+use Rattle.ctr_extend.specs.Steps.{ExtendsBy}
 use Rattle.ctr_write.specs.declared.stages.Stage.TheVariants.{Looking, Extending}
 use Rattle.ctr_write.specs.declared.stages.Written.{Written}
 use Rattle.ctr_write.specs.declared.stages.Written.TheVariants.{On, Full}
 
 -- The page is further; it is linked, or more pages are counted, and the row's slot is looked for
 -- again; or there is none.
-abbrev pub written_by : Chain → Extended → Written
-written_by chain (OnItsWay way) = On (Extending chain way)
-written_by chain Linked = On Looking
-written_by chain Grown = On Looking
-written_by chain IsFull = Full
+abbrev pub written_from : Chain → Extended → Written
+written_from chain (OnItsWay way) = On (Extending chain way)
+written_from chain Linked = On Looking
+written_from chain Grown = On Looking
+written_from chain IsFull = Full
 
 -- A turn of a Write is one for a page of a chain that is so far.
 abbrev pub ExtendsFor : ℕ → Chain → OnWay → State → State → Written → Type 0
 ExtendsFor x chain way s t w =
-    (e : Extended) × (w ≡ written_by chain e) × Extends x chain way s t e
+    (e : Extended) × (w ≡ written_from chain e) × ExtendsBy x chain way s t e

@@ -30,8 +30,8 @@ pub record IsCopyFor (e : ℕ) (at : Place) (v : RowVersion) (entry : VersionEnt
   pub made : IsOlderOf s.counted ((area_in s).title e).columns entry
   pub is : older_said ((area_in s).title e).columns entry ≡ older_copy ((area_in s).slot at) v
 
--- The pages may be a database's, the transaction is open, and the place is a free one of the table's
--- versions.
+-- The pages may be a database's, the transaction is open, and the place is a free one of the
+-- table's versions.
 pub record MayKeepAt (x e : ℕ) (q : Place) (s : State) : Type 0 where
   pub sound : IsDatabaseState s
   pub is_open : is_in x s.tables.opens ≡ true

@@ -25,8 +25,8 @@ pub record Wish : Type 0 where
   pub key : ℤ
   pub head : Version
 
--- The pages may be a database's, the transaction is open, and the head is its version of a row of the
--- table.
+-- The pages may be a database's, the transaction is open, and the head is its version of a row of
+-- the table.
 pub record MayLay (wish : Wish) (s : State) : Type 0 where
   pub sound : IsDatabaseState s
   pub is_open : is_in wish.x s.tables.opens ≡ true
@@ -48,8 +48,9 @@ move_of wish at way s = record {
 abbrev pub LaysHead : Wish → Place → Writing → State → State → Type 0
 LaysHead wish at way s t = ActsBy wish.x (Writes (move_of wish at way s)) s t
 
--- A used slot of a table, as it was read, can be written in a way: it is well made, the table of writes
--- gives the way, and a version that is to be kept first was kept at a place, which is page 0 for none.
+-- A used slot of a table, as it was read, can be written in a way: it is well made, the table of
+-- writes gives the way, and a version that is to be kept first was kept at a place, which is page 0
+-- for none.
 pub record IsReadyFor (e : ℕ) (at : Place) (slot : RowSlot) (way : Way) (q : Place) (s : State)
     : Type 0 where
   pub used : IsUsedSlot (area_in s) e at

@@ -4,8 +4,9 @@ use Rattle.ctr_page.specs.declared.checks.Chain.{Chain}
 use Rattle.ctr_page.specs.declared.checks.Chain.TheVariants.{Rows, Versions}
 use Rattle.ctr_page.specs.declared.rows.Place.{Place}
 use Rattle.ctr_page.specs.Places.{bucket_of, has_previous}
-use Rattle.ctr_meta.specs.Kept.{TablesKept, RoomLeft}
+use Rattle.ctr_meta.specs.Kept.{TablesKept}
 use Rattle.ctr_redo.specs.States.{State}
+use Rattle.ctr_page_turns.specs.Rooms.{AddsItems}
 use Rattle.ctr_area.specs.Areas.{RowVersion, Slot}
 use Rattle.ctr_record_effects.specs.States.{area_in}
 use Rattle.ctr_actions.specs.Sites.{site_of}
@@ -21,15 +22,16 @@ use Rattle.ctr_write.specs.declared.stages.Written.{Written}
 use Rattle.ctr_write.specs.declared.stages.Written.TheVariants.{On, Done, Full}
 
 -- A page is wanted for the bucket of the key, or for the versions of the table.
-abbrev pub IsWritten : ℕ → ℤ → Chain → Type 0
-IsWritten e key chain = (chain ≡ Rows e (bucket_of key)) ⊎ (chain ≡ Versions e)
+abbrev pub IsChainFor : ℕ → ℤ → Chain → Type 0
+IsChainFor e key chain = (chain ≡ Rows e (bucket_of key)) ⊎ (chain ≡ Versions e)
 
 -- which version of a slot of rows so wide is kept off it first
 abbrev pub IsToKeep : ℕ → Slot → RowVersion → Type 0
 IsToKeep w slot v = (has_previous w ≡ true → slot.previous ≡ Some v)
     × (has_previous w ≡ false → slot.head ≡ v)
 
--- The slot of the key is as it was when a version of it was kept, and that is the one which has to be.
+-- The slot of the key is as it was when a version of it was kept, and that is the one which has to
+-- be.
 pub record HasKept (x e : ℕ) (key : ℤ) (q : Place) (s : State) : Type 0 where
   pub at : Place
   pub slot : Slot
@@ -46,7 +48,7 @@ HasNoPage x s = HoldsFact x (HasNoPageBut []) (site_of s)
 -- So far is the Write, as its transaction counts on it.
 abbrev pub IsAtStage : ℕ → ℕ → ℤ → Stage → State → Type 0
 IsAtStage x e key Looking s = HasNoPage x s
-IsAtStage x e key (Extending chain way) s = IsWritten e key chain × IsOnWay x chain way s
+IsAtStage x e key (Extending chain way) s = IsChainFor e key chain × IsOnWay x chain way s
 IsAtStage x e key (Kept q) s = HasNoPage x s × HasKept x e key q s
 
 -- ---- whatever the disk tells
@@ -58,10 +60,10 @@ IsCountedStage (Extending chain way) counted = IsChain chain × IsCountedWay way
 IsCountedStage (Kept q) counted = Unit {0}
 
 -- how many items of the secondary log the next turn may add
-abbrev pub items_of : Stage → ℕ
-items_of Looking = 1
-items_of (Extending chain way) = items_wanted way
-items_of (Kept q) = 1
+abbrev pub stage_items : Stage → ℕ
+stage_items Looking = 1
+stage_items (Extending chain way) = items_wanted way
+stage_items (Kept q) = 1
 
 -- what is left is so
 abbrev pub IsCountedWrite : Written → ℕ → Type 0
@@ -69,10 +71,11 @@ IsCountedWrite (On stage) counted = IsCountedStage stage counted
 IsCountedWrite Done counted = Unit {0}
 IsCountedWrite Full counted = Unit {0}
 
--- The room of the tables: an item is added with a page that is taken, and goes as it is linked.
+-- The room of the tables: an item is added with a page that is taken, and goes as it is linked. No
+-- number is drawn.
 abbrev pub LeavesItem : Written → TablesKept → TablesKept → Type 0
 LeavesItem (On Looking) k l = LeavesRoom Linked k l ⊎ LeavesRoom Grown k l
 LeavesItem (On (Extending chain way)) k l = LeavesRoom (OnItsWay way) k l
-LeavesItem (On (Kept q)) k l = RoomLeft 0 0 k l
-LeavesItem Done k l = RoomLeft 0 0 k l
+LeavesItem (On (Kept q)) k l = AddsItems 0 k l
+LeavesItem Done k l = AddsItems 0 k l
 LeavesItem Full k l = l ≡ k

@@ -28,8 +28,8 @@ use Rattle.ctr_write.specs.Laying.{Wish, MayLay, LaysHead}
 
 -- ---- no slot has the key
 
--- The row may be written, by a transaction that has no page to link, its table is there, and no slot
--- of it has the key.
+-- The row may be written, by a transaction that has no page to link, its table is there, and no
+-- slot of it has the key.
 pub record MayPlace (wish : Wish) (s : State) : Type 0 where
   pub lay : MayLay wish s
   pub there : ((area_in s).title wish.entry).state ≢ 0
@@ -49,8 +49,8 @@ pub record WantsRows (wish : Wish) (s t : State) (w : Written) : Type 0 where
   pub extends : ExtendsFor wish.x (Rows wish.entry (bucket_of wish.key)) Wanted s t w
 
 -- one of these two
-abbrev pub EndsFirst : Wish → State → State → Written → Type 0
-EndsFirst wish s t w = LaysFirst wish s t w ⊎ WantsRows wish s t w
+abbrev pub EndsPlacing : Wish → State → State → Written → Type 0
+EndsPlacing wish s t w = LaysFirst wish s t w ⊎ WantsRows wish s t w
 
 -- ---- a version is kept first
 
@@ -81,10 +81,10 @@ EndsKeeping x e at v s t w = KeepsFirst x e at v s t w ⊎ WantsVersions x e s t
 
 -- ---- a slot has the key
 
--- The row may be written over the slot at a place, as it was read, by a transaction that has no page to
--- link, and its table is there. A version of it was kept at a place, or none yet.
-pub record MayWriteOver (wish : Wish) (at : Place) (slot : RowSlot) (kept : Option Place) (s : State)
-    : Type 0 where
+-- The row may be written over the slot at a place, as it was read, by a transaction that has no
+-- page to link, and its table is there. A version of it was kept at a place, or none yet.
+pub record MayWriteOver (wish : Wish) (at : Place) (slot : RowSlot) (kept : Option Place)
+    (s : State) : Type 0 where
   pub lay : MayLay wish s
   pub there : ((area_in s).title wish.entry).state ≢ 0
   pub no_page : HasNoPage wish.x s
@@ -113,8 +113,8 @@ EndsOver wish at kept s t w = LaysOver wish at s t w ⊎ KeepsOne wish at kept s
 
 -- ---- a turn
 
--- The row may be looked for, and be written, by a transaction that has no page to link, and its table
--- is there. A version was kept at a place, or none yet.
+-- The row may be looked for, and be written, by a transaction that has no page to link, and its
+-- table is there. A version was kept at a place, or none yet.
 pub record MayLook (wish : Wish) (kept : Option Place) (s : State) : Type 0 where
   pub lay : MayLay wish s
   pub there : ((area_in s).title wish.entry).state ≢ 0
@@ -130,11 +130,11 @@ pub record FindsOne (wish : Wish) (kept : Option Place) (s t : State) (w : Writt
 -- Where none has it, the head is laid in a free slot; else in that one.
 abbrev pub EndsLooking : Wish → Option Place → State → State → Written → Type 0
 EndsLooking wish kept s t w =
-    (((at : Place) → IsSlotOfKey (area_in s) wish.entry wish.key at → ⊥) × EndsFirst wish s t w)
+    (((at : Place) → IsSlotOfKey (area_in s) wish.entry wish.key at → ⊥) × EndsPlacing wish s t w)
     ⊎ FindsOne wish kept s t w
 
 -- The row may be written, so far as it is, and its table is there.
-pub record MayWrite (wish : Wish) (stage : Stage) (s : State) : Type 0 where
+pub record MayTakeTurn (wish : Wish) (stage : Stage) (s : State) : Type 0 where
   pub lay : MayLay wish s
   pub there : ((area_in s).title wish.entry).state ≢ 0
   pub at_stage : IsAtStage wish.x wish.entry wish.key stage s

@@ -7,7 +7,7 @@ ghost use Rattle.ctr_page_turns.specs.Turns.{Turns};
 ghost use Rattle.ctr_extend.specs.Ways.{IsCountedWay, items_wanted};
 ghost use Rattle.ctr_extend.specs.Steps.{MayExtend};
 ghost use Rattle.ctr_write.specs.Stages.{IsCountedWrite, LeavesItem};
-ghost use Rattle.ctr_write.specs.Extending.{written_by, ExtendsFor};
+ghost use Rattle.ctr_write.specs.Extending.{written_from, ExtendsFor};
 
 use crate::stages::{Stage, Written};
 use ctr_base::Origin;
@@ -19,8 +19,8 @@ use ctr_store::Store;
 use ctr_types::Xid;
 
 // What a turn for a page is to a Write: once it is linked, or more are counted, the row's slot is looked for again.
-fn written_by(chain: Chain, extended: Extended) -> Written
-    ensures { result ≡ written_by chain extended }
+fn written_from(chain: Chain, extended: Extended) -> Written
+    ensures { result ≡ written_from chain extended }
 {
     match extended {
         Extended::On(way) => Written::On(Stage::Extending { chain, way }),
@@ -47,6 +47,6 @@ pub(crate) fn more<D: Disk, O: Origin>(
     a_turn_goes_on::<D, Extended, Written>();
     match extend(store, x, chain, way) {
         Err(fault) => Err(fault),
-        Ok(extended) => Ok(written_by(chain, extended)),
+        Ok(extended) => Ok(written_from(chain, extended)),
     }
 }

@@ -9,8 +9,8 @@ ghost use Rattle.ctr_stops.specs.World.{KeepsWorld};
 ghost use Rattle.ctr_page_turns.specs.Turns.{LogsAtRest};
 ghost use Rattle.ctr_write.specs.declared.stages.Stage.TheVariants.{Looking};
 ghost use Rattle.ctr_write.specs.Keeping.{KeepsOff};
-ghost use Rattle.ctr_write.specs.Steps.{MayWrite};
-ghost use Rattle.ctr_write.specs.Carrying.{KeptOf, facts_kept, IsWriting, wish_of};
+ghost use Rattle.ctr_write.specs.Steps.{MayTakeTurn};
+ghost use Rattle.ctr_write.specs.Carrying.{KeptOf, facts_kept, IsAtWrite, wish_of};
 
 use ctr_actions::what_is_done_stays;
 use ctr_disk::Disk;
@@ -20,8 +20,8 @@ use ctr_stops::{a_turn_of_a_world_is_kept, an_action_keeps_the_pages};
 /// In a World a session that writes a row may take a turn of its Write, whatever others did since its last one; and a turn that kept a
 /// version first keeps the World, in which the session carries the slot and the copy. A turn for a page keeps it by the law of ctr_extend.
 pub fn a_turn_of_a_write_is_kept<D: Disk>()
-    ensures may { (c : Start) (opened : D) (a : View D) (w : Mind) (writes : IsWriting D.Disk c opened a w) → MayWrite (wish_of writes) writes.stage a.now }
-    ensures kept { (c : Start) (opened : D) (a b : View D) (w : Mind) (writes : IsWriting D.Disk c opened a w) (of : KeptOf writes.title writes.key) (q : Place)
+    ensures may { (c : Start) (opened : D) (a : View D) (w : Mind) (writes : IsAtWrite D.Disk c opened a w) → MayTakeTurn (wish_of writes) writes.stage a.now }
+    ensures kept { (c : Start) (opened : D) (a b : View D) (w : Mind) (writes : IsAtWrite D.Disk c opened a w) (of : KeptOf writes.title writes.key) (q : Place)
         → writes.stage ≡ Looking → LogsAtRest D.Disk a b → of.slot ≡ (area_in a.now).slot of.at
         → KeepsOff writes.seat.session.me writes.entry of.at of.version q a.now b.now
         → KeepsWorld D.Disk c opened b (carrying writes.s (facts_kept writes.title writes.entry of q) w) }

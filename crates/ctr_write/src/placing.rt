@@ -6,7 +6,7 @@ ghost use Rattle.ctr_record_effects.specs.States.{area_in};
 ghost use Rattle.ctr_walk.specs.OneRecord.{HasRoomForOne};
 ghost use Rattle.ctr_page_turns.specs.Turns.{Turns};
 ghost use Rattle.ctr_write.specs.Stages.{IsCountedWrite, LeavesItem};
-ghost use Rattle.ctr_write.specs.Steps.{MayPlace, EndsFirst};
+ghost use Rattle.ctr_write.specs.Steps.{MayPlace, EndsPlacing};
 
 use crate::extending::more;
 use crate::laying::lay_first;
@@ -35,7 +35,7 @@ pub(crate) fn place_first<D: Disk, O: Origin>(
     ensures inside { IfOk result (λ w. IsCountedWrite w store.new.now.counted) }
     ensures left { IfOk result (λ w. LeavesItem w store.old.meta store.new.meta) }
     ensures steps { WhereSound O.first D.Disk (MayPlace (record { x = x; entry = entry; key = key; head = head.now }) store.old.now
-        → IfOk result (EndsFirst (record { x = x; entry = entry; key = key; head = head.now }) store.old.now store.new.now)) }
+        → IfOk result (EndsPlacing (record { x = x; entry = entry; key = key; head = head.now }) store.old.now store.new.now)) }
 {
     a_turn_goes_on::<D, Option<Place>, Written>();
     room_is_still_there::<D>();

@@ -6,8 +6,8 @@ ghost use Rattle.ctr_record_effects.specs.States.{area_in};
 ghost use Rattle.ctr_record_laws.specs.Owed.{IsSlotOfKey};
 ghost use Rattle.ctr_walk.specs.OneRecord.{HasRoomForOne};
 ghost use Rattle.ctr_page_turns.specs.Turns.{Turns};
-ghost use Rattle.ctr_write.specs.Stages.{IsCountedStage, items_of, IsCountedWrite, LeavesItem};
-ghost use Rattle.ctr_write.specs.Steps.{MayLook, EndsOver, EndsLooking, MayWrite, EndsWrite};
+ghost use Rattle.ctr_write.specs.Stages.{IsCountedStage, stage_items, IsCountedWrite, LeavesItem};
+ghost use Rattle.ctr_write.specs.Steps.{MayLook, EndsOver, EndsLooking, MayTakeTurn, EndsWrite};
 
 use crate::copying::{SlotCopy, read_row};
 use crate::extending::more;
@@ -102,7 +102,7 @@ pub fn write<D: Disk, O: Origin>(
     head: &Version,
     stage: Stage,
 ) -> Result<Written, StoreFault>
-    requires room { HasRoomForOne 0 (items_of stage) store.old }
+    requires room { HasRoomForOne 0 (stage_items stage) store.old }
     requires there { entry < 32 }
     requires fits { IsVersion (length head.now.payload) head.now }
     requires counted { IsCountedStage stage store.old.now.counted }
@@ -113,7 +113,7 @@ pub fn write<D: Disk, O: Origin>(
     // The room of an item goes with a page that is taken, and comes back with one that is linked.
     ensures left { IfOk result (λ w. LeavesItem w store.old.meta store.new.meta) }
     // What its record owes is met, and the Write is further.
-    ensures steps { WhereSound O.first D.Disk (MayWrite (record { x = x; entry = entry; key = key; head = head.now }) stage store.old.now
+    ensures steps { WhereSound O.first D.Disk (MayTakeTurn (record { x = x; entry = entry; key = key; head = head.now }) stage store.old.now
         → IfOk result (EndsWrite (record { x = x; entry = entry; key = key; head = head.now }) stage store.old.now store.new.now)) }
 {
     match stage {

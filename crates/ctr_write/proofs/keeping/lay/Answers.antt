@@ -1,6 +1,7 @@
 use Rattle.std.proofs.Common.{◌≡◌, inl, Err, List, refl, ◌∙◌, ap, subst}
 use Rattle.ctr_types.specs.declared.value.Column.{Column}
 use Rattle.ctr_area.specs.Areas.{Older}
+use Rattle.ctr_meta.specs.Tables.{Tables}
 use Rattle.ctr_area.specs.Reading.{older_said}
 use Rattle.ctr_record_laws.specs.Owed.{older_copy}
 use Rattle.ctr_record_effects.specs.States.{area_in}
@@ -23,7 +24,7 @@ returns-in-Err-clause-turns g c =
     c.a_turn_goes_on.ensures.failed g.O.Origin.first c.args.store.now c.keep.new.store c.in-Err.fault (Err c.in-Err.fault) (Err c.in-Err.fault) (LogsARecord (keep_record c.args.x c.args.place c.args.version.now, c.in-Err.ensures.one)) refl refl
 
 pub returns-in-Ok-clause-is : goal.returns-in-Ok-clause-is
-returns-in-Ok-clause-is g c = (refl, c.in-Ok.ensures.one.takes.left)
+returns-in-Ok-clause-is g c = (refl, (c.in-Ok.ensures.one.takes.left, ap (λ (u : Tables). u.next) c.in-Ok.ensures.one.takes.tables))
 
 pub returns-in-Ok-clause-steps : goal.returns-in-Ok-clause-steps
 returns-in-Ok-clause-steps g c = λ e at v told sound may copy.

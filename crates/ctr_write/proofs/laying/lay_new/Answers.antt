@@ -1,6 +1,7 @@
 use Rattle.std.proofs.Common.{ℕ, ℤ, w64, to_z, of_z, Err, List, length, refl, sym, ◌∙◌, ap, subst}
 use Rattle.std.proofs.lemmas.Int.{to_z-of_z}
 use Rattle.ctr_types.specs.declared.value.Column.{Column}
+use Rattle.ctr_meta.specs.Tables.{Tables}
 use Rattle.ctr_area.specs.Reading.{slot_said}
 use Rattle.ctr_page.specs.Places.{bucket_of}
 use Rattle.ctr_record_laws.specs.Owed.{FirstVersion, written_slot, IsRoomFor}
@@ -25,7 +26,7 @@ returns-in-Err-clause-turns g c =
     c.a_turn_goes_on.ensures.failed g.O.Origin.first c.args.store.now c.put_slot.new.store c.in-Err.fault (Err c.in-Err.fault) (Err c.in-Err.fault) (LogsARecord (row_record c.args.x 0 c.args.place c.first-slot.result, c.in-Err.ensures.one)) refl refl
 
 pub returns-in-Ok-clause-is : goal.returns-in-Ok-clause-is
-returns-in-Ok-clause-is g c = (refl, c.in-Ok.ensures.one.takes.left)
+returns-in-Ok-clause-is g c = (refl, (c.in-Ok.ensures.one.takes.left, ap (λ (u : Tables). u.next) c.in-Ok.ensures.one.takes.tables))
 
 pub returns-in-Ok-clause-steps : goal.returns-in-Ok-clause-steps
 returns-in-Ok-clause-steps g c = λ e told sound.

@@ -1,6 +1,7 @@
 use Rattle.std.proofs.Common.{ℕ, Err, List, length, refl, sym, ◌∙◌, ap, subst}
 use Rattle.ctr_types.specs.declared.value.Column.{Column}
 use Rattle.ctr_area.specs.Areas.{Slot}
+use Rattle.ctr_meta.specs.Tables.{Tables}
 use Rattle.ctr_area.specs.Reading.{slot_said, version_said}
 use Rattle.ctr_page.specs.Making.{IsVersion, IsSlot}
 use Rattle.ctr_page.specs.declared.rows.Version.{Version}
@@ -13,7 +14,8 @@ use Rattle.ctr_heap.specs.Ways.{writing_by}
 use Rattle.ctr_page_turns.specs.Turns.{LogsARecord}
 use Rattle.ctr_write.specs.declared.stages.Written.TheVariants.{Done}
 use Rattle.ctr_write.specs.Laying.{Wish, MayLay, LaysHead, IsReadyFor, move_of}
-use Rattle.ctr_write.proofs.Steps.{slot_there}
+use Rattle.ctr_meta.specs.Effects.{one_head_more}
+use Rattle.ctr_write.proofs.Steps.{slot_there, next_stays}
 use Rattle.ctr_write.proofs.over.lay_over.Goals as goal
 
 pub put_slot-requires-clause-lies : goal.put_slot-requires-clause-lies
@@ -31,7 +33,9 @@ returns-in-Err-clause-turns g c =
     c.a_turn_goes_on.ensures.failed g.O.Origin.first c.args.store.now c.put_slot.new.store c.in-Err.fault (Err c.in-Err.fault) (Err c.in-Err.fault) (LogsARecord (row_record c.args.x c.replaced-over.result c.args.place c.written-slot.result, c.in-Err.ensures.one)) refl refl
 
 pub returns-in-Ok-clause-is : goal.returns-in-Ok-clause-is
-returns-in-Ok-clause-is g c = (refl, c.in-Ok.ensures.one.takes.left)
+returns-in-Ok-clause-is g c =
+    let takes = c.in-Ok.ensures.one.takes in
+    (refl, (takes.left, ap (λ (u : Tables). u.next) takes.tables ∙ next_stays c.replaced-over.result (one_head_more c.args.x c.args.store.now.meta.tables)))
 
 pub returns-in-Ok-clause-steps : goal.returns-in-Ok-clause-steps
 returns-in-Ok-clause-steps g c = λ e told sound.

@@ -7,7 +7,7 @@ use Rattle.ctr_record_effects.specs.States.{area_in}
 use Rattle.ctr_record_laws.specs.Owed.{IsSlotOfKey}
 use Rattle.ctr_write.specs.Stages.{LeavesItem}
 use Rattle.ctr_write.specs.Laying.{Wish}
-use Rattle.ctr_write.specs.Steps.{MayLook, MayPlace, EndsFirst, EndsOver}
+use Rattle.ctr_write.specs.Steps.{MayLook, MayPlace, EndsPlacing, EndsOver}
 use Rattle.ctr_write.proofs.Turning.{found_none, found_one, looks_none, looks_one}
 use Rattle.ctr_write.proofs.writing.look.Goals as goal
 
@@ -36,7 +36,7 @@ returns-in-None-clause-steps g c = λ told sound may.
     let k = to_z w64 (of_z w64 c.args.key) in
     let same = (c.in-Ok.ensures.leaves.logs told sound).now in
     let found = found_none (area_in s) c.args.entry k c.args.key c.in-Ok.found key c.in-None.is (c.in-Ok.ensures.finds told sound may.lay.sound.sound.readable) may.lay.sound.sound.keys in
-    let P : ℤ → State → Type 0 = λ j u. MayPlace (by j) u → IfOk c.place_first.result (EndsFirst (by j) u t) in
+    let P : ℤ → State → Type 0 = λ j u. MayPlace (by j) u → IfOk c.place_first.result (EndsPlacing (by j) u t) in
     let steps = subst (λ (j : ℤ). P j s) key (subst (λ (u : State). P k u) same (c.place_first.ensures.steps told sound)) in
     looks_none wish c.args.kept s t c.place_first.result found (steps (record { lay = may.lay; there = may.there; no_page = may.no_page; none = found }))
 
