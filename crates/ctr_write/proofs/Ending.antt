@@ -17,7 +17,7 @@ use Rattle.ctr_write.specs.declared.stages.Stage.TheVariants.{Kept}
 use Rattle.ctr_write.specs.Stages.{LeavesItem}
 use Rattle.ctr_write.specs.Extending.{ExtendsFor}
 use Rattle.ctr_write.specs.Laying.{Wish, LaysHead}
-use Rattle.ctr_write.specs.Keeping.{KeepsOff}
+use Rattle.ctr_write.specs.Keeping.{off, KeepsOff}
 use Rattle.ctr_write.specs.Steps.{EndsPlacing, MayPlace, EndsKeeping}
 use Rattle.ctr_area.specs.Areas.{RowVersion}
 use Rattle.ctr_pvs.specs.Along.{FindsFreeEntry}
@@ -53,7 +53,7 @@ module _ (wish : Wish) (s t : State) where
 
 module _ (x e : ℕ) (at : Place) (v : RowVersion) (s t : State) where
   pub wants_versions : (free : Option Place) (result : Result Written StoreFault) → free ≡ None → FindsFreeEntry (area_in s) e free
-      → IfOk result (ExtendsFor x (Versions e) Wanted s t) → IfOk result (EndsKeeping x e at v s t)
+      → IfOk result (ExtendsFor x (Versions e) Wanted s t) → IfOk result (EndsKeeping (off x e at v) s t)
   wants_versions free (Ok w) is found extends = inr (record {
     none = subst (λ (o : Option Place). FindsFreeEntry (area_in s) e o) is found;
     extends = extends;
@@ -61,7 +61,7 @@ module _ (x e : ℕ) (at : Place) (v : RowVersion) (s t : State) where
   wants_versions free (Err f) is found extends = tt
 
   pub keeps_first : (q : Place) (Left : Written → Type 0) (result : Result Written StoreFault) → IfOk result (λ w. (w ≡ On (Kept q)) × Left w)
-      → IfOk result (λ w. KeepsOff x e at v q s t) → IfOk result (EndsKeeping x e at v s t)
+      → IfOk result (λ w. KeepsOff (off x e at v) q s t) → IfOk result (EndsKeeping (off x e at v) s t)
   keeps_first q Left (Ok w) ends keeps = inl (record { q = q; is = ends.0; keeps = keeps })
   keeps_first q Left (Err f) ends keeps = tt
 

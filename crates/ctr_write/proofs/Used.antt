@@ -26,7 +26,7 @@ use Rattle.ctr_write.specs.declared.stages.Written.TheVariants.{Done}
 use Rattle.ctr_write.specs.Laying.{Wish, LaysHead, IsReadyFor}
 use Rattle.ctr_write.specs.Steps.{MayWriteOver, EndsKeeping, EndsOver}
 use Rattle.ctr_write.specs.Stages.{IsToKeep, HasKept}
-use Rattle.ctr_write.specs.Keeping.{IsOfSlot}
+use Rattle.ctr_write.specs.Keeping.{IsOfSlot, off}
 
 -- a used slot is said by its own bytes
 abbrev said_so : (columns : List Column) (s : RowSlot) → Slot
@@ -137,6 +137,6 @@ module _ (wish : Wish) (at : Place) (slot : RowSlot) (kept : Option Place) (s : 
   lays_over t way Left (Err e) ends lays = tt
 
   pub keeps_one : (t : State) (v : RowVersion) (result : Result Written StoreFault) → kept ≡ None → IsToKeep (width_in (area_in s) wish.entry) old v
-      → IfOk result (EndsKeeping wish.x wish.entry at v s t) → IfOk result (EndsOver wish at kept s t)
+      → IfOk result (EndsKeeping (off wish.x wish.entry at v) s t) → IfOk result (EndsOver wish at kept s t)
   keeps_one t v (Ok w) new is ends = inr (record { new = new; version = v; is = is; ends = ends })
   keeps_one t v (Err e) new is ends = tt

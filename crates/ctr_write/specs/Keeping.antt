@@ -37,8 +37,19 @@ pub record MayKeepAt (x e : ℕ) (q : Place) (s : State) : Type 0 where
   pub is_open : is_in x s.tables.opens ≡ true
   pub free : FindsFreeEntry (area_in s) e (Some q)
 
--- A version of the slot at a place is kept at another one. The slot is what it was.
-pub record KeepsOff (x e : ℕ) (at : Place) (v : RowVersion) (q : Place) (s t : State) : Type 0 where
-  pub acts : ActsBy x (Keeps e q (older_copy ((area_in s).slot at) v)) s t
-  pub has : HoldsFact x (HasSlot e at ((area_in s).slot at)) (site_of t)
-  pub copy : HoldsFact x (HasCopy e at v q) (site_of t)
+-- What is kept off its row: by whom, of which table and slot, and which version of it.
+pub record Off : Type 0 where
+  pub x : ℕ
+  pub e : ℕ
+  pub at : Place
+  pub version : RowVersion
+
+-- the same
+abbrev pub off : ℕ → ℕ → Place → RowVersion → Off
+off x e at version = record { x = x; e = e; at = at; version = version }
+
+-- A version of a slot is kept at a place. The slot is what it was.
+pub record KeepsOff (o : Off) (q : Place) (s t : State) : Type 0 where
+  pub acts : ActsBy o.x (Keeps o.e q (older_copy ((area_in s).slot o.at) o.version)) s t
+  pub has : HoldsFact o.x (HasSlot o.e o.at ((area_in s).slot o.at)) (site_of t)
+  pub copy : HoldsFact o.x (HasCopy o.e o.at o.version q) (site_of t)

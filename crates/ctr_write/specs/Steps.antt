@@ -23,7 +23,7 @@ use Rattle.ctr_write.specs.declared.stages.Written.{Written}
 use Rattle.ctr_write.specs.declared.stages.Written.TheVariants.{On, Done}
 use Rattle.ctr_write.specs.Stages.{HasNoPage, HasKept, IsToKeep, IsAtStage}
 use Rattle.ctr_write.specs.Extending.{ExtendsFor}
-use Rattle.ctr_write.specs.Keeping.{IsCopyFor, KeepsOff}
+use Rattle.ctr_write.specs.Keeping.{IsCopyFor, Off, off, KeepsOff}
 use Rattle.ctr_write.specs.Laying.{Wish, MayLay, LaysHead}
 
 -- ---- no slot has the key
@@ -63,12 +63,11 @@ pub record MayKeepFirst (x e : ℕ) (at : Place) (v : RowVersion) (entry : Versi
   pub no_page : HasNoPage x s
   pub copy : IsCopyFor e at v entry s
 
--- A version of the slot at a place is kept at another one.
-pub record KeepsFirst (x e : ℕ) (at : Place) (v : RowVersion) (s t : State) (w : Written) : Type 0
-  where
-    pub q : Place
-    pub is : w ≡ On (Kept q)
-    pub keeps : KeepsOff x e at v q s t
+-- A version of a slot is kept at a place.
+pub record KeepsFirst (o : Off) (s t : State) (w : Written) : Type 0 where
+  pub q : Place
+  pub is : w ≡ On (Kept q)
+  pub keeps : KeepsOff o q s t
 
 -- No version entry of the table is free, so a page more is wanted there.
 pub record WantsVersions (x e : ℕ) (s t : State) (w : Written) : Type 0 where
@@ -76,8 +75,8 @@ pub record WantsVersions (x e : ℕ) (s t : State) (w : Written) : Type 0 where
   pub extends : ExtendsFor x (Versions e) Wanted s t w
 
 -- one of these two
-abbrev pub EndsKeeping : ℕ → ℕ → Place → RowVersion → State → State → Written → Type 0
-EndsKeeping x e at v s t w = KeepsFirst x e at v s t w ⊎ WantsVersions x e s t w
+abbrev pub EndsKeeping : Off → State → State → Written → Type 0
+EndsKeeping o s t w = KeepsFirst o s t w ⊎ WantsVersions o.x o.e s t w
 
 -- ---- a slot has the key
 
@@ -105,7 +104,7 @@ pub record KeepsOne (wish : Wish) (at : Place) (kept : Option Place) (s t : Stat
   pub new : kept ≡ None
   pub version : RowVersion
   pub is : IsToKeep (width_in (area_in s) wish.entry) ((area_in s).slot at) version
-  pub ends : EndsKeeping wish.x wish.entry at version s t w
+  pub ends : EndsKeeping (off wish.x wish.entry at version) s t w
 
 -- one of these two
 abbrev pub EndsOver : Wish → Place → Option Place → State → State → Written → Type 0

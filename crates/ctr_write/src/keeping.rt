@@ -13,7 +13,7 @@ ghost use Rattle.ctr_page_turns.specs.Turns.{Turns};
 ghost use Rattle.ctr_write.specs.declared.stages.Stage.TheVariants.{Kept};
 ghost use Rattle.ctr_write.specs.declared.stages.Written.TheVariants.{On};
 ghost use Rattle.ctr_write.specs.Stages.{LeavesItem};
-ghost use Rattle.ctr_write.specs.Keeping.{IsCopyFor, MayKeepAt, KeepsOff};
+ghost use Rattle.ctr_write.specs.Keeping.{IsCopyFor, MayKeepAt, off, KeepsOff};
 
 use crate::misfit::misfit;
 use crate::stages::{Stage, Written};
@@ -61,7 +61,7 @@ fn lay<D: Disk, O: Origin>(
     ensures turns { Turns O.first D.Disk store.old store.new result }
     ensures is { IfOk result (λ w. (w ≡ On (Kept place)) × LeavesItem w store.old.meta store.new.meta) }
     ensures steps { (e : ℕ) (at : PlaceOf) (v : RowVersion) → WhereSound O.first D.Disk (MayKeepAt x e place store.old.now → IsCopyFor e at v version.now store.old.now
-        → IfOk result (λ w. KeepsOff x e at v place store.old.now store.new.now)) }
+        → IfOk result (λ w. KeepsOff (off x e at v) place store.old.now store.new.now)) }
 {
     a_turn_goes_on::<D, (), Written>();
     a_record_acts::<D>();
@@ -90,7 +90,7 @@ pub(crate) fn keep_off<D: Disk, O: Origin>(
     ensures turns { (a : View D) → LeavesPage {T = ⊤} O.first D.Disk a store.old (Ok tt) → Turns O.first D.Disk a store.new result }
     ensures is { IfOk result (λ w. (w ≡ On (Kept place)) × LeavesItem w store.old.meta store.new.meta) }
     ensures steps { (e : ℕ) (at : PlaceOf) (v : RowVersion) → WhereSound O.first D.Disk (MayKeepAt x e place store.old.now → IsCopyFor e at v version.now store.old.now
-        → IfOk result (λ w. KeepsOff x e at v place store.old.now store.new.now)) }
+        → IfOk result (λ w. KeepsOff (off x e at v) place store.old.now store.new.now)) }
 {
     a_turn_goes_on::<D, (), Written>();
     let width = version.version.payload.as_slice().len();

@@ -8,7 +8,7 @@ ghost use Rattle.ctr_kept.specs.Turns.{Start, carrying};
 ghost use Rattle.ctr_stops.specs.World.{KeepsWorld};
 ghost use Rattle.ctr_page_turns.specs.Turns.{LogsAtRest};
 ghost use Rattle.ctr_write.specs.declared.stages.Stage.TheVariants.{Looking};
-ghost use Rattle.ctr_write.specs.Keeping.{KeepsOff};
+ghost use Rattle.ctr_write.specs.Keeping.{off, KeepsOff};
 ghost use Rattle.ctr_write.specs.Steps.{MayTakeTurn};
 ghost use Rattle.ctr_write.specs.Carrying.{KeptOf, facts_kept, IsAtWrite, wish_of};
 
@@ -23,7 +23,7 @@ pub fn a_turn_of_a_write_is_kept<D: Disk>()
     ensures may { (c : Start) (opened : D) (a : View D) (w : Mind) (writes : IsAtWrite D.Disk c opened a w) → MayTakeTurn (wish_of writes) writes.stage a.now }
     ensures kept { (c : Start) (opened : D) (a b : View D) (w : Mind) (writes : IsAtWrite D.Disk c opened a w) (of : KeptOf writes.title writes.key) (q : Place)
         → writes.stage ≡ Looking → LogsAtRest D.Disk a b → of.slot ≡ (area_in a.now).slot of.at
-        → KeepsOff writes.seat.session.me writes.entry of.at of.version q a.now b.now
+        → KeepsOff (off writes.seat.session.me writes.entry of.at of.version) q a.now b.now
         → KeepsWorld D.Disk c opened b (carrying writes.s (facts_kept writes.title writes.entry of q) w) }
 {
     what_is_done_stays();

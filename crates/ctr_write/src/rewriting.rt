@@ -9,6 +9,7 @@ ghost use Rattle.ctr_pvs.specs.Slots.{SlotLiesAt};
 ghost use Rattle.ctr_pvs.specs.Writing.{entry_width};
 ghost use Rattle.ctr_page_turns.specs.Turns.{Turns};
 ghost use Rattle.ctr_write.specs.Stages.{IsCountedWrite, LeavesItem};
+ghost use Rattle.ctr_write.specs.Keeping.{off};
 ghost use Rattle.ctr_write.specs.Steps.{MayKeepFirst, EndsKeeping, MayWriteOver, EndsOver};
 
 use crate::extending::more;
@@ -43,7 +44,7 @@ pub(crate) fn keep_first<D: Disk, O: Origin>(
     ensures inside { IfOk result (λ w. IsCountedWrite w store.new.now.counted) }
     ensures left { IfOk result (λ w. LeavesItem w store.old.meta store.new.meta) }
     ensures steps { (at : PlaceOf) (v : RowVersion) → WhereSound O.first D.Disk (MayKeepFirst x entry at v version.now store.old.now
-        → IfOk result (EndsKeeping x entry at v store.old.now store.new.now)) }
+        → IfOk result (EndsKeeping (off x entry at v) store.old.now store.new.now)) }
 {
     a_turn_goes_on::<D, Option<Place>, Written>();
     room_is_still_there::<D>();

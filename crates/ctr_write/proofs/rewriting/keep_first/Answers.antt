@@ -10,7 +10,7 @@ use Rattle.ctr_write.specs.declared.stages.Stage.TheVariants.{Kept}
 use Rattle.ctr_write.specs.declared.stages.Written.TheVariants.{On}
 use Rattle.ctr_write.specs.Stages.{IsCountedWrite, LeavesItem}
 use Rattle.ctr_write.specs.Extending.{ExtendsFor}
-use Rattle.ctr_write.specs.Keeping.{IsCopyFor, MayKeepAt, KeepsOff}
+use Rattle.ctr_write.specs.Keeping.{IsCopyFor, MayKeepAt, off, KeepsOff}
 use Rattle.ctr_write.proofs.Ending.{so_far, left_so, wants_versions, keeps_first, free_at}
 use Rattle.ctr_write.proofs.rewriting.keep_first.Goals as goal
 
@@ -55,7 +55,7 @@ returns-in-Some-clause-steps g c = λ at v told sound may.
     let t = c.keep_off.new.store.now in
     let same = (c.in-Ok.ensures.leaves.logs told sound).now in
     let found = c.in-Ok.ensures.finds told sound may.sound.sound.readable in
-    let P : State → Type 0 = λ u. MayKeepAt x e q u → IsCopyFor e at v entry u → IfOk c.keep_off.result (λ w. KeepsOff x e at v q u t) in
+    let P : State → Type 0 = λ u. MayKeepAt x e q u → IsCopyFor e at v entry u → IfOk c.keep_off.result (λ w. KeepsOff (off x e at v) q u t) in
     let steps = subst P same (c.keep_off.ensures.steps e at v told sound) in
     keeps_first x e at v s t q (λ w. LeavesItem w c.find_free_entry.new.store.meta c.keep_off.new.store.meta) c.keep_off.result c.keep_off.ensures.is
     (steps (record { sound = may.sound; is_open = may.is_open; free = free_at e s c.in-Ok.free q c.in-Some.is found }) may.copy)
