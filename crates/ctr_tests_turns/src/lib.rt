@@ -12,3 +12,5 @@ mod rolling;
 mod sessions;
 #[cfg(test)]
 mod stores;
+#[cfg(test)]
+mod writing;
