@@ -1,5 +1,6 @@
 // A table is dropped.
-ghost use Rattle.std.specs.Prelude.{◌<◌, OnOk};
+ghost use Rattle.std.specs.Prelude.{◌≡◌, ◌<◌, OnOk, IfErr};
+ghost use Rattle.ctr_disk.specs.declared.fault.StoreFault.TheVariants.{Fault};
 ghost use Rattle.ctr_base.specs.Base.{WhereSound};
 ghost use Rattle.ctr_walk.specs.OneRecord.{HasRoomForOne};
 ghost use Rattle.ctr_actions.specs.Actions.{Drops};
@@ -11,7 +12,7 @@ ghost use Rattle.ctr_ddl.specs.Tables.{MayDrop};
 use ctr_base::Origin;
 use ctr_catalog::drop_table;
 use ctr_disk::{Disk, StoreFault};
-use ctr_page_turns::a_record_acts;
+use ctr_page_turns::{a_record_acts, a_record_is_refused_by_the_disk_alone};
 use ctr_passed::owed_records_are_laid_as_their_actions;
 use ctr_store::Store;
 use ctr_types::Xid;
@@ -31,7 +32,11 @@ pub fn drop_live<D: Disk, O: Origin>(
     ensures left { OnOk result (AddsItems 1 store.old.meta store.new.meta) }
     // What its record owes is met, and its bytes pass their checks.
     ensures drops { WhereSound O.first D.Disk (MayDrop x entry store.old.now → OnOk result (ActsBy x (Drops entry) store.old.now store.new.now)) }
+    // It is refused for no other cause than that the disk failed.
+    ensures refused { WhereSound O.first D.Disk (MayDrop x entry store.old.now → IfErr result (λ e. e ≡ Fault)) }
 {
+    let _tables = store.meta();
+    a_record_is_refused_by_the_disk_alone::<D, ()>();
     a_record_acts::<D>();
     owed_records_are_laid_as_their_actions();
     match drop_table(store, x, entry) {

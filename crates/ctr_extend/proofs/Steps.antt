@@ -1,7 +1,17 @@
 -- What each record leaves of what is counted on.
-use Rattle.std.proofs.Common.{◌≡◌, ◌≢◌, ℕ, Bool, Result, Ok, Err, refl, sym, subst}
-use Rattle.std.specs.Prelude.{IfOk}
+use Rattle.std.proofs.Common.{◌≡◌, ◌≢◌, ℕ, Bool, Result, Ok, Err, refl, sym, ◌∙◌, ap, subst, ◌<◌}
+use Rattle.std.proofs.lemmas.Bool.{false≢true}
+use Rattle.std.specs.Prelude.{IfOk, IfErr, is_ok, Option}
 use Rattle.ctr_disk.specs.declared.fault.StoreFault.{StoreFault}
+use Rattle.ctr_disk.specs.declared.fault.StoreFault.TheVariants.{Fault, Damaged}
+use Rattle.ctr_page.specs.declared.walk.BadChain.{BadChain}
+use Rattle.ctr_page.specs.declared.walk.BadChain.TheVariants.{OnPage, TooLong}
+use Rattle.ctr_page.specs.declared.checks.Chain.TheVariants.{Rows, Versions}
+use Rattle.ctr_page.specs.Damage.{chain_entry}
+use Rattle.ctr_record_effects.specs.States.{pages_in}
+use Rattle.ctr_record_effects.specs.Standing.{IsDatabaseState}
+use Rattle.ctr_walk.specs.Damage.{EndsTold}
+use Rattle.ctr_walk.specs.Tables.{IsChain, EndsFirst}
 use Rattle.ctr_page.specs.declared.checks.Chain.{Chain}
 use Rattle.ctr_redo.specs.States.{State}
 use Rattle.ctr_alloc.specs.Free.{IsNextFree}
@@ -44,3 +54,15 @@ taken_still x chain page next s way = record { holds = (way.holds.0.0, way.holds
 -- what a search for a free page has found is what was matched
 pub free_so : (counted : ℕ) (taken : ℕ → Bool) (n m : NextFree) → n ≡ m → IsNextFree counted taken n → IsNextFree counted taken m
 free_so counted taken n m is free = subst (λ (k : NextFree). IsNextFree counted taken k) is free
+
+-- the entry of a table passes its check, so its first page is told, or the disk failed
+pub first_undamaged : (told : BadChain → StoreFault) (s : State) → IsDatabaseState s → (chain : Chain) → IsChain chain → (result : Result (Option ℕ) StoreFault)
+    → EndsTold told (EndsFirst s.counted (pages_in s) chain) result → IfErr result (λ e. e ≡ Fault)
+first_undamaged told s sound chain is (Ok found) ends = tt
+first_undamaged told s sound chain is (Err Fault) ends = refl
+first_undamaged told s sound chain is (Err (Damaged d)) (OnPage q bad, ends, t) = absurd (false≢true (ap is_ok (sym ends.1 ∙ sound.passed.entries (chain_entry chain) (few chain is))))
+  where
+    few : (chain : Chain) → IsChain chain → chain_entry chain < 32
+    few (Rows e b) is = is.0
+    few (Versions e) is = is
+first_undamaged told s sound chain is (Err (Damaged d)) (TooLong last most, ends, t) = absurd ends

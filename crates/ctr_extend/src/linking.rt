@@ -1,5 +1,6 @@
 // A page that is empty is put in front of its chain.
-ghost use Rattle.std.specs.Prelude.{◌≡◌, ◌<◌, ◌≤◌, ℕ, IfOk};
+ghost use Rattle.std.specs.Prelude.{IfErr, ◌≡◌, ◌<◌, ◌≤◌, ℕ, IfOk};
+ghost use Rattle.ctr_disk.specs.declared.fault.StoreFault.TheVariants.{Fault};
 ghost use Rattle.ctr_base.specs.Base.{WhereSound};
 ghost use Rattle.ctr_page.specs.declared.checks.Chain.TheVariants.{Rows, Versions};
 ghost use Rattle.ctr_record_effects.specs.States.{area_in};
@@ -16,7 +17,9 @@ use ctr_base::Origin;
 use ctr_disk::{Disk, StoreFault};
 use ctr_heap::link;
 use ctr_page::Chain;
-use ctr_page_turns::{a_record_acts, a_turn_goes_on, an_item_goes};
+use ctr_page_turns::{
+    a_record_acts, a_record_is_refused_by_the_disk_alone, a_turn_goes_on, an_item_goes,
+};
 use ctr_passed::owed_records_are_laid_as_their_actions;
 use ctr_record_laws::pages_are_in_bounds;
 use ctr_records::PageNo;
@@ -39,8 +42,11 @@ fn link_rows<D: Disk, O: Origin>(
     ensures is { IfOk result (λ e. (e ≡ IsLinked) × LeavesRoom e store.old.meta store.new.meta) }
     ensures steps { (next : ℕ) → WhereSound O.first D.Disk (MayExtend x (Rows entry bucket) (Made page next) store.old.now → next ≡ first_of_chain (area_in store.old.now) (Rows entry bucket)
         → IfOk result (λ e. PutsInFront x (Rows entry bucket) page next store.old.now store.new.now)) }
+    ensures refused { (next : ℕ) → WhereSound O.first D.Disk (MayExtend x (Rows entry bucket) (Made page next) store.old.now → next ≡ first_of_chain (area_in store.old.now) (Rows entry bucket) → IfErr result (λ e. e ≡ Fault)) }
 {
     store.counts_pages();
+    let _tables = store.meta();
+    a_record_is_refused_by_the_disk_alone::<D, ()>();
     a_turn_goes_on::<D, (), Extended>();
     a_record_acts::<D>();
     an_item_goes();
@@ -69,8 +75,11 @@ fn link_versions<D: Disk, O: Origin>(
     ensures is { IfOk result (λ e. (e ≡ IsLinked) × LeavesRoom e store.old.meta store.new.meta) }
     ensures steps { (next : ℕ) → WhereSound O.first D.Disk (MayExtend x (Versions entry) (Made page next) store.old.now → next ≡ first_of_chain (area_in store.old.now) (Versions entry)
         → IfOk result (λ e. PutsInFront x (Versions entry) page next store.old.now store.new.now)) }
+    ensures refused { (next : ℕ) → WhereSound O.first D.Disk (MayExtend x (Versions entry) (Made page next) store.old.now → next ≡ first_of_chain (area_in store.old.now) (Versions entry) → IfErr result (λ e. e ≡ Fault)) }
 {
     store.counts_pages();
+    let _tables = store.meta();
+    a_record_is_refused_by_the_disk_alone::<D, ()>();
     a_turn_goes_on::<D, (), Extended>();
     a_record_acts::<D>();
     an_item_goes();
@@ -99,6 +108,7 @@ pub(crate) fn link_in<D: Disk, O: Origin>(
     ensures is { IfOk result (λ e. (e ≡ IsLinked) × LeavesRoom e store.old.meta store.new.meta) }
     ensures steps { (next : ℕ) → WhereSound O.first D.Disk (MayExtend x chain (Made page next) store.old.now → next ≡ first_of_chain (area_in store.old.now) chain
         → IfOk result (λ e. PutsInFront x chain page next store.old.now store.new.now)) }
+    ensures refused { (next : ℕ) → WhereSound O.first D.Disk (MayExtend x chain (Made page next) store.old.now → next ≡ first_of_chain (area_in store.old.now) chain → IfErr result (λ e. e ≡ Fault)) }
 {
     match chain {
         Chain::Rows { entry, bucket } => link_rows(store, x, page, entry, bucket),

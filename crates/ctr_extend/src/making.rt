@@ -1,5 +1,6 @@
 // A page that is allocated is made empty.
-ghost use Rattle.std.specs.Prelude.{◌≡◌, ◌<◌, ◌≤◌, IfOk};
+ghost use Rattle.std.specs.Prelude.{IfErr, ◌≡◌, ◌<◌, ◌≤◌, IfOk};
+ghost use Rattle.ctr_disk.specs.declared.fault.StoreFault.TheVariants.{Fault};
 ghost use Rattle.ctr_base.specs.Base.{WhereSound};
 ghost use Rattle.ctr_page.specs.Making.{IsHeader};
 ghost use Rattle.ctr_record_effects.specs.Standing.{IsDatabaseState};
@@ -19,7 +20,7 @@ use ctr_base::Origin;
 use ctr_disk::{Disk, StoreFault};
 use ctr_heap::format;
 use ctr_page::{Chain, Header, PageKind};
-use ctr_page_turns::{a_record_acts, a_turn_goes_on};
+use ctr_page_turns::{a_record_acts, a_record_is_refused_by_the_disk_alone, a_turn_goes_on};
 use ctr_passed::{a_formatted_page_is_blank, pages_lie_as_their_actions};
 use ctr_records::PageNo;
 use ctr_store::Store;
@@ -62,8 +63,11 @@ pub(crate) fn make<D: Disk, O: Origin>(
     ensures left { IfOk result (λ e. LeavesRoom e store.old.meta store.new.meta) }
     ensures steps { WhereSound O.first D.Disk (IsDatabaseState store.old.now → IsOnWay x chain (Taken page) store.old.now → next ≡ first_of_chain (area_in store.old.now) chain
         → IfOk result (λ e. (e ≡ IsOn (IsMade page next)) × MakesEmpty x chain page next store.old.now store.new.now)) }
+    ensures refused { WhereSound O.first D.Disk (IsDatabaseState store.old.now → IsOnWay x chain (Taken page) store.old.now → IfErr result (λ e. e ≡ Fault)) }
 {
     store.counts_pages();
+    let _tables = store.meta();
+    a_record_is_refused_by_the_disk_alone::<D, ()>();
     a_turn_goes_on::<D, (), Extended>();
     a_record_acts::<D>();
     pages_lie_as_their_actions();

@@ -1,6 +1,7 @@
 // A page that is wanted: a free one is allocated, or more are counted.
-ghost use Rattle.std.specs.Prelude.{◌≡◌, ◌<◌, ◌≤◌, false, ℕ, Ok, IfOk};
+ghost use Rattle.std.specs.Prelude.{IfErr, ◌≡◌, ◌<◌, ◌≤◌, false, ℕ, Ok, IfOk};
 ghost use Rattle.ctr_base.specs.declared.growing.TheConstants.{MOST_PAGES};
+ghost use Rattle.ctr_disk.specs.declared.fault.StoreFault.TheVariants.{Fault};
 ghost use Rattle.ctr_base.specs.Base.{WhereSound};
 ghost use Rattle.ctr_page.specs.declared.checks.Chain.{Chain as ChainOf};
 ghost use Rattle.ctr_record_effects.specs.States.{area_in};
@@ -18,7 +19,9 @@ use ctr_actions::{an_action_gives_its_fact, growth_keeps_a_site};
 use ctr_alloc::{NextFree, alloc, next_free};
 use ctr_base::Origin;
 use ctr_disk::{Disk, StoreFault};
-use ctr_page_turns::{a_record_acts, a_turn_goes_on, room_is_still_there};
+use ctr_page_turns::{
+    a_record_acts, a_record_is_refused_by_the_disk_alone, a_turn_goes_on, room_is_still_there,
+};
 use ctr_passed::pages_lie_as_their_actions;
 use ctr_records::PageNo;
 use ctr_store::Store;
@@ -37,8 +40,11 @@ fn take<D: Disk, O: Origin>(
     ensures left { IfOk result (λ e. LeavesRoom e store.old.meta store.new.meta) }
     ensures steps { (chain : ChainOf) → WhereSound O.first D.Disk (MayExtend x chain Wanted store.old.now → IsNextFree store.old.now.counted (area_in store.old.now).taken (IsPage p)
         → IfOk result (ExtendsBy x chain Wanted store.old.now store.new.now)) }
+    ensures refused { (chain : ChainOf) → WhereSound O.first D.Disk (MayExtend x chain Wanted store.old.now → IsNextFree store.old.now.counted (area_in store.old.now).taken (IsPage p) → IfErr result (λ e. e ≡ Fault)) }
 {
     store.counts_pages();
+    let _tables = store.meta();
+    a_record_is_refused_by_the_disk_alone::<D, ()>();
     a_turn_goes_on::<D, (), Extended>();
     a_record_acts::<D>();
     pages_lie_as_their_actions();
@@ -58,6 +64,7 @@ fn grow<D: Disk, O: Origin>(store: &mut Store<D, O>) -> Result<Extended, StoreFa
     ensures left { IfOk result (λ e. LeavesRoom e store.old.meta store.new.meta) }
     ensures steps { (x : ℕ) (chain : ChainOf) → WhereSound O.first D.Disk (MayExtend x chain Wanted store.old.now → IsNextFree store.old.now.counted (area_in store.old.now).taken IsGrow
         → IfOk result (ExtendsBy x chain Wanted store.old.now store.new.now)) }
+    ensures refused { IfErr result (λ e. e ≡ Fault) }
 {
     a_turn_goes_on::<D, NextFree, ()>();
     a_turn_goes_on::<D, (), Extended>();
@@ -78,6 +85,7 @@ pub(crate) fn have<D: Disk, O: Origin>(
     ensures inside { IfOk result (λ e. IsCountedStep e store.new.now.counted) }
     ensures left { IfOk result (λ e. LeavesRoom e store.old.meta store.new.meta) }
     ensures steps { (chain : ChainOf) → WhereSound O.first D.Disk (MayExtend x chain Wanted store.old.now → IfOk result (ExtendsBy x chain Wanted store.old.now store.new.now)) }
+    ensures refused { (chain : ChainOf) → WhereSound O.first D.Disk (MayExtend x chain Wanted store.old.now → IfErr result (λ e. e ≡ Fault)) }
 {
     a_turn_goes_on::<D, NextFree, Extended>();
     room_is_still_there::<D>();

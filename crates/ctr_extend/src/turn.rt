@@ -1,5 +1,6 @@
 // One turn for a page on its way.
-ghost use Rattle.std.specs.Prelude.{◌≡◌, ◌<◌, ℕ, IfOk};
+ghost use Rattle.std.specs.Prelude.{IfErr, ◌≡◌, ◌<◌, ℕ, IfOk};
+ghost use Rattle.ctr_disk.specs.declared.fault.StoreFault.TheVariants.{Fault};
 ghost use Rattle.ctr_base.specs.Base.{WhereSound};
 ghost use Rattle.ctr_walk.specs.OneRecord.{HasRoomForOne};
 ghost use Rattle.ctr_walk.specs.Tables.{IsChain, IsFirstPage};
@@ -45,6 +46,7 @@ fn make_first<D: Disk, O: Origin>(
     ensures inside { IfOk result (λ e. IsCountedStep e store.new.now.counted) }
     ensures left { IfOk result (λ e. LeavesRoom e store.old.meta store.new.meta) }
     ensures steps { WhereSound O.first D.Disk (MayExtend x chain (Taken page) store.old.now → IfOk result (ExtendsBy x chain (Taken page) store.old.now store.new.now)) }
+    ensures refused { WhereSound O.first D.Disk (MayExtend x chain (Taken page) store.old.now → IfErr result (λ e. e ≡ Fault)) }
 {
     a_turn_goes_on::<D, Option<PageNo>, Extended>();
     room_is_still_there::<D>();
@@ -69,6 +71,7 @@ fn put_in<D: Disk, O: Origin>(
     ensures inside { IfOk result (λ e. IsCountedStep e store.new.now.counted) }
     ensures left { IfOk result (λ e. LeavesRoom e store.old.meta store.new.meta) }
     ensures steps { WhereSound O.first D.Disk (MayExtend x chain (Made page next) store.old.now → IfOk result (ExtendsBy x chain (Made page next) store.old.now store.new.now)) }
+    ensures refused { WhereSound O.first D.Disk (MayExtend x chain (Made page next) store.old.now → IfErr result (λ e. e ≡ Fault)) }
 {
     a_turn_goes_on::<D, Option<PageNo>, Extended>();
     room_is_still_there::<D>();
@@ -102,6 +105,8 @@ pub fn extend<D: Disk, O: Origin>(
     ensures left { IfOk result (λ e. LeavesRoom e store.old.meta store.new.meta) }
     // What its record owes is met, and the page is further.
     ensures steps { WhereSound O.first D.Disk (MayExtend x chain way store.old.now → IfOk result (ExtendsBy x chain way store.old.now store.new.now)) }
+    // It is refused for no other cause than that the disk failed.
+    ensures refused { WhereSound O.first D.Disk (MayExtend x chain way store.old.now → IfErr result (λ e. e ≡ Fault)) }
 {
     match way {
         OnWay::Wanted => have(store, x),

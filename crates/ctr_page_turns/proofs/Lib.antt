@@ -1,3 +1,4 @@
 pub mod Going
 pub mod Acting
 pub mod Rooms
+pub mod Why

@@ -2,8 +2,10 @@
 //! them. No program computes them.
 #![tactic(auto)]
 
+mod refusing;
 mod room;
 mod turns;
 
+pub use refusing::a_record_is_refused_by_the_disk_alone;
 pub use room::{an_item_goes, room_is_still_there};
 pub use turns::{a_record_acts, a_turn_goes_on};

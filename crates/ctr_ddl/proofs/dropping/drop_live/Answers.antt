@@ -1,6 +1,8 @@
-use Rattle.std.proofs.Common.{ap}
+use Rattle.std.proofs.Common.{ap, Err}
 use Rattle.ctr_meta.specs.Tables.{Tables}
-use Rattle.ctr_record_effects.specs.Changing.{drop_record}
+use Rattle.ctr_bytes.specs.Fields.{spelled}
+use Rattle.ctr_page.specs.declared.table.TheConstants.{DROPPER_AT}
+use Rattle.ctr_record_effects.specs.Changing.{drop_record, laid_in_entry}
 use Rattle.ctr_actions.specs.Actions.{Drops}
 use Rattle.ctr_ddl.proofs.dropping.drop_live.Goals as goal
 
@@ -23,3 +25,8 @@ returns-in-Ok-clause-drops g c = λ told sound may.
     let done = c.in-Ok.ensures in
     c.a_record_acts.ensures x (Drops e) (drop_record x e) v c.drop_table.new.store (done.one.logs told sound) may.owed (done.leaves told sound)
     (c.owed_records_are_laid_as_their_actions.ensures.drops v.now x e may.sound may.owed (done.whole told sound))
+
+pub returns-in-Err-clause-refused : goal.returns-in-Err-clause-refused
+returns-in-Err-clause-refused g c = λ told sound may.
+    c.a_record_is_refused_by_the_disk_alone.ensures c.args.x (Drops c.args.entry) (laid_in_entry c.args.entry DROPPER_AT (spelled 8 c.args.x)) c.args.store.now c.drop_table.new.store (Err c.in-Err.fault) may.sound may.owed
+    (c.meta-tables.ensures.now told sound c.requires.room.going) (c.in-Err.ensures.one.refused told sound)

@@ -1,10 +1,12 @@
-use Rattle.std.proofs.Common.{ℕ, ◌+◌, ◌<◌, [], length, Err, refl, sym, ap, subst, ◌∙◌}
+use Rattle.std.proofs.Common.{◌*◌, ℕ, ◌+◌, ◌<◌, [], length, Err, refl, sym, ap, subst, ◌∙◌}
 use Rattle.ctr_page.specs.declared.header.Header.{Header}
+use Rattle.ctr_bytes.specs.Fields.{spelled}
+use Rattle.ctr_page.specs.declared.table.TheConstants.{FIRSTS_AT}
 use Rattle.ctr_record_laws.specs.Owed.{rows_header}
 use Rattle.ctr_record_effects.specs.States.{pages_in}
 use Rattle.ctr_meta.specs.Tables.{Tables}
 use Rattle.ctr_meta.specs.declared.items.Wanted.TheVariants.{Allocation}
-use Rattle.ctr_record_effects.specs.Changing.{link_record}
+use Rattle.ctr_record_effects.specs.Changing.{link_record, laid_in_entry}
 use Rattle.ctr_passed.specs.Logged.{IsBlankPage}
 use Rattle.ctr_actions.specs.Sites.{site_of}
 use Rattle.ctr_actions.specs.Actions.{Links, Owes, site_after}
@@ -55,3 +57,13 @@ returns-in-Ok-clause-steps g c = λ next told sound may first.
         blank = tt;
       };
     }
+
+pub returns-in-Err-clause-refused : goal.returns-in-Err-clause-refused
+returns-in-Err-clause-refused g c = λ next told sound may first.
+    let x = c.args.x in
+    let p = c.args.page in
+    let v = c.args.store.now in
+    let s = v.now in
+    let blank = subst (λ (n : ℕ). HoldsFact x (HasBlank p (rows_header c.args.entry c.args.bucket n)) (site_of s)) first may.on_way.holds.0 in
+    c.a_record_is_refused_by_the_disk_alone.ensures x (Links p c.args.entry c.args.bucket) (laid_in_entry c.args.entry (FIRSTS_AT + 4 * c.args.bucket) (spelled 4 p)) v c.link.new.store (Err c.in-Err.fault) may.sound (c.what_is_held_pays.ensures.linked x (site_of s) p c.args.entry c.args.bucket blank (subst (λ (n : ℕ). c.args.bucket < n) (sym (c.a_table_can_be_linked_to.ensures.eight s c.args.entry may.there)) c.requires.there.1))
+    (c.meta-tables.ensures.now told sound c.requires.room.going) (c.in-Err.ensures.one.refused told sound)

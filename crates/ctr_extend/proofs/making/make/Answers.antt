@@ -1,8 +1,9 @@
 use Rattle.std.proofs.Common.{◌≡◌, ℕ, ◌<◌, inl, [], ◌∷◌, Err, refl, sym, ap, subst}
 use Rattle.ctr_page.specs.declared.header.Header.{Header}
 use Rattle.ctr_meta.specs.Tables.{Tables}
+use Rattle.ctr_page.specs.Making.{header_bytes}
 use Rattle.ctr_redo.specs.States.{State}
-use Rattle.ctr_record_effects.specs.Changing.{format_record}
+use Rattle.ctr_record_effects.specs.Changing.{format_record, laid_clear}
 use Rattle.ctr_store.specs.Store.{Logs}
 use Rattle.ctr_actions.specs.Sites.{site_of}
 use Rattle.ctr_actions.specs.Actions.{Formats, site_after}
@@ -59,3 +60,13 @@ returns-in-Ok-clause-steps g c = λ told sound state way first.
         };
       },
     )
+
+pub returns-in-Err-clause-refused : goal.returns-in-Err-clause-refused
+returns-in-Err-clause-refused g c = λ told sound state way.
+    let x = c.args.x in
+    let p = c.args.page in
+    let v = c.args.store.now in
+    let s = v.now in
+    let h = c.header_of.result in
+    c.a_record_is_refused_by_the_disk_alone.ensures x (Formats p h) (laid_clear p (header_bytes h)) v c.format.new.store (Err c.in-Err.fault) state way.holds.0
+    (c.meta-tables.ensures.now told sound c.requires.room.going) (c.in-Err.ensures.one.refused told sound)

@@ -1,5 +1,6 @@
-use Rattle.std.proofs.Common.{Err, refl, subst}
-use Rattle.std.specs.Prelude.{IfOk}
+use Rattle.std.proofs.Common.{◌≡◌, Err, refl, subst}
+use Rattle.std.specs.Prelude.{IfOk, IfErr}
+use Rattle.ctr_disk.specs.declared.fault.StoreFault.TheVariants.{Fault}
 use Rattle.ctr_meta.specs.Kept.{TablesKept}
 use Rattle.ctr_redo.specs.States.{State}
 use Rattle.ctr_record_effects.specs.States.{area_in}
@@ -52,3 +53,12 @@ pub returns-in-Full-clause-steps : goal.returns-in-Full-clause-steps
 returns-in-Full-clause-steps g c = λ chain told sound may.
     let free = free_so c.args.store.now.now.counted (area_in c.args.store.now.now).taken c.in-Ok.next next.Full c.in-Full.is (c.in-Ok.ensures.next told sound) in
     record { none = free.0; most = free.1; same = (c.in-Ok.ensures.leaves.logs told sound).now }
+
+pub returns-in-Err-clause-refused : goal.returns-in-Err-clause-refused
+returns-in-Err-clause-refused g c = λ chain told sound may. cc (c.in-Err.ensures.leaves.refused told sound)
+
+pub returns-in-Page-clause-refused : goal.returns-in-Page-clause-refused
+returns-in-Page-clause-refused g c = λ chain told sound may.
+    let same = (c.in-Ok.ensures.leaves.logs told sound).now in
+    subst (λ (s : State). MayExtend c.args.x chain Wanted s → IsNextFree s.counted (area_in s).taken (next.Page c.in-Page.p) → IfErr c.take.result (λ e. e ≡ Fault)) same (c.take.ensures.refused chain told sound) may
+    (free_so c.args.store.now.now.counted (area_in c.args.store.now.now).taken c.in-Ok.next (next.Page c.in-Page.p) c.in-Page.is (c.in-Ok.ensures.next told sound))

@@ -1,6 +1,6 @@
-use Rattle.std.proofs.Common.{ℕ, ◌<◌, [], ◌∷◌, Err, refl, sym, ap, subst}
+use Rattle.std.proofs.Common.{◌/◌, ℕ, ◌<◌, [], ◌∷◌, Err, refl, sym, ap, subst}
 use Rattle.ctr_meta.specs.Tables.{Tables}
-use Rattle.ctr_record_effects.specs.Changing.{alloc_record}
+use Rattle.ctr_record_effects.specs.Changing.{alloc_record, laid_at}
 use Rattle.ctr_actions.specs.Sites.{site_of}
 use Rattle.ctr_actions.specs.Actions.{Allocates, site_after}
 use Rattle.ctr_actions.specs.Facts.{HasPage, HasNoPageBut}
@@ -53,3 +53,9 @@ returns-in-Ok-clause-steps g c = λ chain told sound may next.
         blank = tt;
       };
     }
+
+pub returns-in-Err-clause-refused : goal.returns-in-Err-clause-refused
+returns-in-Err-clause-refused g c = λ chain told sound may next.
+    let v = c.args.store.now in
+    c.a_record_is_refused_by_the_disk_alone.ensures c.args.x (Allocates c.args.p) (laid_at 0 (c.args.p / 8) (c.in-Err.ensures.one.0 ∷ [])) v c.alloc.new.store (Err c.in-Err.fault) may.sound (record { is_open = may.is_open; behind_catalog = next.0.0; inside = next.1; free = next.0.1 })
+    (c.meta-tables.ensures.now told sound c.requires.room.going) (c.in-Err.ensures.one.1.refused told sound)

@@ -1,15 +1,17 @@
 use Rattle.std.proofs.Common.{◌≡◌, Err, refl, sym, ◌∙◌, subst}
-use Rattle.std.specs.Prelude.{IfOk}
+use Rattle.std.specs.Prelude.{IfOk, IfErr}
+use Rattle.ctr_disk.specs.declared.fault.StoreFault.TheVariants.{Fault}
 use Rattle.ctr_meta.specs.Kept.{TablesKept}
 use Rattle.ctr_redo.specs.States.{State}
 use Rattle.ctr_record_effects.specs.States.{area_in}
 use Rattle.ctr_record_effects.specs.Standing.{IsDatabaseState}
+use Rattle.ctr_walk.specs.Damage.{damage_told}
 use Rattle.ctr_walk.specs.Tables.{first_of_chain}
 use Rattle.ctr_extend.specs.declared.ways.OnWay.TheVariants.{Taken, Made}
 use Rattle.ctr_extend.specs.declared.ways.Extended.TheVariants.{On}
 use Rattle.ctr_extend.specs.Ways.{IsOnWay}
 use Rattle.ctr_extend.specs.Steps.{MayExtend, MakesEmpty, PutsInFront, LeavesRoom}
-use Rattle.ctr_extend.proofs.Steps.{made_again, put_in_front, taken_still}
+use Rattle.ctr_extend.proofs.Steps.{first_undamaged, made_again, put_in_front, taken_still}
 use Rattle.ctr_extend.proofs.turn.put_in.Goals as goal
 
 pub returns-then-first-next-clause-turns : goal.returns-then-first-next-clause-turns
@@ -50,3 +52,24 @@ returns-clause-steps g c = λ told sound may.
     → IfOk c.link_in.result (λ e. PutsInFront x chain page n s c.link_in.new.store.now)) same (c.link_in.ensures.steps n told sound) in
     put_in_front x chain page n c.args.store.now.now c.link_in.new.store.now c.link_in.result (λ e. LeavesRoom e c.first_page.new.store.meta c.link_in.new.store.meta) c.link_in.ensures.is
     (steps may (sym c.if-first-next.false ∙ c.number_of-first.ensures (first_of_chain (area_in c.args.store.now.now) chain) (c.in-Ok.ensures.ends told sound).1))
+
+pub returns-in-Err-clause-refused : goal.returns-in-Err-clause-refused
+returns-in-Err-clause-refused g c = λ told sound may.
+    first_undamaged (damage_told g.D.Disk c.first_page.new.store) c.args.store.now.now may.sound c.args.chain c.requires.there (Err c.in-Err.fault) (c.in-Err.ensures.ends told sound)
+
+pub returns-then-first-next-clause-refused : goal.returns-then-first-next-clause-refused
+returns-then-first-next-clause-refused g c = λ told sound may.
+    let x = c.args.x in
+    let chain = c.args.chain in
+    let same = (c.in-Ok.ensures.leaves.logs told sound).now in
+    subst (λ (s : State). IsDatabaseState s → IsOnWay x chain (Taken c.args.page) s → IfErr c.make.result (λ e. e ≡ Fault)) same (c.make.ensures.refused told sound) may.sound
+    (taken_still x chain c.args.page c.args.next c.args.store.now.now may.on_way)
+
+pub returns-clause-refused : goal.returns-clause-refused
+returns-clause-refused g c = λ told sound may.
+    let x = c.args.x in
+    let chain = c.args.chain in
+    let n = c.args.next in
+    let same = (c.in-Ok.ensures.leaves.logs told sound).now in
+    subst (λ (s : State). MayExtend x chain (Made c.args.page n) s → n ≡ first_of_chain (area_in s) chain → IfErr c.link_in.result (λ e. e ≡ Fault)) same (c.link_in.ensures.refused n told sound) may
+    (sym c.if-first-next.false ∙ c.number_of-first.ensures (first_of_chain (area_in c.args.store.now.now) chain) (c.in-Ok.ensures.ends told sound).1)
