@@ -1,11 +1,12 @@
 -- A page on its way in a World on pages: what its session carries from turn to turn.
-use Rattle.std.specs.Prelude.{◌≡◌, ℕ, ◌<◌, List, ◌∷◌}
+use Rattle.std.specs.Prelude.{◌≡◌, ℕ, ◌<◌, List, ◌∷◌, ◌++◌}
 use Rattle.ctr_disk.specs.declared.disk.Disk.{Ghosts}
 use Rattle.ctr_page.specs.declared.checks.Chain.{Chain}
 use Rattle.ctr_page.specs.Damage.{chain_entry}
 use Rattle.ctr_area.specs.Areas.{Title}
 use Rattle.ctr_actions.specs.Facts.{Fact, IsOpen, HasTable}
 use Rattle.ctr_store.specs.Store.{View}
+use Rattle.ctr_kept.specs.Tables.{AreTables}
 use Rattle.ctr_kept.specs.Walk.{Mind}
 use Rattle.ctr_kept.specs.Turns.{Start, InTransaction}
 use Rattle.ctr_stops.specs.World.{KeepsWorld}
@@ -34,7 +35,8 @@ HasLogged Linked = Unit {0}
 HasLogged Grown = ⊥
 HasLogged Full = ⊥
 
--- A World in which a session that has a number wants a page, and so far it is.
+-- A World in which a session that has a number wants a page, and so far it is. Beside that it counts
+-- on the tables in which it has locks.
 pub record WantsPage {D : Type 0} (g : Ghosts D) (c : Start) (opened : D) (a : View D) (w : Mind)
     : Type 0 where
   pub s : ℕ
@@ -44,4 +46,6 @@ pub record WantsPage {D : Type 0} (g : Ghosts D) (c : Start) (opened : D) (a : V
   pub way : OnWay
   pub keeps : KeepsWorld g c opened a w
   pub some : 0 < seat.session.me
-  pub carries : w.facts s ≡ facts_on_way title chain way
+  pub more : List Fact
+  pub tables : AreTables more
+  pub carries : w.facts s ≡ facts_on_way title chain way ++ more

@@ -1,4 +1,5 @@
 // A page on its way in a World on pages. A call does nothing: what it ensures is the law.
+ghost use Rattle.std.specs.Prelude.{◌++◌};
 ghost use Rattle.ctr_store.specs.Store.{View};
 ghost use Rattle.ctr_kept.specs.Walk.{Mind};
 ghost use Rattle.ctr_kept.specs.Turns.{Start, carrying};
@@ -19,7 +20,7 @@ pub fn a_turn_for_a_page_is_kept<D: Disk>()
     ensures may { (c : Start) (opened : D) (a : View D) (w : Mind) (wants : WantsPage D.Disk c opened a w) → MayExtend wants.seat.session.me wants.chain wants.way a.now }
     ensures kept { (c : Start) (opened : D) (a b : View D) (w : Mind) (wants : WantsPage D.Disk c opened a w) (e : Extended) → HasLogged e → LogsAtRest D.Disk a b
         → ExtendsBy wants.seat.session.me wants.chain wants.way a.now b.now e
-        → KeepsWorld D.Disk c opened b (carrying wants.s (facts_on_way wants.title wants.chain (way_behind e)) w) }
+        → KeepsWorld D.Disk c opened b (carrying wants.s (facts_on_way wants.title wants.chain (way_behind e) ++ wants.more) w) }
 {
     what_is_done_stays();
     a_turn_without_an_entry_is_kept();

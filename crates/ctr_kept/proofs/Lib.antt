@@ -1,5 +1,6 @@
 pub mod Undo
 pub mod Carried
+pub mod Tables
 pub mod Walking
 pub mod LeftBy
 pub mod Turning

@@ -1,4 +1,5 @@
 pub mod Carried
+pub mod Tables
 pub mod Undo
 pub mod Walk
 pub mod Turns

@@ -1,5 +1,5 @@
 -- A World over the turns of a rollback.
-use Rattle.std.proofs.Common.{◌≡◌, ⊎_elim, inl, inr, ℕ, ◌+◌, ◌<◌, ◌==◌, Bool, true, false, cond, List, [], ◌∷◌, ◌++◌, refl, sym, ◌∙◌, ap, subst}
+use Rattle.std.proofs.Common.{◌≡◌, ⊎_elim, inl, inr, ℕ, ◌+◌, ◌<◌, ◌==◌, Bool, true, false, cond, List, [], ◌∷◌, ◌++◌, refl, sym, ◌∙◌, ap, subst, arith}
 use Rattle.std.proofs.lemmas.Bool.{false≢true, eqb-true}
 use Rattle.std.specs.Ordering.{nat_cmp}
 use Rattle.std.specs.FinMap.Entries.{find}
@@ -13,15 +13,20 @@ use Rattle.ctr_versions.proofs.Keys.{some_is}
 use Rattle.ctr_versions.specs.Engine.{SessionHeld}
 use Rattle.ctr_records.specs.declared.record.SlogItem.{SlogItem}
 use Rattle.ctr_records.specs.declared.record.SlogItem.TheVariants.{AllocOf, FreeOf, CreateOf, DropOf}
-use Rattle.ctr_area.specs.Sound.{IsSchemaItem}
 use Rattle.ctr_record_laws.specs.Owed.{IsLastItem}
 use Rattle.ctr_names.specs.Held.{IsNameHeldBy}
+use Rattle.ctr_area.specs.Areas.{Title}
+use Rattle.ctr_area.specs.Sound.{IsAmong, IsSchemaItem}
+use Rattle.ctr_actions.specs.Facts.{Fact, IsOpen, HasPage, HasNoPageBut, HasBlank, HasSlot, HasCopy, HasTable, HoldsFact, IsAway, IsBeside}
 use Rattle.ctr_actions.specs.Sites.{Site}
 use Rattle.ctr_actions.specs.Actions.{undoing}
 use Rattle.ctr_actions.proofs.Latest.{last_among}
 use Rattle.ctr_paged.specs.Shown.{Scene}
 use Rattle.ctr_paged.specs.Moving.{IsActing, MovesTo}
-use Rattle.ctr_kept.specs.Carried.{Covers}
+use Rattle.ctr_kept.specs.Carried.{Covers, IsUnderLock}
+use Rattle.ctr_kept.specs.Tables.{IsTable}
+use Rattle.ctr_kept.proofs.Tables.{carries_more, uses_more}
+use Rattle.ctr_rollback.specs.Keeping.{AreOthersTables}
 use Rattle.ctr_kept.specs.Walk.{Mind}
 use Rattle.ctr_kept.specs.Turns.{Start, KeepsRun, InTransaction, Carries, carrying, undoing_mind, scene_now}
 
@@ -30,19 +35,19 @@ pub carries_none : (x : ℕ) (t : Transaction) (site : Site) → Carries x t [] 
 carries_none x t site = record { held = λ fact in_. absurd in_; tables = λ fact e in_ is. absurd in_ }
 
 -- the session within its rollback
-abbrev pub undoing_seat : (c : Start) (w : Mind) (s : ℕ) (seat : InTransaction c w s) → InTransaction c (undoing_mind s seat.session [] w) s
-undoing_seat c w s seat = record {
+abbrev pub undoing_seat : (c : Start) (w : Mind) (s : ℕ) (seat : InTransaction c w s) (more : List Fact) → InTransaction c (undoing_mind s seat.session more w) s
+undoing_seat c w s seat more = record {
   session = record seat.session { undoing = true };
   t = seat.t;
   at = find-put-same s (record seat.session { undoing = true }) w.run.sessions;
   is_t = seat.is_t;
 }
 
--- it carries nothing once more
-pub nothing_twice : (s : ℕ) (b : SessionHeld) (w : Mind) → carrying s [] (undoing_mind s b [] w) ≡ undoing_mind s b [] w
-nothing_twice s b w = λ i. record (undoing_mind s b [] w) { facts = λ r. twice (r == s) (w.facts r) i }
+-- it carries the same once more
+pub same_twice : (s : ℕ) (b : SessionHeld) (more : List Fact) (w : Mind) → carrying s more (undoing_mind s b more w) ≡ undoing_mind s b more w
+same_twice s b more w = λ i. record (undoing_mind s b more w) { facts = λ r. twice (r == s) (w.facts r) i }
   where
-    twice : {A : Type 0} (b : Bool) (xs : List A) → cond b [] (cond b [] xs) ≡ cond b [] xs
+    twice : (b : Bool) (xs : List Fact) → cond b more (cond b more xs) ≡ cond b more xs
     twice true xs = refl
     twice false xs = refl
 
@@ -62,6 +67,48 @@ module _ (c : Start) (now s : ℕ) (site : Site) (w : Mind) (keeps : KeepsRun c 
   undoing_covered (FreeOf p) last = absurd (false≢true (last_among seat.session.me (FreeOf p) site.tables.items last).1)
   undoing_covered (CreateOf y e) last = let found = last_among seat.session.me (CreateOf y e) site.tables.items last in its_name y e (eqb-true y seat.session.me found.1) (inl found.0)
   undoing_covered (DropOf y e) last = let found = last_among seat.session.me (DropOf y e) site.tables.items last in its_name y e (eqb-true y seat.session.me found.1) (inr found.0)
+
+-- tables that others made, and that are counted on, are none of those that the transaction made or dropped
+module _ (c : Start) (now s : ℕ) (site : Site) (w : Mind) (keeps : KeepsRun c now site w) (seat : InTransaction c w s) (some : 0 < seat.session.me) (more : List Fact) (its : AreOthersTables seat (w.facts s) more) where
+  pub its_held : (f : Fact) → IsAmong f more → HoldsFact seat.session.me f site
+  its_held f in_ = keeps.scene.carried.held s seat.session f seat.at (its.among f in_)
+
+  pub its_under : (f : Fact) → IsAmong f more → IsUnderLock seat.t f site
+  its_under f in_ = keeps.scene.carried.under s seat.t f seat.is_t (its.among f in_)
+
+  above_zero : (n : ℕ) → 0 < n → n ≡ 0 → ⊥
+  above_zero n lt is = omega (arith, lt, is)
+
+  apart_item : (i : SlogItem) → IsLastItem seat.session.me i site.tables.items → (e : ℕ) (title : Title) → IsAmong (HasTable e title) more → IsAway (undoing i) (HasTable e title)
+  apart_item (AllocOf y p) last e title in_ = tt
+  apart_item (FreeOf p) last e title in_ = tt
+  apart_item (CreateOf y f) last e title in_ = λ is.
+      let found = last_among seat.session.me (CreateOf y f) site.tables.items last in
+      let made = keeps.scene.shown.paged.sound.names.creates y f found.0 in
+      its.others e title in_ (ap (λ (t : Title). t.creator) (sym (its_held (HasTable e title) in_)) ∙ ap (λ n. (site.area.title n).creator) is ∙ made.1 ∙ eqb-true y seat.session.me found.1)
+  apart_item (DropOf y f) last e title in_ = λ is.
+      let found = last_among seat.session.me (DropOf y f) site.tables.items last in
+      let dropped = keeps.scene.shown.paged.sound.names.drops y f found.0 in
+      above_zero seat.session.me some (sym (eqb-true y seat.session.me found.1) ∙ sym dropped.1 ∙ ap (λ n. (site.area.title n).dropper) (sym is) ∙ ap (λ (t : Title). t.dropper) (its_held (HasTable e title) in_) ∙ (its_under (HasTable e title) in_).2)
+
+  pub apart_fact : (i : SlogItem) → IsLastItem seat.session.me i site.tables.items → (f : Fact) → IsTable f → IsAmong f more → IsAway (undoing i) f × IsBeside (undoing i) f
+  apart_fact i last (HasTable e title) is in_ = (apart_item i last e title in_, beside i)
+    where
+      beside : (i : SlogItem) → IsBeside (undoing i) (HasTable e title)
+      beside (AllocOf y p) = tt
+      beside (FreeOf p) = tt
+      beside (CreateOf y f) = tt
+      beside (DropOf y f) = tt
+  apart_fact i last IsOpen is in_ = absurd is
+  apart_fact i last (HasPage p) is in_ = absurd is
+  apart_fact i last (HasNoPageBut ps) is in_ = absurd is
+  apart_fact i last (HasBlank p h) is in_ = absurd is
+  apart_fact i last (HasSlot e at slot) is in_ = absurd is
+  apart_fact i last (HasCopy e at v q) is in_ = absurd is
+
+  -- so they are carried, wherever their titles stay
+  pub its_carried : (z : Site) → ((f : Fact) → IsAmong f more → HoldsFact seat.session.me f z) → Carries seat.session.me seat.t more z
+  its_carried z held = carries_more seat.session.me more its.tables seat.t seat.t site z [] its_under (uses_more seat.t seat.t (λ name is. is) (λ name is. is)) held (carries_none seat.session.me seat.t z)
 
 -- what undoes an item is to the model nothing
 pub undoing_moves : (low x : ℕ) (site : Site) (scene : Scene) (by : IsActing scene x) → by.session.undoing ≡ true → (i : SlogItem) → MovesTo low x (undoing i) site scene scene

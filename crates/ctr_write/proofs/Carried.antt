@@ -19,6 +19,8 @@ use Rattle.ctr_actions.specs.Facts.{Fact, IsOpen, HasTable, HasBlank, HasNoPageB
 use Rattle.ctr_passed.specs.Logged.{IsBlankPage}
 use Rattle.ctr_kept.specs.Carried.{IsUnderLock, IsOfEntry}
 use Rattle.ctr_kept.specs.Turns.{Carries}
+use Rattle.ctr_kept.proofs.Tables.{among_first}
+use Rattle.ctr_extend.specs.Ways.{way_facts}
 use Rattle.ctr_extend.proofs.Carrying.{way_held, blank_way}
 use Rattle.ctr_write.specs.declared.stages.Stage.{Stage}
 use Rattle.ctr_write.specs.declared.stages.Stage.TheVariants.{Looking, Extending, Kept}
@@ -30,21 +32,21 @@ of_table : (e : ℕ) (key : ℤ) (chain : Chain) → IsChainFor e key chain → 
 of_table e key chain (inl is) = sym (ap chain_entry is)
 of_table e key chain (inr is) = sym (ap chain_entry is)
 
-module _ (x : ℕ) (title : Title) (e : ℕ) (key : ℤ) (s : State) (facts : List Fact) (has : (area_in s).title e ≡ title)
+module _ (x : ℕ) (title : Title) (e : ℕ) (key : ℤ) (s : State) (more facts : List Fact) (has : (area_in s).title e ≡ title)
     (held : (f : Fact) → IsAmong f facts → HoldsFact x f (site_of s)) (blank : (p : ℕ) (h : Header) → IsAmong (HasBlank p h) facts → IsBlankPage p h s) where
   -- the facts of a stage give that the Write is so far
-  pub at_stage : (stage : Stage) → AreOfStage title e key stage facts → IsAtStage x e key stage s
+  pub at_stage : (stage : Stage) → AreOfStage title e key stage more facts → IsAtStage x e key stage s
   at_stage Looking are = held (HasNoPageBut []) (subst (λ (l : List Fact). IsAmong (HasNoPageBut []) l) (sym are) (inr (inr (inl refl))))
   at_stage (Extending chain way) are = (
     are.0,
     record {
-      holds = way_held x chain way (site_of s) (λ f in_. held f (subst (λ (l : List Fact). IsAmong f l) (sym are.1) (inr (inr in_))));
-      blank = blank_way chain way s (λ p h in_. blank p h (subst (λ (l : List Fact). IsAmong (HasBlank p h) l) (sym are.1) (inr (inr in_))));
+      holds = way_held x chain way (site_of s) (λ f in_. held f (subst (λ (l : List Fact). IsAmong f l) (sym are.1) (inr (inr (among_first f (way_facts chain way) more in_)))));
+      blank = blank_way chain way s (λ p h in_. blank p h (subst (λ (l : List Fact). IsAmong (HasBlank p h) l) (sym are.1) (inr (inr (among_first (HasBlank p h) (way_facts chain way) more in_)))));
     },
   )
   at_stage (Kept q) are =
       let of = are.0 in
-      let there : (f : Fact) → IsAmong f (facts_kept title e of q) → IsAmong f facts = λ f in_. subst (λ (l : List Fact). IsAmong f l) (sym are.1) in_ in (
+      let there : (f : Fact) → IsAmong f (facts_kept title e of q) → IsAmong f facts = λ f in_. subst (λ (l : List Fact). IsAmong f l) (sym are.1) (among_first f (facts_kept title e of q) more in_) in (
         held (HasNoPageBut []) (there (HasNoPageBut []) (inr (inr (inl refl)))),
         record {
           at = of.at;
@@ -80,11 +82,11 @@ module _ (x : ℕ) (t : Transaction) (title : Title) (e : ℕ) (key : ℤ) (of :
       }
 
 -- each stage carries that the transaction is open, and the table
-pub opens_table : (title : Title) (e : ℕ) (key : ℤ) (stage : Stage) (facts : List Fact) → AreOfStage title e key stage facts → IsAmong IsOpen facts × IsAmong (HasTable e title) facts
-opens_table title e key Looking facts are = subst (λ (l : List Fact). IsAmong IsOpen l × IsAmong (HasTable e title) l) (sym are) (inl refl, inr (inl refl))
-opens_table title e key (Extending chain way) facts are =
+pub opens_table : (title : Title) (e : ℕ) (key : ℤ) (stage : Stage) (more facts : List Fact) → AreOfStage title e key stage more facts → IsAmong IsOpen facts × IsAmong (HasTable e title) facts
+opens_table title e key Looking more facts are = subst (λ (l : List Fact). IsAmong IsOpen l × IsAmong (HasTable e title) l) (sym are) (inl refl, inr (inl refl))
+opens_table title e key (Extending chain way) more facts are =
     subst (λ (l : List Fact). IsAmong IsOpen l × IsAmong (HasTable e title) l) (sym are.1) (inl refl, inr (inl (ap (λ (n : ℕ). HasTable n title) (of_table e key chain are.0))))
-opens_table title e key (Kept q) facts are = subst (λ (l : List Fact). IsAmong IsOpen l × IsAmong (HasTable e title) l) (sym are.1) (inl refl, inr (inl refl))
+opens_table title e key (Kept q) more facts are = subst (λ (l : List Fact). IsAmong IsOpen l × IsAmong (HasTable e title) l) (sym are.1) (inl refl, inr (inl refl))
 
 -- no page is counted on as empty once a version was kept
 pub none_blank : (title : Title) (e : ℕ) (key : ℤ) (of : KeptOf title key) (q : Place) (p : ℕ) (h : Header) → IsAmong (HasBlank p h) (facts_kept title e of q) → ⊥

@@ -1,5 +1,5 @@
 -- The Write of a row in a World on pages: what its session carries from turn to turn.
-use Rattle.std.specs.Prelude.{◌≡◌, ℕ, ℤ, ◌<◌, true, List, [], ◌∷◌}
+use Rattle.std.specs.Prelude.{◌≡◌, ℕ, ℤ, ◌<◌, true, List, [], ◌∷◌, ◌++◌}
 use Rattle.ctr_disk.specs.declared.disk.Disk.{Ghosts}
 use Rattle.ctr_model.specs.Refusals.{has_lock}
 use Rattle.ctr_page.specs.declared.rows.Place.{Place}
@@ -9,6 +9,7 @@ use Rattle.ctr_area.specs.Areas.{Title, RowVersion, Slot}
 use Rattle.ctr_actions.specs.Facts.{Fact, IsOpen, HasTable, HasNoPageBut, HasSlot, HasCopy}
 use Rattle.ctr_store.specs.Store.{View}
 use Rattle.ctr_heap.specs.Ways.{IsHeadOf}
+use Rattle.ctr_kept.specs.Tables.{AreTables}
 use Rattle.ctr_kept.specs.Walk.{Mind}
 use Rattle.ctr_kept.specs.Turns.{Start, InTransaction}
 use Rattle.ctr_stops.specs.World.{KeepsWorld}
@@ -38,15 +39,16 @@ facts_kept title e of q =
     IsOpen ∷ HasTable e title ∷ HasNoPageBut [] ∷ HasSlot e of.at of.slot
     ∷ HasCopy e of.at of.version q ∷ []
 
--- the facts are those of a stage
-abbrev pub AreOfStage : Title → ℕ → ℤ → Stage → List Fact → Type 0
-AreOfStage title e key Looking facts = facts ≡ facts_looking title e
-AreOfStage title e key (Extending chain way) facts =
-    IsChainFor e key chain × (facts ≡ facts_on_way title chain way)
-AreOfStage title e key (Kept q) facts =
-    (of : KeptOf title key) × (facts ≡ facts_kept title e of q)
+-- the facts are those of a stage, with these more
+abbrev pub AreOfStage : Title → ℕ → ℤ → Stage → List Fact → List Fact → Type 0
+AreOfStage title e key Looking more facts = facts ≡ facts_looking title e ++ more
+AreOfStage title e key (Extending chain way) more facts =
+    IsChainFor e key chain × (facts ≡ facts_on_way title chain way ++ more)
+AreOfStage title e key (Kept q) more facts =
+    (of : KeptOf title key) × (facts ≡ facts_kept title e of q ++ more)
 
 -- A World in which a session that has a number and the lock of a row writes it, and so far it is.
+-- Beside that it counts on the tables in which it has locks.
 pub record IsAtWrite {D : Type 0} (g : Ghosts D) (c : Start) (opened : D) (a : View D) (w : Mind)
     : Type 0 where
   pub s : ℕ
@@ -61,7 +63,9 @@ pub record IsAtWrite {D : Type 0} (g : Ghosts D) (c : Start) (opened : D) (a : V
   pub by : head.xid ≡ seat.session.me
   pub head_is : IsHeadOf title.columns key head
   pub lock : has_lock title.name key seat.t ≡ true
-  pub carries : AreOfStage title entry key stage (w.facts s)
+  pub more : List Fact
+  pub tables : AreTables more
+  pub carries : AreOfStage title entry key stage more (w.facts s)
 
 -- what it asks for
 abbrev pub wish_of : {D : Type 0} {g : Ghosts D} {c : Start} {opened : D} {a : View D} {w : Mind}

@@ -1,5 +1,5 @@
 // The Write of a row in a World on pages. A call does nothing: what it ensures is the law.
-ghost use Rattle.std.specs.Prelude.{◌≡◌};
+ghost use Rattle.std.specs.Prelude.{◌≡◌, ◌++◌};
 ghost use Rattle.ctr_page.specs.declared.rows.Place.{Place};
 ghost use Rattle.ctr_record_effects.specs.States.{area_in};
 ghost use Rattle.ctr_store.specs.Store.{View};
@@ -24,7 +24,7 @@ pub fn a_turn_of_a_write_is_kept<D: Disk>()
     ensures kept { (c : Start) (opened : D) (a b : View D) (w : Mind) (writes : IsAtWrite D.Disk c opened a w) (of : KeptOf writes.title writes.key) (q : Place)
         → writes.stage ≡ Looking → LogsAtRest D.Disk a b → of.slot ≡ (area_in a.now).slot of.at
         → KeepsOff (off writes.seat.session.me writes.entry of.at of.version) q a.now b.now
-        → KeepsWorld D.Disk c opened b (carrying writes.s (facts_kept writes.title writes.entry of q) w) }
+        → KeepsWorld D.Disk c opened b (carrying writes.s (facts_kept writes.title writes.entry of q ++ writes.more) w) }
 {
     what_is_done_stays();
     a_turn_without_an_entry_is_kept();

@@ -1,0 +1,9 @@
+pub mod Counted
+pub mod Facts
+pub mod Idle
+pub mod Acting
+pub mod Rows
+pub mod Tabled
+pub mod Granting
+pub mod Silent
+pub mod Going

@@ -1,0 +1,46 @@
+-- A turn of a session in a World, and what the session counts on between two of its statements.
+use Rattle.std.specs.Prelude.{◌≡◌, ◌⊎◌, ℕ, ◌<◌, ◌≤◌, List, [], ◌∷◌, ◌++◌, None}
+use Rattle.ctr_disk.specs.declared.disk.Disk.{Ghosts}
+use Rattle.ctr_model.specs.State.{transaction_of}
+use Rattle.ctr_actions.specs.Facts.{Fact, IsOpen, HasNoPageBut}
+use Rattle.ctr_store.specs.Store.{View, LeavesFront, Logs}
+use Rattle.ctr_kept.specs.Tables.{AreTables}
+use Rattle.ctr_kept.specs.Walk.{Mind}
+use Rattle.ctr_kept.specs.Turns.{Start, InTransaction, Telling, state_now}
+use Rattle.ctr_stops.specs.World.{KeepsWorld}
+
+-- Between two statements a session that has a number counts on its transaction, and on that it has
+-- no page to link.
+abbrev pub facts_idle : List Fact
+facts_idle = IsOpen ∷ HasNoPageBut [] ∷ []
+
+-- What it counts on then: that, and tables in which it has locks; or nothing, where it has no
+-- number yet.
+abbrev pub IsIdle : ℕ → List Fact → List Fact → Type 0
+IsIdle me more facts = ((0 < me) × AreTables more × (facts ≡ facts_idle ++ more))
+    ⊎ ((me ≡ 0) × (facts ≡ []))
+
+-- A turn of a session in a transaction, in a World: it tells an act of the session's statement, at
+-- the moment at which it ends.
+pub record TellsOf {D : Type 0} (g : Ghosts D) (c : Start) (opened : D) (a b : View D) (w : Mind)
+    (s : ℕ) : Type 0 where
+  pub keeps : KeepsWorld g c opened a w
+  pub seat : InTransaction c w s
+  pub e : Telling c (g.moment_of a.disk) s
+  pub at_end : e.later ≡ g.moment_of b.disk
+
+-- A turn of a session that is in no transaction.
+pub record TellsOutside {D : Type 0} (g : Ghosts D) (c : Start) (opened : D) (a b : View D)
+    (w : Mind) (s : ℕ) : Type 0 where
+  pub keeps : KeepsWorld g c opened a w
+  pub none : transaction_of (state_now c w) s ≡ None
+  pub e : Telling c (g.moment_of a.disk) s
+  pub at_end : e.later ≡ g.moment_of b.disk
+
+-- Nothing was logged, by a call before which a crash leaves what is hardened with some of what
+-- waits, and so it does behind it.
+pub record RestsBehind {D : Type 0} (g : Ghosts D) (a b : View D) : Type 0 where
+  pub logs : Logs [] a b
+  pub front : LeavesFront g a b
+  pub rests : LeavesFront g b b
+  pub later : g.moment_of a.disk ≤ g.moment_of b.disk
