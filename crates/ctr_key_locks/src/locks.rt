@@ -74,6 +74,13 @@ impl KeyLocks {
         None
     }
 
+    /// The sessions stand in order of number, each once. The call does nothing: what it ensures always holds.
+    pub fn stands_in_order(&self)
+        ensures { IsInOrder self.now }
+    {
+        let _ = &self.sessions;
+    }
+
     // A session that has nothing is there.
     fn make_session(&mut self, alloc: Global, s: u8) -> Result<(), OutOfMemory>
         ensures same { OfSession s SameHeld self.old self.new }
