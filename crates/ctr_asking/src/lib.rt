@@ -1,0 +1,19 @@
+//! Why a Lock or a Read of a statement is refused, or that nothing speaks against it: worked out from pages, tables, transactions and
+//! locks, in the order of the refusals.
+//!
+//! Nothing here takes memory, and nothing is logged.
+#![tactic(auto)]
+
+mod asker;
+mod asking;
+mod columns;
+mod found;
+mod keys;
+mod laws;
+mod named;
+mod names;
+mod values;
+
+pub use asker::{Answer, Asker};
+pub use asking::ask;
+pub use laws::{what_tells_of_a_name_is_the_models, what_tells_of_a_row_is_the_models};
