@@ -1,5 +1,5 @@
 -- The columns of an entry of the catalog, from one on.
-use Rattle.std.proofs.Common.{◌≡◌, ℕ, zero, suc, ◌+◌, ◌-◌, ◌*◌, ◌<◌, ◌≤◌, List, [], ◌∷◌, ◌∙◌, ap, arith}
+use Rattle.std.proofs.Common.{◌≡◌, ℕ, suc, ◌+◌, ◌-◌, ◌*◌, ◌<◌, ◌≤◌, List, [], ◌∷◌, ◌∙◌, ap, arith}
 use Rattle.ctr_types.specs.declared.value.Column.{Column}
 use Rattle.ctr_bytes.specs.Fields.{field}
 use Rattle.ctr_page.specs.Columns.{columns_from, columns_in, name_in, kind_said, column_kind_at}

@@ -1,8 +1,8 @@
 -- Commit numbers, as the transactions of sessions have them and as the model counts them.
-use Rattle.std.proofs.Common.{◌≡◌, ℕ, zero, suc, ◌+◌, ◌<◌, ◌==◌, Bool, true, false, cond, List, [], ◌∷◌, Option, Some, None, refl, sym, ◌∙◌, ap, arith}
+use Rattle.std.proofs.Common.{◌≡◌, ℕ, ◌+◌, ◌<◌, ◌==◌, Bool, true, false, cond, List, [], ◌∷◌, Option, Some, None, refl, sym, ◌∙◌, ap, arith}
 use Rattle.std.specs.Prelude.{is_some, nat_lt, unwrap_or, option_and_then}
 use Rattle.std.specs.Option.{option_map_or}
-use Rattle.std.proofs.lemmas.Bool.{false≢true, lt-ltb, ltb-true, or_parts}
+use Rattle.std.proofs.lemmas.Bool.{false≢true, ltb-true, or_parts}
 use Rattle.ctr_snap.specs.Seeing.{SnapshotTaken, has}
 use Rattle.ctr_versions.specs.Chains.{above}
 use Rattle.ctr_versions.specs.Xids.{Xids, has_committed, number_of, place_from}

@@ -1,7 +1,7 @@
 -- Where nobody keeps a session from a name, and the table was not changed, whoever has the lock of a key of a table of the name has it in the
 -- entry that the session has found.
-use Rattle.std.proofs.Common.{◌≡◌, ⊎_elim, inl, ℕ, ◌<◌, ◌==◌, ℤ, Bool, true, false, cond, not, List, Option, Some, None, refl, sym, ◌∙◌, ap, subst, arith}
-use Rattle.std.specs.Prelude.{is_some, nat_lt, unwrap_or, ◌&&◌, ◌||◌}
+use Rattle.std.proofs.Common.{◌≡◌, ⊎_elim, inl, ℕ, ◌<◌, ◌==◌, ℤ, true, false, cond, not, List, Option, Some, None, refl, sym, ◌∙◌, ap, subst, arith}
+use Rattle.std.specs.Prelude.{nat_lt, ◌&&◌}
 use Rattle.std.specs.Ordering.{nat_cmp}
 use Rattle.std.specs.FinMap.Entries.{find}
 use Rattle.std.proofs.lemmas.Bool.{and_parts, eq-eqb, eqb-true, false≢true, ltb-true, ne_eqb, not-true, not-false, or_left, or_parts, or_right}
@@ -19,7 +19,6 @@ use Rattle.ctr_meta.specs.Seen.{xid_is_changed, xid_is_seen}
 use Rattle.ctr_meta.specs.Tables.{Tables, fate_in, is_in}
 use Rattle.ctr_area.specs.Areas.{Title}
 use Rattle.ctr_area.specs.Images.{is_committed_in, is_live, made_by_entry}
-use Rattle.ctr_area.specs.Sound.{IsAmong, xids_in}
 use Rattle.ctr_legal.proofs.Cover.{other_passes}
 use Rattle.ctr_record_laws.proofs.Latest.{live_some}
 use Rattle.ctr_names.specs.Held.{IsNameHeldBy}
@@ -27,7 +26,7 @@ use Rattle.ctr_names.specs.Search.{IsEntryFound}
 use Rattle.ctr_names.proofs.Entries.{name_of, named_so}
 use Rattle.ctr_actions.specs.Sites.{Site}
 use Rattle.ctr_catalog.specs.Finding.{change_made, change_since, changed_in}
-use Rattle.ctr_key_locks.specs.Held.{held_by_session, session_locks}
+use Rattle.ctr_key_locks.specs.Held.{held_by_session}
 use Rattle.ctr_key_locks.specs.Shows.{IsOnlyEntry, IsTheSame}
 use Rattle.ctr_views.proofs.Reading.{found_made}
 use Rattle.ctr_asking.specs.declared.asker.Asker.{Asker}

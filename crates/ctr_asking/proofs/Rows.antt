@@ -1,5 +1,5 @@
 -- The row of a key, as its slot tells who changed it.
-use Rattle.std.proofs.Common.{◌≡◌, ℕ, ℤ, Bool, false, List, Option, Some, None, refl, sym, ◌∙◌, ap}
+use Rattle.std.proofs.Common.{◌≡◌, ℕ, ℤ, false, Option, Some, None, ◌∙◌}
 use Rattle.std.specs.Prelude.{is_some, option_and_then}
 use Rattle.std.specs.Option.{option_map_or}
 use Rattle.ctr_meta.specs.Seen.{xid_is_changed}

@@ -1,10 +1,9 @@
 -- The table that a session finds, as the refusals have it.
-use Rattle.std.proofs.Common.{◌≡◌, ℕ, ◌<◌, ◌==◌, Bool, true, false, cond, List, [], ◌∷◌, Option, Some, None, refl, sym, ◌∙◌, ap, arith}
-use Rattle.std.specs.Prelude.{is_some, unwrap_or, option_and_then, ◌&&◌}
+use Rattle.std.proofs.Common.{◌≡◌, ℕ, ◌==◌, Bool, true, false, cond, List, [], ◌∷◌, Option, Some, None, refl, sym, ◌∙◌, ap, arith}
+use Rattle.std.specs.Prelude.{is_some, option_and_then, ◌&&◌}
 use Rattle.std.specs.Option.{option_map}
 use Rattle.std.proofs.lemmas.Bool.{and_parts, eqb-true, false≢true}
 use Rattle.ctr_types.specs.declared.statement.Statement.{Statement}
-use Rattle.ctr_types.specs.declared.tape.Refusal.{Refusal}
 use Rattle.ctr_types.specs.declared.tape.Refusal.TheVariants as refusal
 use Rattle.ctr_types.specs.declared.value.Column.{Column}
 use Rattle.ctr_types.specs.declared.value.Schema.{Schema}
@@ -12,8 +11,7 @@ use Rattle.ctr_model.specs.declared.database.Table.{Table}
 use Rattle.ctr_model.specs.Refusals.{bad_value, presence_refusals, value_refusals}
 use Rattle.ctr_versions.proofs.Keys.{some_is}
 use Rattle.ctr_area.specs.Areas.{Area, Title}
-use Rattle.ctr_area.specs.Images.{is_live, is_named_so, is_standing}
-use Rattle.ctr_meta.specs.Seen.{xid_is_seen}
+use Rattle.ctr_area.specs.Images.{is_live, is_standing}
 use Rattle.ctr_names.specs.Search.{IsEntryFound, IsNoneFound}
 use Rattle.ctr_actions.specs.Sites.{Site}
 use Rattle.ctr_catalog.specs.Columns.{columns_said}

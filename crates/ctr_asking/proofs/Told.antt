@@ -1,6 +1,6 @@
 -- What is read of an entry of the catalog is told.
-use Rattle.std.proofs.Common.{◌≡◌, ℕ, ◌+◌, ◌/◌, ◌*◌, ◌%◌, ◌<◌, cond, List, [], Option, Result, Ok, Err, refl, sym, ◌∙◌, ap}
-use Rattle.std.specs.Prelude.{⊤, IfErr, IfOk}
+use Rattle.std.proofs.Common.{◌≡◌, ℕ, ◌+◌, ◌/◌, ◌*◌, ◌%◌, ◌<◌, cond, List, [], Result, Ok, Err, refl, sym, ap}
+use Rattle.std.specs.Prelude.{⊤, IfErr}
 use Rattle.std.proofs.lemmas.Bool.{lt-ltb}
 use Rattle.ctr_types.specs.declared.statement.Statement.{Statement}
 use Rattle.ctr_disk.specs.declared.fault.StoreFault.{StoreFault}

@@ -42,7 +42,8 @@ pub record IsInside (s : ℕ) (txns : TxnsHeld) : Type 0 where
 -- its search of the catalog for a name ends with this, whatever checks the entries
 abbrev pub FindsFor : Site → TxnHeld → List ℕ → Option ℕ → Type 0
 FindsFor site txn name found = (check : ℕ → Result ⊤ BadRecord)
-    × EndsEntries check (entry_seen site.tables txn.session.snapshot (me_held txn) name site.area) (Ok found)
+    × EndsEntries check (entry_seen site.tables txn.session.snapshot (me_held txn) name site.area)
+    (Ok found)
 
 -- ---- in a scene
 

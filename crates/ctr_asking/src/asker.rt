@@ -1,6 +1,5 @@
 // Who asks, and what it is answered.
 ghost use Rattle.std.specs.Prelude.{◌≡◌};
-ghost use Rattle.ctr_txn.specs.Held.{TxnHeld};
 ghost use Rattle.ctr_asking.specs.Asking.{me_held};
 
 use ctr_key_locks::KeyLocks;

@@ -38,8 +38,8 @@ pub fn what_tells_of_a_name_is_the_models()
     the_newest_change_of_a_name_is_told();
 }
 
-/// What tells of values and of a key, where a session has found the table and nothing that tells of the name refuses it: the first bad value,
-/// who else has the key's lock, and, where nobody has, the last commit that wrote the row.
+/// What tells of values and of a key, where a session has found the table and nothing that tells of the name refuses it: the first bad
+/// value, who else has the key's lock, and, where nobody has, the last commit that wrote the row.
 pub fn what_tells_of_a_row_is_the_models()
     ensures values { (asker : WhoAsks) (site : Site) (k : Asking asker site) (statement : Asks) (name : List ℕ) (e : ℕ) → HasPassed k statement name e
         → value_refusals statement (table_at (view k.state k.t) name) ≡ option_map refusal.BadValue (bad_in statement site.area e) ∷ [] }

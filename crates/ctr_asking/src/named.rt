@@ -32,8 +32,8 @@ fn name_refusal(last: Option<u64>) -> Option<Refusal>
     }
 }
 
-// Where the table was looked for, by whether it is there, who keeps the session from the name, and the last commit that changed it. It goes on from
-// pages that were read.
+// Where the table was looked for: by whether it is there, who keeps the session from the name, and the last commit that changed it. It
+// goes on from pages that were read.
 pub(crate) fn refused_by_name<D: Disk, O: Origin>(
     store: &mut Store<D, O>,
     asker: &Asker,

@@ -1,4 +1,4 @@
-use Rattle.std.proofs.Common.{◌≡◌, ℕ, List, Option, Some, sym, ◌∙◌, ap, subst}
+use Rattle.std.proofs.Common.{◌≡◌, ℕ, List, Option, ◌∙◌, subst}
 use Rattle.std.specs.Prelude.{IfOk, option_and_then}
 use Rattle.ctr_model.specs.Refusals.{first_of, table_refusals}
 use Rattle.ctr_versions.proofs.Keys.{some_is}

@@ -1,5 +1,5 @@
-use Rattle.std.proofs.Common.{◌≡◌, ℕ, List, None, Some, Option, Ok, Err, ◌++◌, append_assoc, refl, sym, ◌∙◌, ap, subst}
-use Rattle.std.specs.Prelude.{IfOk, IfErr, ⊤}
+use Rattle.std.proofs.Common.{◌≡◌, ℕ, List, None, Option, Err, ◌++◌, append_assoc, sym, ◌∙◌, ap, subst}
+use Rattle.std.specs.Prelude.{IfOk, IfErr}
 use Rattle.ctr_types.specs.declared.tape.Refusal.{Refusal}
 use Rattle.ctr_disk.specs.declared.fault.StoreFault.TheVariants.{Fault}
 use Rattle.ctr_redo.specs.States.{State}

@@ -1,4 +1,4 @@
-use Rattle.std.proofs.Common.{◌≡◌, ◌<◌, ℕ, ℤ, None, Some, Option, Ok, ◌++◌, sym, ◌∙◌, ap, subst}
+use Rattle.std.proofs.Common.{◌≡◌, ◌<◌, ℕ, ℤ, None, Option, ◌++◌, sym, subst}
 use Rattle.std.specs.Prelude.{IfOk, IfSome}
 use Rattle.ctr_model.specs.Database.{table_at}
 use Rattle.ctr_model.specs.State.{view}

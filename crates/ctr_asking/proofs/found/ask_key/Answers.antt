@@ -1,4 +1,4 @@
-use Rattle.std.proofs.Common.{rules, ◌≡◌, w64, ℕ, ℤ, Some, Option, sym, ◌∙◌, ap, subst}
+use Rattle.std.proofs.Common.{rules, w64, ℕ, ℤ, Some, Option, sym, ◌∙◌, ap, subst}
 use Rattle.std.specs.Option.{option_map}
 use Rattle.std.proofs.lemmas.Int.{to_z-of_z}
 use Rattle.ctr_types.specs.declared.tape.Refusal.{Refusal}

@@ -1,10 +1,8 @@
-use Rattle.std.proofs.Common.{None, Some, Option, Ok, sym, ◌∙◌, ap}
-use Rattle.std.specs.Prelude.{ℕ}
+use Rattle.std.proofs.Common.{Option, sym, ◌∙◌, ap}
 use Rattle.ctr_types.specs.declared.tape.Refusal.{Refusal}
 use Rattle.ctr_model.specs.Refusals.{first_of, key_refusals}
 use Rattle.ctr_asking.specs.declared.asker.Answer.{Answer}
-use Rattle.ctr_asking.specs.declared.asker.Answer.TheVariants.{Free}
-use Rattle.ctr_asking.proofs.Reading.{read_answered, read_failed, unread_answered}
+use Rattle.ctr_asking.proofs.Reading.{read_answered, read_failed}
 use Rattle.ctr_asking.proofs.found.ask_row.Goals as goal
 
 pub returns-clause-model : goal.returns-clause-model

@@ -1,10 +1,9 @@
-use Rattle.std.proofs.Common.{◌≡◌, ℕ, None, Some, Option, [], ◌∷◌, ◌++◌, sym, ◌∙◌, ap, subst}
+use Rattle.std.proofs.Common.{◌≡◌, ℕ, Option, [], ◌∷◌, sym, ◌∙◌, ap, subst}
 use Rattle.std.specs.Prelude.{IfOk, IfErr}
 use Rattle.std.specs.Option.{option_map}
 use Rattle.ctr_types.specs.declared.tape.Refusal.TheVariants as refusal
 use Rattle.ctr_disk.specs.declared.fault.StoreFault.TheVariants.{Fault}
 use Rattle.ctr_redo.specs.States.{State}
-use Rattle.ctr_record_effects.specs.States.{area_in}
 use Rattle.ctr_record_effects.specs.Standing.{IsDatabaseState}
 use Rattle.ctr_model.specs.Database.{table_at}
 use Rattle.ctr_model.specs.State.{view}
@@ -13,7 +12,7 @@ use Rattle.ctr_actions.specs.Sites.{site_of}
 use Rattle.ctr_asking.specs.declared.asker.Answer.{Answer}
 use Rattle.ctr_asking.specs.declared.asker.Answer.TheVariants.{Refused}
 use Rattle.ctr_asking.specs.Asking.{Asking, HasPassed, refusal_told}
-use Rattle.ctr_asking.proofs.Firsts.{found_first, passed_first, one_first}
+use Rattle.ctr_asking.proofs.Firsts.{found_first}
 use Rattle.ctr_asking.proofs.Reading.{behind_answered, behind_failed, read_so_far}
 use Rattle.ctr_asking.proofs.Going.{by_first}
 use Rattle.ctr_asking.proofs.found.ask_table.Goals as goal

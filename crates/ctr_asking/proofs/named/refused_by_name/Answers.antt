@@ -1,4 +1,4 @@
-use Rattle.std.proofs.Common.{◌≡◌, ℕ, None, Some, Option, sym, ◌∙◌, ap}
+use Rattle.std.proofs.Common.{ℕ, Some, Option, sym, ◌∙◌, ap}
 use Rattle.std.specs.Option.{option_map}
 use Rattle.ctr_types.specs.declared.tape.Refusal.{Refusal}
 use Rattle.ctr_types.specs.declared.tape.Refusal.TheVariants as refusal
