@@ -1,5 +1,6 @@
 // A table is made.
-ghost use Rattle.std.specs.Prelude.{IfOk};
+ghost use Rattle.std.specs.Prelude.{◌≡◌, IfOk, IfErr};
+ghost use Rattle.ctr_disk.specs.declared.fault.StoreFault.TheVariants.{Fault};
 ghost use Rattle.ctr_value.specs.Columns.{ColumnsFit};
 ghost use Rattle.ctr_base.specs.Base.{WhereSound};
 ghost use Rattle.ctr_walk.specs.OneRecord.{HasRoomForOne};
@@ -9,10 +10,11 @@ ghost use Rattle.ctr_ddl.specs.Tables.{MayMake, MakesBy, IsEntryMade, MakingLeav
 use ctr_base::Origin;
 use ctr_catalog::{CatalogRefusal, create};
 use ctr_disk::{Disk, StoreFault};
-use ctr_page_turns::{a_record_acts, a_turn_goes_on};
+use ctr_page_turns::{a_record_acts, a_record_is_refused_by_the_disk_alone, a_turn_goes_on};
 use ctr_passed::{tables_lie_as_their_actions, tables_pass_their_checks};
 use ctr_store::Store;
 use ctr_types::{Name, Schema, Xid};
+use ctr_undamaged::a_catalog_search_meets_no_damage;
 
 /// What a turn did that was to make a table.
 #[derive(Clone, Copy, Debug, PartialEq, Eq)]
@@ -41,7 +43,12 @@ pub fn make_table<D: Disk, O: Origin>(
     ensures left { IfOk result (λ m. MakingLeaves m store.old.meta store.new.meta) }
     // What its record owes is met, and its bytes pass their checks; or no entry is free.
     ensures makes { WhereSound O.first D.Disk (MayMake x name.now store.old.now → IfOk result (MakesBy x name.now schema.now.columns store.old.now store.new.now)) }
+    // It is refused for no other cause than that the disk failed.
+    ensures refused { WhereSound O.first D.Disk (MayMake x name.now store.old.now → IfErr result (λ e. e ≡ Fault)) }
 {
+    let _tables = store.meta();
+    a_record_is_refused_by_the_disk_alone::<D, ()>();
+    a_catalog_search_meets_no_damage();
     a_turn_goes_on::<D, u8, Made>();
     a_turn_goes_on::<D, (), Made>();
     a_record_acts::<D>();

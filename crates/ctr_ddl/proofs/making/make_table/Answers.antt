@@ -1,13 +1,17 @@
-use Rattle.std.proofs.Common.{◌<◌, ◌^◌, ⊎_elim, ap, Err, refl, arith, subst}
+use Rattle.std.proofs.Common.{◌/◌, ◌*◌, ◌%◌, ◌+◌, ◌<◌, ◌^◌, ⊎_elim, ap, Err, refl, arith, subst}
 use Rattle.ctr_meta.specs.Tables.{Tables}
-use Rattle.ctr_record_effects.specs.Changing.{create_record}
+use Rattle.ctr_record_laws.specs.Owed.{OwedByCreate}
+use Rattle.ctr_area.specs.Changes.{ChangesEntry, new_title, empty_chains, with_title, with_firsts}
+use Rattle.ctr_page.specs.Columns.{new_entry_bytes}
+use Rattle.ctr_walk.specs.Damage.{damage_told}
+use Rattle.ctr_record_effects.specs.Changing.{create_record, laid_at}
 use Rattle.ctr_record_effects.specs.States.{area_in}
 use Rattle.ctr_catalog.specs.declared.writing.CatalogRefusal.{CatalogRefusal}
-use Rattle.ctr_catalog.specs.Writing.{MakesTable}
+use Rattle.ctr_catalog.specs.Writing.{MakesTable, EndsMaking}
 use Rattle.ctr_actions.specs.Actions.{Creates}
 use Rattle.ctr_page_turns.specs.Turns.{LogsARecord}
 use Rattle.ctr_ddl.specs.declared.making.Made.TheVariants.{At}
-use Rattle.ctr_ddl.proofs.Free.{is_free, isnt_free}
+use Rattle.ctr_ddl.proofs.Free.{is_free, isnt_free, refused_making}
 use Rattle.ctr_ddl.proofs.making.make_table.Goals as goal
 
 pub returns-in-Ok-clause-turns : goal.returns-in-Ok-clause-turns
@@ -61,3 +65,22 @@ returns-in-Store-clause-turns g c =
     ⊎_elim (λ read. laws.unread first v w fault (Err fault) (Err fault) read refl refl)
     (λ some. laws.failed first v w fault (Err fault) (Err fault) (LogsARecord (create_record x some.0 name columns, some.1)) refl refl)
     (subst (λ (r : CatalogRefusal). MakesTable first g.D.Disk (λ e. create_record x e name columns) v w (Err r)) c.in-Store.is c.in-Err.ensures.one)
+
+pub returns-in-Store-clause-refused : goal.returns-in-Store-clause-refused
+returns-in-Store-clause-refused g c = λ told sound may.
+    let x = c.args.x in
+    let name = c.args.name.now in
+    let columns = c.args.schema.now.columns in
+    let v = c.args.store.now in
+    let w = c.create.new.store in
+    let fault = c.in-Store.fault in
+    let area = area_in v.now in
+    let ends = subst (λ (r : CatalogRefusal). EndsMaking (damage_told g.D.Disk w) (λ e. create_record x e name columns) v w (Err r)) c.in-Store.is (c.in-Err.ensures.ends told sound) in
+    refused_making (damage_told g.D.Disk w) (λ e. create_record x e name columns) v w fault (c.a_catalog_search_meets_no_damage.ensures.free v.now may.sound)
+    (λ e lowest why.
+    let left = with_firsts e empty_chains (with_title e (new_title x name columns) area) in
+    let changes : ChangesEntry e (new_title x name columns) empty_chains area left = record { titles = λ f. refl; firsts = λ f. refl; taken = λ p. refl; headers = λ p. refl; rooms = λ p other. refl; slots = λ at other. refl; older = λ at other. refl } in
+    let owed : OwedByCreate v.now.tables area x e name = record { is_open = may.is_open; inside = lowest.1; free = is_free (area.title e).state lowest.2; unseen = may.unseen; alone = may.alone } in
+    c.a_record_is_refused_by_the_disk_alone.ensures x (Creates e name columns left) (laid_at (1 + e / 16) (256 * (e % 16)) (new_entry_bytes x name columns)) v w (Err fault) may.sound (owed, changes)
+    (c.meta-tables.ensures.now told sound c.requires.room.going) why)
+    ends
