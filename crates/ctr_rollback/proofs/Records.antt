@@ -23,7 +23,7 @@ use Rattle.ctr_record_effects.specs.States.{area_in, IsWholePage}
 use Rattle.ctr_record_effects.specs.Standing.{IsDatabaseState}
 use Rattle.ctr_record_effects.specs.Changing.{laid_at, laid_in_entry, free_record, uncreate_record, undrop_record}
 use Rattle.ctr_record_laws.specs.Bounds.{IsInBounds}
-use Rattle.ctr_record_laws.specs.Owed.{IsLastItem, OwedByUncreate, OwedByUndrop}
+use Rattle.ctr_record_laws.specs.Owed.{OwedByUncreate, OwedByUndrop}
 use Rattle.ctr_actions.specs.Sites.{Site, IsSoundSite, site_of}
 use Rattle.ctr_actions.specs.Actions.{Action, Frees, Reclaims, Uncreates, Undrops, Owes, undoing}
 use Rattle.ctr_actions.specs.Records.{record_of}
@@ -34,14 +34,14 @@ use Rattle.ctr_walk.specs.OneRecord.{WhyNotLogged, LogsOne}
 use Rattle.ctr_catalog.specs.Writing.{undo_record, undo_page, HasMade}
 
 -- a table that was made has an entry
-pub made_of : (x : ℕ) (s : State) → IsDatabaseState s → (i : SlogItem) → IsLastItem x i s.tables.items → HasMade i (area_in s)
-made_of x s sound (AllocOf y p) last = tt
-made_of x s sound (FreeOf p) last = tt
-made_of x s sound (CreateOf y e) last = alive (sound.sound.names.creates y e (last_among x (CreateOf y e) s.tables.items last).0).0
+pub made_of : (x : ℕ) (s : State) → IsDatabaseState s → (i : SlogItem) → Owes x (undoing i) (site_of s) → HasMade i (area_in s)
+made_of x s sound (AllocOf y p) owed = tt
+made_of x s sound (FreeOf p) owed = tt
+made_of x s sound (CreateOf y e) owed = alive (sound.sound.names.creates x e (last_among x (CreateOf x e) s.tables.items owed).0).0
   where
     alive : ((((area_in s).title e).state == 1) ≡ true) → ((area_in s).title e).state ≢ 0
     alive is none = false≢true (sym (ap (λ n. n == 1) none) ∙ is)
-made_of x s sound (DropOf y e) last = tt
+made_of x s sound (DropOf y e) owed = tt
 
 -- The record of an item is laid as what undoes it.
 pub undo_laid : (frees : (s : State) (p byte : ℕ) → IsWholePage 0 s → RecordLies (Frees p) (free_record p byte) s)

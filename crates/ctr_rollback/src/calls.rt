@@ -16,7 +16,7 @@ ghost use Rattle.ctr_txn.specs.Rooms.{HasItemRoom};
 ghost use Rattle.ctr_txn.specs.Calls.{MayEnd, IsOverStore, EndsFor};
 ghost use Rattle.ctr_page_turns.specs.Acts.{ActsBy};
 
-use ctr_actions::{an_action_meets_its_needs, the_latest_item_can_be_undone};
+use ctr_actions::an_action_meets_its_needs;
 use ctr_base::Origin;
 use ctr_catalog::undo_item;
 use ctr_disk::{Disk, StoreFault};
@@ -43,8 +43,9 @@ pub(crate) fn next_item(meta: &Meta, x: Xid) -> Option<SlogItem>
     meta.latest_item(x)
 }
 
-/// An item of the secondary log is undone: the page of its record is read, and the record is logged.
-pub(crate) fn undo<D: Disk, O: Origin, L: Ledger>(
+/// An item of the secondary log is undone: the page of its record is read, and the record is logged. That is two steps, and takes no memory.
+/// Where an error is answered nothing was logged.
+pub fn undo<D: Disk, O: Origin, L: Ledger>(
     store: &mut Store<D, O>,
     item: &SlogItem,
     steps: &mut Steps<L>,
@@ -52,13 +53,14 @@ pub(crate) fn undo<D: Disk, O: Origin, L: Ledger>(
     requires room { HasRoomForOne 0 0 store.old }
     requires fits { ItemFits item.now }
     ensures one { (byte : ℕ) × LogsOne O.first D.Disk (undo_record item.now byte) store.old store.new result }
-    ensures acts { (x : ℕ) → WhereSound O.first D.Disk (IsDatabaseState store.old.now → IsLastItem x item.now store.old.now.tables.items
+    // Where what undoes it owes nothing more, it is that action.
+    ensures acts { (x : ℕ) → WhereSound O.first D.Disk (IsDatabaseState store.old.now → Owes x (undoing item.now) (site_of store.old.now)
         → OnOk result (ActsBy x (undoing item.now) store.old.now store.new.now)) }
-    ensures refused { (x : ℕ) → WhereSound O.first D.Disk (IsDatabaseState store.old.now → IsLastItem x item.now store.old.now.tables.items
+    // There it is refused for no other cause than that the disk failed.
+    ensures refused { (x : ℕ) → WhereSound O.first D.Disk (IsDatabaseState store.old.now → Owes x (undoing item.now) (site_of store.old.now)
         → IfErr result (λ e. e ≡ Fault)) }
     ensures steps { steps.new ≡ steps.old + 2 }
 {
-    the_latest_item_can_be_undone();
     an_action_meets_its_needs();
     pages_are_in_bounds();
     pages_lie_as_their_actions();

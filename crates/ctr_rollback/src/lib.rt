@@ -8,5 +8,6 @@ mod calls;
 mod laws;
 mod rolling;
 
+pub use calls::undo;
 pub use laws::{a_rollback_takes_a_turn_an_item, a_turn_of_a_rollback_is_kept};
 pub use rolling::{Rolled, turn};

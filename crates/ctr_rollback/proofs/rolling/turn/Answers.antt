@@ -78,7 +78,7 @@ returns-in-Ok-undo-clause-rolls g c = λ told sound may.
     let i = c.in-Some.item in
     let last = subst (λ n. IsLastItem n i s.tables.items) c.me-x.ensures
     (subst (λ (t : Tables). IsLastItem c.me-x.result i t.items) (ap (λ (k : TablesKept). k.tables) c.meta.ensures.tables ∙ c.meta.ensures.now told sound c.requires.may.room.going) c.in-Some.ensures.latest) in
-    let acts = c.in-Ok-undo.ensures.acts x told sound may.sound last in (
+    let acts = c.in-Ok-undo.ensures.acts x told sound may.sound (c.the_latest_item_can_be_undone.ensures.owed x (site_of s) i last) in (
       i,
       last,
       acts,
@@ -92,4 +92,4 @@ returns-in-Err-undo-clause-rolls g c = λ told sound may.
     let i = c.in-Some.item in
     let last = subst (λ n. IsLastItem n i s.tables.items) c.me-x.ensures
     (subst (λ (t : Tables). IsLastItem c.me-x.result i t.items) (ap (λ (k : TablesKept). k.tables) c.meta.ensures.tables ∙ c.meta.ensures.now told sound c.requires.may.room.going) c.in-Some.ensures.latest) in
-    c.in-Err-undo.ensures.refused x told sound may.sound last
+    c.in-Err-undo.ensures.refused x told sound may.sound (c.the_latest_item_can_be_undone.ensures.owed x (site_of s) i last)
