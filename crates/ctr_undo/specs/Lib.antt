@@ -1,0 +1,4 @@
+pub mod Left
+pub mod Turns
+pub mod Series
+pub mod Keeping
