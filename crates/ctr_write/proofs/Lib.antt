@@ -1,5 +1,7 @@
 pub mod Steps
 pub mod Reading
+pub mod Narrow
+pub mod Refusing
 pub mod Extended
 pub mod Ending
 pub mod Used

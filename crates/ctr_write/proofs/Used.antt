@@ -49,6 +49,9 @@ module _ (columns : List Column) (slot : RowSlot) (o : Slot) (said : slot_said c
   pub key_is : slot.key ≡ o.key
   key_is = sym (ap (λ (b : Bool). (cond b (said_so columns slot) free_slot).key) (used_by (slot.used == 1) _ (ap (λ (s : Slot). s.used) said ∙ used))) ∙ ap (λ (s : Slot). s.key) said
 
+  pub head_is : slot.head.xid ≡ o.head.0
+  head_is = sym (ap (λ (b : Bool). (cond b (said_so columns slot) free_slot).head.0) (used_by (slot.used == 1) _ (ap (λ (s : Slot). s.used) said ∙ used))) ∙ ap (λ (s : Slot). s.head.0) said
+
 -- ---- which version is kept
 
 module _ (committed : Bool) (s : RowSlot) (slot : Slot) (w : ℕ) (wide : slot_width s ≡ w) where

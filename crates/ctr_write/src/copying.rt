@@ -1,11 +1,15 @@
 // A slot that is copied off its page, as its page may go while a record is logged.
-ghost use Rattle.std.specs.Prelude.{◌≡◌, ◌≤◌, ◌<◌, false, IfOk, IfSome, length};
+ghost use Rattle.std.specs.Prelude.{◌≡◌, ◌≤◌, ◌<◌, ℕ, false, IfOk, IfErr, IfSome, length};
+ghost use Rattle.ctr_disk.specs.declared.fault.StoreFault.TheVariants.{Fault};
 ghost use Rattle.std.specs.Option.{option_map};
 ghost use Rattle.ctr_base.specs.Base.{WhereSound};
 ghost use Rattle.ctr_page.specs.Making.{IsSlot};
 ghost use Rattle.ctr_area.specs.Reading.{slot_said, columns_on, area_of};
 ghost use Rattle.ctr_passed.specs.Logged.{IsSlotOf};
-ghost use Rattle.ctr_record_effects.specs.States.{pages_in};
+ghost use Rattle.ctr_area.specs.Chains.{slot_places};
+ghost use Rattle.ctr_area.specs.Sound.{IsAmong};
+ghost use Rattle.ctr_record_effects.specs.States.{pages_in, area_in};
+ghost use Rattle.ctr_record_effects.specs.Standing.{IsDatabaseState};
 ghost use Rattle.ctr_walk.specs.Damage.{ReadsPages};
 ghost use Rattle.ctr_pvs.specs.Slots.{part_lent, slot_lent, SlotLiesAt};
 ghost use Rattle.ctr_heap.specs.Writing.{slot_width};
@@ -18,6 +22,7 @@ use ctr_pvs::{LentPart, LentSlot, row};
 use ctr_records::Bytes;
 use ctr_store::Store;
 use ctr_types::Xid;
+use ctr_undamaged::a_row_is_read_without_damage;
 
 /// The most bytes of a payload.
 const WIDEST: usize = 2_048;
@@ -149,7 +154,10 @@ pub(crate) fn read_row<D: Disk, O: Origin>(
     // It is well made by the columns of the table.
     ensures made { WhereSound O.first D.Disk (IfOk result (λ c. IsSlotOf store.old.now.counted (columns_on (pages_in store.old.now) place.page) (slot_copied c))) }
     ensures leaves { ReadsPages O.first D.Disk store.old store.new result }
+    // Of a slot of a table no damage is told where the pages may be a database's.
+    ensures refused { (e : ℕ) → WhereSound O.first D.Disk (IsDatabaseState store.old.now → IsAmong place (slot_places (area_in store.old.now) e) → IfErr result (λ f. f ≡ Fault)) }
 {
+    a_row_is_read_without_damage();
     match row(store, place) {
         Err(fault) => Err(fault),
         Ok(lent) => Ok(copy_slot(&lent)),

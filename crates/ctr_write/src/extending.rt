@@ -1,5 +1,6 @@
 // A page that the Write of a row wants, and what a turn for it is to the Write.
-ghost use Rattle.std.specs.Prelude.{◌≡◌, IfOk};
+ghost use Rattle.std.specs.Prelude.{◌≡◌, IfOk, IfErr};
+ghost use Rattle.ctr_disk.specs.declared.fault.StoreFault.TheVariants.{Fault};
 ghost use Rattle.ctr_base.specs.Base.{WhereSound};
 ghost use Rattle.ctr_walk.specs.OneRecord.{HasRoomForOne};
 ghost use Rattle.ctr_walk.specs.Tables.{IsChain};
@@ -43,6 +44,7 @@ pub(crate) fn more<D: Disk, O: Origin>(
     ensures inside { IfOk result (λ w. IsCountedWrite w store.new.now.counted) }
     ensures left { IfOk result (λ w. LeavesItem w store.old.meta store.new.meta) }
     ensures steps { WhereSound O.first D.Disk (MayExtend x chain way store.old.now → IfOk result (ExtendsFor x chain way store.old.now store.new.now)) }
+    ensures refused { WhereSound O.first D.Disk (MayExtend x chain way store.old.now → IfErr result (λ e. e ≡ Fault)) }
 {
     a_turn_goes_on::<D, Extended, Written>();
     match extend(store, x, chain, way) {

@@ -1,5 +1,6 @@
 // A version is kept off its row.
-ghost use Rattle.std.specs.Prelude.{◌≡◌, ◌≤◌, ◌<◌, ◌+◌, ℕ, IsTrue, IfOk, Ok, ⊤};
+ghost use Rattle.std.specs.Prelude.{◌≡◌, ◌≤◌, ◌<◌, ◌+◌, ℕ, IsTrue, ◌↔◌, IfOk, IfErr, Ok, ⊤};
+ghost use Rattle.ctr_disk.specs.declared.fault.StoreFault.TheVariants.{Fault};
 ghost use Rattle.ctr_base.specs.Base.{WhereSound};
 ghost use Rattle.ctr_page.specs.declared.rows.Place.{Place as PlaceOf};
 ghost use Rattle.ctr_page.specs.declared.table.TheConstants.{PAGE_SIZE};
@@ -21,7 +22,7 @@ use ctr_actions::{an_action_gives_its_fact, what_is_done_stays};
 use ctr_base::Origin;
 use ctr_disk::{Disk, StoreFault};
 use ctr_page::{Place, VersionEntry, kept_size};
-use ctr_page_turns::{a_record_acts, a_turn_goes_on};
+use ctr_page_turns::{a_record_acts, a_record_is_refused_by_the_disk_alone, a_turn_goes_on};
 use ctr_passed::owed_versions_are_laid_as_their_actions;
 use ctr_pvs::keep;
 use ctr_store::Store;
@@ -39,7 +40,7 @@ const WIDEST: usize = 2_048;
 
 // Whether a version entry of rows so wide lies on a page at a place.
 fn entry_lies(place: Place, width: usize) -> bool
-    ensures { IsTrue result → (width ≤ 2048) × (start_of (size_of_kept width) place.slot + size_of_kept width ≤ PAGE_SIZE) }
+    ensures { IsTrue result ↔ ((width ≤ 2048) × (start_of (size_of_kept width) place.slot + size_of_kept width ≤ PAGE_SIZE)) }
 {
     if width > WIDEST {
         return false;
@@ -62,7 +63,10 @@ fn lay<D: Disk, O: Origin>(
     ensures is { IfOk result (λ w. (w ≡ On (Kept place)) × LeavesItem w store.old.meta store.new.meta) }
     ensures steps { (e : ℕ) (at : PlaceOf) (v : RowVersion) → WhereSound O.first D.Disk (MayKeepAt x e place store.old.now → IsCopyFor e at v version.now store.old.now
         → IfOk result (λ w. KeepsOff (off x e at v) place store.old.now store.new.now)) }
+    ensures refused { (e : ℕ) (at : PlaceOf) (v : RowVersion) → WhereSound O.first D.Disk (MayKeepAt x e place store.old.now → IsCopyFor e at v version.now store.old.now → IfErr result (λ f. f ≡ Fault)) }
 {
+    let _tables = store.meta();
+    a_record_is_refused_by_the_disk_alone::<D, ()>();
     a_turn_goes_on::<D, (), Written>();
     a_record_acts::<D>();
     owed_versions_are_laid_as_their_actions();
@@ -91,8 +95,10 @@ pub(crate) fn keep_off<D: Disk, O: Origin>(
     ensures is { IfOk result (λ w. (w ≡ On (Kept place)) × LeavesItem w store.old.meta store.new.meta) }
     ensures steps { (e : ℕ) (at : PlaceOf) (v : RowVersion) → WhereSound O.first D.Disk (MayKeepAt x e place store.old.now → IsCopyFor e at v version.now store.old.now
         → IfOk result (λ w. KeepsOff (off x e at v) place store.old.now store.new.now)) }
+    ensures refused { (e : ℕ) (at : PlaceOf) (v : RowVersion) → WhereSound O.first D.Disk (MayKeepAt x e place store.old.now → IsCopyFor e at v version.now store.old.now → IfErr result (λ f. f ≡ Fault)) }
 {
     a_turn_goes_on::<D, (), Written>();
+    a_place_of_a_table_fits();
     let width = version.version.payload.as_slice().len();
     if !entry_lies(place, width) {
         return misfit(store, place.page, width as u64, place.slot as u64);

@@ -1,5 +1,6 @@
 // The row of a key is written.
-ghost use Rattle.std.specs.Prelude.{◌≡◌, ◌≤◌, ◌<◌, ℕ, ℤ, length, IfOk, Ok, ⊤};
+ghost use Rattle.std.specs.Prelude.{◌≡◌, ◌≤◌, ◌<◌, ℕ, ℤ, length, IfOk, IfErr, Ok, ⊤};
+ghost use Rattle.ctr_disk.specs.declared.fault.StoreFault.TheVariants.{Fault};
 ghost use Rattle.ctr_base.specs.Base.{WhereSound};
 ghost use Rattle.ctr_page.specs.Making.{IsVersion};
 ghost use Rattle.ctr_record_effects.specs.States.{area_in};
@@ -18,7 +19,7 @@ use ctr_base::Origin;
 use ctr_disk::{Disk, StoreFault};
 use ctr_heap::{first, put_slot, slot_lies};
 use ctr_page::{Place, Version};
-use ctr_page_turns::{a_record_acts, a_turn_goes_on};
+use ctr_page_turns::{a_record_acts, a_record_is_refused_by_the_disk_alone, a_turn_goes_on};
 use ctr_passed::owed_slots_are_laid_as_their_actions;
 use ctr_records::Bytes;
 use ctr_store::Store;
@@ -54,7 +55,10 @@ fn lay_new<D: Disk, O: Origin>(
     ensures is { IfOk result (λ w. (w ≡ Done) × LeavesItem w store.old.meta store.new.meta) }
     ensures steps { (e : ℕ) → WhereSound O.first D.Disk (MayLay (record { x = x; entry = e; key = key; head = head.now }) store.old.now → IsRoomFor (area_in store.old.now) e key place
         → IfOk result (λ w. LaysHead (record { x = x; entry = e; key = key; head = head.now }) place FirstVersion store.old.now store.new.now)) }
+    ensures refused { (e : ℕ) → WhereSound O.first D.Disk (MayLay (record { x = x; entry = e; key = key; head = head.now }) store.old.now → IsRoomFor (area_in store.old.now) e key place → IfErr result (λ f. f ≡ Fault)) }
 {
+    let _tables = store.meta();
+    a_record_is_refused_by_the_disk_alone::<D, ()>();
     a_turn_goes_on::<D, (), Written>();
     a_record_acts::<D>();
     owed_slots_are_laid_as_their_actions();
@@ -83,8 +87,11 @@ pub(crate) fn lay_first<D: Disk, O: Origin>(
     ensures is { IfOk result (λ w. (w ≡ Done) × LeavesItem w store.old.meta store.new.meta) }
     ensures steps { (e : ℕ) → WhereSound O.first D.Disk (MayLay (record { x = x; entry = e; key = key; head = head.now }) store.old.now → IsRoomFor (area_in store.old.now) e key place
         → IfOk result (λ w. LaysHead (record { x = x; entry = e; key = key; head = head.now }) place FirstVersion store.old.now store.new.now)) }
+    ensures refused { (e : ℕ) → WhereSound O.first D.Disk (MayLay (record { x = x; entry = e; key = key; head = head.now }) store.old.now → IsRoomFor (area_in store.old.now) e key place → IfErr result (λ f. f ≡ Fault)) }
 {
     a_turn_goes_on::<D, (), Written>();
+    a_place_of_a_table_fits();
+    a_free_slot_is_the_tables();
     let width = head.payload.as_slice().len();
     if !slot_lies(place, width) {
         return misfit(store, place.page, width as u64, place.slot as u64);

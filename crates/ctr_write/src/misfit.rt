@@ -11,7 +11,7 @@ use ctr_store::Store;
 use ctr_walk::{SearchFault, tell};
 
 /// What is to be laid on a page doesn't fit what stands there: damage of the page, which is told where it stands in the file of pages. In
-/// a sound state that doesn't come.
+/// a state that may be a database's nobody calls this: the clause `refused` of each caller says that its turn tells no damage there.
 pub(crate) fn misfit<D: Disk, O: Origin, T>(
     store: &mut Store<D, O>,
     page: PageNo,

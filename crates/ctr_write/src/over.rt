@@ -1,5 +1,6 @@
 // The row of a key is written over what stands in its slot.
-ghost use Rattle.std.specs.Prelude.{◌≡◌, ◌<◌, ℕ, ℤ, Bool, false, length, IfOk};
+ghost use Rattle.std.specs.Prelude.{◌≡◌, ◌<◌, ℕ, ℤ, Bool, false, length, IfOk, IfErr};
+ghost use Rattle.ctr_disk.specs.declared.fault.StoreFault.TheVariants.{Fault};
 ghost use Rattle.ctr_base.specs.Base.{WhereSound};
 ghost use Rattle.ctr_page.specs.Making.{IsVersion, IsSlot};
 ghost use Rattle.ctr_area.specs.Images.{is_committed_in};
@@ -17,7 +18,7 @@ use ctr_base::Origin;
 use ctr_disk::{Disk, StoreFault};
 use ctr_heap::{Way, a_way_fits_its_slot, put_slot, replaced, written};
 use ctr_page::{Place, RowSlot, Version};
-use ctr_page_turns::{a_record_acts, a_turn_goes_on};
+use ctr_page_turns::{a_record_acts, a_record_is_refused_by_the_disk_alone, a_turn_goes_on};
 use ctr_passed::owed_slots_are_laid_as_their_actions;
 use ctr_store::Store;
 use ctr_types::{Fate, Xid};
@@ -43,15 +44,17 @@ pub(crate) fn lay_over<D: Disk, O: Origin>(
 ) -> Result<Written, StoreFault>
     requires room { HasRoomForOne 0 0 store.old }
     requires counted { place.page < store.old.now.counted }
-    requires fits { IsVersion (length head.now.payload) head.now × IsSlot (length head.now.payload) slot × (0 < slot.head.xid) }
-    requires lies { SlotLiesAt place (length head.now.payload) }
+    requires fits { IsVersion (length head.now.payload) head.now × IsSlot (length head.now.payload) slot × (0 < slot.head.xid) × SlotLiesAt place (length head.now.payload) }
     requires way { (committed : Bool) × IsWay committed slot way }
     ensures turns { Turns O.first D.Disk store.old store.new result }
     ensures is { IfOk result (λ w. (w ≡ Done) × LeavesItem w store.old.meta store.new.meta) }
     ensures steps { (e : ℕ) → WhereSound O.first D.Disk (MayLay (record { x = x; entry = e; key = slot.entry.key; head = head.now }) store.old.now
         → IsReadyFor e place slot.entry way kept store.old.now
         → IfOk result (λ w. LaysHead (record { x = x; entry = e; key = slot.entry.key; head = head.now }) place (writing_by way kept) store.old.now store.new.now)) }
+    ensures refused { (e : ℕ) → WhereSound O.first D.Disk (MayLay (record { x = x; entry = e; key = slot.entry.key; head = head.now }) store.old.now → IsReadyFor e place slot.entry way kept store.old.now → IfErr result (λ f. f ≡ Fault)) }
 {
+    let _tables = store.meta();
+    a_record_is_refused_by_the_disk_alone::<D, ()>();
     a_turn_goes_on::<D, (), Written>();
     a_record_acts::<D>();
     owed_slots_are_laid_as_their_actions();

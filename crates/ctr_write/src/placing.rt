@@ -1,5 +1,6 @@
 // A row that has no slot of its key yet is written.
-ghost use Rattle.std.specs.Prelude.{◌≡◌, ◌≢◌, ◌<◌, ℕ, length, IfOk};
+ghost use Rattle.std.specs.Prelude.{◌≡◌, ◌≢◌, ◌<◌, ℕ, length, IfOk, IfErr};
+ghost use Rattle.ctr_disk.specs.declared.fault.StoreFault.TheVariants.{Fault};
 ghost use Rattle.ctr_base.specs.Base.{WhereSound};
 ghost use Rattle.ctr_page.specs.Making.{IsVersion};
 ghost use Rattle.ctr_record_effects.specs.States.{area_in};
@@ -19,6 +20,7 @@ use ctr_page::{Chain, Place, Version, bucket_of};
 use ctr_page_turns::{a_turn_goes_on, room_is_still_there};
 use ctr_store::Store;
 use ctr_types::Xid;
+use ctr_undamaged::a_bucket_search_meets_no_damage;
 
 /// A row that has no slot is written in a free one of its key's bucket; where none is free, a page more is wanted there.
 pub(crate) fn place_first<D: Disk, O: Origin>(
@@ -36,7 +38,9 @@ pub(crate) fn place_first<D: Disk, O: Origin>(
     ensures left { IfOk result (λ w. LeavesItem w store.old.meta store.new.meta) }
     ensures steps { WhereSound O.first D.Disk (MayPlace (record { x = x; entry = entry; key = key; head = head.now }) store.old.now
         → IfOk result (EndsPlacing (record { x = x; entry = entry; key = key; head = head.now }) store.old.now store.new.now)) }
+    ensures refused { WhereSound O.first D.Disk (MayPlace (record { x = x; entry = entry; key = key; head = head.now }) store.old.now → IfErr result (λ e. e ≡ Fault)) }
 {
+    a_bucket_search_meets_no_damage();
     a_turn_goes_on::<D, Option<Place>, Written>();
     room_is_still_there::<D>();
     let bucket = bucket_of(key);

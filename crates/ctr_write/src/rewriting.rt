@@ -1,5 +1,6 @@
 // A used slot is written over: the version that has to be kept off it first is kept, or the head is laid.
-ghost use Rattle.std.specs.Prelude.{◌<◌, ℤ, IfOk, length};
+ghost use Rattle.std.specs.Prelude.{◌≡◌, ◌<◌, ℤ, IfOk, IfErr, length};
+ghost use Rattle.ctr_disk.specs.declared.fault.StoreFault.TheVariants.{Fault};
 ghost use Rattle.ctr_base.specs.Base.{WhereSound};
 ghost use Rattle.ctr_page.specs.declared.rows.Place.{Place as PlaceOf};
 ghost use Rattle.ctr_page.specs.Making.{IsVersion, IsSlot, IsEntry};
@@ -25,7 +26,9 @@ use ctr_page_turns::{a_turn_goes_on, room_is_still_there};
 use ctr_pvs::find_free_entry;
 use ctr_store::Store;
 use ctr_types::Xid;
-use ctr_undamaged::{a_place_of_a_table_fits, a_slot_is_put_at_its_place};
+use ctr_undamaged::{
+    a_place_of_a_table_fits, a_search_for_room_meets_no_damage, a_slot_is_put_at_its_place,
+};
 
 /// The place that names none.
 const NOWHERE: Place = Place { page: 0, slot: 0 };
@@ -45,7 +48,9 @@ pub(crate) fn keep_first<D: Disk, O: Origin>(
     ensures left { IfOk result (λ w. LeavesItem w store.old.meta store.new.meta) }
     ensures steps { (at : PlaceOf) (v : RowVersion) → WhereSound O.first D.Disk (MayKeepFirst x entry at v version.now store.old.now
         → IfOk result (EndsKeeping (off x entry at v) store.old.now store.new.now)) }
+    ensures refused { (at : PlaceOf) (v : RowVersion) → WhereSound O.first D.Disk (MayKeepFirst x entry at v version.now store.old.now → IfErr result (λ e. e ≡ Fault)) }
 {
+    a_search_for_room_meets_no_damage();
     a_turn_goes_on::<D, Option<Place>, Written>();
     room_is_still_there::<D>();
     let free = match find_free_entry(store, entry) {
@@ -70,13 +75,13 @@ pub(crate) fn write_read<D: Disk, O: Origin>(
 ) -> Result<Written, StoreFault>
     requires room { HasRoomForOne 0 1 store.old }
     requires there { (entry < 32) × (place.page < store.old.now.counted) }
-    requires fits { IsVersion (length head.now.payload) head.now × IsSlot (length head.now.payload) slot × (0 < slot.head.xid) }
-    requires lies { SlotLiesAt place (length head.now.payload) }
+    requires fits { IsVersion (length head.now.payload) head.now × IsSlot (length head.now.payload) slot × (0 < slot.head.xid) × SlotLiesAt place (length head.now.payload) }
     ensures turns { Turns O.first D.Disk store.old store.new result }
     ensures inside { IfOk result (λ w. IsCountedWrite w store.new.now.counted) }
     ensures left { IfOk result (λ w. LeavesItem w store.old.meta store.new.meta) }
     ensures steps { (key : ℤ) → WhereSound O.first D.Disk (MayWriteOver (record { x = x; entry = entry; key = key; head = head.now }) place slot.entry kept store.old.now
         → IfOk result (EndsOver (record { x = x; entry = entry; key = key; head = head.now }) place kept store.old.now store.new.now)) }
+    ensures refused { (key : ℤ) → WhereSound O.first D.Disk (MayWriteOver (record { x = x; entry = entry; key = key; head = head.now }) place slot.entry kept store.old.now → IfErr result (λ e. e ≡ Fault)) }
 {
     room_is_still_there::<D>();
     a_slot_is_put_at_its_place();

@@ -1,5 +1,6 @@
 // One turn of the Write of a row.
-ghost use Rattle.std.specs.Prelude.{◌<◌, ℤ, IfOk, length};
+ghost use Rattle.std.specs.Prelude.{◌≡◌, ◌<◌, ℤ, IfOk, IfErr, length};
+ghost use Rattle.ctr_disk.specs.declared.fault.StoreFault.TheVariants.{Fault};
 ghost use Rattle.ctr_base.specs.Base.{WhereSound};
 ghost use Rattle.ctr_page.specs.Making.{IsVersion};
 ghost use Rattle.ctr_record_effects.specs.States.{area_in};
@@ -22,7 +23,9 @@ use ctr_page::{Place, Version};
 use ctr_page_turns::{a_turn_goes_on, room_is_still_there};
 use ctr_store::Store;
 use ctr_types::Xid;
-use ctr_undamaged::a_place_of_a_table_fits;
+use ctr_undamaged::{
+    a_bucket_search_meets_no_damage, a_place_of_a_table_fits, a_slot_is_put_at_its_place,
+};
 
 // The slot at a place is read and written over.
 fn write_over<D: Disk, O: Origin>(
@@ -42,7 +45,10 @@ fn write_over<D: Disk, O: Origin>(
     ensures steps { (key : ℤ) → WhereSound O.first D.Disk (MayLook (record { x = x; entry = entry; key = key; head = head.now }) kept store.old.now
         → IsSlotOfKey (area_in store.old.now) entry key place
         → IfOk result (EndsOver (record { x = x; entry = entry; key = key; head = head.now }) place kept store.old.now store.new.now)) }
+    ensures refused { (key : ℤ) → WhereSound O.first D.Disk (MayLook (record { x = x; entry = entry; key = key; head = head.now }) kept store.old.now
+        → IsSlotOfKey (area_in store.old.now) entry key place → IfErr result (λ e. e ≡ Fault)) }
 {
+    a_slot_is_put_at_its_place();
     a_turn_goes_on::<D, SlotCopy, Written>();
     room_is_still_there::<D>();
     a_place_of_a_table_fits();
@@ -76,7 +82,9 @@ fn look<D: Disk, O: Origin>(
     ensures left { IfOk result (λ w. LeavesItem w store.old.meta store.new.meta) }
     ensures steps { WhereSound O.first D.Disk (MayLook (record { x = x; entry = entry; key = key; head = head.now }) kept store.old.now
         → IfOk result (EndsLooking (record { x = x; entry = entry; key = key; head = head.now }) kept store.old.now store.new.now)) }
+    ensures refused { WhereSound O.first D.Disk (MayLook (record { x = x; entry = entry; key = key; head = head.now }) kept store.old.now → IfErr result (λ e. e ≡ Fault)) }
 {
+    a_bucket_search_meets_no_damage();
     a_turn_goes_on::<D, Option<Place>, Written>();
     room_is_still_there::<D>();
     let found = match find(store, entry, key) {
@@ -103,9 +111,8 @@ pub fn write<D: Disk, O: Origin>(
     stage: Stage,
 ) -> Result<Written, StoreFault>
     requires room { HasRoomForOne 0 (stage_items stage) store.old }
-    requires there { entry < 32 }
+    requires there { (entry < 32) × IsCountedStage stage store.old.now.counted }
     requires fits { IsVersion (length head.now.payload) head.now }
-    requires counted { IsCountedStage stage store.old.now.counted }
     // It reads pages, logs one record, or counts more pages.
     ensures turns { Turns O.first D.Disk store.old store.new result }
     // A page on its way is a counted one.
@@ -115,6 +122,8 @@ pub fn write<D: Disk, O: Origin>(
     // What its record owes is met, and the Write is further.
     ensures steps { WhereSound O.first D.Disk (MayTakeTurn (record { x = x; entry = entry; key = key; head = head.now }) stage store.old.now
         → IfOk result (EndsWrite (record { x = x; entry = entry; key = key; head = head.now }) stage store.old.now store.new.now)) }
+    // It is refused for no other cause than that the disk failed.
+    ensures refused { WhereSound O.first D.Disk (MayTakeTurn (record { x = x; entry = entry; key = key; head = head.now }) stage store.old.now → IfErr result (λ e. e ≡ Fault)) }
 {
     match stage {
         Stage::Looking => look(store, x, entry, key, head, None),

@@ -8,7 +8,10 @@ use Rattle.ctr_record_effects.specs.States.{area_in}
 use Rattle.ctr_actions.specs.Sites.{site_of}
 use Rattle.ctr_actions.specs.Actions.{Keeps, Owes, site_after}
 use Rattle.ctr_actions.specs.Facts.{HasSlot, HasCopy}
-use Rattle.ctr_pvs.specs.Writing.{keep_record}
+use Rattle.ctr_page.specs.Places.{kept_size}
+use Rattle.ctr_page.specs.Making.{kept_bytes}
+use Rattle.ctr_record_effects.specs.Changing.{laid_on_place}
+use Rattle.ctr_pvs.specs.Writing.{keep_record, entry_width}
 use Rattle.ctr_page_turns.specs.Turns.{LogsARecord}
 use Rattle.ctr_write.specs.declared.stages.Stage.TheVariants.{Kept}
 use Rattle.ctr_write.specs.declared.stages.Written.TheVariants.{On}
@@ -55,3 +58,18 @@ returns-in-Ok-clause-steps g c = λ e at v told sound may copy.
       has = c.what_is_done_stays.ensures.held x x (Keeps e q it) (HasSlot e at ((area_in s).slot at)) s b.now acts.does may.sound.few may.sound.sound tt (inl tt) (copy.used, refl);
       copy = moved x (HasCopy e at v q) (site_after x (Keeps e q it) (site_of s)) (site_of b.now) leaves (c.an_action_gives_its_fact.ensures.kept x (site_of s) e at q v may.sound.sound copy.used owed);
     }
+
+pub returns-in-Err-clause-refused : goal.returns-in-Err-clause-refused
+returns-in-Err-clause-refused g c = λ e at v told sound may copy.
+    let x = c.args.x in
+    let q = c.args.place in
+    let entry = c.args.version.now in
+    let a = c.args.store.now in
+    let s = a.now in
+    let it = older_copy ((area_in s).slot at) v in
+    let owed : Owes x (Keeps e q it) (site_of s) = (
+      may.is_open,
+      record { here = may.free.0; free = may.free.1; drawn = drawn_of e at v s may.sound copy.used copy.of_slot },
+    ) in
+    c.a_record_is_refused_by_the_disk_alone.ensures x (Keeps e q it) (laid_on_place q (kept_size (entry_width entry)) (kept_bytes entry)) a c.keep.new.store (Err c.in-Err.fault) may.sound owed
+    (c.meta-tables.ensures.now told sound c.requires.room.going) (c.in-Err.ensures.one.refused told sound)

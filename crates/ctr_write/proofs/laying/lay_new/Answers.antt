@@ -3,14 +3,17 @@ use Rattle.std.proofs.lemmas.Int.{to_z-of_z}
 use Rattle.ctr_types.specs.declared.value.Column.{Column}
 use Rattle.ctr_meta.specs.Tables.{Tables}
 use Rattle.ctr_area.specs.Reading.{slot_said}
-use Rattle.ctr_page.specs.Places.{bucket_of}
+use Rattle.ctr_page.specs.Places.{bucket_of, slot_size}
 use Rattle.ctr_record_laws.specs.Owed.{FirstVersion, written_slot, IsRoomFor}
 use Rattle.ctr_page.specs.declared.rows.Version.{Version}
-use Rattle.ctr_page.specs.Making.{IsVersion}
+use Rattle.ctr_page.specs.Making.{IsVersion, slot_bytes}
 use Rattle.ctr_record_effects.specs.States.{area_in}
 use Rattle.ctr_actions.specs.Sites.{site_of}
 use Rattle.ctr_actions.specs.Actions.{Writes, Owes}
-use Rattle.ctr_heap.specs.Writing.{row_record, LaysMove}
+use Rattle.ctr_records.specs.declared.record.Record.TheVariants.{Row}
+use Rattle.ctr_record_effects.specs.Changing.{laid_on_place}
+use Rattle.ctr_walk.specs.OneRecord.{WhyNotLogged}
+use Rattle.ctr_heap.specs.Writing.{slot_width, row_record, LaysMove}
 use Rattle.ctr_page_turns.specs.Turns.{LogsARecord}
 use Rattle.ctr_write.specs.declared.stages.Written.TheVariants.{Done}
 use Rattle.ctr_write.specs.Laying.{Wish, MayLay, LaysHead, move_of}
@@ -66,3 +69,18 @@ pub put_slot-requires-clause-lies : goal.put_slot-requires-clause-lies
 put_slot-requires-clause-lies g c =
     let w = length c.args.head.now.payload in
     slot_there c.args.place c.first-slot.result w (c.first-slot.ensures.fits w (subst (λ (h : Version). IsVersion w h) (sym c.again.ensures) c.requires.fits)) c.requires.lies
+
+pub returns-in-Err-clause-refused : goal.returns-in-Err-clause-refused
+returns-in-Err-clause-refused g c = λ e told sound may room.
+    let x = c.args.x in
+    let at = c.args.place in
+    let slot = c.first-slot.result in
+    let a = c.args.store.now in
+    let b = c.put_slot.new.store in
+    let s = a.now in
+    let wish : Wish = record { x = x; entry = e; key = c.args.key; head = c.args.head.now } in
+    let m = move_of wish at FirstVersion s in
+    let o = laid_on_place at (slot_size (slot_width slot)) (slot_bytes (slot_width slot) slot) in
+    let owed : Owes x (Writes m) (site_of s) = (refl, record { is_open = may.is_open; fits = room }) in
+    c.a_record_is_refused_by_the_disk_alone.ensures x (Writes m) o a b (Err c.in-Err.fault) may.sound owed (c.meta-tables.ensures.now told sound c.requires.room.going)
+    (subst (λ (n : ℕ). WhyNotLogged (Row x n o) a b c.in-Err.fault) (loses_none s.tables ((area_in s).slot at) room.free) (c.in-Err.ensures.one.refused told sound))

@@ -3,13 +3,17 @@ use Rattle.ctr_types.specs.declared.value.Column.{Column}
 use Rattle.ctr_area.specs.Areas.{Slot}
 use Rattle.ctr_meta.specs.Tables.{Tables}
 use Rattle.ctr_area.specs.Reading.{slot_said, version_said}
-use Rattle.ctr_page.specs.Making.{IsVersion, IsSlot}
+use Rattle.ctr_page.specs.Places.{slot_size}
+use Rattle.ctr_page.specs.Making.{IsVersion, IsSlot, slot_bytes}
 use Rattle.ctr_page.specs.declared.rows.Version.{Version}
 use Rattle.ctr_record_laws.specs.Owed.{written_slot, loses_head}
 use Rattle.ctr_record_effects.specs.States.{area_in}
 use Rattle.ctr_actions.specs.Sites.{site_of}
 use Rattle.ctr_actions.specs.Actions.{Writes, Owes}
-use Rattle.ctr_heap.specs.Writing.{row_record, LaysMove}
+use Rattle.ctr_records.specs.declared.record.Record.TheVariants.{Row}
+use Rattle.ctr_record_effects.specs.Changing.{laid_on_place}
+use Rattle.ctr_walk.specs.OneRecord.{WhyNotLogged}
+use Rattle.ctr_heap.specs.Writing.{slot_width, row_record, LaysMove}
 use Rattle.ctr_heap.specs.Ways.{writing_by}
 use Rattle.ctr_page_turns.specs.Turns.{LogsARecord}
 use Rattle.ctr_write.specs.declared.stages.Written.TheVariants.{Done}
@@ -22,7 +26,7 @@ pub put_slot-requires-clause-lies : goal.put_slot-requires-clause-lies
 put_slot-requires-clause-lies g c =
     let w = length c.args.head.now.payload in
     slot_there c.args.place c.written-slot.result w
-    (c.written-slot.ensures.fits w c.requires.way.0 c.requires.fits.1 c.requires.fits.2 c.requires.way.1 (subst (λ (h : Version). IsVersion w h) (sym c.again.ensures) c.requires.fits.0)) c.requires.lies
+    (c.written-slot.ensures.fits w c.requires.way.0 c.requires.fits.1 c.requires.fits.2 c.requires.way.1 (subst (λ (h : Version). IsVersion w h) (sym c.again.ensures) c.requires.fits.0)) c.requires.fits.3
 
 pub returns-in-Ok-clause-turns : goal.returns-in-Ok-clause-turns
 returns-in-Ok-clause-turns g c =
@@ -80,3 +84,26 @@ returns-in-Ok-clause-steps g c = λ e told sound.
     ) in
     let laid = c.owed_slots_are_laid_as_their_actions.ensures.writes s (row_record x over at slot) m slot may.sound owed.1 puts in
     c.a_record_acts.ensures x (Writes m) (row_record x over at slot) a b (one.one.logs told sound) owed (one.leaves told sound place m lays) laid)
+
+pub returns-in-Err-clause-refused : goal.returns-in-Err-clause-refused
+returns-in-Err-clause-refused g c = λ e told sound may ready.
+    let x = c.args.x in
+    let at = c.args.place in
+    let was = c.args.slot in
+    let slot = c.written-slot.result in
+    let way = writing_by c.args.way c.args.kept in
+    let a = c.args.store.now in
+    let b = c.put_slot.new.store in
+    let s = a.now in
+    let wish : Wish = record { x = x; entry = e; key = was.key; head = c.args.head.now } in
+    let columns = ((area_in s).title e).columns in
+    let m = move_of wish at way s in
+    let o = laid_on_place at (slot_size (slot_width slot)) (slot_bytes (slot_width slot) slot) in
+    let owed : Owes x (Writes m) (site_of s) = (
+      refl,
+      c.a_way_fits_its_slot.ensures.owed s.tables (area_in s) e at was c.args.way c.args.kept x m.row
+          (record { columns = columns; said = sym ready.said; fits = subst (λ n. IsSlot n was) (sym c.requires.fits.1.head.2) c.requires.fits.1; used = ready.used; kept = ready.kept }) ready.way_is may.is_open,
+    ) in
+    let loses = c.replaced-over.ensures s.tables columns ready.is_used ready.way_is ∙ ap (loses_head s.tables) ready.said in
+    c.a_record_is_refused_by_the_disk_alone.ensures x (Writes m) o a b (Err c.in-Err.fault) may.sound owed (c.meta-tables.ensures.now told sound c.requires.room.going)
+    (subst (λ (n : ℕ). WhyNotLogged (Row x n o) a b c.in-Err.fault) loses (c.in-Err.ensures.one.refused told sound))

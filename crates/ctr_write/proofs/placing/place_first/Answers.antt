@@ -1,6 +1,11 @@
-use Rattle.std.proofs.Common.{◌∙◌, ℤ, w64, to_z, of_z, Err, refl, ap, subst}
-use Rattle.std.specs.Prelude.{IfOk}
+use Rattle.std.proofs.Common.{◌≡◌, ◌∙◌, ℤ, w64, to_z, of_z, Err, refl, ap, subst}
+use Rattle.std.specs.Prelude.{IfOk, IfErr}
 use Rattle.std.proofs.lemmas.Int.{to_z-of_z}
+use Rattle.ctr_disk.specs.declared.fault.StoreFault.TheVariants.{Fault}
+use Rattle.ctr_heap.specs.declared.slots.SlotSought.TheVariants as sought
+use Rattle.ctr_heap.specs.Finding.{EndsBucket}
+use Rattle.ctr_record_effects.specs.States.{pages_in}
+use Rattle.ctr_walk.specs.Damage.{damage_told}
 use Rattle.ctr_meta.specs.Kept.{TablesKept}
 use Rattle.ctr_page.specs.declared.checks.Chain.TheVariants.{Rows}
 use Rattle.ctr_page.specs.Places.{bucket_of}
@@ -15,6 +20,7 @@ use Rattle.ctr_write.specs.Stages.{IsCountedWrite, LeavesItem}
 use Rattle.ctr_write.specs.Extending.{ExtendsFor}
 use Rattle.ctr_write.specs.Laying.{Wish, MayLay, LaysHead}
 use Rattle.ctr_write.proofs.Ending.{so_far, left_so, room_of, wants_rows, lays_first}
+use Rattle.ctr_write.proofs.Refusing.{by_disk}
 use Rattle.ctr_write.proofs.placing.place_first.Goals as goal
 
 pub returns-in-Err-clause-turns : goal.returns-in-Err-clause-turns
@@ -65,3 +71,31 @@ returns-in-Some-clause-steps g c = λ told sound may.
     let P : ℤ → State → Type 0 = λ k u. MayLay (by k) u → IsRoomFor (area_in u) e k at → IfOk c.lay_first.result (λ w. LaysHead (by k) at FirstVersion u t) in
     let steps = subst (λ (k : ℤ). P k s) (to_z-of_z w64 c.args.key c.ranges.key) (subst (λ (u : State). P (to_z w64 (of_z w64 c.args.key)) u) same (c.lay_first.ensures.steps e told sound)) in
     lays_first wish s t at (λ w. LeavesItem w c.free_slot.new.store.meta c.lay_first.new.store.meta) c.lay_first.result free c.lay_first.ensures.is (steps may.lay free)
+
+pub returns-in-Err-clause-refused : goal.returns-in-Err-clause-refused
+returns-in-Err-clause-refused g c = λ told sound may.
+    let e = c.args.entry in
+    let s = c.args.store.now.now in
+    let b = c.bucket_of-bucket.result in
+    by_disk (EndsBucket s.counted (pages_in s) e b sought.Free) (damage_told g.D.Disk c.free_slot.new.store) (Err c.in-Err.fault)
+    (c.a_bucket_search_meets_no_damage.ensures s e b sought.Free may.lay.sound c.requires.there) (c.in-Err.ensures.ends told sound)
+
+pub returns-in-None-clause-refused : goal.returns-in-None-clause-refused
+returns-in-None-clause-refused g c = λ told sound may.
+    let chain = Rows c.args.entry c.bucket_of-bucket.result in
+    let same = (c.in-Ok.ensures.leaves.logs told sound).now in
+    subst (λ (u : State). MayExtend c.args.x chain Wanted u → IfErr c.more.result (λ e. e ≡ Fault)) same (c.more.ensures.refused told sound)
+    (record { sound = may.lay.sound; is_open = may.lay.is_open; there = may.there; on_way = record { holds = (may.no_page, tt); blank = tt } })
+
+pub returns-in-Some-clause-refused : goal.returns-in-Some-clause-refused
+returns-in-Some-clause-refused g c = λ told sound may.
+    let e = c.args.entry in
+    let at = c.in-Some.place in
+    let s = c.args.store.now.now in
+    let by : ℤ → Wish = λ k. record { x = c.args.x; entry = e; key = k; head = c.args.head.now } in
+    let b = c.bucket_of-bucket.result in
+    let same = (c.in-Ok.ensures.leaves.logs told sound).now in
+    let found = c.in-Ok.ensures.finds told sound may.lay.sound.sound.readable in
+    let free = room_of (by c.args.key) s c.lay_first.new.store.now b c.in-Ok.free at may (c.bucket_of-bucket.ensures.value ∙ ap bucket_of (to_z-of_z w64 c.args.key c.ranges.key)) c.in-Some.is found in
+    let P : ℤ → State → Type 0 = λ k u. MayLay (by k) u → IsRoomFor (area_in u) e k at → IfErr c.lay_first.result (λ f. f ≡ Fault) in
+    subst (λ (k : ℤ). P k s) (to_z-of_z w64 c.args.key c.ranges.key) (subst (λ (u : State). P (to_z w64 (of_z w64 c.args.key)) u) same (c.lay_first.ensures.refused e told sound)) may.lay free

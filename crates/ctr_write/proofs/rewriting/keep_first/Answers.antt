@@ -1,5 +1,9 @@
-use Rattle.std.proofs.Common.{Err, refl, subst}
-use Rattle.std.specs.Prelude.{IfOk}
+use Rattle.std.proofs.Common.{◌≡◌, Err, refl, subst}
+use Rattle.std.specs.Prelude.{IfOk, IfErr}
+use Rattle.ctr_disk.specs.declared.fault.StoreFault.TheVariants.{Fault}
+use Rattle.ctr_pvs.specs.Along.{EndsVersions}
+use Rattle.ctr_record_effects.specs.States.{pages_in}
+use Rattle.ctr_walk.specs.Damage.{damage_told}
 use Rattle.ctr_meta.specs.Kept.{TablesKept}
 use Rattle.ctr_page.specs.declared.checks.Chain.TheVariants.{Versions}
 use Rattle.ctr_redo.specs.States.{State}
@@ -12,6 +16,7 @@ use Rattle.ctr_write.specs.Stages.{IsCountedWrite, LeavesItem}
 use Rattle.ctr_write.specs.Extending.{ExtendsFor}
 use Rattle.ctr_write.specs.Keeping.{IsCopyFor, MayKeepAt, off, KeepsOff}
 use Rattle.ctr_write.proofs.Ending.{so_far, left_so, wants_versions, keeps_first, free_at}
+use Rattle.ctr_write.proofs.Refusing.{by_disk}
 use Rattle.ctr_write.proofs.rewriting.keep_first.Goals as goal
 
 pub returns-in-Err-clause-turns : goal.returns-in-Err-clause-turns
@@ -59,3 +64,28 @@ returns-in-Some-clause-steps g c = λ at v told sound may.
     let steps = subst P same (c.keep_off.ensures.steps e at v told sound) in
     keeps_first x e at v s t q (λ w. LeavesItem w c.find_free_entry.new.store.meta c.keep_off.new.store.meta) c.keep_off.result c.keep_off.ensures.is
     (steps (record { sound = may.sound; is_open = may.is_open; free = free_at e s c.in-Ok.free q c.in-Some.is found }) may.copy)
+
+pub returns-in-Err-clause-refused : goal.returns-in-Err-clause-refused
+returns-in-Err-clause-refused g c = λ at v told sound may.
+    let e = c.args.entry in
+    let s = c.args.store.now.now in
+    by_disk (EndsVersions s.counted (pages_in s) e) (damage_told g.D.Disk c.find_free_entry.new.store) (Err c.in-Err.fault)
+    (c.a_search_for_room_meets_no_damage.ensures s e may.sound c.requires.there) (c.in-Err.ensures.ends told sound)
+
+pub returns-in-None-clause-refused : goal.returns-in-None-clause-refused
+returns-in-None-clause-refused g c = λ at v told sound may.
+    let chain = Versions c.args.entry in
+    let same = (c.in-Ok.ensures.leaves.logs told sound).now in
+    subst (λ (u : State). MayExtend c.args.x chain Wanted u → IfErr c.more.result (λ e. e ≡ Fault)) same (c.more.ensures.refused told sound)
+    (record { sound = may.sound; is_open = may.is_open; there = may.there; on_way = record { holds = (may.no_page, tt); blank = tt } })
+
+pub returns-in-Some-clause-refused : goal.returns-in-Some-clause-refused
+returns-in-Some-clause-refused g c = λ at v told sound may.
+    let x = c.args.x in
+    let e = c.args.entry in
+    let q = c.in-Some.place in
+    let s = c.args.store.now.now in
+    let same = (c.in-Ok.ensures.leaves.logs told sound).now in
+    let found = c.in-Ok.ensures.finds told sound may.sound.sound.readable in
+    let P : State → Type 0 = λ u. MayKeepAt x e q u → IsCopyFor e at v c.args.version.now u → IfErr c.keep_off.result (λ f. f ≡ Fault) in
+    subst P same (c.keep_off.ensures.refused e at v told sound) (record { sound = may.sound; is_open = may.is_open; free = free_at e s c.in-Ok.free q c.in-Some.is found }) may.copy

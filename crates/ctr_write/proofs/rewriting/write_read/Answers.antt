@@ -1,5 +1,6 @@
 use Rattle.std.proofs.Common.{◌≡◌, ℤ, Bool, Option, Some, refl, subst}
-use Rattle.std.specs.Prelude.{IfOk, IfSome}
+use Rattle.std.specs.Prelude.{IfOk, IfErr, IfSome}
+use Rattle.ctr_disk.specs.declared.fault.StoreFault.TheVariants.{Fault}
 use Rattle.ctr_area.specs.Images.{is_committed_in}
 use Rattle.ctr_area.specs.Reading.{older_said}
 use Rattle.ctr_record_laws.specs.Owed.{older_copy}
@@ -95,3 +96,68 @@ returns-in-None-kept-clause-steps g c = λ key told sound may.
     } in
     keeps_one wish at slot kept s may t v c.keep_first.result c.in-None-kept.is (to_keep_is committed slot old w wide way v is some.1)
     (c.keep_first.ensures.steps at v told sound (record { sound = may.lay.sound; is_open = may.lay.is_open; there = may.there; no_page = may.no_page; copy = copy }))
+
+pub returns-in-None-clause-refused : goal.returns-in-None-clause-refused
+returns-in-None-clause-refused g c = λ key told sound may.
+    let x = c.args.x in
+    let e = c.args.entry in
+    let at = c.args.place in
+    let slot = c.args.slot in
+    let kept = c.args.kept in
+    let s = c.args.store.now.now in
+    let way = c.way_of-way.result in
+    let columns = ((area_in s).title e).columns in
+    let old = (area_in s).slot at in
+    let by : ℤ → Wish = λ k. record { x = x; entry = e; key = k; head = c.args.head.now } in
+    let wish = by key in
+    let is : IsWay (is_committed_in s.tables slot.head.xid) slot way = subst (λ (b : Bool). IsWay b slot way) (c.is_committed.ensures told sound) c.way_of-way.ensures.table in
+    let copy = kept_as wish at slot kept s may way c.to_keep.result (c.to_keep.ensures.copy columns (slot_used wish at slot kept s may)) in
+    let none = none_of (older_copy old) (kept_version way old) (subst (λ (o : Option VersionEntry). option_map (older_said columns) o ≡ option_map (older_copy old) (kept_version way old)) c.in-None.is copy) in
+    subst (λ (k : ℤ). MayLay (by k) s → IsReadyFor e at slot way nowhere s → IfErr c.lay_over.result (λ f. f ≡ Fault)) (slot_key wish at slot kept s may) (c.lay_over.ensures.refused e told sound)
+    may.lay (ready_now wish at slot kept s may way is none)
+
+pub returns-in-Some-kept-clause-refused : goal.returns-in-Some-kept-clause-refused
+returns-in-Some-kept-clause-refused g c = λ key told sound may.
+    let x = c.args.x in
+    let e = c.args.entry in
+    let at = c.args.place in
+    let slot = c.args.slot in
+    let kept = c.args.kept in
+    let q = c.in-Some-kept.q in
+    let s = c.args.store.now.now in
+    let way = c.way_of-way.result in
+    let by : ℤ → Wish = λ k. record { x = x; entry = e; key = k; head = c.args.head.now } in
+    let wish = by key in
+    let is : IsWay (is_committed_in s.tables slot.head.xid) slot way = subst (λ (b : Bool). IsWay b slot way) (c.is_committed.ensures told sound) c.way_of-way.ensures.table in
+    let has : HasKept x e key q s = subst (λ (o : Option Place). IfSome o (λ p. HasKept x e key p s)) c.in-Some-kept.is may.copy in
+    let fits = c.a_place_of_a_table_fits.ensures.versions s e q may.lay.sound (copy_is wish at slot kept s may q has).here in
+    let ready = ready_kept wish at slot kept s may way q has is (c.a_slot_is_put_at_its_place.ensures.width s e slot may.made) (λ some. (fits.4, fits.5)) in
+    subst (λ (k : ℤ). MayLay (by k) s → IsReadyFor e at slot way q s → IfErr c.lay_over-in-Some-kept.result (λ f. f ≡ Fault)) (slot_key wish at slot kept s may) (c.lay_over-in-Some-kept.ensures.refused e told sound)
+    may.lay ready
+
+pub returns-in-None-kept-clause-refused : goal.returns-in-None-kept-clause-refused
+returns-in-None-kept-clause-refused g c = λ key told sound may.
+    let x = c.args.x in
+    let e = c.args.entry in
+    let at = c.args.place in
+    let slot = c.args.slot in
+    let kept = c.args.kept in
+    let s = c.args.store.now.now in
+    let way = c.way_of-way.result in
+    let version = c.in-Some.version in
+    let columns = ((area_in s).title e).columns in
+    let old = (area_in s).slot at in
+    let committed = is_committed_in s.tables slot.head.xid in
+    let wish : Wish = record { x = x; entry = e; key = key; head = c.args.head.now } in
+    let used = slot_used wish at slot kept s may in
+    let is : IsWay committed slot way = subst (λ (b : Bool). IsWay b slot way) (c.is_committed.ensures told sound) c.way_of-way.ensures.table in
+    let wide = c.a_slot_is_put_at_its_place.ensures.width s e slot may.made in
+    let some = some_of (older_copy old) (older_said columns version) (kept_version way old) (kept_as wish at slot kept s may way (Some version) (c.in-Some.ensures.copy columns used)) in
+    let v = some.0 in
+    let copy : IsCopyFor e at v version s = record {
+      used = may.of_key.0;
+      of_slot = of_slot committed slot old (width_in (area_in s) e) wide way v some.1;
+      made = c.in-Some.ensures.made s.counted columns may.made used;
+      is = some.2;
+    } in
+    c.keep_first.ensures.refused at v told sound (record { sound = may.lay.sound; is_open = may.lay.is_open; there = may.there; no_page = may.no_page; copy = copy })

@@ -1,5 +1,6 @@
-use Rattle.std.proofs.Common.{ℤ, w64, None, Some, sym, subst}
-use Rattle.std.specs.Prelude.{IfOk}
+use Rattle.std.proofs.Common.{◌≡◌, ℤ, w64, None, Some, sym, subst}
+use Rattle.std.specs.Prelude.{IfOk, IfErr}
+use Rattle.ctr_disk.specs.declared.fault.StoreFault.TheVariants.{Fault}
 use Rattle.std.proofs.lemmas.Int.{to_z-of_z}
 use Rattle.ctr_write.specs.declared.stages.Stage.{Stage}
 use Rattle.ctr_write.specs.Stages.{IsAtStage}
@@ -29,3 +30,20 @@ returns-in-Kept-clause-steps g c = λ told sound may.
     let steps = subst P (to_z-of_z w64 c.args.key c.ranges.key) (c.look-in-Kept.ensures.steps told sound) in
     let has = subst (λ (st : Stage). IsAtStage c.args.x c.args.entry c.args.key st s) c.in-Kept.is may.at_stage in
     subst (λ (st : Stage). IfOk c.look-in-Kept.result (EndsWrite wish st s t)) (sym c.in-Kept.is) (steps (record { lay = may.lay; there = may.there; no_page = has.0; copy = has.1 }))
+
+pub returns-in-Looking-clause-refused : goal.returns-in-Looking-clause-refused
+returns-in-Looking-clause-refused g c = λ told sound may.
+    let s = c.args.store.now.now in
+    let by : ℤ → Wish = λ k. record { x = c.args.x; entry = c.args.entry; key = k; head = c.args.head.now } in
+    let no_page = subst (λ (st : Stage). IsAtStage c.args.x c.args.entry c.args.key st s) c.in-Looking.is may.at_stage in
+    subst (λ (k : ℤ). MayLook (by k) None s → IfErr c.look.result (λ e. e ≡ Fault)) (to_z-of_z w64 c.args.key c.ranges.key) (c.look.ensures.refused told sound)
+    (record { lay = may.lay; there = may.there; no_page = no_page; copy = tt })
+
+pub returns-in-Kept-clause-refused : goal.returns-in-Kept-clause-refused
+returns-in-Kept-clause-refused g c = λ told sound may.
+    let s = c.args.store.now.now in
+    let q = c.in-Kept.place in
+    let by : ℤ → Wish = λ k. record { x = c.args.x; entry = c.args.entry; key = k; head = c.args.head.now } in
+    let has = subst (λ (st : Stage). IsAtStage c.args.x c.args.entry c.args.key st s) c.in-Kept.is may.at_stage in
+    subst (λ (k : ℤ). MayLook (by k) (Some q) s → IfErr c.look-in-Kept.result (λ e. e ≡ Fault)) (to_z-of_z w64 c.args.key c.ranges.key) (c.look-in-Kept.ensures.refused told sound)
+    (record { lay = may.lay; there = may.there; no_page = has.0; copy = has.1 })
