@@ -1,0 +1,59 @@
+-- The rows of a table that a session sees, and why they aren't read.
+use Rattle.std.specs.Prelude.{◌≡◌, ◌⊎◌, ℕ, ℤ, Bool, List, map, Option, None, Some, Result, Ok, Err}
+use Rattle.std.specs.Option.{option_to_list}
+use Rattle.ctr_types.specs.declared.memory.OutOfMemory.{OutOfMemory}
+use Rattle.ctr_types.specs.declared.value.Row.{Row}
+use Rattle.ctr_disk.specs.declared.fault.StoreFault.{StoreFault}
+use Rattle.ctr_disk.specs.declared.fault.StoreFault.TheVariants.{Fault}
+use Rattle.ctr_meta.specs.Tables.{Tables}
+use Rattle.ctr_meta.specs.Seen.{xid_is_seen}
+use Rattle.ctr_page.specs.declared.rows.Place.{Place}
+use Rattle.ctr_area.specs.Areas.{Area}
+use Rattle.ctr_area.specs.Sound.{IsUsedSlot}
+use Rattle.ctr_chain.specs.Rows.{GivesRow}
+use Rattle.ctr_chain.specs.Visible.{visible_row}
+use Rattle.ctr_chain.specs.declared.view.ReadRefusal.{ReadRefusal}
+use Rattle.ctr_chain.specs.declared.view.ReadRefusal.TheVariants as refusal
+use Rattle.ctr_views.specs.Scanning.{AreScanned, IsNoSlot}
+use Rattle.ctr_reading.specs.declared.sight.Sight.{Sight}
+
+-- ---- answers
+
+-- A reading's answer, of which want of memory is no fault of the store.
+abbrev pub as_told : {T : Type 0} → Result T ReadRefusal
+    → Result (Result T OutOfMemory) StoreFault
+as_told (Ok x) = Ok (Ok x)
+as_told (Err (refusal.Store fault)) = Err fault
+as_told (Err refusal.OutOfMemory) = Ok (Err (record {}))
+
+-- The disk failed, or memory was refused: no damage is told.
+abbrev pub IsDiskOrMemory : ReadRefusal → Type 0
+IsDiskOrMemory (refusal.Store fault) = fault ≡ Fault
+IsDiskOrMemory refusal.OutOfMemory = Unit {0}
+
+-- ---- rows
+
+-- what who reads sees of a transaction
+abbrev pub sees : Tables → Sight → ℕ → Bool
+sees tables sight = xid_is_seen tables sight.snapshot.now sight.me
+
+-- The row of a key is what the used slot of the key shows to a test; or no used slot has it, and
+-- there is none.
+abbrev pub IsSeen : (ℕ → Bool) → Area → ℕ → ℤ → Option Row → Type 0
+IsSeen test area e key row =
+    ((at : Place) × IsUsedSlot area e at × ((area.slot at).key ≡ key)
+    × (row ≡ visible_row test area at))
+    ⊎ (IsNoSlot area e key × (row ≡ None))
+
+-- That row is given. Memory runs out only where there is one.
+abbrev pub GivesSeen : (ℕ → Bool) → Area → ℕ → ℤ → Result (Option Row) OutOfMemory → Type 0
+GivesSeen test area e key given =
+    (row : Option Row) × IsSeen test area e key row × GivesRow row given
+
+-- Rows are those that the slots of a table show to a test: all of them in the order of their keys, or
+-- the one of a key.
+abbrev pub AreShown : (ℕ → Bool) → Area → ℕ → Option ℤ → List Row → Type 0
+AreShown test area e None rows =
+    (entries : List (ℤ × Row)) × AreScanned test area e entries × (rows ≡ map (λ x. x.1) entries)
+AreShown test area e (Some key) rows =
+    (row : Option Row) × IsSeen test area e key row × (rows ≡ option_to_list row)
