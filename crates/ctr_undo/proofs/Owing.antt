@@ -1,5 +1,5 @@
 -- What undoes what is next owes nothing more.
-use Rattle.std.proofs.Common.{◌≡◌, inl, ℕ, ◌==◌, true, false, cond, List, [], ◌∷◌, ◌++◌, refl, sym, ◌∙◌, ap, subst}
+use Rattle.std.proofs.Common.{◌≡◌, inl, ℕ, true, false, cond, [], ◌∷◌, ◌++◌, refl, sym, ap, subst}
 use Rattle.std.proofs.lemmas.Bool.{eq-eqb}
 use Rattle.ctr_records.specs.declared.record.SlogItem.{SlogItem}
 use Rattle.ctr_records.specs.declared.record.SlogItem.TheVariants.{AllocOf, FreeOf, CreateOf, DropOf}
@@ -12,7 +12,7 @@ use Rattle.ctr_record_laws.specs.Owed.{IsLastItem}
 use Rattle.ctr_redo.specs.States.{State}
 use Rattle.ctr_actions.specs.Sites.{Site, site_of}
 use Rattle.ctr_actions.specs.Actions.{Owes, undoing}
-use Rattle.ctr_kept.specs.Undo.{Undo, IsUndoLeft}
+use Rattle.ctr_kept.specs.Undo.{Undo}
 use Rattle.ctr_kept.proofs.Undo.{item_is_last, orphan_owes}
 use Rattle.ctr_rollback.proofs.Records.{undo_next, undo_leaves_room}
 use Rattle.ctr_undo.specs.declared.list.UndoItem.{UndoItem}

@@ -1,5 +1,5 @@
 -- One turn of undo.
-use Rattle.std.specs.Prelude.{◌≡◌, ℕ, ◌+◌, ◌≤◌, List, [], ◌∷◌, Result, Ok, Err}
+use Rattle.std.specs.Prelude.{◌≡◌, ℕ, ◌+◌, ◌≤◌, List, Result, Ok, Err}
 use Rattle.ctr_disk.specs.declared.disk.Disk.{Ghosts}
 use Rattle.ctr_disk.specs.Image.{Image}
 use Rattle.ctr_disk.specs.declared.fault.StoreFault.{StoreFault}
@@ -7,7 +7,6 @@ use Rattle.ctr_disk.specs.declared.fault.StoreFault.TheVariants.{Fault}
 use Rattle.ctr_versions.specs.Engine.{SessionHeld}
 use Rattle.ctr_records.specs.declared.record.Record.{Record}
 use Rattle.ctr_records.specs.declared.record.Record.TheVariants.{Abort}
-use Rattle.ctr_records.specs.declared.record.SlogItem.{SlogItem}
 use Rattle.ctr_records.specs.declared.record.SlogItem.TheVariants.{AllocOf, FreeOf, CreateOf, DropOf}
 use Rattle.ctr_meta.specs.Tables.{Tables}
 use Rattle.ctr_redo.specs.States.{State}
@@ -23,7 +22,7 @@ use Rattle.ctr_undo.specs.declared.list.UndoItem.{UndoItem}
 use Rattle.ctr_undo.specs.declared.list.UndoItem.TheVariants.{Slog, Orphan}
 use Rattle.ctr_undo.specs.declared.turning.UndoTurn.{UndoTurn}
 use Rattle.ctr_undo.specs.declared.turning.UndoTurn.TheVariants.{Undone, Over}
-use Rattle.ctr_undo.specs.Left.{UndoLeft, IsOver, Goes, IsNext}
+use Rattle.ctr_undo.specs.Left.{UndoLeft, IsOver, Goes}
 
 -- ---- what undoes what is next
 
@@ -61,8 +60,8 @@ DoesNext item s t = ActsBy (undo_actor item s.tables) (undo_action item) s t
 
 -- ---- a turn, whatever the disk tells
 
--- The record of what is next is logged, or there is a cause why it wasn't; where nothing is left the
--- store is as it was.
+-- The record of what is next is logged, or there is a cause why it wasn't; where nothing is left
+-- the store is as it was.
 abbrev pub LogsNext : {D : Type 0} → Image → Ghosts D → UndoLeft → View D → View D
     → Result UndoTurn StoreFault → Type 0
 LogsNext first g u a b (Ok Over) = b ≡ a
@@ -80,10 +79,15 @@ TakesNext u v (Err e) = (v ≡ u) × (IsOver u → ⊥)
 -- An item takes a page and a record, a mark a record; a turn that failed, no more than that.
 abbrev pub TakesSteps : UndoLeft → Result UndoTurn StoreFault → ℕ → ℕ → Type 0
 TakesSteps u (Ok Over) old new = new ≡ old
-TakesSteps u (Ok Undone) old new = (item : UndoItem) × (v : UndoLeft) × Goes item u v × (new ≡ old + steps_for item)
+TakesSteps u (Ok Undone) old new = (item : UndoItem) × (v : UndoLeft) × Goes item u v
+    × (new ≡ old + steps_for item)
 TakesSteps u (Err e) old new = new ≤ old + 2
 
 -- ---- in a state that may be a database's
+
+-- the list, with how many turns there were
+abbrev pub as_undo : UndoLeft → ℕ → Undo
+as_undo u turns = record { items = u.items; orphans = u.orphans; turns = turns }
 
 -- The state may be a database's, and the list is what is left of undo there, whatever sessions have
 -- done.
@@ -91,7 +95,7 @@ pub record MayUndo (u : UndoLeft) (s : State) : Type 0 where
   pub sound : IsDatabaseState s
   pub sessions : List (ℕ × SessionHeld)
   pub turns : ℕ
-  pub left : IsUndoLeft s.tables sessions (record { items = u.items; orphans = u.orphans; turns = turns })
+  pub left : IsUndoLeft s.tables sessions (as_undo u turns)
 
 -- What is next goes from the list, and its action leads from a state to the next.
 pub record Undoes (u v : UndoLeft) (s t : State) : Type 0 where

@@ -11,8 +11,6 @@ use Rattle.ctr_page.proofs.Searches.{lies_on_page}
 use Rattle.ctr_page.specs.declared.walk.BadChain.{BadChain}
 use Rattle.ctr_area.specs.Reading.{area_of}
 use Rattle.ctr_walk.specs.Damage.{EndsTold}
-use Rattle.ctr_pvs.specs.declared.slot.LentSlot.{LentSlot}
-use Rattle.ctr_pvs.specs.Reading.{row_check_at}
 use Rattle.ctr_pvs.specs.Slots.{SlotLiesAt, SlotSaidAt}
 use Rattle.ctr_chain.specs.Seeking.{entries_on, sought_in, sought_at, xids_found}
 use Rattle.ctr_undamaged.specs.Undamaged.{MeetsNoDamage}
