@@ -1,0 +1,68 @@
+-- States that are alike to the locks, and locks in tables that stay.
+use Rattle.std.proofs.Common.{◌≡◌, ⊎_elim, inl, inr, ℕ, List, ◌++◌, Option, Some, None, refl, sym, ◌∙◌, ap, subst}
+use Rattle.ctr_model.specs.declared.state.State.{State}
+use Rattle.ctr_model.specs.declared.state.Transaction.{Transaction}
+use Rattle.ctr_model.specs.State.{has_name, transaction_of}
+use Rattle.ctr_model.specs.Refusals.{is_lock_of}
+use Rattle.std.specs.List.{list_any}
+use Rattle.ctr_area.specs.Areas.{Title}
+use Rattle.ctr_area.specs.Sound.{IsAmong}
+use Rattle.ctr_redo.specs.States.{State as Stored}
+use Rattle.ctr_record_effects.specs.States.{area_in}
+use Rattle.ctr_actions.specs.Facts.{Fact, HasTable}
+use Rattle.ctr_key_locks.specs.Held.{LocksOfSession, held_by_session}
+use Rattle.ctr_key_locks.specs.Shows.{ShowsKeyLocks, IsTheSame}
+use Rattle.ctr_told.specs.Turning.{facts_idle}
+use Rattle.ctr_exec.specs.World.{IsInTable}
+
+-- the transaction uses, holds and locks the same
+pub record IsAlike (t u : Transaction) : Type 0 where
+  pub uses : u.uses ≡ t.uses
+  pub holds : u.holds ≡ t.holds
+  pub locks : u.locks ≡ t.locks
+
+abbrev pub AreAlike : Option Transaction → Option Transaction → Type 0
+AreAlike None None = Unit {0}
+AreAlike None (Some u) = ⊥
+AreAlike (Some t) None = ⊥
+AreAlike (Some t) (Some u) = IsAlike t u
+
+pub alike_itself : (o : Option Transaction) → AreAlike o o
+alike_itself None = tt
+alike_itself (Some t) = record { uses = refl; holds = refl; locks = refl }
+
+one_alike : (name_of : ℕ → List ℕ) (h : LocksOfSession) (o p : Option Transaction) → AreAlike o p → IsTheSame name_of h o → IsTheSame name_of h p
+one_alike name_of h None None alike same = same
+one_alike name_of h None (Some u) alike same = absurd alike
+one_alike name_of h (Some t) None alike same = absurd alike
+one_alike name_of h (Some t) (Some u) alike same = record {
+  uses = λ name. same.uses name ∙ ap (has_name name) (sym alike.uses);
+  holds = λ name. same.holds name ∙ ap (has_name name) (sym alike.holds);
+  locks = λ entry key is. ap (list_any (is_lock_of (name_of entry) key)) alike.locks ∙ same.locks entry key is;
+  locked = λ name key is. same.locked name key (ap (list_any (is_lock_of name key)) (sym alike.locks) ∙ is);
+}
+
+-- so the locks show the one as the other
+pub shows_alike : (name_of : ℕ → List ℕ) (sessions : List (ℕ × LocksOfSession)) (state now : State) → ((r : ℕ) → AreAlike (transaction_of state r) (transaction_of now r)) → ShowsKeyLocks name_of sessions state → ShowsKeyLocks name_of sessions now
+shows_alike name_of sessions state now alike shows r = one_alike name_of (held_by_session r sessions) (transaction_of state r) (transaction_of now r) (alike r) (shows r)
+
+-- a lock in a table stays one where the title does, and what is counted on of the table
+pub in_table_still : (s t : Stored) (e : ℕ) (u v : Transaction) (facts now : List Fact) → (area_in t).title e ≡ (area_in s).title e → v.holds ≡ u.holds
+    → (IsAmong (HasTable e ((area_in s).title e)) facts → IsAmong (HasTable e ((area_in s).title e)) now) → IsInTable s e u facts → IsInTable t e v now
+in_table_still s t e u v facts now same holds counts is = record {
+  inside = is.inside;
+  there = λ none. is.there (ap (λ (l : Title). l.state) (sym same) ∙ none);
+  counted = ⊎_elim
+      (λ held. inl (ap (λ (l : Title). has_name l.name v.holds) same ∙ ap (has_name ((area_in s).title e).name) holds ∙ held))
+      (λ counted. inr (subst (λ (l : Title). IsAmong (HasTable e l) now) (sym same) (counts counted)))
+      is.counted;
+}
+
+-- a table that is counted on between two statements is one of these
+pub table_of_more : (e : ℕ) (title : Title) (more facts : List Fact) → facts ≡ facts_idle ++ more → IsAmong (HasTable e title) facts → IsAmong (HasTable e title) more
+table_of_more e title more facts are in_ = by (subst (λ (l : List Fact). IsAmong (HasTable e title) l) are in_)
+  where
+    by : IsAmong (HasTable e title) (facts_idle ++ more) → IsAmong (HasTable e title) more
+    by (inl is) = absurd cc
+    by (inr (inl is)) = absurd cc
+    by (inr (inr there)) = there

@@ -1,0 +1,9 @@
+//! Acts of sessions over pages: what each answers, and what it makes of transactions, locks and pages.
+#![tactic(auto)]
+
+mod beginning;
+mod ending;
+mod marks;
+
+pub use beginning::begin;
+pub use ending::ask;
