@@ -1,4 +1,4 @@
-//! Tests of turns of sessions on pages, over a store in memory. They need public items alone, so they stand here and not in
+//! Tests of turns of sessions and of undo on pages, over a store in memory. They need public items alone, so they stand here and not in
 //! the crates of turns, which would be proved twice.
 //!
 //! Who owns a store does nothing else: its turns stand in functions that have it behind `&mut` and answer plain data.
@@ -12,5 +12,7 @@ mod rolling;
 mod sessions;
 #[cfg(test)]
 mod stores;
+#[cfg(test)]
+mod undoing;
 #[cfg(test)]
 mod writing;

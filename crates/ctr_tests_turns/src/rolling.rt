@@ -3,11 +3,10 @@ ghost use Rattle.std.specs.Prelude.{◌≡◌, false, OnOk};
 ghost use Rattle.ctr_txn.specs.Calls.{IsOverStore};
 
 use crate::sessions::{begin, draw, made_table};
-use crate::stores::{new_disk, opened, ready};
+use crate::stores::{new_disk, opened, ready, take};
 use ctr_base::Origin;
 use ctr_disk::{Disk, StoreFault};
 use ctr_mem_disk::SilentDisk;
-use ctr_records::PageNo;
 use ctr_rollback::{Rolled, turn};
 use ctr_store::Store;
 use ctr_tally::Steps;
@@ -17,19 +16,6 @@ use std::alloc::{AllocError, Global};
 use std::marker::Brand;
 use std::sync::ledger::{Blank, Ledger};
 use std::test::Fail;
-
-// It takes a page.
-fn take<D: Disk, O: Origin>(store: &mut Store<D, O>, x: Xid, p: PageNo) -> Result<bool, StoreFault>
-    requires going { store.old.stopped ≡ false }
-    ensures going { OnOk result (store.new.stopped ≡ false) }
-    ensures next { OnOk result (store.new.meta.tables.next ≡ store.old.meta.tables.next) }
-{
-    if !ready(store, 0, 1)? || p >= 64 {
-        return Ok(false);
-    }
-    ctr_alloc::alloc(store, x, p)?;
-    Ok(true)
-}
 
 // It takes two pages, and makes a table between.
 fn write<D: Disk, O: Origin>(

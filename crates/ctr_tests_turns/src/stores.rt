@@ -5,8 +5,9 @@ ghost use Rattle.ctr_walk.specs.OneRecord.{HasRoomForOne};
 use ctr_base::Origin;
 use ctr_disk::{Disk, StoreFault};
 use ctr_mem_disk::{Image, MemDisk, SilentDisk};
+use ctr_records::PageNo;
 use ctr_store::{Store, create};
-use ctr_types::List;
+use ctr_types::{List, Xid};
 use std::alloc::{AllocError, Global};
 
 // Makes a database on a disk, which is given back.
@@ -60,4 +61,21 @@ pub fn ready<D: Disk, O: Origin>(
         return Ok(false);
     }
     Ok(store.room() && store.next() < 1 << 62)
+}
+
+/// A transaction takes a page; whether there was room for that.
+pub fn take<D: Disk, O: Origin>(
+    store: &mut Store<D, O>,
+    x: Xid,
+    p: PageNo,
+) -> Result<bool, StoreFault>
+    requires going { store.old.stopped ≡ false }
+    ensures going { OnOk result (store.new.stopped ≡ false) }
+    ensures next { OnOk result (store.new.meta.tables.next ≡ store.old.meta.tables.next) }
+{
+    if !ready(store, 0, 1)? || p >= 64 {
+        return Ok(false);
+    }
+    ctr_alloc::alloc(store, x, p)?;
+    Ok(true)
 }
