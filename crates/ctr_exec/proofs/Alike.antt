@@ -1,8 +1,11 @@
 -- States that are alike to the locks, and locks in tables that stay.
-use Rattle.std.proofs.Common.{◌≡◌, ⊎_elim, inl, inr, ℕ, List, ◌++◌, Option, Some, None, refl, sym, ◌∙◌, ap, subst}
+use Rattle.std.proofs.Common.{◌≡◌, ⊎_elim, inl, inr, ℕ, List, ◌++◌, Option, Some, None, refl, sym, ◌∙◌, ap, subst, not}
+use Rattle.std.specs.Ordering.{nat_cmp, eq_by_cmp}
+use Rattle.std.specs.Cmp.{nat_cmp_total}
+use Rattle.std.specs.FinMap.Entries.{is_sorted-put, is_sorted-where_key}
 use Rattle.ctr_model.specs.declared.state.State.{State}
 use Rattle.ctr_model.specs.declared.state.Transaction.{Transaction}
-use Rattle.ctr_model.specs.State.{has_name, transaction_of}
+use Rattle.ctr_model.specs.State.{has_name, transaction_of, with_transaction, without_transaction}
 use Rattle.ctr_model.specs.Refusals.{is_lock_of}
 use Rattle.std.specs.List.{list_any}
 use Rattle.ctr_area.specs.Areas.{Title}
@@ -13,7 +16,7 @@ use Rattle.ctr_actions.specs.Facts.{Fact, HasTable}
 use Rattle.ctr_key_locks.specs.Held.{LocksOfSession, held_by_session}
 use Rattle.ctr_key_locks.specs.Shows.{ShowsKeyLocks, IsTheSame}
 use Rattle.ctr_told.specs.Turning.{facts_idle}
-use Rattle.ctr_exec.specs.World.{IsInTable}
+use Rattle.ctr_exec.specs.World.{IsInTable, AreInOrder}
 
 -- the transaction uses, holds and locks the same
 pub record IsAlike (t u : Transaction) : Type 0 where
@@ -45,6 +48,13 @@ one_alike name_of h (Some t) (Some u) alike same = record {
 -- so the locks show the one as the other
 pub shows_alike : (name_of : ℕ → List ℕ) (sessions : List (ℕ × LocksOfSession)) (state now : State) → ((r : ℕ) → AreAlike (transaction_of state r) (transaction_of now r)) → ShowsKeyLocks name_of sessions state → ShowsKeyLocks name_of sessions now
 shows_alike name_of sessions state now alike shows r = one_alike name_of (held_by_session r sessions) (transaction_of state r) (transaction_of now r) (alike r) (shows r)
+
+-- sessions stand in order whatever one of them becomes
+pub put_in_order : (s : ℕ) (t : Transaction) (state : State) → AreInOrder state → AreInOrder (with_transaction s t state)
+put_in_order s t state = is_sorted-put nat_cmp nat_cmp_total s t state.sessions
+
+pub gone_in_order : (s : ℕ) (state : State) → AreInOrder state → AreInOrder (without_transaction s state)
+gone_in_order s state = is_sorted-where_key nat_cmp (λ k. not (eq_by_cmp nat_cmp s k)) state.sessions
 
 -- a lock in a table stays one where the title does, and what is counted on of the table
 pub in_table_still : (s t : Stored) (e : ℕ) (u v : Transaction) (facts now : List Fact) → (area_in t).title e ≡ (area_in s).title e → v.holds ≡ u.holds

@@ -28,9 +28,9 @@ use Rattle.ctr_kept.specs.Turns.{Start, InTransaction, asked_scene, carrying, st
 use Rattle.ctr_stops.specs.World.{KeepsWorld}
 use Rattle.ctr_txn.specs.Held.{TxnHeld, TxnsHeld, IsReading, IsWriting, run_of, txn_of}
 use Rattle.ctr_told.specs.Turning.{facts_idle, IsIdle}
-use Rattle.ctr_exec.specs.World.{SessionsHeld, AreInTables, names_in}
+use Rattle.ctr_exec.specs.World.{SessionsHeld, AreInTables, names_in, AreInOrder}
 use Rattle.ctr_exec.specs.Told.{IsNextOf, IsTold}
-use Rattle.ctr_exec.proofs.Alike.{AreAlike, alike_itself, shows_alike, in_table_still, table_of_more}
+use Rattle.ctr_exec.proofs.Alike.{AreAlike, alike_itself, shows_alike, in_table_still, table_of_more, put_in_order}
 use Rattle.ctr_exec.proofs.Standing.{told_state}
 
 none_or_some : (n : ℕ) → (n ≡ 0) ⊎ (0 < n)
@@ -134,6 +134,7 @@ module _ {D : Type 0} (g : Ghosts D) (c : Start) (opened : D) (a b : View D) (ol
         locks = subst (λ n. ShowsKeyLocks n locks (state_now c v)) (sym same_name_of)
             (subst (λ (q : State). ShowsKeyLocks (names_in a.now) locks q) (sym is_state) (shows_alike (names_in a.now) locks state asked_state alike next.world.locks));
         tables = subst (λ (q : State). AreInTables b.now locks q v.facts) (sym is_state) tables_now;
+        in_order = subst AreInOrder (sym is_state) (put_in_order s asked_t (record state { asked = state.asked ++ seat.t.own ∷ [] }) next.world.in_order);
       };
       tape = refl;
       others = facts_others;

@@ -1,6 +1,7 @@
 -- A session that begins, in a World.
 use Rattle.std.proofs.Common.{◌≡◌, ◌⊎◌, inl, inr, ℕ, ℤ, ◌==◌, true, false, cond, List, [], Some, None, refl, sym, ◌∙◌, ap, subst}
 use Rattle.std.proofs.lemmas.Bool.{false≢true, eqb-true}
+use Rattle.ctr_exec.proofs.Alike.{put_in_order}
 use Rattle.ctr_disk.specs.declared.disk.Disk.{Ghosts}
 use Rattle.ctr_types.specs.declared.statement.Statement.TheVariants as st
 use Rattle.ctr_types.specs.declared.tape.Act.TheVariants as act
@@ -26,7 +27,7 @@ use Rattle.ctr_kept.specs.Turns.{Start, begun_mind, state_now, telling}
 use Rattle.ctr_stops.specs.World.{KeepsWorld}
 use Rattle.ctr_txn.specs.Held.{TxnHeld, TxnsHeld, IsOneOfEight, run_of, txn_of}
 use Rattle.ctr_txn.specs.Steps.{SetsTxn, txn_begun}
-use Rattle.ctr_exec.specs.World.{SessionsHeld, IsInTable, AreInTables, names_in}
+use Rattle.ctr_exec.specs.World.{SessionsHeld, IsInTable, AreInTables, names_in, AreInOrder}
 use Rattle.ctr_exec.specs.Told.{IsNextOf, IsTold}
 use Rattle.ctr_exec.proofs.Standing.{RunFinds, none_of, told_state}
 
@@ -113,6 +114,7 @@ module _ {D : Type 0} (g : Ghosts D) (c : Start) (opened : D) (a b : View D) (ol
               run_is = run_now;
               locks = subst (λ q. ShowsKeyLocks (names_in q) locks (state_now c v)) (sym pages) (subst (λ (q : State). ShowsKeyLocks (names_in a.now) locks q) (sym is_state) locks_now);
               tables = subst (λ q. AreInTables q locks (state_now c v) v.facts) (sym pages) (subst (λ (q : State). AreInTables a.now locks q v.facts) (sym is_state) tables_now);
+              in_order = subst AreInOrder (sym is_state) (put_in_order s (begun state.answered) state next.world.in_order);
             };
             tape = refl;
             others = same_facts;

@@ -3,6 +3,7 @@ use Rattle.std.proofs.Common.{◌≡◌, ℕ, ◌==◌, false, cond, List, [], S
 use Rattle.std.proofs.lemmas.Bool.{false≢true, eqb-true}
 use Rattle.std.specs.Prelude.{is_some}
 use Rattle.std.specs.Ordering.{nat_cmp}
+use Rattle.ctr_exec.proofs.Alike.{gone_in_order}
 use Rattle.ctr_disk.specs.declared.disk.Disk.{Ghosts}
 use Rattle.ctr_types.specs.declared.statement.Statement.{Statement}
 use Rattle.ctr_types.specs.declared.tape.Act.{Act}
@@ -22,7 +23,7 @@ use Rattle.ctr_kept.specs.Turns.{Start, gone_mind, state_now, telling}
 use Rattle.ctr_stops.specs.World.{KeepsWorld}
 use Rattle.ctr_paged.specs.Paged.{Run}
 use Rattle.ctr_txn.specs.Held.{TxnsHeld, run_of}
-use Rattle.ctr_exec.specs.World.{IsInTable, AreInTables, names_in}
+use Rattle.ctr_exec.specs.World.{IsInTable, AreInTables, names_in, AreInOrder}
 use Rattle.ctr_exec.specs.Told.{IsNextOf, IsTold}
 use Rattle.ctr_exec.proofs.Standing.{told_state}
 
@@ -59,6 +60,7 @@ module _ {D : Type 0} (g : Ghosts D) (c : Start) (opened : D) (a b : View D) (ol
             locks = subst (λ (q : Stored). ShowsKeyLocks (names_in q) left (state_now c v)) (sym pages)
                 (subst (λ (q : State). ShowsKeyLocks (names_in a.now) left q) (sym is_state) (shows (names_in a.now) s locks left state frees next.world.locks));
             tables = subst (λ (q : Stored). AreInTables q left (state_now c v) v.facts) (sym pages) (subst (λ (q : State). AreInTables a.now left q v.facts) (sym is_state) tables_now);
+            in_order = subst AreInOrder (sym is_state) (gone_in_order s state next.world.in_order);
           };
           tape = refl;
           others = facts_others;

@@ -4,3 +4,4 @@ pub mod Alike
 pub mod Begun
 pub mod Asking
 pub mod Gone
+pub mod Looking

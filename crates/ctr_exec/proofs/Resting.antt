@@ -13,7 +13,7 @@ use Rattle.ctr_key_locks.specs.Shows.{ShowsKeyLocks}
 use Rattle.ctr_kept.specs.Turns.{Start, state_now, telling}
 use Rattle.ctr_stops.specs.World.{KeepsWorld}
 use Rattle.ctr_told.specs.Turning.{RestsBehind}
-use Rattle.ctr_exec.specs.World.{SessionsHeld, names_in, AreInTables}
+use Rattle.ctr_exec.specs.World.{SessionsHeld, names_in, AreInTables, AreInOrder}
 use Rattle.ctr_exec.specs.Told.{IsNextOf, IsTold}
 use Rattle.ctr_exec.proofs.Standing.{refused_state, told_state}
 
@@ -43,6 +43,7 @@ module _ {D : Type 0} (g : Ghosts D) (c : Start) (opened : D) (a b : View D) (h 
           run_is = next.world.run_is;
           locks = subst (λ (q : Stored). ShowsKeyLocks (names_in q) h.locks (state_now c v)) pages (subst (λ (q : State). ShowsKeyLocks (names_in a.now) h.locks q) same next.world.locks);
           tables = subst (λ (q : Stored). AreInTables q h.locks (state_now c v) v.facts) pages (subst (λ (q : State). AreInTables a.now h.locks q v.facts) same next.world.tables);
+          in_order = subst AreInOrder same next.world.in_order;
         };
         tape = refl;
         others = λ q two. refl;

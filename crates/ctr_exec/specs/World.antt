@@ -1,5 +1,7 @@
 -- A World on pages, with what a program has of its sessions: their transactions and their locks.
-use Rattle.std.specs.Prelude.{◌≡◌, ◌≢◌, ◌⊎◌, ℕ, ◌<◌, ℤ, true, List, Some}
+use Rattle.std.specs.Prelude.{◌≡◌, ◌≢◌, ◌⊎◌, ℕ, ◌<◌, ℤ, T, true, List, Some}
+use Rattle.std.specs.Ordering.{nat_cmp}
+use Rattle.std.specs.FinMap.Entries.{is_sorted}
 use Rattle.ctr_disk.specs.declared.disk.Disk.{Ghosts}
 use Rattle.ctr_model.specs.declared.state.State.{State}
 use Rattle.ctr_model.specs.declared.state.Transaction.{Transaction}
@@ -39,11 +41,16 @@ AreInTables s locks state facts = (r e : ℕ) (key : ℤ) (u : Transaction)
     → session_locks r e key locks ≡ true → transaction_of state r ≡ Some u
     → IsInTable s e u (facts r)
 
+-- sessions stand in the order of their numbers
+abbrev pub AreInOrder : State → Type 0
+AreInOrder state = T (is_sorted nat_cmp state.sessions)
+
 -- The World is kept, its run is that of the transactions, and the locks are those of the state that
--- its tape has reached.
+-- its tape has reached, whose sessions stand in order.
 pub record InWorld {D : Type 0} (g : Ghosts D) (c : Start) (opened : D) (v : View D)
     (h : SessionsHeld) (w : Mind) : Type 0 where
   pub keeps : KeepsWorld g c opened v w
   pub run_is : w.run ≡ run_of h.txns
   pub locks : ShowsKeyLocks (names_in v.now) h.locks (state_now c w)
   pub tables : AreInTables v.now h.locks (state_now c w) w.facts
+  pub in_order : AreInOrder (state_now c w)
