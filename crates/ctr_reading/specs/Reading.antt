@@ -1,8 +1,9 @@
 -- The rows of a table that a session sees, and why they aren't read.
-use Rattle.std.specs.Prelude.{◌≡◌, ◌⊎◌, ℕ, ℤ, Bool, List, map, Option, None, Some, Result, Ok, Err}
+use Rattle.std.specs.Prelude.{◌≡◌, ◌≢◌, ◌⊎◌, ℕ, ℤ, Bool, List, [], map, Option, None, Some, Result, Ok, Err}
 use Rattle.std.specs.Option.{option_to_list}
 use Rattle.ctr_types.specs.declared.memory.OutOfMemory.{OutOfMemory}
 use Rattle.ctr_types.specs.declared.value.Row.{Row}
+use Rattle.ctr_types.specs.declared.value.Rows.{Rows}
 use Rattle.ctr_disk.specs.declared.fault.StoreFault.{StoreFault}
 use Rattle.ctr_disk.specs.declared.fault.StoreFault.TheVariants.{Fault}
 use Rattle.ctr_meta.specs.Tables.{Tables}
@@ -50,10 +51,20 @@ abbrev pub GivesSeen : (ℕ → Bool) → Area → ℕ → ℤ → Result (Optio
 GivesSeen test area e key given =
     (row : Option Row) × IsSeen test area e key row × GivesRow row given
 
--- Rows are those that the slots of a table show to a test: all of them in the order of their keys, or
--- the one of a key.
+-- Rows are those that the slots of a table show to a test: all of them in the order of their keys,
+-- or the one of a key.
 abbrev pub AreShown : (ℕ → Bool) → Area → ℕ → Option ℤ → List Row → Type 0
 AreShown test area e None rows =
     (entries : List (ℤ × Row)) × AreScanned test area e entries × (rows ≡ map (λ x. x.1) entries)
 AreShown test area e (Some key) rows =
     (row : Option Row) × IsSeen test area e key row × (rows ≡ option_to_list row)
+
+-- These rows are given. Memory runs out only where there are any.
+abbrev pub GivesRows : List Row → Result Rows OutOfMemory → Type 0
+GivesRows rows (Ok given) = given.rows ≡ rows
+GivesRows rows (Err e) = rows ≢ []
+
+-- All rows that are shown are given, so.
+abbrev pub GivesShown : (ℕ → Bool) → Area → ℕ → Result Rows OutOfMemory → Type 0
+GivesShown test area e given =
+    (rows : List Row) × AreShown test area e None rows × GivesRows rows given

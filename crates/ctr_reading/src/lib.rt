@@ -1,12 +1,20 @@
-//! The row of a key of a table that a session sees, read from pages, and when rows are those of the session's view.
+//! The rows of a table that a session sees, read from pages: all of them in the order of their keys, or the one of a key; and when
+//! rows are those of the session's view.
 //!
-//! Nothing here takes memory but the row that is given.
+//! Nothing here takes memory but the rows that are given.
 #![tactic(auto)]
 
+mod chains;
+mod gathered;
+mod gathering;
 mod key;
 mod laws;
+mod pages;
 mod sight;
+mod slots;
+mod table;
 
 pub use key::row_of_key;
 pub use laws::rows_are_those_of_the_view;
 pub use sight::Sight;
+pub use table::rows_of_table;
