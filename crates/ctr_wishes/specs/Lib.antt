@@ -1,0 +1,4 @@
+pub mod HeadMade
+pub mod Heads
+pub mod Preparing
+pub mod Models
