@@ -53,7 +53,7 @@ same_twice s b more w = λ i. record (undoing_mind s b more w) { facts = λ r. t
 
 -- the name of a table that it made or dropped is held by it
 module _ (c : Start) (now s : ℕ) (site : Site) (w : Mind) (keeps : KeepsRun c now site w) (seat : InTransaction c w s) (some : 0 < seat.session.me) where
-  its_name : (y e : ℕ) → y ≡ seat.session.me → IsSchemaItem y e site.tables.items → has_name (site.area.title e).name seat.t.holds ≡ true
+  pub its_name : (y e : ℕ) → y ≡ seat.session.me → IsSchemaItem y e site.tables.items → has_name (site.area.title e).name seat.t.holds ≡ true
   its_name y e is its = ⊎_elim held (λ nobodys. absurd (nobodys.0 s seat.session seat.at (sym is))) (keeps.scene.shown.holds.owned y e its)
     where
       held : IsNameHeldBy w.run.sessions (scene_now c w).state y (site.area.title e).name → has_name (site.area.title e).name seat.t.holds ≡ true

@@ -7,3 +7,4 @@ pub mod Tabled
 pub mod Granting
 pub mod Silent
 pub mod Going
+pub mod Answered

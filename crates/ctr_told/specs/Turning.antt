@@ -1,6 +1,8 @@
 -- A turn of a session in a World, and what the session counts on between two of its statements.
-use Rattle.std.specs.Prelude.{◌≡◌, ◌⊎◌, ℕ, ◌<◌, ◌≤◌, List, [], ◌∷◌, ◌++◌, None}
+use Rattle.std.specs.Prelude.{◌≡◌, ◌⊎◌, ℕ, ◌+◌, ◌<◌, ◌≤◌, List, [], ◌∷◌, ◌++◌, None}
+use Rattle.std.specs.Ordering.{nat_cmp}
 use Rattle.ctr_disk.specs.declared.disk.Disk.{Ghosts}
+use Rattle.ctr_model.specs.Maps.{without}
 use Rattle.ctr_model.specs.State.{transaction_of}
 use Rattle.ctr_actions.specs.Facts.{Fact, IsOpen, HasNoPageBut}
 use Rattle.ctr_store.specs.Store.{View, LeavesFront, Logs}
@@ -44,3 +46,13 @@ pub record RestsBehind {D : Type 0} (g : Ghosts D) (a b : View D) : Type 0 where
   pub front : LeavesFront g a b
   pub rests : LeavesFront g b b
   pub later : g.moment_of a.disk ≤ g.moment_of b.disk
+
+-- The session and its snapshot are gone, and one commit more is answered.
+abbrev pub answered_mind : ℕ → Mind → Mind
+answered_mind s w = record w {
+  run = record w.run {
+    sessions = without nat_cmp s w.run.sessions;
+    answered = w.run.answered + 1;
+  };
+  since = without nat_cmp s w.since;
+}

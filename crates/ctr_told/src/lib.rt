@@ -2,6 +2,7 @@
 //! program computes them.
 #![tactic(auto)]
 
+mod answering;
 mod asking;
 mod counting;
 mod entries;
@@ -10,6 +11,7 @@ mod reading;
 mod tables;
 mod writing;
 
+pub use answering::a_commit_that_is_answered_is_told;
 pub use asking::a_commit_that_is_asked_for_is_told;
 pub use counting::{a_session_may_count_on_what_holds, a_table_that_is_counted_on_is_found};
 pub use locking::{a_first_lock_is_told, a_lock_is_told};

@@ -6,7 +6,7 @@ ghost use Rattle.ctr_versions.specs.Laws.{sessions_named};
 ghost use Rattle.ctr_versions.specs.Xids.{unanswered};
 ghost use Rattle.ctr_paged.specs.Paged.{xids_of};
 ghost use Rattle.ctr_txn.specs.Numbered.{number_asked};
-ghost use Rattle.ctr_txn.specs.Held.{TxnHeld, txn_of, IsOneOfEight, held_from, number_of_txn, number_drawn, HasNumberRoom, IsReading, IsWriting};
+ghost use Rattle.ctr_txn.specs.Held.{AreTxns, TxnHeld, txn_of, IsOneOfEight, held_from, number_of_txn, number_drawn, HasNumberRoom, IsReading, IsWriting};
 ghost use Rattle.ctr_txn.specs.Steps.{SetsTxn, KeepsNumbers, DrawsOne, AsksOne, txn_begun, txn_drawn, txn_undoing, txn_asked, txn_room, mark_in, AnswersNext};
 ghost use Rattle.ctr_txn.specs.Rooms.{SpendsOne, GetsBack, StaysRoom};
 
@@ -113,6 +113,14 @@ impl Txns {
     /// There are eight sessions. The call does nothing: what it ensures always holds.
     pub fn counts_sessions(&self)
         ensures { length self.now.sessions ≡ 8 }
+    {
+        let _ = &self.sessions;
+    }
+
+    /// Each commit that isn't answered is a session's, at its place among those that asked, and no two sessions have one number. The call
+    /// does nothing: what it ensures always holds.
+    pub fn numbers_commits(&self)
+        ensures { AreTxns self.now }
     {
         let _ = &self.sessions;
     }

@@ -1,0 +1,24 @@
+// A commit that is answered.
+ghost use Rattle.std.specs.Prelude.{◌≡◌, ◌+◌, ℕ, []};
+ghost use Rattle.ctr_types.specs.declared.tape.Act.TheVariants as act;
+ghost use Rattle.ctr_types.specs.declared.tape.Reply.TheVariants as reply;
+ghost use Rattle.ctr_store.specs.Store.{View};
+ghost use Rattle.ctr_kept.specs.Walk.{Mind};
+ghost use Rattle.ctr_kept.specs.Turns.{Start, MayCome, telling, state_now};
+ghost use Rattle.ctr_stops.specs.World.{KeepsWorld};
+ghost use Rattle.ctr_told.specs.Turning.{TellsOf, RestsBehind, answered_mind};
+
+use ctr_disk::Disk;
+use ctr_legal::numbers_are_own;
+use ctr_stops::answers_and_growth_are_kept;
+
+/// Where nothing waits in the log, the commit that was asked for first of those that aren't answered may be answered, whoever flushed: the turn
+/// that tells it keeps the World, in which its transaction is gone.
+pub fn a_commit_that_is_answered_is_told<D: Disk>()
+    ensures { (c : Start) (opened : D) (a b : View D) (w : Mind) (s : ℕ) (tells : TellsOf D.Disk c opened a b w s)
+        → MayCome c w tells.e act.Answer (reply.Answered ((state_now c w).answered + 1)) → RestsBehind D.Disk a b → b.waiting ≡ []
+        → KeepsWorld D.Disk c opened b (telling tells.e act.Answer (reply.Answered ((state_now c w).answered + 1)) w (answered_mind s w)) }
+{
+    numbers_are_own();
+    answers_and_growth_are_kept::<D>();
+}
