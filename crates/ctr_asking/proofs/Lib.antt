@@ -12,3 +12,4 @@ pub mod Only
 pub mod Firsts
 pub mod Presence
 pub mod Going
+pub mod Undropped

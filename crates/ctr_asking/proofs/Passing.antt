@@ -28,16 +28,18 @@ pub free_first : (stuck : Bool) (o : Option ℕ) → cond stuck (Some 0) o ≡ N
 free_first true o is = absurd (true≢false (ap is_some is))
 free_first false o is = refl
 
+-- what a transaction has drawn is its number
+pub number_held : (t : TxnHeld) → IsNumberOf t.session (me_held t)
+number_held t = known (t.session.me == 0)
+    (λ none. subst (IsNumberOf t.session) (sym (ap (λ b. cond b None (Some t.session.me)) none)) (eqb-true t.session.me 0 none))
+    (λ some. subst (IsNumberOf t.session) (sym (ap (λ b. cond b None (Some t.session.me)) some)) refl)
+
 module _ (asker : Asker) (site : Site) (k : Asking asker site) where
   abbrev pub scene : Scene
   scene = scene_with asker.txns.now k.state
 
   pub is_me : IsNumberOf k.txn.session (me_held k.txn)
-  is_me =
-      let me = k.txn.session.me in
-      known (me == 0)
-      (λ none. subst (IsNumberOf k.txn.session) (sym (ap (λ b. cond b None (Some me)) none)) (eqb-true me 0 none))
-      (λ some. subst (IsNumberOf k.txn.session) (sym (ap (λ b. cond b None (Some me)) some)) refl)
+  is_me = number_held k.txn
 
   -- the session as a reader of pages
   abbrev pub viewer : Viewer scene

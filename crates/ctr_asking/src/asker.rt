@@ -26,7 +26,7 @@ pub enum Answer {
 }
 
 /// The number that a transaction has drawn, or none.
-pub(crate) fn me_of(txn: &Txn) -> Option<Xid>
+pub fn me_of(txn: &Txn) -> Option<Xid>
     ensures { result ≡ me_held txn.now }
 {
     if txn.me == 0 { None } else { Some(txn.me) }

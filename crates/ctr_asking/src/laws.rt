@@ -1,14 +1,17 @@
 // What speaks against an act is what the model says. A call does nothing: what it ensures is the law.
-ghost use Rattle.std.specs.Prelude.{◌≡◌, ℕ, ℤ, List, [], ◌∷◌, Option, Some, None};
+ghost use Rattle.std.specs.Prelude.{◌≡◌, ℕ, ℤ, true, List, [], ◌∷◌, Option, Some, None};
 ghost use Rattle.std.specs.Option.{option_map};
 ghost use Rattle.ctr_types.specs.declared.statement.Statement.{Statement as Asks};
+ghost use Rattle.ctr_types.specs.declared.tape.Act.{Act};
 ghost use Rattle.ctr_types.specs.declared.tape.Refusal.TheVariants as refusal;
 ghost use Rattle.ctr_model.specs.Database.{table_at};
 ghost use Rattle.ctr_model.specs.State.{view};
-ghost use Rattle.ctr_model.specs.Refusals.{presence_refusals, value_refusals, busy_by, locked_by, schema_changed_by, row_changed_by};
+ghost use Rattle.ctr_model.specs.Refusals.{table_of, presence_refusals, value_refusals, busy_by, locked_by, schema_changed_by, row_changed_by, refusal_of};
+ghost use Rattle.ctr_area.specs.Images.{is_live};
 ghost use Rattle.ctr_names.specs.Search.{IsEntryFound, IsNoneFound};
 ghost use Rattle.ctr_actions.specs.Sites.{Site};
 ghost use Rattle.ctr_key_locks.specs.Held.{IsInOrder, locked_among};
+ghost use Rattle.ctr_key_locks.specs.Shows.{IsOnlyEntry};
 ghost use Rattle.ctr_asking.specs.declared.asker.Asker.{Asker as WhoAsks};
 ghost use Rattle.ctr_asking.specs.Values.{bad_in};
 ghost use Rattle.ctr_asking.specs.Causes.{presence_refused, busy_at, last_change, IsNewer};
@@ -54,4 +57,16 @@ pub fn what_tells_of_a_row_is_the_models()
     what_changed_answers_is_in_the_model();
     what_find_answers_is_in_the_view();
     what_newest_answers_is_in_the_model();
+}
+
+/// A table that a session has found, and whose act isn't refused, is live, and nobody has dropped it; and whoever else has the lock of a key of
+/// a table of the name has it in this entry.
+pub fn a_table_that_is_free_is_undropped()
+    ensures undropped { (asker : WhoAsks) (site : Site) (k : Asking asker site) (act : Act) (statement : Asks) (name : List ℕ) (e : ℕ) → table_of statement ≡ Some name → refusal_of k.state asker.s k.t act statement ≡ None
+        → IsEntryFound (sees_for site k.txn) name site.area e → ((site.area.title e).name ≡ name) × (is_live (site.area.title e) ≡ true) × ((site.area.title e).dropper ≡ 0) }
+    ensures only { (asker : WhoAsks) (site : Site) (k : Asking asker site) (act : Act) (statement : Asks) (name : List ℕ) (e : ℕ) (key : ℤ) → table_of statement ≡ Some name → refusal_of k.state asker.s k.t act statement ≡ None
+        → IsEntryFound (sees_for site k.txn) name site.area e → IsOnlyEntry (λ e. (site.area.title e).name) asker.s e key asker.locks.now }
+{
+    the_newest_change_of_a_name_is_told();
+    what_changed_answers_is_in_the_model();
 }

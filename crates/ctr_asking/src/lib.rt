@@ -14,6 +14,9 @@ mod named;
 mod names;
 mod values;
 
-pub use asker::{Answer, Asker};
+pub use asker::{Answer, Asker, me_of};
 pub use asking::ask;
-pub use laws::{what_tells_of_a_name_is_the_models, what_tells_of_a_row_is_the_models};
+pub use laws::{
+    a_table_that_is_free_is_undropped, what_tells_of_a_name_is_the_models,
+    what_tells_of_a_row_is_the_models,
+};
