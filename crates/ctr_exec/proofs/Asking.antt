@@ -1,6 +1,6 @@
 -- A COMMIT in a World: it is asked for, or ends a transaction that wrote nothing.
 use Rattle.std.proofs.Common.{◌≡◌, ◌⊎◌, ⊎_elim, inl, inr, ℕ, zero, suc, ◌+◌, ◌<◌, ◌==◌, true, false, cond, List, [], ◌∷◌, ◌++◌, length, Option, Some, None, refl, sym, ◌∙◌, ap, subst, arith}
-use Rattle.std.proofs.lemmas.Bool.{eqb-true}
+use Rattle.std.proofs.lemmas.Bool.{eq-eqb, eqb-true}
 use Rattle.ctr_disk.specs.declared.disk.Disk.{Ghosts}
 use Rattle.ctr_types.specs.declared.statement.Statement.TheVariants as st
 use Rattle.ctr_types.specs.declared.tape.Act.TheVariants as act
@@ -9,7 +9,7 @@ use Rattle.ctr_types.specs.declared.tape.Refusal.TheVariants as refusal
 use Rattle.ctr_model.specs.declared.state.State.{State}
 use Rattle.ctr_model.specs.declared.state.Transaction.{Transaction}
 use Rattle.ctr_model.specs.Reply.{next_from, reply_from}
-use Rattle.ctr_model.specs.State.{transaction_of, with_transaction}
+use Rattle.ctr_model.specs.State.{has_name, transaction_of, with_transaction}
 use Rattle.ctr_model.specs.Tape.{Allowed}
 use Rattle.ctr_model.proofs.Sessions.{find-put-other, find-put-same}
 use Rattle.ctr_versions.proofs.Keys.{known, some_is}
@@ -33,7 +33,7 @@ use Rattle.ctr_exec.specs.Told.{IsNextOf, IsTold}
 use Rattle.ctr_exec.proofs.Alike.{AreAlike, alike_itself, shows_alike, in_table_still, table_of_more, put_in_order}
 use Rattle.ctr_exec.proofs.Standing.{told_state}
 
-none_or_some : (n : ℕ) → (n ≡ 0) ⊎ (0 < n)
+pub none_or_some : (n : ℕ) → (n ≡ 0) ⊎ (0 < n)
 none_or_some n = elim n as (λ (n : ℕ). (n ≡ 0) ⊎ (0 < n)) [ zero ↦ inl refl | suc m ↦ inr (above m) ]
   where
     above : (m : ℕ) → 0 < suc m
@@ -97,7 +97,7 @@ module _ {D : Type 0} (g : Ghosts D) (c : Start) (opened : D) (a b : View D) (ol
     alike : (r : ℕ) → AreAlike (transaction_of state r) (transaction_of asked_state r)
     alike r = known (r == s)
         (λ one. subst (λ q. AreAlike (transaction_of state q) (transaction_of asked_state q)) (sym (eqb-true r s one))
-        (subst (λ o. AreAlike o (transaction_of asked_state s)) (sym seat.is_t) (subst (λ o. AreAlike (Some seat.t) o) (sym (find-put-same s asked_t state.sessions)) (record { uses = refl; holds = refl; locks = refl }))))
+        (subst (λ o. AreAlike o (transaction_of asked_state s)) (sym seat.is_t) (subst (λ o. AreAlike (Some seat.t) o) (sym (find-put-same s asked_t state.sessions)) (record { uses = λ name. refl; holds = refl; locks = refl }))))
         (λ two. subst (AreAlike (transaction_of state r)) (sym (find-put-other r s asked_t state.sessions two)) (alike_itself (transaction_of state r)))
 
     same_title : (e : ℕ) → (area_in b.now).title e ≡ (area_in a.now).title e
@@ -117,16 +117,16 @@ module _ {D : Type 0} (g : Ghosts D) (c : Start) (opened : D) (a b : View D) (ol
         (λ one.
         let q = eqb-true r s one in
         let t_is = some_is asked_t u (sym (find-put-same s asked_t state.sessions) ∙ ap (transaction_of asked_state) (sym q) ∙ at) in
-        in_table_still a.now b.now e seat.t u (w.facts r) (v.facts r) (same_title e) (ap (λ (t : Transaction). t.holds) (sym t_is))
+        in_table_still a.now b.now e seat.t u (w.facts r) (v.facts r) (same_title e) (λ n is. ap (λ (t : Transaction). has_name n t.holds) (sym t_is) ∙ is)
         (λ in_. subst (λ l. IsAmong (HasTable e ((area_in a.now).title e)) l) (sym (facts_its r one))
         (table_of_more e ((area_in a.now).title e) more (w.facts s) idle (subst (λ n. IsAmong (HasTable e ((area_in a.now).title e)) (w.facts n)) q in_)))
         (next.world.tables r e key seat.t is (ap (transaction_of state) q ∙ seat.is_t)))
-        (λ two. in_table_still a.now b.now e u u (w.facts r) (v.facts r) (same_title e) refl
+        (λ two. in_table_still a.now b.now e u u (w.facts r) (v.facts r) (same_title e) (λ n is. is)
         (λ in_. subst (λ l. IsAmong (HasTable e ((area_in a.now).title e)) l) (sym (facts_others r two)) in_)
         (next.world.tables r e key u is (sym (find-put-other r s asked_t state.sessions two) ∙ at)))
 
-    pub asked_told : KeepsWorld g c opened b v → IsTold next now act.Ask (reply.Asked k)
-    asked_told keeps = record {
+    pub asked_told : AreTables more → KeepsWorld g c opened b v → IsTold next now act.Ask (reply.Asked k)
+    asked_told tables keeps = record {
       mind = v;
       world = record {
         keeps = keeps;
@@ -138,6 +138,7 @@ module _ {D : Type 0} (g : Ghosts D) (c : Start) (opened : D) (a b : View D) (ol
       };
       tape = refl;
       others = facts_others;
+      counts = subst AreTables (sym (facts_its s (eq-eqb s s refl))) tables;
     }
 
 -- what a session with a number counts on between two statements

@@ -1,6 +1,6 @@
 -- A session that begins, in a World.
 use Rattle.std.proofs.Common.{◌≡◌, ◌⊎◌, inl, inr, ℕ, ℤ, ◌==◌, true, false, cond, List, [], Some, None, refl, sym, ◌∙◌, ap, subst}
-use Rattle.std.proofs.lemmas.Bool.{false≢true, eqb-true}
+use Rattle.std.proofs.lemmas.Bool.{false≢true, eq-eqb, eqb-true}
 use Rattle.ctr_exec.proofs.Alike.{put_in_order}
 use Rattle.ctr_disk.specs.declared.disk.Disk.{Ghosts}
 use Rattle.ctr_types.specs.declared.statement.Statement.TheVariants as st
@@ -118,4 +118,5 @@ module _ {D : Type 0} (g : Ghosts D) (c : Start) (opened : D) (a b : View D) (ol
             };
             tape = refl;
             others = same_facts;
+            counts = ap (λ x. cond x [] (next.mind.facts s)) (eq-eqb s s refl);
           }

@@ -5,3 +5,16 @@ pub mod Begun
 pub mod Asking
 pub mod Gone
 pub mod Looking
+pub mod Changed
+pub mod Granted
+pub mod Unrefused
+pub mod Rooms
+pub mod Finding
+pub mod Naming
+pub mod Going
+pub mod Tabled
+pub mod Others
+pub mod Rolled
+pub mod Answered
+pub mod Unasked
+pub mod Faults

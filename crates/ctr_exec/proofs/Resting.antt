@@ -1,5 +1,6 @@
 -- A turn that logs nothing leaves the pages, and a refusal all but the tape.
-use Rattle.std.proofs.Common.{ℕ, ◌≤◌, Some, refl, sym, ◌∙◌, subst, arith}
+use Rattle.std.proofs.Common.{◌≡◌, inl, inr, ℕ, ◌≤◌, ◌==◌, true, Some, refl, sym, ◌∙◌, ap, subst, arith}
+use Rattle.std.proofs.lemmas.Bool.{eqb-true}
 use Rattle.std.proofs.lemmas.List.{append-nil}
 use Rattle.ctr_disk.specs.declared.disk.Disk.{Ghosts}
 use Rattle.ctr_types.specs.declared.statement.Statement.{Statement}
@@ -9,12 +10,17 @@ use Rattle.ctr_types.specs.declared.tape.Reply.TheVariants as reply
 use Rattle.ctr_model.specs.declared.state.State.{State}
 use Rattle.ctr_redo.specs.States.{State as Stored}
 use Rattle.ctr_store.specs.Store.{View, LeavesFront}
+use Rattle.ctr_meta.specs.Kept.{TablesKept}
+use Rattle.ctr_key_locks.specs.Held.{OfSession, SameHeld, locks_key, session_locks}
 use Rattle.ctr_key_locks.specs.Shows.{ShowsKeyLocks}
+use Rattle.ctr_txn.specs.Held.{TxnsHeld, run_of}
+use Rattle.ctr_versions.proofs.Keys.{known}
 use Rattle.ctr_kept.specs.Turns.{Start, state_now, telling}
 use Rattle.ctr_stops.specs.World.{KeepsWorld}
 use Rattle.ctr_told.specs.Turning.{RestsBehind}
 use Rattle.ctr_exec.specs.World.{SessionsHeld, names_in, AreInTables, AreInOrder}
 use Rattle.ctr_exec.specs.Told.{IsNextOf, IsTold}
+use Rattle.ctr_exec.specs.Granting.{HasNumber}
 use Rattle.ctr_exec.proofs.Standing.{refused_state, told_state}
 
 at_once : (n : ℕ) → n ≤ n
@@ -29,10 +35,50 @@ rests_here g v front = record {
   later = at_once (g.moment_of v.disk);
 }
 
+-- and none but one that takes room beside the pages
+pub rests_roomy : {D : Type 0} (g : Ghosts D) (v w : View D) → w ≡ record v { meta = w.meta } → LeavesFront g v v → RestsBehind g v w
+rests_roomy {D} g v w is front = subst (λ (z : View D). RestsBehind g v z) (sym is) (roomy w.meta)
+  where
+    roomy : (m : TablesKept) → RestsBehind g v (record v { meta = m })
+    roomy m = record {
+      logs = record { j = 0; waiting = sym (append-nil v.waiting); hardened = refl; now = refl };
+      front = record { front = front.front; long = front.long };
+      rests = record { front = front.front; long = front.long };
+      later = at_once (g.moment_of v.disk);
+    }
+
+-- so a number that is drawn behind such room is drawn behind what was before
+pub number_roomy : {D : Type 0} (g : Ghosts D) (s : ℕ) (old new : TxnsHeld) (a m b : View D) → m ≡ record a { meta = m.meta } → HasNumber g s old new m b → HasNumber g s old new a b
+number_roomy {D} g s old new a m b is number = by m.meta (subst (λ (z : View D). HasNumber g s old new z b) is number)
+  where
+    by : (k : TablesKept) → HasNumber g s old new (record a { meta = k }) b → HasNumber g s old new a b
+    by k (inl draws) = inl (record {
+      acts = draws.acts;
+      logs = record {
+        rec = draws.logs.rec;
+        logs = record { j = draws.logs.logs.j; waiting = draws.logs.logs.waiting; hardened = draws.logs.logs.hardened; now = draws.logs.logs.now };
+        front = record { front = draws.logs.front.front; long = draws.logs.front.long };
+        rests = draws.logs.rests;
+        later = draws.logs.later;
+      };
+      run = draws.run;
+    })
+    by k (inr has) = inr (record {
+      rests = record {
+        logs = record { j = has.rests.logs.j; waiting = has.rests.logs.waiting; hardened = has.rests.logs.hardened; now = has.rests.logs.now };
+        front = record { front = has.rests.front.front; long = has.rests.front.long };
+        rests = has.rests.rests;
+        later = has.rests.later;
+      };
+      some = has.some;
+      run = has.run;
+    })
+
 module _ {D : Type 0} (g : Ghosts D) (c : Start) (opened : D) (a b : View D) (h : SessionsHeld) (s : ℕ) (statement : Statement) (made : ℕ) (next : IsNextOf g c opened a b h s statement made) where
-  -- a refusal is told, where nothing was logged
-  pub refused_told : (x : Act) (why : Refusal) → RestsBehind g a b → KeepsWorld g c opened b (telling next.e x (reply.Refused why) next.mind next.mind) → IsTold next h x (reply.Refused why)
-  refused_told x why rested keeps =
+  -- a refusal is told, where nothing was logged; the sessions may be held with more room
+  pub refused_as : (now : SessionsHeld) → run_of now.txns ≡ run_of h.txns → ShowsKeyLocks (names_in a.now) now.locks (state_now c next.mind) → AreInTables a.now now.locks (state_now c next.mind) next.mind.facts
+      → (x : Act) (why : Refusal) → RestsBehind g a b → KeepsWorld g c opened b (telling next.e x (reply.Refused why) next.mind next.mind) → IsTold next now x (reply.Refused why)
+  refused_as now run locks tables x why rested keeps =
       let v = telling next.e x (reply.Refused why) next.mind next.mind in
       let same = sym (told_state g c opened a b h s statement made next x (reply.Refused why) v refl ∙ refused_state (state_now c next.mind) s x (Some statement) why) in
       let pages = sym rested.logs.now in
@@ -40,11 +86,21 @@ module _ {D : Type 0} (g : Ghosts D) (c : Start) (opened : D) (a b : View D) (h 
         mind = v;
         world = record {
           keeps = keeps;
-          run_is = next.world.run_is;
-          locks = subst (λ (q : Stored). ShowsKeyLocks (names_in q) h.locks (state_now c v)) pages (subst (λ (q : State). ShowsKeyLocks (names_in a.now) h.locks q) same next.world.locks);
-          tables = subst (λ (q : Stored). AreInTables q h.locks (state_now c v) v.facts) pages (subst (λ (q : State). AreInTables a.now h.locks q v.facts) same next.world.tables);
+          run_is = next.world.run_is ∙ sym run;
+          locks = subst (λ (q : Stored). ShowsKeyLocks (names_in q) now.locks (state_now c v)) pages (subst (λ (q : State). ShowsKeyLocks (names_in a.now) now.locks q) same locks);
+          tables = subst (λ (q : Stored). AreInTables q now.locks (state_now c v) v.facts) pages (subst (λ (q : State). AreInTables a.now now.locks q v.facts) same tables);
           in_order = subst AreInOrder same next.world.in_order;
         };
         tape = refl;
         others = λ q two. refl;
+        counts = refl;
       }
+
+  pub refused_told : (x : Act) (why : Refusal) → RestsBehind g a b → KeepsWorld g c opened b (telling next.e x (reply.Refused why) next.mind next.mind) → IsTold next h x (reply.Refused why)
+  refused_told = refused_as h refl next.world.locks next.world.tables
+
+  -- room for one session leaves each lock in its table
+  pub tables_roomy : (now : SessionsHeld) → OfSession s SameHeld h.locks now.locks → AreInTables a.now now.locks (state_now c next.mind) next.mind.facts
+  tables_roomy now same r e key u is at = next.world.tables r e key u (known (r == s)
+      (λ one. subst (λ q. session_locks q e key h.locks ≡ true) (sym (eqb-true r s one)) (sym (same.here.keys e key) ∙ subst (λ q. session_locks q e key now.locks ≡ true) (eqb-true r s one) is))
+      (λ two. sym (ap (locks_key e key) (same.others r two)) ∙ is)) at

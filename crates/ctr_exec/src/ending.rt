@@ -1,6 +1,7 @@
-// COMMIT's first act, and a ROLLBACK of a transaction that wrote nothing.
-ghost use Rattle.std.specs.Prelude.{◌≡◌, ℕ, false, List, None, Some, OnOk, IfOk, IfErr};
+// COMMIT's first act.
+ghost use Rattle.std.specs.Prelude.{◌≡◌, false, List, OnOk, IfOk, IfErr};
 ghost use Rattle.ctr_disk.specs.declared.fault.StoreFault.TheVariants.{Fault};
+ghost use Rattle.ctr_types.specs.Faults.{HasFault};
 ghost use Rattle.ctr_types.specs.declared.statement.Statement.TheVariants as st;
 ghost use Rattle.ctr_types.specs.declared.tape.Act.TheVariants as act;
 ghost use Rattle.ctr_record_effects.specs.Standing.{IsDatabaseState};
@@ -9,7 +10,7 @@ ghost use Rattle.ctr_actions.specs.Facts.{Fact};
 ghost use Rattle.ctr_actions.specs.Sites.{site_of};
 ghost use Rattle.ctr_base.specs.Base.{WhereSound};
 ghost use Rattle.ctr_kept.specs.Turns.{Start};
-ghost use Rattle.ctr_txn.specs.Held.{TxnHeld, IsOneOfEight, IsWriting, number_drawn, txn_of};
+ghost use Rattle.ctr_txn.specs.Held.{IsOneOfEight, IsWriting, number_drawn};
 ghost use Rattle.ctr_txn.specs.Calls.{MayEnd, IsOverStore};
 ghost use Rattle.ctr_txn.specs.Rooms.{HasItemRoom};
 ghost use Rattle.ctr_told.specs.Turning.{IsIdle};
@@ -35,7 +36,6 @@ pub fn ask<D: Disk, O: Origin>(
 ) -> Result<Reply, StoreFault>
     requires one { IsOneOfEight s }
     requires may { IsWriting s txns.old → MayEnd s txns.old store.old }
-    requires unasked { (t : TxnHeld) → txn_of s txns.old ≡ Some t → t.asked ≡ None }
     ensures over { OnOk result (IsOverStore txns.old store.old → IsOverStore txns.new store.new) }
     ensures items { OnOk result (HasItemRoom txns.old store.old.meta → HasItemRoom txns.new store.new.meta) }
     ensures told { (c : Start) (opened : D) (more : List Fact) → WhereSound O.first D.Disk (store.old.stopped ≡ false
@@ -44,6 +44,8 @@ pub fn ask<D: Disk, O: Origin>(
     // Where the pages may be a database's and the transaction owes nothing more, it is refused by the disk alone.
     ensures refused { WhereSound O.first D.Disk (IsDatabaseState store.old.now → Owes (number_drawn s txns.old) Commits (site_of store.old.now)
         → IfErr result (λ e. e ≡ Fault)) }
+    // A fault is told where the disk counts one more.
+    ensures faults { HasFault Fault (D.faults_of store.old.disk) (D.faults_of store.new.disk) result }
 {
     a_commit_that_is_asked_for_is_told::<D>();
     a_reader_that_ends_is_told::<D>();
@@ -51,6 +53,7 @@ pub fn ask<D: Disk, O: Origin>(
     the_run_is_of_the_sessions();
     key_locks_show();
     store.rests();
+    txns.numbers_commits();
     if txns.is_writing(s) {
         return match ask_for(store, txns, s, statement) {
             Ok(k) => Ok(Reply::Asked { k }),

@@ -17,5 +17,6 @@ use ctr_disk::Disk;
 pub fn a_session_in_a_world_may_look<D: Disk>()
     ensures { (c : Start) (opened : D) (v : View D) (h : SessionsHeld) (w : Mind) → InWorld D.Disk c opened v h w → (asker : Asker) (txn : TxnHeld) (seat : InTransaction c w asker.s)
         → IsOneOfEight asker.s → txn_of asker.s h.txns ≡ Some txn → IsCalm txn.session seat.t
-        → asker.txns.now ≡ h.txns → asker.locks.now ≡ h.locks → asker.stuck.now ≡ (state_now c w).stuck → Asking asker (site_of v.now) }
+        → asker.txns.now ≡ h.txns → asker.locks.now ≡ h.locks → asker.stuck.now ≡ (state_now c w).stuck
+        → (k : Asking asker (site_of v.now)) × (k.state ≡ state_now c w) × (k.t ≡ seat.t) × (k.txn ≡ txn) }
 {}

@@ -1,6 +1,7 @@
 use Rattle.std.proofs.Common.{◌+◌, ◌<◌, inr, List, [], ◌∷◌, ◌++◌, length, Some, refl, sym, ◌∙◌, ap, subst}
 use Rattle.std.proofs.lemmas.Bool.{false≢true}
 use Rattle.std.specs.Ordering.{nat_cmp}
+use Rattle.ctr_disk.specs.declared.fault.StoreFault.TheVariants.{Fault}
 use Rattle.ctr_types.specs.declared.statement.Statement.TheVariants as st
 use Rattle.ctr_types.specs.declared.tape.Act.TheVariants as act
 use Rattle.ctr_types.specs.declared.tape.Refusal.TheVariants as refusal
@@ -23,7 +24,9 @@ use Rattle.ctr_exec.specs.Told.{IsTold}
 use Rattle.ctr_exec.proofs.Standing.{comes, none_of, seat_of}
 use Rattle.ctr_exec.proofs.Resting.{rests_here, refused_told}
 use Rattle.ctr_exec.proofs.Asking.{asks, asked_told, ends, idle_in, in_neither, many_asked, refused_outside}
+use Rattle.ctr_exec.proofs.Faults.{fault_done, fault_failed, fault_none}
 use Rattle.ctr_exec.proofs.Gone.{gone_told}
+use Rattle.ctr_exec.proofs.Unasked.{ready, unasked_next}
 use Rattle.ctr_exec.proofs.ending.ask.Goals as goal
 
 pub returns-in-Ok-clause-told : goal.returns-in-Ok-clause-told
@@ -52,7 +55,7 @@ returns-in-Ok-clause-told g c = λ run opened more tells sound going next idle.
     let run_now = ap (λ (r : Run). record r { commits = r.commits ++ seat.session.me ∷ [] }) next.world.run_is
     ∙ ap (λ l. record (run_of old) { commits = l }) (ap (λ (b : SessionHeld). old.numbers.commits ++ b.me ∷ []) seated.1 ∙ sym asked.0.commits)
     ∙ sym (c.the_run_is_of_the_sessions.ensures.same s writing.t (txn_asked (record { k = c.in-Ok.k; statement = c.args.statement }) writing.t) old new writing.there refl asked.1) in
-    let told = asked_told g.D.Disk run opened a b old locks s next seat more counted.1 new run_now acts.does.leaves keeps in
+    let told = asked_told g.D.Disk run opened a b old locks s next seat more counted.1 new run_now acts.does.leaves counted.0 keeps in
     subst (λ m. IsTold next (record { txns = new; locks = locks }) act.Ask (reply.Asked m))
     (sym (c.in-Ok.ensures.asks.0.0 ∙ ap (λ n. n + 1) (many_asked g.D.Disk run opened a b old locks s next seat))) told
 
@@ -74,7 +77,7 @@ returns-then-is_reading-clause-told g c = λ run opened more tells sound going n
     let run_now = c.the_run_is_of_the_sessions.ensures.ends s old new c.requires.one c.end_reader.ensures.sets
     ∙ ap (λ (l : NumbersHeld). record (run_of old) { commits = l.commits; sessions = without nat_cmp s (run_of old).sessions }) c.end_reader.ensures.numbers in
     gone_told g.D.Disk run opened a a old new locks c.release_all.new.self s st.Commit 0 next act.Ask reply.ReadOnly run_now c.release_all.ensures c.key_locks_show.ensures.release
-    (ap (λ o. next_from (state_now run next.mind) s o act.Ask (Some st.Commit) reply.ReadOnly) seat.is_t) refl keeps
+    (ap (λ o. next_from (state_now run next.mind) s o act.Ask (Some st.Commit) reply.ReadOnly) seat.is_t) (λ e. refl) tt keeps
 
 pub returns-clause-told : goal.returns-clause-told
 returns-clause-told g c = λ run opened more tells sound going next idle.
@@ -83,10 +86,27 @@ returns-clause-told g c = λ run opened more tells sound going next idle.
     let old = c.args.txns.now in
     let h : SessionsHeld = record { txns = old; locks = c.args.locks.now } in
     let rested = rests_here g.D.Disk a (c.rests.ensures tells sound going) in
-    let nobody = in_neither s old c.requires.unasked
+    let finds = c.the_run_is_of_the_sessions.ensures.found in
+    let held = c.numbers_commits.ensures in
+    let nobody = in_neither s old
+    (unasked_next g.D.Disk run opened a a h s st.Commit next c.requires.one finds held (ready g.D.Disk run opened a a h s st.Commit next c.requires.one finds held act.Ask refl))
     (λ writes. false≢true (sym c.if-is_writing.false ∙ c.is_writing.ensures.1 writes))
     (λ reads. false≢true (sym c.if-is_reading.false ∙ c.is_reading.ensures.1 reads)) in
     let none = none_of g.D.Disk run opened a a h s st.Commit 0 next c.the_run_is_of_the_sessions.ensures.found c.requires.one nobody in
     let come = comes g.D.Disk run opened a a h s st.Commit 0 next act.Ask (reply.Refused refusal.NoTransaction) refl tt (refused_outside g.D.Disk run opened a a h s next none) in
     refused_told g.D.Disk run opened a a h s st.Commit 0 next act.Ask refusal.NoTransaction rested
     (c.a_refusal_is_told.ensures.outside run opened a a next.mind s (record { keeps = next.world.keeps; none = none; e = next.e; at_end = next.at_end }) act.Ask refusal.NoTransaction come rested)
+
+-- ---- faults
+
+pub returns-in-Ok-clause-faults : goal.returns-in-Ok-clause-faults
+returns-in-Ok-clause-faults g c = fault_done Fault _ _ c.in-Ok.k _ c.in-Ok.ensures.one.faults
+
+pub returns-in-Err-clause-faults : goal.returns-in-Err-clause-faults
+returns-in-Err-clause-faults g c = fault_failed Fault _ _ c.in-Err.fault c.in-Err.ensures.one.faults
+
+pub returns-then-is_reading-clause-faults : goal.returns-then-is_reading-clause-faults
+returns-then-is_reading-clause-faults g c = fault_none Fault _ _
+
+pub returns-clause-faults : goal.returns-clause-faults
+returns-clause-faults g c = fault_none Fault _ _
