@@ -18,7 +18,8 @@ use Rattle.ctr_stops.specs.World.{KeepsWorld}
 use Rattle.ctr_told.specs.Turning.{RestsBehind}
 use Rattle.ctr_exec.specs.World.{SessionsHeld, AreInTables, names_in}
 use Rattle.ctr_exec.specs.Told.{IsNextOf, IsTold}
-use Rattle.ctr_exec.specs.Granting.{IsFree}
+use Rattle.ctr_exec.specs.declared.taking.RowAt.{RowAt}
+use Rattle.ctr_exec.specs.Granting.{IsFree, IsRowOf}
 use Rattle.ctr_exec.specs.Asked.{IsAsked, StandsAt}
 use Rattle.ctr_area.specs.Images.{is_live}
 use Rattle.ctr_record_effects.specs.States.{area_in}
@@ -83,6 +84,17 @@ module _ {D : Type 0} (g : Ghosts D) (c : Start) (opened : D) (a m b : View D) (
     live = subst (λ (q : Stored). is_live ((area_in q).title e) ≡ true) (sym pages) stands.live;
     undropped = subst (λ (q : Stored). ((area_in q).title e).dropper ≡ 0) (sym pages) stands.undropped;
     only = λ key. subst (λ (q : Stored). IsOnlyEntry (names_in q) s e key h.locks) (sym pages) (stands.only key);
+  }
+
+  pub goes_row : (row : RowAt) → IsRowOf next row → IsRowOf goes row
+  goes_row row of = record {
+    named = of.named;
+    key = of.key;
+    inside = of.inside;
+    title = subst (λ (q : Stored). names_in q row.entry ≡ row.name.now) (sym pages) of.title;
+    live = subst (λ (q : Stored). is_live ((area_in q).title row.entry) ≡ true) (sym pages) of.live;
+    undropped = subst (λ (q : Stored). ((area_in q).title row.entry).dropper ≡ 0) (sym pages) of.undropped;
+    only = subst (λ (q : Stored). IsOnlyEntry (names_in q) s row.entry row.key h.locks) (sym pages) of.only;
   }
 
   -- and what is told then is told

@@ -157,7 +157,7 @@ module _ {D : Type 0} (g : Ghosts D) (c : Start) (opened : D) (a b : View D) (h 
     abbrev pub now : State
     now = with_transaction s u state
 
-    granted_row : with_granted act.Lock (Some statement) t ≡ u
+    pub granted_row : with_granted act.Lock (Some statement) t ≡ u
     granted_row = ap (λ k. on_table (with_lock k) (table_of statement) t) of.key ∙ ap (λ n. on_table (with_lock (Some key)) n t) of.named
 
     pub told_now : (v : Mind) → v.tape ≡ w.tape ++ entry_of s next.e act.Lock reply.Granted ∷ [] → state_now c v ≡ now
@@ -266,14 +266,14 @@ module _ {D : Type 0} (g : Ghosts D) (c : Start) (opened : D) (a b : View D) (h 
         facts_are : counting.facts ≡ with_facts s mine w.facts
         facts_are = ap (with_facts s mine) facts ∙ facts_twice s mine (facts_idle ++ more) w.facts
 
-        pub locked_told : (told : IsTold next (record { txns = new; locks = left }) act.Lock reply.Granted) × IsAmong (HasTable e ((area_in b.now).title e)) (told.mind.facts s)
+        pub locked_told : (told : IsTold next (record { txns = new; locks = left }) act.Lock reply.Granted) × IsAmong (HasTable e title) (told.mind.facts s)
         locked_told =
             let its = changed_told g c opened a b h s statement 0 next act.Lock reply.Granted u now refl counting mine facts_are left (others mid left room takes) same (own mid left room takes)
             new run_now longer (told_now counting longer) shows (counted, (tt, tables), refl) keeps_now in (
               its.0,
-              subst (λ (m : Mind). IsAmong (HasTable e ((area_in b.now).title e)) (m.facts s)) (sym its.1)
-                  (subst (λ l. IsAmong (HasTable e ((area_in b.now).title e)) l) (sym (facts_own g c opened a b h s statement 0 next act.Lock reply.Granted u now refl counting mine facts_are))
-                  (inr (inr (inl (ap (HasTable e) (same e)))))),
+              subst (λ (m : Mind). IsAmong (HasTable e title) (m.facts s)) (sym its.1)
+                  (subst (λ l. IsAmong (HasTable e title) l) (sym (facts_own g c opened a b h s statement 0 next act.Lock reply.Granted u now refl counting mine facts_are))
+                  (inr (inr (inl refl)))),
             )
 
 -- what a session without a number counts on between two statements

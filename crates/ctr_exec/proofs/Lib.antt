@@ -18,3 +18,4 @@ pub mod Rolled
 pub mod Answered
 pub mod Unasked
 pub mod Faults
+pub mod Promised

@@ -1,5 +1,5 @@
 -- A turn that logs nothing leaves the pages, and a refusal all but the tape.
-use Rattle.std.proofs.Common.{◌≡◌, inl, inr, ℕ, ◌≤◌, ◌==◌, true, Some, refl, sym, ◌∙◌, ap, subst, arith}
+use Rattle.std.proofs.Common.{◌≡◌, inl, inr, ℕ, ◌≤◌, ◌==◌, true, List, Some, refl, sym, ◌∙◌, ap, subst, arith}
 use Rattle.std.proofs.lemmas.Bool.{eqb-true}
 use Rattle.std.proofs.lemmas.List.{append-nil}
 use Rattle.ctr_disk.specs.declared.disk.Disk.{Ghosts}
@@ -11,7 +11,7 @@ use Rattle.ctr_model.specs.declared.state.State.{State}
 use Rattle.ctr_redo.specs.States.{State as Stored}
 use Rattle.ctr_store.specs.Store.{View, LeavesFront}
 use Rattle.ctr_meta.specs.Kept.{TablesKept}
-use Rattle.ctr_key_locks.specs.Held.{OfSession, SameHeld, locks_key, session_locks}
+use Rattle.ctr_key_locks.specs.Held.{LocksOfSession, OfSession, SameHeld, locks_key, session_locks}
 use Rattle.ctr_key_locks.specs.Shows.{ShowsKeyLocks}
 use Rattle.ctr_txn.specs.Held.{TxnsHeld, run_of}
 use Rattle.ctr_versions.proofs.Keys.{known}
@@ -46,6 +46,10 @@ rests_roomy {D} g v w is front = subst (λ (z : View D). RestsBehind g v z) (sym
       rests = record { front = front.front; long = front.long };
       later = at_once (g.moment_of v.disk);
     }
+
+-- a session's locks are as they are
+pub same_held : (s : ℕ) (locks : List (ℕ × LocksOfSession)) → OfSession s SameHeld locks locks
+same_held s locks = record { here = record { keys = λ e k. refl; uses = λ n. refl; holds = λ n. refl; key_room = λ e k is. is; name_room = λ n is. is }; others = λ r two. refl }
 
 -- so a number that is drawn behind such room is drawn behind what was before
 pub number_roomy : {D : Type 0} (g : Ghosts D) (s : ℕ) (old new : TxnsHeld) (a m b : View D) → m ≡ record a { meta = m.meta } → HasNumber g s old new m b → HasNumber g s old new a b

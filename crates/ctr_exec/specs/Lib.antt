@@ -6,3 +6,4 @@ pub mod Asked
 pub mod Selecting
 pub mod Rolling
 pub mod Answers
+pub mod Locking

@@ -50,7 +50,7 @@ pub(crate) fn grant_row<D: Disk, O: Origin>(
     ensures time { D.Disk.moment_of store.old.disk ≤ D.Disk.moment_of store.new.disk }
     ensures told { (c : Start) (opened : D) (statement : Told) (more : List Fact) → WhereSound O.first D.Disk
         ((next : IsNextOf D.Disk c opened store.old store.new (record { txns = txns.old; locks = locks.old }) s statement 0) → (free : IsFree next act.Lock) → IsRowOf next row.now → IsIdle free.txn.session.me more (next.mind.facts s)
-        → IfOk result (λ r. (told : IsTold next (record { txns = txns.new; locks = locks.new }) act.Lock (granted_or r)) × CountsOnTable r row.now.entry ((area_in store.new.now).title row.now.entry) (told.mind.facts s))) }
+        → IfOk result (λ r. (told : IsTold next (record { txns = txns.new; locks = locks.new }) act.Lock (granted_or r)) × CountsOnTable r row.now.entry ((area_in store.old.now).title row.now.entry) (told.mind.facts s))) }
     ensures refused { WhereSound O.first D.Disk (IsDatabaseState store.old.now → IfErr result (λ e. e ≡ Fault)) }
 {
     a_look_that_wants_memory_is_told::<D>();

@@ -50,7 +50,7 @@ pub(crate) fn a_row_that_is_locked_is_told<D: Disk>()
         → (mid : SessionsHeld) → KeepsSessions s h mid → (used : List (ℕ × LocksOfSession)) → OfSession s (UsesName row.name.now) mid.locks used → IsInOrder used → locked_among s row.entry row.key used ≡ None }
     ensures told { (c : Start) (opened : D) (a b : View D) (h : SessionsHeld) (s : ℕ) (statement : Told) (next : IsNextOf D.Disk c opened a b h s statement 0) → (free : IsFree next act.Lock) → (row : At) → IsRowOf next row
         → (more : List Fact) → IsIdle free.txn.session.me more (next.mind.facts s) → (mid now : SessionsHeld) → KeepsSessions s h mid → TakesRow s row mid.locks now.locks → HasNumber D.Disk s mid.txns now.txns a b
-        → (told : IsTold next now act.Lock reply.Granted) × IsAmong (HasTable row.entry ((area_in b.now).title row.entry)) (told.mind.facts s) }
+        → (told : IsTold next now act.Lock reply.Granted) × IsAmong (HasTable row.entry ((area_in a.now).title row.entry)) (told.mind.facts s) }
 {
     a_first_lock_is_told::<D>();
     a_lock_is_told::<D>();
