@@ -11,7 +11,7 @@ use Rattle.ctr_record_laws.proofs.Bounds.{room_few}
 use Rattle.ctr_record_laws.proofs.Links.{bucket_inside}
 use Rattle.ctr_record_laws.proofs.Unlinks.{older_inside, above_zero}
 use Rattle.ctr_record_laws.specs.Bounds.{IsInBounds}
-use Rattle.ctr_value.specs.Payload.{width}
+use Rattle.ctr_area.specs.ctr_value.Payload.{width}
 use Rattle.ctr_versions.proofs.Keys.{known}
 use Rattle.ctr_actions.specs.Sites.{Site, IsSoundSite}
 use Rattle.ctr_actions.specs.Actions.{Action, Begins, Allocates, Formats, Links, LinksOlder, Keeps, Writes, Creates, Drops, Commits, Frees, Uncreates, Undrops, Aborts, Reclaims, Reverts, Trims, Cuts, FreesOlder, MakesDead, Unlinks, UnlinksOlder, FreesEntry, Forgets, Checkpoints, Owes, site_after, LeavesBounds}

@@ -4,7 +4,7 @@ use Rattle.ctr_meta.specs.Tables.{Tables}
 use Rattle.ctr_area.specs.Areas.{Area}
 use Rattle.ctr_area.specs.Images.{is_committed_in, versions_in}
 use Rattle.ctr_area.specs.Sound.{IsSoundArea}
-use Rattle.ctr_redo.specs.States.{State}
+use Rattle.ctr_record_effects.specs.ctr_redo.States.{State}
 use Rattle.ctr_record_effects.specs.States.{area_in}
 
 -- How many pages are counted, the tables, and what stands in the pages.

@@ -13,7 +13,7 @@ pub use Rattle.ctr_meta.specs.Effects.{effect}
 pub use Rattle.ctr_area.specs.Chains.{pages_bound}
 pub use Rattle.ctr_record_laws.specs.Loose.{IsSpareFor}
 pub use Rattle.ctr_record_laws.specs.Shows.{ShowTheSame}
-pub use Rattle.ctr_redo.specs.States.{State, step}
+pub use Rattle.ctr_record_effects.specs.ctr_redo.States.{State, step}
 pub use Rattle.ctr_record_effects.specs.States.{area_in}
 pub use Rattle.ctr_records.specs.declared.record.SlogItem.{SlogItem}
 pub use Rattle.ctr_meta.specs.Items.{is_item_by}

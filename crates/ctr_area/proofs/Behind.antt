@@ -4,7 +4,7 @@ use Rattle.std.proofs.Common.{◌≡◌, ℕ, true, false, cond, List, drop, sym
 use Rattle.std.specs.Prelude.{◌==◌, nat_lt}
 use Rattle.ctr_types.specs.declared.value.Column.{Column}
 use Rattle.ctr_versions.proofs.Keys.{known}
-use Rattle.ctr_value.specs.Payload.{width}
+use Rattle.ctr_page.specs.ctr_value.Payload.{width}
 use Rattle.ctr_page.specs.declared.header.Header.{Header}
 use Rattle.ctr_page.specs.declared.rows.Place.{Place}
 use Rattle.ctr_page.specs.Places.{slot_size, kept_size, start_of}

@@ -7,7 +7,7 @@ use Rattle.ctr_versions.proofs.Keys.{known}
 use Rattle.std.specs.Option.{option_map}
 use Rattle.ctr_bytes.specs.Fields.{spelled, field}
 use Rattle.ctr_bytes.proofs.FieldLaws.{length-spelled, got_byte}
-use Rattle.ctr_value.specs.Payload.{width}
+use Rattle.ctr_page.specs.ctr_value.Payload.{width}
 use Rattle.ctr_page.specs.declared.header.Header.{Header}
 use Rattle.ctr_page.specs.declared.rows.Place.{Place}
 use Rattle.ctr_page.specs.declared.rows.RowSlot.{RowSlot}

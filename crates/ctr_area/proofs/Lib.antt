@@ -11,3 +11,4 @@ pub mod Written
 pub mod InEntry
 pub mod Walked
 pub mod Buckets
+pub use Rattle.ctr_versions.proofs as ctr_versions

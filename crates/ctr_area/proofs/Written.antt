@@ -7,7 +7,7 @@ use Rattle.std.proofs.lemmas.Nat.{div_below}
 use Rattle.ctr_types.specs.declared.value.Column.{Column}
 use Rattle.ctr_versions.proofs.Keys.{known}
 use Rattle.ctr_bytes.specs.Fields.{field}
-use Rattle.ctr_value.specs.Payload.{width}
+use Rattle.ctr_page.specs.ctr_value.Payload.{width}
 use Rattle.ctr_page.specs.declared.header.Header.{Header}
 use Rattle.ctr_page.specs.declared.rows.Place.{Place}
 use Rattle.ctr_page.specs.Places.{slot_size, kept_size, room_for, start_of}

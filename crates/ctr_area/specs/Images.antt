@@ -3,9 +3,9 @@ use Rattle.std.specs.Prelude.{ℕ, zero, suc, ◌+◌, ◌==◌, nat_lt, ℤ, Bo
 use Rattle.std.specs.List.{filter}
 use Rattle.std.specs.Ordering.{int_cmp}
 use Rattle.std.specs.FinMap.Entries.{put}
-use Rattle.ctr_model.specs.declared.database.Table.{Table}
-use Rattle.ctr_model.specs.Database.{Database, name_cmp}
-use Rattle.ctr_model.specs.State.{same_name}
+use Rattle.ctr_versions.specs.ctr_model.declared.database.Table.{Table}
+use Rattle.ctr_versions.specs.ctr_model.Database.{Database, name_cmp}
+use Rattle.ctr_versions.specs.ctr_model.State.{same_name}
 use Rattle.ctr_versions.specs.Listing.{entries_seen}
 use Rattle.ctr_versions.specs.Versions.{Made, Versions}
 use Rattle.ctr_meta.specs.Tables.{Tables, is_in}

@@ -4,8 +4,8 @@ use Rattle.std.specs.Prelude.{ℕ, ◌+◌, ◌*◌, ◌/◌, ◌%◌, ◌^◌, 
 use Rattle.std.specs.Option.{option_map}
 use Rattle.ctr_types.specs.declared.value.Row.{Row}
 use Rattle.ctr_types.specs.declared.value.Column.{Column}
-use Rattle.ctr_value.specs.Payload.{width}
-use Rattle.ctr_value.specs.Values.{row_values}
+use Rattle.ctr_page.specs.ctr_value.Payload.{width}
+use Rattle.ctr_page.specs.ctr_value.Values.{row_values}
 use Rattle.ctr_page.specs.declared.header.Header.{Header}
 use Rattle.ctr_page.specs.declared.rows.Place.{Place}
 use Rattle.ctr_page.specs.declared.rows.Version.{Version}

@@ -5,7 +5,7 @@ ghost use Rattle.ctr_page.specs.declared.rows.Place.{Place};
 ghost use Rattle.ctr_page.specs.declared.rows.RowSlot.{RowSlot};
 ghost use Rattle.ctr_page.specs.declared.rows.VersionEntry.{VersionEntry};
 ghost use Rattle.ctr_types.specs.declared.value.Column.{Column};
-ghost use Rattle.ctr_value.specs.Columns.{ColumnsFit};
+ghost use Rattle.ctr_page.specs.ctr_value.Columns.{ColumnsFit};
 ghost use Rattle.ctr_bytes.specs.Fields.{spelled};
 ghost use Rattle.ctr_page.specs.declared.table.TheConstants.{DROPPER_AT, FIRSTS_AT, VERSIONS_AT};
 ghost use Rattle.ctr_page.specs.declared.header.Header.{Header};

@@ -76,6 +76,7 @@ pub fn ask<D: Disk, O: Origin>(
     ensures found { (name : List ℕ) → WhereSound O.first D.Disk ((k : Asking asker.now (site_of store.old.now)) → table_of statement.now ≡ Some name → IfOk result (FindsTable (site_of store.old.now) k.txn statement.now name)) }
     // No damage is told where the pages may be a database's: then the disk failed.
     ensures refused { WhereSound O.first D.Disk (IsDatabaseState store.old.now → IfErr result (λ e. e ≡ Fault)) }
+    // It logs nothing; and a fault is told where the disk counts one more, by `a_fault_of_reading_is_counted`.
     ensures leaves { ReadsPages O.first D.Disk store.old store.new result }
 {
     let Some(name) = table_of(statement) else {

@@ -13,7 +13,7 @@ use Rattle.ctr_home.specs.Blocks.{zero_bytes, opens_to, greater, held_at, home_p
 use Rattle.ctr_home.specs.Roots.{IsRootOf, SaysRootOf, root_value}
 use Rattle.ctr_log.specs.Kept.{kept_log, HoldsLog}
 use Rattle.ctr_pool.specs.Pages.{PageHeld}
-use Rattle.ctr_meta.specs.Tables.{no_tables}
+use Rattle.ctr_redo.specs.ctr_meta.Tables.{no_tables}
 use Rattle.ctr_redo.specs.Fitting.{EachFits, TablesGoOn}
 use Rattle.ctr_redo.specs.States.{state_of}
 use Rattle.ctr_redo.specs.Images.{home_in, stored_in, IsSound, CanCount}

@@ -17,7 +17,7 @@ use Rattle.ctr_pool.specs.Below.{HoldsStill}
 use Rattle.ctr_redo.specs.Overlaid.{overlaid}
 use Rattle.ctr_redo.specs.States.{Stored, state_of, steps, with_more, next_of}
 use Rattle.ctr_redo.specs.Images.{records_in, stored_in, IsSound, FoldsFront, IsLogFile}
-use Rattle.ctr_meta.specs.Tables.{no_tables}
+use Rattle.ctr_redo.specs.ctr_meta.Tables.{no_tables}
 use Rattle.ctr_redo.specs.Fitting.{EachFits, MayFollow}
 use Rattle.ctr_redo.proofs.FitLaws.{begin_flushed, last_written}
 use Rattle.ctr_redo.proofs.PageLaws.{overlaid-append}

@@ -6,3 +6,4 @@ pub mod Numbered
 pub mod Slots
 pub mod RowsSaid
 pub mod ReadAgain
+pub use Rattle.ctr_pvs.proofs as ctr_pvs

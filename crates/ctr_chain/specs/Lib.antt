@@ -4,3 +4,4 @@ pub mod Seeking
 pub mod Rows
 pub mod Reading
 pub mod Visible
+pub use Rattle.ctr_pvs.specs as ctr_pvs

@@ -1,5 +1,5 @@
 -- A table that is made, or dropped, by a turn of one record.
-use Rattle.std.specs.Prelude.{◌≡◌, ◌≢◌, ℕ, ◌<◌, true, false, List}
+use Rattle.std.specs.Prelude.{◌≡◌, ◌≢◌, ℕ, ◌+◌, ◌<◌, true, false, List}
 use Rattle.ctr_types.specs.declared.value.Column.{Column}
 use Rattle.ctr_meta.specs.Kept.{TablesKept}
 use Rattle.ctr_meta.specs.Tables.{is_in}
@@ -57,3 +57,8 @@ IsEntryMade CatalogFull = Unit {0}
 abbrev pub MakingLeaves : Made → TablesKept → TablesKept → Type 0
 MakingLeaves (At e) k l = AddsItems 1 k l
 MakingLeaves CatalogFull k l = l ≡ k
+
+-- The log's next number: one more behind a turn that logged its record.
+abbrev pub next_made : Made → ℕ → ℕ
+next_made (At e) next = next + 1
+next_made CatalogFull next = next

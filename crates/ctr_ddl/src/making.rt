@@ -5,7 +5,7 @@ ghost use Rattle.ctr_value.specs.Columns.{ColumnsFit};
 ghost use Rattle.ctr_base.specs.Base.{WhereSound};
 ghost use Rattle.ctr_walk.specs.OneRecord.{HasRoomForOne};
 ghost use Rattle.ctr_page_turns.specs.Turns.{Turns};
-ghost use Rattle.ctr_ddl.specs.Tables.{MayMake, MakesBy, IsEntryMade, MakingLeaves};
+ghost use Rattle.ctr_ddl.specs.Tables.{MayMake, MakesBy, IsEntryMade, MakingLeaves, next_made};
 
 use ctr_base::Origin;
 use ctr_catalog::{CatalogRefusal, create};
@@ -41,6 +41,8 @@ pub fn make_table<D: Disk, O: Origin>(
     ensures inside { IfOk result IsEntryMade }
     // The room of an item goes with a table that is made.
     ensures left { IfOk result (λ m. MakingLeaves m store.old.meta store.new.meta) }
+    // The log's next number goes with its record.
+    ensures numbers { IfOk result (λ m. store.new.next ≡ next_made m store.old.next) }
     // What its record owes is met, and its bytes pass their checks; or no entry is free.
     ensures makes { WhereSound O.first D.Disk (MayMake x name.now store.old.now → IfOk result (MakesBy x name.now schema.now.columns store.old.now store.new.now)) }
     // It is refused for no other cause than that the disk failed.

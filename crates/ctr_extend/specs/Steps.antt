@@ -80,12 +80,20 @@ IsCountedStep Linked counted = Unit {0}
 IsCountedStep Grown counted = Unit {0}
 IsCountedStep Full counted = Unit {0}
 
--- The room of the tables: an item is added with a page that is taken, and goes as it is linked. No
+-- The room of the tables behind a turn that may add so many items: an item is added with a page that
+-- is taken, and goes as it is linked. More pages are counted only by a turn that may add one. No
 -- number is drawn.
-abbrev pub LeavesRoom : Extended → TablesKept → TablesKept → Type 0
-LeavesRoom (On Wanted) k l = ⊥
-LeavesRoom (On (Taken p)) k l = AddsItems 1 k l
-LeavesRoom (On (Made p next)) k l = AddsItems 0 k l
-LeavesRoom Linked k l = AddsItems 0 k l × (length l.tables.items + 1 ≡ length k.tables.items)
-LeavesRoom Grown k l = l ≡ k
-LeavesRoom Full k l = l ≡ k
+abbrev pub LeavesRoom : ℕ → Extended → TablesKept → TablesKept → Type 0
+LeavesRoom n (On Wanted) k l = ⊥
+LeavesRoom n (On (Taken p)) k l = AddsItems n k l
+LeavesRoom n (On (Made p next)) k l = AddsItems 0 k l
+LeavesRoom n Linked k l = AddsItems 0 k l × (length l.tables.items + 1 ≡ length k.tables.items)
+LeavesRoom n Grown k l = (n ≡ 1) × (l ≡ k)
+LeavesRoom n Full k l = l ≡ k
+
+-- The log's next number: one more behind a turn that logged its record.
+abbrev pub next_behind : Extended → ℕ → ℕ
+next_behind (On way) next = next + 1
+next_behind Linked next = next + 1
+next_behind Grown next = next
+next_behind Full next = next

@@ -7,7 +7,7 @@ use Rattle.ctr_model.specs.Tape.{at_start}
 use Rattle.ctr_area.specs.Chains.{pages_bound}
 use Rattle.ctr_area.specs.Images.{is_committed_in, image_rows, undo_size}
 use Rattle.ctr_record_laws.specs.Bounds.{IsInBounds}
-use Rattle.ctr_names.specs.Held.{names_of_items}
+use Rattle.ctr_paged.specs.ctr_names.Held.{names_of_items}
 use Rattle.ctr_record_laws.proofs.Heads.{listed_drawn}
 use Rattle.ctr_record_laws.proofs.Xids.{among_in}
 use Rattle.ctr_actions.specs.Actions.{Begins, site_after}

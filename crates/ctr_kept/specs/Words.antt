@@ -21,4 +21,4 @@ pub use Rattle.ctr_types.specs.declared.tape.Reply.{Reply}
 pub use Rattle.ctr_types.specs.declared.value.Rows.{Rows}
 pub use Rattle.ctr_area.specs.Chains.{pages_bound}
 pub use Rattle.ctr_area.specs.Images.{is_committed_in, image_rows, undo_size}
-pub use Rattle.ctr_names.specs.Held.{names_of_items}
+pub use Rattle.ctr_paged.specs.ctr_names.Held.{names_of_items}

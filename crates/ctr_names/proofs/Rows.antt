@@ -9,7 +9,7 @@ use Rattle.ctr_versions.specs.Listing.{chain_at}
 use Rattle.ctr_versions.specs.Versions.{rows_of}
 use Rattle.ctr_versions.proofs.Keys.{known}
 use Rattle.ctr_meta.specs.Tables.{Tables}
-use Rattle.ctr_page.specs.declared.rows.Place.{Place}
+use Rattle.ctr_area.specs.ctr_page.declared.rows.Place.{Place}
 use Rattle.ctr_area.specs.Areas.{Area, Firsts, Older, RowVersion, Slot, Title}
 use Rattle.ctr_area.specs.Chains.{chain_of, pages_bound, pages_from, places_from, slot_places, table_pages}
 use Rattle.ctr_area.specs.Changes.{ChangesEntry, with_firsts, with_title}

@@ -6,3 +6,5 @@ pub mod Damage
 pub mod Readable
 pub mod Searching
 pub mod Walking
+pub use Rattle.ctr_value.specs as ctr_value
+pub use Rattle.ctr_records.specs as ctr_records

@@ -6,7 +6,8 @@ use Rattle.ctr_disk.specs.Image.{Image}
 use Rattle.ctr_disk.specs.declared.fault.StoreFault.{StoreFault}
 use Rattle.ctr_disk.specs.declared.fault.StoreFault.TheVariants.{Fault, Damaged}
 use Rattle.ctr_records.specs.declared.record.Record.{Record}
-use Rattle.ctr_store.specs.Store.{View, LeavesPage}
+use Rattle.ctr_base.specs.Base.{WhereSound}
+use Rattle.ctr_store.specs.Store.{View, LeavesFront, LeavesPage}
 use Rattle.ctr_walk.specs.OneRecord.{LogsOne}
 use Rattle.ctr_walk.specs.Damage.{ReadsPages}
 use Rattle.ctr_page_turns.specs.Turns.{CountsExtent, Turns, Reads, LogsARecord, Grows}
@@ -69,6 +70,7 @@ module _ {D : Type 0} (first : Image) (g : Ghosts D) (a b : View D) where
 
   more_ok : {S T : Type 0} (x : S) (y : T) → CountsExtent {T = S} first g a b (Ok x) → CountsExtent {T = T} first g a b (Ok y)
   more_ok x y one = record {
+    few = one.few;
     any_moment = one.any_moment;
     grows = one.grows;
     counts = record { same = one.counts.same; time = one.counts.time; strays = one.counts.strays; counted = one.counts.counted; uncounted = tt; going = one.counts.going; stopped = tt };
@@ -78,6 +80,7 @@ module _ {D : Type 0} (first : Image) (g : Ghosts D) (a b : View D) where
 
   more_err : {S T : Type 0} (e : StoreFault) → CountsExtent {T = S} first g a b (Err e) → CountsExtent {T = T} first g a b (Err e)
   more_err {S} {T} e one = record {
+    few = one.few;
     any_moment = one.any_moment;
     grows = λ told sound. tt;
     counts = record { same = one.counts.same; time = one.counts.time; strays = one.counts.strays; counted = tt; uncounted = one.counts.uncounted; going = tt; stopped = one.counts.stopped };
@@ -95,13 +98,13 @@ module _ {D : Type 0} (first : Image) (g : Ghosts D) where
   pub turn_ok : {S T : Type 0} (a b : View D) (x : S) (y : T) → Turns {T = S} first g a b (Ok x) → Turns {T = T} first g a b (Ok y)
   turn_ok a b x y (Reads read) = Reads (page_ok first g a b x y read)
   turn_ok a b x y (LogsARecord (r, one)) = LogsARecord (r, one_ok first g a b r x y one)
-  turn_ok a b x y (Grows some) = Grows (record { between = some.between; read = some.read; more = more_ok first g some.between b x y some.more })
+  turn_ok a b x y (Grows some) = Grows (record { between = some.between; read = some.read; rests = some.rests; more = more_ok first g some.between b x y some.more })
 
   -- an error is an error
   turn_err : {S T : Type 0} (a b : View D) (e : StoreFault) → Turns {T = S} first g a b (Err e) → Turns {T = T} first g a b (Err e)
   turn_err {S} {T} a b e (Reads read) = Reads (reads_err first g a b S T e read)
   turn_err {S} {T} a b e (LogsARecord (r, one)) = LogsARecord (r, one_err first g a b {S = S} {T = T} r e one)
-  turn_err {S} {T} a b e (Grows some) = Grows (record { between = some.between; read = some.read; more = more_err first g some.between b {S = S} {T = T} e some.more })
+  turn_err {S} {T} a b e (Grows some) = Grows (record { between = some.between; read = some.read; rests = some.rests; more = more_err first g some.between b {S = S} {T = T} e some.more })
 
   pub turn_fails : {S T : Type 0} (a b : View D) (e : StoreFault) (result : Result S StoreFault) (told : Result T StoreFault)
       → Turns first g a b result → result ≡ Err e → told ≡ Err e → Turns first g a b told
@@ -119,8 +122,9 @@ module _ {D : Type 0} (first : Image) (g : Ghosts D) where
       → LeavesPage first g a b page → page ≡ Err e → result ≡ Err e → Turns first g a b result
   turn_lost {S} a b e page result read is so = turn_unread {S = S} a b e (Err e) result (leaves_reads a b e (subst (λ (r : Result S StoreFault). LeavesPage first g a b r) is read)) refl so
 
-  pub turn_grown : {S T : Type 0} (a b c : View D) (x : S) (result : Result T StoreFault) → LeavesPage first g a b (Ok x) → CountsExtent first g b c result → Turns first g a c result
-  turn_grown a b c x result read more = Grows (record { between = b; read = page_ok first g a b x tt read; more = more })
+  pub turn_grown : {S T : Type 0} (a b c : View D) (x : S) (result : Result T StoreFault) → LeavesPage first g a b (Ok x)
+      → WhereSound first g (LeavesFront g b b) → CountsExtent first g b c result → Turns first g a c result
+  turn_grown a b c x result read rests more = Grows (record { between = b; read = page_ok first g a b x tt read; rests = rests; more = more })
 
   -- a turn goes on behind pages that were read, by how calls join behind them
   reads_on : {T : Type 0} (a b c : View D) (result : Result T StoreFault)
@@ -139,4 +143,4 @@ module _ {D : Type 0} (first : Image) (g : Ghosts D) where
       → Turns first g b c result → Turns first g a c result
   turn_behind a b c result joins units ones (Reads read) = Reads (reads_on a b c result joins (units c) read)
   turn_behind a b c result joins units ones (LogsARecord (r, one)) = LogsARecord (r, ones r one)
-  turn_behind a b c result joins units ones (Grows some) = Grows (record { between = some.between; read = units some.between some.read; more = some.more })
+  turn_behind a b c result joins units ones (Grows some) = Grows (record { between = some.between; read = units some.between some.read; rests = some.rests; more = some.more })

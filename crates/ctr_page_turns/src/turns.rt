@@ -3,7 +3,8 @@ ghost use Rattle.std.specs.Prelude.{◌≡◌, ◌∷◌, [], ℕ, Ok, Err, Resu
 ghost use Rattle.ctr_disk.specs.Image.{Image};
 ghost use Rattle.ctr_disk.specs.declared.fault.StoreFault.{StoreFault};
 ghost use Rattle.ctr_records.specs.declared.record.Record.{Record};
-ghost use Rattle.ctr_store.specs.Store.{View, Logs, LeavesPage};
+ghost use Rattle.ctr_base.specs.Base.{WhereSound};
+ghost use Rattle.ctr_store.specs.Store.{View, Logs, LeavesFront, LeavesPage};
 ghost use Rattle.ctr_walk.specs.Damage.{ReadsPages};
 ghost use Rattle.ctr_walk.specs.OneRecord.{LogsOne};
 ghost use Rattle.ctr_actions.specs.Sites.{site_of};
@@ -30,7 +31,7 @@ pub fn a_turn_goes_on<D: Disk, S, T>()
     ensures logged { (first : Image) (a b c : View D) (x : S) (r : Record) (result : Result T StoreFault)
         → LeavesPage first D.Disk a b (Ok x) → LogsOne first D.Disk r b c result → Turns first D.Disk a c result }
     ensures grown { (first : Image) (a b c : View D) (x : S) (result : Result T StoreFault)
-        → LeavesPage first D.Disk a b (Ok x) → CountsExtent first D.Disk b c result → Turns first D.Disk a c result }
+        → LeavesPage first D.Disk a b (Ok x) → WhereSound first D.Disk (LeavesFront D.Disk b b) → CountsExtent first D.Disk b c result → Turns first D.Disk a c result }
 {
     pages_read_join::<D, S, T>();
     pages_read_join::<D, S, ()>();

@@ -43,6 +43,7 @@ pub fn rows_of_table<D: Disk, O: Origin>(
         → IfOk (as_told result) (GivesShown (sees store.old.now.tables sight.now) (area_in store.old.now) entry)) }
     // They are refused for no other cause than that the disk failed, or for want of memory.
     ensures refused { WhereSound O.first D.Disk (IsDatabaseState store.old.now → IfErr result IsDiskOrMemory) }
+    // They log nothing; and a fault is told where the disk counts one more, by `a_fault_of_reading_is_counted`.
     ensures leaves { ReadsPages O.first D.Disk store.old store.new (as_told result) }
 {
     let mut rows = Gathered::new(alloc);

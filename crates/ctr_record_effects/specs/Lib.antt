@@ -1,3 +1,4 @@
 pub mod States
 pub mod Changing
 pub mod Standing
+pub use Rattle.ctr_redo.specs as ctr_redo

@@ -1,6 +1,6 @@
 -- When a state is that of a database, what an image stands for, and when two states show the same.
 use Rattle.std.specs.Prelude.{◌≡◌, ℕ, ◌<◌, ◌≤◌, Bool}
-use Rattle.ctr_disk.specs.Image.{Image}
+use Rattle.ctr_redo.specs.ctr_disk.Image.{Image}
 use Rattle.ctr_redo.specs.States.{State}
 use Rattle.ctr_redo.specs.Images.{FoldsTo}
 use Rattle.ctr_area.specs.Chains.{pages_bound}

@@ -3,7 +3,7 @@ use Rattle.std.proofs.Common.{◌≡◌, ℕ, ◌+◌, ◌*◌, ◌/◌, ◌%◌
 use Rattle.std.specs.Prelude.{◌==◌, nat_le}
 use Rattle.std.proofs.lemmas.Bool.{le-ltb, eq-eqb}
 use Rattle.std.proofs.Math.Nat.{div-le_of_le-mul}
-use Rattle.ctr_bytes.specs.Fields.{field}
+use Rattle.ctr_area.specs.ctr_bytes.Fields.{field}
 use Rattle.ctr_page.specs.Places.{slot_size, kept_size, room_for}
 use Rattle.ctr_page.specs.Reading.{piece}
 use Rattle.ctr_page.specs.Columns.{entry_in, first_in, versions_first_in}

@@ -21,8 +21,8 @@ use Rattle.ctr_actions.specs.Facts.{Fact, IsOpen, HasPage, HasNoPageBut, HasBlan
 use Rattle.ctr_actions.specs.Sites.{Site}
 use Rattle.ctr_actions.specs.Actions.{undoing}
 use Rattle.ctr_actions.proofs.Latest.{last_among}
-use Rattle.ctr_paged.specs.Shown.{Scene}
-use Rattle.ctr_paged.specs.Moving.{IsActing, MovesTo}
+use Rattle.ctr_kept.specs.ctr_paged.Shown.{Scene}
+use Rattle.ctr_kept.specs.ctr_paged.Moving.{IsActing, MovesTo}
 use Rattle.ctr_kept.specs.Carried.{Covers, IsUnderLock}
 use Rattle.ctr_kept.specs.Tables.{IsTable}
 use Rattle.ctr_kept.proofs.Tables.{carries_more, uses_more}

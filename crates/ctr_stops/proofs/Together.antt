@@ -26,7 +26,7 @@ use Rattle.ctr_area.specs.Images.{undo_size}
 use Rattle.ctr_record_effects.specs.States.{pages_in, area_in}
 use Rattle.ctr_record_effects.specs.Standing.{IsDatabaseState, StandsForDatabase}
 use Rattle.ctr_record_laws.proofs.Bounds.{pages_bounded}
-use Rattle.ctr_names.specs.Held.{names_of_items}
+use Rattle.ctr_kept.specs.ctr_names.Held.{names_of_items}
 use Rattle.ctr_store.specs.Opening.{LeavesFirst}
 use Rattle.ctr_store.specs.StoreOpening.{OpensStore}
 use Rattle.ctr_kept.specs.Walk.{mind_at}

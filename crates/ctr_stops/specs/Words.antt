@@ -22,7 +22,7 @@ pub use Rattle.ctr_record_effects.specs.Standing.{StandsForDatabase}
 pub use Rattle.ctr_store.specs.Opening.{LeavesFirst}
 pub use Rattle.ctr_store.specs.StoreOpening.{OpensStore}
 pub use Rattle.ctr_store.specs.Store.{View, LeavesFront, LeavesGrowing, GrowsByExtent, Logs}
-pub use Rattle.ctr_names.specs.Held.{names_of_items}
+pub use Rattle.ctr_kept.specs.ctr_names.Held.{names_of_items}
 pub use Rattle.ctr_paged.specs.Paged.{at_open}
 pub use Rattle.ctr_paged.specs.Shown.{IsShown}
 pub use Rattle.ctr_types.specs.declared.statement.Line.{Line}

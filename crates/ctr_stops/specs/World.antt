@@ -6,7 +6,7 @@ use Rattle.ctr_area.specs.Images.{undo_size}
 use Rattle.ctr_redo.specs.States.{State}
 use Rattle.ctr_record_effects.specs.States.{area_in}
 use Rattle.ctr_store.specs.Store.{View, LeavesFront}
-use Rattle.ctr_names.specs.Held.{names_of_items}
+use Rattle.ctr_kept.specs.ctr_names.Held.{names_of_items}
 use Rattle.ctr_actions.specs.Sites.{site_of}
 use Rattle.ctr_kept.specs.Walk.{Mind}
 use Rattle.ctr_kept.specs.Turns.{Start, KeepsRun, state_now}

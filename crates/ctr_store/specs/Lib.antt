@@ -10,3 +10,4 @@ pub mod Store
 pub mod StoreInside
 pub mod StoreOpening
 pub mod Creating
+pub use Rattle.ctr_home.specs as ctr_home

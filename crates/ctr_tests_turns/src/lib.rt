@@ -7,12 +7,18 @@
 #[cfg(test)]
 mod extending;
 #[cfg(test)]
+mod laying;
+#[cfg(test)]
 mod rolling;
+#[cfg(test)]
+mod scanning;
 #[cfg(test)]
 mod sessions;
 #[cfg(test)]
 mod stores;
 #[cfg(test)]
 mod undoing;
+#[cfg(test)]
+mod wishing;
 #[cfg(test)]
 mod writing;

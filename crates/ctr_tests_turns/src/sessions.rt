@@ -62,8 +62,8 @@ fn key_alone(alloc: Global) -> Result<Option<Schema>, OutOfMemory>
     }))
 }
 
-// A transaction makes a table.
-fn make<D: Disk, O: Origin>(
+/// A transaction makes a table; whether the catalog had room.
+pub fn make<D: Disk, O: Origin>(
     store: &mut Store<D, O>,
     x: Xid,
     name: &Name,

@@ -54,8 +54,8 @@ fn is_chain(chain: Chain) -> bool
     }
 }
 
-// The same of a stage.
-fn is_counted_stage(stage: Stage, counted: u32) -> bool
+/// Whether a stage is one of a table, and the page on its way a counted one.
+pub fn is_counted_stage(stage: Stage, counted: u32) -> bool
     ensures { IsTrue result → IsCountedStage stage counted }
 {
     match stage {
@@ -88,7 +88,7 @@ fn go<D: Disk, O: Origin>(
 fn stage_behind(written: Written) -> Stage {
     match written {
         Written::On(stage) => stage,
-        Written::Done | Written::Full => Stage::Looking,
+        Written::Done | Written::Grown | Written::Full => Stage::Looking,
     }
 }
 
@@ -121,8 +121,8 @@ fn comes(chain: Chain, page: PageNo) -> [Written; 3] {
     ]
 }
 
-// A transaction commits; whether there was room.
-fn commit<D: Disk, O: Origin>(store: &mut Store<D, O>, x: Xid) -> Result<bool, StoreFault>
+/// A transaction commits; whether there was room.
+pub fn commit<D: Disk, O: Origin>(store: &mut Store<D, O>, x: Xid) -> Result<bool, StoreFault>
     requires going { store.old.stopped ≡ false }
     ensures going { OnOk result (store.new.stopped ≡ false) }
 {

@@ -1,9 +1,8 @@
 -- A turn of a Write that goes on: a page is on its way, or a version is kept first.
-use Rattle.std.proofs.Common.{◌≡◌, ⊎_elim, inl, inr, ℕ, ◌+◌, ◌≤◌, ℤ, List, ◌++◌, Option, None, Some, refl, sym, ◌∙◌, ap, subst, arith}
+use Rattle.std.proofs.Common.{◌≡◌, ⊎_elim, inl, inr, ℕ, ℤ, List, ◌++◌, Option, None, Some, refl, sym, ◌∙◌, ap, subst}
 use Rattle.std.specs.Prelude.{is_some}
 use Rattle.std.proofs.lemmas.Bool.{false≢true}
 use Rattle.ctr_disk.specs.declared.disk.Disk.{Ghosts}
-use Rattle.ctr_base.proofs.GrowLaws.{grown_more}
 use Rattle.ctr_page.specs.declared.checks.Chain.{Chain}
 use Rattle.ctr_page.specs.declared.checks.Chain.TheVariants.{Rows, Versions}
 use Rattle.ctr_page.specs.declared.rows.Place.{Place}
@@ -11,7 +10,6 @@ use Rattle.ctr_page.specs.Columns.{kinds_of, kinds_width}
 use Rattle.ctr_page.specs.Damage.{chain_entry}
 use Rattle.ctr_page.specs.Places.{bucket_of}
 use Rattle.ctr_area.specs.Areas.{Title}
-use Rattle.ctr_redo.specs.States.{State, grown}
 use Rattle.ctr_record_effects.specs.States.{area_in}
 use Rattle.ctr_record_laws.specs.Owed.{IsSlotOfKey}
 use Rattle.ctr_actions.specs.Facts.{Fact}
@@ -20,15 +18,15 @@ use Rattle.ctr_kept.specs.Walk.{Mind}
 use Rattle.ctr_kept.specs.Turns.{Start, carrying}
 use Rattle.ctr_stops.specs.World.{KeepsWorld}
 use Rattle.ctr_extend.specs.declared.ways.OnWay.{OnWay}
-use Rattle.ctr_extend.specs.declared.ways.OnWay.TheVariants.{Wanted, Taken, Made}
+use Rattle.ctr_extend.specs.declared.ways.OnWay.TheVariants.{Wanted}
 use Rattle.ctr_extend.specs.declared.ways.Extended.{Extended}
-use Rattle.ctr_extend.specs.declared.ways.Extended.TheVariants.{On as OnItsWay, Linked, Grown, Full as IsFull}
+use Rattle.ctr_extend.specs.declared.ways.Extended.TheVariants.{On as OnItsWay, Linked, Grown as IsGrown, Full as IsFull}
 use Rattle.ctr_extend.specs.Keeping.{WantsPage, facts_on_way, way_behind, HasLogged}
 use Rattle.ctr_extend.specs.Steps.{ExtendsBy}
 use Rattle.ctr_write.specs.declared.stages.Stage.{Stage}
 use Rattle.ctr_write.specs.declared.stages.Stage.TheVariants.{Looking, Extending, Kept}
 use Rattle.ctr_write.specs.declared.stages.Written.{Written}
-use Rattle.ctr_write.specs.declared.stages.Written.TheVariants.{On, Done, Full}
+use Rattle.ctr_write.specs.declared.stages.Written.TheVariants.{On, Done, Grown, Full}
 use Rattle.ctr_write.specs.Stages.{IsChainFor, IsToKeep}
 use Rattle.ctr_write.specs.Carrying.{IsAtWrite, KeptOf, AreOfStage, facts_looking, facts_kept, wish_of}
 use Rattle.ctr_write.specs.Extending.{ExtendsFor, written_from}
@@ -39,21 +37,13 @@ use Rattle.ctr_write.specs.Steps.{EndsLooking, EndsWrite, KeepsOne}
 abbrev stage_in : Stage → Written → Stage
 stage_in other (On stage) = stage
 stage_in other Done = other
+stage_in other Grown = other
 stage_in other Full = other
 
 same_stage : (p q : Stage) → On p ≡ On q → p ≡ q
 same_stage p q is = ap (stage_in p) is
 
--- no record counts more pages
-no_growth : (x : ℕ) (chain : Chain) (way : OnWay) (s t : State) → ExtendsBy x chain way s t Grown → t.counted ≡ s.counted → ⊥
-no_growth x chain Wanted s t grows same = by (ap (λ (u : State). u.counted) grows.grows) (grown_more s.counted grows.few)
-  where
-    by : t.counted ≡ grown s.counted → s.counted + 1 ≤ grown s.counted → ⊥
-    by is more = omega (arith, is, more, same)
-no_growth x chain (Taken p) s t grows same = absurd grows
-no_growth x chain (Made p next) s t grows same = absurd grows
-
-module _ {D : Type 0} (g : Ghosts D) (c : Start) (opened : D) (a b : View D) (w : Mind) (writes : IsAtWrite g c opened a w) (same : b.now.counted ≡ a.now.counted) where
+module _ {D : Type 0} (g : Ghosts D) (c : Start) (opened : D) (a b : View D) (w : Mind) (writes : IsAtWrite g c opened a w) where
   abbrev me : ℕ
   me = writes.seat.session.me
 
@@ -90,7 +80,7 @@ module _ {D : Type 0} (g : Ghosts D) (c : Start) (opened : D) (a b : View D) (w 
               (ap (λ (n : ℕ). facts_looking writes.title n ++ writes.more) of_table),
           pages wants Linked tt extends,
         )
-        by Grown is extends = absurd (no_growth me chain way a.now b.now extends same)
+        by IsGrown is extends = absurd (cc is)
         by IsFull is extends = absurd (cc is)
 
     -- a page that is wanted

@@ -1,5 +1,6 @@
--- The turn of a Write that lays the head, and what its session counts on then.
-use Rattle.std.proofs.Common.{◌≡◌, ⊎_elim, inl, inr, ℕ, ℤ, List, [], Option, Some, None, refl, sym, subst}
+-- The turn of a Write behind which it is at no stage, as it lays the head or a page is wanted in vain; and what its session counts on
+-- then.
+use Rattle.std.proofs.Common.{◌≡◌, ⊎_elim, inl, inr, ℕ, ℤ, List, [], ◌++◌, Option, Some, None, refl, sym, subst}
 use Rattle.std.specs.List.{AllByRecursion}
 use Rattle.ctr_model.specs.declared.state.Transaction.{Transaction}
 use Rattle.ctr_page.specs.declared.checks.Chain.{Chain}
@@ -17,14 +18,16 @@ use Rattle.ctr_actions.specs.Facts.{Fact, IsOpen, HasTable, HasBlank, HasNoPageB
 use Rattle.ctr_kept.specs.Carried.{IsUnderLock, IsOfEntry}
 use Rattle.ctr_kept.specs.Turns.{Carries}
 use Rattle.ctr_extend.specs.declared.ways.OnWay.{OnWay}
-use Rattle.ctr_extend.specs.declared.ways.OnWay.TheVariants.{Wanted}
+use Rattle.ctr_extend.specs.declared.ways.OnWay.TheVariants.{Wanted, Taken, Made}
 use Rattle.ctr_extend.specs.declared.ways.Extended.{Extended}
-use Rattle.ctr_extend.specs.declared.ways.Extended.TheVariants.{On as OnItsWay, Linked, Grown, Full}
+use Rattle.ctr_extend.specs.declared.ways.Extended.TheVariants.{On as OnItsWay, Linked, Grown as IsGrown, Full as IsFull}
 use Rattle.ctr_write.specs.declared.stages.Stage.{Stage}
 use Rattle.ctr_write.specs.declared.stages.Stage.TheVariants.{Looking, Extending, Kept}
-use Rattle.ctr_write.specs.declared.stages.Written.TheVariants.{Done}
+use Rattle.ctr_write.specs.declared.stages.Written.{Written}
+use Rattle.ctr_write.specs.declared.stages.Written.TheVariants.{On, Done, Grown, Full}
 use Rattle.ctr_kept.proofs.Tables.{among_last}
 use Rattle.ctr_extend.specs.Keeping.{facts_on_way}
+use Rattle.ctr_extend.specs.Steps.{ExtendsBy}
 use Rattle.ctr_write.specs.Carrying.{facts_looking, facts_kept, AreOfStage}
 use Rattle.ctr_write.specs.Extending.{ExtendsFor, written_from}
 use Rattle.ctr_write.specs.Laying.{Wish, LaysHead}
@@ -38,8 +41,30 @@ never_done x chain way s t ends = by ends.0 ends.1
     by : (e : Extended) → Done ≡ written_from chain e → ⊥
     by (OnItsWay way) is = absurd cc
     by Linked is = absurd cc
-    by Grown is = absurd cc
-    by Full is = absurd cc
+    by IsGrown is = absurd cc
+    by IsFull is = absurd cc
+
+-- a turn behind which a Write is at no stage
+abbrev pub IsAtNone : Written → Type 0
+IsAtNone (On stage) = ⊥
+IsAtNone Done = Unit {0}
+IsAtNone Grown = Unit {0}
+IsAtNone Full = Unit {0}
+
+-- of turns for a page it is that in which one is wanted
+at_first : (x : ℕ) (chain : Chain) (way : OnWay) (s t : State) (w : Written) → IsAtNone w → ExtendsFor x chain way s t w → way ≡ Wanted
+at_first x chain way s t w none ends = by way ends.0 (subst IsAtNone ends.1 none) ends.2
+  where
+    by : (way : OnWay) (e : Extended) → IsAtNone (written_from chain e) → ExtendsBy x chain way s t e → way ≡ Wanted
+    by Wanted e none is = refl
+    by (Taken p) (OnItsWay on) none is = absurd none
+    by (Taken p) Linked none is = absurd none
+    by (Taken p) IsGrown none is = absurd is
+    by (Taken p) IsFull none is = absurd is
+    by (Made p next) (OnItsWay on) none is = absurd none
+    by (Made p next) Linked none is = absurd none
+    by (Made p next) IsGrown none is = absurd is
+    by (Made p next) IsFull none is = absurd is
 
 -- where the head is laid, and in which way
 abbrev pub IsLaid : Wish → State → State → Type 0
@@ -69,11 +94,14 @@ module _ (wish : Wish) (s t : State) where
   more_among title e key (Extending chain way) more facts are f in_ = subst (λ (l : List Fact). IsAmong f l) (sym are.1) (among_last f (facts_on_way title chain way) more in_)
   more_among title e key (Kept q) more facts are f in_ = subst (λ (l : List Fact). IsAmong f l) (sym are.1) (among_last f (facts_kept title e are.0 q) more in_)
 
-  -- so the session had no page to link
-  pub without_page : (title : Title) (e : ℕ) (key : ℤ) (stage : Stage) (more facts : List Fact) → AreOfStage title e key stage more facts → EndsWrite wish stage s t Done → IsAmong (HasNoPageBut []) facts
-  without_page title e key Looking more facts are ends = subst (λ (l : List Fact). IsAmong (HasNoPageBut []) l) (sym are) (inr (inr (inl refl)))
-  without_page title e key (Extending chain way) more facts are ends = absurd (never_done wish.x chain way s t ends)
-  without_page title e key (Kept q) more facts are ends = subst (λ (l : List Fact). IsAmong (HasNoPageBut []) l) (sym are.1) (inr (inr (inl refl)))
+  -- behind which a Write is at no stage, before that turn the session had no page to link
+  pub without_page : (w : Written) → IsAtNone w → (title : Title) (e : ℕ) (key : ℤ) (stage : Stage) (more facts : List Fact) → AreOfStage title e key stage more facts → EndsWrite wish stage s t w → IsAmong (HasNoPageBut []) facts
+  without_page w none title e key Looking more facts are ends = subst (λ (l : List Fact). IsAmong (HasNoPageBut []) l) (sym are) (inr (inr (inl refl)))
+  without_page w none title e key (Extending chain way) more facts are ends =
+      let wanted : IsAmong (HasNoPageBut []) (facts_on_way title chain way ++ more) =
+      subst (λ (y : OnWay). IsAmong (HasNoPageBut []) (facts_on_way title chain y ++ more)) (sym (at_first wish.x chain way s t w none ends)) (inr (inr (inl refl))) in
+      subst (λ (l : List Fact). IsAmong (HasNoPageBut []) l) (sym are.1) wanted
+  without_page w none title e key (Kept q) more facts are ends = subst (λ (l : List Fact). IsAmong (HasNoPageBut []) l) (sym are.1) (inr (inr (inl refl)))
 
 module _ (x : ℕ) (t : Transaction) (title : Title) (e : ℕ) (z : Site) where
   abbrev mine : List Fact

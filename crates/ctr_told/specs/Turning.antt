@@ -1,11 +1,11 @@
 -- A turn of a session in a World, and what the session counts on between two of its statements.
-use Rattle.std.specs.Prelude.{◌≡◌, ◌⊎◌, ℕ, ◌+◌, ◌<◌, ◌≤◌, List, [], ◌∷◌, ◌++◌, None}
+use Rattle.std.specs.Prelude.{◌≡◌, ◌⊎◌, ℕ, ◌+◌, ◌<◌, List, [], ◌∷◌, ◌++◌, None}
 use Rattle.std.specs.Ordering.{nat_cmp}
 use Rattle.ctr_disk.specs.declared.disk.Disk.{Ghosts}
 use Rattle.ctr_model.specs.Maps.{without}
 use Rattle.ctr_model.specs.State.{transaction_of}
 use Rattle.ctr_actions.specs.Facts.{Fact, IsOpen, HasNoPageBut}
-use Rattle.ctr_store.specs.Store.{View, LeavesFront, Logs}
+use Rattle.ctr_store.specs.Store.{View}
 use Rattle.ctr_kept.specs.Tables.{AreTables}
 use Rattle.ctr_kept.specs.Walk.{Mind}
 use Rattle.ctr_kept.specs.Turns.{Start, InTransaction, Telling, state_now}
@@ -38,14 +38,6 @@ pub record TellsOutside {D : Type 0} (g : Ghosts D) (c : Start) (opened : D) (a 
   pub none : transaction_of (state_now c w) s ≡ None
   pub e : Telling c (g.moment_of a.disk) s
   pub at_end : e.later ≡ g.moment_of b.disk
-
--- Nothing was logged, by a call before which a crash leaves what is hardened with some of what
--- waits, and so it does behind it.
-pub record RestsBehind {D : Type 0} (g : Ghosts D) (a b : View D) : Type 0 where
-  pub logs : Logs [] a b
-  pub front : LeavesFront g a b
-  pub rests : LeavesFront g b b
-  pub later : g.moment_of a.disk ≤ g.moment_of b.disk
 
 -- The session and its snapshot are gone, and one commit more is answered.
 abbrev pub answered_mind : ℕ → Mind → Mind

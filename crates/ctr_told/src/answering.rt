@@ -6,7 +6,8 @@ ghost use Rattle.ctr_store.specs.Store.{View};
 ghost use Rattle.ctr_kept.specs.Walk.{Mind};
 ghost use Rattle.ctr_kept.specs.Turns.{Start, MayCome, telling, state_now};
 ghost use Rattle.ctr_stops.specs.World.{KeepsWorld};
-ghost use Rattle.ctr_told.specs.Turning.{TellsOf, RestsBehind, answered_mind};
+ghost use Rattle.ctr_page_turns.specs.Turns.{RestsBehind};
+ghost use Rattle.ctr_told.specs.Turning.{TellsOf, answered_mind};
 
 use ctr_disk::Disk;
 use ctr_legal::numbers_are_own;

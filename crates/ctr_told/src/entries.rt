@@ -15,8 +15,7 @@ ghost use Rattle.ctr_kept.specs.Turns.{Start, KeepsRun, InTransaction, state_now
 ghost use Rattle.ctr_stops.specs.Pages.{CountsOnNoMore, OthersAreHeld};
 ghost use Rattle.ctr_stops.specs.World.{KeepsWorld};
 ghost use Rattle.ctr_page_turns.specs.Acts.{ActsBy};
-ghost use Rattle.ctr_page_turns.specs.Turns.{LogsAtRest};
-ghost use Rattle.ctr_told.specs.Turning.{RestsBehind};
+ghost use Rattle.ctr_page_turns.specs.Turns.{LogsAtRest, RestsBehind};
 
 use ctr_disk::Disk;
 use ctr_model::states_grow;

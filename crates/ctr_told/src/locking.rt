@@ -10,8 +10,8 @@ ghost use Rattle.ctr_kept.specs.Walk.{Mind};
 ghost use Rattle.ctr_kept.specs.Turns.{Start, MayCome, telling, carrying, drawn_mind};
 ghost use Rattle.ctr_stops.specs.World.{KeepsWorld};
 ghost use Rattle.ctr_page_turns.specs.Acts.{ActsBy};
-ghost use Rattle.ctr_page_turns.specs.Turns.{LogsAtRest};
-ghost use Rattle.ctr_told.specs.Turning.{facts_idle, TellsOf, RestsBehind};
+ghost use Rattle.ctr_page_turns.specs.Turns.{LogsAtRest, RestsBehind};
+ghost use Rattle.ctr_told.specs.Turning.{facts_idle, TellsOf};
 
 use crate::entries::an_entry_alone_is_kept;
 use ctr_actions::{an_action_gives_its_fact, what_is_done_stays};

@@ -12,7 +12,8 @@ ghost use Rattle.ctr_store.specs.Store.{View};
 ghost use Rattle.ctr_kept.specs.Walk.{Mind};
 ghost use Rattle.ctr_kept.specs.Turns.{Start, Telling, MayCome, telling, begun_mind, gone_mind, state_now};
 ghost use Rattle.ctr_stops.specs.World.{KeepsWorld};
-ghost use Rattle.ctr_told.specs.Turning.{TellsOf, TellsOutside, RestsBehind, IsIdle};
+ghost use Rattle.ctr_page_turns.specs.Turns.{RestsBehind};
+ghost use Rattle.ctr_told.specs.Turning.{TellsOf, TellsOutside, IsIdle};
 
 use crate::entries::an_entry_alone_is_kept;
 use ctr_disk::Disk;

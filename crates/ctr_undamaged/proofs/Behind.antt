@@ -26,8 +26,8 @@ use Rattle.ctr_record_laws.proofs.Along.{goes_on, all_along}
 use Rattle.ctr_record_laws.proofs.Bounds.{pages_bounded}
 use Rattle.ctr_record_laws.proofs.Owning.{all_of}
 use Rattle.ctr_record_laws.proofs.Room.{apart_fit, along_apart, bound_suc}
-use Rattle.ctr_pvs.specs.Table.{told_of}
-use Rattle.ctr_pvs.specs.Reading.{kept_at_check}
+use Rattle.ctr_chain.specs.ctr_pvs.Table.{told_of}
+use Rattle.ctr_chain.specs.ctr_pvs.Reading.{kept_at_check}
 use Rattle.ctr_chain.specs.Seeking.{EntriesOf, most_entries, sought_along, xid_if_any, sought_in, entries_on, sought_at, xids_found}
 use Rattle.ctr_undamaged.specs.Undamaged.{EndsWell}
 use Rattle.ctr_undamaged.proofs.Inside.{few_on_versions}

@@ -16,7 +16,7 @@ use Rattle.ctr_record_laws.proofs.Firsts.{counted_among}
 use Rattle.ctr_record_laws.proofs.Members.{among_front, among_rest, count_append, count_among}
 use Rattle.ctr_record_laws.proofs.Owned.{entry_inside, in_all, owned_once}
 use Rattle.ctr_record_laws.proofs.Room.{apart_fit}
-use Rattle.ctr_walk.proofs.Telling.{none_from}
+use Rattle.ctr_heap.proofs.ctr_walk.Telling.{none_from}
 
 module _ (counted : ℕ) (tables : Tables) (area : Area) (bounds : IsInBounds area) (sound : IsSoundArea counted tables area) where
   abbrev pub count : ℕ → List ℕ → ℕ

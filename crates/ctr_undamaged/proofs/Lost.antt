@@ -15,8 +15,8 @@ use Rattle.ctr_area.specs.Checked.{ArePassed}
 use Rattle.ctr_area.specs.Reading.{version_said, header_on, columns_on, area_of}
 use Rattle.ctr_area.specs.Sound.{IsUsedSlot, IsKeptFor, IsSoundArea}
 use Rattle.ctr_record_laws.proofs.Room.{bound_suc}
-use Rattle.ctr_pvs.specs.Table.{told_of, owner_of}
-use Rattle.ctr_pvs.specs.Reading.{kept_at_check, row_check_at}
+use Rattle.ctr_chain.specs.ctr_pvs.Table.{told_of, owner_of}
+use Rattle.ctr_chain.specs.ctr_pvs.Reading.{kept_at_check, row_check_at}
 use Rattle.ctr_revert.specs.Reverting.{behind_check, row_slot_at, revert_check}
 use Rattle.ctr_undamaged.proofs.There.{both_pass, names_entry, slot_page, kept_passes, row_passes}
 

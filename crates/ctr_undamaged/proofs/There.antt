@@ -29,12 +29,12 @@ use Rattle.ctr_record_laws.proofs.Bounds.{pages_bounded}
 use Rattle.ctr_record_laws.proofs.Ends.{bucket_chain}
 use Rattle.ctr_record_laws.proofs.Members.{among_flat}
 use Rattle.ctr_record_laws.proofs.Owned.{entry_inside, slot_inside}
-use Rattle.ctr_passed.proofs.Pagewise.{PassedIn, page_by_page, index_of}
-use Rattle.ctr_walk.proofs.Telling.{none_from}
-use Rattle.ctr_pvs.specs.Table.{there_check, owner_check, catalog_check, told_of, owner_of, table_check}
-use Rattle.ctr_pvs.specs.Reading.{lies_check, kept_on_check, versions_there, kept_at_check, version_check_at, row_on_check, row_check_at}
-use Rattle.ctr_pvs.specs.Writing.{drop_check}
-use Rattle.ctr_pvs.proofs.Told.{header_here}
+use Rattle.ctr_heap.proofs.ctr_passed.Pagewise.{PassedIn, page_by_page, index_of}
+use Rattle.ctr_heap.proofs.ctr_walk.Telling.{none_from}
+use Rattle.ctr_chain.specs.ctr_pvs.Table.{there_check, owner_check, catalog_check, told_of, owner_of, table_check}
+use Rattle.ctr_chain.specs.ctr_pvs.Reading.{lies_check, kept_on_check, versions_there, kept_at_check, version_check_at, row_on_check, row_check_at}
+use Rattle.ctr_chain.specs.ctr_pvs.Writing.{drop_check}
+use Rattle.ctr_chain.proofs.ctr_pvs.Told.{header_here}
 use Rattle.ctr_undamaged.proofs.Inside.{on_bucket, on_versions}
 use Rattle.ctr_undamaged.proofs.Walks.{rows_room, versions_room}
 

@@ -20,15 +20,15 @@ use Rattle.ctr_record_laws.specs.Bounds.{IsInBounds}
 use Rattle.ctr_record_laws.proofs.Bounds.{pages_bounded}
 use Rattle.ctr_record_laws.proofs.Ends.{steps, page_goes_on, bucket_chain}
 use Rattle.ctr_record_laws.proofs.Owning.{all_of}
-use Rattle.ctr_passed.proofs.Pagewise.{PassedIn, page_by_page}
-use Rattle.ctr_walk.specs.Along.{ChainSought, EndsPage, EndsAlong}
-use Rattle.ctr_walk.specs.Tables.{chain_sought}
+use Rattle.ctr_heap.proofs.ctr_passed.Pagewise.{PassedIn, page_by_page}
+use Rattle.ctr_heap.specs.ctr_walk.Along.{ChainSought, EndsPage, EndsAlong}
+use Rattle.ctr_heap.specs.ctr_walk.Tables.{chain_sought}
 use Rattle.ctr_heap.specs.declared.slots.SlotSought.{SlotSought}
 use Rattle.ctr_heap.specs.Slots.{checks_slot, seeks_slot, EndsSlots}
 use Rattle.ctr_heap.specs.Finding.{EndsBucket}
-use Rattle.ctr_pvs.specs.Entries.{checks_version, is_free_version, EndsFree}
-use Rattle.ctr_pvs.specs.Along.{EndsVersions}
-use Rattle.ctr_pvs.proofs.Told.{header_here}
+use Rattle.ctr_chain.specs.ctr_pvs.Entries.{checks_version, is_free_version, EndsFree}
+use Rattle.ctr_chain.specs.ctr_pvs.Along.{EndsVersions}
+use Rattle.ctr_chain.proofs.ctr_pvs.Told.{header_here}
 use Rattle.ctr_undamaged.specs.Undamaged.{EndsWell}
 use Rattle.ctr_undamaged.proofs.Entries.{passes_or_fails, search_whole}
 use Rattle.ctr_undamaged.proofs.Inside.{on_bucket, on_versions, few_on_bucket, few_on_versions}

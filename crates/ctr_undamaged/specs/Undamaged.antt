@@ -3,7 +3,7 @@ use Rattle.std.specs.Prelude.{Result, Err}
 use Rattle.ctr_types.specs.declared.file.Damage.{Damage}
 use Rattle.ctr_disk.specs.declared.fault.StoreFault.{StoreFault}
 use Rattle.ctr_disk.specs.declared.fault.StoreFault.TheVariants.{Damaged}
-use Rattle.ctr_walk.specs.Damage.{EndsTold}
+use Rattle.ctr_heap.specs.ctr_walk.Damage.{EndsTold}
 
 -- A search ends as a rule says, and at no damage, whichever it is.
 abbrev pub EndsWell : {T B : Type 0} → (Result T B → Type 0) → Type 0

@@ -8,10 +8,10 @@ ghost use Rattle.ctr_area.specs.Sound.{IsAmong};
 ghost use Rattle.ctr_area.specs.Chains.{slot_places, older_places};
 ghost use Rattle.ctr_record_effects.specs.States.{pages_in, area_in, IsWholePage};
 ghost use Rattle.ctr_record_effects.specs.Standing.{IsDatabaseState};
-ghost use Rattle.ctr_passed.specs.Laid.{width_in};
-ghost use Rattle.ctr_passed.specs.Logged.{IsSlotOf, IsOlderOf, PutsSlot, PutsOlder};
+ghost use Rattle.ctr_heap.specs.ctr_passed.Laid.{width_in};
+ghost use Rattle.ctr_heap.specs.ctr_passed.Logged.{IsSlotOf, IsOlderOf, PutsSlot, PutsOlder};
 ghost use Rattle.ctr_heap.specs.Writing.{slot_width, row_record, HasPlaceFor};
-ghost use Rattle.ctr_pvs.specs.Writing.{entry_width, keep_record, HasPlaceOfVersion};
+ghost use Rattle.ctr_chain.specs.ctr_pvs.Writing.{entry_width, keep_record, HasPlaceOfVersion};
 
 use crate::places::a_place_of_a_table_fits;
 

@@ -10,7 +10,7 @@ ghost use Rattle.ctr_area.specs.Reading.{columns_on, width_on};
 ghost use Rattle.ctr_record_effects.specs.States.{pages_in, area_in, IsWholePage};
 ghost use Rattle.ctr_record_effects.specs.Standing.{IsDatabaseState};
 ghost use Rattle.ctr_heap.specs.Writing.{IsOfTable};
-ghost use Rattle.ctr_passed.specs.Laid.{width_in, slot_size_in, older_size_in};
+ghost use Rattle.ctr_heap.specs.ctr_passed.Laid.{width_in, slot_size_in, older_size_in};
 
 /// A place of a table lies on a counted page behind the catalog, which has room for it, and whose columns are those of the table: on a whole page a slot, or a version
 /// entry, may be laid over it.

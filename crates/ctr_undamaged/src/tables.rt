@@ -9,10 +9,10 @@ ghost use Rattle.ctr_record_effects.specs.States.{pages_in, area_in};
 ghost use Rattle.ctr_record_effects.specs.Standing.{IsDatabaseState};
 ghost use Rattle.ctr_heap.specs.declared.slots.SlotSought.{SlotSought};
 ghost use Rattle.ctr_heap.specs.Finding.{EndsBucket, FindsFree};
-ghost use Rattle.ctr_pvs.specs.Along.{EndsVersions};
-ghost use Rattle.ctr_pvs.specs.Lending.{VersionSaidAt};
-ghost use Rattle.ctr_pvs.specs.Table.{TableSaid};
-ghost use Rattle.ctr_pvs.specs.Writing.{drop_check};
+ghost use Rattle.ctr_chain.specs.ctr_pvs.Along.{EndsVersions};
+ghost use Rattle.ctr_chain.specs.ctr_pvs.Lending.{VersionSaidAt};
+ghost use Rattle.ctr_chain.specs.ctr_pvs.Table.{TableSaid};
+ghost use Rattle.ctr_chain.specs.ctr_pvs.Writing.{drop_check};
 ghost use Rattle.ctr_undamaged.specs.Undamaged.{MeetsNoDamage};
 
 /// In a state that may be a database's the search of a bucket meets no damage, for a key and for a free slot: of one of the 32

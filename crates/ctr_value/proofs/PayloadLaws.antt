@@ -10,7 +10,7 @@ use Rattle.ctr_types.specs.declared.value.Kind.{Kind}
 use Rattle.ctr_types.specs.declared.value.Kind.TheVariants as kind
 use Rattle.ctr_types.specs.declared.value.Value.{Value}
 use Rattle.ctr_types.specs.declared.value.Value.TheVariants as value
-use Rattle.ctr_model.specs.Refusals.{key_of}
+use Rattle.ctr_print.specs.ctr_model.Refusals.{key_of}
 use Rattle.ctr_bytes.specs.Fields.{spelled, field}
 use Rattle.ctr_value.specs.Payload.{IsOf, AreOf, IsRow, field_width, kinds_width, width, field_of, payload_of, IsField, IsPayload, IsRowOf, IsBadField, HasBadField}
 use Rattle.ctr_bytes.proofs.FieldLaws.{length-spelled, field_at}

@@ -6,7 +6,7 @@ use Rattle.ctr_types.specs.declared.value.Kind.{Kind}
 use Rattle.ctr_types.specs.declared.value.Kind.TheVariants as kind
 use Rattle.ctr_types.specs.declared.value.Value.{Value}
 use Rattle.ctr_types.specs.declared.value.Value.TheVariants as value
-use Rattle.ctr_model.specs.Refusals.{key_of}
+use Rattle.ctr_print.specs.ctr_model.Refusals.{key_of}
 use Rattle.ctr_bytes.specs.Fields.{spelled}
 use Rattle.ctr_value.specs.declared.payload.PayloadError.{PayloadError}
 use Rattle.ctr_value.specs.declared.payload.PayloadError.TheVariants as error

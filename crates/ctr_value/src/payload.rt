@@ -3,7 +3,7 @@ ghost use Rattle.std.specs.Prelude.{◌≡◌, ◌≤◌, ◌<◌, ◌+◌, ◌-
 ghost use Rattle.ctr_types.specs.declared.value.Column.{Column};
 ghost use Rattle.ctr_types.specs.declared.value.Kind.TheVariants.{Chars};
 ghost use Rattle.ctr_types.specs.declared.value.Value.{Value};
-ghost use Rattle.ctr_model.specs.Refusals.{key_of};
+ghost use Rattle.ctr_print.specs.ctr_model.Refusals.{key_of};
 ghost use Rattle.ctr_value.specs.Values.{row_values};
 ghost use Rattle.ctr_value.specs.declared.payload.PayloadError.TheVariants.{OutOfMemory};
 ghost use Rattle.ctr_value.specs.Payload.{IsOf, AreOf, IsKeyed, IsRow, field_width as width_of_field, width as width_of_all, field_of, payload_of, IsField, IsPayload, IsRowOf, HasField, IsBadField, HasBadField, IsBadPayload, IsNoPayload};

@@ -1,6 +1,6 @@
 // The text of a row on a sink.
 ghost use Rattle.std.specs.Prelude.{true, false, OnOk, OnErr};
-ghost use Rattle.ctr_model.specs.Texts.{row_text};
+ghost use Rattle.ctr_print.specs.ctr_model.Texts.{row_text};
 ghost use Rattle.ctr_print.specs.Prints.{PutsOn};
 
 use ctr_io::{Failed, Sink};

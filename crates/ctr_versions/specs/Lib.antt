@@ -10,3 +10,4 @@ pub mod Laws
 pub mod Loading
 pub mod Heads
 pub mod Undoing
+pub use Rattle.ctr_model.specs as ctr_model

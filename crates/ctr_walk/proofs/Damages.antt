@@ -1,6 +1,7 @@
 -- What calls have found on pages, and how it is told.
 use Rattle.std.proofs.Common.{◌≡◌, inl, inr, ⊎_elim, ℕ, Result, Ok, Err, sym, ◌∙◌, ap, subst}
 use Rattle.std.specs.Prelude.{IfOk, OnErr, ⊤}
+use Rattle.ctr_types.specs.Faults.{HasFault}
 use Rattle.ctr_disk.specs.declared.disk.Disk.{Ghosts}
 use Rattle.ctr_disk.specs.Image.{Image}
 use Rattle.ctr_disk.specs.declared.fault.StoreFault.{StoreFault}
@@ -63,3 +64,12 @@ module _ {D : Type 0} (first : Image) (g : Ghosts D) where
       reads_err ⊤ T (Damaged d) a c (inl (pages_join g a b c first S ⊤ x (Err (Damaged d)) one two))
   reads_behind {S} T x a b c (Damaged d) one (inr two) =
       reads_err ⊤ T (Damaged d) a c (inr (pages_join g a b c first S ⊤ x (Ok tt) one two))
+
+  -- Where reading tells that the disk failed, this is counted; damage is told behind calls that didn't fail, or by one that found it.
+  pub reading_counted : {T : Type 0} (a b : View D) (result : Result T StoreFault) → ReadsPages {T = T} first g a b result → HasFault Fault (g.faults_of a.disk) (g.faults_of b.disk) result
+  reading_counted a b (Ok x) read = read.faults
+  reading_counted a b (Err Fault) read = read.faults
+  reading_counted a b (Err (Damaged d)) (inl read) = read.faults
+  reading_counted a b (Err (Damaged d)) (inr read) =
+      let faults = read.faults in
+      record { later = faults.later; failed = λ is. absurd cc; fine = λ isnt. faults.fine (λ is. absurd cc) }

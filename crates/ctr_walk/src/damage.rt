@@ -1,6 +1,10 @@
 // Damage of pages, told where it stands in the file of pages.
-ghost use Rattle.std.specs.Prelude.{◌≡◌, ◌<◌, ◌^◌, false, IsTrue, Err, OnOk, ⊤};
-ghost use Rattle.ctr_home.specs.Reading.{IsFaultOr};
+ghost use Rattle.std.specs.Prelude.{◌≡◌, ◌<◌, ◌^◌, false, IsTrue, Err, Result, OnOk, ⊤};
+ghost use Rattle.ctr_types.specs.Faults.{HasFault};
+ghost use Rattle.ctr_disk.specs.Image.{Image};
+ghost use Rattle.ctr_disk.specs.declared.fault.StoreFault.{StoreFault};
+ghost use Rattle.ctr_disk.specs.declared.fault.StoreFault.TheVariants.{Fault};
+ghost use Rattle.ctr_store.specs.ctr_home.Reading.{IsFaultOr};
 ghost use Rattle.ctr_base.specs.Base.{WhereSound, IsSoundImage};
 ghost use Rattle.ctr_store.specs.Store.{View, LeavesPage};
 ghost use Rattle.ctr_walk.specs.Damage.{damaged_page, damage_behind, damage_told, searched, TellsFound, ReadsPages};
@@ -75,3 +79,10 @@ pub fn tell<D: Disk, O: Origin, T>(
         },
     }
 }
+
+/// A call that reads pages tells that the disk failed where the disk counts one fault more; whatever else it answers, damage too, the disk counts
+/// as many as before.
+pub fn a_fault_of_reading_is_counted<D: Disk, T>()
+    ensures { (first : Image) (a b : View D) (result : Result T StoreFault) → ReadsPages first D.Disk a b result
+        → HasFault Fault (D.faults_of a.disk) (D.faults_of b.disk) result }
+{}

@@ -14,7 +14,7 @@ mod table;
 
 pub use along::PageSought;
 pub use columns::an_entry_has_columns;
-pub use damage::tell;
+pub use damage::{a_fault_of_reading_is_counted, tell};
 pub use fault::{SearchFault, found_on};
 pub use joining::{a_record_behind_a_page, log_record, pages_read_join};
 pub use on_page::{a_record_may_be_logged, log_on_page};

@@ -9,6 +9,7 @@ mod laws;
 mod making;
 mod preparing;
 
+pub use ctr_reading as reading;
 pub use head::Head;
 pub use laws::{what_is_prepared_is_the_models, what_is_prepared_stays_the_models};
 pub use making::Prepared;

@@ -70,6 +70,7 @@ pub fn prepare<D: Disk, O: Origin>(
         → IfOk result (IsPrepared (sees store.old.now.tables sight.now) (area_in store.old.now) entry statement.now)) }
     // It is refused for no other cause than that the disk failed, or for want of memory.
     ensures refused { WhereSound O.first D.Disk (IsDatabaseState store.old.now → IfErr result IsDiskOrMemory) }
+    // It logs nothing; and a fault is told where the disk counts one more, by `a_fault_of_reading_is_counted`.
     ensures leaves { ReadsPages O.first D.Disk store.old store.new (as_told result) }
 {
     let Some(key) = key_written(statement) else {

@@ -27,9 +27,9 @@ pub so_far : (is : Written) (Left : Written → Type 0) (P : Written → Type 0)
 so_far is Left P (Ok w) holds ends = subst P (sym ends.0) holds
 so_far is Left P (Err e) holds ends = tt
 
-pub left_so : (is : Written) (k j l : TablesKept) (result : Result Written StoreFault) → j ≡ k → IfOk result (λ w. (w ≡ is) × LeavesItem w j l) → IfOk result (λ w. LeavesItem w k l)
-left_so is k j l (Ok w) same ends = subst (λ (m : TablesKept). LeavesItem w m l) same ends.1
-left_so is k j l (Err e) same ends = tt
+pub left_so : (n : ℕ) (is : Written) (k j l : TablesKept) (result : Result Written StoreFault) → j ≡ k → IfOk result (λ w. (w ≡ is) × LeavesItem n w j l) → IfOk result (λ w. LeavesItem n w k l)
+left_so n is k j l (Ok w) same ends = subst (λ (m : TablesKept). LeavesItem n w m l) same ends.1
+left_so n is k j l (Err e) same ends = tt
 
 module _ (wish : Wish) (s t : State) where
   pub room_of : (b : ℕ) (free : Option Place) (at : Place) → MayPlace wish s → b ≡ bucket_of wish.key → free ≡ Some at → FindsFree (area_in s) wish.entry b free

@@ -1,5 +1,5 @@
 -- How far the Write of a row is: what its transaction counts on between two turns.
-use Rattle.std.specs.Prelude.{◌≡◌, ◌⊎◌, ℕ, ℤ, true, false, [], Some}
+use Rattle.std.specs.Prelude.{◌≡◌, ◌⊎◌, ℕ, ◌+◌, ℤ, true, false, [], Some}
 use Rattle.ctr_page.specs.declared.checks.Chain.{Chain}
 use Rattle.ctr_page.specs.declared.checks.Chain.TheVariants.{Rows, Versions}
 use Rattle.ctr_page.specs.declared.rows.Place.{Place}
@@ -13,13 +13,13 @@ use Rattle.ctr_actions.specs.Sites.{site_of}
 use Rattle.ctr_actions.specs.Facts.{HasSlot, HasCopy, HasNoPageBut, HoldsFact}
 use Rattle.ctr_passed.specs.Laid.{width_in}
 use Rattle.ctr_walk.specs.Tables.{IsChain}
-use Rattle.ctr_extend.specs.declared.ways.Extended.TheVariants.{On as OnItsWay, Linked, Grown}
+use Rattle.ctr_extend.specs.declared.ways.Extended.TheVariants.{On as OnItsWay, Linked, Grown as IsGrown}
 use Rattle.ctr_extend.specs.Ways.{IsOnWay, IsCountedWay, items_wanted}
 use Rattle.ctr_extend.specs.Steps.{LeavesRoom}
 use Rattle.ctr_write.specs.declared.stages.Stage.{Stage}
 use Rattle.ctr_write.specs.declared.stages.Stage.TheVariants.{Looking, Extending, Kept}
 use Rattle.ctr_write.specs.declared.stages.Written.{Written}
-use Rattle.ctr_write.specs.declared.stages.Written.TheVariants.{On, Done, Full}
+use Rattle.ctr_write.specs.declared.stages.Written.TheVariants.{On, Done, Grown, Full}
 
 -- A page is wanted for the bucket of the key, or for the versions of the table.
 abbrev pub IsChainFor : ℕ → ℤ → Chain → Type 0
@@ -69,13 +69,23 @@ stage_items (Kept q) = 1
 abbrev pub IsCountedWrite : Written → ℕ → Type 0
 IsCountedWrite (On stage) counted = IsCountedStage stage counted
 IsCountedWrite Done counted = Unit {0}
+IsCountedWrite Grown counted = Unit {0}
 IsCountedWrite Full counted = Unit {0}
 
--- The room of the tables: an item is added with a page that is taken, and goes as it is linked. No
--- number is drawn.
-abbrev pub LeavesItem : Written → TablesKept → TablesKept → Type 0
-LeavesItem (On Looking) k l = LeavesRoom Linked k l ⊎ LeavesRoom Grown k l
-LeavesItem (On (Extending chain way)) k l = LeavesRoom (OnItsWay way) k l
-LeavesItem (On (Kept q)) k l = AddsItems 0 k l
-LeavesItem Done k l = AddsItems 0 k l
-LeavesItem Full k l = l ≡ k
+-- The room of the tables behind a turn that may add so many items: an item is added with a page that
+-- is taken, and goes as it is linked. A version is kept, and more pages are counted, only by a turn
+-- that may add one. No number is drawn.
+abbrev pub LeavesItem : ℕ → Written → TablesKept → TablesKept → Type 0
+LeavesItem n (On Looking) k l = LeavesRoom n Linked k l
+LeavesItem n (On (Extending chain way)) k l = LeavesRoom n (OnItsWay way) k l
+LeavesItem n (On (Kept q)) k l = (n ≡ 1) × AddsItems 0 k l
+LeavesItem n Done k l = AddsItems 0 k l
+LeavesItem n Grown k l = LeavesRoom n IsGrown k l
+LeavesItem n Full k l = l ≡ k
+
+-- The log's next number: one more behind a turn that logged its record.
+abbrev pub next_written : Written → ℕ → ℕ
+next_written (On stage) next = next + 1
+next_written Done next = next + 1
+next_written Grown next = next
+next_written Full next = next

@@ -7,7 +7,7 @@ ghost use Rattle.ctr_walk.specs.Tables.{IsChain};
 ghost use Rattle.ctr_page_turns.specs.Turns.{Turns};
 ghost use Rattle.ctr_extend.specs.Ways.{IsCountedWay, items_wanted};
 ghost use Rattle.ctr_extend.specs.Steps.{MayExtend};
-ghost use Rattle.ctr_write.specs.Stages.{IsCountedWrite, LeavesItem};
+ghost use Rattle.ctr_write.specs.Stages.{IsCountedWrite, LeavesItem, next_written};
 ghost use Rattle.ctr_write.specs.Extending.{written_from, ExtendsFor};
 
 use crate::stages::{Stage, Written};
@@ -19,13 +19,14 @@ use ctr_page_turns::a_turn_goes_on;
 use ctr_store::Store;
 use ctr_types::Xid;
 
-// What a turn for a page is to a Write: once it is linked, or more are counted, the row's slot is looked for again.
+// What a turn for a page is to a Write: once it is linked, the row's slot is looked for again.
 fn written_from(chain: Chain, extended: Extended) -> Written
     ensures { result ≡ written_from chain extended }
 {
     match extended {
         Extended::On(way) => Written::On(Stage::Extending { chain, way }),
-        Extended::Linked | Extended::Grown => Written::On(Stage::Looking),
+        Extended::Linked => Written::On(Stage::Looking),
+        Extended::Grown => Written::Grown,
         Extended::Full => Written::Full,
     }
 }
@@ -42,7 +43,8 @@ pub(crate) fn more<D: Disk, O: Origin>(
     requires counted { IsCountedWay way store.old.now.counted }
     ensures turns { Turns O.first D.Disk store.old store.new result }
     ensures inside { IfOk result (λ w. IsCountedWrite w store.new.now.counted) }
-    ensures left { IfOk result (λ w. LeavesItem w store.old.meta store.new.meta) }
+    ensures left { IfOk result (λ w. LeavesItem (items_wanted way) w store.old.meta store.new.meta) }
+    ensures numbers { IfOk result (λ w. store.new.next ≡ next_written w store.old.next) }
     ensures steps { WhereSound O.first D.Disk (MayExtend x chain way store.old.now → IfOk result (ExtendsFor x chain way store.old.now store.new.now)) }
     ensures refused { WhereSound O.first D.Disk (MayExtend x chain way store.old.now → IfErr result (λ e. e ≡ Fault)) }
 {

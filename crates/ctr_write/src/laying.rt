@@ -10,7 +10,7 @@ ghost use Rattle.ctr_walk.specs.OneRecord.{HasRoomForOne};
 ghost use Rattle.ctr_pvs.specs.Slots.{SlotLiesAt};
 ghost use Rattle.ctr_page_turns.specs.Turns.{Turns};
 ghost use Rattle.ctr_write.specs.declared.stages.Written.TheVariants.{Done};
-ghost use Rattle.ctr_write.specs.Stages.{LeavesItem};
+ghost use Rattle.ctr_write.specs.Stages.{LeavesItem, next_written};
 ghost use Rattle.ctr_write.specs.Laying.{MayLay, LaysHead};
 
 use crate::misfit::misfit;
@@ -52,7 +52,8 @@ fn lay_new<D: Disk, O: Origin>(
     requires fits { IsVersion (length head.now.payload) head.now }
     requires lies { SlotLiesAt place (length head.now.payload) }
     ensures turns { Turns O.first D.Disk store.old store.new result }
-    ensures is { IfOk result (λ w. (w ≡ Done) × LeavesItem w store.old.meta store.new.meta) }
+    ensures is { IfOk result (λ w. (w ≡ Done) × LeavesItem 1 w store.old.meta store.new.meta) }
+    ensures numbers { IfOk result (λ w. store.new.next ≡ next_written w store.old.next) }
     ensures steps { (e : ℕ) → WhereSound O.first D.Disk (MayLay (record { x = x; entry = e; key = key; head = head.now }) store.old.now → IsRoomFor (area_in store.old.now) e key place
         → IfOk result (λ w. LaysHead (record { x = x; entry = e; key = key; head = head.now }) place FirstVersion store.old.now store.new.now)) }
     ensures refused { (e : ℕ) → WhereSound O.first D.Disk (MayLay (record { x = x; entry = e; key = key; head = head.now }) store.old.now → IsRoomFor (area_in store.old.now) e key place → IfErr result (λ f. f ≡ Fault)) }
@@ -84,7 +85,8 @@ pub(crate) fn lay_first<D: Disk, O: Origin>(
     requires counted { place.page < store.old.now.counted }
     requires fits { IsVersion (length head.now.payload) head.now }
     ensures turns { (a : View D) → LeavesPage {T = ⊤} O.first D.Disk a store.old (Ok tt) → Turns O.first D.Disk a store.new result }
-    ensures is { IfOk result (λ w. (w ≡ Done) × LeavesItem w store.old.meta store.new.meta) }
+    ensures is { IfOk result (λ w. (w ≡ Done) × LeavesItem 1 w store.old.meta store.new.meta) }
+    ensures numbers { IfOk result (λ w. store.new.next ≡ next_written w store.old.next) }
     ensures steps { (e : ℕ) → WhereSound O.first D.Disk (MayLay (record { x = x; entry = e; key = key; head = head.now }) store.old.now → IsRoomFor (area_in store.old.now) e key place
         → IfOk result (λ w. LaysHead (record { x = x; entry = e; key = key; head = head.now }) place FirstVersion store.old.now store.new.now)) }
     ensures refused { (e : ℕ) → WhereSound O.first D.Disk (MayLay (record { x = x; entry = e; key = key; head = head.now }) store.old.now → IsRoomFor (area_in store.old.now) e key place → IfErr result (λ f. f ≡ Fault)) }

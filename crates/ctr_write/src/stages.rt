@@ -20,6 +20,8 @@ pub enum Written {
     On(Stage),
     /// The row is written.
     Done,
+    /// More pages are counted, and the row's slot is looked for again.
+    Grown,
     /// No page is free for it, and no more can be counted.
     Full,
 }

@@ -24,6 +24,9 @@ returns-in-Ok-clause-left g c =
     let takes = c.in-Ok.ensures.one.takes in
     (takes.left, ap (λ (t : Tables). t.next) takes.tables)
 
+pub returns-in-Ok-clause-numbers : goal.returns-in-Ok-clause-numbers
+returns-in-Ok-clause-numbers g c = c.in-Ok.ensures.one.takes.next
+
 pub returns-in-Ok-clause-makes : goal.returns-in-Ok-clause-makes
 returns-in-Ok-clause-makes g c = λ told sound may.
     let x = c.args.x in

@@ -30,6 +30,9 @@ returns-in-Ok-clause-is g c =
     let fits = c.in-Ok.ensures.one.fits in
     (refl, ((takes.left, ap (λ (t : Tables). t.next) takes.tables), ap (λ (t : Tables). length t.items + 1) takes.tables ∙ c.an_item_goes.ensures (Allocation c.args.x c.args.page) c.args.store.now.meta.tables fits))
 
+pub returns-in-Ok-clause-numbers : goal.returns-in-Ok-clause-numbers
+returns-in-Ok-clause-numbers g c = c.in-Ok.ensures.one.takes.next
+
 pub returns-in-Ok-clause-steps : goal.returns-in-Ok-clause-steps
 returns-in-Ok-clause-steps g c = λ next told sound may first.
     let x = c.args.x in

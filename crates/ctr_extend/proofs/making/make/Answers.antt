@@ -32,6 +32,9 @@ returns-in-Ok-clause-left g c =
     let takes = c.in-Ok.ensures.one.takes in
     (takes.left, ap (λ (t : Tables). t.next) takes.tables)
 
+pub returns-in-Ok-clause-numbers : goal.returns-in-Ok-clause-numbers
+returns-in-Ok-clause-numbers g c = c.in-Ok.ensures.one.takes.next
+
 pub returns-in-Ok-clause-steps : goal.returns-in-Ok-clause-steps
 returns-in-Ok-clause-steps g c = λ told sound state way first.
     let x = c.args.x in

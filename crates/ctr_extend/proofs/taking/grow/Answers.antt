@@ -12,7 +12,7 @@ returns-in-Ok-clause-turns g c = λ a next read.
     let w = c.grow_extent.new.self in
     c.a_turn_goes_on-2.ensures.answered g.O.Origin.first a w tt Grown
     (c.a_turn_goes_on.ensures.grown g.O.Origin.first a c.args.store.now w next (Ok tt) read
-    (record { any_moment = e.any_moment; grows = e.grows; counts = e.counts; refused = e.refused; faults = e.faults }))
+    (λ told sound. c.rests.ensures told sound c.requires.going) (record { few = c.requires.few; any_moment = e.any_moment; grows = e.grows; counts = e.counts; refused = e.refused; faults = e.faults }))
 
 pub returns-in-Err-clause-turns : goal.returns-in-Err-clause-turns
 returns-in-Err-clause-turns g c = λ a next read.
@@ -20,10 +20,13 @@ returns-in-Err-clause-turns g c = λ a next read.
     let w = c.grow_extent.new.self in
     c.a_turn_goes_on-2.ensures.failed g.O.Origin.first a w c.in-Err.fault (Err c.in-Err.fault) (Err c.in-Err.fault)
     (c.a_turn_goes_on.ensures.grown g.O.Origin.first a c.args.store.now w next (Err c.in-Err.fault) read
-    (record { any_moment = e.any_moment; grows = e.grows; counts = e.counts; refused = e.refused; faults = e.faults })) refl refl
+    (λ told sound. c.rests.ensures told sound c.requires.going) (record { few = c.requires.few; any_moment = e.any_moment; grows = e.grows; counts = e.counts; refused = e.refused; faults = e.faults })) refl refl
 
 pub returns-in-Ok-clause-left : goal.returns-in-Ok-clause-left
-returns-in-Ok-clause-left g c = ap (λ (v : View g.row.D.Denot). v.meta) c.in-Ok.ensures.counts.same
+returns-in-Ok-clause-left g c = (refl, ap (λ (v : View g.row.D.Denot). v.meta) c.in-Ok.ensures.counts.same)
+
+pub returns-in-Ok-clause-numbers : goal.returns-in-Ok-clause-numbers
+returns-in-Ok-clause-numbers g c = ap (λ (v : View g.row.D.Denot). v.next) c.in-Ok.ensures.counts.same
 
 pub returns-in-Ok-clause-steps : goal.returns-in-Ok-clause-steps
 returns-in-Ok-clause-steps g c = λ x chain told sound may next.

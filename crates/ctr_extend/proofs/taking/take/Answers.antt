@@ -28,6 +28,9 @@ returns-in-Ok-clause-left g c =
     let takes = c.in-Ok.ensures.one.1.takes in
     (takes.left, ap (λ (t : Tables). t.next) takes.tables)
 
+pub returns-in-Ok-clause-numbers : goal.returns-in-Ok-clause-numbers
+returns-in-Ok-clause-numbers g c = c.in-Ok.ensures.one.1.takes.next
+
 pub returns-in-Ok-clause-steps : goal.returns-in-Ok-clause-steps
 returns-in-Ok-clause-steps g c = λ chain told sound may next.
     let x = c.args.x in

@@ -1,4 +1,4 @@
-use Rattle.std.proofs.Common.{◌≡◌, Err, refl, sym, ◌∙◌, subst}
+use Rattle.std.proofs.Common.{◌≡◌, ℕ, Err, refl, sym, ◌∙◌, subst}
 use Rattle.std.specs.Prelude.{IfOk, IfErr}
 use Rattle.ctr_disk.specs.declared.fault.StoreFault.TheVariants.{Fault}
 use Rattle.ctr_meta.specs.Kept.{TablesKept}
@@ -10,7 +10,7 @@ use Rattle.ctr_walk.specs.Tables.{first_of_chain}
 use Rattle.ctr_extend.specs.declared.ways.OnWay.TheVariants.{Taken, Made}
 use Rattle.ctr_extend.specs.declared.ways.Extended.TheVariants.{On}
 use Rattle.ctr_extend.specs.Ways.{IsOnWay}
-use Rattle.ctr_extend.specs.Steps.{MayExtend, MakesEmpty, PutsInFront, LeavesRoom}
+use Rattle.ctr_extend.specs.Steps.{MayExtend, MakesEmpty, PutsInFront, LeavesRoom, next_behind}
 use Rattle.ctr_extend.proofs.Steps.{first_undamaged, made_again, put_in_front, taken_still}
 use Rattle.ctr_extend.proofs.turn.put_in.Goals as goal
 
@@ -27,7 +27,13 @@ returns-in-Err-clause-turns g c =
     c.a_turn_goes_on.ensures.unread g.O.Origin.first c.args.store.now c.first_page.new.store c.in-Err.fault (Err c.in-Err.fault) (Err c.in-Err.fault) c.in-Err.ensures.leaves refl refl
 
 pub returns-then-first-next-clause-left : goal.returns-then-first-next-clause-left
-returns-then-first-next-clause-left g c = subst (λ (k : TablesKept). IfOk c.make.result (λ e. LeavesRoom e k c.make.new.store.meta)) c.in-Ok.ensures.leaves.keeps.meta c.make.ensures.left
+returns-then-first-next-clause-left g c = subst (λ (k : TablesKept). IfOk c.make.result (λ e. LeavesRoom 0 e k c.make.new.store.meta)) c.in-Ok.ensures.leaves.keeps.meta c.make.ensures.left
+
+pub returns-then-first-next-clause-numbers : goal.returns-then-first-next-clause-numbers
+returns-then-first-next-clause-numbers g c = subst (λ (n : ℕ). IfOk c.make.result (λ e. c.make.new.store.next ≡ next_behind e n)) c.in-Ok.ensures.leaves.keeps.next c.make.ensures.numbers
+
+pub returns-clause-numbers : goal.returns-clause-numbers
+returns-clause-numbers g c = subst (λ (n : ℕ). IfOk c.link_in.result (λ e. c.link_in.new.store.next ≡ next_behind e n)) c.in-Ok.ensures.leaves.keeps.next c.link_in.ensures.numbers
 
 pub returns-then-first-next-clause-steps : goal.returns-then-first-next-clause-steps
 returns-then-first-next-clause-steps g c = λ told sound may.
@@ -50,7 +56,7 @@ returns-clause-steps g c = λ told sound may.
     let same = (c.in-Ok.ensures.leaves.logs told sound).now in
     let steps = subst (λ (s : State). MayExtend x chain (Made page n) s → n ≡ first_of_chain (area_in s) chain
     → IfOk c.link_in.result (λ e. PutsInFront x chain page n s c.link_in.new.store.now)) same (c.link_in.ensures.steps n told sound) in
-    put_in_front x chain page n c.args.store.now.now c.link_in.new.store.now c.link_in.result (λ e. LeavesRoom e c.first_page.new.store.meta c.link_in.new.store.meta) c.link_in.ensures.is
+    put_in_front x chain page n c.args.store.now.now c.link_in.new.store.now c.link_in.result (λ e. LeavesRoom 0 e c.first_page.new.store.meta c.link_in.new.store.meta) c.link_in.ensures.is
     (steps may (sym c.if-first-next.false ∙ c.number_of-first.ensures (first_of_chain (area_in c.args.store.now.now) chain) (c.in-Ok.ensures.ends told sound).1))
 
 pub returns-in-Err-clause-refused : goal.returns-in-Err-clause-refused

@@ -2,7 +2,7 @@ use Rattle.std.proofs.Common.{subst}
 use Rattle.ctr_model.specs.Database.{Database}
 use Rattle.ctr_model.specs.State.{at_rest}
 use Rattle.ctr_record_effects.specs.States.{area_in}
-use Rattle.ctr_names.specs.Held.{names_of_items}
+use Rattle.ctr_kept.specs.ctr_names.Held.{names_of_items}
 use Rattle.ctr_actions.specs.Sites.{site_of}
 use Rattle.ctr_paged.specs.Paged.{at_open}
 use Rattle.ctr_paged.specs.Shown.{IsShown}

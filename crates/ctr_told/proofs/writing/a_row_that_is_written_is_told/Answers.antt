@@ -26,6 +26,7 @@ use Rattle.ctr_kept.specs.Turns.{carrying, entry_of, scene_now, state_now, telli
 use Rattle.ctr_kept.proofs.Tables.{by_parts, no_blank, titles_held, carries_more, uses_more}
 use Rattle.ctr_kept.proofs.Walking.{keeps_reached, keeps_begun}
 use Rattle.ctr_write.specs.Carrying.{wish_of, facts_looking}
+use Rattle.ctr_write.specs.declared.stages.Written.TheVariants.{Done}
 use Rattle.ctr_write.specs.Laying.{move_of}
 use Rattle.ctr_write.proofs.Carried.{opens_table}
 use Rattle.ctr_told.proofs.Acting.{is_ready}
@@ -60,7 +61,7 @@ returns g c = λ run opened a b w writes e of comes is ends rested.
     let held = λ (f : Fact) (in_ : IsAmong f (w.facts s)). keeps.carried.held s seat.session f seat.at in_ in
     let has = held (HasTable en title) both.1 in
     let under = keeps.carried.under s t (HasTable en title) seat.is_t both.1 in
-    let none = held (HasNoPageBut []) (without_page wish a.now b.now title en key writes.stage writes.more (w.facts s) writes.carries ends) in
+    let none = held (HasNoPageBut []) (without_page wish a.now b.now Done tt title en key writes.stage writes.more (w.facts s) writes.carries ends) in
     let v : Viewer scene = record { s = s; session = seat.session; t = t; me = Some me; at = seat.at; is_t = seat.is_t; calm = (ready.unasked, calm); is_me = refl } in
     let found = c.a_table_that_is_counted_on_is_found.ensures.found low site scene v en title shown reached.kept of.entry has under in
     let firm = reached.kept.firm s t seat.is_t ready.unasked in

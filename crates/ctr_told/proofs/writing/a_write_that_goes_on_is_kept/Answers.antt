@@ -1,10 +1,8 @@
-use Rattle.std.proofs.Common.{inl, inr, ◌∷◌, [], List, refl, sym, ◌∙◌, ap, subst}
-use Rattle.ctr_redo.specs.States.{State}
+use Rattle.std.proofs.Common.{inl, inr, List, refl, sym, ◌∙◌, ap, subst}
 use Rattle.ctr_area.specs.Areas.{Slot}
 use Rattle.ctr_actions.specs.Facts.{Fact, HasSlot, HasTable}
 use Rattle.ctr_area.specs.Sound.{IsAmong}
 use Rattle.ctr_kept.proofs.Tables.{among_first}
-use Rattle.ctr_stops.proofs.Fronts.{steps_counted}
 use Rattle.ctr_write.specs.Carrying.{facts_kept}
 use Rattle.ctr_write.proofs.Carried.{opens_table}
 use Rattle.ctr_told.proofs.Going.{goes_on, chain_of_table}
@@ -18,8 +16,7 @@ returns g c = λ run opened a b w writes stage ends rested.
     let entry = writes.entry in
     let held = λ (f : Fact) (in_ : IsAmong f (w.facts s)). writes.keeps.walks.scene.carried.held s seat.session f seat.at in_ in
     let has = held (HasTable entry title) (opens_table title entry writes.key writes.stage writes.more (w.facts s) writes.carries).1 in
-    let same = ap (λ (u : State). u.counted) rested.logs.now ∙ steps_counted (rested.rec ∷ []) a.now in
-    goes_on g.D.Disk run opened a b w writes same
+    goes_on g.D.Disk run opened a b w writes
     (λ wants e logged extends. c.a_turn_for_a_page_is_kept.ensures.kept run opened a b w wants e logged rested extends)
     (λ of q looking is keeps. c.a_turn_of_a_write_is_kept.ensures.kept run opened a b w writes of q looking rested is keeps)
     has

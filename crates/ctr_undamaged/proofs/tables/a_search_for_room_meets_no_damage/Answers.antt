@@ -1,5 +1,5 @@
 use Rattle.ctr_record_effects.specs.States.{pages_in}
-use Rattle.ctr_pvs.specs.Along.{EndsVersions}
+use Rattle.ctr_chain.specs.ctr_pvs.Along.{EndsVersions}
 use Rattle.ctr_undamaged.proofs.Entries.{meets}
 use Rattle.ctr_undamaged.proofs.Walks.{versions_whole}
 use Rattle.ctr_undamaged.proofs.tables.a_search_for_room_meets_no_damage.Goals as goal

@@ -1,9 +1,9 @@
 use Rattle.std.proofs.Common.{◌≡◌, sym}
 use Rattle.std.specs.Prelude.{⊤}
 use Rattle.ctr_record_effects.specs.States.{pages_in}
-use Rattle.ctr_pvs.specs.Lending.{VersionSaidAt}
-use Rattle.ctr_pvs.specs.Reading.{version_check_at}
-use Rattle.ctr_pvs.specs.Writing.{drop_check}
+use Rattle.ctr_chain.specs.ctr_pvs.Lending.{VersionSaidAt}
+use Rattle.ctr_chain.specs.ctr_pvs.Reading.{version_check_at}
+use Rattle.ctr_chain.specs.ctr_pvs.Writing.{drop_check}
 use Rattle.ctr_undamaged.proofs.Entries.{meets, passes_or_fails}
 use Rattle.ctr_undamaged.proofs.There.{version_passes, drop_passes}
 use Rattle.ctr_undamaged.proofs.tables.a_version_entry_is_read_without_damage.Goals as goal

@@ -2,7 +2,7 @@ use Rattle.std.proofs.Common.{false, [], Err, ap, ◌∙◌}
 use Rattle.ctr_records.specs.declared.record.Record.TheVariants.{Abort}
 use Rattle.ctr_actions.specs.Sites.{site_of}
 use Rattle.ctr_actions.specs.Actions.{Aborts}
-use Rattle.ctr_txn.proofs.OneRecord.{aborted_site, logged_now, refused_now}
+use Rattle.ctr_rollback.proofs.ctr_txn.OneRecord.{aborted_site, logged_now, refused_now}
 use Rattle.ctr_undo.proofs.calls.end.Goals as goal
 
 pub returns-in-Ok-clause-one : goal.returns-in-Ok-clause-one

@@ -27,7 +27,10 @@ returns-in-Err-clause-turns g c =
     c.a_turn_goes_on.ensures.failed g.O.Origin.first c.args.store.now c.keep.new.store c.in-Err.fault (Err c.in-Err.fault) (Err c.in-Err.fault) (LogsARecord (keep_record c.args.x c.args.place c.args.version.now, c.in-Err.ensures.one)) refl refl
 
 pub returns-in-Ok-clause-is : goal.returns-in-Ok-clause-is
-returns-in-Ok-clause-is g c = (refl, (c.in-Ok.ensures.one.takes.left, ap (λ (u : Tables). u.next) c.in-Ok.ensures.one.takes.tables))
+returns-in-Ok-clause-is g c = (refl, (refl, (c.in-Ok.ensures.one.takes.left, ap (λ (u : Tables). u.next) c.in-Ok.ensures.one.takes.tables)))
+
+pub returns-in-Ok-clause-numbers : goal.returns-in-Ok-clause-numbers
+returns-in-Ok-clause-numbers g c = c.in-Ok.ensures.one.takes.next
 
 pub returns-in-Ok-clause-steps : goal.returns-in-Ok-clause-steps
 returns-in-Ok-clause-steps g c = λ e at v told sound may copy.

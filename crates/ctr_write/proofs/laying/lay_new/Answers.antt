@@ -31,6 +31,9 @@ returns-in-Err-clause-turns g c =
 pub returns-in-Ok-clause-is : goal.returns-in-Ok-clause-is
 returns-in-Ok-clause-is g c = (refl, (c.in-Ok.ensures.one.takes.left, ap (λ (u : Tables). u.next) c.in-Ok.ensures.one.takes.tables))
 
+pub returns-in-Ok-clause-numbers : goal.returns-in-Ok-clause-numbers
+returns-in-Ok-clause-numbers g c = c.in-Ok.ensures.one.takes.next
+
 pub returns-in-Ok-clause-steps : goal.returns-in-Ok-clause-steps
 returns-in-Ok-clause-steps g c = λ e told sound.
     let x = c.args.x in

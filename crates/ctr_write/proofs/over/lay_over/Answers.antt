@@ -41,6 +41,9 @@ returns-in-Ok-clause-is g c =
     let takes = c.in-Ok.ensures.one.takes in
     (refl, (takes.left, ap (λ (u : Tables). u.next) takes.tables ∙ next_stays c.replaced-over.result (one_head_more c.args.x c.args.store.now.meta.tables)))
 
+pub returns-in-Ok-clause-numbers : goal.returns-in-Ok-clause-numbers
+returns-in-Ok-clause-numbers g c = c.in-Ok.ensures.one.takes.next
+
 pub returns-in-Ok-clause-steps : goal.returns-in-Ok-clause-steps
 returns-in-Ok-clause-steps g c = λ e told sound.
     let x = c.args.x in

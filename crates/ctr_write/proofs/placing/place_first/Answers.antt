@@ -1,4 +1,4 @@
-use Rattle.std.proofs.Common.{◌≡◌, ◌∙◌, ℤ, w64, to_z, of_z, Err, refl, ap, subst}
+use Rattle.std.proofs.Common.{◌≡◌, ◌∙◌, ℕ, ℤ, w64, to_z, of_z, Err, refl, ap, subst}
 use Rattle.std.specs.Prelude.{IfOk, IfErr}
 use Rattle.std.proofs.lemmas.Int.{to_z-of_z}
 use Rattle.ctr_disk.specs.declared.fault.StoreFault.TheVariants.{Fault}
@@ -16,7 +16,7 @@ use Rattle.ctr_walk.proofs.Joins.{answers_ok}
 use Rattle.ctr_extend.specs.declared.ways.OnWay.TheVariants.{Wanted}
 use Rattle.ctr_extend.specs.Steps.{MayExtend}
 use Rattle.ctr_write.specs.declared.stages.Written.TheVariants.{Done}
-use Rattle.ctr_write.specs.Stages.{IsCountedWrite, LeavesItem}
+use Rattle.ctr_write.specs.Stages.{IsCountedWrite, LeavesItem, next_written}
 use Rattle.ctr_write.specs.Extending.{ExtendsFor}
 use Rattle.ctr_write.specs.Laying.{Wish, MayLay, LaysHead}
 use Rattle.ctr_write.proofs.Ending.{so_far, left_so, room_of, wants_rows, lays_first}
@@ -33,13 +33,19 @@ pub returns-in-Some-clause-turns : goal.returns-in-Some-clause-turns
 returns-in-Some-clause-turns g c = c.lay_first.ensures.turns c.args.store.now (answers_ok g.O.Origin.first g.D.Disk c.in-Ok.free tt c.args.store.now c.free_slot.new.store c.in-Ok.ensures.leaves)
 
 pub returns-in-Some-clause-inside : goal.returns-in-Some-clause-inside
-returns-in-Some-clause-inside g c = so_far Done (λ w. LeavesItem w c.free_slot.new.store.meta c.lay_first.new.store.meta) (λ w. IsCountedWrite w c.lay_first.new.store.now.counted) c.lay_first.result tt c.lay_first.ensures.is
+returns-in-Some-clause-inside g c = so_far Done (λ w. LeavesItem 1 w c.free_slot.new.store.meta c.lay_first.new.store.meta) (λ w. IsCountedWrite w c.lay_first.new.store.now.counted) c.lay_first.result tt c.lay_first.ensures.is
 
 pub returns-in-None-clause-left : goal.returns-in-None-clause-left
-returns-in-None-clause-left g c = subst (λ (k : TablesKept). IfOk c.more.result (λ w. LeavesItem w k c.more.new.store.meta)) c.in-Ok.ensures.leaves.keeps.meta c.more.ensures.left
+returns-in-None-clause-left g c = subst (λ (k : TablesKept). IfOk c.more.result (λ w. LeavesItem 1 w k c.more.new.store.meta)) c.in-Ok.ensures.leaves.keeps.meta c.more.ensures.left
 
 pub returns-in-Some-clause-left : goal.returns-in-Some-clause-left
-returns-in-Some-clause-left g c = left_so Done c.args.store.now.meta c.free_slot.new.store.meta c.lay_first.new.store.meta c.lay_first.result c.in-Ok.ensures.leaves.keeps.meta c.lay_first.ensures.is
+returns-in-Some-clause-left g c = left_so 1 Done c.args.store.now.meta c.free_slot.new.store.meta c.lay_first.new.store.meta c.lay_first.result c.in-Ok.ensures.leaves.keeps.meta c.lay_first.ensures.is
+
+pub returns-in-None-clause-numbers : goal.returns-in-None-clause-numbers
+returns-in-None-clause-numbers g c = subst (λ (n : ℕ). IfOk c.more.result (λ w. c.more.new.store.next ≡ next_written w n)) c.in-Ok.ensures.leaves.keeps.next c.more.ensures.numbers
+
+pub returns-in-Some-clause-numbers : goal.returns-in-Some-clause-numbers
+returns-in-Some-clause-numbers g c = subst (λ (n : ℕ). IfOk c.lay_first.result (λ w. c.lay_first.new.store.next ≡ next_written w n)) c.in-Ok.ensures.leaves.keeps.next c.lay_first.ensures.numbers
 
 pub returns-in-None-clause-steps : goal.returns-in-None-clause-steps
 returns-in-None-clause-steps g c = λ told sound may.
@@ -70,7 +76,7 @@ returns-in-Some-clause-steps g c = λ told sound may.
     let free = room_of wish s t b c.in-Ok.free at may (c.bucket_of-bucket.ensures.value ∙ ap bucket_of (to_z-of_z w64 c.args.key c.ranges.key)) c.in-Some.is found in
     let P : ℤ → State → Type 0 = λ k u. MayLay (by k) u → IsRoomFor (area_in u) e k at → IfOk c.lay_first.result (λ w. LaysHead (by k) at FirstVersion u t) in
     let steps = subst (λ (k : ℤ). P k s) (to_z-of_z w64 c.args.key c.ranges.key) (subst (λ (u : State). P (to_z w64 (of_z w64 c.args.key)) u) same (c.lay_first.ensures.steps e told sound)) in
-    lays_first wish s t at (λ w. LeavesItem w c.free_slot.new.store.meta c.lay_first.new.store.meta) c.lay_first.result free c.lay_first.ensures.is (steps may.lay free)
+    lays_first wish s t at (λ w. LeavesItem 1 w c.free_slot.new.store.meta c.lay_first.new.store.meta) c.lay_first.result free c.lay_first.ensures.is (steps may.lay free)
 
 pub returns-in-Err-clause-refused : goal.returns-in-Err-clause-refused
 returns-in-Err-clause-refused g c = λ told sound may.

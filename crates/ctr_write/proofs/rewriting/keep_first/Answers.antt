@@ -1,4 +1,4 @@
-use Rattle.std.proofs.Common.{◌≡◌, Err, refl, subst}
+use Rattle.std.proofs.Common.{◌≡◌, ℕ, Err, refl, subst}
 use Rattle.std.specs.Prelude.{IfOk, IfErr}
 use Rattle.ctr_disk.specs.declared.fault.StoreFault.TheVariants.{Fault}
 use Rattle.ctr_pvs.specs.Along.{EndsVersions}
@@ -12,7 +12,7 @@ use Rattle.ctr_extend.specs.declared.ways.OnWay.TheVariants.{Wanted}
 use Rattle.ctr_extend.specs.Steps.{MayExtend}
 use Rattle.ctr_write.specs.declared.stages.Stage.TheVariants.{Kept}
 use Rattle.ctr_write.specs.declared.stages.Written.TheVariants.{On}
-use Rattle.ctr_write.specs.Stages.{IsCountedWrite, LeavesItem}
+use Rattle.ctr_write.specs.Stages.{IsCountedWrite, LeavesItem, next_written}
 use Rattle.ctr_write.specs.Extending.{ExtendsFor}
 use Rattle.ctr_write.specs.Keeping.{IsCopyFor, MayKeepAt, off, KeepsOff}
 use Rattle.ctr_write.proofs.Ending.{so_far, left_so, wants_versions, keeps_first, free_at}
@@ -29,13 +29,19 @@ pub returns-in-Some-clause-turns : goal.returns-in-Some-clause-turns
 returns-in-Some-clause-turns g c = c.keep_off.ensures.turns c.args.store.now (answers_ok g.O.Origin.first g.D.Disk c.in-Ok.free tt c.args.store.now c.find_free_entry.new.store c.in-Ok.ensures.leaves)
 
 pub returns-in-Some-clause-inside : goal.returns-in-Some-clause-inside
-returns-in-Some-clause-inside g c = so_far (On (Kept c.in-Some.place)) (λ w. LeavesItem w c.find_free_entry.new.store.meta c.keep_off.new.store.meta) (λ w. IsCountedWrite w c.keep_off.new.store.now.counted) c.keep_off.result tt c.keep_off.ensures.is
+returns-in-Some-clause-inside g c = so_far (On (Kept c.in-Some.place)) (λ w. LeavesItem 1 w c.find_free_entry.new.store.meta c.keep_off.new.store.meta) (λ w. IsCountedWrite w c.keep_off.new.store.now.counted) c.keep_off.result tt c.keep_off.ensures.is
 
 pub returns-in-None-clause-left : goal.returns-in-None-clause-left
-returns-in-None-clause-left g c = subst (λ (k : TablesKept). IfOk c.more.result (λ w. LeavesItem w k c.more.new.store.meta)) c.in-Ok.ensures.leaves.keeps.meta c.more.ensures.left
+returns-in-None-clause-left g c = subst (λ (k : TablesKept). IfOk c.more.result (λ w. LeavesItem 1 w k c.more.new.store.meta)) c.in-Ok.ensures.leaves.keeps.meta c.more.ensures.left
 
 pub returns-in-Some-clause-left : goal.returns-in-Some-clause-left
-returns-in-Some-clause-left g c = left_so (On (Kept c.in-Some.place)) c.args.store.now.meta c.find_free_entry.new.store.meta c.keep_off.new.store.meta c.keep_off.result c.in-Ok.ensures.leaves.keeps.meta c.keep_off.ensures.is
+returns-in-Some-clause-left g c = left_so 1 (On (Kept c.in-Some.place)) c.args.store.now.meta c.find_free_entry.new.store.meta c.keep_off.new.store.meta c.keep_off.result c.in-Ok.ensures.leaves.keeps.meta c.keep_off.ensures.is
+
+pub returns-in-None-clause-numbers : goal.returns-in-None-clause-numbers
+returns-in-None-clause-numbers g c = subst (λ (n : ℕ). IfOk c.more.result (λ w. c.more.new.store.next ≡ next_written w n)) c.in-Ok.ensures.leaves.keeps.next c.more.ensures.numbers
+
+pub returns-in-Some-clause-numbers : goal.returns-in-Some-clause-numbers
+returns-in-Some-clause-numbers g c = subst (λ (n : ℕ). IfOk c.keep_off.result (λ w. c.keep_off.new.store.next ≡ next_written w n)) c.in-Ok.ensures.leaves.keeps.next c.keep_off.ensures.numbers
 
 pub returns-in-None-clause-steps : goal.returns-in-None-clause-steps
 returns-in-None-clause-steps g c = λ at v told sound may.
@@ -62,7 +68,7 @@ returns-in-Some-clause-steps g c = λ at v told sound may.
     let found = c.in-Ok.ensures.finds told sound may.sound.sound.readable in
     let P : State → Type 0 = λ u. MayKeepAt x e q u → IsCopyFor e at v entry u → IfOk c.keep_off.result (λ w. KeepsOff (off x e at v) q u t) in
     let steps = subst P same (c.keep_off.ensures.steps e at v told sound) in
-    keeps_first x e at v s t q (λ w. LeavesItem w c.find_free_entry.new.store.meta c.keep_off.new.store.meta) c.keep_off.result c.keep_off.ensures.is
+    keeps_first x e at v s t q (λ w. LeavesItem 1 w c.find_free_entry.new.store.meta c.keep_off.new.store.meta) c.keep_off.result c.keep_off.ensures.is
     (steps (record { sound = may.sound; is_open = may.is_open; free = free_at e s c.in-Ok.free q c.in-Some.is found }) may.copy)
 
 pub returns-in-Err-clause-refused : goal.returns-in-Err-clause-refused

@@ -20,10 +20,10 @@ use Rattle.ctr_write.proofs.Used.{ready_now, ready_kept, copy_is, kept_as, none_
 use Rattle.ctr_write.proofs.rewriting.write_read.Goals as goal
 
 pub returns-in-None-clause-inside : goal.returns-in-None-clause-inside
-returns-in-None-clause-inside g c = so_far Done (λ w. LeavesItem w c.args.store.now.meta c.lay_over.new.store.meta) (λ w. IsCountedWrite w c.lay_over.new.store.now.counted) c.lay_over.result tt c.lay_over.ensures.is
+returns-in-None-clause-inside g c = so_far Done (λ w. LeavesItem 1 w c.args.store.now.meta c.lay_over.new.store.meta) (λ w. IsCountedWrite w c.lay_over.new.store.now.counted) c.lay_over.result tt c.lay_over.ensures.is
 
 pub returns-in-None-clause-left : goal.returns-in-None-clause-left
-returns-in-None-clause-left g c = left_so Done c.args.store.now.meta c.args.store.now.meta c.lay_over.new.store.meta c.lay_over.result refl c.lay_over.ensures.is
+returns-in-None-clause-left g c = left_so 1 Done c.args.store.now.meta c.args.store.now.meta c.lay_over.new.store.meta c.lay_over.result refl c.lay_over.ensures.is
 
 pub returns-in-None-clause-steps : goal.returns-in-None-clause-steps
 returns-in-None-clause-steps g c = λ key told sound may.
@@ -43,7 +43,7 @@ returns-in-None-clause-steps g c = λ key told sound may.
     let copy = kept_as wish at slot kept s may way c.to_keep.result (c.to_keep.ensures.copy columns (slot_used wish at slot kept s may)) in
     let none = none_of (older_copy old) (kept_version way old) (subst (λ (o : Option VersionEntry). option_map (older_said columns) o ≡ option_map (older_copy old) (kept_version way old)) c.in-None.is copy) in
     let steps = subst (λ (k : ℤ). MayLay (by k) s → IsReadyFor e at slot way nowhere s → IfOk c.lay_over.result (λ w. LaysHead (by k) at (writing_by way nowhere) s t)) (slot_key wish at slot kept s may) (c.lay_over.ensures.steps e told sound) in
-    lays_over wish at slot kept s may t (writing_by way nowhere) (λ w. LeavesItem w c.args.store.now.meta c.lay_over.new.store.meta) c.lay_over.result c.lay_over.ensures.is
+    lays_over wish at slot kept s may t (writing_by way nowhere) (λ w. LeavesItem 1 w c.args.store.now.meta c.lay_over.new.store.meta) c.lay_over.result c.lay_over.ensures.is
     (steps may.lay (ready_now wish at slot kept s may way is none))
 
 pub returns-in-Some-kept-clause-steps : goal.returns-in-Some-kept-clause-steps
@@ -64,7 +64,7 @@ returns-in-Some-kept-clause-steps g c = λ key told sound may.
     let fits = c.a_place_of_a_table_fits.ensures.versions s e q may.lay.sound (copy_is wish at slot kept s may q has).here in
     let ready = ready_kept wish at slot kept s may way q has is (c.a_slot_is_put_at_its_place.ensures.width s e slot may.made) (λ some. (fits.4, fits.5)) in
     let steps = subst (λ (k : ℤ). MayLay (by k) s → IsReadyFor e at slot way q s → IfOk c.lay_over-in-Some-kept.result (λ w. LaysHead (by k) at (writing_by way q) s t)) (slot_key wish at slot kept s may) (c.lay_over-in-Some-kept.ensures.steps e told sound) in
-    lays_over wish at slot kept s may t (writing_by way q) (λ w. LeavesItem w c.args.store.now.meta c.lay_over-in-Some-kept.new.store.meta) c.lay_over-in-Some-kept.result c.lay_over-in-Some-kept.ensures.is
+    lays_over wish at slot kept s may t (writing_by way q) (λ w. LeavesItem 1 w c.args.store.now.meta c.lay_over-in-Some-kept.new.store.meta) c.lay_over-in-Some-kept.result c.lay_over-in-Some-kept.ensures.is
     (steps may.lay ready)
 
 pub returns-in-None-kept-clause-steps : goal.returns-in-None-kept-clause-steps

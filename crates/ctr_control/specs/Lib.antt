@@ -1,0 +1,3 @@
+pub mod Marks
+pub mod Rolling
+pub mod Answers

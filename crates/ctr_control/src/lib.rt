@@ -1,0 +1,13 @@
+//! BEGIN, COMMIT and ROLLBACK over pages: what each answers, and what it makes of transactions, locks and pages.
+#![tactic(auto)]
+
+mod answering;
+mod beginning;
+mod ending;
+mod marks;
+mod rolling;
+
+pub use answering::{answer, flush};
+pub use beginning::begin;
+pub use ending::ask;
+pub use rolling::roll_back;

@@ -1,0 +1,99 @@
+// ROLLBACK, turn by turn.
+ghost use Rattle.std.specs.Prelude.{◌≡◌, ◌≤◌, ◌+◌, false, None, Some, OnOk, IfOk};
+ghost use Rattle.ctr_disk.specs.declared.fault.StoreFault.TheVariants.{Fault};
+ghost use Rattle.ctr_types.specs.Faults.{HasFault};
+ghost use Rattle.ctr_types.specs.declared.statement.Statement.TheVariants as st;
+ghost use Rattle.ctr_types.specs.declared.tape.Act.TheVariants as act;
+ghost use Rattle.ctr_base.specs.Base.{WhereSound};
+ghost use Rattle.ctr_kept.specs.Turns.{Start};
+ghost use Rattle.ctr_txn.specs.Held.{IsOneOfEight, IsWriting, number_drawn};
+ghost use Rattle.ctr_txn.specs.Calls.{MayEnd, IsOverStore};
+ghost use Rattle.ctr_txn.specs.Rooms.{HasItemRoom};
+ghost use Rattle.ctr_page_turns.specs.Turns.{LogsAtRest};
+ghost use Rattle.ctr_rollback.specs.Rolling.{MayRoll, EndsRoll, RollsTxns, TakesSteps};
+ghost use Rattle.ctr_control.specs.Rolling.{as_rolled};
+ghost use Rattle.ctr_session_world.specs.Told.{IsNextOf, TellsOrGoesOn};
+
+use ctr_base::Origin;
+use ctr_disk::{Disk, StoreFault};
+use ctr_key_locks::{KeyLocks, key_locks_show};
+use ctr_rollback::{Rolled, a_turn_of_a_rollback_is_kept, turn};
+use ctr_session_world::told::{a_reader_that_ends_is_told, a_refusal_is_told};
+use ctr_store::Store;
+use ctr_tally::Steps;
+use ctr_txn::{Txns, the_run_is_of_the_sessions};
+use ctr_types::{Refusal, Reply};
+use std::sync::ledger::Ledger;
+
+// A turn of a writer's rollback, behind which a crash leaves what is hardened with some of what waits.
+fn undo_or_abort<D: Disk, O: Origin, L: Ledger>(
+    store: &mut Store<D, O>,
+    txns: &mut Txns,
+    s: u8,
+    steps: &mut Steps<L>,
+) -> Result<Rolled, StoreFault>
+    requires may { MayEnd s txns.old store.old }
+    ensures logs { WhereSound O.first D.Disk (OnOk result (LogsAtRest D.Disk store.old store.new)) }
+    ensures txns { RollsTxns s txns.old txns.new result }
+    ensures items { OnOk result (HasItemRoom txns.old store.old.meta → HasItemRoom txns.new store.new.meta) }
+    ensures over { OnOk result (IsOverStore txns.new store.new) }
+    ensures rolls { WhereSound O.first D.Disk (MayRoll (number_drawn s txns.old) store.old.now → EndsRoll (number_drawn s txns.old) store.old.now store.new.now result) }
+    ensures steps { TakesSteps result steps.old steps.new }
+    ensures faults { HasFault Fault (D.faults_of store.old.disk) (D.faults_of store.new.disk) result }
+{
+    let rolled = turn(store, txns, s, steps);
+    store.rests();
+    rolled
+}
+
+/// A turn of a ROLLBACK: the reply, or None where it goes on at the session's next turn, and nothing is told yet. A transaction
+/// that wrote undoes its latest item of the secondary log by one record a turn, and is aborted by one more when none is left; then its locks are free. One that
+/// wrote nothing ends at once, with its locks, without a record. It takes no memory. Where an error is answered nothing was logged.
+pub fn roll_back<D: Disk, O: Origin, L: Ledger>(
+    store: &mut Store<D, O>,
+    txns: &mut Txns,
+    locks: &mut KeyLocks,
+    s: u8,
+    steps: &mut Steps<L>,
+) -> Result<Option<Reply>, StoreFault>
+    requires one { IsOneOfEight s }
+    requires may { IsWriting s txns.old → MayEnd s txns.old store.old }
+    ensures over { OnOk result (IsOverStore txns.old store.old → IsOverStore txns.new store.new) }
+    ensures items { OnOk result (HasItemRoom txns.old store.old.meta → HasItemRoom txns.new store.new.meta) }
+    ensures told { (c : Start) (opened : D) → WhereSound O.first D.Disk (store.old.stopped ≡ false
+        → (next : IsNextOf D.Disk c opened store.old store.new (record { txns = txns.old; locks = locks.old }) s st.Rollback 0)
+        → IfOk result (TellsOrGoesOn next (record { txns = txns.new; locks = locks.new }) act.Rollback)) }
+    // Of one that wrote an item went, or there was none and it is aborted; it is refused by the disk alone.
+    ensures rolls { IsWriting s txns.old → WhereSound O.first D.Disk (MayRoll (number_drawn s txns.old) store.old.now
+        → EndsRoll (number_drawn s txns.old) store.old.now store.new.now (as_rolled result)) }
+    ensures steps { steps.new ≤ steps.old + 2 }
+    // A fault is told where the disk counts one more.
+    ensures faults { HasFault Fault (D.faults_of store.old.disk) (D.faults_of store.new.disk) result }
+{
+    a_turn_of_a_rollback_is_kept::<D>();
+    a_reader_that_ends_is_told::<D>();
+    a_refusal_is_told::<D>();
+    the_run_is_of_the_sessions();
+    key_locks_show();
+    store.rests();
+    txns.counts_sessions();
+    txns.numbers_commits();
+    if txns.is_writing(s) {
+        return match undo_or_abort(store, txns, s, steps) {
+            Ok(Rolled::Undone) => Ok(None),
+            Ok(Rolled::Back) => {
+                locks.release_all(s);
+                Ok(Some(Reply::RolledBack))
+            }
+            Err(fault) => Err(fault),
+        };
+    }
+    if txns.is_reading(s) {
+        txns.end_reader(s);
+        locks.release_all(s);
+        return Ok(Some(Reply::RolledBack));
+    }
+    Ok(Some(Reply::Refused {
+        refusal: Refusal::NoTransaction,
+    }))
+}

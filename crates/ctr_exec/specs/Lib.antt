@@ -1,9 +1,0 @@
-pub mod World
-pub mod Told
-pub mod Marks
-pub mod Granting
-pub mod Asked
-pub mod Selecting
-pub mod Rolling
-pub mod Answers
-pub mod Locking

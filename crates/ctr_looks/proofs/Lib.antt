@@ -1,0 +1,12 @@
+pub mod Looking
+pub mod Granted
+pub mod Unrefused
+pub mod Rooms
+pub mod Finding
+pub mod Staying
+pub mod Tabled
+pub mod Naming
+pub mod Promised
+pub use Rattle.ctr_session_world.proofs.ctr_told as ctr_told
+pub use Rattle.ctr_session_world.proofs as ctr_session_world
+pub use Rattle.ctr_session_world.proofs.ctr_write as ctr_write

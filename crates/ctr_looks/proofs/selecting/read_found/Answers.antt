@@ -1,0 +1,47 @@
+use Rattle.std.proofs.Common.{ℕ, Bool, refl, sym, ◌∙◌, ap, subst}
+use Rattle.std.specs.Prelude.{is_some}
+use Rattle.std.specs.Option.{option_map}
+use Rattle.std.proofs.lemmas.Bool.{false≢true}
+use Rattle.ctr_types.specs.declared.statement.KeyIs.{KeyIs}
+use Rattle.ctr_types.specs.declared.statement.Statement.TheVariants as st
+use Rattle.ctr_types.specs.declared.tape.Act.TheVariants as act
+use Rattle.ctr_legal.proofs.Keep.{grants as granted_by}
+use Rattle.ctr_versions.proofs.Keys.{some_is}
+use Rattle.ctr_meta.specs.Seen.{xid_is_seen}
+use Rattle.ctr_record_effects.specs.States.{area_in}
+use Rattle.ctr_kept.specs.Turns.{state_now}
+use Rattle.ctr_wishes.specs.ctr_reading.Reading.{AreShown}
+use Rattle.ctr_txn.specs.Held.{TxnHeld}
+use Rattle.ctr_asking.specs.Asking.{me_held}
+use Rattle.ctr_session_world.specs.World.{SessionsHeld, names_in}
+use Rattle.ctr_looks.specs.Granting.{KeepsSessions}
+use Rattle.ctr_looks.proofs.selecting.read_found.Goals as goal
+
+pub returns-in-Some-take_use-clause-told : goal.returns-in-Some-take_use-clause-told
+returns-in-Some-take_use-clause-told g c = λ run opened more told sound next free stands idle.
+    let a = c.args.store.now in
+    let s = c.args.s in
+    let state = state_now run next.mind in
+    let name = c.args.table.now.name.now in
+    let h : SessionsHeld = record { txns = c.args.txns.now; locks = c.args.locks.now } in
+    let mid : SessionsHeld = record { txns = c.args.txns.now; locks = c.reserve_name.new.self } in
+    let room : KeepsSessions s h mid = record { run = refl; locks = c.reserve_name.ensures.same } in
+    let shown = c.room_shows_the_same.ensures run opened a c.rows_at.new.store h s (st.Select name c.args.table.now.at.now) 0 next mid room in
+    absurd (false≢true (ap is_some (sym (c.in-Some-take_use.ensures.free (names_in a.now) state shown next.world.in_order
+    (granted_by state s free.seat.t act.Read (st.Select name c.args.table.now.at.now) name refl free.free).idle))))
+
+pub returns-in-None-clause-told : goal.returns-in-None-clause-told
+returns-in-None-clause-told g c = λ run opened more told sound next free stands idle.
+    let a = c.args.store.now in
+    let s = c.args.s in
+    let table = c.args.table.now in
+    let h : SessionsHeld = record { txns = c.args.txns.now; locks = c.args.locks.now } in
+    let mid : SessionsHeld = record { txns = c.args.txns.now; locks = c.reserve_name.new.self } in
+    let room : KeepsSessions s h mid = record { run = refl; locks = c.reserve_name.ensures.same } in
+    let mine = some_is c.in-Some.txn free.txn (sym c.in-Some.is ∙ c.txn.ensures ∙ free.in_it) in
+    let snapshot = ap (λ (t : TxnHeld). t.session.snapshot) (c.txn-2.view_is ∙ mine) in
+    let me = c.me_of.ensures ∙ ap me_held mine in
+    let shown = subst (λ (test : ℕ → Bool). AreShown test (area_in a.now) table.entry (option_map (λ (k : KeyIs). k.key) table.at.now) c.in-Ok.rows.rows)
+    (λ i x. xid_is_seen a.now.tables (snapshot i) (me i) x) (c.in-Ok.ensures.shows told sound next.world.keeps.pages.sound.sound) in
+    c.rows_of_a_table_are_told.ensures run opened a c.rows_at.new.store h s table.name.now table.at.now next free table.entry stands c.in-Ok.rows shown more idle mid room c.take_use.new.locks
+    (c.take_use.ensures.taken c.in-None.is) (c.in-Ok.ensures.rests told sound)

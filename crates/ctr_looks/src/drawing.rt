@@ -1,0 +1,72 @@
+// A session's number, which it draws at its first Lock.
+ghost use Rattle.std.specs.Prelude.{◌≡◌, ◌<◌, ◌≤◌, false, OnOk, IfErr};
+ghost use Rattle.ctr_disk.specs.declared.fault.StoreFault.TheVariants.{Fault};
+ghost use Rattle.ctr_record_effects.specs.Standing.{IsDatabaseState};
+ghost use Rattle.ctr_base.specs.Base.{WhereSound};
+ghost use Rattle.ctr_txn.specs.Held.{IsReading};
+ghost use Rattle.ctr_txn.specs.Calls.{MayDraw, IsOverStore};
+ghost use Rattle.ctr_txn.specs.Rooms.{HasItemRoom};
+ghost use Rattle.ctr_asking.specs.Asking.{IsInside};
+ghost use Rattle.ctr_looks.specs.Granting.{DrawsNext, HasNumber, HasItem};
+
+use ctr_actions::an_action_meets_its_needs;
+use ctr_base::Origin;
+use ctr_disk::{Disk, StoreFault};
+use ctr_page_turns::a_record_acts;
+use ctr_passed::records_without_bytes_lie_as_their_actions;
+use ctr_record_laws::pages_are_in_bounds;
+use ctr_store::Store;
+use ctr_txn::{Txns, the_run_is_of_the_sessions};
+
+// Of a session that has none.
+fn draw_next<D: Disk, O: Origin>(
+    store: &mut Store<D, O>,
+    txns: &mut Txns,
+    s: u8,
+) -> Result<(), StoreFault>
+    requires may { MayDraw s txns.old store.old }
+    ensures over { OnOk result (IsOverStore txns.new store.new) }
+    ensures items { OnOk result (HasItemRoom txns.old store.old.meta → HasItemRoom txns.new store.new.meta) }
+    ensures item { OnOk result (HasItem s txns.old → HasItem s txns.new) }
+    ensures time { D.Disk.moment_of store.old.disk ≤ D.Disk.moment_of store.new.disk }
+    ensures draws { WhereSound O.first D.Disk (0 < store.old.now.tables.next → OnOk result (DrawsNext D.Disk s txns.old txns.new store.old store.new)) }
+    ensures refused { WhereSound O.first D.Disk (IsDatabaseState store.old.now → IfErr result (λ e. e ≡ Fault)) }
+{
+    an_action_meets_its_needs();
+    pages_are_in_bounds();
+    records_without_bytes_lie_as_their_actions();
+    a_record_acts::<D>();
+    the_run_is_of_the_sessions();
+    txns.counts_sessions();
+    let _tables = store.meta();
+    match txns.first_write(store, s) {
+        Ok(_) => {
+            store.rests();
+            Ok(())
+        }
+        Err(fault) => Err(fault),
+    }
+}
+
+/// Draws the number of a session that is in a transaction, by one record, where it has none yet. It takes no memory.
+pub(crate) fn draw<D: Disk, O: Origin>(
+    store: &mut Store<D, O>,
+    txns: &mut Txns,
+    s: u8,
+) -> Result<(), StoreFault>
+    requires inside { IsInside s txns.old }
+    requires may { IsReading s txns.old → MayDraw s txns.old store.old }
+    ensures over { OnOk result (IsOverStore txns.old store.old → IsOverStore txns.new store.new) }
+    ensures items { OnOk result (HasItemRoom txns.old store.old.meta → HasItemRoom txns.new store.new.meta) }
+    ensures item { OnOk result (HasItem s txns.old → HasItem s txns.new) }
+    ensures time { D.Disk.moment_of store.old.disk ≤ D.Disk.moment_of store.new.disk }
+    ensures number { WhereSound O.first D.Disk (store.old.stopped ≡ false → 0 < store.old.now.tables.next → OnOk result (HasNumber D.Disk s txns.old txns.new store.old store.new)) }
+    ensures refused { WhereSound O.first D.Disk (IsDatabaseState store.old.now → IfErr result (λ e. e ≡ Fault)) }
+{
+    the_run_is_of_the_sessions();
+    store.rests();
+    if txns.is_reading(s) {
+        return draw_next(store, txns, s);
+    }
+    Ok(())
+}

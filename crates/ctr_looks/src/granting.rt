@@ -1,0 +1,125 @@
+// Locks that are granted: of a row, and of a name.
+ghost use Rattle.std.specs.Prelude.{◌≡◌, ◌≤◌, ℕ, List, Option, OnOk, IfOk, IfErr};
+ghost use Rattle.ctr_types.specs.declared.statement.Statement.{Statement as Told};
+ghost use Rattle.ctr_types.specs.declared.tape.Act.TheVariants as act;
+ghost use Rattle.ctr_disk.specs.declared.fault.StoreFault.TheVariants.{Fault};
+ghost use Rattle.ctr_base.specs.Base.{WhereSound};
+ghost use Rattle.ctr_record_effects.specs.States.{area_in};
+ghost use Rattle.ctr_record_effects.specs.Standing.{IsDatabaseState};
+ghost use Rattle.ctr_walk.specs.OneRecord.{HasRoomForOne};
+ghost use Rattle.ctr_actions.specs.Facts.{Fact};
+ghost use Rattle.ctr_kept.specs.Turns.{Start};
+ghost use Rattle.ctr_txn.specs.Calls.{IsOverStore};
+ghost use Rattle.ctr_txn.specs.Rooms.{HasItemRoom};
+ghost use Rattle.ctr_session_world.specs.ctr_told.Turning.{IsIdle};
+ghost use Rattle.ctr_asking.specs.Asking.{IsInside};
+ghost use Rattle.ctr_session_world.specs.Told.{IsNextOf, IsTold};
+ghost use Rattle.ctr_looks.specs.Asked.{IsFirstOf, IsFoundFor};
+ghost use Rattle.ctr_looks.specs.Granting.{IsFree, IsRowOf, IsOfName, CountsOnTable, CountsOnFound, HasItemIfGranted, granted_or};
+
+use crate::drawing::draw;
+use crate::grants::{
+    a_look_that_wants_memory_is_told, a_name_that_is_held_is_told, a_row_that_is_locked_is_told,
+    room_shows_the_same,
+};
+use crate::reserving::{reserve_for, reserve_row};
+use crate::taking::{RowAt, take_key, take_name, take_use};
+use ctr_base::Origin;
+use ctr_disk::{Disk, StoreFault};
+use ctr_key_locks::KeyLocks;
+use ctr_store::Store;
+use ctr_txn::Txns;
+use ctr_types::{Name, Refusal};
+use std::alloc::Global;
+
+/// Grants the Lock of a row that nothing speaks against: a use of its table, the key's lock and, at the session's first Lock, its number, by one
+/// record. None where it is granted. It is refused for want of memory, and then nothing changes.
+pub(crate) fn grant_row<D: Disk, O: Origin>(
+    alloc: Global,
+    store: &mut Store<D, O>,
+    txns: &mut Txns,
+    locks: &mut KeyLocks,
+    s: u8,
+    row: &RowAt,
+) -> Result<Option<Refusal>, StoreFault>
+    requires inside { IsInside s txns.old }
+    requires over { IsOverStore txns.old store.old }
+    requires room { HasRoomForOne 0 0 store.old }
+    ensures over { OnOk result (IsOverStore txns.new store.new) }
+    ensures items { OnOk result (HasItemRoom txns.old store.old.meta → HasItemRoom txns.new store.new.meta) }
+    ensures item { IfOk result (HasItemIfGranted s txns.new) }
+    ensures time { D.Disk.moment_of store.old.disk ≤ D.Disk.moment_of store.new.disk }
+    ensures told { (c : Start) (opened : D) (statement : Told) (more : List Fact) → WhereSound O.first D.Disk
+        ((next : IsNextOf D.Disk c opened store.old store.new (record { txns = txns.old; locks = locks.old }) s statement 0) → (free : IsFree next act.Lock) → IsRowOf next row.now → IsIdle free.txn.session.me more (next.mind.facts s)
+        → IfOk result (λ r. (told : IsTold next (record { txns = txns.new; locks = locks.new }) act.Lock (granted_or r)) × CountsOnTable r row.now.entry ((area_in store.old.now).title row.now.entry) (told.mind.facts s))) }
+    ensures refused { WhereSound O.first D.Disk (IsDatabaseState store.old.now → IfErr result (λ e. e ≡ Fault)) }
+{
+    a_look_that_wants_memory_is_told::<D>();
+    a_row_that_is_locked_is_told::<D>();
+    room_shows_the_same::<D>();
+    store.rests();
+    match reserve_row(alloc, locks, s, row) {
+        Err(_) => return Ok(Some(Refusal::OutOfMemory)),
+        Ok(()) => {}
+    }
+    match reserve_for(store, txns, s) {
+        Err(_) => return Ok(Some(Refusal::OutOfMemory)),
+        Ok(()) => {}
+    }
+    match take_use(locks, s, row.name) {
+        Some(refusal) => return Ok(Some(refusal)),
+        None => locks.stands_in_order(),
+    }
+    match take_key(locks, s, row) {
+        Some(refusal) => return Ok(Some(refusal)),
+        None => {}
+    }
+    match draw(store, txns, s) {
+        Err(fault) => Err(fault),
+        Ok(()) => Ok(None),
+    }
+}
+
+/// Grants the Lock of a name that nothing speaks against: a hold of it and, at the session's first Lock, its number, by one record. None where it
+/// is granted. It is refused for want of memory, and then nothing changes.
+pub(crate) fn grant_name<D: Disk, O: Origin>(
+    alloc: Global,
+    store: &mut Store<D, O>,
+    txns: &mut Txns,
+    locks: &mut KeyLocks,
+    s: u8,
+    name: &Name,
+) -> Result<Option<Refusal>, StoreFault>
+    requires inside { IsInside s txns.old }
+    requires over { IsOverStore txns.old store.old }
+    requires room { HasRoomForOne 0 0 store.old }
+    ensures over { OnOk result (IsOverStore txns.new store.new) }
+    ensures items { OnOk result (HasItemRoom txns.old store.old.meta → HasItemRoom txns.new store.new.meta) }
+    ensures item { IfOk result (HasItemIfGranted s txns.new) }
+    ensures time { D.Disk.moment_of store.old.disk ≤ D.Disk.moment_of store.new.disk }
+    ensures told { (c : Start) (opened : D) (statement : Told) (more : List Fact) → WhereSound O.first D.Disk
+        ((next : IsNextOf D.Disk c opened store.old store.new (record { txns = txns.old; locks = locks.old }) s statement 0) → (free : IsFree next act.Lock) → IsFirstOf act.Lock statement → IsOfName statement name.now → (found : Option ℕ) → IsFoundFor free name.now found → IsIdle free.txn.session.me more (next.mind.facts s)
+        → IfOk result (λ r. (told : IsTold next (record { txns = txns.new; locks = locks.new }) act.Lock (granted_or r)) × CountsOnFound r found (area_in store.old.now).title (told.mind.facts s))) }
+    ensures refused { WhereSound O.first D.Disk (IsDatabaseState store.old.now → IfErr result (λ e. e ≡ Fault)) }
+{
+    a_look_that_wants_memory_is_told::<D>();
+    a_name_that_is_held_is_told::<D>();
+    room_shows_the_same::<D>();
+    store.rests();
+    match locks.reserve_name(alloc, s, name) {
+        Err(_) => return Ok(Some(Refusal::OutOfMemory)),
+        Ok(()) => {}
+    }
+    match reserve_for(store, txns, s) {
+        Err(_) => return Ok(Some(Refusal::OutOfMemory)),
+        Ok(()) => {}
+    }
+    match take_name(locks, s, name) {
+        Some(refusal) => return Ok(Some(refusal)),
+        None => {}
+    }
+    match draw(store, txns, s) {
+        Err(fault) => Err(fault),
+        Ok(()) => Ok(None),
+    }
+}

@@ -1,0 +1,177 @@
+// The Lock of an INSERT, UPDATE or DELETE.
+ghost use Rattle.std.specs.Prelude.{◌≡◌, ◌<◌, ◌≤◌, ℕ, false, true, List, Some, is_some, OnOk, IfOk, IfErr};
+ghost use Rattle.ctr_types.specs.declared.tape.Act.TheVariants as act;
+ghost use Rattle.ctr_disk.specs.declared.fault.StoreFault.TheVariants.{Fault};
+ghost use Rattle.ctr_model.specs.Refusals.{key_written};
+ghost use Rattle.ctr_base.specs.Base.{WhereSound};
+ghost use Rattle.ctr_record_effects.specs.States.{area_in};
+ghost use Rattle.ctr_record_effects.specs.Standing.{IsDatabaseState};
+ghost use Rattle.ctr_walk.specs.OneRecord.{HasRoomForOne};
+ghost use Rattle.ctr_actions.specs.Facts.{Fact};
+ghost use Rattle.ctr_kept.specs.Turns.{Start, state_now};
+ghost use Rattle.ctr_txn.specs.Held.{TxnsHeld, IsOneOfEight};
+ghost use Rattle.ctr_txn.specs.Calls.{IsOverStore};
+ghost use Rattle.ctr_txn.specs.Rooms.{HasItemRoom};
+ghost use Rattle.ctr_session_world.specs.ctr_told.Turning.{IsIdle};
+ghost use Rattle.ctr_asking.specs.Asking.{IsInside};
+ghost use Rattle.ctr_session_world.specs.Told.{IsNextOf, IsTold, IsIdleIn};
+ghost use Rattle.ctr_looks.specs.Granting.{IsFree};
+ghost use Rattle.ctr_looks.specs.Asked.{StandsAt};
+ghost use Rattle.ctr_looks.specs.Granting.{IsRowOf};
+ghost use Rattle.ctr_wishes.specs.ctr_reading.Reading.{IsDiskOrMemory};
+ghost use Rattle.ctr_looks.specs.Locking.{IsReadyLocked, IsReadyBehind, locked_reply, locked_unread};
+
+use crate::granting::grant_row;
+use crate::grants::a_look_that_wants_memory_is_told;
+use crate::laws::a_refused_look_is_told;
+use crate::refusing::ask_act;
+use crate::taking::RowAt;
+use ctr_asking::{Answer, Asker, me_of};
+use ctr_base::Origin;
+use ctr_chain::ReadRefusal;
+use ctr_disk::{Disk, StoreFault};
+use ctr_key_locks::KeyLocks;
+use ctr_page_turns::room_is_still_there;
+use ctr_session_world::pages_that_are_read_keep_a_world;
+use ctr_statement::{key_written, table_of};
+use ctr_store::Store;
+use ctr_txn::Txns;
+use ctr_types::{Act, List, Name, Refusal, Statement};
+use ctr_wishes::reading::Sight;
+use ctr_wishes::{
+    Prepared, prepare, what_is_prepared_is_the_models, what_is_prepared_stays_the_models,
+};
+use std::alloc::Global;
+
+/// What a session is answered that locks a row.
+#[derive(Drop)]
+pub enum Locked {
+    /// It is refused.
+    Refused(Refusal),
+    /// It is granted: the row's table has this entry of the catalog, and its Write will do this.
+    Granted { entry: u8, prepared: Prepared },
+}
+
+// What is answered where what the Write will do isn't read: the disk's failure, or a refusal for want of memory.
+fn unread(refusal: ReadRefusal) -> Result<Locked, StoreFault>
+    ensures said { result ≡ locked_unread refusal }
+    ensures ready { (s : ℕ) (txns : TxnsHeld) → IfOk result (IsReadyLocked s txns) }
+    ensures refused { IsDiskOrMemory refusal → IfErr result (λ e. e ≡ Fault) }
+{
+    match refusal {
+        ReadRefusal::Store(fault) => Err(fault),
+        ReadRefusal::OutOfMemory => Ok(Locked::Refused(Refusal::OutOfMemory)),
+    }
+}
+
+// Of a row whose Lock nothing speaks against.
+fn lock_found<D: Disk, O: Origin>(
+    alloc: Global,
+    store: &mut Store<D, O>,
+    txns: &mut Txns,
+    locks: &mut KeyLocks,
+    s: u8,
+    row: &RowAt,
+    statement: &Statement,
+) -> Result<Locked, StoreFault>
+    requires inside { IsInside s txns.old }
+    requires there { row.now.entry < 32 }
+    requires writes { is_some (key_written statement.now) ≡ true }
+    requires over { IsOverStore txns.old store.old }
+    requires room { HasRoomForOne 0 0 store.old }
+    ensures ready { IfOk result (IsReadyLocked s txns.new) }
+    ensures over { OnOk result (IsOverStore txns.new store.new) }
+    ensures items { OnOk result (HasItemRoom txns.old store.old.meta → HasItemRoom txns.new store.new.meta) }
+    ensures time { D.Disk.moment_of store.old.disk ≤ D.Disk.moment_of store.new.disk }
+    ensures told { (c : Start) (opened : D) (more : List Fact) → WhereSound O.first D.Disk
+        ((next : IsNextOf D.Disk c opened store.old store.new (record { txns = txns.old; locks = locks.old }) s statement.now 0) → (free : IsFree next act.Lock) → StandsAt free row.now.name.now row.now.entry → IsRowOf next row.now
+        → IsIdle free.txn.session.me more (next.mind.facts s)
+        → IfOk result (λ l. (told : IsTold next (record { txns = txns.new; locks = locks.new }) act.Lock (locked_reply l)) × IsReadyBehind c s statement.now told.mind l)) }
+    ensures refused { WhereSound O.first D.Disk (IsDatabaseState store.old.now → IfErr result (λ e. e ≡ Fault)) }
+{
+    a_look_that_wants_memory_is_told::<D>();
+    pages_that_are_read_keep_a_world::<D>();
+    room_is_still_there::<D>();
+    what_is_prepared_is_the_models();
+    what_is_prepared_stays_the_models();
+    let Some(txn) = txns.txn(s) else {
+        unreachable!()
+    };
+    let sight = Sight {
+        snapshot: &txn.snapshot,
+        me: me_of(txn),
+    };
+    let read = prepare(alloc, store, &sight, row.entry, statement);
+    store.rests();
+    let prepared = match read {
+        Err(refusal) => return unread(refusal),
+        Ok(prepared) => prepared,
+    };
+    match grant_row(alloc, store, txns, locks, s, row) {
+        Err(fault) => Err(fault),
+        Ok(why) => match why {
+            Some(refusal) => Ok(Locked::Refused(refusal)),
+            None => Ok(Locked::Granted {
+                entry: row.entry,
+                prepared,
+            }),
+        },
+    }
+}
+
+/// The Lock of an INSERT, UPDATE or DELETE: a use of its table, the lock of its row's key and, at the session's first Lock, its number, by one record. What
+/// the Write will do is worked out here, since only here memory may be asked for. It is refused as the model refuses it, or for want of memory, and then
+/// nothing changes. `stuck` are the names that recovery holds.
+pub fn lock_row<D: Disk, O: Origin>(
+    alloc: Global,
+    store: &mut Store<D, O>,
+    txns: &mut Txns,
+    locks: &mut KeyLocks,
+    stuck: &List<Name>,
+    s: u8,
+    statement: &Statement,
+) -> Result<Locked, StoreFault>
+    requires one { IsOneOfEight s }
+    requires writes { is_some (key_written statement.now) ≡ true }
+    requires over { IsOverStore txns.old store.old }
+    requires room { HasRoomForOne 0 0 store.old }
+    ensures ready { IfOk result (IsReadyLocked s txns.new) }
+    ensures over { OnOk result (IsOverStore txns.new store.new) }
+    ensures items { OnOk result (HasItemRoom txns.old store.old.meta → HasItemRoom txns.new store.new.meta) }
+    ensures told { (c : Start) (opened : D) → WhereSound O.first D.Disk
+        ((next : IsNextOf D.Disk c opened store.old store.new (record { txns = txns.old; locks = locks.old }) s statement.now 0) → stuck.now ≡ (state_now c next.mind).stuck → IsIdleIn c next.mind s
+        → IfOk result (λ l. (told : IsTold next (record { txns = txns.new; locks = locks.new }) act.Lock (locked_reply l)) × IsReadyBehind c s statement.now told.mind l)) }
+    // Where the pages may be a database's, it is refused by the disk alone.
+    ensures refused { WhereSound O.first D.Disk (IsDatabaseState store.old.now → IfErr result (λ e. e ≡ Fault)) }
+{
+    a_refused_look_is_told::<D>();
+    pages_that_are_read_keep_a_world::<D>();
+    room_is_still_there::<D>();
+    let Some(name) = table_of(statement) else {
+        unreachable!()
+    };
+    let Some(key) = key_written(statement) else {
+        unreachable!()
+    };
+    let asker = Asker {
+        s,
+        txns,
+        locks,
+        stuck,
+    };
+    let answer = match ask_act(store, &asker, &Act::Lock, statement) {
+        Err(fault) => return Err(fault),
+        Ok(answer) => answer,
+    };
+    store.rests();
+    match answer {
+        Answer::Refused(refusal) => Ok(Locked::Refused(refusal)),
+        Answer::Free(found) => match found {
+            None => Ok(Locked::Refused(Refusal::NoTable)),
+            Some(entry) => {
+                let row = RowAt { entry, name, key };
+                lock_found(alloc, store, txns, locks, s, &row, statement)
+            }
+        },
+    }
+}

@@ -1,0 +1,10 @@
+pub mod Standing
+pub mod Resting
+pub mod Alike
+pub mod Numbers
+pub mod Idling
+pub mod Faults
+pub mod Going
+pub mod Changed
+pub use Rattle.ctr_told.proofs as ctr_told
+pub use Rattle.ctr_told.proofs.ctr_write as ctr_write

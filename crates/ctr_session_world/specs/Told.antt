@@ -1,0 +1,88 @@
+-- An act that a turn tells, in a World.
+use Rattle.std.specs.Prelude.{◌≡◌, ℕ, ◌+◌, ◌==◌, true, false, List, [], ◌∷◌, ◌++◌, Option, Some, None}
+use Rattle.ctr_disk.specs.declared.disk.Disk.{Ghosts}
+use Rattle.ctr_types.specs.declared.statement.Statement.{Statement}
+use Rattle.ctr_types.specs.declared.tape.Act.{Act}
+use Rattle.ctr_types.specs.declared.tape.Reply.{Reply}
+use Rattle.ctr_types.specs.declared.tape.Reply.TheVariants as reply
+use Rattle.ctr_model.specs.declared.state.Transaction.{Transaction}
+use Rattle.ctr_model.specs.State.{transaction_of}
+use Rattle.ctr_model.specs.Tape.{progress_of}
+use Rattle.ctr_actions.specs.Facts.{Fact}
+use Rattle.ctr_store.specs.Store.{View}
+use Rattle.ctr_kept.specs.Tables.{AreTables}
+use Rattle.ctr_kept.specs.Walk.{Mind}
+use Rattle.ctr_kept.specs.Turns.{Start, Telling, entry_of, point_now, state_now}
+use Rattle.ctr_told.specs.Turning.{facts_idle}
+use Rattle.ctr_session_world.specs.World.{SessionsHeld, InWorld}
+
+-- A World in which the next statement of a session is this one, of which so many acts are told. The
+-- next one is told at the moment at which a turn ends.
+pub record IsNextOf {D : Type 0} (g : Ghosts D) (c : Start) (opened : D) (a b : View D)
+    (h : SessionsHeld) (s : ℕ) (statement : Statement) (made : ℕ) : Type 0 where
+  pub mind : Mind
+  pub world : InWorld g c opened a h mind
+  pub e : Telling c (g.moment_of a.disk) s
+  pub is : e.statement ≡ statement
+  pub number : e.n ≡ (progress_of (point_now c mind) s).finished + 1
+  pub made_is : (progress_of (point_now c mind) s).made ≡ made
+  pub at_end : e.later ≡ g.moment_of b.disk
+
+-- It counts on its transaction, on that it has no page to link, and on tables.
+abbrev pub CountsOnTables : List Fact → Type 0
+CountsOnTables facts = (more : List Fact) × AreTables more × (facts ≡ facts_idle ++ more)
+
+-- Between two of its statements a session counts on that, where its transaction has taken a lock, and
+-- on nothing before.
+abbrev pub IsIdleBy : Option Transaction → List Fact → Type 0
+IsIdleBy None facts = Unit {0}
+IsIdleBy (Some t) facts =
+    (t.writer ≡ true → CountsOnTables facts) × (t.writer ≡ false → facts ≡ [])
+
+-- so does this session
+abbrev pub IsIdleIn : Start → Mind → ℕ → Type 0
+IsIdleIn c w s = IsIdleBy (transaction_of (state_now c w) s) (w.facts s)
+
+-- What a session counts on behind a reply, by what it counted on before: nothing where it begins,
+-- the same where rows are read or the act is refused, tables alone where it has asked for its commit.
+-- Of one whose transaction has ended nothing is said.
+abbrev pub CountsBehind : Reply → List Fact → List Fact → Type 0
+CountsBehind (reply.Began n) was now = now ≡ []
+CountsBehind reply.Granted was now = CountsOnTables now
+CountsBehind (reply.Rows rows) was now = now ≡ was
+CountsBehind reply.Done was now = CountsOnTables now
+CountsBehind (reply.Asked k) was now = AreTables now
+CountsBehind reply.ReadOnly was now = Unit {0}
+CountsBehind (reply.Answered k) was now = Unit {0}
+CountsBehind reply.RolledBack was now = Unit {0}
+CountsBehind reply.Released was now = Unit {0}
+CountsBehind (reply.Refused why) was now = now ≡ was
+
+-- The act is told with its reply, and this is the World then. What the other sessions count on is
+-- as it was.
+pub record IsTold {D : Type 0} {g : Ghosts D} {c : Start} {opened : D} {a b : View D}
+    {h : SessionsHeld} {s : ℕ} {statement : Statement} {made : ℕ}
+    (next : IsNextOf g c opened a b h s statement made) (now : SessionsHeld) (x : Act) (r : Reply)
+    : Type 0 where
+  pub mind : Mind
+  pub world : InWorld g c opened b now mind
+  pub tape : mind.tape ≡ next.mind.tape ++ entry_of s next.e x r ∷ []
+  pub others : (q : ℕ) → (q == s) ≡ false → mind.facts q ≡ next.mind.facts q
+  pub counts : CountsBehind r (next.mind.facts s) (mind.facts s)
+
+-- Nothing is told by a turn, and the act goes on at the session's next one: this is the World then.
+-- What the other sessions count on is as it was.
+pub record IsKeptOn {D : Type 0} {g : Ghosts D} {c : Start} {opened : D} {a b : View D}
+    {h : SessionsHeld} {s : ℕ} {statement : Statement} {made : ℕ}
+    (next : IsNextOf g c opened a b h s statement made) (now : SessionsHeld) : Type 0 where
+  pub mind : Mind
+  pub world : InWorld g c opened b now mind
+  pub tape : mind.tape ≡ next.mind.tape
+  pub others : (q : ℕ) → (q == s) ≡ false → mind.facts q ≡ next.mind.facts q
+
+-- A turn of an act that takes several: it ends the act, which is told with its reply, or goes on.
+abbrev pub TellsOrGoesOn : {D : Type 0} {g : Ghosts D} {c : Start} {opened : D} {a b : View D}
+    {h : SessionsHeld} {s : ℕ} {statement : Statement} {made : ℕ}
+    → IsNextOf g c opened a b h s statement made → SessionsHeld → Act → Option Reply → Type 0
+TellsOrGoesOn next now x (Some r) = IsTold next now x r
+TellsOrGoesOn next now x None = IsKeptOn next now

@@ -1,0 +1,9 @@
+//! A World on pages with the sessions of a program: their transactions and their locks. Definitions, and laws of them. No program
+//! computes them.
+#![tactic(auto)]
+
+mod behind;
+
+pub use behind::pages_that_are_read_keep_a_world;
+pub use ctr_told as told;
+pub use ctr_told::{ddl, extend, writes};
