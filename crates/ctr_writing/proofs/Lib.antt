@@ -1,0 +1,6 @@
+pub mod Counting
+pub mod Titles
+pub mod Roomy
+pub mod Seated
+pub mod Rowing
+pub mod Tabling

@@ -1,0 +1,27 @@
+use Rattle.std.proofs.Common.{refl, ◌∙◌, ap}
+use Rattle.ctr_txn.specs.Held.{run_of}
+use Rattle.ctr_txn.specs.Numbered.{NumbersHeld}
+use Rattle.ctr_txn.specs.Steps.{txn_room}
+use Rattle.ctr_looks.specs.ctr_write.Stages.{stage_items}
+use Rattle.ctr_looks.proofs.Rooms.{txn_set}
+use Rattle.ctr_writing.proofs.Roomy.{room_on}
+use Rattle.ctr_writing.proofs.room.keep_room.Goals as goal
+
+pub returns-clause-run : goal.returns-clause-run
+returns-clause-run c = λ was has.
+    c.the_run_is_of_the_sessions.ensures.same c.args.s has.t (txn_room c.wants_item.result has.t) c.args.txns.now c.keep_item.new.self has.there refl (c.keep_item.ensures.sets has.t has.there)
+    ∙ ap (λ (n : NumbersHeld). record (run_of c.args.txns.now) { commits = n.commits }) c.keep_item.ensures.numbers
+
+pub returns-clause-kept : goal.returns-clause-kept
+returns-clause-kept c = λ was has. record {
+  t = txn_room c.wants_item.result has.t;
+  there = txn_set c.args.s c.args.txns.now c.keep_item.new.self (txn_room c.wants_item.result has.t) c.requires.one c.counts_sessions.ensures (c.keep_item.ensures.sets has.t has.there);
+  room = c.wants_item.ensures;
+}
+
+pub returns-clause-items : goal.returns-clause-items
+returns-clause-items c = λ was k l has left room.
+    let sets = c.keep_item.ensures.sets has.t has.there in
+    room_on c.args.s c.args.txns.now c.keep_item.new.self has.t c.wants_item.result (stage_items was) has.there has.room k l room
+    (c.keep_item.ensures.spends has.t has.there) c.keep_item.ensures.stays (c.keep_item.ensures.gets_back has.t has.there)
+    (c.the_room_of_all_stays.ensures.changed c.args.s (txn_room c.wants_item.result has.t) c.args.txns.now c.keep_item.new.self c.requires.one c.counts_sessions.ensures sets) c.args.stage c.wants_item.ensures left
