@@ -76,4 +76,3 @@ pub idle_free : {D : Type 0} (g : Ghosts D) (c : Start) (opened : D) (a b : View
 idle_free g c opened a b h s statement made next x free idle =
     let its = idle_seat g c opened a h next.mind s next.world free.seat idle in
     (its.0, subst (λ (q : SessionHeld). IsIdle q.me its.0 (next.mind.facts s)) free.same its.1)
-

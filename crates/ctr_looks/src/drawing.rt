@@ -1,6 +1,7 @@
 // A session's number, which it draws at its first Lock.
 ghost use Rattle.std.specs.Prelude.{◌≡◌, ◌<◌, ◌≤◌, false, OnOk, IfErr};
 ghost use Rattle.ctr_disk.specs.declared.fault.StoreFault.TheVariants.{Fault};
+ghost use Rattle.ctr_types.specs.Faults.{HasFault};
 ghost use Rattle.ctr_record_effects.specs.Standing.{IsDatabaseState};
 ghost use Rattle.ctr_base.specs.Base.{WhereSound};
 ghost use Rattle.ctr_txn.specs.Held.{IsReading};
@@ -31,6 +32,7 @@ fn draw_next<D: Disk, O: Origin>(
     ensures time { D.Disk.moment_of store.old.disk ≤ D.Disk.moment_of store.new.disk }
     ensures draws { WhereSound O.first D.Disk (0 < store.old.now.tables.next → OnOk result (DrawsNext D.Disk s txns.old txns.new store.old store.new)) }
     ensures refused { WhereSound O.first D.Disk (IsDatabaseState store.old.now → IfErr result (λ e. e ≡ Fault)) }
+    ensures faults { HasFault Fault (D.faults_of store.old.disk) (D.faults_of store.new.disk) result }
 {
     an_action_meets_its_needs();
     pages_are_in_bounds();
@@ -62,6 +64,7 @@ pub(crate) fn draw<D: Disk, O: Origin>(
     ensures time { D.Disk.moment_of store.old.disk ≤ D.Disk.moment_of store.new.disk }
     ensures number { WhereSound O.first D.Disk (store.old.stopped ≡ false → 0 < store.old.now.tables.next → OnOk result (HasNumber D.Disk s txns.old txns.new store.old store.new)) }
     ensures refused { WhereSound O.first D.Disk (IsDatabaseState store.old.now → IfErr result (λ e. e ≡ Fault)) }
+    ensures faults { HasFault Fault (D.faults_of store.old.disk) (D.faults_of store.new.disk) result }
 {
     the_run_is_of_the_sessions();
     store.rests();

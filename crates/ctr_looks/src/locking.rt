@@ -3,6 +3,7 @@ ghost use Rattle.std.specs.Prelude.{◌≡◌, ◌<◌, ◌≤◌, ℕ, false, t
 ghost use Rattle.ctr_types.specs.declared.tape.Act.TheVariants as act;
 ghost use Rattle.ctr_disk.specs.declared.fault.StoreFault.TheVariants.{Fault};
 ghost use Rattle.ctr_model.specs.Refusals.{key_written};
+ghost use Rattle.ctr_types.specs.Faults.{HasFault};
 ghost use Rattle.ctr_base.specs.Base.{WhereSound};
 ghost use Rattle.ctr_record_effects.specs.States.{area_in};
 ghost use Rattle.ctr_record_effects.specs.Standing.{IsDatabaseState};
@@ -36,7 +37,8 @@ use ctr_session_world::pages_that_are_read_keep_a_world;
 use ctr_statement::{key_written, table_of};
 use ctr_store::Store;
 use ctr_txn::Txns;
-use ctr_types::{Act, List, Name, Refusal, Statement};
+use ctr_types::{Act, List, Name, OutOfMemory, Refusal, Statement};
+use ctr_walk::a_fault_of_reading_is_counted;
 use ctr_wishes::reading::Sight;
 use ctr_wishes::{
     Prepared, prepare, what_is_prepared_is_the_models, what_is_prepared_stays_the_models,
@@ -88,12 +90,14 @@ fn lock_found<D: Disk, O: Origin>(
         → IsIdle free.txn.session.me more (next.mind.facts s)
         → IfOk result (λ l. (told : IsTold next (record { txns = txns.new; locks = locks.new }) act.Lock (locked_reply l)) × IsReadyBehind c s statement.now told.mind l)) }
     ensures refused { WhereSound O.first D.Disk (IsDatabaseState store.old.now → IfErr result (λ e. e ≡ Fault)) }
+    ensures faults { HasFault Fault (D.faults_of store.old.disk) (D.faults_of store.new.disk) result }
 {
     a_look_that_wants_memory_is_told::<D>();
     pages_that_are_read_keep_a_world::<D>();
     room_is_still_there::<D>();
     what_is_prepared_is_the_models();
     what_is_prepared_stays_the_models();
+    a_fault_of_reading_is_counted::<D, Result<Prepared, OutOfMemory>>();
     let Some(txn) = txns.txn(s) else {
         unreachable!()
     };
@@ -143,6 +147,8 @@ pub fn lock_row<D: Disk, O: Origin>(
         → IfOk result (λ l. (told : IsTold next (record { txns = txns.new; locks = locks.new }) act.Lock (locked_reply l)) × IsReadyBehind c s statement.now told.mind l)) }
     // Where the pages may be a database's, it is refused by the disk alone.
     ensures refused { WhereSound O.first D.Disk (IsDatabaseState store.old.now → IfErr result (λ e. e ≡ Fault)) }
+    // A fault is told where the disk counts one more.
+    ensures faults { HasFault Fault (D.faults_of store.old.disk) (D.faults_of store.new.disk) result }
 {
     a_refused_look_is_told::<D>();
     pages_that_are_read_keep_a_world::<D>();

@@ -5,6 +5,7 @@ ghost use Rattle.ctr_types.specs.declared.statement.KeyIs.{KeyIs as KeyWanted};
 ghost use Rattle.ctr_types.specs.declared.statement.Statement.TheVariants as st;
 ghost use Rattle.ctr_types.specs.declared.tape.Act.TheVariants as act;
 ghost use Rattle.ctr_disk.specs.declared.fault.StoreFault.TheVariants.{Fault};
+ghost use Rattle.ctr_types.specs.Faults.{HasFault};
 ghost use Rattle.ctr_base.specs.Base.{WhereSound};
 ghost use Rattle.ctr_record_effects.specs.States.{area_in};
 ghost use Rattle.ctr_record_effects.specs.Standing.{HasSoundArea, IsDatabaseState};
@@ -34,7 +35,8 @@ use ctr_key_locks::KeyLocks;
 use ctr_session_world::pages_that_are_read_keep_a_world;
 use ctr_store::Store;
 use ctr_txn::Txns;
-use ctr_types::{Act, KeyIs, List, Name, Refusal, Reply, Row, Rows, Statement};
+use ctr_types::{Act, KeyIs, List, Name, OutOfMemory, Refusal, Reply, Row, Rows, Statement};
+use ctr_walk::a_fault_of_reading_is_counted;
 use ctr_wishes::reading::{Sight, row_of_key, rows_of_table};
 use std::alloc::Global;
 
@@ -42,6 +44,7 @@ use std::alloc::Global;
 fn one_row(alloc: Global, row: Option<Row>) -> Result<Rows, ReadRefusal>
     ensures gives { IfOk result (λ rows. rows.rows ≡ option_to_list row) }
     ensures refused { IfErr result IsDiskOrMemory }
+    ensures faults { (n : ℕ) → HasFault Fault n n (as_told result) }
 {
     let mut rows = List::new(alloc);
     match row {
@@ -73,10 +76,13 @@ pub(crate) fn rows_at<D: Disk, O: Origin>(
     ensures shows { WhereSound O.first D.Disk (HasSoundArea store.old.now
         → IfOk result (λ rows. AreShown (sees store.old.now.tables sight.now) (area_in store.old.now) entry (option_map (λ (k : KeyWanted). k.key) at.now) rows.rows)) }
     ensures refused { WhereSound O.first D.Disk (IsDatabaseState store.old.now → IfErr result IsDiskOrMemory) }
+    ensures faults { HasFault Fault (D.faults_of store.old.disk) (D.faults_of store.new.disk) (as_told result) }
     ensures rests { WhereSound O.first D.Disk (OnOk (as_told result) (RestsBehind D.Disk store.old store.new)) }
     ensures keeps { KeepsRoom store.old store.new }
     ensures time { D.Disk.moment_of store.old.disk ≤ D.Disk.moment_of store.new.disk }
 {
+    a_fault_of_reading_is_counted::<D, Result<Rows, OutOfMemory>>();
+    a_fault_of_reading_is_counted::<D, Result<Option<Row>, OutOfMemory>>();
     match at {
         None => {
             let rows = rows_of_table(alloc, store, sight, entry);
@@ -121,6 +127,7 @@ fn read_found<D: Disk, O: Origin>(
         ((next : IsNextOf D.Disk c opened store.old store.new (record { txns = txns.now; locks = locks.old }) s (st.Select table.now.name.now table.now.at.now) 0) → (free : IsFree next act.Read) → StandsAt free table.now.name.now table.now.entry
         → IsIdle free.txn.session.me more (next.mind.facts s) → IfOk result (IsTold next (record { txns = txns.now; locks = locks.new }) act.Read)) }
     ensures refused { WhereSound O.first D.Disk (IsDatabaseState store.old.now → IfErr result (λ e. e ≡ Fault)) }
+    ensures faults { HasFault Fault (D.faults_of store.old.disk) (D.faults_of store.new.disk) result }
 {
     a_look_that_wants_memory_is_told::<D>();
     rows_of_a_table_are_told::<D>();
@@ -133,12 +140,14 @@ fn read_found<D: Disk, O: Origin>(
         me: me_of(txn),
     };
     let rows = match rows_at(alloc, store, &sight, table.entry, table.at) {
-        Err(ReadRefusal::Store(fault)) => return Err(fault),
-        Err(ReadRefusal::OutOfMemory) => {
-            return Ok(Reply::Refused {
-                refusal: Refusal::OutOfMemory,
-            });
-        }
+        Err(refusal) => match refusal {
+            ReadRefusal::Store(fault) => return Err(fault),
+            ReadRefusal::OutOfMemory => {
+                return Ok(Reply::Refused {
+                    refusal: Refusal::OutOfMemory,
+                });
+            }
+        },
         Ok(rows) => rows,
     };
     match locks.reserve_name(alloc, s, table.name) {
@@ -175,6 +184,8 @@ pub fn read<D: Disk, O: Origin>(
         → IfOk result (IsTold next (record { txns = txns.now; locks = locks.new }) act.Read)) }
     // Where the pages may be a database's, it is refused by the disk alone.
     ensures refused { WhereSound O.first D.Disk (IsDatabaseState store.old.now → IfErr result (λ e. e ≡ Fault)) }
+    // A fault is told where the disk counts one more.
+    ensures faults { HasFault Fault (D.faults_of store.old.disk) (D.faults_of store.new.disk) result }
 {
     a_refused_look_is_told::<D>();
     pages_that_are_read_keep_a_world::<D>();

@@ -3,6 +3,7 @@ ghost use Rattle.std.specs.Prelude.{◌≡◌, true, List, OnOk, IfOk, IfErr};
 ghost use Rattle.ctr_types.specs.declared.tape.Act.TheVariants as act;
 ghost use Rattle.ctr_disk.specs.declared.fault.StoreFault.TheVariants.{Fault};
 ghost use Rattle.ctr_model.specs.Refusals.{changes_schema};
+ghost use Rattle.ctr_types.specs.Faults.{HasFault};
 ghost use Rattle.ctr_base.specs.Base.{WhereSound};
 ghost use Rattle.ctr_record_effects.specs.Standing.{IsDatabaseState};
 ghost use Rattle.ctr_walk.specs.OneRecord.{HasRoomForOne};
@@ -83,6 +84,8 @@ pub fn lock_table<D: Disk, O: Origin>(
         → IfOk result (λ l. (told : IsTold next (record { txns = txns.new; locks = locks.new }) act.Lock (table_locked_reply l)) × IsTableReadyBehind c s statement.now told.mind l)) }
     // Where the pages may be a database's, it is refused by the disk alone.
     ensures refused { WhereSound O.first D.Disk (IsDatabaseState store.old.now → IfErr result (λ e. e ≡ Fault)) }
+    // A fault is told where the disk counts one more.
+    ensures faults { HasFault Fault (D.faults_of store.old.disk) (D.faults_of store.new.disk) result }
 {
     a_refused_look_is_told::<D>();
     pages_that_are_read_keep_a_world::<D>();

@@ -1,5 +1,5 @@
 -- A count of faults, whatever the answer is called.
-use Rattle.std.proofs.Common.{◌≡◌, ℕ, ◌≤◌, Result, Ok, Err, refl, ap, arith}
+use Rattle.std.proofs.Common.{◌≡◌, ℕ, ◌≤◌, Result, Ok, Err, refl, sym, ap, subst, arith}
 use Rattle.ctr_disk.specs.declared.fault.StoreFault.{StoreFault}
 use Rattle.ctr_types.specs.Faults.{HasFault}
 
@@ -27,3 +27,11 @@ module _ (e : StoreFault) (before now : ℕ) where
 -- a call that didn't touch the disk
 pub fault_none : {T : Type 0} (e : StoreFault) (before : ℕ) (y : T) → HasFault {T = T} e before before (Ok y)
 fault_none e before y = record { later = at_once before; failed = λ is. absurd (cc is); fine = λ isnt. refl }
+
+-- a call behind which the disk counts as many
+pub fault_still : {T : Type 0} (e : StoreFault) (before now : ℕ) (y : T) → now ≡ before → HasFault {T = T} e before now (Ok y)
+fault_still {T} e before now y same = subst (λ n. HasFault {T = T} e before n (Ok y)) (sym same) (fault_none e before y)
+
+-- a call behind another one that was answered
+pub fault_then : {S T : Type 0} (e : StoreFault) (before mid now : ℕ) (x : S) (r : Result T StoreFault) → HasFault {T = S} e before mid (Ok x) → HasFault {T = T} e mid now r → HasFault {T = T} e before now r
+fault_then {S} {T} e before mid now x r first then = subst (λ n. HasFault {T = T} e n now r) (first.fine (λ is. cc is)) then

@@ -10,6 +10,8 @@ use Rattle.ctr_txn.specs.Calls.{IsOverStore}
 use Rattle.ctr_looks.specs.Granting.{DrawsNext, HasNumber}
 use Rattle.ctr_session_world.proofs.Numbers.{none_or_some}
 use Rattle.ctr_session_world.proofs.Resting.{rests_here}
+use Rattle.ctr_disk.specs.declared.fault.StoreFault.TheVariants.{Fault}
+use Rattle.ctr_session_world.proofs.Faults.{fault_none}
 use Rattle.ctr_looks.proofs.drawing.draw.Goals as goal
 
 pub returns-then-is_reading-clause-over : goal.returns-then-is_reading-clause-over
@@ -38,3 +40,8 @@ returns-clause-number g c = λ told sound going some.
     by_txn s a reads t (Some q) is at =
         let its = some_is q.session t (sym (ap (option_map (λ (q : TxnHeld). q.session)) is) ∙ at) in
         ⊎_elim (λ none. absurd (reads (record { t = q; there = is; none = none }))) (λ some. subst (λ (b : SessionHeld). 0 < b.me) its some) (none_or_some q.session.me)
+
+-- ---- faults
+
+pub returns-clause-faults : goal.returns-clause-faults
+returns-clause-faults g c = fault_none Fault _ _

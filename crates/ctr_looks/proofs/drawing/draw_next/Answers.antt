@@ -14,6 +14,8 @@ use Rattle.ctr_txn.specs.Held.{TxnHeld, run_of}
 use Rattle.ctr_txn.specs.Steps.{txn_drawn}
 use Rattle.ctr_session_world.proofs.ctr_told.ctr_rollback.Records.{refused_by_disk}
 use Rattle.ctr_looks.proofs.Rooms.{txn_set}
+use Rattle.ctr_disk.specs.declared.fault.StoreFault.TheVariants.{Fault}
+use Rattle.ctr_session_world.proofs.Faults.{fault_done, fault_failed}
 use Rattle.ctr_looks.proofs.drawing.draw_next.Goals as goal
 
 pub returns-in-Ok-clause-draws : goal.returns-in-Ok-clause-draws
@@ -62,3 +64,11 @@ returns-in-Err-clause-refused g c = λ told sound database.
     (subst (λ (t : Tables). needs (Begin x) t ≡ Ok tt) (sym tables)
     (c.an_action_meets_its_needs.ensures.fits x Begins (site_of a.now) (record { page = 0; clear = false; offset = 0; bytes = [] }) (c.pages_are_in_bounds.ensures (pages_in a.now)) database.sound owed))
     (c.in-Err.ensures.one.refused told sound)
+
+-- ---- faults
+
+pub returns-in-Ok-clause-faults : goal.returns-in-Ok-clause-faults
+returns-in-Ok-clause-faults g c = fault_done Fault _ _ c.in-Ok.field-0 _ c.in-Ok.ensures.one.faults
+
+pub returns-in-Err-clause-faults : goal.returns-in-Err-clause-faults
+returns-in-Err-clause-faults g c = fault_failed Fault _ _ c.in-Err.fault c.in-Err.ensures.one.faults

@@ -12,6 +12,8 @@ use Rattle.ctr_session_world.specs.World.{SessionsHeld, names_in}
 use Rattle.ctr_looks.specs.Granting.{KeepsSessions}
 use Rattle.ctr_session_world.proofs.Resting.{rests_here, rests_roomy}
 use Rattle.ctr_looks.proofs.Rooms.{number_roomy}
+use Rattle.ctr_disk.specs.declared.fault.StoreFault.TheVariants.{Fault}
+use Rattle.ctr_session_world.proofs.Faults.{fault_done, fault_failed, fault_none, fault_still, fault_then}
 use Rattle.ctr_looks.proofs.granting.grant_name.Goals as goal
 
 pub returns-in-Err-clause-told : goal.returns-in-Err-clause-told
@@ -71,3 +73,22 @@ returns-in-Err-draw-clause-refused g c = λ told sound database.
 
 pub returns-in-Ok-draw-clause-item : goal.returns-in-Ok-draw-clause-item
 returns-in-Ok-draw-clause-item g c = c.in-Ok-draw.ensures.item c.in-Ok-reserve_for.ensures.item
+
+-- ---- faults
+
+pub returns-in-Err-clause-faults : goal.returns-in-Err-clause-faults
+returns-in-Err-clause-faults g c = fault_none Fault _ _
+
+pub returns-in-Err-reserve_for-clause-faults : goal.returns-in-Err-reserve_for-clause-faults
+returns-in-Err-reserve_for-clause-faults g c = fault_still Fault _ _ _ (ap (λ (v : View g.row.D.Denot). g.D.Disk.faults_of v.disk) c.reserve_for.ensures.same)
+
+pub returns-in-Some-clause-faults : goal.returns-in-Some-clause-faults
+returns-in-Some-clause-faults g c = fault_still Fault _ _ _ (ap (λ (v : View g.row.D.Denot). g.D.Disk.faults_of v.disk) c.reserve_for.ensures.same)
+
+pub returns-in-Ok-draw-clause-faults : goal.returns-in-Ok-draw-clause-faults
+returns-in-Ok-draw-clause-faults g c =
+    fault_then Fault _ _ _ (tt {0}) _ (fault_still Fault _ _ (tt {0}) (ap (λ (v : View g.row.D.Denot). g.D.Disk.faults_of v.disk) c.reserve_for.ensures.same)) (fault_done Fault _ _ (tt {0}) _ c.in-Ok-draw.ensures.faults)
+
+pub returns-in-Err-draw-clause-faults : goal.returns-in-Err-draw-clause-faults
+returns-in-Err-draw-clause-faults g c =
+    fault_then Fault _ _ _ (tt {0}) _ (fault_still Fault _ _ (tt {0}) (ap (λ (v : View g.row.D.Denot). g.D.Disk.faults_of v.disk) c.reserve_for.ensures.same)) (fault_failed Fault _ _ c.in-Err-draw.fault c.in-Err-draw.ensures.faults)

@@ -44,6 +44,9 @@ use Rattle.ctr_looks.proofs.Staying.{goes_free, goes_row}
 use Rattle.ctr_looks.proofs.Granted.{row_locks_first}
 use Rattle.ctr_looks.proofs.Promised.{may_write}
 use Rattle.ctr_session_world.proofs.Resting.{same_held}
+use Rattle.ctr_disk.specs.declared.fault.StoreFault.TheVariants.{Fault}
+use Rattle.ctr_types.specs.Faults.{HasFault}
+use Rattle.ctr_session_world.proofs.Faults.{fault_done, fault_failed, fault_then}
 use Rattle.ctr_looks.proofs.locking.lock_found.Goals as goal
 
 -- what is so behind whatever is answered
@@ -56,6 +59,11 @@ unread_so : {D : Type 0} (first : Image) (g : Ghosts D) (a m : View D) (P : Lock
 unread_so first g a m P (unread.Store failed) r is told sound leaves rests so = subst (λ q. IfOk q P) (sym is) tt
 unread_so first g a m P unread.OutOfMemory r is told sound leaves rests so =
     subst (λ q. IfOk q P) (sym is) (so (rests_read {T = Result Prepared OutOfMemory} first g a m (Err (record {})) told sound leaves (rests leaves.going)))
+
+-- why what the Write will do isn't read is a fault, or want of memory
+unread_fault : (n m : ℕ) (why : ReadRefusal) → HasFault {T = Result Prepared OutOfMemory} Fault n m (as_told (Err why)) → HasFault {T = Locked} Fault n m (locked_unread why)
+unread_fault n m (unread.Store failed) faults = fault_failed Fault n m failed faults
+unread_fault n m unread.OutOfMemory faults = fault_done Fault n m (Err (record {})) (Refused refusal.OutOfMemory) faults
 
 pub returns-in-Err-clause-over : goal.returns-in-Err-clause-over
 returns-in-Err-clause-over g c = always c.unread.result (c.requires.over ∙ sym (ap (λ (k : TablesKept). k.tables.next) (room_of g.O.Origin.first g.D.Disk c.args.store.now c.prepare-read.new.store (as_told c.prepare-read.result) c.prepare-read.ensures.leaves).meta))
@@ -136,3 +144,19 @@ returns-in-Err-clause-ready g c = c.unread.ensures.ready c.args.s c.args.txns.no
 
 pub returns-in-None-clause-ready : goal.returns-in-None-clause-ready
 returns-in-None-clause-ready g c = (c.requires.there, subst (HasItemIfGranted c.args.s c.grant_row.new.txns) c.in-None.is c.in-Ok-grant_row.ensures.item)
+
+-- ---- faults
+
+pub returns-in-Err-clause-faults : goal.returns-in-Err-clause-faults
+returns-in-Err-clause-faults g c =
+    subst (λ (r : Result Locked StoreFault). HasFault Fault (g.D.Disk.faults_of c.args.store.now.disk) (g.D.Disk.faults_of c.prepare-read.new.store.disk) r) (sym c.unread.ensures.said)
+    (unread_fault _ _ c.in-Err.refusal (c.a_fault_of_reading_is_counted.ensures g.O.Origin.first c.args.store.now c.prepare-read.new.store (as_told (Err c.in-Err.refusal)) c.in-Err.ensures.leaves))
+
+pub returns-in-Err-grant_row-clause-faults : goal.returns-in-Err-grant_row-clause-faults
+returns-in-Err-grant_row-clause-faults g c = fault_then Fault _ _ _ (Ok c.in-Ok.prepared) _ (c.a_fault_of_reading_is_counted.ensures g.O.Origin.first c.args.store.now c.prepare-read.new.store (Ok (Ok c.in-Ok.prepared)) c.in-Ok.ensures.leaves) (fault_failed Fault _ _ c.in-Err-grant_row.fault c.in-Err-grant_row.ensures.faults)
+
+pub returns-in-Some-why-clause-faults : goal.returns-in-Some-why-clause-faults
+returns-in-Some-why-clause-faults g c = fault_then Fault _ _ _ (Ok c.in-Ok.prepared) _ (c.a_fault_of_reading_is_counted.ensures g.O.Origin.first c.args.store.now c.prepare-read.new.store (Ok (Ok c.in-Ok.prepared)) c.in-Ok.ensures.leaves) (fault_done Fault _ _ c.in-Ok-grant_row.why _ c.in-Ok-grant_row.ensures.faults)
+
+pub returns-in-None-clause-faults : goal.returns-in-None-clause-faults
+returns-in-None-clause-faults g c = fault_then Fault _ _ _ (Ok c.in-Ok.prepared) _ (c.a_fault_of_reading_is_counted.ensures g.O.Origin.first c.args.store.now c.prepare-read.new.store (Ok (Ok c.in-Ok.prepared)) c.in-Ok.ensures.leaves) (fault_done Fault _ _ c.in-Ok-grant_row.why _ c.in-Ok-grant_row.ensures.faults)

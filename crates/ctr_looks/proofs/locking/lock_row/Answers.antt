@@ -14,6 +14,8 @@ use Rattle.ctr_session_world.proofs.Going.{goes, goes_told, if_ok, rests_read}
 use Rattle.ctr_looks.proofs.Staying.{goes_free, goes_row, goes_stands, idle_free}
 use Rattle.ctr_looks.proofs.Granted.{row_locks_first}
 use Rattle.ctr_looks.proofs.Promised.{row_makes_none}
+use Rattle.ctr_disk.specs.declared.fault.StoreFault.TheVariants.{Fault}
+use Rattle.ctr_session_world.proofs.Faults.{fault_done, fault_failed, fault_then}
 use Rattle.ctr_looks.proofs.locking.lock_row.Goals as goal
 
 pub returns-in-Refused-clause-told : goal.returns-in-Refused-clause-told
@@ -66,3 +68,17 @@ returns-in-Some-found-clause-told g c = λ run opened told sound next stuck idle
     (c.lock_found.ensures.told run opened (idle_free g.D.Disk run opened a b h s statement 0 next act.Lock free idle).0 told sound (goes g.D.Disk run opened a m b h s statement 0 next rested keeps later) (goes_free g.D.Disk run opened a m b h s statement 0 next rested keeps later act.Lock free)
     (goes_stands g.D.Disk run opened a m b h s statement 0 next rested keeps later act.Lock free row.name.now row.entry stands) (goes_row g.D.Disk run opened a m b h s statement 0 next rested keeps later row of)
     (idle_free g.D.Disk run opened a b h s statement 0 next act.Lock free idle).1)
+
+-- ---- faults
+
+pub returns-in-Err-clause-faults : goal.returns-in-Err-clause-faults
+returns-in-Err-clause-faults g c = fault_failed Fault _ _ c.in-Err.fault c.in-Err.ensures.faults
+
+pub returns-in-Refused-clause-faults : goal.returns-in-Refused-clause-faults
+returns-in-Refused-clause-faults g c = fault_done Fault _ _ c.in-Ok.answer _ c.in-Ok.ensures.faults
+
+pub returns-in-None-clause-faults : goal.returns-in-None-clause-faults
+returns-in-None-clause-faults g c = fault_done Fault _ _ c.in-Ok.answer _ c.in-Ok.ensures.faults
+
+pub returns-in-Some-found-clause-faults : goal.returns-in-Some-found-clause-faults
+returns-in-Some-found-clause-faults g c = fault_then Fault _ _ _ c.in-Ok.answer _ c.in-Ok.ensures.faults c.lock_found.ensures.faults

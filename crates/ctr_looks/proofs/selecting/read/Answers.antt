@@ -13,6 +13,8 @@ use Rattle.ctr_session_world.specs.Told.{IsIdleIn, IsNextOf, IsTold}
 use Rattle.ctr_looks.specs.Asked.{IsAsked}
 use Rattle.ctr_session_world.proofs.Going.{goes, goes_told, if_ok, rests_read}
 use Rattle.ctr_looks.proofs.Staying.{goes_free, goes_stands, idle_free}
+use Rattle.ctr_disk.specs.declared.fault.StoreFault.TheVariants.{Fault}
+use Rattle.ctr_session_world.proofs.Faults.{fault_done, fault_failed, fault_then}
 use Rattle.ctr_looks.proofs.selecting.read.Goals as goal
 
 pub returns-in-Refused-clause-told : goal.returns-in-Refused-clause-told
@@ -55,3 +57,17 @@ returns-in-Some-clause-told g c = λ run opened told sound next stuck idle.
     (c.read_found.ensures.told run opened (idle_free g.D.Disk run opened a b h s select 0 next act.Read free idle).0 told sound (goes g.D.Disk run opened a m b h s select 0 next rested keeps later) (goes_free g.D.Disk run opened a m b h s select 0 next rested keeps later act.Read free)
     (goes_stands g.D.Disk run opened a m b h s select 0 next rested keeps later act.Read free c.in-Select.name c.in-Some.entry (asked.1 c.in-Select.name refl)) (idle_free g.D.Disk run opened a b h s select 0 next act.Read free idle).1))
     next asked idle
+
+-- ---- faults
+
+pub returns-in-Err-clause-faults : goal.returns-in-Err-clause-faults
+returns-in-Err-clause-faults g c = fault_failed Fault _ _ c.in-Err.fault c.in-Err.ensures.faults
+
+pub returns-in-Refused-clause-faults : goal.returns-in-Refused-clause-faults
+returns-in-Refused-clause-faults g c = fault_done Fault _ _ c.in-Ok.answer _ c.in-Ok.ensures.faults
+
+pub returns-in-None-clause-faults : goal.returns-in-None-clause-faults
+returns-in-None-clause-faults g c = fault_done Fault _ _ c.in-Ok.answer _ c.in-Ok.ensures.faults
+
+pub returns-in-Some-clause-faults : goal.returns-in-Some-clause-faults
+returns-in-Some-clause-faults g c = fault_then Fault _ _ _ c.in-Ok.answer _ c.in-Ok.ensures.faults c.read_found.ensures.faults

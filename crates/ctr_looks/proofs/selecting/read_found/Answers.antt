@@ -1,4 +1,4 @@
-use Rattle.std.proofs.Common.{ℕ, Bool, refl, sym, ◌∙◌, ap, subst}
+use Rattle.std.proofs.Common.{◌≡◌, Result, ℕ, Bool, Ok, Err, refl, sym, ◌∙◌, ap, subst}
 use Rattle.std.specs.Prelude.{is_some}
 use Rattle.std.specs.Option.{option_map}
 use Rattle.std.proofs.lemmas.Bool.{false≢true}
@@ -10,11 +10,18 @@ use Rattle.ctr_versions.proofs.Keys.{some_is}
 use Rattle.ctr_meta.specs.Seen.{xid_is_seen}
 use Rattle.ctr_record_effects.specs.States.{area_in}
 use Rattle.ctr_kept.specs.Turns.{state_now}
-use Rattle.ctr_wishes.specs.ctr_reading.Reading.{AreShown}
+use Rattle.ctr_wishes.specs.ctr_reading.Reading.{as_told, AreShown}
 use Rattle.ctr_txn.specs.Held.{TxnHeld}
 use Rattle.ctr_asking.specs.Asking.{me_held}
 use Rattle.ctr_session_world.specs.World.{SessionsHeld, names_in}
 use Rattle.ctr_looks.specs.Granting.{KeepsSessions}
+use Rattle.ctr_disk.specs.declared.fault.StoreFault.TheVariants.{Fault}
+use Rattle.ctr_session_world.proofs.Faults.{fault_done, fault_failed}
+use Rattle.ctr_types.specs.Faults.{HasFault}
+use Rattle.ctr_types.specs.declared.memory.OutOfMemory.{OutOfMemory}
+use Rattle.ctr_types.specs.declared.value.Rows.{Rows}
+use Rattle.ctr_chain.specs.declared.view.ReadRefusal.{ReadRefusal}
+use Rattle.ctr_chain.specs.declared.view.ReadRefusal.TheVariants as unread
 use Rattle.ctr_looks.proofs.selecting.read_found.Goals as goal
 
 pub returns-in-Some-take_use-clause-told : goal.returns-in-Some-take_use-clause-told
@@ -45,3 +52,26 @@ returns-in-None-clause-told g c = λ run opened more told sound next free stands
     (λ i x. xid_is_seen a.now.tables (snapshot i) (me i) x) (c.in-Ok.ensures.shows told sound next.world.keeps.pages.sound.sound) in
     c.rows_of_a_table_are_told.ensures run opened a c.rows_at.new.store h s table.name.now table.at.now next free table.entry stands c.in-Ok.rows shown more idle mid room c.take_use.new.locks
     (c.take_use.ensures.taken c.in-None.is) (c.in-Ok.ensures.rests told sound)
+
+-- ---- faults
+
+-- what a reading says of why it failed, by the case that it is
+of_reading : (n m : ℕ) (why as_it_is : ReadRefusal) → why ≡ as_it_is → HasFault {T = Result Rows OutOfMemory} Fault n m (as_told (Err why)) → HasFault {T = Result Rows OutOfMemory} Fault n m (as_told (Err as_it_is))
+of_reading n m why as_it_is is faults = subst (λ (r : ReadRefusal). HasFault {T = Result Rows OutOfMemory} Fault n m (as_told (Err r))) is faults
+
+pub returns-in-Store-clause-faults : goal.returns-in-Store-clause-faults
+returns-in-Store-clause-faults g c =
+    fault_failed Fault _ _ c.in-Store.fault (of_reading (g.D.Disk.faults_of c.args.store.now.disk) (g.D.Disk.faults_of c.rows_at.new.store.disk) c.in-Err.refusal (unread.Store c.in-Store.fault) c.in-Store.is c.in-Err.ensures.faults)
+
+pub returns-in-OutOfMemory-clause-faults : goal.returns-in-OutOfMemory-clause-faults
+returns-in-OutOfMemory-clause-faults g c =
+    fault_done Fault _ _ (Err (record {})) _ (of_reading (g.D.Disk.faults_of c.args.store.now.disk) (g.D.Disk.faults_of c.rows_at.new.store.disk) c.in-Err.refusal unread.OutOfMemory c.in-OutOfMemory.is c.in-Err.ensures.faults)
+
+pub returns-in-Err-reserve_name-clause-faults : goal.returns-in-Err-reserve_name-clause-faults
+returns-in-Err-reserve_name-clause-faults g c = fault_done Fault _ _ (Ok c.in-Ok.rows) _ c.in-Ok.ensures.faults
+
+pub returns-in-Some-take_use-clause-faults : goal.returns-in-Some-take_use-clause-faults
+returns-in-Some-take_use-clause-faults g c = fault_done Fault _ _ (Ok c.in-Ok.rows) _ c.in-Ok.ensures.faults
+
+pub returns-in-None-clause-faults : goal.returns-in-None-clause-faults
+returns-in-None-clause-faults g c = fault_done Fault _ _ (Ok c.in-Ok.rows) _ c.in-Ok.ensures.faults

@@ -15,6 +15,8 @@ use Rattle.ctr_looks.specs.Granting.{CountsOnFound, HasItemIfGranted, granted_or
 use Rattle.ctr_looks.proofs.Naming.{held_so}
 use Rattle.ctr_looks.proofs.Staying.{goes_found, goes_free, idle_free}
 use Rattle.ctr_looks.proofs.Tabled.{found_for, found_of, its_free, schema_has_no_key, schema_locks_first, something, write_is}
+use Rattle.ctr_disk.specs.declared.fault.StoreFault.TheVariants.{Fault}
+use Rattle.ctr_session_world.proofs.Faults.{fault_done, fault_failed, fault_then}
 use Rattle.ctr_looks.proofs.tables.lock_table.Goals as goal
 
 pub returns-in-None-why-clause-ready : goal.returns-in-None-why-clause-ready
@@ -102,3 +104,23 @@ returns-in-None-why-clause-told g c = λ run opened told sound next stuck idle.
     let counts = subst (λ (k : Mind). CountsOnFound None (found_of write) (area_in a.now).title (k.facts s)) (sym back.1) title in
     let is = write_is statement c.in-Free.found write does (subst IsInCatalog c.in-Free.is c.in-Ok.ensures.inside) in
     (back.0, held_so g.D.Disk run opened a b h s statement next free name named keyless write c.requires.schema is stands back.0.mind back.0.tape counts)
+
+-- ---- faults
+
+pub returns-in-Err-clause-faults : goal.returns-in-Err-clause-faults
+returns-in-Err-clause-faults g c = fault_failed Fault _ _ c.in-Err.fault c.in-Err.ensures.faults
+
+pub returns-in-Refused-clause-faults : goal.returns-in-Refused-clause-faults
+returns-in-Refused-clause-faults g c = fault_done Fault _ _ c.in-Ok.answer _ c.in-Ok.ensures.faults
+
+pub returns-in-None-clause-faults : goal.returns-in-None-clause-faults
+returns-in-None-clause-faults g c = fault_done Fault _ _ c.in-Ok.answer _ c.in-Ok.ensures.faults
+
+pub returns-in-Err-grant_name-clause-faults : goal.returns-in-Err-grant_name-clause-faults
+returns-in-Err-grant_name-clause-faults g c = fault_then Fault _ _ _ c.in-Ok.answer _ c.in-Ok.ensures.faults (fault_failed Fault _ _ c.in-Err-grant_name.fault c.in-Err-grant_name.ensures.faults)
+
+pub returns-in-Some-why-clause-faults : goal.returns-in-Some-why-clause-faults
+returns-in-Some-why-clause-faults g c = fault_then Fault _ _ _ c.in-Ok.answer _ c.in-Ok.ensures.faults (fault_done Fault _ _ c.in-Ok-grant_name.why _ c.in-Ok-grant_name.ensures.faults)
+
+pub returns-in-None-why-clause-faults : goal.returns-in-None-why-clause-faults
+returns-in-None-why-clause-faults g c = fault_then Fault _ _ _ c.in-Ok.answer _ c.in-Ok.ensures.faults (fault_done Fault _ _ c.in-Ok-grant_name.why _ c.in-Ok-grant_name.ensures.faults)
