@@ -1,0 +1,4 @@
+pub mod Draws
+pub mod Generated
+pub mod Statements
+pub mod Whole
