@@ -1,1 +1,6 @@
 mod Rounds
+mod Says
+mod Wholes
+mod Each
+mod Few
+mod Spelled

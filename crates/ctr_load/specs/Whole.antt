@@ -34,7 +34,7 @@ statements_of session lines =
 -- Each session's statements are whole transactions, one behind another.
 abbrev pub TransactionsAreWhole : Type 0
 TransactionsAreWhole =
-    (sessions count seed session : ℕ) → 1 ≤ sessions
+    (sessions count seed session : ℕ) → 1 ≤ sessions → 1 ≤ session
     → IsWhole false (statements_of session (generated sessions count seed))
 
 -- ---- lines

@@ -1,15 +1,13 @@
-use Rattle.std.proofs.Common.{rules, ◌≡◌, ℕ, ◌+◌, ◌-◌, ◌*◌, ◌<◌, ◌≤◌, length, ◌/◌, ◌%◌, Bool, true, false, nat_eq, nat_lt, List, [], ◌∷◌, ◌++◌, slice_index_or, slice_set, bit_and, bit_or, Fits, w8, w32, w64, Bor, MutBor}
-use Rattle.ctr_load.specs.Whole.{TransactionsAreWhole, SessionsAreThese, LinesAreSpelled, LinesAreFew}
+use Rattle.ctr_load.proofs.Each.{sessions_are_these}
+use Rattle.ctr_load.proofs.Few.{lines_are_few}
+use Rattle.ctr_load.proofs.Spelled.{lines_are_spelled}
 use Rattle.ctr_load.proofs.laws.generated_lines_are_of_the_language.Goals as goal
 
--- src/laws.rt:12:1
 pub returns-clause-sessions : goal.returns-clause-sessions
-returns-clause-sessions c = ?
+returns-clause-sessions c = sessions_are_these
 
--- src/laws.rt:12:1
 pub returns-clause-spelled : goal.returns-clause-spelled
-returns-clause-spelled c = ?
+returns-clause-spelled c = lines_are_spelled
 
--- src/laws.rt:12:1
 pub returns-clause-few : goal.returns-clause-few
-returns-clause-few c = ?
+returns-clause-few c = lines_are_few

@@ -1,4 +1,4 @@
-use Rattle.std.proofs.Common.{ℕ, ◌+◌, ◌-◌, ◌++◌, List, ap, ◌∙◌, length}
+use Rattle.std.proofs.Common.{◌+◌, ◌-◌, ◌++◌, List, ap, ◌∙◌, length}
 use Rattle.std.proofs.Math.ListN.{length-set}
 use Rattle.ctr_types.specs.declared.statement.Line.{Line}
 use Rattle.ctr_load.proofs.Rounds.{rounds_more, rounds_left, rounds_over}
@@ -12,8 +12,9 @@ loop-done-preserved c =
       lines = c.loop-done.invariant.lines
           ∙ rounds_more c.args.count c.loop-done.done was.draws.state was.marked.items was.lines c.add_round.new.self.lines c.loop-done-test.true done.lines
           ∙ ap (λ (rest : List Line). c.add_round.new.self.lines ++ rest)
-              (rounds_left (c.args.count - (c.loop-done.done + 1)) (c.loop-done.done + 1 + 1) _ c.add_round.new.self.draws.state _ c.add_round.new.self.marked.items done.state done.marks);
-      marks = ap length done.marks ∙ length-set was.marked.items _ _ ∙ c.loop-done.invariant.marks }
+          (rounds_left (c.args.count - (c.loop-done.done + 1)) (c.loop-done.done + 1 + 1) _ c.add_round.new.self.draws.state _ c.add_round.new.self.marked.items done.state done.marks);
+      marks = ap length done.marks ∙ length-set was.marked.items _ _ ∙ c.loop-done.invariant.marks;
+    }
 
 pub returns : goal.returns
 returns c =
