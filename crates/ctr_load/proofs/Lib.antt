@@ -4,3 +4,4 @@ mod Wholes
 mod Each
 mod Few
 mod Spelled
+mod Examples

@@ -1,5 +1,5 @@
--- The generated script: a table is made, then so many rounds, and then COMMIT for each session that is
--- still in a transaction.
+-- The generated script: a table is made, then come so many rounds, and then COMMIT for each session
+-- that is still in a transaction.
 use Rattle.std.specs.Prelude.{ℕ, zero, suc, ◌+◌, ◌%◌, ◌==◌, nat_lt, ℤ, pos, Bool, false, not, List, [], ◌∷◌, ◌++◌, length, get_or, set, replicate, if◌then◌else◌}
 use Rattle.ctr_types.specs.declared.statement.Line.{Line}
 use Rattle.ctr_types.specs.declared.statement.Statement.{Statement}
@@ -11,7 +11,8 @@ use Rattle.ctr_load.specs.Statements.{create_load, insert_of, update_of, delete_
 abbrev pub line_at : ℕ → Statement → Line
 line_at place statement = record { session = place + 1; statement = statement }
 
--- the statement of a case, for a key and a number; the last case makes a fourth draw from this state
+-- the statement of a case, for a key and a number; the last case makes a fourth draw, from this
+-- state
 abbrev pub statement_of : ℕ → ℤ → ℤ → ℕ → Statement
 statement_of case key number state =
     if nat_lt case 3 then insert_of key number else
@@ -25,8 +26,8 @@ abbrev pub statement_at : ℕ → ℕ → Statement
 statement_at i state =
     statement_of (case_at state) (pos (key_at state)) (pos i) (third_state state)
 
--- BEGIN, where the session at the place isn't marked as in a transaction; the list has each session's
--- mark
+-- BEGIN, where the session at the place isn't marked as in a transaction; the list has each
+-- session's mark
 abbrev pub beginning : ℕ → List Bool → List Line
 beginning place marks = if get_or marks place false then [] else line_at place st.Begin ∷ []
 

@@ -1,6 +1,7 @@
 //! Plays a suite of cases from standard input: bytes of scripts and of statements alone, and what
-//! they say or where they are refused. Three lines are a case: `script` or `statement` and the bytes,
-//! with escapes; and behind `=` what is read, spelled in one way, or the place of the refusal.
+//! they say or where they are refused; and generated scripts. Two lines are a case: `script` or `statement`
+//! and the bytes, with escapes, or `load` with sessions, rounds and a seed; and behind `=` what is read or
+//! generated, spelled in one way, or the place of the refusal.
 #![tactic(auto)]
 
 mod bytes;

@@ -2,9 +2,10 @@
 use crate::bytes::unescaped;
 use crate::told::{Page, tell_lines, tell_statement};
 use ctr_io::MemSource;
+use ctr_load::make;
 use ctr_parse::{ParseRefusal, parse_statement};
 use ctr_script::{ScriptError, read_script};
-use ctr_suite::Plays;
+use ctr_suite::{Plays, Words};
 use ctr_types::{List, Script, Statement, Text};
 use std::alloc::{AllocError, Global};
 use std::mem;
@@ -63,6 +64,20 @@ fn tell_parsed(
     }
 }
 
+// A script that is generated, where these are numbers of one.
+fn tell_load(alloc: Global, page: &mut Page, words: &mut Words<'_>) -> Result<(), AllocError> {
+    let sessions = words.value::<u8>();
+    let count = words.value::<u64>();
+    let seed = words.value::<u64>();
+    if !words.are_right() || sessions < 1 || sessions > 8 || count > 1_000_000 {
+        return page.add("no load");
+    }
+    match make(alloc, sessions, count, seed) {
+        Ok(script) => tell_lines(page, script.lines.as_slice()),
+        Err(_) => page.add("out of memory"),
+    }
+}
+
 fn behind<'a>(line: &'a [u8], word: &[u8]) -> Option<&'a [u8]> {
     if line.len() < word.len() {
         return None;
@@ -104,6 +119,10 @@ impl Player {
             self.begin(line)?;
             let bytes = unescaped(alloc, text)?;
             return tell_text(alloc, &mut self.gives, &bytes);
+        }
+        if let Some(numbers) = behind(line, b"load ") {
+            self.begin(line)?;
+            return tell_load(alloc, &mut self.gives, &mut Words::new(numbers));
         }
         if let Some(wanted) = behind(line, b"= ") {
             return self.compare(wanted);
