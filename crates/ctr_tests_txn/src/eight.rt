@@ -1,8 +1,10 @@
 // Eight sessions between their Locks and their Writes, with the cleaner beside them: what they still do takes the room that
-// was kept, and no memory. What runs behind the Locks is handed no allocator.
+// was kept, and no memory. What runs behind the Locks is handed no allocator; and where this is asked for, all memory is
+// taken there, so that whatever asks for some is refused it.
 ghost use Rattle.std.specs.Prelude.{◌≡◌, false, OnOk};
 ghost use Rattle.ctr_tests_txn.specs.StandsReady.{StandsReady};
 
+use crate::hoard::Hoard;
 use crate::plays::{Play, played};
 use crate::refused::Refused;
 use crate::steps::{ask, begin, lock, told, write, write_cleaners};
@@ -10,7 +12,11 @@ use crate::turns::Mem;
 use ctr_txn::Txns;
 use ctr_types::Xid;
 use std::alloc::Global;
+use std::env;
 use std::test::Fail;
+
+// checks/refused sets it: memory has a limit there, and is to be refused behind the Locks.
+const REFUSE: &str = "CTR_REFUSE";
 
 // What each session was answered, from 1 on; how many items there are once all have written; and the answers of commits, each
 // a session, a commit number and a statement, before all was hardened and behind it.
@@ -22,10 +28,13 @@ struct Eight {
     asked: [u64; 8],
     early: (u8, u64, u64),
     answered: [(u8, u64, u64); 9],
+    // what takes the memory that there is, if it is to be refused; and whether none was left, each time
+    hoard: Option<Hoard>,
+    refused: bool,
 }
 
 impl Eight {
-    fn new() -> Eight {
+    fn new(hoard: Option<Hoard>) -> Eight {
         Eight {
             begun: [9; 8],
             numbers: [0; 8],
@@ -33,6 +42,8 @@ impl Eight {
             asked: [0; 8],
             early: (9, 9, 9),
             answered: [(9, 9, 9); 9],
+            hoard,
+            refused: true,
         }
     }
 
@@ -56,6 +67,14 @@ impl Eight {
             && self.asked == [8, 7, 6, 5, 4, 3, 2, 1]
             && self.early == (0, 0, 0)
             && self.answered == answered
+            && self.refused
+    }
+
+    // From here on memory is refused, if it is to be. It is called again behind each call, which may have let go of some.
+    fn refuse(&mut self) {
+        if let Some(hoard) = &mut self.hoard {
+            self.refused = hoard.take_all() && self.refused;
+        }
     }
 
     fn begin_all(&mut self, alloc: Global, txns: &mut Txns, store: &Mem) -> Result<(), Refused> {
@@ -84,8 +103,10 @@ impl Eight {
     {
         for s in 1..9_u8 {
             write(txns, store, s, s - 1)?;
+            self.refuse();
         }
         write_cleaners(txns, store, 1, 8)?;
+        self.refuse();
         self.items = store.meta().items().len();
         Ok(())
     }
@@ -98,6 +119,7 @@ impl Eight {
         for i in 0..8_u8 {
             let s = 8 - i;
             self.asked[s as usize - 1] = ask(txns, store, s, 10 + s as u64)?;
+            self.refuse();
         }
         Ok(())
     }
@@ -105,6 +127,7 @@ impl Eight {
     fn answer_all(&mut self, txns: &mut Txns, store: &Mem) {
         for i in 0..9 {
             self.answered[i] = told(txns.answer_hardened(store));
+            self.refuse();
         }
     }
 
@@ -112,10 +135,12 @@ impl Eight {
     fn finish(&mut self, txns: &mut Txns, store: &mut Mem) -> Result<(), Refused>
         requires stands { StandsReady txns.old store.old }
     {
+        self.refuse();
         self.write_all(txns, store)?;
         self.ask_all(txns, store)?;
         self.early = told(txns.answer_hardened(store));
         store.harden()?;
+        self.refuse();
         self.answer_all(txns, store);
         Ok(())
     }
@@ -129,13 +154,20 @@ impl Play for Eight {
     }
 }
 
-fn finishes(alloc: Global) -> bool {
-    let mut eight = Eight::new();
+fn finishes(alloc: Global, hoard: Option<Hoard>) -> bool {
+    let mut eight = Eight::new(hoard);
     played(alloc, &mut eight) == Ok(()) && eight.is_right()
 }
 
 #[test]
 fn eight_locked_sessions_finish_by_the_room_that_was_kept(rt: HostRuntime) -> Result<(), Fail> {
-    assert!(rt; finishes(rt.alloc()));
+    assert!(rt; finishes(rt.alloc(), None));
+    // By now the stack has grown as far as it has to, which takes memory too.
+    if env::var(&rt, REFUSE).is_ok() {
+        assert!(rt;
+            finishes(rt.alloc(), Some(Hoard::new(rt.alloc())?)),
+            "all memory was refused, and the sessions finished"
+        );
+    }
     Ok(())
 }

@@ -13,6 +13,10 @@ mod commits;
 #[cfg(test)]
 mod eight;
 #[cfg(test)]
+mod fixed_disk;
+#[cfg(test)]
+mod hoard;
+#[cfg(test)]
 mod marks;
 #[cfg(test)]
 mod plays;

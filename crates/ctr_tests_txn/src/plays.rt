@@ -1,14 +1,14 @@
 // A play over a store in memory: a database of nine tables, which are laid by hand.
 ghost use Rattle.std.specs.Prelude.{◌≡◌, false, IfSome};
 
+use crate::fixed_disk::FixedDisk;
 use crate::refused::Refused;
 use crate::turns::Mem;
 use ctr_base::Origin;
-use ctr_disk::Disk;
-use ctr_mem_disk::{Image, MemDisk, SilentDisk};
+use ctr_disk::{Disk, Failed};
 use ctr_store::{Store, create};
 use ctr_txn::Txns;
-use ctr_types::{File, List};
+use ctr_types::File;
 use std::alloc::{AllocError, Global};
 use std::marker::Brand;
 
@@ -27,12 +27,6 @@ fn created<D: Disk + Drop>(disk: D) -> D {
     }
 }
 
-// The files of a new database.
-fn made(alloc: Global) -> Result<Image, AllocError> {
-    let disk = MemDisk::new(alloc, Image::new(alloc), List::new(alloc))?;
-    Ok(created(SilentDisk { disk }).disk.into_image())
-}
-
 // Page 1 is open at home.
 const HOME: [u8; 13] = *b"\x01\x01\0\0\0\x01\0\0\0\0\0\0\0";
 
@@ -40,24 +34,23 @@ const HOME: [u8; 13] = *b"\x01\x01\0\0\0\x01\0\0\0\0\0\0\0";
 const TITLE: [u8; 18] = *b"\x01\x01\0\0\0\0\0\0\0\0\0\0\0\0\0\0\0\x01";
 
 // The entries 0 to 8 are tables from a to i, and the next transaction is 2.
-fn lay(alloc: Global, files: &mut Image) -> Result<(), AllocError> {
-    files.write(alloc, File::LogA, 30, &[2])?;
-    files.write(alloc, File::Pages, 8_256, &HOME)?;
+fn lay<D: Disk>(disk: &mut D) -> Result<(), Failed> {
+    disk.write(File::LogA, 30, &[2])?;
+    disk.write(File::Pages, 8_256, &HOME)?;
     for entry in 0..9_u8 {
         let at = 8_269 + 256 * entry as u64;
-        files.write(alloc, File::Pages, at, &TITLE)?;
-        files.write(alloc, File::Pages, at + 18, &[b'a' + entry])?;
-        files.write(alloc, File::Pages, at + 34, b"\x01\x01k")?;
+        disk.write(File::Pages, at, &TITLE)?;
+        disk.write(File::Pages, at + 18, &[b'a' + entry])?;
+        disk.write(File::Pages, at + 34, b"\x01\x01k")?;
     }
     Ok(())
 }
 
-// A disk that has them.
-fn laid(alloc: Global) -> Result<SilentDisk, AllocError> {
-    let mut files = made(alloc)?;
-    lay(alloc, &mut files)?;
-    let disk = MemDisk::new(alloc, files, List::new(alloc))?;
-    Ok(SilentDisk { disk })
+// A disk that has them. Where it fails, opening it does too, or the play.
+fn laid(alloc: Global) -> Result<FixedDisk, AllocError> {
+    let mut disk = created(FixedDisk::new(alloc)?);
+    let _ = lay(&mut disk);
+    Ok(disk)
 }
 
 // The one function that opens a store.
@@ -76,7 +69,7 @@ fn opened(alloc: Global) -> Option<Mem>
     ensures going { IfSome result (λ store. store.stopped ≡ false) }
 {
     match laid(alloc) {
-        Ok(disk) => opened_on::<SilentDisk, Brand>(alloc, disk),
+        Ok(disk) => opened_on::<FixedDisk, Brand>(alloc, disk),
         Err(_) => None,
     }
 }

@@ -2,13 +2,13 @@
 ghost use Rattle.std.specs.Prelude.{◌≡◌, false, IsTrue, IfOk, OnOk};
 ghost use Rattle.ctr_walk.specs.OneRecord.{HasRoomForOne};
 
+use crate::fixed_disk::FixedDisk;
 use ctr_disk::StoreFault;
-use ctr_mem_disk::SilentDisk;
 use ctr_store::Store;
 use std::marker::Brand;
 
-/// A store over a disk in memory.
-pub type Mem = Store<SilentDisk, Brand>;
+/// A store over a disk whose calls take no memory.
+pub type Mem = Store<FixedDisk, Brand>;
 
 // A turn for room, where it wants one.
 fn turn(store: &mut Mem) -> Result<(), StoreFault>
