@@ -22,5 +22,5 @@ lines =
     ∷ record { session = 2; statement = st.Commit }
     ∷ record { session = 3; statement = st.Commit } ∷ []
 
-drawn_by_hand : generated 3 5 42 ≡ lines
-drawn_by_hand = refl
+worked_out : generated 3 5 42 ≡ lines
+worked_out = refl
