@@ -1,11 +1,10 @@
 -- A commit that is answered in a World: the program answers the session that the model does.
-use Rattle.std.proofs.Common.{◌≡◌, ◌≢◌, ℕ, zero, suc, ◌+◌, ◌-◌, ◌<◌, ◌≤◌, ◌==◌, true, false, cond, List, [], ◌∷◌, ◌++◌, length, map, Some, None, refl, sym, ◌∙◌, ap, subst, arith}
-use Rattle.std.specs.Prelude.{nat_lt, ◌&&◌, not, slice_get, is_some, get_or, unwrap_or}
+use Rattle.std.proofs.Common.{◌≡◌, ◌≢◌, ℕ, zero, suc, ◌+◌, ◌-◌, ◌<◌, ◌≤◌, ◌==◌, true, false, cond, List, [], ◌∷◌, ◌++◌, length, Some, None, refl, sym, ◌∙◌, ap, subst, arith}
+use Rattle.std.specs.Prelude.{nat_lt, ◌&&◌, not, slice_get, is_some}
 use Rattle.std.specs.Option.{option_map}
 use Rattle.std.specs.Ordering.{nat_cmp}
 use Rattle.std.specs.FinMap.Entries.{find}
 use Rattle.std.proofs.lemmas.Bool.{false≢true, eqb-true, and_parts, ltb-true}
-use Rattle.std.proofs.lemmas.List.{append-nil, append_assoc, get_or-set_same, get_or-set_other}
 use Rattle.ctr_disk.specs.declared.disk.Disk.{Ghosts}
 use Rattle.ctr_types.specs.declared.tape.Act.TheVariants as act
 use Rattle.ctr_types.specs.declared.tape.Reply.TheVariants as reply
@@ -15,9 +14,9 @@ use Rattle.ctr_model.specs.declared.state.Transaction.{Transaction}
 use Rattle.ctr_model.specs.declared.tape.Point.{Point}
 use Rattle.ctr_model.specs.Maps.{without}
 use Rattle.ctr_model.specs.State.{transaction_of, without_transaction}
-use Rattle.ctr_model.specs.Tape.{advanced, acts_of, passed_by, progress_of}
-use Rattle.ctr_model.proofs.Sessions.{find-put-other, find-without-other, find-without-same}
-use Rattle.ctr_legal.proofs.Reached.{final_push, waiting_answered}
+use Rattle.ctr_model.specs.Tape.{progress_of}
+use Rattle.ctr_model.proofs.Sessions.{find-without-other, find-without-same}
+use Rattle.ctr_legal.proofs.Reached.{waiting_answered}
 use Rattle.ctr_legal.specs.Laws.{IsAnsweredNext}
 use Rattle.ctr_legal.specs.Ready.{IsReached}
 use Rattle.ctr_versions.proofs.Keys.{known, some_is}
@@ -31,15 +30,15 @@ use Rattle.ctr_key_locks.specs.Held.{LocksOfSession, FreesAll, OfSession, locks_
 use Rattle.ctr_key_locks.specs.Shows.{ShowsKeyLocks, ReleaseLeavesLocks}
 use Rattle.ctr_kept.proofs.Walking.{keeps_reached}
 use Rattle.ctr_kept.specs.Walk.{Mind}
-use Rattle.ctr_kept.specs.Turns.{Start, InTransaction, KeepsRun, MayCome, Telling, entry_of, point_now, start_point, state_now, telling}
+use Rattle.ctr_kept.specs.Turns.{Start, InTransaction, KeepsRun, MayCome, Telling, entry_of, point_now, state_now, telling}
 use Rattle.ctr_stops.specs.World.{KeepsWorld}
 use Rattle.ctr_txn.specs.declared.txn.Asked.{Asked}
 use Rattle.ctr_txn.specs.Held.{AreTxns, TxnHeld, TxnsHeld, run_of, txn_of}
-use Rattle.ctr_txn.specs.Steps.{AnswersInTurn, AnswersNext}
+use Rattle.ctr_txn.specs.Steps.{AnswersNext}
 use Rattle.ctr_session_world.proofs.ctr_told.Answered.{answer_leaves}
 use Rattle.ctr_session_world.specs.ctr_told.Turning.{answered_mind}
-use Rattle.ctr_control.specs.Answers.{AreAnswered, IsWorld, answer_by}
-use Rattle.ctr_session_world.specs.World.{SessionsHeld, InWorld, AreInTables, AreInOrder, names_in}
+use Rattle.ctr_control.specs.Answers.{IsAnswered}
+use Rattle.ctr_session_world.specs.World.{InWorld, AreInTables, AreInOrder, names_in}
 use Rattle.ctr_session_world.proofs.Alike.{gone_in_order}
 use Rattle.ctr_session_world.proofs.Standing.{RunFinds}
 
@@ -195,7 +194,7 @@ module _ {D : Type 0} (g : Ghosts D) (c : Start) (opened : D) (v : View D) (old 
         (λ one. absurd (false≢true (ap is_some (sym (find-without-same s state.sessions) ∙ ap (transaction_of gone_state) (sym (eqb-true r s one)) ∙ at))))
         (λ two. world.tables r f key u (ap (locks_key f key) (sym (frees.others r two)) ∙ is) (sym (find-without-other r s state.sessions two) ∙ at))
 
-    pub answered_world : InWorld g c opened v (record { txns = m; locks = left }) w1
+    answered_world : InWorld g c opened v (record { txns = m; locks = left }) w1
     answered_world = record {
       keeps = keeps;
       run_is = ap (λ (r : Run). record r { sessions = without nat_cmp s r.sessions; answered = r.answered + 1 }) world.run_is ∙ sym runs;
@@ -204,64 +203,16 @@ module _ {D : Type 0} (g : Ghosts D) (c : Start) (opened : D) (v : View D) (old 
       in_order = subst AreInOrder (sym is_state) (gone_in_order s (record state { answered = k + 1 }) world.in_order);
     }
 
-  -- ---- and all behind it
-
-  -- another session is as far as it was
-  progress_still : (r : ℕ) → (r == s) ≡ false → progress_of (point_now c w1) r ≡ progress_of point r
-  progress_still r two =
-      ap (λ (p : Point). progress_of p r) (final_push c.lines (start_point c) w.tape (entry_of s e act.Answer (reply.Answered (k + 1))))
-      ∙ ap (λ o. progress_of (passed_by o point (entry_of s e act.Answer (reply.Answered (k + 1)))) r) e.is_it
-      ∙ ap (λ o. unwrap_or o (record { finished = 0; made = 0 })) (find-put-other r s (advanced (acts_of point.state s e.statement) (reply.Answered (k + 1)) (progress_of point s)) point.progress two)
-
-  none_some : {A : Type 0} {x : A} → None ≡ Some x → ⊥
-  none_some is = false≢true (ap is_some is)
-
-  -- who is in no transaction isn't answered
-  others_still : (rs : List (ℕ × Asked)) (a b : TxnsHeld) → txn_of s a ≡ None → AnswersInTurn rs a b → map (answer_by (point_now c w1) moment) rs ≡ map (answer_by point moment) rs
-  others_still [] a b none all = refl
-  others_still (r ∷ rs) a b none all =
-      let two : (r.0 == s) ≡ false = known_two (r.0 == s) (λ one. none_some (sym none ∙ ap (λ n. txn_of n a) (sym (eqb-true r.0 s one)) ∙ all.1.there)) in
-      (λ i. record (answer_by point moment r) { statement = (progress_still r.0 two i).finished + 1 } ∷ map (answer_by (point_now c w1) moment) rs)
-      ∙ ap (λ l. answer_by point moment r ∷ l) (others_still rs all.0 b (still r.0 all.1 none) all.2)
-    where
-      known_two : (b : _) → (b ≡ true → ⊥) → b ≡ false
-      known_two true isnt = absurd (isnt refl)
-      known_two false isnt = refl
-
-      still : (n : ℕ) {x : Asked} {a z : TxnsHeld} → AnswersNext n x a z → txn_of s a ≡ None → txn_of s z ≡ None
-      still n {x} {a} {z} one none =
-          ap (λ (h : TxnsHeld). get_or h.sessions (s - 1) None) one.new_is
-          ∙ get_or-set_other a.sessions (n - 1) (s - 1) None None (λ same. none_some (sym none ∙ ap (λ i. get_or a.sessions i None) same ∙ one.there))
-          ∙ none
-
-  gone_now : txn_of s m ≡ None
-  gone_now = ap (λ (h : TxnsHeld). get_or h.sessions (s - 1) None) next.new_is ∙ get_or-set_same old.sessions (s - 1) None None (inside (length old.sessions) held.eight)
-    where
-      inside : (n : ℕ) → n ≡ 8 → s - 1 < n
-      inside n is = let from = next.one.from in let to = next.one.to in omega (arith, from, to, is)
-
-  pub answered_all : (now : SessionsHeld) (rs : List (ℕ × Asked)) → AnswersInTurn rs m now.txns → (h1 : SessionsHeld) (world1 : InWorld g c opened v h1 w1)
-      → AreAnswered {h = h1} (record { mind = w1; world = world1 }) rs now → AreAnswered {h = record { txns = old; locks = locks }} (record { mind = w; world = world }) ((s, q) ∷ rs) now
-  answered_all now rs all h1 world1 rest = record {
-    mind = rest.mind;
-    world = rest.world;
-    tape = rest.tape
-        ∙ append_assoc w.tape (entry_of s e act.Answer (reply.Answered (k + 1)) ∷ []) (map (answer_by (point_now c w1) moment) rs)
-        ∙ ap (λ l. w.tape ++ entry_of s e act.Answer (reply.Answered (k + 1)) ∷ l) (others_still rs m now.txns gone_now all)
-        ∙ ap (λ n. w.tape ++ entry_of s e act.Answer (reply.Answered n) ∷ map (answer_by point moment) rs) (sym number_is);
-    facts = rest.facts;
-  }
+    pub answered_told : IsAnswered {h = record { txns = old; locks = locks }} (record { mind = w; world = world }) (s, q) (record { txns = m; locks = left })
+    answered_told = record {
+      mind = w1;
+      world = answered_world;
+      tape = ap (λ n. w.tape ++ entry_of s e act.Answer (reply.Answered n) ∷ []) (sym number_is);
+      facts = refl;
+      undo = refl;
+    }
 
 -- a list has nothing, or something
 pub by_list : {A : Type 0} {P : Type 0} (l : List A) → (l ≡ [] → P) → (l ≢ [] → P) → P
 by_list [] nothing some = nothing refl
 by_list (x ∷ xs) nothing some = some (λ is. absurd cc)
-
--- none is answered
-pub answered_none : {D : Type 0} {g : Ghosts D} {c : Start} {opened : D} {v : View D} {h : SessionsHeld} (before : IsWorld g c opened v h) (now : SessionsHeld) → now ≡ h → AreAnswered before [] now
-answered_none {D} {g} {c} {opened} {v} {h} before now same = record {
-  mind = before.mind;
-  world = subst (λ (z : SessionsHeld). InWorld g c opened v z before.mind) (sym same) before.world;
-  tape = sym (append-nil before.mind.tape);
-  facts = refl;
-}

@@ -132,6 +132,7 @@ module _ {D : Type 0} (g : Ghosts D) (c : Start) (opened : D) (a b : View D) (ol
         in_order = subst AreInOrder (sym is_state) (put_in_order s asked_t (record state { asked = state.asked ++ seat.t.own ∷ [] }) next.world.in_order);
       };
       tape = refl;
+      undo = refl;
       others = facts_others;
       counts = subst AreTables (sym (facts_its s (eq-eqb s s refl))) tables;
     }

@@ -117,6 +117,7 @@ module _ {D : Type 0} (g : Ghosts D) (c : Start) (opened : D) (a b : View D) (ol
               in_order = subst AreInOrder (sym is_state) (put_in_order s (begun state.answered) state next.world.in_order);
             };
             tape = refl;
+            undo = refl;
             others = same_facts;
             counts = ap (λ x. cond x [] (next.mind.facts s)) (eq-eqb s s refl);
           }

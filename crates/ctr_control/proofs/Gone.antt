@@ -67,6 +67,7 @@ module _ {D : Type 0} (g : Ghosts D) (c : Start) (opened : D) (a b : View D) (ol
             in_order = subst AreInOrder (sym is_state) (gone_in_order s state next.world.in_order);
           };
           tape = refl;
+          undo = refl;
           others = facts_others;
           counts = counts;
         }

@@ -200,6 +200,7 @@ module _ {D : Type 0} (g : Ghosts D) (c : Start) (opened : D) (a b : View D) (ol
           in_order = next.world.in_order;
         };
         tape = refl;
+        undo = refl;
         others = facts_others;
       }
 

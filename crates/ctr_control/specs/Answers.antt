@@ -1,5 +1,5 @@
--- Commits that are answered in a World, whoever flushed.
-use Rattle.std.specs.Prelude.{◌≡◌, ℕ, ◌+◌, ◌++◌, List, map}
+-- A commit that is answered in a World, whoever flushed.
+use Rattle.std.specs.Prelude.{◌≡◌, ℕ, ◌+◌, [], ◌∷◌, ◌++◌}
 use Rattle.ctr_disk.specs.declared.disk.Disk.{Ghosts}
 use Rattle.ctr_types.specs.declared.tape.Act.TheVariants as act
 use Rattle.ctr_types.specs.declared.tape.Entry.{Entry}
@@ -29,13 +29,14 @@ answer_by p moment r = record {
   moment = moment;
 }
 
--- These sessions were answered, one behind another and at one moment: each is told so on the tape,
--- with the number of its commit, and this is the World then. What sessions count on is as it was.
-pub record AreAnswered {D : Type 0} {g : Ghosts D} {c : Start} {opened : D} {v : View D}
-    {h : SessionsHeld} (before : IsWorld g c opened v h) (rs : List (ℕ × Asked))
-    (now : SessionsHeld) : Type 0 where
+-- A session was answered: it is told so on the tape, with the number of its commit, and this is the
+-- World then. What sessions count on, and undo's list, are as they were.
+pub record IsAnswered {D : Type 0} {g : Ghosts D} {c : Start} {opened : D} {v : View D}
+    {h : SessionsHeld} (before : IsWorld g c opened v h) (r : ℕ × Asked) (now : SessionsHeld)
+    : Type 0 where
   pub mind : Mind
   pub world : InWorld g c opened v now mind
   pub tape : mind.tape ≡ before.mind.tape
-      ++ map (answer_by (point_now c before.mind) (g.moment_of v.disk)) rs
+      ++ answer_by (point_now c before.mind) (g.moment_of v.disk) r ∷ []
   pub facts : mind.facts ≡ before.mind.facts
+  pub undo : mind.undo ≡ before.mind.undo

@@ -6,7 +6,7 @@ ghost use Rattle.ctr_base.specs.Base.{WhereSound};
 ghost use Rattle.ctr_key_locks.specs.Held.{LocksOfSession};
 ghost use Rattle.ctr_kept.specs.Turns.{Start};
 ghost use Rattle.ctr_txn.specs.Held.{IsOneOfEight};
-ghost use Rattle.ctr_txn.specs.Rooms.{StaysRoom};
+ghost use Rattle.ctr_session_world.specs.Ready.{LeavesReady, StandOver, StaysUnasked};
 ghost use Rattle.ctr_session_world.specs.Told.{IsNextOf, IsTold};
 
 use ctr_base::Origin;
@@ -27,8 +27,7 @@ pub fn begin<D: Disk, O: Origin>(
     s: u8,
 ) -> Reply
     requires one { IsOneOfEight s }
-    ensures items { StaysRoom txns.old txns.new }
-    ensures numbers { txns.new.numbers ≡ txns.old.numbers }
+    ensures over { StandOver txns.old store.now → store.now.stopped ≡ false → LeavesReady s txns.old txns.new store.now store.now × StaysUnasked s txns.old txns.new }
     ensures told { (c : Start) (opened : D) (locks : List (ℕ × LocksOfSession)) → WhereSound O.first D.Disk (store.now.stopped ≡ false
         → (next : IsNextOf D.Disk c opened store.now store.now (record { txns = txns.old; locks = locks }) s st.Begin 0)
         → IsTold next (record { txns = txns.new; locks = locks }) act.Begin result) }

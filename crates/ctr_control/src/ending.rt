@@ -1,17 +1,13 @@
 // COMMIT's first act.
-ghost use Rattle.std.specs.Prelude.{◌≡◌, false, List, OnOk, IfOk, IfErr};
+ghost use Rattle.std.specs.Prelude.{◌≡◌, false, IfOk, IfErr};
 ghost use Rattle.ctr_disk.specs.declared.fault.StoreFault.TheVariants.{Fault};
 ghost use Rattle.ctr_types.specs.Faults.{HasFault};
 ghost use Rattle.ctr_types.specs.declared.statement.Statement.TheVariants as st;
 ghost use Rattle.ctr_types.specs.declared.tape.Act.TheVariants as act;
-ghost use Rattle.ctr_record_effects.specs.Standing.{IsDatabaseState};
-ghost use Rattle.ctr_actions.specs.Actions.{Commits, Owes};
-ghost use Rattle.ctr_actions.specs.Sites.{site_of};
+ghost use Rattle.ctr_model.specs.Laws.{is_asked};
 ghost use Rattle.ctr_base.specs.Base.{WhereSound};
 ghost use Rattle.ctr_kept.specs.Turns.{Start};
-ghost use Rattle.ctr_txn.specs.Held.{IsOneOfEight, IsWriting, number_drawn};
-ghost use Rattle.ctr_txn.specs.Calls.{MayEnd, IsOverStore};
-ghost use Rattle.ctr_txn.specs.Rooms.{HasItemRoom};
+ghost use Rattle.ctr_session_world.specs.Ready.{LeavesReady, MayTurn, StaysUnasked, TakesTime};
 ghost use Rattle.ctr_session_world.specs.Told.{IsNextOf, IsTold, IsIdleIn};
 
 use crate::marks::ask_for;
@@ -34,18 +30,18 @@ pub fn ask<D: Disk, O: Origin>(
     s: u8,
     statement: u64,
 ) -> Result<Reply, StoreFault>
-    requires one { IsOneOfEight s }
-    requires may { IsWriting s txns.old → MayEnd s txns.old store.old }
-    ensures over { OnOk result (IsOverStore txns.old store.old → IsOverStore txns.new store.new) }
-    ensures items { OnOk result (HasItemRoom txns.old store.old.meta → HasItemRoom txns.new store.new.meta) }
-    ensures told { (c : Start) (opened : D) → WhereSound O.first D.Disk (store.old.stopped ≡ false
-        → (next : IsNextOf D.Disk c opened store.old store.new (record { txns = txns.old; locks = locks.old }) s st.Commit 0) → IsIdleIn c next.mind s
+    requires may { MayTurn s txns.old store.old }
+    // It has asked for its commit then where it is told so alone.
+    ensures over { IfOk result (λ r. LeavesReady s txns.old txns.new store.old store.new × (is_asked r ≡ false → StaysUnasked s txns.old txns.new)) }
+    ensures told { (c : Start) (opened : D) → WhereSound O.first D.Disk ((next : IsNextOf D.Disk c opened store.old store.new (record { txns = txns.old; locks = locks.old }) s st.Commit 0) → IsIdleIn c next.mind s
         → IfOk result (IsTold next (record { txns = txns.new; locks = locks.new }) act.Ask)) }
-    // Where the pages may be a database's and the transaction owes nothing more, it is refused by the disk alone.
-    ensures refused { WhereSound O.first D.Disk (IsDatabaseState store.old.now → Owes (number_drawn s txns.old) Commits (site_of store.old.now)
+    // In a World it fails by the disk alone.
+    ensures refused { (c : Start) (opened : D) → WhereSound O.first D.Disk ((next : IsNextOf D.Disk c opened store.old store.new (record { txns = txns.old; locks = locks.old }) s st.Commit 0) → IsIdleIn c next.mind s
         → IfErr result (λ e. e ≡ Fault)) }
     // A fault is told where the disk counts one more.
     ensures faults { HasFault Fault (D.faults_of store.old.disk) (D.faults_of store.new.disk) result }
+    // Time doesn't go back.
+    ensures time { TakesTime D.Disk store.old store.new }
 {
     a_commit_that_is_asked_for_is_told::<D>();
     a_reader_that_ends_is_told::<D>();

@@ -7,7 +7,7 @@ mod ending;
 mod marks;
 mod rolling;
 
-pub use answering::{answer, flush};
+pub use answering::{answer_one, flush, make_room};
 pub use beginning::begin;
 pub use ending::ask;
 pub use rolling::roll_back;

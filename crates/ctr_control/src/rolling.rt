@@ -1,17 +1,18 @@
 // ROLLBACK, turn by turn.
-ghost use Rattle.std.specs.Prelude.{◌≡◌, ◌≤◌, ◌+◌, false, None, Some, OnOk, IfOk};
+ghost use Rattle.std.specs.Prelude.{◌≡◌, ◌≤◌, ◌+◌, Ok, None, OnOk, IfOk, IfErr};
 ghost use Rattle.ctr_disk.specs.declared.fault.StoreFault.TheVariants.{Fault};
 ghost use Rattle.ctr_types.specs.Faults.{HasFault};
 ghost use Rattle.ctr_types.specs.declared.statement.Statement.TheVariants as st;
 ghost use Rattle.ctr_types.specs.declared.tape.Act.TheVariants as act;
 ghost use Rattle.ctr_base.specs.Base.{WhereSound};
 ghost use Rattle.ctr_kept.specs.Turns.{Start};
-ghost use Rattle.ctr_txn.specs.Held.{IsOneOfEight, IsWriting, number_drawn};
-ghost use Rattle.ctr_txn.specs.Calls.{MayEnd, IsOverStore};
+ghost use Rattle.ctr_txn.specs.Held.{IsWriting, number_drawn};
+ghost use Rattle.ctr_txn.specs.Calls.{MayEnd};
 ghost use Rattle.ctr_txn.specs.Rooms.{HasItemRoom};
 ghost use Rattle.ctr_page_turns.specs.Turns.{LogsAtRest};
 ghost use Rattle.ctr_rollback.specs.Rolling.{MayRoll, EndsRoll, RollsTxns, TakesSteps};
 ghost use Rattle.ctr_control.specs.Rolling.{as_rolled};
+ghost use Rattle.ctr_session_world.specs.Ready.{LeavesOver, MayTurn, TakesTime};
 ghost use Rattle.ctr_session_world.specs.Told.{IsNextOf, TellsOrGoesOn};
 
 use ctr_base::Origin;
@@ -35,12 +36,13 @@ fn undo_or_abort<D: Disk, O: Origin, L: Ledger>(
     requires may { MayEnd s txns.old store.old }
     ensures logs { WhereSound O.first D.Disk (OnOk result (LogsAtRest D.Disk store.old store.new)) }
     ensures txns { RollsTxns s txns.old txns.new result }
-    ensures items { OnOk result (HasItemRoom txns.old store.old.meta → HasItemRoom txns.new store.new.meta) }
-    ensures over { OnOk result (IsOverStore txns.new store.new) }
+    ensures over { HasItemRoom txns.old store.old.meta → LeavesOver s txns.old txns.new store.old store.new result }
     ensures rolls { WhereSound O.first D.Disk (MayRoll (number_drawn s txns.old) store.old.now → EndsRoll (number_drawn s txns.old) store.old.now store.new.now result) }
-    ensures steps { TakesSteps result steps.old steps.new }
+    ensures steps { TakesSteps result steps.old steps.new × OnOk result (store.new.next ≡ store.old.next + 1) }
     ensures faults { HasFault Fault (D.faults_of store.old.disk) (D.faults_of store.new.disk) result }
+    ensures time { TakesTime D.Disk store.old store.new }
 {
+    txns.counts_sessions();
     let rolled = turn(store, txns, s, steps);
     store.rests();
     rolled
@@ -56,19 +58,21 @@ pub fn roll_back<D: Disk, O: Origin, L: Ledger>(
     s: u8,
     steps: &mut Steps<L>,
 ) -> Result<Option<Reply>, StoreFault>
-    requires one { IsOneOfEight s }
-    requires may { IsWriting s txns.old → MayEnd s txns.old store.old }
-    ensures over { OnOk result (IsOverStore txns.old store.old → IsOverStore txns.new store.new) }
-    ensures items { OnOk result (HasItemRoom txns.old store.old.meta → HasItemRoom txns.new store.new.meta) }
-    ensures told { (c : Start) (opened : D) → WhereSound O.first D.Disk (store.old.stopped ≡ false
-        → (next : IsNextOf D.Disk c opened store.old store.new (record { txns = txns.old; locks = locks.old }) s st.Rollback 0)
+    requires may { MayTurn s txns.old store.old }
+    ensures over { LeavesOver s txns.old txns.new store.old store.new result }
+    ensures told { (c : Start) (opened : D) → WhereSound O.first D.Disk ((next : IsNextOf D.Disk c opened store.old store.new (record { txns = txns.old; locks = locks.old }) s st.Rollback 0)
         → IfOk result (TellsOrGoesOn next (record { txns = txns.new; locks = locks.new }) act.Rollback)) }
-    // Of one that wrote an item went, or there was none and it is aborted; it is refused by the disk alone.
+    // Of one that wrote an item went, or there was none and it is aborted.
     ensures rolls { IsWriting s txns.old → WhereSound O.first D.Disk (MayRoll (number_drawn s txns.old) store.old.now
         → EndsRoll (number_drawn s txns.old) store.old.now store.new.now (as_rolled result)) }
-    ensures steps { steps.new ≤ steps.old + 2 }
+    // Two steps at most; and where it goes on a record was logged.
+    ensures steps { (steps.new ≤ steps.old + 2) × (result ≡ Ok None → store.new.next ≡ store.old.next + 1) }
+    // In a World it fails by the disk alone.
+    ensures refused { (c : Start) (opened : D) → WhereSound O.first D.Disk (IsNextOf D.Disk c opened store.old store.new (record { txns = txns.old; locks = locks.old }) s st.Rollback 0 → IfErr result (λ e. e ≡ Fault)) }
     // A fault is told where the disk counts one more.
     ensures faults { HasFault Fault (D.faults_of store.old.disk) (D.faults_of store.new.disk) result }
+    // Time doesn't go back.
+    ensures time { TakesTime D.Disk store.old store.new }
 {
     a_turn_of_a_rollback_is_kept::<D>();
     a_reader_that_ends_is_told::<D>();

@@ -247,7 +247,7 @@ module _ {D : Type 0} (g : Ghosts D) (c : Start) (opened : D) (a b : View D) (h 
 
       -- its entry is told, and it counts on the table
       module _ (mid : SessionsHeld) (left : List (ℕ × LocksOfSession)) (room : KeepsSessions s h mid) (takes : TakesRow s row mid.locks left) (shows : ShowsKeyLocks (names_in a.now) left now)
-          (new : TxnsHeld) (v : Mind) (longer : v.tape ≡ w.tape ++ entry_of s next.e act.Lock reply.Granted ∷ []) (facts : v.facts ≡ with_facts s (facts_idle ++ more) w.facts) (run_now : v.run ≡ run_of new)
+          (new : TxnsHeld) (v : Mind) (longer : v.tape ≡ w.tape ++ entry_of s next.e act.Lock reply.Granted ∷ []) (facts : v.facts ≡ with_facts s (facts_idle ++ more) w.facts) (run_now : v.run ≡ run_of new) (undo : v.undo ≡ w.undo)
           (session : SessionHeld) (at : find nat_cmp s v.run.sessions ≡ Some session) (same : (f : ℕ) → (area_in b.now).title f ≡ (area_in a.now).title f) (keeps : KeepsWorld g c opened b v) (may : MayCount g) where
         abbrev seat_now : InTransaction c v s
         seat_now = record { session = session; t = u; at = at; is_t = ap (λ (q : State). transaction_of q s) (told_now v longer) ∙ find-put-same s u state.sessions }
@@ -267,7 +267,7 @@ module _ {D : Type 0} (g : Ghosts D) (c : Start) (opened : D) (a b : View D) (h 
         pub locked_told : (told : IsTold next (record { txns = new; locks = left }) act.Lock reply.Granted) × IsAmong (HasTable e title) (told.mind.facts s)
         locked_told =
             let its = changed_told g c opened a b h s statement 0 next act.Lock reply.Granted u now refl counting mine facts_are left (others mid left room takes) same (own mid left room takes)
-            new run_now longer (told_now counting longer) shows (counted, (tt, tables), refl) keeps_now in (
+            new run_now undo longer (told_now counting longer) shows (counted, (tt, tables), refl) keeps_now in (
               its.0,
               subst (λ (m : Mind). IsAmong (HasTable e title) (m.facts s)) (sym its.1)
                   (subst (λ l. IsAmong (HasTable e title) l) (sym (facts_own g c opened a b h s statement 0 next act.Lock reply.Granted u now refl counting mine facts_are))

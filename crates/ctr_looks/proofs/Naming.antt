@@ -79,10 +79,10 @@ module _ {D : Type 0} (g : Ghosts D) (c : Start) (opened : D) (a b : View D) (h 
         let was : session_locks s f k h.locks ≡ true = sym (ap (λ l. locks_key f k (record (held_by_session s mid.locks) { keys = l })) holds.here.keys ∙ room.locks.here.keys f k) ∙ is in
         in_table_still a.now a.now f t u (w.facts s) (facts_idle ++ more) refl (λ n is. held_more n name t.holds is) (mine_is f ((area_in a.now).title f)) (next.world.tables s f k t was free.seat.is_t)
 
-    pub held_told : (new : TxnsHeld) (v : Mind) → v.tape ≡ w.tape ++ entry_of s next.e act.Lock reply.Granted ∷ [] → v.facts ≡ with_facts s (facts_idle ++ more) w.facts → v.run ≡ run_of new
+    pub held_told : (new : TxnsHeld) (v : Mind) → v.tape ≡ w.tape ++ entry_of s next.e act.Lock reply.Granted ∷ [] → v.facts ≡ with_facts s (facts_idle ++ more) w.facts → v.run ≡ run_of new → v.undo ≡ w.undo
         → ((f : ℕ) → (area_in b.now).title f ≡ (area_in a.now).title f) → ShowsKeyLocks (names_in a.now) mid.locks state → HoldShows → KeepsWorld g c opened b v → (told : IsTold next (record { txns = new; locks = left }) act.Lock reply.Granted) × (told.mind ≡ v)
-    held_told new v longer facts run_now same shows hold keeps =
-        changed_told g c opened a b h s statement 0 next act.Lock reply.Granted u now refl v (facts_idle ++ more) facts left others same own new run_now longer (told_now v longer)
+    held_told new v longer facts run_now undo same shows hold keeps =
+        changed_told g c opened a b h s statement 0 next act.Lock reply.Granted u now refl v (facts_idle ++ more) facts left others same own new run_now undo longer (told_now v longer)
         (hold (names_in a.now) s name mid.locks left state t holds shows free.seat.is_t) (more, tables, refl) keeps
 
   -- ---- the table that was found is counted on
@@ -131,18 +131,18 @@ module _ {D : Type 0} (g : Ghosts D) (c : Start) (opened : D) (a b : View D) (h 
   -- the hold is told, and the table that was found is counted on
   module _ (more : List Fact) (tables : AreTables more) (mine_is : (f : ℕ) (l : Title) → IsAmong (HasTable f l) (next.mind.facts s) → IsAmong (HasTable f l) (facts_idle ++ more)) (mid : SessionsHeld) (left : List (ℕ × LocksOfSession))
       (room : KeepsSessions s h mid) (holds : OfSession s (HoldsName name) mid.locks left) (new : TxnsHeld) (v : Mind) (longer : v.tape ≡ next.mind.tape ++ entry_of s next.e act.Lock reply.Granted ∷ []) (facts : v.facts ≡ with_facts s (facts_idle ++ more) next.mind.facts)
-      (run_now : v.run ≡ run_of new) (session : SessionHeld) (at : find nat_cmp s v.run.sessions ≡ Some session) (same : (f : ℕ) → (area_in b.now).title f ≡ (area_in a.now).title f) (shows : ShowsKeyLocks (names_in a.now) mid.locks (state_now c next.mind)) (hold : HoldShows)
+      (run_now : v.run ≡ run_of new) (undo : v.undo ≡ next.mind.undo) (session : SessionHeld) (at : find nat_cmp s v.run.sessions ≡ Some session) (same : (f : ℕ) → (area_in b.now).title f ≡ (area_in a.now).title f) (shows : ShowsKeyLocks (names_in a.now) mid.locks (state_now c next.mind)) (hold : HoldShows)
       (keeps : KeepsWorld g c opened b v) (may : MayCount g) where
     pub held_found : (found : Option ℕ) → IsFoundFor free name found
         → (told : IsTold next (record { txns = new; locks = left }) act.Lock reply.Granted) × CountsOnFound None found (area_in a.now).title (told.mind.facts s)
-    held_found None stands = ((held_told g c opened a b h s statement next free name named keyless more tables mine_is mid left room holds new v longer facts run_now same shows hold keeps).0, tt)
+    held_found None stands = ((held_told g c opened a b h s statement next free name named keyless more tables mine_is mid left room holds new v longer facts run_now undo same shows hold keeps).0, tt)
     held_found (Some e) stands =
         let title = (area_in a.now).title e in
         let mine : List Fact = facts_idle ++ HasTable e title ∷ more in
         let facts_v = ap (λ (f : ℕ → List Fact). f s) facts ∙ carried_now s (facts_idle ++ more) next.mind.facts in
         let kept = found_kept g c opened a b h s statement next free name named keyless e stands v longer keeps session at more tables facts_v (same e) may in
         let its = held_told g c opened a b h s statement next free name named keyless (HasTable e title ∷ more) (tt, tables) (λ f l in_. one_more (HasTable f l) e title more (mine_is f l in_)) mid left room holds new (carrying s mine v) longer
-        (ap (with_facts s mine) facts ∙ facts_twice s mine (facts_idle ++ more) next.mind.facts) run_now same shows hold kept in (
+        (ap (with_facts s mine) facts ∙ facts_twice s mine (facts_idle ++ more) next.mind.facts) run_now undo same shows hold kept in (
           its.0,
           subst (λ (m : Mind). IsAmong (HasTable e title) (m.facts s)) (sym its.1) (subst (λ l. IsAmong (HasTable e title) l) (sym (carried_now s mine v.facts)) (inr (inr (inl refl)))),
         )

@@ -1,7 +1,6 @@
 -- Room that is taken leaves a session in its transaction, and a number that is drawn behind it is drawn behind what was before.
-use Rattle.std.proofs.Common.{◌≡◌, inl, inr, ℕ, ◌-◌, ◌<◌, ◌≤◌, length, Option, Some, None, refl, sym, ◌∙◌, ap, subst, arith}
-use Rattle.std.specs.Prelude.{IsSome, get_or, is_some}
-use Rattle.std.proofs.lemmas.List.{get_or-set_same}
+use Rattle.std.proofs.Common.{◌≡◌, inl, inr, ℕ, Option, Some, None, refl, sym, ◌∙◌, ap, subst}
+use Rattle.std.specs.Prelude.{IsSome, is_some}
 use Rattle.std.specs.Option.{option_map}
 use Rattle.std.specs.Ordering.{nat_cmp}
 use Rattle.std.specs.FinMap.Entries.{find}
@@ -11,8 +10,7 @@ use Rattle.ctr_meta.specs.Kept.{TablesKept}
 use Rattle.ctr_store.specs.Store.{View}
 use Rattle.ctr_paged.specs.Paged.{Run}
 use Rattle.ctr_versions.specs.Engine.{SessionHeld}
-use Rattle.ctr_txn.specs.Held.{IsOneOfEight, TxnHeld, TxnsHeld, run_of, txn_of}
-use Rattle.ctr_txn.specs.Steps.{SetsTxn}
+use Rattle.ctr_txn.specs.Held.{TxnHeld, TxnsHeld, run_of, txn_of}
 use Rattle.ctr_asking.specs.Asking.{IsInside}
 use Rattle.ctr_session_world.proofs.Standing.{RunFinds, some_of}
 use Rattle.ctr_looks.specs.Granting.{HasNumber}
@@ -28,13 +26,6 @@ still_inside s old new finds inside same =
     by : (b : SessionHeld) (o : Option TxnHeld) → option_map (λ (t : TxnHeld). t.session) o ≡ Some b → IsSome o
     by b None is = absurd (false≢true (ap is_some is))
     by b (Some t) is = refl
-
--- a session's transaction, once it is set
-pub txn_set : (s : ℕ) (old new : TxnsHeld) (t : TxnHeld) → IsOneOfEight s → length old.sessions ≡ 8 → SetsTxn s (Some t) old new → txn_of s new ≡ Some t
-txn_set s old new t one eight sets = ap (λ l. get_or l (s - 1) None) sets.sessions ∙ get_or-set_same old.sessions (s - 1) (Some t) None (below s (length old.sessions) one.from one.to eight)
-  where
-    below : (n m : ℕ) → 1 ≤ n → n ≤ 8 → m ≡ 8 → n - 1 < m
-    below n m from to is = omega (arith, from, to, is)
 
 -- a number that is drawn behind room for it is drawn behind what was before
 pub number_roomy : {D : Type 0} (g : Ghosts D) (s : ℕ) (old new : TxnsHeld) (a m b : View D) → m ≡ record a { meta = m.meta } → HasNumber g s old new m b → HasNumber g s old new a b

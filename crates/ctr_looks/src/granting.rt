@@ -1,5 +1,5 @@
 // Locks that are granted: of a row, and of a name.
-ghost use Rattle.std.specs.Prelude.{◌≡◌, ◌≤◌, ℕ, List, Option, OnOk, IfOk, IfErr};
+ghost use Rattle.std.specs.Prelude.{◌≡◌, ℕ, List, Option, IfOk, IfErr};
 ghost use Rattle.ctr_types.specs.declared.statement.Statement.{Statement as Told};
 ghost use Rattle.ctr_types.specs.declared.tape.Act.TheVariants as act;
 ghost use Rattle.ctr_disk.specs.declared.fault.StoreFault.TheVariants.{Fault};
@@ -7,13 +7,11 @@ ghost use Rattle.ctr_types.specs.Faults.{HasFault};
 ghost use Rattle.ctr_base.specs.Base.{WhereSound};
 ghost use Rattle.ctr_record_effects.specs.States.{area_in};
 ghost use Rattle.ctr_record_effects.specs.Standing.{IsDatabaseState};
-ghost use Rattle.ctr_walk.specs.OneRecord.{HasRoomForOne};
 ghost use Rattle.ctr_actions.specs.Facts.{Fact};
 ghost use Rattle.ctr_kept.specs.Turns.{Start};
-ghost use Rattle.ctr_txn.specs.Calls.{IsOverStore};
-ghost use Rattle.ctr_txn.specs.Rooms.{HasItemRoom};
 ghost use Rattle.ctr_session_world.specs.ctr_told.Turning.{IsIdle};
 ghost use Rattle.ctr_asking.specs.Asking.{IsInside};
+ghost use Rattle.ctr_session_world.specs.Ready.{LeavesOver, MayTurn, TakesTime};
 ghost use Rattle.ctr_session_world.specs.Told.{IsNextOf, IsTold};
 ghost use Rattle.ctr_looks.specs.Asked.{IsFirstOf, IsFoundFor};
 ghost use Rattle.ctr_looks.specs.Granting.{IsFree, IsRowOf, IsOfName, CountsOnTable, CountsOnFound, HasItemIfGranted, granted_or};
@@ -44,12 +42,10 @@ pub(crate) fn grant_row<D: Disk, O: Origin>(
     row: &RowAt,
 ) -> Result<Option<Refusal>, StoreFault>
     requires inside { IsInside s txns.old }
-    requires over { IsOverStore txns.old store.old }
-    requires room { HasRoomForOne 0 0 store.old }
-    ensures over { OnOk result (IsOverStore txns.new store.new) }
-    ensures items { OnOk result (HasItemRoom txns.old store.old.meta → HasItemRoom txns.new store.new.meta) }
+    requires may { MayTurn s txns.old store.old }
+    ensures over { LeavesOver s txns.old txns.new store.old store.new result }
     ensures item { IfOk result (HasItemIfGranted s txns.new) }
-    ensures time { D.Disk.moment_of store.old.disk ≤ D.Disk.moment_of store.new.disk }
+    ensures time { TakesTime D.Disk store.old store.new }
     ensures told { (c : Start) (opened : D) (statement : Told) (more : List Fact) → WhereSound O.first D.Disk
         ((next : IsNextOf D.Disk c opened store.old store.new (record { txns = txns.old; locks = locks.old }) s statement 0) → (free : IsFree next act.Lock) → IsRowOf next row.now → IsIdle free.txn.session.me more (next.mind.facts s)
         → IfOk result (λ r. (told : IsTold next (record { txns = txns.new; locks = locks.new }) act.Lock (granted_or r)) × CountsOnTable r row.now.entry ((area_in store.old.now).title row.now.entry) (told.mind.facts s))) }
@@ -93,12 +89,10 @@ pub(crate) fn grant_name<D: Disk, O: Origin>(
     name: &Name,
 ) -> Result<Option<Refusal>, StoreFault>
     requires inside { IsInside s txns.old }
-    requires over { IsOverStore txns.old store.old }
-    requires room { HasRoomForOne 0 0 store.old }
-    ensures over { OnOk result (IsOverStore txns.new store.new) }
-    ensures items { OnOk result (HasItemRoom txns.old store.old.meta → HasItemRoom txns.new store.new.meta) }
+    requires may { MayTurn s txns.old store.old }
+    ensures over { LeavesOver s txns.old txns.new store.old store.new result }
     ensures item { IfOk result (HasItemIfGranted s txns.new) }
-    ensures time { D.Disk.moment_of store.old.disk ≤ D.Disk.moment_of store.new.disk }
+    ensures time { TakesTime D.Disk store.old store.new }
     ensures told { (c : Start) (opened : D) (statement : Told) (more : List Fact) → WhereSound O.first D.Disk
         ((next : IsNextOf D.Disk c opened store.old store.new (record { txns = txns.old; locks = locks.old }) s statement 0) → (free : IsFree next act.Lock) → IsFirstOf act.Lock statement → IsOfName statement name.now → (found : Option ℕ) → IsFoundFor free name.now found → IsIdle free.txn.session.me more (next.mind.facts s)
         → IfOk result (λ r. (told : IsTold next (record { txns = txns.new; locks = locks.new }) act.Lock (granted_or r)) × CountsOnFound r found (area_in store.old.now).title (told.mind.facts s))) }

@@ -1,20 +1,17 @@
 // The Lock of an INSERT, UPDATE or DELETE.
-ghost use Rattle.std.specs.Prelude.{◌≡◌, ◌<◌, ◌≤◌, ℕ, false, true, List, Some, is_some, OnOk, IfOk, IfErr};
+ghost use Rattle.std.specs.Prelude.{◌≡◌, ◌<◌, ℕ, true, is_some, IfOk, IfErr};
 ghost use Rattle.ctr_types.specs.declared.tape.Act.TheVariants as act;
 ghost use Rattle.ctr_disk.specs.declared.fault.StoreFault.TheVariants.{Fault};
 ghost use Rattle.ctr_model.specs.Refusals.{key_written};
 ghost use Rattle.ctr_types.specs.Faults.{HasFault};
 ghost use Rattle.ctr_base.specs.Base.{WhereSound};
-ghost use Rattle.ctr_record_effects.specs.States.{area_in};
 ghost use Rattle.ctr_record_effects.specs.Standing.{IsDatabaseState};
-ghost use Rattle.ctr_walk.specs.OneRecord.{HasRoomForOne};
 ghost use Rattle.ctr_actions.specs.Facts.{Fact};
 ghost use Rattle.ctr_kept.specs.Turns.{Start, state_now};
-ghost use Rattle.ctr_txn.specs.Held.{TxnsHeld, IsOneOfEight};
-ghost use Rattle.ctr_txn.specs.Calls.{IsOverStore};
-ghost use Rattle.ctr_txn.specs.Rooms.{HasItemRoom};
+ghost use Rattle.ctr_txn.specs.Held.{TxnsHeld};
 ghost use Rattle.ctr_session_world.specs.ctr_told.Turning.{IsIdle};
 ghost use Rattle.ctr_asking.specs.Asking.{IsInside};
+ghost use Rattle.ctr_session_world.specs.Ready.{LeavesOver, MayTurn, TakesTime};
 ghost use Rattle.ctr_session_world.specs.Told.{IsNextOf, IsTold, IsIdleIn};
 ghost use Rattle.ctr_looks.specs.Granting.{IsFree};
 ghost use Rattle.ctr_looks.specs.Asked.{StandsAt};
@@ -79,12 +76,10 @@ fn lock_found<D: Disk, O: Origin>(
     requires inside { IsInside s txns.old }
     requires there { row.now.entry < 32 }
     requires writes { is_some (key_written statement.now) ≡ true }
-    requires over { IsOverStore txns.old store.old }
-    requires room { HasRoomForOne 0 0 store.old }
+    requires may { MayTurn s txns.old store.old }
     ensures ready { IfOk result (IsReadyLocked s txns.new) }
-    ensures over { OnOk result (IsOverStore txns.new store.new) }
-    ensures items { OnOk result (HasItemRoom txns.old store.old.meta → HasItemRoom txns.new store.new.meta) }
-    ensures time { D.Disk.moment_of store.old.disk ≤ D.Disk.moment_of store.new.disk }
+    ensures over { LeavesOver s txns.old txns.new store.old store.new result }
+    ensures time { TakesTime D.Disk store.old store.new }
     ensures told { (c : Start) (opened : D) (more : List Fact) → WhereSound O.first D.Disk
         ((next : IsNextOf D.Disk c opened store.old store.new (record { txns = txns.old; locks = locks.old }) s statement.now 0) → (free : IsFree next act.Lock) → StandsAt free row.now.name.now row.now.entry → IsRowOf next row.now
         → IsIdle free.txn.session.me more (next.mind.facts s)
@@ -135,13 +130,10 @@ pub fn lock_row<D: Disk, O: Origin>(
     s: u8,
     statement: &Statement,
 ) -> Result<Locked, StoreFault>
-    requires one { IsOneOfEight s }
+    requires may { MayTurn s txns.old store.old }
     requires writes { is_some (key_written statement.now) ≡ true }
-    requires over { IsOverStore txns.old store.old }
-    requires room { HasRoomForOne 0 0 store.old }
     ensures ready { IfOk result (IsReadyLocked s txns.new) }
-    ensures over { OnOk result (IsOverStore txns.new store.new) }
-    ensures items { OnOk result (HasItemRoom txns.old store.old.meta → HasItemRoom txns.new store.new.meta) }
+    ensures over { LeavesOver s txns.old txns.new store.old store.new result }
     ensures told { (c : Start) (opened : D) → WhereSound O.first D.Disk
         ((next : IsNextOf D.Disk c opened store.old store.new (record { txns = txns.old; locks = locks.old }) s statement.now 0) → stuck.now ≡ (state_now c next.mind).stuck → IsIdleIn c next.mind s
         → IfOk result (λ l. (told : IsTold next (record { txns = txns.new; locks = locks.new }) act.Lock (locked_reply l)) × IsReadyBehind c s statement.now told.mind l)) }
@@ -149,6 +141,8 @@ pub fn lock_row<D: Disk, O: Origin>(
     ensures refused { WhereSound O.first D.Disk (IsDatabaseState store.old.now → IfErr result (λ e. e ≡ Fault)) }
     // A fault is told where the disk counts one more.
     ensures faults { HasFault Fault (D.faults_of store.old.disk) (D.faults_of store.new.disk) result }
+    // Time doesn't go back.
+    ensures time { TakesTime D.Disk store.old store.new }
 {
     a_refused_look_is_told::<D>();
     pages_that_are_read_keep_a_world::<D>();

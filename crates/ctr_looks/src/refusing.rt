@@ -1,5 +1,5 @@
 // Why the next act of a session is refused, or that nothing speaks against it.
-ghost use Rattle.std.specs.Prelude.{◌≡◌, ℕ, false, IsSome, IfOk, IfErr};
+ghost use Rattle.std.specs.Prelude.{◌≡◌, IsSome, IfOk, IfErr};
 ghost use Rattle.ctr_disk.specs.declared.fault.StoreFault.TheVariants.{Fault};
 ghost use Rattle.ctr_types.specs.Faults.{HasFault};
 ghost use Rattle.ctr_model.specs.Refusals.{table_of};
@@ -8,8 +8,8 @@ ghost use Rattle.ctr_record_effects.specs.Standing.{IsDatabaseState};
 ghost use Rattle.ctr_walk.specs.Damage.{ReadsPages};
 ghost use Rattle.ctr_store.specs.Store.{View};
 ghost use Rattle.ctr_kept.specs.Turns.{Start, state_now};
-ghost use Rattle.ctr_txn.specs.Held.{IsOneOfEight};
 ghost use Rattle.ctr_asking.specs.Asking.{IsInside, IsInCatalog};
+ghost use Rattle.ctr_session_world.specs.Ready.{MayTurn};
 ghost use Rattle.ctr_session_world.specs.Told.{IsNextOf};
 ghost use Rattle.ctr_looks.specs.Asked.{IsLook, IsFirstOf, IsAsked, FreesInside};
 
@@ -30,8 +30,7 @@ pub(crate) fn ask_act<D: Disk, O: Origin>(
     act: &Act,
     statement: &Statement,
 ) -> Result<Answer, StoreFault>
-    requires one { IsOneOfEight asker.now.s }
-    requires going { store.old.stopped ≡ false }
+    requires may { MayTurn asker.now.s asker.now.txns.now store.old }
     requires of_table { IsSome (table_of statement.now) }
     ensures inside { IfOk result IsInCatalog }
     // Who isn't refused is in a transaction.

@@ -1,11 +1,11 @@
 // Room that is taken before a Lock is granted, so that nothing behind it may be refused for want of memory.
-ghost use Rattle.std.specs.Prelude.{◌≡◌, OnOk};
+ghost use Rattle.std.specs.Prelude.{◌≡◌, false, OnOk};
 ghost use Rattle.ctr_walk.specs.OneRecord.{HasRoomForOne};
 ghost use Rattle.ctr_key_locks.specs.Held.{OfSession, SameHeld, HasRoomForKey, HasRoomForName, held_by_session};
 ghost use Rattle.ctr_txn.specs.Held.{IsReading, run_of};
 ghost use Rattle.ctr_txn.specs.Calls.{MayDraw, IsOverStore};
-ghost use Rattle.ctr_txn.specs.Rooms.{HasItemRoom};
 ghost use Rattle.ctr_asking.specs.Asking.{IsInside};
+ghost use Rattle.ctr_session_world.specs.Ready.{LeavesReady, StandOver, StaysUnasked};
 ghost use Rattle.ctr_looks.specs.Granting.{HasItem};
 
 use crate::taking::RowAt;
@@ -28,8 +28,7 @@ pub(crate) fn reserve_for<D: Disk, O: Origin>(
     ensures run { run_of txns.new ≡ run_of txns.old }
     ensures inside { IsInside s txns.new }
     ensures item { OnOk result (HasItem s txns.new) }
-    ensures over { IsOverStore txns.old store.old → IsOverStore txns.new store.new }
-    ensures items { HasItemRoom txns.old store.old.meta → HasItemRoom txns.new store.new.meta }
+    ensures over { StandOver txns.old store.old → store.old.stopped ≡ false → LeavesReady s txns.old txns.new store.old store.new × StaysUnasked s txns.old txns.new }
     ensures may { OnOk result (IsOverStore txns.old store.old → HasRoomForOne 0 0 store.old → IsReading s txns.new → MayDraw s txns.new store.new) }
 {
     the_run_is_of_the_sessions();

@@ -1,5 +1,5 @@
 // The Read of a SELECT.
-ghost use Rattle.std.specs.Prelude.{◌≡◌, ◌<◌, ◌≤◌, ℕ, false, List, Option, OnOk, IfOk, IfErr};
+ghost use Rattle.std.specs.Prelude.{◌≡◌, ◌<◌, ℕ, false, List, OnOk, IfOk, IfErr};
 ghost use Rattle.std.specs.Option.{option_map, option_to_list};
 ghost use Rattle.ctr_types.specs.declared.statement.KeyIs.{KeyIs as KeyWanted};
 ghost use Rattle.ctr_types.specs.declared.statement.Statement.TheVariants as st;
@@ -9,14 +9,14 @@ ghost use Rattle.ctr_types.specs.Faults.{HasFault};
 ghost use Rattle.ctr_base.specs.Base.{WhereSound};
 ghost use Rattle.ctr_record_effects.specs.States.{area_in};
 ghost use Rattle.ctr_record_effects.specs.Standing.{HasSoundArea, IsDatabaseState};
-ghost use Rattle.ctr_store.specs.Store.{KeepsRoom};
 ghost use Rattle.ctr_actions.specs.Facts.{Fact};
 ghost use Rattle.ctr_kept.specs.Turns.{Start, state_now};
-ghost use Rattle.ctr_txn.specs.Held.{IsOneOfEight};
 ghost use Rattle.ctr_page_turns.specs.Turns.{RestsBehind};
 ghost use Rattle.ctr_session_world.specs.ctr_told.Turning.{IsIdle};
 ghost use Rattle.ctr_wishes.specs.ctr_reading.Reading.{as_told, sees, AreShown, IsDiskOrMemory};
 ghost use Rattle.ctr_asking.specs.Asking.{IsInside};
+ghost use Rattle.ctr_txn.specs.Held.{TxnsHeld};
+ghost use Rattle.ctr_session_world.specs.Ready.{LeavesOver, MayTurn, StandOver, TakesTime};
 ghost use Rattle.ctr_session_world.specs.Told.{IsNextOf, IsTold, IsIdleIn};
 ghost use Rattle.ctr_looks.specs.Granting.{IsFree};
 ghost use Rattle.ctr_looks.specs.Asked.{StandsAt};
@@ -32,6 +32,7 @@ use ctr_base::Origin;
 use ctr_chain::ReadRefusal;
 use ctr_disk::{Disk, StoreFault};
 use ctr_key_locks::KeyLocks;
+use ctr_page_turns::room_is_still_there;
 use ctr_session_world::pages_that_are_read_keep_a_world;
 use ctr_store::Store;
 use ctr_txn::Txns;
@@ -78,8 +79,8 @@ pub(crate) fn rows_at<D: Disk, O: Origin>(
     ensures refused { WhereSound O.first D.Disk (IsDatabaseState store.old.now → IfErr result IsDiskOrMemory) }
     ensures faults { HasFault Fault (D.faults_of store.old.disk) (D.faults_of store.new.disk) (as_told result) }
     ensures rests { WhereSound O.first D.Disk (OnOk (as_told result) (RestsBehind D.Disk store.old store.new)) }
-    ensures keeps { KeepsRoom store.old store.new }
-    ensures time { D.Disk.moment_of store.old.disk ≤ D.Disk.moment_of store.new.disk }
+    ensures over { (s : ℕ) (txns : TxnsHeld) → StandOver txns store.old → LeavesOver s txns txns store.old store.new (as_told result) }
+    ensures time { TakesTime D.Disk store.old store.new }
 {
     a_fault_of_reading_is_counted::<D, Result<Rows, OutOfMemory>>();
     a_fault_of_reading_is_counted::<D, Result<Option<Row>, OutOfMemory>>();
@@ -119,10 +120,10 @@ fn read_found<D: Disk, O: Origin>(
     table: &TableRead,
 ) -> Result<Reply, StoreFault>
     requires inside { IsInside s txns.now }
-    requires going { store.old.stopped ≡ false }
+    requires may { MayTurn s txns.now store.old }
     requires there { table.now.entry < 32 }
-    ensures keeps { KeepsRoom store.old store.new }
-    ensures time { D.Disk.moment_of store.old.disk ≤ D.Disk.moment_of store.new.disk }
+    ensures over { LeavesOver s txns.now txns.now store.old store.new result }
+    ensures time { TakesTime D.Disk store.old store.new }
     ensures told { (c : Start) (opened : D) (more : List Fact) → WhereSound O.first D.Disk
         ((next : IsNextOf D.Disk c opened store.old store.new (record { txns = txns.now; locks = locks.old }) s (st.Select table.now.name.now table.now.at.now) 0) → (free : IsFree next act.Read) → StandsAt free table.now.name.now table.now.entry
         → IsIdle free.txn.session.me more (next.mind.facts s) → IfOk result (IsTold next (record { txns = txns.now; locks = locks.new }) act.Read)) }
@@ -175,10 +176,9 @@ pub fn read<D: Disk, O: Origin>(
     s: u8,
     statement: &Statement,
 ) -> Result<Reply, StoreFault>
-    requires one { IsOneOfEight s }
-    requires going { store.old.stopped ≡ false }
+    requires may { MayTurn s txns.now store.old }
     requires select { IsSelect statement.now }
-    ensures keeps { KeepsRoom store.old store.new }
+    ensures over { LeavesOver s txns.now txns.now store.old store.new result }
     ensures told { (c : Start) (opened : D) → WhereSound O.first D.Disk
         ((next : IsNextOf D.Disk c opened store.old store.new (record { txns = txns.now; locks = locks.old }) s statement.now 0) → stuck.now ≡ (state_now c next.mind).stuck → IsIdleIn c next.mind s
         → IfOk result (IsTold next (record { txns = txns.now; locks = locks.new }) act.Read)) }
@@ -186,9 +186,12 @@ pub fn read<D: Disk, O: Origin>(
     ensures refused { WhereSound O.first D.Disk (IsDatabaseState store.old.now → IfErr result (λ e. e ≡ Fault)) }
     // A fault is told where the disk counts one more.
     ensures faults { HasFault Fault (D.faults_of store.old.disk) (D.faults_of store.new.disk) result }
+    // Time doesn't go back.
+    ensures time { TakesTime D.Disk store.old store.new }
 {
     a_refused_look_is_told::<D>();
     pages_that_are_read_keep_a_world::<D>();
+    room_is_still_there::<D>();
     let Statement::Select { table: name, at } = statement else {
         unreachable!()
     };

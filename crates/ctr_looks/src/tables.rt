@@ -1,16 +1,13 @@
 // The Lock of a CREATE TABLE and of a DROP TABLE.
-ghost use Rattle.std.specs.Prelude.{◌≡◌, true, List, OnOk, IfOk, IfErr};
+ghost use Rattle.std.specs.Prelude.{◌≡◌, true, IfOk, IfErr};
 ghost use Rattle.ctr_types.specs.declared.tape.Act.TheVariants as act;
 ghost use Rattle.ctr_disk.specs.declared.fault.StoreFault.TheVariants.{Fault};
 ghost use Rattle.ctr_model.specs.Refusals.{changes_schema};
 ghost use Rattle.ctr_types.specs.Faults.{HasFault};
 ghost use Rattle.ctr_base.specs.Base.{WhereSound};
 ghost use Rattle.ctr_record_effects.specs.Standing.{IsDatabaseState};
-ghost use Rattle.ctr_walk.specs.OneRecord.{HasRoomForOne};
 ghost use Rattle.ctr_kept.specs.Turns.{Start, state_now};
-ghost use Rattle.ctr_txn.specs.Held.{IsOneOfEight};
-ghost use Rattle.ctr_txn.specs.Calls.{IsOverStore};
-ghost use Rattle.ctr_txn.specs.Rooms.{HasItemRoom};
+ghost use Rattle.ctr_session_world.specs.Ready.{LeavesOver, MayTurn, TakesTime};
 ghost use Rattle.ctr_session_world.specs.Told.{IsNextOf, IsTold, IsIdleIn};
 ghost use Rattle.ctr_looks.specs.Locking.{IsTableLocked, IsTableReadyBehind, table_locked_reply, table_write};
 
@@ -71,14 +68,11 @@ pub fn lock_table<D: Disk, O: Origin>(
     s: u8,
     statement: &Statement,
 ) -> Result<TableLocked, StoreFault>
-    requires one { IsOneOfEight s }
+    requires may { MayTurn s txns.old store.old }
     requires schema { changes_schema statement.now ≡ true }
-    requires over { IsOverStore txns.old store.old }
-    requires room { HasRoomForOne 0 0 store.old }
     // Whatever the disk tells, its Write may be begun.
     ensures ready { IfOk result (IsTableLocked s txns.new statement.now) }
-    ensures over { OnOk result (IsOverStore txns.new store.new) }
-    ensures items { OnOk result (HasItemRoom txns.old store.old.meta → HasItemRoom txns.new store.new.meta) }
+    ensures over { LeavesOver s txns.old txns.new store.old store.new result }
     ensures told { (c : Start) (opened : D) → WhereSound O.first D.Disk
         ((next : IsNextOf D.Disk c opened store.old store.new (record { txns = txns.old; locks = locks.old }) s statement.now 0) → stuck.now ≡ (state_now c next.mind).stuck → IsIdleIn c next.mind s
         → IfOk result (λ l. (told : IsTold next (record { txns = txns.new; locks = locks.new }) act.Lock (table_locked_reply l)) × IsTableReadyBehind c s statement.now told.mind l)) }
@@ -86,6 +80,8 @@ pub fn lock_table<D: Disk, O: Origin>(
     ensures refused { WhereSound O.first D.Disk (IsDatabaseState store.old.now → IfErr result (λ e. e ≡ Fault)) }
     // A fault is told where the disk counts one more.
     ensures faults { HasFault Fault (D.faults_of store.old.disk) (D.faults_of store.new.disk) result }
+    // Time doesn't go back.
+    ensures time { TakesTime D.Disk store.old store.new }
 {
     a_refused_look_is_told::<D>();
     pages_that_are_read_keep_a_world::<D>();

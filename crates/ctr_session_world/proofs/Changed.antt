@@ -70,9 +70,9 @@ module _ {D : Type 0} (g : Ghosts D) (c : Start) (opened : D) (a b : View D) (h 
     in_order : AreInOrder now
     in_order = subst (λ (l : List (ℕ × Transaction)). T (is_sorted nat_cmp l)) (sym sessions) (put_in_order s u state next.world.in_order)
 
-    pub changed_told : (new : TxnsHeld) → v.run ≡ run_of new → v.tape ≡ w.tape ++ entry_of s next.e x r ∷ [] → state_now c v ≡ now → ShowsKeyLocks (names_in a.now) left now
+    pub changed_told : (new : TxnsHeld) → v.run ≡ run_of new → v.undo ≡ w.undo → v.tape ≡ w.tape ++ entry_of s next.e x r ∷ [] → state_now c v ≡ now → ShowsKeyLocks (names_in a.now) left now
         → CountsBehind r (w.facts s) mine → KeepsWorld g c opened b v → (told : IsTold next (record { txns = new; locks = left }) x r) × (told.mind ≡ v)
-    changed_told new run_now longer is_state shows counts keeps = (
+    changed_told new run_now undo longer is_state shows counts keeps = (
       record {
         mind = v;
         world = record {
@@ -83,6 +83,7 @@ module _ {D : Type 0} (g : Ghosts D) (c : Start) (opened : D) (a b : View D) (h 
           in_order = subst AreInOrder (sym is_state) in_order;
         };
         tape = longer;
+        undo = undo;
         others = facts_others;
         counts = subst (λ l. CountsBehind r (w.facts s) l) (sym facts_own) counts;
       },

@@ -33,6 +33,11 @@ room_of first g a b (Ok x) leaves = leaves.keeps
 room_of first g a b (Err Fault) leaves = leaves.keeps
 room_of first g a b (Err (Damaged d)) leaves = ⊎_elim (λ lost. lost.keeps) (λ found. found.keeps) leaves
 
+-- what goes on where it was answered
+pub going_of : {D T : Type 0} (first : Image) (g : Ghosts D) (a b : View D) (r : Result T StoreFault) → ReadsPages first g a b r → OnOk r (b.stopped ≡ false)
+going_of first g a b (Ok x) leaves = leaves.going
+going_of first g a b (Err e) leaves = tt
+
 pub later_of : {D T : Type 0} (first : Image) (g : Ghosts D) (a b : View D) (r : Result T StoreFault) → ReadsPages first g a b r → g.moment_of a.disk ≤ g.moment_of b.disk
 later_of first g a b (Ok x) leaves = leaves.time.later
 later_of first g a b (Err Fault) leaves = leaves.time.later
@@ -63,7 +68,7 @@ module _ {D : Type 0} (g : Ghosts D) (c : Start) (opened : D) (a m b : View D) (
 
   -- what is told then is told
   pub goes_told : (now : SessionsHeld) (x : Act) (r : Reply) → (told : IsTold goes now x r) → (then : IsTold next now x r) × (then.mind ≡ told.mind)
-  goes_told now x r told = (record { mind = told.mind; world = told.world; tape = told.tape; others = told.others; counts = told.counts }, refl)
+  goes_told now x r told = (record { mind = told.mind; world = told.world; tape = told.tape; undo = told.undo; others = told.others; counts = told.counts }, refl)
 
 pub if_ok : {T E : Type 0} (r : Result T E) {P Q : T → Type 0} → ((x : T) → P x → Q x) → IfOk r P → IfOk r Q
 if_ok (Ok x) maps is = maps x is

@@ -6,5 +6,7 @@ pub mod Idling
 pub mod Faults
 pub mod Going
 pub mod Changed
+pub mod Ready
+pub mod Answered
 pub use Rattle.ctr_told.proofs as ctr_told
 pub use Rattle.ctr_told.proofs.ctr_write as ctr_write

@@ -16,9 +16,10 @@ use Rattle.ctr_key_locks.specs.Shows.{ShowsKeyLocks}
 use Rattle.ctr_txn.specs.Held.{run_of}
 use Rattle.ctr_versions.proofs.Keys.{known}
 use Rattle.ctr_kept.specs.Turns.{Start, state_now, telling}
+use Rattle.ctr_kept.specs.Walk.{Mind}
 use Rattle.ctr_stops.specs.World.{KeepsWorld}
 use Rattle.ctr_page_turns.specs.Turns.{RestsBehind}
-use Rattle.ctr_session_world.specs.World.{SessionsHeld, names_in, AreInTables, AreInOrder}
+use Rattle.ctr_session_world.specs.World.{SessionsHeld, names_in, AreInTables, AreInOrder, InWorld}
 use Rattle.ctr_session_world.specs.Told.{IsNextOf, IsTold}
 use Rattle.ctr_session_world.proofs.Standing.{refused_state, told_state}
 
@@ -46,6 +47,16 @@ rests_roomy {D} g v w is front = subst (λ (z : View D). RestsBehind g v z) (sym
       later = at_once (g.moment_of v.disk);
     }
 
+-- a World that is kept behind a turn that logs nothing is one with the same sessions
+pub world_rests : {D : Type 0} (g : Ghosts D) (c : Start) (opened : D) (a b : View D) (h : SessionsHeld) (w : Mind) → InWorld g c opened a h w → b.now ≡ a.now → KeepsWorld g c opened b w → InWorld g c opened b h w
+world_rests g c opened a b h w world pages keeps = record {
+  keeps = keeps;
+  run_is = world.run_is;
+  locks = subst (λ (q : Stored). ShowsKeyLocks (names_in q) h.locks (state_now c w)) (sym pages) world.locks;
+  tables = subst (λ (q : Stored). AreInTables q h.locks (state_now c w) w.facts) (sym pages) world.tables;
+  in_order = world.in_order;
+}
+
 -- a session's locks are as they are
 pub same_held : (s : ℕ) (locks : List (ℕ × LocksOfSession)) → OfSession s SameHeld locks locks
 same_held s locks = record { here = record { keys = λ e k. refl; uses = λ n. refl; holds = λ n. refl; key_room = λ e k is. is; name_room = λ n is. is }; others = λ r two. refl }
@@ -68,6 +79,7 @@ module _ {D : Type 0} (g : Ghosts D) (c : Start) (opened : D) (a b : View D) (h 
           in_order = subst AreInOrder same next.world.in_order;
         };
         tape = refl;
+        undo = refl;
         others = λ q two. refl;
         counts = refl;
       }

@@ -26,7 +26,7 @@ use Rattle.ctr_txn.specs.Held.{TxnHeld, TxnsHeld, IsOneOfEight, run_of, txn_of}
 use Rattle.ctr_session_world.specs.World.{SessionsHeld}
 use Rattle.ctr_session_world.specs.Told.{IsNextOf}
 
-further : (i j k : ℕ) → i ≤ j → j ≤ k → i ≤ k
+pub further : (i j k : ℕ) → i ≤ j → j ≤ k → i ≤ k
 further i j k p q = omega (arith, p, q)
 
 -- what is there is something

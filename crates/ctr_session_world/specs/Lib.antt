@@ -1,5 +1,6 @@
 pub mod World
 pub mod Told
+pub mod Ready
 pub use Rattle.ctr_told.specs as ctr_told
 pub use Rattle.ctr_told.specs.ctr_write as ctr_write
 pub use Rattle.ctr_told.specs.ctr_extend as ctr_extend

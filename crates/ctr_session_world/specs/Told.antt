@@ -58,8 +58,8 @@ CountsBehind reply.RolledBack was now = Unit {0}
 CountsBehind reply.Released was now = Unit {0}
 CountsBehind (reply.Refused why) was now = now ≡ was
 
--- The act is told with its reply, and this is the World then. What the other sessions count on is
--- as it was.
+-- The act is told with its reply, and this is the World then. What the other sessions count on, and
+-- undo's list, are as they were.
 pub record IsTold {D : Type 0} {g : Ghosts D} {c : Start} {opened : D} {a b : View D}
     {h : SessionsHeld} {s : ℕ} {statement : Statement} {made : ℕ}
     (next : IsNextOf g c opened a b h s statement made) (now : SessionsHeld) (x : Act) (r : Reply)
@@ -67,17 +67,19 @@ pub record IsTold {D : Type 0} {g : Ghosts D} {c : Start} {opened : D} {a b : Vi
   pub mind : Mind
   pub world : InWorld g c opened b now mind
   pub tape : mind.tape ≡ next.mind.tape ++ entry_of s next.e x r ∷ []
+  pub undo : mind.undo ≡ next.mind.undo
   pub others : (q : ℕ) → (q == s) ≡ false → mind.facts q ≡ next.mind.facts q
   pub counts : CountsBehind r (next.mind.facts s) (mind.facts s)
 
 -- Nothing is told by a turn, and the act goes on at the session's next one: this is the World then.
--- What the other sessions count on is as it was.
+-- What the other sessions count on, and undo's list, are as they were.
 pub record IsKeptOn {D : Type 0} {g : Ghosts D} {c : Start} {opened : D} {a b : View D}
     {h : SessionsHeld} {s : ℕ} {statement : Statement} {made : ℕ}
     (next : IsNextOf g c opened a b h s statement made) (now : SessionsHeld) : Type 0 where
   pub mind : Mind
   pub world : InWorld g c opened b now mind
   pub tape : mind.tape ≡ next.mind.tape
+  pub undo : mind.undo ≡ next.mind.undo
   pub others : (q : ℕ) → (q == s) ≡ false → mind.facts q ≡ next.mind.facts q
 
 -- A turn of an act that takes several: it ends the act, which is told with its reply, or goes on.

@@ -88,3 +88,7 @@ between n (Kept q) k l left = tt
 -- where there may be more, more are counted
 pub more_are_counted : (n : ℕ) → n < 30000 → grown n ≡ n → ⊥
 more_are_counted n few same = omega (arith, few, same)
+
+-- and more than that
+pub more_counted : (n : ℕ) → n < 30000 → n < grown n
+more_counted n few = omega (arith, few)

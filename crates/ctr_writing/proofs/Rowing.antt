@@ -273,6 +273,7 @@ module _ {D : Type 0} (g : Ghosts D) (c : Start) (opened : D) (a b : View D) (h 
             in_order = next.world.in_order;
           };
           tape = refl;
+          undo = refl;
           others = λ r no. ap (λ x. cond x facts (w.facts r)) no;
         }
 
@@ -385,7 +386,7 @@ module _ {D : Type 0} (g : Ghosts D) (c : Start) (opened : D) (a b : View D) (h 
         pub done_told : TurnOfRow next h e prepared (Told reply.Done)
         done_told =
             let its = changed_told g c opened a b h s statement 1 next act.Write reply.Done u done refl after counted facts_so h.locks (λ q no. refl) titles own
-            h.txns next.world.run_is refl (is_state after refl) (shows_alike (names_in a.now) h.locks state done alike next.world.locks) (HasTable e title ∷ start.more, (tt, start.tables), refl) keeps_now in
+            h.txns next.world.run_is refl refl (is_state after refl) (shows_alike (names_in a.now) h.locks state done alike next.world.locks) (HasTable e title ∷ start.more, (tt, start.tables), refl) keeps_now in
             (its.0, its.0.counts)
 
   -- ---- it is refused

@@ -292,6 +292,7 @@ module _ {D : Type 0} (g : Ghosts D) (c : Start) (opened : D) (a b : View D) (h 
             in_order = subst AreInOrder (sym is_state) (put_in_order s u state next.world.in_order);
           };
           tape = refl;
+          undo = refl;
           others = facts_others;
           counts = (mine, tables, facts_its);
         },

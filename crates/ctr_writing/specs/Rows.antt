@@ -1,5 +1,5 @@
 -- The Write of a row in a World: how far it is, and what a turn of it leaves.
-use Rattle.std.specs.Prelude.{◌≡◌, ℕ, ℤ, List, Some}
+use Rattle.std.specs.Prelude.{◌≡◌, ◌⊎◌, ℕ, ◌+◌, ◌<◌, ℤ, List, Some}
 use Rattle.ctr_disk.specs.declared.disk.Disk.{Ghosts}
 use Rattle.ctr_types.specs.declared.statement.Statement.{Statement}
 use Rattle.ctr_types.specs.declared.tape.Act.TheVariants as act
@@ -64,6 +64,15 @@ pub record IsAtRow (c : Start) (s : ℕ) (statement : Statement) (w : Mind) (e :
     (prepared : Prepared) (stage : Stage) : Type 0 where
   pub may : MayWriteRow c s statement w e prepared
   pub so_far : CountsAt may.title e may.key prepared stage (w.facts s)
+
+-- Something was done: one record was logged, or more pages are counted.
+abbrev pub WentOn : {D : Type 0} → View D → View D → Type 0
+WentOn a b = (b.next ≡ a.next + 1) ⊎ (a.now.counted < b.now.counted)
+
+-- that, where the Write goes on
+abbrev pub WentBy : {D : Type 0} → View D → View D → Wrote → Type 0
+WentBy a b (On stage) = WentOn a b
+WentBy a b (Told r) = Unit {0}
 
 -- What a turn of the Write leaves, by what it answers: it goes on, and nothing is told; or its reply
 -- is told, and from then on its session counts on tables.

@@ -1,14 +1,15 @@
 // Room for an item of the secondary log, which the next turn of a session's Write may add.
-ghost use Rattle.std.specs.Prelude.{◌≡◌, ℕ, Some, if◌then◌else◌};
+ghost use Rattle.std.specs.Prelude.{◌≡◌, ◌<◌, ◌==◌, ℕ, false, if◌then◌else◌};
 ghost use Rattle.ctr_meta.specs.Kept.{TablesKept};
 ghost use Rattle.ctr_store.specs.Store.{View};
 ghost use Rattle.ctr_walk.specs.OneRecord.{HasRoomForOne};
-ghost use Rattle.ctr_txn.specs.Held.{TxnHeld, TxnsHeld, IsOneOfEight, run_of, txn_of};
+ghost use Rattle.ctr_txn.specs.Held.{TxnsHeld, IsOneOfEight, run_of, txn_of};
 ghost use Rattle.ctr_txn.specs.Rooms.{HasItemRoom};
 ghost use Rattle.ctr_looks.specs.ctr_write.declared.stages.Stage.{Stage as At};
 ghost use Rattle.ctr_looks.specs.ctr_write.declared.stages.Written.TheVariants.{On};
 ghost use Rattle.ctr_looks.specs.ctr_write.Stages.{LeavesItem, stage_items};
 ghost use Rattle.ctr_page_turns.specs.Rooms.{AddsItems};
+ghost use Rattle.ctr_looks.specs.ctr_session_world.Ready.{StaysUnasked};
 ghost use Rattle.ctr_looks.specs.Granting.{HasItem};
 ghost use Rattle.ctr_writing.specs.Rows.{HasStageRoom};
 
@@ -40,6 +41,7 @@ pub(crate) fn keep_room(txns: &mut Txns, s: u8, stage: Stage)
     ensures run { (was : At) → HasStageRoom s txns.old was → run_of txns.new ≡ run_of txns.old }
     ensures numbers { txns.new.numbers ≡ txns.old.numbers }
     ensures kept { (was : At) → HasStageRoom s txns.old was → HasStageRoom s txns.new stage }
+    ensures stays { (was : At) → HasStageRoom s txns.old was → ((q : ℕ) → 0 < q → (q == s) ≡ false → txn_of q txns.new ≡ txn_of q txns.old) × StaysUnasked s txns.old txns.new }
     ensures items { (was : At) (k l : TablesKept) → HasStageRoom s txns.old was → LeavesItem (stage_items was) (On stage) k l → HasItemRoom txns.old k → HasItemRoom txns.new l }
 {
     the_run_is_of_the_sessions();
@@ -60,9 +62,11 @@ pub(crate) fn spend_room(txns: &mut Txns, s: u8)
     requires one { IsOneOfEight s }
     ensures run { HasItem s txns.old → run_of txns.new ≡ run_of txns.old }
     ensures numbers { txns.new.numbers ≡ txns.old.numbers }
+    ensures stays { HasItem s txns.old → ((q : ℕ) → 0 < q → (q == s) ≡ false → txn_of q txns.new ≡ txn_of q txns.old) × StaysUnasked s txns.old txns.new }
     ensures items { (k l : TablesKept) → HasItem s txns.old → AddsItems 1 k l → HasItemRoom txns.old k → HasItemRoom txns.new l }
 {
     the_run_is_of_the_sessions();
+    txns.counts_sessions();
     txns.keep_item(s, false);
 }
 

@@ -1,19 +1,16 @@
 // The Write of a row.
-ghost use Rattle.std.specs.Prelude.{◌≡◌, ◌<◌, ℕ, ℤ, true, List, Some, is_some, OnOk, IfOk, IfErr};
+ghost use Rattle.std.specs.Prelude.{◌≡◌, ◌<◌, ℕ, true, List, is_some, IfOk, IfErr};
 ghost use Rattle.ctr_disk.specs.declared.fault.StoreFault.TheVariants.{Fault};
 ghost use Rattle.ctr_types.specs.Faults.{HasFault};
 ghost use Rattle.ctr_types.specs.declared.statement.Statement.{Statement as Said};
 ghost use Rattle.ctr_model.specs.Refusals.{key_written};
 ghost use Rattle.ctr_base.specs.Base.{WhereSound};
-ghost use Rattle.ctr_walk.specs.OneRecord.{HasRoomForOne};
 ghost use Rattle.ctr_kept.specs.Turns.{Start};
 ghost use Rattle.ctr_key_locks.specs.Held.{LocksOfSession};
-ghost use Rattle.ctr_txn.specs.Held.{IsOneOfEight};
-ghost use Rattle.ctr_txn.specs.Calls.{IsOverStore};
-ghost use Rattle.ctr_txn.specs.Rooms.{HasItemRoom};
 ghost use Rattle.ctr_looks.specs.ctr_wishes.declared.making.Prepared.TheVariants.{Lays};
+ghost use Rattle.ctr_looks.specs.ctr_session_world.Ready.{LeavesOver, MayTurn, TakesTime};
 ghost use Rattle.ctr_looks.specs.ctr_session_world.Told.{IsNextOf};
-ghost use Rattle.ctr_writing.specs.Rows.{IsAtRow, TurnOfRow, MayGoOn, LeavesStage};
+ghost use Rattle.ctr_writing.specs.Rows.{IsAtRow, TurnOfRow, WentBy, MayGoOn, LeavesStage};
 
 use crate::laws::{a_turn_of_a_row_is_told, a_turn_of_a_row_may_be_taken};
 use crate::room::{keep_room, there_is_room_for_a_turn};
@@ -48,18 +45,16 @@ fn lay<D: Disk, O: Origin>(
     head: &Head,
     stage: Stage,
 ) -> Result<Wrote, StoreFault>
-    requires one { IsOneOfEight s }
+    requires may { MayTurn s txns.old store.old }
     requires at { (entry < 32) × MayGoOn s txns.old store.old.now.counted stage }
-    requires room { HasRoomForOne 0 0 store.old }
-    requires items { HasItemRoom txns.old store.old.meta }
     ensures stage { IfOk result (LeavesStage s txns.new store.new.now.counted) }
-    ensures over { OnOk result (IsOverStore txns.old store.old → IsOverStore txns.new store.new) }
-    ensures items { OnOk result (HasItemRoom txns.new store.new.meta) }
+    ensures over { LeavesOver s txns.old txns.new store.old store.new result }
     ensures told { (c : Start) (opened : D) (locks : List (ℕ × LocksOfSession)) (statement : Said) → WhereSound O.first D.Disk ((next : IsNextOf D.Disk c opened store.old store.new (record { txns = txns.old; locks = locks }) s statement 1)
-        → key_written statement ≡ Some key → IsAtRow c s statement next.mind entry (Lays head.now) stage → IfOk result (TurnOfRow next (record { txns = txns.new; locks = locks }) entry (Lays head.now))) }
+        → key_written statement ≡ Some key → IsAtRow c s statement next.mind entry (Lays head.now) stage → IfOk result (λ r. TurnOfRow next (record { txns = txns.new; locks = locks }) entry (Lays head.now) r × WentBy store.old store.new r)) }
     ensures refused { (c : Start) (opened : D) (locks : List (ℕ × LocksOfSession)) (statement : Said) → WhereSound O.first D.Disk ((next : IsNextOf D.Disk c opened store.old store.new (record { txns = txns.old; locks = locks }) s statement 1)
         → key_written statement ≡ Some key → IsAtRow c s statement next.mind entry (Lays head.now) stage → IfErr result (λ e. e ≡ Fault)) }
     ensures faults { HasFault Fault (D.faults_of store.old.disk) (D.faults_of store.new.disk) result }
+    ensures time { TakesTime D.Disk store.old store.new }
 {
     a_turn_goes_or_counts_a_fault::<D, Written>();
     a_turn_is_told_by_its_number::<D, Written>();
@@ -101,23 +96,22 @@ pub fn write_row<D: Disk, O: Origin>(
     prepared: &Prepared,
     stage: Stage,
 ) -> Result<Wrote, StoreFault>
-    requires one { IsOneOfEight s }
+    requires may { MayTurn s txns.old store.old }
     requires writes { is_some (key_written statement.now) ≡ true }
     requires at { (entry < 32) × MayGoOn s txns.old store.old.now.counted stage }
-    requires room { HasRoomForOne 0 0 store.old }
-    requires items { HasItemRoom txns.old store.old.meta }
     // Whatever the disk tells, its next turn may be taken, where it goes on.
     ensures stage { IfOk result (LeavesStage s txns.new store.new.now.counted) }
-    ensures over { OnOk result (IsOverStore txns.old store.old → IsOverStore txns.new store.new) }
-    ensures items { OnOk result (HasItemRoom txns.new store.new.meta) }
-    // In a World it goes on, or is told.
+    ensures over { LeavesOver s txns.old txns.new store.old store.new result }
+    // In a World it goes on, by a record or as more pages are counted, or it is told.
     ensures told { (c : Start) (opened : D) (locks : List (ℕ × LocksOfSession)) → WhereSound O.first D.Disk ((next : IsNextOf D.Disk c opened store.old store.new (record { txns = txns.old; locks = locks }) s statement.now 1)
-        → IsAtRow c s statement.now next.mind entry prepared.now stage → IfOk result (TurnOfRow next (record { txns = txns.new; locks = locks }) entry prepared.now)) }
+        → IsAtRow c s statement.now next.mind entry prepared.now stage → IfOk result (λ r. TurnOfRow next (record { txns = txns.new; locks = locks }) entry prepared.now r × WentBy store.old store.new r)) }
     // There it fails by the disk alone.
     ensures refused { (c : Start) (opened : D) (locks : List (ℕ × LocksOfSession)) → WhereSound O.first D.Disk ((next : IsNextOf D.Disk c opened store.old store.new (record { txns = txns.old; locks = locks }) s statement.now 1)
         → IsAtRow c s statement.now next.mind entry prepared.now stage → IfErr result (λ e. e ≡ Fault)) }
     // A fault is told where the disk counts one more.
     ensures faults { HasFault Fault (D.faults_of store.old.disk) (D.faults_of store.new.disk) result }
+    // Time doesn't go back.
+    ensures time { TakesTime D.Disk store.old store.new }
 {
     a_turn_of_a_row_is_told::<D>();
     store.rests();

@@ -1,17 +1,14 @@
 // The Write of a CREATE TABLE and of a DROP TABLE.
-ghost use Rattle.std.specs.Prelude.{◌≡◌, ◌<◌, ℕ, List, OnOk, IfOk, IfErr};
+ghost use Rattle.std.specs.Prelude.{◌≡◌, ◌<◌, ℕ, List, IfOk, IfErr};
 ghost use Rattle.ctr_disk.specs.declared.fault.StoreFault.TheVariants.{Fault};
 ghost use Rattle.ctr_types.specs.Faults.{HasFault};
 ghost use Rattle.ctr_types.specs.declared.statement.Statement.{Statement as Said};
 ghost use Rattle.ctr_types.specs.declared.statement.Statement.TheVariants as st;
 ghost use Rattle.ctr_value.specs.Columns.{ColumnsFit};
 ghost use Rattle.ctr_base.specs.Base.{WhereSound};
-ghost use Rattle.ctr_walk.specs.OneRecord.{HasRoomForOne};
 ghost use Rattle.ctr_kept.specs.Turns.{Start};
 ghost use Rattle.ctr_key_locks.specs.Held.{LocksOfSession};
-ghost use Rattle.ctr_txn.specs.Held.{IsOneOfEight};
-ghost use Rattle.ctr_txn.specs.Calls.{IsOverStore};
-ghost use Rattle.ctr_txn.specs.Rooms.{HasItemRoom};
+ghost use Rattle.ctr_looks.specs.ctr_session_world.Ready.{LeavesOver, MayTurn, TakesTime};
 ghost use Rattle.ctr_looks.specs.ctr_session_world.Told.{IsNextOf};
 ghost use Rattle.ctr_looks.specs.declared.tables.TableWrite.TheVariants.{Make, Drop};
 ghost use Rattle.ctr_looks.specs.Granting.{HasItem};
@@ -38,13 +35,10 @@ fn make<D: Disk, O: Origin>(
     name: &Name,
     schema: &Schema,
 ) -> Result<Reply, StoreFault>
-    requires one { IsOneOfEight s }
+    requires may { MayTurn s txns.old store.old }
     requires item { HasItem s txns.old }
     requires fits { ColumnsFit schema.now.columns }
-    requires room { HasRoomForOne 0 0 store.old }
-    requires items { HasItemRoom txns.old store.old.meta }
-    ensures over { OnOk result (IsOverStore txns.old store.old → IsOverStore txns.new store.new) }
-    ensures items { OnOk result (HasItemRoom txns.new store.new.meta) }
+    ensures over { LeavesOver s txns.old txns.new store.old store.new result }
     ensures told { (c : Start) (opened : D) (locks : List (ℕ × LocksOfSession)) → WhereSound O.first D.Disk
         ((next : IsNextOf D.Disk c opened store.old store.new (record { txns = txns.old; locks = locks }) s (st.Create name.now schema.now) 1) → IsAtTableWrite c s (st.Create name.now schema.now) next.mind Make
         → IfOk result (TurnOfTable next (record { txns = txns.new; locks = locks }))) }
@@ -52,6 +46,7 @@ fn make<D: Disk, O: Origin>(
         ((next : IsNextOf D.Disk c opened store.old store.new (record { txns = txns.old; locks = locks }) s (st.Create name.now schema.now) 1) → IsAtTableWrite c s (st.Create name.now schema.now) next.mind Make
         → IfErr result (λ e. e ≡ Fault)) }
     ensures faults { HasFault Fault (D.faults_of store.old.disk) (D.faults_of store.new.disk) result }
+    ensures time { TakesTime D.Disk store.old store.new }
 {
     a_table_may_be_written::<D>();
     a_turn_goes_or_counts_a_fault::<D, Made>();
@@ -84,13 +79,10 @@ fn drop_one<D: Disk, O: Origin>(
     s: u8,
     entry: u8,
 ) -> Result<Reply, StoreFault>
-    requires one { IsOneOfEight s }
+    requires may { MayTurn s txns.old store.old }
     requires item { HasItem s txns.old }
     requires there { entry < 32 }
-    requires room { HasRoomForOne 0 0 store.old }
-    requires items { HasItemRoom txns.old store.old.meta }
-    ensures over { OnOk result (IsOverStore txns.old store.old → IsOverStore txns.new store.new) }
-    ensures items { OnOk result (HasItemRoom txns.new store.new.meta) }
+    ensures over { LeavesOver s txns.old txns.new store.old store.new result }
     ensures told { (c : Start) (opened : D) (locks : List (ℕ × LocksOfSession)) (statement : Said) → WhereSound O.first D.Disk
         ((next : IsNextOf D.Disk c opened store.old store.new (record { txns = txns.old; locks = locks }) s statement 1) → IsAtTableWrite c s statement next.mind (Drop entry)
         → IfOk result (TurnOfTable next (record { txns = txns.new; locks = locks }))) }
@@ -98,6 +90,7 @@ fn drop_one<D: Disk, O: Origin>(
         ((next : IsNextOf D.Disk c opened store.old store.new (record { txns = txns.old; locks = locks }) s statement 1) → IsAtTableWrite c s statement next.mind (Drop entry)
         → IfErr result (λ e. e ≡ Fault)) }
     ensures faults { HasFault Fault (D.faults_of store.old.disk) (D.faults_of store.new.disk) result }
+    ensures time { TakesTime D.Disk store.old store.new }
 {
     a_table_may_be_written::<D>();
     a_turn_is_told_by_its_number::<D, ()>();
@@ -124,13 +117,10 @@ pub fn write_table<D: Disk, O: Origin>(
     statement: &Statement,
     what: TableWrite,
 ) -> Result<Reply, StoreFault>
-    requires one { IsOneOfEight s }
+    requires may { MayTurn s txns.old store.old }
     requires at { IsWriteOf statement.now what × HasItem s txns.old }
     requires fits { HasFittingColumns statement.now }
-    requires room { HasRoomForOne 0 0 store.old }
-    requires items { HasItemRoom txns.old store.old.meta }
-    ensures over { OnOk result (IsOverStore txns.old store.old → IsOverStore txns.new store.new) }
-    ensures items { OnOk result (HasItemRoom txns.new store.new.meta) }
+    ensures over { LeavesOver s txns.old txns.new store.old store.new result }
     // In a World it is told.
     ensures told { (c : Start) (opened : D) (locks : List (ℕ × LocksOfSession)) → WhereSound O.first D.Disk
         ((next : IsNextOf D.Disk c opened store.old store.new (record { txns = txns.old; locks = locks }) s statement.now 1) → IsAtTableWrite c s statement.now next.mind what
@@ -141,6 +131,8 @@ pub fn write_table<D: Disk, O: Origin>(
         → IfErr result (λ e. e ≡ Fault)) }
     // A fault is told where the disk counts one more.
     ensures faults { HasFault Fault (D.faults_of store.old.disk) (D.faults_of store.new.disk) result }
+    // Time doesn't go back.
+    ensures time { TakesTime D.Disk store.old store.new }
 {
     match what {
         TableWrite::Make => {

@@ -1,15 +1,44 @@
-use Rattle.std.proofs.Common.{refl, sym, ◌∙◌, ap, subst}
+use Rattle.std.proofs.Common.{Some, refl, sym, ◌∙◌, ap, subst}
 use Rattle.ctr_types.specs.declared.statement.Statement.TheVariants as st
 use Rattle.ctr_types.specs.declared.tape.Act.TheVariants as act
 use Rattle.ctr_types.specs.declared.tape.Refusal.TheVariants as refusal
 use Rattle.ctr_types.specs.declared.tape.Reply.TheVariants as reply
 use Rattle.ctr_kept.specs.Turns.{state_now}
+use Rattle.ctr_txn.specs.Held.{TxnsHeld}
+use Rattle.ctr_txn.specs.Steps.{txn_begun}
+use Rattle.ctr_session_world.specs.Ready.{LeavesReady, StaysUnasked}
 use Rattle.ctr_session_world.specs.World.{SessionsHeld}
 use Rattle.ctr_session_world.specs.Told.{IsTold}
 use Rattle.ctr_session_world.proofs.Standing.{comes, none_there, seat_of, some_of}
+use Rattle.ctr_session_world.proofs.Ready.{others_set, ready_as_was, ready_here, stands_with, unasked_set}
 use Rattle.ctr_session_world.proofs.Resting.{rests_here, refused_told}
 use Rattle.ctr_control.proofs.Begun.{refused_inside, outside, is_answered, begins, wants, begun_told}
 use Rattle.ctr_control.proofs.beginning.begin.Goals as goal
+
+-- ---- what is left of the sessions
+
+pub returns-then-is_some-clause-over : goal.returns-then-is_some-clause-over
+returns-then-is_some-clause-over g c = λ stand going. (ready_as_was c.args.s c.args.txns.now c.args.store.now stand going, λ unasked. unasked)
+
+pub returns-in-Ok-clause-over : goal.returns-in-Ok-clause-over
+returns-in-Ok-clause-over g c = λ stand going.
+    let s = c.args.s in
+    let old = c.args.txns.now in
+    let new = c.begin.new.self in
+    let v = c.args.store.now in
+    let t = Some (txn_begun c.meta.result.now.tables old) in (
+      ready_here s old new v (stands_with old new v c.in-Ok.ensures.numbers c.in-Ok.ensures.items stand) (others_set s t old new c.requires.one c.in-Ok.ensures.sets) going,
+      unasked_set s t old new c.requires.one c.counts_sessions.ensures c.in-Ok.ensures.sets (λ unasked. refl),
+    )
+
+pub returns-in-Err-clause-over : goal.returns-in-Err-clause-over
+returns-in-Err-clause-over g c = λ stand going.
+    let s = c.args.s in
+    let old = c.args.txns.now in
+    let v = c.args.store.now in
+    subst (λ (h : TxnsHeld). LeavesReady s old h v v × StaysUnasked s old h) (sym c.in-Err.ensures.err) (ready_as_was s old v stand going, λ unasked. unasked)
+
+-- ---- what is told
 
 pub returns-then-is_some-clause-told : goal.returns-then-is_some-clause-told
 returns-then-is_some-clause-told g c = λ run opened locks tells sound going next.

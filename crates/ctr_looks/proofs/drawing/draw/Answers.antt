@@ -6,16 +6,19 @@ use Rattle.ctr_disk.proofs.Moments.{on_ok}
 use Rattle.ctr_versions.specs.Engine.{SessionHeld}
 use Rattle.ctr_versions.proofs.Keys.{some_is}
 use Rattle.ctr_txn.specs.Held.{TxnHeld, TxnsHeld, IsReading, txn_of}
-use Rattle.ctr_txn.specs.Calls.{IsOverStore}
 use Rattle.ctr_looks.specs.Granting.{DrawsNext, HasNumber}
 use Rattle.ctr_session_world.proofs.Numbers.{none_or_some}
+use Rattle.ctr_session_world.proofs.Ready.{ready_as_was}
 use Rattle.ctr_session_world.proofs.Resting.{rests_here}
 use Rattle.ctr_disk.specs.declared.fault.StoreFault.TheVariants.{Fault}
 use Rattle.ctr_session_world.proofs.Faults.{fault_none}
 use Rattle.ctr_looks.proofs.drawing.draw.Goals as goal
 
 pub returns-then-is_reading-clause-over : goal.returns-then-is_reading-clause-over
-returns-then-is_reading-clause-over g c = on_ok c.draw_next.result (IsOverStore c.draw_next.new.txns c.draw_next.new.store) (IsOverStore c.args.txns.now c.args.store.now → IsOverStore c.draw_next.new.txns c.draw_next.new.store) (λ is was. is) c.draw_next.ensures.over
+returns-then-is_reading-clause-over g c = λ stand going. c.draw_next.ensures.over stand.items
+
+pub returns-clause-over : goal.returns-clause-over
+returns-clause-over g c = λ stand going. (ready_as_was c.args.s c.args.txns.now c.args.store.now stand going, λ unasked. unasked)
 
 pub returns-then-is_reading-clause-number : goal.returns-then-is_reading-clause-number
 returns-then-is_reading-clause-number g c = λ told sound going some.

@@ -1,4 +1,4 @@
-use Rattle.std.proofs.Common.{◌≡◌, ℕ, ◌<◌, false, [], ◌∷◌, Ok, Err, refl, sym, ◌∙◌, ap, subst}
+use Rattle.std.proofs.Common.{◌≡◌, ℕ, ◌<◌, false, [], ◌∷◌, Some, Ok, Err, refl, sym, ◌∙◌, ap, subst}
 use Rattle.std.specs.Option.{option_map}
 use Rattle.ctr_versions.specs.Engine.{SessionHeld}
 use Rattle.ctr_versions.proofs.Keys.{some_is}
@@ -13,10 +13,35 @@ use Rattle.ctr_store.specs.Store.{Logs}
 use Rattle.ctr_txn.specs.Held.{TxnHeld, run_of}
 use Rattle.ctr_txn.specs.Steps.{txn_drawn}
 use Rattle.ctr_session_world.proofs.ctr_told.ctr_rollback.Records.{refused_by_disk}
-use Rattle.ctr_looks.proofs.Rooms.{txn_set}
 use Rattle.ctr_disk.specs.declared.fault.StoreFault.TheVariants.{Fault}
 use Rattle.ctr_session_world.proofs.Faults.{fault_done, fault_failed}
+use Rattle.ctr_session_world.proofs.Ready.{others_set, own_set, ready_logged, unasked_as}
 use Rattle.ctr_looks.proofs.drawing.draw_next.Goals as goal
+
+pub returns-in-Ok-clause-over : goal.returns-in-Ok-clause-over
+returns-in-Ok-clause-over g c = λ room.
+    let a = c.args.store.now in
+    let b = c.first_write.new.store in
+    let s = c.args.s in
+    let old = c.args.txns.now in
+    let new = c.first_write.new.self in
+    let may = c.requires.may in
+    let t = may.reader.t in
+    let u = txn_drawn old.numbers.next t in
+    let its = c.in-Ok.ensures in
+    let sets = its.draws.0.1 t may.reader.there in (
+      ready_logged s old new a b (Begin a.meta.tables.next) a.next (record { next = its.over; items = its.items room }) (others_set s (Some u) old new may.one sets) its.one.going its.one.takes,
+      unasked_as s t u old new may.one c.counts_sessions.ensures may.reader.there refl sets,
+    )
+
+pub returns-in-Err-clause-over : goal.returns-in-Err-clause-over
+returns-in-Err-clause-over g c = λ room. tt
+
+pub returns-in-Ok-clause-time : goal.returns-in-Ok-clause-time
+returns-in-Ok-clause-time g c = c.in-Ok.ensures.one.time.later
+
+pub returns-in-Err-clause-time : goal.returns-in-Err-clause-time
+returns-in-Err-clause-time g c = c.in-Err.ensures.one.time.later
 
 pub returns-in-Ok-clause-draws : goal.returns-in-Ok-clause-draws
 returns-in-Ok-clause-draws g c = λ told sound some.
@@ -50,7 +75,7 @@ returns-in-Ok-clause-item g c = λ has.
     let old = c.args.txns.now in
     record {
       t = txn_drawn old.numbers.next has.t;
-      there = txn_set c.args.s old c.first_write.new.self (txn_drawn old.numbers.next has.t) c.requires.may.one c.counts_sessions.ensures (c.in-Ok.ensures.draws.0.1 has.t has.there);
+      there = own_set c.args.s (Some (txn_drawn old.numbers.next has.t)) old c.first_write.new.self c.requires.may.one c.counts_sessions.ensures (c.in-Ok.ensures.draws.0.1 has.t has.there);
       kept = has.kept;
     }
 

@@ -11,11 +11,45 @@ use Rattle.ctr_kept.specs.Turns.{state_now}
 use Rattle.ctr_session_world.specs.World.{SessionsHeld, names_in}
 use Rattle.ctr_looks.specs.Granting.{KeepsSessions}
 use Rattle.ctr_looks.proofs.Granted.{row_keeps_schema, row_locks_first}
+use Rattle.ctr_session_world.proofs.Ready.{ready_as_was, ready_then, same_but, unasked_then}
 use Rattle.ctr_session_world.proofs.Resting.{rests_here, rests_roomy}
 use Rattle.ctr_looks.proofs.Rooms.{number_roomy}
 use Rattle.ctr_disk.specs.declared.fault.StoreFault.TheVariants.{Fault}
 use Rattle.ctr_session_world.proofs.Faults.{fault_done, fault_failed, fault_none, fault_still, fault_then}
 use Rattle.ctr_looks.proofs.granting.grant_row.Goals as goal
+
+-- ---- what is left of the sessions
+
+pub returns-in-Err-clause-over : goal.returns-in-Err-clause-over
+returns-in-Err-clause-over g c = (ready_as_was c.args.s c.args.txns.now c.args.store.now c.requires.may.stand c.requires.may.room.going, λ unasked. unasked)
+
+pub returns-in-Err-reserve_for-clause-over : goal.returns-in-Err-reserve_for-clause-over
+returns-in-Err-reserve_for-clause-over g c = c.reserve_for.ensures.over c.requires.may.stand c.requires.may.room.going
+
+pub returns-in-Some-clause-over : goal.returns-in-Some-clause-over
+returns-in-Some-clause-over g c = c.reserve_for.ensures.over c.requires.may.stand c.requires.may.room.going
+
+pub returns-in-Some-take_key-clause-over : goal.returns-in-Some-take_key-clause-over
+returns-in-Some-take_key-clause-over g c = c.reserve_for.ensures.over c.requires.may.stand c.requires.may.room.going
+
+pub draw-requires-clause-may : goal.draw-requires-clause-may
+draw-requires-clause-may g c = c.in-Ok-reserve_for.ensures.may c.requires.may.stand.next c.requires.may.room
+
+pub returns-in-Ok-draw-clause-over : goal.returns-in-Ok-draw-clause-over
+returns-in-Ok-draw-clause-over g c =
+    let s = c.args.s in
+    let old = c.args.txns.now in
+    let mid = c.reserve_for.new.txns in
+    let new = c.draw.new.txns in
+    let a = c.args.store.now in
+    let m = c.reserve_for.new.store in
+    let b = c.draw.new.store in
+    let first = c.reserve_for.ensures.over c.requires.may.stand c.requires.may.room.going in
+    let drawn = c.in-Ok-draw.ensures.over first.0.stand first.0.going in
+    let still = same_but a m c.reserve_for.ensures.same in
+    (ready_then s old mid new a m b first.0.others still.1 still.2 drawn.0, unasked_then s old mid new first.1 drawn.1)
+
+-- ---- what is told
 
 pub returns-in-Err-clause-told : goal.returns-in-Err-clause-told
 returns-in-Err-clause-told g c = λ run opened statement more told sound next free of idle.
@@ -24,7 +58,7 @@ returns-in-Err-clause-told g c = λ run opened statement more told sound next fr
     let h : SessionsHeld = record { txns = c.args.txns.now; locks = c.args.locks.now } in
     let mid : SessionsHeld = record { txns = c.args.txns.now; locks = c.reserve_row.new.locks } in (
       c.a_look_that_wants_memory_is_told.ensures run opened a a h s statement next act.Lock tt (λ state r. row_locks_first state r statement c.args.row.now.key of.key) free mid (record { run = refl; locks = c.in-Err.ensures.same })
-          (rests_here g.D.Disk a (c.rests.ensures told sound c.requires.room.going)),
+          (rests_here g.D.Disk a (c.rests.ensures told sound c.requires.may.room.going)),
       tt,
     )
 
@@ -36,7 +70,7 @@ returns-in-Err-reserve_for-clause-told g c = λ run opened statement more told s
     let h : SessionsHeld = record { txns = c.args.txns.now; locks = c.args.locks.now } in
     let mid : SessionsHeld = record { txns = c.reserve_for.new.txns; locks = c.reserve_row.new.locks } in (
       c.a_look_that_wants_memory_is_told.ensures run opened a m h s statement next act.Lock tt (λ state r. row_locks_first state r statement c.args.row.now.key of.key) free mid (record { run = c.reserve_for.ensures.run; locks = c.in-Ok.ensures.same })
-          (rests_roomy g.D.Disk a m c.reserve_for.ensures.same (c.rests.ensures told sound c.requires.room.going)),
+          (rests_roomy g.D.Disk a m c.reserve_for.ensures.same (c.rests.ensures told sound c.requires.may.room.going)),
       tt,
     )
 
@@ -75,7 +109,7 @@ returns-in-Ok-draw-clause-told g c = λ run opened statement more told sound nex
     let room : KeepsSessions s h mid = record { run = c.reserve_for.ensures.run; locks = c.in-Ok.ensures.same } in
     let same = c.reserve_for.ensures.same in
     let some = subst (λ (q : Stored). 0 < q.tables.next) (sym (ap (λ (v : View g.row.D.Denot). v.now) same)) next.world.keeps.pages.sound.some in
-    let number = number_roomy g.D.Disk s mid.txns now.txns a m b same (c.in-Ok-draw.ensures.number told sound (ap (λ (v : View g.row.D.Denot). v.stopped) same ∙ c.requires.room.going) some) in
+    let number = number_roomy g.D.Disk s mid.txns now.txns a m b same (c.in-Ok-draw.ensures.number told sound (ap (λ (v : View g.row.D.Denot). v.stopped) same ∙ c.requires.may.room.going) some) in
     c.a_row_that_is_locked_is_told.ensures.told run opened a b h s statement next free c.args.row.now of more idle mid now room (record { mid = c.take_use.new.locks; uses = c.take_use.ensures.taken c.in-None.is; locks = c.take_key.ensures.taken c.in-None-take_key.is }) number
 
 pub returns-in-Err-draw-clause-refused : goal.returns-in-Err-draw-clause-refused

@@ -42,12 +42,12 @@ returns g c = λ run opened a b h s statement next free first name of found stan
     let session : SessionHeld = record seat.session { me = x } in
     let v : Mind = telling next.e act.Lock reply.Granted w (drawn_mind s seat.session x facts_idle w) in
     told [] tt (λ e l in_. absurd (subst (λ (fs : List Fact). IsAmong (HasTable e l) fs) nothing in_)) mid held.locks room holds held.txns v refl refl
-    (ap (held_as s session) (next.world.run_is ∙ sym room.run) ∙ sym drawn.1) session (find-put-same s session w.run.sessions) (λ e. ap (λ (z : Site). z.area.title e) draws.acts.does.leaves) shown c.key_locks_show.ensures.hold
+    (ap (held_as s session) (next.world.run_is ∙ sym room.run) ∙ sym drawn.1) refl session (find-put-same s session w.run.sessions) (λ e. ap (λ (z : Site). z.area.title e) draws.acts.does.leaves) shown c.key_locks_show.ensures.hold
     (c.a_first_lock_is_told.ensures run opened a b w s tells drawn.0 come draws.acts draws.logs) may found stands)
     (λ has.
     let counted = idle_in free.txn.session.me seat.session.me more (w.facts s) me_is (has.some seat.session at) idle in
     let v : Mind = telling next.e act.Lock reply.Granted w (carrying s (facts_idle ++ more) w) in
     told more counted.0 (λ e l in_. subst (λ (fs : List Fact). IsAmong (HasTable e l) fs) counted.1 in_) mid held.locks room holds held.txns v refl refl
-    (next.world.run_is ∙ sym room.run ∙ sym has.run) seat.session seat.at (λ e. ap (λ (q : Stored). (area_in q).title e) has.rests.logs.now) shown c.key_locks_show.ensures.hold
+    (next.world.run_is ∙ sym room.run ∙ sym has.run) refl seat.session seat.at (λ e. ap (λ (q : Stored). (area_in q).title e) has.rests.logs.now) shown c.key_locks_show.ensures.hold
     (c.a_lock_is_told.ensures run opened a b w s tells more (has.some seat.session at) counted.0 counted.1 come has.rests) may found stands)
     number

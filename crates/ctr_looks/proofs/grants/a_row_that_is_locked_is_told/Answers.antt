@@ -64,12 +64,12 @@ returns-clause-told g c = λ run opened a b h s statement next free row of more 
     let session : SessionHeld = record seat.session { me = x } in
     let v : Mind = telling next.e act.Lock reply.Granted w (drawn_mind s seat.session x facts_idle w) in
     told [] tt (λ e l in_. absurd (subst (λ (fs : List Fact). IsAmong (HasTable e l) fs) nothing in_)) mid held.locks room takes shown now_ v refl refl
-    (ap (held_as s session) (next.world.run_is ∙ sym room.run) ∙ sym drawn.1) session (find-put-same s session w.run.sessions) (λ e. ap (λ (z : Site). z.area.title e) draws.acts.does.leaves)
+    (ap (held_as s session) (next.world.run_is ∙ sym room.run) ∙ sym drawn.1) refl session (find-put-same s session w.run.sessions) (λ e. ap (λ (z : Site). z.area.title e) draws.acts.does.leaves)
     (c.a_first_lock_is_told.ensures run opened a b w s tells drawn.0 come draws.acts draws.logs) c.a_session_may_count_on_what_holds.ensures)
     (λ has.
     let counted = idle_in free.txn.session.me seat.session.me more (w.facts s) me_is (has.some seat.session at) idle in
     let v : Mind = telling next.e act.Lock reply.Granted w (carrying s (facts_idle ++ more) w) in
     told more counted.0 (λ e l in_. table_of_more e l more (w.facts s) counted.1 in_) mid held.locks room takes shown now_ v refl refl
-    (next.world.run_is ∙ sym room.run ∙ sym has.run) seat.session seat.at (λ e. ap (λ (q : Stored). (area_in q).title e) has.rests.logs.now)
+    (next.world.run_is ∙ sym room.run ∙ sym has.run) refl seat.session seat.at (λ e. ap (λ (q : Stored). (area_in q).title e) has.rests.logs.now)
     (c.a_lock_is_told.ensures run opened a b w s tells more (has.some seat.session at) counted.0 counted.1 come has.rests) c.a_session_may_count_on_what_holds.ensures)
     number

@@ -13,7 +13,6 @@ use Rattle.ctr_base.specs.Base.{IsSoundImage}
 use Rattle.ctr_store.specs.Store.{View, LeavesFront}
 use Rattle.ctr_chain.specs.declared.view.ReadRefusal.{ReadRefusal}
 use Rattle.ctr_chain.specs.declared.view.ReadRefusal.TheVariants as unread
-use Rattle.ctr_meta.specs.Kept.{TablesKept}
 use Rattle.ctr_meta.specs.Seen.{xid_is_seen}
 use Rattle.ctr_area.specs.Sound.{IsAmong}
 use Rattle.ctr_redo.specs.States.{State as Stored}
@@ -25,7 +24,6 @@ use Rattle.ctr_kept.specs.Turns.{scene_now, state_now}
 use Rattle.ctr_kept.proofs.Walking.{keeps_reached}
 use Rattle.ctr_wishes.specs.ctr_views.Viewing.{Viewer}
 use Rattle.ctr_txn.specs.Held.{TxnHeld}
-use Rattle.ctr_txn.specs.Rooms.{HasItemRoom}
 use Rattle.ctr_page_turns.specs.Turns.{RestsBehind}
 use Rattle.ctr_asking.specs.Asking.{me_held}
 use Rattle.ctr_asking.proofs.Passing.{number_held}
@@ -43,16 +41,12 @@ use Rattle.ctr_session_world.proofs.Going.{goes, goes_told, rests_read, room_of}
 use Rattle.ctr_looks.proofs.Staying.{goes_free, goes_row}
 use Rattle.ctr_looks.proofs.Granted.{row_locks_first}
 use Rattle.ctr_looks.proofs.Promised.{may_write}
+use Rattle.ctr_session_world.proofs.Ready.{leaves_read, ready_behind, stands_still}
 use Rattle.ctr_session_world.proofs.Resting.{same_held}
 use Rattle.ctr_disk.specs.declared.fault.StoreFault.TheVariants.{Fault}
 use Rattle.ctr_types.specs.Faults.{HasFault}
 use Rattle.ctr_session_world.proofs.Faults.{fault_done, fault_failed, fault_then}
 use Rattle.ctr_looks.proofs.locking.lock_found.Goals as goal
-
--- what is so behind whatever is answered
-always : {T E P : Type 0} (r : Result T E) → P → OnOk r P
-always (Ok x) is = is
-always (Err e) is = tt
 
 unread_so : {D : Type 0} (first : Image) (g : Ghosts D) (a m : View D) (P : Locked → Type 0) (why : ReadRefusal) (r : Result Locked StoreFault) → r ≡ locked_unread why → IsTrue g.tells → IsSoundImage first
     → ReadsPages first g a m (as_told {T = Prepared} (Err why)) → (m.stopped ≡ false → LeavesFront g m m) → (RestsBehind g a m → P (Refused refusal.OutOfMemory)) → IfOk r P
@@ -65,12 +59,39 @@ unread_fault : (n m : ℕ) (why : ReadRefusal) → HasFault {T = Result Prepared
 unread_fault n m (unread.Store failed) faults = fault_failed Fault n m failed faults
 unread_fault n m unread.OutOfMemory faults = fault_done Fault n m (Err (record {})) (Refused refusal.OutOfMemory) faults
 
-pub returns-in-Err-clause-over : goal.returns-in-Err-clause-over
-returns-in-Err-clause-over g c = always c.unread.result (c.requires.over ∙ sym (ap (λ (k : TablesKept). k.tables.next) (room_of g.O.Origin.first g.D.Disk c.args.store.now c.prepare-read.new.store (as_told c.prepare-read.result) c.prepare-read.ensures.leaves).meta))
+-- where that is answered the store goes on
+unread_goes : {D : Type 0} (first : Image) (g : Ghosts D) (a m : View D) (why : ReadRefusal) (r : Result Locked StoreFault) → r ≡ locked_unread why → ReadsPages first g a m (as_told {T = Prepared} (Err why)) → OnOk r (m.stopped ≡ false)
+unread_goes first g a m (unread.Store failed) r is leaves = subst (λ (q : Result Locked StoreFault). OnOk q (m.stopped ≡ false)) (sym is) tt
+unread_goes first g a m unread.OutOfMemory r is leaves = subst (λ (q : Result Locked StoreFault). OnOk q (m.stopped ≡ false)) (sym is) leaves.going
 
-pub returns-in-Err-clause-items : goal.returns-in-Err-clause-items
-returns-in-Err-clause-items g c =
-    always c.unread.result (λ (was : HasItemRoom c.args.txns.now c.args.store.now.meta). subst (HasItemRoom c.args.txns.now) (sym (room_of g.O.Origin.first g.D.Disk c.args.store.now c.prepare-read.new.store (as_told c.prepare-read.result) c.prepare-read.ensures.leaves).meta) was)
+-- ---- what is left of the sessions
+
+pub returns-in-Err-clause-over : goal.returns-in-Err-clause-over
+returns-in-Err-clause-over g c =
+    let a = c.args.store.now in
+    let m = c.prepare-read.new.store in
+    leaves_read c.unread.result c.args.s c.args.txns.now a m (room_of g.O.Origin.first g.D.Disk a m (as_told c.prepare-read.result) c.prepare-read.ensures.leaves)
+    (unread_goes g.O.Origin.first g.D.Disk a m c.in-Err.refusal c.unread.result c.unread.ensures.said c.in-Err.ensures.leaves) c.requires.may.stand
+
+pub grant_row-requires-clause-may : goal.grant_row-requires-clause-may
+grant_row-requires-clause-may g c =
+    let a = c.args.store.now in
+    let m = c.prepare-read.new.store in
+    let may = c.requires.may in
+    let leaves = c.in-Ok.ensures.leaves in
+    record { one = may.one; stand = stands_still c.args.txns.now a m leaves.keeps.meta may.stand; room = c.room_is_still_there.ensures.behind 0 0 a m leaves.keeps leaves.going may.room }
+
+pub returns-in-Some-why-clause-over : goal.returns-in-Some-why-clause-over
+returns-in-Some-why-clause-over g c =
+    let leaves = c.in-Ok-grant_row.ensures.over in
+    (ready_behind c.args.s c.args.txns.now c.grant_row.new.txns c.args.store.now c.prepare-read.new.store c.grant_row.new.store c.in-Ok.ensures.leaves.keeps leaves.0, leaves.1)
+
+pub returns-in-None-clause-over : goal.returns-in-None-clause-over
+returns-in-None-clause-over g c =
+    let leaves = c.in-Ok-grant_row.ensures.over in
+    (ready_behind c.args.s c.args.txns.now c.grant_row.new.txns c.args.store.now c.prepare-read.new.store c.grant_row.new.store c.in-Ok.ensures.leaves.keeps leaves.0, leaves.1)
+
+-- ---- what is told
 
 pub returns-in-Err-clause-refused : goal.returns-in-Err-clause-refused
 returns-in-Err-clause-refused g c = λ told sound database. c.unread.ensures.refused (c.in-Err.ensures.refused told sound database)

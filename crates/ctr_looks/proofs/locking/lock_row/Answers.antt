@@ -1,22 +1,62 @@
-use Rattle.std.proofs.Common.{ℕ, sym, ◌∙◌, ap, subst}
+use Rattle.std.proofs.Common.{ℕ, Err, sym, ◌∙◌, ap, subst}
 use Rattle.std.specs.Option.{option_copied}
 use Rattle.std.proofs.lemmas.Bool.{false≢true}
 use Rattle.ctr_types.specs.declared.tape.Act.TheVariants as act
 use Rattle.ctr_model.specs.declared.state.State.{State}
 use Rattle.ctr_kept.specs.Walk.{Mind}
+use Rattle.ctr_asking.specs.declared.asker.Answer.{Answer}
 use Rattle.ctr_asking.specs.declared.asker.Answer.TheVariants as answer
 use Rattle.ctr_looks.specs.declared.taking.RowAt.{RowAt}
 use Rattle.ctr_session_world.specs.World.{SessionsHeld}
 use Rattle.ctr_looks.specs.Asked.{IsAsked}
 use Rattle.ctr_looks.specs.Granting.{IsRowOf}
 use Rattle.ctr_looks.specs.Locking.{IsReadyBehind, locked_reply}
-use Rattle.ctr_session_world.proofs.Going.{goes, goes_told, if_ok, rests_read}
+use Rattle.ctr_session_world.proofs.Going.{goes, goes_told, if_ok, later_of, rests_read}
+use Rattle.ctr_session_world.proofs.Ready.{leaves_behind, ready_read, stands_still}
+use Rattle.ctr_session_world.proofs.Standing.{further}
 use Rattle.ctr_looks.proofs.Staying.{goes_free, goes_row, goes_stands, idle_free}
 use Rattle.ctr_looks.proofs.Granted.{row_locks_first}
 use Rattle.ctr_looks.proofs.Promised.{row_makes_none}
 use Rattle.ctr_disk.specs.declared.fault.StoreFault.TheVariants.{Fault}
 use Rattle.ctr_session_world.proofs.Faults.{fault_done, fault_failed, fault_then}
 use Rattle.ctr_looks.proofs.locking.lock_row.Goals as goal
+
+-- ---- what is left of the sessions, and the time that it takes
+
+pub returns-in-Refused-clause-over : goal.returns-in-Refused-clause-over
+returns-in-Refused-clause-over g c =
+    let leaves = c.in-Ok.ensures.leaves in
+    (ready_read c.args.s c.args.txns.now c.args.store.now c.ask_act.new.store leaves.keeps leaves.going c.requires.may.stand, λ unasked. unasked)
+
+pub returns-in-None-clause-over : goal.returns-in-None-clause-over
+returns-in-None-clause-over g c =
+    let leaves = c.in-Ok.ensures.leaves in
+    (ready_read c.args.s c.args.txns.now c.args.store.now c.ask_act.new.store leaves.keeps leaves.going c.requires.may.stand, λ unasked. unasked)
+
+pub lock_found-requires-clause-may : goal.lock_found-requires-clause-may
+lock_found-requires-clause-may g c =
+    let a = c.args.store.now in
+    let m = c.ask_act.new.store in
+    let may = c.requires.may in
+    let leaves = c.in-Ok.ensures.leaves in
+    record { one = may.one; stand = stands_still c.args.txns.now a m leaves.keeps.meta may.stand; room = c.room_is_still_there.ensures.behind 0 0 a m leaves.keeps leaves.going may.room }
+
+pub returns-in-Err-clause-time : goal.returns-in-Err-clause-time
+returns-in-Err-clause-time g c = later_of {T = Answer} g.O.Origin.first g.D.Disk c.args.store.now c.ask_act.new.store (Err c.in-Err.fault) c.in-Err.ensures.leaves
+
+pub returns-in-Refused-clause-time : goal.returns-in-Refused-clause-time
+returns-in-Refused-clause-time g c = c.in-Ok.ensures.leaves.time.later
+
+pub returns-in-None-clause-time : goal.returns-in-None-clause-time
+returns-in-None-clause-time g c = c.in-Ok.ensures.leaves.time.later
+
+pub returns-in-Some-found-clause-over : goal.returns-in-Some-found-clause-over
+returns-in-Some-found-clause-over g c = leaves_behind c.lock_found.result c.args.s c.args.txns.now c.lock_found.new.txns c.args.store.now c.ask_act.new.store c.lock_found.new.store c.in-Ok.ensures.leaves.keeps c.lock_found.ensures.over
+
+pub returns-in-Some-found-clause-time : goal.returns-in-Some-found-clause-time
+returns-in-Some-found-clause-time g c = further _ _ _ c.in-Ok.ensures.leaves.time.later c.lock_found.ensures.time
+
+-- ---- what is told
 
 pub returns-in-Refused-clause-told : goal.returns-in-Refused-clause-told
 returns-in-Refused-clause-told g c = λ run opened told sound next stuck idle.

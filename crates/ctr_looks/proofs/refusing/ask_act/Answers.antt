@@ -16,7 +16,7 @@ returns-then-is_none-clause-asked g c = λ run opened b told sound next stuck lo
     let s = c.args.asker.now.s in
     let h : SessionsHeld = record { txns = c.args.asker.now.txns.now; locks = c.args.asker.now.locks.now } in
     refused_without g.D.Disk run opened a b h s c.args.statement.now next c.args.act.now look
-    (none_of g.D.Disk run opened a b h s c.args.statement.now 0 next c.the_run_is_of_the_sessions.ensures.found c.requires.one (sym c.txn.ensures ∙ none_there c.txn.result.now (c.is_none.ensures ∙ ap not c.if-is_none.true)))
+    (none_of g.D.Disk run opened a b h s c.args.statement.now 0 next c.the_run_is_of_the_sessions.ensures.found c.requires.may.one (sym c.txn.ensures ∙ none_there c.txn.result.now (c.is_none.ensures ∙ ap not c.if-is_none.true)))
 
 pub returns-in-Ok-clause-asked : goal.returns-in-Ok-clause-asked
 returns-in-Ok-clause-asked g c = λ run opened b told sound next stuck look first.
@@ -26,7 +26,7 @@ returns-in-Ok-clause-asked g c = λ run opened b told sound next stuck look firs
     let h : SessionsHeld = record { txns = asker.txns.now; locks = asker.locks.now } in
     let statement = c.args.statement.now in
     let x = c.args.act.now in
-    let one = c.requires.one in
+    let one = c.requires.may.one in
     let its = some_of c.txn.result.now (c.is_none.ensures ∙ ap not c.if-is_none.false) in
     let there = sym c.txn.ensures ∙ its.1 in
     let seated = seat_of g.D.Disk run opened a b h s statement 0 next c.the_run_is_of_the_sessions.ensures.found one its.0 there in

@@ -1,10 +1,11 @@
-use Rattle.std.proofs.Common.{◌≡◌, true, ℕ, ◌≤◌, ◌+◌, refl, sym, ◌∙◌, ap, subst, arith}
+use Rattle.std.proofs.Common.{◌≡◌, true, Some, ℕ, ◌≤◌, ◌+◌, refl, sym, ◌∙◌, ap, subst, arith}
 use Rattle.ctr_meta.specs.Tables.{Tables}
 use Rattle.ctr_walk.specs.OneRecord.{HasRoomForOne}
-use Rattle.ctr_txn.specs.Held.{run_of, txn_of}
+use Rattle.ctr_txn.specs.Held.{TxnsHeld, run_of, txn_of}
 use Rattle.ctr_txn.specs.Rooms.{items_kept}
 use Rattle.ctr_txn.specs.Steps.{txn_room}
-use Rattle.ctr_looks.proofs.Rooms.{still_inside, txn_set}
+use Rattle.ctr_looks.proofs.Rooms.{still_inside}
+use Rattle.ctr_session_world.proofs.Ready.{others_same, others_set, own_set, ready_unlogged, same_but, unasked_as, unasked_same}
 use Rattle.ctr_session_world.proofs.Standing.{some_of}
 use Rattle.ctr_looks.proofs.reserving.reserve_for.Goals as goal
 
@@ -35,25 +36,46 @@ returns-in-Ok-clause-item g c =
     let its = some_of (txn_of c.args.s c.args.txns.now) c.requires.inside.some in
     record {
       t = txn_room true its.0;
-      there = txn_set c.args.s c.args.txns.now c.reserve.new.self (txn_room true its.0) c.requires.inside.one c.counts_sessions.ensures (c.in-Ok.ensures.sets its.0 its.1);
+      there = own_set c.args.s (Some (txn_room true its.0)) c.args.txns.now c.reserve.new.self c.requires.inside.one c.counts_sessions.ensures (c.in-Ok.ensures.sets its.0 its.1);
       kept = refl;
     }
 
 pub returns-in-Ok-clause-over : goal.returns-in-Ok-clause-over
-returns-in-Ok-clause-over g c = λ was. c.in-Ok.ensures.numbers.next ∙ was ∙ sym (ap (λ (t : Tables). t.next) c.in-Ok.ensures.same.1)
-
-pub returns-in-Err-clause-over : goal.returns-in-Err-clause-over
-returns-in-Err-clause-over g c = λ was. c.in-Err.ensures.numbers.next ∙ was ∙ sym (ap (λ (t : Tables). t.next) c.in-Err.ensures.same.1)
-
-pub returns-in-Ok-clause-items : goal.returns-in-Ok-clause-items
-returns-in-Ok-clause-items g c = λ was. c.in-Ok.ensures.room.2
+returns-in-Ok-clause-over g c = λ stand going.
+    let s = c.args.s in
+    let old = c.args.txns.now in
+    let new = c.reserve.new.self in
+    let a = c.args.store.now in
+    let b = c.reserve.new.store in
+    let one = c.requires.inside.one in
+    let its = some_of (txn_of s old) c.requires.inside.some in
+    let sets = c.in-Ok.ensures.sets its.0 its.1 in
+    let still = same_but a b c.in-Ok.ensures.same.0 in (
+      ready_unlogged s old new a b (record { next = c.in-Ok.ensures.numbers.next ∙ stand.next ∙ sym (ap (λ (t : Tables). t.next) c.in-Ok.ensures.same.1); items = c.in-Ok.ensures.room.2 })
+          (others_set s (Some (txn_room true its.0)) old new one sets) (still.0 ∙ going) still.1 still.2,
+      unasked_as s its.0 (txn_room true its.0) old new one c.counts_sessions.ensures its.1 refl sets,
+    )
 
 as_much : (n m k l : ℕ) → n ≡ m → m ≤ k → k ≤ l + 0 → n ≤ l
 as_much n m k l is fits left = omega (arith, is, fits, left)
 
-pub returns-in-Err-clause-items : goal.returns-in-Err-clause-items
-returns-in-Err-clause-items g c = λ was.
-    as_much (items_kept c.reserve.new.self) (items_kept c.args.txns.now) c.args.store.now.meta.items_room c.reserve.new.store.meta.items_room (ap items_kept c.in-Err.ensures.err) was c.in-Err.ensures.kept.1
+pub returns-in-Err-clause-over : goal.returns-in-Err-clause-over
+returns-in-Err-clause-over g c = λ stand going.
+    let s = c.args.s in
+    let old = c.args.txns.now in
+    let new = c.reserve.new.self in
+    let a = c.args.store.now in
+    let b = c.reserve.new.store in
+    let same = ap (λ (h : TxnsHeld). h.sessions) c.in-Err.ensures.err in
+    let still = same_but a b c.in-Err.ensures.same.0 in (
+      ready_unlogged s old new a b
+          (record {
+            next = c.in-Err.ensures.numbers.next ∙ stand.next ∙ sym (ap (λ (t : Tables). t.next) c.in-Err.ensures.same.1);
+            items = as_much (items_kept new) (items_kept old) a.meta.items_room b.meta.items_room (ap items_kept c.in-Err.ensures.err) stand.items c.in-Err.ensures.kept.1;
+          })
+          (others_same s old new same) (still.0 ∙ going) still.1 still.2,
+      unasked_same s old new same,
+    )
 
 pub returns-in-Ok-clause-may : goal.returns-in-Ok-clause-may
 returns-in-Ok-clause-may g c = λ over room reads. record {

@@ -50,4 +50,4 @@ returns g c = λ run opened a b h s name at next free e stands rows shown more i
     in_table_still a.now a.now f t (with_use name t) (w.facts s) (w.facts s) refl (λ n is. is) (λ in_. in_)
     (next.world.tables s f k t (sym (ap (λ l. locks_key f k (record (held_by_session s mid.locks) { keys = l })) uses.here.keys ∙ room.locks.here.keys f k) ∙ is) seat.is_t) in
     (changed_told g.D.Disk run opened a b h s statement 0 next act.Read said (with_use name t) (with_transaction s (with_use name t) state) refl v (w.facts s) (sym (ap (λ (m : Mind). m.facts) (same_carried s w)))
-    left (λ q two. uses.others q two ∙ room.locks.others q two) (λ f. ap (λ (q : Stored). (area_in q).title f) rested.logs.now) own mid.txns (next.world.run_is ∙ sym room.run) refl is_state shows refl keeps).0
+    left (λ q two. uses.others q two ∙ room.locks.others q two) (λ f. ap (λ (q : Stored). (area_in q).title f) rested.logs.now) own mid.txns (next.world.run_is ∙ sym room.run) refl refl is_state shows refl keeps).0

@@ -17,12 +17,33 @@ use Rattle.ctr_session_world.specs.World.{SessionsHeld, names_in}
 use Rattle.ctr_looks.specs.Granting.{KeepsSessions}
 use Rattle.ctr_disk.specs.declared.fault.StoreFault.TheVariants.{Fault}
 use Rattle.ctr_session_world.proofs.Faults.{fault_done, fault_failed}
+use Rattle.ctr_session_world.specs.Ready.{LeavesOver}
 use Rattle.ctr_types.specs.Faults.{HasFault}
 use Rattle.ctr_types.specs.declared.memory.OutOfMemory.{OutOfMemory}
 use Rattle.ctr_types.specs.declared.value.Rows.{Rows}
 use Rattle.ctr_chain.specs.declared.view.ReadRefusal.{ReadRefusal}
 use Rattle.ctr_chain.specs.declared.view.ReadRefusal.TheVariants as unread
 use Rattle.ctr_looks.proofs.selecting.read_found.Goals as goal
+
+-- ---- what is left of the sessions
+
+pub returns-in-OutOfMemory-clause-over : goal.returns-in-OutOfMemory-clause-over
+returns-in-OutOfMemory-clause-over g c =
+    let s = c.args.s in
+    let txns = c.args.txns.now in
+    let a = c.args.store.now in
+    subst (λ (r : ReadRefusal). LeavesOver s txns txns a c.rows_at.new.store (as_told {T = Rows} (Err r))) c.in-OutOfMemory.is (c.in-Err.ensures.over s txns c.requires.may.stand)
+
+pub returns-in-Err-reserve_name-clause-over : goal.returns-in-Err-reserve_name-clause-over
+returns-in-Err-reserve_name-clause-over g c = c.in-Ok.ensures.over c.args.s c.args.txns.now c.requires.may.stand
+
+pub returns-in-Some-take_use-clause-over : goal.returns-in-Some-take_use-clause-over
+returns-in-Some-take_use-clause-over g c = c.in-Ok.ensures.over c.args.s c.args.txns.now c.requires.may.stand
+
+pub returns-in-None-clause-over : goal.returns-in-None-clause-over
+returns-in-None-clause-over g c = c.in-Ok.ensures.over c.args.s c.args.txns.now c.requires.may.stand
+
+-- ---- what is told
 
 pub returns-in-Some-take_use-clause-told : goal.returns-in-Some-take_use-clause-told
 returns-in-Some-take_use-clause-told g c = λ run opened more told sound next free stands idle.

@@ -1,4 +1,4 @@
-use Rattle.std.proofs.Common.{ℕ, None, sym, ◌∙◌, ap, subst}
+use Rattle.std.proofs.Common.{ℕ, None, Err, sym, ◌∙◌, ap, subst}
 use Rattle.std.specs.Option.{option_copied}
 use Rattle.ctr_model.specs.declared.state.State.{State}
 use Rattle.ctr_types.specs.declared.tape.Act.TheVariants as act
@@ -8,7 +8,10 @@ use Rattle.ctr_record_effects.specs.States.{area_in}
 use Rattle.ctr_kept.specs.Walk.{Mind}
 use Rattle.ctr_session_world.specs.Told.{IsNextOf, IsTold}
 use Rattle.ctr_session_world.specs.World.{SessionsHeld}
-use Rattle.ctr_session_world.proofs.Going.{goes, goes_told, rests_read}
+use Rattle.ctr_session_world.proofs.Going.{goes, goes_told, later_of, rests_read}
+use Rattle.ctr_session_world.proofs.Ready.{ready_behind, ready_read, stands_still}
+use Rattle.ctr_session_world.proofs.Standing.{further}
+use Rattle.ctr_asking.specs.declared.asker.Answer.{Answer}
 use Rattle.ctr_asking.specs.Asking.{IsInCatalog}
 use Rattle.ctr_looks.specs.Asked.{IsAsked}
 use Rattle.ctr_looks.specs.Granting.{CountsOnFound, HasItemIfGranted, granted_or}
@@ -24,6 +27,56 @@ returns-in-None-why-clause-ready g c = (
   write_is c.args.statement.now c.in-Free.found c.in-Some-what_is_written.write (sym c.what_is_written.ensures ∙ c.in-Some-what_is_written.is) (subst IsInCatalog c.in-Free.is c.in-Ok.ensures.inside),
   subst (HasItemIfGranted c.args.s c.grant_name.new.txns) c.in-None-why.is c.in-Ok-grant_name.ensures.item,
 )
+
+-- ---- what is left of the sessions, and the time that it takes
+
+pub returns-in-Refused-clause-over : goal.returns-in-Refused-clause-over
+returns-in-Refused-clause-over g c =
+    let leaves = c.in-Ok.ensures.leaves in
+    (ready_read c.args.s c.args.txns.now c.args.store.now c.ask_act.new.store leaves.keeps leaves.going c.requires.may.stand, λ unasked. unasked)
+
+pub returns-in-None-clause-over : goal.returns-in-None-clause-over
+returns-in-None-clause-over g c =
+    let leaves = c.in-Ok.ensures.leaves in
+    (ready_read c.args.s c.args.txns.now c.args.store.now c.ask_act.new.store leaves.keeps leaves.going c.requires.may.stand, λ unasked. unasked)
+
+pub grant_name-requires-clause-may : goal.grant_name-requires-clause-may
+grant_name-requires-clause-may g c =
+    let a = c.args.store.now in
+    let m = c.ask_act.new.store in
+    let may = c.requires.may in
+    let leaves = c.in-Ok.ensures.leaves in
+    record { one = may.one; stand = stands_still c.args.txns.now a m leaves.keeps.meta may.stand; room = c.room_is_still_there.ensures.behind 0 0 a m leaves.keeps leaves.going may.room }
+
+pub returns-in-Err-clause-time : goal.returns-in-Err-clause-time
+returns-in-Err-clause-time g c = later_of {T = Answer} g.O.Origin.first g.D.Disk c.args.store.now c.ask_act.new.store (Err c.in-Err.fault) c.in-Err.ensures.leaves
+
+pub returns-in-Refused-clause-time : goal.returns-in-Refused-clause-time
+returns-in-Refused-clause-time g c = c.in-Ok.ensures.leaves.time.later
+
+pub returns-in-None-clause-time : goal.returns-in-None-clause-time
+returns-in-None-clause-time g c = c.in-Ok.ensures.leaves.time.later
+
+pub returns-in-Some-why-clause-over : goal.returns-in-Some-why-clause-over
+returns-in-Some-why-clause-over g c =
+    let leaves = c.in-Ok-grant_name.ensures.over in
+    (ready_behind c.args.s c.args.txns.now c.grant_name.new.txns c.args.store.now c.ask_act.new.store c.grant_name.new.store c.in-Ok.ensures.leaves.keeps leaves.0, leaves.1)
+
+pub returns-in-Some-why-clause-time : goal.returns-in-Some-why-clause-time
+returns-in-Some-why-clause-time g c = further _ _ _ c.in-Ok.ensures.leaves.time.later c.grant_name.ensures.time
+
+pub returns-in-None-why-clause-over : goal.returns-in-None-why-clause-over
+returns-in-None-why-clause-over g c =
+    let leaves = c.in-Ok-grant_name.ensures.over in
+    (ready_behind c.args.s c.args.txns.now c.grant_name.new.txns c.args.store.now c.ask_act.new.store c.grant_name.new.store c.in-Ok.ensures.leaves.keeps leaves.0, leaves.1)
+
+pub returns-in-None-why-clause-time : goal.returns-in-None-why-clause-time
+returns-in-None-why-clause-time g c = further _ _ _ c.in-Ok.ensures.leaves.time.later c.grant_name.ensures.time
+
+pub returns-in-Err-grant_name-clause-time : goal.returns-in-Err-grant_name-clause-time
+returns-in-Err-grant_name-clause-time g c = further _ _ _ c.in-Ok.ensures.leaves.time.later c.grant_name.ensures.time
+
+-- ---- what is told
 
 pub returns-in-Refused-clause-told : goal.returns-in-Refused-clause-told
 returns-in-Refused-clause-told g c = λ run opened told sound next stuck idle.

@@ -1,9 +1,9 @@
-use Rattle.std.proofs.Common.{refl, ◌∙◌, ap}
+use Rattle.std.proofs.Common.{Some, refl, ◌∙◌, ap}
 use Rattle.ctr_txn.specs.Held.{run_of}
 use Rattle.ctr_txn.specs.Numbered.{NumbersHeld}
 use Rattle.ctr_txn.specs.Steps.{txn_room}
 use Rattle.ctr_looks.specs.ctr_write.Stages.{stage_items}
-use Rattle.ctr_looks.proofs.Rooms.{txn_set}
+use Rattle.ctr_looks.proofs.ctr_session_world.Ready.{others_set, own_set, unasked_as}
 use Rattle.ctr_writing.proofs.Roomy.{room_on}
 use Rattle.ctr_writing.proofs.room.keep_room.Goals as goal
 
@@ -15,9 +15,18 @@ returns-clause-run c = λ was has.
 pub returns-clause-kept : goal.returns-clause-kept
 returns-clause-kept c = λ was has. record {
   t = txn_room c.wants_item.result has.t;
-  there = txn_set c.args.s c.args.txns.now c.keep_item.new.self (txn_room c.wants_item.result has.t) c.requires.one c.counts_sessions.ensures (c.keep_item.ensures.sets has.t has.there);
+  there = own_set c.args.s (Some (txn_room c.wants_item.result has.t)) c.args.txns.now c.keep_item.new.self c.requires.one c.counts_sessions.ensures (c.keep_item.ensures.sets has.t has.there);
   room = c.wants_item.ensures;
 }
+
+pub returns-clause-stays : goal.returns-clause-stays
+returns-clause-stays c = λ was has.
+    let s = c.args.s in
+    let old = c.args.txns.now in
+    let new = c.keep_item.new.self in
+    let t = txn_room c.wants_item.result has.t in
+    let sets = c.keep_item.ensures.sets has.t has.there in
+    (others_set s (Some t) old new c.requires.one sets, unasked_as s has.t t old new c.requires.one c.counts_sessions.ensures has.there refl sets)
 
 pub returns-clause-items : goal.returns-clause-items
 returns-clause-items c = λ was k l has left room.

@@ -1,4 +1,4 @@
-use Rattle.std.proofs.Common.{◌≡◌, ◌<◌, ◌^◌, w64, to_z, of_z, Ok, Err, sym, ◌∙◌, ap, subst}
+use Rattle.std.proofs.Common.{◌≡◌, ◌<◌, ◌^◌, w64, to_z, of_z, Ok, Err, refl, sym, ◌∙◌, ap, subst, inl, inr}
 use Rattle.std.proofs.lemmas.Int.{to_z-of_z}
 use Rattle.ctr_disk.specs.declared.fault.StoreFault.TheVariants.{Fault}
 use Rattle.ctr_redo.specs.States.{State as Stored}
@@ -8,14 +8,17 @@ use Rattle.ctr_txn.specs.Rooms.{HasItemRoom}
 use Rattle.ctr_looks.specs.ctr_write.Laying.{Wish}
 use Rattle.ctr_looks.specs.ctr_write.Stages.{IsCountedWrite, LeavesItem, next_written, stage_items}
 use Rattle.ctr_looks.specs.ctr_write.Steps.{EndsWrite, MayTakeTurn}
+use Rattle.ctr_looks.specs.ctr_write.declared.stages.Written.{Written}
+use Rattle.ctr_looks.specs.ctr_session_world.Ready.{StandOver}
 use Rattle.ctr_looks.specs.ctr_session_world.World.{SessionsHeld}
 use Rattle.ctr_looks.proofs.ctr_session_world.Faults.{fault_done, fault_failed}
+use Rattle.ctr_looks.proofs.ctr_session_world.Ready.{turns_later, turns_ready}
 use Rattle.ctr_writing.specs.Rows.{wish_by}
 use Rattle.ctr_writing.proofs.Rowing.{same_wish}
-use Rattle.ctr_writing.proofs.Roomy.{between, more_are_counted, next_still, room_still}
+use Rattle.ctr_writing.proofs.Roomy.{between, more_are_counted, more_counted, next_still, room_still}
 use Rattle.ctr_writing.proofs.rows.lay.Goals as goal
 
--- ---- the next turn, and room
+-- ---- the next turn, and what is left of the sessions
 
 pub returns-in-On-clause-stage : goal.returns-in-On-clause-stage
 returns-in-On-clause-stage g c = (
@@ -24,15 +27,21 @@ returns-in-On-clause-stage g c = (
 )
 
 pub returns-in-On-clause-over : goal.returns-in-On-clause-over
-returns-in-On-clause-over g c = λ over.
-    ap (λ (n : NumbersHeld). n.next) c.keep_room.ensures.numbers ∙ over
-    ∙ sym (next_still (stage_items c.args.stage) c.in-Ok.written c.args.store.now.meta c.write-written.new.store.meta c.in-Ok.ensures.left)
-
-pub returns-in-On-clause-items : goal.returns-in-On-clause-items
-returns-in-On-clause-items g c =
-    let k = c.args.store.now.meta in
-    let l = c.write-written.new.store.meta in
-    c.keep_room.ensures.items c.args.stage k l c.requires.at.1.1 (subst (λ w. LeavesItem (stage_items c.args.stage) w k l) c.in-On.is c.in-Ok.ensures.left) c.requires.items
+returns-in-On-clause-over g c =
+    let a = c.args.store.now in
+    let b = c.write-written.new.store in
+    let s = c.args.s in
+    let old = c.args.txns.now in
+    let new = c.keep_room.new.txns in
+    let w = c.in-Ok.written in
+    let left = c.in-Ok.ensures.left in
+    let stand = c.requires.may.stand in
+    let stays = c.keep_room.ensures.stays c.args.stage c.requires.at.1.1 in
+    let over : StandOver new b = record {
+      next = ap (λ (n : NumbersHeld). n.next) c.keep_room.ensures.numbers ∙ stand.next ∙ sym (next_still (stage_items c.args.stage) w a.meta b.meta left);
+      items = c.keep_room.ensures.items c.args.stage a.meta b.meta c.requires.at.1.1 (subst (λ w. LeavesItem (stage_items c.args.stage) w a.meta b.meta) c.in-On.is left) stand.items;
+    } in
+    (turns_ready g.O.Origin.first g.D.Disk s old new a b w c.in-Ok.ensures.turns over stays.0, stays.1)
 
 pub returns-in-Grown-clause-stage : goal.returns-in-Grown-clause-stage
 returns-in-Grown-clause-stage g c =
@@ -41,37 +50,37 @@ returns-in-Grown-clause-stage g c =
     (tt, record { t = had.t; there = had.there; room = had.room ∙ left.0 })
 
 pub returns-in-Grown-clause-over : goal.returns-in-Grown-clause-over
-returns-in-Grown-clause-over g c = λ over.
-    over ∙ sym (next_still (stage_items c.args.stage) c.in-Ok.written c.args.store.now.meta c.write-written.new.store.meta c.in-Ok.ensures.left)
-
-pub returns-in-Grown-clause-items : goal.returns-in-Grown-clause-items
-returns-in-Grown-clause-items g c =
-    let k = c.args.store.now.meta in
-    let l = c.write-written.new.store.meta in
-    let left = subst (λ w. LeavesItem (stage_items c.args.stage) w k l) c.in-Grown.is c.in-Ok.ensures.left in
-    subst (HasItemRoom c.args.txns.now) (sym left.1) c.requires.items
+returns-in-Grown-clause-over g c =
+    let a = c.args.store.now in
+    let b = c.write-written.new.store in
+    let txns = c.args.txns.now in
+    let w = c.in-Ok.written in
+    let stand = c.requires.may.stand in
+    let left = subst (λ w. LeavesItem (stage_items c.args.stage) w a.meta b.meta) c.in-Grown.is c.in-Ok.ensures.left in
+    let over : StandOver txns b = record { next = stand.next ∙ sym (next_still (stage_items c.args.stage) w a.meta b.meta c.in-Ok.ensures.left); items = subst (HasItemRoom txns) (sym left.1) stand.items } in
+    (turns_ready g.O.Origin.first g.D.Disk c.args.s txns txns a b w c.in-Ok.ensures.turns over (λ q some two. refl), λ unasked. unasked)
 
 pub returns-in-Done-clause-over : goal.returns-in-Done-clause-over
-returns-in-Done-clause-over g c = λ over.
-    over ∙ sym (next_still (stage_items c.args.stage) c.in-Ok.written c.args.store.now.meta c.write-written.new.store.meta c.in-Ok.ensures.left)
-
-pub returns-in-Done-clause-items : goal.returns-in-Done-clause-items
-returns-in-Done-clause-items g c =
-    let k = c.args.store.now.meta in
-    let l = c.write-written.new.store.meta in
-    let left = subst (λ w. LeavesItem (stage_items c.args.stage) w k l) c.in-Done.is c.in-Ok.ensures.left in
-    room_still c.args.txns.now k l left.0 c.requires.items
+returns-in-Done-clause-over g c =
+    let a = c.args.store.now in
+    let b = c.write-written.new.store in
+    let txns = c.args.txns.now in
+    let w = c.in-Ok.written in
+    let stand = c.requires.may.stand in
+    let left = subst (λ w. LeavesItem (stage_items c.args.stage) w a.meta b.meta) c.in-Done.is c.in-Ok.ensures.left in
+    let over : StandOver txns b = record { next = stand.next ∙ sym (next_still (stage_items c.args.stage) w a.meta b.meta c.in-Ok.ensures.left); items = room_still txns a.meta b.meta left.0 stand.items } in
+    (turns_ready g.O.Origin.first g.D.Disk c.args.s txns txns a b w c.in-Ok.ensures.turns over (λ q some two. refl), λ unasked. unasked)
 
 pub returns-in-Full-clause-over : goal.returns-in-Full-clause-over
-returns-in-Full-clause-over g c = λ over.
-    over ∙ sym (next_still (stage_items c.args.stage) c.in-Ok.written c.args.store.now.meta c.write-written.new.store.meta c.in-Ok.ensures.left)
-
-pub returns-in-Full-clause-items : goal.returns-in-Full-clause-items
-returns-in-Full-clause-items g c =
-    let k = c.args.store.now.meta in
-    let l = c.write-written.new.store.meta in
-    let left = subst (λ w. LeavesItem (stage_items c.args.stage) w k l) c.in-Full.is c.in-Ok.ensures.left in
-    subst (HasItemRoom c.args.txns.now) (sym left) c.requires.items
+returns-in-Full-clause-over g c =
+    let a = c.args.store.now in
+    let b = c.write-written.new.store in
+    let txns = c.args.txns.now in
+    let w = c.in-Ok.written in
+    let stand = c.requires.may.stand in
+    let left = subst (λ w. LeavesItem (stage_items c.args.stage) w a.meta b.meta) c.in-Full.is c.in-Ok.ensures.left in
+    let over : StandOver txns b = record { next = stand.next ∙ sym (next_still (stage_items c.args.stage) w a.meta b.meta c.in-Ok.ensures.left); items = subst (HasItemRoom txns) (sym left) stand.items } in
+    (turns_ready g.O.Origin.first g.D.Disk c.args.s txns txns a b w c.in-Ok.ensures.turns over (λ q some two. refl), λ unasked. unasked)
 
 -- ---- what is told
 
@@ -89,14 +98,16 @@ returns-in-On-clause-told g c = λ run opened locks statement tells sound next k
     let small = subst (λ n. n < 2 ^ 64) c.me-x.ensures c.me-x.type_inv in
     let wish = wish_by (number_drawn s h.txns) e key head in
     let asked = same_wish c.me-x.result (number_drawn s h.txns) e (to_z w64 (of_z w64 key)) key c.version-version.result head c.me-x.ensures (to_z-of_z w64 key c.ranges.key) c.version-version.ensures.said in
-    let may = c.a_turn_of_a_row_may_be_taken.ensures run opened a b h s statement next e key head stage c.requires.one small keyed at in
+    let may = c.a_turn_of_a_row_may_be_taken.ensures run opened a b h s statement next e key head stage c.requires.may.one small keyed at in
     let turned = subst (λ (v : Wish). EndsWrite v stage a.now b.now w) asked (c.in-Ok.ensures.steps tells sound (subst (λ (v : Wish). MayTakeTurn v stage a.now) (sym asked) may)) in
     let ends = subst (λ r. EndsWrite wish stage a.now b.now r) c.in-On.is turned in
     let next_is = subst (λ r. b.next ≡ next_written r a.next) c.in-On.is c.in-Ok.ensures.numbers in
     let rests = c.rests.ensures tells sound (c.a_turn_goes_or_counts_a_fault.ensures.going g.O.Origin.first a b w c.in-Ok.ensures.turns) in
-    let left = subst (λ r. LeavesItem (stage_items stage) r a.meta b.meta) c.in-On.is c.in-Ok.ensures.left in
-    c.a_turn_of_a_row_is_told.ensures.on run opened a b h s statement next e key head stage c.in-On.then c.requires.one small keyed at ends (between (stage_items stage) c.in-On.then a.meta b.meta left)
-    (c.a_turn_is_told_by_its_number.ensures.logged g.O.Origin.first a b w tells sound c.in-Ok.ensures.turns next_is rests) c.keep_room.new.txns (c.keep_room.ensures.run stage c.requires.at.1.1)
+    let left = subst (λ r. LeavesItem (stage_items stage) r a.meta b.meta) c.in-On.is c.in-Ok.ensures.left in (
+      c.a_turn_of_a_row_is_told.ensures.on run opened a b h s statement next e key head stage c.in-On.then c.requires.may.one small keyed at ends (between (stage_items stage) c.in-On.then a.meta b.meta left)
+          (c.a_turn_is_told_by_its_number.ensures.logged g.O.Origin.first a b w tells sound c.in-Ok.ensures.turns next_is rests) c.keep_room.new.txns (c.keep_room.ensures.run stage c.requires.at.1.1),
+      inl next_is,
+    )
 
 pub returns-in-Grown-clause-told : goal.returns-in-Grown-clause-told
 returns-in-Grown-clause-told g c = λ run opened locks statement tells sound next keyed at.
@@ -112,15 +123,17 @@ returns-in-Grown-clause-told g c = λ run opened locks statement tells sound nex
     let small = subst (λ n. n < 2 ^ 64) c.me-x.ensures c.me-x.type_inv in
     let wish = wish_by (number_drawn s h.txns) e key head in
     let asked = same_wish c.me-x.result (number_drawn s h.txns) e (to_z w64 (of_z w64 key)) key c.version-version.result head c.me-x.ensures (to_z-of_z w64 key c.ranges.key) c.version-version.ensures.said in
-    let may = c.a_turn_of_a_row_may_be_taken.ensures run opened a b h s statement next e key head stage c.requires.one small keyed at in
+    let may = c.a_turn_of_a_row_may_be_taken.ensures run opened a b h s statement next e key head stage c.requires.may.one small keyed at in
     let turned = subst (λ (v : Wish). EndsWrite v stage a.now b.now w) asked (c.in-Ok.ensures.steps tells sound (subst (λ (v : Wish). MayTakeTurn v stage a.now) (sym asked) may)) in
     let ends = subst (λ r. EndsWrite wish stage a.now b.now r) c.in-Grown.is turned in
     let next_is = subst (λ r. b.next ≡ next_written r a.next) c.in-Grown.is c.in-Ok.ensures.numbers in
     let rests = c.rests.ensures tells sound (c.a_turn_goes_or_counts_a_fault.ensures.going g.O.Origin.first a b w c.in-Ok.ensures.turns) in
     let grew = c.a_write_without_a_record.ensures.grown wish stage a.now b.now ends in
-    let counts = c.a_turn_is_told_by_its_number.ensures.grown g.O.Origin.first a b w c.in-Ok.ensures.turns next_is (λ same. more_are_counted a.now.counted (grew.1) (sym (ap (λ (t : Stored). t.counted) grew.0) ∙ same)) in
-    c.a_turn_of_a_row_is_told.ensures.grown run opened a b h s statement next e key head stage c.requires.one keyed at ends
-    (c.growth_behind_pages_keeps_a_world.ensures run opened a b next.mind next.world.keeps g.O.Origin.first w tells sound counts)
+    let counts = c.a_turn_is_told_by_its_number.ensures.grown g.O.Origin.first a b w c.in-Ok.ensures.turns next_is (λ same. more_are_counted a.now.counted (grew.1) (sym (ap (λ (t : Stored). t.counted) grew.0) ∙ same)) in (
+      c.a_turn_of_a_row_is_told.ensures.grown run opened a b h s statement next e key head stage c.requires.may.one keyed at ends
+          (c.growth_behind_pages_keeps_a_world.ensures run opened a b next.mind next.world.keeps g.O.Origin.first w tells sound counts),
+      inr (subst (λ n. a.now.counted < n) (sym (ap (λ (t : Stored). t.counted) grew.0)) (more_counted a.now.counted grew.1)),
+    )
 
 pub returns-in-Done-clause-told : goal.returns-in-Done-clause-told
 returns-in-Done-clause-told g c = λ run opened locks statement tells sound next keyed at.
@@ -136,13 +149,15 @@ returns-in-Done-clause-told g c = λ run opened locks statement tells sound next
     let small = subst (λ n. n < 2 ^ 64) c.me-x.ensures c.me-x.type_inv in
     let wish = wish_by (number_drawn s h.txns) e key head in
     let asked = same_wish c.me-x.result (number_drawn s h.txns) e (to_z w64 (of_z w64 key)) key c.version-version.result head c.me-x.ensures (to_z-of_z w64 key c.ranges.key) c.version-version.ensures.said in
-    let may = c.a_turn_of_a_row_may_be_taken.ensures run opened a b h s statement next e key head stage c.requires.one small keyed at in
+    let may = c.a_turn_of_a_row_may_be_taken.ensures run opened a b h s statement next e key head stage c.requires.may.one small keyed at in
     let turned = subst (λ (v : Wish). EndsWrite v stage a.now b.now w) asked (c.in-Ok.ensures.steps tells sound (subst (λ (v : Wish). MayTakeTurn v stage a.now) (sym asked) may)) in
     let ends = subst (λ r. EndsWrite wish stage a.now b.now r) c.in-Done.is turned in
     let next_is = subst (λ r. b.next ≡ next_written r a.next) c.in-Done.is c.in-Ok.ensures.numbers in
-    let rests = c.rests.ensures tells sound (c.a_turn_goes_or_counts_a_fault.ensures.going g.O.Origin.first a b w c.in-Ok.ensures.turns) in
-    c.a_turn_of_a_row_is_told.ensures.done run opened a b h s statement next e key head stage c.requires.one small keyed at c.requires.at.0 ends
-    (c.a_turn_is_told_by_its_number.ensures.logged g.O.Origin.first a b w tells sound c.in-Ok.ensures.turns next_is rests)
+    let rests = c.rests.ensures tells sound (c.a_turn_goes_or_counts_a_fault.ensures.going g.O.Origin.first a b w c.in-Ok.ensures.turns) in (
+      c.a_turn_of_a_row_is_told.ensures.done run opened a b h s statement next e key head stage c.requires.may.one small keyed at c.requires.at.0 ends
+          (c.a_turn_is_told_by_its_number.ensures.logged g.O.Origin.first a b w tells sound c.in-Ok.ensures.turns next_is rests),
+      tt,
+    )
 
 pub returns-in-Full-clause-told : goal.returns-in-Full-clause-told
 returns-in-Full-clause-told g c = λ run opened locks statement tells sound next keyed at.
@@ -158,13 +173,15 @@ returns-in-Full-clause-told g c = λ run opened locks statement tells sound next
     let small = subst (λ n. n < 2 ^ 64) c.me-x.ensures c.me-x.type_inv in
     let wish = wish_by (number_drawn s h.txns) e key head in
     let asked = same_wish c.me-x.result (number_drawn s h.txns) e (to_z w64 (of_z w64 key)) key c.version-version.result head c.me-x.ensures (to_z-of_z w64 key c.ranges.key) c.version-version.ensures.said in
-    let may = c.a_turn_of_a_row_may_be_taken.ensures run opened a b h s statement next e key head stage c.requires.one small keyed at in
+    let may = c.a_turn_of_a_row_may_be_taken.ensures run opened a b h s statement next e key head stage c.requires.may.one small keyed at in
     let turned = subst (λ (v : Wish). EndsWrite v stage a.now b.now w) asked (c.in-Ok.ensures.steps tells sound (subst (λ (v : Wish). MayTakeTurn v stage a.now) (sym asked) may)) in
     let ends = subst (λ r. EndsWrite wish stage a.now b.now r) c.in-Full.is turned in
     let next_is = subst (λ r. b.next ≡ next_written r a.next) c.in-Full.is c.in-Ok.ensures.numbers in
-    let rests = c.rests.ensures tells sound (c.a_turn_goes_or_counts_a_fault.ensures.going g.O.Origin.first a b w c.in-Ok.ensures.turns) in
-    c.a_turn_of_a_row_is_told.ensures.full run opened a b h s statement next e key head stage c.requires.one keyed at ends
-    (c.a_turn_is_told_by_its_number.ensures.read g.O.Origin.first a b w tells sound c.in-Ok.ensures.turns next_is (c.a_write_without_a_record.ensures.full wish stage a.now b.now ends) rests)
+    let rests = c.rests.ensures tells sound (c.a_turn_goes_or_counts_a_fault.ensures.going g.O.Origin.first a b w c.in-Ok.ensures.turns) in (
+      c.a_turn_of_a_row_is_told.ensures.full run opened a b h s statement next e key head stage c.requires.may.one keyed at ends
+          (c.a_turn_is_told_by_its_number.ensures.read g.O.Origin.first a b w tells sound c.in-Ok.ensures.turns next_is (c.a_write_without_a_record.ensures.full wish stage a.now b.now ends) rests),
+      tt,
+    )
 
 -- ---- errors
 
@@ -181,7 +198,7 @@ returns-in-Err-clause-refused g c = λ run opened locks statement tells sound ne
     let small = subst (λ n. n < 2 ^ 64) c.me-x.ensures c.me-x.type_inv in
     let wish = wish_by (number_drawn s h.txns) e key head in
     let asked = same_wish c.me-x.result (number_drawn s h.txns) e (to_z w64 (of_z w64 key)) key c.version-version.result head c.me-x.ensures (to_z-of_z w64 key c.ranges.key) c.version-version.ensures.said in
-    let may = c.a_turn_of_a_row_may_be_taken.ensures run opened a b h s statement next e key head stage c.requires.one small keyed at in
+    let may = c.a_turn_of_a_row_may_be_taken.ensures run opened a b h s statement next e key head stage c.requires.may.one small keyed at in
     c.in-Err.ensures.refused tells sound (subst (λ (v : Wish). MayTakeTurn v stage a.now) (sym asked) may)
 
 pub returns-in-Err-clause-faults : goal.returns-in-Err-clause-faults
@@ -198,3 +215,20 @@ returns-in-Done-clause-faults g c = fault_done Fault _ _ c.in-Ok.written _ (c.a_
 
 pub returns-in-Full-clause-faults : goal.returns-in-Full-clause-faults
 returns-in-Full-clause-faults g c = fault_done Fault _ _ c.in-Ok.written _ (c.a_turn_goes_or_counts_a_fault.ensures.faults g.O.Origin.first c.args.store.now c.write-written.new.store (Ok c.in-Ok.written) c.in-Ok.ensures.turns)
+
+-- ---- time
+
+pub returns-in-On-clause-time : goal.returns-in-On-clause-time
+returns-in-On-clause-time g c = turns_later g.O.Origin.first g.D.Disk c.args.store.now c.write-written.new.store (Ok c.in-Ok.written) c.in-Ok.ensures.turns
+
+pub returns-in-Grown-clause-time : goal.returns-in-Grown-clause-time
+returns-in-Grown-clause-time g c = turns_later g.O.Origin.first g.D.Disk c.args.store.now c.write-written.new.store (Ok c.in-Ok.written) c.in-Ok.ensures.turns
+
+pub returns-in-Done-clause-time : goal.returns-in-Done-clause-time
+returns-in-Done-clause-time g c = turns_later g.O.Origin.first g.D.Disk c.args.store.now c.write-written.new.store (Ok c.in-Ok.written) c.in-Ok.ensures.turns
+
+pub returns-in-Full-clause-time : goal.returns-in-Full-clause-time
+returns-in-Full-clause-time g c = turns_later g.O.Origin.first g.D.Disk c.args.store.now c.write-written.new.store (Ok c.in-Ok.written) c.in-Ok.ensures.turns
+
+pub returns-in-Err-clause-time : goal.returns-in-Err-clause-time
+returns-in-Err-clause-time g c = turns_later {T = Written} g.O.Origin.first g.D.Disk c.args.store.now c.write-written.new.store (Err c.in-Err.fault) c.in-Err.ensures.turns

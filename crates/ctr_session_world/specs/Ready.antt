@@ -1,0 +1,50 @@
+-- What a turn of a session asks and leaves, whatever the disk tells.
+use Rattle.std.specs.Prelude.{◌≡◌, ◌<◌, ◌≤◌, ◌==◌, ◌+◌, ℕ, Bool, false, Option, None, Some, is_some, Result, OnOk}
+use Rattle.ctr_disk.specs.declared.disk.Disk.{Ghosts}
+use Rattle.ctr_disk.specs.declared.fault.StoreFault.{StoreFault}
+use Rattle.ctr_store.specs.Store.{View}
+use Rattle.ctr_walk.specs.OneRecord.{HasRoomForOne}
+use Rattle.ctr_txn.specs.Held.{TxnHeld, TxnsHeld, IsOneOfEight, txn_of}
+use Rattle.ctr_txn.specs.Calls.{IsOverStore}
+use Rattle.ctr_txn.specs.Rooms.{HasItemRoom}
+
+-- Transactions stand over a store: they draw the numbers that its tables expect, and there is room
+-- for each item of the secondary log that is kept for one of them.
+pub record StandOver {D : Type 0} (txns : TxnsHeld) (v : View D) : Type 0 where
+  pub next : IsOverStore txns v
+  pub items : HasItemRoom txns v.meta
+
+-- A turn of a session may be taken: there is room for a record, and for its number.
+pub record MayTurn {D : Type 0} (s : ℕ) (txns : TxnsHeld) (v : View D) : Type 0 where
+  pub one : IsOneOfEight s
+  pub stand : StandOver txns v
+  pub room : HasRoomForOne 0 0 v
+
+-- What a turn of a session leaves: the transactions stand over the store, and those of the other
+-- sessions are as they were; the store isn't stopped, no page is counted less, and one record at
+-- most was logged.
+pub record LeavesReady {D : Type 0} (s : ℕ) (txns now : TxnsHeld) (a b : View D) : Type 0 where
+  pub stand : StandOver now b
+  pub others : (q : ℕ) → 0 < q → (q == s) ≡ false → txn_of q now ≡ txn_of q txns
+  pub going : b.stopped ≡ false
+  pub counted : a.now.counted ≤ b.now.counted
+  pub one : b.next ≤ a.next + 1
+
+-- the transaction has asked for its commit
+abbrev pub is_asking : Option TxnHeld → Bool
+is_asking None = false
+is_asking (Some t) = is_some t.asked
+
+-- A session that hasn't asked for its commit hasn't then.
+abbrev pub StaysUnasked : ℕ → TxnsHeld → TxnsHeld → Type 0
+StaysUnasked s txns now = is_asking (txn_of s txns) ≡ false → is_asking (txn_of s now) ≡ false
+
+-- So a turn leaves the sessions where it was answered, and asks for no commit.
+abbrev pub LeavesOver : {D T : Type 0} → ℕ → TxnsHeld → TxnsHeld → View D → View D
+    → Result T StoreFault → Type 0
+LeavesOver s txns now a b result =
+    OnOk result (LeavesReady s txns now a b × StaysUnasked s txns now)
+
+-- a turn takes time, or none
+abbrev pub TakesTime : {D : Type 0} → Ghosts D → View D → View D → Type 0
+TakesTime g a b = g.moment_of a.disk ≤ g.moment_of b.disk
