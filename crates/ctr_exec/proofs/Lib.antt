@@ -1,0 +1,13 @@
+pub mod Places
+pub mod Points
+pub mod Replies
+pub mod Seats
+pub mod Shown
+pub mod Entered
+pub mod Turned
+pub mod Answered
+pub mod Answering
+pub mod Fresh
+pub mod Going
+pub mod Beginning
+pub mod Noting

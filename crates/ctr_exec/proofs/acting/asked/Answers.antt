@@ -1,0 +1,46 @@
+use Rattle.std.proofs.Common.{inl, refl, sym, ◌∙◌, subst}
+use Rattle.ctr_disk.specs.declared.fault.StoreFault.TheVariants.{Fault}
+use Rattle.ctr_types.specs.declared.statement.Statement.TheVariants as st
+use Rattle.ctr_types.specs.declared.tape.Act.TheVariants as act
+use Rattle.ctr_session_world.specs.World.{SessionsHeld}
+use Rattle.ctr_session_world.proofs.Faults.{fault_done, fault_failed}
+use Rattle.ctr_session_world.specs.Told.{IsTold}
+use Rattle.ctr_exec.proofs.Answered.{ask_ends}
+use Rattle.ctr_exec.proofs.Replies.{asked_is, asked_isnt, asks_none}
+use Rattle.ctr_exec.proofs.acting.asked.Goals as goal
+
+pub returns-in-Some-clause-over : goal.returns-in-Some-clause-over
+returns-in-Some-clause-over g c = (c.in-Ok.ensures.over.0, λ none. absurd (cc none))
+
+pub returns-in-None-clause-over : goal.returns-in-None-clause-over
+returns-in-None-clause-over g c = (c.in-Ok.ensures.over.0, λ none. c.in-Ok.ensures.over.1 (asks_none c.in-Ok.reply (sym c.number_told.ensures ∙ c.in-None.is)))
+
+pub returns-in-Some-clause-told : goal.returns-in-Some-clause-told
+returns-in-Some-clause-told g c = λ run opened tells sound next idle.
+    let now : SessionsHeld = record { txns = c.ask.new.txns; locks = c.ask.new.locks } in
+    subst (IsTold next now act.Ask) (asked_is c.in-Ok.reply c.in-Some.k (sym c.number_told.ensures ∙ c.in-Some.is)) (c.in-Ok.ensures.told run opened tells sound next idle)
+
+pub returns-in-None-clause-told : goal.returns-in-None-clause-told
+returns-in-None-clause-told g c = λ run opened tells sound next idle.
+    let a = c.args.store.now in
+    let b = c.ask.new.store in
+    let h : SessionsHeld = record { txns = c.args.txns.now; locks = c.args.locks.now } in
+    let now : SessionsHeld = record { txns = c.ask.new.txns; locks = c.ask.new.locks } in
+    let told = c.in-Ok.ensures.told run opened tells sound next idle in
+    let none = asked_isnt c.in-Ok.reply in (
+      ask_ends g.D.Disk run opened a b h c.args.s c.requires.may.one st.Commit 0 next now act.Ask c.in-Ok.reply told refl (sym c.number_told.ensures ∙ c.in-None.is),
+      told,
+      c.a_session_is_idle_behind_a_reply.ensures.idle run opened a b h c.args.s st.Commit 0 next now act.Ask c.in-Ok.reply told (inl idle) (λ k. none k (sym c.number_told.ensures ∙ c.in-None.is)),
+    )
+
+pub returns-in-Err-clause-told : goal.returns-in-Err-clause-told
+returns-in-Err-clause-told g c = λ run opened tells sound next idle. c.in-Err.ensures.refused run opened tells sound next idle
+
+pub returns-in-Some-clause-faults : goal.returns-in-Some-clause-faults
+returns-in-Some-clause-faults g c = fault_done Fault _ _ c.in-Ok.reply _ c.in-Ok.ensures.faults
+
+pub returns-in-None-clause-faults : goal.returns-in-None-clause-faults
+returns-in-None-clause-faults g c = fault_done Fault _ _ c.in-Ok.reply _ c.in-Ok.ensures.faults
+
+pub returns-in-Err-clause-faults : goal.returns-in-Err-clause-faults
+returns-in-Err-clause-faults g c = fault_failed Fault _ _ c.in-Err.fault c.in-Err.ensures.faults

@@ -1,0 +1,33 @@
+use Rattle.std.proofs.Common.{inl, refl}
+use Rattle.ctr_disk.specs.declared.fault.StoreFault.TheVariants.{Fault}
+use Rattle.ctr_types.specs.declared.tape.Act.TheVariants as act
+use Rattle.ctr_session_world.specs.World.{SessionsHeld}
+use Rattle.ctr_session_world.proofs.Faults.{fault_done, fault_failed}
+use Rattle.ctr_exec.proofs.Answered.{not_asked}
+use Rattle.ctr_exec.proofs.acting.rows_read.Goals as goal
+
+pub returns-in-Ok-clause-over : goal.returns-in-Ok-clause-over
+returns-in-Ok-clause-over g c = (c.in-Ok.ensures.over.0, λ none. c.in-Ok.ensures.over.1)
+
+pub returns-in-Ok-clause-told : goal.returns-in-Ok-clause-told
+returns-in-Ok-clause-told g c = λ run opened tells sound next stuck idle.
+    let a = c.args.store.now in
+    let b = c.read.new.store in
+    let statement = c.args.statement.now in
+    let h : SessionsHeld = record { txns = c.args.txns.now; locks = c.args.locks.now } in
+    let now : SessionsHeld = record { txns = c.args.txns.now; locks = c.read.new.locks } in
+    let told = c.in-Ok.ensures.told run opened tells sound next stuck idle in (
+      refl,
+      told,
+      c.a_session_is_idle_behind_a_reply.ensures.idle run opened a b h c.args.s statement 0 next now act.Read c.in-Ok.reply told (inl idle)
+          (not_asked g.D.Disk run opened a b h c.args.s c.requires.may.one statement 0 next now act.Read c.in-Ok.reply told (λ is. absurd (cc is))),
+    )
+
+pub returns-in-Err-clause-told : goal.returns-in-Err-clause-told
+returns-in-Err-clause-told g c = λ run opened tells sound next stuck idle. c.in-Err.ensures.refused tells sound next.world.keeps.pages.sound
+
+pub returns-in-Ok-clause-faults : goal.returns-in-Ok-clause-faults
+returns-in-Ok-clause-faults g c = fault_done Fault _ _ c.in-Ok.reply _ c.in-Ok.ensures.faults
+
+pub returns-in-Err-clause-faults : goal.returns-in-Err-clause-faults
+returns-in-Err-clause-faults g c = fault_failed Fault _ _ c.in-Err.fault c.in-Err.ensures.faults

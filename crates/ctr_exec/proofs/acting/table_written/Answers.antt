@@ -1,0 +1,34 @@
+use Rattle.std.proofs.Common.{inr, refl}
+use Rattle.ctr_disk.specs.declared.fault.StoreFault.TheVariants.{Fault}
+use Rattle.ctr_types.specs.declared.tape.Act.TheVariants as act
+use Rattle.ctr_session_world.specs.World.{SessionsHeld}
+use Rattle.ctr_session_world.proofs.Faults.{fault_done, fault_failed}
+use Rattle.ctr_exec.proofs.Answered.{not_asked}
+use Rattle.ctr_exec.proofs.acting.table_written.Goals as goal
+
+pub returns-in-Ok-clause-over : goal.returns-in-Ok-clause-over
+returns-in-Ok-clause-over g c = (c.in-Ok.ensures.over.0, λ none. c.in-Ok.ensures.over.1)
+
+pub returns-in-Ok-clause-told : goal.returns-in-Ok-clause-told
+returns-in-Ok-clause-told g c = λ run opened locks tells sound next at.
+    let a = c.args.store.now in
+    let b = c.write_table.new.store in
+    let statement = c.args.statement.now in
+    let h : SessionsHeld = record { txns = c.args.txns.now; locks = locks } in
+    let now : SessionsHeld = record { txns = c.write_table.new.txns; locks = locks } in
+    let r = c.in-Ok.reply in
+    let turn = c.in-Ok.ensures.told run opened locks tells sound next at in (
+      refl,
+      turn.0,
+      c.a_session_is_idle_behind_a_reply.ensures.idle run opened a b h c.args.s statement 1 next now act.Write r turn.0 (inr turn.1)
+          (not_asked g.D.Disk run opened a b h c.args.s c.requires.may.one statement 1 next now act.Write r turn.0 (λ is. absurd (cc is))),
+    )
+
+pub returns-in-Err-clause-told : goal.returns-in-Err-clause-told
+returns-in-Err-clause-told g c = λ run opened locks tells sound next at. c.in-Err.ensures.refused run opened locks tells sound next at
+
+pub returns-in-Ok-clause-faults : goal.returns-in-Ok-clause-faults
+returns-in-Ok-clause-faults g c = fault_done Fault _ _ c.in-Ok.reply _ c.in-Ok.ensures.faults
+
+pub returns-in-Err-clause-faults : goal.returns-in-Err-clause-faults
+returns-in-Err-clause-faults g c = fault_failed Fault _ _ c.in-Err.fault c.in-Err.ensures.faults

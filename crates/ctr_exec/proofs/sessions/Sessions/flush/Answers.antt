@@ -1,0 +1,15 @@
+use Rattle.ctr_exec.specs.Sessions.{held_by}
+use Rattle.ctr_exec.proofs.Going.{goes_answered, shows_behind}
+use Rattle.ctr_exec.proofs.sessions.Sessions.flush.Goals as goal
+
+pub returns-in-Ok-clause-told : goal.returns-in-Ok-clause-told
+returns-in-Ok-clause-told g c = λ run opened w tells sound before.
+    let h = c.args.self.now in
+    let a = c.args.store.now in
+    let b = c.flush.new.store in
+    let world = c.in-Ok.ensures.kept run opened (held_by h) w tells sound before.world in
+    goes_answered g.D.Disk run opened a b h c.answer.new.self w c.args.s before world
+    (c.answer.ensures.told run opened w tells sound c.in-Ok.ensures.leaves.going (shows_behind g.D.Disk run opened a b h w before world))
+
+pub returns-in-Ok-clause-all : goal.returns-in-Ok-clause-all
+returns-in-Ok-clause-all g c = (c.in-Ok.ensures.none, c.answer.ensures.all c.in-Ok.ensures.none)

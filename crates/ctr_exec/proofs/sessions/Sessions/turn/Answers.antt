@@ -1,0 +1,16 @@
+use Rattle.ctr_exec.proofs.Going.{over_takes}
+use Rattle.ctr_exec.proofs.Seats.{runner_here}
+use Rattle.ctr_exec.proofs.sessions.Sessions.turn.Goals as goal
+
+pub returns-then-not-has_more-clause-told : goal.returns-then-not-has_more-clause-told
+returns-then-not-has_more-clause-told g c = λ run opened w tells sound before.
+    let h = c.args.self.now in
+    let s = c.args.s in
+    let go = c.requires.go in
+    over_takes g.D.Disk run opened c.args.store.now h w s before (c.has_more.ensures.no c.if-not-has_more.true) (runner_here h c.args.store.now.now.counted go.seats s go.one).within
+
+pub returns-in-Ok-clause-told : goal.returns-in-Ok-clause-told
+returns-in-Ok-clause-told g c = λ run opened w tells sound before. c.in-Ok.ensures.told run opened w tells sound before
+
+pub returns-in-Err-clause-told : goal.returns-in-Err-clause-told
+returns-in-Err-clause-told g c = λ run opened w tells sound before. c.in-Err.ensures.told run opened w tells sound before

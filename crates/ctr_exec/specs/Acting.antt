@@ -1,0 +1,119 @@
+-- A turn of an act of a session's statement: what it asks, and what it leaves.
+use Rattle.std.specs.Prelude.{◌≡◌, ℕ, ◌<◌, Bool, true, false, not, Option, None, Some, is_some, Result, Ok, Err}
+use Rattle.ctr_disk.specs.declared.disk.Disk.{Ghosts}
+use Rattle.ctr_disk.specs.declared.fault.StoreFault.{StoreFault}
+use Rattle.ctr_disk.specs.declared.fault.StoreFault.TheVariants.{Fault}
+use Rattle.ctr_types.specs.declared.statement.Statement.{Statement}
+use Rattle.ctr_types.specs.declared.statement.Statement.TheVariants as st
+use Rattle.ctr_types.specs.declared.tape.Act.{Act}
+use Rattle.ctr_types.specs.declared.tape.Act.TheVariants as act
+use Rattle.ctr_types.specs.declared.tape.Reply.{Reply}
+use Rattle.ctr_types.specs.declared.tape.Reply.TheVariants as reply
+use Rattle.ctr_model.specs.Refusals.{key_written}
+use Rattle.ctr_model.specs.Tape.{goes_on}
+use Rattle.ctr_store.specs.Store.{View}
+use Rattle.ctr_kept.specs.Turns.{Start}
+use Rattle.ctr_kept.specs.Walk.{Mind}
+use Rattle.ctr_txn.specs.Held.{TxnsHeld}
+use Rattle.ctr_looks.specs.Granting.{HasItem}
+use Rattle.ctr_looks.specs.Locking.{IsWriteOf}
+use Rattle.ctr_session_world.specs.World.{SessionsHeld}
+use Rattle.ctr_session_world.specs.Told.{IsIdleIn, IsNextOf, IsTold, IsKeptOn}
+use Rattle.ctr_session_world.specs.Ready.{LeavesReady, StaysUnasked}
+use Rattle.ctr_writing.specs.Rows.{IsAtRow, MayGoOn, WentOn}
+use Rattle.ctr_writing.specs.Tables.{IsAtTableWrite}
+use Rattle.ctr_exec.specs.declared.acting.Acted.{Acted}
+use Rattle.ctr_exec.specs.declared.acting.Acted.TheVariants as acted
+use Rattle.ctr_exec.specs.declared.runners.Stage.{Stage}
+use Rattle.ctr_exec.specs.declared.runners.Stage.TheVariants as stage
+use Rattle.ctr_exec.specs.Runners.{made_at}
+
+-- ---- whatever the disk tells
+
+-- The next act of a statement may take its turn: a Write was begun as its Lock left it, with room
+-- for what its turn may add. Who waits for an answer has no act.
+abbrev pub MayAct : Stage → ℕ → Statement → TxnsHeld → ℕ → Type 0
+MayAct stage.Between s statement txns counted = Unit {0}
+MayAct (stage.Row e prepared at) s statement txns counted =
+    (is_some (key_written statement) ≡ true) × (e < 32) × MayGoOn s txns counted at
+MayAct (stage.Table write) s statement txns counted = IsWriteOf statement write × HasItem s txns
+MayAct stage.Asked s statement txns counted = ⊥
+
+-- So may the one that comes next, where the statement isn't finished. A first act alone is granted,
+-- or asks for a commit.
+abbrev pub LeavesAct : Stage → ℕ → Statement → TxnsHeld → ℕ → Acted → Type 0
+LeavesAct g s statement txns counted (acted.On at) =
+    (made_at at ≡ made_at g) × MayAct at s statement txns counted
+LeavesAct g s statement txns counted (acted.Granted at) =
+    (made_at g ≡ 0) × (made_at at ≡ 1) × MayAct at s statement txns counted
+LeavesAct g s statement txns counted (acted.Asked k) = made_at g ≡ 0
+LeavesAct g s statement txns counted (acted.Ended x r) = Unit {0}
+
+-- the number of the commit that is asked for, where one is
+abbrev pub number_told : Reply → Option ℕ
+number_told (reply.Began n) = None
+number_told reply.Granted = None
+number_told (reply.Rows rows) = None
+number_told reply.Done = None
+number_told (reply.Asked k) = Some k
+number_told reply.ReadOnly = None
+number_told (reply.Answered k) = None
+number_told reply.RolledBack = None
+number_told reply.Released = None
+number_told (reply.Refused why) = None
+
+-- a commit is asked for
+abbrev pub asks : Acted → Bool
+asks (acted.On at) = false
+asks (acted.Granted at) = false
+asks (acted.Asked k) = true
+asks (acted.Ended x r) = false
+
+-- The sessions are left over the store, and this one hasn't asked for its commit, where it is told
+-- of none.
+abbrev pub LeavesSessions : {D : Type 0} → ℕ → TxnsHeld → TxnsHeld → View D → View D → Acted
+    → Type 0
+LeavesSessions s txns now a b l =
+    LeavesReady s txns now a b × (asks l ≡ false → StaysUnasked s txns now)
+
+-- ---- in a World
+
+-- what a session counts on in the middle of a ROLLBACK isn't said, and between other statements it
+-- is idle
+abbrev pub IsIdleFor : Statement → Type 0 → Type 0
+IsIdleFor st.Rollback idle = Unit {0}
+IsIdleFor statement idle = idle
+
+-- The session is in the middle of a statement so as its stage says.
+abbrev pub IsMidway : Start → ℕ → Statement → Mind → Stage → Type 0
+IsMidway c s statement w stage.Between = IsIdleFor statement (IsIdleIn c w s)
+IsMidway c s statement w (stage.Row e prepared at) = IsAtRow c s statement w e prepared at
+IsMidway c s statement w (stage.Table write) = IsAtTableWrite c s statement w write
+IsMidway c s statement w stage.Asked = Unit {0}
+
+-- The reply ends its statement: a Lock that is refused, a COMMIT that asks for none, and whatever
+-- is said to an act that is its statement's last.
+abbrev pub ends_statement : Act → Reply → Bool
+ends_statement act.Begin r = true
+ends_statement act.Read r = true
+ends_statement act.Lock r = not (goes_on r)
+ends_statement act.Write r = true
+ends_statement act.Ask r = not (goes_on r)
+ends_statement act.Answer r = true
+ends_statement act.Rollback r = true
+ends_statement (act.Release name) r = false
+
+-- What a turn of an act leaves: it goes on, by a record or as more pages are counted, and nothing
+-- is told; or its entry is told, and its statement goes on or is finished. It fails by the disk
+-- alone.
+abbrev pub TurnOfAct : {D : Type 0} {g : Ghosts D} {c : Start} {opened : D} {a b : View D}
+    {h : SessionsHeld} {s : ℕ} {statement : Statement} {made : ℕ}
+    → IsNextOf g c opened a b h s statement made → SessionsHeld → Result Acted StoreFault → Type 0
+TurnOfAct {c = c} {a = a} {b = b} {s = s} {statement = statement} next now (Ok (acted.On at)) =
+    (kept : IsKeptOn next now) × IsMidway c s statement kept.mind at × WentOn a b
+TurnOfAct {c = c} {s = s} {statement = statement} next now (Ok (acted.Granted at)) =
+    (told : IsTold next now act.Lock reply.Granted) × IsMidway c s statement told.mind at
+TurnOfAct next now (Ok (acted.Asked k)) = IsTold next now act.Ask (reply.Asked k)
+TurnOfAct {c = c} {s = s} next now (Ok (acted.Ended x r)) =
+    (ends_statement x r ≡ true) × (told : IsTold next now x r) × IsIdleIn c told.mind s
+TurnOfAct next now (Err e) = e ≡ Fault

@@ -1,0 +1,3 @@
+pub mod Runners
+pub mod Acting
+pub mod Sessions

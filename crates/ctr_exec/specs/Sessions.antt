@@ -1,0 +1,188 @@
+-- The sessions of a script in a World.
+use Rattle.std.specs.Prelude.{◌≡◌, ◌⊎◌, ℕ, ◌+◌, ◌≤◌, ◌<◌, ◌-◌, ◌^◌, true, false, List, [], ◌∷◌, ◌++◌, length, None, Some, Result, Ok, Err, vec_len, vec_capacity}
+use Rattle.std.specs.List.{AllByRecursion}
+use Rattle.ctr_disk.specs.declared.disk.Disk.{Ghosts}
+use Rattle.ctr_disk.specs.declared.fault.StoreFault.{StoreFault}
+use Rattle.ctr_disk.specs.declared.fault.StoreFault.TheVariants.{Fault}
+use Rattle.ctr_types.specs.declared.statement.Line.{Line}
+use Rattle.ctr_types.specs.declared.statement.Statement.{Statement}
+use Rattle.ctr_types.specs.declared.tape.Act.{Act}
+use Rattle.ctr_types.specs.declared.tape.Act.TheVariants as act
+use Rattle.ctr_types.specs.declared.tape.Entry.{Entry}
+use Rattle.ctr_types.specs.declared.tape.Reply.{Reply}
+use Rattle.ctr_types.specs.declared.tape.Reply.TheVariants as reply
+use Rattle.ctr_types.specs.declared.tape.Turn.{Turn}
+use Rattle.ctr_types.specs.declared.tape.Turn.TheVariants as turn
+use Rattle.ctr_model.specs.Tape.{progress_of, statement_of}
+use Rattle.ctr_store.specs.Store.{View, HasTurnRoom, turns_for_room}
+use Rattle.ctr_kept.specs.Turns.{Start, point_now, state_now}
+use Rattle.ctr_kept.specs.Walk.{Mind}
+use Rattle.ctr_meta.specs.Kept.{TablesKept}
+use Rattle.ctr_txn.specs.Held.{IsOneOfEight, txn_of}
+use Rattle.ctr_txn.specs.Rooms.{HasItemRoom}
+use Rattle.ctr_session_world.specs.World.{SessionsHeld, InWorld}
+use Rattle.ctr_session_world.specs.Ready.{StandOver, is_asking}
+use Rattle.ctr_writing.specs.Rows.{WentOn}
+use Rattle.ctr_writing.specs.Tables.{HasFittingColumns}
+use Rattle.ctr_exec.specs.declared.acting.Acted.{Acted}
+use Rattle.ctr_exec.specs.declared.acting.Acted.TheVariants as acted
+use Rattle.ctr_exec.specs.declared.runners.Runner.{Runner}
+use Rattle.ctr_exec.specs.declared.runners.Stage.TheVariants as stage
+use Rattle.ctr_exec.specs.declared.sessions.Sessions.{Sessions}
+use Rattle.ctr_exec.specs.Acting.{IsMidway, MayAct}
+use Rattle.ctr_exec.specs.Runners.{made_at, after_act, runner_at, all_left, AreRunners, IsUnbegun}
+
+-- ---- whatever the disk tells
+
+-- Each session is at one of its lines or behind the last, and may take its next turn; who has asked
+-- for a commit waits for its answer. The tape has room for all acts that are left.
+pub record AreSeated (h : Sessions) (counted : ℕ) : Type 0 where
+  pub eight : length h.runners.items ≡ 8
+  pub few : length h.script.lines < 2 ^ 32 - 1
+  pub runners : AreRunners h.script.lines 1 h.runners.items
+  pub fit : AllByRecursion (λ (l : Line). HasFittingColumns l.statement) h.script.lines
+  pub room : vec_len h.tape + all_left h.runners.items ≤ vec_capacity h.tape
+  pub asked : (s : ℕ) → IsOneOfEight s → is_asking (txn_of s h.txns) ≡ true
+      → (runner_at s h.runners.items).stage ≡ stage.Asked
+  pub may : (s : ℕ) (statement : Statement) → IsOneOfEight s
+      → statement_of h.script.lines s ((runner_at s h.runners.items).finished + 1) ≡ Some statement
+      → ((runner_at s h.runners.items).stage ≡ stage.Asked → ⊥)
+      → MayAct (runner_at s h.runners.items).stage s statement h.txns counted
+
+-- A turn of a session may be taken over a store: it isn't stopped, and has a number for one record
+-- more.
+pub record MayGo {D : Type 0} (s : ℕ) (h : Sessions) (v : View D) : Type 0 where
+  pub one : IsOneOfEight s
+  pub stand : StandOver h.txns v
+  pub going : v.stopped ≡ false
+  pub number : v.next < 2 ^ 63 - 1
+  pub seats : AreSeated h v.now.counted
+
+-- What a turn leaves: the same, but for the number; and it logged one record at most.
+pub record LeavesSeats {D : Type 0} (now : Sessions) (a b : View D) : Type 0 where
+  pub stand : StandOver now.txns b
+  pub going : b.stopped ≡ false
+  pub seats : AreSeated now b.now.counted
+  pub one : b.next ≤ a.next + 1
+
+-- a session has an act of its own next: a statement that isn't finished, and no answer to wait for
+pub record HasAct (h : Sessions) (s : ℕ) : Type 0 where
+  pub more : (runner_at s h.runners.items).finished < length (runner_at s h.runners.items).places
+  pub unasked : (runner_at s h.runners.items).stage ≡ stage.Asked → ⊥
+
+-- a turn is over exactly where its session has no statement left
+abbrev pub IsOverWhere : Turn → Runner → Type 0
+IsOverWhere turn.Over runner = length runner.places ≤ runner.finished
+IsOverWhere turn.Went runner = runner.finished < length runner.places
+IsOverWhere turn.Idle runner = ⊥
+IsOverWhere turn.Short runner = ⊥
+IsOverWhere turn.Stopped runner = ⊥
+
+-- Nobody has begun: no session is in a transaction, none has a lock, none has told an act.
+pub record AreFresh (h : Sessions) : Type 0 where
+  pub nobody : (s : ℕ) → txn_of s h.txns ≡ None
+  pub answered : h.txns.answered ≡ 0
+  pub commits : h.txns.numbers.commits ≡ []
+  pub locks : h.locks ≡ []
+  pub tape : h.tape.items ≡ []
+  pub unbegun : AllByRecursion IsUnbegun h.runners.items
+  pub room : (k : TablesKept) → HasItemRoom h.txns k
+
+-- ---- an act that is told
+
+-- the entry of a session's act of its next statement
+abbrev pub noted : ℕ → Runner → Act → Reply → ℕ → Entry
+noted s runner x r moment = record {
+  session = s;
+  statement = runner.finished + 1;
+  act = x;
+  reply = r;
+  moment = moment;
+}
+
+-- what a turn of an act adds to the tape at a moment
+abbrev pub entries_by : ℕ → Runner → ℕ → Acted → List Entry
+entries_by s runner moment (acted.On at) = []
+entries_by s runner moment (acted.Granted at) = noted s runner act.Lock reply.Granted moment ∷ []
+entries_by s runner moment (acted.Asked k) = noted s runner act.Ask (reply.Asked k) moment ∷ []
+entries_by s runner moment (acted.Ended x r) = noted s runner x r moment ∷ []
+
+-- and how far its session is then
+abbrev pub runner_by : Acted → Runner → Runner
+runner_by (acted.On at) runner = record runner { stage = at }
+runner_by (acted.Granted at) runner = after_act at runner
+runner_by (acted.Asked k) runner = after_act stage.Asked runner
+runner_by (acted.Ended x r) runner = after_act stage.Between runner
+
+-- ---- in a World
+
+-- what the World has of them
+abbrev pub held_by : Sessions → SessionsHeld
+held_by h = record { txns = h.txns; locks = h.locks }
+
+-- A session is where the tape has led it: as many statements are finished, and of the next one as
+-- many acts are told; and it is in the middle of that as its stage says.
+pub record IsSeatedAt (c : Start) (w : Mind) (s : ℕ) (runner : Runner) : Type 0 where
+  pub progress : progress_of (point_now c w) s
+      ≡ record { finished = runner.finished; made = made_at runner.stage }
+  pub at : (statement : Statement) → statement_of c.lines s (runner.finished + 1) ≡ Some statement
+      → IsMidway c s statement w runner.stage
+
+-- A World on pages with these sessions: the script is that of the run, the tape is the World's, the
+-- names are those that recovery holds, and each session is where the tape has led it.
+pub record ShowsSessions {D : Type 0} (g : Ghosts D) (c : Start) (opened : D) (v : View D)
+    (h : Sessions) (w : Mind) : Type 0 where
+  pub world : InWorld g c opened v (held_by h) w
+  pub lines : h.script.lines ≡ c.lines
+  pub tape : h.tape.items ≡ w.tape
+  pub stuck : h.stuck ≡ (state_now c w).stuck
+  pub each : (s : ℕ) → IsOneOfEight s → IsSeatedAt c w s (runner_at s h.runners.items)
+
+-- all are answers of commits
+abbrev pub AreAnswers : List Entry → Type 0
+AreAnswers es = AllByRecursion (λ (e : Entry). e.act ≡ act.Answer) es
+
+-- The entries that a turn of a session adds: one of its own at most, or answers of commits.
+abbrev pub AreOfTurn : ℕ → List Entry → Type 0
+AreOfTurn s es = ((length es ≤ 1) × AllByRecursion (λ (e : Entry). e.session ≡ s) es)
+    ⊎ AreAnswers es
+
+-- A turn leaves a World of these sessions, whose tape goes on by such entries, each at the moment
+-- at which the turn ends; undo's list is as it was.
+pub record LeadsTo {D : Type 0} {g : Ghosts D} {c : Start} {opened : D} {a : View D} {h : Sessions}
+    {w : Mind} (before : ShowsSessions g c opened a h w) (such : List Entry → Type 0) (b : View D)
+    (now : Sessions) : Type 0 where
+  pub mind : Mind
+  pub shows : ShowsSessions g c opened b now mind
+  pub entries : List Entry
+  pub tape : mind.tape ≡ w.tape ++ entries
+  pub are_such : such entries
+  pub moments : AllByRecursion (λ (e : Entry). e.moment ≡ g.moment_of b.disk) entries
+  pub undo : mind.undo ≡ w.undo
+
+-- What a turn of a session did, by how the session was. Where it has an act of its own and there is
+-- room, an act is told, or one goes on. Where there is no room, it has come nearer by a turn. Where
+-- the session waits, all that was logged is durable, and all that asked are answered.
+pub record DoesTurn {D : Type 0} (h now : Sessions) (s : ℕ) (a b : View D) (entries : List Entry)
+    : Type 0 where
+  pub acts : HasAct h s → HasTurnRoom a → (length entries ≡ 1) ⊎ WentOn a b
+  pub nearer : HasAct h s → (HasTurnRoom a → ⊥) → turns_for_room b ≡ turns_for_room a - 1
+  pub answers : (runner_at s h.runners.items).stage ≡ stage.Asked → (b.waiting ≡ [])
+      × (now.txns.answered ≡ length now.txns.numbers.commits)
+
+-- It goes on so, and has done that.
+abbrev pub TakesTurn : {D : Type 0} {g : Ghosts D} {c : Start} {opened : D} {a : View D}
+    {h : Sessions} {w : Mind} → ShowsSessions g c opened a h w → ℕ → View D → Sessions → Type 0
+TakesTurn {a = a} {h = h} before s b now =
+    (goes : LeadsTo before (AreOfTurn s) b now) × DoesTurn h now s a b goes.entries
+
+-- An act is told, or one goes on.
+abbrev pub TakesAct : {D : Type 0} {g : Ghosts D} {c : Start} {opened : D} {a : View D}
+    {h : Sessions} {w : Mind} → ShowsSessions g c opened a h w → ℕ → View D → Sessions → Type 0
+TakesAct {a = a} before s b now =
+    (goes : LeadsTo before (AreOfTurn s) b now) × ((length goes.entries ≡ 1) ⊎ WentOn a b)
+
+-- This holds, or the disk failed.
+abbrev pub OrFails : {T : Type 0} → Type 0 → Result T StoreFault → Type 0
+OrFails P (Ok x) = P
+OrFails P (Err e) = e ≡ Fault
