@@ -1,0 +1,321 @@
+// Generated scripts, played by generated orders of turns, each judged, and which replies were met.
+use crate::files::Files;
+use crate::generated::Maker;
+use crate::judged::{Tables, follow, nowhere};
+use crate::page::Page;
+use crate::printed::put_turns;
+use crate::run::{Order, Run, play_files};
+use crate::stops::{Judging, Looking, is_left_well};
+use crate::trouble::Trouble;
+use ctr_mem_disk::SilentDisk;
+use ctr_model::Point;
+use ctr_types::{List, Refusal, Reply};
+use std::alloc::Global;
+use std::mem;
+
+/// The replies and refusals that a run over one database in memory may give, by their places in a `Met`.
+const NAMES: [&str; 20] = [
+    "Began",
+    "Granted",
+    "Rows",
+    "Done",
+    "Asked",
+    "ReadOnly",
+    "Answered",
+    "RolledBack",
+    "NoTransaction",
+    "InTransaction",
+    "NoTable",
+    "TableExists",
+    "TableBusy",
+    "SchemaChanged",
+    "BadValue",
+    "RowLocked",
+    "RowChanged",
+    "Duplicate",
+    "NotFound",
+    "OutOfRange",
+];
+
+/// The tables that a fresh session looks at behind a stop.
+const LOOKS: &[u8] = b"a b c d";
+
+// The place of a reply; none of what isn't to be met: want of memory or room, and recovery's.
+fn place_of(reply: &Reply) -> Option<usize> {
+    let place = match reply {
+        Reply::Began { .. } => 0,
+        Reply::Granted => 1,
+        Reply::Rows { .. } => 2,
+        Reply::Done => 3,
+        Reply::Asked { .. } => 4,
+        Reply::ReadOnly => 5,
+        Reply::Answered { .. } => 6,
+        Reply::RolledBack => 7,
+        Reply::Released => return None,
+        Reply::Refused { refusal } => return refused_place(*refusal),
+    };
+    Some(place)
+}
+
+fn refused_place(refusal: Refusal) -> Option<usize> {
+    let place = match refusal {
+        Refusal::NoTransaction => 8,
+        Refusal::InTransaction => 9,
+        Refusal::NoTable => 10,
+        Refusal::TableExists => 11,
+        Refusal::TableBusy { .. } => 12,
+        Refusal::SchemaChanged { .. } => 13,
+        Refusal::BadValue { .. } => 14,
+        Refusal::RowLocked { .. } => 15,
+        Refusal::RowChanged { .. } => 16,
+        Refusal::Duplicate => 17,
+        Refusal::NotFound => 18,
+        Refusal::OutOfRange => 19,
+        Refusal::OutOfMemory | Refusal::CatalogFull { .. } | Refusal::Full { .. } => return None,
+    };
+    Some(place)
+}
+
+/// What was met.
+#[derive(Drop)]
+pub struct Met {
+    played: u64,
+    entries: u64,
+    /// How often each reply was met, and others.
+    counts: [u64; 20],
+    others: u64,
+    /// How many tapes aren't legal, how many stops left other rows, and the first number of one of them.
+    illegal: u64,
+    wrong: u64,
+    first: Option<u64>,
+}
+
+impl Met {
+    pub fn new() -> Met {
+        Met {
+            played: 0,
+            entries: 0,
+            counts: [0; 20],
+            others: 0,
+            illegal: 0,
+            wrong: 0,
+            first: None,
+        }
+    }
+
+    fn count_reply(&mut self, reply: &Reply) {
+        match place_of(reply) {
+            None => self.others = self.others.saturating_add(1),
+            Some(place) => {
+                let place = place % 20;
+                self.counts[place] = self.counts[place].saturating_add(1);
+            }
+        }
+    }
+
+    fn count(&mut self, run: &Run) {
+        self.played = self.played.saturating_add(1);
+        for entry in &run.tape {
+            self.entries = self.entries.saturating_add(1);
+            self.count_reply(&entry.reply);
+        }
+    }
+
+    // What came of a meeting of a number.
+    fn judge(&mut self, number: u64, verdict: Verdict) {
+        match verdict {
+            Verdict::Well => return,
+            Verdict::Illegal => self.illegal = self.illegal.saturating_add(1),
+            Verdict::LeftOtherwise => self.wrong = self.wrong.saturating_add(1),
+        }
+        self.first = Some(self.first.unwrap_or(number));
+    }
+
+    /// How many meetings and entries there were, how many tapes weren't legal, and how many stops left other rows; how often the reply was
+    /// met that was met least.
+    pub fn put(&self, page: &mut Page) {
+        page.add_number("", self.played);
+        page.add_number(" played, ", self.entries);
+        page.add_number(" entries, ", self.illegal);
+        page.add_number(" illegal, ", self.wrong);
+        page.add(b" left otherwise\n");
+        if let Some(number) = self.first {
+            page.add_number("the first is ", number);
+            page.add(b"\n");
+        }
+        for (name, count) in NAMES.iter().zip(self.counts.iter()) {
+            page.add(name.as_bytes());
+            page.add_number(" ", *count);
+            page.add(b", ");
+        }
+        page.add_number("others ", self.others);
+        page.add(b"\n");
+    }
+}
+
+// What the judge says of a meeting.
+#[derive(Clone, Copy)]
+enum Verdict {
+    Well,
+    Illegal,
+    /// A stop left other rows.
+    LeftOtherwise,
+}
+
+// What the judge says of a run that was played: the tape is legal, and a stop after some calls leaves the rows behind some commits.
+fn verdict_at(
+    alloc: Global,
+    base: &Tables,
+    looking: Looking,
+    run: &Run,
+    maker: &mut Maker,
+    point: &mut Point,
+) -> Result<Verdict, Trouble> {
+    if !follow(alloc, base, run, point)? {
+        return Ok(Verdict::Illegal);
+    }
+    let calls = looking.disk.calls().len() as u64;
+    let count = maker.below(calls.saturating_add(1));
+    let k = maker.below(64);
+    let judging = Judging {
+        looking,
+        run,
+        state: &point.state,
+    };
+    if is_left_well(alloc, judging, count as usize, k)? {
+        Ok(Verdict::Well)
+    } else {
+        Ok(Verdict::LeftOtherwise)
+    }
+}
+
+fn verdict_of(
+    alloc: Global,
+    base: &Tables,
+    looking: Looking,
+    run: &Run,
+    maker: &mut Maker,
+) -> Result<Verdict, Trouble> {
+    let mut point = nowhere(alloc);
+    verdict_at(alloc, base, looking, run, maker, &mut point)
+}
+
+// Plays what is made.
+fn play_made(
+    alloc: Global,
+    files: &Files,
+    maker: &mut Maker,
+    run: &mut Run,
+) -> Result<SilentDisk, Trouble> {
+    maker.make_script()?;
+    let digits = maker.order()?;
+    let lines = mem::replace(&mut maker.lines, List::new(alloc));
+    let order = Order {
+        digits: &digits,
+        hardens: false,
+    };
+    play_files(alloc, files, lines, order, run)
+}
+
+// Plays the meeting of a maker, and judges it.
+fn meet_by(
+    alloc: Global,
+    files: &Files,
+    base: &Tables,
+    maker: &mut Maker,
+    run: &mut Run,
+) -> Result<Verdict, Trouble> {
+    let disk = play_made(alloc, files, maker, run)?;
+    let looking = Looking {
+        disk: &disk.disk,
+        few: files.few,
+        names: LOOKS,
+    };
+    verdict_of(alloc, base, looking, run, maker)
+}
+
+// Plays the meeting of a number over files with a database, and judges it.
+fn meet(
+    alloc: Global,
+    files: &Files,
+    base: &Tables,
+    number: u64,
+    run: &mut Run,
+) -> Result<Verdict, Trouble> {
+    let mut maker = Maker::new(alloc, number);
+    meet_by(alloc, files, base, &mut maker, run)
+}
+
+// The same, and counts what was met.
+fn count_meeting(
+    alloc: Global,
+    files: &Files,
+    base: &Tables,
+    number: u64,
+    run: &mut Run,
+    met: &mut Met,
+) -> Result<(), Trouble> {
+    let verdict = meet(alloc, files, base, number, run)?;
+    met.count(run);
+    met.judge(number, verdict);
+    Ok(())
+}
+
+fn meet_one(
+    alloc: Global,
+    files: &Files,
+    base: &Tables,
+    number: u64,
+    met: &mut Met,
+) -> Result<(), Trouble> {
+    let mut run = Run::new(alloc);
+    count_meeting(alloc, files, base, number, &mut run, met)
+}
+
+/// Plays so many meetings over files with a database, of one number and those behind it, and judges each.
+pub fn meet_all(
+    alloc: Global,
+    files: &Files,
+    base: &Tables,
+    count: u64,
+    from: u64,
+    met: &mut Met,
+) -> Result<(), Trouble> {
+    for number in from..from.saturating_add(count) {
+        meet_one(alloc, files, base, number, met)?;
+    }
+    Ok(())
+}
+
+// The script of a maker, its turns, and what the judge says.
+fn put_by(
+    alloc: Global,
+    page: &mut Page,
+    files: &Files,
+    base: &Tables,
+    maker: &mut Maker,
+    run: &mut Run,
+) -> Result<(), Trouble> {
+    let verdict = meet_by(alloc, files, base, maker, run)?;
+    page.add(maker.text.bytes());
+    put_turns(alloc, page, run, usize::MAX);
+    page.add(match verdict {
+        Verdict::Well => b"well\n",
+        Verdict::Illegal => b"illegal\n",
+        Verdict::LeftOtherwise => b"left otherwise\n",
+    });
+    Ok(())
+}
+
+/// Prints the meeting of a number: its script, its turns, and what the judge says.
+pub fn put_meeting(
+    alloc: Global,
+    page: &mut Page,
+    files: &Files,
+    base: &Tables,
+    number: u64,
+) -> Result<(), Trouble> {
+    let mut maker = Maker::new(alloc, number);
+    let mut run = Run::new(alloc);
+    put_by(alloc, page, files, base, &mut maker, &mut run)
+}

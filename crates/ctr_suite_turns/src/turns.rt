@@ -1,0 +1,167 @@
+// Turns of the sessions of a script, over a store, and what is noted of each.
+ghost use Rattle.std.specs.Prelude.{◌≡◌, ◌<◌, false, OnOk};
+
+use crate::files::Mem;
+use crate::trouble::Trouble;
+use ctr_exec::Sessions;
+use ctr_tally::Steps;
+use ctr_types::Turn;
+use std::alloc::Global;
+use std::sync::ledger::{Blank, Ledger};
+
+/// How many turns a session takes at most from the end of the order to its own.
+const MOST_TURNS: u32 = 100_000;
+
+/// What is noted of a turn.
+#[derive(Clone, Copy)]
+pub struct Noted {
+    pub session: u8,
+    /// Its session was over.
+    pub over: bool,
+    /// The first record behind the turn before, and the first behind this.
+    pub records: (u64, u64),
+    /// How many entries the tape had before it, and has behind it.
+    pub entries: (usize, usize),
+    /// How many pages are counted then; 0 where as many as before.
+    pub counted: u32,
+    /// Whether a file was written or synced in it.
+    pub moved: bool,
+    /// The disk's moment at its end.
+    pub moment: u64,
+}
+
+// What is noted of the turn that begins here: nothing yet.
+fn begun(store: &Mem, sessions: &Sessions, s: u8) -> Noted {
+    Noted {
+        session: s,
+        over: false,
+        records: (store.next(), store.next()),
+        entries: (sessions.tape.len(), sessions.tape.len()),
+        counted: store.counted(),
+        moved: false,
+        moment: store.moment(),
+    }
+}
+
+// The same at its end.
+fn ended(store: &Mem, sessions: &Sessions, noted: Noted, over: bool) -> Noted {
+    let counted = store.counted();
+    Noted {
+        session: noted.session,
+        over,
+        records: (noted.records.0, store.next()),
+        entries: (noted.entries.0, sessions.tape.len()),
+        counted: if counted == noted.counted { 0 } else { counted },
+        moved: store.moment() != noted.moment,
+        moment: store.moment(),
+    }
+}
+
+// A turn of a session, and a hardening behind it where that is wanted; whether the session isn't over.
+fn take_turn<L: Ledger>(
+    alloc: Global,
+    store: &mut Mem,
+    sessions: &mut Sessions,
+    s: u8,
+    hardens: bool,
+    steps: &mut Steps<L>,
+    notes: &mut Vec<Noted>,
+) -> Result<bool, Trouble>
+    requires going { store.old.stopped ≡ false }
+    ensures going { OnOk result (store.new.stopped ≡ false) }
+{
+    if s < 1 || s > 8 {
+        return Err(Trouble::Spelling);
+    }
+    let noted = begun(store, sessions, s);
+    let over = sessions.turn(alloc, store, s, steps)? == Turn::Over;
+    let mut noted = ended(store, sessions, noted, over);
+    if hardens && !over {
+        store.harden()?;
+        noted.moment = store.moment();
+    }
+    notes.push(noted)?;
+    Ok(!over)
+}
+
+// Turns in this order, each a session's digit.
+fn take_order<L: Ledger>(
+    alloc: Global,
+    store: &mut Mem,
+    sessions: &mut Sessions,
+    order: &[u8],
+    hardens: bool,
+    steps: &mut Steps<L>,
+    notes: &mut Vec<Noted>,
+) -> Result<(), Trouble>
+    requires going { store.old.stopped ≡ false }
+    ensures going { OnOk result (store.new.stopped ≡ false) }
+{
+    for digit in order {
+        let s = digit.saturating_sub(b'0');
+        let _goes_on = take_turn(alloc, store, sessions, s, hardens, steps, notes)?;
+    }
+    Ok(())
+}
+
+// Turns of a session until it is over, of which the last isn't noted.
+fn take_rest<L: Ledger>(
+    alloc: Global,
+    store: &mut Mem,
+    sessions: &mut Sessions,
+    s: u8,
+    hardens: bool,
+    steps: &mut Steps<L>,
+    notes: &mut Vec<Noted>,
+) -> Result<(), Trouble>
+    requires going { store.old.stopped ≡ false }
+    ensures going { OnOk result (store.new.stopped ≡ false) }
+{
+    for _ in 0..MOST_TURNS {
+        if !take_turn(alloc, store, sessions, s, hardens, steps, notes)? {
+            let _over = notes.pop();
+            return Ok(());
+        }
+    }
+    Err(Trouble::NotOver)
+}
+
+// The turns of the order, and then those of each session to its end.
+fn take_all<L: Ledger>(
+    alloc: Global,
+    store: &mut Mem,
+    sessions: &mut Sessions,
+    order: &[u8],
+    hardens: bool,
+    steps: &mut Steps<L>,
+    notes: &mut Vec<Noted>,
+) -> Result<(), Trouble>
+    requires going { store.old.stopped ≡ false }
+    ensures going { OnOk result (store.new.stopped ≡ false) }
+{
+    take_order(alloc, store, sessions, order, hardens, steps, notes)?;
+    for s in 1..9 {
+        take_rest(alloc, store, sessions, s, hardens, steps, notes)?;
+    }
+    Ok(())
+}
+
+/// Plays the sessions over a store by turns in this order, each a session's digit, and then each to its end, in order of number; a
+/// hardening stands behind each turn where that is wanted.
+pub fn play<L: Ledger>(
+    alloc: Global,
+    store: &mut Mem,
+    sessions: &mut Sessions,
+    order: &[u8],
+    hardens: bool,
+    notes: &mut Vec<Noted>,
+    blank: Blank,
+) -> Result<(), Trouble>
+    requires name { blank.name ≡ L.name }
+    requires parts { (blank.parts ≡ L.parts) × (0 < blank.parts) }
+    requires going { store.old.stopped ≡ false }
+    ensures going { OnOk result (store.new.stopped ≡ false) }
+{
+    let mut steps = Steps::<L>::new(blank);
+    take_all(alloc, store, sessions, order, hardens, &mut steps, notes)
+}
