@@ -97,8 +97,12 @@ pub fn play_over(
     requires going { store.old.stopped ≡ false }
     ensures going { OnOk result (store.new.stopped ≡ false) }
 {
+    let next = store.meta().next();
+    if next == 0 {
+        return Err(Trouble::NotOpened);
+    }
     let stuck = stuck_names(alloc, store)?;
-    let sessions = Sessions::new(alloc, store.meta().next(), stuck, Script { lines })?;
+    let sessions = Sessions::new(alloc, next, stuck, Script { lines })?;
     play_sessions(alloc, store, sessions, order, run)?;
     store.harden()?;
     Ok(())
