@@ -81,6 +81,8 @@ fn refused_place(refusal: Refusal) -> Option<usize> {
 pub struct Met {
     played: u64,
     entries: u64,
+    /// How many turns logged more than one record.
+    crowded: u64,
     /// How often each reply was met, and others.
     counts: [u64; 20],
     others: u64,
@@ -95,6 +97,7 @@ impl Met {
         Met {
             played: 0,
             entries: 0,
+            crowded: 0,
             counts: [0; 20],
             others: 0,
             illegal: 0,
@@ -119,6 +122,11 @@ impl Met {
             self.entries = self.entries.saturating_add(1);
             self.count_reply(&entry.reply);
         }
+        for noted in &run.notes {
+            if noted.records.0 < noted.records.1.saturating_sub(1) {
+                self.crowded = self.crowded.saturating_add(1);
+            }
+        }
     }
 
     // What came of a meeting of a number.
@@ -131,14 +139,15 @@ impl Met {
         self.first = Some(self.first.unwrap_or(number));
     }
 
-    /// How many meetings and entries there were, how many tapes weren't legal, and how many stops left other rows; how often the reply was
-    /// met that was met least.
+    /// How many meetings and entries there were, how many tapes weren't legal, how many stops left other rows, and how many turns logged more
+    /// than one record; and how often each reply was met.
     pub fn put(&self, page: &mut Page) {
         page.add_number("", self.played);
         page.add_number(" played, ", self.entries);
         page.add_number(" entries, ", self.illegal);
         page.add_number(" illegal, ", self.wrong);
-        page.add(b" left otherwise\n");
+        page.add_number(" left otherwise, ", self.crowded);
+        page.add(b" turns of more than one record\n");
         if let Some(number) = self.first {
             page.add_number("the first is ", number);
             page.add(b"\n");
