@@ -6,6 +6,7 @@
 #![tactic(auto)]
 
 mod files;
+mod fitting;
 mod generated;
 mod judged;
 mod lines;

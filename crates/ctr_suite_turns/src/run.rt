@@ -1,7 +1,9 @@
 // Runs of a script over the files of a database. Whoever owns a disk, a store or sessions here does nothing else.
 ghost use Rattle.std.specs.Prelude.{◌≡◌, false, OnOk};
+ghost use Rattle.ctr_suite_turns.specs.Over.{AreOver};
 
 use crate::files::{Files, Mem, opened};
+use crate::fitting::lines_fit;
 use crate::logged::gather;
 use crate::opened::stuck_names;
 use crate::trouble::Trouble;
@@ -13,6 +15,9 @@ use ctr_types::{Entry, Line, List, Name, Script};
 use std::alloc::Global;
 use std::marker::Brand;
 use std::sync::ledger::Blank;
+
+/// How many lines a script may have, and one more.
+const MOST_LINES: usize = 1 << 24;
 
 /// What came of a run.
 #[derive(Drop)]
@@ -69,7 +74,7 @@ fn play_sessions(
     order: Order,
     run: &mut Run,
 ) -> Result<(), Trouble>
-    requires going { store.old.stopped ≡ false }
+    requires over { AreOver sessions store.old }
     ensures going { OnOk result (store.new.stopped ≡ false) }
 {
     let mut sessions = sessions;
@@ -97,11 +102,14 @@ pub fn play_over(
     requires going { store.old.stopped ≡ false }
     ensures going { OnOk result (store.new.stopped ≡ false) }
 {
+    if lines.len() >= MOST_LINES || !lines_fit(lines.as_slice()) {
+        return Err(Trouble::Spelling);
+    }
+    let stuck = stuck_names(alloc, store)?;
     let next = store.meta().next();
     if next == 0 {
         return Err(Trouble::NotOpened);
     }
-    let stuck = stuck_names(alloc, store)?;
     let sessions = Sessions::new(alloc, next, stuck, Script { lines })?;
     play_sessions(alloc, store, sessions, order, run)?;
     store.harden()?;

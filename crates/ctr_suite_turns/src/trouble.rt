@@ -12,6 +12,8 @@ pub enum Trouble {
     NotOpened,
     /// A session isn't over after so many turns as are taken at most.
     NotOver,
+    /// No number is left for a record.
+    Worn,
     /// A turn was answered a fault, or damage.
     Fault,
     Damaged,
@@ -25,6 +27,7 @@ impl Trouble {
             Trouble::Spelling => "this can't be read",
             Trouble::NotOpened => "the files aren't opened",
             Trouble::NotOver => "a session isn't over",
+            Trouble::Worn => "no number is left",
             Trouble::Fault => "a fault",
             Trouble::Damaged => "damage",
         }

@@ -1,8 +1,10 @@
 // Turns of the sessions of a script, over a store, and what is noted of each.
-ghost use Rattle.std.specs.Prelude.{◌≡◌, ◌<◌, false, OnOk};
+ghost use Rattle.std.specs.Prelude.{◌≡◌, ◌<◌, OnOk};
+ghost use Rattle.ctr_suite_turns.specs.Over.{AreOver};
 
 use crate::files::Mem;
 use crate::trouble::Trouble;
+use ctr_control::flush;
 use ctr_exec::Sessions;
 use ctr_tally::Steps;
 use ctr_types::Turn;
@@ -11,6 +13,9 @@ use std::sync::ledger::{Blank, Ledger};
 
 /// How many turns a session takes at most from the end of the order to its own.
 const MOST_TURNS: u32 = 100_000;
+
+/// A record has no number from this on.
+const LAST_NUMBER: u64 = (1 << 63) - 1;
 
 /// What is noted of a turn.
 #[derive(Clone, Copy)]
@@ -67,17 +72,20 @@ fn take_turn<L: Ledger>(
     steps: &mut Steps<L>,
     notes: &mut Vec<Noted>,
 ) -> Result<bool, Trouble>
-    requires going { store.old.stopped ≡ false }
-    ensures going { OnOk result (store.new.stopped ≡ false) }
+    requires over { AreOver sessions.old store.old }
+    ensures over { OnOk result (AreOver sessions.new store.new) }
 {
     if s < 1 || s > 8 {
         return Err(Trouble::Spelling);
+    }
+    if store.next() >= LAST_NUMBER {
+        return Err(Trouble::Worn);
     }
     let noted = begun(store, sessions, s);
     let over = sessions.turn(alloc, store, s, steps)? == Turn::Over;
     let mut noted = ended(store, sessions, noted, over);
     if hardens && !over {
-        store.harden()?;
+        flush(store)?;
         noted.moment = store.moment();
     }
     notes.push(noted)?;
@@ -94,8 +102,8 @@ fn take_order<L: Ledger>(
     steps: &mut Steps<L>,
     notes: &mut Vec<Noted>,
 ) -> Result<(), Trouble>
-    requires going { store.old.stopped ≡ false }
-    ensures going { OnOk result (store.new.stopped ≡ false) }
+    requires over { AreOver sessions.old store.old }
+    ensures over { OnOk result (AreOver sessions.new store.new) }
 {
     for digit in order {
         let s = digit.saturating_sub(b'0');
@@ -114,8 +122,8 @@ fn take_rest<L: Ledger>(
     steps: &mut Steps<L>,
     notes: &mut Vec<Noted>,
 ) -> Result<(), Trouble>
-    requires going { store.old.stopped ≡ false }
-    ensures going { OnOk result (store.new.stopped ≡ false) }
+    requires over { AreOver sessions.old store.old }
+    ensures over { OnOk result (AreOver sessions.new store.new) }
 {
     for _ in 0..MOST_TURNS {
         if !take_turn(alloc, store, sessions, s, hardens, steps, notes)? {
@@ -136,8 +144,8 @@ fn take_all<L: Ledger>(
     steps: &mut Steps<L>,
     notes: &mut Vec<Noted>,
 ) -> Result<(), Trouble>
-    requires going { store.old.stopped ≡ false }
-    ensures going { OnOk result (store.new.stopped ≡ false) }
+    requires over { AreOver sessions.old store.old }
+    ensures over { OnOk result (AreOver sessions.new store.new) }
 {
     take_order(alloc, store, sessions, order, hardens, steps, notes)?;
     for s in 1..9 {
@@ -159,8 +167,8 @@ pub fn play<L: Ledger>(
 ) -> Result<(), Trouble>
     requires name { blank.name ≡ L.name }
     requires parts { (blank.parts ≡ L.parts) × (0 < blank.parts) }
-    requires going { store.old.stopped ≡ false }
-    ensures going { OnOk result (store.new.stopped ≡ false) }
+    requires over { AreOver sessions.old store.old }
+    ensures over { OnOk result (AreOver sessions.new store.new) }
 {
     let mut steps = Steps::<L>::new(blank);
     take_all(alloc, store, sessions, order, hardens, &mut steps, notes)

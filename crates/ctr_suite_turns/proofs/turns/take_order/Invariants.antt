@@ -1,5 +1,5 @@
-use Rattle.std.proofs.Common.{◌≡◌, false}
+use Rattle.ctr_suite_turns.specs.Over.{AreOver}
 use Rattle.ctr_suite_turns.proofs.turns.take_order.Given as goal
 
 abbrev pub invariant-loop-digit : goal.invariant-loop-digit
-invariant-loop-digit g l = l.store.stopped ≡ false
+invariant-loop-digit g l = AreOver l.sessions l.store
