@@ -1,5 +1,5 @@
 -- What each record leaves of what is counted on.
-use Rattle.std.proofs.Common.{◌≡◌, ◌≢◌, ℕ, Bool, Result, Ok, Err, refl, sym, ◌∙◌, ap, subst, ◌<◌}
+use Rattle.std.proofs.Common.{◌≡◌, ◌≢◌, ℕ, ◌+◌, Bool, Result, Ok, Err, refl, sym, ◌∙◌, ap, subst, ◌<◌, arith}
 use Rattle.std.proofs.lemmas.Bool.{false≢true}
 use Rattle.std.specs.Prelude.{IfOk, IfErr, is_ok, Option}
 use Rattle.ctr_disk.specs.declared.fault.StoreFault.{StoreFault}
@@ -13,16 +13,17 @@ use Rattle.ctr_record_effects.specs.Standing.{IsDatabaseState}
 use Rattle.ctr_walk.specs.Damage.{EndsTold}
 use Rattle.ctr_walk.specs.Tables.{IsChain, EndsFirst}
 use Rattle.ctr_page.specs.declared.checks.Chain.{Chain}
-use Rattle.ctr_redo.specs.States.{State}
+use Rattle.ctr_redo.specs.States.{State, grown}
+use Rattle.ctr_store.specs.Store.{View, KeepsRoom}
 use Rattle.ctr_alloc.specs.Free.{IsNextFree}
 use Rattle.ctr_alloc.specs.declared.search.NextFree.{NextFree}
 use Rattle.ctr_actions.specs.Sites.{Site}
 use Rattle.ctr_actions.specs.Facts.{Fact, HoldsFact}
 use Rattle.ctr_extend.specs.declared.ways.OnWay.TheVariants.{Taken, Made}
 use Rattle.ctr_extend.specs.declared.ways.Extended.{Extended}
-use Rattle.ctr_extend.specs.declared.ways.Extended.TheVariants.{On, Linked}
+use Rattle.ctr_extend.specs.declared.ways.Extended.TheVariants.{On, Linked, Grown, Full}
 use Rattle.ctr_extend.specs.Ways.{IsOnWay}
-use Rattle.ctr_extend.specs.Steps.{MakesEmpty, PutsInFront, ExtendsBy}
+use Rattle.ctr_extend.specs.Steps.{MakesEmpty, PutsInFront, ExtendsBy, MovesBy}
 
 -- a fact holds of a site that is the one of which it holds
 pub moved : (x : ℕ) (f : Fact) (s t : Site) → t ≡ s → HoldsFact x f s → HoldsFact x f t
@@ -54,6 +55,18 @@ taken_still x chain page next s way = record { holds = (way.holds.0.0, way.holds
 -- what a search for a free page has found is what was matched
 pub free_so : (counted : ℕ) (taken : ℕ → Bool) (n m : NextFree) → n ≡ m → IsNextFree counted taken n → IsNextFree counted taken m
 free_so counted taken n m is free = subst (λ (k : NextFree). IsNextFree counted taken k) is free
+
+-- a growth counts more pages
+pub counts_more : (n : ℕ) → n < 30000 → n < grown n
+counts_more n few = omega (arith, few)
+
+-- a turn behind pages that were read moves on from where these were begun
+pub moves_behind : {D : Type 0} (a m b : View D) (result : Result Extended StoreFault) → KeepsRoom a m → IfOk result (λ e. MovesBy e m b) → IfOk result (λ e. MovesBy e a b)
+moves_behind a m b (Ok (On way)) keeps moves = moves ∙ ap (λ n. n + 1) keeps.next
+moves_behind a m b (Ok Linked) keeps moves = moves ∙ ap (λ n. n + 1) keeps.next
+moves_behind a m b (Ok Grown) keeps moves = (moves.0 ∙ keeps.next, subst (λ n. n < b.now.counted) keeps.counted moves.1)
+moves_behind a m b (Ok Full) keeps moves = moves ∙ keeps.next
+moves_behind a m b (Err e) keeps moves = tt
 
 -- the entry of a table passes its check, so its first page is told, or the disk failed
 pub first_undamaged : (told : BadChain → StoreFault) (s : State) → IsDatabaseState s → (chain : Chain) → IsChain chain → (result : Result (Option ℕ) StoreFault)

@@ -8,6 +8,7 @@ use Rattle.ctr_page.specs.Damage.{chain_entry}
 use Rattle.ctr_redo.specs.States.{State, counting, grown}
 use Rattle.ctr_record_effects.specs.States.{area_in}
 use Rattle.ctr_record_effects.specs.Standing.{IsDatabaseState}
+use Rattle.ctr_store.specs.Store.{View}
 use Rattle.ctr_alloc.specs.Free.{AreTakenBelow}
 use Rattle.ctr_walk.specs.Tables.{first_of_chain}
 use Rattle.ctr_actions.specs.Actions.{Allocates, Formats}
@@ -91,9 +92,10 @@ LeavesRoom n Linked k l = AddsItems 0 k l × (length l.tables.items + 1 ≡ leng
 LeavesRoom n Grown k l = (n ≡ 1) × (l ≡ k)
 LeavesRoom n Full k l = l ≡ k
 
--- The log's next number: one more behind a turn that logged its record.
-abbrev pub next_behind : Extended → ℕ → ℕ
-next_behind (On way) next = next + 1
-next_behind Linked next = next + 1
-next_behind Grown next = next
-next_behind Full next = next
+-- How a turn moves a store on: the log's next number is one more behind a turn that logged its record,
+-- and else what it was; and behind one that grew more pages are counted.
+abbrev pub MovesBy : {D : Type 0} → Extended → View D → View D → Type 0
+MovesBy (On way) a b = b.next ≡ a.next + 1
+MovesBy Linked a b = b.next ≡ a.next + 1
+MovesBy Grown a b = (b.next ≡ a.next) × (a.now.counted < b.now.counted)
+MovesBy Full a b = b.next ≡ a.next

@@ -9,7 +9,7 @@ ghost use Rattle.ctr_walk.specs.Tables.{IsChain, first_of_chain};
 ghost use Rattle.ctr_page_turns.specs.Turns.{Turns};
 ghost use Rattle.ctr_extend.specs.declared.ways.OnWay.TheVariants.{Made};
 ghost use Rattle.ctr_extend.specs.declared.ways.Extended.TheVariants.{Linked as IsLinked};
-ghost use Rattle.ctr_extend.specs.Steps.{MayExtend, PutsInFront, LeavesRoom, next_behind};
+ghost use Rattle.ctr_extend.specs.Steps.{MayExtend, PutsInFront, LeavesRoom, MovesBy};
 
 use crate::ways::Extended;
 use ctr_actions::{an_action_gives_its_fact, what_is_held_pays};
@@ -40,7 +40,7 @@ fn link_rows<D: Disk, O: Origin>(
     requires counted { (3 ≤ page) × (page < store.old.now.counted) }
     ensures turns { Turns O.first D.Disk store.old store.new result }
     ensures is { IfOk result (λ e. (e ≡ IsLinked) × LeavesRoom 0 e store.old.meta store.new.meta) }
-    ensures numbers { IfOk result (λ e. store.new.next ≡ next_behind e store.old.next) }
+    ensures numbers { IfOk result (λ e. MovesBy e store.old store.new) }
     ensures steps { (next : ℕ) → WhereSound O.first D.Disk (MayExtend x (Rows entry bucket) (Made page next) store.old.now → next ≡ first_of_chain (area_in store.old.now) (Rows entry bucket)
         → IfOk result (λ e. PutsInFront x (Rows entry bucket) page next store.old.now store.new.now)) }
     ensures refused { (next : ℕ) → WhereSound O.first D.Disk (MayExtend x (Rows entry bucket) (Made page next) store.old.now → next ≡ first_of_chain (area_in store.old.now) (Rows entry bucket) → IfErr result (λ e. e ≡ Fault)) }
@@ -74,7 +74,7 @@ fn link_versions<D: Disk, O: Origin>(
     requires counted { (3 ≤ page) × (page < store.old.now.counted) }
     ensures turns { Turns O.first D.Disk store.old store.new result }
     ensures is { IfOk result (λ e. (e ≡ IsLinked) × LeavesRoom 0 e store.old.meta store.new.meta) }
-    ensures numbers { IfOk result (λ e. store.new.next ≡ next_behind e store.old.next) }
+    ensures numbers { IfOk result (λ e. MovesBy e store.old store.new) }
     ensures steps { (next : ℕ) → WhereSound O.first D.Disk (MayExtend x (Versions entry) (Made page next) store.old.now → next ≡ first_of_chain (area_in store.old.now) (Versions entry)
         → IfOk result (λ e. PutsInFront x (Versions entry) page next store.old.now store.new.now)) }
     ensures refused { (next : ℕ) → WhereSound O.first D.Disk (MayExtend x (Versions entry) (Made page next) store.old.now → next ≡ first_of_chain (area_in store.old.now) (Versions entry) → IfErr result (λ e. e ≡ Fault)) }
@@ -108,7 +108,7 @@ pub(crate) fn link_in<D: Disk, O: Origin>(
     requires counted { (3 ≤ page) × (page < store.old.now.counted) }
     ensures turns { Turns O.first D.Disk store.old store.new result }
     ensures is { IfOk result (λ e. (e ≡ IsLinked) × LeavesRoom 0 e store.old.meta store.new.meta) }
-    ensures numbers { IfOk result (λ e. store.new.next ≡ next_behind e store.old.next) }
+    ensures numbers { IfOk result (λ e. MovesBy e store.old store.new) }
     ensures steps { (next : ℕ) → WhereSound O.first D.Disk (MayExtend x chain (Made page next) store.old.now → next ≡ first_of_chain (area_in store.old.now) chain
         → IfOk result (λ e. PutsInFront x chain page next store.old.now store.new.now)) }
     ensures refused { (next : ℕ) → WhereSound O.first D.Disk (MayExtend x chain (Made page next) store.old.now → next ≡ first_of_chain (area_in store.old.now) chain → IfErr result (λ e. e ≡ Fault)) }

@@ -10,7 +10,7 @@ ghost use Rattle.ctr_record_effects.specs.States.{area_in};
 ghost use Rattle.ctr_page_turns.specs.Turns.{Turns};
 ghost use Rattle.ctr_extend.specs.declared.ways.OnWay.TheVariants.{Taken};
 ghost use Rattle.ctr_extend.specs.Ways.{chain_header, IsOnWay};
-ghost use Rattle.ctr_extend.specs.Steps.{MakesEmpty, IsCountedStep, LeavesRoom, next_behind};
+ghost use Rattle.ctr_extend.specs.Steps.{MakesEmpty, IsCountedStep, LeavesRoom, MovesBy};
 ghost use Rattle.ctr_extend.specs.declared.ways.Extended.TheVariants.{On as IsOn};
 ghost use Rattle.ctr_extend.specs.declared.ways.OnWay.TheVariants.{Made as IsMade};
 
@@ -61,7 +61,7 @@ pub(crate) fn make<D: Disk, O: Origin>(
     ensures turns { Turns O.first D.Disk store.old store.new result }
     ensures inside { IfOk result (λ e. IsCountedStep e store.new.now.counted) }
     ensures left { IfOk result (λ e. LeavesRoom 0 e store.old.meta store.new.meta) }
-    ensures numbers { IfOk result (λ e. store.new.next ≡ next_behind e store.old.next) }
+    ensures numbers { IfOk result (λ e. MovesBy e store.old store.new) }
     ensures steps { WhereSound O.first D.Disk (IsDatabaseState store.old.now → IsOnWay x chain (Taken page) store.old.now → next ≡ first_of_chain (area_in store.old.now) chain
         → IfOk result (λ e. (e ≡ IsOn (IsMade page next)) × MakesEmpty x chain page next store.old.now store.new.now)) }
     ensures refused { WhereSound O.first D.Disk (IsDatabaseState store.old.now → IsOnWay x chain (Taken page) store.old.now → IfErr result (λ e. e ≡ Fault)) }

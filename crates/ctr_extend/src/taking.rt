@@ -12,7 +12,7 @@ ghost use Rattle.ctr_store.specs.Store.{View, LeavesPage};
 ghost use Rattle.ctr_walk.specs.OneRecord.{HasRoomForOne};
 ghost use Rattle.ctr_page_turns.specs.Turns.{Turns};
 ghost use Rattle.ctr_extend.specs.declared.ways.OnWay.TheVariants.{Wanted};
-ghost use Rattle.ctr_extend.specs.Steps.{MayExtend, ExtendsBy, IsCountedStep, LeavesRoom, next_behind};
+ghost use Rattle.ctr_extend.specs.Steps.{MayExtend, ExtendsBy, IsCountedStep, LeavesRoom, MovesBy};
 
 use crate::ways::{Extended, OnWay};
 use ctr_actions::{an_action_gives_its_fact, growth_keeps_a_site};
@@ -38,7 +38,7 @@ fn take<D: Disk, O: Origin>(
     ensures turns { Turns O.first D.Disk store.old store.new result }
     ensures inside { IfOk result (λ e. IsCountedStep e store.new.now.counted) }
     ensures left { IfOk result (λ e. LeavesRoom 1 e store.old.meta store.new.meta) }
-    ensures numbers { IfOk result (λ e. store.new.next ≡ next_behind e store.old.next) }
+    ensures numbers { IfOk result (λ e. MovesBy e store.old store.new) }
     ensures steps { (chain : ChainOf) → WhereSound O.first D.Disk (MayExtend x chain Wanted store.old.now → IsNextFree store.old.now.counted (area_in store.old.now).taken (IsPage p)
         → IfOk result (ExtendsBy x chain Wanted store.old.now store.new.now)) }
     ensures refused { (chain : ChainOf) → WhereSound O.first D.Disk (MayExtend x chain Wanted store.old.now → IsNextFree store.old.now.counted (area_in store.old.now).taken (IsPage p) → IfErr result (λ e. e ≡ Fault)) }
@@ -63,7 +63,7 @@ fn grow<D: Disk, O: Origin>(store: &mut Store<D, O>) -> Result<Extended, StoreFa
     ensures turns { (a : View D) (next : IsNext) → LeavesPage O.first D.Disk a store.old (Ok next) → Turns O.first D.Disk a store.new result }
     ensures inside { IfOk result (λ e. IsCountedStep e store.new.now.counted) }
     ensures left { IfOk result (λ e. LeavesRoom 1 e store.old.meta store.new.meta) }
-    ensures numbers { IfOk result (λ e. store.new.next ≡ next_behind e store.old.next) }
+    ensures numbers { IfOk result (λ e. MovesBy e store.old store.new) }
     ensures steps { (x : ℕ) (chain : ChainOf) → WhereSound O.first D.Disk (MayExtend x chain Wanted store.old.now → IsNextFree store.old.now.counted (area_in store.old.now).taken IsGrow
         → IfOk result (ExtendsBy x chain Wanted store.old.now store.new.now)) }
     ensures refused { IfErr result (λ e. e ≡ Fault) }
@@ -87,7 +87,7 @@ pub(crate) fn have<D: Disk, O: Origin>(
     ensures turns { Turns O.first D.Disk store.old store.new result }
     ensures inside { IfOk result (λ e. IsCountedStep e store.new.now.counted) }
     ensures left { IfOk result (λ e. LeavesRoom 1 e store.old.meta store.new.meta) }
-    ensures numbers { IfOk result (λ e. store.new.next ≡ next_behind e store.old.next) }
+    ensures numbers { IfOk result (λ e. MovesBy e store.old store.new) }
     ensures steps { (chain : ChainOf) → WhereSound O.first D.Disk (MayExtend x chain Wanted store.old.now → IfOk result (ExtendsBy x chain Wanted store.old.now store.new.now)) }
     ensures refused { (chain : ChainOf) → WhereSound O.first D.Disk (MayExtend x chain Wanted store.old.now → IfErr result (λ e. e ≡ Fault)) }
 {

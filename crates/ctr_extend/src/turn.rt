@@ -7,7 +7,7 @@ ghost use Rattle.ctr_walk.specs.Tables.{IsChain, IsFirstPage};
 ghost use Rattle.ctr_page_turns.specs.Turns.{Turns};
 ghost use Rattle.ctr_extend.specs.declared.ways.OnWay.TheVariants.{Taken, Made};
 ghost use Rattle.ctr_extend.specs.Ways.{IsCountedWay, items_wanted};
-ghost use Rattle.ctr_extend.specs.Steps.{MayExtend, ExtendsBy, IsCountedStep, LeavesRoom, next_behind};
+ghost use Rattle.ctr_extend.specs.Steps.{MayExtend, ExtendsBy, IsCountedStep, LeavesRoom, MovesBy};
 
 use crate::linking::link_in;
 use crate::making::make;
@@ -45,7 +45,7 @@ fn make_first<D: Disk, O: Origin>(
     ensures turns { Turns O.first D.Disk store.old store.new result }
     ensures inside { IfOk result (λ e. IsCountedStep e store.new.now.counted) }
     ensures left { IfOk result (λ e. LeavesRoom 0 e store.old.meta store.new.meta) }
-    ensures numbers { IfOk result (λ e. store.new.next ≡ next_behind e store.old.next) }
+    ensures numbers { IfOk result (λ e. MovesBy e store.old store.new) }
     ensures steps { WhereSound O.first D.Disk (MayExtend x chain (Taken page) store.old.now → IfOk result (ExtendsBy x chain (Taken page) store.old.now store.new.now)) }
     ensures refused { WhereSound O.first D.Disk (MayExtend x chain (Taken page) store.old.now → IfErr result (λ e. e ≡ Fault)) }
 {
@@ -71,7 +71,7 @@ fn put_in<D: Disk, O: Origin>(
     ensures turns { Turns O.first D.Disk store.old store.new result }
     ensures inside { IfOk result (λ e. IsCountedStep e store.new.now.counted) }
     ensures left { IfOk result (λ e. LeavesRoom 0 e store.old.meta store.new.meta) }
-    ensures numbers { IfOk result (λ e. store.new.next ≡ next_behind e store.old.next) }
+    ensures numbers { IfOk result (λ e. MovesBy e store.old store.new) }
     ensures steps { WhereSound O.first D.Disk (MayExtend x chain (Made page next) store.old.now → IfOk result (ExtendsBy x chain (Made page next) store.old.now store.new.now)) }
     ensures refused { WhereSound O.first D.Disk (MayExtend x chain (Made page next) store.old.now → IfErr result (λ e. e ≡ Fault)) }
 {
@@ -105,8 +105,8 @@ pub fn extend<D: Disk, O: Origin>(
     ensures inside { IfOk result (λ e. IsCountedStep e store.new.now.counted) }
     // The room of an item goes with a page that is taken, and comes back with one that is linked.
     ensures left { IfOk result (λ e. LeavesRoom (items_wanted way) e store.old.meta store.new.meta) }
-    // The log's next number goes with a record, and with nothing else.
-    ensures numbers { IfOk result (λ e. store.new.next ≡ next_behind e store.old.next) }
+    // The log's next number goes with a record, and with nothing else; and more pages are counted where it grew.
+    ensures numbers { IfOk result (λ e. MovesBy e store.old store.new) }
     // What its record owes is met, and the page is further.
     ensures steps { WhereSound O.first D.Disk (MayExtend x chain way store.old.now → IfOk result (ExtendsBy x chain way store.old.now store.new.now)) }
     // It is refused for no other cause than that the disk failed.

@@ -12,10 +12,11 @@ use Rattle.ctr_record_effects.specs.States.{area_in}
 use Rattle.ctr_actions.specs.Sites.{site_of}
 use Rattle.ctr_actions.specs.Facts.{HasSlot, HasCopy, HasNoPageBut, HoldsFact}
 use Rattle.ctr_passed.specs.Laid.{width_in}
+use Rattle.ctr_store.specs.Store.{View}
 use Rattle.ctr_walk.specs.Tables.{IsChain}
 use Rattle.ctr_extend.specs.declared.ways.Extended.TheVariants.{On as OnItsWay, Linked, Grown as IsGrown}
 use Rattle.ctr_extend.specs.Ways.{IsOnWay, IsCountedWay, items_wanted}
-use Rattle.ctr_extend.specs.Steps.{LeavesRoom}
+use Rattle.ctr_extend.specs.Steps.{LeavesRoom, MovesBy}
 use Rattle.ctr_write.specs.declared.stages.Stage.{Stage}
 use Rattle.ctr_write.specs.declared.stages.Stage.TheVariants.{Looking, Extending, Kept}
 use Rattle.ctr_write.specs.declared.stages.Written.{Written}
@@ -83,9 +84,10 @@ LeavesItem n Done k l = AddsItems 0 k l
 LeavesItem n Grown k l = LeavesRoom n IsGrown k l
 LeavesItem n Full k l = l ≡ k
 
--- The log's next number: one more behind a turn that logged its record.
-abbrev pub next_written : Written → ℕ → ℕ
-next_written (On stage) next = next + 1
-next_written Done next = next + 1
-next_written Grown next = next
-next_written Full next = next
+-- How a turn moves a store on: the log's next number is one more behind a turn that logged its record,
+-- and else what it was; and behind one that grew more pages are counted.
+abbrev pub MovesWrite : {D : Type 0} → Written → View D → View D → Type 0
+MovesWrite (On stage) a b = b.next ≡ a.next + 1
+MovesWrite Done a b = b.next ≡ a.next + 1
+MovesWrite Grown a b = MovesBy IsGrown a b
+MovesWrite Full a b = b.next ≡ a.next

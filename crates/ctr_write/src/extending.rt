@@ -7,7 +7,7 @@ ghost use Rattle.ctr_walk.specs.Tables.{IsChain};
 ghost use Rattle.ctr_page_turns.specs.Turns.{Turns};
 ghost use Rattle.ctr_extend.specs.Ways.{IsCountedWay, items_wanted};
 ghost use Rattle.ctr_extend.specs.Steps.{MayExtend};
-ghost use Rattle.ctr_write.specs.Stages.{IsCountedWrite, LeavesItem, next_written};
+ghost use Rattle.ctr_write.specs.Stages.{IsCountedWrite, LeavesItem, MovesWrite};
 ghost use Rattle.ctr_write.specs.Extending.{written_from, ExtendsFor};
 
 use crate::stages::{Stage, Written};
@@ -44,7 +44,7 @@ pub(crate) fn more<D: Disk, O: Origin>(
     ensures turns { Turns O.first D.Disk store.old store.new result }
     ensures inside { IfOk result (λ w. IsCountedWrite w store.new.now.counted) }
     ensures left { IfOk result (λ w. LeavesItem (items_wanted way) w store.old.meta store.new.meta) }
-    ensures numbers { IfOk result (λ w. store.new.next ≡ next_written w store.old.next) }
+    ensures numbers { IfOk result (λ w. MovesWrite w store.old store.new) }
     ensures steps { WhereSound O.first D.Disk (MayExtend x chain way store.old.now → IfOk result (ExtendsFor x chain way store.old.now store.new.now)) }
     ensures refused { WhereSound O.first D.Disk (MayExtend x chain way store.old.now → IfErr result (λ e. e ≡ Fault)) }
 {

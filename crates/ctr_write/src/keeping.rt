@@ -13,7 +13,7 @@ ghost use Rattle.ctr_pvs.specs.Writing.{EntryLies, entry_width};
 ghost use Rattle.ctr_page_turns.specs.Turns.{Turns};
 ghost use Rattle.ctr_write.specs.declared.stages.Stage.TheVariants.{Kept};
 ghost use Rattle.ctr_write.specs.declared.stages.Written.TheVariants.{On};
-ghost use Rattle.ctr_write.specs.Stages.{LeavesItem, next_written};
+ghost use Rattle.ctr_write.specs.Stages.{LeavesItem, MovesWrite};
 ghost use Rattle.ctr_write.specs.Keeping.{IsCopyFor, MayKeepAt, off, KeepsOff};
 
 use crate::misfit::misfit;
@@ -61,7 +61,7 @@ fn lay<D: Disk, O: Origin>(
     requires lies { EntryLies place version.now }
     ensures turns { Turns O.first D.Disk store.old store.new result }
     ensures is { IfOk result (λ w. (w ≡ On (Kept place)) × LeavesItem 1 w store.old.meta store.new.meta) }
-    ensures numbers { IfOk result (λ w. store.new.next ≡ next_written w store.old.next) }
+    ensures numbers { IfOk result (λ w. MovesWrite w store.old store.new) }
     ensures steps { (e : ℕ) (at : PlaceOf) (v : RowVersion) → WhereSound O.first D.Disk (MayKeepAt x e place store.old.now → IsCopyFor e at v version.now store.old.now
         → IfOk result (λ w. KeepsOff (off x e at v) place store.old.now store.new.now)) }
     ensures refused { (e : ℕ) (at : PlaceOf) (v : RowVersion) → WhereSound O.first D.Disk (MayKeepAt x e place store.old.now → IsCopyFor e at v version.now store.old.now → IfErr result (λ f. f ≡ Fault)) }
@@ -94,7 +94,7 @@ pub(crate) fn keep_off<D: Disk, O: Origin>(
     requires fits { IsEntry (entry_width version.now) version.now }
     ensures turns { (a : View D) → LeavesPage {T = ⊤} O.first D.Disk a store.old (Ok tt) → Turns O.first D.Disk a store.new result }
     ensures is { IfOk result (λ w. (w ≡ On (Kept place)) × LeavesItem 1 w store.old.meta store.new.meta) }
-    ensures numbers { IfOk result (λ w. store.new.next ≡ next_written w store.old.next) }
+    ensures numbers { IfOk result (λ w. MovesWrite w store.old store.new) }
     ensures steps { (e : ℕ) (at : PlaceOf) (v : RowVersion) → WhereSound O.first D.Disk (MayKeepAt x e place store.old.now → IsCopyFor e at v version.now store.old.now
         → IfOk result (λ w. KeepsOff (off x e at v) place store.old.now store.new.now)) }
     ensures refused { (e : ℕ) (at : PlaceOf) (v : RowVersion) → WhereSound O.first D.Disk (MayKeepAt x e place store.old.now → IsCopyFor e at v version.now store.old.now → IfErr result (λ f. f ≡ Fault)) }

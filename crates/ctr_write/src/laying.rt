@@ -10,7 +10,7 @@ ghost use Rattle.ctr_walk.specs.OneRecord.{HasRoomForOne};
 ghost use Rattle.ctr_pvs.specs.Slots.{SlotLiesAt};
 ghost use Rattle.ctr_page_turns.specs.Turns.{Turns};
 ghost use Rattle.ctr_write.specs.declared.stages.Written.TheVariants.{Done};
-ghost use Rattle.ctr_write.specs.Stages.{LeavesItem, next_written};
+ghost use Rattle.ctr_write.specs.Stages.{LeavesItem, MovesWrite};
 ghost use Rattle.ctr_write.specs.Laying.{MayLay, LaysHead};
 
 use crate::misfit::misfit;
@@ -53,7 +53,7 @@ fn lay_new<D: Disk, O: Origin>(
     requires lies { SlotLiesAt place (length head.now.payload) }
     ensures turns { Turns O.first D.Disk store.old store.new result }
     ensures is { IfOk result (λ w. (w ≡ Done) × LeavesItem 1 w store.old.meta store.new.meta) }
-    ensures numbers { IfOk result (λ w. store.new.next ≡ next_written w store.old.next) }
+    ensures numbers { IfOk result (λ w. MovesWrite w store.old store.new) }
     ensures steps { (e : ℕ) → WhereSound O.first D.Disk (MayLay (record { x = x; entry = e; key = key; head = head.now }) store.old.now → IsRoomFor (area_in store.old.now) e key place
         → IfOk result (λ w. LaysHead (record { x = x; entry = e; key = key; head = head.now }) place FirstVersion store.old.now store.new.now)) }
     ensures refused { (e : ℕ) → WhereSound O.first D.Disk (MayLay (record { x = x; entry = e; key = key; head = head.now }) store.old.now → IsRoomFor (area_in store.old.now) e key place → IfErr result (λ f. f ≡ Fault)) }
@@ -86,7 +86,7 @@ pub(crate) fn lay_first<D: Disk, O: Origin>(
     requires fits { IsVersion (length head.now.payload) head.now }
     ensures turns { (a : View D) → LeavesPage {T = ⊤} O.first D.Disk a store.old (Ok tt) → Turns O.first D.Disk a store.new result }
     ensures is { IfOk result (λ w. (w ≡ Done) × LeavesItem 1 w store.old.meta store.new.meta) }
-    ensures numbers { IfOk result (λ w. store.new.next ≡ next_written w store.old.next) }
+    ensures numbers { IfOk result (λ w. MovesWrite w store.old store.new) }
     ensures steps { (e : ℕ) → WhereSound O.first D.Disk (MayLay (record { x = x; entry = e; key = key; head = head.now }) store.old.now → IsRoomFor (area_in store.old.now) e key place
         → IfOk result (λ w. LaysHead (record { x = x; entry = e; key = key; head = head.now }) place FirstVersion store.old.now store.new.now)) }
     ensures refused { (e : ℕ) → WhereSound O.first D.Disk (MayLay (record { x = x; entry = e; key = key; head = head.now }) store.old.now → IsRoomFor (area_in store.old.now) e key place → IfErr result (λ f. f ≡ Fault)) }

@@ -9,7 +9,7 @@ ghost use Rattle.ctr_pvs.specs.Slots.{SlotLiesAt};
 ghost use Rattle.ctr_page_turns.specs.Turns.{Turns};
 ghost use Rattle.ctr_heap.specs.Ways.{IsWay, writing_by};
 ghost use Rattle.ctr_write.specs.declared.stages.Written.TheVariants.{Done};
-ghost use Rattle.ctr_write.specs.Stages.{LeavesItem, next_written};
+ghost use Rattle.ctr_write.specs.Stages.{LeavesItem, MovesWrite};
 ghost use Rattle.ctr_write.specs.Laying.{MayLay, LaysHead, IsReadyFor};
 
 use crate::laying::again;
@@ -48,7 +48,7 @@ pub(crate) fn lay_over<D: Disk, O: Origin>(
     requires way { (committed : Bool) × IsWay committed slot way }
     ensures turns { Turns O.first D.Disk store.old store.new result }
     ensures is { IfOk result (λ w. (w ≡ Done) × LeavesItem 1 w store.old.meta store.new.meta) }
-    ensures numbers { IfOk result (λ w. store.new.next ≡ next_written w store.old.next) }
+    ensures numbers { IfOk result (λ w. MovesWrite w store.old store.new) }
     ensures steps { (e : ℕ) → WhereSound O.first D.Disk (MayLay (record { x = x; entry = e; key = slot.entry.key; head = head.now }) store.old.now
         → IsReadyFor e place slot.entry way kept store.old.now
         → IfOk result (λ w. LaysHead (record { x = x; entry = e; key = slot.entry.key; head = head.now }) place (writing_by way kept) store.old.now store.new.now)) }

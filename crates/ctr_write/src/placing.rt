@@ -6,7 +6,7 @@ ghost use Rattle.ctr_page.specs.Making.{IsVersion};
 ghost use Rattle.ctr_record_effects.specs.States.{area_in};
 ghost use Rattle.ctr_walk.specs.OneRecord.{HasRoomForOne};
 ghost use Rattle.ctr_page_turns.specs.Turns.{Turns};
-ghost use Rattle.ctr_write.specs.Stages.{IsCountedWrite, LeavesItem, next_written};
+ghost use Rattle.ctr_write.specs.Stages.{IsCountedWrite, LeavesItem, MovesWrite};
 ghost use Rattle.ctr_write.specs.Steps.{MayPlace, EndsPlacing};
 
 use crate::extending::more;
@@ -36,7 +36,7 @@ pub(crate) fn place_first<D: Disk, O: Origin>(
     ensures turns { Turns O.first D.Disk store.old store.new result }
     ensures inside { IfOk result (λ w. IsCountedWrite w store.new.now.counted) }
     ensures left { IfOk result (λ w. LeavesItem 1 w store.old.meta store.new.meta) }
-    ensures numbers { IfOk result (λ w. store.new.next ≡ next_written w store.old.next) }
+    ensures numbers { IfOk result (λ w. MovesWrite w store.old store.new) }
     ensures steps { WhereSound O.first D.Disk (MayPlace (record { x = x; entry = entry; key = key; head = head.now }) store.old.now
         → IfOk result (EndsPlacing (record { x = x; entry = entry; key = key; head = head.now }) store.old.now store.new.now)) }
     ensures refused { WhereSound O.first D.Disk (MayPlace (record { x = x; entry = entry; key = key; head = head.now }) store.old.now → IfErr result (λ e. e ≡ Fault)) }

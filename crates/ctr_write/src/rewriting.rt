@@ -9,7 +9,7 @@ ghost use Rattle.ctr_walk.specs.OneRecord.{HasRoomForOne};
 ghost use Rattle.ctr_pvs.specs.Slots.{SlotLiesAt};
 ghost use Rattle.ctr_pvs.specs.Writing.{entry_width};
 ghost use Rattle.ctr_page_turns.specs.Turns.{Turns};
-ghost use Rattle.ctr_write.specs.Stages.{IsCountedWrite, LeavesItem, next_written};
+ghost use Rattle.ctr_write.specs.Stages.{IsCountedWrite, LeavesItem, MovesWrite};
 ghost use Rattle.ctr_write.specs.Keeping.{off};
 ghost use Rattle.ctr_write.specs.Steps.{MayKeepFirst, EndsKeeping, MayWriteOver, EndsOver};
 
@@ -46,7 +46,7 @@ pub(crate) fn keep_first<D: Disk, O: Origin>(
     ensures turns { Turns O.first D.Disk store.old store.new result }
     ensures inside { IfOk result (λ w. IsCountedWrite w store.new.now.counted) }
     ensures left { IfOk result (λ w. LeavesItem 1 w store.old.meta store.new.meta) }
-    ensures numbers { IfOk result (λ w. store.new.next ≡ next_written w store.old.next) }
+    ensures numbers { IfOk result (λ w. MovesWrite w store.old store.new) }
     ensures steps { (at : PlaceOf) (v : RowVersion) → WhereSound O.first D.Disk (MayKeepFirst x entry at v version.now store.old.now
         → IfOk result (EndsKeeping (off x entry at v) store.old.now store.new.now)) }
     ensures refused { (at : PlaceOf) (v : RowVersion) → WhereSound O.first D.Disk (MayKeepFirst x entry at v version.now store.old.now → IfErr result (λ e. e ≡ Fault)) }
@@ -80,7 +80,7 @@ pub(crate) fn write_read<D: Disk, O: Origin>(
     ensures turns { Turns O.first D.Disk store.old store.new result }
     ensures inside { IfOk result (λ w. IsCountedWrite w store.new.now.counted) }
     ensures left { IfOk result (λ w. LeavesItem 1 w store.old.meta store.new.meta) }
-    ensures numbers { IfOk result (λ w. store.new.next ≡ next_written w store.old.next) }
+    ensures numbers { IfOk result (λ w. MovesWrite w store.old store.new) }
     ensures steps { (key : ℤ) → WhereSound O.first D.Disk (MayWriteOver (record { x = x; entry = entry; key = key; head = head.now }) place slot.entry kept store.old.now
         → IfOk result (EndsOver (record { x = x; entry = entry; key = key; head = head.now }) place kept store.old.now store.new.now)) }
     ensures refused { (key : ℤ) → WhereSound O.first D.Disk (MayWriteOver (record { x = x; entry = entry; key = key; head = head.now }) place slot.entry kept store.old.now → IfErr result (λ e. e ≡ Fault)) }

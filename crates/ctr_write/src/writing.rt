@@ -7,7 +7,7 @@ ghost use Rattle.ctr_record_effects.specs.States.{area_in};
 ghost use Rattle.ctr_record_laws.specs.Owed.{IsSlotOfKey};
 ghost use Rattle.ctr_walk.specs.OneRecord.{HasRoomForOne};
 ghost use Rattle.ctr_page_turns.specs.Turns.{Turns};
-ghost use Rattle.ctr_write.specs.Stages.{IsCountedStage, stage_items, IsCountedWrite, LeavesItem, next_written};
+ghost use Rattle.ctr_write.specs.Stages.{IsCountedStage, stage_items, IsCountedWrite, LeavesItem, MovesWrite};
 ghost use Rattle.ctr_write.specs.Steps.{MayLook, EndsOver, EndsLooking, MayTakeTurn, EndsWrite};
 
 use crate::copying::{SlotCopy, read_row};
@@ -42,7 +42,7 @@ fn write_over<D: Disk, O: Origin>(
     ensures turns { Turns O.first D.Disk store.old store.new result }
     ensures inside { IfOk result (λ w. IsCountedWrite w store.new.now.counted) }
     ensures left { IfOk result (λ w. LeavesItem 1 w store.old.meta store.new.meta) }
-    ensures numbers { IfOk result (λ w. store.new.next ≡ next_written w store.old.next) }
+    ensures numbers { IfOk result (λ w. MovesWrite w store.old store.new) }
     ensures steps { (key : ℤ) → WhereSound O.first D.Disk (MayLook (record { x = x; entry = entry; key = key; head = head.now }) kept store.old.now
         → IsSlotOfKey (area_in store.old.now) entry key place
         → IfOk result (EndsOver (record { x = x; entry = entry; key = key; head = head.now }) place kept store.old.now store.new.now)) }
@@ -81,7 +81,7 @@ fn look<D: Disk, O: Origin>(
     ensures turns { Turns O.first D.Disk store.old store.new result }
     ensures inside { IfOk result (λ w. IsCountedWrite w store.new.now.counted) }
     ensures left { IfOk result (λ w. LeavesItem 1 w store.old.meta store.new.meta) }
-    ensures numbers { IfOk result (λ w. store.new.next ≡ next_written w store.old.next) }
+    ensures numbers { IfOk result (λ w. MovesWrite w store.old store.new) }
     ensures steps { WhereSound O.first D.Disk (MayLook (record { x = x; entry = entry; key = key; head = head.now }) kept store.old.now
         → IfOk result (EndsLooking (record { x = x; entry = entry; key = key; head = head.now }) kept store.old.now store.new.now)) }
     ensures refused { WhereSound O.first D.Disk (MayLook (record { x = x; entry = entry; key = key; head = head.now }) kept store.old.now → IfErr result (λ e. e ≡ Fault)) }
@@ -121,8 +121,8 @@ pub fn write<D: Disk, O: Origin>(
     ensures inside { IfOk result (λ w. IsCountedWrite w store.new.now.counted) }
     // The room of an item goes with a page that is taken, and comes back with one that is linked.
     ensures left { IfOk result (λ w. LeavesItem (stage_items stage) w store.old.meta store.new.meta) }
-    // The log's next number goes with a record, and with nothing else.
-    ensures numbers { IfOk result (λ w. store.new.next ≡ next_written w store.old.next) }
+    // The log's next number goes with a record, and with nothing else; and more pages are counted where it grew.
+    ensures numbers { IfOk result (λ w. MovesWrite w store.old store.new) }
     // What its record owes is met, and the Write is further.
     ensures steps { WhereSound O.first D.Disk (MayTakeTurn (record { x = x; entry = entry; key = key; head = head.now }) stage store.old.now
         → IfOk result (EndsWrite (record { x = x; entry = entry; key = key; head = head.now }) stage store.old.now store.new.now)) }

@@ -1,9 +1,10 @@
-use Rattle.std.proofs.Common.{[], Ok, Err, refl, sym, ap, subst}
+use Rattle.std.proofs.Common.{◌<◌, [], Ok, Err, refl, sym, ap, subst}
 use Rattle.ctr_redo.specs.States.{State, grown}
 use Rattle.ctr_store.specs.Store.{View}
 use Rattle.ctr_actions.specs.Sites.{site_of}
 use Rattle.ctr_actions.specs.Facts.{HasNoPageBut, HoldsFact}
 use Rattle.ctr_extend.specs.declared.ways.Extended.TheVariants.{Grown}
+use Rattle.ctr_extend.proofs.Steps.{counts_more}
 use Rattle.ctr_extend.proofs.taking.grow.Goals as goal
 
 pub returns-in-Ok-clause-turns : goal.returns-in-Ok-clause-turns
@@ -26,7 +27,10 @@ pub returns-in-Ok-clause-left : goal.returns-in-Ok-clause-left
 returns-in-Ok-clause-left g c = (refl, ap (λ (v : View g.row.D.Denot). v.meta) c.in-Ok.ensures.counts.same)
 
 pub returns-in-Ok-clause-numbers : goal.returns-in-Ok-clause-numbers
-returns-in-Ok-clause-numbers g c = ap (λ (v : View g.row.D.Denot). v.next) c.in-Ok.ensures.counts.same
+returns-in-Ok-clause-numbers g c = (
+  ap (λ (v : View g.row.D.Denot). v.next) c.in-Ok.ensures.counts.same,
+  subst (λ n. c.args.store.now.now.counted < n) (sym c.in-Ok.ensures.counts.counted) (counts_more c.args.store.now.now.counted c.requires.few),
+)
 
 pub returns-in-Ok-clause-steps : goal.returns-in-Ok-clause-steps
 returns-in-Ok-clause-steps g c = λ x chain told sound may next.

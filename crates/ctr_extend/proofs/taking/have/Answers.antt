@@ -1,4 +1,4 @@
-use Rattle.std.proofs.Common.{◌≡◌, ℕ, Err, refl, subst}
+use Rattle.std.proofs.Common.{◌≡◌, Err, refl, subst}
 use Rattle.std.specs.Prelude.{IfOk, IfErr}
 use Rattle.ctr_disk.specs.declared.fault.StoreFault.TheVariants.{Fault}
 use Rattle.ctr_meta.specs.Kept.{TablesKept}
@@ -9,8 +9,8 @@ use Rattle.ctr_alloc.specs.declared.search.NextFree.TheVariants as next
 use Rattle.ctr_page_turns.specs.Turns.{Reads}
 use Rattle.ctr_extend.specs.declared.ways.OnWay.TheVariants.{Wanted}
 use Rattle.ctr_extend.specs.declared.ways.Extended.TheVariants.{Full}
-use Rattle.ctr_extend.specs.Steps.{MayExtend, ExtendsBy, LeavesRoom, next_behind}
-use Rattle.ctr_extend.proofs.Steps.{free_so}
+use Rattle.ctr_extend.specs.Steps.{MayExtend, ExtendsBy, LeavesRoom}
+use Rattle.ctr_extend.proofs.Steps.{free_so, moves_behind}
 use Rattle.ctr_extend.proofs.taking.have.Goals as goal
 
 pub returns-in-Page-clause-turns : goal.returns-in-Page-clause-turns
@@ -38,10 +38,10 @@ pub returns-in-Full-clause-left : goal.returns-in-Full-clause-left
 returns-in-Full-clause-left g c = c.in-Ok.ensures.leaves.keeps.meta
 
 pub returns-in-Page-clause-numbers : goal.returns-in-Page-clause-numbers
-returns-in-Page-clause-numbers g c = subst (λ (n : ℕ). IfOk c.take.result (λ e. c.take.new.store.next ≡ next_behind e n)) c.in-Ok.ensures.leaves.keeps.next c.take.ensures.numbers
+returns-in-Page-clause-numbers g c = moves_behind c.args.store.now c.next_free.new.store c.take.new.store c.take.result c.in-Ok.ensures.leaves.keeps c.take.ensures.numbers
 
 pub returns-in-Grow-clause-numbers : goal.returns-in-Grow-clause-numbers
-returns-in-Grow-clause-numbers g c = subst (λ (n : ℕ). IfOk c.grow.result (λ e. c.grow.new.store.next ≡ next_behind e n)) c.in-Ok.ensures.leaves.keeps.next c.grow.ensures.numbers
+returns-in-Grow-clause-numbers g c = moves_behind c.args.store.now c.next_free.new.store c.grow.new.store c.grow.result c.in-Ok.ensures.leaves.keeps c.grow.ensures.numbers
 
 pub returns-in-Full-clause-numbers : goal.returns-in-Full-clause-numbers
 returns-in-Full-clause-numbers g c = c.in-Ok.ensures.leaves.keeps.next

@@ -1,4 +1,4 @@
-use Rattle.std.proofs.Common.{◌≡◌, ℕ, Err, refl, subst}
+use Rattle.std.proofs.Common.{◌≡◌, Err, refl, subst}
 use Rattle.std.specs.Prelude.{IfOk, IfErr}
 use Rattle.ctr_disk.specs.declared.fault.StoreFault.TheVariants.{Fault}
 use Rattle.ctr_meta.specs.Kept.{TablesKept}
@@ -10,8 +10,8 @@ use Rattle.ctr_walk.specs.Tables.{first_of_chain}
 use Rattle.ctr_extend.specs.declared.ways.OnWay.TheVariants.{Taken, Made}
 use Rattle.ctr_extend.specs.declared.ways.Extended.TheVariants.{On}
 use Rattle.ctr_extend.specs.Ways.{IsOnWay}
-use Rattle.ctr_extend.specs.Steps.{MakesEmpty, LeavesRoom, next_behind}
-use Rattle.ctr_extend.proofs.Steps.{first_undamaged, made_first}
+use Rattle.ctr_extend.specs.Steps.{MakesEmpty, LeavesRoom}
+use Rattle.ctr_extend.proofs.Steps.{first_undamaged, made_first, moves_behind}
 use Rattle.ctr_extend.proofs.turn.make_first.Goals as goal
 
 pub returns-in-Ok-clause-turns : goal.returns-in-Ok-clause-turns
@@ -26,7 +26,7 @@ pub returns-in-Ok-clause-left : goal.returns-in-Ok-clause-left
 returns-in-Ok-clause-left g c = subst (λ (k : TablesKept). IfOk c.make.result (λ e. LeavesRoom 0 e k c.make.new.store.meta)) c.in-Ok.ensures.leaves.keeps.meta c.make.ensures.left
 
 pub returns-in-Ok-clause-numbers : goal.returns-in-Ok-clause-numbers
-returns-in-Ok-clause-numbers g c = subst (λ (n : ℕ). IfOk c.make.result (λ e. c.make.new.store.next ≡ next_behind e n)) c.in-Ok.ensures.leaves.keeps.next c.make.ensures.numbers
+returns-in-Ok-clause-numbers g c = moves_behind c.args.store.now c.first_page.new.store c.make.new.store c.make.result c.in-Ok.ensures.leaves.keeps c.make.ensures.numbers
 
 pub returns-in-Ok-clause-steps : goal.returns-in-Ok-clause-steps
 returns-in-Ok-clause-steps g c = λ told sound may.

@@ -1,4 +1,4 @@
-use Rattle.std.proofs.Common.{◌≡◌, ℕ, Err, refl, sym, ◌∙◌, subst}
+use Rattle.std.proofs.Common.{◌≡◌, Err, refl, sym, ◌∙◌, subst}
 use Rattle.std.specs.Prelude.{IfOk, IfErr}
 use Rattle.ctr_disk.specs.declared.fault.StoreFault.TheVariants.{Fault}
 use Rattle.ctr_meta.specs.Kept.{TablesKept}
@@ -10,8 +10,8 @@ use Rattle.ctr_walk.specs.Tables.{first_of_chain}
 use Rattle.ctr_extend.specs.declared.ways.OnWay.TheVariants.{Taken, Made}
 use Rattle.ctr_extend.specs.declared.ways.Extended.TheVariants.{On}
 use Rattle.ctr_extend.specs.Ways.{IsOnWay}
-use Rattle.ctr_extend.specs.Steps.{MayExtend, MakesEmpty, PutsInFront, LeavesRoom, next_behind}
-use Rattle.ctr_extend.proofs.Steps.{first_undamaged, made_again, put_in_front, taken_still}
+use Rattle.ctr_extend.specs.Steps.{MayExtend, MakesEmpty, PutsInFront, LeavesRoom}
+use Rattle.ctr_extend.proofs.Steps.{first_undamaged, made_again, moves_behind, put_in_front, taken_still}
 use Rattle.ctr_extend.proofs.turn.put_in.Goals as goal
 
 pub returns-then-first-next-clause-turns : goal.returns-then-first-next-clause-turns
@@ -30,10 +30,10 @@ pub returns-then-first-next-clause-left : goal.returns-then-first-next-clause-le
 returns-then-first-next-clause-left g c = subst (λ (k : TablesKept). IfOk c.make.result (λ e. LeavesRoom 0 e k c.make.new.store.meta)) c.in-Ok.ensures.leaves.keeps.meta c.make.ensures.left
 
 pub returns-then-first-next-clause-numbers : goal.returns-then-first-next-clause-numbers
-returns-then-first-next-clause-numbers g c = subst (λ (n : ℕ). IfOk c.make.result (λ e. c.make.new.store.next ≡ next_behind e n)) c.in-Ok.ensures.leaves.keeps.next c.make.ensures.numbers
+returns-then-first-next-clause-numbers g c = moves_behind c.args.store.now c.first_page.new.store c.make.new.store c.make.result c.in-Ok.ensures.leaves.keeps c.make.ensures.numbers
 
 pub returns-clause-numbers : goal.returns-clause-numbers
-returns-clause-numbers g c = subst (λ (n : ℕ). IfOk c.link_in.result (λ e. c.link_in.new.store.next ≡ next_behind e n)) c.in-Ok.ensures.leaves.keeps.next c.link_in.ensures.numbers
+returns-clause-numbers g c = moves_behind c.args.store.now c.first_page.new.store c.link_in.new.store c.link_in.result c.in-Ok.ensures.leaves.keeps c.link_in.ensures.numbers
 
 pub returns-then-first-next-clause-steps : goal.returns-then-first-next-clause-steps
 returns-then-first-next-clause-steps g c = λ told sound may.

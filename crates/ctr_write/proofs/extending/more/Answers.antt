@@ -1,6 +1,6 @@
 use Rattle.std.proofs.Common.{Err, refl}
 use Rattle.ctr_extend.specs.Ways.{items_wanted}
-use Rattle.ctr_write.proofs.Extended.{inside_for, left_for, numbers_for}
+use Rattle.ctr_write.proofs.Extended.{inside_for, left_for, moves_for}
 use Rattle.ctr_write.proofs.extending.more.Goals as goal
 
 pub returns-in-Ok-clause-turns : goal.returns-in-Ok-clause-turns
@@ -16,7 +16,7 @@ pub returns-in-Ok-clause-left : goal.returns-in-Ok-clause-left
 returns-in-Ok-clause-left g c = left_for c.args.chain c.in-Ok.extended c.written_from.result c.written_from.ensures (items_wanted c.args.way) c.args.store.now.meta c.extend.new.store.meta c.in-Ok.ensures.left
 
 pub returns-in-Ok-clause-numbers : goal.returns-in-Ok-clause-numbers
-returns-in-Ok-clause-numbers g c = numbers_for c.args.chain c.in-Ok.extended c.written_from.result c.written_from.ensures c.args.store.now.next c.extend.new.store.next c.in-Ok.ensures.numbers
+returns-in-Ok-clause-numbers g c = moves_for c.args.chain c.in-Ok.extended c.written_from.result c.written_from.ensures c.args.store.now c.extend.new.store c.in-Ok.ensures.numbers
 
 pub returns-in-Ok-clause-steps : goal.returns-in-Ok-clause-steps
 returns-in-Ok-clause-steps g c = λ told sound may. (c.in-Ok.extended, c.written_from.ensures, c.in-Ok.ensures.steps told sound may)

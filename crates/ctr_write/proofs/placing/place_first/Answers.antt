@@ -1,4 +1,4 @@
-use Rattle.std.proofs.Common.{◌≡◌, ◌∙◌, ℕ, ℤ, w64, to_z, of_z, Err, refl, ap, subst}
+use Rattle.std.proofs.Common.{◌≡◌, ◌∙◌, ℤ, w64, to_z, of_z, Err, refl, ap, subst}
 use Rattle.std.specs.Prelude.{IfOk, IfErr}
 use Rattle.std.proofs.lemmas.Int.{to_z-of_z}
 use Rattle.ctr_disk.specs.declared.fault.StoreFault.TheVariants.{Fault}
@@ -16,9 +16,10 @@ use Rattle.ctr_walk.proofs.Joins.{answers_ok}
 use Rattle.ctr_extend.specs.declared.ways.OnWay.TheVariants.{Wanted}
 use Rattle.ctr_extend.specs.Steps.{MayExtend}
 use Rattle.ctr_write.specs.declared.stages.Written.TheVariants.{Done}
-use Rattle.ctr_write.specs.Stages.{IsCountedWrite, LeavesItem, next_written}
+use Rattle.ctr_write.specs.Stages.{IsCountedWrite, LeavesItem}
 use Rattle.ctr_write.specs.Extending.{ExtendsFor}
 use Rattle.ctr_write.specs.Laying.{Wish, MayLay, LaysHead}
+use Rattle.ctr_write.proofs.Extended.{moves_behind}
 use Rattle.ctr_write.proofs.Ending.{so_far, left_so, room_of, wants_rows, lays_first}
 use Rattle.ctr_write.proofs.Refusing.{by_disk}
 use Rattle.ctr_write.proofs.placing.place_first.Goals as goal
@@ -42,10 +43,10 @@ pub returns-in-Some-clause-left : goal.returns-in-Some-clause-left
 returns-in-Some-clause-left g c = left_so 1 Done c.args.store.now.meta c.free_slot.new.store.meta c.lay_first.new.store.meta c.lay_first.result c.in-Ok.ensures.leaves.keeps.meta c.lay_first.ensures.is
 
 pub returns-in-None-clause-numbers : goal.returns-in-None-clause-numbers
-returns-in-None-clause-numbers g c = subst (λ (n : ℕ). IfOk c.more.result (λ w. c.more.new.store.next ≡ next_written w n)) c.in-Ok.ensures.leaves.keeps.next c.more.ensures.numbers
+returns-in-None-clause-numbers g c = moves_behind c.args.store.now c.free_slot.new.store c.more.new.store c.more.result c.in-Ok.ensures.leaves.keeps c.more.ensures.numbers
 
 pub returns-in-Some-clause-numbers : goal.returns-in-Some-clause-numbers
-returns-in-Some-clause-numbers g c = subst (λ (n : ℕ). IfOk c.lay_first.result (λ w. c.lay_first.new.store.next ≡ next_written w n)) c.in-Ok.ensures.leaves.keeps.next c.lay_first.ensures.numbers
+returns-in-Some-clause-numbers g c = moves_behind c.args.store.now c.free_slot.new.store c.lay_first.new.store c.lay_first.result c.in-Ok.ensures.leaves.keeps c.lay_first.ensures.numbers
 
 pub returns-in-None-clause-steps : goal.returns-in-None-clause-steps
 returns-in-None-clause-steps g c = λ told sound may.

@@ -1,4 +1,4 @@
-use Rattle.std.proofs.Common.{◌≡◌, ℕ, Err, refl, subst}
+use Rattle.std.proofs.Common.{◌≡◌, Err, refl, subst}
 use Rattle.std.specs.Prelude.{IfOk, IfErr}
 use Rattle.ctr_disk.specs.declared.fault.StoreFault.TheVariants.{Fault}
 use Rattle.ctr_pvs.specs.Along.{EndsVersions}
@@ -12,9 +12,10 @@ use Rattle.ctr_extend.specs.declared.ways.OnWay.TheVariants.{Wanted}
 use Rattle.ctr_extend.specs.Steps.{MayExtend}
 use Rattle.ctr_write.specs.declared.stages.Stage.TheVariants.{Kept}
 use Rattle.ctr_write.specs.declared.stages.Written.TheVariants.{On}
-use Rattle.ctr_write.specs.Stages.{IsCountedWrite, LeavesItem, next_written}
+use Rattle.ctr_write.specs.Stages.{IsCountedWrite, LeavesItem}
 use Rattle.ctr_write.specs.Extending.{ExtendsFor}
 use Rattle.ctr_write.specs.Keeping.{IsCopyFor, MayKeepAt, off, KeepsOff}
+use Rattle.ctr_write.proofs.Extended.{moves_behind}
 use Rattle.ctr_write.proofs.Ending.{so_far, left_so, wants_versions, keeps_first, free_at}
 use Rattle.ctr_write.proofs.Refusing.{by_disk}
 use Rattle.ctr_write.proofs.rewriting.keep_first.Goals as goal
@@ -38,10 +39,10 @@ pub returns-in-Some-clause-left : goal.returns-in-Some-clause-left
 returns-in-Some-clause-left g c = left_so 1 (On (Kept c.in-Some.place)) c.args.store.now.meta c.find_free_entry.new.store.meta c.keep_off.new.store.meta c.keep_off.result c.in-Ok.ensures.leaves.keeps.meta c.keep_off.ensures.is
 
 pub returns-in-None-clause-numbers : goal.returns-in-None-clause-numbers
-returns-in-None-clause-numbers g c = subst (λ (n : ℕ). IfOk c.more.result (λ w. c.more.new.store.next ≡ next_written w n)) c.in-Ok.ensures.leaves.keeps.next c.more.ensures.numbers
+returns-in-None-clause-numbers g c = moves_behind c.args.store.now c.find_free_entry.new.store c.more.new.store c.more.result c.in-Ok.ensures.leaves.keeps c.more.ensures.numbers
 
 pub returns-in-Some-clause-numbers : goal.returns-in-Some-clause-numbers
-returns-in-Some-clause-numbers g c = subst (λ (n : ℕ). IfOk c.keep_off.result (λ w. c.keep_off.new.store.next ≡ next_written w n)) c.in-Ok.ensures.leaves.keeps.next c.keep_off.ensures.numbers
+returns-in-Some-clause-numbers g c = moves_behind c.args.store.now c.find_free_entry.new.store c.keep_off.new.store c.keep_off.result c.in-Ok.ensures.leaves.keeps c.keep_off.ensures.numbers
 
 pub returns-in-None-clause-steps : goal.returns-in-None-clause-steps
 returns-in-None-clause-steps g c = λ at v told sound may.

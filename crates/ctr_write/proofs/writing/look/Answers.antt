@@ -1,4 +1,4 @@
-use Rattle.std.proofs.Common.{◌≡◌, ℕ, ℤ, w64, to_z, of_z, Err, refl, subst}
+use Rattle.std.proofs.Common.{◌≡◌, ℤ, w64, to_z, of_z, Err, refl, subst}
 use Rattle.std.specs.Prelude.{IfOk, IfErr}
 use Rattle.ctr_disk.specs.declared.fault.StoreFault.TheVariants.{Fault}
 use Rattle.ctr_record_effects.specs.States.{pages_in}
@@ -11,9 +11,10 @@ use Rattle.ctr_meta.specs.Kept.{TablesKept}
 use Rattle.ctr_redo.specs.States.{State}
 use Rattle.ctr_record_effects.specs.States.{area_in}
 use Rattle.ctr_record_laws.specs.Owed.{IsSlotOfKey}
-use Rattle.ctr_write.specs.Stages.{LeavesItem, next_written}
+use Rattle.ctr_write.specs.Stages.{LeavesItem}
 use Rattle.ctr_write.specs.Laying.{Wish}
 use Rattle.ctr_write.specs.Steps.{MayLook, MayPlace, EndsPlacing, EndsOver}
+use Rattle.ctr_write.proofs.Extended.{moves_behind}
 use Rattle.ctr_write.proofs.Turning.{found_none, found_one, looks_none, looks_one}
 use Rattle.ctr_write.proofs.Refusing.{by_disk}
 use Rattle.ctr_write.proofs.writing.look.Goals as goal
@@ -34,10 +35,10 @@ pub returns-in-Some-clause-left : goal.returns-in-Some-clause-left
 returns-in-Some-clause-left g c = subst (λ (k : TablesKept). IfOk c.write_over.result (λ w. LeavesItem 1 w k c.write_over.new.store.meta)) c.in-Ok.ensures.leaves.keeps.meta c.write_over.ensures.left
 
 pub returns-in-None-clause-numbers : goal.returns-in-None-clause-numbers
-returns-in-None-clause-numbers g c = subst (λ (n : ℕ). IfOk c.place_first.result (λ w. c.place_first.new.store.next ≡ next_written w n)) c.in-Ok.ensures.leaves.keeps.next c.place_first.ensures.numbers
+returns-in-None-clause-numbers g c = moves_behind c.args.store.now c.find.new.store c.place_first.new.store c.place_first.result c.in-Ok.ensures.leaves.keeps c.place_first.ensures.numbers
 
 pub returns-in-Some-clause-numbers : goal.returns-in-Some-clause-numbers
-returns-in-Some-clause-numbers g c = subst (λ (n : ℕ). IfOk c.write_over.result (λ w. c.write_over.new.store.next ≡ next_written w n)) c.in-Ok.ensures.leaves.keeps.next c.write_over.ensures.numbers
+returns-in-Some-clause-numbers g c = moves_behind c.args.store.now c.find.new.store c.write_over.new.store c.write_over.result c.in-Ok.ensures.leaves.keeps c.write_over.ensures.numbers
 
 pub returns-in-None-clause-steps : goal.returns-in-None-clause-steps
 returns-in-None-clause-steps g c = λ told sound may.

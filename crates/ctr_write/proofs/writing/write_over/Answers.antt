@@ -9,10 +9,10 @@ use Rattle.ctr_record_effects.specs.States.{pages_in, area_in}
 use Rattle.ctr_walk.proofs.Joins.{answers_ok}
 use Rattle.ctr_page_turns.specs.Turns.{Reads}
 use Rattle.ctr_passed.specs.Logged.{IsSlotOf}
-use Rattle.ctr_write.specs.Stages.{next_written}
 use Rattle.ctr_write.specs.Laying.{Wish}
 use Rattle.ctr_write.specs.Copies.{slot_copied}
 use Rattle.ctr_write.specs.Steps.{MayWriteOver, EndsOver}
+use Rattle.ctr_write.proofs.Extended.{moves_behind}
 use Rattle.ctr_write.proofs.Used.{head_is}
 use Rattle.ctr_write.proofs.writing.write_over.Goals as goal
 
@@ -26,7 +26,7 @@ pub returns-clause-turns : goal.returns-clause-turns
 returns-clause-turns g c = c.a_turn_goes_on.ensures.behind g.O.Origin.first c.args.store.now c.read_row.new.store c.write_read.new.store c.in-Ok.copy c.write_read.result c.in-Ok.ensures.leaves c.write_read.ensures.turns
 
 pub returns-clause-numbers : goal.returns-clause-numbers
-returns-clause-numbers g c = subst (λ (n : ℕ). IfOk c.write_read.result (λ w. c.write_read.new.store.next ≡ next_written w n)) c.in-Ok.ensures.leaves.keeps.next c.write_read.ensures.numbers
+returns-clause-numbers g c = moves_behind c.args.store.now c.read_row.new.store c.write_read.new.store c.write_read.result c.in-Ok.ensures.leaves.keeps c.write_read.ensures.numbers
 
 pub returns-clause-steps : goal.returns-clause-steps
 returns-clause-steps g c = λ key told sound may of_key.
