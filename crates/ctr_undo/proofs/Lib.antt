@@ -1,5 +1,6 @@
 pub mod Lists
 pub mod Owing
 pub mod Worlds
-pub mod Naming
+pub mod Released
 pub mod Staying
+pub mod Read

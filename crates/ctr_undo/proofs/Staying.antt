@@ -74,6 +74,20 @@ names_stay y a s items sound owed among = names_same s.area.title (site_after y 
     (λ x e in_. name_stays y s e (sound.names.creates x e (among (CreateOf x e) in_)).0 a owed)
     (λ x e in_. name_stays y s e (sound.names.drops x e (among (DropOf x e) in_)).0 a owed)
 
+-- a live entry is taken
+taken : (t : Title) → is_live t ≡ true → t.state ≢ 0
+taken t live = apart t.state (eqb-true t.state 1 live)
+  where
+    apart : (n : ℕ) → n ≡ 1 → n ≢ 0
+    apart n is none = omega (arith, is, none)
+
+-- so they stay wherever entries that are taken keep their names
+pub names_kept : (s : Site) (now : ℕ → Title) (items : List SlogItem) → IsSoundSite s → ((e : ℕ) → (s.area.title e).state ≢ 0 → (now e).name ≡ (s.area.title e).name) → ((i : SlogItem) → IsAmong i items → IsAmong i s.tables.items)
+    → names_of_items now items ≡ names_of_items s.area.title items
+names_kept s now items sound named among = names_same s.area.title now items
+    (λ x e in_. named e (taken (s.area.title e) (sound.names.creates x e (among (CreateOf x e) in_)).0))
+    (λ x e in_. named e (taken (s.area.title e) (sound.names.drops x e (among (DropOf x e) in_)).0))
+
 -- the names of items, and of one behind them
 names_behind : (title : ℕ → Title) (items : List SlogItem) (i : SlogItem) → names_of_items title (items ++ i ∷ []) ≡ names_of_items title items ++ names_of_items title (i ∷ [])
 names_behind title [] i = refl

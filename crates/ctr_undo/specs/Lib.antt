@@ -2,3 +2,4 @@ pub mod Left
 pub mod Turns
 pub mod Series
 pub mod Keeping
+pub mod Naming

@@ -1,5 +1,5 @@
 // Laws of undo. A call does nothing: what it ensures is the law.
-ghost use Rattle.std.specs.Prelude.{◌≡◌, ◌+◌, ◌++◌, ℕ, true, false, None};
+ghost use Rattle.std.specs.Prelude.{◌≡◌, ◌≢◌, ◌+◌, ◌++◌, ℕ, true, false, None};
 ghost use Rattle.ctr_model.specs.State.{has_name, transaction_of};
 ghost use Rattle.ctr_names.specs.Held.{names_of_items};
 ghost use Rattle.ctr_redo.specs.States.{State};
@@ -53,6 +53,9 @@ pub fn a_turn_of_undo_is_kept<D: Disk>()
 /// The names of the tables of items that are left stay, whatever a transaction does, and with an item of a table goes its name, the last of them.
 pub fn names_of_what_is_left_stay()
     ensures stay { (x : ℕ) (a : Action) (s t : State) (u : UndoLeft) → MayUndo u s → ActsBy x a s t
+        → names_of_items (area_in t).title u.items ≡ names_of_items (area_in s).title u.items }
+    // And so they do wherever each entry that was taken keeps its name.
+    ensures named { (s t : State) (u : UndoLeft) → MayUndo u s → ((e : ℕ) → ((area_in s).title e).state ≢ 0 → ((area_in t).title e).name ≡ ((area_in s).title e).name)
         → names_of_items (area_in t).title u.items ≡ names_of_items (area_in s).title u.items }
     ensures go { (item : UndoItem) (u v : UndoLeft) (site : Site) → Goes item u v
         → names_of_items site.area.title u.items ≡ names_of_items site.area.title v.items ++ names_undone item site }

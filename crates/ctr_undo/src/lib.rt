@@ -7,6 +7,7 @@
 mod calls;
 mod laws;
 mod list;
+mod naming;
 mod turning;
 
 pub use laws::{
@@ -14,4 +15,5 @@ pub use laws::{
     undo_takes_a_turn_an_item,
 };
 pub use list::{UndoItem, UndoList};
+pub use naming::NamesRefusal;
 pub use turning::{UndoTurn, turn};

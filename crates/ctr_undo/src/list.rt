@@ -55,6 +55,21 @@ impl UndoList {
         Ok(UndoList { items, orphans })
     }
 
+    /// How many items and transactions are left.
+    pub fn len(&self) -> usize
+        ensures { result ≡ left_in self.now }
+    {
+        self.items.len() + self.orphans.len()
+    }
+
+    /// The items that are left, in the order of the secondary log.
+    pub(crate) fn items(&self) -> &[SlogItem]
+        ensures value { result.now ≡ self.now.items }
+        ensures fit { ItemsFit result.now }
+    {
+        &self.items
+    }
+
     /// What is undone next, or none where nothing is left.
     pub fn next(&self) -> Option<UndoItem>
         ensures next { IsNext self.now result }

@@ -1,4 +1,4 @@
-use Rattle.ctr_undo.proofs.Naming.{name_kept, name_released}
+use Rattle.ctr_undo.proofs.Released.{name_kept, name_released}
 use Rattle.ctr_undo.proofs.laws.a_name_is_released_with_its_last_item.Goals as goal
 
 pub returns-clause-kept : goal.returns-clause-kept
