@@ -33,7 +33,7 @@ use Rattle.ctr_kept.specs.Walk.{Mind}
 use Rattle.ctr_kept.specs.Turns.{Start, InTransaction, KeepsRun, MayCome, Telling, entry_of, point_now, state_now, telling}
 use Rattle.ctr_stops.specs.World.{KeepsWorld}
 use Rattle.ctr_txn.specs.declared.txn.Asked.{Asked}
-use Rattle.ctr_txn.specs.Held.{AreTxns, TxnHeld, TxnsHeld, run_of, txn_of}
+use Rattle.ctr_txn.specs.Held.{AreTxns, TxnHeld, TxnsHeld, run_of}
 use Rattle.ctr_txn.specs.Steps.{AnswersNext}
 use Rattle.ctr_session_world.proofs.ctr_told.Answered.{answer_leaves}
 use Rattle.ctr_session_world.specs.ctr_told.Turning.{answered_mind}

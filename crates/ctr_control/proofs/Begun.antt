@@ -20,6 +20,7 @@ use Rattle.ctr_actions.specs.Sites.{site_of}
 use Rattle.ctr_meta.specs.Tables.{Tables}
 use Rattle.ctr_paged.specs.Moving.{begun_now, held_as}
 use Rattle.ctr_paged.specs.Paged.{Run}
+use Rattle.ctr_redo.specs.States.{State as Stored}
 use Rattle.ctr_store.specs.Store.{View}
 use Rattle.ctr_key_locks.specs.Held.{LocksOfSession, held_by_session, session_locks}
 use Rattle.ctr_key_locks.specs.Shows.{ShowsKeyLocks, IsTheSame, BeginLeavesLocks}
@@ -118,6 +119,7 @@ module _ {D : Type 0} (g : Ghosts D) (c : Start) (opened : D) (a b : View D) (ol
             };
             tape = refl;
             undo = refl;
+            names = λ e there. ap (λ (q : Stored). names_in q e) pages;
             others = same_facts;
             counts = ap (λ x. cond x [] (next.mind.facts s)) (eq-eqb s s refl);
           }

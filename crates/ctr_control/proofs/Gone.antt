@@ -68,6 +68,7 @@ module _ {D : Type 0} (g : Ghosts D) (c : Start) (opened : D) (a b : View D) (ol
           };
           tape = refl;
           undo = refl;
+          names = λ e there. ap (λ (n : ℕ → List ℕ). n e) same_name_of;
           others = facts_others;
           counts = counts;
         }

@@ -201,6 +201,7 @@ module _ {D : Type 0} (g : Ghosts D) (c : Start) (opened : D) (a b : View D) (ol
         };
         tape = refl;
         undo = refl;
+        names = λ e there. (titles e).0;
         others = facts_others;
       }
 

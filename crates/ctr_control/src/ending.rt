@@ -1,13 +1,15 @@
 // COMMIT's first act.
-ghost use Rattle.std.specs.Prelude.{◌≡◌, false, IfOk, IfErr};
+ghost use Rattle.std.specs.Prelude.{◌≡◌, false, true, IfOk, IfErr};
 ghost use Rattle.ctr_disk.specs.declared.fault.StoreFault.TheVariants.{Fault};
 ghost use Rattle.ctr_types.specs.Faults.{HasFault};
 ghost use Rattle.ctr_types.specs.declared.statement.Statement.TheVariants as st;
 ghost use Rattle.ctr_types.specs.declared.tape.Act.TheVariants as act;
 ghost use Rattle.ctr_model.specs.Laws.{is_asked};
+ghost use Rattle.ctr_model.specs.Tape.{goes_on};
 ghost use Rattle.ctr_base.specs.Base.{WhereSound};
 ghost use Rattle.ctr_kept.specs.Turns.{Start};
-ghost use Rattle.ctr_session_world.specs.Ready.{LeavesReady, MayTurn, StaysUnasked, TakesTime};
+ghost use Rattle.ctr_txn.specs.Held.{txn_of};
+ghost use Rattle.ctr_session_world.specs.Ready.{LeavesReady, MayTurn, StaysUnasked, TakesTime, is_asking};
 ghost use Rattle.ctr_session_world.specs.Told.{IsNextOf, IsTold, IsIdleIn};
 
 use crate::marks::ask_for;
@@ -31,8 +33,11 @@ pub fn ask<D: Disk, O: Origin>(
     statement: u64,
 ) -> Result<Reply, StoreFault>
     requires may { MayTurn s txns.old store.old }
-    // It has asked for its commit then where it is told so alone.
-    ensures over { IfOk result (λ r. LeavesReady s txns.old txns.new store.old store.new × (is_asked r ≡ false → StaysUnasked s txns.old txns.new)) }
+    // It has asked for its commit then where it is told so, and there alone.
+    ensures over { IfOk result (λ r. LeavesReady s txns.old txns.new store.old store.new × (is_asked r ≡ false → StaysUnasked s txns.old txns.new)
+        × (is_asked r ≡ true → is_asking (txn_of s txns.new) ≡ true)) }
+    // Who is told no number has finished its COMMIT.
+    ensures ends { IfOk result (λ r. is_asked r ≡ false → goes_on r ≡ false) }
     ensures told { (c : Start) (opened : D) → WhereSound O.first D.Disk ((next : IsNextOf D.Disk c opened store.old store.new (record { txns = txns.old; locks = locks.old }) s st.Commit 0) → IsIdleIn c next.mind s
         → IfOk result (IsTold next (record { txns = txns.new; locks = locks.new }) act.Ask)) }
     // In a World it fails by the disk alone.

@@ -1,6 +1,5 @@
 -- An act that is told to a session is answered by Asked where it asks for a commit alone.
-use Rattle.std.proofs.Common.{◌≡◌, ⊎_elim, ℕ, [], ◌∷◌, ◌++◌, None, Some, true, sym, ◌∙◌, ap, subst, arith}
-use Rattle.std.specs.Prelude.{not}
+use Rattle.std.proofs.Common.{◌≡◌, ⊎_elim, ℕ, [], ◌∷◌, ◌++◌, Some, sym, ◌∙◌, ap, subst, arith}
 use Rattle.ctr_disk.specs.declared.disk.Disk.{Ghosts}
 use Rattle.ctr_types.specs.declared.statement.Statement.{Statement}
 use Rattle.ctr_types.specs.declared.tape.Act.{Act}
@@ -8,7 +7,7 @@ use Rattle.ctr_types.specs.declared.tape.Act.TheVariants as act
 use Rattle.ctr_types.specs.declared.tape.Entry.{Entry}
 use Rattle.ctr_types.specs.declared.tape.Reply.{Reply}
 use Rattle.ctr_types.specs.declared.tape.Reply.TheVariants as reply
-use Rattle.ctr_model.specs.Tape.{goes_on, Allowed, IsNextAct, IsRelease, Legal}
+use Rattle.ctr_model.specs.Tape.{Allowed, IsNextAct, IsRelease, Legal}
 use Rattle.ctr_versions.proofs.Keys.{some_is}
 use Rattle.ctr_store.specs.Store.{View}
 use Rattle.ctr_kept.specs.Turns.{Start, entry_of, point_now, start_point, state_now}
@@ -16,8 +15,7 @@ use Rattle.ctr_txn.specs.Held.{IsOneOfEight}
 use Rattle.ctr_session_world.specs.World.{SessionsHeld}
 use Rattle.ctr_session_world.specs.Told.{IsNextOf, IsTold}
 use Rattle.ctr_exec.proofs.Points.{last_comes}
-use Rattle.ctr_exec.specs.Acting.{number_told}
-use Rattle.ctr_exec.proofs.Replies.{asks_alone, ask_refused}
+use Rattle.ctr_exec.proofs.Replies.{asks_alone}
 
 module _ {D : Type 0} (g : Ghosts D) (c : Start) (opened : D) (a b : View D) (h : SessionsHeld) (s : ℕ) (one : IsOneOfEight s) (statement : Statement) (made : ℕ) (next : IsNextOf g c opened a b h s statement made)
     (now : SessionsHeld) (x : Act) (r : Reply) (told : IsTold next now x r) where
@@ -42,7 +40,3 @@ module _ {D : Type 0} (g : Ghosts D) (c : Start) (opened : D) (a b : View D) (h 
 
   pub not_asked : (x ≡ act.Ask → ⊥) → (k : ℕ) → r ≡ reply.Asked k → ⊥
   not_asked isnt k is = isnt (asks_alone (state_now c next.mind) s x statement k (subst (λ y. Allowed (state_now c next.mind) s x statement y) is allowed))
-
-  -- an Ask that is told no number ends its statement
-  pub ask_ends : x ≡ act.Ask → number_told r ≡ None → not (goes_on r) ≡ true
-  ask_ends is none = ask_refused (state_now c next.mind) s statement r none (subst (λ y. Allowed (state_now c next.mind) s y statement r) is allowed)

@@ -94,13 +94,14 @@ module _ {D : Type 0} (g : Ghosts D) (c : Start) (opened : D) (v : View D) (h no
     are_such = (refl, tt);
     moments = (refl, tt);
     undo = answered.undo;
+    names = λ e there. refl;
   }
 
-answers_append : (xs ys : List Entry) → AreAnswers xs → AreAnswers ys → AreAnswers (xs ++ ys)
+pub answers_append : (xs ys : List Entry) → AreAnswers xs → AreAnswers ys → AreAnswers (xs ++ ys)
 answers_append [] ys first rest = rest
 answers_append (x ∷ xs) ys first rest = (first.0, answers_append xs ys first.1 rest)
 
-moments_append : (n : ℕ) (xs ys : List Entry) → AllByRecursion (λ (e : Entry). e.moment ≡ n) xs → AllByRecursion (λ (e : Entry). e.moment ≡ n) ys → AllByRecursion (λ (e : Entry). e.moment ≡ n) (xs ++ ys)
+pub moments_append : (n : ℕ) (xs ys : List Entry) → AllByRecursion (λ (e : Entry). e.moment ≡ n) xs → AllByRecursion (λ (e : Entry). e.moment ≡ n) ys → AllByRecursion (λ (e : Entry). e.moment ≡ n) (xs ++ ys)
 moments_append n [] ys first rest = rest
 moments_append n (x ∷ xs) ys first rest = (first.0, moments_append n xs ys first.1 rest)
 
@@ -114,6 +115,7 @@ goes_then g c opened v h mid last w before first rest = record {
   are_such = answers_append first.entries rest.entries first.are_such rest.are_such;
   moments = moments_append (g.moment_of v.disk) first.entries rest.entries first.moments rest.moments;
   undo = rest.undo ∙ first.undo;
+  names = λ e there. refl;
 }
 
 -- none is answered
@@ -133,4 +135,5 @@ answers_none g c opened v h w before txns locks same_txns same_locks = record {
   are_such = tt;
   moments = tt;
   undo = refl;
+  names = λ e there. refl;
 }

@@ -1,5 +1,5 @@
 -- Sessions before the first act of a script.
-use Rattle.std.proofs.Common.{◌≡◌, ℕ, suc, ◌-◌, ◌*◌, ◌≤◌, ◌<◌, ◌^◌, false, cond, Bool, List, [], ◌∷◌, length, Option, None, refl, sym, ◌∙◌, ap, subst, arith, get_or}
+use Rattle.std.proofs.Common.{◌≡◌, ℕ, suc, ◌+◌, ◌-◌, ◌*◌, ◌≤◌, ◌<◌, ◌^◌, false, cond, Bool, List, [], ◌∷◌, length, Option, None, refl, sym, ◌∙◌, ap, subst, arith, get_or}
 use Rattle.std.specs.Prelude.{vec_len, vec_capacity}
 use Rattle.std.specs.List.{AllByRecursion, sum_by}
 use Rattle.std.proofs.lemmas.Bool.{false≢true}
@@ -17,6 +17,7 @@ use Rattle.ctr_exec.specs.Acting.{MayAct}
 use Rattle.ctr_exec.specs.Runners.{runner_at, AreRunners, IsUnbegun}
 use Rattle.ctr_exec.specs.Sessions.{AreSeated}
 use Rattle.ctr_exec.proofs.Places.{fresh_at, fresh_left, places_within}
+use Rattle.ctr_exec.proofs.Seats.{between_waits}
 
 -- nobody has room for an item
 sum_none : (os : List (Option TxnHeld)) → ((i : ℕ) → get_or os i None ≡ None) → sum_by item_kept os ≡ 0
@@ -38,7 +39,7 @@ module _ (txns : TxnsHeld) (nobody : (i : ℕ) → get_or txns.sessions i None �
       omega (arith, none, clean)
 
 module _ (h : Sessions) (nobody : (i : ℕ) → get_or h.txns.sessions i None ≡ None) (fresh : AllByRecursion IsUnbegun h.runners.items) (eight : length h.runners.items ≡ 8) (are : AreRunners h.script.lines 1 h.runners.items)
-    (few : length h.script.lines < 2 ^ 32 - 1) (fit : AllByRecursion (λ (l : Line). HasFittingColumns l.statement) h.script.lines) (len : vec_len h.tape ≡ 0) (room : 2 * length h.script.lines ≤ vec_capacity h.tape) where
+    (few : length h.script.lines < 2 ^ 32 - 1) (fit : AllByRecursion (λ (l : Line). HasFittingColumns l.statement) h.script.lines) (len : vec_len h.tape ≡ 0) (room : 2 * length h.script.lines + length h.stuck ≤ vec_capacity h.tape) where
   between : (s : ℕ) → (runner_at s h.runners.items).stage ≡ stage.Between
   between s = (fresh_at h.runners.items (s - 1) fresh).between
 
@@ -50,5 +51,7 @@ module _ (h : Sessions) (nobody : (i : ℕ) → get_or h.txns.sessions i None �
     fit = fit;
     room = let all = fresh_left h.runners.items fresh in let within = places_within h.script.lines 1 h.runners.items are in omega (arith, all, within, len, room);
     asked = λ s one is. absurd (false≢true (sym (ap is_asking (nobody (s - 1))) ∙ is));
+    commits = λ s one is. absurd (cc (between s, is));
+    waits = λ s one is. absurd (between_waits (sym (between s) ∙ is));
     may = λ s statement one there unasked. subst (λ (g : Stage). MayAct g s statement h.txns counted) (sym (between s)) tt;
   }

@@ -1,18 +1,20 @@
 -- A turn of a session that isn't one of its acts, and what an act leaves of the sessions.
 use Rattle.std.proofs.Common.{◌≡◌, inr, ℕ, ◌+◌, ◌≤◌, false, [], Result, Ok, Err, refl, sym, ◌∙◌, ap, subst, arith, ◌-◌, ◌<◌, length}
-use Rattle.std.specs.Prelude.{OnOk, OnErr}
+use Rattle.std.specs.Prelude.{IsTrue, OnOk, OnErr}
 use Rattle.std.proofs.lemmas.List.{append-nil}
 use Rattle.ctr_disk.specs.declared.disk.Disk.{Ghosts}
 use Rattle.ctr_disk.specs.declared.fault.StoreFault.{StoreFault}
 use Rattle.ctr_disk.specs.declared.fault.StoreFault.TheVariants.{Fault}
+use Rattle.ctr_disk.specs.Image.{Image}
+use Rattle.ctr_base.specs.Base.{IsSoundImage}
 use Rattle.ctr_model.specs.Laws.{IsSoundState, LegalStatesAreSound}
-use Rattle.ctr_store.specs.Store.{View, HasTurnRoom, KeepsRoom, turns_for_room}
+use Rattle.ctr_store.specs.Store.{View, HasTurnRoom, KeepsRoom, LeavesPage, turns_for_room}
 use Rattle.ctr_meta.specs.Kept.{TablesKept}
 use Rattle.ctr_kept.specs.Turns.{Start, state_now}
 use Rattle.ctr_kept.specs.Walk.{Mind}
 use Rattle.ctr_txn.specs.Held.{TxnsHeld}
 use Rattle.ctr_txn.specs.Rooms.{HasItemRoom}
-use Rattle.ctr_session_world.specs.World.{InWorld}
+use Rattle.ctr_session_world.specs.World.{InWorld, names_in}
 use Rattle.ctr_session_world.specs.Ready.{StandOver}
 use Rattle.ctr_exec.specs.declared.runners.Runner.{Runner}
 use Rattle.ctr_exec.specs.declared.runners.Stage.TheVariants as stage
@@ -48,8 +50,8 @@ pub shows_behind : {D : Type 0} (g : Ghosts D) (c : Start) (opened : D) (a b : V
 shows_behind g c opened a b h w before world = record { world = world; lines = before.lines; tape = before.tape; stuck = before.stuck; each = before.each }
 
 -- so a turn goes on that tells nothing
-pub goes_quiet : {D : Type 0} (g : Ghosts D) (c : Start) (opened : D) (a b : View D) (h : Sessions) (w : Mind) (s : ℕ) (before : ShowsSessions g c opened a h w) → InWorld g c opened b (held_by h) w → LeadsTo before (AreOfTurn s) b h
-goes_quiet g c opened a b h w s before world = record {
+pub goes_quiet : {D : Type 0} (g : Ghosts D) (c : Start) (opened : D) (a b : View D) (h : Sessions) (w : Mind) (s : ℕ) (before : ShowsSessions g c opened a h w) → b.now ≡ a.now → InWorld g c opened b (held_by h) w → LeadsTo before (AreOfTurn s) b h
+goes_quiet g c opened a b h w s before pages world = record {
   mind = w;
   shows = shows_behind g c opened a b h w before world;
   entries = [];
@@ -57,12 +59,13 @@ goes_quiet g c opened a b h w s before world = record {
   are_such = inr tt;
   moments = tt;
   undo = refl;
+  names = λ e there. (λ i. names_in (pages i) e);
 }
 
 -- and one that answers commits behind it
-pub goes_answered : {D : Type 0} (g : Ghosts D) (c : Start) (opened : D) (a b : View D) (h now : Sessions) (w : Mind) (s : ℕ) (before : ShowsSessions g c opened a h w) (world : InWorld g c opened b (held_by h) w)
+pub goes_answered : {D : Type 0} (g : Ghosts D) (c : Start) (opened : D) (a b : View D) (h now : Sessions) (w : Mind) (s : ℕ) (before : ShowsSessions g c opened a h w) (pages : b.now ≡ a.now) (world : InWorld g c opened b (held_by h) w)
     → LeadsTo (shows_behind g c opened a b h w before world) AreAnswers b now → LeadsTo before (AreOfTurn s) b now
-goes_answered g c opened a b h now w s before world goes = record {
+goes_answered g c opened a b h now w s before pages world goes = record {
   mind = goes.mind;
   shows = goes.shows;
   entries = goes.entries;
@@ -70,7 +73,13 @@ goes_answered g c opened a b h now w s before world goes = record {
   are_such = inr goes.are_such;
   moments = goes.moments;
   undo = goes.undo;
+  names = λ e there. (λ i. names_in (pages i) e);
 }
+
+-- behind a call that logs nothing the pages are as they were
+pub pages_behind : {D T : Type 0} (first : Image) (g : Ghosts D) (a b : View D) (result : Result T StoreFault) → LeavesPage first g a b result → IsTrue g.tells → IsSoundImage first → OnOk result (b.now ≡ a.now)
+pages_behind first g a b (Ok x) leaves tells sound = (leaves.logs tells sound).now
+pages_behind first g a b (Err e) leaves tells sound = tt
 
 -- ---- what a turn did
 
@@ -88,16 +97,16 @@ act_takes g c opened a b h now w s before unasked room (Err e) failed = failed
 
 -- a turn for room
 pub room_takes : {D T : Type 0} (g : Ghosts D) (c : Start) (opened : D) (a b : View D) (h : Sessions) (w : Mind) (s : ℕ) (before : ShowsSessions g c opened a h w) → ((runner_at s h.runners.items).stage ≡ stage.Asked → ⊥) → (HasTurnRoom a → ⊥) → (result : Result T StoreFault)
-    → OnOk result (InWorld g c opened b (held_by h) w) → OnOk result (turns_for_room b ≡ turns_for_room a - 1) → OnErr result (result ≡ Err Fault) → OrFails (TakesTurn before s b h) result
-room_takes g c opened a b h w s before unasked none (Ok x) kept nearer refused =
-    (goes_quiet g c opened a b h w s before kept, record { acts = λ has room. absurd (none room); nearer = λ has n. nearer; answers = λ waits. absurd (unasked waits) })
-room_takes g c opened a b h w s before unasked none (Err e) kept nearer refused = cc refused
+    → OnOk result (b.now ≡ a.now) → OnOk result (InWorld g c opened b (held_by h) w) → OnOk result (turns_for_room b ≡ turns_for_room a - 1) → OnErr result (result ≡ Err Fault) → OrFails (TakesTurn before s b h) result
+room_takes g c opened a b h w s before unasked none (Ok x) pages kept nearer refused =
+    (goes_quiet g c opened a b h w s before pages kept, record { acts = λ has room. absurd (none room); nearer = λ has n. nearer; answers = λ waits. absurd (unasked waits) })
+room_takes g c opened a b h w s before unasked none (Err e) pages kept nearer refused = cc refused
 
 -- a turn of a session that has no statement left
 pub over_takes : {D : Type 0} (g : Ghosts D) (c : Start) (opened : D) (a : View D) (h : Sessions) (w : Mind) (s : ℕ) (before : ShowsSessions g c opened a h w) → length (runner_at s h.runners.items).places ≤ (runner_at s h.runners.items).finished
     → (runner_at s h.runners.items).finished + made_at (runner_at s h.runners.items).stage ≤ length (runner_at s h.runners.items).places → TakesTurn before s a h
 unfolding goes_quiet
-over_takes g c opened a h w s before over within = (goes_quiet g c opened a a h w s before before.world, did (runner_at s h.runners.items) refl over within)
+over_takes g c opened a h w s before over within = (goes_quiet g c opened a a h w s before refl before.world, did (runner_at s h.runners.items) refl over within)
   where
     both : (n f : ℕ) → n ≤ f → f < n → ⊥
     both n f over more = omega (arith, over, more)

@@ -11,3 +11,6 @@ pub mod Fresh
 pub mod Going
 pub mod Beginning
 pub mod Noting
+pub mod Released
+pub mod Ordered
+pub mod Fewer

@@ -14,12 +14,14 @@ use Rattle.ctr_model.specs.declared.state.State.{State}
 use Rattle.ctr_model.specs.declared.state.Transaction.{Transaction}
 use Rattle.ctr_model.specs.declared.tape.Point.{Point}
 use Rattle.ctr_model.specs.declared.tape.Progress.{Progress}
+use Rattle.ctr_model.specs.Refusals.{changes_schema, key_written}
 use Rattle.ctr_model.specs.Reply.{next_state, next_from, next_inside, next_outside, released}
 use Rattle.ctr_model.specs.State.{transaction_of}
 use Rattle.ctr_model.specs.Tape.{acts_of, statement_of, progress_of, goes_on, advanced, Comes, passed_by, passed, final, Legal}
 use Rattle.ctr_model.proofs.Sessions.{find-put-other, find-put-same, find-without-other, find-without-same}
 use Rattle.ctr_versions.proofs.Keys.{some_is}
-use Rattle.ctr_exec.specs.Acting.{ends_statement}
+use Rattle.ctr_looks.specs.Selecting.{IsSelect}
+use Rattle.ctr_exec.specs.Acting.{IsActAt, ends_statement}
 
 -- ---- the last entry of a legal tape
 
@@ -119,6 +121,45 @@ module _ (state : State) (s f : ℕ) where
   ask_goes (st.Select table at_) k at = absurd (cc at)
   ask_goes (st.Update table sets at_) k at = absurd (cc at)
   ask_goes (st.Delete table at_) k at = absurd (cc at)
+
+-- ---- the acts of a kind of statement
+
+pub read_at : (s : ℕ) (statement : Statement) → IsSelect statement → IsActAt s statement 0 act.Read
+read_at s st.Begin is = absurd is
+read_at s st.Commit is = absurd is
+read_at s st.Rollback is = absurd is
+read_at s (st.Create table schema) is = absurd is
+read_at s (st.DropTable table) is = absurd is
+read_at s (st.Insert table values) is = absurd is
+read_at s (st.Select table at_) is = λ state. refl
+read_at s (st.Update table sets at_) is = absurd is
+read_at s (st.Delete table at_) is = absurd is
+
+-- a Lock, and then its Write
+abbrev pub IsLocked : ℕ → Statement → Type 0
+IsLocked s statement = IsActAt s statement 0 act.Lock × IsActAt s statement 1 act.Write
+
+pub row_acts : (s : ℕ) (statement : Statement) → is_some (key_written statement) ≡ true → IsLocked s statement
+row_acts s st.Begin is = absurd (false≢true is)
+row_acts s st.Commit is = absurd (false≢true is)
+row_acts s st.Rollback is = absurd (false≢true is)
+row_acts s (st.Create table schema) is = absurd (false≢true is)
+row_acts s (st.DropTable table) is = absurd (false≢true is)
+row_acts s (st.Insert table values) is = (λ state. refl, λ state. refl)
+row_acts s (st.Select table at_) is = absurd (false≢true is)
+row_acts s (st.Update table sets at_) is = (λ state. refl, λ state. refl)
+row_acts s (st.Delete table at_) is = (λ state. refl, λ state. refl)
+
+pub table_acts : (s : ℕ) (statement : Statement) → changes_schema statement ≡ true → IsLocked s statement
+table_acts s st.Begin is = absurd (false≢true is)
+table_acts s st.Commit is = absurd (false≢true is)
+table_acts s st.Rollback is = absurd (false≢true is)
+table_acts s (st.Create table schema) is = (λ state. refl, λ state. refl)
+table_acts s (st.DropTable table) is = (λ state. refl, λ state. refl)
+table_acts s (st.Insert table values) is = absurd (false≢true is)
+table_acts s (st.Select table at_) is = absurd (false≢true is)
+table_acts s (st.Update table sets at_) is = absurd (false≢true is)
+table_acts s (st.Delete table at_) is = absurd (false≢true is)
 
 -- ---- what a release is
 

@@ -1,6 +1,6 @@
--- What a reply is, by the act that it answers; and the ends of a statement.
-use Rattle.std.proofs.Common.{◌≡◌, ⊎_elim, ℕ, ◌+◌, Bool, true, false, cond, length, Option, Some, None, refl, sym, ◌∙◌, ap}
-use Rattle.std.specs.Prelude.{is_some, not}
+-- What a reply is, by the act that it answers.
+use Rattle.std.proofs.Common.{◌≡◌, ⊎_elim, ℕ, true, false, Option, Some, None, refl, sym, ◌∙◌, ap}
+use Rattle.std.specs.Prelude.{is_some}
 use Rattle.std.proofs.lemmas.Bool.{false≢true}
 use Rattle.ctr_types.specs.declared.statement.Statement.{Statement}
 use Rattle.ctr_types.specs.declared.statement.Statement.TheVariants as st
@@ -15,7 +15,7 @@ use Rattle.ctr_model.specs.Laws.{is_asked}
 use Rattle.ctr_model.specs.Refusals.{key_written, refusal_of, write_refusal}
 use Rattle.ctr_model.specs.Reply.{refused_or, reply_inside, reply_outside, reply_from, reply_to, MayStandFor, IsWantOfRoom}
 use Rattle.ctr_model.specs.State.{transaction_of, view}
-use Rattle.ctr_model.specs.Tape.{goes_on, Allowed}
+use Rattle.ctr_model.specs.Tape.{Allowed}
 use Rattle.ctr_exec.specs.Acting.{number_told, IsIdleFor}
 
 -- ---- which act is answered by Asked
@@ -75,27 +75,6 @@ asks_alone state s x statement k allowed = ⊎_elim
     (λ is. elim (transaction_of state s) as (λ (o : Option Transaction). reply_from state s o x statement ≡ reply.Asked k → x ≡ act.Ask) [ Some t ↦ inside state s t x statement k | None ↦ outside state x k ] (sym is))
     (λ stands. stands_never statement (reply_to state s x (Some statement)) k stands)
     allowed
-
--- an Ask that is told no number doesn't go on
-pub ask_refused : (state : State) (s : ℕ) (statement : Statement) (r : Reply) → number_told r ≡ None → Allowed state s act.Ask statement r → not (goes_on r) ≡ true
-ask_refused state s statement r none allowed = ⊎_elim
-    (λ is. elim (transaction_of state s) as (λ (o : Option Transaction). r ≡ reply_from state s o act.Ask statement → not (goes_on r) ≡ true) [
-      | Some t ↦ λ is. by_writer t.writer is
-      | None ↦ λ is. ap (λ y. not (goes_on y)) is
-    ] is)
-    (λ stands. elim (transaction_of state s) as (λ (o : Option Transaction). MayStandFor statement (reply_from state s o act.Ask statement) r → not (goes_on r) ≡ true) [
-      | Some t ↦ λ stands. none_stands t.writer stands
-      | None ↦ λ stands. absurd stands
-    ] stands)
-    allowed
-  where
-    by_writer : (b : Bool) → r ≡ cond b (reply.Asked (length state.asked + 1)) reply.ReadOnly → not (goes_on r) ≡ true
-    by_writer true is = absurd (false≢true (ap is_some (sym none ∙ ap number_told is)))
-    by_writer false is = ap (λ y. not (goes_on y)) is
-
-    none_stands : (b : Bool) → MayStandFor statement (cond b (reply.Asked (length state.asked + 1)) reply.ReadOnly) r → not (goes_on r) ≡ true
-    none_stands true stands = absurd stands
-    none_stands false stands = absurd stands
 
 -- ---- the number that is told
 

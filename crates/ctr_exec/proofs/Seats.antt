@@ -8,6 +8,7 @@ use Rattle.std.proofs.lemmas.List.Sums.{sum_by-set}
 use Rattle.ctr_types.specs.declared.statement.Line.{Line}
 use Rattle.ctr_types.specs.declared.statement.Script.{Script}
 use Rattle.ctr_types.specs.declared.statement.Statement.{Statement}
+use Rattle.ctr_types.specs.declared.statement.Statement.TheVariants as st
 use Rattle.ctr_model.specs.Tape.{statement_of}
 use Rattle.ctr_versions.proofs.Keys.{known, some_is}
 use Rattle.ctr_txn.specs.declared.txn.Asked.{Asked}
@@ -19,7 +20,7 @@ use Rattle.ctr_looks.specs.ctr_extend.declared.ways.OnWay.TheVariants.{Wanted, T
 use Rattle.ctr_looks.specs.ctr_write.declared.stages.Stage.{Stage as WriteStage}
 use Rattle.ctr_looks.specs.ctr_write.declared.stages.Stage.TheVariants.{Looking, Extending, Kept}
 use Rattle.ctr_looks.specs.ctr_write.Stages.{IsCountedStage}
-use Rattle.ctr_session_world.specs.Ready.{StaysUnasked, is_asking}
+use Rattle.ctr_session_world.specs.Ready.{is_asking}
 use Rattle.ctr_writing.specs.Rows.{MayGoOn}
 use Rattle.ctr_writing.specs.Tables.{HasFittingColumns}
 use Rattle.ctr_exec.specs.declared.acting.Acted.{Acted}
@@ -28,7 +29,7 @@ use Rattle.ctr_exec.specs.declared.runners.Runner.{Runner}
 use Rattle.ctr_exec.specs.declared.runners.Stage.{Stage}
 use Rattle.ctr_exec.specs.declared.runners.Stage.TheVariants as stage
 use Rattle.ctr_exec.specs.declared.sessions.Sessions.{Sessions}
-use Rattle.ctr_exec.specs.Acting.{MayAct, LeavesAct, asks}
+use Rattle.ctr_exec.specs.Acting.{MayAct, LeavesAct, LeavesAsking}
 use Rattle.ctr_exec.specs.Runners.{made_at, finished_with, after_act, vacant, runner_at, acts_left, all_left, IsRunnerOf, AreRunners}
 use Rattle.ctr_exec.specs.Sessions.{AreSeated, HasAct, entries_by, runner_by}
 use Rattle.ctr_exec.proofs.Places.{left_at, places_most, runner_of, runners_set}
@@ -58,7 +59,7 @@ go_on q m n txns now at same more is = (counted_stage at m n more is.0, record {
 pub act_still : (g : Stage) (q m n : ℕ) (statement : Statement) (txns now : TxnsHeld) → txn_of q now ≡ txn_of q txns → m ≤ n → MayAct g q statement txns m → MayAct g q statement now n
 act_still stage.Between q m n statement txns now same more is = is
 act_still (stage.Row e prepared at) q m n statement txns now same more is = (is.0, is.1, go_on q m n txns now at same more is.2)
-act_still (stage.Table write) q m n statement txns now same more is = (is.0, record { t = is.1.t; there = same ∙ is.1.there; kept = is.1.kept })
+act_still (stage.Table write) q m n statement txns now same more is = (is.0, is.1, record { t = is.2.t; there = same ∙ is.2.there; kept = is.2.kept })
 act_still stage.Asked q m n statement txns now same more is = is
 
 -- ---- the sessions, once one of them has another runner
@@ -94,17 +95,34 @@ module _ (h now : Sessions) (m n : ℕ) (seats : AreSeated h m) (s : ℕ) (one :
   pub of_mine : IsRunnerOf h.script.lines s mine
   of_mine = subst (λ n. IsRunnerOf h.script.lines n mine) back (runner_of h.script.lines 1 h.runners.items (s - 1) seats.runners inside)
 
-  left_sum : all_left now.runners.items + acts_left mine ≡ all_left h.runners.items + acts_left x
+  pub left_sum : all_left now.runners.items + acts_left mine ≡ all_left h.runners.items + acts_left x
   left_sum = ap (λ rs. all_left rs + acts_left mine) runners ∙ sum_by-set acts_left h.runners.items (s - 1) x vacant inside
 
   module _ (of : IsRunnerOf h.script.lines s x) (k : ℕ) (fewer : acts_left x + k ≤ acts_left mine) (len : vec_len now.tape ≡ vec_len h.tape + k) (capacity : vec_capacity now.tape ≡ vec_capacity h.tape)
-      (others : (q : ℕ) → 0 < q → (q == s) ≡ false → txn_of q now.txns ≡ txn_of q h.txns) (more : m ≤ n)
-      (asking : is_asking (txn_of s now.txns) ≡ true → x.stage ≡ stage.Asked)
+      (stuck : now.stuck ≡ h.stuck) (others : (q : ℕ) → 0 < q → (q == s) ≡ false → txn_of q now.txns ≡ txn_of q h.txns) (more : m ≤ n)
+      (asking : is_asking (txn_of s now.txns) ≡ true → x.stage ≡ stage.Asked) (waiting : x.stage ≡ stage.Asked → is_asking (txn_of s now.txns) ≡ true)
+      (commits : x.stage ≡ stage.Asked → statement_of h.script.lines s (x.finished + 1) ≡ Some st.Commit)
       (may : (statement : Statement) → statement_of h.script.lines s (x.finished + 1) ≡ Some statement → (x.stage ≡ stage.Asked → ⊥) → MayAct x.stage s statement now.txns n) where
     asked_now : (q : ℕ) → IsOneOfEight q → is_asking (txn_of q now.txns) ≡ true → (runner_at q now.runners.items).stage ≡ stage.Asked
     asked_now q other is = known (q == s)
         (λ same. let at = eqb-true q s same in subst (λ i. (runner_at i now.runners.items).stage ≡ stage.Asked) (sym at) (ap (λ (r : Runner). r.stage) its ∙ asking (subst (λ i. is_asking (txn_of i now.txns) ≡ true) at is)))
         (λ two. ap (λ (r : Runner). r.stage) (theirs q other two) ∙ seats.asked q other (ap is_asking (sym (others q (above q other) two)) ∙ is))
+
+    commits_now : (q : ℕ) → IsOneOfEight q → (runner_at q now.runners.items).stage ≡ stage.Asked → statement_of now.script.lines q ((runner_at q now.runners.items).finished + 1) ≡ Some st.Commit
+    commits_now q other is = ap (λ (sc : Script). statement_of sc.lines q ((runner_at q now.runners.items).finished + 1)) script ∙ known (q == s)
+        (λ same. let at = eqb-true q s same in
+        subst (λ i. statement_of h.script.lines i ((runner_at i now.runners.items).finished + 1) ≡ Some st.Commit) (sym at)
+        (ap (λ (r : Runner). statement_of h.script.lines s (r.finished + 1)) its ∙ commits (ap (λ (r : Runner). r.stage) (sym its) ∙ own at)))
+        (λ two. let r_is = theirs q other two in
+        ap (λ (r : Runner). statement_of h.script.lines q (r.finished + 1)) r_is ∙ seats.commits q other (ap (λ (r : Runner). r.stage) (sym r_is) ∙ is))
+      where
+        own : q ≡ s → (runner_at s now.runners.items).stage ≡ stage.Asked
+        own at = subst (λ i. (runner_at i now.runners.items).stage ≡ stage.Asked) at is
+
+    waits_now : (q : ℕ) → IsOneOfEight q → (runner_at q now.runners.items).stage ≡ stage.Asked → is_asking (txn_of q now.txns) ≡ true
+    waits_now q other is = known (q == s)
+        (λ same. let at = eqb-true q s same in subst (λ i. is_asking (txn_of i now.txns) ≡ true) (sym at) (waiting (ap (λ (r : Runner). r.stage) (sym its) ∙ subst (λ i. (runner_at i now.runners.items).stage ≡ stage.Asked) at is)))
+        (λ two. ap is_asking (others q (above q other) two) ∙ seats.waits q other (ap (λ (r : Runner). r.stage) (sym (theirs q other two)) ∙ is))
 
     may_now : (q : ℕ) (statement : Statement) → IsOneOfEight q → statement_of now.script.lines q ((runner_at q now.runners.items).finished + 1) ≡ Some statement → ((runner_at q now.runners.items).stage ≡ stage.Asked → ⊥)
         → MayAct (runner_at q now.runners.items).stage q statement now.txns n
@@ -129,8 +147,10 @@ module _ (h now : Sessions) (m n : ℕ) (seats : AreSeated h m) (s : ℕ) (one :
       runners = subst (λ (sc : Script). AreRunners sc.lines 1 now.runners.items) (sym script)
           (subst (AreRunners h.script.lines 1) (sym runners) (runners_set h.script.lines 1 h.runners.items (s - 1) x seats.runners inside (subst (λ i. IsRunnerOf h.script.lines i x) (sym back) of)));
       fit = subst (λ (sc : Script). AllByRecursion (λ (l : Line). HasFittingColumns l.statement) sc.lines) (sym script) seats.fit;
-      room = let sum = left_sum in let old = seats.room in omega (arith, sum, old, fewer, len, capacity);
+      room = let sum = left_sum in let old = seats.room in let held = ap length stuck in omega (arith, sum, old, fewer, len, capacity, held);
       asked = asked_now;
+      commits = commits_now;
+      waits = waits_now;
       may = may_now;
     }
 
@@ -196,7 +216,7 @@ passes (acted.Granted at) s moment statement txns n mine more leaves = let none 
   within = omega (arith, more, made, same);
   fewer = omega (arith, more, none, made, same);
 }
-passes (acted.Asked k) s moment statement txns n mine more leaves = record { within = omega (arith, more); fewer = omega (arith, more, leaves) }
+passes (acted.Asked k) s moment statement txns n mine more leaves = let none = leaves.0 in record { within = omega (arith, more); fewer = omega (arith, more, none) }
 passes (acted.Ended x r) s moment statement txns n mine more leaves = let most = made_most mine.stage in record { within = omega (arith, more); fewer = omega (arith, more, most) }
 
 pub runner_places : (l : Acted) (r : Runner) → (runner_by l r).places ≡ r.places
@@ -215,15 +235,34 @@ may_then (acted.Asked k) lines s statement txns n r here leaves other is unasked
 may_then (acted.Ended x y) lines s statement txns n r here leaves other is unasked = tt
 
 -- and who has asked then waits
-pub asking_then : (l : Acted) (s : ℕ) (txns now : TxnsHeld) (r : Runner) → is_asking (txn_of s txns) ≡ false → (asks l ≡ false → StaysUnasked s txns now) → is_asking (txn_of s now) ≡ true → (runner_by l r).stage ≡ stage.Asked
-asking_then (acted.On at) s txns now r unasked stays is = absurd (false≢true (sym (stays refl unasked) ∙ is))
-asking_then (acted.Granted at) s txns now r unasked stays is = absurd (false≢true (sym (stays refl unasked) ∙ is))
+pub asking_then : (l : Acted) (s : ℕ) (txns now : TxnsHeld) (r : Runner) → is_asking (txn_of s txns) ≡ false → LeavesAsking s txns now l → is_asking (txn_of s now) ≡ true → (runner_by l r).stage ≡ stage.Asked
+asking_then (acted.On at) s txns now r unasked stays is = absurd (false≢true (sym (stays unasked) ∙ is))
+asking_then (acted.Granted at) s txns now r unasked stays is = absurd (false≢true (sym (stays unasked) ∙ is))
 asking_then (acted.Asked k) s txns now r unasked stays is = refl
-asking_then (acted.Ended x y) s txns now r unasked stays is = absurd (false≢true (sym (stays refl unasked) ∙ is))
+asking_then (acted.Ended x y) s txns now r unasked stays is = absurd (false≢true (sym (stays unasked) ∙ is))
+
+-- between two statements nobody waits
+pub between_waits : stage.Between ≡ stage.Asked → ⊥
+between_waits is = cc
+
+-- as who waits then has asked: in the middle of an act that goes on, or was granted, nobody waits
+pub waiting_then : (l : Acted) (s : ℕ) (statement : Statement) (txns now : TxnsHeld) (n : ℕ) (r : Runner) → LeavesAct r.stage s statement now n l → LeavesAsking s txns now l → (runner_by l r).stage ≡ stage.Asked → is_asking (txn_of s now) ≡ true
+waiting_then (acted.On at) s statement txns now n r leaves stays is = absurd (subst (λ (z : Stage). MayAct z s statement now n) is leaves.1)
+waiting_then (acted.Granted at) s statement txns now n r leaves stays is = absurd (subst (λ (z : Stage). MayAct z s statement now n) is leaves.2)
+waiting_then (acted.Asked k) s statement txns now n r leaves asks is = asks
+waiting_then (acted.Ended x y) s statement txns now n r leaves stays is = absurd (between_waits is)
 
 -- who has an act of its own next hasn't asked
 pub unasked_before : (h : Sessions) (m s : ℕ) → AreSeated h m → IsOneOfEight s → HasAct h s → is_asking (txn_of s h.txns) ≡ false
 unasked_before h m s seats one has = known (is_asking (txn_of s h.txns)) (λ yes_. absurd (has.unasked (seats.asked s one yes_))) (λ no_. no_)
+
+-- and who waits then is at a COMMIT
+pub commits_then : (l : Acted) (lines : List Line) (s : ℕ) (statement : Statement) (txns : TxnsHeld) (n : ℕ) (r : Runner) → statement_of lines s (r.finished + 1) ≡ Some statement → LeavesAct r.stage s statement txns n l
+    → (runner_by l r).stage ≡ stage.Asked → statement_of lines s ((runner_by l r).finished + 1) ≡ Some st.Commit
+commits_then (acted.On at) lines s statement txns n r here leaves is = absurd (subst (λ (g : Stage). MayAct g s statement txns n) is leaves.1)
+commits_then (acted.Granted at) lines s statement txns n r here leaves is = absurd (subst (λ (g : Stage). MayAct g s statement txns n) is leaves.2)
+commits_then (acted.Asked k) lines s statement txns n r here leaves is = here ∙ ap Some leaves.1
+commits_then (acted.Ended x y) lines s statement txns n r here leaves is = absurd (cc is)
 
 -- ---- a runner whose stage is taken out
 
@@ -247,10 +286,10 @@ entries_taken (acted.Ended x y) s moment r = refl
 -- ---- the sessions behind a turn of an act
 
 module _ (h now : Sessions) (m n : ℕ) (seats : AreSeated h m) (s : ℕ) (one : IsOneOfEight s) (has : HasAct h s) (statement : Statement) (here : statement_of h.script.lines s ((runner_at s h.runners.items).finished + 1) ≡ Some statement)
-    (l : Acted) (moment : ℕ) (leaves : LeavesAct (runner_at s h.runners.items).stage s statement now.txns n l) (script : now.script ≡ h.script)
+    (l : Acted) (moment : ℕ) (leaves : LeavesAct (runner_at s h.runners.items).stage s statement now.txns n l) (script : now.script ≡ h.script) (stuck : now.stuck ≡ h.stuck)
     (runners : now.runners.items ≡ slice_set h.runners.items (s - 1) (runner_by l (runner_at s h.runners.items)))
     (len : vec_len now.tape ≡ vec_len h.tape + length (entries_by s (runner_at s h.runners.items) moment l)) (capacity : vec_capacity now.tape ≡ vec_capacity h.tape)
-    (others : (q : ℕ) → 0 < q → (q == s) ≡ false → txn_of q now.txns ≡ txn_of q h.txns) (more : m ≤ n) (unasked : asks l ≡ false → StaysUnasked s h.txns now.txns) where
+    (others : (q : ℕ) → 0 < q → (q == s) ≡ false → txn_of q now.txns ≡ txn_of q h.txns) (more : m ≤ n) (asking : LeavesAsking s h.txns now.txns l) where
   abbrev me : Runner
   me = runner_at s h.runners.items
 
@@ -264,20 +303,22 @@ module _ (h now : Sessions) (m n : ℕ) (seats : AreSeated h m) (s : ℕ) (one :
   seats_told =
       let passed = passes l s moment statement now.txns n me has.more leaves in
       seated_now h now m n seats s one x script runners (record { places = runner_places l me ∙ its_lines.places; within = subst (λ k. x.finished + made_at x.stage ≤ k) (sym (ap length (runner_places l me))) passed.within })
-      (length (entries_by s me moment l)) passed.fewer len capacity others more
-      (asking_then l s h.txns now.txns me (unasked_before h m s seats one has) unasked)
+      (length (entries_by s me moment l)) passed.fewer len capacity stuck others more
+      (asking_then l s h.txns now.txns me (unasked_before h m s seats one has) asking)
+      (waiting_then l s statement h.txns now.txns n me leaves asking)
+      (commits_then l h.script.lines s statement now.txns n me here leaves)
       (may_then l h.script.lines s statement now.txns n me here leaves)
 
 -- ---- a commit that is answered
 
 module _ (h : Sessions) (m : ℕ) (seats : AreSeated h m) (s : ℕ) (asked : Asked) (after : TxnsHeld) (next : AnswersNext s asked h.txns after) where
-  waits : (runner_at s h.runners.items).stage ≡ stage.Asked
+  pub waits : (runner_at s h.runners.items).stage ≡ stage.Asked
   waits = seats.asked s next.one (ap is_asking next.there ∙ ap is_some next.is_asked)
 
   runner : IsRunnerOf h.script.lines s (runner_at s h.runners.items)
   runner = runner_here h m seats s next.one
 
-  one_made : made_at (runner_at s h.runners.items).stage ≡ 1
+  pub one_made : made_at (runner_at s h.runners.items).stage ≡ 1
   one_made = ap made_at waits
 
   unfinished : (runner_at s h.runners.items).finished < length (runner_at s h.runners.items).places
@@ -296,17 +337,29 @@ module _ (h : Sessions) (m : ℕ) (seats : AreSeated h m) (s : ℕ) (asked : Ask
       is : (q s : ℕ) → 0 < q → 1 ≤ s → q - 1 ≡ s - 1 → q ≡ s
       is q s some low same = omega (arith, some, low, same)
 
-  pub answered_seats : (now : Sessions) → now.script ≡ h.script → now.txns ≡ after → now.runners.items ≡ slice_set h.runners.items (s - 1) (after_act stage.Between (runner_at s h.runners.items))
+  pub answered_fewer : (now : Sessions) → now.script ≡ h.script → now.runners.items ≡ slice_set h.runners.items (s - 1) (after_act stage.Between (runner_at s h.runners.items)) → all_left now.runners.items < all_left h.runners.items
+  answered_fewer now script runners =
+      let sum = left_sum h now m m seats s next.one (after_act stage.Between (runner_at s h.runners.items)) script runners in
+      let more = unfinished in
+      let made = one_made in
+      less (all_left now.runners.items) (all_left h.runners.items) (acts_left (after_act stage.Between (runner_at s h.runners.items))) (acts_left (runner_at s h.runners.items)) sum (omega (arith, more, made))
+    where
+      less : (now was then mine : ℕ) → now + mine ≡ was + then → then < mine → now < was
+      less now was then mine sum few = omega (arith, sum, few)
+
+  pub answered_seats : (now : Sessions) → now.script ≡ h.script → now.stuck ≡ h.stuck → now.txns ≡ after → now.runners.items ≡ slice_set h.runners.items (s - 1) (after_act stage.Between (runner_at s h.runners.items))
       → vec_len now.tape ≡ vec_len h.tape + 1 → vec_capacity now.tape ≡ vec_capacity h.tape → AreSeated now m
-  answered_seats now script txns runners len capacity =
+  answered_seats now script stuck txns runners len capacity =
       let r = runner_at s h.runners.items in
       let more = unfinished in
       let made = one_made in
       let same_most = at_once m in
       seated_now h now m m seats s next.one (after_act stage.Between r) script runners
-      (record { places = runner.places; within = omega (arith, more) }) 1 (omega (arith, more, made)) len capacity
+      (record { places = runner.places; within = omega (arith, more) }) 1 (omega (arith, more, made)) len capacity stuck
       (λ q some two. ap (λ (t : TxnsHeld). txn_of q t) txns ∙ still q some two) same_most
       (λ is. absurd (false≢true (sym (ap is_asking gone) ∙ ap (λ (t : TxnsHeld). is_asking (txn_of s t)) (sym txns) ∙ is)))
+      (λ is. absurd (between_waits is))
+      (λ is. absurd (between_waits is))
       (λ statement there unasked. tt)
     where
       at_once : (n : ℕ) → n ≤ n

@@ -26,7 +26,7 @@ use Rattle.ctr_exec.specs.declared.runners.Runner.{Runner}
 use Rattle.ctr_exec.specs.declared.runners.Stage.{Stage}
 use Rattle.ctr_exec.specs.declared.runners.Stage.TheVariants as stage
 use Rattle.ctr_exec.specs.declared.sessions.Sessions.{Sessions}
-use Rattle.ctr_exec.specs.Acting.{IsMidway, LeavesAct, TurnOfAct}
+use Rattle.ctr_exec.specs.Acting.{IsMidway, LeavesAct, TurnOfAct, WentByAct}
 use Rattle.ctr_exec.specs.Runners.{made_at, finished_with, after_act, runner_at}
 use Rattle.ctr_exec.specs.Sessions.{TakesAct, AreSeated, IsSeatedAt, ShowsSessions, LeadsTo, AreOfTurn, held_by, noted, entries_by, runner_by}
 use Rattle.ctr_exec.proofs.Points.{act_ends, lock_goes, ask_goes}
@@ -103,6 +103,7 @@ module _ {D : Type 0} (g : Ghosts D) (c : Start) (opened : D) (a b : View D) (h 
         are_such = inr tt;
         moments = tt;
         undo = kept.undo;
+        names = kept.names;
       }
 
     -- ---- an act is told
@@ -127,6 +128,7 @@ module _ {D : Type 0} (g : Ghosts D) (c : Start) (opened : D) (a b : View D) (h 
             are_such = inl (one_at_most, (refl, tt));
             moments = (refl, tt);
             undo = told.undo;
+            names = told.names;
           },
           inl refl,
         )
@@ -139,24 +141,24 @@ module _ {D : Type 0} (g : Ghosts D) (c : Start) (opened : D) (a b : View D) (h 
     none_made : made_at mine.stage ≡ 0 → (acts : List Act) (x : Act) → slice_get acts (made_at mine.stage) ≡ Some x → slice_get acts 0 ≡ Some x
     none_made none acts x is = subst (λ i. slice_get acts i ≡ Some x) none is
 
-    pub turned : (l : Acted) (txns : TxnsHeld) → LeavesAct mine.stage s statement txns n l → TurnOfAct next (held_by now) (Ok l) → now.runners.items ≡ slice_set h.runners.items (s - 1) (runner_by l mine)
+    pub turned : (l : Acted) (txns : TxnsHeld) → LeavesAct mine.stage s statement txns n l → WentByAct a b l → TurnOfAct next (held_by now) (Ok l) → now.runners.items ≡ slice_set h.runners.items (s - 1) (runner_by l mine)
         → now.tape.items ≡ h.tape.items ++ entries_by s mine (g.moment_of b.disk) l → TakesAct before s b now
-    turned (acted.On at) txns leaves turn runners tape = (goes_on turn.0 at leaves.0 turn.1 runners (tape ∙ append-nil h.tape.items), inr turn.2)
-    turned (acted.Granted at) txns leaves turn runners tape =
+    turned (acted.On at) txns leaves went turn runners tape = (goes_on turn.0 at leaves.0 turn.1 runners (tape ∙ append-nil h.tape.items), inr went)
+    turned (acted.Granted at) txns leaves went turn runners tape =
         goes_told act.Lock reply.Granted turn.0 at
         (ap (λ k. advanced (acts_of (state_now c w) s statement) reply.Granted (record { finished = mine.finished; made = k })) leaves.0
         ∙ lock_goes (state_now c w) s mine.finished statement (none_made leaves.0 (acts_of (state_now c w) s statement) act.Lock (acts act.Lock reply.Granted turn.0))
         ∙ (λ i. record { finished = sym (goes_with at mine.finished leaves.1) i; made = sym leaves.1 i }))
         (λ other is. subst (λ z. IsMidway c s z turn.0.mind at) (some_is statement other (sym there ∙ ap (λ f. statement_of c.lines s (f + 1)) (sym (goes_with at mine.finished leaves.1)) ∙ is)) turn.1)
         runners tape
-    turned (acted.Asked k) txns leaves turn runners tape =
+    turned (acted.Asked k) txns leaves went turn runners tape =
         goes_told act.Ask (reply.Asked k) turn stage.Asked
-        (ap (λ i. advanced (acts_of (state_now c w) s statement) (reply.Asked k) (record { finished = mine.finished; made = i })) leaves
-        ∙ ask_goes (state_now c w) s mine.finished statement k (none_made leaves (acts_of (state_now c w) s statement) act.Ask (acts act.Ask (reply.Asked k) turn)))
+        (ap (λ i. advanced (acts_of (state_now c w) s statement) (reply.Asked k) (record { finished = mine.finished; made = i })) leaves.0
+        ∙ ask_goes (state_now c w) s mine.finished statement k (none_made leaves.0 (acts_of (state_now c w) s statement) act.Ask (acts act.Ask (reply.Asked k) turn)))
         (λ other is. tt)
         runners tape
-    turned (acted.Ended x r) txns leaves turn runners tape =
-        goes_told x r turn.1 stage.Between
-        (act_ends (state_now c w) s mine.finished statement x r (made_at mine.stage) (acts x r turn.1) turn.0)
-        (λ other is. idle_for other turn.2)
+    turned (acted.Ended x r) txns leaves went turn runners tape =
+        goes_told x r turn.0 stage.Between
+        (act_ends (state_now c w) s mine.finished statement x r (made_at mine.stage) (acts x r turn.0) leaves.1)
+        (λ other is. idle_for other turn.1)
         runners tape

@@ -1,3 +1,4 @@
 pub mod Runners
 pub mod Acting
 pub mod Sessions
+pub mod Order

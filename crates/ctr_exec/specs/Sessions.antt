@@ -1,11 +1,12 @@
 -- The sessions of a script in a World.
-use Rattle.std.specs.Prelude.{◌≡◌, ◌⊎◌, ℕ, ◌+◌, ◌≤◌, ◌<◌, ◌-◌, ◌^◌, true, false, List, [], ◌∷◌, ◌++◌, length, None, Some, Result, Ok, Err, vec_len, vec_capacity}
+use Rattle.std.specs.Prelude.{◌≡◌, ◌⊎◌, ℕ, ◌+◌, ◌≤◌, ◌<◌, ◌-◌, ◌*◌, ◌^◌, true, false, List, [], ◌∷◌, ◌++◌, length, None, Some, Result, Ok, Err, vec_len, vec_capacity}
 use Rattle.std.specs.List.{AllByRecursion}
 use Rattle.ctr_disk.specs.declared.disk.Disk.{Ghosts}
 use Rattle.ctr_disk.specs.declared.fault.StoreFault.{StoreFault}
 use Rattle.ctr_disk.specs.declared.fault.StoreFault.TheVariants.{Fault}
 use Rattle.ctr_types.specs.declared.statement.Line.{Line}
 use Rattle.ctr_types.specs.declared.statement.Statement.{Statement}
+use Rattle.ctr_types.specs.declared.statement.Statement.TheVariants as st
 use Rattle.ctr_types.specs.declared.tape.Act.{Act}
 use Rattle.ctr_types.specs.declared.tape.Act.TheVariants as act
 use Rattle.ctr_types.specs.declared.tape.Entry.{Entry}
@@ -13,14 +14,16 @@ use Rattle.ctr_types.specs.declared.tape.Reply.{Reply}
 use Rattle.ctr_types.specs.declared.tape.Reply.TheVariants as reply
 use Rattle.ctr_types.specs.declared.tape.Turn.{Turn}
 use Rattle.ctr_types.specs.declared.tape.Turn.TheVariants as turn
+use Rattle.ctr_model.specs.Reply.{without_name}
 use Rattle.ctr_model.specs.Tape.{progress_of, statement_of}
+use Rattle.ctr_base.specs.declared.growing.TheConstants.{MOST_PAGES}
 use Rattle.ctr_store.specs.Store.{View, HasTurnRoom, turns_for_room}
-use Rattle.ctr_kept.specs.Turns.{Start, point_now, state_now}
+use Rattle.ctr_kept.specs.Turns.{Start, point_now, release_entry, state_now}
 use Rattle.ctr_kept.specs.Walk.{Mind}
 use Rattle.ctr_meta.specs.Kept.{TablesKept}
 use Rattle.ctr_txn.specs.Held.{IsOneOfEight, txn_of}
 use Rattle.ctr_txn.specs.Rooms.{HasItemRoom}
-use Rattle.ctr_session_world.specs.World.{SessionsHeld, InWorld}
+use Rattle.ctr_session_world.specs.World.{SessionsHeld, InWorld, NamesStay}
 use Rattle.ctr_session_world.specs.Ready.{StandOver, is_asking}
 use Rattle.ctr_writing.specs.Rows.{WentOn}
 use Rattle.ctr_writing.specs.Tables.{HasFittingColumns}
@@ -35,15 +38,20 @@ use Rattle.ctr_exec.specs.Runners.{made_at, after_act, runner_at, all_left, AreR
 -- ---- whatever the disk tells
 
 -- Each session is at one of its lines or behind the last, and may take its next turn; who has asked
--- for a commit waits for its answer. The tape has room for all acts that are left.
+-- for a commit, and nobody else, waits for its answer, at a COMMIT. The tape has room for all acts
+-- that are left, and for the release of each name that recovery holds.
 pub record AreSeated (h : Sessions) (counted : ℕ) : Type 0 where
   pub eight : length h.runners.items ≡ 8
   pub few : length h.script.lines < 2 ^ 32 - 1
   pub runners : AreRunners h.script.lines 1 h.runners.items
   pub fit : AllByRecursion (λ (l : Line). HasFittingColumns l.statement) h.script.lines
-  pub room : vec_len h.tape + all_left h.runners.items ≤ vec_capacity h.tape
+  pub room : vec_len h.tape + all_left h.runners.items + length h.stuck ≤ vec_capacity h.tape
   pub asked : (s : ℕ) → IsOneOfEight s → is_asking (txn_of s h.txns) ≡ true
       → (runner_at s h.runners.items).stage ≡ stage.Asked
+  pub commits : (s : ℕ) → IsOneOfEight s → (runner_at s h.runners.items).stage ≡ stage.Asked
+      → statement_of h.script.lines s ((runner_at s h.runners.items).finished + 1) ≡ Some st.Commit
+  pub waits : (s : ℕ) → IsOneOfEight s → (runner_at s h.runners.items).stage ≡ stage.Asked
+      → is_asking (txn_of s h.txns) ≡ true
   pub may : (s : ℕ) (statement : Statement) → IsOneOfEight s
       → statement_of h.script.lines s ((runner_at s h.runners.items).finished + 1) ≡ Some statement
       → ((runner_at s h.runners.items).stage ≡ stage.Asked → ⊥)
@@ -78,6 +86,15 @@ IsOverWhere turn.Idle runner = ⊥
 IsOverWhere turn.Short runner = ⊥
 IsOverWhere turn.Stopped runner = ⊥
 
+-- A number that falls at each turn of a session that isn't over: the acts that are left; for each of
+-- them the numbers that are left for records; for each of those the pages that may be counted more;
+-- and for each of these the turns for room.
+unfoldable pub turns_left : {D : Type 0} → Sessions → View D → ℕ
+turns_left h v =
+    ((all_left h.runners.items * 2 ^ 64 + (2 ^ 63 - v.next)) * 2 ^ 15 + (MOST_PAGES - v.now.counted))
+    * 4
+    + turns_for_room v
+
 -- Nobody has begun: no session is in a transaction, none has a lock, none has told an act.
 pub record AreFresh (h : Sessions) : Type 0 where
   pub nobody : (s : ℕ) → txn_of s h.txns ≡ None
@@ -87,6 +104,15 @@ pub record AreFresh (h : Sessions) : Type 0 where
   pub tape : h.tape.items ≡ []
   pub unbegun : AllByRecursion IsUnbegun h.runners.items
   pub room : (k : TablesKept) → HasItemRoom h.txns k
+
+-- ---- recovery
+
+-- Recovery has released a name: the tape says so, at this moment, and the name is no longer held.
+-- Nothing else changes.
+pub record IsReleased (name : List ℕ) (moment : ℕ) (h now : Sessions) : Type 0 where
+  pub same : now ≡ record h { tape = now.tape; stuck = now.stuck }
+  pub tape : now.tape.items ≡ h.tape.items ++ release_entry name moment ∷ []
+  pub stuck : now.stuck ≡ without_name name h.stuck
 
 -- ---- an act that is told
 
@@ -148,7 +174,7 @@ AreOfTurn s es = ((length es ≤ 1) × AllByRecursion (λ (e : Entry). e.session
     ⊎ AreAnswers es
 
 -- A turn leaves a World of these sessions, whose tape goes on by such entries, each at the moment
--- at which the turn ends; undo's list is as it was.
+-- at which the turn ends; undo's list, and the names of entries that were taken, are as they were.
 pub record LeadsTo {D : Type 0} {g : Ghosts D} {c : Start} {opened : D} {a : View D} {h : Sessions}
     {w : Mind} (before : ShowsSessions g c opened a h w) (such : List Entry → Type 0) (b : View D)
     (now : Sessions) : Type 0 where
@@ -159,6 +185,7 @@ pub record LeadsTo {D : Type 0} {g : Ghosts D} {c : Start} {opened : D} {a : Vie
   pub are_such : such entries
   pub moments : AllByRecursion (λ (e : Entry). e.moment ≡ g.moment_of b.disk) entries
   pub undo : mind.undo ≡ w.undo
+  pub names : NamesStay a.now b.now
 
 -- What a turn of a session did, by how the session was. Where it has an act of its own and there is
 -- room, an act is told, or one goes on. Where there is no room, it has come nearer by a turn. Where

@@ -3,6 +3,7 @@
 
 mod acting;
 mod laws;
+mod releasing;
 mod runners;
 mod sessions;
 

@@ -1,9 +1,10 @@
 // One turn of a session.
-ghost use Rattle.std.specs.Prelude.{◌≡◌, ◌≤◌, ◌<◌, ◌+◌, ◌-◌, ◌^◌, ◌++◌, ◌∷◌, [], ℕ, true, false, length, Some, IfOk, OnOk, vec_len, vec_capacity, slice_get, slice_set};
+ghost use Rattle.std.specs.Prelude.{◌≡◌, ◌⊎◌, ◌≤◌, ◌<◌, ◌+◌, ◌-◌, ◌^◌, ◌++◌, ◌∷◌, [], ℕ, true, false, length, Some, IfOk, OnOk, vec_len, vec_capacity, slice_get, slice_set};
 ghost use Rattle.std.specs.List.{AllByRecursion};
 ghost use Rattle.ctr_disk.specs.declared.fault.StoreFault.TheVariants.{Fault};
 ghost use Rattle.ctr_types.specs.Faults.{HasFault};
 ghost use Rattle.ctr_types.specs.declared.statement.Line.{Line as LineIs};
+ghost use Rattle.ctr_types.specs.declared.tape.Turn.TheVariants as turns;
 ghost use Rattle.ctr_base.specs.Base.{WhereSound};
 ghost use Rattle.ctr_store.specs.Store.{HasTurnRoom};
 ghost use Rattle.ctr_kept.specs.Turns.{Start};
@@ -11,8 +12,9 @@ ghost use Rattle.ctr_kept.specs.Walk.{Mind};
 ghost use Rattle.ctr_session_world.specs.Ready.{StandOver, TakesTime};
 ghost use Rattle.ctr_writing.specs.Tables.{HasFittingColumns};
 ghost use Rattle.ctr_exec.specs.declared.runners.Stage.TheVariants as stages;
-ghost use Rattle.ctr_exec.specs.Runners.{runner_at, after_act, IsNextLine, IsRunnerOf};
-ghost use Rattle.ctr_exec.specs.Sessions.{AreSeated, AreFresh, HasAct, IsOverWhere, MayGo, LeavesSeats, ShowsSessions, LeadsTo, OrFails, TakesAct, TakesTurn, AreAnswers, AreOfTurn, noted, entries_by, runner_by};
+ghost use Rattle.ctr_exec.specs.Order.{Adds, AddsOrFails, IsOrdered};
+ghost use Rattle.ctr_exec.specs.Runners.{runner_at, after_act, all_left, IsNextLine, IsRunnerOf};
+ghost use Rattle.ctr_exec.specs.Sessions.{AreSeated, AreFresh, HasAct, IsOverWhere, MayGo, LeavesSeats, ShowsSessions, LeadsTo, OrFails, TakesAct, TakesTurn, AreAnswers, AreOfTurn, noted, entries_by, runner_by, turns_left};
 
 use crate::acting::{Acted, act};
 use crate::runners::{Runner, Stage, runners};
@@ -42,7 +44,7 @@ pub struct Sessions {
     pub script: Script,
     /// A runner for each of the sessions, from 1 on.
     pub runners: Vec<Runner>,
-    /// Room for two entries of each line was taken.
+    /// Room for two entries of each line was taken, and for one of each name that recovery held.
     pub tape: Vec<Entry>,
 }
 
@@ -80,10 +82,12 @@ impl Sessions {
         ensures seats { IfOk result (λ h. (counted : ℕ) → AreSeated h counted) }
         ensures fresh { IfOk result AreFresh }
         ensures is { IfOk result (λ h. (h.txns.numbers.next ≡ next) × (h.stuck ≡ stuck) × (h.script ≡ script)) }
+        // Its tape has no entry, so it stands in order from any moment on.
+        ensures ordered { IfOk result (λ h. (start now : ℕ) → start ≤ now → IsOrdered start now h) }
     {
         let txns = Txns::new(alloc, next)?;
         let runners = runners(alloc, script.lines.as_slice())?;
-        let tape = Vec::with_capacity(alloc, 2 * script.lines.len())?;
+        let tape = Vec::with_capacity(alloc, 2 * script.lines.len() + stuck.as_slice().len())?;
         Ok(Sessions {
             txns,
             locks: KeyLocks::new(alloc),
@@ -191,10 +195,11 @@ impl Sessions {
         requires seats { AreSeated self.old store.now.now.counted }
         ensures seats { AreSeated self.new store.now.now.counted }
         ensures over { StandOver self.old.txns store.now → StandOver self.new.txns store.now }
-        ensures none { result ≡ false → store.now.waiting ≡ [] → self.new.txns.answered ≡ length self.new.txns.numbers.commits }
-        ensures fewer { result ≡ true → length self.new.txns.numbers.commits - self.new.txns.answered < length self.old.txns.numbers.commits - self.old.txns.answered }
+        ensures none { result ≡ false → (self.new.runners.items ≡ self.old.runners.items) × (store.now.waiting ≡ [] → self.new.txns.answered ≡ length self.new.txns.numbers.commits) }
+        ensures fewer { result ≡ true → all_left self.new.runners.items < all_left self.old.runners.items }
         ensures told { (c : Start) (opened : D) (w : Mind) → WhereSound O.first D.Disk (store.now.stopped ≡ false
             → (before : ShowsSessions D.Disk c opened store.now self.old w) → LeadsTo before AreAnswers store.now self.new) }
+        ensures adds { (before : ℕ) → before ≤ D.moment_of store.now.disk → Adds AreAnswers before (D.moment_of store.now.disk) self.old self.new }
     {
         legal_states_are_sound();
         snapshots_stay();
@@ -216,9 +221,13 @@ impl Sessions {
         ensures seats { AreSeated self.new store.now.now.counted }
         ensures over { StandOver self.old.txns store.now → StandOver self.new.txns store.now }
         ensures all { store.now.waiting ≡ [] → self.new.txns.answered ≡ length self.new.txns.numbers.commits }
+        // Where one is, fewer acts are left.
+        ensures fewer { (self.new.runners.items ≡ self.old.runners.items) ⊎ (all_left self.new.runners.items < all_left self.old.runners.items) }
         // In a World it is told so.
         ensures told { (c : Start) (opened : D) (w : Mind) → WhereSound O.first D.Disk (store.now.stopped ≡ false
             → (before : ShowsSessions D.Disk c opened store.now self.old w) → LeadsTo before AreAnswers store.now self.new) }
+        // Whatever the disk tells, it adds answers to the tape and nothing else, each the next act of its session.
+        ensures adds { (before : ℕ) → before ≤ D.moment_of store.now.disk → Adds AreAnswers before (D.moment_of store.now.disk) self.old self.new }
     {
         if self.answer_next(store) {
             self.answer(store);
@@ -236,10 +245,12 @@ impl Sessions {
         requires go { MayGo s self.old store.old × HasTurnRoom store.old }
         requires more { HasAct self.old s }
         ensures leaves { OnOk result (LeavesSeats self.new store.old store.new) }
+        ensures fewer { OnOk result (turns_left self.new store.new < turns_left self.old store.old) }
         ensures told { (c : Start) (opened : D) (w : Mind) → WhereSound O.first D.Disk ((before : ShowsSessions D.Disk c opened store.old self.old w) → OrFails (TakesAct before s store.new self.new) result) }
         ensures steps { steps.new ≤ steps.old + 2 }
         ensures faults { HasFault Fault (D.faults_of store.old.disk) (D.faults_of store.new.disk) result }
         ensures time { TakesTime D.Disk store.old store.new }
+        ensures adds { AddsOrFails (AreOfTurn s) (D.moment_of store.old.disk) (D.moment_of store.new.disk) self.old self.new result }
     {
         legal_states_are_sound();
         snapshots_stay();
@@ -259,6 +270,7 @@ impl Sessions {
             stage,
             steps,
         );
+        store.counts_pages();
         match acted {
             Err(fault) => Err(fault),
             Ok(acted) => {
@@ -277,14 +289,17 @@ impl Sessions {
         requires go { MayGo s self.old store.old }
         ensures leaves { OnOk result (LeavesSeats self.new store.old store.new) }
         ensures told { (c : Start) (opened : D) (w : Mind) → WhereSound O.first D.Disk ((before : ShowsSessions D.Disk c opened store.old self.old w) → OrFails (LeadsTo before (AreOfTurn s) store.new self.new) result) }
+        ensures fewer { OnOk result ((runner_at s self.old.runners.items).stage ≡ stages.Asked → turns_left self.new store.new < turns_left self.old store.old) }
         ensures all { OnOk result ((store.new.waiting ≡ []) × (self.new.txns.answered ≡ length self.new.txns.numbers.commits)) }
         ensures faults { HasFault Fault (D.faults_of store.old.disk) (D.faults_of store.new.disk) result }
         ensures time { TakesTime D.Disk store.old store.new }
+        ensures adds { AddsOrFails (AreOfTurn s) (D.moment_of store.old.disk) (D.moment_of store.new.disk) self.old self.new result }
     {
         match flush(store) {
             Err(fault) => Err(fault),
             Ok(()) => {
                 self.answer(store);
+                self.txns.numbers_commits();
                 Ok(())
             }
         }
@@ -301,10 +316,12 @@ impl Sessions {
         requires go { MayGo s self.old store.old }
         requires more { (runner_at s self.old.runners.items).finished < length (runner_at s self.old.runners.items).places }
         ensures leaves { OnOk result (LeavesSeats self.new store.old store.new) }
+        ensures fewer { OnOk result (turns_left self.new store.new < turns_left self.old store.old) }
         ensures told { (c : Start) (opened : D) (w : Mind) → WhereSound O.first D.Disk ((before : ShowsSessions D.Disk c opened store.old self.old w) → OrFails (TakesTurn before s store.new self.new) result) }
         ensures steps { steps.new ≤ steps.old + 2 }
         ensures faults { HasFault Fault (D.faults_of store.old.disk) (D.faults_of store.new.disk) result }
         ensures time { TakesTime D.Disk store.old store.new }
+        ensures adds { AddsOrFails (AreOfTurn s) (D.moment_of store.old.disk) (D.moment_of store.new.disk) self.old self.new result }
     {
         if self.waits(s) {
             return self.flush(store, s);
@@ -330,12 +347,17 @@ impl Sessions {
         ensures over { IfOk result (λ t. IsOverWhere t (runner_at s self.old.runners.items)) }
         // Whatever the disk tells, the next turn may be taken, where there is a number for its record.
         ensures leaves { OnOk result (LeavesSeats self.new store.old store.new) }
+        // Where it isn't over, fewer turns are left.
+        ensures fewer { IfOk result (λ t. t ≡ turns.Went → turns_left self.new store.new < turns_left self.old store.old) }
         // In a World it takes an act further, comes nearer to room for one, or answers commits, and tells nothing else; it fails by the disk alone.
         ensures told { (c : Start) (opened : D) (w : Mind) → WhereSound O.first D.Disk ((before : ShowsSessions D.Disk c opened store.old self.old w) → OrFails (TakesTurn before s store.new self.new) result) }
         ensures steps { steps.new ≤ steps.old + 2 }
         // A fault is told where the disk counts one more.
         ensures faults { HasFault Fault (D.faults_of store.old.disk) (D.faults_of store.new.disk) result }
         ensures time { TakesTime D.Disk store.old store.new }
+        // Whatever the disk tells, it adds an act of the session to the tape, or answers, or nothing: each the next of its session, at the
+        // moment at which the turn ends.
+        ensures adds { AddsOrFails (AreOfTurn s) (D.moment_of store.old.disk) (D.moment_of store.new.disk) self.old self.new result }
     {
         if !self.has_more(s) {
             return Ok(Turn::Over);

@@ -84,6 +84,7 @@ module _ {D : Type 0} (g : Ghosts D) (c : Start) (opened : D) (a b : View D) (h 
         };
         tape = longer;
         undo = undo;
+        names = λ e there. ap (λ (n : ℕ → List ℕ). n e) same_name_of;
         others = facts_others;
         counts = subst (λ l. CountsBehind r (w.facts s) l) (sym facts_own) counts;
       },

@@ -16,7 +16,7 @@ use Rattle.ctr_key_locks.specs.Shows.{ShowsKeyLocks}
 use Rattle.ctr_kept.specs.Turns.{Start, state_now}
 use Rattle.ctr_stops.specs.World.{KeepsWorld}
 use Rattle.ctr_page_turns.specs.Turns.{RestsBehind}
-use Rattle.ctr_session_world.specs.World.{SessionsHeld, AreInTables, names_in}
+use Rattle.ctr_session_world.specs.World.{SessionsHeld, AreInTables, NamesStay, names_in}
 use Rattle.ctr_session_world.specs.Told.{IsNextOf, IsTold}
 
 -- pages that were read leave the rest
@@ -68,7 +68,7 @@ module _ {D : Type 0} (g : Ghosts D) (c : Start) (opened : D) (a m b : View D) (
 
   -- what is told then is told
   pub goes_told : (now : SessionsHeld) (x : Act) (r : Reply) → (told : IsTold goes now x r) → (then : IsTold next now x r) × (then.mind ≡ told.mind)
-  goes_told now x r told = (record { mind = told.mind; world = told.world; tape = told.tape; undo = told.undo; others = told.others; counts = told.counts }, refl)
+  goes_told now x r told = (record { mind = told.mind; world = told.world; tape = told.tape; undo = told.undo; names = subst (λ (q : Stored). NamesStay q b.now) pages told.names; others = told.others; counts = told.counts }, refl)
 
 pub if_ok : {T E : Type 0} (r : Result T E) {P Q : T → Type 0} → ((x : T) → P x → Q x) → IfOk r P → IfOk r Q
 if_ok (Ok x) maps is = maps x is

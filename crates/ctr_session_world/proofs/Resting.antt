@@ -80,6 +80,7 @@ module _ {D : Type 0} (g : Ghosts D) (c : Start) (opened : D) (a b : View D) (h 
         };
         tape = refl;
         undo = refl;
+        names = λ e there. ap (λ (q : Stored). names_in q e) rested.logs.now;
         others = λ q two. refl;
         counts = refl;
       }

@@ -14,7 +14,7 @@ use Rattle.ctr_kept.specs.Tables.{AreTables}
 use Rattle.ctr_kept.specs.Walk.{Mind}
 use Rattle.ctr_kept.specs.Turns.{Start, Telling, entry_of, point_now, state_now}
 use Rattle.ctr_told.specs.Turning.{facts_idle}
-use Rattle.ctr_session_world.specs.World.{SessionsHeld, InWorld}
+use Rattle.ctr_session_world.specs.World.{SessionsHeld, InWorld, NamesStay}
 
 -- A World in which the next statement of a session is this one, of which so many acts are told. The
 -- next one is told at the moment at which a turn ends.
@@ -58,8 +58,8 @@ CountsBehind reply.RolledBack was now = Unit {0}
 CountsBehind reply.Released was now = Unit {0}
 CountsBehind (reply.Refused why) was now = now ≡ was
 
--- The act is told with its reply, and this is the World then. What the other sessions count on, and
--- undo's list, are as they were.
+-- The act is told with its reply, and this is the World then. What the other sessions count on,
+-- undo's list, and the names of entries that were taken are as they were.
 pub record IsTold {D : Type 0} {g : Ghosts D} {c : Start} {opened : D} {a b : View D}
     {h : SessionsHeld} {s : ℕ} {statement : Statement} {made : ℕ}
     (next : IsNextOf g c opened a b h s statement made) (now : SessionsHeld) (x : Act) (r : Reply)
@@ -68,11 +68,13 @@ pub record IsTold {D : Type 0} {g : Ghosts D} {c : Start} {opened : D} {a b : Vi
   pub world : InWorld g c opened b now mind
   pub tape : mind.tape ≡ next.mind.tape ++ entry_of s next.e x r ∷ []
   pub undo : mind.undo ≡ next.mind.undo
+  pub names : NamesStay a.now b.now
   pub others : (q : ℕ) → (q == s) ≡ false → mind.facts q ≡ next.mind.facts q
   pub counts : CountsBehind r (next.mind.facts s) (mind.facts s)
 
 -- Nothing is told by a turn, and the act goes on at the session's next one: this is the World then.
--- What the other sessions count on, and undo's list, are as they were.
+-- What the other sessions count on, undo's list, and the names of entries that were taken are as
+-- they were.
 pub record IsKeptOn {D : Type 0} {g : Ghosts D} {c : Start} {opened : D} {a b : View D}
     {h : SessionsHeld} {s : ℕ} {statement : Statement} {made : ℕ}
     (next : IsNextOf g c opened a b h s statement made) (now : SessionsHeld) : Type 0 where
@@ -80,6 +82,7 @@ pub record IsKeptOn {D : Type 0} {g : Ghosts D} {c : Start} {opened : D} {a b : 
   pub world : InWorld g c opened b now mind
   pub tape : mind.tape ≡ next.mind.tape
   pub undo : mind.undo ≡ next.mind.undo
+  pub names : NamesStay a.now b.now
   pub others : (q : ℕ) → (q == s) ≡ false → mind.facts q ≡ next.mind.facts q
 
 -- A turn of an act that takes several: it ends the act, which is told with its reply, or goes on.

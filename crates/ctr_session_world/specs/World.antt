@@ -27,6 +27,10 @@ pub record SessionsHeld : Type 0 where
 abbrev pub names_in : Stored → ℕ → List ℕ
 names_in s e = ((area_in s).title e).name
 
+-- Each entry of the catalog that was taken has the name that it had.
+abbrev pub NamesStay : Stored → Stored → Type 0
+NamesStay a b = (e : ℕ) → ((area_in a).title e).state ≢ 0 → names_in b e ≡ names_in a e
+
 -- The lock of a key in the table of an entry: whoever has it holds the table's name, or counts on
 -- the table.
 pub record IsInTable (s : Stored) (e : ℕ) (u : Transaction) (facts : List Fact) : Type 0 where

@@ -1,7 +1,6 @@
 -- Room for the items of the secondary log, and pages that are counted, behind a turn of a row's Write.
 use Rattle.std.proofs.Common.{◌≡◌, ℕ, ◌+◌, ◌<◌, ◌≤◌, Bool, true, false, cond, Some, refl, sym, ◌∙◌, ap, subst, arith}
 use Rattle.ctr_meta.specs.Kept.{RoomLeft, TablesKept}
-use Rattle.ctr_redo.specs.States.{grown}
 use Rattle.ctr_versions.proofs.Keys.{known}
 use Rattle.ctr_txn.specs.Held.{TxnHeld, TxnsHeld, txn_of}
 use Rattle.ctr_txn.specs.Rooms.{GetsBack, HasItemRoom, SpendsOne, StaysRoom, item_kept, items_kept}
@@ -85,10 +84,6 @@ between n (Extending chain (Taken p)) k l left = tt
 between n (Extending chain (Made p next)) k l left = tt
 between n (Kept q) k l left = tt
 
--- where there may be more, more are counted
-pub more_are_counted : (n : ℕ) → n < 30000 → grown n ≡ n → ⊥
-more_are_counted n few same = omega (arith, few, same)
-
--- and more than that
-pub more_counted : (n : ℕ) → n < 30000 → n < grown n
-more_counted n few = omega (arith, few)
+-- where more pages are counted, as many aren't
+pub more_apart : (n m : ℕ) → n < m → m ≡ n → ⊥
+more_apart n m more same = omega (arith, more, same)

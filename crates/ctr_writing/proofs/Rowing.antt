@@ -274,6 +274,7 @@ module _ {D : Type 0} (g : Ghosts D) (c : Start) (opened : D) (a b : View D) (h 
           };
           tape = refl;
           undo = refl;
+          names = λ d there. ap (λ (n : ℕ → List ℕ). n d) same_names;
           others = λ r no. ap (λ x. cond x facts (w.facts r)) no;
         }
 

@@ -45,7 +45,7 @@ use Rattle.ctr_looks.specs.ctr_told.Tables.{IsAtTable, FindsIt, AreOthers}
 use Rattle.ctr_looks.specs.ctr_told.Turning.{facts_idle}
 use Rattle.ctr_looks.proofs.ctr_told.Counted.{counted_found}
 use Rattle.ctr_looks.specs.ctr_session_world.Told.{CountsOnTables, IsNextOf}
-use Rattle.ctr_looks.specs.ctr_session_world.World.{SessionsHeld, AreInOrder, AreInTables, IsInTable, names_in}
+use Rattle.ctr_looks.specs.ctr_session_world.World.{SessionsHeld, AreInOrder, AreInTables, IsInTable, NamesStay, names_in}
 use Rattle.ctr_looks.proofs.ctr_session_world.Alike.{AreAlike, alike_itself, in_table_still, put_in_order, shows_alike, table_of_more}
 use Rattle.ctr_looks.proofs.ctr_session_world.Resting.{refused_told}
 use Rattle.ctr_looks.proofs.ctr_session_world.Standing.{RunFinds, told_state}
@@ -257,7 +257,7 @@ module _ {D : Type 0} (g : Ghosts D) (c : Start) (opened : D) (a b : View D) (h 
     facts_others q other = ap (λ x. cond x (facts_idle ++ mine) (w.facts q)) other
 
     -- each lock is in a table still, and its entry has the name that it had
-    module _ (lands : (r e : ℕ) (key : ℤ) (p : Transaction) → session_locks r e key h.locks ≡ true → transaction_of state r ≡ Some p → IsInTable b.now e p (v.facts r) × (names_in b.now e ≡ names_in a.now e)) where
+    module _ (lands : (r e : ℕ) (key : ℤ) (p : Transaction) → session_locks r e key h.locks ≡ true → transaction_of state r ≡ Some p → IsInTable b.now e p (v.facts r) × (names_in b.now e ≡ names_in a.now e)) (stays : NamesStay a.now b.now) where
       -- who has a lock is in a transaction
       holder : (r e : ℕ) (key : ℤ) → session_locks r e key h.locks ≡ true → (p : Transaction) × (transaction_of state r ≡ Some p)
       holder r e key locked = by (transaction_of state r) refl (next.world.locks r)
@@ -293,6 +293,7 @@ module _ {D : Type 0} (g : Ghosts D) (c : Start) (opened : D) (a b : View D) (h 
           };
           tape = refl;
           undo = refl;
+          names = stays;
           others = facts_others;
           counts = (mine, tables, facts_its);
         },
@@ -323,6 +324,9 @@ module _ {D : Type 0} (g : Ghosts D) (c : Start) (opened : D) (a b : View D) (h 
       let apart : (e == f) ≡ false = known (e == f) (λ yes. absurd (was.there (ap (λ n. ((area_in a.now).title n).state) (eqb-true e f yes) ∙ made.free))) (λ no. no) in
       still_in more r e key p locked is_p (made.acts.does.owed.1.titles e ∙ ap (λ b. cond b (new_title x name schema.columns) ((area_in a.now).title e)) apart)
       (λ in_. subst (λ l. IsAmong (HasTable e ((area_in a.now).title e)) l) at.counts.2 in_))
+      (λ e there.
+      let apart : (e == f) ≡ false = known (e == f) (λ yes. absurd (there (ap (λ n. ((area_in a.now).title n).state) (eqb-true e f yes) ∙ made.free))) (λ no. no) in
+      ap (λ (l : Title). l.name) (made.acts.does.owed.1.titles e ∙ ap (λ b. cond b (new_title x name schema.columns) ((area_in a.now).title e)) apart))
 
   -- ---- it is dropped
 
@@ -337,12 +341,19 @@ module _ {D : Type 0} (g : Ghosts D) (c : Start) (opened : D) (a b : View D) (h 
       → (new : TxnsHeld) → run_of new ≡ run_of h.txns → TurnOfTable next (record h { txns = new }) reply.Done
   dropped_told x f is acts keeps = table_told (beside f more) (beside_tables f more) keeps
       (λ r e key p locked is_p. known (e == f) (here r e key p locked is_p) (elsewhere r e key p locked is_p))
+      (λ e there. named e)
     where
       of : IsCountedTable f at.may.name (w.facts s)
       of = at.may.drops f is
 
       leaves : (e : ℕ) → (area_in b.now).title e ≡ cond (e == f) (record ((area_in a.now).title f) { dropper = x }) ((area_in a.now).title e)
       leaves e = ap (λ (z : Site). z.area.title e) acts.does.leaves
+
+      -- it keeps its name
+      named : (e : ℕ) → names_in b.now e ≡ names_in a.now e
+      named e = known (e == f)
+          (λ yes. ap (λ (l : Title). l.name) (leaves e ∙ ap (λ b. cond b (record ((area_in a.now).title f) { dropper = x }) ((area_in a.now).title e)) yes) ∙ ap (names_in a.now) (sym (eqb-true e f yes)))
+          (λ no. ap (λ (l : Title). l.name) (leaves e ∙ ap (λ b. cond b (record ((area_in a.now).title f) { dropper = x }) ((area_in a.now).title e)) no))
 
       its_title : (area_in a.now).title f ≡ of.title
       its_title = next.world.keeps.walks.scene.carried.held s its_seat.session (HasTable f of.title) its_seat.at of.counts
@@ -370,7 +381,7 @@ module _ {D : Type 0} (g : Ghosts D) (c : Start) (opened : D) (a b : View D) (h 
           let same = eqb-true e f is_it in
           let was = next.world.tables r e key p locked is_p in
           let title = leaves e ∙ ap (λ b. cond b (record ((area_in a.now).title f) { dropper = x }) ((area_in a.now).title e)) is_it in
-          let name : names_in b.now e ≡ names_in a.now e = ap (λ (l : Title). l.name) title ∙ ap (names_in a.now) (sym same) in
+          let name = named e in
           known (s == r)
           (λ mine.
           let p_is = some_is t p (sym at.may.is_t ∙ ap (transaction_of state) (eqb-true s r mine) ∙ is_p) in (

@@ -65,9 +65,9 @@ pub record IsAtRow (c : Start) (s : ℕ) (statement : Statement) (w : Mind) (e :
   pub may : MayWriteRow c s statement w e prepared
   pub so_far : CountsAt may.title e may.key prepared stage (w.facts s)
 
--- Something was done: one record was logged, or more pages are counted.
+-- Something was done: one record was logged; or none was, and more pages are counted.
 abbrev pub WentOn : {D : Type 0} → View D → View D → Type 0
-WentOn a b = (b.next ≡ a.next + 1) ⊎ (a.now.counted < b.now.counted)
+WentOn a b = (b.next ≡ a.next + 1) ⊎ ((b.next ≡ a.next) × (a.now.counted < b.now.counted))
 
 -- that, where the Write goes on
 abbrev pub WentBy : {D : Type 0} → View D → View D → Wrote → Type 0

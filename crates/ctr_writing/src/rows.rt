@@ -48,9 +48,10 @@ fn lay<D: Disk, O: Origin>(
     requires may { MayTurn s txns.old store.old }
     requires at { (entry < 32) × MayGoOn s txns.old store.old.now.counted stage }
     ensures stage { IfOk result (LeavesStage s txns.new store.new.now.counted) }
+    ensures went { IfOk result (WentBy store.old store.new) }
     ensures over { LeavesOver s txns.old txns.new store.old store.new result }
     ensures told { (c : Start) (opened : D) (locks : List (ℕ × LocksOfSession)) (statement : Said) → WhereSound O.first D.Disk ((next : IsNextOf D.Disk c opened store.old store.new (record { txns = txns.old; locks = locks }) s statement 1)
-        → key_written statement ≡ Some key → IsAtRow c s statement next.mind entry (Lays head.now) stage → IfOk result (λ r. TurnOfRow next (record { txns = txns.new; locks = locks }) entry (Lays head.now) r × WentBy store.old store.new r)) }
+        → key_written statement ≡ Some key → IsAtRow c s statement next.mind entry (Lays head.now) stage → IfOk result (λ r. TurnOfRow next (record { txns = txns.new; locks = locks }) entry (Lays head.now) r)) }
     ensures refused { (c : Start) (opened : D) (locks : List (ℕ × LocksOfSession)) (statement : Said) → WhereSound O.first D.Disk ((next : IsNextOf D.Disk c opened store.old store.new (record { txns = txns.old; locks = locks }) s statement 1)
         → key_written statement ≡ Some key → IsAtRow c s statement next.mind entry (Lays head.now) stage → IfErr result (λ e. e ≡ Fault)) }
     ensures faults { HasFault Fault (D.faults_of store.old.disk) (D.faults_of store.new.disk) result }
@@ -101,10 +102,12 @@ pub fn write_row<D: Disk, O: Origin>(
     requires at { (entry < 32) × MayGoOn s txns.old store.old.now.counted stage }
     // Whatever the disk tells, its next turn may be taken, where it goes on.
     ensures stage { IfOk result (LeavesStage s txns.new store.new.now.counted) }
+    // It goes on by a record, or as more pages are counted.
+    ensures went { IfOk result (WentBy store.old store.new) }
     ensures over { LeavesOver s txns.old txns.new store.old store.new result }
-    // In a World it goes on, by a record or as more pages are counted, or it is told.
+    // In a World it goes on, or it is told.
     ensures told { (c : Start) (opened : D) (locks : List (ℕ × LocksOfSession)) → WhereSound O.first D.Disk ((next : IsNextOf D.Disk c opened store.old store.new (record { txns = txns.old; locks = locks }) s statement.now 1)
-        → IsAtRow c s statement.now next.mind entry prepared.now stage → IfOk result (λ r. TurnOfRow next (record { txns = txns.new; locks = locks }) entry prepared.now r × WentBy store.old store.new r)) }
+        → IsAtRow c s statement.now next.mind entry prepared.now stage → IfOk result (λ r. TurnOfRow next (record { txns = txns.new; locks = locks }) entry prepared.now r)) }
     // There it fails by the disk alone.
     ensures refused { (c : Start) (opened : D) (locks : List (ℕ × LocksOfSession)) → WhereSound O.first D.Disk ((next : IsNextOf D.Disk c opened store.old store.new (record { txns = txns.old; locks = locks }) s statement.now 1)
         → IsAtRow c s statement.now next.mind entry prepared.now stage → IfErr result (λ e. e ≡ Fault)) }

@@ -20,10 +20,11 @@ use Rattle.ctr_kept.specs.Turns.{state_now}
 use Rattle.ctr_txn.specs.Held.{me_in, number_drawn, run_of}
 use Rattle.ctr_txn.specs.Numbered.{NumbersHeld}
 use Rattle.ctr_txn.specs.Steps.{txn_asked}
+use Rattle.ctr_session_world.specs.Ready.{is_asking}
 use Rattle.ctr_session_world.specs.World.{SessionsHeld}
 use Rattle.ctr_session_world.specs.Told.{IsTold}
 use Rattle.ctr_session_world.proofs.Standing.{comes, none_of, seat_of}
-use Rattle.ctr_session_world.proofs.Ready.{others_set, ready_as_was, ready_here, ready_logged, stands_with, unasked_set}
+use Rattle.ctr_session_world.proofs.Ready.{others_set, own_set, ready_as_was, ready_here, ready_logged, stands_with, unasked_set}
 use Rattle.ctr_session_world.proofs.Resting.{rests_here, refused_told}
 use Rattle.ctr_control.proofs.Asking.{asks, asked_told, ends, in_neither, many_asked, refused_outside}
 use Rattle.ctr_session_world.proofs.Idling.{idle_seat}
@@ -47,6 +48,7 @@ returns-in-Ok-clause-over g c =
       ready_logged s old new a b (Commit (number_drawn s old)) a.next (record { next = c.in-Ok.ensures.over; items = c.in-Ok.ensures.items c.requires.may.stand.items })
           (others_set s (Some (txn_asked (record { k = c.in-Ok.k; statement = c.args.statement }) writing.t)) old new c.requires.may.one asked.1) c.in-Ok.ensures.one.going c.in-Ok.ensures.one.takes,
       λ isnt. absurd (false≢true (sym isnt)),
+      λ is. ap is_asking (own_set s (Some (txn_asked (record { k = c.in-Ok.k; statement = c.args.statement }) writing.t)) old new c.requires.may.one c.numbers_commits.ensures.eight asked.1),
     )
 
 pub returns-then-is_reading-clause-over : goal.returns-then-is_reading-clause-over
@@ -59,10 +61,11 @@ returns-then-is_reading-clause-over g c =
     let ends = c.end_reader.ensures in (
       ready_here s old new a (stands_with old new a ends.numbers ends.items may.stand) (others_set s None old new may.one ends.sets) may.room.going,
       λ isnt. unasked_set s None old new may.one c.numbers_commits.ensures.eight ends.sets (λ unasked. refl),
+      λ is. absurd (false≢true is),
     )
 
 pub returns-clause-over : goal.returns-clause-over
-returns-clause-over g c = (ready_as_was c.args.s c.args.txns.now c.args.store.now c.requires.may.stand c.requires.may.room.going, λ isnt unasked. unasked)
+returns-clause-over g c = (ready_as_was c.args.s c.args.txns.now c.args.store.now c.requires.may.stand c.requires.may.room.going, (λ isnt unasked. unasked), λ is. absurd (false≢true is))
 
 -- ---- what is told
 

@@ -8,15 +8,18 @@ use Rattle.ctr_session_world.specs.Told.{TellsOrGoesOn}
 use Rattle.ctr_exec.proofs.acting.rolled_back.Goals as goal
 
 pub returns-in-None-clause-over : goal.returns-in-None-clause-over
-returns-in-None-clause-over g c = (c.in-Ok.ensures.over.0, λ none. c.in-Ok.ensures.over.1)
+returns-in-None-clause-over g c = (c.in-Ok.ensures.over.0, c.in-Ok.ensures.over.1, inl (c.in-Ok.ensures.steps.1 (ap (λ r. Ok r) c.in-None.is)))
 
 pub returns-in-Some-clause-over : goal.returns-in-Some-clause-over
-returns-in-Some-clause-over g c = (c.in-Ok.ensures.over.0, λ none. c.in-Ok.ensures.over.1)
+returns-in-Some-clause-over g c = (c.in-Ok.ensures.over.0, c.in-Ok.ensures.over.1, tt)
+
+pub returns-in-Some-clause-ready : goal.returns-in-Some-clause-ready
+returns-in-Some-clause-ready g c = (λ state. refl, refl)
 
 pub returns-in-None-clause-told : goal.returns-in-None-clause-told
 returns-in-None-clause-told g c = λ run opened tells sound next.
     let now : SessionsHeld = record { txns = c.roll_back.new.txns; locks = c.roll_back.new.locks } in
-    (subst (TellsOrGoesOn next now act.Rollback) c.in-None.is (c.in-Ok.ensures.told run opened tells sound next), tt, inl (c.in-Ok.ensures.steps.1 (ap (λ r. Ok r) c.in-None.is)))
+    (subst (TellsOrGoesOn next now act.Rollback) c.in-None.is (c.in-Ok.ensures.told run opened tells sound next), tt)
 
 pub returns-in-Some-clause-told : goal.returns-in-Some-clause-told
 returns-in-Some-clause-told g c = λ run opened tells sound next.
@@ -25,7 +28,7 @@ returns-in-Some-clause-told g c = λ run opened tells sound next.
     let h : SessionsHeld = record { txns = c.args.txns.now; locks = c.args.locks.now } in
     let now : SessionsHeld = record { txns = c.roll_back.new.txns; locks = c.roll_back.new.locks } in
     let told = subst (TellsOrGoesOn next now act.Rollback) c.in-Some.is (c.in-Ok.ensures.told run opened tells sound next) in
-    (refl, told, c.a_session_is_idle_behind_a_reply.ensures.rolled run opened a b h c.args.s st.Rollback 0 next now c.in-Some.reply told)
+    (told, c.a_session_is_idle_behind_a_reply.ensures.rolled run opened a b h c.args.s st.Rollback 0 next now c.in-Some.reply told)
 
 pub returns-in-Err-clause-told : goal.returns-in-Err-clause-told
 returns-in-Err-clause-told g c = λ run opened tells sound next. c.in-Err.ensures.refused run opened tells sound next

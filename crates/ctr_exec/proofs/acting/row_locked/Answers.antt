@@ -7,13 +7,14 @@ use Rattle.ctr_session_world.proofs.Faults.{fault_done, fault_failed}
 use Rattle.ctr_looks.specs.Locking.{IsReadyLocked, IsReadyBehind, locked_reply}
 use Rattle.ctr_session_world.specs.Told.{IsTold}
 use Rattle.ctr_exec.proofs.Answered.{not_asked}
+use Rattle.ctr_exec.proofs.Points.{row_acts}
 use Rattle.ctr_exec.proofs.acting.row_locked.Goals as goal
 
 pub returns-in-Refused-clause-over : goal.returns-in-Refused-clause-over
-returns-in-Refused-clause-over g c = (c.in-Ok.ensures.over.0, λ none. c.in-Ok.ensures.over.1)
+returns-in-Refused-clause-over g c = (c.in-Ok.ensures.over.0, c.in-Ok.ensures.over.1, tt)
 
 pub returns-in-Granted-clause-over : goal.returns-in-Granted-clause-over
-returns-in-Granted-clause-over g c = (c.in-Ok.ensures.over.0, λ none. c.in-Ok.ensures.over.1)
+returns-in-Granted-clause-over g c = (c.in-Ok.ensures.over.0, c.in-Ok.ensures.over.1, tt)
 
 pub returns-in-Refused-clause-told : goal.returns-in-Refused-clause-told
 returns-in-Refused-clause-told g c = λ run opened tells sound next stuck idle.
@@ -24,7 +25,6 @@ returns-in-Refused-clause-told g c = λ run opened tells sound next stuck idle.
     let h : SessionsHeld = record { txns = c.args.txns.now; locks = c.args.locks.now } in
     let now : SessionsHeld = record { txns = c.lock_row.new.txns; locks = c.lock_row.new.locks } in
     let told = subst (λ l. (told : IsTold next now act.Lock (locked_reply l)) × IsReadyBehind run c.args.s statement told.mind l) c.in-Refused.is (c.in-Ok.ensures.told run opened tells sound next stuck idle) in (
-      refl,
       told.0,
       c.a_session_is_idle_behind_a_reply.ensures.idle run opened a b h c.args.s statement 0 next now act.Lock (reply.Refused why) told.0 (inl idle)
           (not_asked g.D.Disk run opened a b h c.args.s c.requires.may.one statement 0 next now act.Lock (reply.Refused why) told.0 (λ is. absurd (cc is))),
@@ -40,7 +40,10 @@ returns-in-Granted-clause-told g c = λ run opened tells sound next stuck idle.
 pub returns-in-Granted-clause-ready : goal.returns-in-Granted-clause-ready
 returns-in-Granted-clause-ready g c =
     let ready = subst (IsReadyLocked c.args.s c.lock_row.new.txns) c.in-Granted.is c.in-Ok.ensures.ready in
-    (refl, refl, (c.requires.writes, ready.0, (tt, record { t = ready.1.t; there = ready.1.there; room = ap (λ (b : Bool). cond b 1 0) ready.1.kept })))
+    (refl, refl, (c.requires.writes, ready.0, (tt, record { t = ready.1.t; there = ready.1.there; room = ap (λ (b : Bool). cond b 1 0) ready.1.kept })), (row_acts c.args.s c.args.statement.now c.requires.writes).0)
+
+pub returns-in-Refused-clause-ready : goal.returns-in-Refused-clause-ready
+returns-in-Refused-clause-ready g c = ((row_acts c.args.s c.args.statement.now c.requires.writes).0, refl)
 
 pub returns-in-Err-clause-told : goal.returns-in-Err-clause-told
 returns-in-Err-clause-told g c = λ run opened tells sound next stuck idle. c.in-Err.ensures.refused tells sound next.world.keeps.pages.sound

@@ -5,22 +5,25 @@ use Rattle.ctr_session_world.specs.World.{SessionsHeld}
 use Rattle.ctr_session_world.proofs.Faults.{fault_done, fault_failed}
 use Rattle.ctr_writing.specs.Rows.{LeavesStage, TurnOfRow, WentBy}
 use Rattle.ctr_exec.proofs.Answered.{not_asked}
+use Rattle.ctr_exec.proofs.Points.{row_acts}
 use Rattle.ctr_exec.proofs.acting.row_written.Goals as goal
 
 pub returns-in-On-clause-over : goal.returns-in-On-clause-over
-returns-in-On-clause-over g c = (c.in-Ok.ensures.over.0, λ none. c.in-Ok.ensures.over.1)
+returns-in-On-clause-over g c = (c.in-Ok.ensures.over.0, c.in-Ok.ensures.over.1, subst (WentBy c.args.store.now c.write_row.new.store) c.in-On.is c.in-Ok.ensures.went)
 
 pub returns-in-Told-clause-over : goal.returns-in-Told-clause-over
-returns-in-Told-clause-over g c = (c.in-Ok.ensures.over.0, λ none. c.in-Ok.ensures.over.1)
+returns-in-Told-clause-over g c = (c.in-Ok.ensures.over.0, c.in-Ok.ensures.over.1, tt)
 
 pub returns-in-On-clause-ready : goal.returns-in-On-clause-ready
 returns-in-On-clause-ready g c = (refl, (c.requires.at.0, c.requires.at.1, subst (LeavesStage c.args.s c.write_row.new.txns c.write_row.new.store.now.counted) c.in-On.is c.in-Ok.ensures.stage))
 
+pub returns-in-Told-clause-ready : goal.returns-in-Told-clause-ready
+returns-in-Told-clause-ready g c = ((row_acts c.args.s c.args.statement.now c.requires.at.0).1, refl)
+
 pub returns-in-On-clause-told : goal.returns-in-On-clause-told
 returns-in-On-clause-told g c = λ run opened locks tells sound next at.
     let now : SessionsHeld = record { txns = c.write_row.new.txns; locks = locks } in
-    let turn = subst (λ r. TurnOfRow next now c.args.entry c.args.prepared r × WentBy c.args.store.now c.write_row.new.store r) c.in-On.is (c.in-Ok.ensures.told run opened locks tells sound next at) in
-    (turn.0.0, turn.0.1, turn.1)
+    subst (TurnOfRow next now c.args.entry c.args.prepared) c.in-On.is (c.in-Ok.ensures.told run opened locks tells sound next at)
 
 pub returns-in-Told-clause-told : goal.returns-in-Told-clause-told
 returns-in-Told-clause-told g c = λ run opened locks tells sound next at.
@@ -30,8 +33,7 @@ returns-in-Told-clause-told g c = λ run opened locks tells sound next at.
     let h : SessionsHeld = record { txns = c.args.txns.now; locks = locks } in
     let now : SessionsHeld = record { txns = c.write_row.new.txns; locks = locks } in
     let r = c.in-Told.reply in
-    let turn = subst (TurnOfRow next now c.args.entry c.args.prepared) c.in-Told.is (c.in-Ok.ensures.told run opened locks tells sound next at).0 in (
-      refl,
+    let turn = subst (TurnOfRow next now c.args.entry c.args.prepared) c.in-Told.is (c.in-Ok.ensures.told run opened locks tells sound next at) in (
       turn.0,
       c.a_session_is_idle_behind_a_reply.ensures.idle run opened a b h c.args.s statement 1 next now act.Write r turn.0 (inr turn.1)
           (not_asked g.D.Disk run opened a b h c.args.s c.requires.may.one statement 1 next now act.Write r turn.0 (λ is. absurd (cc is))),

@@ -4,10 +4,14 @@ use Rattle.ctr_types.specs.declared.tape.Act.TheVariants as act
 use Rattle.ctr_session_world.specs.World.{SessionsHeld}
 use Rattle.ctr_session_world.proofs.Faults.{fault_done, fault_failed}
 use Rattle.ctr_exec.proofs.Answered.{not_asked}
+use Rattle.ctr_exec.proofs.Points.{read_at}
 use Rattle.ctr_exec.proofs.acting.rows_read.Goals as goal
 
 pub returns-in-Ok-clause-over : goal.returns-in-Ok-clause-over
-returns-in-Ok-clause-over g c = (c.in-Ok.ensures.over.0, λ none. c.in-Ok.ensures.over.1)
+returns-in-Ok-clause-over g c = (c.in-Ok.ensures.over.0, c.in-Ok.ensures.over.1, tt)
+
+pub returns-in-Ok-clause-ready : goal.returns-in-Ok-clause-ready
+returns-in-Ok-clause-ready g c = (read_at c.args.s c.args.statement.now c.requires.select, refl)
 
 pub returns-in-Ok-clause-told : goal.returns-in-Ok-clause-told
 returns-in-Ok-clause-told g c = λ run opened tells sound next stuck idle.
@@ -17,7 +21,6 @@ returns-in-Ok-clause-told g c = λ run opened tells sound next stuck idle.
     let h : SessionsHeld = record { txns = c.args.txns.now; locks = c.args.locks.now } in
     let now : SessionsHeld = record { txns = c.args.txns.now; locks = c.read.new.locks } in
     let told = c.in-Ok.ensures.told run opened tells sound next stuck idle in (
-      refl,
       told,
       c.a_session_is_idle_behind_a_reply.ensures.idle run opened a b h c.args.s statement 0 next now act.Read c.in-Ok.reply told (inl idle)
           (not_asked g.D.Disk run opened a b h c.args.s c.requires.may.one statement 0 next now act.Read c.in-Ok.reply told (λ is. absurd (cc is))),

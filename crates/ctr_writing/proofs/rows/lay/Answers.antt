@@ -1,12 +1,11 @@
-use Rattle.std.proofs.Common.{◌≡◌, ◌<◌, ◌^◌, w64, to_z, of_z, Ok, Err, refl, sym, ◌∙◌, ap, subst, inl, inr}
+use Rattle.std.proofs.Common.{◌<◌, ◌^◌, w64, to_z, of_z, Ok, Err, refl, sym, ◌∙◌, ap, subst, inl, inr}
 use Rattle.std.proofs.lemmas.Int.{to_z-of_z}
 use Rattle.ctr_disk.specs.declared.fault.StoreFault.TheVariants.{Fault}
-use Rattle.ctr_redo.specs.States.{State as Stored}
 use Rattle.ctr_txn.specs.Held.{number_drawn}
 use Rattle.ctr_txn.specs.Numbered.{NumbersHeld}
 use Rattle.ctr_txn.specs.Rooms.{HasItemRoom}
 use Rattle.ctr_looks.specs.ctr_write.Laying.{Wish}
-use Rattle.ctr_looks.specs.ctr_write.Stages.{IsCountedWrite, LeavesItem, next_written, stage_items}
+use Rattle.ctr_looks.specs.ctr_write.Stages.{IsCountedWrite, LeavesItem, MovesWrite, stage_items}
 use Rattle.ctr_looks.specs.ctr_write.Steps.{EndsWrite, MayTakeTurn}
 use Rattle.ctr_looks.specs.ctr_write.declared.stages.Written.{Written}
 use Rattle.ctr_looks.specs.ctr_session_world.Ready.{StandOver}
@@ -15,7 +14,7 @@ use Rattle.ctr_looks.proofs.ctr_session_world.Faults.{fault_done, fault_failed}
 use Rattle.ctr_looks.proofs.ctr_session_world.Ready.{turns_later, turns_ready}
 use Rattle.ctr_writing.specs.Rows.{wish_by}
 use Rattle.ctr_writing.proofs.Rowing.{same_wish}
-use Rattle.ctr_writing.proofs.Roomy.{between, more_are_counted, more_counted, next_still, room_still}
+use Rattle.ctr_writing.proofs.Roomy.{between, more_apart, next_still, room_still}
 use Rattle.ctr_writing.proofs.rows.lay.Goals as goal
 
 -- ---- the next turn, and what is left of the sessions
@@ -82,6 +81,14 @@ returns-in-Full-clause-over g c =
     let over : StandOver txns b = record { next = stand.next ∙ sym (next_still (stage_items c.args.stage) w a.meta b.meta c.in-Ok.ensures.left); items = subst (HasItemRoom txns) (sym left) stand.items } in
     (turns_ready g.O.Origin.first g.D.Disk c.args.s txns txns a b w c.in-Ok.ensures.turns over (λ q some two. refl), λ unasked. unasked)
 
+-- ---- it went on
+
+pub returns-in-On-clause-went : goal.returns-in-On-clause-went
+returns-in-On-clause-went g c = inl (subst (λ r. MovesWrite r c.args.store.now c.write-written.new.store) c.in-On.is c.in-Ok.ensures.numbers)
+
+pub returns-in-Grown-clause-went : goal.returns-in-Grown-clause-went
+returns-in-Grown-clause-went g c = inr (subst (λ r. MovesWrite r c.args.store.now c.write-written.new.store) c.in-Grown.is c.in-Ok.ensures.numbers)
+
 -- ---- what is told
 
 pub returns-in-On-clause-told : goal.returns-in-On-clause-told
@@ -101,13 +108,11 @@ returns-in-On-clause-told g c = λ run opened locks statement tells sound next k
     let may = c.a_turn_of_a_row_may_be_taken.ensures run opened a b h s statement next e key head stage c.requires.may.one small keyed at in
     let turned = subst (λ (v : Wish). EndsWrite v stage a.now b.now w) asked (c.in-Ok.ensures.steps tells sound (subst (λ (v : Wish). MayTakeTurn v stage a.now) (sym asked) may)) in
     let ends = subst (λ r. EndsWrite wish stage a.now b.now r) c.in-On.is turned in
-    let next_is = subst (λ r. b.next ≡ next_written r a.next) c.in-On.is c.in-Ok.ensures.numbers in
+    let next_is = subst (λ r. MovesWrite r a b) c.in-On.is c.in-Ok.ensures.numbers in
     let rests = c.rests.ensures tells sound (c.a_turn_goes_or_counts_a_fault.ensures.going g.O.Origin.first a b w c.in-Ok.ensures.turns) in
-    let left = subst (λ r. LeavesItem (stage_items stage) r a.meta b.meta) c.in-On.is c.in-Ok.ensures.left in (
-      c.a_turn_of_a_row_is_told.ensures.on run opened a b h s statement next e key head stage c.in-On.then c.requires.may.one small keyed at ends (between (stage_items stage) c.in-On.then a.meta b.meta left)
-          (c.a_turn_is_told_by_its_number.ensures.logged g.O.Origin.first a b w tells sound c.in-Ok.ensures.turns next_is rests) c.keep_room.new.txns (c.keep_room.ensures.run stage c.requires.at.1.1),
-      inl next_is,
-    )
+    let left = subst (λ r. LeavesItem (stage_items stage) r a.meta b.meta) c.in-On.is c.in-Ok.ensures.left in
+    c.a_turn_of_a_row_is_told.ensures.on run opened a b h s statement next e key head stage c.in-On.then c.requires.may.one small keyed at ends (between (stage_items stage) c.in-On.then a.meta b.meta left)
+    (c.a_turn_is_told_by_its_number.ensures.logged g.O.Origin.first a b w tells sound c.in-Ok.ensures.turns next_is rests) c.keep_room.new.txns (c.keep_room.ensures.run stage c.requires.at.1.1)
 
 pub returns-in-Grown-clause-told : goal.returns-in-Grown-clause-told
 returns-in-Grown-clause-told g c = λ run opened locks statement tells sound next keyed at.
@@ -126,14 +131,10 @@ returns-in-Grown-clause-told g c = λ run opened locks statement tells sound nex
     let may = c.a_turn_of_a_row_may_be_taken.ensures run opened a b h s statement next e key head stage c.requires.may.one small keyed at in
     let turned = subst (λ (v : Wish). EndsWrite v stage a.now b.now w) asked (c.in-Ok.ensures.steps tells sound (subst (λ (v : Wish). MayTakeTurn v stage a.now) (sym asked) may)) in
     let ends = subst (λ r. EndsWrite wish stage a.now b.now r) c.in-Grown.is turned in
-    let next_is = subst (λ r. b.next ≡ next_written r a.next) c.in-Grown.is c.in-Ok.ensures.numbers in
-    let rests = c.rests.ensures tells sound (c.a_turn_goes_or_counts_a_fault.ensures.going g.O.Origin.first a b w c.in-Ok.ensures.turns) in
-    let grew = c.a_write_without_a_record.ensures.grown wish stage a.now b.now ends in
-    let counts = c.a_turn_is_told_by_its_number.ensures.grown g.O.Origin.first a b w c.in-Ok.ensures.turns next_is (λ same. more_are_counted a.now.counted (grew.1) (sym (ap (λ (t : Stored). t.counted) grew.0) ∙ same)) in (
-      c.a_turn_of_a_row_is_told.ensures.grown run opened a b h s statement next e key head stage c.requires.may.one keyed at ends
-          (c.growth_behind_pages_keeps_a_world.ensures run opened a b next.mind next.world.keeps g.O.Origin.first w tells sound counts),
-      inr (subst (λ n. a.now.counted < n) (sym (ap (λ (t : Stored). t.counted) grew.0)) (more_counted a.now.counted grew.1)),
-    )
+    let moves = subst (λ r. MovesWrite r a b) c.in-Grown.is c.in-Ok.ensures.numbers in
+    let counts = c.a_turn_is_told_by_its_number.ensures.grown g.O.Origin.first a b w c.in-Ok.ensures.turns moves.0 (λ same. more_apart a.now.counted b.now.counted moves.1 same) in
+    c.a_turn_of_a_row_is_told.ensures.grown run opened a b h s statement next e key head stage c.requires.may.one keyed at ends
+    (c.growth_behind_pages_keeps_a_world.ensures run opened a b next.mind next.world.keeps g.O.Origin.first w tells sound counts)
 
 pub returns-in-Done-clause-told : goal.returns-in-Done-clause-told
 returns-in-Done-clause-told g c = λ run opened locks statement tells sound next keyed at.
@@ -152,12 +153,10 @@ returns-in-Done-clause-told g c = λ run opened locks statement tells sound next
     let may = c.a_turn_of_a_row_may_be_taken.ensures run opened a b h s statement next e key head stage c.requires.may.one small keyed at in
     let turned = subst (λ (v : Wish). EndsWrite v stage a.now b.now w) asked (c.in-Ok.ensures.steps tells sound (subst (λ (v : Wish). MayTakeTurn v stage a.now) (sym asked) may)) in
     let ends = subst (λ r. EndsWrite wish stage a.now b.now r) c.in-Done.is turned in
-    let next_is = subst (λ r. b.next ≡ next_written r a.next) c.in-Done.is c.in-Ok.ensures.numbers in
-    let rests = c.rests.ensures tells sound (c.a_turn_goes_or_counts_a_fault.ensures.going g.O.Origin.first a b w c.in-Ok.ensures.turns) in (
-      c.a_turn_of_a_row_is_told.ensures.done run opened a b h s statement next e key head stage c.requires.may.one small keyed at c.requires.at.0 ends
-          (c.a_turn_is_told_by_its_number.ensures.logged g.O.Origin.first a b w tells sound c.in-Ok.ensures.turns next_is rests),
-      tt,
-    )
+    let next_is = subst (λ r. MovesWrite r a b) c.in-Done.is c.in-Ok.ensures.numbers in
+    let rests = c.rests.ensures tells sound (c.a_turn_goes_or_counts_a_fault.ensures.going g.O.Origin.first a b w c.in-Ok.ensures.turns) in
+    c.a_turn_of_a_row_is_told.ensures.done run opened a b h s statement next e key head stage c.requires.may.one small keyed at c.requires.at.0 ends
+    (c.a_turn_is_told_by_its_number.ensures.logged g.O.Origin.first a b w tells sound c.in-Ok.ensures.turns next_is rests)
 
 pub returns-in-Full-clause-told : goal.returns-in-Full-clause-told
 returns-in-Full-clause-told g c = λ run opened locks statement tells sound next keyed at.
@@ -176,12 +175,10 @@ returns-in-Full-clause-told g c = λ run opened locks statement tells sound next
     let may = c.a_turn_of_a_row_may_be_taken.ensures run opened a b h s statement next e key head stage c.requires.may.one small keyed at in
     let turned = subst (λ (v : Wish). EndsWrite v stage a.now b.now w) asked (c.in-Ok.ensures.steps tells sound (subst (λ (v : Wish). MayTakeTurn v stage a.now) (sym asked) may)) in
     let ends = subst (λ r. EndsWrite wish stage a.now b.now r) c.in-Full.is turned in
-    let next_is = subst (λ r. b.next ≡ next_written r a.next) c.in-Full.is c.in-Ok.ensures.numbers in
-    let rests = c.rests.ensures tells sound (c.a_turn_goes_or_counts_a_fault.ensures.going g.O.Origin.first a b w c.in-Ok.ensures.turns) in (
-      c.a_turn_of_a_row_is_told.ensures.full run opened a b h s statement next e key head stage c.requires.may.one keyed at ends
-          (c.a_turn_is_told_by_its_number.ensures.read g.O.Origin.first a b w tells sound c.in-Ok.ensures.turns next_is (c.a_write_without_a_record.ensures.full wish stage a.now b.now ends) rests),
-      tt,
-    )
+    let next_is = subst (λ r. MovesWrite r a b) c.in-Full.is c.in-Ok.ensures.numbers in
+    let rests = c.rests.ensures tells sound (c.a_turn_goes_or_counts_a_fault.ensures.going g.O.Origin.first a b w c.in-Ok.ensures.turns) in
+    c.a_turn_of_a_row_is_told.ensures.full run opened a b h s statement next e key head stage c.requires.may.one keyed at ends
+    (c.a_turn_is_told_by_its_number.ensures.read g.O.Origin.first a b w tells sound c.in-Ok.ensures.turns next_is (c.a_write_without_a_record.ensures.full wish stage a.now b.now ends) rests)
 
 -- ---- errors
 

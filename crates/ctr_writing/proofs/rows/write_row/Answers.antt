@@ -27,11 +27,9 @@ returns-in-Refused-clause-told g c = λ run opened locks tells sound next at.
     let e = c.args.entry in
     let stage = c.args.stage in
     let why = c.in-Refused.refusal in
-    let h : SessionsHeld = record { txns = c.args.txns.now; locks = locks } in (
-      c.a_turn_of_a_row_is_told.ensures.refused run opened a a h s statement next e why stage c.requires.may.one (subst (λ p. IsAtRow run s statement next.mind e p stage) c.in-Refused.is at)
-          (rests_here g.D.Disk a (c.rests.ensures tells sound c.requires.may.room.going)),
-      tt,
-    )
+    let h : SessionsHeld = record { txns = c.args.txns.now; locks = locks } in
+    c.a_turn_of_a_row_is_told.ensures.refused run opened a a h s statement next e why stage c.requires.may.one (subst (λ p. IsAtRow run s statement next.mind e p stage) c.in-Refused.is at)
+    (rests_here g.D.Disk a (c.rests.ensures tells sound c.requires.may.room.going))
 
 pub returns-in-Refused-clause-faults : goal.returns-in-Refused-clause-faults
 returns-in-Refused-clause-faults g c = fault_none Fault _ _
@@ -43,7 +41,7 @@ returns-in-Lays-clause-told g c = λ run opened locks tells sound next at.
     let e = c.args.entry in
     let stage = c.args.stage in
     let now : SessionsHeld = record { txns = c.lay.new.txns; locks = locks } in
-    if_ok c.lay.result (λ r its. (subst (λ p. TurnOfRow next now e p r) (sym c.in-Lays.is) its.0, its.1))
+    if_ok c.lay.result (λ r its. subst (λ p. TurnOfRow next now e p r) (sym c.in-Lays.is) its)
     (c.lay.ensures.told run opened locks statement tells sound next (sym c.key_written.ensures ∙ c.in-Some.is ∙ ap (λ (k : ℤ). Some k) (sym (to_z-of_z w64 c.number.result (record { sfits = c.number.type_inv }) ∙ c.number.ensures))) (subst (λ p. IsAtRow run s statement next.mind e p stage) c.in-Lays.is at))
 
 pub returns-in-Lays-clause-refused : goal.returns-in-Lays-clause-refused

@@ -5,19 +5,21 @@ use Rattle.ctr_types.specs.declared.statement.Line.{Line}
 use Rattle.ctr_types.specs.declared.statement.Statement.{Statement}
 use Rattle.ctr_kept.specs.Turns.{state_now}
 use Rattle.ctr_txn.specs.Held.{TxnsHeld, txn_of}
-use Rattle.ctr_session_world.specs.Ready.{StandOver, StaysUnasked}
+use Rattle.ctr_session_world.specs.Ready.{StandOver}
 use Rattle.ctr_session_world.specs.Told.{IsNextOf}
 use Rattle.ctr_session_world.specs.World.{SessionsHeld}
 use Rattle.ctr_writing.specs.Tables.{HasFittingColumns}
 use Rattle.ctr_exec.specs.declared.runners.Stage.{Stage}
 use Rattle.ctr_exec.specs.declared.sessions.Sessions.{Sessions}
-use Rattle.ctr_exec.specs.Acting.{IsMidway, LeavesAct, MayAct, TurnOfAct}
+use Rattle.ctr_exec.specs.Acting.{IsMidway, LeavesAct, LeavesAsking, MayAct, TurnOfAct}
 use Rattle.ctr_exec.specs.Runners.{made_at, runner_at}
 use Rattle.ctr_exec.specs.Sessions.{entries_by, held_by}
 use Rattle.ctr_exec.proofs.Noting.{all_at, capacity_now, held_now, len_now, runners_now, script_now, stuck_now, tape_now, txns_now}
 use Rattle.ctr_exec.proofs.Going.{sound_in}
+use Rattle.ctr_exec.proofs.Ordered.{adds_acted}
 use Rattle.ctr_exec.proofs.Seats.{runner_here, seats_told, small_here}
 use Rattle.ctr_exec.proofs.Turned.{at_stage, next, turned}
+use Rattle.ctr_exec.proofs.Fewer.{act_falls}
 use Rattle.ctr_exec.proofs.sessions.Sessions.act.Goals as goal
 
 pub next_number-number-requires-clause-small : goal.next_number-number-requires-clause-small
@@ -84,11 +86,12 @@ returns-in-Ok-clause-leaves g c =
       going = over.0.going;
       seats = seats_told h now m n go.seats s go.one c.requires.more line.line.statement line.named l c.moment.result leaves
           (script_now h mid now m go.seats s go.one txns locks l c.moment.result same c.take-place.ensures.runners told.is told.tape told.len told.capacity told.runners)
+          (stuck_now h mid now m go.seats s go.one txns locks l c.moment.result same c.take-place.ensures.runners told.is told.tape told.len told.capacity told.runners)
           (runners_now h mid now m go.seats s go.one txns locks l c.moment.result same c.take-place.ensures.runners told.is told.tape told.len told.capacity told.runners)
           (len_now h mid now m go.seats s go.one txns locks l c.moment.result same c.take-place.ensures.runners told.is told.tape told.len told.capacity told.runners)
           (capacity_now h mid now m go.seats s go.one txns locks l c.moment.result same c.take-place.ensures.runners told.is told.tape told.len told.capacity told.runners)
           (λ q some two. ap (λ (t : TxnsHeld). txn_of q t) txns_is ∙ over.0.others q some two ∙ ap (λ (z : Sessions). txn_of q z.txns) same) over.0.counted
-          (λ none. subst (λ (t : TxnsHeld). StaysUnasked s h.txns t) (sym txns_is) (subst (λ (z : Sessions). StaysUnasked s z.txns txns) same (over.1 none)));
+          (subst (λ (t : TxnsHeld). LeavesAsking s h.txns t l) (sym txns_is) (subst (λ (z : Sessions). LeavesAsking s z.txns txns l) same over.1));
       one = over.0.one;
     }
 
@@ -125,6 +128,59 @@ returns-in-Ok-clause-told g c = λ run opened w tells sound before.
     turned g.D.Disk run opened a b h now w before s go.one line.line.statement line.named c.act-acted.ensures.time m n go.seats
     (script_now h mid now m go.seats s go.one txns locks l c.moment.result same c.take-place.ensures.runners told.is told.tape told.len told.capacity told.runners)
     (stuck_now h mid now m go.seats s go.one txns locks l c.moment.result same c.take-place.ensures.runners told.is told.tape told.len told.capacity told.runners)
-    (sound_in g.D.Disk run opened a h w c.legal_states_are_sound.ensures before) c.what_a_write_counts_on_stays.ensures c.snapshots_stay.ensures l now.txns leaves its
+    (sound_in g.D.Disk run opened a h w c.legal_states_are_sound.ensures before) c.what_a_write_counts_on_stays.ensures c.snapshots_stay.ensures l now.txns leaves c.in-Ok.ensures.over.2 its
     (runners_now h mid now m go.seats s go.one txns locks l c.moment.result same c.take-place.ensures.runners told.is told.tape told.len told.capacity told.runners)
     (tape_now h mid now m go.seats s go.one txns locks l c.moment.result same c.take-place.ensures.runners told.is told.tape told.len told.capacity told.runners ∙ ap (λ t. h.tape.items ++ entries_by s (runner_at s h.runners.items) t l) c.moment.ensures)
+
+pub returns-in-Err-clause-adds : goal.returns-in-Err-clause-adds
+returns-in-Err-clause-adds g c = let same = c.take-place.ensures.same in (ap (λ (z : Sessions). z.tape) same, ap (λ (z : Sessions). z.script) same)
+
+pub returns-in-Ok-clause-adds : goal.returns-in-Ok-clause-adds
+returns-in-Ok-clause-adds g c =
+    let h = c.args.self.now in
+    let mid = c.take-place.new.self in
+    let now = c.told.new.self in
+    let s = c.args.s in
+    let go = c.requires.go.0 in
+    let m = c.args.store.now.now.counted in
+    let n = c.act-acted.new.store.now.counted in
+    let l = c.in-Ok.acted in
+    let a = c.args.store.now in
+    let b = c.act-acted.new.store in
+    let line = c.take-place.ensures.line in
+    let same = c.take-place.ensures.same in
+    let told = c.told.ensures in
+    let said = c.statement_at-statement.ensures line.line (ap (λ ls. slice_get ls c.take-place.result.0) (c.as_slice.ensures ∙ ap (λ (z : Sessions). z.script.lines) same) ∙ line.there) in
+    let txns = c.act-acted.new.txns in
+    let locks = c.act-acted.new.locks in
+    let leaves = subst (λ (q : Stage). LeavesAct q s line.line.statement txns n l) c.take-place.ensures.stage
+    (subst (λ (z : Statement). LeavesAct c.take-place.result.1 s z txns n l) said c.in-Ok.ensures.ready) in
+    adds_acted h now m go.seats s go.one
+    (script_now h mid now m go.seats s go.one txns locks l c.moment.result same c.take-place.ensures.runners told.is told.tape told.len told.capacity told.runners)
+    (stuck_now h mid now m go.seats s go.one txns locks l c.moment.result same c.take-place.ensures.runners told.is told.tape told.len told.capacity told.runners)
+    (g.D.Disk.moment_of a.disk) (g.D.Disk.moment_of b.disk) c.act-acted.ensures.time line.line.statement line.named txns n l leaves
+    (runners_now h mid now m go.seats s go.one txns locks l c.moment.result same c.take-place.ensures.runners told.is told.tape told.len told.capacity told.runners)
+    (tape_now h mid now m go.seats s go.one txns locks l c.moment.result same c.take-place.ensures.runners told.is told.tape told.len told.capacity told.runners ∙ ap (λ t. h.tape.items ++ entries_by s (runner_at s h.runners.items) t l) c.moment.ensures)
+
+pub returns-in-Ok-clause-fewer : goal.returns-in-Ok-clause-fewer
+returns-in-Ok-clause-fewer g c =
+    let h = c.args.self.now in
+    let mid = c.take-place.new.self in
+    let now = c.told.new.self in
+    let s = c.args.s in
+    let go = c.requires.go.0 in
+    let m = c.args.store.now.now.counted in
+    let n = c.act-acted.new.store.now.counted in
+    let l = c.in-Ok.acted in
+    let line = c.take-place.ensures.line in
+    let same = c.take-place.ensures.same in
+    let told = c.told.ensures in
+    let said = c.statement_at-statement.ensures line.line (ap (λ ls. slice_get ls c.take-place.result.0) (c.as_slice.ensures ∙ ap (λ (z : Sessions). z.script.lines) same) ∙ line.there) in
+    let txns = c.act-acted.new.txns in
+    let locks = c.act-acted.new.locks in
+    let leaves = subst (λ (q : Stage). LeavesAct q s line.line.statement txns n l) c.take-place.ensures.stage
+    (subst (λ (z : Statement). LeavesAct c.take-place.result.1 s z txns n l) said c.in-Ok.ensures.ready) in
+    act_falls h now c.args.store.now c.act-acted.new.store m go.seats s go.one c.requires.more line.line.statement txns n
+    (script_now h mid now m go.seats s go.one txns locks l c.moment.result same c.take-place.ensures.runners told.is told.tape told.len told.capacity told.runners)
+    go.number c.counts_pages.ensures.1 l leaves c.in-Ok.ensures.over.2
+    (runners_now h mid now m go.seats s go.one txns locks l c.moment.result same c.take-place.ensures.runners told.is told.tape told.len told.capacity told.runners)

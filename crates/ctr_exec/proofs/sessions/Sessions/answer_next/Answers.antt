@@ -1,5 +1,4 @@
-use Rattle.std.specs.Prelude.{slice_set}
-use Rattle.std.proofs.Common.{◌≡◌, ℕ, ◌<◌, ◌≤◌, ◌-◌, ◌+◌, ◌++◌, ◌∷◌, [], None, length, refl, sym, ◌∙◌, ap, subst, arith}
+use Rattle.std.proofs.Common.{◌++◌, ◌∷◌, [], refl, sym, ◌∙◌, ap, subst}
 use Rattle.ctr_types.specs.declared.tape.Act.TheVariants as act
 use Rattle.ctr_types.specs.declared.tape.Reply.TheVariants as reply
 use Rattle.ctr_txn.specs.Held.{TxnsHeld}
@@ -10,7 +9,8 @@ use Rattle.ctr_exec.specs.Sessions.{held_by, noted}
 use Rattle.ctr_exec.specs.Runners.{runner_at}
 use Rattle.ctr_exec.proofs.Answering.{answers_none, goes_answer}
 use Rattle.ctr_exec.proofs.Going.{sound_in}
-use Rattle.ctr_exec.proofs.Seats.{answered_seats, asked_room, asked_small, within_here}
+use Rattle.ctr_exec.proofs.Ordered.{answer_added, answers_none_added}
+use Rattle.ctr_exec.proofs.Seats.{answered_fewer, answered_seats, asked_room, asked_small, within_here}
 use Rattle.ctr_exec.proofs.sessions.Sessions.answer_next.Goals as goal
 
 pub note-requires-clause-one : goal.note-requires-clause-one
@@ -26,20 +26,15 @@ pub returns-in-Some-clause-seats : goal.returns-in-Some-clause-seats
 returns-in-Some-clause-seats g c =
     let note = c.note.ensures in
     answered_seats c.args.self.now c.args.store.now.now.counted c.requires.seats c.in-Some.s c.in-Some.asked c.answer_one.new.txns c.in-Some.ensures.next.0 c.note.new.self
-    (ap (λ (z : Sessions). z.script) note.is) (ap (λ (z : Sessions). z.txns) note.is) note.runners note.len note.capacity
+    (ap (λ (z : Sessions). z.script) note.is) (ap (λ (z : Sessions). z.stuck) note.is) (ap (λ (z : Sessions). z.txns) note.is) note.runners note.len note.capacity
 
 pub returns-in-Some-clause-over : goal.returns-in-Some-clause-over
 returns-in-Some-clause-over g c = λ stand. subst (λ (t : TxnsHeld). StandOver t c.args.store.now) (sym (ap (λ (z : Sessions). z.txns) c.note.ensures.is)) (c.in-Some.ensures.over stand)
 
 pub returns-in-Some-clause-fewer : goal.returns-in-Some-clause-fewer
 returns-in-Some-clause-fewer g c = λ yes_.
-    let next = c.in-Some.ensures.next.0 in
-    let now : c.note.new.self.txns ≡ record c.args.self.now.txns { sessions = slice_set c.args.self.now.txns.sessions (c.in-Some.s - 1) None; answered = c.args.self.now.txns.answered + 1 } = ap (λ (z : Sessions). z.txns) c.note.ensures.is ∙ next.new_is in
-    less (length c.args.self.now.txns.numbers.commits) (length c.note.new.self.txns.numbers.commits) c.args.self.now.txns.answered c.note.new.self.txns.answered c.in-Some.asked.k
-    (ap (λ (t : TxnsHeld). length t.numbers.commits) now) (ap (λ (t : TxnsHeld). t.answered) now) next.next next.within
-  where
-    less : (many now done did k : ℕ) → now ≡ many → did ≡ done + 1 → k ≡ done + 1 → k ≤ many → now - did < many - done
-    less many now done did k is one next within = omega (arith, is, one, next, within)
+    let note = c.note.ensures in
+    answered_fewer c.args.self.now c.args.store.now.now.counted c.requires.seats c.in-Some.s c.in-Some.asked c.answer_one.new.txns c.in-Some.ensures.next.0 c.note.new.self (ap (λ (z : Sessions). z.script) note.is) note.runners
 
 pub returns-in-None-clause-told : goal.returns-in-None-clause-told
 returns-in-None-clause-told g c = λ run opened w tells sound going before.
@@ -56,5 +51,17 @@ returns-in-Some-clause-told g c = λ run opened w tells sound going before.
     goes_answer g.D.Disk run opened c.args.store.now h now w before s c.in-Some.asked c.in-Some.ensures.next.0.one
     (subst (λ z. IsAnswered (record { mind = w; world = before.world }) (s, c.in-Some.asked) z) (sym (ap held_by note.is)) answered)
     c.args.store.now.now.counted c.requires.seats (sound_in g.D.Disk run opened c.args.store.now h w c.legal_states_are_sound.ensures before) c.what_a_write_counts_on_stays.ensures c.snapshots_stay.ensures
+    (ap (λ (z : Sessions). z.script) note.is) (ap (λ (z : Sessions). z.stuck) note.is) note.runners
+    (note.tape ∙ ap (λ n. h.tape.items ++ noted s (runner_at s h.runners.items) act.Answer (reply.Answered c.in-Some.asked.k) n ∷ []) c.moment.ensures)
+
+pub returns-in-None-clause-adds : goal.returns-in-None-clause-adds
+returns-in-None-clause-adds g c = λ before le. answers_none_added before (g.D.Disk.moment_of c.args.store.now.disk) c.args.self.now c.answer_one.new.txns c.answer_one.new.locks le
+
+pub returns-in-Some-clause-adds : goal.returns-in-Some-clause-adds
+returns-in-Some-clause-adds g c = λ before le.
+    let h = c.args.self.now in
+    let s = c.in-Some.s in
+    let note = c.note.ensures in
+    answer_added h c.note.new.self c.args.store.now.now.counted c.requires.seats s c.in-Some.asked c.answer_one.new.txns c.in-Some.ensures.next.0 before (g.D.Disk.moment_of c.args.store.now.disk) le
     (ap (λ (z : Sessions). z.script) note.is) (ap (λ (z : Sessions). z.stuck) note.is) note.runners
     (note.tape ∙ ap (λ n. h.tape.items ++ noted s (runner_at s h.runners.items) act.Answer (reply.Answered c.in-Some.asked.k) n ∷ []) c.moment.ensures)

@@ -1,13 +1,15 @@
-use Rattle.std.proofs.Common.{◌-◌, subst, arith}
+use Rattle.std.proofs.Common.{◌-◌, ap, subst, arith, length}
 use Rattle.ctr_exec.specs.Runners.{AreRunners}
 use Rattle.ctr_exec.proofs.Fresh.{no_items, seated_new}
+use Rattle.ctr_exec.proofs.Ordered.{ordered_new}
 use Rattle.ctr_exec.proofs.sessions.Sessions.new.Goals as goal
 
 pub returns-clause-seats : goal.returns-clause-seats
 returns-clause-seats c =
     let room = c.in_ok-tape.ensures.capacity in
     let len = c.len.ensures in
-    seated_new _ c.in_ok-txns.ensures.nobody c.in_ok-runners.ensures.fresh c.in_ok-runners.ensures.eight (subst (λ ls. AreRunners ls 1 c.in_ok-runners.runners.items) c.as_slice.ensures c.in_ok-runners.ensures.are) c.requires.few c.requires.fit c.in_ok-tape.ensures.len (omega (arith, room, len))
+    let names = ap length c.as_slice-2.ensures in
+    seated_new _ c.in_ok-txns.ensures.nobody c.in_ok-runners.ensures.fresh c.in_ok-runners.ensures.eight (subst (λ ls. AreRunners ls 1 c.in_ok-runners.runners.items) c.as_slice.ensures c.in_ok-runners.ensures.are) c.requires.few c.requires.fit c.in_ok-tape.ensures.len (omega (arith, room, len, names))
 
 pub returns-clause-fresh : goal.returns-clause-fresh
 returns-clause-fresh c = record {
@@ -19,3 +21,6 @@ returns-clause-fresh c = record {
   unbegun = c.in_ok-runners.ensures.fresh;
   room = no_items c.in_ok-txns.txns c.in_ok-txns.ensures.nobody c.in_ok-txns.ensures.numbers.3;
 }
+
+pub returns-clause-ordered : goal.returns-clause-ordered
+returns-clause-ordered c = ordered_new _ c.in_ok-tape.ensures.items c.in_ok-runners.ensures.fresh

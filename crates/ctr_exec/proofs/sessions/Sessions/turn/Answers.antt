@@ -1,4 +1,6 @@
+use Rattle.ctr_exec.proofs.Fewer.{over_goes}
 use Rattle.ctr_exec.proofs.Going.{over_takes}
+use Rattle.ctr_exec.proofs.Ordered.{adds_none, at_once}
 use Rattle.ctr_exec.proofs.Seats.{runner_here}
 use Rattle.ctr_exec.proofs.sessions.Sessions.turn.Goals as goal
 
@@ -14,3 +16,12 @@ returns-in-Ok-clause-told g c = λ run opened w tells sound before. c.in-Ok.ensu
 
 pub returns-in-Err-clause-told : goal.returns-in-Err-clause-told
 returns-in-Err-clause-told g c = λ run opened w tells sound before. c.in-Err.ensures.told run opened w tells sound before
+
+pub returns-then-not-has_more-clause-adds : goal.returns-then-not-has_more-clause-adds
+returns-then-not-has_more-clause-adds g c = let now = g.D.Disk.moment_of c.args.store.now.disk in adds_none c.args.s now now c.args.self.now (at_once now)
+
+pub returns-then-not-has_more-clause-fewer : goal.returns-then-not-has_more-clause-fewer
+returns-then-not-has_more-clause-fewer g c = λ is. absurd (over_goes is)
+
+pub returns-in-Ok-clause-fewer : goal.returns-in-Ok-clause-fewer
+returns-in-Ok-clause-fewer g c = λ is. c.in-Ok.ensures.fewer
