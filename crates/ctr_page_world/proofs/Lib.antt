@@ -1,0 +1,14 @@
+mod Quiet
+mod Adding
+mod Keeping
+mod Leading
+mod Whole
+mod Ending
+mod Undone
+mod Titles
+mod Beside
+mod Started
+mod Stuck
+mod Going
+mod Undoing
+mod Nearer

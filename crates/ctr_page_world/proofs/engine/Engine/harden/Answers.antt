@@ -1,0 +1,14 @@
+use Rattle.ctr_exec.specs.Sessions.{AreAnswers}
+use Rattle.ctr_page_world.specs.Held.{running}
+use Rattle.ctr_page_world.proofs.Adding.{adds_answers}
+use Rattle.ctr_page_world.proofs.engine.Engine.harden.Goals as goal
+
+pub returns-in-Ok-clause-shows : goal.returns-in-Ok-clause-shows
+returns-in-Ok-clause-shows g c = λ s tells sound shows. c.answer.ensures.shows s tells sound (c.in-Ok.ensures.shows s tells sound shows)
+
+pub returns-in-Err-clause-shows : goal.returns-in-Err-clause-shows
+returns-in-Err-clause-shows g c = λ s tells sound shows. c.in-Err.ensures.shows s tells sound shows
+
+pub returns-in-Ok-clause-adds : goal.returns-in-Ok-clause-adds
+returns-in-Ok-clause-adds g c =
+    adds_answers g.D.Disk AreAnswers (running c.args.self.now) (running c.settle.new.self) (running c.answer.new.self) (λ i. (c.answer.ensures.same i).store) (λ i. (c.in-Ok.ensures.same i).sessions) c.answer.ensures.adds

@@ -1,0 +1,13 @@
+use Rattle.ctr_page_world.specs.Held.{held}
+use Rattle.ctr_page_world.proofs.Ending.{ended_as, in_order_as}
+use Rattle.ctr_page_world.proofs.world.World.finish.Goals as goal
+
+pub returns-clause-ends : goal.returns-clause-ends
+returns-clause-ends g c = λ s tells stands.
+    ended_as g.B.Opening g.B.Origin.first g.D.Disk (held c.finish.new.self) c.finish.ensures.kept c.finish.ensures.over s tells stands c.a_call_that_ends_leaves_a_prefix.ensures.end
+    c.from_vec.result c.len.result c.into_disk.result c.from_vec.ensures c.len.ensures c.into_disk.ensures
+
+pub returns-clause-order : goal.returns-clause-order
+returns-clause-order g c =
+    in_order_as g.B.Opening g.B.Origin.first g.D.Disk (held c.finish.new.self) c.finish.ensures.kept c.finish.ensures.over
+    c.from_vec.result c.into_disk.result c.from_vec.ensures c.into_disk.ensures

@@ -1,0 +1,74 @@
+-- What a World on pages leaves at its end, and why one isn't opened.
+use Rattle.std.specs.Prelude.{◌≡◌, ◌≢◌, ℕ, ◌≤◌, List, [], Option, None}
+use Rattle.ctr_types.specs.Faults.{CountsFault}
+use Rattle.ctr_types.specs.declared.statement.Line.{Line}
+use Rattle.ctr_types.specs.declared.tape.Entry.{Entry}
+use Rattle.ctr_disk.specs.declared.disk.Disk.{Ghosts}
+use Rattle.ctr_disk.specs.declared.fault.Stop.{Stop}
+use Rattle.ctr_disk.specs.Image.{Image}
+use Rattle.ctr_log.specs.declared.opening.OpenError.{OpenError}
+use Rattle.ctr_log.specs.declared.opening.OpenError.TheVariants.{NoDatabase, Damaged, Worn, Fault, OutOfMemory}
+use Rattle.ctr_model.specs.declared.tape.Point.{Point}
+use Rattle.ctr_model.specs.Tape.{final, at_start, IsWhole}
+use Rattle.ctr_model.specs.Texts.{answers}
+use Rattle.ctr_area.specs.Images.{undo_size}
+use Rattle.ctr_redo.specs.States.{State}
+use Rattle.ctr_kept.specs.Turns.{start_point}
+use Rattle.ctr_stops.specs.Stops.{HasFirstCommits, LeavesPrefixAt, LeftSince}
+use Rattle.ctr_store.specs.Opening.{RefusesAs}
+use Rattle.ctr_exec.specs.Runners.{IsUnbegun}
+use Rattle.std.specs.List.{AllByRecursion}
+use Rattle.ctr_page_world.specs.declared.opening.Opening.{Ghosts as Opening}
+use Rattle.ctr_page_world.specs.Held.{Held}
+use Rattle.ctr_page_world.specs.World.{start_in, IsLegalTape, IsTapeOf}
+
+-- where a tape has led, of a database in this state
+abbrev pub led_to : {B : Type 0} → Opening B → State → List Entry → Point
+led_to o s es = final o.lines (start_point (start_in o s)) es
+
+-- Of a database that the first image stands for, in a state: the tape is legal, and undo took no
+-- more turns than there was. Where nothing stopped the World, the tape is whole, recovery holds
+-- no name, undo took a turn for each item and transaction of the start, a crash at each moment leaves
+-- a prefix of the commit order with every commit answered by then, and one at the end all of them.
+pub record Ends {D B : Type 0} (o : Opening B) (g : Ghosts D) (s : State) (es : List Entry)
+    (stop : Option Stop) (undone : ℕ) (disk : D) : Type 0 where
+  pub legal : IsLegalTape o s (g.moment_of disk) es
+  pub undone_most : undone ≤ undo_size s.tables
+  pub undone_all : stop ≡ None → undone ≡ undo_size s.tables
+  pub whole : stop ≡ None → IsWhole o.lines (led_to o s es)
+  pub no_stuck : stop ≡ None → (led_to o s es).state.stuck ≡ []
+  pub survives : stop ≡ None → LeftSince g o.start disk
+      (LeavesPrefixAt o.before (start_in o s).base (led_to o s es).state.asked es)
+  pub durable : stop ≡ None → (c : Image) → g.since disk (g.moment_of disk) c
+      → HasFirstCommits (start_in o s).base (led_to o s es).state.asked (answers es) c
+
+-- Whatever the disk tells: the tape stands in the order of the script; where nothing stopped the
+-- World, it is whole.
+pub record EndsInOrder {D B : Type 0} (o : Opening B) (g : Ghosts D) (es : List Entry)
+    (stop : Option Stop) (disk : D) : Type 0 where
+  pub tape : IsTapeOf o (g.moment_of disk) es
+  pub whole : stop ≡ None → IsWhole o.lines (final o.lines (at_start o.start [] []) es)
+
+-- Nobody has begun a statement, the tape is empty, and nothing has stopped the World.
+pub record IsUnbegunWorld {D : Type 0} (lines : List Line) (w : Held D) : Type 0 where
+  pub going : w.stop ≡ None
+  pub lines_are : w.running.sessions.script.lines ≡ lines
+  pub tape : w.running.sessions.tape.items ≡ []
+  pub unbegun : AllByRecursion IsUnbegun w.running.sessions.runners.items
+
+-- the World wasn't opened: a fault is counted where it is told, and nowhere else
+pub record RefusesWith {D : Type 0} (g : Ghosts D) (old : D) (error : OpenError) (new : D)
+    : Type 0 where
+  pub later : g.moment_of old ≤ g.moment_of new
+  pub faults_later : g.faults_of old ≤ g.faults_of new
+  pub fault : error ≡ Fault → CountsFault (g.faults_of old) (g.faults_of new)
+  pub no_fault : error ≢ Fault → g.faults_of new ≡ g.faults_of old
+
+-- Why a World isn't opened says of its image that it has no database, or that a number is worn, only
+-- where that is so.
+abbrev pub RefusesWorld : Image → OpenError → Type 0
+RefusesWorld image NoDatabase = RefusesAs image NoDatabase
+RefusesWorld image (Damaged d) = Unit {0}
+RefusesWorld image (Worn n) = RefusesAs image (Worn n)
+RefusesWorld image Fault = Unit {0}
+RefusesWorld image OutOfMemory = Unit {0}

@@ -1,0 +1,6 @@
+pub mod Held
+pub mod Opened
+pub mod Begun
+pub mod World
+pub mod Turns
+pub mod Ended

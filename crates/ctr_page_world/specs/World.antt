@@ -1,0 +1,124 @@
+-- What a World on pages keeps between any two turns.
+use Rattle.std.specs.Prelude.{◌≡◌, ℕ, ◌-◌, ◌^◌, ◌≤◌, true, false, IsTrue, List, [], Option, Some, None}
+use Rattle.std.specs.List.{AllByRecursion}
+use Rattle.ctr_types.specs.Faults.{CountsFault}
+use Rattle.ctr_disk.specs.declared.disk.Disk.{Ghosts}
+use Rattle.ctr_disk.specs.declared.fault.Stop.{Stop}
+use Rattle.ctr_disk.specs.declared.fault.Stop.TheVariants as stop
+use Rattle.ctr_disk.specs.declared.fault.StoreFault.{StoreFault}
+use Rattle.ctr_disk.specs.declared.fault.StoreFault.TheVariants.{Fault, Damaged}
+use Rattle.ctr_disk.specs.Image.{Image}
+use Rattle.ctr_types.specs.declared.tape.Entry.{Entry}
+use Rattle.ctr_model.specs.State.{has_name}
+use Rattle.ctr_model.specs.Tape.{Legal, at_start, final}
+use Rattle.ctr_area.specs.Images.{undo_size}
+use Rattle.ctr_names.specs.Held.{names_of_items}
+use Rattle.ctr_redo.specs.States.{State}
+use Rattle.ctr_record_effects.specs.States.{area_in}
+use Rattle.ctr_record_effects.specs.Standing.{StandsForDatabase}
+use Rattle.ctr_kept.specs.Turns.{Start, start_point}
+use Rattle.ctr_kept.specs.Walk.{Mind}
+use Rattle.ctr_stops.specs.World.{starting}
+use Rattle.ctr_undo.specs.Left.{left_in}
+use Rattle.ctr_undo.specs.Keeping.{list_of}
+use Rattle.ctr_session_world.specs.Ready.{StandOver}
+use Rattle.ctr_exec.specs.Order.{IsOrdered, StandInOrder}
+use Rattle.ctr_exec.specs.Sessions.{AreSeated, ShowsSessions}
+use Rattle.ctr_page_world.specs.declared.opening.Opening.{Ghosts as Opening}
+use Rattle.ctr_page_world.specs.Held.{Running, Held}
+use Rattle.ctr_page_world.specs.Opened.{IsOpenedOn, IsRunLine}
+
+-- what the run begins with, of a database in this state
+abbrev pub start_in : {B : Type 0} → Opening B → State → Start
+start_in o s = starting o.lines o.start s
+
+-- ---- whatever the disk tells
+
+-- Recovery holds the names of what is left of undo, and no others.
+pub record HoldsLeft {D : Type 0} (w : Running D) : Type 0 where
+  pub named : AllByRecursion (λ (name : List ℕ). has_name name w.sessions.stuck ≡ true) w.names
+  pub only : (name : List ℕ) → has_name name w.sessions.stuck ≡ true → has_name name w.names ≡ true
+
+-- Each actor may take its turn: the sessions are seated over the store, which isn't stopped; the
+-- tape stands in order; recovery holds the names of what is left of undo, which is no more than there
+-- was; and the lines are those of a script that can be run.
+pub record IsReady {D B : Type 0} (o : Opening B) (g : Ghosts D) (w : Running D) : Type 0 where
+  pub stand : StandOver w.sessions.txns w.store
+  pub going : w.store.stopped ≡ false
+  pub seats : AreSeated w.sessions w.store.now.counted
+  pub ordered : IsOrdered o.start (g.moment_of w.store.disk) w.sessions
+  pub held : HoldsLeft w
+  pub count : left_in w.undo ≤ w.size
+  pub lines : AllByRecursion IsRunLine o.lines
+
+-- The tape stands in the order of the script, and its last entry isn't later than now.
+pub record IsTapeOf {B : Type 0} (o : Opening B) (now : ℕ) (es : List Entry) : Type 0 where
+  pub order : StandInOrder o.lines (at_start o.start [] []) es
+  pub later : (final o.lines (at_start o.start [] []) es).moment ≤ now
+
+-- ---- of a database that the first image stands for, in a state
+
+-- The World shows what its tape has led to: its sessions, what is left of undo, and the names of that.
+pub record Shows {D B : Type 0} (o : Opening B) (first : Image) (g : Ghosts D) (s : State)
+    (w : Running D) : Type 0 where
+  pub opened : D
+  pub on : IsOpenedOn o first g opened o.lines
+  pub mind : Mind
+  pub shows : ShowsSessions g (start_in o s) opened w.store w.sessions mind
+  pub undo : list_of mind ≡ w.undo
+  pub names : names_of_items (area_in w.store.now).title w.undo.items ≡ w.names
+
+-- The tape is legal, from the rows of the database and the names that recovery holds, and its last
+-- entry isn't later than now.
+pub record IsLegalTape {B : Type 0} (o : Opening B) (s : State) (now : ℕ) (es : List Entry) : Type 0
+  where
+    pub legal : Legal o.lines (start_point (start_in o s)) es
+    pub later : (final o.lines (start_point (start_in o s)) es).moment ≤ now
+
+-- the stop is a fault of the disk, or a number that is worn
+abbrev pub IsUndamaged : Option Stop → Type 0
+IsUndamaged None = Unit {0}
+IsUndamaged (Some stop.Fault) = Unit {0}
+IsUndamaged (Some (stop.Damaged d)) = ⊥
+IsUndamaged (Some (stop.Worn lsn)) = Unit {0}
+
+-- why a World stops, by what a call of its store has met
+abbrev pub stop_by : StoreFault → Stop
+stop_by Fault = stop.Fault
+stop_by (Damaged d) = stop.Damaged d
+
+-- ---- both
+
+-- a fault that stopped a World was counted; where nothing stopped it, or something else, none was met
+abbrev pub StopsBy : Option Stop → ℕ → ℕ → Type 0
+StopsBy None before now = now ≡ before
+StopsBy (Some stop.Fault) before now = CountsFault before now
+StopsBy (Some (stop.Damaged d)) before now = now ≡ before
+StopsBy (Some (stop.Worn lsn)) before now = now ≡ before
+
+-- a World is worn exactly where its records have come to the last number, 2^63 - 1
+abbrev pub IsWornAt : {D : Type 0} → Option Stop → Running D → Type 0
+IsWornAt None w = Unit {0}
+IsWornAt (Some stop.Fault) w = Unit {0}
+IsWornAt (Some (stop.Damaged d)) w = Unit {0}
+IsWornAt (Some (stop.Worn lsn)) w = (lsn ≡ w.store.next) × (2 ^ 63 - 1 ≤ lsn)
+
+-- Since the World was opened on the disk and the script that its type names.
+pub record Kept {D B : Type 0} (o : Opening B) (first : Image) (g : Ghosts D) (w : Held D) : Type 0
+  where
+    pub ready : w.stop ≡ None → IsReady o g w.running
+    pub shows : (s : State) → IsTrue g.tells → StandsForDatabase first s → w.stop ≡ None
+        → Shows o first g s w.running
+    pub tape : IsTapeOf o (g.moment_of w.running.store.disk) w.running.sessions.tape.items
+    pub legal : (s : State) → IsTrue g.tells → StandsForDatabase first s
+        → IsLegalTape o s (g.moment_of w.running.store.disk) w.running.sessions.tape.items
+    pub sized : (s : State) → IsTrue g.tells → StandsForDatabase first s
+        → w.running.size ≡ undo_size s.tables
+    pub undamaged : (s : State) → IsTrue g.tells → StandsForDatabase first s → IsUndamaged w.stop
+    pub lines_are : w.running.sessions.script.lines ≡ o.lines
+    pub each : AllByRecursion IsRunLine o.lines
+    pub count : left_in w.running.undo ≤ w.running.size
+    pub later : o.start ≤ g.moment_of w.running.store.disk
+    pub faults_later : o.faults ≤ g.faults_of w.running.store.disk
+    pub stops : StopsBy w.stop o.faults (g.faults_of w.running.store.disk)
+    pub worn : IsWornAt w.stop w.running

@@ -1,0 +1,33 @@
+// Which sessions have statements left.
+ghost use Rattle.std.specs.Prelude.{◌≡◌, ◌≤◌, ℕ, length, true, false, None, IfSome};
+ghost use Rattle.ctr_page_world.specs.Turns.{HasStatementLeft};
+
+use ctr_exec::Sessions;
+
+/// Whether a session has a statement that isn't finished.
+pub(crate) fn has_left(sessions: &Sessions, s: u8) -> bool
+    requires eight { length sessions.now.runners.items ≡ 8 }
+    ensures yes { result ≡ true → HasStatementLeft s sessions.now }
+    ensures no { result ≡ false → HasStatementLeft s sessions.now → ⊥ }
+{
+    if s == 0 || s > 8 {
+        return false;
+    }
+    sessions.has_more(s)
+}
+
+/// The first session, from this one on, that has a statement that isn't finished.
+pub(crate) fn first_left(sessions: &Sessions, s: u8) -> Option<u8>
+    requires eight { length sessions.now.runners.items ≡ 8 }
+    requires small { s ≤ 9 }
+    ensures left { IfSome result (λ q. HasStatementLeft q sessions.now) }
+    ensures none { result ≡ None → (q : ℕ) → s ≤ q → HasStatementLeft q sessions.now → ⊥ }
+{
+    if s > 8 {
+        return None;
+    }
+    if has_left(sessions, s) {
+        return Some(s);
+    }
+    first_left(sessions, s + 1)
+}

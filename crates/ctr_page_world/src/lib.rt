@@ -1,0 +1,15 @@
+//! The World on pages: it steps the sessions of a script, recovery's undo and the flusher over the store of a disk, and keeps
+//! the tape.
+#![tactic(auto)]
+
+mod beginning;
+mod engine;
+mod laws;
+mod left;
+mod names;
+mod opening;
+mod parts;
+mod world;
+
+pub use opening::Opening;
+pub use world::{Finished, World};

@@ -1,0 +1,177 @@
+// The World: its type names what it was opened on, and keeps the tape legal and the disk's images in order.
+ghost use Rattle.std.specs.Prelude.{◌≡◌, ◌≢◌, ◌≤◌, ◌-◌, ◌^◌, ℕ, None, Some, IsTrue, true, false, IfOk, IfErr};
+ghost use Rattle.ctr_disk.specs.declared.fault.Stop.TheVariants.{Worn};
+ghost use Rattle.ctr_redo.specs.States.{State};
+ghost use Rattle.ctr_record_effects.specs.Standing.{StandsForDatabase};
+ghost use Rattle.ctr_base.specs.Base.{WhereSound};
+ghost use Rattle.ctr_store.specs.Opening.{IsUndamaged};
+ghost use Rattle.ctr_store.specs.StoreOpening.{OpensStore};
+ghost use Rattle.ctr_undo.specs.Left.{left_in};
+ghost use Rattle.ctr_page_world.specs.Opened.{IsOpenedOn, CanRun};
+ghost use Rattle.ctr_page_world.specs.World.{StopsBy};
+ghost use Rattle.ctr_page_world.specs.Turns.{HasStatementLeft, EndsTurn};
+ghost use Rattle.ctr_page_world.specs.Ended.{Ends, EndsInOrder, IsUnbegunWorld, RefusesWith, RefusesWorld};
+
+use crate::beginning::begin;
+use crate::engine::Engine;
+use crate::opening::Opening;
+use crate::parts::Parts;
+use ctr_base::Origin;
+use ctr_disk::{Disk, Stop};
+use ctr_exec::{Sessions, a_script_begins_in_a_world};
+use ctr_log::OpenError;
+use ctr_session_world::pages_that_are_read_keep_a_world;
+use ctr_stops::{a_call_that_ends_leaves_a_prefix, a_world_begins};
+use ctr_store::Store;
+use ctr_types::{Actor, Entry, List, Script, Tape, Turn};
+use std::alloc::Global;
+use std::marker::Model;
+
+/// A database that runs a script of eight sessions, beside recovery's undo. Its tape is legal at every moment.
+#[derive(Drop)]
+pub struct World<D: Disk, B: Origin + Opening> {
+    parts: Parts<D, B>,
+}
+
+impl<D: Disk, B: Origin + Opening> Model for World<D, B> {
+    ghost use Rattle.ctr_page_world.specs.Held.{Held, held};
+
+    ghost Value = { Held D };
+
+    ghost view = { λ w. held w.parts };
+
+    ghost use Rattle.ctr_page_world.specs.World.{Kept};
+
+    ghost invariant = { λ w. Kept B.Opening B.first D.Disk (held w.parts) };
+}
+
+/// What a World leaves at its end.
+#[derive(Drop)]
+pub struct Finished<D> {
+    /// Every act with its reply.
+    pub tape: Tape,
+    /// Why it stopped, if it did.
+    pub stop: Option<Stop>,
+    /// How many turns undo took.
+    pub undone: usize,
+    /// The disk that it was opened on.
+    pub disk: D,
+}
+
+impl<D: Disk, B: Origin + Opening> World<D, B> {
+    /// Opens the database of a disk for a script, over so many frames, 8 to 4,096. Room for the whole tape is taken. Nothing is logged: pages may
+    /// go home that the log's records are on. A refusal gives the disk back.
+    pub fn open(
+        alloc: Global,
+        disk: D,
+        frames: usize,
+        script: Script,
+    ) -> Result<World<D, B>, (OpenError, D)>
+        requires named { IsOpenedOn B.Opening B.first D.Disk disk script.lines }
+        requires frames { (8 ≤ frames) × (frames ≤ 4096) }
+        requires runs { CanRun script.lines }
+        ensures begins { IfOk result (IsUnbegunWorld script.lines) }
+        // Nothing was logged, and a sound image stands behind it as it did; no fault was met.
+        ensures stands { WhereSound B.first D.Disk (IfOk result (λ w. OpensStore B.first w.running.store)) }
+        ensures counts { IfOk result (λ w. (D.moment_of disk ≤ D.moment_of w.running.store.disk) × (D.faults_of w.running.store.disk ≡ D.faults_of disk)) }
+        // A database is refused by its numbers, for a fault, or for want of memory.
+        ensures undamaged { (s : State) → IsTrue D.tells → StandsForDatabase B.first s → IfErr result (λ e. IsUndamaged e.0) }
+        // No database, or a worn number, is told where it is so.
+        ensures refused { IsTrue D.tells → IfErr result (λ e. RefusesWorld B.first e.0) }
+        ensures stays { IfErr result (λ e. RefusesWith D.Disk disk e.0 e.1) }
+    {
+        let mut store = match Store::<D, B>::open(alloc, disk, frames) {
+            Ok(store) => store,
+            Err(refused) => return Err(refused),
+        };
+        a_world_begins::<D>();
+        a_script_begins_in_a_world::<D>();
+        pages_that_are_read_keep_a_world::<D>();
+        match begin(alloc, &mut store, script) {
+            Ok(begun) => {
+                store.rests();
+                Ok(World {
+                    parts: Parts {
+                        engine: Engine {
+                            store,
+                            sessions: begun.sessions,
+                            undo: begun.undo,
+                            names: begun.names,
+                            size: begun.size,
+                        },
+                        stop: None,
+                    },
+                })
+            }
+            Err(error) => Err((error, store.into_disk())),
+        }
+    }
+
+    /// Every session's statements are finished, and nothing has stopped the World.
+    pub fn done(&self) -> bool
+        ensures yes { result ≡ true → (self.now.stop ≡ None) × ((s : ℕ) → HasStatementLeft s self.now.running.sessions → ⊥) }
+        ensures no { result ≡ false → self.now.stop ≡ None → (s : ℕ) × HasStatementLeft s self.now.running.sessions }
+    {
+        self.parts.done()
+    }
+
+    /// Why the World stopped, if it did.
+    pub fn stopped(&self) -> Option<Stop>
+        ensures { result ≡ self.now.stop }
+    {
+        self.parts.stop
+    }
+
+    /// The tape so far.
+    pub fn tape(&self) -> &[Entry]
+        ensures { result.now ≡ self.now.running.sessions.tape.items }
+    {
+        &self.parts.engine.sessions.tape
+    }
+
+    /// A turn of an actor. After a stop it does nothing.
+    pub fn step(&mut self, alloc: Global, actor: Actor) -> Turn
+        ensures says { EndsTurn D.Disk result actor self.old self.new }
+    {
+        self.parts.step(alloc, actor)
+    }
+
+    /// Steps each session whose statements aren't finished, in order of number, until they are, and then undo until nothing is left of it, and
+    /// makes all durable; or until the World stops. One that is stopped is left as it is.
+    pub fn finish(self, alloc: Global) -> Finished<D>
+        // Of a database that the first image stands for, what its tape and its undo are, and what a crash leaves.
+        ensures ends { (s : State) → IsTrue D.tells → StandsForDatabase B.first s → Ends B.Opening D.Disk s result.tape.entries result.stop result.undone result.disk }
+        // Whatever the disk tells, the tape stands in the order of the script.
+        ensures order { EndsInOrder B.Opening D.Disk result.tape.entries result.stop result.disk }
+        ensures stopped { self.stop ≢ None → (result.tape.entries ≡ self.running.sessions.tape.items) × (result.stop ≡ self.stop)
+            × (result.undone ≡ self.running.size - left_in self.running.undo) × (result.disk ≡ self.running.store.disk) }
+        ensures later { B.start ≤ D.moment_of result.disk }
+        // A fault is the cause of a stop or none was met.
+        ensures stops { StopsBy result.stop B.faults (D.faults_of result.disk) }
+        ensures faults { B.faults ≤ D.faults_of result.disk }
+        ensures worn { (lsn : ℕ) → result.stop ≡ Some (Worn lsn) → 2 ^ 63 - 1 ≤ lsn }
+    {
+        a_call_that_ends_leaves_a_prefix::<D>();
+        let World { parts } = self;
+        let mut parts = parts;
+        parts.finish(alloc);
+        let Parts { engine, stop } = parts;
+        let Engine {
+            store,
+            sessions,
+            undo,
+            names: _,
+            size,
+        } = engine;
+        let undone = size - undo.len();
+        let Sessions { tape, .. } = sessions;
+        Finished {
+            tape: Tape {
+                entries: List::from_vec(tape),
+            },
+            stop,
+            undone,
+            disk: store.into_disk(),
+        }
+    }
+}
