@@ -100,6 +100,7 @@ module _ {D B : Type 0} (o : Opening B) (first : Image) (g : Ghosts D) (w : Held
     pub ended : Ends o g s r.sessions.tape.items w.stop (r.size - left_in r.undo) r.store.disk
     ended = record {
       legal = kept.legal s tells stands;
+      undamaged = kept.undamaged s tells stands;
       undone_most = most_so r.size (left_in r.undo) _ (kept.sized s tells stands);
       undone_all = λ going. undone_so r.size (left_in r.undo) _ (left_none (over going).0.undo) (kept.sized s tells stands);
       whole = λ going. subst (λ (es : List Entry). IsWhole o.lines (led_to o s es)) (sym (tape_is going)) (whole_now going);

@@ -20,19 +20,20 @@ use Rattle.ctr_exec.specs.Runners.{IsUnbegun}
 use Rattle.std.specs.List.{AllByRecursion}
 use Rattle.ctr_page_world.specs.declared.opening.Opening.{Ghosts as Opening}
 use Rattle.ctr_page_world.specs.Held.{Held}
-use Rattle.ctr_page_world.specs.World.{start_in, IsLegalTape, IsTapeOf}
+use Rattle.ctr_page_world.specs.World.{start_in, IsLegalTape, IsTapeOf, IsUndamaged}
 
 -- where a tape has led, of a database in this state
 abbrev pub led_to : {B : Type 0} → Opening B → State → List Entry → Point
 led_to o s es = final o.lines (start_point (start_in o s)) es
 
--- Of a database that the first image stands for, in a state: the tape is legal, and undo took no
--- more turns than there was. Where nothing stopped the World, the tape is whole, recovery holds
+-- Of a database that the first image stands for, in a state: the tape is legal, no damage was told,
+-- and undo took no more turns than there was. Where nothing stopped the World, the tape is whole, recovery holds
 -- no name, undo took a turn for each item and transaction of the start, a crash at each moment leaves
 -- a prefix of the commit order with every commit answered by then, and one at the end all of them.
 pub record Ends {D B : Type 0} (o : Opening B) (g : Ghosts D) (s : State) (es : List Entry)
     (stop : Option Stop) (undone : ℕ) (disk : D) : Type 0 where
   pub legal : IsLegalTape o s (g.moment_of disk) es
+  pub undamaged : IsUndamaged stop
   pub undone_most : undone ≤ undo_size s.tables
   pub undone_all : stop ≡ None → undone ≡ undo_size s.tables
   pub whole : stop ≡ None → IsWhole o.lines (led_to o s es)

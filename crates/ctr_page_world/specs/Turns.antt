@@ -120,6 +120,14 @@ NoneLeft actor.Undo w = NoneIsLeft w.undo
 NoneLeft actor.Flusher w = ⊥
 NoneLeft actor.Cleaner w = ⊥
 
+-- a session that goes has a statement that isn't finished, and undo something that is left; what the
+-- flusher found is told with what it did
+abbrev pub HasTurnLeft : {D : Type 0} → Actor → Running D → Type 0
+HasTurnLeft (actor.Session s) w = HasStatementLeft s w.sessions
+HasTurnLeft actor.Undo w = NoneIsLeft w.undo → ⊥
+HasTurnLeft actor.Flusher w = Unit {0}
+HasTurnLeft actor.Cleaner w = ⊥
+
 -- all sessions are over, and nothing is left of undo
 pub record IsOver {D : Type 0} (w : Held D) : Type 0 where
   pub sessions : (s : ℕ) → HasStatementLeft s w.running.sessions → ⊥
@@ -144,7 +152,7 @@ pub record TellsNothing {D : Type 0} (old new : Running D) : Type 0 where
 abbrev pub EndsTurn : {D : Type 0} → Ghosts D → Turn → Actor → Held D → Held D → Type 0
 EndsTurn g turn.Went a old new = (old.stop ≡ None) × (new.stop ≡ None)
     × AddsEntries (AreBy a) (g.moment_of new.running.store.disk) old.running new.running
-    × ComesNearer a old.running new.running
+    × ComesNearer a old.running new.running × HasTurnLeft a old.running
 EndsTurn g turn.Idle a old new = (old.stop ≡ None) × (new.stop ≡ None) × NoneDue a old.running
     × TellsNothing old.running new.running
 EndsTurn g turn.Short a old new = ⊥

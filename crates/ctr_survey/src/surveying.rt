@@ -52,7 +52,7 @@ fn counted<D: Disk, O: Origin>(
 
 /// What the database of a store holds: its committed tables, with their rows; and what recovery would find: transactions that a
 /// stop left open, aborted ones, and items of the secondary log. Pages are read, and nothing is logged. It takes memory for the
-/// rows of one table at a time.
+/// numbers of open transactions, for the aborted ones, and for the rows of one table at a time.
 pub fn survey<D: Disk, O: Origin>(
     alloc: Global,
     store: &mut Store<D, O>,
