@@ -1,14 +1,13 @@
 // COMMIT's answer.
 ghost use Rattle.std.specs.Prelude.{◌≡◌, ◌-◌, false, None, [], length, OnOk, OnErr, IfSome, Err};
 ghost use Rattle.ctr_disk.specs.declared.fault.StoreFault.TheVariants.{Fault};
-ghost use Rattle.ctr_types.specs.Faults.{HasFault};
 ghost use Rattle.ctr_base.specs.Base.{WhereSound};
 ghost use Rattle.ctr_kept.specs.Turns.{Start};
 ghost use Rattle.ctr_kept.specs.Walk.{Mind};
 ghost use Rattle.ctr_store.specs.Store.{KeepsRoom, LeavesPage, turns_for_room};
 ghost use Rattle.ctr_txn.specs.Steps.{AnswersNext};
 ghost use Rattle.ctr_control.specs.Answers.{IsWorld, IsAnswered};
-ghost use Rattle.ctr_session_world.specs.Ready.{StandOver, TakesTime};
+ghost use Rattle.ctr_session_world.specs.Ready.{StandOver};
 ghost use Rattle.ctr_session_world.specs.World.{SessionsHeld, InWorld};
 
 use ctr_base::Origin;
@@ -29,10 +28,6 @@ pub fn flush<D: Disk, O: Origin>(store: &mut Store<D, O>) -> Result<(), StoreFau
     ensures refused { OnErr result (result ≡ Err Fault) }
     // Tables and their room are as they were, so that whoever stands over the store does still.
     ensures keeps { KeepsRoom store.old store.new }
-    // A fault is told where the disk counts one more.
-    ensures faults { HasFault Fault (D.faults_of store.old.disk) (D.faults_of store.new.disk) result }
-    // Time doesn't go back.
-    ensures time { TakesTime D.Disk store.old store.new }
 {
     pages_that_are_read_keep_a_world::<D>();
     store.harden()
@@ -49,10 +44,6 @@ pub fn make_room<D: Disk, O: Origin>(store: &mut Store<D, O>) -> Result<(), Stor
     ensures refused { WhereSound O.first D.Disk (OnErr result (result ≡ Err Fault)) }
     // Tables and their room are as they were, so that whoever stands over the store does still.
     ensures keeps { KeepsRoom store.old store.new }
-    // A fault is told where the disk counts one more.
-    ensures faults { HasFault Fault (D.faults_of store.old.disk) (D.faults_of store.new.disk) result }
-    // Time doesn't go back.
-    ensures time { TakesTime D.Disk store.old store.new }
 {
     pages_that_are_read_keep_a_world::<D>();
     let made = store.make_room();

@@ -1,7 +1,6 @@
 // COMMIT's first act.
 ghost use Rattle.std.specs.Prelude.{◌≡◌, false, true, IfOk, IfErr};
 ghost use Rattle.ctr_disk.specs.declared.fault.StoreFault.TheVariants.{Fault};
-ghost use Rattle.ctr_types.specs.Faults.{HasFault};
 ghost use Rattle.ctr_types.specs.declared.statement.Statement.TheVariants as st;
 ghost use Rattle.ctr_types.specs.declared.tape.Act.TheVariants as act;
 ghost use Rattle.ctr_model.specs.Laws.{is_asked};
@@ -9,7 +8,7 @@ ghost use Rattle.ctr_model.specs.Tape.{goes_on};
 ghost use Rattle.ctr_base.specs.Base.{WhereSound};
 ghost use Rattle.ctr_kept.specs.Turns.{Start};
 ghost use Rattle.ctr_txn.specs.Held.{txn_of};
-ghost use Rattle.ctr_session_world.specs.Ready.{LeavesReady, MayTurn, StaysUnasked, TakesTime, is_asking};
+ghost use Rattle.ctr_session_world.specs.Ready.{LeavesReady, MayTurn, StaysUnasked, LeavesDisk, is_asking};
 ghost use Rattle.ctr_session_world.specs.Told.{IsNextOf, IsTold, IsIdleIn};
 
 use crate::marks::ask_for;
@@ -43,10 +42,9 @@ pub fn ask<D: Disk, O: Origin>(
     // In a World it fails by the disk alone.
     ensures refused { (c : Start) (opened : D) → WhereSound O.first D.Disk ((next : IsNextOf D.Disk c opened store.old store.new (record { txns = txns.old; locks = locks.old }) s st.Commit 0) → IsIdleIn c next.mind s
         → IfErr result (λ e. e ≡ Fault)) }
-    // A fault is told where the disk counts one more.
-    ensures faults { HasFault Fault (D.faults_of store.old.disk) (D.faults_of store.new.disk) result }
-    // Time doesn't go back.
-    ensures time { TakesTime D.Disk store.old store.new }
+    // However it ends, time doesn't go back, a fault is told where the disk counts one more, and a crash in it leaves what was hardened with
+    // some of what waited.
+    ensures disk { LeavesDisk O.first D.Disk store.old store.new result }
 {
     a_commit_that_is_asked_for_is_told::<D>();
     a_reader_that_ends_is_told::<D>();

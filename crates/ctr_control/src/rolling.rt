@@ -1,7 +1,6 @@
 // ROLLBACK, turn by turn.
 ghost use Rattle.std.specs.Prelude.{◌≡◌, ◌≤◌, ◌+◌, Ok, None, OnOk, IfOk, IfErr};
 ghost use Rattle.ctr_disk.specs.declared.fault.StoreFault.TheVariants.{Fault};
-ghost use Rattle.ctr_types.specs.Faults.{HasFault};
 ghost use Rattle.ctr_types.specs.declared.statement.Statement.TheVariants as st;
 ghost use Rattle.ctr_types.specs.declared.tape.Act.TheVariants as act;
 ghost use Rattle.ctr_base.specs.Base.{WhereSound};
@@ -12,7 +11,7 @@ ghost use Rattle.ctr_txn.specs.Rooms.{HasItemRoom};
 ghost use Rattle.ctr_page_turns.specs.Turns.{LogsAtRest};
 ghost use Rattle.ctr_rollback.specs.Rolling.{MayRoll, EndsRoll, RollsTxns, TakesSteps};
 ghost use Rattle.ctr_control.specs.Rolling.{as_rolled};
-ghost use Rattle.ctr_session_world.specs.Ready.{LeavesOver, MayTurn, TakesTime};
+ghost use Rattle.ctr_session_world.specs.Ready.{LeavesOver, MayTurn, LeavesDisk};
 ghost use Rattle.ctr_session_world.specs.Told.{IsNextOf, TellsOrGoesOn};
 
 use ctr_base::Origin;
@@ -39,8 +38,7 @@ fn undo_or_abort<D: Disk, O: Origin, L: Ledger>(
     ensures over { HasItemRoom txns.old store.old.meta → LeavesOver s txns.old txns.new store.old store.new result }
     ensures rolls { WhereSound O.first D.Disk (MayRoll (number_drawn s txns.old) store.old.now → EndsRoll (number_drawn s txns.old) store.old.now store.new.now result) }
     ensures steps { TakesSteps result steps.old steps.new × OnOk result (store.new.next ≡ store.old.next + 1) }
-    ensures faults { HasFault Fault (D.faults_of store.old.disk) (D.faults_of store.new.disk) result }
-    ensures time { TakesTime D.Disk store.old store.new }
+    ensures disk { LeavesDisk O.first D.Disk store.old store.new result }
 {
     txns.counts_sessions();
     let rolled = turn(store, txns, s, steps);
@@ -69,10 +67,9 @@ pub fn roll_back<D: Disk, O: Origin, L: Ledger>(
     ensures steps { (steps.new ≤ steps.old + 2) × (result ≡ Ok None → store.new.next ≡ store.old.next + 1) }
     // In a World it fails by the disk alone.
     ensures refused { (c : Start) (opened : D) → WhereSound O.first D.Disk (IsNextOf D.Disk c opened store.old store.new (record { txns = txns.old; locks = locks.old }) s st.Rollback 0 → IfErr result (λ e. e ≡ Fault)) }
-    // A fault is told where the disk counts one more.
-    ensures faults { HasFault Fault (D.faults_of store.old.disk) (D.faults_of store.new.disk) result }
-    // Time doesn't go back.
-    ensures time { TakesTime D.Disk store.old store.new }
+    // However it ends, time doesn't go back, a fault is told where the disk counts one more, and a crash in it leaves what was hardened with
+    // some of what waited.
+    ensures disk { LeavesDisk O.first D.Disk store.old store.new result }
 {
     a_turn_of_a_rollback_is_kept::<D>();
     a_reader_that_ends_is_told::<D>();

@@ -18,7 +18,7 @@ use Rattle.ctr_store.specs.Store.{View}
 use Rattle.ctr_kept.specs.Turns.{Start, point_now, start_point, state_now}
 use Rattle.ctr_kept.specs.Walk.{Mind}
 use Rattle.ctr_txn.specs.Held.{IsOneOfEight}
-use Rattle.ctr_session_world.specs.World.{InWorld}
+use Rattle.ctr_writing.specs.ctr_session_world.World.{InWorld}
 use Rattle.ctr_exec.specs.declared.runners.Runner.{Runner}
 use Rattle.ctr_exec.specs.declared.runners.Stage.{Stage}
 use Rattle.ctr_exec.specs.declared.sessions.Sessions.{Sessions}

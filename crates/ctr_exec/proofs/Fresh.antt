@@ -8,7 +8,7 @@ use Rattle.ctr_types.specs.declared.statement.Line.{Line}
 use Rattle.ctr_meta.specs.Kept.{TablesKept}
 use Rattle.ctr_txn.specs.Held.{TxnHeld, TxnsHeld}
 use Rattle.ctr_txn.specs.Rooms.{item_kept, HasItemRoom}
-use Rattle.ctr_session_world.specs.Ready.{is_asking}
+use Rattle.ctr_writing.specs.ctr_session_world.Ready.{is_asking}
 use Rattle.ctr_writing.specs.Tables.{HasFittingColumns}
 use Rattle.ctr_exec.specs.declared.runners.Stage.{Stage}
 use Rattle.ctr_exec.specs.declared.runners.Stage.TheVariants as stage

@@ -14,3 +14,6 @@ pub mod Noting
 pub mod Released
 pub mod Ordered
 pub mod Fewer
+pub use Rattle.ctr_control.proofs as ctr_control
+pub use Rattle.ctr_writing.proofs as ctr_writing
+pub use Rattle.ctr_writing.proofs.ctr_session_world as ctr_session_world

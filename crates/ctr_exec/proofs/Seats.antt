@@ -14,13 +14,13 @@ use Rattle.ctr_versions.proofs.Keys.{known, some_is}
 use Rattle.ctr_txn.specs.declared.txn.Asked.{Asked}
 use Rattle.ctr_txn.specs.Held.{TxnHeld, TxnsHeld, IsOneOfEight, txn_of}
 use Rattle.ctr_txn.specs.Steps.{AnswersNext}
-use Rattle.ctr_looks.specs.ctr_extend.Ways.{IsCountedWay}
-use Rattle.ctr_looks.specs.ctr_extend.declared.ways.OnWay.{OnWay}
-use Rattle.ctr_looks.specs.ctr_extend.declared.ways.OnWay.TheVariants.{Wanted, Taken, Made}
-use Rattle.ctr_looks.specs.ctr_write.declared.stages.Stage.{Stage as WriteStage}
-use Rattle.ctr_looks.specs.ctr_write.declared.stages.Stage.TheVariants.{Looking, Extending, Kept}
-use Rattle.ctr_looks.specs.ctr_write.Stages.{IsCountedStage}
-use Rattle.ctr_session_world.specs.Ready.{is_asking}
+use Rattle.ctr_writing.specs.ctr_looks.ctr_extend.Ways.{IsCountedWay}
+use Rattle.ctr_writing.specs.ctr_looks.ctr_extend.declared.ways.OnWay.{OnWay}
+use Rattle.ctr_writing.specs.ctr_looks.ctr_extend.declared.ways.OnWay.TheVariants.{Wanted, Taken, Made}
+use Rattle.ctr_writing.specs.ctr_looks.ctr_write.declared.stages.Stage.{Stage as WriteStage}
+use Rattle.ctr_writing.specs.ctr_looks.ctr_write.declared.stages.Stage.TheVariants.{Looking, Extending, Kept}
+use Rattle.ctr_writing.specs.ctr_looks.ctr_write.Stages.{IsCountedStage}
+use Rattle.ctr_writing.specs.ctr_session_world.Ready.{is_asking}
 use Rattle.ctr_writing.specs.Rows.{MayGoOn}
 use Rattle.ctr_writing.specs.Tables.{HasFittingColumns}
 use Rattle.ctr_exec.specs.declared.acting.Acted.{Acted}

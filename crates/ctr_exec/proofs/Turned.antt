@@ -19,7 +19,7 @@ use Rattle.ctr_store.specs.Store.{View}
 use Rattle.ctr_kept.specs.Turns.{Start, point_now, state_now}
 use Rattle.ctr_kept.specs.Walk.{Mind}
 use Rattle.ctr_txn.specs.Held.{TxnsHeld, IsOneOfEight}
-use Rattle.ctr_session_world.specs.Told.{IsNextOf, IsTold, IsKeptOn}
+use Rattle.ctr_writing.specs.ctr_session_world.Told.{IsNextOf, IsTold, IsKeptOn}
 use Rattle.ctr_exec.specs.declared.acting.Acted.{Acted}
 use Rattle.ctr_exec.specs.declared.acting.Acted.TheVariants as acted
 use Rattle.ctr_exec.specs.declared.runners.Runner.{Runner}

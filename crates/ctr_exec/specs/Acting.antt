@@ -16,11 +16,11 @@ use Rattle.ctr_store.specs.Store.{View}
 use Rattle.ctr_kept.specs.Turns.{Start}
 use Rattle.ctr_kept.specs.Walk.{Mind}
 use Rattle.ctr_txn.specs.Held.{TxnsHeld, txn_of}
-use Rattle.ctr_looks.specs.Granting.{HasItem}
-use Rattle.ctr_looks.specs.Locking.{IsWriteOf}
-use Rattle.ctr_session_world.specs.World.{SessionsHeld}
-use Rattle.ctr_session_world.specs.Told.{IsIdleIn, IsNextOf, IsTold, IsKeptOn}
-use Rattle.ctr_session_world.specs.Ready.{LeavesReady, StaysUnasked, is_asking}
+use Rattle.ctr_writing.specs.ctr_looks.Granting.{HasItem}
+use Rattle.ctr_writing.specs.ctr_looks.Locking.{IsWriteOf}
+use Rattle.ctr_writing.specs.ctr_session_world.World.{SessionsHeld}
+use Rattle.ctr_writing.specs.ctr_session_world.Told.{IsIdleIn, IsNextOf, IsTold, IsKeptOn}
+use Rattle.ctr_writing.specs.ctr_session_world.Ready.{LeavesReady, StaysUnasked, is_asking}
 use Rattle.ctr_writing.specs.Rows.{IsAtRow, MayGoOn, WentOn}
 use Rattle.ctr_writing.specs.Tables.{IsAtTableWrite}
 use Rattle.ctr_exec.specs.declared.acting.Acted.{Acted}

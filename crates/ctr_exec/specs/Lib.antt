@@ -2,3 +2,6 @@ pub mod Runners
 pub mod Acting
 pub mod Sessions
 pub mod Order
+pub use Rattle.ctr_control.specs as ctr_control
+pub use Rattle.ctr_writing.specs as ctr_writing
+pub use Rattle.ctr_writing.specs.ctr_session_world as ctr_session_world

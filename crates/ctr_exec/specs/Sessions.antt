@@ -23,8 +23,8 @@ use Rattle.ctr_kept.specs.Walk.{Mind}
 use Rattle.ctr_meta.specs.Kept.{TablesKept}
 use Rattle.ctr_txn.specs.Held.{IsOneOfEight, txn_of}
 use Rattle.ctr_txn.specs.Rooms.{HasItemRoom}
-use Rattle.ctr_session_world.specs.World.{SessionsHeld, InWorld, NamesStay}
-use Rattle.ctr_session_world.specs.Ready.{StandOver, is_asking}
+use Rattle.ctr_writing.specs.ctr_session_world.World.{SessionsHeld, InWorld, NamesStay}
+use Rattle.ctr_writing.specs.ctr_session_world.Ready.{StandOver, is_asking}
 use Rattle.ctr_writing.specs.Rows.{WentOn}
 use Rattle.ctr_writing.specs.Tables.{HasFittingColumns}
 use Rattle.ctr_exec.specs.declared.acting.Acted.{Acted}

@@ -1,15 +1,13 @@
 // A turn of an act of a session's statement, by the kind of the statement.
 ghost use Rattle.std.specs.Prelude.{◌≡◌, ◌≤◌, ◌+◌, ℕ, List, true, is_some, IfOk};
-ghost use Rattle.ctr_disk.specs.declared.fault.StoreFault.TheVariants.{Fault};
-ghost use Rattle.ctr_types.specs.Faults.{HasFault};
 ghost use Rattle.ctr_types.specs.declared.statement.Statement.TheVariants as st;
 ghost use Rattle.ctr_model.specs.Refusals.{changes_schema, key_written};
 ghost use Rattle.ctr_base.specs.Base.{WhereSound};
 ghost use Rattle.ctr_kept.specs.Turns.{Start, state_now};
 ghost use Rattle.ctr_key_locks.specs.Held.{LocksOfSession};
-ghost use Rattle.ctr_session_world.specs.Ready.{MayTurn, TakesTime};
-ghost use Rattle.ctr_session_world.specs.Told.{IsIdleIn, IsNextOf};
-ghost use Rattle.ctr_looks.specs.Selecting.{IsSelect};
+ghost use Rattle.ctr_writing.specs.ctr_session_world.Ready.{MayTurn, LeavesDisk};
+ghost use Rattle.ctr_writing.specs.ctr_session_world.Told.{IsIdleIn, IsNextOf};
+ghost use Rattle.ctr_writing.specs.ctr_looks.Selecting.{IsSelect};
 ghost use Rattle.ctr_writing.specs.Tables.{HasFittingColumns};
 ghost use Rattle.ctr_exec.specs.declared.runners.Stage.TheVariants as stages;
 ghost use Rattle.ctr_exec.specs.Runners.{made_at};
@@ -20,13 +18,13 @@ use ctr_base::Origin;
 use ctr_control::{ask, begin, roll_back};
 use ctr_disk::{Disk, StoreFault};
 use ctr_key_locks::KeyLocks;
-use ctr_looks::wishes::Prepared;
-use ctr_looks::{Locked, TableLocked, TableWrite, lock_row, lock_table, read, writes};
-use ctr_session_world::a_session_is_idle_behind_a_reply;
 use ctr_store::Store;
 use ctr_tally::Steps;
 use ctr_txn::Txns;
 use ctr_types::{Act, List, Name, Reply, Statement};
+use ctr_writing::looks::wishes::Prepared;
+use ctr_writing::looks::{Locked, TableLocked, TableWrite, lock_row, lock_table, read, writes};
+use ctr_writing::session_world::a_session_is_idle_behind_a_reply;
 use ctr_writing::{Wrote, write_row, write_table};
 use std::alloc::Global;
 use std::sync::ledger::Ledger;
@@ -56,10 +54,10 @@ fn begun<D: Disk, O: Origin>(
     ensures over { IfOk result (LeavesSessions s txns.old txns.new store.old store.new) }
     ensures told { (c : Start) (opened : D) (locks : List (ℕ × LocksOfSession)) → WhereSound O.first D.Disk ((next : IsNextOf D.Disk c opened store.old store.new (record { txns = txns.old; locks = locks }) s st.Begin 0)
         → IsIdleIn c next.mind s → TurnOfAct next (record { txns = txns.new; locks = locks }) result) }
-    ensures faults { HasFault Fault (D.faults_of store.old.disk) (D.faults_of store.new.disk) result }
-    ensures time { TakesTime D.Disk store.old store.new }
+    ensures disk { LeavesDisk O.first D.Disk store.old store.new result }
 {
     a_session_is_idle_behind_a_reply::<D>();
+    store.rests();
     Ok(Acted::Ended {
         act: Act::Begin,
         reply: begin(alloc, store, txns, s),
@@ -82,8 +80,7 @@ fn rows_read<D: Disk, O: Origin>(
     ensures over { IfOk result (LeavesSessions s txns.old txns.new store.old store.new) }
     ensures told { (c : Start) (opened : D) → WhereSound O.first D.Disk ((next : IsNextOf D.Disk c opened store.old store.new (record { txns = txns.old; locks = locks.old }) s statement.now 0)
         → stuck.now ≡ (state_now c next.mind).stuck → IsIdleIn c next.mind s → TurnOfAct next (record { txns = txns.new; locks = locks.new }) result) }
-    ensures faults { HasFault Fault (D.faults_of store.old.disk) (D.faults_of store.new.disk) result }
-    ensures time { TakesTime D.Disk store.old store.new }
+    ensures disk { LeavesDisk O.first D.Disk store.old store.new result }
 {
     a_session_is_idle_behind_a_reply::<D>();
     match read(alloc, store, txns, locks, stuck, s, statement) {
@@ -111,8 +108,7 @@ fn row_locked<D: Disk, O: Origin>(
     ensures over { IfOk result (LeavesSessions s txns.old txns.new store.old store.new) }
     ensures told { (c : Start) (opened : D) → WhereSound O.first D.Disk ((next : IsNextOf D.Disk c opened store.old store.new (record { txns = txns.old; locks = locks.old }) s statement.now 0)
         → stuck.now ≡ (state_now c next.mind).stuck → IsIdleIn c next.mind s → TurnOfAct next (record { txns = txns.new; locks = locks.new }) result) }
-    ensures faults { HasFault Fault (D.faults_of store.old.disk) (D.faults_of store.new.disk) result }
-    ensures time { TakesTime D.Disk store.old store.new }
+    ensures disk { LeavesDisk O.first D.Disk store.old store.new result }
 {
     a_session_is_idle_behind_a_reply::<D>();
     match lock_row(alloc, store, txns, locks, stuck, s, statement) {
@@ -147,8 +143,7 @@ fn table_locked<D: Disk, O: Origin>(
     ensures over { IfOk result (LeavesSessions s txns.old txns.new store.old store.new) }
     ensures told { (c : Start) (opened : D) → WhereSound O.first D.Disk ((next : IsNextOf D.Disk c opened store.old store.new (record { txns = txns.old; locks = locks.old }) s statement.now 0)
         → stuck.now ≡ (state_now c next.mind).stuck → IsIdleIn c next.mind s → TurnOfAct next (record { txns = txns.new; locks = locks.new }) result) }
-    ensures faults { HasFault Fault (D.faults_of store.old.disk) (D.faults_of store.new.disk) result }
-    ensures time { TakesTime D.Disk store.old store.new }
+    ensures disk { LeavesDisk O.first D.Disk store.old store.new result }
 {
     a_session_is_idle_behind_a_reply::<D>();
     match lock_table(alloc, store, txns, locks, stuck, s, statement) {
@@ -194,8 +189,7 @@ fn asked<D: Disk, O: Origin>(
     ensures over { IfOk result (LeavesSessions s txns.old txns.new store.old store.new) }
     ensures told { (c : Start) (opened : D) → WhereSound O.first D.Disk ((next : IsNextOf D.Disk c opened store.old store.new (record { txns = txns.old; locks = locks.old }) s st.Commit 0)
         → IsIdleIn c next.mind s → TurnOfAct next (record { txns = txns.new; locks = locks.new }) result) }
-    ensures faults { HasFault Fault (D.faults_of store.old.disk) (D.faults_of store.new.disk) result }
-    ensures time { TakesTime D.Disk store.old store.new }
+    ensures disk { LeavesDisk O.first D.Disk store.old store.new result }
 {
     a_session_is_idle_behind_a_reply::<D>();
     match ask(store, txns, locks, s, number) {
@@ -224,8 +218,7 @@ fn rolled_back<D: Disk, O: Origin, L: Ledger>(
     ensures told { (c : Start) (opened : D) → WhereSound O.first D.Disk ((next : IsNextOf D.Disk c opened store.old store.new (record { txns = txns.old; locks = locks.old }) s st.Rollback 0)
         → TurnOfAct next (record { txns = txns.new; locks = locks.new }) result) }
     ensures steps { steps.new ≤ steps.old + 2 }
-    ensures faults { HasFault Fault (D.faults_of store.old.disk) (D.faults_of store.new.disk) result }
-    ensures time { TakesTime D.Disk store.old store.new }
+    ensures disk { LeavesDisk O.first D.Disk store.old store.new result }
 {
     a_session_is_idle_behind_a_reply::<D>();
     match roll_back(store, txns, locks, s, steps) {
@@ -258,8 +251,7 @@ fn first<D: Disk, O: Origin, L: Ledger>(
     ensures told { (c : Start) (opened : D) → WhereSound O.first D.Disk ((next : IsNextOf D.Disk c opened store.old store.new (record { txns = txns.old; locks = locks.old }) s statement.now 0)
         → stuck.now ≡ (state_now c next.mind).stuck → IsMidway c s statement.now next.mind stages.Between → TurnOfAct next (record { txns = txns.new; locks = locks.new }) result) }
     ensures steps { steps.new ≤ steps.old + 2 }
-    ensures faults { HasFault Fault (D.faults_of store.old.disk) (D.faults_of store.new.disk) result }
-    ensures time { TakesTime D.Disk store.old store.new }
+    ensures disk { LeavesDisk O.first D.Disk store.old store.new result }
 {
     match statement {
         Statement::Begin => begun(alloc, store, txns, s),
@@ -291,8 +283,7 @@ fn row_written<D: Disk, O: Origin>(
     ensures over { IfOk result (LeavesSessions s txns.old txns.new store.old store.new) }
     ensures told { (c : Start) (opened : D) (locks : List (ℕ × LocksOfSession)) → WhereSound O.first D.Disk ((next : IsNextOf D.Disk c opened store.old store.new (record { txns = txns.old; locks = locks }) s statement.now 1)
         → IsMidway c s statement.now next.mind (stages.Row entry prepared stage) → TurnOfAct next (record { txns = txns.new; locks = locks }) result) }
-    ensures faults { HasFault Fault (D.faults_of store.old.disk) (D.faults_of store.new.disk) result }
-    ensures time { TakesTime D.Disk store.old store.new }
+    ensures disk { LeavesDisk O.first D.Disk store.old store.new result }
 {
     a_session_is_idle_behind_a_reply::<D>();
     match write_row(store, txns, s, statement, entry, &prepared, stage) {
@@ -326,8 +317,7 @@ fn table_written<D: Disk, O: Origin>(
     ensures over { IfOk result (LeavesSessions s txns.old txns.new store.old store.new) }
     ensures told { (c : Start) (opened : D) (locks : List (ℕ × LocksOfSession)) → WhereSound O.first D.Disk ((next : IsNextOf D.Disk c opened store.old store.new (record { txns = txns.old; locks = locks }) s statement.now 1)
         → IsMidway c s statement.now next.mind (stages.Table write) → TurnOfAct next (record { txns = txns.new; locks = locks }) result) }
-    ensures faults { HasFault Fault (D.faults_of store.old.disk) (D.faults_of store.new.disk) result }
-    ensures time { TakesTime D.Disk store.old store.new }
+    ensures disk { LeavesDisk O.first D.Disk store.old store.new result }
 {
     a_session_is_idle_behind_a_reply::<D>();
     match write_table(store, txns, s, statement, write) {
@@ -362,9 +352,9 @@ pub fn act<D: Disk, O: Origin, L: Ledger>(
     ensures told { (c : Start) (opened : D) → WhereSound O.first D.Disk ((next : IsNextOf D.Disk c opened store.old store.new (record { txns = txns.old; locks = locks.old }) s statement.now (made_at stage))
         → stuck.now ≡ (state_now c next.mind).stuck → IsMidway c s statement.now next.mind stage → TurnOfAct next (record { txns = txns.new; locks = locks.new }) result) }
     ensures steps { steps.new ≤ steps.old + 2 }
-    // A fault is told where the disk counts one more.
-    ensures faults { HasFault Fault (D.faults_of store.old.disk) (D.faults_of store.new.disk) result }
-    ensures time { TakesTime D.Disk store.old store.new }
+    // However it ends, time doesn't go back, a fault is told where the disk counts one more, and a crash in it leaves what was hardened with
+    // some of what waited.
+    ensures disk { LeavesDisk O.first D.Disk store.old store.new result }
 {
     match stage {
         Stage::Row {

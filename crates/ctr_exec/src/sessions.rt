@@ -1,15 +1,13 @@
 // One turn of a session.
 ghost use Rattle.std.specs.Prelude.{◌≡◌, ◌⊎◌, ◌≤◌, ◌<◌, ◌+◌, ◌-◌, ◌^◌, ◌++◌, ◌∷◌, [], ℕ, true, false, length, Some, IfOk, OnOk, vec_len, vec_capacity, slice_get, slice_set};
 ghost use Rattle.std.specs.List.{AllByRecursion};
-ghost use Rattle.ctr_disk.specs.declared.fault.StoreFault.TheVariants.{Fault};
-ghost use Rattle.ctr_types.specs.Faults.{HasFault};
 ghost use Rattle.ctr_types.specs.declared.statement.Line.{Line as LineIs};
 ghost use Rattle.ctr_types.specs.declared.tape.Turn.TheVariants as turns;
 ghost use Rattle.ctr_base.specs.Base.{WhereSound};
 ghost use Rattle.ctr_store.specs.Store.{HasTurnRoom};
 ghost use Rattle.ctr_kept.specs.Turns.{Start};
 ghost use Rattle.ctr_kept.specs.Walk.{Mind};
-ghost use Rattle.ctr_session_world.specs.Ready.{StandOver, TakesTime};
+ghost use Rattle.ctr_writing.specs.ctr_session_world.Ready.{StandOver, LeavesDisk};
 ghost use Rattle.ctr_writing.specs.Tables.{HasFittingColumns};
 ghost use Rattle.ctr_exec.specs.declared.runners.Stage.TheVariants as stages;
 ghost use Rattle.ctr_exec.specs.Order.{Adds, AddsOrFails, IsOrdered};
@@ -106,6 +104,17 @@ impl Sessions {
     {
         let runner = &self.runners[s as usize - 1];
         runner.finished < runner.places.len()
+    }
+
+    /// How many of its statements a session has finished.
+    pub fn finished(&self, s: u8) -> usize
+        requires { 1 ≤ s }
+        ensures { result ≡ (runner_at s self.now.runners.items).finished }
+    {
+        match self.runners.get(s as usize - 1) {
+            Some(runner) => runner.finished,
+            None => 0,
+        }
     }
 
     // Whether a session has asked for its commit, and isn't answered yet.
@@ -248,8 +257,7 @@ impl Sessions {
         ensures fewer { OnOk result (turns_left self.new store.new < turns_left self.old store.old) }
         ensures told { (c : Start) (opened : D) (w : Mind) → WhereSound O.first D.Disk ((before : ShowsSessions D.Disk c opened store.old self.old w) → OrFails (TakesAct before s store.new self.new) result) }
         ensures steps { steps.new ≤ steps.old + 2 }
-        ensures faults { HasFault Fault (D.faults_of store.old.disk) (D.faults_of store.new.disk) result }
-        ensures time { TakesTime D.Disk store.old store.new }
+        ensures disk { LeavesDisk O.first D.Disk store.old store.new result }
         ensures adds { AddsOrFails (AreOfTurn s) (D.moment_of store.old.disk) (D.moment_of store.new.disk) self.old self.new result }
     {
         legal_states_are_sound();
@@ -291,8 +299,7 @@ impl Sessions {
         ensures told { (c : Start) (opened : D) (w : Mind) → WhereSound O.first D.Disk ((before : ShowsSessions D.Disk c opened store.old self.old w) → OrFails (LeadsTo before (AreOfTurn s) store.new self.new) result) }
         ensures fewer { OnOk result ((runner_at s self.old.runners.items).stage ≡ stages.Asked → turns_left self.new store.new < turns_left self.old store.old) }
         ensures all { OnOk result ((store.new.waiting ≡ []) × (self.new.txns.answered ≡ length self.new.txns.numbers.commits)) }
-        ensures faults { HasFault Fault (D.faults_of store.old.disk) (D.faults_of store.new.disk) result }
-        ensures time { TakesTime D.Disk store.old store.new }
+        ensures disk { LeavesDisk O.first D.Disk store.old store.new result }
         ensures adds { AddsOrFails (AreOfTurn s) (D.moment_of store.old.disk) (D.moment_of store.new.disk) self.old self.new result }
     {
         match flush(store) {
@@ -319,8 +326,7 @@ impl Sessions {
         ensures fewer { OnOk result (turns_left self.new store.new < turns_left self.old store.old) }
         ensures told { (c : Start) (opened : D) (w : Mind) → WhereSound O.first D.Disk ((before : ShowsSessions D.Disk c opened store.old self.old w) → OrFails (TakesTurn before s store.new self.new) result) }
         ensures steps { steps.new ≤ steps.old + 2 }
-        ensures faults { HasFault Fault (D.faults_of store.old.disk) (D.faults_of store.new.disk) result }
-        ensures time { TakesTime D.Disk store.old store.new }
+        ensures disk { LeavesDisk O.first D.Disk store.old store.new result }
         ensures adds { AddsOrFails (AreOfTurn s) (D.moment_of store.old.disk) (D.moment_of store.new.disk) self.old self.new result }
     {
         if self.waits(s) {
@@ -352,13 +358,14 @@ impl Sessions {
         // In a World it takes an act further, comes nearer to room for one, or answers commits, and tells nothing else; it fails by the disk alone.
         ensures told { (c : Start) (opened : D) (w : Mind) → WhereSound O.first D.Disk ((before : ShowsSessions D.Disk c opened store.old self.old w) → OrFails (TakesTurn before s store.new self.new) result) }
         ensures steps { steps.new ≤ steps.old + 2 }
-        // A fault is told where the disk counts one more.
-        ensures faults { HasFault Fault (D.faults_of store.old.disk) (D.faults_of store.new.disk) result }
-        ensures time { TakesTime D.Disk store.old store.new }
+        // However it ends, time doesn't go back, a fault is told where the disk counts one more, and a crash in it leaves what was hardened
+        // with some of what waited.
+        ensures disk { LeavesDisk O.first D.Disk store.old store.new result }
         // Whatever the disk tells, it adds an act of the session to the tape, or answers, or nothing: each the next of its session, at the
         // moment at which the turn ends.
         ensures adds { AddsOrFails (AreOfTurn s) (D.moment_of store.old.disk) (D.moment_of store.new.disk) self.old self.new result }
     {
+        store.rests();
         if !self.has_more(s) {
             return Ok(Turn::Over);
         }

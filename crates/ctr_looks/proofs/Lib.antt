@@ -4,6 +4,7 @@ pub mod Unrefused
 pub mod Rooms
 pub mod Finding
 pub mod Staying
+pub mod Leaving
 pub mod Tabled
 pub mod Naming
 pub mod Promised

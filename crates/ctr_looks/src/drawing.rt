@@ -1,14 +1,13 @@
 // A session's number, which it draws at its first Lock.
 ghost use Rattle.std.specs.Prelude.{◌≡◌, ◌<◌, false, OnOk, IfErr};
 ghost use Rattle.ctr_disk.specs.declared.fault.StoreFault.TheVariants.{Fault};
-ghost use Rattle.ctr_types.specs.Faults.{HasFault};
 ghost use Rattle.ctr_record_effects.specs.Standing.{IsDatabaseState};
 ghost use Rattle.ctr_base.specs.Base.{WhereSound};
 ghost use Rattle.ctr_txn.specs.Held.{IsReading};
 ghost use Rattle.ctr_txn.specs.Calls.{MayDraw};
 ghost use Rattle.ctr_txn.specs.Rooms.{HasItemRoom};
 ghost use Rattle.ctr_asking.specs.Asking.{IsInside};
-ghost use Rattle.ctr_session_world.specs.Ready.{LeavesOver, StandOver, TakesTime};
+ghost use Rattle.ctr_session_world.specs.Ready.{LeavesOver, StandOver, LeavesDisk};
 ghost use Rattle.ctr_looks.specs.Granting.{DrawsNext, HasNumber, HasItem};
 
 use ctr_actions::an_action_meets_its_needs;
@@ -29,10 +28,9 @@ fn draw_next<D: Disk, O: Origin>(
     requires may { MayDraw s txns.old store.old }
     ensures over { HasItemRoom txns.old store.old.meta → LeavesOver s txns.old txns.new store.old store.new result }
     ensures item { OnOk result (HasItem s txns.old → HasItem s txns.new) }
-    ensures time { TakesTime D.Disk store.old store.new }
     ensures draws { WhereSound O.first D.Disk (0 < store.old.now.tables.next → OnOk result (DrawsNext D.Disk s txns.old txns.new store.old store.new)) }
     ensures refused { WhereSound O.first D.Disk (IsDatabaseState store.old.now → IfErr result (λ e. e ≡ Fault)) }
-    ensures faults { HasFault Fault (D.faults_of store.old.disk) (D.faults_of store.new.disk) result }
+    ensures disk { LeavesDisk O.first D.Disk store.old store.new result }
 {
     an_action_meets_its_needs();
     pages_are_in_bounds();
@@ -60,10 +58,9 @@ pub(crate) fn draw<D: Disk, O: Origin>(
     requires may { IsReading s txns.old → MayDraw s txns.old store.old }
     ensures over { StandOver txns.old store.old → store.old.stopped ≡ false → LeavesOver s txns.old txns.new store.old store.new result }
     ensures item { OnOk result (HasItem s txns.old → HasItem s txns.new) }
-    ensures time { TakesTime D.Disk store.old store.new }
     ensures number { WhereSound O.first D.Disk (store.old.stopped ≡ false → 0 < store.old.now.tables.next → OnOk result (HasNumber D.Disk s txns.old txns.new store.old store.new)) }
     ensures refused { WhereSound O.first D.Disk (IsDatabaseState store.old.now → IfErr result (λ e. e ≡ Fault)) }
-    ensures faults { HasFault Fault (D.faults_of store.old.disk) (D.faults_of store.new.disk) result }
+    ensures disk { store.old.stopped ≡ false → LeavesDisk O.first D.Disk store.old store.new result }
 {
     the_run_is_of_the_sessions();
     store.rests();

@@ -3,7 +3,6 @@ ghost use Rattle.std.specs.Prelude.{◌≡◌, ℕ, List, Option, IfOk, IfErr};
 ghost use Rattle.ctr_types.specs.declared.statement.Statement.{Statement as Told};
 ghost use Rattle.ctr_types.specs.declared.tape.Act.TheVariants as act;
 ghost use Rattle.ctr_disk.specs.declared.fault.StoreFault.TheVariants.{Fault};
-ghost use Rattle.ctr_types.specs.Faults.{HasFault};
 ghost use Rattle.ctr_base.specs.Base.{WhereSound};
 ghost use Rattle.ctr_record_effects.specs.States.{area_in};
 ghost use Rattle.ctr_record_effects.specs.Standing.{IsDatabaseState};
@@ -11,7 +10,7 @@ ghost use Rattle.ctr_actions.specs.Facts.{Fact};
 ghost use Rattle.ctr_kept.specs.Turns.{Start};
 ghost use Rattle.ctr_session_world.specs.ctr_told.Turning.{IsIdle};
 ghost use Rattle.ctr_asking.specs.Asking.{IsInside};
-ghost use Rattle.ctr_session_world.specs.Ready.{LeavesOver, MayTurn, TakesTime};
+ghost use Rattle.ctr_session_world.specs.Ready.{LeavesOver, MayTurn, LeavesDisk};
 ghost use Rattle.ctr_session_world.specs.Told.{IsNextOf, IsTold};
 ghost use Rattle.ctr_looks.specs.Asked.{IsFirstOf, IsFoundFor};
 ghost use Rattle.ctr_looks.specs.Granting.{IsFree, IsRowOf, IsOfName, CountsOnTable, CountsOnFound, HasItemIfGranted, granted_or};
@@ -45,12 +44,11 @@ pub(crate) fn grant_row<D: Disk, O: Origin>(
     requires may { MayTurn s txns.old store.old }
     ensures over { LeavesOver s txns.old txns.new store.old store.new result }
     ensures item { IfOk result (HasItemIfGranted s txns.new) }
-    ensures time { TakesTime D.Disk store.old store.new }
     ensures told { (c : Start) (opened : D) (statement : Told) (more : List Fact) → WhereSound O.first D.Disk
         ((next : IsNextOf D.Disk c opened store.old store.new (record { txns = txns.old; locks = locks.old }) s statement 0) → (free : IsFree next act.Lock) → IsRowOf next row.now → IsIdle free.txn.session.me more (next.mind.facts s)
         → IfOk result (λ r. (told : IsTold next (record { txns = txns.new; locks = locks.new }) act.Lock (granted_or r)) × CountsOnTable r row.now.entry ((area_in store.old.now).title row.now.entry) (told.mind.facts s))) }
     ensures refused { WhereSound O.first D.Disk (IsDatabaseState store.old.now → IfErr result (λ e. e ≡ Fault)) }
-    ensures faults { HasFault Fault (D.faults_of store.old.disk) (D.faults_of store.new.disk) result }
+    ensures disk { LeavesDisk O.first D.Disk store.old store.new result }
 {
     a_look_that_wants_memory_is_told::<D>();
     a_row_that_is_locked_is_told::<D>();
@@ -92,12 +90,11 @@ pub(crate) fn grant_name<D: Disk, O: Origin>(
     requires may { MayTurn s txns.old store.old }
     ensures over { LeavesOver s txns.old txns.new store.old store.new result }
     ensures item { IfOk result (HasItemIfGranted s txns.new) }
-    ensures time { TakesTime D.Disk store.old store.new }
     ensures told { (c : Start) (opened : D) (statement : Told) (more : List Fact) → WhereSound O.first D.Disk
         ((next : IsNextOf D.Disk c opened store.old store.new (record { txns = txns.old; locks = locks.old }) s statement 0) → (free : IsFree next act.Lock) → IsFirstOf act.Lock statement → IsOfName statement name.now → (found : Option ℕ) → IsFoundFor free name.now found → IsIdle free.txn.session.me more (next.mind.facts s)
         → IfOk result (λ r. (told : IsTold next (record { txns = txns.new; locks = locks.new }) act.Lock (granted_or r)) × CountsOnFound r found (area_in store.old.now).title (told.mind.facts s))) }
     ensures refused { WhereSound O.first D.Disk (IsDatabaseState store.old.now → IfErr result (λ e. e ≡ Fault)) }
-    ensures faults { HasFault Fault (D.faults_of store.old.disk) (D.faults_of store.new.disk) result }
+    ensures disk { LeavesDisk O.first D.Disk store.old store.new result }
 {
     a_look_that_wants_memory_is_told::<D>();
     a_name_that_is_held_is_told::<D>();

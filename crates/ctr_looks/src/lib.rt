@@ -13,6 +13,7 @@ mod selecting;
 mod tables;
 mod taking;
 
+pub use ctr_session_world as session_world;
 pub use ctr_session_world::{ddl, extend, told, writes};
 pub use ctr_wishes as wishes;
 pub use laws::a_session_in_a_world_may_look;

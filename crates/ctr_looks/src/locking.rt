@@ -3,7 +3,6 @@ ghost use Rattle.std.specs.Prelude.{◌≡◌, ◌<◌, ℕ, true, is_some, IfOk
 ghost use Rattle.ctr_types.specs.declared.tape.Act.TheVariants as act;
 ghost use Rattle.ctr_disk.specs.declared.fault.StoreFault.TheVariants.{Fault};
 ghost use Rattle.ctr_model.specs.Refusals.{key_written};
-ghost use Rattle.ctr_types.specs.Faults.{HasFault};
 ghost use Rattle.ctr_base.specs.Base.{WhereSound};
 ghost use Rattle.ctr_record_effects.specs.Standing.{IsDatabaseState};
 ghost use Rattle.ctr_actions.specs.Facts.{Fact};
@@ -11,7 +10,7 @@ ghost use Rattle.ctr_kept.specs.Turns.{Start, state_now};
 ghost use Rattle.ctr_txn.specs.Held.{TxnsHeld};
 ghost use Rattle.ctr_session_world.specs.ctr_told.Turning.{IsIdle};
 ghost use Rattle.ctr_asking.specs.Asking.{IsInside};
-ghost use Rattle.ctr_session_world.specs.Ready.{LeavesOver, MayTurn, TakesTime};
+ghost use Rattle.ctr_session_world.specs.Ready.{LeavesOver, MayTurn, LeavesDisk};
 ghost use Rattle.ctr_session_world.specs.Told.{IsNextOf, IsTold, IsIdleIn};
 ghost use Rattle.ctr_looks.specs.Granting.{IsFree};
 ghost use Rattle.ctr_looks.specs.Asked.{StandsAt};
@@ -34,8 +33,7 @@ use ctr_session_world::pages_that_are_read_keep_a_world;
 use ctr_statement::{key_written, table_of};
 use ctr_store::Store;
 use ctr_txn::Txns;
-use ctr_types::{Act, List, Name, OutOfMemory, Refusal, Statement};
-use ctr_walk::a_fault_of_reading_is_counted;
+use ctr_types::{Act, List, Name, Refusal, Statement};
 use ctr_wishes::reading::Sight;
 use ctr_wishes::{
     Prepared, prepare, what_is_prepared_is_the_models, what_is_prepared_stays_the_models,
@@ -79,20 +77,18 @@ fn lock_found<D: Disk, O: Origin>(
     requires may { MayTurn s txns.old store.old }
     ensures ready { IfOk result (IsReadyLocked s txns.new) }
     ensures over { LeavesOver s txns.old txns.new store.old store.new result }
-    ensures time { TakesTime D.Disk store.old store.new }
     ensures told { (c : Start) (opened : D) (more : List Fact) → WhereSound O.first D.Disk
         ((next : IsNextOf D.Disk c opened store.old store.new (record { txns = txns.old; locks = locks.old }) s statement.now 0) → (free : IsFree next act.Lock) → StandsAt free row.now.name.now row.now.entry → IsRowOf next row.now
         → IsIdle free.txn.session.me more (next.mind.facts s)
         → IfOk result (λ l. (told : IsTold next (record { txns = txns.new; locks = locks.new }) act.Lock (locked_reply l)) × IsReadyBehind c s statement.now told.mind l)) }
     ensures refused { WhereSound O.first D.Disk (IsDatabaseState store.old.now → IfErr result (λ e. e ≡ Fault)) }
-    ensures faults { HasFault Fault (D.faults_of store.old.disk) (D.faults_of store.new.disk) result }
+    ensures disk { LeavesDisk O.first D.Disk store.old store.new result }
 {
     a_look_that_wants_memory_is_told::<D>();
     pages_that_are_read_keep_a_world::<D>();
     room_is_still_there::<D>();
     what_is_prepared_is_the_models();
     what_is_prepared_stays_the_models();
-    a_fault_of_reading_is_counted::<D, Result<Prepared, OutOfMemory>>();
     let Some(txn) = txns.txn(s) else {
         unreachable!()
     };
@@ -139,10 +135,9 @@ pub fn lock_row<D: Disk, O: Origin>(
         → IfOk result (λ l. (told : IsTold next (record { txns = txns.new; locks = locks.new }) act.Lock (locked_reply l)) × IsReadyBehind c s statement.now told.mind l)) }
     // Where the pages may be a database's, it is refused by the disk alone.
     ensures refused { WhereSound O.first D.Disk (IsDatabaseState store.old.now → IfErr result (λ e. e ≡ Fault)) }
-    // A fault is told where the disk counts one more.
-    ensures faults { HasFault Fault (D.faults_of store.old.disk) (D.faults_of store.new.disk) result }
-    // Time doesn't go back.
-    ensures time { TakesTime D.Disk store.old store.new }
+    // However it ends, time doesn't go back, a fault is told where the disk counts one more, and a crash in it leaves what was hardened with
+    // some of what waited.
+    ensures disk { LeavesDisk O.first D.Disk store.old store.new result }
 {
     a_refused_look_is_told::<D>();
     pages_that_are_read_keep_a_world::<D>();

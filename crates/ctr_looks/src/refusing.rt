@@ -1,7 +1,6 @@
 // Why the next act of a session is refused, or that nothing speaks against it.
 ghost use Rattle.std.specs.Prelude.{◌≡◌, IsSome, IfOk, IfErr};
 ghost use Rattle.ctr_disk.specs.declared.fault.StoreFault.TheVariants.{Fault};
-ghost use Rattle.ctr_types.specs.Faults.{HasFault};
 ghost use Rattle.ctr_model.specs.Refusals.{table_of};
 ghost use Rattle.ctr_base.specs.Base.{WhereSound};
 ghost use Rattle.ctr_record_effects.specs.Standing.{IsDatabaseState};
@@ -21,7 +20,6 @@ use ctr_kept::who_rolls_back_is_at_its_rollback;
 use ctr_store::Store;
 use ctr_txn::the_run_is_of_the_sessions;
 use ctr_types::{Act, Refusal, Statement};
-use ctr_walk::a_fault_of_reading_is_counted;
 
 /// Why a Lock or a Read of a session's next statement is refused, or that nothing speaks against it. It reads pages, and takes no memory.
 pub(crate) fn ask_act<D: Disk, O: Origin>(
@@ -39,9 +37,7 @@ pub(crate) fn ask_act<D: Disk, O: Origin>(
         → asker.now.stuck.now ≡ (state_now c next.mind).stuck → IsLook act.now → IsFirstOf act.now statement.now → IfOk result (IsAsked next act.now)) }
     ensures refused { WhereSound O.first D.Disk (IsDatabaseState store.old.now → IfErr result (λ e. e ≡ Fault)) }
     ensures leaves { ReadsPages O.first D.Disk store.old store.new result }
-    ensures faults { HasFault Fault (D.faults_of store.old.disk) (D.faults_of store.new.disk) result }
 {
-    a_fault_of_reading_is_counted::<D, Answer>();
     a_session_in_a_world_may_look::<D>();
     a_table_that_is_free_is_undropped();
     the_run_is_of_the_sessions();

@@ -16,7 +16,7 @@ ghost use Rattle.ctr_session_world.specs.ctr_told.Turning.{IsIdle};
 ghost use Rattle.ctr_wishes.specs.ctr_reading.Reading.{as_told, sees, AreShown, IsDiskOrMemory};
 ghost use Rattle.ctr_asking.specs.Asking.{IsInside};
 ghost use Rattle.ctr_txn.specs.Held.{TxnsHeld};
-ghost use Rattle.ctr_session_world.specs.Ready.{LeavesOver, MayTurn, StandOver, TakesTime};
+ghost use Rattle.ctr_session_world.specs.Ready.{LeavesOver, MayTurn, StandOver, LeavesDisk};
 ghost use Rattle.ctr_session_world.specs.Told.{IsNextOf, IsTold, IsIdleIn};
 ghost use Rattle.ctr_looks.specs.Granting.{IsFree};
 ghost use Rattle.ctr_looks.specs.Asked.{StandsAt};
@@ -36,8 +36,7 @@ use ctr_page_turns::room_is_still_there;
 use ctr_session_world::pages_that_are_read_keep_a_world;
 use ctr_store::Store;
 use ctr_txn::Txns;
-use ctr_types::{Act, KeyIs, List, Name, OutOfMemory, Refusal, Reply, Row, Rows, Statement};
-use ctr_walk::a_fault_of_reading_is_counted;
+use ctr_types::{Act, KeyIs, List, Name, Refusal, Reply, Row, Rows, Statement};
 use ctr_wishes::reading::{Sight, row_of_key, rows_of_table};
 use std::alloc::Global;
 
@@ -77,13 +76,10 @@ pub(crate) fn rows_at<D: Disk, O: Origin>(
     ensures shows { WhereSound O.first D.Disk (HasSoundArea store.old.now
         → IfOk result (λ rows. AreShown (sees store.old.now.tables sight.now) (area_in store.old.now) entry (option_map (λ (k : KeyWanted). k.key) at.now) rows.rows)) }
     ensures refused { WhereSound O.first D.Disk (IsDatabaseState store.old.now → IfErr result IsDiskOrMemory) }
-    ensures faults { HasFault Fault (D.faults_of store.old.disk) (D.faults_of store.new.disk) (as_told result) }
+    ensures disk { LeavesDisk O.first D.Disk store.old store.new (as_told result) }
     ensures rests { WhereSound O.first D.Disk (OnOk (as_told result) (RestsBehind D.Disk store.old store.new)) }
     ensures over { (s : ℕ) (txns : TxnsHeld) → StandOver txns store.old → LeavesOver s txns txns store.old store.new (as_told result) }
-    ensures time { TakesTime D.Disk store.old store.new }
 {
-    a_fault_of_reading_is_counted::<D, Result<Rows, OutOfMemory>>();
-    a_fault_of_reading_is_counted::<D, Result<Option<Row>, OutOfMemory>>();
     match at {
         None => {
             let rows = rows_of_table(alloc, store, sight, entry);
@@ -123,12 +119,11 @@ fn read_found<D: Disk, O: Origin>(
     requires may { MayTurn s txns.now store.old }
     requires there { table.now.entry < 32 }
     ensures over { LeavesOver s txns.now txns.now store.old store.new result }
-    ensures time { TakesTime D.Disk store.old store.new }
     ensures told { (c : Start) (opened : D) (more : List Fact) → WhereSound O.first D.Disk
         ((next : IsNextOf D.Disk c opened store.old store.new (record { txns = txns.now; locks = locks.old }) s (st.Select table.now.name.now table.now.at.now) 0) → (free : IsFree next act.Read) → StandsAt free table.now.name.now table.now.entry
         → IsIdle free.txn.session.me more (next.mind.facts s) → IfOk result (IsTold next (record { txns = txns.now; locks = locks.new }) act.Read)) }
     ensures refused { WhereSound O.first D.Disk (IsDatabaseState store.old.now → IfErr result (λ e. e ≡ Fault)) }
-    ensures faults { HasFault Fault (D.faults_of store.old.disk) (D.faults_of store.new.disk) result }
+    ensures disk { LeavesDisk O.first D.Disk store.old store.new result }
 {
     a_look_that_wants_memory_is_told::<D>();
     rows_of_a_table_are_told::<D>();
@@ -184,10 +179,9 @@ pub fn read<D: Disk, O: Origin>(
         → IfOk result (IsTold next (record { txns = txns.now; locks = locks.new }) act.Read)) }
     // Where the pages may be a database's, it is refused by the disk alone.
     ensures refused { WhereSound O.first D.Disk (IsDatabaseState store.old.now → IfErr result (λ e. e ≡ Fault)) }
-    // A fault is told where the disk counts one more.
-    ensures faults { HasFault Fault (D.faults_of store.old.disk) (D.faults_of store.new.disk) result }
-    // Time doesn't go back.
-    ensures time { TakesTime D.Disk store.old store.new }
+    // However it ends, time doesn't go back, a fault is told where the disk counts one more, and a crash in it leaves what was hardened with
+    // some of what waited.
+    ensures disk { LeavesDisk O.first D.Disk store.old store.new result }
 {
     a_refused_look_is_told::<D>();
     pages_that_are_read_keep_a_world::<D>();

@@ -23,7 +23,7 @@ use Rattle.ctr_txn.specs.Held.{IsOneOfEight}
 use Rattle.ctr_undo.specs.Left.{UndoLeft}
 use Rattle.ctr_undo.specs.Turns.{Undoes}
 use Rattle.ctr_undo.specs.Keeping.{list_of, undone_to, name_undone, released_to}
-use Rattle.ctr_session_world.specs.World.{SessionsHeld, AreInOrder, AreInTables, InWorld, names_in}
+use Rattle.ctr_exec.specs.ctr_session_world.World.{SessionsHeld, AreInOrder, AreInTables, InWorld, names_in}
 use Rattle.ctr_exec.specs.declared.runners.Runner.{Runner}
 use Rattle.ctr_exec.specs.declared.sessions.Sessions.{Sessions}
 use Rattle.ctr_exec.specs.Runners.{runner_at}

@@ -1,10 +1,11 @@
 -- A World that has ended: what its tape is, and what a crash leaves.
-use Rattle.std.proofs.Common.{◌≡◌, ⊎_elim, inl, inr, ℕ, ◌+◌, ◌-◌, ◌≤◌, true, IsTrue, List, [], ◌∷◌, length, None, refl, sym, ◌∙◌, ap, subst, arith}
+use Rattle.std.proofs.Common.{◌≡◌, ◌≢◌, ℕ, ◌+◌, ◌-◌, ◌≤◌, true, IsTrue, List, [], ◌∷◌, length, Option, Some, None, refl, sym, ◌∙◌, ap, subst, arith}
 use Rattle.std.specs.List.{AllByRecursion}
 use Rattle.std.proofs.lemmas.Bool.{false≢true}
 use Rattle.ctr_types.specs.declared.statement.Line.{Line}
 use Rattle.ctr_types.specs.declared.tape.Entry.{Entry}
 use Rattle.ctr_disk.specs.declared.disk.Disk.{Ghosts}
+use Rattle.ctr_disk.specs.declared.fault.Stop.{Stop}
 use Rattle.ctr_disk.specs.Image.{Image}
 use Rattle.ctr_model.specs.State.{has_name}
 use Rattle.ctr_model.specs.Tape.{IsWhole, at_start, final, progress_of}
@@ -14,16 +15,17 @@ use Rattle.ctr_redo.specs.States.{State}
 use Rattle.ctr_record_effects.specs.States.{area_in}
 use Rattle.ctr_record_effects.specs.Standing.{StandsForDatabase}
 use Rattle.ctr_kept.specs.Turns.{start_point}
-use Rattle.ctr_stops.specs.Stops.{Course, HasFirstCommits, KeepsCommits, LeavesPrefixAt, LeftSince}
+use Rattle.ctr_stops.specs.Stops.{Course, HasFirstCommits, KeepsCommits}
 use Rattle.ctr_store.specs.Store.{View, LeavesFront}
 use Rattle.ctr_undo.specs.Left.{left_in, IsOver as NoneIsLeft}
 use Rattle.ctr_exec.specs.Runners.{made_at, runner_at}
 use Rattle.ctr_page_world.specs.declared.opening.Opening.{Ghosts as Opening}
 use Rattle.ctr_page_world.specs.Held.{Running, Held}
 use Rattle.ctr_page_world.specs.Opened.{IsRunLine}
-use Rattle.ctr_page_world.specs.World.{Shows, Kept, start_in}
+use Rattle.ctr_page_world.specs.World.{Shows, Kept, LeavesPrefix, start_in, led_to}
 use Rattle.ctr_page_world.specs.Turns.{IsOver}
-use Rattle.ctr_page_world.specs.Ended.{Ends, EndsInOrder, led_to}
+use Rattle.ctr_page_world.specs.Ended.{Ends, EndsInOrder}
+use Rattle.ctr_page_world.proofs.Keeping.{prefix_now}
 use Rattle.ctr_page_world.proofs.Stuck.{has_itself}
 use Rattle.ctr_page_world.proofs.Whole.{whole_from}
 
@@ -90,12 +92,13 @@ module _ {D B : Type 0} (o : Opening B) (first : Image) (g : Ghosts D) (w : Held
           names_none : r.names ≡ []
           names_none = sym shows.names ∙ ap (names_of_items (area_in r.store.now).title) (over going).0.undo.0
 
-      survives_now : LeftSince g o.start r.store.disk (LeavesPrefixAt o.before (start_in o s).base (led_to o s shows.mind.tape).state.asked shows.mind.tape)
-      survives_now t c from le left = ⊎_elim inl (λ was. inr (shows.on.before c was.0, was.1))
-          (shows.shows.world.keeps.commits.survives t c (subst (λ n. n ≤ t) shows.on.start from) le left)
-
       durable_now : (c : Image) → g.since r.store.disk (g.moment_of r.store.disk) c → HasFirstCommits (start_in o s).base (led_to o s shows.mind.tape).state.asked (answers shows.mind.tape) c
       durable_now c left = ends _ shows.mind.tape r.store r.store shows.shows.world.keeps.commits shows.shows.world.keeps.rests c left
+
+    -- until now, or until a stop
+    survives_by : (q : Option Stop) → (q ≡ None → LeavesPrefix o g s r.store.disk r.sessions.tape.items) → (q ≢ None → LeavesPrefix o g s r.store.disk r.sessions.tape.items) → LeavesPrefix o g s r.store.disk r.sessions.tape.items
+    survives_by None going stopped = going refl
+    survives_by (Some x) going stopped = stopped (λ is. absurd cc)
 
     pub ended : Ends o g s r.sessions.tape.items w.stop (r.size - left_in r.undo) r.store.disk
     ended = record {
@@ -105,7 +108,7 @@ module _ {D B : Type 0} (o : Opening B) (first : Image) (g : Ghosts D) (w : Held
       undone_all = λ going. undone_so r.size (left_in r.undo) _ (left_none (over going).0.undo) (kept.sized s tells stands);
       whole = λ going. subst (λ (es : List Entry). IsWhole o.lines (led_to o s es)) (sym (tape_is going)) (whole_now going);
       no_stuck = λ going. subst (λ (es : List Entry). (led_to o s es).state.stuck ≡ []) (sym (tape_is going)) (stuck_none going);
-      survives = λ going. subst (λ (es : List Entry). LeftSince g o.start r.store.disk (LeavesPrefixAt o.before (start_in o s).base (led_to o s es).state.asked es)) (sym (tape_is going)) (survives_now going);
+      survives = survives_by w.stop (λ going. prefix_now o first g s r (kept.shows s tells stands going)) (kept.left s tells stands);
       durable = λ going. subst (λ (es : List Entry). (c : Image) → g.since r.store.disk (g.moment_of r.store.disk) c → HasFirstCommits (start_in o s).base (led_to o s es).state.asked (answers es) c) (sym (tape_is going)) (durable_now going);
     }
 

@@ -2,8 +2,8 @@
 use Rattle.std.proofs.Common.{◌≡◌, ◌≢◌, ℕ, true, false, List, sym, ◌∙◌, ap, subst}
 use Rattle.std.specs.List.{AllByRecursion}
 use Rattle.ctr_model.specs.State.{has_name}
-use Rattle.ctr_session_world.specs.Ready.{StandOver}
-use Rattle.ctr_session_world.specs.World.{NamesStay}
+use Rattle.ctr_exec.specs.ctr_session_world.Ready.{StandOver}
+use Rattle.ctr_exec.specs.ctr_session_world.World.{NamesStay}
 use Rattle.ctr_exec.specs.Order.{Adds}
 use Rattle.ctr_types.specs.declared.tape.Entry.{Entry}
 use Rattle.ctr_disk.specs.declared.disk.Disk.{Ghosts}

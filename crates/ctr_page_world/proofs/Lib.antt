@@ -1,5 +1,6 @@
 mod Quiet
 mod Adding
+mod Refused
 mod Keeping
 mod Leading
 mod Whole
@@ -12,3 +13,4 @@ mod Stuck
 mod Going
 mod Undoing
 mod Nearer
+pub use Rattle.ctr_exec.proofs as ctr_exec

@@ -12,7 +12,8 @@ use Rattle.ctr_record_effects.specs.States.{area_in}
 use Rattle.ctr_kept.specs.Turns.{Start}
 use Rattle.ctr_kept.specs.Walk.{Mind}
 use Rattle.ctr_store.specs.Store.{View, KeepsRoom, LeavesPage}
-use Rattle.ctr_session_world.specs.World.{SessionsHeld, InWorld}
+use Rattle.ctr_exec.specs.ctr_session_world.Ready.{LeavesDisk}
+use Rattle.ctr_exec.specs.ctr_session_world.World.{SessionsHeld, InWorld}
 use Rattle.ctr_exec.proofs.Going.{shows_behind, stands_on}
 use Rattle.ctr_exec.specs.declared.sessions.Sessions.{Sessions}
 use Rattle.ctr_exec.specs.Order.{IsOrdered}
@@ -72,3 +73,7 @@ module _ {D B : Type 0} (o : Opening B) (first : Image) (g : Ghosts D) (old : Ru
   pub shows_or : {T : Type 0} (result : Result T StoreFault) (s : State) → LeavesPage first g old.store b result → KeepsOr result → OnErr result (result ≡ Err Fault) → IsTrue g.tells → IsSoundImage first → Shows o first g s old → OrFails (Shows o first g s behind) result
   shows_or (Ok x) s leaves kept refused tells sound shows = world_behind s (leaves.logs tells sound).now kept shows
   shows_or (Err e) s leaves kept refused tells sound shows = cc refused
+
+-- answers leave the store as it was
+pub disk_answered : {D T : Type 0} (first : Image) (g : Ghosts D) (a b c : View D) (r : Result T StoreFault) → c ≡ b → LeavesDisk first g a b r → LeavesDisk first g a c r
+disk_answered first g a b c r is leaves = subst (λ (v : View _). LeavesDisk first g a v r) (sym is) leaves

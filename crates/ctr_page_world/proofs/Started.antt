@@ -148,6 +148,7 @@ module _ {D B : Type 0} (o : Opening B) (first : Image) (g : Ghosts D) (disk : D
       legal = λ s tells stands. legal_of o first g s new (shows s tells stands);
       sized = λ s tells stands. (all s tells stands).size;
       undamaged = λ s tells stands. tt;
+      left = λ s tells stands stopped. absurd (stopped refl);
       lines_are = lines_now;
       each = each;
       count = is.count;

@@ -1,6 +1,6 @@
 -- A turn of undo, whatever the disk tells.
 use Rattle.std.proofs.Common.{◌≡◌, ℕ, ◌+◌, ◌<◌, ◌≤◌, false, List, Option, Some, None, Result, Ok, Err, sym, ◌∙◌, ap, subst, arith}
-use Rattle.std.specs.Prelude.{IsTrue}
+use Rattle.std.specs.Prelude.{⊤, IsTrue}
 use Rattle.std.specs.List.{AllByRecursion}
 use Rattle.ctr_types.specs.declared.statement.Line.{Line}
 use Rattle.ctr_base.specs.Base.{IsSoundImage}
@@ -19,6 +19,8 @@ use Rattle.ctr_undo.specs.declared.turning.UndoTurn.TheVariants.{Undone, Over}
 use Rattle.ctr_undo.specs.Left.{UndoLeft, left_in}
 use Rattle.ctr_undo.specs.Turns.{LogsNext, TakesNext, record_for}
 use Rattle.ctr_undo.proofs.Lists.{one_less}
+use Rattle.ctr_exec.specs.ctr_session_world.Ready.{LeavesDisk}
+use Rattle.ctr_exec.proofs.ctr_session_world.Disks.{disk_done, disk_failed, disk_one}
 use Rattle.ctr_exec.specs.declared.sessions.Sessions.{Sessions}
 use Rattle.ctr_exec.specs.Order.{IsOrdered}
 use Rattle.ctr_exec.specs.Runners.{all_left}
@@ -60,6 +62,13 @@ later_of first g u a b (Err e) (item, v, byte, goes, one) = one.time.later
 -- it is one behind which a crash leaves what is hardened with some of what waits
 pub at_rest : {D : Type 0} (first : Image) (g : Ghosts D) (u : UndoLeft) (a b : View D) → LogsNext first g u a b (Ok Undone) → IsTrue g.tells → IsSoundImage first → LeavesFront g b b → LogsAtRest g a b
 at_rest first g u a b (item, v, byte, goes, one) tells sound rests = record { rec = record_for item byte; logs = one.logs tells sound; front = one.any_moment tells sound; rests = rests; later = one.time.later }
+
+-- what it leaves of the disk, and what one leaves that failed
+pub disk_undone : {D : Type 0} (first : Image) (g : Ghosts D) (u : UndoLeft) (a b c : View D) → LogsNext first g u a b (Ok Undone) → c ≡ b → LeavesDisk {T = ⊤} first g a c (Ok tt)
+disk_undone first g u a b c (item, v, byte, goes, one) is = subst (λ (x : View _). LeavesDisk {T = ⊤} first g a x (Ok tt)) (sym is) (disk_done first g a b Undone tt (disk_one first g (record_for item byte) a b (Ok Undone) one))
+
+pub disk_refused : {D : Type 0} (first : Image) (g : Ghosts D) (u : UndoLeft) (a b : View D) (e : StoreFault) → LogsNext first g u a b (Err e) → LeavesDisk {T = ⊤} first g a b (Err e)
+disk_refused first g u a b e (item, v, byte, goes, one) = disk_failed first g a b e (disk_one first g (record_for item byte) a b (Err e) one)
 
 -- lines are of sessions, and none is recovery's
 pub own_lines : (lines : List Line) → AllByRecursion IsRunLine lines → (l : Line) → IsAmong l lines → 0 < l.session

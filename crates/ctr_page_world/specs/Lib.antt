@@ -4,3 +4,4 @@ pub mod Begun
 pub mod World
 pub mod Turns
 pub mod Ended
+pub use Rattle.ctr_exec.specs as ctr_exec

@@ -37,6 +37,11 @@ pub record AddsEntries {D : Type 0} (such : List Entry → Type 0) (moment : ℕ
   pub moments : AllByRecursion (λ (e : Entry). e.moment ≡ moment) entries
   pub script : new.sessions.script ≡ old.sessions.script
 
+-- entries more behind those that are there, or none
+abbrev pub GrowsTape : {D : Type 0} → Running D → Running D → Type 0
+GrowsTape old new =
+    (more : List Entry) × (new.sessions.tape.items ≡ old.sessions.tape.items ++ more)
+
 -- one at most, by which recovery releases a name
 abbrev pub AreReleases : List Entry → Type 0
 AreReleases es = (length es ≤ 1) × AllByRecursion IsReleaseEntry es

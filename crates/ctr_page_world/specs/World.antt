@@ -1,5 +1,5 @@
 -- What a World on pages keeps between any two turns.
-use Rattle.std.specs.Prelude.{◌≡◌, ℕ, ◌-◌, ◌^◌, ◌≤◌, true, false, IsTrue, List, [], Option, Some, None}
+use Rattle.std.specs.Prelude.{◌≡◌, ◌≢◌, ℕ, ◌-◌, ◌^◌, ◌≤◌, true, false, IsTrue, List, [], Option, Some, None}
 use Rattle.std.specs.List.{AllByRecursion}
 use Rattle.ctr_types.specs.Faults.{CountsFault}
 use Rattle.ctr_disk.specs.declared.disk.Disk.{Ghosts}
@@ -10,6 +10,7 @@ use Rattle.ctr_disk.specs.declared.fault.StoreFault.TheVariants.{Fault, Damaged}
 use Rattle.ctr_disk.specs.Image.{Image}
 use Rattle.ctr_types.specs.declared.tape.Entry.{Entry}
 use Rattle.ctr_model.specs.State.{has_name}
+use Rattle.ctr_model.specs.declared.tape.Point.{Point}
 use Rattle.ctr_model.specs.Tape.{Legal, at_start, final}
 use Rattle.ctr_area.specs.Images.{undo_size}
 use Rattle.ctr_names.specs.Held.{names_of_items}
@@ -18,10 +19,11 @@ use Rattle.ctr_record_effects.specs.States.{area_in}
 use Rattle.ctr_record_effects.specs.Standing.{StandsForDatabase}
 use Rattle.ctr_kept.specs.Turns.{Start, start_point}
 use Rattle.ctr_kept.specs.Walk.{Mind}
+use Rattle.ctr_stops.specs.Stops.{LeavesPrefixAt, LeftSince}
 use Rattle.ctr_stops.specs.World.{starting}
 use Rattle.ctr_undo.specs.Left.{left_in}
 use Rattle.ctr_undo.specs.Keeping.{list_of}
-use Rattle.ctr_session_world.specs.Ready.{StandOver}
+use Rattle.ctr_exec.specs.ctr_session_world.Ready.{StandOver}
 use Rattle.ctr_exec.specs.Order.{IsOrdered, StandInOrder}
 use Rattle.ctr_exec.specs.Sessions.{AreSeated, ShowsSessions}
 use Rattle.ctr_page_world.specs.declared.opening.Opening.{Ghosts as Opening}
@@ -87,6 +89,16 @@ abbrev pub stop_by : StoreFault → Stop
 stop_by Fault = stop.Fault
 stop_by (Damaged d) = stop.Damaged d
 
+-- where a tape has led, of a database in this state
+abbrev pub led_to : {B : Type 0} → Opening B → State → List Entry → Point
+led_to o s es = final o.lines (start_point (start_in o s)) es
+
+-- A crash at any moment from the start to now leaves a prefix of the commit order with every commit
+-- that was answered by then.
+abbrev pub LeavesPrefix : {D B : Type 0} → Opening B → Ghosts D → State → D → List Entry → Type 0
+LeavesPrefix o g s disk es =
+    LeftSince g o.start disk (LeavesPrefixAt o.before (start_in o s).base (led_to o s es).state.asked es)
+
 -- ---- both
 
 -- a fault that stopped a World was counted; where nothing stopped it, or something else, none was met
@@ -115,6 +127,9 @@ pub record Kept {D B : Type 0} (o : Opening B) (first : Image) (g : Ghosts D) (w
     pub sized : (s : State) → IsTrue g.tells → StandsForDatabase first s
         → w.running.size ≡ undo_size s.tables
     pub undamaged : (s : State) → IsTrue g.tells → StandsForDatabase first s → IsUndamaged w.stop
+    -- at each moment until a stop a crash left a prefix of the commit order
+    pub left : (s : State) → IsTrue g.tells → StandsForDatabase first s → w.stop ≢ None
+        → LeavesPrefix o g s w.running.store.disk w.running.sessions.tape.items
     pub lines_are : w.running.sessions.script.lines ≡ o.lines
     pub each : AllByRecursion IsRunLine o.lines
     pub count : left_in w.running.undo ≤ w.running.size

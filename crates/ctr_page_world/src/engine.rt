@@ -1,7 +1,5 @@
 // What a World is made of, and the turns of its actors, which a fault ends.
 ghost use Rattle.std.specs.Prelude.{◌≡◌, ◌≢◌, ◌<◌, ◌≤◌, ◌+◌, ◌-◌, ◌^◌, ℕ, [], false, OnOk, IfOk};
-ghost use Rattle.ctr_disk.specs.declared.fault.StoreFault.TheVariants.{Fault};
-ghost use Rattle.ctr_types.specs.Faults.{HasFault};
 ghost use Rattle.ctr_types.specs.declared.tape.Actor.TheVariants as who;
 ghost use Rattle.ctr_base.specs.Base.{WhereSound};
 ghost use Rattle.ctr_kept.specs.Turns.{Start};
@@ -9,8 +7,8 @@ ghost use Rattle.ctr_kept.specs.Walk.{Mind};
 ghost use Rattle.ctr_redo.specs.States.{State};
 ghost use Rattle.ctr_store.specs.Store.{HasTurnRoom, LeavesPage, WritesHome, turns_for_room};
 ghost use Rattle.ctr_undo.specs.Left.{UndoLeft, Goes, left_in};
-ghost use Rattle.ctr_session_world.specs.Ready.{TakesTime};
-ghost use Rattle.ctr_session_world.specs.World.{SessionsHeld, InWorld};
+ghost use Rattle.ctr_exec.specs.ctr_session_world.Ready.{LeavesDisk};
+ghost use Rattle.ctr_exec.specs.ctr_session_world.World.{SessionsHeld, InWorld};
 ghost use Rattle.ctr_exec.specs.Order.{IsOrdered};
 ghost use Rattle.ctr_exec.specs.Sessions.{AreAnswers, AreOfTurn, AreSeated, OrFails, turns_left};
 ghost use Rattle.ctr_page_world.specs.Held.{running};
@@ -21,11 +19,11 @@ use crate::laws::undo_leaves_the_sessions;
 use crate::names::name_gone;
 use crate::opening::Opening;
 use ctr_base::Origin;
-use ctr_control::{flush, make_room};
 use ctr_disk::{Disk, StoreFault};
 use ctr_exec::Sessions;
+use ctr_exec::control::{flush, make_room};
+use ctr_exec::session_world::pages_that_are_read_keep_a_world;
 use ctr_kept::recovery_is_in_no_transaction;
-use ctr_session_world::pages_that_are_read_keep_a_world;
 use ctr_store::Store;
 use ctr_tally::Steps;
 use ctr_types::{Name, Turn};
@@ -77,8 +75,7 @@ impl<D: Disk, B: Origin + Opening> Engine<D, B> {
         ensures adds { AddsUnlessFails (AreOfTurn s) (D.moment_of self.new.store.disk) (running self.old) (running self.new) result }
         ensures nearer { OnOk result (turns_left self.new.sessions self.new.store < turns_left self.old.sessions self.old.store) }
         ensures same { self.new ≡ record self.old { store = self.new.store; sessions = self.new.sessions } }
-        ensures faults { HasFault Fault (D.faults_of self.old.store.disk) (D.faults_of self.new.store.disk) result }
-        ensures time { TakesTime D.Disk self.old.store self.new.store }
+        ensures disk { LeavesDisk B.first D.Disk self.old.store self.new.store result }
     {
         a_turn_of_undo_is_kept::<D>();
         names_of_what_is_left_stay();
@@ -99,8 +96,7 @@ impl<D: Disk, B: Origin + Opening> Engine<D, B> {
         ensures adds { AddsUnlessFails (AreBy (who.Session s)) (D.moment_of self.new.store.disk) (running self.old) (running self.new) result }
         ensures nearer { OnOk result (ComesNearer (who.Session s) (running self.old) (running self.new)) }
         ensures same { self.new ≡ record self.old { store = self.new.store; sessions = self.new.sessions } }
-        ensures faults { HasFault Fault (D.faults_of self.old.store.disk) (D.faults_of self.new.store.disk) result }
-        ensures time { TakesTime D.Disk self.old.store self.new.store }
+        ensures disk { LeavesDisk B.first D.Disk self.old.store self.new.store result }
     {
         match self.act::<Brand>(alloc, s, Blank::new(1)) {
             Ok(()) => {
@@ -144,8 +140,7 @@ impl<D: Disk, B: Origin + Opening> Engine<D, B> {
         ensures one { OnOk result (left_in self.new.undo + 1 ≡ left_in self.old.undo) }
         ensures fewer { OnOk result (turns_left self.new.sessions self.new.store < turns_left self.old.sessions self.old.store) }
         ensures left { (self.new.size ≡ self.old.size) × (left_in self.new.undo ≤ left_in self.old.undo) }
-        ensures faults { HasFault Fault (D.faults_of self.old.store.disk) (D.faults_of self.new.store.disk) result }
-        ensures time { TakesTime D.Disk self.old.store self.new.store }
+        ensures disk { LeavesDisk B.first D.Disk self.old.store self.new.store result }
     {
         a_name_is_released_with_its_last_item();
         a_turn_of_undo_is_kept::<D>();
@@ -176,8 +171,7 @@ impl<D: Disk, B: Origin + Opening> Engine<D, B> {
         ensures fewer { OnOk result (turns_left self.new.sessions self.new.store < turns_left self.old.sessions self.old.store) }
         ensures answered { OnOk result (AreAnswered (running self.new)) }
         ensures same { self.new ≡ record self.old { store = self.new.store; sessions = self.new.sessions } }
-        ensures faults { HasFault Fault (D.faults_of self.old.store.disk) (D.faults_of self.new.store.disk) result }
-        ensures time { TakesTime D.Disk self.old.store self.new.store }
+        ensures disk { LeavesDisk B.first D.Disk self.old.store self.new.store result }
     {
         match make_room(&mut self.store) {
             Ok(()) => {
@@ -195,8 +189,7 @@ impl<D: Disk, B: Origin + Opening> Engine<D, B> {
         ensures shows { (s : State) → WhereSound B.first D.Disk (Shows B.Opening B.first D.Disk s (running self.old) → OrFails (Shows B.Opening B.first D.Disk s (running self.new)) result) }
         ensures none { OnOk result (self.new.store.waiting ≡ []) }
         ensures same { self.new ≡ record self.old { store = self.new.store } }
-        ensures faults { HasFault Fault (D.faults_of self.old.store.disk) (D.faults_of self.new.store.disk) result }
-        ensures time { TakesTime D.Disk self.old.store self.new.store }
+        ensures disk { LeavesDisk B.first D.Disk self.old.store self.new.store result }
     {
         flush(&mut self.store)
     }
@@ -209,8 +202,7 @@ impl<D: Disk, B: Origin + Opening> Engine<D, B> {
         ensures adds { AddsUnlessFails AreAnswers (D.moment_of self.new.store.disk) (running self.old) (running self.new) result }
         ensures durable { OnOk result ((self.new.store.waiting ≡ []) × AreAnswered (running self.new)) }
         ensures same { self.new ≡ record self.old { store = self.new.store; sessions = self.new.sessions } }
-        ensures faults { HasFault Fault (D.faults_of self.old.store.disk) (D.faults_of self.new.store.disk) result }
-        ensures time { TakesTime D.Disk self.old.store self.new.store }
+        ensures disk { LeavesDisk B.first D.Disk self.old.store self.new.store result }
     {
         match self.settle() {
             Ok(()) => {
@@ -232,8 +224,7 @@ impl<D: Disk, B: Origin + Opening> Engine<D, B> {
         ensures adds { AddsUnlessFails (AreBy who.Undo) (D.moment_of self.new.store.disk) (running self.old) (running self.new) result }
         ensures nearer { OnOk result (ComesNearer who.Undo (running self.old) (running self.new)) }
         ensures left { (self.new.size ≡ self.old.size) × (left_in self.new.undo ≤ left_in self.old.undo) }
-        ensures faults { HasFault Fault (D.faults_of self.old.store.disk) (D.faults_of self.new.store.disk) result }
-        ensures time { TakesTime D.Disk self.old.store self.new.store }
+        ensures disk { LeavesDisk B.first D.Disk self.old.store self.new.store result }
     {
         if !self.store.room() {
             return self.made_room();
@@ -256,8 +247,7 @@ impl<D: Disk, B: Origin + Opening> Engine<D, B> {
         ensures adds { AddsUnlessFails AreAnswers (D.moment_of self.new.store.disk) (running self.old) (running self.new) result }
         ensures went { IfOk result (FlusherEnds (running self.old) (running self.new)) }
         ensures same { self.new ≡ record self.old { store = self.new.store; sessions = self.new.sessions } }
-        ensures faults { HasFault Fault (D.faults_of self.old.store.disk) (D.faults_of self.new.store.disk) result }
-        ensures time { TakesTime D.Disk self.old.store self.new.store }
+        ensures disk { LeavesDisk B.first D.Disk self.old.store self.new.store result }
     {
         if !self.store.is_hardened() {
             return match self.harden() {

@@ -12,8 +12,8 @@ ghost use Rattle.ctr_exec.specs.declared.sessions.Sessions.{Sessions as Sessions
 ghost use Rattle.ctr_exec.specs.Sessions.{IsReleased, ShowsSessions};
 
 use ctr_disk::Disk;
+use ctr_exec::writing::what_a_write_counts_on_stays;
 use ctr_model::{legal_states_are_sound, snapshots_stay};
-use ctr_writing::what_a_write_counts_on_stays;
 
 /// A turn of undo leaves each session where it is, whatever it is in the middle of, where the turn keeps the World: its transaction and its
 /// locks are as they were, and so is what it counts on. With the last item of a table's name recovery releases that on the sessions' tape, and

@@ -5,13 +5,14 @@ ghost use Rattle.ctr_types.specs.declared.tape.Turn.TheVariants.{Went, Stopped};
 ghost use Rattle.ctr_exec.specs.Sessions.{turns_left};
 ghost use Rattle.ctr_page_world.specs.Held.{held};
 ghost use Rattle.ctr_page_world.specs.World.{Kept, stop_by};
-ghost use Rattle.ctr_page_world.specs.Turns.{EndsTurn, HasStatementLeft, IsOver};
+ghost use Rattle.ctr_page_world.specs.Turns.{EndsTurn, GrowsTape, HasStatementLeft, IsOver};
 
 use crate::engine::Engine;
 use crate::left::{first_left, has_left};
 use crate::opening::Opening;
 use ctr_base::Origin;
 use ctr_disk::{Disk, Stop, StoreFault};
+use ctr_exec::session_world::a_turn_that_ends_leaves_a_prefix;
 use ctr_types::{Actor, Turn};
 use std::alloc::Global;
 
@@ -86,6 +87,7 @@ impl<D: Disk, B: Origin + Opening> Parts<D, B> {
         if self.is_worn() {
             return self.wear();
         }
+        a_turn_that_ends_leaves_a_prefix::<D>();
         match self.engine.serve(alloc, s) {
             Ok(()) => Turn::Went,
             Err(fault) => {
@@ -108,6 +110,7 @@ impl<D: Disk, B: Origin + Opening> Parts<D, B> {
         if self.is_worn() {
             return self.wear();
         }
+        a_turn_that_ends_leaves_a_prefix::<D>();
         match self.engine.undo(alloc, next) {
             Ok(()) => Turn::Went,
             Err(fault) => {
@@ -124,6 +127,7 @@ impl<D: Disk, B: Origin + Opening> Parts<D, B> {
         ensures kept { Kept B.Opening B.first D.Disk (held self.new) }
         ensures says { EndsTurn D.Disk result who.Flusher (held self.old) (held self.new) }
     {
+        a_turn_that_ends_leaves_a_prefix::<D>();
         match self.engine.write_behind() {
             Ok(turn) => turn,
             Err(fault) => {
@@ -156,6 +160,7 @@ impl<D: Disk, B: Origin + Opening> Parts<D, B> {
         ensures kept { Kept B.Opening B.first D.Disk (held self.new) }
         ensures fewer { result ≡ Went → turns_left self.new.engine.sessions self.new.engine.store < turns_left self.old.engine.sessions self.old.engine.store }
         ensures over { result ≢ Went → self.new.stop ≡ None → IsOver (held self.new) }
+        ensures adds { GrowsTape (held self.old).running (held self.new).running }
         ensures stopped { self.old.stop ≢ None → (result ≢ Went) × (self.new ≡ self.old) }
     {
         if self.stop.is_some() {
@@ -172,6 +177,7 @@ impl<D: Disk, B: Origin + Opening> Parts<D, B> {
         requires kept { Kept B.Opening B.first D.Disk (held self.old) }
         ensures kept { Kept B.Opening B.first D.Disk (held self.new) }
         ensures over { self.new.stop ≡ None → IsOver (held self.new) }
+        ensures adds { GrowsTape (held self.old).running (held self.new).running }
         ensures stopped { self.old.stop ≢ None → self.new ≡ self.old }
     {
         while let Turn::Went = self.step_next(alloc) {}
@@ -183,11 +189,13 @@ impl<D: Disk, B: Origin + Opening> Parts<D, B> {
         ensures kept { Kept B.Opening B.first D.Disk (held self.new) }
         ensures over { IsOver (held self.old) → IsOver (held self.new) }
         ensures none { self.new.stop ≡ None → self.new.engine.store.waiting ≡ [] }
+        ensures tape { self.new.engine.sessions.tape.items ≡ self.old.engine.sessions.tape.items }
         ensures stopped { self.old.stop ≢ None → self.new ≡ self.old }
     {
         if self.stop.is_some() {
             return;
         }
+        a_turn_that_ends_leaves_a_prefix::<D>();
         match self.engine.settle() {
             Ok(()) => {}
             Err(fault) => {
@@ -202,6 +210,7 @@ impl<D: Disk, B: Origin + Opening> Parts<D, B> {
         requires kept { Kept B.Opening B.first D.Disk (held self.old) }
         ensures kept { Kept B.Opening B.first D.Disk (held self.new) }
         ensures over { self.new.stop ≡ None → IsOver (held self.new) × (self.new.engine.store.waiting ≡ []) }
+        ensures adds { GrowsTape (held self.old).running (held self.new).running }
         ensures stopped { self.old.stop ≢ None → self.new ≡ self.old }
     {
         self.run(alloc);

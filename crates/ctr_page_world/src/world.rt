@@ -1,5 +1,6 @@
 // The World: its type names what it was opened on, and keeps the tape legal and the disk's images in order.
-ghost use Rattle.std.specs.Prelude.{◌≡◌, ◌≢◌, ◌≤◌, ◌-◌, ◌^◌, ℕ, None, Some, IsTrue, true, false, IfOk, IfErr};
+ghost use Rattle.std.specs.Prelude.{◌≡◌, ◌≢◌, ◌≤◌, ◌-◌, ◌^◌, ◌++◌, ℕ, List, [], length, None, Some, IsTrue, true, false, IfOk, IfErr};
+ghost use Rattle.ctr_types.specs.declared.tape.Entry.{Entry as HeldEntry};
 ghost use Rattle.ctr_disk.specs.declared.fault.Stop.TheVariants.{Worn};
 ghost use Rattle.ctr_redo.specs.States.{State};
 ghost use Rattle.ctr_record_effects.specs.Standing.{StandsForDatabase};
@@ -7,10 +8,12 @@ ghost use Rattle.ctr_base.specs.Base.{WhereSound};
 ghost use Rattle.ctr_store.specs.Opening.{IsUndamaged};
 ghost use Rattle.ctr_store.specs.StoreOpening.{OpensStore};
 ghost use Rattle.ctr_undo.specs.Left.{left_in};
+ghost use Rattle.ctr_exec.specs.Order.{IsOrdered};
+ghost use Rattle.ctr_exec.specs.Runners.{AreRunners, runner_at};
 ghost use Rattle.ctr_page_world.specs.Opened.{IsOpenedOn, CanRun};
-ghost use Rattle.ctr_page_world.specs.World.{StopsBy};
+ghost use Rattle.ctr_page_world.specs.World.{IsTapeOf, LeavesPrefix, StopsBy};
 ghost use Rattle.ctr_page_world.specs.Turns.{HasStatementLeft, EndsTurn};
-ghost use Rattle.ctr_page_world.specs.Ended.{Ends, EndsInOrder, IsUnbegunWorld, RefusesWith, RefusesWorld};
+ghost use Rattle.ctr_page_world.specs.Ended.{Ends, EndsInOrder, IsUnbegunWorld, PassesOpening, RefusesWith, RefusesWorld};
 
 use crate::beginning::begin;
 use crate::engine::Engine;
@@ -18,10 +21,10 @@ use crate::opening::Opening;
 use crate::parts::Parts;
 use ctr_base::Origin;
 use ctr_disk::{Disk, Stop};
+use ctr_exec::session_world::pages_that_are_read_keep_a_world;
 use ctr_exec::{Sessions, a_script_begins_in_a_world};
 use ctr_log::OpenError;
-use ctr_session_world::pages_that_are_read_keep_a_world;
-use ctr_stops::{a_call_that_ends_leaves_a_prefix, a_world_begins};
+use ctr_stops::{a_call_that_ends_leaves_a_prefix, a_world_begins, an_opened_store_keeps_commits};
 use ctr_store::Store;
 use ctr_types::{Actor, Entry, List, Script, Tape, Turn};
 use std::alloc::Global;
@@ -76,16 +79,21 @@ impl<D: Disk, B: Origin + Opening> World<D, B> {
         ensures counts { IfOk result (λ w. (D.moment_of disk ≤ D.moment_of w.running.store.disk) × (D.faults_of w.running.store.disk ≡ D.faults_of disk)) }
         // A database is refused by its numbers, for a fault, or for want of memory.
         ensures undamaged { (s : State) → IsTrue D.tells → StandsForDatabase B.first s → IfErr result (λ e. IsUndamaged e.0) }
-        // No database, or a worn number, is told where it is so.
+        // No database, damage, or a worn number, is told where it is so; and none is where it isn't.
         ensures refused { IsTrue D.tells → IfErr result (λ e. RefusesWorld B.first e.0) }
+        ensures passes { IsTrue D.tells → IfOk result (λ w. PassesOpening B.first) }
+        // A crash in an opening that was refused leaves the rows of the database, or what it might have left before.
+        ensures left { (s : State) → IsTrue D.tells → StandsForDatabase B.first s → IfErr result (λ e. LeavesPrefix B.Opening D.Disk s e.1 []) }
         ensures stays { IfErr result (λ e. RefusesWith D.Disk disk e.0 e.1) }
     {
         let mut store = match Store::<D, B>::open(alloc, disk, frames) {
             Ok(store) => store,
             Err(refused) => return Err(refused),
         };
-        a_world_begins::<D>();
+        a_call_that_ends_leaves_a_prefix::<D>();
         a_script_begins_in_a_world::<D>();
+        a_world_begins::<D>();
+        an_opened_store_keeps_commits::<D>();
         pages_that_are_read_keep_a_world::<D>();
         match begin(alloc, &mut store, script) {
             Ok(begun) => {
@@ -113,6 +121,25 @@ impl<D: Disk, B: Origin + Opening> World<D, B> {
         ensures no { result ≡ false → self.now.stop ≡ None → (s : ℕ) × HasStatementLeft s self.now.running.sessions }
     {
         self.parts.done()
+    }
+
+    /// How many of its statements a session has finished.
+    pub fn finished(&self, session: u8) -> usize
+        requires { 1 ≤ session }
+        ensures { result ≡ (runner_at session self.now.running.sessions.runners.items).finished }
+    {
+        self.parts.engine.sessions.finished(session)
+    }
+
+    /// The tape stands in the order of the script, and has led each session to where it is; also where the World is stopped it stands in that order. The
+    /// call does nothing: what it ensures holds of each World.
+    pub fn stands_in_order(&self)
+        ensures going { self.now.stop ≡ None → IsOrdered B.start (D.moment_of self.now.running.store.disk) self.now.running.sessions }
+        ensures seats { self.now.stop ≡ None → (length self.now.running.sessions.runners.items ≡ 8) × AreRunners B.lines 1 self.now.running.sessions.runners.items }
+        ensures tape { IsTapeOf B.Opening (D.moment_of self.now.running.store.disk) self.now.running.sessions.tape.items }
+        ensures lines { self.now.running.sessions.script.lines ≡ B.lines }
+    {
+        let _ = &self.parts;
     }
 
     /// Why the World stopped, if it did.
@@ -145,6 +172,8 @@ impl<D: Disk, B: Origin + Opening> World<D, B> {
         ensures order { EndsInOrder B.Opening D.Disk result.tape.entries result.stop result.disk }
         ensures stopped { self.stop ≢ None → (result.tape.entries ≡ self.running.sessions.tape.items) × (result.stop ≡ self.stop)
             × (result.undone ≡ self.running.size - left_in self.running.undo) × (result.disk ≡ self.running.store.disk) }
+        // Entries come behind those that are there.
+        ensures adds { (more : List HeldEntry) × (result.tape.entries ≡ self.running.sessions.tape.items ++ more) }
         ensures later { B.start ≤ D.moment_of result.disk }
         // A fault is the cause of a stop or none was met.
         ensures stops { StopsBy result.stop B.faults (D.faults_of result.disk) }

@@ -1,5 +1,5 @@
 -- What a session counts on between two of its statements, behind a reply that it was told.
-use Rattle.std.proofs.Common.{◌≡◌, ◌⊎◌, ⊎_elim, inl, inr, ℕ, ◌+◌, ◌<◌, ◌==◌, true, false, cond, List, [], ◌∷◌, ◌++◌, Option, Some, None, refl, sym, ◌∙◌, ap, subst, arith}
+use Rattle.std.proofs.Common.{◌≡◌, ◌⊎◌, ⊎_elim, inl, inr, ℕ, ◌+◌, ◌<◌, ◌==◌, true, cond, List, [], ◌∷◌, ◌++◌, Option, Some, None, refl, sym, ◌∙◌, ap, subst, arith}
 use Rattle.std.specs.Prelude.{is_some}
 use Rattle.std.specs.List.{AllByRecursion}
 use Rattle.std.proofs.lemmas.Bool.{false≢true, eqb-true}
@@ -17,7 +17,7 @@ use Rattle.ctr_model.specs.declared.tape.Point.{Point}
 use Rattle.ctr_model.specs.Refusals.{table_of}
 use Rattle.ctr_model.specs.Reply.{next_from, next_state, on_table, reply_from, with_read, with_use, MayStandFor}
 use Rattle.ctr_model.specs.State.{begun, transaction_of}
-use Rattle.ctr_model.specs.Tape.{final, passed, progress_of, statement_of, Allowed, Comes, IsActOf, Legal}
+use Rattle.ctr_model.specs.Tape.{final, passed, progress_of, statement_of, Comes, IsActOf, Legal}
 use Rattle.ctr_model.proofs.Sessions.{find-put-same, find-without-same}
 use Rattle.ctr_legal.specs.Laws.{RepliesTell}
 use Rattle.ctr_legal.specs.Ready.{TellsOf}

@@ -7,6 +7,8 @@ pub mod Faults
 pub mod Going
 pub mod Changed
 pub mod Ready
+pub mod Disks
+pub mod Left
 pub mod Answered
 pub use Rattle.ctr_told.proofs as ctr_told
 pub use Rattle.ctr_told.proofs.ctr_write as ctr_write

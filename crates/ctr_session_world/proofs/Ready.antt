@@ -15,9 +15,7 @@ use Rattle.ctr_txn.specs.Numbered.{NumbersHeld}
 use Rattle.ctr_txn.specs.Rooms.{HasItemRoom, StaysRoom}
 use Rattle.ctr_txn.specs.Steps.{SetsTxn}
 use Rattle.ctr_page_turns.specs.Turns.{Turns, Reads, LogsARecord, Grows}
-use Rattle.ctr_session_world.specs.Ready.{LeavesOver, LeavesReady, StandOver, StaysUnasked, TakesTime, is_asking}
-use Rattle.ctr_session_world.proofs.Going.{later_of}
-use Rattle.ctr_session_world.proofs.Standing.{further}
+use Rattle.ctr_session_world.specs.Ready.{LeavesOver, LeavesReady, StandOver, StaysUnasked, is_asking}
 
 -- ---- numbers
 
@@ -173,8 +171,3 @@ turns_ready {D} first g s old new a b x (Grows grows) stand others =
       counted = more_still a.now.counted m.now.counted b.now.counted grows.read.keeps.counted (not_less m.now.counted b.now.counted grows.more.few counts.counted);
       one = as_many a.next m.next b.next grows.read.keeps.next (ap (λ (v : View D). v.next) counts.same);
     }
-
-pub turns_later : {D T : Type 0} (first : Image) (g : Ghosts D) (a b : View D) (r : Result T StoreFault) → Turns first g a b r → TakesTime g a b
-turns_later first g a b r (Reads leaves) = later_of first g a b r leaves
-turns_later first g a b r (LogsARecord logs) = logs.1.time.later
-turns_later first g a b r (Grows grows) = further (g.moment_of a.disk) (g.moment_of grows.between.disk) (g.moment_of b.disk) grows.read.time.later grows.more.counts.time.later

@@ -1,12 +1,18 @@
 -- What a turn of a session asks and leaves, whatever the disk tells.
 use Rattle.std.specs.Prelude.{◌≡◌, ◌<◌, ◌≤◌, ◌==◌, ◌+◌, ℕ, Bool, false, Option, None, Some, is_some, Result, OnOk}
 use Rattle.ctr_disk.specs.declared.disk.Disk.{Ghosts}
+use Rattle.ctr_disk.specs.Image.{Image}
 use Rattle.ctr_disk.specs.declared.fault.StoreFault.{StoreFault}
-use Rattle.ctr_store.specs.Store.{View}
+use Rattle.ctr_disk.specs.declared.fault.StoreFault.TheVariants.{Fault}
+use Rattle.ctr_types.specs.Faults.{HasFault}
+use Rattle.ctr_base.specs.declared.growing.TheConstants.{MOST_PAGES}
+use Rattle.ctr_base.specs.Base.{WhereSound}
+use Rattle.ctr_store.specs.Store.{View, LeavesFront, LeavesGrowing}
 use Rattle.ctr_walk.specs.OneRecord.{HasRoomForOne}
 use Rattle.ctr_txn.specs.Held.{TxnHeld, TxnsHeld, IsOneOfEight, txn_of}
 use Rattle.ctr_txn.specs.Calls.{IsOverStore}
 use Rattle.ctr_txn.specs.Rooms.{HasItemRoom}
+use Rattle.ctr_page_turns.specs.Turns.{RestsBehind}
 
 -- Transactions stand over a store: they draw the numbers that its tables expect, and there is room
 -- for each item of the secondary log that is kept for one of them.
@@ -45,6 +51,18 @@ abbrev pub LeavesOver : {D T : Type 0} → ℕ → TxnsHeld → TxnsHeld → Vie
 LeavesOver s txns now a b result =
     OnOk result (LeavesReady s txns now a b × StaysUnasked s txns now)
 
--- a turn takes time, or none
-abbrev pub TakesTime : {D : Type 0} → Ghosts D → View D → View D → Type 0
-TakesTime g a b = g.moment_of a.disk ≤ g.moment_of b.disk
+-- At each moment of a turn, however it ends, a crash leaves what was hardened with some of what
+-- waited. Where more pages are counted, that is so up to the growth, and in it a crash leaves what is
+-- hardened then, with the old count of pages or the new one.
+pub data LeavesFrontOrGrows {D : Type 0} (g : Ghosts D) (a b : View D) : Type 0 where
+  Front : LeavesFront g a b → LeavesFrontOrGrows g a b
+  Grows : (m : View D) → RestsBehind g a m → m.now.counted < MOST_PAGES → LeavesGrowing g m b
+      → LeavesFrontOrGrows g a b
+
+-- What a turn leaves of the disk, however it ends: time doesn't go back, and a fault is told where the
+-- disk counts one more.
+pub record LeavesDisk {D T : Type 0} (first : Image) (g : Ghosts D) (a b : View D)
+    (result : Result T StoreFault) : Type 0 where
+  pub later : g.moment_of a.disk ≤ g.moment_of b.disk
+  pub faults : HasFault Fault (g.faults_of a.disk) (g.faults_of b.disk) result
+  pub left : WhereSound first g (LeavesFrontOrGrows g a b)

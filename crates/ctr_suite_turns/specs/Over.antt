@@ -1,7 +1,7 @@
 -- Sessions that may take turns over a store.
 use Rattle.std.specs.Prelude.{◌≡◌, false}
 use Rattle.ctr_store.specs.Store.{View}
-use Rattle.ctr_session_world.specs.Ready.{StandOver}
+use Rattle.ctr_exec.specs.ctr_session_world.Ready.{StandOver}
 use Rattle.ctr_exec.specs.declared.sessions.Sessions.{Sessions}
 use Rattle.ctr_exec.specs.Sessions.{AreSeated}
 

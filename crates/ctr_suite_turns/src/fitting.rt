@@ -3,7 +3,7 @@ ghost use Rattle.std.specs.Prelude.{◌≡◌, true};
 ghost use Rattle.std.specs.List.{AllByRecursion};
 ghost use Rattle.ctr_types.specs.declared.statement.Line.{Line as LineIs};
 ghost use Rattle.ctr_value.specs.Columns.{ColumnFits, ColumnsFit, KindFits};
-ghost use Rattle.ctr_writing.specs.Tables.{HasFittingColumns};
+ghost use Rattle.ctr_exec.specs.ctr_writing.Tables.{HasFittingColumns};
 
 use ctr_types::{Column, Kind, Line, Statement};
 

@@ -4,8 +4,8 @@ ghost use Rattle.ctr_suite_turns.specs.Over.{AreOver};
 
 use crate::files::Mem;
 use crate::trouble::Trouble;
-use ctr_control::flush;
 use ctr_exec::Sessions;
+use ctr_exec::control::flush;
 use ctr_tally::Steps;
 use ctr_types::Turn;
 use std::alloc::Global;

@@ -1,14 +1,13 @@
 // The Write of a row.
 ghost use Rattle.std.specs.Prelude.{◌≡◌, ◌<◌, ℕ, true, List, is_some, IfOk, IfErr};
 ghost use Rattle.ctr_disk.specs.declared.fault.StoreFault.TheVariants.{Fault};
-ghost use Rattle.ctr_types.specs.Faults.{HasFault};
 ghost use Rattle.ctr_types.specs.declared.statement.Statement.{Statement as Said};
 ghost use Rattle.ctr_model.specs.Refusals.{key_written};
 ghost use Rattle.ctr_base.specs.Base.{WhereSound};
 ghost use Rattle.ctr_kept.specs.Turns.{Start};
 ghost use Rattle.ctr_key_locks.specs.Held.{LocksOfSession};
 ghost use Rattle.ctr_looks.specs.ctr_wishes.declared.making.Prepared.TheVariants.{Lays};
-ghost use Rattle.ctr_looks.specs.ctr_session_world.Ready.{LeavesOver, MayTurn, TakesTime};
+ghost use Rattle.ctr_looks.specs.ctr_session_world.Ready.{LeavesOver, MayTurn, LeavesDisk};
 ghost use Rattle.ctr_looks.specs.ctr_session_world.Told.{IsNextOf};
 ghost use Rattle.ctr_writing.specs.Rows.{IsAtRow, TurnOfRow, WentBy, MayGoOn, LeavesStage};
 
@@ -54,8 +53,7 @@ fn lay<D: Disk, O: Origin>(
         → key_written statement ≡ Some key → IsAtRow c s statement next.mind entry (Lays head.now) stage → IfOk result (λ r. TurnOfRow next (record { txns = txns.new; locks = locks }) entry (Lays head.now) r)) }
     ensures refused { (c : Start) (opened : D) (locks : List (ℕ × LocksOfSession)) (statement : Said) → WhereSound O.first D.Disk ((next : IsNextOf D.Disk c opened store.old store.new (record { txns = txns.old; locks = locks }) s statement 1)
         → key_written statement ≡ Some key → IsAtRow c s statement next.mind entry (Lays head.now) stage → IfErr result (λ e. e ≡ Fault)) }
-    ensures faults { HasFault Fault (D.faults_of store.old.disk) (D.faults_of store.new.disk) result }
-    ensures time { TakesTime D.Disk store.old store.new }
+    ensures disk { LeavesDisk O.first D.Disk store.old store.new result }
 {
     a_turn_goes_or_counts_a_fault::<D, Written>();
     a_turn_is_told_by_its_number::<D, Written>();
@@ -111,10 +109,9 @@ pub fn write_row<D: Disk, O: Origin>(
     // There it fails by the disk alone.
     ensures refused { (c : Start) (opened : D) (locks : List (ℕ × LocksOfSession)) → WhereSound O.first D.Disk ((next : IsNextOf D.Disk c opened store.old store.new (record { txns = txns.old; locks = locks }) s statement.now 1)
         → IsAtRow c s statement.now next.mind entry prepared.now stage → IfErr result (λ e. e ≡ Fault)) }
-    // A fault is told where the disk counts one more.
-    ensures faults { HasFault Fault (D.faults_of store.old.disk) (D.faults_of store.new.disk) result }
-    // Time doesn't go back.
-    ensures time { TakesTime D.Disk store.old store.new }
+    // However it ends, time doesn't go back, a fault is told where the disk counts one more, and a crash in it leaves what was hardened with
+    // some of what waited.
+    ensures disk { LeavesDisk O.first D.Disk store.old store.new result }
 {
     a_turn_of_a_row_is_told::<D>();
     store.rests();

@@ -1,14 +1,13 @@
 // The Write of a CREATE TABLE and of a DROP TABLE.
 ghost use Rattle.std.specs.Prelude.{◌≡◌, ◌<◌, ℕ, List, IfOk, IfErr};
 ghost use Rattle.ctr_disk.specs.declared.fault.StoreFault.TheVariants.{Fault};
-ghost use Rattle.ctr_types.specs.Faults.{HasFault};
 ghost use Rattle.ctr_types.specs.declared.statement.Statement.{Statement as Said};
 ghost use Rattle.ctr_types.specs.declared.statement.Statement.TheVariants as st;
 ghost use Rattle.ctr_value.specs.Columns.{ColumnsFit};
 ghost use Rattle.ctr_base.specs.Base.{WhereSound};
 ghost use Rattle.ctr_kept.specs.Turns.{Start};
 ghost use Rattle.ctr_key_locks.specs.Held.{LocksOfSession};
-ghost use Rattle.ctr_looks.specs.ctr_session_world.Ready.{LeavesOver, MayTurn, TakesTime};
+ghost use Rattle.ctr_looks.specs.ctr_session_world.Ready.{LeavesOver, MayTurn, LeavesDisk};
 ghost use Rattle.ctr_looks.specs.ctr_session_world.Told.{IsNextOf};
 ghost use Rattle.ctr_looks.specs.declared.tables.TableWrite.TheVariants.{Make, Drop};
 ghost use Rattle.ctr_looks.specs.Granting.{HasItem};
@@ -45,8 +44,7 @@ fn make<D: Disk, O: Origin>(
     ensures refused { (c : Start) (opened : D) (locks : List (ℕ × LocksOfSession)) → WhereSound O.first D.Disk
         ((next : IsNextOf D.Disk c opened store.old store.new (record { txns = txns.old; locks = locks }) s (st.Create name.now schema.now) 1) → IsAtTableWrite c s (st.Create name.now schema.now) next.mind Make
         → IfErr result (λ e. e ≡ Fault)) }
-    ensures faults { HasFault Fault (D.faults_of store.old.disk) (D.faults_of store.new.disk) result }
-    ensures time { TakesTime D.Disk store.old store.new }
+    ensures disk { LeavesDisk O.first D.Disk store.old store.new result }
 {
     a_table_may_be_written::<D>();
     a_turn_goes_or_counts_a_fault::<D, Made>();
@@ -89,8 +87,7 @@ fn drop_one<D: Disk, O: Origin>(
     ensures refused { (c : Start) (opened : D) (locks : List (ℕ × LocksOfSession)) (statement : Said) → WhereSound O.first D.Disk
         ((next : IsNextOf D.Disk c opened store.old store.new (record { txns = txns.old; locks = locks }) s statement 1) → IsAtTableWrite c s statement next.mind (Drop entry)
         → IfErr result (λ e. e ≡ Fault)) }
-    ensures faults { HasFault Fault (D.faults_of store.old.disk) (D.faults_of store.new.disk) result }
-    ensures time { TakesTime D.Disk store.old store.new }
+    ensures disk { LeavesDisk O.first D.Disk store.old store.new result }
 {
     a_table_may_be_written::<D>();
     a_turn_is_told_by_its_number::<D, ()>();
@@ -129,10 +126,9 @@ pub fn write_table<D: Disk, O: Origin>(
     ensures refused { (c : Start) (opened : D) (locks : List (ℕ × LocksOfSession)) → WhereSound O.first D.Disk
         ((next : IsNextOf D.Disk c opened store.old store.new (record { txns = txns.old; locks = locks }) s statement.now 1) → IsAtTableWrite c s statement.now next.mind what
         → IfErr result (λ e. e ≡ Fault)) }
-    // A fault is told where the disk counts one more.
-    ensures faults { HasFault Fault (D.faults_of store.old.disk) (D.faults_of store.new.disk) result }
-    // Time doesn't go back.
-    ensures time { TakesTime D.Disk store.old store.new }
+    // However it ends, time doesn't go back, a fault is told where the disk counts one more, and a crash in it leaves what was hardened with
+    // some of what waited.
+    ensures disk { LeavesDisk O.first D.Disk store.old store.new result }
 {
     match what {
         TableWrite::Make => {

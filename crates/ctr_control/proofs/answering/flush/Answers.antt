@@ -16,9 +16,3 @@ returns-clause-kept g c = λ run opened h w tells sound world.
 
 pub returns-clause-keeps : goal.returns-clause-keeps
 returns-clause-keeps g c = c.harden.ensures.leaves.keeps
-
-pub returns-clause-faults : goal.returns-clause-faults
-returns-clause-faults g c = c.harden.ensures.leaves.faults
-
-pub returns-clause-time : goal.returns-clause-time
-returns-clause-time g c = c.harden.ensures.leaves.time.later

@@ -19,9 +19,3 @@ returns-clause-refused g c = c.make_room-made.ensures.leaves.refused
 
 pub returns-clause-keeps : goal.returns-clause-keeps
 returns-clause-keeps g c = c.make_room-made.ensures.leaves.keeps
-
-pub returns-clause-faults : goal.returns-clause-faults
-returns-clause-faults g c = c.make_room-made.ensures.leaves.faults
-
-pub returns-clause-time : goal.returns-clause-time
-returns-clause-time g c = c.make_room-made.ensures.leaves.time.later

@@ -1,7 +1,6 @@
-use Rattle.std.proofs.Common.{◌+◌, ◌<◌, inr, List, [], ◌∷◌, ◌++◌, length, None, Some, refl, sym, ◌∙◌, ap, subst}
+use Rattle.std.proofs.Common.{◌+◌, ◌<◌, inr, List, [], ◌∷◌, ◌++◌, length, None, Some, Ok, Err, refl, sym, ◌∙◌, ap, subst}
 use Rattle.std.proofs.lemmas.Bool.{false≢true}
 use Rattle.std.specs.Ordering.{nat_cmp}
-use Rattle.ctr_disk.specs.declared.fault.StoreFault.TheVariants.{Fault}
 use Rattle.ctr_types.specs.declared.statement.Statement.TheVariants as st
 use Rattle.ctr_types.specs.declared.tape.Act.TheVariants as act
 use Rattle.ctr_types.specs.declared.tape.Refusal.TheVariants as refusal
@@ -29,9 +28,9 @@ use Rattle.ctr_session_world.proofs.Resting.{rests_here, refused_told}
 use Rattle.ctr_control.proofs.Asking.{asks, asked_told, ends, in_neither, many_asked, refused_outside}
 use Rattle.ctr_session_world.proofs.Idling.{idle_seat}
 use Rattle.ctr_session_world.proofs.Numbers.{idle_in}
-use Rattle.ctr_session_world.proofs.Faults.{fault_done, fault_failed, fault_none}
 use Rattle.ctr_control.proofs.Gone.{gone_told}
 use Rattle.ctr_control.proofs.Unasked.{ready, unasked_next}
+use Rattle.ctr_session_world.proofs.Disks.{disk_done, disk_failed, disk_one, disk_still}
 use Rattle.ctr_control.proofs.ending.ask.Goals as goal
 
 -- ---- what is left of the sessions
@@ -157,16 +156,22 @@ returns-in-Err-clause-refused g c = λ run opened tells sound next idle.
     let owes = c.a_commit_that_is_asked_for_is_told.ensures.owed run opened a next.mind s seat still.0 next.world.keeps counted.1 in
     c.in-Err.ensures.refused tells sound next.world.keeps.pages.sound (subst (λ x. Owes x Commits (site_of a.now)) (sym me_is) owes)
 
--- ---- faults
+-- ---- what is left of the disk
 
-pub returns-in-Ok-clause-faults : goal.returns-in-Ok-clause-faults
-returns-in-Ok-clause-faults g c = fault_done Fault _ _ c.in-Ok.k _ c.in-Ok.ensures.one.faults
+pub returns-in-Ok-clause-disk : goal.returns-in-Ok-clause-disk
+returns-in-Ok-clause-disk g c =
+    let a = c.args.store.now in
+    let b = c.ask_for.new.store in
+    disk_done g.O.Origin.first g.D.Disk a b c.in-Ok.k _ (disk_one g.O.Origin.first g.D.Disk (Commit (number_drawn c.args.s c.args.txns.now)) a b (Ok c.in-Ok.k) c.in-Ok.ensures.one)
 
-pub returns-in-Err-clause-faults : goal.returns-in-Err-clause-faults
-returns-in-Err-clause-faults g c = fault_failed Fault _ _ c.in-Err.fault c.in-Err.ensures.one.faults
+pub returns-in-Err-clause-disk : goal.returns-in-Err-clause-disk
+returns-in-Err-clause-disk g c =
+    let a = c.args.store.now in
+    let b = c.ask_for.new.store in
+    disk_failed g.O.Origin.first g.D.Disk a b c.in-Err.fault (disk_one g.O.Origin.first g.D.Disk (Commit (number_drawn c.args.s c.args.txns.now)) a b (Err c.in-Err.fault) c.in-Err.ensures.one)
 
-pub returns-then-is_reading-clause-faults : goal.returns-then-is_reading-clause-faults
-returns-then-is_reading-clause-faults g c = fault_none Fault _ _
+pub returns-then-is_reading-clause-disk : goal.returns-then-is_reading-clause-disk
+returns-then-is_reading-clause-disk g c = disk_still g.O.Origin.first g.D.Disk c.args.store.now c.args.store.now _ refl (λ told sound. c.rests.ensures told sound c.requires.may.room.going)
 
-pub returns-clause-faults : goal.returns-clause-faults
-returns-clause-faults g c = fault_none Fault _ _
+pub returns-clause-disk : goal.returns-clause-disk
+returns-clause-disk g c = disk_still g.O.Origin.first g.D.Disk c.args.store.now c.args.store.now _ refl (λ told sound. c.rests.ensures told sound c.requires.may.room.going)

@@ -1,7 +1,6 @@
 use Rattle.std.proofs.Common.{◌<◌, None, Some, Ok, refl, sym, ◌∙◌, ap, subst}
 use Rattle.std.proofs.lemmas.Bool.{false≢true}
 use Rattle.std.specs.Ordering.{nat_cmp}
-use Rattle.ctr_disk.specs.declared.fault.StoreFault.TheVariants.{Fault}
 use Rattle.ctr_types.specs.declared.statement.Statement.TheVariants as st
 use Rattle.ctr_types.specs.declared.tape.Act.TheVariants as act
 use Rattle.ctr_types.specs.declared.tape.Refusal.TheVariants as refusal
@@ -17,7 +16,6 @@ use Rattle.ctr_txn.specs.Numbered.{NumbersHeld}
 use Rattle.ctr_txn.specs.Steps.{txn_undoing}
 use Rattle.ctr_session_world.specs.World.{SessionsHeld}
 use Rattle.ctr_control.proofs.Asking.{in_neither}
-use Rattle.ctr_session_world.proofs.Faults.{fault_done, fault_failed, fault_none}
 use Rattle.ctr_control.proofs.Gone.{gone_told}
 use Rattle.ctr_control.proofs.Others.{others_of}
 use Rattle.ctr_session_world.proofs.Ready.{others_set, ready_as_was, ready_here, stands_with, unasked_set}
@@ -25,6 +23,7 @@ use Rattle.ctr_session_world.proofs.Resting.{rests_here, refused_told}
 use Rattle.ctr_control.proofs.Rolled.{KeepsTitles, at_rollback, back_comes, back_refused, is_open, its, titles_undone, undoing_run, undone_kept, writer}
 use Rattle.ctr_session_world.proofs.Standing.{comes, none_of, seat_of}
 use Rattle.ctr_control.proofs.Unasked.{ready, unasked_next}
+use Rattle.ctr_session_world.proofs.Disks.{disk_done, disk_failed, disk_still}
 use Rattle.ctr_control.proofs.rolling.roll_back.Goals as goal
 
 -- ---- what is left of the sessions
@@ -168,19 +167,19 @@ returns-in-Err-clause-refused g c = λ run opened tells sound next.
     c.in-Err.ensures.rolls tells sound
     (subst (λ x. MayRoll x a.now) (sym me_is) (record { sound = next.world.keeps.pages.sound; is_open = is_open g.D.Disk run opened a b old locks s next seat some }))
 
--- ---- faults
+-- ---- what is left of the disk
 
-pub returns-in-Ok-Undone-clause-faults : goal.returns-in-Ok-Undone-clause-faults
-returns-in-Ok-Undone-clause-faults g c = fault_done Fault _ _ c.in-Ok-Undone.field-0 _ c.in-Ok-Undone.ensures.faults
+pub returns-in-Ok-Undone-clause-disk : goal.returns-in-Ok-Undone-clause-disk
+returns-in-Ok-Undone-clause-disk g c = disk_done g.O.Origin.first g.D.Disk c.args.store.now c.undo_or_abort.new.store c.in-Ok-Undone.field-0 _ c.in-Ok-Undone.ensures.disk
 
-pub returns-in-Ok-Back-clause-faults : goal.returns-in-Ok-Back-clause-faults
-returns-in-Ok-Back-clause-faults g c = fault_done Fault _ _ c.in-Ok-Back.field-0 _ c.in-Ok-Back.ensures.faults
+pub returns-in-Ok-Back-clause-disk : goal.returns-in-Ok-Back-clause-disk
+returns-in-Ok-Back-clause-disk g c = disk_done g.O.Origin.first g.D.Disk c.args.store.now c.undo_or_abort.new.store c.in-Ok-Back.field-0 _ c.in-Ok-Back.ensures.disk
 
-pub returns-in-Err-clause-faults : goal.returns-in-Err-clause-faults
-returns-in-Err-clause-faults g c = fault_failed Fault _ _ c.in-Err.fault c.in-Err.ensures.faults
+pub returns-in-Err-clause-disk : goal.returns-in-Err-clause-disk
+returns-in-Err-clause-disk g c = disk_failed g.O.Origin.first g.D.Disk c.args.store.now c.undo_or_abort.new.store c.in-Err.fault c.in-Err.ensures.disk
 
-pub returns-then-is_reading-clause-faults : goal.returns-then-is_reading-clause-faults
-returns-then-is_reading-clause-faults g c = fault_none Fault _ _
+pub returns-then-is_reading-clause-disk : goal.returns-then-is_reading-clause-disk
+returns-then-is_reading-clause-disk g c = disk_still g.O.Origin.first g.D.Disk c.args.store.now c.args.store.now _ refl (λ told sound. c.rests.ensures told sound c.requires.may.room.going)
 
-pub returns-clause-faults : goal.returns-clause-faults
-returns-clause-faults g c = fault_none Fault _ _
+pub returns-clause-disk : goal.returns-clause-disk
+returns-clause-disk g c = disk_still g.O.Origin.first g.D.Disk c.args.store.now c.args.store.now _ refl (λ told sound. c.rests.ensures told sound c.requires.may.room.going)

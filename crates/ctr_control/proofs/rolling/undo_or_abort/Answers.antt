@@ -13,6 +13,7 @@ use Rattle.ctr_rollback.specs.declared.rolling.Rolled.TheVariants.{Undone, Back}
 use Rattle.ctr_rollback.proofs.Records.{three_ok}
 use Rattle.ctr_session_world.specs.Ready.{LeavesOver}
 use Rattle.ctr_session_world.proofs.Ready.{others_set, ready_logged, unasked_as, unasked_set}
+use Rattle.ctr_session_world.proofs.Disks.{disk_one}
 use Rattle.ctr_control.proofs.rolling.undo_or_abort.Goals as goal
 
 module _ {D : Type 0} (s : ℕ) (old new : TxnsHeld) (a b : View D) (one : IsOneOfEight s) (eight : length old.sessions ≡ 8) (writing : IsWriting s old) (rec : Record) where
@@ -47,11 +48,8 @@ returns-clause-logs g c = λ tells sound.
     (λ logs going nothing. record { rec = one.0; logs = logs; front = one.1.any_moment tells sound; rests = c.rests.ensures tells sound going; later = one.1.time.later })
     (one.1.logs tells sound) one.1.going one.1.going
 
-pub returns-clause-faults : goal.returns-clause-faults
-returns-clause-faults g c = c.turn-rolled.ensures.one.1.faults
-
-pub returns-clause-time : goal.returns-clause-time
-returns-clause-time g c = c.turn-rolled.ensures.one.1.time.later
-
 pub returns-clause-steps : goal.returns-clause-steps
 returns-clause-steps g c = (c.turn-rolled.ensures.steps, next_number c.turn-rolled.ensures.one.0 c.args.store.now c.turn-rolled.new.store c.turn-rolled.result c.turn-rolled.ensures.one.1.takes)
+
+pub returns-clause-disk : goal.returns-clause-disk
+returns-clause-disk g c = disk_one g.O.Origin.first g.D.Disk c.turn-rolled.ensures.one.0 c.args.store.now c.turn-rolled.new.store c.turn-rolled.result c.turn-rolled.ensures.one.1

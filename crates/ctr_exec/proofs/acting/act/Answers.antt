@@ -1,7 +1,7 @@
 use Rattle.std.proofs.Common.{◌≡◌, sym, subst}
 use Rattle.ctr_kept.specs.Turns.{state_now}
-use Rattle.ctr_session_world.specs.Told.{IsNextOf}
-use Rattle.ctr_session_world.specs.World.{SessionsHeld}
+use Rattle.ctr_writing.specs.ctr_session_world.Told.{IsNextOf}
+use Rattle.ctr_writing.specs.ctr_session_world.World.{SessionsHeld}
 use Rattle.ctr_exec.specs.declared.runners.Stage.{Stage}
 use Rattle.ctr_exec.specs.Acting.{IsMidway, TurnOfAct}
 use Rattle.ctr_exec.specs.Runners.{made_at}

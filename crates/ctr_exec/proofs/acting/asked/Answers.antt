@@ -1,12 +1,11 @@
 use Rattle.std.proofs.Common.{inl, refl, sym, ◌∙◌, ap, subst}
 use Rattle.std.specs.Prelude.{not}
-use Rattle.ctr_disk.specs.declared.fault.StoreFault.TheVariants.{Fault}
 use Rattle.ctr_types.specs.declared.statement.Statement.TheVariants as st
 use Rattle.ctr_types.specs.declared.tape.Act.TheVariants as act
 use Rattle.ctr_model.specs.Laws.{is_asked}
-use Rattle.ctr_session_world.specs.World.{SessionsHeld}
-use Rattle.ctr_session_world.proofs.Faults.{fault_done, fault_failed}
-use Rattle.ctr_session_world.specs.Told.{IsTold}
+use Rattle.ctr_writing.specs.ctr_session_world.World.{SessionsHeld}
+use Rattle.ctr_writing.proofs.ctr_session_world.Disks.{disk_done, disk_failed}
+use Rattle.ctr_writing.specs.ctr_session_world.Told.{IsTold}
 use Rattle.ctr_exec.proofs.Replies.{asked_is, asked_isnt, asks_none}
 use Rattle.ctr_exec.proofs.acting.asked.Goals as goal
 
@@ -42,11 +41,11 @@ returns-in-None-clause-told g c = λ run opened tells sound next idle.
 pub returns-in-Err-clause-told : goal.returns-in-Err-clause-told
 returns-in-Err-clause-told g c = λ run opened tells sound next idle. c.in-Err.ensures.refused run opened tells sound next idle
 
-pub returns-in-Some-clause-faults : goal.returns-in-Some-clause-faults
-returns-in-Some-clause-faults g c = fault_done Fault _ _ c.in-Ok.reply _ c.in-Ok.ensures.faults
+pub returns-in-Some-clause-disk : goal.returns-in-Some-clause-disk
+returns-in-Some-clause-disk g c = disk_done g.O.Origin.first g.D.Disk _ _ c.in-Ok.reply _ c.in-Ok.ensures.disk
 
-pub returns-in-None-clause-faults : goal.returns-in-None-clause-faults
-returns-in-None-clause-faults g c = fault_done Fault _ _ c.in-Ok.reply _ c.in-Ok.ensures.faults
+pub returns-in-None-clause-disk : goal.returns-in-None-clause-disk
+returns-in-None-clause-disk g c = disk_done g.O.Origin.first g.D.Disk _ _ c.in-Ok.reply _ c.in-Ok.ensures.disk
 
-pub returns-in-Err-clause-faults : goal.returns-in-Err-clause-faults
-returns-in-Err-clause-faults g c = fault_failed Fault _ _ c.in-Err.fault c.in-Err.ensures.faults
+pub returns-in-Err-clause-disk : goal.returns-in-Err-clause-disk
+returns-in-Err-clause-disk g c = disk_failed g.O.Origin.first g.D.Disk _ _ c.in-Err.fault c.in-Err.ensures.disk

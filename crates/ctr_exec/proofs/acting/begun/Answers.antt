@@ -1,9 +1,8 @@
 use Rattle.std.proofs.Common.{inl, refl}
-use Rattle.ctr_disk.specs.declared.fault.StoreFault.TheVariants.{Fault}
 use Rattle.ctr_types.specs.declared.statement.Statement.TheVariants as st
 use Rattle.ctr_types.specs.declared.tape.Act.TheVariants as act
-use Rattle.ctr_session_world.specs.World.{SessionsHeld}
-use Rattle.ctr_session_world.proofs.Faults.{fault_none}
+use Rattle.ctr_writing.specs.ctr_session_world.World.{SessionsHeld}
+use Rattle.ctr_writing.proofs.ctr_session_world.Disks.{disk_still}
 use Rattle.ctr_exec.proofs.Answered.{not_asked}
 use Rattle.ctr_exec.proofs.acting.begun.Goals as goal
 
@@ -24,5 +23,5 @@ returns-clause-told g c = λ run opened locks tells sound next idle.
           (not_asked g.D.Disk run opened a a h c.args.s c.requires.may.one st.Begin 0 next now act.Begin c.begin.result told (λ is. absurd (cc is))),
     )
 
-pub returns-clause-faults : goal.returns-clause-faults
-returns-clause-faults g c = fault_none Fault _ _
+pub returns-clause-disk : goal.returns-clause-disk
+returns-clause-disk g c = disk_still g.O.Origin.first g.D.Disk _ _ _ refl (λ tells sound. c.rests.ensures tells sound c.requires.may.room.going)

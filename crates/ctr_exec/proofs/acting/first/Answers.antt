@@ -2,8 +2,8 @@ use Rattle.std.proofs.Common.{◌≡◌, ⊎_elim, sym, subst}
 use Rattle.ctr_types.specs.declared.statement.Statement.{Statement}
 use Rattle.ctr_types.specs.declared.statement.Statement.TheVariants as st
 use Rattle.ctr_kept.specs.Turns.{state_now}
-use Rattle.ctr_session_world.specs.Told.{IsIdleIn, IsNextOf}
-use Rattle.ctr_session_world.specs.World.{SessionsHeld}
+use Rattle.ctr_writing.specs.ctr_session_world.Told.{IsIdleIn, IsNextOf}
+use Rattle.ctr_writing.specs.ctr_session_world.World.{SessionsHeld}
 use Rattle.ctr_exec.specs.Acting.{IsIdleFor, TurnOfAct}
 use Rattle.ctr_exec.proofs.acting.first.Goals as goal
 

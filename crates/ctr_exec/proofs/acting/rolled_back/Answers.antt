@@ -1,10 +1,9 @@
 use Rattle.std.proofs.Common.{inl, Ok, refl, ap, subst}
-use Rattle.ctr_disk.specs.declared.fault.StoreFault.TheVariants.{Fault}
 use Rattle.ctr_types.specs.declared.statement.Statement.TheVariants as st
 use Rattle.ctr_types.specs.declared.tape.Act.TheVariants as act
-use Rattle.ctr_session_world.specs.World.{SessionsHeld}
-use Rattle.ctr_session_world.proofs.Faults.{fault_done, fault_failed}
-use Rattle.ctr_session_world.specs.Told.{TellsOrGoesOn}
+use Rattle.ctr_writing.specs.ctr_session_world.World.{SessionsHeld}
+use Rattle.ctr_writing.proofs.ctr_session_world.Disks.{disk_done, disk_failed}
+use Rattle.ctr_writing.specs.ctr_session_world.Told.{TellsOrGoesOn}
 use Rattle.ctr_exec.proofs.acting.rolled_back.Goals as goal
 
 pub returns-in-None-clause-over : goal.returns-in-None-clause-over
@@ -33,11 +32,11 @@ returns-in-Some-clause-told g c = λ run opened tells sound next.
 pub returns-in-Err-clause-told : goal.returns-in-Err-clause-told
 returns-in-Err-clause-told g c = λ run opened tells sound next. c.in-Err.ensures.refused run opened tells sound next
 
-pub returns-in-None-clause-faults : goal.returns-in-None-clause-faults
-returns-in-None-clause-faults g c = fault_done Fault _ _ c.in-Ok.rolled _ c.in-Ok.ensures.faults
+pub returns-in-None-clause-disk : goal.returns-in-None-clause-disk
+returns-in-None-clause-disk g c = disk_done g.O.Origin.first g.D.Disk _ _ c.in-Ok.rolled _ c.in-Ok.ensures.disk
 
-pub returns-in-Some-clause-faults : goal.returns-in-Some-clause-faults
-returns-in-Some-clause-faults g c = fault_done Fault _ _ c.in-Ok.rolled _ c.in-Ok.ensures.faults
+pub returns-in-Some-clause-disk : goal.returns-in-Some-clause-disk
+returns-in-Some-clause-disk g c = disk_done g.O.Origin.first g.D.Disk _ _ c.in-Ok.rolled _ c.in-Ok.ensures.disk
 
-pub returns-in-Err-clause-faults : goal.returns-in-Err-clause-faults
-returns-in-Err-clause-faults g c = fault_failed Fault _ _ c.in-Err.fault c.in-Err.ensures.faults
+pub returns-in-Err-clause-disk : goal.returns-in-Err-clause-disk
+returns-in-Err-clause-disk g c = disk_failed g.O.Origin.first g.D.Disk _ _ c.in-Err.fault c.in-Err.ensures.disk

@@ -1,8 +1,7 @@
 use Rattle.std.proofs.Common.{inr, refl, subst}
-use Rattle.ctr_disk.specs.declared.fault.StoreFault.TheVariants.{Fault}
 use Rattle.ctr_types.specs.declared.tape.Act.TheVariants as act
-use Rattle.ctr_session_world.specs.World.{SessionsHeld}
-use Rattle.ctr_session_world.proofs.Faults.{fault_done, fault_failed}
+use Rattle.ctr_writing.specs.ctr_session_world.World.{SessionsHeld}
+use Rattle.ctr_writing.proofs.ctr_session_world.Disks.{disk_done, disk_failed}
 use Rattle.ctr_writing.specs.Rows.{LeavesStage, TurnOfRow, WentBy}
 use Rattle.ctr_exec.proofs.Answered.{not_asked}
 use Rattle.ctr_exec.proofs.Points.{row_acts}
@@ -42,11 +41,11 @@ returns-in-Told-clause-told g c = λ run opened locks tells sound next at.
 pub returns-in-Err-clause-told : goal.returns-in-Err-clause-told
 returns-in-Err-clause-told g c = λ run opened locks tells sound next at. c.in-Err.ensures.refused run opened locks tells sound next at
 
-pub returns-in-On-clause-faults : goal.returns-in-On-clause-faults
-returns-in-On-clause-faults g c = fault_done Fault _ _ c.in-Ok.wrote _ c.in-Ok.ensures.faults
+pub returns-in-On-clause-disk : goal.returns-in-On-clause-disk
+returns-in-On-clause-disk g c = disk_done g.O.Origin.first g.D.Disk _ _ c.in-Ok.wrote _ c.in-Ok.ensures.disk
 
-pub returns-in-Told-clause-faults : goal.returns-in-Told-clause-faults
-returns-in-Told-clause-faults g c = fault_done Fault _ _ c.in-Ok.wrote _ c.in-Ok.ensures.faults
+pub returns-in-Told-clause-disk : goal.returns-in-Told-clause-disk
+returns-in-Told-clause-disk g c = disk_done g.O.Origin.first g.D.Disk _ _ c.in-Ok.wrote _ c.in-Ok.ensures.disk
 
-pub returns-in-Err-clause-faults : goal.returns-in-Err-clause-faults
-returns-in-Err-clause-faults g c = fault_failed Fault _ _ c.in-Err.fault c.in-Err.ensures.faults
+pub returns-in-Err-clause-disk : goal.returns-in-Err-clause-disk
+returns-in-Err-clause-disk g c = disk_failed g.O.Origin.first g.D.Disk _ _ c.in-Err.fault c.in-Err.ensures.disk

@@ -1,8 +1,7 @@
 use Rattle.std.proofs.Common.{inl, refl}
-use Rattle.ctr_disk.specs.declared.fault.StoreFault.TheVariants.{Fault}
 use Rattle.ctr_types.specs.declared.tape.Act.TheVariants as act
-use Rattle.ctr_session_world.specs.World.{SessionsHeld}
-use Rattle.ctr_session_world.proofs.Faults.{fault_done, fault_failed}
+use Rattle.ctr_writing.specs.ctr_session_world.World.{SessionsHeld}
+use Rattle.ctr_writing.proofs.ctr_session_world.Disks.{disk_done, disk_failed}
 use Rattle.ctr_exec.proofs.Answered.{not_asked}
 use Rattle.ctr_exec.proofs.Points.{read_at}
 use Rattle.ctr_exec.proofs.acting.rows_read.Goals as goal
@@ -29,8 +28,8 @@ returns-in-Ok-clause-told g c = λ run opened tells sound next stuck idle.
 pub returns-in-Err-clause-told : goal.returns-in-Err-clause-told
 returns-in-Err-clause-told g c = λ run opened tells sound next stuck idle. c.in-Err.ensures.refused tells sound next.world.keeps.pages.sound
 
-pub returns-in-Ok-clause-faults : goal.returns-in-Ok-clause-faults
-returns-in-Ok-clause-faults g c = fault_done Fault _ _ c.in-Ok.reply _ c.in-Ok.ensures.faults
+pub returns-in-Ok-clause-disk : goal.returns-in-Ok-clause-disk
+returns-in-Ok-clause-disk g c = disk_done g.O.Origin.first g.D.Disk _ _ c.in-Ok.reply _ c.in-Ok.ensures.disk
 
-pub returns-in-Err-clause-faults : goal.returns-in-Err-clause-faults
-returns-in-Err-clause-faults g c = fault_failed Fault _ _ c.in-Err.fault c.in-Err.ensures.faults
+pub returns-in-Err-clause-disk : goal.returns-in-Err-clause-disk
+returns-in-Err-clause-disk g c = disk_failed g.O.Origin.first g.D.Disk _ _ c.in-Err.fault c.in-Err.ensures.disk

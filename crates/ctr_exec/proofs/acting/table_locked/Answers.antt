@@ -1,11 +1,10 @@
 use Rattle.std.proofs.Common.{inl, refl, subst}
-use Rattle.ctr_disk.specs.declared.fault.StoreFault.TheVariants.{Fault}
 use Rattle.ctr_types.specs.declared.tape.Act.TheVariants as act
 use Rattle.ctr_types.specs.declared.tape.Reply.TheVariants as reply
-use Rattle.ctr_session_world.specs.World.{SessionsHeld}
-use Rattle.ctr_session_world.proofs.Faults.{fault_done, fault_failed}
-use Rattle.ctr_looks.specs.Locking.{IsTableLocked, IsTableReadyBehind, table_locked_reply}
-use Rattle.ctr_session_world.specs.Told.{IsTold}
+use Rattle.ctr_writing.specs.ctr_session_world.World.{SessionsHeld}
+use Rattle.ctr_writing.proofs.ctr_session_world.Disks.{disk_done, disk_failed}
+use Rattle.ctr_writing.specs.ctr_looks.Locking.{IsTableLocked, IsTableReadyBehind, table_locked_reply}
+use Rattle.ctr_writing.specs.ctr_session_world.Told.{IsTold}
 use Rattle.ctr_exec.proofs.Answered.{not_asked}
 use Rattle.ctr_exec.proofs.Points.{table_acts}
 use Rattle.ctr_exec.proofs.acting.table_locked.Goals as goal
@@ -48,11 +47,11 @@ returns-in-Refused-clause-ready g c = ((table_acts c.args.s c.args.statement.now
 pub returns-in-Err-clause-told : goal.returns-in-Err-clause-told
 returns-in-Err-clause-told g c = λ run opened tells sound next stuck idle. c.in-Err.ensures.refused tells sound next.world.keeps.pages.sound
 
-pub returns-in-Refused-clause-faults : goal.returns-in-Refused-clause-faults
-returns-in-Refused-clause-faults g c = fault_done Fault _ _ c.in-Ok.locked _ c.in-Ok.ensures.faults
+pub returns-in-Refused-clause-disk : goal.returns-in-Refused-clause-disk
+returns-in-Refused-clause-disk g c = disk_done g.O.Origin.first g.D.Disk _ _ c.in-Ok.locked _ c.in-Ok.ensures.disk
 
-pub returns-in-Granted-clause-faults : goal.returns-in-Granted-clause-faults
-returns-in-Granted-clause-faults g c = fault_done Fault _ _ c.in-Ok.locked _ c.in-Ok.ensures.faults
+pub returns-in-Granted-clause-disk : goal.returns-in-Granted-clause-disk
+returns-in-Granted-clause-disk g c = disk_done g.O.Origin.first g.D.Disk _ _ c.in-Ok.locked _ c.in-Ok.ensures.disk
 
-pub returns-in-Err-clause-faults : goal.returns-in-Err-clause-faults
-returns-in-Err-clause-faults g c = fault_failed Fault _ _ c.in-Err.fault c.in-Err.ensures.faults
+pub returns-in-Err-clause-disk : goal.returns-in-Err-clause-disk
+returns-in-Err-clause-disk g c = disk_failed g.O.Origin.first g.D.Disk _ _ c.in-Err.fault c.in-Err.ensures.disk

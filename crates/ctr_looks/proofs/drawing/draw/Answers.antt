@@ -10,8 +10,7 @@ use Rattle.ctr_looks.specs.Granting.{DrawsNext, HasNumber}
 use Rattle.ctr_session_world.proofs.Numbers.{none_or_some}
 use Rattle.ctr_session_world.proofs.Ready.{ready_as_was}
 use Rattle.ctr_session_world.proofs.Resting.{rests_here}
-use Rattle.ctr_disk.specs.declared.fault.StoreFault.TheVariants.{Fault}
-use Rattle.ctr_session_world.proofs.Faults.{fault_none}
+use Rattle.ctr_session_world.proofs.Disks.{disk_still}
 use Rattle.ctr_looks.proofs.drawing.draw.Goals as goal
 
 pub returns-then-is_reading-clause-over : goal.returns-then-is_reading-clause-over
@@ -44,7 +43,10 @@ returns-clause-number g c = λ told sound going some.
         let its = some_is q.session t (sym (ap (option_map (λ (q : TxnHeld). q.session)) is) ∙ at) in
         ⊎_elim (λ none. absurd (reads (record { t = q; there = is; none = none }))) (λ some. subst (λ (b : SessionHeld). 0 < b.me) its some) (none_or_some q.session.me)
 
--- ---- faults
+-- ---- what is left of the disk
 
-pub returns-clause-faults : goal.returns-clause-faults
-returns-clause-faults g c = fault_none Fault _ _
+pub returns-clause-disk : goal.returns-clause-disk
+returns-clause-disk g c = λ going. disk_still g.O.Origin.first g.D.Disk c.args.store.now c.args.store.now _ refl (λ told sound. c.rests.ensures told sound going)
+
+pub returns-then-is_reading-clause-disk : goal.returns-then-is_reading-clause-disk
+returns-then-is_reading-clause-disk g c = λ going. c.draw_next.ensures.disk

@@ -13,9 +13,8 @@ use Rattle.ctr_store.specs.Store.{Logs}
 use Rattle.ctr_txn.specs.Held.{TxnHeld, run_of}
 use Rattle.ctr_txn.specs.Steps.{txn_drawn}
 use Rattle.ctr_session_world.proofs.ctr_told.ctr_rollback.Records.{refused_by_disk}
-use Rattle.ctr_disk.specs.declared.fault.StoreFault.TheVariants.{Fault}
-use Rattle.ctr_session_world.proofs.Faults.{fault_done, fault_failed}
 use Rattle.ctr_session_world.proofs.Ready.{others_set, own_set, ready_logged, unasked_as}
+use Rattle.ctr_session_world.proofs.Disks.{disk_done, disk_failed, disk_one}
 use Rattle.ctr_looks.proofs.drawing.draw_next.Goals as goal
 
 pub returns-in-Ok-clause-over : goal.returns-in-Ok-clause-over
@@ -36,12 +35,6 @@ returns-in-Ok-clause-over g c = λ room.
 
 pub returns-in-Err-clause-over : goal.returns-in-Err-clause-over
 returns-in-Err-clause-over g c = λ room. tt
-
-pub returns-in-Ok-clause-time : goal.returns-in-Ok-clause-time
-returns-in-Ok-clause-time g c = c.in-Ok.ensures.one.time.later
-
-pub returns-in-Err-clause-time : goal.returns-in-Err-clause-time
-returns-in-Err-clause-time g c = c.in-Err.ensures.one.time.later
 
 pub returns-in-Ok-clause-draws : goal.returns-in-Ok-clause-draws
 returns-in-Ok-clause-draws g c = λ told sound some.
@@ -90,10 +83,16 @@ returns-in-Err-clause-refused g c = λ told sound database.
     (c.an_action_meets_its_needs.ensures.fits x Begins (site_of a.now) (record { page = 0; clear = false; offset = 0; bytes = [] }) (c.pages_are_in_bounds.ensures (pages_in a.now)) database.sound owed))
     (c.in-Err.ensures.one.refused told sound)
 
--- ---- faults
+-- ---- what is left of the disk
 
-pub returns-in-Ok-clause-faults : goal.returns-in-Ok-clause-faults
-returns-in-Ok-clause-faults g c = fault_done Fault _ _ c.in-Ok.field-0 _ c.in-Ok.ensures.one.faults
+pub returns-in-Ok-clause-disk : goal.returns-in-Ok-clause-disk
+returns-in-Ok-clause-disk g c =
+    let a = c.args.store.now in
+    let b = c.first_write.new.store in
+    disk_done g.O.Origin.first g.D.Disk a b c.in-Ok.field-0 _ (disk_one g.O.Origin.first g.D.Disk (Begin a.meta.tables.next) a b (Ok c.in-Ok.field-0) c.in-Ok.ensures.one)
 
-pub returns-in-Err-clause-faults : goal.returns-in-Err-clause-faults
-returns-in-Err-clause-faults g c = fault_failed Fault _ _ c.in-Err.fault c.in-Err.ensures.one.faults
+pub returns-in-Err-clause-disk : goal.returns-in-Err-clause-disk
+returns-in-Err-clause-disk g c =
+    let a = c.args.store.now in
+    let b = c.first_write.new.store in
+    disk_failed g.O.Origin.first g.D.Disk a b c.in-Err.fault (disk_one g.O.Origin.first g.D.Disk (Begin a.meta.tables.next) a b (Err c.in-Err.fault) c.in-Err.ensures.one)

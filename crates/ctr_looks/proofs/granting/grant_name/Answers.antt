@@ -1,4 +1,4 @@
-use Rattle.std.proofs.Common.{◌≡◌, ◌<◌, None, refl, sym, ◌∙◌, ap, subst}
+use Rattle.std.proofs.Common.{◌≡◌, ◌<◌, None, Ok, Err, refl, sym, ◌∙◌, ap, subst}
 use Rattle.std.specs.Prelude.{is_some}
 use Rattle.std.proofs.lemmas.Bool.{false≢true}
 use Rattle.ctr_types.specs.declared.tape.Act.TheVariants as act
@@ -13,8 +13,8 @@ use Rattle.ctr_looks.specs.Granting.{KeepsSessions}
 use Rattle.ctr_session_world.proofs.Ready.{ready_as_was, ready_then, same_but, unasked_then}
 use Rattle.ctr_session_world.proofs.Resting.{rests_here, rests_roomy}
 use Rattle.ctr_looks.proofs.Rooms.{number_roomy}
-use Rattle.ctr_disk.specs.declared.fault.StoreFault.TheVariants.{Fault}
-use Rattle.ctr_session_world.proofs.Faults.{fault_done, fault_failed, fault_none, fault_still, fault_then}
+use Rattle.ctr_session_world.proofs.Disks.{disk_done, disk_failed, disk_still}
+use Rattle.ctr_looks.proofs.Leaving.{drawn_roomy}
 use Rattle.ctr_looks.proofs.granting.grant_name.Goals as goal
 
 -- ---- what is left of the sessions
@@ -105,21 +105,25 @@ returns-in-Err-draw-clause-refused g c = λ told sound database.
 pub returns-in-Ok-draw-clause-item : goal.returns-in-Ok-draw-clause-item
 returns-in-Ok-draw-clause-item g c = c.in-Ok-draw.ensures.item c.in-Ok-reserve_for.ensures.item
 
--- ---- faults
+-- ---- what is left of the disk
 
-pub returns-in-Err-clause-faults : goal.returns-in-Err-clause-faults
-returns-in-Err-clause-faults g c = fault_none Fault _ _
+pub returns-in-Err-clause-disk : goal.returns-in-Err-clause-disk
+returns-in-Err-clause-disk g c = disk_still g.O.Origin.first g.D.Disk c.args.store.now c.args.store.now _ refl (λ told sound. c.rests.ensures told sound c.requires.may.room.going)
 
-pub returns-in-Err-reserve_for-clause-faults : goal.returns-in-Err-reserve_for-clause-faults
-returns-in-Err-reserve_for-clause-faults g c = fault_still Fault _ _ _ (ap (λ (v : View g.row.D.Denot). g.D.Disk.faults_of v.disk) c.reserve_for.ensures.same)
+pub returns-in-Err-reserve_for-clause-disk : goal.returns-in-Err-reserve_for-clause-disk
+returns-in-Err-reserve_for-clause-disk g c = disk_still g.O.Origin.first g.D.Disk c.args.store.now c.reserve_for.new.store _ c.reserve_for.ensures.same (λ told sound. c.rests.ensures told sound c.requires.may.room.going)
 
-pub returns-in-Some-clause-faults : goal.returns-in-Some-clause-faults
-returns-in-Some-clause-faults g c = fault_still Fault _ _ _ (ap (λ (v : View g.row.D.Denot). g.D.Disk.faults_of v.disk) c.reserve_for.ensures.same)
+pub returns-in-Some-clause-disk : goal.returns-in-Some-clause-disk
+returns-in-Some-clause-disk g c = disk_still g.O.Origin.first g.D.Disk c.args.store.now c.reserve_for.new.store _ c.reserve_for.ensures.same (λ told sound. c.rests.ensures told sound c.requires.may.room.going)
 
-pub returns-in-Ok-draw-clause-faults : goal.returns-in-Ok-draw-clause-faults
-returns-in-Ok-draw-clause-faults g c =
-    fault_then Fault _ _ _ (tt {0}) _ (fault_still Fault _ _ (tt {0}) (ap (λ (v : View g.row.D.Denot). g.D.Disk.faults_of v.disk) c.reserve_for.ensures.same)) (fault_done Fault _ _ (tt {0}) _ c.in-Ok-draw.ensures.faults)
+pub returns-in-Ok-draw-clause-disk : goal.returns-in-Ok-draw-clause-disk
+returns-in-Ok-draw-clause-disk g c =
+    let a = c.args.store.now in
+    let b = c.draw.new.store in
+    disk_done g.O.Origin.first g.D.Disk a b (tt {0}) _ (drawn_roomy g.O.Origin.first g.D.Disk a c.reserve_for.new.store b (Ok tt) c.reserve_for.ensures.same c.requires.may.room.going c.in-Ok-draw.ensures.disk)
 
-pub returns-in-Err-draw-clause-faults : goal.returns-in-Err-draw-clause-faults
-returns-in-Err-draw-clause-faults g c =
-    fault_then Fault _ _ _ (tt {0}) _ (fault_still Fault _ _ (tt {0}) (ap (λ (v : View g.row.D.Denot). g.D.Disk.faults_of v.disk) c.reserve_for.ensures.same)) (fault_failed Fault _ _ c.in-Err-draw.fault c.in-Err-draw.ensures.faults)
+pub returns-in-Err-draw-clause-disk : goal.returns-in-Err-draw-clause-disk
+returns-in-Err-draw-clause-disk g c =
+    let a = c.args.store.now in
+    let b = c.draw.new.store in
+    disk_failed g.O.Origin.first g.D.Disk a b c.in-Err-draw.fault (drawn_roomy g.O.Origin.first g.D.Disk a c.reserve_for.new.store b (Err c.in-Err-draw.fault) c.reserve_for.ensures.same c.requires.may.room.going c.in-Err-draw.ensures.disk)

@@ -43,9 +43,8 @@ use Rattle.ctr_looks.proofs.Granted.{row_locks_first}
 use Rattle.ctr_looks.proofs.Promised.{may_write}
 use Rattle.ctr_session_world.proofs.Ready.{leaves_read, ready_behind, stands_still}
 use Rattle.ctr_session_world.proofs.Resting.{same_held}
-use Rattle.ctr_disk.specs.declared.fault.StoreFault.TheVariants.{Fault}
-use Rattle.ctr_types.specs.Faults.{HasFault}
-use Rattle.ctr_session_world.proofs.Faults.{fault_done, fault_failed, fault_then}
+use Rattle.ctr_session_world.specs.Ready.{LeavesDisk}
+use Rattle.ctr_session_world.proofs.Disks.{disk_behind, disk_done, disk_failed, disk_read}
 use Rattle.ctr_looks.proofs.locking.lock_found.Goals as goal
 
 unread_so : {D : Type 0} (first : Image) (g : Ghosts D) (a m : View D) (P : Locked → Type 0) (why : ReadRefusal) (r : Result Locked StoreFault) → r ≡ locked_unread why → IsTrue g.tells → IsSoundImage first
@@ -54,10 +53,10 @@ unread_so first g a m P (unread.Store failed) r is told sound leaves rests so = 
 unread_so first g a m P unread.OutOfMemory r is told sound leaves rests so =
     subst (λ q. IfOk q P) (sym is) (so (rests_read {T = Result Prepared OutOfMemory} first g a m (Err (record {})) told sound leaves (rests leaves.going)))
 
--- why what the Write will do isn't read is a fault, or want of memory
-unread_fault : (n m : ℕ) (why : ReadRefusal) → HasFault {T = Result Prepared OutOfMemory} Fault n m (as_told (Err why)) → HasFault {T = Locked} Fault n m (locked_unread why)
-unread_fault n m (unread.Store failed) faults = fault_failed Fault n m failed faults
-unread_fault n m unread.OutOfMemory faults = fault_done Fault n m (Err (record {})) (Refused refusal.OutOfMemory) faults
+-- why what the Write will do isn't read is the disk's failure, or want of memory
+unread_disk : {D : Type 0} (first : Image) (g : Ghosts D) (a m : View D) (why : ReadRefusal) → LeavesDisk {T = Result Prepared OutOfMemory} first g a m (as_told (Err why)) → LeavesDisk {T = Locked} first g a m (locked_unread why)
+unread_disk first g a m (unread.Store failed) it = disk_failed first g a m failed it
+unread_disk first g a m unread.OutOfMemory it = disk_done first g a m (Err (record {})) (Refused refusal.OutOfMemory) it
 
 -- where that is answered the store goes on
 unread_goes : {D : Type 0} (first : Image) (g : Ghosts D) (a m : View D) (why : ReadRefusal) (r : Result Locked StoreFault) → r ≡ locked_unread why → ReadsPages first g a m (as_told {T = Prepared} (Err why)) → OnOk r (m.stopped ≡ false)
@@ -120,7 +119,7 @@ returns-in-Some-why-clause-told g c = λ run opened more told sound next free st
     let leaves = c.in-Ok.ensures.leaves in
     let rested = rests_read {T = Result Prepared OutOfMemory} g.O.Origin.first g.D.Disk a m (Ok c.in-Ok.prepared) told sound leaves (c.rests.ensures told sound leaves.going) in
     let keeps = c.pages_that_are_read_keep_a_world.ensures run opened a m next.mind next.world.keeps rested in
-    let later = c.grant_row.ensures.time in
+    let later = c.grant_row.ensures.disk.later in
     let then : IsNextOf g.D.Disk run opened m b h s statement 0 = goes g.D.Disk run opened a m b h s statement 0 next rested keeps later in
     let its = subst (λ r. (told : IsTold then now act.Lock (granted_or r)) × CountsOnTable r row.entry ((area_in m.now).title row.entry) (told.mind.facts s)) c.in-Some-why.is
     (c.in-Ok-grant_row.ensures.told run opened statement more told sound then (goes_free g.D.Disk run opened a m b h s statement 0 next rested keeps later act.Lock free) (goes_row g.D.Disk run opened a m b h s statement 0 next rested keeps later row of) idle) in
@@ -144,7 +143,7 @@ returns-in-None-clause-told g c = λ run opened more told sound next free stands
     let leaves = c.in-Ok.ensures.leaves in
     let rested = rests_read {T = Result Prepared OutOfMemory} g.O.Origin.first g.D.Disk a m (Ok c.in-Ok.prepared) told sound leaves (c.rests.ensures told sound leaves.going) in
     let keeps = c.pages_that_are_read_keep_a_world.ensures run opened a m w next.world.keeps rested in
-    let later = c.grant_row.ensures.time in
+    let later = c.grant_row.ensures.disk.later in
     let then : IsNextOf g.D.Disk run opened m b h s statement 0 = goes g.D.Disk run opened a m b h s statement 0 next rested keeps later in
     let its = subst (λ r. (told : IsTold then now act.Lock (granted_or r)) × CountsOnTable r row.entry ((area_in m.now).title row.entry) (told.mind.facts s)) c.in-None.is
     (c.in-Ok-grant_row.ensures.told run opened statement more told sound then (goes_free g.D.Disk run opened a m b h s statement 0 next rested keeps later act.Lock free) (goes_row g.D.Disk run opened a m b h s statement 0 next rested keeps later row of) idle) in
@@ -166,18 +165,32 @@ returns-in-Err-clause-ready g c = c.unread.ensures.ready c.args.s c.args.txns.no
 pub returns-in-None-clause-ready : goal.returns-in-None-clause-ready
 returns-in-None-clause-ready g c = (c.requires.there, subst (HasItemIfGranted c.args.s c.grant_row.new.txns) c.in-None.is c.in-Ok-grant_row.ensures.item)
 
--- ---- faults
+-- ---- what is left of the disk
 
-pub returns-in-Err-clause-faults : goal.returns-in-Err-clause-faults
-returns-in-Err-clause-faults g c =
-    subst (λ (r : Result Locked StoreFault). HasFault Fault (g.D.Disk.faults_of c.args.store.now.disk) (g.D.Disk.faults_of c.prepare-read.new.store.disk) r) (sym c.unread.ensures.said)
-    (unread_fault _ _ c.in-Err.refusal (c.a_fault_of_reading_is_counted.ensures g.O.Origin.first c.args.store.now c.prepare-read.new.store (as_told (Err c.in-Err.refusal)) c.in-Err.ensures.leaves))
+pub returns-in-Err-clause-disk : goal.returns-in-Err-clause-disk
+returns-in-Err-clause-disk g c =
+    let a = c.args.store.now in
+    let m = c.prepare-read.new.store in
+    subst (λ (r : Result Locked StoreFault). LeavesDisk g.O.Origin.first g.D.Disk a m r) (sym c.unread.ensures.said)
+    (unread_disk g.O.Origin.first g.D.Disk a m c.in-Err.refusal (disk_read g.O.Origin.first g.D.Disk a m (as_told (Err c.in-Err.refusal)) c.in-Err.ensures.leaves))
 
-pub returns-in-Err-grant_row-clause-faults : goal.returns-in-Err-grant_row-clause-faults
-returns-in-Err-grant_row-clause-faults g c = fault_then Fault _ _ _ (Ok c.in-Ok.prepared) _ (c.a_fault_of_reading_is_counted.ensures g.O.Origin.first c.args.store.now c.prepare-read.new.store (Ok (Ok c.in-Ok.prepared)) c.in-Ok.ensures.leaves) (fault_failed Fault _ _ c.in-Err-grant_row.fault c.in-Err-grant_row.ensures.faults)
+pub returns-in-Err-grant_row-clause-disk : goal.returns-in-Err-grant_row-clause-disk
+returns-in-Err-grant_row-clause-disk g c =
+    let a = c.args.store.now in
+    let m = c.prepare-read.new.store in
+    let b = c.grant_row.new.store in
+    disk_behind g.O.Origin.first g.D.Disk a m b (Ok c.in-Ok.prepared) _ c.in-Ok.ensures.leaves (disk_failed g.O.Origin.first g.D.Disk m b c.in-Err-grant_row.fault c.in-Err-grant_row.ensures.disk)
 
-pub returns-in-Some-why-clause-faults : goal.returns-in-Some-why-clause-faults
-returns-in-Some-why-clause-faults g c = fault_then Fault _ _ _ (Ok c.in-Ok.prepared) _ (c.a_fault_of_reading_is_counted.ensures g.O.Origin.first c.args.store.now c.prepare-read.new.store (Ok (Ok c.in-Ok.prepared)) c.in-Ok.ensures.leaves) (fault_done Fault _ _ c.in-Ok-grant_row.why _ c.in-Ok-grant_row.ensures.faults)
+pub returns-in-Some-why-clause-disk : goal.returns-in-Some-why-clause-disk
+returns-in-Some-why-clause-disk g c =
+    let a = c.args.store.now in
+    let m = c.prepare-read.new.store in
+    let b = c.grant_row.new.store in
+    disk_behind g.O.Origin.first g.D.Disk a m b (Ok c.in-Ok.prepared) _ c.in-Ok.ensures.leaves (disk_done g.O.Origin.first g.D.Disk m b c.in-Ok-grant_row.why _ c.in-Ok-grant_row.ensures.disk)
 
-pub returns-in-None-clause-faults : goal.returns-in-None-clause-faults
-returns-in-None-clause-faults g c = fault_then Fault _ _ _ (Ok c.in-Ok.prepared) _ (c.a_fault_of_reading_is_counted.ensures g.O.Origin.first c.args.store.now c.prepare-read.new.store (Ok (Ok c.in-Ok.prepared)) c.in-Ok.ensures.leaves) (fault_done Fault _ _ c.in-Ok-grant_row.why _ c.in-Ok-grant_row.ensures.faults)
+pub returns-in-None-clause-disk : goal.returns-in-None-clause-disk
+returns-in-None-clause-disk g c =
+    let a = c.args.store.now in
+    let m = c.prepare-read.new.store in
+    let b = c.grant_row.new.store in
+    disk_behind g.O.Origin.first g.D.Disk a m b (Ok c.in-Ok.prepared) _ c.in-Ok.ensures.leaves (disk_done g.O.Origin.first g.D.Disk m b c.in-Ok-grant_row.why _ c.in-Ok-grant_row.ensures.disk)

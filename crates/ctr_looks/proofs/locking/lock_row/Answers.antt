@@ -1,4 +1,4 @@
-use Rattle.std.proofs.Common.{ℕ, Err, sym, ◌∙◌, ap, subst}
+use Rattle.std.proofs.Common.{ℕ, sym, ◌∙◌, ap, subst}
 use Rattle.std.specs.Option.{option_copied}
 use Rattle.std.proofs.lemmas.Bool.{false≢true}
 use Rattle.ctr_types.specs.declared.tape.Act.TheVariants as act
@@ -11,17 +11,16 @@ use Rattle.ctr_session_world.specs.World.{SessionsHeld}
 use Rattle.ctr_looks.specs.Asked.{IsAsked}
 use Rattle.ctr_looks.specs.Granting.{IsRowOf}
 use Rattle.ctr_looks.specs.Locking.{IsReadyBehind, locked_reply}
-use Rattle.ctr_session_world.proofs.Going.{goes, goes_told, if_ok, later_of, rests_read}
+use Rattle.ctr_session_world.proofs.Going.{goes, goes_told, if_ok, rests_read}
 use Rattle.ctr_session_world.proofs.Ready.{leaves_behind, ready_read, stands_still}
-use Rattle.ctr_session_world.proofs.Standing.{further}
 use Rattle.ctr_looks.proofs.Staying.{goes_free, goes_row, goes_stands, idle_free}
 use Rattle.ctr_looks.proofs.Granted.{row_locks_first}
 use Rattle.ctr_looks.proofs.Promised.{row_makes_none}
-use Rattle.ctr_disk.specs.declared.fault.StoreFault.TheVariants.{Fault}
-use Rattle.ctr_session_world.proofs.Faults.{fault_done, fault_failed, fault_then}
+use Rattle.ctr_session_world.proofs.Disks.{disk_behind}
+use Rattle.ctr_looks.proofs.Leaving.{read_done, read_failed}
 use Rattle.ctr_looks.proofs.locking.lock_row.Goals as goal
 
--- ---- what is left of the sessions, and the time that it takes
+-- ---- what is left of the sessions
 
 pub returns-in-Refused-clause-over : goal.returns-in-Refused-clause-over
 returns-in-Refused-clause-over g c =
@@ -41,20 +40,8 @@ lock_found-requires-clause-may g c =
     let leaves = c.in-Ok.ensures.leaves in
     record { one = may.one; stand = stands_still c.args.txns.now a m leaves.keeps.meta may.stand; room = c.room_is_still_there.ensures.behind 0 0 a m leaves.keeps leaves.going may.room }
 
-pub returns-in-Err-clause-time : goal.returns-in-Err-clause-time
-returns-in-Err-clause-time g c = later_of {T = Answer} g.O.Origin.first g.D.Disk c.args.store.now c.ask_act.new.store (Err c.in-Err.fault) c.in-Err.ensures.leaves
-
-pub returns-in-Refused-clause-time : goal.returns-in-Refused-clause-time
-returns-in-Refused-clause-time g c = c.in-Ok.ensures.leaves.time.later
-
-pub returns-in-None-clause-time : goal.returns-in-None-clause-time
-returns-in-None-clause-time g c = c.in-Ok.ensures.leaves.time.later
-
 pub returns-in-Some-found-clause-over : goal.returns-in-Some-found-clause-over
 returns-in-Some-found-clause-over g c = leaves_behind c.lock_found.result c.args.s c.args.txns.now c.lock_found.new.txns c.args.store.now c.ask_act.new.store c.lock_found.new.store c.in-Ok.ensures.leaves.keeps c.lock_found.ensures.over
-
-pub returns-in-Some-found-clause-time : goal.returns-in-Some-found-clause-time
-returns-in-Some-found-clause-time g c = further _ _ _ c.in-Ok.ensures.leaves.time.later c.lock_found.ensures.time
 
 -- ---- what is told
 
@@ -100,7 +87,7 @@ returns-in-Some-found-clause-told g c = λ run opened told sound next stuck idle
     let row : RowAt = record { entry = c.in-Some-found.entry; name = c.in-Some.name; key = c.in-Some-key_written.key } in
     let of : IsRowOf next row = record { named = named; key = written; inside = stands.inside; title = stands.title; live = stands.live; undropped = stands.undropped; only = stands.only row.key } in
     let keeps = c.pages_that_are_read_keep_a_world.ensures run opened a m next.mind next.world.keeps rested in
-    let later = c.lock_found.ensures.time in
+    let later = c.lock_found.ensures.disk.later in
     if_ok c.lock_found.result
     (λ l its.
     let back = goes_told g.D.Disk run opened a m b h s statement 0 next rested keeps later now act.Lock (locked_reply l) its.0 in
@@ -109,16 +96,16 @@ returns-in-Some-found-clause-told g c = λ run opened told sound next stuck idle
     (goes_stands g.D.Disk run opened a m b h s statement 0 next rested keeps later act.Lock free row.name.now row.entry stands) (goes_row g.D.Disk run opened a m b h s statement 0 next rested keeps later row of)
     (idle_free g.D.Disk run opened a b h s statement 0 next act.Lock free idle).1)
 
--- ---- faults
+-- ---- what is left of the disk
 
-pub returns-in-Err-clause-faults : goal.returns-in-Err-clause-faults
-returns-in-Err-clause-faults g c = fault_failed Fault _ _ c.in-Err.fault c.in-Err.ensures.faults
+pub returns-in-Err-clause-disk : goal.returns-in-Err-clause-disk
+returns-in-Err-clause-disk g c = read_failed g.O.Origin.first g.D.Disk Answer c.args.store.now c.ask_act.new.store c.in-Err.fault c.in-Err.ensures.leaves
 
-pub returns-in-Refused-clause-faults : goal.returns-in-Refused-clause-faults
-returns-in-Refused-clause-faults g c = fault_done Fault _ _ c.in-Ok.answer _ c.in-Ok.ensures.faults
+pub returns-in-Refused-clause-disk : goal.returns-in-Refused-clause-disk
+returns-in-Refused-clause-disk g c = read_done g.O.Origin.first g.D.Disk c.args.store.now c.ask_act.new.store c.in-Ok.answer _ c.in-Ok.ensures.leaves
 
-pub returns-in-None-clause-faults : goal.returns-in-None-clause-faults
-returns-in-None-clause-faults g c = fault_done Fault _ _ c.in-Ok.answer _ c.in-Ok.ensures.faults
+pub returns-in-None-clause-disk : goal.returns-in-None-clause-disk
+returns-in-None-clause-disk g c = read_done g.O.Origin.first g.D.Disk c.args.store.now c.ask_act.new.store c.in-Ok.answer _ c.in-Ok.ensures.leaves
 
-pub returns-in-Some-found-clause-faults : goal.returns-in-Some-found-clause-faults
-returns-in-Some-found-clause-faults g c = fault_then Fault _ _ _ c.in-Ok.answer _ c.in-Ok.ensures.faults c.lock_found.ensures.faults
+pub returns-in-Some-found-clause-disk : goal.returns-in-Some-found-clause-disk
+returns-in-Some-found-clause-disk g c = disk_behind g.O.Origin.first g.D.Disk c.args.store.now c.ask_act.new.store c.lock_found.new.store c.in-Ok.answer _ c.in-Ok.ensures.leaves c.lock_found.ensures.disk

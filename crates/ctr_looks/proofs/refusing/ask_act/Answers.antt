@@ -1,4 +1,4 @@
-use Rattle.std.proofs.Common.{not, Ok, Err, refl, sym, ◌∙◌, ap, subst}
+use Rattle.std.proofs.Common.{not, refl, sym, ◌∙◌, ap, subst}
 use Rattle.ctr_actions.specs.Sites.{site_of}
 use Rattle.ctr_model.specs.Refusals.{table_of}
 use Rattle.ctr_versions.specs.Engine.{SessionHeld, IsCalm}
@@ -6,8 +6,6 @@ use Rattle.ctr_session_world.specs.World.{SessionsHeld}
 use Rattle.ctr_looks.proofs.Finding.{answered}
 use Rattle.ctr_session_world.proofs.Standing.{none_of, none_there, seat_of, some_of}
 use Rattle.ctr_looks.proofs.Unrefused.{calm, refused_without}
-use Rattle.ctr_disk.specs.declared.fault.StoreFault.TheVariants.{Fault}
-use Rattle.ctr_session_world.proofs.Faults.{fault_none}
 use Rattle.ctr_looks.proofs.refusing.ask_act.Goals as goal
 
 pub returns-then-is_none-clause-asked : goal.returns-then-is_none-clause-asked
@@ -37,14 +35,3 @@ returns-in-Ok-clause-asked g c = λ run opened b told sound next stuck look firs
     answered g.D.Disk run opened a b asker statement next its.0 there seat seated.1 still x look k.0 k.1 k.2 k.3
     (c.a_table_that_is_free_is_undropped.ensures.undropped asker (site_of a.now) k.0) (c.a_table_that_is_free_is_undropped.ensures.only asker (site_of a.now) k.0) named.0 named.1
     c.in-Ok.answer (c.in-Ok.ensures.model told sound k.0) c.in-Ok.ensures.inside (λ n at. c.in-Ok.ensures.found n told sound k.0 at)
-
--- ---- faults
-
-pub returns-then-is_none-clause-faults : goal.returns-then-is_none-clause-faults
-returns-then-is_none-clause-faults g c = fault_none Fault _ _
-
-pub returns-in-Ok-clause-faults : goal.returns-in-Ok-clause-faults
-returns-in-Ok-clause-faults g c = c.a_fault_of_reading_is_counted.ensures g.O.Origin.first c.args.store.now c.ask.new.store (Ok c.in-Ok.answer) c.in-Ok.ensures.leaves
-
-pub returns-in-Err-clause-faults : goal.returns-in-Err-clause-faults
-returns-in-Err-clause-faults g c = c.a_fault_of_reading_is_counted.ensures g.O.Origin.first c.args.store.now c.ask.new.store (Err c.in-Err.fault) c.in-Err.ensures.leaves

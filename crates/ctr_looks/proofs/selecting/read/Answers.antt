@@ -1,4 +1,4 @@
-use Rattle.std.proofs.Common.{ℕ, Some, Err, refl, sym, ◌∙◌, ap, subst}
+use Rattle.std.proofs.Common.{ℕ, Some, refl, sym, ◌∙◌, ap, subst}
 use Rattle.std.specs.Prelude.{IfOk, slice_get}
 use Rattle.std.proofs.lemmas.Bool.{false≢true}
 use Rattle.ctr_types.specs.declared.statement.Statement.{Statement}
@@ -12,15 +12,14 @@ use Rattle.ctr_asking.specs.declared.asker.Answer.TheVariants as answer
 use Rattle.ctr_session_world.specs.World.{SessionsHeld}
 use Rattle.ctr_session_world.specs.Told.{IsIdleIn, IsNextOf, IsTold}
 use Rattle.ctr_looks.specs.Asked.{IsAsked}
-use Rattle.ctr_session_world.proofs.Going.{goes, goes_told, if_ok, later_of, rests_read}
+use Rattle.ctr_session_world.proofs.Going.{goes, goes_told, if_ok, rests_read}
 use Rattle.ctr_session_world.proofs.Ready.{leaves_behind, ready_read, stands_still}
-use Rattle.ctr_session_world.proofs.Standing.{further}
 use Rattle.ctr_looks.proofs.Staying.{goes_free, goes_stands, idle_free}
-use Rattle.ctr_disk.specs.declared.fault.StoreFault.TheVariants.{Fault}
-use Rattle.ctr_session_world.proofs.Faults.{fault_done, fault_failed, fault_then}
+use Rattle.ctr_session_world.proofs.Disks.{disk_behind}
+use Rattle.ctr_looks.proofs.Leaving.{read_done, read_failed}
 use Rattle.ctr_looks.proofs.selecting.read.Goals as goal
 
--- ---- what is left of the sessions, and the time that it takes
+-- ---- what is left of the sessions
 
 pub returns-in-Refused-clause-over : goal.returns-in-Refused-clause-over
 returns-in-Refused-clause-over g c =
@@ -40,20 +39,8 @@ read_found-requires-clause-may g c =
     let leaves = c.in-Ok.ensures.leaves in
     record { one = may.one; stand = stands_still c.args.txns.now a m leaves.keeps.meta may.stand; room = c.room_is_still_there.ensures.behind 0 0 a m leaves.keeps leaves.going may.room }
 
-pub returns-in-Err-clause-time : goal.returns-in-Err-clause-time
-returns-in-Err-clause-time g c = later_of {T = Answer} g.O.Origin.first g.D.Disk c.args.store.now c.ask_act.new.store (Err c.in-Err.fault) c.in-Err.ensures.leaves
-
-pub returns-in-Refused-clause-time : goal.returns-in-Refused-clause-time
-returns-in-Refused-clause-time g c = c.in-Ok.ensures.leaves.time.later
-
-pub returns-in-None-clause-time : goal.returns-in-None-clause-time
-returns-in-None-clause-time g c = c.in-Ok.ensures.leaves.time.later
-
 pub returns-in-Some-clause-over : goal.returns-in-Some-clause-over
 returns-in-Some-clause-over g c = leaves_behind c.read_found.result c.args.s c.args.txns.now c.args.txns.now c.args.store.now c.ask_act.new.store c.read_found.new.store c.in-Ok.ensures.leaves.keeps c.read_found.ensures.over
-
-pub returns-in-Some-clause-time : goal.returns-in-Some-clause-time
-returns-in-Some-clause-time g c = further _ _ _ c.in-Ok.ensures.leaves.time.later c.read_found.ensures.time
 
 -- ---- what is told
 
@@ -86,7 +73,7 @@ returns-in-Some-clause-told g c = λ run opened told sound next stuck idle.
     let first = λ (state : State) (r : ℕ). ap (λ (q : Statement). slice_get (acts_of state r q) 0) c.in-Select.is in
     let rested = rests_read g.O.Origin.first g.D.Disk a m c.in-Ok.answer told sound c.in-Ok.ensures.leaves (c.rests.ensures told sound c.in-Ok.ensures.leaves.going) in
     let asked = subst (λ o. IsAsked next act.Read (answer.Free o)) c.in-Some.is (subst (λ q. IsAsked next act.Read q) c.in-Free.is (c.in-Ok.ensures.asked run opened b told sound next stuck tt first)) in
-    let later = c.read_found.ensures.time in
+    let later = c.read_found.ensures.disk.later in
     let select = st.Select c.in-Select.name c.in-Select.at in
     subst (λ (q : Statement). (next : IsNextOf g.D.Disk run opened a b h s q 0) → IsAsked next act.Read (answer.Free (Some c.in-Some.entry)) → IsIdleIn run next.mind s
     → IfOk c.read_found.result (IsTold next now act.Read)) (sym c.in-Select.is)
@@ -98,16 +85,16 @@ returns-in-Some-clause-told g c = λ run opened told sound next stuck idle.
     (goes_stands g.D.Disk run opened a m b h s select 0 next rested keeps later act.Read free c.in-Select.name c.in-Some.entry (asked.1 c.in-Select.name refl)) (idle_free g.D.Disk run opened a b h s select 0 next act.Read free idle).1))
     next asked idle
 
--- ---- faults
+-- ---- what is left of the disk
 
-pub returns-in-Err-clause-faults : goal.returns-in-Err-clause-faults
-returns-in-Err-clause-faults g c = fault_failed Fault _ _ c.in-Err.fault c.in-Err.ensures.faults
+pub returns-in-Err-clause-disk : goal.returns-in-Err-clause-disk
+returns-in-Err-clause-disk g c = read_failed g.O.Origin.first g.D.Disk Answer c.args.store.now c.ask_act.new.store c.in-Err.fault c.in-Err.ensures.leaves
 
-pub returns-in-Refused-clause-faults : goal.returns-in-Refused-clause-faults
-returns-in-Refused-clause-faults g c = fault_done Fault _ _ c.in-Ok.answer _ c.in-Ok.ensures.faults
+pub returns-in-Refused-clause-disk : goal.returns-in-Refused-clause-disk
+returns-in-Refused-clause-disk g c = read_done g.O.Origin.first g.D.Disk c.args.store.now c.ask_act.new.store c.in-Ok.answer _ c.in-Ok.ensures.leaves
 
-pub returns-in-None-clause-faults : goal.returns-in-None-clause-faults
-returns-in-None-clause-faults g c = fault_done Fault _ _ c.in-Ok.answer _ c.in-Ok.ensures.faults
+pub returns-in-None-clause-disk : goal.returns-in-None-clause-disk
+returns-in-None-clause-disk g c = read_done g.O.Origin.first g.D.Disk c.args.store.now c.ask_act.new.store c.in-Ok.answer _ c.in-Ok.ensures.leaves
 
-pub returns-in-Some-clause-faults : goal.returns-in-Some-clause-faults
-returns-in-Some-clause-faults g c = fault_then Fault _ _ _ c.in-Ok.answer _ c.in-Ok.ensures.faults c.read_found.ensures.faults
+pub returns-in-Some-clause-disk : goal.returns-in-Some-clause-disk
+returns-in-Some-clause-disk g c = disk_behind g.O.Origin.first g.D.Disk c.args.store.now c.ask_act.new.store c.read_found.new.store c.in-Ok.answer _ c.in-Ok.ensures.leaves c.read_found.ensures.disk

@@ -1,4 +1,4 @@
-use Rattle.std.proofs.Common.{◌≡◌, Result, ℕ, Bool, Ok, Err, refl, sym, ◌∙◌, ap, subst}
+use Rattle.std.proofs.Common.{Result, ℕ, Bool, Ok, Err, refl, sym, ◌∙◌, ap, subst}
 use Rattle.std.specs.Prelude.{is_some}
 use Rattle.std.specs.Option.{option_map}
 use Rattle.std.proofs.lemmas.Bool.{false≢true}
@@ -15,14 +15,11 @@ use Rattle.ctr_txn.specs.Held.{TxnHeld}
 use Rattle.ctr_asking.specs.Asking.{me_held}
 use Rattle.ctr_session_world.specs.World.{SessionsHeld, names_in}
 use Rattle.ctr_looks.specs.Granting.{KeepsSessions}
-use Rattle.ctr_disk.specs.declared.fault.StoreFault.TheVariants.{Fault}
-use Rattle.ctr_session_world.proofs.Faults.{fault_done, fault_failed}
-use Rattle.ctr_session_world.specs.Ready.{LeavesOver}
-use Rattle.ctr_types.specs.Faults.{HasFault}
+use Rattle.ctr_session_world.specs.Ready.{LeavesDisk, LeavesOver}
+use Rattle.ctr_session_world.proofs.Disks.{disk_done, disk_failed}
 use Rattle.ctr_types.specs.declared.memory.OutOfMemory.{OutOfMemory}
 use Rattle.ctr_types.specs.declared.value.Rows.{Rows}
 use Rattle.ctr_chain.specs.declared.view.ReadRefusal.{ReadRefusal}
-use Rattle.ctr_chain.specs.declared.view.ReadRefusal.TheVariants as unread
 use Rattle.ctr_looks.proofs.selecting.read_found.Goals as goal
 
 -- ---- what is left of the sessions
@@ -74,25 +71,25 @@ returns-in-None-clause-told g c = λ run opened more told sound next free stands
     c.rows_of_a_table_are_told.ensures run opened a c.rows_at.new.store h s table.name.now table.at.now next free table.entry stands c.in-Ok.rows shown more idle mid room c.take_use.new.locks
     (c.take_use.ensures.taken c.in-None.is) (c.in-Ok.ensures.rests told sound)
 
--- ---- faults
+-- ---- what is left of the disk
 
--- what a reading says of why it failed, by the case that it is
-of_reading : (n m : ℕ) (why as_it_is : ReadRefusal) → why ≡ as_it_is → HasFault {T = Result Rows OutOfMemory} Fault n m (as_told (Err why)) → HasFault {T = Result Rows OutOfMemory} Fault n m (as_told (Err as_it_is))
-of_reading n m why as_it_is is faults = subst (λ (r : ReadRefusal). HasFault {T = Result Rows OutOfMemory} Fault n m (as_told (Err r))) is faults
+pub returns-in-Store-clause-disk : goal.returns-in-Store-clause-disk
+returns-in-Store-clause-disk g c =
+    let a = c.args.store.now in
+    let b = c.rows_at.new.store in
+    disk_failed g.O.Origin.first g.D.Disk a b c.in-Store.fault (subst (λ (r : ReadRefusal). LeavesDisk {T = Result Rows OutOfMemory} g.O.Origin.first g.D.Disk a b (as_told (Err r))) c.in-Store.is c.in-Err.ensures.disk)
 
-pub returns-in-Store-clause-faults : goal.returns-in-Store-clause-faults
-returns-in-Store-clause-faults g c =
-    fault_failed Fault _ _ c.in-Store.fault (of_reading (g.D.Disk.faults_of c.args.store.now.disk) (g.D.Disk.faults_of c.rows_at.new.store.disk) c.in-Err.refusal (unread.Store c.in-Store.fault) c.in-Store.is c.in-Err.ensures.faults)
+pub returns-in-OutOfMemory-clause-disk : goal.returns-in-OutOfMemory-clause-disk
+returns-in-OutOfMemory-clause-disk g c =
+    let a = c.args.store.now in
+    let b = c.rows_at.new.store in
+    disk_done g.O.Origin.first g.D.Disk a b (Err (record {})) _ (subst (λ (r : ReadRefusal). LeavesDisk {T = Result Rows OutOfMemory} g.O.Origin.first g.D.Disk a b (as_told (Err r))) c.in-OutOfMemory.is c.in-Err.ensures.disk)
 
-pub returns-in-OutOfMemory-clause-faults : goal.returns-in-OutOfMemory-clause-faults
-returns-in-OutOfMemory-clause-faults g c =
-    fault_done Fault _ _ (Err (record {})) _ (of_reading (g.D.Disk.faults_of c.args.store.now.disk) (g.D.Disk.faults_of c.rows_at.new.store.disk) c.in-Err.refusal unread.OutOfMemory c.in-OutOfMemory.is c.in-Err.ensures.faults)
+pub returns-in-Err-reserve_name-clause-disk : goal.returns-in-Err-reserve_name-clause-disk
+returns-in-Err-reserve_name-clause-disk g c = disk_done g.O.Origin.first g.D.Disk c.args.store.now c.rows_at.new.store (Ok c.in-Ok.rows) _ c.in-Ok.ensures.disk
 
-pub returns-in-Err-reserve_name-clause-faults : goal.returns-in-Err-reserve_name-clause-faults
-returns-in-Err-reserve_name-clause-faults g c = fault_done Fault _ _ (Ok c.in-Ok.rows) _ c.in-Ok.ensures.faults
+pub returns-in-Some-take_use-clause-disk : goal.returns-in-Some-take_use-clause-disk
+returns-in-Some-take_use-clause-disk g c = disk_done g.O.Origin.first g.D.Disk c.args.store.now c.rows_at.new.store (Ok c.in-Ok.rows) _ c.in-Ok.ensures.disk
 
-pub returns-in-Some-take_use-clause-faults : goal.returns-in-Some-take_use-clause-faults
-returns-in-Some-take_use-clause-faults g c = fault_done Fault _ _ (Ok c.in-Ok.rows) _ c.in-Ok.ensures.faults
-
-pub returns-in-None-clause-faults : goal.returns-in-None-clause-faults
-returns-in-None-clause-faults g c = fault_done Fault _ _ (Ok c.in-Ok.rows) _ c.in-Ok.ensures.faults
+pub returns-in-None-clause-disk : goal.returns-in-None-clause-disk
+returns-in-None-clause-disk g c = disk_done g.O.Origin.first g.D.Disk c.args.store.now c.rows_at.new.store (Ok c.in-Ok.rows) _ c.in-Ok.ensures.disk

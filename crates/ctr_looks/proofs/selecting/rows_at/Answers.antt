@@ -1,4 +1,4 @@
-use Rattle.std.proofs.Common.{◌≡◌, false, ℕ, ℤ, Option, Result, Ok, Err, sym, ◌∙◌, ap, subst}
+use Rattle.std.proofs.Common.{◌≡◌, false, ℤ, Option, Result, Ok, Err, sym, ◌∙◌, ap, subst}
 use Rattle.std.specs.Prelude.{FitsSigned, OnOk}
 use Rattle.std.specs.Int.{w64}
 use Rattle.std.proofs.lemmas.Int.{to_z-of_z}
@@ -17,15 +17,10 @@ use Rattle.ctr_store.specs.Store.{View}
 use Rattle.ctr_walk.specs.Damage.{ReadsPages}
 use Rattle.ctr_session_world.proofs.Going.{going_of, if_ok, room_of}
 use Rattle.ctr_session_world.proofs.Ready.{leaves_read}
-use Rattle.ctr_disk.specs.declared.fault.StoreFault.TheVariants.{Fault}
-use Rattle.ctr_types.specs.Faults.{HasFault}
-use Rattle.ctr_session_world.proofs.Faults.{fault_done, fault_failed, fault_then}
+use Rattle.ctr_session_world.specs.Ready.{LeavesDisk}
+use Rattle.ctr_session_world.proofs.Disks.{disk_done, disk_failed, disk_read}
+use Rattle.ctr_looks.proofs.Leaving.{read_then}
 use Rattle.ctr_looks.proofs.selecting.rows_at.Goals as goal
-
--- why the row isn't read is why no rows are
-rows_fault : (n m : ℕ) (why : ReadRefusal) → HasFault {T = Result (Option Row) OutOfMemory} Fault n m (as_told (Err why)) → HasFault {T = Result Rows OutOfMemory} Fault n m (as_told (Err why))
-rows_fault n m (unread.Store failed) faults = fault_failed Fault n m failed faults
-rows_fault n m unread.OutOfMemory faults = fault_done Fault n m (Err (record {})) (Err (record {})) faults
 
 pub returns-in-Ok-clause-shows : goal.returns-in-Ok-clause-shows
 returns-in-Ok-clause-shows g c = λ told sound area.
@@ -67,13 +62,20 @@ returns-in-Ok-clause-over g c = λ s txns stand.
     let leaves = c.in-Ok.ensures.leaves in
     leaves_read (as_told c.one_row.result) s txns c.args.store.now c.row_of_key-row.new.store leaves.keeps (always (as_told c.one_row.result) leaves.going) stand
 
--- ---- faults
+-- ---- what is left of the disk
 
-pub returns-in-None-clause-faults : goal.returns-in-None-clause-faults
-returns-in-None-clause-faults g c = c.a_fault_of_reading_is_counted.ensures g.O.Origin.first c.args.store.now c.rows_of_table-rows.new.store (as_told c.rows_of_table-rows.result) c.rows_of_table-rows.ensures.leaves
+rows_disk : {D : Type 0} (first : Image) (g : Ghosts D) (a b : View D) (why : ReadRefusal) → LeavesDisk {T = Result (Option Row) OutOfMemory} first g a b (as_told (Err why)) → LeavesDisk {T = Result Rows OutOfMemory} first g a b (as_told (Err why))
+rows_disk first g a b (unread.Store failed) it = disk_failed first g a b failed it
+rows_disk first g a b unread.OutOfMemory it = disk_done first g a b (Err (record {})) (Err (record {})) it
 
-pub returns-in-Err-clause-faults : goal.returns-in-Err-clause-faults
-returns-in-Err-clause-faults g c = rows_fault _ _ c.in-Err.refusal (c.a_fault_of_reading_is_counted-2.ensures g.O.Origin.first c.args.store.now c.row_of_key-row.new.store (as_told (Err c.in-Err.refusal)) c.in-Err.ensures.leaves)
+pub returns-in-None-clause-disk : goal.returns-in-None-clause-disk
+returns-in-None-clause-disk g c = disk_read g.O.Origin.first g.D.Disk c.args.store.now c.rows_of_table-rows.new.store (as_told c.rows_of_table-rows.result) c.rows_of_table-rows.ensures.leaves
 
-pub returns-in-Ok-clause-faults : goal.returns-in-Ok-clause-faults
-returns-in-Ok-clause-faults g c = fault_then Fault _ _ _ (Ok c.in-Ok.row) _ (c.a_fault_of_reading_is_counted-2.ensures g.O.Origin.first c.args.store.now c.row_of_key-row.new.store (Ok (Ok c.in-Ok.row)) c.in-Ok.ensures.leaves) (c.one_row.ensures.faults _)
+pub returns-in-Err-clause-disk : goal.returns-in-Err-clause-disk
+returns-in-Err-clause-disk g c =
+    let a = c.args.store.now in
+    let b = c.row_of_key-row.new.store in
+    rows_disk g.O.Origin.first g.D.Disk a b c.in-Err.refusal (disk_read g.O.Origin.first g.D.Disk a b (as_told (Err c.in-Err.refusal)) c.in-Err.ensures.leaves)
+
+pub returns-in-Ok-clause-disk : goal.returns-in-Ok-clause-disk
+returns-in-Ok-clause-disk g c = read_then g.O.Origin.first g.D.Disk c.args.store.now c.row_of_key-row.new.store (Ok c.in-Ok.row) (as_told c.one_row.result) c.in-Ok.ensures.leaves c.one_row.ensures.faults

@@ -8,9 +8,8 @@ use Rattle.ctr_record_effects.specs.States.{area_in}
 use Rattle.ctr_kept.specs.Walk.{Mind}
 use Rattle.ctr_session_world.specs.Told.{IsNextOf, IsTold}
 use Rattle.ctr_session_world.specs.World.{SessionsHeld}
-use Rattle.ctr_session_world.proofs.Going.{goes, goes_told, later_of, rests_read}
+use Rattle.ctr_session_world.proofs.Going.{goes, goes_told, rests_read}
 use Rattle.ctr_session_world.proofs.Ready.{ready_behind, ready_read, stands_still}
-use Rattle.ctr_session_world.proofs.Standing.{further}
 use Rattle.ctr_asking.specs.declared.asker.Answer.{Answer}
 use Rattle.ctr_asking.specs.Asking.{IsInCatalog}
 use Rattle.ctr_looks.specs.Asked.{IsAsked}
@@ -18,8 +17,8 @@ use Rattle.ctr_looks.specs.Granting.{CountsOnFound, HasItemIfGranted, granted_or
 use Rattle.ctr_looks.proofs.Naming.{held_so}
 use Rattle.ctr_looks.proofs.Staying.{goes_found, goes_free, idle_free}
 use Rattle.ctr_looks.proofs.Tabled.{found_for, found_of, its_free, schema_has_no_key, schema_locks_first, something, write_is}
-use Rattle.ctr_disk.specs.declared.fault.StoreFault.TheVariants.{Fault}
-use Rattle.ctr_session_world.proofs.Faults.{fault_done, fault_failed, fault_then}
+use Rattle.ctr_session_world.proofs.Disks.{disk_behind, disk_done, disk_failed}
+use Rattle.ctr_looks.proofs.Leaving.{read_done, read_failed}
 use Rattle.ctr_looks.proofs.tables.lock_table.Goals as goal
 
 pub returns-in-None-why-clause-ready : goal.returns-in-None-why-clause-ready
@@ -28,7 +27,7 @@ returns-in-None-why-clause-ready g c = (
   subst (HasItemIfGranted c.args.s c.grant_name.new.txns) c.in-None-why.is c.in-Ok-grant_name.ensures.item,
 )
 
--- ---- what is left of the sessions, and the time that it takes
+-- ---- what is left of the sessions
 
 pub returns-in-Refused-clause-over : goal.returns-in-Refused-clause-over
 returns-in-Refused-clause-over g c =
@@ -48,33 +47,15 @@ grant_name-requires-clause-may g c =
     let leaves = c.in-Ok.ensures.leaves in
     record { one = may.one; stand = stands_still c.args.txns.now a m leaves.keeps.meta may.stand; room = c.room_is_still_there.ensures.behind 0 0 a m leaves.keeps leaves.going may.room }
 
-pub returns-in-Err-clause-time : goal.returns-in-Err-clause-time
-returns-in-Err-clause-time g c = later_of {T = Answer} g.O.Origin.first g.D.Disk c.args.store.now c.ask_act.new.store (Err c.in-Err.fault) c.in-Err.ensures.leaves
-
-pub returns-in-Refused-clause-time : goal.returns-in-Refused-clause-time
-returns-in-Refused-clause-time g c = c.in-Ok.ensures.leaves.time.later
-
-pub returns-in-None-clause-time : goal.returns-in-None-clause-time
-returns-in-None-clause-time g c = c.in-Ok.ensures.leaves.time.later
-
 pub returns-in-Some-why-clause-over : goal.returns-in-Some-why-clause-over
 returns-in-Some-why-clause-over g c =
     let leaves = c.in-Ok-grant_name.ensures.over in
     (ready_behind c.args.s c.args.txns.now c.grant_name.new.txns c.args.store.now c.ask_act.new.store c.grant_name.new.store c.in-Ok.ensures.leaves.keeps leaves.0, leaves.1)
 
-pub returns-in-Some-why-clause-time : goal.returns-in-Some-why-clause-time
-returns-in-Some-why-clause-time g c = further _ _ _ c.in-Ok.ensures.leaves.time.later c.grant_name.ensures.time
-
 pub returns-in-None-why-clause-over : goal.returns-in-None-why-clause-over
 returns-in-None-why-clause-over g c =
     let leaves = c.in-Ok-grant_name.ensures.over in
     (ready_behind c.args.s c.args.txns.now c.grant_name.new.txns c.args.store.now c.ask_act.new.store c.grant_name.new.store c.in-Ok.ensures.leaves.keeps leaves.0, leaves.1)
-
-pub returns-in-None-why-clause-time : goal.returns-in-None-why-clause-time
-returns-in-None-why-clause-time g c = further _ _ _ c.in-Ok.ensures.leaves.time.later c.grant_name.ensures.time
-
-pub returns-in-Err-grant_name-clause-time : goal.returns-in-Err-grant_name-clause-time
-returns-in-Err-grant_name-clause-time g c = further _ _ _ c.in-Ok.ensures.leaves.time.later c.grant_name.ensures.time
 
 -- ---- what is told
 
@@ -119,7 +100,7 @@ returns-in-Some-why-clause-told g c = λ run opened told sound next stuck idle.
     let asked = subst (λ q. IsAsked next act.Lock q) c.in-Free.is (c.in-Ok.ensures.asked run opened b told sound next stuck tt first) in
     let free = its_free g.D.Disk run opened a b h s statement next c.in-Free.found asked in
     let keeps = c.pages_that_are_read_keep_a_world.ensures run opened a m next.mind next.world.keeps rested in
-    let later = c.grant_name.ensures.time in
+    let later = c.grant_name.ensures.disk.later in
     let then : IsNextOf g.D.Disk run opened m b h s statement 0 = goes g.D.Disk run opened a m b h s statement 0 next rested keeps later in
     let its = subst (λ r. (told : IsTold then now act.Lock (granted_or r)) × CountsOnFound r None (area_in m.now).title (told.mind.facts s)) c.in-Some-why.is
     (c.in-Ok-grant_name.ensures.told run opened statement (idle_free g.D.Disk run opened a b h s statement 0 next act.Lock free idle).0 told sound then (goes_free g.D.Disk run opened a m b h s statement 0 next rested keeps later act.Lock free) first
@@ -146,7 +127,7 @@ returns-in-None-why-clause-told g c = λ run opened told sound next stuck idle.
     let does = sym c.what_is_written.ensures ∙ c.in-Some-what_is_written.is in
     let stands = found_for g.D.Disk run opened a b h s statement next c.in-Free.found asked name named write does in
     let keeps = c.pages_that_are_read_keep_a_world.ensures run opened a m next.mind next.world.keeps rested in
-    let later = c.grant_name.ensures.time in
+    let later = c.grant_name.ensures.disk.later in
     let then : IsNextOf g.D.Disk run opened m b h s statement 0 = goes g.D.Disk run opened a m b h s statement 0 next rested keeps later in
     let its = subst (λ r. (told : IsTold then now act.Lock (granted_or r)) × CountsOnFound r (found_of write) (area_in m.now).title (told.mind.facts s)) c.in-None-why.is
     (c.in-Ok-grant_name.ensures.told run opened statement (idle_free g.D.Disk run opened a b h s statement 0 next act.Lock free idle).0 told sound then (goes_free g.D.Disk run opened a m b h s statement 0 next rested keeps later act.Lock free) first
@@ -158,22 +139,31 @@ returns-in-None-why-clause-told g c = λ run opened told sound next stuck idle.
     let is = write_is statement c.in-Free.found write does (subst IsInCatalog c.in-Free.is c.in-Ok.ensures.inside) in
     (back.0, held_so g.D.Disk run opened a b h s statement next free name named keyless write c.requires.schema is stands back.0.mind back.0.tape counts)
 
--- ---- faults
+-- ---- what is left of the disk
 
-pub returns-in-Err-clause-faults : goal.returns-in-Err-clause-faults
-returns-in-Err-clause-faults g c = fault_failed Fault _ _ c.in-Err.fault c.in-Err.ensures.faults
+pub returns-in-Err-clause-disk : goal.returns-in-Err-clause-disk
+returns-in-Err-clause-disk g c = read_failed g.O.Origin.first g.D.Disk Answer c.args.store.now c.ask_act.new.store c.in-Err.fault c.in-Err.ensures.leaves
 
-pub returns-in-Refused-clause-faults : goal.returns-in-Refused-clause-faults
-returns-in-Refused-clause-faults g c = fault_done Fault _ _ c.in-Ok.answer _ c.in-Ok.ensures.faults
+pub returns-in-Refused-clause-disk : goal.returns-in-Refused-clause-disk
+returns-in-Refused-clause-disk g c = read_done g.O.Origin.first g.D.Disk c.args.store.now c.ask_act.new.store c.in-Ok.answer _ c.in-Ok.ensures.leaves
 
-pub returns-in-None-clause-faults : goal.returns-in-None-clause-faults
-returns-in-None-clause-faults g c = fault_done Fault _ _ c.in-Ok.answer _ c.in-Ok.ensures.faults
+pub returns-in-None-clause-disk : goal.returns-in-None-clause-disk
+returns-in-None-clause-disk g c = read_done g.O.Origin.first g.D.Disk c.args.store.now c.ask_act.new.store c.in-Ok.answer _ c.in-Ok.ensures.leaves
 
-pub returns-in-Err-grant_name-clause-faults : goal.returns-in-Err-grant_name-clause-faults
-returns-in-Err-grant_name-clause-faults g c = fault_then Fault _ _ _ c.in-Ok.answer _ c.in-Ok.ensures.faults (fault_failed Fault _ _ c.in-Err-grant_name.fault c.in-Err-grant_name.ensures.faults)
+pub returns-in-Err-grant_name-clause-disk : goal.returns-in-Err-grant_name-clause-disk
+returns-in-Err-grant_name-clause-disk g c =
+    let m = c.ask_act.new.store in
+    let b = c.grant_name.new.store in
+    disk_behind g.O.Origin.first g.D.Disk c.args.store.now m b c.in-Ok.answer _ c.in-Ok.ensures.leaves (disk_failed g.O.Origin.first g.D.Disk m b c.in-Err-grant_name.fault c.in-Err-grant_name.ensures.disk)
 
-pub returns-in-Some-why-clause-faults : goal.returns-in-Some-why-clause-faults
-returns-in-Some-why-clause-faults g c = fault_then Fault _ _ _ c.in-Ok.answer _ c.in-Ok.ensures.faults (fault_done Fault _ _ c.in-Ok-grant_name.why _ c.in-Ok-grant_name.ensures.faults)
+pub returns-in-Some-why-clause-disk : goal.returns-in-Some-why-clause-disk
+returns-in-Some-why-clause-disk g c =
+    let m = c.ask_act.new.store in
+    let b = c.grant_name.new.store in
+    disk_behind g.O.Origin.first g.D.Disk c.args.store.now m b c.in-Ok.answer _ c.in-Ok.ensures.leaves (disk_done g.O.Origin.first g.D.Disk m b c.in-Ok-grant_name.why _ c.in-Ok-grant_name.ensures.disk)
 
-pub returns-in-None-why-clause-faults : goal.returns-in-None-why-clause-faults
-returns-in-None-why-clause-faults g c = fault_then Fault _ _ _ c.in-Ok.answer _ c.in-Ok.ensures.faults (fault_done Fault _ _ c.in-Ok-grant_name.why _ c.in-Ok-grant_name.ensures.faults)
+pub returns-in-None-why-clause-disk : goal.returns-in-None-why-clause-disk
+returns-in-None-why-clause-disk g c =
+    let m = c.ask_act.new.store in
+    let b = c.grant_name.new.store in
+    disk_behind g.O.Origin.first g.D.Disk c.args.store.now m b c.in-Ok.answer _ c.in-Ok.ensures.leaves (disk_done g.O.Origin.first g.D.Disk m b c.in-Ok-grant_name.why _ c.in-Ok-grant_name.ensures.disk)

@@ -1,7 +1,7 @@
 use Rattle.ctr_page_turns.specs.Turns.{RestsBehind}
 use Rattle.ctr_walk.proofs.Records.{both_ok}
-use Rattle.ctr_session_world.specs.World.{InWorld}
-use Rattle.ctr_session_world.proofs.Resting.{world_rests}
+use Rattle.ctr_exec.specs.ctr_session_world.World.{InWorld}
+use Rattle.ctr_exec.proofs.ctr_session_world.Resting.{world_rests}
 use Rattle.ctr_page_world.proofs.engine.write_home.Goals as goal
 
 pub returns-clause-kept : goal.returns-clause-kept

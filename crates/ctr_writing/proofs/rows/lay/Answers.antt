@@ -1,20 +1,18 @@
-use Rattle.std.proofs.Common.{◌<◌, ◌^◌, w64, to_z, of_z, Ok, Err, refl, sym, ◌∙◌, ap, subst, inl, inr}
+use Rattle.std.proofs.Common.{◌<◌, ◌^◌, w64, to_z, of_z, refl, sym, ◌∙◌, ap, subst, inl, inr}
 use Rattle.std.proofs.lemmas.Int.{to_z-of_z}
-use Rattle.ctr_disk.specs.declared.fault.StoreFault.TheVariants.{Fault}
 use Rattle.ctr_txn.specs.Held.{number_drawn}
 use Rattle.ctr_txn.specs.Numbered.{NumbersHeld}
 use Rattle.ctr_txn.specs.Rooms.{HasItemRoom}
 use Rattle.ctr_looks.specs.ctr_write.Laying.{Wish}
 use Rattle.ctr_looks.specs.ctr_write.Stages.{IsCountedWrite, LeavesItem, MovesWrite, stage_items}
 use Rattle.ctr_looks.specs.ctr_write.Steps.{EndsWrite, MayTakeTurn}
-use Rattle.ctr_looks.specs.ctr_write.declared.stages.Written.{Written}
 use Rattle.ctr_looks.specs.ctr_session_world.Ready.{StandOver}
 use Rattle.ctr_looks.specs.ctr_session_world.World.{SessionsHeld}
-use Rattle.ctr_looks.proofs.ctr_session_world.Faults.{fault_done, fault_failed}
-use Rattle.ctr_looks.proofs.ctr_session_world.Ready.{turns_later, turns_ready}
+use Rattle.ctr_looks.proofs.ctr_session_world.Ready.{turns_ready}
 use Rattle.ctr_writing.specs.Rows.{wish_by}
 use Rattle.ctr_writing.proofs.Rowing.{same_wish}
 use Rattle.ctr_writing.proofs.Roomy.{between, more_apart, next_still, room_still}
+use Rattle.ctr_writing.proofs.Turned.{turned_done, turned_failed}
 use Rattle.ctr_writing.proofs.rows.lay.Goals as goal
 
 -- ---- the next turn, and what is left of the sessions
@@ -198,34 +196,17 @@ returns-in-Err-clause-refused g c = λ run opened locks statement tells sound ne
     let may = c.a_turn_of_a_row_may_be_taken.ensures run opened a b h s statement next e key head stage c.requires.may.one small keyed at in
     c.in-Err.ensures.refused tells sound (subst (λ (v : Wish). MayTakeTurn v stage a.now) (sym asked) may)
 
-pub returns-in-Err-clause-faults : goal.returns-in-Err-clause-faults
-returns-in-Err-clause-faults g c = fault_failed Fault _ _ c.in-Err.fault (c.a_turn_goes_or_counts_a_fault.ensures.faults g.O.Origin.first c.args.store.now c.write-written.new.store (Err c.in-Err.fault) c.in-Err.ensures.turns)
+pub returns-in-Err-clause-disk : goal.returns-in-Err-clause-disk
+returns-in-Err-clause-disk g c = turned_failed g.O.Origin.first g.D.Disk _ _ c.in-Err.fault c.in-Err.ensures.turns
 
-pub returns-in-On-clause-faults : goal.returns-in-On-clause-faults
-returns-in-On-clause-faults g c = fault_done Fault _ _ c.in-Ok.written _ (c.a_turn_goes_or_counts_a_fault.ensures.faults g.O.Origin.first c.args.store.now c.write-written.new.store (Ok c.in-Ok.written) c.in-Ok.ensures.turns)
+pub returns-in-On-clause-disk : goal.returns-in-On-clause-disk
+returns-in-On-clause-disk g c = turned_done g.O.Origin.first g.D.Disk _ _ c.in-Ok.written _ c.in-Ok.ensures.turns
 
-pub returns-in-Grown-clause-faults : goal.returns-in-Grown-clause-faults
-returns-in-Grown-clause-faults g c = fault_done Fault _ _ c.in-Ok.written _ (c.a_turn_goes_or_counts_a_fault.ensures.faults g.O.Origin.first c.args.store.now c.write-written.new.store (Ok c.in-Ok.written) c.in-Ok.ensures.turns)
+pub returns-in-Grown-clause-disk : goal.returns-in-Grown-clause-disk
+returns-in-Grown-clause-disk g c = turned_done g.O.Origin.first g.D.Disk _ _ c.in-Ok.written _ c.in-Ok.ensures.turns
 
-pub returns-in-Done-clause-faults : goal.returns-in-Done-clause-faults
-returns-in-Done-clause-faults g c = fault_done Fault _ _ c.in-Ok.written _ (c.a_turn_goes_or_counts_a_fault.ensures.faults g.O.Origin.first c.args.store.now c.write-written.new.store (Ok c.in-Ok.written) c.in-Ok.ensures.turns)
+pub returns-in-Done-clause-disk : goal.returns-in-Done-clause-disk
+returns-in-Done-clause-disk g c = turned_done g.O.Origin.first g.D.Disk _ _ c.in-Ok.written _ c.in-Ok.ensures.turns
 
-pub returns-in-Full-clause-faults : goal.returns-in-Full-clause-faults
-returns-in-Full-clause-faults g c = fault_done Fault _ _ c.in-Ok.written _ (c.a_turn_goes_or_counts_a_fault.ensures.faults g.O.Origin.first c.args.store.now c.write-written.new.store (Ok c.in-Ok.written) c.in-Ok.ensures.turns)
-
--- ---- time
-
-pub returns-in-On-clause-time : goal.returns-in-On-clause-time
-returns-in-On-clause-time g c = turns_later g.O.Origin.first g.D.Disk c.args.store.now c.write-written.new.store (Ok c.in-Ok.written) c.in-Ok.ensures.turns
-
-pub returns-in-Grown-clause-time : goal.returns-in-Grown-clause-time
-returns-in-Grown-clause-time g c = turns_later g.O.Origin.first g.D.Disk c.args.store.now c.write-written.new.store (Ok c.in-Ok.written) c.in-Ok.ensures.turns
-
-pub returns-in-Done-clause-time : goal.returns-in-Done-clause-time
-returns-in-Done-clause-time g c = turns_later g.O.Origin.first g.D.Disk c.args.store.now c.write-written.new.store (Ok c.in-Ok.written) c.in-Ok.ensures.turns
-
-pub returns-in-Full-clause-time : goal.returns-in-Full-clause-time
-returns-in-Full-clause-time g c = turns_later g.O.Origin.first g.D.Disk c.args.store.now c.write-written.new.store (Ok c.in-Ok.written) c.in-Ok.ensures.turns
-
-pub returns-in-Err-clause-time : goal.returns-in-Err-clause-time
-returns-in-Err-clause-time g c = turns_later {T = Written} g.O.Origin.first g.D.Disk c.args.store.now c.write-written.new.store (Err c.in-Err.fault) c.in-Err.ensures.turns
+pub returns-in-Full-clause-disk : goal.returns-in-Full-clause-disk
+returns-in-Full-clause-disk g c = turned_done g.O.Origin.first g.D.Disk _ _ c.in-Ok.written _ c.in-Ok.ensures.turns

@@ -1,9 +1,8 @@
-use Rattle.std.proofs.Common.{ℤ, Some, sym, ◌∙◌, ap, subst}
+use Rattle.std.proofs.Common.{ℤ, Some, refl, sym, ◌∙◌, ap, subst}
 use Rattle.std.specs.Int.{w64}
 use Rattle.std.proofs.lemmas.Int.{to_z-of_z}
-use Rattle.ctr_disk.specs.declared.fault.StoreFault.TheVariants.{Fault}
 use Rattle.ctr_looks.specs.ctr_session_world.World.{SessionsHeld}
-use Rattle.ctr_looks.proofs.ctr_session_world.Faults.{fault_none}
+use Rattle.ctr_looks.proofs.ctr_session_world.Disks.{disk_still}
 use Rattle.ctr_looks.proofs.ctr_session_world.Going.{if_ok}
 use Rattle.ctr_looks.proofs.ctr_session_world.Ready.{ready_as_was}
 use Rattle.ctr_looks.proofs.ctr_session_world.Resting.{rests_here}
@@ -15,9 +14,6 @@ returns-in-Refused-clause-over g c = (ready_as_was c.args.s c.args.txns.now c.ar
 
 pub returns-in-Lays-clause-over : goal.returns-in-Lays-clause-over
 returns-in-Lays-clause-over g c = c.lay.ensures.over
-
-pub returns-in-Lays-clause-time : goal.returns-in-Lays-clause-time
-returns-in-Lays-clause-time g c = c.lay.ensures.time
 
 pub returns-in-Refused-clause-told : goal.returns-in-Refused-clause-told
 returns-in-Refused-clause-told g c = λ run opened locks tells sound next at.
@@ -31,8 +27,8 @@ returns-in-Refused-clause-told g c = λ run opened locks tells sound next at.
     c.a_turn_of_a_row_is_told.ensures.refused run opened a a h s statement next e why stage c.requires.may.one (subst (λ p. IsAtRow run s statement next.mind e p stage) c.in-Refused.is at)
     (rests_here g.D.Disk a (c.rests.ensures tells sound c.requires.may.room.going))
 
-pub returns-in-Refused-clause-faults : goal.returns-in-Refused-clause-faults
-returns-in-Refused-clause-faults g c = fault_none Fault _ _
+pub returns-in-Refused-clause-disk : goal.returns-in-Refused-clause-disk
+returns-in-Refused-clause-disk g c = disk_still g.O.Origin.first g.D.Disk _ _ _ refl (λ tells sound. c.rests.ensures tells sound c.requires.may.room.going)
 
 pub returns-in-Lays-clause-told : goal.returns-in-Lays-clause-told
 returns-in-Lays-clause-told g c = λ run opened locks tells sound next at.

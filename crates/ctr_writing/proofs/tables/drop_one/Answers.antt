@@ -1,12 +1,11 @@
 use Rattle.std.proofs.Common.{sym, ◌∙◌, ap, subst}
-use Rattle.ctr_disk.specs.declared.fault.StoreFault.TheVariants.{Fault}
 use Rattle.ctr_actions.specs.Actions.{Drops}
 use Rattle.ctr_page_turns.specs.Acts.{ActsBy}
 use Rattle.ctr_txn.specs.Numbered.{NumbersHeld}
 use Rattle.ctr_looks.specs.ctr_ddl.Tables.{MayDrop}
 use Rattle.ctr_looks.specs.ctr_session_world.Ready.{StandOver}
 use Rattle.ctr_looks.specs.ctr_session_world.World.{SessionsHeld}
-use Rattle.ctr_looks.proofs.ctr_session_world.Faults.{fault_done, fault_failed}
+use Rattle.ctr_looks.proofs.ctr_session_world.Disks.{disk_done, disk_failed, disk_one}
 use Rattle.ctr_looks.proofs.ctr_session_world.Ready.{ready_logged}
 use Rattle.ctr_writing.proofs.tables.drop_one.Goals as goal
 
@@ -26,12 +25,6 @@ returns-in-Ok-clause-over g c =
       items = c.spend_room.ensures.items a.meta b.meta c.requires.item left stand.items;
     } in
     (ready_logged s old new a b one.0 a.next over stays.0 one.1.going one.1.takes, stays.1)
-
-pub returns-in-Ok-clause-time : goal.returns-in-Ok-clause-time
-returns-in-Ok-clause-time g c = c.in-Ok.ensures.one.1.time.later
-
-pub returns-in-Err-clause-time : goal.returns-in-Err-clause-time
-returns-in-Err-clause-time g c = c.in-Err.ensures.one.1.time.later
 
 pub returns-in-Ok-clause-told : goal.returns-in-Ok-clause-told
 returns-in-Ok-clause-told g c = λ run opened locks statement tells sound next at.
@@ -55,8 +48,8 @@ returns-in-Err-clause-refused g c = λ run opened locks statement tells sound ne
     let may = subst (λ x. MayDrop x e a.now) (sym c.me-x.ensures) (c.a_table_may_be_written.ensures.dropped run opened a b h s statement next e c.requires.may.one at c.requires.there) in
     c.in-Err.ensures.refused tells sound may
 
-pub returns-in-Err-clause-faults : goal.returns-in-Err-clause-faults
-returns-in-Err-clause-faults g c = fault_failed Fault _ _ c.in-Err.fault c.in-Err.ensures.one.1.faults
+pub returns-in-Err-clause-disk : goal.returns-in-Err-clause-disk
+returns-in-Err-clause-disk g c = disk_failed g.O.Origin.first g.D.Disk _ _ c.in-Err.fault (disk_one g.O.Origin.first g.D.Disk c.in-Err.ensures.one.0 _ _ _ c.in-Err.ensures.one.1)
 
-pub returns-in-Ok-clause-faults : goal.returns-in-Ok-clause-faults
-returns-in-Ok-clause-faults g c = fault_done Fault _ _ tt _ c.in-Ok.ensures.one.1.faults
+pub returns-in-Ok-clause-disk : goal.returns-in-Ok-clause-disk
+returns-in-Ok-clause-disk g c = disk_done g.O.Origin.first g.D.Disk _ _ tt _ (disk_one g.O.Origin.first g.D.Disk c.in-Ok.ensures.one.0 _ _ _ c.in-Ok.ensures.one.1)

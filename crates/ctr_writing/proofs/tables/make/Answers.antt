@@ -1,12 +1,10 @@
-use Rattle.std.proofs.Common.{◌≡◌, Ok, Err, refl, sym, ◌∙◌, ap, subst}
-use Rattle.ctr_disk.specs.declared.fault.StoreFault.TheVariants.{Fault}
+use Rattle.std.proofs.Common.{◌≡◌, refl, sym, ◌∙◌, ap, subst}
 use Rattle.ctr_txn.specs.Numbered.{NumbersHeld}
 use Rattle.ctr_looks.specs.ctr_ddl.Tables.{IsMadeAt, MakesBy, MakingLeaves, MayMake, next_made}
-use Rattle.ctr_looks.specs.ctr_ddl.declared.making.Made.{Made}
 use Rattle.ctr_looks.specs.ctr_session_world.Ready.{StandOver}
 use Rattle.ctr_looks.specs.ctr_session_world.World.{SessionsHeld}
-use Rattle.ctr_looks.proofs.ctr_session_world.Faults.{fault_done, fault_failed}
-use Rattle.ctr_looks.proofs.ctr_session_world.Ready.{stands_still, turns_later, turns_ready}
+use Rattle.ctr_looks.proofs.ctr_session_world.Ready.{stands_still, turns_ready}
+use Rattle.ctr_writing.proofs.Turned.{turned_done, turned_failed}
 use Rattle.ctr_writing.proofs.tables.make.Goals as goal
 
 pub returns-in-At-clause-over : goal.returns-in-At-clause-over
@@ -76,22 +74,11 @@ returns-in-Err-clause-refused g c = λ run opened locks tells sound next at.
     let may = subst (λ x. MayMake x name a.now) (sym c.me-x.ensures) (c.a_table_may_be_written.ensures.made run opened a b h s name schema next c.requires.may.one at) in
     c.in-Err.ensures.refused tells sound may
 
-pub returns-in-Err-clause-faults : goal.returns-in-Err-clause-faults
-returns-in-Err-clause-faults g c = fault_failed Fault _ _ c.in-Err.fault (c.a_turn_goes_or_counts_a_fault.ensures.faults g.O.Origin.first c.args.store.now c.make_table-made.new.store (Err c.in-Err.fault) c.in-Err.ensures.turns)
+pub returns-in-Err-clause-disk : goal.returns-in-Err-clause-disk
+returns-in-Err-clause-disk g c = turned_failed g.O.Origin.first g.D.Disk _ _ c.in-Err.fault c.in-Err.ensures.turns
 
-pub returns-in-At-clause-faults : goal.returns-in-At-clause-faults
-returns-in-At-clause-faults g c = fault_done Fault _ _ c.in-Ok.made _ (c.a_turn_goes_or_counts_a_fault.ensures.faults g.O.Origin.first c.args.store.now c.make_table-made.new.store (Ok c.in-Ok.made) c.in-Ok.ensures.turns)
+pub returns-in-At-clause-disk : goal.returns-in-At-clause-disk
+returns-in-At-clause-disk g c = turned_done g.O.Origin.first g.D.Disk _ _ c.in-Ok.made _ c.in-Ok.ensures.turns
 
-pub returns-in-CatalogFull-clause-faults : goal.returns-in-CatalogFull-clause-faults
-returns-in-CatalogFull-clause-faults g c = fault_done Fault _ _ c.in-Ok.made _ (c.a_turn_goes_or_counts_a_fault.ensures.faults g.O.Origin.first c.args.store.now c.make_table-made.new.store (Ok c.in-Ok.made) c.in-Ok.ensures.turns)
-
--- ---- time
-
-pub returns-in-At-clause-time : goal.returns-in-At-clause-time
-returns-in-At-clause-time g c = turns_later g.O.Origin.first g.D.Disk c.args.store.now c.make_table-made.new.store (Ok c.in-Ok.made) c.in-Ok.ensures.turns
-
-pub returns-in-CatalogFull-clause-time : goal.returns-in-CatalogFull-clause-time
-returns-in-CatalogFull-clause-time g c = turns_later g.O.Origin.first g.D.Disk c.args.store.now c.make_table-made.new.store (Ok c.in-Ok.made) c.in-Ok.ensures.turns
-
-pub returns-in-Err-clause-time : goal.returns-in-Err-clause-time
-returns-in-Err-clause-time g c = turns_later {T = Made} g.O.Origin.first g.D.Disk c.args.store.now c.make_table-made.new.store (Err c.in-Err.fault) c.in-Err.ensures.turns
+pub returns-in-CatalogFull-clause-disk : goal.returns-in-CatalogFull-clause-disk
+returns-in-CatalogFull-clause-disk g c = turned_done g.O.Origin.first g.D.Disk _ _ c.in-Ok.made _ c.in-Ok.ensures.turns

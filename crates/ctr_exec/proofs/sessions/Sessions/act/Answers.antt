@@ -5,9 +5,10 @@ use Rattle.ctr_types.specs.declared.statement.Line.{Line}
 use Rattle.ctr_types.specs.declared.statement.Statement.{Statement}
 use Rattle.ctr_kept.specs.Turns.{state_now}
 use Rattle.ctr_txn.specs.Held.{TxnsHeld, txn_of}
-use Rattle.ctr_session_world.specs.Ready.{StandOver}
-use Rattle.ctr_session_world.specs.Told.{IsNextOf}
-use Rattle.ctr_session_world.specs.World.{SessionsHeld}
+use Rattle.ctr_writing.specs.ctr_session_world.Ready.{StandOver}
+use Rattle.ctr_writing.specs.ctr_session_world.Told.{IsNextOf}
+use Rattle.ctr_writing.specs.ctr_session_world.World.{SessionsHeld}
+use Rattle.ctr_writing.proofs.ctr_session_world.Disks.{disk_done, disk_failed}
 use Rattle.ctr_writing.specs.Tables.{HasFittingColumns}
 use Rattle.ctr_exec.specs.declared.runners.Stage.{Stage}
 use Rattle.ctr_exec.specs.declared.sessions.Sessions.{Sessions}
@@ -58,7 +59,7 @@ returns-in-Err-clause-told g c = λ run opened w tells sound before.
     (subst (λ (z : Statement). (next : IsNextOf g.D.Disk run opened a b (held_by h) s z (made_at c.take-place.result.1)) → h.stuck ≡ (state_now run next.mind).stuck → IsMidway run s z next.mind c.take-place.result.1 → c.in-Err.fault ≡ Fault) said
     (subst (λ (z : Sessions). (next : IsNextOf g.D.Disk run opened a b (held_by z) s c.statement_at-statement.result.now (made_at c.take-place.result.1)) → z.stuck ≡ (state_now run next.mind).stuck → IsMidway run s c.statement_at-statement.result.now next.mind c.take-place.result.1 → c.in-Err.fault ≡ Fault) same
     (λ next stuck at. c.in-Err.ensures.told run opened tells sound next stuck at))) in
-    told (next g.D.Disk run opened a b h h w before s c.requires.go.0.one line.line.statement line.named c.act-acted.ensures.time) before.stuck (at_stage g.D.Disk run opened a b h h w before s c.requires.go.0.one line.line.statement line.named c.act-acted.ensures.time)
+    told (next g.D.Disk run opened a b h h w before s c.requires.go.0.one line.line.statement line.named c.act-acted.ensures.disk.later) before.stuck (at_stage g.D.Disk run opened a b h h w before s c.requires.go.0.one line.line.statement line.named c.act-acted.ensures.disk.later)
 
 pub returns-in-Ok-clause-leaves : goal.returns-in-Ok-clause-leaves
 returns-in-Ok-clause-leaves g c =
@@ -122,10 +123,10 @@ returns-in-Ok-clause-told g c = λ run opened w tells sound before.
     (subst (λ (z : Statement). (next : IsNextOf g.D.Disk run opened a b (held_by h) s z (made_at c.take-place.result.1)) → h.stuck ≡ (state_now run next.mind).stuck → IsMidway run s z next.mind c.take-place.result.1 → TurnOfAct next held (Ok l)) said
     (subst (λ (z : Sessions). (next : IsNextOf g.D.Disk run opened a b (held_by z) s c.statement_at-statement.result.now (made_at c.take-place.result.1)) → z.stuck ≡ (state_now run next.mind).stuck → IsMidway run s c.statement_at-statement.result.now next.mind c.take-place.result.1 → TurnOfAct next held (Ok l)) same
     (λ next stuck at. c.in-Ok.ensures.told run opened tells sound next stuck at))) in
-    let follows = next g.D.Disk run opened a b h now w before s go.one line.line.statement line.named c.act-acted.ensures.time in
+    let follows = next g.D.Disk run opened a b h now w before s go.one line.line.statement line.named c.act-acted.ensures.disk.later in
     let its = subst (λ (z : SessionsHeld). TurnOfAct follows z (Ok l)) (sym (held_now h mid now m go.seats s go.one txns locks l c.moment.result same c.take-place.ensures.runners told.is told.tape told.len told.capacity told.runners))
-    (turn follows before.stuck (at_stage g.D.Disk run opened a b h now w before s go.one line.line.statement line.named c.act-acted.ensures.time)) in
-    turned g.D.Disk run opened a b h now w before s go.one line.line.statement line.named c.act-acted.ensures.time m n go.seats
+    (turn follows before.stuck (at_stage g.D.Disk run opened a b h now w before s go.one line.line.statement line.named c.act-acted.ensures.disk.later)) in
+    turned g.D.Disk run opened a b h now w before s go.one line.line.statement line.named c.act-acted.ensures.disk.later m n go.seats
     (script_now h mid now m go.seats s go.one txns locks l c.moment.result same c.take-place.ensures.runners told.is told.tape told.len told.capacity told.runners)
     (stuck_now h mid now m go.seats s go.one txns locks l c.moment.result same c.take-place.ensures.runners told.is told.tape told.len told.capacity told.runners)
     (sound_in g.D.Disk run opened a h w c.legal_states_are_sound.ensures before) c.what_a_write_counts_on_stays.ensures c.snapshots_stay.ensures l now.txns leaves c.in-Ok.ensures.over.2 its
@@ -158,7 +159,7 @@ returns-in-Ok-clause-adds g c =
     adds_acted h now m go.seats s go.one
     (script_now h mid now m go.seats s go.one txns locks l c.moment.result same c.take-place.ensures.runners told.is told.tape told.len told.capacity told.runners)
     (stuck_now h mid now m go.seats s go.one txns locks l c.moment.result same c.take-place.ensures.runners told.is told.tape told.len told.capacity told.runners)
-    (g.D.Disk.moment_of a.disk) (g.D.Disk.moment_of b.disk) c.act-acted.ensures.time line.line.statement line.named txns n l leaves
+    (g.D.Disk.moment_of a.disk) (g.D.Disk.moment_of b.disk) c.act-acted.ensures.disk.later line.line.statement line.named txns n l leaves
     (runners_now h mid now m go.seats s go.one txns locks l c.moment.result same c.take-place.ensures.runners told.is told.tape told.len told.capacity told.runners)
     (tape_now h mid now m go.seats s go.one txns locks l c.moment.result same c.take-place.ensures.runners told.is told.tape told.len told.capacity told.runners ∙ ap (λ t. h.tape.items ++ entries_by s (runner_at s h.runners.items) t l) c.moment.ensures)
 
@@ -184,3 +185,9 @@ returns-in-Ok-clause-fewer g c =
     (script_now h mid now m go.seats s go.one txns locks l c.moment.result same c.take-place.ensures.runners told.is told.tape told.len told.capacity told.runners)
     go.number c.counts_pages.ensures.1 l leaves c.in-Ok.ensures.over.2
     (runners_now h mid now m go.seats s go.one txns locks l c.moment.result same c.take-place.ensures.runners told.is told.tape told.len told.capacity told.runners)
+
+pub returns-in-Ok-clause-disk : goal.returns-in-Ok-clause-disk
+returns-in-Ok-clause-disk g c = disk_done g.O.Origin.first g.D.Disk _ _ c.in-Ok.acted _ c.in-Ok.ensures.disk
+
+pub returns-in-Err-clause-disk : goal.returns-in-Err-clause-disk
+returns-in-Err-clause-disk g c = disk_failed g.O.Origin.first g.D.Disk _ _ c.in-Err.fault c.in-Err.ensures.disk

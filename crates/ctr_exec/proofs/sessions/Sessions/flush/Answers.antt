@@ -1,3 +1,4 @@
+use Rattle.ctr_writing.proofs.ctr_session_world.Disks.{disk_page}
 use Rattle.ctr_exec.specs.Sessions.{held_by}
 use Rattle.ctr_exec.proofs.Fewer.{flush_falls}
 use Rattle.ctr_exec.proofs.Going.{goes_answered, shows_behind}
@@ -19,8 +20,14 @@ returns-in-Ok-clause-all g c = (c.in-Ok.ensures.none, c.answer.ensures.all c.in-
 pub returns-in-Ok-clause-adds : goal.returns-in-Ok-clause-adds
 returns-in-Ok-clause-adds g c =
     let before = g.D.Disk.moment_of c.args.store.now.disk in
-    adds_answers c.args.s before (g.D.Disk.moment_of c.flush.new.store.disk) c.args.self.now c.answer.new.self (c.answer.ensures.adds before c.flush.ensures.time)
+    adds_answers c.args.s before (g.D.Disk.moment_of c.flush.new.store.disk) c.args.self.now c.answer.new.self (c.answer.ensures.adds before c.flush.ensures.leaves.time.later)
 
 pub returns-in-Ok-clause-fewer : goal.returns-in-Ok-clause-fewer
 returns-in-Ok-clause-fewer g c = λ waits.
     flush_falls c.args.self.now c.answer.new.self c.args.store.now c.flush.new.store c.flush.new.store.now.counted c.answer.ensures.seats c.numbers_commits.ensures (c.answer.ensures.all c.in-Ok.ensures.none) c.answer.ensures.fewer c.args.s c.requires.go.one waits
+
+pub returns-in-Ok-clause-disk : goal.returns-in-Ok-clause-disk
+returns-in-Ok-clause-disk g c = disk_page g.O.Origin.first g.D.Disk _ _ _ c.in-Ok.ensures.leaves
+
+pub returns-in-Err-clause-disk : goal.returns-in-Err-clause-disk
+returns-in-Err-clause-disk g c = disk_page g.O.Origin.first g.D.Disk _ _ _ c.in-Err.ensures.leaves

@@ -1,5 +1,6 @@
 use Rattle.std.proofs.Common.{sym, ◌∙◌}
 use Rattle.std.proofs.lemmas.Bool.{false≢true}
+use Rattle.ctr_writing.proofs.ctr_session_world.Disks.{disk_page}
 use Rattle.ctr_exec.specs.Sessions.{held_by}
 use Rattle.ctr_exec.proofs.Fewer.{rooms_fall, waited_falls}
 use Rattle.ctr_exec.proofs.Going.{act_takes, flush_takes, pages_behind, room_takes}
@@ -20,7 +21,7 @@ returns-clause-told g c = λ run opened w tells sound before.
     (pages_behind g.O.Origin.first g.D.Disk c.args.store.now c.make_room.new.store c.make_room.result c.make_room.ensures.leaves tells sound) (c.make_room.ensures.kept run opened (held_by c.args.self.now) w tells sound before.world) c.make_room.ensures.nearer (c.make_room.ensures.refused tells sound)
 
 pub returns-clause-adds : goal.returns-clause-adds
-returns-clause-adds g c = adds_alone c.args.s (g.D.Disk.moment_of c.args.store.now.disk) (g.D.Disk.moment_of c.make_room.new.store.disk) c.args.self.now c.make_room.result c.make_room.ensures.time
+returns-clause-adds g c = adds_alone c.args.s (g.D.Disk.moment_of c.args.store.now.disk) (g.D.Disk.moment_of c.make_room.new.store.disk) c.args.self.now c.make_room.result c.make_room.ensures.leaves.time.later
 
 pub returns-then-waits-clause-fewer : goal.returns-then-waits-clause-fewer
 returns-then-waits-clause-fewer g c = waited_falls c.args.self.now c.flush.new.self c.args.store.now c.flush.new.store c.args.s c.flush.result c.flush.ensures.fewer (c.waits.ensures.yes c.if-waits.true)
@@ -28,3 +29,6 @@ returns-then-waits-clause-fewer g c = waited_falls c.args.self.now c.flush.new.s
 pub returns-clause-fewer : goal.returns-clause-fewer
 returns-clause-fewer g c =
     rooms_fall c.args.self.now c.args.store.now c.make_room.new.store c.make_room.result c.make_room.ensures.keeps (λ room. false≢true (sym c.if-room.false ∙ c.room.ensures.told.1 room)) c.make_room.ensures.nearer
+
+pub returns-clause-disk : goal.returns-clause-disk
+returns-clause-disk g c = disk_page g.O.Origin.first g.D.Disk _ _ c.make_room.result c.make_room.ensures.leaves

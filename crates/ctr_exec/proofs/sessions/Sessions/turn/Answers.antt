@@ -1,3 +1,5 @@
+use Rattle.std.proofs.Common.{refl}
+use Rattle.ctr_writing.proofs.ctr_session_world.Disks.{disk_done, disk_failed, disk_still}
 use Rattle.ctr_exec.proofs.Fewer.{over_goes}
 use Rattle.ctr_exec.proofs.Going.{over_takes}
 use Rattle.ctr_exec.proofs.Ordered.{adds_none, at_once}
@@ -25,3 +27,12 @@ returns-then-not-has_more-clause-fewer g c = λ is. absurd (over_goes is)
 
 pub returns-in-Ok-clause-fewer : goal.returns-in-Ok-clause-fewer
 returns-in-Ok-clause-fewer g c = λ is. c.in-Ok.ensures.fewer
+
+pub returns-then-not-has_more-clause-disk : goal.returns-then-not-has_more-clause-disk
+returns-then-not-has_more-clause-disk g c = disk_still g.O.Origin.first g.D.Disk _ _ _ refl (λ tells sound. c.rests.ensures tells sound c.requires.go.going)
+
+pub returns-in-Ok-clause-disk : goal.returns-in-Ok-clause-disk
+returns-in-Ok-clause-disk g c = disk_done g.O.Origin.first g.D.Disk _ _ tt _ c.in-Ok.ensures.disk
+
+pub returns-in-Err-clause-disk : goal.returns-in-Err-clause-disk
+returns-in-Err-clause-disk g c = disk_failed g.O.Origin.first g.D.Disk _ _ c.in-Err.fault c.in-Err.ensures.disk

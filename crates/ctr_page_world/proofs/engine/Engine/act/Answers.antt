@@ -1,3 +1,4 @@
+use Rattle.ctr_exec.proofs.ctr_session_world.Disks.{disk_done, disk_failed}
 use Rattle.ctr_exec.specs.Sessions.{AreOfTurn}
 use Rattle.ctr_page_world.specs.Held.{running}
 use Rattle.ctr_page_world.specs.World.{start_in}
@@ -24,3 +25,9 @@ pub returns-in-Ok-clause-adds : goal.returns-in-Ok-clause-adds
 returns-in-Ok-clause-adds g c =
     let w = running c.args.self.now in
     adds_led g.B.Opening g.D.Disk w c.turn.new.store c.turn.new.self (AreOfTurn c.args.s) (g.D.Disk.moment_of w.store.disk) (g.D.Disk.moment_of c.turn.new.store.disk) c.in-Ok.ensures.adds
+
+pub returns-in-Ok-clause-disk : goal.returns-in-Ok-clause-disk
+returns-in-Ok-clause-disk g c = disk_done g.B.Origin.first g.D.Disk c.args.self.now.store c.turn.new.store _ tt c.in-Ok.ensures.disk
+
+pub returns-clause-disk : goal.returns-clause-disk
+returns-clause-disk g c = disk_failed g.B.Origin.first g.D.Disk c.args.self.now.store c.turn.new.store c.in-Err.fault c.in-Err.ensures.disk

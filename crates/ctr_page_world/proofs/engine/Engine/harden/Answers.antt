@@ -1,6 +1,7 @@
 use Rattle.ctr_exec.specs.Sessions.{AreAnswers}
 use Rattle.ctr_page_world.specs.Held.{running}
 use Rattle.ctr_page_world.proofs.Adding.{adds_answers}
+use Rattle.ctr_page_world.proofs.Quiet.{disk_answered}
 use Rattle.ctr_page_world.proofs.engine.Engine.harden.Goals as goal
 
 pub returns-in-Ok-clause-shows : goal.returns-in-Ok-clause-shows
@@ -12,3 +13,6 @@ returns-in-Err-clause-shows g c = λ s tells sound shows. c.in-Err.ensures.shows
 pub returns-in-Ok-clause-adds : goal.returns-in-Ok-clause-adds
 returns-in-Ok-clause-adds g c =
     adds_answers g.D.Disk AreAnswers (running c.args.self.now) (running c.settle.new.self) (running c.answer.new.self) (λ i. (c.answer.ensures.same i).store) (λ i. (c.in-Ok.ensures.same i).sessions) c.answer.ensures.adds
+
+pub returns-in-Ok-clause-disk : goal.returns-in-Ok-clause-disk
+returns-in-Ok-clause-disk g c = disk_answered g.B.Origin.first g.D.Disk c.args.self.now.store c.settle.new.self.store c.answer.new.self.store _ (λ i. (c.answer.ensures.same i).store) c.in-Ok.ensures.disk

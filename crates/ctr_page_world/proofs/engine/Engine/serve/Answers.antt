@@ -2,6 +2,7 @@ use Rattle.ctr_exec.specs.Sessions.{AreAnswers, AreOfTurn, turns_left}
 use Rattle.ctr_page_world.specs.Held.{running}
 use Rattle.ctr_page_world.proofs.Adding.{adds_behind}
 use Rattle.ctr_page_world.proofs.Nearer.{below}
+use Rattle.ctr_page_world.proofs.Quiet.{disk_answered}
 use Rattle.ctr_page_world.proofs.engine.Engine.serve.Goals as goal
 
 pub returns-in-Ok-clause-shows : goal.returns-in-Ok-clause-shows
@@ -16,3 +17,6 @@ returns-in-Ok-clause-adds g c =
 
 pub returns-in-Ok-clause-nearer : goal.returns-in-Ok-clause-nearer
 returns-in-Ok-clause-nearer g c = (below (turns_left c.answer.new.self.sessions c.answer.new.self.store) (turns_left c.act.new.self.sessions c.act.new.self.store) (turns_left c.args.self.now.sessions c.args.self.now.store) c.answer.ensures.nearer c.in-Ok.ensures.nearer, c.answer.ensures.answered)
+
+pub returns-in-Ok-clause-disk : goal.returns-in-Ok-clause-disk
+returns-in-Ok-clause-disk g c = disk_answered g.B.Origin.first g.D.Disk c.args.self.now.store c.act.new.self.store c.answer.new.self.store _ (λ i. (c.answer.ensures.same i).store) c.in-Ok.ensures.disk

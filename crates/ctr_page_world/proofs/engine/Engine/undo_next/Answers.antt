@@ -8,7 +8,7 @@ use Rattle.ctr_exec.proofs.Fewer.{numbers_fall}
 use Rattle.ctr_page_world.specs.declared.engine.Engine.{Engine}
 use Rattle.ctr_page_world.specs.Held.{running}
 use Rattle.ctr_page_world.specs.World.{IsReady, Shows, start_in}
-use Rattle.ctr_page_world.proofs.Undoing.{at_rest, later_of, left_behind, number_of, own_lines, ready_undone, taken_fewer}
+use Rattle.ctr_page_world.proofs.Undoing.{at_rest, disk_refused, disk_undone, later_of, left_behind, number_of, own_lines, ready_undone, taken_fewer}
 use Rattle.ctr_page_world.proofs.Undone.{Laws, goes_one, undone_so}
 use Rattle.ctr_page_world.proofs.engine.Engine.undo_next.Goals as goal
 
@@ -70,3 +70,13 @@ returns-in-Ok-Undone-clause-fewer g c =
     let goes = c.let_go.ensures.goes in
     subst (λ (v : View g.row.D.Denot). turns_left now.sessions v < turns_left w.sessions w.store) (sym (λ i. (c.let_go.ensures.same i).store))
     (numbers_fall w.sessions now.sessions w.store b (left_behind goes.told (g.D.Disk.moment_of b.disk) w.sessions now.sessions goes.behind) c.requires.room.1 (number_of g.B.Origin.first g.D.Disk w.undo w.store b (subst (λ (r : UndoTurn). LogsNext g.B.Origin.first g.D.Disk w.undo w.store b (Ok r)) c.in-Ok-Undone.field-0-is c.in-Ok-Undone.ensures.one)).next)
+
+pub returns-clause-disk : goal.returns-clause-disk
+returns-clause-disk g c = disk_refused g.B.Origin.first g.D.Disk c.args.self.now.undo c.args.self.now.store c.turn.new.store c.in-Err.fault c.in-Err.ensures.one
+
+pub returns-in-Ok-Undone-clause-disk : goal.returns-in-Ok-Undone-clause-disk
+returns-in-Ok-Undone-clause-disk g c =
+    let w = running c.args.self.now in
+    let b = c.turn.new.store in
+    disk_undone g.B.Origin.first g.D.Disk w.undo w.store b c.let_go.new.self.store (subst (λ (r : UndoTurn). LogsNext g.B.Origin.first g.D.Disk w.undo w.store b (Ok r)) c.in-Ok-Undone.field-0-is c.in-Ok-Undone.ensures.one)
+    (λ i. (c.let_go.ensures.same i).store)

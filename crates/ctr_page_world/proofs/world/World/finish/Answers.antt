@@ -1,4 +1,5 @@
-use Rattle.ctr_page_world.specs.Held.{held}
+use Rattle.std.proofs.Common.{◌++◌, ◌∙◌, ap}
+use Rattle.ctr_page_world.specs.Held.{Held, held}
 use Rattle.ctr_page_world.proofs.Ending.{ended_as, in_order_as}
 use Rattle.ctr_page_world.proofs.world.World.finish.Goals as goal
 
@@ -11,3 +12,6 @@ pub returns-clause-order : goal.returns-clause-order
 returns-clause-order g c =
     in_order_as g.B.Opening g.B.Origin.first g.D.Disk (held c.finish.new.self) c.finish.ensures.kept c.finish.ensures.over
     c.from_vec.result c.into_disk.result c.from_vec.ensures c.into_disk.ensures
+
+pub returns-clause-adds : goal.returns-clause-adds
+returns-clause-adds g c = (c.finish.ensures.adds.0, c.from_vec.ensures ∙ c.finish.ensures.adds.1 ∙ ap (λ (h : Held _). h.running.sessions.tape.items ++ c.finish.ensures.adds.0) c.self.view_is)

@@ -1,7 +1,10 @@
-use Rattle.std.proofs.Common.{sym, ◌∙◌, subst}
+use Rattle.std.proofs.Common.{◌≤◌, ⊎_elim, inl, inr, [], sym, ◌∙◌, subst}
 use Rattle.ctr_record_effects.specs.Standing.{IsDatabaseState}
 use Rattle.ctr_stops.proofs.Opened.{now_is}
+use Rattle.ctr_stops.specs.Fronts.{rows_of_state}
+use Rattle.ctr_page_world.specs.World.{LeavesPrefix}
 use Rattle.ctr_page_world.proofs.Keeping.{sound_of}
+use Rattle.ctr_page_world.proofs.Refused.{first_left, front_of, told_as, told_behind}
 use Rattle.ctr_page_world.proofs.Started.{kept_begun, stands_on}
 use Rattle.ctr_page_world.proofs.world.World.open.Goals as goal
 
@@ -27,3 +30,39 @@ returns-in-Ok-begin-clause-stands g c = λ tells sound.
     let e = c.in-Ok-begin.ensures in
     stands_on g.B.Opening g.B.Origin.first g.D.Disk c.args.disk c.args.script c.requires.named c.requires.runs c.in-Ok.store c.begin.new.store c.in-Ok-begin.begun e.begun e.leaves c.in-Ok.ensures.counts.later tells sound
     (c.in-Ok.ensures.answer tells)
+
+-- ---- what is told of the image
+
+pub returns-in-Ok-begin-clause-passes : goal.returns-in-Ok-begin-clause-passes
+returns-in-Ok-begin-clause-passes g c = λ tells.
+    let opens = c.in-Ok.ensures.answer tells in
+    record { root = opens.root; stands = opens.stands; log = opens.passes; pages = opens.pages; fresh = opens.fresh }
+
+pub returns-in-Err-clause-refused : goal.returns-in-Err-clause-refused
+returns-in-Err-clause-refused g c = λ tells. told_as g.B.Origin.first c.in-Err.refused.0 (c.in-Err.ensures.answer tells)
+
+pub returns-in-Err-begin-clause-refused : goal.returns-in-Err-begin-clause-refused
+returns-in-Err-begin-clause-refused g c = λ tells.
+    let opens = c.in-Ok.ensures.answer tells in
+    told_behind g.B.Origin.first c.in-Err-begin.error (record { root = opens.root; stands = opens.stands; log = opens.passes; pages = opens.pages; fresh = opens.fresh }) c.in-Err-begin.ensures.reading
+    (λ s stands. c.in-Err-begin.ensures.undamaged tells (sound_of g.B.Origin.first s stands)
+    (subst IsDatabaseState (sym (now_is g.D.Disk g.met.D.Disk.earlier g.B.Origin.first s c.args.disk c.in-Ok.store stands opens)) stands.sound))
+
+-- ---- what a crash leaves of an opening that was refused
+
+pub returns-in-Err-clause-left : goal.returns-in-Err-clause-left
+returns-in-Err-clause-left g c = λ s tells stands.
+    let named = c.requires.named in
+    first_left g.B.Opening g.B.Origin.first g.D.Disk g.met.D.Disk.earlier c.args.disk c.in-Err.refused.1 s stands named.start named.before (c.in-Err.ensures.any_moment tells (sound_of g.B.Origin.first s stands))
+
+pub returns-in-Err-begin-clause-left : goal.returns-in-Err-begin-clause-left
+returns-in-Err-begin-clause-left g c = λ s tells stands.
+    let named = c.requires.named in
+    let d = g.D.Disk in
+    let first = g.B.Origin.first in
+    let v = c.in-Ok.store in
+    let sound = sound_of first s stands in
+    let keeps = c.an_opened_store_keeps_commits.ensures.commits first s c.args.disk v stands (c.in-Ok.ensures.answer tells) (c.in-Ok.ensures.any_moment tells sound) in
+    let left = c.a_call_that_ends_leaves_a_prefix.ensures.call (record { opened = c.args.disk; base = rows_of_state s; asked = [] }) [] v c.begin.new.store keeps (front_of first d v c.begin.new.store _ tells sound c.in-Err-begin.ensures.leaves) in
+    subst (λ x. LeavesPrefix g.B.Opening d s x []) (sym c.into_disk.ensures)
+    (λ t c from le there. ⊎_elim (λ it. inl it) (λ was. inr (named.before c was.0, was.1)) (left t c (subst (λ n. n ≤ t) named.start from) le there))
