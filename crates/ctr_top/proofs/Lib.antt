@@ -5,5 +5,4 @@ mod ReportLemmas
 mod ScriptLemmas
 mod CompleteLemmas
 mod EndLemmas
-mod SerialLemmas
 mod SerialTurns

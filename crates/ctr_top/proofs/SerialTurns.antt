@@ -26,8 +26,9 @@ use Rattle.ctr_steps.specs.Runners.{runner_at, vacant, made_at, is_begun, after_
 use Rattle.ctr_steps.specs.Steps.{AddsEntry}
 use Rattle.ctr_world.specs.Held.{Held}
 use Rattle.ctr_world.specs.Turns.{AreSessions, AreUnbegun, HasStatementLeft, IsAsking, NoneIsLeft, IsAnswerTo, AnswersAll, EndsTurn}
-use Rattle.ctr_top.specs.Serial.{HasFinished, count_in, RanLines, RanOrStopped, IsEntryOfLine, InLine}
-use Rattle.ctr_top.proofs.SerialLemmas.{count_of, count_cons, one_of, serial_front, line_more, count_mine, count_other, count_front}
+use Rattle.ctr_serial.specs.Lines.{count_in, IsEntryOfLine}
+use Rattle.ctr_top.specs.Serial.{HasFinished, RanLines, RanOrStopped, InLine}
+use Rattle.ctr_serial.proofs.Lists.{count_of, count_cons, one_of, serial_front, line_more, count_mine, count_other, count_front}
 
 -- ---- lists
 
@@ -361,33 +362,3 @@ over_at_end lines w (inl going) =
           omega (arith, left.more, done, whole, has_places lines w.steps ran.script ran.sessions s left.one.0 most)),
       serial_front lines (length lines) w.steps.tape.items ran.tape,
     )
-
--- ---- from line to line
-
--- the line of a session that was found at a place
-line_found : (lines : List Line) (k session : ℕ) (o : Option Line) → slice_get lines k ≡ o → Some session ≡ option_map (λ (l : Line). l.session) o → (l : Line) × (slice_get lines k ≡ Some l) × (l.session ≡ session)
-line_found lines k session None there is = absurd (false≢true (sym (ap is_some is)))
-line_found lines k session (Some l) there is = (l, there, ap (λ o. unwrap_or o session) (sym is))
-
--- the line of a session, by its place among all lines' sessions
-pub line_there : (lines : List Line) (sessions : List ℕ) (k : ℕ) → sessions ≡ map (λ (l : Line). l.session) lines → k < length sessions → (l : Line) × (slice_get lines k ≡ Some l) × (l.session ≡ get_or sessions k 0)
-line_there lines sessions k same below =
-    line_found lines k (get_or sessions k 0) (slice_get lines k) refl (sym (slice_get-get_or sessions k 0 below) ∙ ap (λ ss. slice_get ss k) same ∙ slice_get-map (λ (l : Line). l.session) lines k)
-
--- the sessions of one line more
-pub session_next : (lines : List Line) (k : ℕ) (l : Line) (before sessions : List ℕ) → before ≡ map (λ (x : Line). x.session) (take k lines) → sessions ≡ before ++ l.session ∷ [] → l ≡ get_or lines k l → k < length lines
-    → sessions ≡ map (λ (x : Line). x.session) (take (k + 1) lines)
-session_next lines k l before sessions was is at below =
-    is ∙ ap (λ ss. ss ++ l.session ∷ []) was ∙ ap (λ (x : Line). map (λ (y : Line). y.session) (take k lines) ++ x.session ∷ []) at ∙ sym (map-append (λ (x : Line). x.session) (take k lines) (get_or lines k l ∷ []))
-    ∙ sym (ap (map (λ (x : Line). x.session)) (take_more lines k l below))
-
--- there are as many sessions as lines
-pub as_many : (lines : List Line) (sessions : List ℕ) → sessions ≡ map (λ (l : Line). l.session) lines → length sessions ≡ length lines
-as_many lines sessions same = ap length same ∙ length-map lines (λ (l : Line). l.session)
-
--- each line of a list that has a property has it
-pub line_has : (P : Line → Type 0) (lines : List Line) (k : ℕ) (l : Line) → AllByRecursion P lines → slice_get lines k ≡ Some l → P l
-line_has P [] zero l all is = absurd (false≢true (ap is_some is))
-line_has P [] (suc k) l all is = absurd (false≢true (ap is_some is))
-line_has P (x ∷ xs) zero l all is = subst P (ap (λ o. unwrap_or o x) is) all.0
-line_has P (x ∷ xs) (suc k) l all is = line_has P xs k l all.1 is

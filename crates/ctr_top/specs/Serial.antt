@@ -1,9 +1,10 @@
 -- A script's lines run one after another.
-use Rattle.std.specs.Prelude.{◌≡◌, ◌≢◌, ◌⊎◌, ◌≤◌, ◌==◌, ◌+◌, ℕ, false, List, [], ◌++◌, length, take, None}
+use Rattle.std.specs.Prelude.{◌≡◌, ◌≢◌, ◌⊎◌, ◌≤◌, ◌==◌, ◌+◌, ℕ, false, List, ◌++◌, None}
 use Rattle.std.specs.List.{AllByRecursion}
 use Rattle.ctr_types.specs.declared.statement.Line.{Line}
 use Rattle.ctr_types.specs.declared.tape.Entry.{Entry}
-use Rattle.ctr_model.specs.Tape.{statements_of, statements_on, numbered, is_release, IsSerial}
+use Rattle.ctr_model.specs.Tape.{IsSerial}
+use Rattle.ctr_serial.specs.Lines.{count_in, HasLines, IsEntryOfLine}
 use Rattle.ctr_steps.specs.declared.runners.Runner.{Runner}
 use Rattle.ctr_steps.specs.declared.runners.Stage.TheVariants as stage
 use Rattle.ctr_steps.specs.declared.steps.Steps.{Steps}
@@ -16,15 +17,11 @@ pub record HasFinished (n : ℕ) (runner : Runner) : Type 0 where
   pub finished : runner.finished ≡ n
   pub between : runner.stage ≡ stage.Between
 
--- how many statements a session has in the first lines
-abbrev pub count_in : List Line → ℕ → ℕ → ℕ
-count_in lines k s = length (statements_of s (take k lines))
-
 -- The first lines were run to their ends, and no other has begun.
 pub record RanLines (lines : List Line) (k : ℕ) (h : Steps) : Type 0 where
   pub script : h.script.lines ≡ lines
   pub sessions : AreSessions h
-  pub tape : statements_on h.tape.items ≡ numbered [] (take k lines)
+  pub tape : HasLines lines k h.tape.items
   pub each : (s : ℕ) → 1 ≤ s → s ≤ 8
       → HasFinished (count_in lines k s) (runner_at s h.runners.items)
 
@@ -32,10 +29,6 @@ pub record RanLines (lines : List Line) (k : ℕ) (h : Steps) : Type 0 where
 abbrev pub RanOrStopped : {D : Type 0} → List Line → ℕ → Held D → Type 0
 RanOrStopped lines k w = ((w.stop ≡ None) × RanLines lines k w.steps)
     ⊎ ((w.stop ≢ None) × IsSerial lines w.steps.tape.items × (w.steps.script.lines ≡ lines))
-
--- the entry is one of the statement of this number, and not recovery's
-abbrev pub IsEntryOfLine : ℕ → ℕ → Entry → Type 0
-IsEntryOfLine s n e = (e.session ≡ s) × (e.statement ≡ n) × (is_release e.act ≡ false)
 
 -- The first lines were run, and behind their entries stand those of the line that comes next, which
 -- isn't finished.
@@ -45,7 +38,7 @@ pub record InLine (lines : List Line) (k : ℕ) (l : Line) (h : Steps) : Type 0 
   pub front : List Entry
   pub mine : List Entry
   pub tape : h.tape.items ≡ front ++ mine
-  pub before : statements_on front ≡ numbered [] (take k lines)
+  pub before : HasLines lines k front
   pub own : AllByRecursion (IsEntryOfLine l.session (count_in lines k l.session + 1)) mine
   pub finished : (runner_at l.session h.runners.items).finished ≡ count_in lines k l.session
   pub others : (s : ℕ) → 1 ≤ s → s ≤ 8 → (s == l.session) ≡ false

@@ -10,7 +10,7 @@ use Rattle.ctr_top.specs.Top.{RanScript, RunCauses, RunLeaves, ReportLeaves, Mak
 use Rattle.ctr_top.proofs.CompleteLemmas.{complete_of, work_is}
 use Rattle.ctr_top.proofs.EndLemmas.{prints, prints_any, minds_none, work_back}
 use Rattle.ctr_top.proofs.NothingDone.{ran_refused, causes_refused, leaves_nothing, makes_refused, reports_refused}
-use Rattle.ctr_top.proofs.SerialLemmas.{serial_front}
+use Rattle.ctr_serial.proofs.Lists.{serial_front}
 use Rattle.ctr_top.proofs.WordLemmas.{memory_only}
 use Rattle.ctr_top.proofs.run.run_serial.Goals as goal
 

@@ -1,5 +1,5 @@
 use Rattle.ctr_model.specs.Tape.{statements_on, IsSerial}
-use Rattle.ctr_top.proofs.SerialLemmas.{serial_front}
+use Rattle.ctr_serial.proofs.Lists.{serial_front}
 use Rattle.ctr_top.proofs.SerialTurns.{ran_none as ran_no_line, over_at_end}
 use Rattle.std.proofs.Common.{ap}
 use Rattle.std.proofs.Common.{◌∙◌, ⊎_elim, sym, subst}

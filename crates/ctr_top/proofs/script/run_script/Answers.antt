@@ -1,5 +1,5 @@
 use Rattle.ctr_model.specs.Tape.{statements_on, IsSerial}
-use Rattle.ctr_top.proofs.SerialLemmas.{serial_front}
+use Rattle.ctr_serial.proofs.Lists.{serial_front}
 use Rattle.std.proofs.Common.{◌≡◌, ◌≢◌, ◌∙◌, inl, inr, [], refl, sym, subst, ap, arith}
 use Rattle.ctr_disk.specs.Device.{OnlyReads}
 use Rattle.ctr_top.specs.declared.ending.Ending.TheVariants as ending

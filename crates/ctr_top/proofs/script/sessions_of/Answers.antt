@@ -1,6 +1,6 @@
 use Rattle.std.proofs.Common.{◌∙◌, ◌<◌, List, length, get_or, ap, subst}
 use Rattle.ctr_types.specs.declared.statement.Line.{Line}
-use Rattle.ctr_top.proofs.SerialTurns.{session_next}
+use Rattle.ctr_serial.proofs.Walking.{session_next}
 use Rattle.ctr_top.proofs.script.sessions_of.Goals as goal
 
 pub loop-line-preserved : goal.loop-line-preserved

@@ -7,8 +7,8 @@ use Rattle.std.proofs.lemmas.Option.{get_or_from_slice_get, slice_get_within}
 use Rattle.std.proofs.lemmas.Bool.{eqb-true, eq-eqb}
 use Rattle.ctr_types.specs.declared.statement.Line.{Line}
 use Rattle.ctr_types.specs.declared.tape.Entry.{Entry}
-use Rattle.ctr_top.specs.Serial.{IsEntryOfLine}
 use Rattle.ctr_model.specs.Tape.{statements_of, numbered, with_statement, statements_on, is_release, IsSerial}
+use Rattle.ctr_serial.specs.Lines.{IsEntryOfLine}
 
 -- ---- a session's statements in some lines
 

@@ -1,0 +1,206 @@
+-- What a run leaves, by what its World left, in the words of the disk and the script that it was given.
+use Rattle.std.proofs.Common.{◌≡◌, ◌≢◌, ◌∙◌, inl, inr, ⊎_elim, ℕ, ◌≤◌, List, [], ◌++◌, length, Option, Some, None, refl, sym, ap, subst, arith}
+use Rattle.std.specs.Prelude.{IsTrue, ◌^◌, ◌-◌}
+use Rattle.std.specs.List.{AllByRecursion}
+use Rattle.ctr_types.specs.declared.statement.Line.{Line}
+use Rattle.ctr_types.specs.declared.tape.Entry.{Entry}
+use Rattle.ctr_disk.specs.Crash.{Within}
+use Rattle.ctr_disk.specs.Image.{Image}
+use Rattle.ctr_disk.specs.declared.disk.Disk.{Ghosts}
+use Rattle.ctr_disk.specs.declared.fault.Stop.{Stop}
+use Rattle.ctr_disk.specs.declared.fault.Stop.TheVariants as stop
+use Rattle.ctr_log.specs.declared.opening.OpenError.{OpenError}
+use Rattle.ctr_log.specs.declared.opening.OpenError.TheVariants as open_error
+use Rattle.ctr_model.specs.declared.tape.Point.{Point}
+use Rattle.ctr_model.specs.Tape.{Legal, at_start, final, progress_of, statements_on, IsSerial, IsWhole}
+use Rattle.ctr_model.specs.Texts.{answers}
+use Rattle.ctr_redo.specs.States.{State}
+use Rattle.ctr_record_effects.specs.Standing.{StandsForDatabase}
+use Rattle.ctr_kept.specs.Turns.{start_point}
+use Rattle.ctr_stops.specs.Fronts.{rows_of_state}
+use Rattle.ctr_stops.specs.World.{starting}
+use Rattle.ctr_stops.specs.Stops.{HasFirstCommits, LeavesPrefixAt, LeftSince}
+use Rattle.ctr_home.specs.Blocks.{value_of}
+use Rattle.ctr_home.specs.declared.block.Block.TheVariants.{Root as RootBlock}
+use Rattle.ctr_home.specs.declared.root.Root.{Root}
+use Rattle.ctr_base.proofs.RootLaws.{one_root}
+use Rattle.ctr_store.specs.Opening.{IsUndamaged, worn_in}
+use Rattle.ctr_serial.proofs.Lists.{serial_front}
+use Rattle.ctr_page_world.specs.declared.opening.Opening.{Ghosts as Opening}
+use Rattle.ctr_page_world.specs.ctr_exec.Order.{StandInOrder}
+use Rattle.ctr_page_world.specs.Held.{Held}
+use Rattle.ctr_page_world.specs.Opened.{IsOpenedOn, IsRunLine}
+use Rattle.ctr_page_world.specs.World.{IsLegalTape, IsTapeOf, LeavesPrefix, StopsBy, IsUndamaged as GoesUndamaged}
+use Rattle.ctr_page_world.specs.Ended.{Ends, EndsInOrder, IsUnbegunWorld, PassesOpening, RefusesWith, RefusesWorld}
+use Rattle.ctr_run.specs.declared.ran.Ran.{Ran}
+use Rattle.ctr_run.specs.declared.ran.RunEnd.{RunEnd}
+use Rattle.ctr_run.specs.declared.ran.RunEnd.TheVariants.{Finished, Unopened, Stopped}
+use Rattle.ctr_run.specs.Lines.{IsAtRest, RanOrStopped}
+use Rattle.ctr_run.specs.Running.{EndsAsAsked, EndsFor, RunsInOrder, RunsOver, StopsFor, TellsNoDamage, end_by, opened_on}
+use Rattle.ctr_run.proofs.Order.{only_recovery_ends, order_behind, recovery_adds_none}
+
+-- where a run begins over a database in a state
+abbrev point : ℕ → List Line → State → Point
+point n ls s = start_point (starting ls n s)
+
+not_stopped : (s : Option Stop) → end_by s ≡ Finished → s ≡ None
+not_stopped None is = refl
+not_stopped (Some s) is = absurd (cc is)
+
+no_damage : (s : Option Stop) → GoesUndamaged s → TellsNoDamage (end_by s)
+no_damage None is = tt
+no_damage (Some s) is = is
+
+module _ {D B : Type 0} (o : Opening B) (first : Image) (g : Ghosts D) (old : D) (lines : List Line) (named : IsOpenedOn o first g old lines) (before : Within o.before (g.images old)) where
+  -- what is said of the lines and the moment of the World's type holds of those that it was given
+  move : (P : ℕ → List Line → Type 0) → P o.start o.lines → P (g.moment_of old) lines
+  move P p = subst (λ n. P n lines) named.start (subst (λ (ls : List Line). P o.start ls) named.lines_are p)
+
+  tape_moved : (now : ℕ) (es : List Entry) → IsTapeOf o now es → IsTapeOf (opened_on g old lines) now es
+  tape_moved now es tape = record {
+    order = move (λ n ls. StandInOrder ls (at_start n [] []) es) tape.order;
+    later = move (λ n ls. (final ls (at_start n [] []) es).moment ≤ now) tape.later;
+  }
+
+  pub left_moved : (s : State) (disk : D) (es : List Entry) → LeavesPrefix o g s disk es → LeavesPrefix (opened_on g old lines) g s disk es
+  left_moved s disk es leaves =
+      let moved = move (λ n ls. LeftSince g n disk (LeavesPrefixAt o.before (rows_of_state s) (final ls (point n ls s) es).state.asked es)) leaves in
+      λ t c from le left. ⊎_elim (λ it. inl it) (λ was. inr (before c was.0, was.1)) (moved t c from le left)
+
+  module _ (r : Ran D) (stopped : Option Stop) (end : r.end ≡ end_by stopped) where
+    fine : r.end ≡ Finished → stopped ≡ None
+    fine is = not_stopped stopped (sym end ∙ is)
+
+    -- over a database
+    pub runs_over : (s : State) → Ends o g s r.tape.entries stopped r.undone r.disk → RunsOver g old s lines r
+    runs_over s ends =
+        let es : List Entry = r.tape.entries in
+        record {
+          legal = record {
+            legal = move (λ n ls. Legal ls (point n ls s) es) ends.legal.legal;
+            later = move (λ n ls. (final ls (point n ls s) es).moment ≤ g.moment_of r.disk) ends.legal.later;
+          };
+          survives = left_moved s r.disk es ends.survives;
+          undamaged = subst TellsNoDamage (sym end) (no_damage stopped ends.undamaged);
+          undone_most = ends.undone_most;
+          complete = λ is. record {
+            whole = move (λ n ls. IsWhole ls (final ls (point n ls s) es)) (ends.whole (fine is));
+            no_stuck = move (λ n ls. (final ls (point n ls s) es).state.stuck ≡ []) (ends.no_stuck (fine is));
+            undone = ends.undone_all (fine is);
+            durable = move (λ n ls. (c : Image) → g.since r.disk (g.moment_of r.disk) c → HasFirstCommits (rows_of_state s) (final ls (point n ls s) es).state.asked (answers es) c) (ends.durable (fine is));
+          };
+        }
+
+    -- whatever the disk tells
+    pub runs_in_order : EndsInOrder o g r.tape.entries stopped r.disk → o.start ≤ g.moment_of r.disk → o.faults ≤ g.faults_of r.disk → RunsInOrder g old lines r
+    runs_in_order ends later faults = record {
+      tape = tape_moved (g.moment_of r.disk) r.tape.entries ends.tape;
+      whole = λ is. move (λ n ls. IsWhole ls (final ls (at_start n [] []) r.tape.entries)) (ends.whole (fine is));
+      later = subst (λ n. n ≤ g.moment_of r.disk) named.start later;
+      faults = subst (λ n. n ≤ g.faults_of r.disk) named.faults faults;
+    }
+
+    stops_for : (s : Stop) → stopped ≡ Some s → (IsTrue g.tells → (st : State) → StandsForDatabase first st → GoesUndamaged stopped) → ((lsn : ℕ) → stopped ≡ Some (stop.Worn lsn) → 2 ^ 63 - 1 ≤ lsn) → StopsFor g old s
+    stops_for stop.Fault is undamaged worn = tt
+    stops_for (stop.Damaged d) is undamaged worn = λ told st stands. subst GoesUndamaged is (undamaged told st (subst (λ (i : Image). StandsForDatabase i st) (sym named.image) stands))
+    stops_for (stop.Worn lsn) is undamaged worn = worn lsn is
+
+    pub ends_for : StopsBy stopped o.faults (g.faults_of r.disk) → (IsTrue g.tells → PassesOpening first) → (IsTrue g.tells → (st : State) → StandsForDatabase first st → GoesUndamaged stopped)
+        → ((lsn : ℕ) → stopped ≡ Some (stop.Worn lsn) → 2 ^ 63 - 1 ≤ lsn) → EndsFor g old r.disk r.end
+    ends_for stops passes undamaged worn = subst (EndsFor g old r.disk) (sym end) (by stopped refl (subst (λ n. StopsBy stopped n (g.faults_of r.disk)) named.faults stops))
+      where
+        passes_old : IsTrue g.tells → PassesOpening (g.reads old)
+        passes_old told = subst PassesOpening named.image (passes told)
+
+        by : (s : Option Stop) → stopped ≡ s → StopsBy stopped (g.faults_of old) (g.faults_of r.disk) → EndsFor g old r.disk (end_by s)
+        by None is stops = (subst (λ (q : Option Stop). StopsBy q (g.faults_of old) (g.faults_of r.disk)) is stops, passes_old)
+        by (Some s) is stops = (subst (λ (q : Option Stop). StopsBy q (g.faults_of old) (g.faults_of r.disk)) is stops, passes_old, stops_for s is undamaged worn)
+
+-- ---- nothing was run
+
+module _ {D : Type 0} (g : Ghosts D) (old : D) (lines : List Line) (r : Ran D) (error : OpenError) (end : r.end ≡ Unopened error) (tape : r.tape.entries ≡ []) (undone : r.undone ≡ 0) where
+  not_finished : r.end ≢ Finished
+  not_finished is = absurd (cc (sym end ∙ is))
+
+  pub none_over : (s : State) → g.moment_of old ≤ g.moment_of r.disk → LeavesPrefix (opened_on g old lines) g s r.disk [] → IsUndamaged error → RunsOver g old s lines r
+  none_over s later leaves undamaged = record {
+    legal = subst (IsLegalTape (opened_on g old lines) s (g.moment_of r.disk)) (sym tape) (record { legal = tt; later = later });
+    survives = subst (LeavesPrefix (opened_on g old lines) g s r.disk) (sym tape) leaves;
+    undamaged = subst TellsNoDamage (sym end) undamaged;
+    undone_most = let none = undone in omega (arith, none);
+    complete = λ is. absurd (not_finished is);
+  }
+
+  pub none_in_order : g.moment_of old ≤ g.moment_of r.disk → g.faults_of old ≤ g.faults_of r.disk → RunsInOrder g old lines r
+  none_in_order later faults = record {
+    tape = subst (IsTapeOf (opened_on g old lines) (g.moment_of r.disk)) (sym tape) (record { order = tt; later = later });
+    whole = λ is. absurd (not_finished is);
+    later = later;
+    faults = faults;
+  }
+
+  pub none_for : RefusesWith g old error r.disk → (IsTrue g.tells → RefusesWorld (g.reads old) error) → EndsFor g old r.disk r.end
+  none_for with_ refuses = subst (EndsFor g old r.disk) (sym end) (with_, refuses)
+
+at_once : (n : ℕ) → n ≤ n
+at_once n = omega arith
+
+-- the disk wasn't touched: memory was refused before
+module _ {D : Type 0} (g : Ghosts D) (earlier : (d : D) (s t : ℕ) (c : Image) → s ≤ t → g.since d t c → g.since d s c) (only_now : (d : D) (c : Image) → g.since d (g.moment_of d) c → g.images d c)
+    (old : D) (lines : List Line) (r : Ran D) (end : r.end ≡ Unopened open_error.OutOfMemory) (tape : r.tape.entries ≡ []) (undone : r.undone ≡ 0) (disk : r.disk ≡ old) where
+  later_same : g.moment_of old ≤ g.moment_of r.disk
+  later_same = subst (λ d. g.moment_of old ≤ g.moment_of d) (sym disk) (at_once (g.moment_of old))
+
+  faults_same : g.faults_of old ≤ g.faults_of r.disk
+  faults_same = subst (λ d. g.faults_of old ≤ g.faults_of d) (sym disk) (at_once (g.faults_of old))
+
+  pub untouched_over : (s : State) → RunsOver g old s lines r
+  untouched_over s = none_over g old lines r open_error.OutOfMemory end tape undone s later_same
+      (subst (λ d. LeavesPrefix (opened_on g old lines) g s d []) (sym disk) (λ t c from le left. inr (only_now old c (earlier old (g.moment_of old) t c from left), tt))) tt
+
+  pub untouched_in_order : RunsInOrder g old lines r
+  untouched_in_order = none_in_order g old lines r open_error.OutOfMemory end tape undone later_same faults_same
+
+  pub untouched_for : EndsFor g old r.disk r.end
+  untouched_for = none_for g old lines r open_error.OutOfMemory end tape undone
+      (record { later = later_same; faults_later = faults_same; fault = λ is. absurd (cc is); no_fault = λ isnt. ap (λ d. g.faults_of d) disk }) (λ told. tt)
+
+-- ---- where nothing fails
+
+worn_not : (image : Image) (n : ℕ) → RefusesWorld image (open_error.Worn n) → PassesOpening image → ⊥
+worn_not image n refuses passes =
+    let same = one_root (value_of RootBlock image) refuses.0 passes.root refuses.1.0 passes.stands.0 in
+    cc (sym (subst (λ (r : Root). worn_in r image ≡ Some n) same refuses.4) ∙ passes.fresh)
+
+pub as_asked : {D : Type 0} (g : Ghosts D) (old new : D) (s : State) (e : RunEnd) → IsTrue g.tells → StandsForDatabase (g.reads old) s → TellsNoDamage e → EndsFor g old new e → EndsAsAsked g old new e
+as_asked g old new s Finished told stands undamaged ends = tt
+as_asked g old new s (Unopened open_error.NoDatabase) told stands undamaged ends = undamaged
+as_asked g old new s (Unopened (open_error.Damaged d)) told stands undamaged ends = undamaged
+as_asked g old new s (Unopened (open_error.Worn n)) told stands undamaged ends = λ passes. worn_not (g.reads old) n (ends.1 told) passes
+as_asked g old new s (Unopened open_error.Fault) told stands undamaged ends = ends.0.fault refl
+as_asked g old new s (Unopened open_error.OutOfMemory) told stands undamaged ends = tt
+as_asked g old new s (Stopped stop.Fault) told stands undamaged ends = ends.0
+as_asked g old new s (Stopped (stop.Damaged d)) told stands undamaged ends = undamaged
+as_asked g old new s (Stopped (stop.Worn lsn)) told stands undamaged ends = ends.2
+
+-- ---- the serial order
+
+-- no line was run yet
+pub begins_serial : {D : Type 0} (start : ℕ) (lines : List Line) (w : Held D) → w.running.sessions.script.lines ≡ lines → IsUnbegunWorld lines w → RanOrStopped start lines 0 w
+begins_serial start lines w script un = inl (
+  un.going,
+  record {
+    tape = ap statements_on un.tape;
+    each = λ s one. ap (λ es. progress_of (final w.running.sessions.script.lines (at_start start [] []) es) s) un.tape;
+  },
+)
+
+-- all lines were run, and then recovery alone went on
+pub serial_end : (lines : List Line) → AllByRecursion IsRunLine lines → (start : ℕ) {D : Type 0} (w : Held D) → w.running.sessions.script.lines ≡ lines → RanOrStopped start lines (length lines) w
+    → (es more : List Entry) → es ≡ w.running.sessions.tape.items ++ more → (w.stop ≢ None → es ≡ w.running.sessions.tape.items) → StandInOrder lines (at_start start [] []) es → IsSerial lines es
+serial_end lines runs start w script (inl (going, ran)) es more is stays order =
+    let h = w.running.sessions in
+    let behind = order_behind lines (at_start start [] []) h.tape.items more (subst (StandInOrder lines (at_start start [] [])) is order) in
+    let all = only_recovery_ends lines runs (final lines (at_start start [] []) h.tape.items) (λ s one. subst (λ (ls : List Line). IsAtRest lines (length lines) (final ls (at_start start [] []) h.tape.items) s) script (ran.each s one)) more behind in
+    serial_front lines (length lines) es (ap statements_on is ∙ recovery_adds_none h.tape.items more all ∙ ran.tape)
+serial_end lines runs start w script (inr stopped) es more is stays order = subst (IsSerial lines) (sym (stays stopped.0)) stopped.1

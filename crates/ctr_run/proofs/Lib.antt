@@ -1,0 +1,4 @@
+mod Order
+mod Turning
+mod Between
+mod Ends

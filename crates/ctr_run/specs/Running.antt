@@ -1,0 +1,105 @@
+-- What a run promises: what a crash leaves, the tape, and the cause of each end.
+use Rattle.std.specs.Prelude.{◌≡◌, ◌≤◌, ◌^◌, ◌-◌, IsTrue, List, [], Option, Some, None}
+use Rattle.ctr_types.specs.Faults.{CountsFault}
+use Rattle.ctr_types.specs.declared.statement.Line.{Line}
+use Rattle.ctr_disk.specs.declared.disk.Disk.{Ghosts}
+use Rattle.ctr_disk.specs.declared.fault.Stop.{Stop}
+use Rattle.ctr_disk.specs.declared.fault.Stop.TheVariants as stop
+use Rattle.ctr_disk.specs.Image.{Image}
+use Rattle.ctr_log.specs.declared.opening.OpenError.TheVariants as open_error
+use Rattle.ctr_model.specs.Tape.{final, at_start, IsWhole}
+use Rattle.ctr_model.specs.Texts.{answers}
+use Rattle.ctr_area.specs.Images.{undo_size}
+use Rattle.ctr_redo.specs.States.{State}
+use Rattle.ctr_stops.specs.Stops.{HasFirstCommits}
+use Rattle.ctr_store.specs.Opening.{IsUndamaged}
+use Rattle.ctr_page_world.specs.declared.opening.Opening.{Ghosts as Opening}
+use Rattle.ctr_page_world.specs.World.{start_in, led_to, IsLegalTape, IsTapeOf, LeavesPrefix, StopsBy, IsUndamaged as GoesUndamaged}
+use Rattle.ctr_page_world.specs.Ended.{PassesOpening, RefusesWith, RefusesWorld, StandsForNone}
+use Rattle.ctr_run.specs.declared.ran.Ran.{Ran}
+use Rattle.ctr_run.specs.declared.ran.RunEnd.{RunEnd}
+use Rattle.ctr_run.specs.declared.ran.RunEnd.TheVariants.{Finished, Unopened, Stopped}
+
+-- the end of a run whose World has, by why it stopped
+abbrev pub end_by : Option Stop → RunEnd
+end_by None = Finished
+end_by (Some s) = Stopped s
+
+-- the disk as a run finds it, and its script
+abbrev pub opened_on : {D : Type 0} → Ghosts D → D → List Line → Opening D
+opened_on g disk lines = record {
+  before = g.images disk;
+  start = g.moment_of disk;
+  faults = g.faults_of disk;
+  lines = lines;
+}
+
+-- ---- over a database in a state
+
+-- Every statement is finished, recovery holds no name, undo took a turn for each item and open
+-- transaction of the start, and a crash at the end leaves every commit.
+pub record IsComplete {D : Type 0} (g : Ghosts D) (old : D) (s : State) (lines : List Line) (r : Ran D)
+    : Type 0 where
+  pub whole : IsWhole lines (led_to (opened_on g old lines) s r.tape.entries)
+  pub no_stuck : (led_to (opened_on g old lines) s r.tape.entries).state.stuck ≡ []
+  pub undone : r.undone ≡ undo_size s.tables
+  pub durable : (c : Image) → g.since r.disk (g.moment_of r.disk) c
+      → HasFirstCommits (start_in (opened_on g old lines) s).base
+      (led_to (opened_on g old lines) s r.tape.entries).state.asked (answers r.tape.entries) c
+
+-- the end tells no damage
+abbrev pub TellsNoDamage : RunEnd → Type 0
+TellsNoDamage Finished = Unit {0}
+TellsNoDamage (Unopened e) = IsUndamaged e
+TellsNoDamage (Stopped s) = GoesUndamaged (Some s)
+
+-- The tape is legal, and its moments lie in the run. However it ends, a crash at each moment leaves a
+-- prefix of the commit order with every commit answered by then. No damage is told, and undo took no
+-- more turns than there was. What is finished is complete.
+pub record RunsOver {D : Type 0} (g : Ghosts D) (old : D) (s : State) (lines : List Line) (r : Ran D)
+    : Type 0 where
+  pub legal : IsLegalTape (opened_on g old lines) s (g.moment_of r.disk) r.tape.entries
+  pub survives : LeavesPrefix (opened_on g old lines) g s r.disk r.tape.entries
+  pub undamaged : TellsNoDamage r.end
+  pub undone_most : r.undone ≤ undo_size s.tables
+  pub complete : r.end ≡ Finished → IsComplete g old s lines r
+
+-- ---- whatever the disk tells
+
+-- The tape stands in the order of the script, and its moments lie in the run; where the run is
+-- finished, the tape is whole.
+pub record RunsInOrder {D : Type 0} (g : Ghosts D) (old : D) (lines : List Line) (r : Ran D) : Type 0
+  where
+    pub tape : IsTapeOf (opened_on g old lines) (g.moment_of r.disk) r.tape.entries
+    pub whole : r.end ≡ Finished
+        → IsWhole lines (final lines (at_start (g.moment_of old) [] []) r.tape.entries)
+    pub later : g.moment_of old ≤ g.moment_of r.disk
+    pub faults : g.faults_of old ≤ g.faults_of r.disk
+
+-- what each stop says of the disk
+abbrev pub StopsFor : {D : Type 0} → Ghosts D → D → Stop → Type 0
+StopsFor g old stop.Fault = Unit {0}
+StopsFor g old (stop.Damaged d) = IsTrue g.tells → StandsForNone (g.reads old)
+StopsFor g old (stop.Worn lsn) = 2 ^ 63 - 1 ≤ lsn
+
+-- What each end says of the disk: that it was opened, why it wasn't, or why the World was stopped. A
+-- fault is told where the disk counts one more, and nowhere else.
+abbrev pub EndsFor : {D : Type 0} → Ghosts D → D → D → RunEnd → Type 0
+EndsFor g old new Finished = (g.faults_of new ≡ g.faults_of old)
+    × (IsTrue g.tells → PassesOpening (g.reads old))
+EndsFor g old new (Unopened e) = RefusesWith g old e new × (IsTrue g.tells → RefusesWorld (g.reads old) e)
+EndsFor g old new (Stopped s) = StopsBy (Some s) (g.faults_of old) (g.faults_of new)
+    × (IsTrue g.tells → PassesOpening (g.reads old)) × StopsFor g old s
+
+-- Over a database a run is finished, unless the disk counts a fault, memory was refused before it was
+-- opened, a number of the start is worn, or its records came to the last number.
+abbrev pub EndsAsAsked : {D : Type 0} → Ghosts D → D → D → RunEnd → Type 0
+EndsAsAsked g old new Finished = Unit {0}
+EndsAsAsked g old new (Unopened open_error.NoDatabase) = ⊥
+EndsAsAsked g old new (Unopened (open_error.Damaged d)) = ⊥
+EndsAsAsked g old new (Unopened (open_error.Worn n)) = PassesOpening (g.reads old) → ⊥
+EndsAsAsked g old new (Unopened open_error.Fault) = CountsFault (g.faults_of old) (g.faults_of new)
+EndsAsAsked g old new (Unopened open_error.OutOfMemory) = Unit {0}
+EndsAsAsked g old new (Stopped stop.Fault) = CountsFault (g.faults_of old) (g.faults_of new)
+EndsAsAsked g old new (Stopped (stop.Damaged d)) = ⊥
+EndsAsAsked g old new (Stopped (stop.Worn lsn)) = 2 ^ 63 - 1 ≤ lsn

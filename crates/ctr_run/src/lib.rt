@@ -1,0 +1,10 @@
+//! Runs a script over the database of a disk: its lines in order, or the turns of a list of actors.
+#![tactic(auto)]
+
+mod lines;
+mod ran;
+mod running;
+
+pub use lines::Schedule;
+pub use ran::{Ran, RunEnd};
+pub use running::run;

@@ -1,0 +1,61 @@
+// What a run leaves, and how it ended.
+ghost use Rattle.std.specs.Prelude.{◌≡◌, []};
+ghost use Rattle.ctr_run.specs.declared.ran.RunEnd.TheVariants.{Unopened};
+ghost use Rattle.ctr_run.specs.Running.{end_by};
+
+use ctr_disk::Stop;
+use ctr_log::OpenError;
+use ctr_types::{List, Tape};
+use std::alloc::Global;
+
+/// How a run ended.
+#[derive(Clone, Copy, Debug, PartialEq, Eq)]
+pub enum RunEnd {
+    /// All statements were run, nothing is left of undo, and all is durable.
+    Finished,
+    /// The database wasn't opened, or memory was refused for what a run begins with.
+    Unopened(OpenError),
+    /// The World was stopped.
+    Stopped(Stop),
+}
+
+/// What a run leaves.
+#[derive(Drop)]
+pub struct Ran<D> {
+    pub end: RunEnd,
+    /// Every act with its reply.
+    pub tape: Tape,
+    /// How many turns recovery's undo took.
+    pub undone: usize,
+    /// The disk that it ran on.
+    pub disk: D,
+}
+
+impl<D> Ran<D> {
+    /// Nothing was run.
+    pub(crate) fn none(alloc: Global, error: OpenError, disk: D) -> Ran<D>
+        ensures end { result.end ≡ Unopened error }
+        ensures tape { result.tape.entries ≡ [] }
+        ensures undone { result.undone ≡ 0 }
+        ensures disk { result.disk ≡ disk }
+    {
+        Ran {
+            end: RunEnd::Unopened(error),
+            tape: Tape {
+                entries: List::new(alloc),
+            },
+            undone: 0,
+            disk,
+        }
+    }
+}
+
+/// How a run ended whose World has, by why it stopped.
+pub(crate) fn ended(stop: Option<Stop>) -> RunEnd
+    ensures { result ≡ end_by stop }
+{
+    match stop {
+        None => RunEnd::Finished,
+        Some(stop) => RunEnd::Stopped(stop),
+    }
+}

@@ -1,0 +1,91 @@
+// Runs a script over the database of a disk.
+ghost use Rattle.std.specs.Prelude.{◌≡◌, ◌≤◌, map, IsTrue, IfOk};
+ghost use Rattle.ctr_disk.specs.Crash.{Within};
+ghost use Rattle.ctr_model.specs.Tape.{IsSerial};
+ghost use Rattle.ctr_redo.specs.States.{State};
+ghost use Rattle.ctr_record_effects.specs.Standing.{StandsForDatabase};
+ghost use Rattle.ctr_page_world.specs.Opened.{IsOpenedOn, CanRun};
+ghost use Rattle.ctr_run.specs.declared.lines.Schedule.TheVariants.{Serial};
+ghost use Rattle.ctr_run.specs.Running.{EndsAsAsked, EndsFor, RunsInOrder, RunsOver};
+
+use crate::lines::{Schedule, run_turns};
+use crate::ran::{Ran, ended};
+use ctr_base::Origin;
+use ctr_disk::Disk;
+use ctr_log::OpenError;
+use ctr_page_world::{Opening, World};
+use ctr_types::{OutOfMemory, Script};
+use std::alloc::Global;
+use std::marker::Brand;
+
+// The sessions of a script's lines, in order.
+fn sessions_of(alloc: Global, script: &Script) -> Result<Vec<u8>, OutOfMemory>
+    ensures { IfOk result (λ sessions. sessions.items ≡ map (λ l. l.session) script.now.lines) }
+{
+    let mut sessions = Vec::new(alloc);
+    for line in script.lines.as_slice() {
+        sessions.push(line.session)?;
+    }
+    Ok(sessions)
+}
+
+// Over the disk and the script that a type names.
+fn run_opened<D: Disk, B: Origin + Opening>(
+    alloc: Global,
+    disk: D,
+    frames: usize,
+    script: Script,
+    schedule: Schedule<'_>,
+) -> Ran<D>
+    requires named { IsOpenedOn B.Opening B.first D.Disk disk script.lines }
+    requires before { Within B.before (D.images disk) }
+    requires frames { (8 ≤ frames) × (frames ≤ 4096) }
+    requires runs { CanRun script.lines }
+    ensures ran { (s : State) → IsTrue D.tells → StandsForDatabase (D.reads disk) s → RunsOver D.Disk disk s script.lines result }
+    ensures order { RunsInOrder D.Disk disk script.lines result }
+    ensures serial { schedule.entry ≡ Serial → IsSerial script.lines result.tape.entries }
+    ensures ends { EndsFor D.Disk disk result.disk result.end }
+{
+    let Ok(sessions) = sessions_of(alloc, &script) else {
+        return Ran::none(alloc, OpenError::OutOfMemory, disk);
+    };
+    let mut world = match World::<D, B>::open(alloc, disk, frames, script) {
+        Ok(world) => world,
+        Err((error, disk)) => return Ran::none(alloc, error, disk),
+    };
+    run_turns(alloc, &mut world, schedule, sessions.as_slice());
+    world.stands_in_order();
+    let finished = world.finish(alloc);
+    Ran {
+        end: ended(finished.stop),
+        tape: finished.tape,
+        undone: finished.undone,
+        disk: finished.disk,
+    }
+}
+
+/// Runs a script over the database of a disk, with so many frames for its pages, 8 to 4,096, and makes all durable. It goes on until all statements are
+/// finished and nothing is left of recovery's undo, or the World stops. Memory is refused only before the first entry, or by replies.
+pub fn run<D: Disk>(
+    alloc: Global,
+    disk: D,
+    frames: usize,
+    script: Script,
+    schedule: Schedule<'_>,
+) -> Ran<D>
+    requires frames { (8 ≤ frames) × (frames ≤ 4096) }
+    requires runs { CanRun script.lines }
+    // Over a database the tape is legal, and a crash at any moment from the call's start to its end leaves the rows of a prefix of the commit order with
+    // every commit answered by then; what is finished is complete.
+    ensures ran { (s : State) → IsTrue D.tells → StandsForDatabase (D.reads disk) s → RunsOver D.Disk disk s script.lines result }
+    // Whatever the disk tells, the tape stands in the order of the script.
+    ensures order { RunsInOrder D.Disk disk script.lines result }
+    // In the serial order the statements stand on the tape in the order of the script's lines, each one's entries together.
+    ensures serial { schedule.entry ≡ Serial → IsSerial script.lines result.tape.entries }
+    // Each end has its cause.
+    ensures ends { EndsFor D.Disk disk result.disk result.end }
+    // Where nothing fails, what is opened is finished, or comes to the last number of a record.
+    ensures complete { (s : State) → IsTrue D.tells → StandsForDatabase (D.reads disk) s → EndsAsAsked D.Disk disk result.disk result.end }
+{
+    run_opened::<D, Brand>(alloc, disk, frames, script, schedule)
+}
