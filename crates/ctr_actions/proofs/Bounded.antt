@@ -6,7 +6,7 @@ use Rattle.ctr_area.specs.Areas.{Title, Firsts, no_pages}
 use Rattle.ctr_area.specs.Changes.{with_title, with_firsts, with_bucket, room_by}
 use Rattle.ctr_area.specs.Images.{is_live}
 use Rattle.ctr_page.specs.declared.header.Header.{Header}
-use Rattle.ctr_records.specs.declared.record.SlogItem.TheVariants.{CreateOf, DropOf}
+use Rattle.ctr_rec.specs.declared.record.SlogItem.TheVariants.{CreateOf, DropOf}
 use Rattle.ctr_record_laws.proofs.Bounds.{room_few}
 use Rattle.ctr_record_laws.proofs.Links.{bucket_inside}
 use Rattle.ctr_record_laws.proofs.Unlinks.{older_inside, above_zero}

@@ -8,8 +8,8 @@ use Rattle.ctr_meta.specs.Items.{is_wanted, is_item_by, left_out}
 use Rattle.ctr_meta.specs.declared.items.Wanted.{Wanted}
 use Rattle.ctr_meta.specs.declared.items.Wanted.TheVariants.{Allocation, OfPage}
 use Rattle.ctr_page.specs.declared.header.Header.{Header}
-use Rattle.ctr_records.specs.declared.record.SlogItem.{SlogItem}
-use Rattle.ctr_records.specs.declared.record.SlogItem.TheVariants.{AllocOf}
+use Rattle.ctr_rec.specs.declared.record.SlogItem.{SlogItem}
+use Rattle.ctr_rec.specs.declared.record.SlogItem.TheVariants.{AllocOf}
 use Rattle.ctr_record_laws.proofs.Begin.{xids_append}
 use Rattle.ctr_record_laws.proofs.Format.{allocation_is}
 use Rattle.ctr_record_laws.proofs.Members.{among_rest}

@@ -8,8 +8,8 @@ use Rattle.ctr_meta.specs.Items.{is_wanted, is_item_by, left_out}
 use Rattle.ctr_meta.specs.declared.items.Wanted.{Wanted}
 use Rattle.ctr_meta.specs.declared.items.Wanted.TheVariants.{Allocation, OfPage, Creation, Dropping}
 use Rattle.ctr_record_laws.proofs.Members.{among_rest}
-use Rattle.ctr_records.specs.declared.record.SlogItem.{SlogItem}
-use Rattle.ctr_records.specs.declared.record.SlogItem.TheVariants.{AllocOf, FreeOf, CreateOf, DropOf}
+use Rattle.ctr_rec.specs.declared.record.SlogItem.{SlogItem}
+use Rattle.ctr_rec.specs.declared.record.SlogItem.TheVariants.{AllocOf, FreeOf, CreateOf, DropOf}
 use Rattle.ctr_record_laws.proofs.Items.{taken_out, any_there}
 use Rattle.ctr_record_laws.proofs.Undone.{filter_among}
 use Rattle.ctr_record_laws.specs.Owed.{IsLastItem}

@@ -21,10 +21,10 @@ use Rattle.ctr_record_laws.proofs.Owned.{in_all, slot_inside}
 use Rattle.ctr_record_laws.proofs.Xids.{same_in, looked_up, raised, more_same}
 use Rattle.ctr_record_laws.specs.Bounds.{IsInBounds}
 use Rattle.ctr_record_laws.specs.Owed.{RowMove, OwedByRow, loses_head, Reverting, OwedByRevert, OwedByCommit, OwedByAbort, OwedByForget}
-use Rattle.ctr_records.specs.Damage.{expect, wrong}
-use Rattle.ctr_records.specs.declared.decoding.BadRecord.{BadRecord}
-use Rattle.ctr_records.specs.declared.record.SlogItem.{SlogItem}
-use Rattle.ctr_records.specs.declared.record.SlogItem.TheVariants.{AllocOf, FreeOf, CreateOf, DropOf}
+use Rattle.ctr_rec.specs.Damage.{expect, wrong}
+use Rattle.ctr_rec.specs.declared.decoding.BadRecord.{BadRecord}
+use Rattle.ctr_rec.specs.declared.record.SlogItem.{SlogItem}
+use Rattle.ctr_rec.specs.declared.record.SlogItem.TheVariants.{AllocOf, FreeOf, CreateOf, DropOf}
 use Rattle.ctr_versions.proofs.Keys.{known}
 use Rattle.ctr_actions.specs.Sites.{Site, IsSoundSite}
 

@@ -11,8 +11,8 @@ use Rattle.ctr_meta.specs.Effects.{one_head_more, one_head_less}
 use Rattle.ctr_meta.specs.Items.{is_wanted, is_item_by, is_schema_by, left_out}
 use Rattle.ctr_meta.specs.declared.items.Wanted.{Wanted}
 use Rattle.ctr_meta.specs.declared.items.Wanted.TheVariants.{Allocation, OfPage, Creation, Dropping}
-use Rattle.ctr_records.specs.declared.record.SlogItem.{SlogItem}
-use Rattle.ctr_records.specs.declared.record.SlogItem.TheVariants.{AllocOf, FreeOf, CreateOf, DropOf}
+use Rattle.ctr_rec.specs.declared.record.SlogItem.{SlogItem}
+use Rattle.ctr_rec.specs.declared.record.SlogItem.TheVariants.{AllocOf, FreeOf, CreateOf, DropOf}
 use Rattle.ctr_record_laws.proofs.Format.{item_page, allocation_is}
 use Rattle.ctr_record_laws.proofs.Items.{the_one, count_with, pages_with}
 use Rattle.ctr_record_laws.proofs.Members.{among_front, among_rest, among_parts, count_append, count_among, bit}

@@ -14,8 +14,8 @@ use Rattle.ctr_meta.specs.Items.{is_wanted, left_out}
 use Rattle.ctr_meta.specs.declared.items.Wanted.{Wanted}
 use Rattle.ctr_record_laws.specs.Bounds.{IsInBounds}
 use Rattle.ctr_page.specs.declared.rows.Place.{Place}
-use Rattle.ctr_records.specs.declared.record.SlogItem.{SlogItem}
-use Rattle.ctr_records.specs.declared.record.SlogItem.TheVariants.{AllocOf, FreeOf, CreateOf, DropOf}
+use Rattle.ctr_rec.specs.declared.record.SlogItem.{SlogItem}
+use Rattle.ctr_rec.specs.declared.record.SlogItem.TheVariants.{AllocOf, FreeOf, CreateOf, DropOf}
 use Rattle.ctr_record_laws.proofs.Away.{place_on_chains}
 use Rattle.ctr_record_laws.proofs.Format.{item_page, item_alone}
 use Rattle.ctr_record_laws.proofs.Owning.{flat_among}

@@ -1,6 +1,6 @@
 -- What a session counts on from one of its turns to the next, whoever acts between.
 use Rattle.std.specs.Prelude.{◌≡◌, ◌≢◌, ℕ, ℤ, true, List}
-use Rattle.ctr_records.specs.declared.record.SlogItem.TheVariants.{AllocOf}
+use Rattle.ctr_rec.specs.declared.record.SlogItem.TheVariants.{AllocOf}
 use Rattle.ctr_meta.specs.Tables.{is_in}
 use Rattle.ctr_page.specs.declared.header.Header.{Header}
 use Rattle.ctr_page.specs.declared.rows.Place.{Place}

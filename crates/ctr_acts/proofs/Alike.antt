@@ -17,8 +17,8 @@ use Rattle.ctr_versions.specs.Engine.{SessionHeld}
 use Rattle.ctr_versions.proofs.Keys.{some_is}
 use Rattle.ctr_versions.proofs.Xids.{live_none}
 use Rattle.ctr_rows.specs.Running.{engine_of}
-use Rattle.ctr_locks.specs.Held.{busy_in}
-use Rattle.ctr_locks.specs.Shows.{LocksAnswerTheModel}
+use Rattle.ctr_table_locks.specs.Held.{busy_in}
+use Rattle.ctr_table_locks.specs.Shows.{LocksAnswerTheModel}
 use Rattle.ctr_sessions.specs.Answers.{made_seen, refusals_seen}
 use Rattle.ctr_sessions.specs.Laws.{RefusalsAreTheModels, SaysLocks}
 use Rattle.ctr_acts.specs.Acts.{ActsHeld, ShowsActs}

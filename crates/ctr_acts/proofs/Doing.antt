@@ -32,7 +32,7 @@ use Rattle.ctr_versions.specs.Laws.{me_of, sees_found, with_own, IsOpenWriter, S
 use Rattle.ctr_versions.proofs.Keys.{some_is}
 use Rattle.ctr_chains.specs.Stored.{RoomsStay, no_row, no_name}
 use Rattle.ctr_rows.specs.Running.{HeldEngine, engine_of}
-use Rattle.ctr_locks.specs.Shows.{OtherChangesShow}
+use Rattle.ctr_table_locks.specs.Shows.{OtherChangesShow}
 use Rattle.ctr_legal.specs.Kept.{IsKept}
 use Rattle.ctr_legal.specs.Ready.{MayWrite, MayWriteIn, HasKey}
 use Rattle.ctr_sessions.specs.Answers.{Seat, made_seen, columns_seen, row_seen, write_refused, row_left}

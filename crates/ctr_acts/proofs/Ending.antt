@@ -14,7 +14,7 @@ use Rattle.ctr_versions.specs.Steps.{engine_asked, engine_ended, engine_answered
 use Rattle.ctr_versions.specs.Laws.{me_of, me_found, IsOpenWriter}
 use Rattle.ctr_versions.proofs.Keys.{some_is}
 use Rattle.ctr_rows.specs.Running.{engine_of}
-use Rattle.ctr_locks.specs.Shows.{ShowsLocks, ReleaseShows, OtherChangesShow}
+use Rattle.ctr_table_locks.specs.Shows.{ShowsLocks, ReleaseShows, OtherChangesShow}
 use Rattle.ctr_sessions.specs.Sessions.{IsIn}
 use Rattle.ctr_sessions.specs.Steps.{AskShows, AnswerShows, EndShows, RollbackShows}
 use Rattle.ctr_sessions.specs.Laws.{ChangedTablesAreAlone}

@@ -22,8 +22,8 @@ use Rattle.ctr_versions.specs.Engine.{SessionHeld, EngineHeld, ShowsState}
 use Rattle.ctr_versions.specs.Laws.{IsGranted}
 use Rattle.ctr_versions.proofs.Keys.{some_is}
 use Rattle.ctr_rows.specs.Running.{HeldEngine, engine_of}
-use Rattle.ctr_locks.specs.declared.locks.Held.{Held}
-use Rattle.ctr_locks.specs.Shows.{LocksStay, GrantShows, LocksAnswerTheModel, held_found}
+use Rattle.ctr_table_locks.specs.declared.locks.Held.{Held}
+use Rattle.ctr_table_locks.specs.Shows.{LocksStay, GrantShows, LocksAnswerTheModel, held_found}
 use Rattle.ctr_legal.specs.Kept.{IsKept}
 use Rattle.ctr_legal.specs.Ready.{IsUnasked, IsReady}
 use Rattle.ctr_legal.proofs.Keep.{grants, key_free}

@@ -14,7 +14,7 @@ use Rattle.ctr_versions.specs.Versions.{Made, names_at}
 use Rattle.ctr_versions.specs.Engine.{SessionHeld}
 use Rattle.ctr_versions.specs.Laws.{sees_found, sees_of}
 use Rattle.ctr_rows.specs.Running.{HeldEngine, engine_of}
-use Rattle.ctr_locks.specs.Held.{TableHeld}
+use Rattle.ctr_table_locks.specs.Held.{TableHeld}
 use Rattle.ctr_sessions.specs.Answers.{made_seen, refusals_seen, values_refused, keys_refused}
 use Rattle.ctr_acts.specs.Acts.{ActsHeld}
 use Rattle.ctr_acts.specs.Seats.{busy_at, seat_at, IsAtWork, IsHeldBy, causes_at}

@@ -25,9 +25,9 @@ use Rattle.ctr_versions.specs.Laws.{sees_found}
 use Rattle.ctr_versions.specs.Engine.{SessionHeld}
 use Rattle.ctr_versions.proofs.Reading.{row_read}
 use Rattle.ctr_rows.specs.Running.{HeldEngine, engine_of}
-use Rattle.ctr_locks.specs.declared.locks.Held.{Held}
-use Rattle.ctr_locks.specs.Held.{TableHeld, busy_in}
-use Rattle.ctr_locks.specs.Shows.{IsSame, LocksStay, GrantShows, LocksAnswerTheModel, held_found}
+use Rattle.ctr_table_locks.specs.declared.locks.Held.{Held}
+use Rattle.ctr_table_locks.specs.Held.{TableHeld, busy_in}
+use Rattle.ctr_table_locks.specs.Shows.{IsSame, LocksStay, GrantShows, LocksAnswerTheModel, held_found}
 use Rattle.ctr_legal.specs.Kept.{IsKept}
 use Rattle.ctr_legal.specs.Ready.{IsUnasked}
 use Rattle.ctr_legal.proofs.Keep.{grants}

@@ -15,7 +15,7 @@ use Rattle.ctr_versions.specs.Versions.{names_at}
 use Rattle.ctr_versions.specs.Steps.{engine_begun}
 use Rattle.ctr_versions.proofs.Keys.{some_is}
 use Rattle.ctr_rows.specs.Running.{engine_of}
-use Rattle.ctr_locks.specs.Shows.{ShowsLocks, EnterShows, ReleaseShows, TransactionsShow}
+use Rattle.ctr_table_locks.specs.Shows.{ShowsLocks, EnterShows, ReleaseShows, TransactionsShow}
 use Rattle.ctr_sessions.specs.Sessions.{ShowsBegun}
 use Rattle.ctr_sessions.specs.Steps.{BeginShows, RoomShows}
 use Rattle.ctr_acts.specs.Acts.{ActsHeld, begun_of, ShowsActs, Starts, ActsStay}

@@ -14,8 +14,8 @@ use Rattle.ctr_model.specs.Tape.{IsInTurn, Allowed}
 use Rattle.ctr_versions.specs.Xids.{aborted}
 use Rattle.ctr_versions.specs.Laws.{me_of}
 use Rattle.ctr_rows.specs.Running.{HeldEngine, engine_of}
-use Rattle.ctr_locks.specs.Held.{TableHeld}
-use Rattle.ctr_locks.specs.Shows.{ShowsLocks}
+use Rattle.ctr_table_locks.specs.Held.{TableHeld}
+use Rattle.ctr_table_locks.specs.Shows.{ShowsLocks}
 use Rattle.ctr_legal.specs.Kept.{IsKept}
 use Rattle.ctr_legal.specs.Ready.{IsReady}
 use Rattle.ctr_sessions.specs.Sessions.{Begun, ShowsBegun}

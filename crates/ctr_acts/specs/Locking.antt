@@ -17,7 +17,7 @@ use Rattle.ctr_versions.specs.Versions.{names_at}
 use Rattle.ctr_versions.specs.Engine.{SessionHeld}
 use Rattle.ctr_versions.specs.Laws.{RoomKeeps}
 use Rattle.ctr_rows.specs.Running.{HeldEngine, engine_of}
-use Rattle.ctr_locks.specs.Held.{TableHeld, busy_in, locked_in, IsEntered, HasKeyRoomOf, HasTableRoomOf}
+use Rattle.ctr_table_locks.specs.Held.{TableHeld, busy_in, locked_in, IsEntered, HasKeyRoomOf, HasTableRoomOf}
 use Rattle.ctr_sessions.specs.Steps.{LockLeaves}
 use Rattle.ctr_acts.specs.Acts.{ActsHeld, ShowsActs}
 use Rattle.ctr_acts.specs.Seats.{RefusesAlike}

@@ -20,8 +20,8 @@ use Rattle.ctr_versions.specs.Versions.{Made, Versions, names_at, slots_of, rows
 use Rattle.ctr_versions.specs.Engine.{SessionHeld}
 use Rattle.ctr_versions.specs.Laws.{sees_of}
 use Rattle.ctr_rows.specs.Running.{HeldEngine, engine_of}
-use Rattle.ctr_locks.specs.Held.{TableHeld, busy_in, locked_in}
-use Rattle.ctr_locks.specs.Shows.{ShowsLocks, LocksStay}
+use Rattle.ctr_table_locks.specs.Held.{TableHeld, busy_in, locked_in}
+use Rattle.ctr_table_locks.specs.Shows.{ShowsLocks, LocksStay}
 use Rattle.ctr_legal.specs.Kept.{IsKept}
 use Rattle.ctr_sessions.specs.Answers.{Seat, made_seen, refusals_seen}
 use Rattle.ctr_acts.specs.Acts.{ActsHeld, begun_of, ShowsActs}

@@ -9,7 +9,7 @@ ghost use Rattle.ctr_rows.specs.Running.{IsAtRest, engine_of};
 ghost use Rattle.ctr_model.specs.Database.{Database};
 ghost use Rattle.ctr_model.specs.State.{at_rest};
 ghost use Rattle.ctr_acts.specs.Acts.{ShowsActs, ActKeeps, IsNotFull, Starts, ActsStay, Leaves, RollsBack, IsMarked, Asks};
-ghost use Rattle.ctr_locks.specs.Held.{IsEntered};
+ghost use Rattle.ctr_table_locks.specs.Held.{IsEntered};
 ghost use Rattle.ctr_acts.specs.Seats.{RefusesAlike, Reads, ReadsNot};
 ghost use Rattle.ctr_acts.specs.Writing.{CanWrite, OthersCan, OthersCanWrite};
 
@@ -17,7 +17,6 @@ use crate::causes::causes;
 use crate::prepared::Prepared;
 use crate::reading::rows_under;
 use crate::writing::done;
-use ctr_locks::{Locks, locks_are_the_models};
 use ctr_model::Map;
 use ctr_rows::Engine;
 use ctr_sessions::{
@@ -25,6 +24,7 @@ use ctr_sessions::{
     rows_are_the_views, views_stay, writes_show,
 };
 use ctr_statement::table_of;
+use ctr_table_locks::{Locks, locks_are_the_models};
 use ctr_types::{Act, KeyIs, List, Name, OutOfMemory, Refusal, Reply, Row, Rows, Statement};
 use std::alloc::Global;
 use std::marker::Model;

@@ -15,10 +15,10 @@ ghost use Rattle.ctr_acts.specs.Seats.{busy_at, seat_at, IsAtWork, IsHeldBy, cau
 ghost use Rattle.ctr_acts.specs.Acts.{ActsHeld};
 
 use ctr_chains::Made;
-use ctr_locks::Locks;
 use ctr_model::Key;
 use ctr_rows::Engine;
 use ctr_statement::{bad_value, changes_schema, creates, key_locked, table_of};
+use ctr_table_locks::Locks;
 use ctr_types::{Act, Name, Refusal, Statement};
 
 fn has_name(name: &Name, names: &[Name]) -> bool

@@ -5,8 +5,8 @@ ghost use Rattle.ctr_types.specs.declared.tape.Act.TheVariants as act;
 ghost use Rattle.ctr_types.specs.declared.tape.Reply.TheVariants as reply;
 ghost use Rattle.ctr_types.specs.declared.tape.Refusal.TheVariants as refusal;
 ghost use Rattle.ctr_model.specs.Reply.{with_lock};
-ghost use Rattle.ctr_locks.specs.Held.{IsEntered, SameEntered};
-ghost use Rattle.ctr_locks.specs.Shows.{LocksStay, GrantShows, held_found};
+ghost use Rattle.ctr_table_locks.specs.Held.{IsEntered, SameEntered};
+ghost use Rattle.ctr_table_locks.specs.Shows.{LocksStay, GrantShows, held_found};
 ghost use Rattle.ctr_acts.specs.Acts.{ActKeeps};
 ghost use Rattle.ctr_chains.specs.Stored.{HasNameRoom};
 ghost use Rattle.ctr_rows.specs.Running.{engine_of};
@@ -17,11 +17,11 @@ ghost use Rattle.ctr_acts.specs.Locking.{taken_by, taken_reply, MayTake, HasLock
 use crate::acts::Acts;
 use crate::prepared::{Prepared, prepare};
 use ctr_chains::Made;
-use ctr_locks::{Held, Locks, locks_are_the_models};
 use ctr_model::Key;
 use ctr_rows::Engine;
 use ctr_sessions::{locks_and_reads_show, views_stay, writes_show};
 use ctr_statement::{key_written, table_of};
+use ctr_table_locks::{Held, Locks, locks_are_the_models};
 use ctr_types::{Act, Name, OutOfMemory, Plain, Refusal, Statement};
 use std::alloc::Global;
 

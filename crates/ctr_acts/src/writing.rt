@@ -9,10 +9,10 @@ ghost use Rattle.ctr_acts.specs.Acts.{IsNotFull};
 ghost use Rattle.ctr_acts.specs.Writing.{CanWrite, WriteKeeps, WriteLeavesOthers};
 
 use crate::prepared::Prepared;
-use ctr_locks::locks_are_the_models;
 use ctr_rows::Engine;
 use ctr_sessions::{locks_keep_others_off, writes_are_the_models, writes_show};
 use ctr_statement::{key_written, table_of};
+use ctr_table_locks::locks_are_the_models;
 use ctr_types::{Name, Refusal, Reply, Row, Schema, Statement};
 
 // The row of the statement's key becomes this one, or goes.

@@ -3,7 +3,7 @@ ghost use Rattle.std.specs.Prelude.{◌≡◌, ◌<◌, ◌/◌, ◌%◌, ℕ, t
 ghost use Rattle.ctr_area.specs.Reading.{area_of};
 ghost use Rattle.ctr_area.specs.Changes.{with_taken as area_with_taken, IsBitSet, with_byte_of};
 
-use ctr_records::PageNo;
+use ctr_rec::PageNo;
 
 /// The bits of a byte, in which one is 1.
 fn with_one(byte: u8, k: u32) -> u8

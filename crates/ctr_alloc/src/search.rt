@@ -5,7 +5,7 @@ ghost use Rattle.ctr_base.specs.declared.growing.TheConstants.{MOST_PAGES};
 ghost use Rattle.ctr_alloc.specs.Free.{marks_in, AreFullBelow, AreTakenBelow, IsFree, IsNextFree, taken_in};
 
 use ctr_base::MOST_PAGES;
-use ctr_records::PageNo;
+use ctr_rec::PageNo;
 
 /// Where a page can be had.
 #[derive(Clone, Copy, Debug, PartialEq, Eq)]

@@ -8,8 +8,8 @@ use Rattle.std.proofs.Math.Nat.{zero-div}
 use Rattle.std.proofs.lemmas.Bool.{false≢true}
 use Rattle.std.proofs.lemmas.List.{get_or-take, get_or-drop}
 use Rattle.ctr_versions.proofs.Keys.{known}
-use Rattle.ctr_page.specs.ctr_records.declared.record.SlogItem.{SlogItem}
-use Rattle.ctr_page.specs.ctr_records.declared.record.SlogItem.TheVariants.{CreateOf}
+use Rattle.ctr_page.specs.ctr_rec.declared.record.SlogItem.{SlogItem}
+use Rattle.ctr_page.specs.ctr_rec.declared.record.SlogItem.TheVariants.{CreateOf}
 use Rattle.ctr_versions.specs.ctr_model.Database.{name_cmp}
 use Rattle.ctr_bytes.proofs.FieldLaws.{got_byte}
 use Rattle.ctr_meta.specs.Tables.{no_tables}

@@ -1,7 +1,7 @@
 -- A slot or a version entry, as it is made, over its place.
 use Rattle.std.proofs.Common.{◌≡◌, ℕ, List, cond, sym, ◌∙◌, ap, arith}
 use Rattle.std.proofs.lemmas.Bool.{eq-eqb}
-use Rattle.ctr_page.proofs.ctr_records.Laws.{begins_whole}
+use Rattle.ctr_page.proofs.ctr_rec.Laws.{begins_whole}
 use Rattle.ctr_page.specs.declared.rows.Place.{Place}
 use Rattle.ctr_page.specs.declared.rows.RowSlot.{RowSlot}
 use Rattle.ctr_page.specs.declared.rows.VersionEntry.{VersionEntry}

@@ -3,7 +3,7 @@ use Rattle.std.proofs.Common.{◌≡◌, ℕ, zero, suc, ◌+◌, ◌-◌, ◌�
 use Rattle.std.specs.Prelude.{◌==◌, nat_lt, ⊤}
 use Rattle.std.specs.List.{AllByRecursion}
 use Rattle.ctr_versions.proofs.Keys.{known}
-use Rattle.ctr_page.specs.ctr_records.declared.decoding.BadRecord.{BadRecord}
+use Rattle.ctr_page.specs.ctr_rec.declared.decoding.BadRecord.{BadRecord}
 use Rattle.ctr_page.specs.declared.header.Header.{Header}
 use Rattle.ctr_page.specs.declared.checks.Chain.{Chain}
 use Rattle.ctr_page.specs.declared.walk.BadChain.{BadChain}

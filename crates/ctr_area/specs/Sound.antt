@@ -2,8 +2,8 @@
 -- as little as it needs.
 use Rattle.std.specs.Prelude.{◌≡◌, ◌⊎◌, ℕ, ◌+◌, ◌==◌, ◌<◌, ◌≤◌, ℤ, Bool, true, false, ◌&&◌, ◌||◌, not, List, [], ◌∷◌, ◌++◌, drop, length, map, Option, None, Some, if◌then◌else◌}
 use Rattle.std.specs.List.{AllByRecursion, flat_map, filter}
-use Rattle.ctr_page.specs.ctr_records.declared.record.SlogItem.{SlogItem}
-use Rattle.ctr_page.specs.ctr_records.declared.record.SlogItem.TheVariants.{AllocOf, FreeOf, CreateOf, DropOf}
+use Rattle.ctr_page.specs.ctr_rec.declared.record.SlogItem.{SlogItem}
+use Rattle.ctr_page.specs.ctr_rec.declared.record.SlogItem.TheVariants.{AllocOf, FreeOf, CreateOf, DropOf}
 use Rattle.ctr_meta.specs.Tables.{Tables}
 use Rattle.ctr_meta.specs.Items.{is_item_by}
 use Rattle.ctr_page.specs.declared.header.Header.{Header}

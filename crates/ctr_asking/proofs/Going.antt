@@ -6,7 +6,7 @@ use Rattle.ctr_types.specs.declared.tape.Refusal.{Refusal}
 use Rattle.ctr_snap.specs.Seeing.{SnapshotTaken}
 use Rattle.ctr_disk.specs.declared.fault.StoreFault.{StoreFault}
 use Rattle.ctr_model.specs.Refusals.{first_of}
-use Rattle.ctr_records.specs.declared.decoding.BadRecord.{BadRecord}
+use Rattle.ctr_rec.specs.declared.decoding.BadRecord.{BadRecord}
 use Rattle.ctr_names.specs.Search.{IsEntryFound, IsNoneFound}
 use Rattle.ctr_actions.specs.Sites.{Site}
 use Rattle.ctr_catalog.specs.Finding.{entry_seen, EndsEntries}

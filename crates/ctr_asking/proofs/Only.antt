@@ -26,8 +26,8 @@ use Rattle.ctr_names.specs.Search.{IsEntryFound}
 use Rattle.ctr_names.proofs.Entries.{name_of, named_so}
 use Rattle.ctr_actions.specs.Sites.{Site}
 use Rattle.ctr_catalog.specs.Finding.{change_made, change_since, changed_in}
-use Rattle.ctr_key_locks.specs.Held.{held_by_session}
-use Rattle.ctr_key_locks.specs.Shows.{IsOnlyEntry, IsTheSame}
+use Rattle.ctr_locks.specs.Held.{held_by_session}
+use Rattle.ctr_locks.specs.Shows.{IsOnlyEntry, IsTheSame}
 use Rattle.ctr_views.proofs.Reading.{found_made}
 use Rattle.ctr_asking.specs.declared.asker.Asker.{Asker}
 use Rattle.ctr_asking.specs.Asking.{Asking, me_held, sees_for}

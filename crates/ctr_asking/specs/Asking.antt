@@ -9,7 +9,7 @@ use Rattle.ctr_model.specs.declared.state.Transaction.{Transaction}
 use Rattle.ctr_model.specs.State.{has_name, transaction_of}
 use Rattle.ctr_model.specs.Refusals.{creates, first_of, name_refusals}
 use Rattle.ctr_versions.specs.Engine.{IsCalm}
-use Rattle.ctr_records.specs.declared.decoding.BadRecord.{BadRecord}
+use Rattle.ctr_rec.specs.declared.decoding.BadRecord.{BadRecord}
 use Rattle.ctr_meta.specs.Seen.{xid_is_seen}
 use Rattle.ctr_area.specs.Images.{is_live}
 use Rattle.ctr_legal.specs.Kept.{IsKept}
@@ -17,8 +17,8 @@ use Rattle.ctr_names.specs.Search.{IsEntryFound, IsNoneFound}
 use Rattle.ctr_actions.specs.Sites.{Site}
 use Rattle.ctr_catalog.specs.Finding.{entry_seen, EndsEntries}
 use Rattle.ctr_paged.specs.Shown.{IsShown}
-use Rattle.ctr_key_locks.specs.Held.{LocksOfSession, session_locks}
-use Rattle.ctr_key_locks.specs.Shows.{ShowsKeyLocks}
+use Rattle.ctr_locks.specs.Held.{LocksOfSession, session_locks}
+use Rattle.ctr_locks.specs.Shows.{ShowsKeyLocks}
 use Rattle.ctr_txn.specs.Held.{TxnHeld, TxnsHeld, IsOneOfEight, txn_of, scene_with}
 use Rattle.ctr_asking.specs.declared.asker.Asker.{Asker}
 use Rattle.ctr_asking.specs.declared.asker.Answer.{Answer}

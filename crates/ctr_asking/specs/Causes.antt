@@ -13,7 +13,7 @@ use Rattle.ctr_actions.specs.Sites.{Site}
 use Rattle.ctr_catalog.specs.Finding.{changed_in}
 use Rattle.ctr_heap.specs.Finding.{FindsKey}
 use Rattle.ctr_views.specs.Viewing.{newest_in}
-use Rattle.ctr_key_locks.specs.Held.{busy_among}
+use Rattle.ctr_locks.specs.Held.{busy_among}
 use Rattle.ctr_txn.specs.Numbered.{number_asked}
 use Rattle.ctr_asking.specs.declared.asker.Asker.{Asker}
 

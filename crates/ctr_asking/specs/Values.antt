@@ -4,7 +4,7 @@ use Rattle.ctr_types.specs.declared.value.Column.{Column}
 use Rattle.ctr_types.specs.declared.statement.Statement.{Statement}
 use Rattle.ctr_bytes.specs.Fields.{field}
 use Rattle.ctr_model.specs.Refusals.{bad_value}
-use Rattle.ctr_records.specs.declared.decoding.BadRecord.{BadRecord}
+use Rattle.ctr_rec.specs.declared.decoding.BadRecord.{BadRecord}
 use Rattle.ctr_page.specs.declared.table.TheConstants.{ENTRY_SIZE}
 use Rattle.ctr_page.specs.Columns.{columns_from, entry_at}
 use Rattle.ctr_page.specs.Damage.{entry_check}

@@ -2,7 +2,7 @@
 ghost use Rattle.std.specs.Prelude.{◌≡◌};
 ghost use Rattle.ctr_asking.specs.Asking.{me_held};
 
-use ctr_key_locks::KeyLocks;
+use ctr_locks::KeyLocks;
 use ctr_txn::{Txn, Txns};
 use ctr_types::{List, Name, Refusal, Xid};
 

@@ -10,14 +10,14 @@ ghost use Rattle.ctr_model.specs.Refusals.{table_of, presence_refusals, value_re
 ghost use Rattle.ctr_area.specs.Images.{is_live};
 ghost use Rattle.ctr_names.specs.Search.{IsEntryFound, IsNoneFound};
 ghost use Rattle.ctr_actions.specs.Sites.{Site};
-ghost use Rattle.ctr_key_locks.specs.Held.{IsInOrder, locked_among};
-ghost use Rattle.ctr_key_locks.specs.Shows.{IsOnlyEntry};
+ghost use Rattle.ctr_locks.specs.Held.{IsInOrder, locked_among};
+ghost use Rattle.ctr_locks.specs.Shows.{IsOnlyEntry};
 ghost use Rattle.ctr_asking.specs.declared.asker.Asker.{Asker as WhoAsks};
 ghost use Rattle.ctr_asking.specs.Values.{bad_in};
 ghost use Rattle.ctr_asking.specs.Causes.{presence_refused, busy_at, last_change, IsNewer};
 ghost use Rattle.ctr_asking.specs.Asking.{Asking, HasPassed, FindsFor, sees_for};
 
-use ctr_key_locks::key_locks_are_the_models;
+use ctr_locks::key_locks_are_the_models;
 use ctr_views::{
     the_newest_change_of_a_name_is_told, what_changed_answers_is_in_the_model,
     what_find_answers_is_in_the_view, what_newest_answers_is_in_the_model,

@@ -11,8 +11,8 @@ use Rattle.ctr_disk.specs.Image.{OtherFilesStay}
 use Rattle.ctr_disk.proofs.Moments.{weaker}
 use Rattle.ctr_log.specs.Logs.{end_behind, IsEmptied, CountsFlush}
 use Rattle.ctr_log.specs.Kept.{kept_log, HoldsLog, WritesBehind, KeepsPrefix, GoesOnWith}
-use Rattle.ctr_records.specs.declared.record.Record.{Record}
-use Rattle.ctr_records.specs.Read.{record_in}
+use Rattle.ctr_rec.specs.declared.record.Record.{Record}
+use Rattle.ctr_rec.specs.Read.{record_in}
 use Rattle.ctr_pool.specs.Below.{HoldsStill}
 use Rattle.ctr_redo.specs.Overlaid.{overlaid}
 use Rattle.ctr_redo.specs.States.{Stored, state_of, steps, with_more, next_of}

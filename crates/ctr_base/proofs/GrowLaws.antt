@@ -12,7 +12,7 @@ use Rattle.ctr_home.specs.Blocks.{value_of}
 use Rattle.ctr_home.specs.Roots.{IsRootOf}
 use Rattle.ctr_home.specs.Writing.{OthersStay}
 use Rattle.ctr_log.specs.Kept.{kept_log}
-use Rattle.ctr_records.specs.declared.record.Record.{Record}
+use Rattle.ctr_rec.specs.declared.record.Record.{Record}
 use Rattle.ctr_redo.specs.ctr_meta.Tables.{no_tables}
 use Rattle.ctr_redo.specs.ctr_meta.Effects.{tables_of}
 use Rattle.ctr_pool.specs.Pages.{PageHeld}

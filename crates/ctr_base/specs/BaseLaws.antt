@@ -18,7 +18,7 @@ use Rattle.ctr_log.specs.Logs.{Log, Batches, HasLog, GoesOn, batches, records}
 use Rattle.ctr_log.specs.Reading.{log_file}
 use Rattle.ctr_log.specs.Kept.{kept_log, other_file, IsDropped, HoldsLog, WritesBy, WritesBehind}
 use Rattle.ctr_log.proofs.KeptLaws.{front_same}
-use Rattle.ctr_records.specs.declared.record.Record.{Record}
+use Rattle.ctr_rec.specs.declared.record.Record.{Record}
 use Rattle.ctr_pool.specs.Pages.{PageHeld}
 use Rattle.ctr_pool.specs.Below.{PutsPage, HoldsStill}
 use Rattle.ctr_redo.specs.Overlaid.{overlaid}

@@ -6,7 +6,7 @@ use crate::origin::Origin;
 use ctr_disk::{Disk, StoreFault};
 use ctr_log::Lsn;
 use ctr_pool::Backing;
-use ctr_records::PageNo;
+use ctr_rec::PageNo;
 
 impl<D: Disk, O: Origin> Backing for Base<D, O> {
     ghost use Rattle.ctr_disk.specs.declared.fault.StoreFault.TheVariants.{Fault};

@@ -9,7 +9,7 @@ use crate::reading::read_numbered;
 use ctr_disk::{Disk, StoreFault};
 use ctr_home::{Block, Root, write_home};
 use ctr_log::{LogFile, Lsn};
-use ctr_records::PageNo;
+use ctr_rec::PageNo;
 use std::marker::PhantomData;
 
 /// A disk, the writer of its log, and what its root says. The type names what a read of the disk gave when it was opened.

@@ -13,7 +13,7 @@ use crate::origin::Origin;
 use ctr_bytes::get_u64;
 use ctr_disk::{Disk, Failed, Stamp, StoreFault};
 use ctr_home::{Block, Home};
-use ctr_records::PageNo;
+use ctr_rec::PageNo;
 use ctr_types::File;
 
 /// How many bytes each home of a page has.

@@ -1,7 +1,7 @@
 -- The entries on a page of the catalog: which is sought, and what is wrong with one.
 use Rattle.std.specs.Prelude.{ℕ, ◌+◌, ◌*◌, ◌==◌, Bool, ◌&&◌, List, ⊤, Result}
 use Rattle.ctr_model.specs.State.{same_name}
-use Rattle.ctr_records.specs.declared.decoding.BadRecord.{BadRecord}
+use Rattle.ctr_rec.specs.declared.decoding.BadRecord.{BadRecord}
 use Rattle.ctr_page.specs.declared.entry.CatalogEntry.{CatalogEntry}
 use Rattle.ctr_page.specs.declared.table.TheConstants.{ENTRY_SIZE}
 use Rattle.ctr_page.specs.Columns.{table_name_in}

@@ -2,7 +2,7 @@
 use Rattle.std.specs.Prelude.{◌≡◌, ℕ, ◌+◌, ◌*◌, ◌/◌, ◌%◌, ◌<◌, Bool, false, not, ◌&&◌, List, ⊤, Option, None, Some, Result, Ok, Err, if◌then◌else◌}
 use Rattle.ctr_model.specs.State.{same_name}
 use Rattle.ctr_snap.specs.Seeing.{SnapshotTaken}
-use Rattle.ctr_records.specs.declared.decoding.BadRecord.{BadRecord}
+use Rattle.ctr_rec.specs.declared.decoding.BadRecord.{BadRecord}
 use Rattle.ctr_meta.specs.Tables.{Tables}
 use Rattle.ctr_meta.specs.Seen.{xid_is_seen, xid_is_changed}
 use Rattle.ctr_page.specs.declared.table.TheConstants.{ENTRY_SIZE}

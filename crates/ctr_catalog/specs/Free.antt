@@ -1,6 +1,6 @@
 -- A search for a free entry through the two pages of the catalog.
 use Rattle.std.specs.Prelude.{◌≡◌, ◌⊎◌, ℕ, ◌+◌, ◌==◌, Bool, List, Option, None, Some, Result, Ok, Err}
-use Rattle.ctr_records.specs.declared.decoding.BadRecord.{BadRecord}
+use Rattle.ctr_rec.specs.declared.decoding.BadRecord.{BadRecord}
 use Rattle.ctr_page.specs.Columns.{entry_at}
 use Rattle.ctr_page.specs.Searching.{EndsSearch}
 use Rattle.ctr_page.specs.declared.walk.BadChain.{BadChain}

@@ -4,7 +4,7 @@ ghost use Rattle.ctr_model.specs.declared.state.State.{State};
 ghost use Rattle.ctr_versions.specs.Chains.{changed_since};
 ghost use Rattle.ctr_versions.specs.Keys.{schema_writes};
 ghost use Rattle.ctr_versions.specs.Xids.{Xids};
-ghost use Rattle.ctr_records.specs.declared.decoding.BadRecord.{BadRecord};
+ghost use Rattle.ctr_rec.specs.declared.decoding.BadRecord.{BadRecord};
 ghost use Rattle.ctr_meta.specs.Tables.{Tables};
 ghost use Rattle.ctr_area.specs.Areas.{Area};
 ghost use Rattle.ctr_area.specs.Sound.{IsSoundArea};

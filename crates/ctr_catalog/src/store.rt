@@ -11,7 +11,7 @@ ghost use Rattle.ctr_catalog.specs.Free.{EndsFreeEntry, EndsCatalog, is_free_ent
 use crate::entries::{ENTRIES_ON_PAGE, find_free};
 use ctr_base::Origin;
 use ctr_disk::{Disk, StoreFault};
-use ctr_records::PageNo;
+use ctr_rec::PageNo;
 use ctr_store::Store;
 use ctr_walk::{SearchFault, found_on, tell};
 

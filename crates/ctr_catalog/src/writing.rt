@@ -11,7 +11,7 @@ ghost use Rattle.ctr_record_effects.specs.States.{area_in, IsWholePage};
 ghost use Rattle.ctr_actions.specs.Sites.{site_of};
 ghost use Rattle.ctr_actions.specs.Actions.{Creates, Drops, Uncreates, Undrops, site_after, undoing};
 ghost use Rattle.ctr_record_effects.specs.Changing.{create_record, drop_record, uncreate_record, undrop_record};
-ghost use Rattle.ctr_records.specs.Members.{ItemFits};
+ghost use Rattle.ctr_rec.specs.Members.{ItemFits};
 ghost use Rattle.ctr_walk.specs.Damage.{damage_told};
 ghost use Rattle.ctr_catalog.specs.Writing.{EndsMaking, MakesTable, undo_record, undo_page, HasMade};
 
@@ -22,11 +22,11 @@ use ctr_base::Origin;
 use ctr_bytes::put_u64;
 use ctr_disk::{Disk, StoreFault};
 use ctr_page::make_entry;
+use ctr_rec::{Record, SlogItem};
 use ctr_record_effects::{
     a_drop_changes_its_title, a_new_table_has_its_entry, an_uncreate_changes_its_title,
     an_undrop_changes_its_title, over_entry, over_page,
 };
-use ctr_records::{Record, SlogItem};
 use ctr_store::Store;
 use ctr_types::{Name, Schema, Xid};
 use ctr_walk::{a_record_behind_a_page, catalog_page, log_on_page};

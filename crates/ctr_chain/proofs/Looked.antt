@@ -2,8 +2,8 @@
 use Rattle.std.proofs.Common.{◌≡◌, ℕ, ◌<◌, ◌≤◌, List, Result, Ok, Err, ap, subst}
 use Rattle.std.specs.Prelude.{⊤}
 use Rattle.ctr_bytes.specs.Following.{◌>>=◌}
-use Rattle.ctr_records.specs.declared.decoding.BadRecord.{BadRecord}
-use Rattle.ctr_records.proofs.Reading.{bind_ok}
+use Rattle.ctr_rec.specs.declared.decoding.BadRecord.{BadRecord}
+use Rattle.ctr_rec.proofs.Reading.{bind_ok}
 use Rattle.ctr_page.specs.declared.checks.Chain.TheVariants.{Versions}
 use Rattle.ctr_page.specs.declared.rows.Place.{Place}
 use Rattle.ctr_page.specs.Damage.{header_check}

@@ -6,7 +6,7 @@ use Rattle.std.proofs.lemmas.Bool.{eq-eqb}
 use Rattle.ctr_types.specs.declared.value.Column.{Column}
 use Rattle.ctr_types.specs.declared.value.Kind.{Kind}
 use Rattle.ctr_bytes.specs.Following.{◌>>=◌}
-use Rattle.ctr_records.specs.declared.decoding.BadRecord.{BadRecord}
+use Rattle.ctr_rec.specs.declared.decoding.BadRecord.{BadRecord}
 use Rattle.ctr_page.specs.declared.walk.BadChain.{BadChain}
 use Rattle.ctr_page.specs.declared.rows.Place.{Place}
 use Rattle.ctr_page.specs.declared.rows.Version.{Version}

@@ -2,7 +2,7 @@
 -- one is.
 use Rattle.std.specs.Prelude.{◌≡◌, ℕ, ◌==◌, List, Option, None, Some, ⊤, Result, Ok, Err, if◌then◌else◌}
 use Rattle.ctr_bytes.specs.Following.{◌>>=◌}
-use Rattle.ctr_records.specs.declared.decoding.BadRecord.{BadRecord}
+use Rattle.ctr_rec.specs.declared.decoding.BadRecord.{BadRecord}
 use Rattle.ctr_page.specs.declared.rows.Place.{Place}
 use Rattle.ctr_page.specs.declared.rows.Version.{Version}
 use Rattle.ctr_page.specs.declared.rows.RowSlot.{RowSlot}

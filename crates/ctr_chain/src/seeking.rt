@@ -20,7 +20,7 @@ use ctr_disk::Disk;
 use ctr_meta::{Meta, is_seen};
 use ctr_page::{BadChain, PageKind, Place, kept_size, kinds_width, room_for};
 use ctr_pvs::table_on;
-use ctr_records::PageNo;
+use ctr_rec::PageNo;
 use ctr_snap::Snapshot;
 use ctr_store::Store;
 use ctr_types::{Fate, Xid};

@@ -26,8 +26,8 @@ use Rattle.ctr_versions.specs.Xids.{Xids, number_of, place_from}
 use Rattle.ctr_actions.specs.Sites.{Site, site_of}
 use Rattle.ctr_paged.specs.Paged.{Run, xids_of}
 use Rattle.ctr_store.specs.Store.{View}
-use Rattle.ctr_key_locks.specs.Held.{LocksOfSession, FreesAll, OfSession, locks_key}
-use Rattle.ctr_key_locks.specs.Shows.{ShowsKeyLocks, ReleaseLeavesLocks}
+use Rattle.ctr_locks.specs.Held.{LocksOfSession, FreesAll, OfSession, locks_key}
+use Rattle.ctr_locks.specs.Shows.{ShowsKeyLocks, ReleaseLeavesLocks}
 use Rattle.ctr_kept.proofs.Walking.{keeps_reached}
 use Rattle.ctr_kept.specs.Walk.{Mind}
 use Rattle.ctr_kept.specs.Turns.{Start, InTransaction, KeepsRun, MayCome, Telling, entry_of, point_now, state_now, telling}

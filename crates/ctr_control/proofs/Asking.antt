@@ -20,8 +20,8 @@ use Rattle.ctr_actions.specs.Facts.{Fact, HasTable}
 use Rattle.ctr_actions.specs.Sites.{Site, site_of}
 use Rattle.ctr_paged.specs.Paged.{Run}
 use Rattle.ctr_store.specs.Store.{View}
-use Rattle.ctr_key_locks.specs.Held.{LocksOfSession}
-use Rattle.ctr_key_locks.specs.Shows.{ShowsKeyLocks}
+use Rattle.ctr_locks.specs.Held.{LocksOfSession}
+use Rattle.ctr_locks.specs.Shows.{ShowsKeyLocks}
 use Rattle.ctr_kept.specs.Tables.{AreTables}
 use Rattle.ctr_kept.specs.Walk.{Mind}
 use Rattle.ctr_kept.specs.Turns.{Start, InTransaction, asked_scene, carrying, state_now, telling}

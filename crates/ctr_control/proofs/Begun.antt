@@ -22,8 +22,8 @@ use Rattle.ctr_paged.specs.Moving.{begun_now, held_as}
 use Rattle.ctr_paged.specs.Paged.{Run}
 use Rattle.ctr_redo.specs.States.{State as Stored}
 use Rattle.ctr_store.specs.Store.{View}
-use Rattle.ctr_key_locks.specs.Held.{LocksOfSession, held_by_session, session_locks}
-use Rattle.ctr_key_locks.specs.Shows.{ShowsKeyLocks, IsTheSame, BeginLeavesLocks}
+use Rattle.ctr_locks.specs.Held.{LocksOfSession, held_by_session, session_locks}
+use Rattle.ctr_locks.specs.Shows.{ShowsKeyLocks, IsTheSame, BeginLeavesLocks}
 use Rattle.ctr_kept.specs.Turns.{Start, begun_mind, state_now, telling}
 use Rattle.ctr_stops.specs.World.{KeepsWorld}
 use Rattle.ctr_txn.specs.Held.{TxnHeld, TxnsHeld, IsOneOfEight, run_of, txn_of}

@@ -16,8 +16,8 @@ use Rattle.ctr_model.proofs.Sessions.{find-without-other, find-without-same}
 use Rattle.ctr_versions.proofs.Keys.{known}
 use Rattle.ctr_record_effects.specs.States.{area_in}
 use Rattle.ctr_store.specs.Store.{View}
-use Rattle.ctr_key_locks.specs.Held.{LocksOfSession, FreesAll, OfSession, locks_key}
-use Rattle.ctr_key_locks.specs.Shows.{ShowsKeyLocks, ReleaseLeavesLocks}
+use Rattle.ctr_locks.specs.Held.{LocksOfSession, FreesAll, OfSession, locks_key}
+use Rattle.ctr_locks.specs.Shows.{ShowsKeyLocks, ReleaseLeavesLocks}
 use Rattle.ctr_kept.specs.Walk.{Mind}
 use Rattle.ctr_kept.specs.Turns.{Start, gone_mind, state_now, telling}
 use Rattle.ctr_stops.specs.World.{KeepsWorld}

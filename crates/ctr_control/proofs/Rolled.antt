@@ -6,8 +6,8 @@ use Rattle.ctr_types.specs.declared.statement.Statement.TheVariants as st
 use Rattle.ctr_types.specs.declared.tape.Act.TheVariants as act
 use Rattle.ctr_types.specs.declared.tape.Refusal.TheVariants as refusal
 use Rattle.ctr_types.specs.declared.tape.Reply.TheVariants as reply
-use Rattle.ctr_records.specs.declared.record.SlogItem.{SlogItem}
-use Rattle.ctr_records.specs.declared.record.SlogItem.TheVariants.{AllocOf, FreeOf, CreateOf, DropOf}
+use Rattle.ctr_rec.specs.declared.record.SlogItem.{SlogItem}
+use Rattle.ctr_rec.specs.declared.record.SlogItem.TheVariants.{AllocOf, FreeOf, CreateOf, DropOf}
 use Rattle.ctr_model.specs.declared.state.State.{State}
 use Rattle.ctr_model.specs.declared.state.Transaction.{Transaction}
 use Rattle.ctr_model.specs.State.{has_name, transaction_of}
@@ -29,8 +29,8 @@ use Rattle.ctr_paged.proofs.Tables.{has_in}
 use Rattle.ctr_paged.specs.Moving.{held_as}
 use Rattle.ctr_paged.specs.Paged.{Run}
 use Rattle.ctr_store.specs.Store.{View}
-use Rattle.ctr_key_locks.specs.Held.{LocksOfSession}
-use Rattle.ctr_key_locks.specs.Shows.{ShowsKeyLocks}
+use Rattle.ctr_locks.specs.Held.{LocksOfSession}
+use Rattle.ctr_locks.specs.Shows.{ShowsKeyLocks}
 use Rattle.ctr_kept.proofs.Walking.{keeps_reached}
 use Rattle.ctr_kept.specs.Walk.{Mind, IsAtRollback}
 use Rattle.ctr_kept.specs.Turns.{Start, InTransaction, MayCome, point_now, state_now, undoing_mind}

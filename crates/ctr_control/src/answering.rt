@@ -12,7 +12,7 @@ ghost use Rattle.ctr_session_world.specs.World.{SessionsHeld, InWorld};
 
 use ctr_base::Origin;
 use ctr_disk::{Disk, StoreFault};
-use ctr_key_locks::{KeyLocks, key_locks_show};
+use ctr_locks::{KeyLocks, key_locks_show};
 use ctr_session_world::pages_that_are_read_keep_a_world;
 use ctr_session_world::told::a_commit_that_is_answered_is_told;
 use ctr_store::Store;

@@ -14,7 +14,7 @@ ghost use Rattle.ctr_session_world.specs.Told.{IsNextOf, IsTold, IsIdleIn};
 use crate::marks::ask_for;
 use ctr_base::Origin;
 use ctr_disk::{Disk, StoreFault};
-use ctr_key_locks::{KeyLocks, key_locks_show};
+use ctr_locks::{KeyLocks, key_locks_show};
 use ctr_session_world::told::{
     a_commit_that_is_asked_for_is_told, a_reader_that_ends_is_told, a_refusal_is_told,
 };

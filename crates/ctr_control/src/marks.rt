@@ -1,7 +1,7 @@
 // A record of a session's transaction that is on no page, as the action that it is.
 ghost use Rattle.std.specs.Prelude.{◌≡◌, OnOk, IfErr};
 ghost use Rattle.ctr_disk.specs.declared.fault.StoreFault.TheVariants.{Fault};
-ghost use Rattle.ctr_records.specs.declared.record.Record.TheVariants.{Commit};
+ghost use Rattle.ctr_rec.specs.declared.record.Record.TheVariants.{Commit};
 ghost use Rattle.ctr_record_effects.specs.Standing.{IsDatabaseState};
 ghost use Rattle.ctr_actions.specs.Actions.{Commits, Owes};
 ghost use Rattle.ctr_actions.specs.Sites.{site_of};

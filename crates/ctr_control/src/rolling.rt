@@ -16,7 +16,7 @@ ghost use Rattle.ctr_session_world.specs.Told.{IsNextOf, TellsOrGoesOn};
 
 use ctr_base::Origin;
 use ctr_disk::{Disk, StoreFault};
-use ctr_key_locks::{KeyLocks, key_locks_show};
+use ctr_locks::{KeyLocks, key_locks_show};
 use ctr_rollback::{Rolled, a_turn_of_a_rollback_is_kept, turn};
 use ctr_session_world::told::{a_reader_that_ends_is_told, a_refusal_is_told};
 use ctr_store::Store;

@@ -19,7 +19,7 @@ use Rattle.ctr_kept.specs.Turns.{Start, point_now, start_point, state_now}
 use Rattle.ctr_kept.specs.Walk.{Mind}
 use Rattle.ctr_txn.specs.Held.{TxnsHeld, IsOneOfEight}
 use Rattle.ctr_txn.specs.declared.txn.Asked.{Asked}
-use Rattle.ctr_key_locks.specs.Held.{LocksOfSession}
+use Rattle.ctr_locks.specs.Held.{LocksOfSession}
 use Rattle.ctr_control.specs.Answers.{IsAnswered, answer_by}
 use Rattle.ctr_writing.specs.ctr_session_world.Told.{IsIdleBy}
 use Rattle.ctr_writing.specs.ctr_session_world.World.{SessionsHeld, InWorld}

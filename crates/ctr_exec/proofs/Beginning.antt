@@ -7,7 +7,7 @@ use Rattle.ctr_actions.specs.Sites.{site_of}
 use Rattle.ctr_store.specs.Store.{View}
 use Rattle.ctr_kept.specs.Turns.{Start, state_now}
 use Rattle.ctr_kept.specs.Walk.{Mind, mind_at}
-use Rattle.ctr_key_locks.specs.Shows.{ShowsKeyLocks}
+use Rattle.ctr_locks.specs.Shows.{ShowsKeyLocks}
 use Rattle.ctr_stops.specs.World.{KeepsWorld}
 use Rattle.ctr_txn.specs.Held.{TxnHeld, held_from, run_of}
 use Rattle.ctr_writing.specs.ctr_session_world.World.{AreInTables, names_in}

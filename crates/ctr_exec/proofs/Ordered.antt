@@ -21,7 +21,7 @@ use Rattle.ctr_model.specs.Tape.{acts_of, advanced, at_start, final, passed, pro
 use Rattle.ctr_legal.proofs.Reached.{final_push}
 use Rattle.ctr_versions.proofs.Keys.{known}
 use Rattle.ctr_kept.specs.Turns.{release_entry}
-use Rattle.ctr_key_locks.specs.Held.{LocksOfSession}
+use Rattle.ctr_locks.specs.Held.{LocksOfSession}
 use Rattle.ctr_txn.specs.Held.{TxnsHeld, IsOneOfEight}
 use Rattle.ctr_txn.specs.declared.txn.Asked.{Asked}
 use Rattle.ctr_txn.specs.Steps.{AnswersNext}

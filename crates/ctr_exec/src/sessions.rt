@@ -19,7 +19,7 @@ use crate::runners::{Runner, Stage, runners};
 use ctr_base::Origin;
 use ctr_control::{answer_one, flush, make_room};
 use ctr_disk::{Disk, StoreFault};
-use ctr_key_locks::KeyLocks;
+use ctr_locks::KeyLocks;
 use ctr_model::{legal_states_are_sound, snapshots_stay};
 use ctr_store::Store;
 use ctr_tally::Steps;

@@ -21,8 +21,8 @@ use ctr_page_turns::{
     a_record_acts, a_record_is_refused_by_the_disk_alone, a_turn_goes_on, an_item_goes,
 };
 use ctr_passed::owed_records_are_laid_as_their_actions;
+use ctr_rec::PageNo;
 use ctr_record_laws::pages_are_in_bounds;
-use ctr_records::PageNo;
 use ctr_store::Store;
 use ctr_types::Xid;
 use ctr_undamaged::a_table_can_be_linked_to;

@@ -22,7 +22,7 @@ use ctr_heap::format;
 use ctr_page::{Chain, Header, PageKind};
 use ctr_page_turns::{a_record_acts, a_record_is_refused_by_the_disk_alone, a_turn_goes_on};
 use ctr_passed::{a_formatted_page_is_blank, pages_lie_as_their_actions};
-use ctr_records::PageNo;
+use ctr_rec::PageNo;
 use ctr_store::Store;
 use ctr_types::Xid;
 

@@ -23,7 +23,7 @@ use ctr_page_turns::{
     a_record_acts, a_record_is_refused_by_the_disk_alone, a_turn_goes_on, room_is_still_there,
 };
 use ctr_passed::pages_lie_as_their_actions;
-use ctr_records::PageNo;
+use ctr_rec::PageNo;
 use ctr_store::Store;
 use ctr_types::Xid;
 

@@ -17,7 +17,7 @@ use ctr_base::Origin;
 use ctr_disk::{Disk, StoreFault};
 use ctr_page::Chain;
 use ctr_page_turns::{a_turn_goes_on, room_is_still_there};
-use ctr_records::PageNo;
+use ctr_rec::PageNo;
 use ctr_store::Store;
 use ctr_types::Xid;
 use ctr_walk::first_page;

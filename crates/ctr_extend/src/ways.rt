@@ -1,5 +1,5 @@
 // How far a page is on its way to a chain.
-use ctr_records::PageNo;
+use ctr_rec::PageNo;
 
 /// How far a page is on its way to the front of a chain. It is what a session keeps between two turns; all else is looked up again.
 #[derive(Clone, Copy, Debug, PartialEq, Eq)]

@@ -10,11 +10,11 @@ use Rattle.ctr_model.specs.declared.database.Table.{Table}
 use Rattle.ctr_model.specs.Database.{Database, table_at, changed, after}
 use Rattle.ctr_versions.specs.Keys.{schema_change, schema_named}
 use Rattle.ctr_versions.proofs.Keys.{schema_step}
-use Rattle.ctr_rec.specs.declared.item.Item.{Item}
-use Rattle.ctr_rec.specs.declared.item.Item.TheVariants as item
+use Rattle.ctr_thin_rec.specs.declared.item.Item.{Item}
+use Rattle.ctr_thin_rec.specs.declared.item.Item.TheVariants as item
 use Rattle.ctr_value.specs.Payload.{IsRowOf}
-use Rattle.ctr_rec.specs.Items.{item_table}
-use Rattle.ctr_rec.specs.Fold.{HasTable, Stands, StandAll}
+use Rattle.ctr_thin_rec.specs.Items.{item_table}
+use Rattle.ctr_thin_rec.specs.Fold.{HasTable, Stands, StandAll}
 
 -- the table with such a schema
 there_by : (o : Option Table) (schema : Schema) → option_map (λ (t : Table). t.schema) o ≡ Some schema → (table : Table) × (o ≡ Some table) × (table.schema ≡ schema)

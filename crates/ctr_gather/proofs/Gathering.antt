@@ -15,9 +15,9 @@ use Rattle.ctr_versions.specs.Keys.{schema_change, left_by, schema_named}
 use Rattle.ctr_versions.proofs.Keys.{schema_after, schema_after_all}
 use Rattle.ctr_legal.specs.Kept.{IsSteady, IsKept}
 use Rattle.ctr_legal.proofs.Keep.{denied}
-use Rattle.ctr_rec.specs.declared.item.Item.{Item}
-use Rattle.ctr_rec.specs.Fold.{StandAll}
-use Rattle.ctr_rec.specs.Items.{item_table}
+use Rattle.ctr_thin_rec.specs.declared.item.Item.{Item}
+use Rattle.ctr_thin_rec.specs.Fold.{StandAll}
+use Rattle.ctr_thin_rec.specs.Items.{item_table}
 use Rattle.ctr_gather.specs.Gathered.{rows_asked, IsUnder, BeginGathers, LockGathers, UseGathers, WriteGathers, OthersGather, AskedRowsAre, CommitFolds}
 use Rattle.ctr_gather.proofs.Alike.{stands_alike, all_alike, stand_more}
 

@@ -6,8 +6,8 @@ use Rattle.std.proofs.lemmas.Bool.{false≢true, eq-eqb}
 use Rattle.std.proofs.lemmas.List.{get_or-set_same, get_or-set_other, length-append, length-set}
 use Rattle.ctr_bytes.specs.Fields.{spelled}
 use Rattle.ctr_bytes.proofs.FieldLaws.{length-spelled}
-use Rattle.ctr_rec.specs.declared.item.Item.{Item}
-use Rattle.ctr_rec.specs.Encode.{begun_bytes, item_bytes}
+use Rattle.ctr_thin_rec.specs.declared.item.Item.{Item}
+use Rattle.ctr_thin_rec.specs.Encode.{begun_bytes, item_bytes}
 use Rattle.ctr_gather.specs.Records.{GatheredHeld, room_kept, none_gathered, record_at, IsSession, OthersAlike}
 
 pub needs_set : (i : ℕ) (gs : List GatheredHeld) (g : GatheredHeld) → i < length gs → room_kept (slice_set gs i g) + (get_or gs i none_gathered).most ≡ room_kept gs + g.most

@@ -12,10 +12,10 @@ use Rattle.ctr_model.specs.State.{has_name, transaction_of, rows_at, view, begun
 use Rattle.ctr_model.specs.Reply.{with_lock, with_use}
 use Rattle.ctr_versions.specs.Laws.{with_own}
 use Rattle.ctr_legal.specs.Kept.{IsKept}
-use Rattle.ctr_rec.specs.declared.item.Item.{Item}
-use Rattle.ctr_rec.specs.Encode.{IsSpelled}
-use Rattle.ctr_rec.specs.Fold.{Stands, StandAll, FoldsRecord}
-use Rattle.ctr_rec.specs.Items.{AreItems, item_table}
+use Rattle.ctr_thin_rec.specs.declared.item.Item.{Item}
+use Rattle.ctr_thin_rec.specs.Encode.{IsSpelled}
+use Rattle.ctr_thin_rec.specs.Fold.{Stands, StandAll, FoldsRecord}
+use Rattle.ctr_thin_rec.specs.Items.{AreItems, item_table}
 
 -- the rows of all commits that were asked for
 abbrev pub rows_asked : State → Database

@@ -2,9 +2,9 @@
 -- that is kept for them.
 use Rattle.std.specs.Prelude.{◌≡◌, ◌==◌, ◌≤◌, ◌+◌, ◌-◌, ℕ, false, List, [], ◌∷◌, length, get_or}
 use Rattle.std.specs.List.{AllByRecursion}
-use Rattle.ctr_rec.specs.declared.item.Item.{Item}
-use Rattle.ctr_rec.specs.Encode.{begun_bytes, item_bytes}
-use Rattle.ctr_rec.specs.Items.{Fits}
+use Rattle.ctr_thin_rec.specs.declared.item.Item.{Item}
+use Rattle.ctr_thin_rec.specs.Encode.{begun_bytes, item_bytes}
+use Rattle.ctr_thin_rec.specs.Items.{Fits}
 
 -- What is gathered of a record: its bytes so far, the count of its items, and how many bytes of the
 -- log's room are kept for it: 0 where none is gathered.

@@ -1,11 +1,11 @@
 // One record of a commit, while its transaction writes.
 ghost use Rattle.std.specs.Prelude.{◌≡◌, ◌≤◌, ◌<◌, ◌+◌, ◌-◌, ◌^◌, ℕ, List, [], ◌∷◌, ◌++◌, length, OnOk, OnErr, vec_capacity};
-ghost use Rattle.ctr_rec.specs.declared.item.Item.{Item as HeldItem};
-ghost use Rattle.ctr_rec.specs.Items.{Fits};
-ghost use Rattle.ctr_rec.specs.Encode.{commit_bytes};
+ghost use Rattle.ctr_thin_rec.specs.declared.item.Item.{Item as HeldItem};
+ghost use Rattle.ctr_thin_rec.specs.Items.{Fits};
+ghost use Rattle.ctr_thin_rec.specs.Encode.{commit_bytes};
 ghost use Rattle.ctr_gather.specs.Records.{IsRecordOf, HasRoomForItem};
 
-use ctr_rec::{Item, begin, end, push_item};
+use ctr_thin_rec::{Item, begin, end, push_item};
 use ctr_types::OutOfMemory;
 use std::alloc::Global;
 use std::marker::Model;

@@ -1,12 +1,12 @@
 // The records of all sessions, and how many bytes of the log's room are kept for them.
 ghost use Rattle.std.specs.Prelude.{◌≡◌, ◌≤◌, ◌<◌, ◌+◌, ◌-◌, ◌^◌, nat_lt, ℕ, List, [], ◌∷◌, ◌++◌, length, IfSome, IfOk, OnOk, OnErr, vec_len};
-ghost use Rattle.ctr_rec.specs.declared.item.Item.{Item as HeldItem};
-ghost use Rattle.ctr_rec.specs.Items.{Fits};
-ghost use Rattle.ctr_rec.specs.Encode.{commit_bytes, item_bytes};
+ghost use Rattle.ctr_thin_rec.specs.declared.item.Item.{Item as HeldItem};
+ghost use Rattle.ctr_thin_rec.specs.Items.{Fits};
+ghost use Rattle.ctr_thin_rec.specs.Encode.{commit_bytes, item_bytes};
 ghost use Rattle.ctr_gather.specs.Records.{room_kept, IsRecordOf, HasRoomForItem, IsSession, record_at, lack_at, OthersAlike};
 
 use crate::record::Gathered;
-use ctr_rec::{Item, spelled_len};
+use ctr_thin_rec::{Item, spelled_len};
 use ctr_types::OutOfMemory;
 use std::alloc::Global;
 use std::marker::Model;

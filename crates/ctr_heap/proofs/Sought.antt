@@ -9,7 +9,7 @@ use Rattle.ctr_types.specs.declared.value.Kind.{Kind}
 use Rattle.ctr_versions.proofs.Keys.{known}
 use Rattle.ctr_bytes.specs.Fields.{field}
 use Rattle.ctr_bytes.proofs.FieldLaws.{got_byte}
-use Rattle.ctr_records.specs.Damage.{at_most}
+use Rattle.ctr_rec.specs.Damage.{at_most}
 use Rattle.ctr_page.specs.declared.rows.RowSlot.{RowSlot}
 use Rattle.ctr_page.specs.Places.{slot_size, room_for}
 use Rattle.ctr_page.specs.Reading.{piece, slot_at}

@@ -2,7 +2,7 @@
 use Rattle.std.specs.Prelude.{ℕ, ◌==◌, Bool, ◌&&◌, not, List, Option, ⊤, Result}
 use Rattle.std.specs.Ordering.{int_eq}
 use Rattle.ctr_types.specs.declared.value.Kind.{Kind}
-use Rattle.ctr_records.specs.declared.decoding.BadRecord.{BadRecord}
+use Rattle.ctr_rec.specs.declared.decoding.BadRecord.{BadRecord}
 use Rattle.ctr_page.specs.declared.rows.RowSlot.{RowSlot}
 use Rattle.ctr_page.specs.Places.{slot_size, room_for}
 use Rattle.ctr_page.specs.Reading.{slot_at}

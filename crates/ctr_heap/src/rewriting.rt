@@ -19,7 +19,7 @@ ghost use Rattle.ctr_heap.specs.Ways.{IsWay, kept_version, writing_by, IsHeadOf,
 
 use crate::ways::Way;
 use ctr_page::{Place, RowSlot, Use, Version, VersionEntry};
-use ctr_records::Bytes;
+use ctr_rec::Bytes;
 use ctr_types::Xid;
 
 /// The place that names none.

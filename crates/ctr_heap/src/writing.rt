@@ -19,11 +19,11 @@ use ctr_base::Origin;
 use ctr_bytes::put_u32;
 use ctr_disk::{Disk, StoreFault};
 use ctr_page::{Header, Place, RowSlot, make_header, make_slot, slot_size};
+use ctr_rec::{PageNo, Record};
 use ctr_record_effects::{
     a_format_clears_its_page, a_link_changes_its_chain, a_slot_is_laid, over_cleared, over_entry,
     over_place,
 };
-use ctr_records::{PageNo, Record};
 use ctr_store::Store;
 use ctr_types::Xid;
 use ctr_walk::log_on_page;

@@ -1,8 +1,8 @@
 -- Undo's list stays over each action of a session, and of the cleaner.
 use Rattle.std.proofs.Common.{cond, ap, true, ◌≡◌, inr, ℕ, true, false, cond, List, refl, sym, ap, subst}
 use Rattle.std.proofs.lemmas.Bool.{ne_eqb}
-use Rattle.ctr_records.specs.declared.record.SlogItem.{SlogItem}
-use Rattle.ctr_records.specs.declared.record.SlogItem.TheVariants.{AllocOf, FreeOf, CreateOf, DropOf}
+use Rattle.ctr_rec.specs.declared.record.SlogItem.{SlogItem}
+use Rattle.ctr_rec.specs.declared.record.SlogItem.TheVariants.{AllocOf, FreeOf, CreateOf, DropOf}
 use Rattle.ctr_versions.specs.Engine.{SessionHeld}
 use Rattle.ctr_meta.specs.Items.{is_item_by}
 use Rattle.ctr_area.specs.Sound.{IsAmong}

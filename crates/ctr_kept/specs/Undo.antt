@@ -1,8 +1,8 @@
 -- Undo's list: the items of the start that are left, and behind them the transactions that were
 -- open then.
 use Rattle.std.specs.Prelude.{◌≡◌, ℕ, ◌+◌, true, List, ◌++◌, length}
-use Rattle.ctr_records.specs.declared.record.SlogItem.{SlogItem}
-use Rattle.ctr_records.specs.declared.record.SlogItem.TheVariants.{AllocOf, FreeOf, CreateOf, DropOf}
+use Rattle.ctr_rec.specs.declared.record.SlogItem.{SlogItem}
+use Rattle.ctr_rec.specs.declared.record.SlogItem.TheVariants.{AllocOf, FreeOf, CreateOf, DropOf}
 use Rattle.ctr_versions.specs.Engine.{SessionHeld}
 use Rattle.ctr_versions.specs.Laws.{IsNoSessions}
 use Rattle.ctr_meta.specs.Tables.{Tables, is_in}

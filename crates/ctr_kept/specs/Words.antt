@@ -1,6 +1,6 @@
 -- The words of other crates in which this one says its laws.
-pub use Rattle.ctr_records.specs.declared.record.SlogItem.{SlogItem}
-pub use Rattle.ctr_records.specs.declared.record.SlogItem.TheVariants.{AllocOf, FreeOf, CreateOf, DropOf}
+pub use Rattle.ctr_rec.specs.declared.record.SlogItem.{SlogItem}
+pub use Rattle.ctr_rec.specs.declared.record.SlogItem.TheVariants.{AllocOf, FreeOf, CreateOf, DropOf}
 pub use Rattle.ctr_types.specs.declared.statement.Line.{Line}
 pub use Rattle.ctr_model.specs.State.{transaction_of, view}
 pub use Rattle.ctr_versions.specs.Laws.{IsNoSessions, with_own, IsGranted}

@@ -1,3 +1,6 @@
 pub mod Maps
-pub mod Tables
-pub mod Shows
+pub mod One
+pub mod Looks
+pub mod Sessions
+pub mod Shown
+pub mod Lowest

@@ -1,16 +1,20 @@
 -- Look-ups in a map after one key was written.
-use Rattle.std.proofs.Common.{◌≡◌, Bool, true, false, cond, T, List, [], ◌∷◌, map, Option, Some, None, Bor, refl, sym, ◌∙◌, ap, subst}
-use Rattle.std.specs.Prelude.{IsSome, is_some, unwrap_or, ◌&&◌}
+use Rattle.std.proofs.Common.{◌≡◌, ℕ, ℤ, Bool, true, false, cond, T, List, [], ◌∷◌, map, Option, Some, None, Bor, refl, sym, ◌∙◌, ap, subst}
+use Rattle.std.specs.Prelude.{IsSome, is_some, unwrap_or, ◌&&◌, ◌||◌}
 use Rattle.std.specs.Option.{option_copied}
 use Rattle.std.specs.declared.cmp.Ordering.{Ordering}
 use Rattle.std.specs.declared.cmp.Ordering.TheVariants.{Less}
 use Rattle.std.specs.List.{AllByRecursion}
 use Rattle.std.specs.List.Sorted.{IsStrictlySortedBy}
-use Rattle.std.specs.Ordering.{is_eq, is_lt}
+use Rattle.std.specs.Ordering.{nat_cmp, int_cmp, is_eq, is_lt}
+use Rattle.std.specs.Cmp.{signed_Decides, unsigned_tied}
+use Rattle.std.specs.Cmp.Lexicographic.{bytes_decides, texts_ties}
 use Rattle.std.specs.Map.{lookup}
 use Rattle.std.specs.BTreeMap.{BTreeMap, is_at, get_by, UpdatesBy, WritesThrough}
 use Rattle.std.specs.FinMap.Entries.{find, is_sorted, below_all}
-use Rattle.std.proofs.lemmas.Bool.{false≢true}
+use Rattle.std.proofs.lemmas.Bool.{false≢true, eqb-true}
+use Rattle.ctr_model.specs.Database.{name_cmp}
+use Rattle.ctr_model.proofs.Sessions.{known}
 
 pub some_is : {X : Type 0} (x y : X) → Some x ≡ Some y → x ≡ y
 some_is x y is = ap (λ o. unwrap_or o x) is
@@ -74,3 +78,38 @@ module _ {K X : Type 0} (R : K → K → Ordering) where
 pub is_copied : {X : Type 0} (o : Option (Bor X)) → is_some o ≡ is_some (option_copied o)
 is_copied None = refl
 is_copied (Some x) = refl
+
+pub int_exact : (a b : ℤ) → is_eq (int_cmp a b) ≡ true → a ≡ b
+int_exact a b one = (signed_Decides a b).0 one
+
+pub nat_exact : (a b : ℕ) → is_eq (nat_cmp a b) ≡ true → a ≡ b
+nat_exact a b one = eqb-true a b (sym (unsigned_tied a b) ∙ one)
+
+pub name_exact : (a b : List ℕ) → is_eq (name_cmp a b) ≡ true → a ≡ b
+name_exact a b one = (bytes_decides a b).0 (texts_ties a b ∙ one)
+
+-- what is found after a key has a value, where only the same key ties with it
+module _ {K X : Type 0} (R : K → K → Ordering) (exact : (a b : K) → is_eq (R a b) ≡ true → a ≡ b) (old new : List (K × X)) (key : K) (w : Option X) (is : Written R old new key w) where
+  pub at_key : (q : K) → is_eq (R key q) ≡ true → find R q new ≡ w
+  at_key q one = ap (λ k. find R k new) (sym (exact key q one)) ∙ is.here
+
+  was_key : (q : K) → is_eq (R key q) ≡ true → find R q old ≡ find R key old
+  was_key q one = ap (λ k. find R k old) (sym (exact key q one))
+
+  -- what holds of what is found, where it goes on to hold of what was written
+  pub carried : (Q : Option X → Type 0) → (Q (find R key old) → Q w) → (q : K) → Q (find R q old) → Q (find R q new)
+  carried Q on q was = known (is_eq (R key q))
+      (λ one. subst Q (sym (at_key q one)) (on (subst Q (was_key q one) was)))
+      (λ two. subst Q (sym (is.others q two)) was)
+
+  -- a value that the write leaves
+  pub left_alike : {Y : Type 0} (f : Option X → Y) → f w ≡ f (find R key old) → (q : K) → f (find R q new) ≡ f (find R q old)
+  left_alike f same q = known (is_eq (R key q))
+      (λ one. ap f (at_key q one) ∙ same ∙ ap f (sym (was_key q one)))
+      (λ two. ap f (is.others q two))
+
+  -- a test that the write makes true
+  pub made_true : (f : Option X → Bool) → f w ≡ true → (q : K) → f (find R q new) ≡ (is_eq (R key q) || f (find R q old))
+  made_true f is_true q = known (is_eq (R key q))
+      (λ one. ap f (at_key q one) ∙ is_true ∙ sym (ap (λ b. b || f (find R q old)) one))
+      (λ two. ap f (is.others q two) ∙ sym (ap (λ b. b || f (find R q old)) two))

@@ -1,12 +1,14 @@
-//! Who has which lock: of a key in a table, of a table's use, of a table's name. A lock is granted or refused at
-//! once, and nobody waits. What the locks have is, session by session, what the transactions of a state of the
-//! model have; versions and statements aren't spoken of.
+//! Who has which lock of the tables on pages: of a key in an entry of the catalog, of a table's use, of a table's
+//! name. A lock is granted or refused at once, and nobody waits. A session in no transaction has nothing; which
+//! sessions are in one isn't known here.
 #![tactic(auto)]
 
+mod entry;
+mod held;
 mod laws;
 mod locks;
 mod session;
-mod table;
 
-pub use laws::locks_are_the_models;
-pub use locks::{Held, Locks};
+pub use held::Held;
+pub use laws::{key_locks_are_the_models, key_locks_show};
+pub use locks::KeyLocks;

@@ -1,12 +1,8 @@
 // The locks of all sessions.
-ghost use Rattle.std.specs.Prelude.{◌≡◌, true, false, [], Some, None, is_some, OnOk, OnErr};
-ghost use Rattle.std.specs.FinMap.Entries.{find};
-ghost use Rattle.std.specs.Ordering.{nat_cmp};
-ghost use Rattle.ctr_model.specs.Maps.{without};
-ghost use Rattle.ctr_model.specs.Reply.{with_lock, with_use};
-ghost use Rattle.ctr_locks.specs.Held.{has_key, keeps_off, first_held, busy_in, locked_in, IsEntered, SameEntered, HasKeyRoomOf, HasTableRoomOf};
-ghost use Rattle.ctr_locks.specs.Shows.{LocksStay, EnterShows, GrantShows, ReleaseShows, held_found};
+ghost use Rattle.std.specs.Prelude.{◌≡◌, true, false, [], OnOk, OnErr};
+ghost use Rattle.ctr_locks.specs.Held.{locks_key, first_that, busy_among, locked_among, held_by_session, held_told, IsInOrder, OneHolder, IsHolder, HasRoomForKey, HasRoomForName, OfSession, SameHeld, LocksEntryKey, UsesName, HoldsName, FreesAll, IsFound};
 
+use crate::held::Held;
 use crate::session::SessionLocks;
 use ctr_model::Key;
 use ctr_types::{Name, OutOfMemory};
@@ -14,63 +10,61 @@ use std::alloc::Global;
 use std::collections::BTreeMap;
 use std::marker::Model;
 
-/// Another session has what was wanted: the lowest of them.
-#[derive(Clone, Copy, Debug, PartialEq, Eq)]
-pub struct Held {
-    pub by: u8,
-}
-
-/// By session, what each that is in a transaction has. A call costs a look-up in one session's tables and keys, or in
-/// each session's, and never a walk through them.
+/// By session, what each has. A call costs a look-up in one session's entries and keys, or in each session's, and
+/// never a walk through them.
 #[derive(Drop)]
-pub struct Locks {
+pub struct KeyLocks {
     sessions: BTreeMap<u8, SessionLocks>,
 }
 
-impl Model for Locks {
+impl Model for KeyLocks {
     ghost use Rattle.std.specs.Prelude.{List, ℕ};
     ghost use Rattle.std.specs.Ordering.{nat_cmp};
     ghost use Rattle.std.specs.BTreeMap.{IsOrdered};
-    ghost use Rattle.ctr_locks.specs.Held.{TableHeld};
+    ghost use Rattle.ctr_locks.specs.Held.{LocksOfSession, OneHolder};
 
-    ghost Value = { List (ℕ × List (List ℕ × TableHeld)) };
+    ghost Value = { List (ℕ × LocksOfSession) };
 
     ghost view = { λ a. a.sessions.entries };
 
-    ghost invariant = { λ a. IsOrdered nat_cmp a.sessions };
+    ghost invariant = { λ a. IsOrdered nat_cmp a.sessions × OneHolder a.sessions.entries };
 }
 
-impl Locks {
-    /// No session is in a transaction. It takes no memory.
-    pub fn new(alloc: Global) -> Locks
+impl KeyLocks {
+    /// No session has anything. It takes no memory.
+    pub fn new(alloc: Global) -> KeyLocks
         ensures { result ≡ [] }
     {
-        Locks {
+        KeyLocks {
             sessions: BTreeMap::new(alloc),
         }
     }
 
-    /// Whether a session is in a transaction.
-    pub fn is_entered(&self, s: u8) -> bool
-        ensures { result ≡ is_some (find nat_cmp s self.now) }
+    /// The session that has the lock of a key, of all sessions.
+    pub fn locked(&self, entry: u8, key: Key) -> Option<u8>
+        ensures first { result ≡ first_that (locks_key entry key) self.now }
+        ensures holder { IsHolder result entry key self.now }
+        ensures one { OneHolder self.now }
+        ensures ordered { IsInOrder self.now }
     {
-        self.sessions.get(&s).is_some()
+        first_with(&self.sessions, entry, key)
     }
 
-    /// A session begins a transaction, and has nothing yet.
-    pub fn enter(&mut self, alloc: Global, s: u8) -> Result<(), OutOfMemory>
-        ensures keeps { OnOk result (EnterShows s self.old self.new) }
-        ensures here { OnOk result (IsEntered s self.new) }
-        ensures entered { SameEntered self.old self.new }
-        ensures err { OnErr result (self.new ≡ self.old) }
+    /// The other session that has the lock of a key.
+    pub fn locked_to(&self, s: u8, entry: u8, key: Key) -> Option<u8>
+        ensures { result ≡ locked_among s entry key self.now }
     {
-        self.sessions.insert(s, SessionLocks::new(alloc))?;
-        Ok(())
+        for (other, locks) in self.sessions.iter() {
+            if *other != s && locks.has_key(entry, key) {
+                return Some(*other);
+            }
+        }
+        None
     }
 
     /// The lowest other session that keeps a session from a name, which it wants for a change of schema or not.
     pub fn busy(&self, s: u8, schema: bool, name: &Name) -> Option<u8>
-        ensures { result ≡ busy_in schema s name.now self.now }
+        ensures { result ≡ busy_among schema s name.now self.now }
     {
         for (other, locks) in self.sessions.iter() {
             if *other != s && locks.keeps_off(schema, name) {
@@ -80,16 +74,22 @@ impl Locks {
         None
     }
 
-    /// The lowest other session that has the lock of a key.
-    pub fn locked(&self, s: u8, name: &Name, key: Key) -> Option<u8>
-        ensures { result ≡ locked_in s name.now key self.now }
+    /// The sessions stand in order of number, each once. The call does nothing: what it ensures always holds.
+    pub fn stands_in_order(&self)
+        ensures { IsInOrder self.now }
     {
-        for (other, locks) in self.sessions.iter() {
-            if *other != s && locks.has_key(name, key) {
-                return Some(*other);
-            }
+        let _ = &self.sessions;
+    }
+
+    // A session that has nothing is there.
+    fn make_session(&mut self, alloc: Global, s: u8) -> Result<(), OutOfMemory>
+        ensures same { OfSession s SameHeld self.old self.new }
+        ensures there { OnOk result (IsFound s self.new) }
+    {
+        if self.sessions.get(&s).is_none() {
+            self.sessions.insert(s, SessionLocks::new(alloc))?;
         }
-        None
+        Ok(())
     }
 
     /// Takes room for the lock of a key, so that `try_lock` of it takes no memory.
@@ -97,28 +97,26 @@ impl Locks {
         &mut self,
         alloc: Global,
         s: u8,
-        name: &Name,
+        entry: u8,
         key: Key,
     ) -> Result<(), OutOfMemory>
-        requires { IsEntered s self.old }
-        ensures keeps { LocksStay self.old self.new }
-        ensures entered { SameEntered self.old self.new }
-        ensures room { OnOk result (HasKeyRoomOf s name.now key self.new) }
+        ensures same { OfSession s SameHeld self.old self.new }
+        ensures room { OnOk result (HasRoomForKey entry key (held_by_session s self.new)) }
     {
+        self.make_session(alloc, s)?;
         let Some(locks) = self.sessions.get_mut(&s) else {
             return Ok(());
         };
-        locks.make_key_room(alloc, name, key)?;
+        locks.make_key_room(alloc, entry, key)?;
         Ok(())
     }
 
     /// Takes room for a use and a hold of a name, so that `use_table` and `hold_name` take no memory.
     pub fn reserve_name(&mut self, alloc: Global, s: u8, name: &Name) -> Result<(), OutOfMemory>
-        requires { IsEntered s self.old }
-        ensures keeps { LocksStay self.old self.new }
-        ensures entered { SameEntered self.old self.new }
-        ensures room { OnOk result (HasTableRoomOf s name.now self.new) }
+        ensures same { OfSession s SameHeld self.old self.new }
+        ensures room { OnOk result (HasRoomForName name.now (held_by_session s self.new)) }
     {
+        self.make_session(alloc, s)?;
         let Some(locks) = self.sessions.get_mut(&s) else {
             return Ok(());
         };
@@ -126,31 +124,29 @@ impl Locks {
         Ok(())
     }
 
-    /// Locks a key where no other session has its lock, and uses its table. It takes no memory.
-    pub fn try_lock(&mut self, s: u8, name: &Name, key: Key) -> Result<(), Held>
-        requires { HasKeyRoomOf s name.now key self.old }
-        ensures grants { OnOk result (GrantShows s (with_lock (Some key) name.now) self.old self.new) }
+    /// Locks a key where no other session has its lock. It takes no memory.
+    pub fn try_lock(&mut self, s: u8, entry: u8, key: Key) -> Result<(), Held>
+        requires { HasRoomForKey entry key (held_by_session s self.old) }
+        ensures locks { OnOk result (OfSession s (LocksEntryKey entry key) self.old self.new) }
         ensures err { OnErr result (self.new ≡ self.old) }
-        ensures held { held_found result ≡ locked_in s name.now key self.old }
-        ensures entered { SameEntered self.old self.new }
+        ensures held { held_told result ≡ locked_among s entry key self.old }
     {
-        if let Some(by) = self.locked(s, name, key) {
+        if let Some(by) = self.locked_to(s, entry, key) {
             return Err(Held { by });
         }
         let Some(locks) = self.sessions.get_mut(&s) else {
             return Ok(());
         };
-        locks.lock(name, key);
+        locks.lock(entry, key);
         Ok(())
     }
 
     /// Uses a table whose name no other session holds. It takes no memory.
     pub fn use_table(&mut self, s: u8, name: &Name) -> Result<(), Held>
-        requires { HasTableRoomOf s name.now self.old }
-        ensures grants { OnOk result (GrantShows s (with_use name.now) self.old self.new) }
+        requires { HasRoomForName name.now (held_by_session s self.old) }
+        ensures uses { OnOk result (OfSession s (UsesName name.now) self.old self.new) }
         ensures err { OnErr result (self.new ≡ self.old) }
-        ensures held { held_found result ≡ busy_in false s name.now self.old }
-        ensures entered { SameEntered self.old self.new }
+        ensures held { held_told result ≡ busy_among false s name.now self.old }
     {
         if let Some(by) = self.busy(s, false, name) {
             return Err(Held { by });
@@ -158,17 +154,16 @@ impl Locks {
         let Some(locks) = self.sessions.get_mut(&s) else {
             return Ok(());
         };
-        locks.use_table(name);
+        locks.use_name(name);
         Ok(())
     }
 
     /// Holds a name that no other session holds or uses. It takes no memory.
     pub fn hold_name(&mut self, s: u8, name: &Name) -> Result<(), Held>
-        requires { HasTableRoomOf s name.now self.old }
-        ensures grants { OnOk result (GrantShows s (with_lock None name.now) self.old self.new) }
+        requires { HasRoomForName name.now (held_by_session s self.old) }
+        ensures holds { OnOk result (OfSession s (HoldsName name.now) self.old self.new) }
         ensures err { OnErr result (self.new ≡ self.old) }
-        ensures held { held_found result ≡ busy_in true s name.now self.old }
-        ensures entered { SameEntered self.old self.new }
+        ensures held { held_told result ≡ busy_among true s name.now self.old }
     {
         if let Some(by) = self.busy(s, true, name) {
             return Err(Held { by });
@@ -176,14 +171,26 @@ impl Locks {
         let Some(locks) = self.sessions.get_mut(&s) else {
             return Ok(());
         };
-        locks.hold(name);
+        locks.hold_name(name);
         Ok(())
     }
 
-    /// A session's transaction ends: what it has is free, and no other's. It takes no memory.
+    /// What a session has is free, and no other's changes. It takes no memory.
     pub fn release_all(&mut self, s: u8)
-        ensures { ReleaseShows s self.old self.new }
+        ensures { OfSession s FreesAll self.old self.new }
     {
         self.sessions.remove(&s);
     }
+}
+
+// The first session that has the lock of a key.
+fn first_with(sessions: &BTreeMap<u8, SessionLocks>, entry: u8, key: Key) -> Option<u8>
+    ensures { result ≡ first_that (locks_key entry key) sessions.now.entries }
+{
+    for (session, locks) in sessions.iter() {
+        if locks.has_key(entry, key) {
+            return Some(*session);
+        }
+    }
+    None
 }

@@ -1,118 +1,135 @@
-// What a session has of all tables.
-ghost use Rattle.std.specs.Prelude.{◌≡◌, [], OnOk};
-ghost use Rattle.ctr_locks.specs.Held.{has_key, has_use, has_hold, keeps_off, SameTable, LocksKey, Uses, Holds, OfTable, HasKeyRoom, HasTableRoom};
+// What a session has of all entries and names.
+ghost use Rattle.std.specs.Prelude.{◌≡◌, OnOk};
+ghost use Rattle.ctr_locks.specs.Held.{holds_nothing, locks_key, keeps_others_off, SameHeld, LocksEntryKey, UsesName, HoldsName, HasEntry, HasRoomForKey, HasRoomForName};
 
-use crate::table::TableLocks;
+use crate::entry::EntryKeys;
+use crate::held::NameHeld;
 use ctr_model::Key;
 use ctr_types::{Name, OutOfMemory, Plain};
 use std::alloc::Global;
 use std::collections::BTreeMap;
 use std::marker::Model;
 
-/// By name, what it has of each table. A table that isn't there is one of which it has nothing.
+/// By entry its keys, and by name its use and its hold. What isn't there it doesn't have.
 #[derive(Drop)]
 pub struct SessionLocks {
-    tables: BTreeMap<Name, TableLocks>,
+    entries: BTreeMap<u8, EntryKeys>,
+    names: BTreeMap<Name, NameHeld>,
 }
 
 impl Model for SessionLocks {
-    ghost use Rattle.std.specs.Prelude.{List, ℕ};
+    ghost use Rattle.std.specs.Ordering.{nat_cmp};
     ghost use Rattle.std.specs.BTreeMap.{IsOrdered};
     ghost use Rattle.ctr_model.specs.Database.{name_cmp};
-    ghost use Rattle.ctr_locks.specs.Held.{TableHeld};
+    ghost use Rattle.ctr_locks.specs.Held.{LocksOfSession};
 
-    ghost Value = { List (List ℕ × TableHeld) };
+    ghost Value = { LocksOfSession };
 
-    ghost view = { λ a. a.tables.entries };
+    ghost view = { λ a. record { keys = a.entries.entries; names = a.names.entries } };
 
-    ghost invariant = { λ a. IsOrdered name_cmp a.tables };
+    ghost invariant = { λ a. IsOrdered nat_cmp a.entries × IsOrdered name_cmp a.names };
 }
 
 impl SessionLocks {
     /// Nothing. It takes no memory.
     pub fn new(alloc: Global) -> SessionLocks
-        ensures { result ≡ [] }
+        ensures { result ≡ holds_nothing }
     {
         SessionLocks {
-            tables: BTreeMap::new(alloc),
+            entries: BTreeMap::new(alloc),
+            names: BTreeMap::new(alloc),
         }
     }
 
     /// Whether it has the lock of a key.
-    pub fn has_key(&self, name: &Name, key: Key) -> bool
-        ensures { result ≡ has_key name.now key self.now }
+    pub fn has_key(&self, entry: u8, key: Key) -> bool
+        ensures { result ≡ locks_key entry key self.now }
     {
-        match self.tables.get(name) {
-            Some(table) => table.is_locked(key),
+        match self.entries.get(&entry) {
+            Some(keys) => keys.is_locked(key),
             None => false,
         }
     }
 
     /// Whether it keeps others from a name, which they want for a change of schema or not.
     pub fn keeps_off(&self, schema: bool, name: &Name) -> bool
-        ensures { result ≡ keeps_off schema name.now self.now }
+        ensures { result ≡ keeps_others_off schema name.now self.now }
     {
-        match self.tables.get(name) {
-            Some(table) => table.held() || (schema && table.used()),
+        match self.names.get(name) {
+            Some(name) => name.held || (schema && name.used),
             None => false,
         }
     }
 
     /// Takes room for the lock of a key.
-    pub fn make_key_room(&mut self, alloc: Global, name: &Name, key: Key) -> Result<(), OutOfMemory>
-        ensures same { OfTable name.now SameTable self.old self.new }
-        ensures room { OnOk result (HasKeyRoom name.now key self.new) }
+    pub fn make_key_room(&mut self, alloc: Global, entry: u8, key: Key) -> Result<(), OutOfMemory>
+        ensures same { SameHeld self.old self.new }
+        ensures room { OnOk result (HasRoomForKey entry key self.new) }
     {
-        self.make_name_room(alloc, name)?;
-        let Some(table) = self.tables.get_mut(name) else {
+        self.make_entry(alloc, entry)?;
+        let Some(keys) = self.entries.get_mut(&entry) else {
             return Ok(());
         };
-        table.make_room(key)?;
+        keys.make_room(key)?;
+        Ok(())
+    }
+
+    // An entry without keys, where there is none.
+    fn make_entry(&mut self, alloc: Global, entry: u8) -> Result<(), OutOfMemory>
+        ensures same { SameHeld self.old self.new }
+        ensures room { OnOk result (HasEntry entry self.new) }
+    {
+        if self.entries.get(&entry).is_none() {
+            self.entries.insert(entry, EntryKeys::new(alloc))?;
+        }
         Ok(())
     }
 
     /// Takes room for a use and a hold of a name.
     pub fn make_name_room(&mut self, alloc: Global, name: &Name) -> Result<(), OutOfMemory>
-        ensures same { OfTable name.now SameTable self.old self.new }
-        ensures room { OnOk result (HasTableRoom name.now self.new) }
+        ensures same { SameHeld self.old self.new }
+        ensures room { OnOk result (HasRoomForName name.now self.new) }
     {
-        if self.tables.get(name).is_none() {
-            self.tables
-                .insert(name.copy(alloc)?, TableLocks::new(alloc))?;
+        if self.names.get(name).is_none() {
+            let none = NameHeld {
+                used: false,
+                held: false,
+            };
+            self.names.insert(name.copy(alloc)?, none)?;
         }
         Ok(())
     }
 
-    /// Locks a key, and uses its table. It takes no memory.
-    pub fn lock(&mut self, name: &Name, key: Key)
-        requires { HasKeyRoom name.now key self.old }
-        ensures { OfTable name.now (LocksKey key) self.old self.new }
+    /// Locks a key. It takes no memory.
+    pub fn lock(&mut self, entry: u8, key: Key)
+        requires { HasRoomForKey entry key self.old }
+        ensures { LocksEntryKey entry key self.old self.new }
     {
-        let Some(table) = self.tables.get_mut(name) else {
+        let Some(keys) = self.entries.get_mut(&entry) else {
             return;
         };
-        table.lock(key);
+        keys.lock(key);
     }
 
     /// Uses a table. It takes no memory.
-    pub fn use_table(&mut self, name: &Name)
-        requires { HasTableRoom name.now self.old }
-        ensures { OfTable name.now Uses self.old self.new }
+    pub fn use_name(&mut self, name: &Name)
+        requires { HasRoomForName name.now self.old }
+        ensures { UsesName name.now self.old self.new }
     {
-        let Some(table) = self.tables.get_mut(name) else {
+        let Some(name) = self.names.get_mut(name) else {
             return;
         };
-        table.use_table();
+        name.used = true;
     }
 
     /// Holds a name. It takes no memory.
-    pub fn hold(&mut self, name: &Name)
-        requires { HasTableRoom name.now self.old }
-        ensures { OfTable name.now Holds self.old self.new }
+    pub fn hold_name(&mut self, name: &Name)
+        requires { HasRoomForName name.now self.old }
+        ensures { HoldsName name.now self.old self.new }
     {
-        let Some(table) = self.tables.get_mut(name) else {
+        let Some(name) = self.names.get_mut(name) else {
             return;
         };
-        table.hold();
+        name.held = true;
     }
 }

@@ -33,8 +33,8 @@ use Rattle.ctr_actions.specs.Facts.{Fact, HasBlank, HasTable, HoldsFact, IsOpen,
 use Rattle.ctr_actions.specs.Sites.{site_of}
 use Rattle.ctr_store.specs.Store.{View}
 use Rattle.ctr_session_world.proofs.ctr_told.ctr_extend.Carrying.{live_state}
-use Rattle.ctr_key_locks.specs.Held.{LocksOfSession, held_by_session, locks_key, session_locks, session_uses, uses_name}
-use Rattle.ctr_key_locks.specs.Shows.{LockLeavesLocks, ShowsKeyLocks, UseLeavesLocks}
+use Rattle.ctr_locks.specs.Held.{LocksOfSession, held_by_session, locks_key, session_locks, session_uses, uses_name}
+use Rattle.ctr_locks.specs.Shows.{LockLeavesLocks, ShowsKeyLocks, UseLeavesLocks}
 use Rattle.ctr_kept.specs.Carried.{IsUnderLock}
 use Rattle.ctr_kept.specs.Tables.{AreTables}
 use Rattle.ctr_kept.specs.Walk.{Mind, with_facts}

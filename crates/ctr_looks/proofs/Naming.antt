@@ -22,8 +22,8 @@ use Rattle.ctr_record_effects.specs.States.{area_in}
 use Rattle.ctr_actions.specs.Facts.{Fact, HasNoPageBut, HasTable, HoldsFact, IsOpen}
 use Rattle.ctr_actions.specs.Sites.{site_of}
 use Rattle.ctr_store.specs.Store.{View}
-use Rattle.ctr_key_locks.specs.Held.{LocksOfSession, HoldsName, OfSession, held_by_session, locks_key, session_locks}
-use Rattle.ctr_key_locks.specs.Shows.{HoldShows, ShowsKeyLocks}
+use Rattle.ctr_locks.specs.Held.{LocksOfSession, HoldsName, OfSession, held_by_session, locks_key, session_locks}
+use Rattle.ctr_locks.specs.Shows.{HoldShows, ShowsKeyLocks}
 use Rattle.ctr_kept.specs.Carried.{IsUnderLock}
 use Rattle.ctr_kept.specs.Tables.{AreTables}
 use Rattle.ctr_kept.proofs.Tables.{uses_more}

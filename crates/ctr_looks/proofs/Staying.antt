@@ -11,7 +11,7 @@ use Rattle.ctr_actions.specs.Facts.{Fact}
 use Rattle.ctr_actions.specs.Sites.{site_of}
 use Rattle.ctr_versions.specs.Engine.{SessionHeld}
 use Rattle.ctr_store.specs.Store.{View}
-use Rattle.ctr_key_locks.specs.Shows.{IsOnlyEntry}
+use Rattle.ctr_locks.specs.Shows.{IsOnlyEntry}
 use Rattle.ctr_kept.specs.Turns.{Start}
 use Rattle.ctr_stops.specs.World.{KeepsWorld}
 use Rattle.ctr_page_turns.specs.Turns.{RestsBehind}

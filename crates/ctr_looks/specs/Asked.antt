@@ -14,7 +14,7 @@ use Rattle.ctr_names.specs.Search.{IsEntryFound}
 use Rattle.ctr_actions.specs.Sites.{site_of}
 use Rattle.ctr_store.specs.Store.{View}
 use Rattle.ctr_kept.specs.Turns.{Start, state_now}
-use Rattle.ctr_key_locks.specs.Shows.{IsOnlyEntry}
+use Rattle.ctr_locks.specs.Shows.{IsOnlyEntry}
 use Rattle.ctr_txn.specs.Held.{TxnsHeld}
 use Rattle.ctr_asking.specs.declared.asker.Answer.{Answer}
 use Rattle.ctr_asking.specs.declared.asker.Answer.TheVariants.{Refused, Free}

@@ -21,8 +21,8 @@ use Rattle.ctr_kept.specs.Turns.{Start, InTransaction, state_now}
 use Rattle.ctr_page_turns.specs.Acts.{ActsBy}
 use Rattle.ctr_page_turns.specs.Turns.{LogsAtRest, RestsBehind}
 use Rattle.ctr_paged.specs.Moving.{held_as}
-use Rattle.ctr_key_locks.specs.Held.{LocksOfSession, LocksEntryKey, OfSession, SameHeld, UsesName}
-use Rattle.ctr_key_locks.specs.Shows.{IsOnlyEntry}
+use Rattle.ctr_locks.specs.Held.{LocksOfSession, LocksEntryKey, OfSession, SameHeld, UsesName}
+use Rattle.ctr_locks.specs.Shows.{IsOnlyEntry}
 use Rattle.ctr_txn.specs.Held.{TxnHeld, TxnsHeld, run_of, txn_of}
 use Rattle.ctr_looks.specs.declared.taking.RowAt.{RowAt}
 use Rattle.ctr_session_world.specs.World.{SessionsHeld, names_in}

@@ -24,7 +24,7 @@ use crate::reserving::{reserve_for, reserve_row};
 use crate::taking::{RowAt, take_key, take_name, take_use};
 use ctr_base::Origin;
 use ctr_disk::{Disk, StoreFault};
-use ctr_key_locks::KeyLocks;
+use ctr_locks::KeyLocks;
 use ctr_store::Store;
 use ctr_txn::Txns;
 use ctr_types::{Name, Refusal};

@@ -10,8 +10,8 @@ ghost use Rattle.ctr_record_effects.specs.States.{area_in};
 ghost use Rattle.ctr_actions.specs.Facts.{Fact, HasTable};
 ghost use Rattle.ctr_store.specs.Store.{View};
 ghost use Rattle.ctr_kept.specs.Turns.{Start, state_now};
-ghost use Rattle.ctr_key_locks.specs.Held.{LocksOfSession, HoldsName, IsInOrder, OfSession, UsesName, locked_among};
-ghost use Rattle.ctr_key_locks.specs.Shows.{ShowsKeyLocks};
+ghost use Rattle.ctr_locks.specs.Held.{LocksOfSession, HoldsName, IsInOrder, OfSession, UsesName, locked_among};
+ghost use Rattle.ctr_locks.specs.Shows.{ShowsKeyLocks};
 ghost use Rattle.ctr_txn.specs.Held.{TxnsHeld};
 ghost use Rattle.ctr_page_turns.specs.Turns.{RestsBehind};
 ghost use Rattle.ctr_session_world.specs.ctr_told.Turning.{IsIdle};
@@ -22,7 +22,7 @@ ghost use Rattle.ctr_looks.specs.Asked.{IsLook, IsFirstOf, IsFoundFor};
 ghost use Rattle.ctr_looks.specs.Granting.{IsFree, IsRowOf, IsOfName, KeepsSessions, TakesRow, HasNumber, CountsOnFound};
 
 use ctr_disk::Disk;
-use ctr_key_locks::{key_locks_are_the_models, key_locks_show};
+use ctr_locks::{key_locks_are_the_models, key_locks_show};
 use ctr_session_world::told::{
     a_first_lock_is_told, a_lock_is_told, a_refusal_is_told, a_session_may_count_on_what_holds,
 };

@@ -11,7 +11,7 @@ ghost use Rattle.ctr_actions.specs.Facts.{Fact};
 ghost use Rattle.ctr_actions.specs.Sites.{site_of};
 ghost use Rattle.ctr_store.specs.Store.{View};
 ghost use Rattle.ctr_kept.specs.Turns.{Start};
-ghost use Rattle.ctr_key_locks.specs.Held.{LocksOfSession, OfSession, UsesName};
+ghost use Rattle.ctr_locks.specs.Held.{LocksOfSession, OfSession, UsesName};
 ghost use Rattle.ctr_page_turns.specs.Turns.{RestsBehind};
 ghost use Rattle.ctr_session_world.specs.ctr_told.Turning.{IsIdle};
 ghost use Rattle.ctr_wishes.specs.ctr_reading.Reading.{AreShown};
@@ -23,7 +23,7 @@ ghost use Rattle.ctr_looks.specs.Asked.{StandsAt};
 
 use crate::grants::room_shows_the_same;
 use ctr_disk::Disk;
-use ctr_key_locks::key_locks_show;
+use ctr_locks::key_locks_show;
 use ctr_session_world::told::rows_that_are_read_are_told;
 use ctr_wishes::reading::rows_are_those_of_the_view;
 

@@ -31,7 +31,7 @@ use ctr_asking::{Answer, Asker, me_of};
 use ctr_base::Origin;
 use ctr_chain::ReadRefusal;
 use ctr_disk::{Disk, StoreFault};
-use ctr_key_locks::KeyLocks;
+use ctr_locks::KeyLocks;
 use ctr_page_turns::room_is_still_there;
 use ctr_session_world::pages_that_are_read_keep_a_world;
 use ctr_store::Store;

@@ -16,7 +16,7 @@ use crate::refusing::ask_act;
 use ctr_asking::{Answer, Asker};
 use ctr_base::Origin;
 use ctr_disk::{Disk, StoreFault};
-use ctr_key_locks::KeyLocks;
+use ctr_locks::KeyLocks;
 use ctr_page_turns::room_is_still_there;
 use ctr_session_world::pages_that_are_read_keep_a_world;
 use ctr_statement::{creates, table_of};

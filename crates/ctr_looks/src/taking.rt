@@ -4,10 +4,10 @@ ghost use Rattle.std.specs.Ordering.{nat_cmp};
 ghost use Rattle.std.specs.FinMap.Entries.{is_sorted};
 ghost use Rattle.ctr_model.specs.declared.state.State.{State};
 ghost use Rattle.ctr_model.specs.Refusals.{first_session, is_busy, others};
-ghost use Rattle.ctr_key_locks.specs.Held.{OfSession, UsesName, HoldsName, LocksEntryKey, HasRoomForKey, HasRoomForName, held_by_session, locked_among};
-ghost use Rattle.ctr_key_locks.specs.Shows.{ShowsKeyLocks};
+ghost use Rattle.ctr_locks.specs.Held.{OfSession, UsesName, HoldsName, LocksEntryKey, HasRoomForKey, HasRoomForName, held_by_session, locked_among};
+ghost use Rattle.ctr_locks.specs.Shows.{ShowsKeyLocks};
 
-use ctr_key_locks::{KeyLocks, key_locks_are_the_models};
+use ctr_locks::{KeyLocks, key_locks_are_the_models};
 use ctr_model::Key;
 use ctr_types::{Name, Refusal};
 

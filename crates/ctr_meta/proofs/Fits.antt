@@ -1,6 +1,6 @@
 -- Transactions stay as they may be.
 use Rattle.std.proofs.Common.{◌≡◌, ◌⊎◌, ⊎_elim, ℕ, ◌+◌, ◌<◌, ◌≤◌, Bool, true, false, List, [], ◌∷◌, ◌++◌, refl, sym, ap, subst, ◌∙◌, arith}
-use Rattle.ctr_records.specs.declared.record.SlogItem.{SlogItem}
+use Rattle.ctr_rec.specs.declared.record.SlogItem.{SlogItem}
 use Rattle.ctr_meta.specs.Tables.{is_in, without_xid, with_heads}
 use Rattle.ctr_meta.specs.Kept.{XidsFit}
 use Rattle.ctr_meta.proofs.XidLaws.{still_out, in_without, once_without, gone, in_more, once_more, in_set, once_set}

@@ -1,9 +1,9 @@
 -- Transactions stay as they may be over each record.
 use Rattle.std.proofs.Common.{◌≡◌, ⊎_elim, ℕ, ◌+◌, ◌-◌, Bool, true, false, cond, eqb, List, [], ◌∷◌, ◌++◌, Ok, refl, sym, ap, subst, arith}
 use Rattle.std.proofs.lemmas.Bool.Decides.{eqb_tells}
-use Rattle.ctr_records.specs.declared.record.Record.{Record}
-use Rattle.ctr_records.specs.declared.record.Record.TheVariants.{Checkpoint, Begin, Commit, Abort, Forget, Alloc, Format, Link, Free, Unlink, Create, Uncreate, Drop, Undrop, Row, Keep, Revert, Trim}
-use Rattle.ctr_records.proofs.Reading.{bind_ok, expect_ok}
+use Rattle.ctr_rec.specs.declared.record.Record.{Record}
+use Rattle.ctr_rec.specs.declared.record.Record.TheVariants.{Checkpoint, Begin, Commit, Abort, Forget, Alloc, Format, Link, Free, Unlink, Create, Uncreate, Drop, Undrop, Row, Keep, Revert, Trim}
+use Rattle.ctr_rec.proofs.Reading.{bind_ok, expect_ok}
 use Rattle.ctr_meta.specs.Tables.{Tables, is_in, heads_in, without_xid, with_heads}
 use Rattle.ctr_meta.specs.Effects.{rolled_back, one_head_more, one_head_less, one_aborted_less}
 use Rattle.ctr_meta.specs.Needs.{open_need, there}

@@ -3,9 +3,9 @@ use Rattle.std.proofs.Common.{◌≡◌, ◌≢◌, ⊎_elim, ℕ, zero, suc, �
 use Rattle.std.specs.List.{AllByRecursion}
 use Rattle.std.proofs.lemmas.Bool.Decides.{eqb_tells}
 use Rattle.ctr_bytes.specs.Fields.{field}
-use Rattle.ctr_records.specs.declared.record.SlogItem.{SlogItem}
-use Rattle.ctr_records.specs.Members.{among, AreNew, HasMembers, MembersFit, ItemFits, pairs_from, items_from, behind_pairs, slog_at, opens_listed, aborted_listed, items_listed}
-use Rattle.ctr_records.proofs.Listed.{Listed, listed_members}
+use Rattle.ctr_rec.specs.declared.record.SlogItem.{SlogItem}
+use Rattle.ctr_rec.specs.Members.{among, AreNew, HasMembers, MembersFit, ItemFits, pairs_from, items_from, behind_pairs, slog_at, opens_listed, aborted_listed, items_listed}
+use Rattle.ctr_rec.proofs.Listed.{Listed, listed_members}
 use Rattle.ctr_meta.specs.Tables.{is_in}
 use Rattle.ctr_meta.specs.Kept.{EachOnce, XidsFit}
 use Rattle.ctr_meta.specs.Effects.{listed}

@@ -1,7 +1,7 @@
 -- What the fields of a Meta stand for.
 use Rattle.std.specs.Prelude.{◌-◌, ◌≤◌, min, length, vec_len, vec_capacity}
 use Rattle.std.specs.List.{AllByRecursion}
-use Rattle.ctr_records.specs.Members.{ItemFits}
+use Rattle.ctr_rec.specs.Members.{ItemFits}
 use Rattle.ctr_meta.specs.declared.meta.Meta.TheInside.{Inside}
 use Rattle.ctr_meta.specs.Tables.{Tables}
 use Rattle.ctr_meta.specs.Kept.{TablesKept, XidsFit}

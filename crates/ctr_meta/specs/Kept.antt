@@ -1,10 +1,10 @@
 -- The tables as they are kept, and what may be asked of them.
 use Rattle.std.specs.Prelude.{◌≡◌, ℕ, ◌+◌, ◌-◌, ◌^◌, ◌<◌, ◌≤◌, true, false, List, [], ◌∷◌, length, Ok}
-use Rattle.ctr_records.specs.declared.record.Record.{Record}
-use Rattle.ctr_records.specs.declared.record.Record.TheVariants.{Checkpoint, Begin, Alloc, Unlink, Create, Drop, Row}
-use Rattle.ctr_records.specs.Parts.{form_of}
-use Rattle.ctr_records.specs.Records.{IsRecord, ListsAreMembers}
-use Rattle.ctr_records.specs.Members.{opens_listed, aborted_listed, items_listed}
+use Rattle.ctr_rec.specs.declared.record.Record.{Record}
+use Rattle.ctr_rec.specs.declared.record.Record.TheVariants.{Checkpoint, Begin, Alloc, Unlink, Create, Drop, Row}
+use Rattle.ctr_rec.specs.Parts.{form_of}
+use Rattle.ctr_rec.specs.Records.{IsRecord, ListsAreMembers}
+use Rattle.ctr_rec.specs.Members.{opens_listed, aborted_listed, items_listed}
 use Rattle.ctr_meta.specs.Tables.{Tables, is_in, heads_in}
 use Rattle.ctr_meta.specs.Effects.{effect}
 use Rattle.ctr_meta.specs.Needs.{needs}

@@ -1,6 +1,6 @@
 -- How many members the lists of a Checkpoint have.
 use Rattle.std.specs.Prelude.{◌≡◌, ◌+◌, ◌*◌, ℕ, List, length}
-use Rattle.ctr_records.specs.Members.{pairs_from, items_from, opens_listed, aborted_listed, items_listed}
+use Rattle.ctr_rec.specs.Members.{pairs_from, items_from, opens_listed, aborted_listed, items_listed}
 use Rattle.ctr_meta.specs.declared.listing.Counts.{Counts}
 
 -- The counts are those of the three lists, whose members stand one behind another from the places that

@@ -2,13 +2,13 @@
 -- there.
 use Rattle.std.specs.Prelude.{ℕ, ◌+◌, Bool, true, false, List, Result, Ok, ⊤, count_by, nat_eq, nat_lt, if◌then◌else◌}
 use Rattle.std.specs.List.{list_any}
-use Rattle.ctr_records.specs.declared.record.Record.{Record}
-use Rattle.ctr_records.specs.declared.record.Record.TheVariants.{Checkpoint, Begin, Commit, Abort, Forget, Alloc, Format, Link, Free, Unlink, Create, Uncreate, Drop, Undrop, Row, Keep, Revert, Trim}
-use Rattle.ctr_records.specs.declared.decoding.BadRecord.{BadRecord}
+use Rattle.ctr_rec.specs.declared.record.Record.{Record}
+use Rattle.ctr_rec.specs.declared.record.Record.TheVariants.{Checkpoint, Begin, Commit, Abort, Forget, Alloc, Format, Link, Free, Unlink, Create, Uncreate, Drop, Undrop, Row, Keep, Revert, Trim}
+use Rattle.ctr_rec.specs.declared.decoding.BadRecord.{BadRecord}
 use Rattle.ctr_bytes.specs.Following.{◌>>=◌}
-use Rattle.ctr_records.specs.Damage.{expect}
-use Rattle.ctr_records.specs.Spelling.{checkpoint_bytes}
-use Rattle.ctr_records.specs.Checkpoint.{each, opens_in, aborted_in, next_check, heads_check, xid_check}
+use Rattle.ctr_rec.specs.Damage.{expect}
+use Rattle.ctr_rec.specs.Spelling.{checkpoint_bytes}
+use Rattle.ctr_rec.specs.Checkpoint.{each, opens_in, aborted_in, next_check, heads_check, xid_check}
 use Rattle.ctr_meta.specs.declared.items.Wanted.{Wanted}
 use Rattle.ctr_meta.specs.declared.items.Wanted.TheVariants.{Allocation, OfPage, Creation, Dropping}
 use Rattle.ctr_meta.specs.Tables.{Tables, is_in, heads_in, heads_of}

@@ -3,7 +3,7 @@ use Rattle.std.specs.Prelude.{ℕ, Bool, List, [], Option, is_some, unwrap_or, n
 use Rattle.std.specs.Map.{lookup, remove_entry, set_value}
 use Rattle.ctr_types.specs.declared.xid.Fate.{Fate}
 use Rattle.ctr_types.specs.declared.xid.Fate.TheVariants.{Open, Aborted, Committed, Later}
-use Rattle.ctr_records.specs.declared.record.SlogItem.{SlogItem}
+use Rattle.ctr_rec.specs.declared.record.SlogItem.{SlogItem}
 
 -- The next transaction; those that are open, and those in the aborted transaction map, each with
 -- its heads; the items of the secondary log. A list has the order in which its members were added.

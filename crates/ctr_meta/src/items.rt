@@ -1,11 +1,11 @@
 // Items of the secondary log.
 ghost use Rattle.std.specs.Prelude.{◌≡◌, ◌≤◌, ◌<◌, ◌+◌, ◌++◌, List, [], ◌∷◌, None, IfSome, not, filter, count_by, vec_len, vec_capacity};
 ghost use Rattle.std.specs.List.{list_any, AllByRecursion};
-ghost use Rattle.ctr_records.specs.declared.record.SlogItem.{SlogItem as Item};
-ghost use Rattle.ctr_records.specs.Members.{ItemFits};
+ghost use Rattle.ctr_rec.specs.declared.record.SlogItem.{SlogItem as Item};
+ghost use Rattle.ctr_rec.specs.Members.{ItemFits};
 ghost use Rattle.ctr_meta.specs.Items.{is_alloc_by, is_schema_by, is_item_by, is_wanted, left_out};
 
-use ctr_records::{PageNo, SlogItem};
+use ctr_rec::{PageNo, SlogItem};
 use ctr_types::Xid;
 
 /// Which item a record speaks of.

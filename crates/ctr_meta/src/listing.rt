@@ -2,14 +2,14 @@
 ghost use Rattle.std.specs.Prelude.{◌≡◌, ◌≤◌, ◌<◌, ◌+◌, ◌*◌, ◌^◌, [], length, vec_len, vec_capacity};
 ghost use Rattle.ctr_bytes.specs.Fields.{field};
 ghost use Rattle.std.specs.List.{AllByRecursion};
-ghost use Rattle.ctr_records.specs.Members.{pairs_from, slog_item, items_from, ItemFits, HasMembers, items_listed};
+ghost use Rattle.ctr_rec.specs.Members.{pairs_from, slog_item, items_from, ItemFits, HasMembers, items_listed};
 ghost use Rattle.ctr_meta.specs.Kept.{EachOnce, XidsFit};
 ghost use Rattle.ctr_meta.specs.Effects.{listed};
 ghost use Rattle.ctr_meta.specs.Lists.{CountsMembers};
 
 use crate::xids::Xids;
 use ctr_bytes::{get_u8, get_u32, get_u64};
-use ctr_records::SlogItem;
+use ctr_rec::SlogItem;
 use ctr_types::Xid;
 
 /// How many members the lists have.
@@ -56,7 +56,7 @@ pub fn read_pairs(into: &mut Xids, at: usize, count: usize, bytes: &[u8])
     }
 }
 
-#[tactic(auto, unfolding(ctr_records::specs::Members::slog_item))]
+#[tactic(auto, unfolding(ctr_rec::specs::Members::slog_item))]
 fn read_item(at: usize, bytes: &[u8]) -> SlogItem
     requires inside { at + 13 ≤ length bytes.now }
     requires fits { ItemFits (slog_item (field 1 at bytes.now) (field 8 (at + 1) bytes.now) (field 4 (at + 9) bytes.now)) }

@@ -1,8 +1,8 @@
 // The tables, and what each record does to them.
 ghost use Rattle.std.specs.Prelude.{◌≡◌, ◌≤◌, ◌<◌, ◌+◌, ◌-◌, ◌*◌, ◌^◌, ◌∷◌, ◌++◌, ℕ, List, [], IsTrue, ◌↔◌, true, None, Ok, filter, length, map, IfOk, IfSome, OnOk, ⊤};
 ghost use Rattle.std.specs.List.{AllByRecursion};
-ghost use Rattle.ctr_records.specs.declared.record.SlogItem.{SlogItem as Item};
-ghost use Rattle.ctr_records.specs.Members.{opens_listed, aborted_listed, items_listed, HasMembers, ItemFits};
+ghost use Rattle.ctr_rec.specs.declared.record.SlogItem.{SlogItem as Item};
+ghost use Rattle.ctr_rec.specs.Members.{opens_listed, aborted_listed, items_listed, HasMembers, ItemFits};
 ghost use Rattle.ctr_snap.specs.Seeing.{least};
 ghost use Rattle.ctr_meta.specs.Items.{is_item_by};
 ghost use Rattle.ctr_meta.specs.Tables.{no_tables, is_in, heads_in, heads_of, fate_in};
@@ -15,7 +15,7 @@ use crate::items::{allocs_by, has_wanted, items_by, latest_by, settle, take_out}
 use crate::listing::{counts_in, read_items, read_pairs};
 use crate::needs::{expect, there};
 use crate::xids::Xids;
-use ctr_records::{BadRecord, Record, SlogItem};
+use ctr_rec::{BadRecord, Record, SlogItem};
 use ctr_types::{Fate, OutOfMemory, Xid};
 use std::alloc::Global;
 use std::marker::Model;

@@ -1,9 +1,9 @@
 // What a record needs.
 ghost use Rattle.std.specs.Prelude.{◌≡◌};
-ghost use Rattle.ctr_records.specs.Damage.{expect};
+ghost use Rattle.ctr_rec.specs.Damage.{expect};
 ghost use Rattle.ctr_meta.specs.Needs.{there};
 
-use ctr_records::BadRecord;
+use ctr_rec::BadRecord;
 
 /// This number is wanted.
 pub fn expect(want: u64, got: u64) -> Result<(), BadRecord>

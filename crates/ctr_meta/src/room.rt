@@ -1,12 +1,12 @@
 // What a record adds to the tables.
 ghost use Rattle.std.specs.Prelude.{◌≡◌, ◌+◌, ◌^◌, ◌<◌, ℕ, List, [], ◌∷◌, ◌++◌};
-ghost use Rattle.ctr_records.specs.declared.record.Record.{Record as Logged};
+ghost use Rattle.ctr_rec.specs.declared.record.Record.{Record as Logged};
 ghost use Rattle.ctr_meta.specs.Tables.{Tables, no_tables};
 ghost use Rattle.ctr_meta.specs.Effects.{effect, tables_of};
 ghost use Rattle.ctr_meta.specs.Kept.{IsLogged, opens_added, items_added, XidsLast};
 
 use crate::listing::counts_in;
-use ctr_records::Record;
+use ctr_rec::Record;
 
 /// How many transactions and items a record may add: what to reserve before it.
 #[derive(Clone, Copy, Debug, PartialEq, Eq)]

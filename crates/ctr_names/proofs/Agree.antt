@@ -8,7 +8,7 @@ use Rattle.ctr_model.specs.Database.{name_cmp}
 use Rattle.ctr_model.specs.State.{same_name}
 use Rattle.ctr_versions.specs.Versions.{Made}
 use Rattle.ctr_versions.proofs.Keys.{known}
-use Rattle.ctr_records.specs.declared.record.SlogItem.TheVariants.{DropOf}
+use Rattle.ctr_rec.specs.declared.record.SlogItem.TheVariants.{DropOf}
 use Rattle.ctr_meta.specs.Effects.{committed, forgotten_by, opened_by, rolled_back}
 use Rattle.ctr_meta.specs.Tables.{Tables, is_in}
 use Rattle.ctr_area.specs.Areas.{Area, Title, no_pages}

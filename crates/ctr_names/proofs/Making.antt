@@ -11,7 +11,7 @@ use Rattle.ctr_versions.specs.Changes.{write}
 use Rattle.ctr_versions.specs.Listing.{chain_at}
 use Rattle.ctr_versions.specs.Versions.{IsUnmadeTable, Made, NamesSet, Versions, names_at}
 use Rattle.ctr_versions.proofs.Written.{same_itself}
-use Rattle.ctr_records.specs.declared.record.SlogItem.TheVariants.{DropOf}
+use Rattle.ctr_rec.specs.declared.record.SlogItem.TheVariants.{DropOf}
 use Rattle.ctr_meta.specs.Effects.{with_item}
 use Rattle.ctr_meta.specs.Tables.{Tables}
 use Rattle.ctr_area.specs.Areas.{Area, Firsts, Title}

@@ -9,8 +9,8 @@ use Rattle.ctr_model.specs.State.{same_name}
 use Rattle.ctr_versions.specs.Versions.{Made}
 use Rattle.ctr_versions.proofs.Keys.{known, same_text}
 use Rattle.ctr_versions.proofs.Written.{same_itself}
-use Rattle.ctr_records.specs.declared.record.SlogItem.{SlogItem}
-use Rattle.ctr_records.specs.declared.record.SlogItem.TheVariants.{AllocOf, CreateOf, DropOf, FreeOf}
+use Rattle.ctr_rec.specs.declared.record.SlogItem.{SlogItem}
+use Rattle.ctr_rec.specs.declared.record.SlogItem.TheVariants.{AllocOf, CreateOf, DropOf, FreeOf}
 use Rattle.ctr_meta.specs.Items.{is_item_by}
 use Rattle.ctr_meta.specs.Tables.{Tables}
 use Rattle.ctr_area.specs.Areas.{Area, Title}

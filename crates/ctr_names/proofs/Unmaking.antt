@@ -6,8 +6,8 @@ use Rattle.std.proofs.Math.Bool.{and-false}
 use Rattle.std.proofs.lemmas.Bool.{false≢true}
 use Rattle.ctr_model.specs.State.{same_name}
 use Rattle.ctr_versions.specs.Versions.{Made, NamesSet, names_at}
-use Rattle.ctr_records.specs.declared.record.SlogItem.{SlogItem}
-use Rattle.ctr_records.specs.declared.record.SlogItem.TheVariants.{CreateOf, DropOf}
+use Rattle.ctr_rec.specs.declared.record.SlogItem.{SlogItem}
+use Rattle.ctr_rec.specs.declared.record.SlogItem.TheVariants.{CreateOf, DropOf}
 use Rattle.ctr_meta.specs.Effects.{without_item}
 use Rattle.ctr_meta.specs.Items.{is_item_by}
 use Rattle.ctr_meta.specs.Tables.{Tables}

@@ -2,7 +2,7 @@
 ghost use Rattle.std.specs.Prelude.{◌≡◌, ◌⊎◌, ◌==◌, ◌<◌, ◌++◌, ◌∷◌, [], ℕ, true, false, List, Some, None};
 ghost use Rattle.std.specs.Ordering.{nat_cmp};
 ghost use Rattle.std.specs.FinMap.Entries.{find, put};
-ghost use Rattle.ctr_records.specs.declared.record.SlogItem.{SlogItem};
+ghost use Rattle.ctr_rec.specs.declared.record.SlogItem.{SlogItem};
 ghost use Rattle.ctr_model.specs.declared.state.State.{State};
 ghost use Rattle.ctr_model.specs.declared.state.Transaction.{Transaction};
 ghost use Rattle.ctr_model.specs.Database.{Database};

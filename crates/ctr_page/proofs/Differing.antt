@@ -6,10 +6,10 @@ use Rattle.ctr_bytes.specs.Fields.{field}
 use Rattle.ctr_types.specs.declared.value.Kind.{Kind}
 use Rattle.ctr_types.specs.declared.value.Kind.TheVariants.{Int, Chars}
 use Rattle.ctr_value.specs.Payload.{field_width}
-use Rattle.ctr_records.specs.declared.decoding.BadRecord.{BadRecord}
+use Rattle.ctr_rec.specs.declared.decoding.BadRecord.{BadRecord}
 use Rattle.ctr_bytes.specs.Following.{◌>>=◌}
-use Rattle.ctr_records.specs.Damage.{wrong, expect, at_most}
-use Rattle.ctr_records.proofs.Forms.{Fair, fair_bind, fair_expect, fair_if, fair_both}
+use Rattle.ctr_rec.specs.Damage.{wrong, expect, at_most}
+use Rattle.ctr_rec.proofs.Forms.{Fair, fair_bind, fair_expect, fair_if, fair_both}
 use Rattle.ctr_page.specs.declared.checks.Chain.{Chain}
 use Rattle.ctr_page.specs.Places.{has_previous, previous_at, pointer_at, kept_pointer_at, kept_size, room_for}
 use Rattle.ctr_page.specs.Columns.{column_kind_at, kinds_width}

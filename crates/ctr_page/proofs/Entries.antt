@@ -9,7 +9,7 @@ use Rattle.ctr_types.specs.declared.value.Kind.TheVariants.{Int, Chars}
 use Rattle.ctr_types.specs.Names.{IsName}
 use Rattle.ctr_bytes.specs.Fields.{spelled, field}
 use Rattle.ctr_bytes.proofs.FieldLaws.{length-spelled}
-use Rattle.ctr_records.proofs.Laws.{Begins, begins_less, field_last}
+use Rattle.ctr_rec.proofs.Laws.{Begins, begins_less, field_last}
 use Rattle.ctr_value.specs.Columns.{KindFits, ColumnFits, ColumnsFit, zeros, kind_number, column_bytes}
 use Rattle.ctr_page.specs.Columns.{name_in, kind_said, columns_from, columns_in, table_name_in, text_bytes, columns_bytes, new_entry_bytes}
 use Rattle.ctr_page.specs.Making.{PutsBytes}

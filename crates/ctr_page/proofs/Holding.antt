@@ -16,10 +16,10 @@ use Rattle.ctr_value.specs.Payload.{IsOf, AreOf, IsKeyed, field_width, width, Is
 use Rattle.ctr_value.specs.Values.{value_said, values_in, row_values}
 pub use Rattle.ctr_value.proofs.PayloadLaws.{kinds_wide}
 use Rattle.ctr_value.proofs.PayloadLoops.{text_found}
-use Rattle.ctr_records.specs.declared.decoding.BadRecord.{BadRecord}
+use Rattle.ctr_rec.specs.declared.decoding.BadRecord.{BadRecord}
 use Rattle.ctr_bytes.specs.Following.{◌>>=◌}
-use Rattle.ctr_records.specs.Damage.{wrong, at_most}
-use Rattle.ctr_records.proofs.Reading.{guard_ok}
+use Rattle.ctr_rec.specs.Damage.{wrong, at_most}
+use Rattle.ctr_rec.proofs.Reading.{guard_ok}
 use Rattle.ctr_page.specs.Places.{has_previous, previous_at, pointer_at, kept_pointer_at, slot_size, kept_size}
 use Rattle.ctr_page.specs.Reading.{piece, version_in, if_there, previous_in, slot_at, older_at}
 use Rattle.ctr_page.specs.Columns.{entry_at, column_kind_at, kind_said, columns_from, first_in, kinds_of, kinds_width, slot_start, kept_start}

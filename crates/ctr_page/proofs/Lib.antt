@@ -5,4 +5,4 @@ pub mod Holding
 pub mod Passing
 pub mod Differing
 pub mod Searches
-pub use Rattle.ctr_records.proofs as ctr_records
+pub use Rattle.ctr_rec.proofs as ctr_rec

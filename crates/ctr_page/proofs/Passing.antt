@@ -2,8 +2,8 @@
 use Rattle.std.proofs.Common.{◌≡◌, ◌≢◌, ℕ, ◌≤◌, eqb, ltb, List, Ok, sym, arith}
 use Rattle.std.proofs.lemmas.Bool.{eqb-false, ltb-false}
 use Rattle.ctr_bytes.specs.Fields.{field}
-use Rattle.ctr_records.specs.Damage.{wrong, at_most}
-use Rattle.ctr_records.proofs.Reading.{guard_ok}
+use Rattle.ctr_rec.specs.Damage.{wrong, at_most}
+use Rattle.ctr_rec.proofs.Reading.{guard_ok}
 use Rattle.ctr_page.specs.Damage.{from_1_check}
 
 -- a number that passes is from 1 on, and at most so much

@@ -4,9 +4,9 @@ use Rattle.ctr_types.specs.declared.value.Kind.{Kind}
 use Rattle.ctr_types.specs.declared.value.Kind.TheVariants.{Int, Chars}
 use Rattle.ctr_bytes.specs.Fields.{field}
 use Rattle.ctr_value.specs.Payload.{field_width}
-use Rattle.ctr_records.specs.declared.decoding.BadRecord.{BadRecord}
+use Rattle.ctr_rec.specs.declared.decoding.BadRecord.{BadRecord}
 use Rattle.ctr_bytes.specs.Following.{◌>>=◌}
-use Rattle.ctr_records.specs.Damage.{wrong, expect, at_most}
+use Rattle.ctr_rec.specs.Damage.{wrong, expect, at_most}
 use Rattle.ctr_page.specs.declared.checks.Chain.{Chain}
 use Rattle.ctr_page.specs.declared.checks.Chain.TheVariants.{Rows, Versions}
 use Rattle.ctr_page.specs.declared.table.TheConstants.{KIND_AT, OWNER_AT, BUCKET_AT, NEXT_AT, HEAD_AT, TOMBSTONE_AT, VERSION_SIZE, NAME_AT, NAME_MOST, COLUMNS_AT, COLUMN_SIZE, MOST_COLUMNS, FIRSTS_AT}

@@ -7,4 +7,4 @@ pub mod Readable
 pub mod Searching
 pub mod Walking
 pub use Rattle.ctr_value.specs as ctr_value
-pub use Rattle.ctr_records.specs as ctr_records
+pub use Rattle.ctr_rec.specs as ctr_rec

@@ -1,7 +1,7 @@
 -- A search through what stands on a page, by number: each is checked before it is looked at, and
 -- the search ends at the first that is sought, or that fails its check.
 use Rattle.std.specs.Prelude.{◌≡◌, ℕ, ◌<◌, ◌≤◌, Bool, true, false, Option, None, Some, ⊤, Result, Ok, Err}
-use Rattle.ctr_records.specs.declared.decoding.BadRecord.{BadRecord}
+use Rattle.ctr_rec.specs.declared.decoding.BadRecord.{BadRecord}
 
 -- From one number on, all before another pass their checks, and none of them is sought.
 abbrev pub PassesBy : (ℕ → Result ⊤ BadRecord) → (ℕ → Bool) → ℕ → ℕ → Type 0

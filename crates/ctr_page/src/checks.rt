@@ -17,7 +17,7 @@ use crate::table::{
     kept_pointer_at, kept_size, pointer_at, previous_at, room_for, slot_size, start_of,
 };
 use ctr_bytes::{get_u8, get_u16, get_u32, get_u64};
-use ctr_records::{BadRecord, at_most, expect};
+use ctr_rec::{BadRecord, at_most, expect};
 use ctr_types::Kind;
 use ctr_value::field_width;
 

@@ -13,7 +13,7 @@ use crate::table::{
     NAME_MOST, VERSIONS_AT,
 };
 use ctr_bytes::{get_u8, get_u32, get_u64};
-use ctr_records::{Bytes, PageNo};
+use ctr_rec::{Bytes, PageNo};
 use ctr_types::{Column, Kind, Name, Schema, Xid};
 use ctr_value::put_text;
 use std::marker::Model;

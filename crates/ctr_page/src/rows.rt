@@ -10,7 +10,7 @@ use crate::table::{
     pointer_at, previous_at, slot_size, start_of,
 };
 use ctr_bytes::{get_i64, get_u8, get_u16, get_u32, get_u64};
-use ctr_records::{Bytes, PageNo};
+use ctr_rec::{Bytes, PageNo};
 use ctr_types::Xid;
 use std::marker::Model;
 

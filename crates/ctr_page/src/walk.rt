@@ -1,6 +1,6 @@
 // What is wrong with a chain of pages.
 use crate::checks::BadPage;
-use ctr_records::PageNo;
+use ctr_rec::PageNo;
 
 /// What is wrong with a chain of pages.
 #[derive(Clone, Copy, Debug, PartialEq, Eq)]

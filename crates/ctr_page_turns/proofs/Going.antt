@@ -5,7 +5,7 @@ use Rattle.ctr_disk.specs.declared.disk.Disk.{Ghosts}
 use Rattle.ctr_disk.specs.Image.{Image}
 use Rattle.ctr_disk.specs.declared.fault.StoreFault.{StoreFault}
 use Rattle.ctr_disk.specs.declared.fault.StoreFault.TheVariants.{Fault, Damaged}
-use Rattle.ctr_records.specs.declared.record.Record.{Record}
+use Rattle.ctr_rec.specs.declared.record.Record.{Record}
 use Rattle.ctr_base.specs.Base.{WhereSound}
 use Rattle.ctr_store.specs.Store.{View, LeavesFront, LeavesPage}
 use Rattle.ctr_walk.specs.OneRecord.{LogsOne}

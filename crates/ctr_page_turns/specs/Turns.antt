@@ -5,7 +5,7 @@ use Rattle.ctr_disk.specs.Image.{Image}
 use Rattle.ctr_disk.specs.declared.fault.StoreFault.{StoreFault}
 use Rattle.ctr_disk.specs.declared.fault.StoreFault.TheVariants.{Fault}
 use Rattle.ctr_types.specs.Faults.{HasFault}
-use Rattle.ctr_records.specs.declared.record.Record.{Record}
+use Rattle.ctr_rec.specs.declared.record.Record.{Record}
 use Rattle.ctr_base.specs.declared.growing.TheConstants.{MOST_PAGES}
 use Rattle.ctr_base.specs.Base.{WhereSound}
 use Rattle.ctr_store.specs.Store.{View, LeavesFront, Logs, LeavesPage, LeavesGrowing, GrowsByExtent, CountsUp}

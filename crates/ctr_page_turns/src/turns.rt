@@ -2,7 +2,7 @@
 ghost use Rattle.std.specs.Prelude.{◌≡◌, ◌∷◌, [], ℕ, Ok, Err, Result};
 ghost use Rattle.ctr_disk.specs.Image.{Image};
 ghost use Rattle.ctr_disk.specs.declared.fault.StoreFault.{StoreFault};
-ghost use Rattle.ctr_records.specs.declared.record.Record.{Record};
+ghost use Rattle.ctr_rec.specs.declared.record.Record.{Record};
 ghost use Rattle.ctr_base.specs.Base.{WhereSound};
 ghost use Rattle.ctr_store.specs.Store.{View, Logs, LeavesFront, LeavesPage};
 ghost use Rattle.ctr_walk.specs.Damage.{ReadsPages};

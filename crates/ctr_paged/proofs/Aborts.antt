@@ -24,7 +24,7 @@ use Rattle.ctr_area.specs.Areas.{Area}
 use Rattle.ctr_area.specs.Chains.{slot_places, chain_of}
 use Rattle.ctr_area.specs.Images.{is_committed_in, is_live, versions_in, entry_numbers}
 use Rattle.ctr_area.specs.Sound.{IsAmong, AreAllOnce, is_headed_by, head_count, xids_in, IsSoundArea, IsSchemaItem}
-use Rattle.ctr_records.specs.declared.record.SlogItem.TheVariants.{CreateOf, DropOf}
+use Rattle.ctr_rec.specs.declared.record.SlogItem.TheVariants.{CreateOf, DropOf}
 use Rattle.ctr_record_laws.specs.Owed.{OwedByAbort}
 use Rattle.ctr_record_laws.proofs.Begin.{xids_append}
 use Rattle.ctr_record_laws.proofs.Abort.{abort_sound}

@@ -17,7 +17,7 @@ use Rattle.ctr_versions.specs.Engine.{SessionHeld, EngineHeld, IsCalm, ShowsSess
 use Rattle.ctr_versions.specs.Laws.{with_own}
 use Rattle.ctr_versions.proofs.Cleaning.{name_step}
 use Rattle.ctr_versions.proofs.Steps.{not_mine}
-use Rattle.ctr_records.specs.declared.record.SlogItem.TheVariants.{CreateOf, DropOf}
+use Rattle.ctr_rec.specs.declared.record.SlogItem.TheVariants.{CreateOf, DropOf}
 use Rattle.ctr_meta.specs.Tables.{Tables}
 use Rattle.ctr_meta.specs.Effects.{with_item, without_item}
 use Rattle.ctr_area.specs.Areas.{Title, Area, no_pages}

@@ -10,7 +10,7 @@ use Rattle.ctr_versions.proofs.Keys.{known}
 use Rattle.ctr_versions.specs.Chains.{value_seen}
 use Rattle.ctr_versions.specs.Listing.{chain_at}
 use Rattle.ctr_versions.specs.Versions.{Made, names_at, rows_of}
-use Rattle.ctr_records.specs.declared.record.SlogItem.TheVariants.{FreeOf}
+use Rattle.ctr_rec.specs.declared.record.SlogItem.TheVariants.{FreeOf}
 use Rattle.ctr_meta.specs.Effects.{with_item}
 use Rattle.ctr_page.specs.declared.rows.Place.{Place}
 use Rattle.ctr_area.specs.Areas.{RowVersion, Slot, Older, Firsts, Area}

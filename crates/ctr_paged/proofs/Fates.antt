@@ -19,7 +19,7 @@ use Rattle.ctr_versions.specs.Engine.{SessionHeld, EngineHeld, ShowsSession, Sho
 use Rattle.ctr_versions.specs.Steps.{AreUntouched, engine_drawn}
 use Rattle.ctr_versions.proofs.Steps.{ask_step, draw_step}
 use Rattle.ctr_versions.proofs.Xids.{drawn_numbers, asked_numbers}
-use Rattle.ctr_records.specs.declared.record.SlogItem.TheVariants.{DropOf}
+use Rattle.ctr_rec.specs.declared.record.SlogItem.TheVariants.{DropOf}
 use Rattle.ctr_meta.specs.Tables.{Tables, is_in, without_xid}
 use Rattle.ctr_meta.specs.Effects.{opened_by, committed}
 use Rattle.ctr_area.specs.Areas.{Title}

@@ -1,7 +1,7 @@
 -- Records on pages and version entries that show the same.
 use Rattle.std.proofs.Common.{ℕ, true, false, refl}
 use Rattle.ctr_model.specs.declared.state.State.{State}
-use Rattle.ctr_records.specs.declared.record.SlogItem.TheVariants.{AllocOf, FreeOf}
+use Rattle.ctr_rec.specs.declared.record.SlogItem.TheVariants.{AllocOf, FreeOf}
 use Rattle.ctr_meta.specs.Effects.{with_item, without_item}
 use Rattle.ctr_meta.specs.declared.items.Wanted.TheVariants.{Allocation, OfPage}
 use Rattle.ctr_page.specs.declared.header.Header.{Header}

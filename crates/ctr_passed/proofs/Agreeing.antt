@@ -7,8 +7,8 @@ use Rattle.ctr_bytes.specs.Following.{◌>>=◌}
 use Rattle.ctr_types.specs.declared.value.Kind.{Kind}
 use Rattle.ctr_types.specs.declared.value.Kind.TheVariants.{Int, Chars}
 use Rattle.ctr_value.specs.Payload.{field_width}
-use Rattle.ctr_records.specs.declared.decoding.BadRecord.{BadRecord}
-use Rattle.ctr_records.specs.Damage.{expect, at_most}
+use Rattle.ctr_rec.specs.declared.decoding.BadRecord.{BadRecord}
+use Rattle.ctr_rec.specs.Damage.{expect, at_most}
 use Rattle.ctr_page.specs.declared.checks.Chain.{Chain}
 use Rattle.ctr_page.specs.Places.{has_previous, previous_at, pointer_at, slot_size, kept_pointer_at, kept_size, room_for}
 use Rattle.ctr_page.specs.Columns.{column_kind_at, kinds_width}

@@ -5,7 +5,7 @@ use Rattle.std.proofs.lemmas.Bool.{eq-eqb}
 use Rattle.ctr_types.specs.declared.value.Kind.{Kind}
 use Rattle.ctr_bytes.specs.Fields.{spelled, field}
 use Rattle.ctr_bytes.proofs.FieldLaws.{length-spelled, got_byte}
-use Rattle.ctr_records.specs.Damage.{wrong, expect, at_most}
+use Rattle.ctr_rec.specs.Damage.{wrong, expect, at_most}
 use Rattle.ctr_page.specs.declared.checks.Chain.{Chain}
 use Rattle.ctr_page.specs.declared.checks.Chain.TheVariants.{Rows, Versions}
 use Rattle.ctr_page.specs.declared.header.Header.{Header}

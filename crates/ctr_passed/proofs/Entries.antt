@@ -5,9 +5,9 @@ use Rattle.std.proofs.lemmas.Bool.{eq-eqb, ne_eqb, lt-ltb, le-ltb, cases_lt, cas
 use Rattle.ctr_bytes.specs.Fields.{spelled, field}
 use Rattle.ctr_bytes.specs.Following.{◌>>=◌}
 use Rattle.ctr_bytes.proofs.FieldLaws.{length-spelled, got_byte}
-use Rattle.ctr_records.specs.declared.decoding.BadRecord.{BadRecord}
-use Rattle.ctr_records.specs.declared.record.Record.{Record}
-use Rattle.ctr_records.specs.Damage.{wrong, at_most}
+use Rattle.ctr_rec.specs.declared.decoding.BadRecord.{BadRecord}
+use Rattle.ctr_rec.specs.declared.record.Record.{Record}
+use Rattle.ctr_rec.specs.Damage.{wrong, at_most}
 use Rattle.ctr_redo.specs.States.{State, step}
 use Rattle.ctr_page.specs.Damage.{counted_check, firsts_check, used_entry_check, entry_check}
 use Rattle.ctr_page.specs.Reading.{piece, put_over}

@@ -10,8 +10,8 @@ use Rattle.ctr_types.specs.Names.{IsName}
 use Rattle.ctr_bytes.specs.Fields.{spelled, field}
 use Rattle.ctr_bytes.specs.Following.{◌>>=◌}
 use Rattle.ctr_bytes.proofs.FieldLaws.{length-spelled, field-drop}
-use Rattle.ctr_records.specs.Damage.{wrong, at_most}
-use Rattle.ctr_records.proofs.Laws.{Begins, begins_less, field_last}
+use Rattle.ctr_rec.specs.Damage.{wrong, at_most}
+use Rattle.ctr_rec.proofs.Laws.{Begins, begins_less, field_last}
 use Rattle.ctr_value.specs.Columns.{KindFits, ColumnFits, ColumnsFit, kind_number, column_bytes}
 use Rattle.ctr_page.specs.Columns.{column_kind_at, text_bytes, columns_bytes, new_entry_bytes}
 use Rattle.ctr_page.specs.Damage.{counted_check, from_1_check, firsts_check, column_check, columns_check, entry_check}

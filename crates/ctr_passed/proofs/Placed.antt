@@ -4,7 +4,7 @@ use Rattle.std.proofs.Common.{◌≡◌, ℕ, ◌+◌, ◌*◌, ◌/◌, ◌%◌
 use Rattle.std.specs.Prelude.{nat_lt}
 use Rattle.ctr_versions.proofs.Keys.{known}
 use Rattle.ctr_types.specs.declared.value.Kind.{Kind}
-use Rattle.ctr_records.specs.declared.record.Record.{Record}
+use Rattle.ctr_rec.specs.declared.record.Record.{Record}
 use Rattle.ctr_redo.specs.States.{State, step}
 use Rattle.ctr_page.specs.declared.rows.Place.{Place}
 use Rattle.ctr_page.specs.declared.rows.RowSlot.{RowSlot}

@@ -14,7 +14,7 @@ use Rattle.ctr_bytes.specs.Fields.{field}
 use Rattle.ctr_bytes.proofs.FieldLaws.{length-spelled, field-drop, got_byte}
 use Rattle.ctr_value.specs.Values.{row_values}
 use Rattle.ctr_value.specs.Payload.{IsOf, AreOf, field_width, width, IsField, IsPayload, IsRowOf}
-use Rattle.ctr_records.specs.Damage.{at_most}
+use Rattle.ctr_rec.specs.Damage.{at_most}
 use Rattle.ctr_page.specs.declared.rows.RowSlot.{RowSlot}
 use Rattle.ctr_page.specs.declared.rows.VersionEntry.{VersionEntry}
 use Rattle.ctr_page.specs.Places.{has_previous, previous_at, pointer_at, kept_pointer_at, kept_size, room_for}
@@ -24,7 +24,7 @@ use Rattle.ctr_page.specs.Damage.{counted_check, place_check, pointer_check, tex
 use Rattle.ctr_page.specs.Making.{slot_bytes, kept_bytes}
 use Rattle.ctr_page.proofs.Back.{slot_back, kept_back}
 use Rattle.ctr_page.proofs.Holding.{kinds_wide}
-use Rattle.ctr_records.proofs.Laws.{Begins}
+use Rattle.ctr_rec.proofs.Laws.{Begins}
 use Rattle.ctr_area.proofs.Bytes.{byte_in_piece}
 use Rattle.ctr_passed.specs.Logged.{LeadsInside, IsVersionOf, IsSlotOf, IsOlderOf}
 use Rattle.ctr_passed.proofs.Entries.{both_pass, most_passes}

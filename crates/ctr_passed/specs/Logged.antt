@@ -12,7 +12,7 @@ use Rattle.ctr_page.specs.Places.{kept_size, start_of, room_for}
 use Rattle.ctr_page.specs.Making.{header_bytes, slot_bytes, kept_bytes, IsSlot, IsEntry}
 use Rattle.ctr_page.specs.Readable.{HoldsRow}
 use Rattle.ctr_page.specs.Reading.{put_over}
-use Rattle.ctr_records.specs.declared.record.Record.{Record}
+use Rattle.ctr_rec.specs.declared.record.Record.{Record}
 use Rattle.ctr_redo.specs.States.{State, step}
 use Rattle.ctr_record_effects.specs.States.{pages_in, area_in, IsWholePage}
 use Rattle.ctr_record_effects.specs.Changing.{laid_on_place, Lays}

@@ -2,7 +2,7 @@
 pub use Rattle.ctr_types.specs.declared.value.Column.{Column}
 pub use Rattle.ctr_types.specs.Names.{IsName}
 pub use Rattle.ctr_value.specs.Columns.{ColumnsFit}
-pub use Rattle.ctr_records.specs.declared.record.Record.{Record}
+pub use Rattle.ctr_rec.specs.declared.record.Record.{Record}
 pub use Rattle.ctr_redo.specs.Overlaid.{touches}
 pub use Rattle.ctr_redo.specs.States.{State, step, counting}
 pub use Rattle.ctr_page.specs.declared.header.Header.{Header}
@@ -18,7 +18,7 @@ pub use Rattle.ctr_actions.specs.Actions.{Links, LinksOlder, Keeps, Writes, Crea
 pub use Rattle.ctr_area.specs.Chains.{pages_bound, slot_places, older_places}
 pub use Rattle.ctr_area.specs.Checked.{ArePassed}
 pub use Rattle.ctr_actions.specs.Records.{Does}
-pub use Rattle.ctr_records.specs.declared.record.Record.TheVariants.{Begin, Commit, Abort, Forget, Checkpoint}
+pub use Rattle.ctr_rec.specs.declared.record.Record.TheVariants.{Begin, Commit, Abort, Forget, Checkpoint}
 pub use Rattle.ctr_page.specs.declared.table.TheConstants.{ENTRY_SIZE}
 pub use Rattle.ctr_record_laws.specs.Loose.{IsLoose}
 pub use Rattle.ctr_page.specs.Places.{room_for}

@@ -1,6 +1,6 @@
 -- The frames of a pool: which page is in which, with what, and since when it is changed.
 use Rattle.std.specs.Prelude.{◌≡◌, ◌==◌, ◌+◌, ◌≤◌, ℕ, Bool, List, [], ◌∷◌, Option, None, Some, is_some, if◌then◌else◌}
-use Rattle.ctr_records.specs.declared.record.Overlay.{Overlay}
+use Rattle.ctr_rec.specs.declared.record.Overlay.{Overlay}
 use Rattle.ctr_pool.specs.declared.frame.Frame.{Frame}
 use Rattle.ctr_pool.specs.Pages.{PageHeld, overlaid_by}
 

@@ -1,6 +1,6 @@
 -- A page: what is held of it, and what an overlay makes of it.
 use Rattle.std.specs.Prelude.{ℕ, ◌+◌, List, ◌++◌, length, take, drop, replicate, if◌then◌else◌}
-use Rattle.ctr_records.specs.declared.record.Overlay.{Overlay}
+use Rattle.ctr_rec.specs.declared.record.Overlay.{Overlay}
 
 -- The LSN of the last record in it, and its 4,096 bytes.
 pub record PageHeld : Type 0 where

@@ -3,7 +3,7 @@ ghost use Rattle.std.specs.Prelude.{◌≡◌, ◌==◌, ◌≤◌, ◌<◌, ◌
 ghost use Rattle.ctr_pool.specs.Kept.{age_of, first_age, AreByAge};
 
 use crate::Lsn;
-use ctr_records::PageNo;
+use ctr_rec::PageNo;
 use ctr_types::OutOfMemory;
 use std::alloc::Global;
 use std::marker::Model;

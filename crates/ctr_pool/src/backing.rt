@@ -8,7 +8,7 @@ ghost use Rattle.ctr_pool.specs.Below.{PutsPage, HoldsStill, IsFound};
 
 use crate::Lsn;
 use ctr_disk::StoreFault;
-use ctr_records::PageNo;
+use ctr_rec::PageNo;
 
 /// Pages below a pool. Each is held as an LSN and a body of 4,096 bytes.
 pub trait Backing {

@@ -7,7 +7,7 @@ ghost use Rattle.ctr_disk.specs.declared.fault.StoreFault.TheVariants.{Fault};
 
 use crate::{Backing, Lsn};
 use ctr_disk::StoreFault;
-use ctr_records::{Overlay, PageNo};
+use ctr_rec::{Overlay, PageNo};
 use ctr_types::OutOfMemory;
 use std::alloc::Global;
 use std::marker::Model;

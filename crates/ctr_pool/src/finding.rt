@@ -4,7 +4,7 @@ ghost use Rattle.ctr_pool.specs.declared.frame.Frame.{Frame as Framed};
 ghost use Rattle.ctr_pool.specs.Kept.{AreOrdered};
 
 use crate::Frame;
-use ctr_records::PageNo;
+use ctr_rec::PageNo;
 
 /// The place of a page's frame, or the place where it would stand. A place is looked at first where the page may stand.
 pub fn find(frames: &[Frame], first: usize, page: PageNo) -> Result<usize, usize>

@@ -1,6 +1,6 @@
 // A page in memory.
 use crate::{Body, Lsn};
-use ctr_records::PageNo;
+use ctr_rec::PageNo;
 
 /// A page in memory.
 #[derive(Debug, Drop)]

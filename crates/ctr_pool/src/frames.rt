@@ -10,7 +10,7 @@ ghost use Rattle.ctr_disk.specs.declared.fault.StoreFault.TheVariants.{Fault};
 use crate::finding::find;
 use crate::{Backing, Body, Frame, Lsn};
 use ctr_disk::StoreFault;
-use ctr_records::{Overlay, PageNo};
+use ctr_rec::{Overlay, PageNo};
 use ctr_types::OutOfMemory;
 use std::alloc::Global;
 use std::marker::Model;

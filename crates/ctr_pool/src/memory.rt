@@ -6,7 +6,7 @@ ghost use Rattle.ctr_types.specs.Faults.{CountsFault};
 use crate::body::clear_all;
 use crate::{Backing, Body, Lsn};
 use ctr_disk::StoreFault;
-use ctr_records::PageNo;
+use ctr_rec::PageNo;
 use ctr_types::OutOfMemory;
 use std::alloc::Global;
 

@@ -11,7 +11,7 @@ use crate::ages::Ages;
 use crate::frames::Frames;
 use crate::{Backing, Body, Lsn};
 use ctr_disk::StoreFault;
-use ctr_records::{Overlay, PageNo};
+use ctr_rec::{Overlay, PageNo};
 use ctr_types::OutOfMemory;
 use std::alloc::Global;
 use std::marker::Model;

@@ -10,8 +10,8 @@ use Rattle.ctr_bytes.specs.Fields.{field}
 use Rattle.ctr_bytes.specs.Following.{◌>>=◌}
 use Rattle.ctr_bytes.proofs.FieldLaws.{AreBytes}
 use Rattle.ctr_value.specs.Payload.{IsKeyed}
-use Rattle.ctr_records.specs.declared.decoding.BadRecord.{BadRecord}
-use Rattle.ctr_records.specs.Damage.{at_most}
+use Rattle.ctr_rec.specs.declared.decoding.BadRecord.{BadRecord}
+use Rattle.ctr_rec.specs.Damage.{at_most}
 use Rattle.ctr_page.specs.declared.rows.Version.{Version}
 use Rattle.ctr_page.specs.Places.{has_previous, previous_at, pointer_at, kept_pointer_at, slot_size, kept_size, room_for}
 use Rattle.ctr_page.specs.Reading.{piece, place_in, version_in, if_there, previous_in, slot_at, older_at}

@@ -7,9 +7,9 @@ use Rattle.std.proofs.lemmas.Bool.{ltb-false, le-ltb, leb-true}
 use Rattle.ctr_types.specs.declared.value.Kind.{Kind}
 use Rattle.ctr_bytes.specs.Fields.{field}
 use Rattle.ctr_bytes.specs.Following.{◌>>=◌}
-use Rattle.ctr_records.specs.declared.decoding.BadRecord.{BadRecord}
-use Rattle.ctr_records.specs.Damage.{wrong, expect, at_most}
-use Rattle.ctr_records.proofs.Reading.{bind_ok, guard_ok, expect_ok}
+use Rattle.ctr_rec.specs.declared.decoding.BadRecord.{BadRecord}
+use Rattle.ctr_rec.specs.Damage.{wrong, expect, at_most}
+use Rattle.ctr_rec.proofs.Reading.{bind_ok, guard_ok, expect_ok}
 use Rattle.ctr_page.specs.declared.checks.Chain.TheVariants.{Rows, Versions}
 use Rattle.ctr_page.specs.declared.walk.BadChain.{BadChain}
 use Rattle.ctr_page.specs.declared.walk.BadChain.TheVariants.{OnPage}

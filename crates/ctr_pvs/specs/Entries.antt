@@ -1,7 +1,7 @@
 -- The version entries of a page: which is free, and what is wrong with one.
 use Rattle.std.specs.Prelude.{ℕ, ◌==◌, Bool, not, List, Option, ⊤, Result}
 use Rattle.ctr_types.specs.declared.value.Kind.{Kind}
-use Rattle.ctr_records.specs.declared.decoding.BadRecord.{BadRecord}
+use Rattle.ctr_rec.specs.declared.decoding.BadRecord.{BadRecord}
 use Rattle.ctr_page.specs.Places.{kept_size, room_for}
 use Rattle.ctr_page.specs.Reading.{older_at}
 use Rattle.ctr_page.specs.Columns.{kinds_width, kept_start}

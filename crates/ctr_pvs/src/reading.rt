@@ -14,7 +14,7 @@ use ctr_page::{
     BadPage, Chain, RowSlot, VersionEntry, check_header, check_slot, check_version, kept_size,
     kinds_width, read_header, read_slot, read_version, room_for, slot_size,
 };
-use ctr_records::{PageNo, at_most};
+use ctr_rec::{PageNo, at_most};
 use ctr_walk::TableOf;
 
 /// Checks that a page has a slot or a version entry of a number, where they are of this size.

@@ -29,7 +29,7 @@ use ctr_disk::{Disk, StoreFault};
 use ctr_page::{
     BadPage, PageKind, Place, RowSlot, Tombstone, Use, Version, kinds_width, read_slot,
 };
-use ctr_records::Bytes;
+use ctr_rec::Bytes;
 use ctr_store::Store;
 use ctr_types::Xid;
 use ctr_walk::{SearchFault, TableOf, found_on, tell};

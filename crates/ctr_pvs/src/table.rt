@@ -14,7 +14,7 @@ ghost use Rattle.ctr_pvs.specs.Table.{there_check, KindsSaid, OwnerSaid, TableFi
 use ctr_base::Origin;
 use ctr_disk::Disk;
 use ctr_page::{BadPage, EntryState, PageKind, check_entry, read_entry, read_header};
-use ctr_records::{BadRecord, PageNo, at_most, expect};
+use ctr_rec::{BadRecord, PageNo, at_most, expect};
 use ctr_store::Store;
 use ctr_walk::{SearchFault, TableOf, an_entry_has_columns, catalog_page, found_on};
 

@@ -28,11 +28,11 @@ use ctr_disk::{Disk, StoreFault};
 use ctr_page::{
     PageKind, Place, Tombstone, Use, Version, VersionEntry, kept_size, kinds_width, make_version,
 };
+use ctr_rec::{Bytes, Record};
 use ctr_record_effects::{a_version_is_laid, over_place};
 use ctr_record_laws::{
     a_free_entry_shows_the_same, a_keep_shows_the_same, a_kept_version_is_spare,
 };
-use ctr_records::{Bytes, Record};
 use ctr_store::Store;
 use ctr_types::Xid;
 use ctr_walk::{SearchFault, found_on, log_on_page, tell};

@@ -2,7 +2,7 @@
 use Rattle.std.specs.Prelude.{◌≡◌, ◌≢◌, ℕ, ◌==◌, ℤ, Bool, List, [], ◌∷◌, Option, None, Some, Result, Ok, Err, if◌then◌else◌}
 use Rattle.ctr_types.specs.declared.memory.OutOfMemory.{OutOfMemory}
 use Rattle.ctr_types.specs.declared.value.Row.{Row}
-use Rattle.ctr_records.specs.declared.decoding.BadRecord.{BadRecord}
+use Rattle.ctr_rec.specs.declared.decoding.BadRecord.{BadRecord}
 use Rattle.ctr_page.specs.declared.checks.Chain.{Chain}
 use Rattle.ctr_page.specs.declared.checks.Chain.TheVariants.{Rows, Versions}
 use Rattle.ctr_page.specs.declared.rows.Place.{Place}

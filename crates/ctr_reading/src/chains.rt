@@ -17,7 +17,7 @@ use ctr_base::Origin;
 use ctr_chain::ReadRefusal;
 use ctr_disk::Disk;
 use ctr_page::{BadChain, Chain};
-use ctr_records::PageNo;
+use ctr_rec::PageNo;
 use ctr_store::Store;
 use ctr_undamaged::a_bucket_search_meets_no_damage;
 use ctr_walk::{SearchFault, first_page, tell};

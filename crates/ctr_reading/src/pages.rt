@@ -17,7 +17,7 @@ use ctr_page::{
     BadPage, Chain, PageKind, check_header, kinds_width, read_header, room_for, slot_size,
 };
 use ctr_pvs::table_on;
-use ctr_records::PageNo;
+use ctr_rec::PageNo;
 use ctr_store::Store;
 use ctr_walk::{SearchFault, TableOf, found_on, tell};
 

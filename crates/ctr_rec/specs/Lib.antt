@@ -1,5 +1,8 @@
-pub mod Fold
-pub mod Items
-pub mod Encode
-pub mod Decode
-pub mod Replay
+pub mod Table
+pub mod Parts
+pub mod Spelling
+pub mod Damage
+pub mod Checkpoint
+pub mod Members
+pub mod Records
+pub mod Read

@@ -2,8 +2,8 @@
 use Rattle.std.proofs.Common.{◌≡◌, ⊎_elim, ℕ, zero, suc, ◌+◌, ◌==◌, ◌<◌, ◌≤◌, cond, List, [], ◌∷◌, ◌++◌, length, take, drop, replicate, Option, Some, refl, sym, ◌∙◌, ap, subst, arith, append_assoc}
 use Rattle.std.proofs.lemmas.Bool.{eqb-true, eqb-false, eq-eqb, ne_eqb, cases_lt}
 use Rattle.ctr_area.proofs.ctr_versions.Keys.{known}
-use Rattle.ctr_records.specs.declared.record.Overlay.{Overlay}
-use Rattle.ctr_records.specs.declared.record.Record.{Record}
+use Rattle.ctr_rec.specs.declared.record.Overlay.{Overlay}
+use Rattle.ctr_rec.specs.declared.record.Record.{Record}
 use Rattle.ctr_redo.specs.ctr_pool.Pages.{overlaid_by}
 use Rattle.ctr_redo.specs.Overlaid.{lies_on, laid_over, overlay_of, touches, changed_by}
 use Rattle.ctr_redo.specs.States.{State, pages_after, step, page_at}

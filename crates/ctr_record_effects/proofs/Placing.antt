@@ -1,7 +1,7 @@
 -- What stands at a place, laid over it by a record.
 use Rattle.std.proofs.Common.{◌≡◌, cond, sym, ◌∙◌, ap, ℕ, List}
 use Rattle.std.proofs.lemmas.Bool.{eq-eqb}
-use Rattle.ctr_records.specs.declared.record.Record.{Record}
+use Rattle.ctr_rec.specs.declared.record.Record.{Record}
 use Rattle.ctr_redo.specs.States.{State, step}
 use Rattle.ctr_page.specs.declared.rows.Place.{Place}
 use Rattle.ctr_page.specs.Places.{slot_size, kept_size, start_of}

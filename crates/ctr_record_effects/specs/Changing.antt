@@ -2,9 +2,9 @@
 -- an entry of the catalog.
 use Rattle.std.specs.Prelude.{◌≡◌, ℕ, ◌+◌, ◌*◌, ◌/◌, ◌%◌, true, false, List, [], ◌∷◌, Some}
 use Rattle.ctr_bytes.specs.Fields.{spelled}
-use Rattle.ctr_records.specs.declared.record.Overlay.{Overlay}
-use Rattle.ctr_records.specs.declared.record.Record.{Record}
-use Rattle.ctr_records.specs.declared.record.Record.TheVariants.{Alloc, Format, Link, Free, Unlink, Create, Uncreate, Drop, Undrop}
+use Rattle.ctr_rec.specs.declared.record.Overlay.{Overlay}
+use Rattle.ctr_rec.specs.declared.record.Record.{Record}
+use Rattle.ctr_rec.specs.declared.record.Record.TheVariants.{Alloc, Format, Link, Free, Unlink, Create, Uncreate, Drop, Undrop}
 use Rattle.ctr_redo.specs.Overlaid.{overlay_of}
 use Rattle.ctr_types.specs.declared.value.Column.{Column}
 use Rattle.ctr_page.specs.declared.header.Header.{Header}

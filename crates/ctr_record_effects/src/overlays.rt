@@ -5,7 +5,7 @@ ghost use Rattle.ctr_page.specs.Places.{start_of};
 ghost use Rattle.ctr_record_effects.specs.Changing.{laid_at, laid_clear, laid_in_entry, laid_on_place};
 
 use ctr_page::Place;
-use ctr_records::{Bytes, Overlay, PageNo};
+use ctr_rec::{Bytes, Overlay, PageNo};
 
 /// Bytes over those of a page from a place on.
 pub fn over_page<'a>(page: PageNo, at: u16, bytes: &'a [u8]) -> Overlay<'a>

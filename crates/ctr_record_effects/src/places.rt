@@ -1,6 +1,6 @@
 // Records on what stands at a place of a page: Row, Revert and Trim of a slot; Keep and Trim of a version entry.
 ghost use Rattle.std.specs.Prelude.{◌≡◌};
-ghost use Rattle.ctr_records.specs.declared.record.Record.{Record};
+ghost use Rattle.ctr_rec.specs.declared.record.Record.{Record};
 ghost use Rattle.ctr_redo.specs.States.{State, step};
 ghost use Rattle.ctr_page.specs.declared.rows.Place.{Place};
 ghost use Rattle.ctr_page.specs.declared.rows.RowSlot.{RowSlot};

@@ -16,7 +16,7 @@ use Rattle.ctr_meta.specs.Tables.{Tables, is_in, heads_in}
 use Rattle.ctr_record_laws.proofs.Heads.{listed_drawn, listed_open}
 use Rattle.ctr_record_laws.proofs.Members.{among_front, among_rest, among_parts, all_parts, all_both}
 use Rattle.ctr_record_laws.proofs.Xids.{among_in, in_among, not_both, once_parts, tells, looked_up}
-use Rattle.ctr_records.specs.declared.record.SlogItem.TheVariants.{AllocOf, CreateOf, DropOf}
+use Rattle.ctr_rec.specs.declared.record.SlogItem.TheVariants.{AllocOf, CreateOf, DropOf}
 use Rattle.ctr_record_laws.proofs.Owning.{all_of}
 use Rattle.ctr_versions.proofs.Keys.{known}
 

@@ -13,7 +13,7 @@ use Rattle.ctr_record_laws.proofs.Members.{among_front, among_rest, among_parts,
 use Rattle.ctr_page.specs.Places.{bucket_of}
 use Rattle.ctr_page.specs.declared.header.Header.{Header}
 use Rattle.ctr_page.specs.declared.rows.Place.{Place}
-use Rattle.ctr_records.specs.declared.record.SlogItem.{SlogItem}
+use Rattle.ctr_rec.specs.declared.record.SlogItem.{SlogItem}
 use Rattle.ctr_versions.proofs.Keys.{known}
 
 -- the areas agree on these pages

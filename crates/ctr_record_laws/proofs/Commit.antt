@@ -16,8 +16,8 @@ use Rattle.ctr_meta.specs.Tables.{Tables, is_in}
 use Rattle.ctr_record_laws.proofs.Heads.{listed_drawn, listed_open, open_listed}
 use Rattle.ctr_record_laws.proofs.Members.{among_front, among_rest, among_parts, all_parts, all_both, bit}
 use Rattle.ctr_record_laws.proofs.Xids.{among_in, in_among, not_both, once_parts}
-use Rattle.ctr_records.specs.declared.record.SlogItem.{SlogItem}
-use Rattle.ctr_records.specs.declared.record.SlogItem.TheVariants.{AllocOf, FreeOf, CreateOf, DropOf}
+use Rattle.ctr_rec.specs.declared.record.SlogItem.{SlogItem}
+use Rattle.ctr_rec.specs.declared.record.SlogItem.TheVariants.{AllocOf, FreeOf, CreateOf, DropOf}
 use Rattle.ctr_record_laws.proofs.Few.{count}
 use Rattle.ctr_record_laws.proofs.Latest.{live_some, live_open}
 use Rattle.ctr_record_laws.proofs.Named.{head_same, tail_same}

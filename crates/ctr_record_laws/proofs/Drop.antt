@@ -14,8 +14,8 @@ use Rattle.ctr_meta.specs.Tables.{Tables}
 use Rattle.ctr_record_laws.proofs.Heads.{listed_drawn}
 use Rattle.ctr_record_laws.proofs.Members.{bit}
 use Rattle.ctr_record_laws.proofs.Xids.{in_among}
-use Rattle.ctr_records.specs.declared.record.SlogItem.{SlogItem}
-use Rattle.ctr_records.specs.declared.record.SlogItem.TheVariants.{AllocOf, FreeOf, CreateOf, DropOf}
+use Rattle.ctr_rec.specs.declared.record.SlogItem.{SlogItem}
+use Rattle.ctr_rec.specs.declared.record.SlogItem.TheVariants.{AllocOf, FreeOf, CreateOf, DropOf}
 use Rattle.ctr_record_laws.proofs.Items.{added, up_one, down_one, count_one, it_is_in, IsWithOne}
 use Rattle.ctr_record_laws.proofs.Latest.{entry_of_item, xid_of_item, create_isnt_drop, owned_and_one, by_title, title_here, title_apart, titled_sound, dropper_alone, others_apart, live_below, live_some, live_open, unseen_drop}
 use Rattle.ctr_record_laws.proofs.Undone.{undone_at, undone_apart, undone_last, one_of_from, filter_apart, filter_there, filter_among, drop_among, last_dropped, cut_end, uncounted}

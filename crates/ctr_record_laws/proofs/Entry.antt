@@ -10,8 +10,8 @@ use Rattle.ctr_area.specs.Images.{is_committed_in, is_standing, is_live}
 use Rattle.ctr_area.specs.Sound.{IsAmong, how_many, xids_in, owned_pages, AreNamed, IsSoundArea, IsSchemaItem, all_undone, stands_for}
 use Rattle.ctr_meta.specs.Items.{is_item_by}
 use Rattle.ctr_meta.specs.Tables.{Tables}
-use Rattle.ctr_records.specs.declared.record.SlogItem.{SlogItem}
-use Rattle.ctr_records.specs.declared.record.SlogItem.TheVariants.{CreateOf, DropOf}
+use Rattle.ctr_rec.specs.declared.record.SlogItem.{SlogItem}
+use Rattle.ctr_rec.specs.declared.record.SlogItem.TheVariants.{CreateOf, DropOf}
 use Rattle.ctr_record_laws.proofs.Fresh.{AreNoPages, mid_sound, fresh_pages, fresh_sound}
 use Rattle.ctr_record_laws.proofs.Latest.{title_apart, titled_sound, live_below, live_open}
 use Rattle.ctr_record_laws.proofs.Owning.{all_of}

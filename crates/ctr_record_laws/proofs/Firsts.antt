@@ -13,8 +13,8 @@ use Rattle.ctr_meta.specs.Tables.{Tables}
 use Rattle.ctr_record_laws.proofs.Along.{leads_same}
 use Rattle.ctr_record_laws.proofs.Members.{count_append, count_among, bit}
 use Rattle.ctr_page.specs.declared.rows.Place.{Place}
-use Rattle.ctr_records.specs.declared.record.SlogItem.{SlogItem}
-use Rattle.ctr_records.specs.declared.record.SlogItem.TheVariants.{AllocOf, FreeOf, CreateOf, DropOf}
+use Rattle.ctr_rec.specs.declared.record.SlogItem.{SlogItem}
+use Rattle.ctr_rec.specs.declared.record.SlogItem.TheVariants.{AllocOf, FreeOf, CreateOf, DropOf}
 use Rattle.ctr_record_laws.proofs.Named.{kind_of_item}
 use Rattle.ctr_record_laws.proofs.Owning.{all_of}
 use Rattle.ctr_versions.proofs.Keys.{known}

@@ -12,7 +12,7 @@ use Rattle.ctr_meta.specs.Tables.{Tables, is_in}
 use Rattle.ctr_record_laws.proofs.Heads.{listed_drawn, listed_open}
 use Rattle.ctr_record_laws.proofs.Members.{among_front, among_rest, among_parts, all_parts, all_both}
 use Rattle.ctr_record_laws.proofs.Xids.{among_in, in_among, not_both, once_parts}
-use Rattle.ctr_records.specs.declared.record.SlogItem.TheVariants.{CreateOf, DropOf}
+use Rattle.ctr_rec.specs.declared.record.SlogItem.TheVariants.{CreateOf, DropOf}
 use Rattle.ctr_record_laws.proofs.Owning.{all_of}
 use Rattle.ctr_versions.proofs.Keys.{known}
 

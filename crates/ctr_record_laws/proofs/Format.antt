@@ -15,8 +15,8 @@ use Rattle.ctr_record_laws.proofs.Members.{among_rest, count_append, count_among
 use Rattle.ctr_record_laws.proofs.Owned.{entry_inside, in_all, owned_once}
 use Rattle.ctr_record_laws.specs.Bounds.{IsInBounds}
 use Rattle.ctr_page.specs.declared.header.Header.{Header}
-use Rattle.ctr_records.specs.declared.record.SlogItem.{SlogItem}
-use Rattle.ctr_records.specs.declared.record.SlogItem.TheVariants.{AllocOf, FreeOf, CreateOf, DropOf}
+use Rattle.ctr_rec.specs.declared.record.SlogItem.{SlogItem}
+use Rattle.ctr_rec.specs.declared.record.SlogItem.TheVariants.{AllocOf, FreeOf, CreateOf, DropOf}
 use Rattle.ctr_record_laws.proofs.Away.{away_readable, away_pointers, away_behind, away_keys, away_counts, away_pages, away_below, IsSameOn}
 use Rattle.ctr_record_laws.proofs.Items.{the_one, taken_out}
 use Rattle.ctr_record_laws.proofs.Owning.{flat_among}

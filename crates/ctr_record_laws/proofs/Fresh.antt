@@ -12,7 +12,7 @@ use Rattle.ctr_area.specs.Sound.{IsAmong, how_many, xids_in, EndsIn, IsOfRows, I
 use Rattle.ctr_meta.specs.Tables.{Tables}
 use Rattle.ctr_record_laws.proofs.Members.{among_parts}
 use Rattle.ctr_page.specs.declared.header.Header.{Header}
-use Rattle.ctr_records.specs.declared.record.SlogItem.{SlogItem}
+use Rattle.ctr_rec.specs.declared.record.SlogItem.{SlogItem}
 use Rattle.ctr_record_laws.proofs.Away.{away_readable, away_pointers, away_behind, away_keys, away_counts, away_pages, away_below, IsSameOn}
 use Rattle.ctr_record_laws.proofs.Ends.{page_ends}
 use Rattle.ctr_record_laws.proofs.Latest.{by_title}

@@ -8,7 +8,7 @@ use Rattle.ctr_area.specs.Sound.{IsAmong, how_many, page_of_item}
 use Rattle.ctr_meta.specs.Items.{is_wanted, left_out}
 use Rattle.ctr_meta.specs.declared.items.Wanted.{Wanted}
 use Rattle.ctr_record_laws.proofs.Members.{count_append, bit}
-use Rattle.ctr_records.specs.declared.record.SlogItem.{SlogItem}
+use Rattle.ctr_rec.specs.declared.record.SlogItem.{SlogItem}
 use Rattle.ctr_versions.proofs.Keys.{known}
 
 -- ---- members

@@ -14,8 +14,8 @@ use Rattle.ctr_meta.specs.Tables.{Tables, is_in}
 use Rattle.ctr_record_laws.proofs.Heads.{listed_drawn, listed_open}
 use Rattle.ctr_record_laws.proofs.Members.{among_rest}
 use Rattle.ctr_record_laws.proofs.Xids.{among_in}
-use Rattle.ctr_records.specs.declared.record.SlogItem.{SlogItem}
-use Rattle.ctr_records.specs.declared.record.SlogItem.TheVariants.{AllocOf, FreeOf, CreateOf, DropOf}
+use Rattle.ctr_rec.specs.declared.record.SlogItem.{SlogItem}
+use Rattle.ctr_rec.specs.declared.record.SlogItem.TheVariants.{AllocOf, FreeOf, CreateOf, DropOf}
 use Rattle.ctr_record_laws.proofs.Items.{up_one, down_one, IsWithOne}
 use Rattle.ctr_record_laws.proofs.Named.{kind_of_item}
 use Rattle.ctr_record_laws.proofs.Owning.{all_of, others_sound, owned_with, owned_either, owned_more}

@@ -10,8 +10,8 @@ use Rattle.ctr_area.specs.Sound.{IsAmong, AreAllOnce, xids_in, AreBehind, AreNam
 use Rattle.ctr_meta.specs.Items.{is_item_by}
 use Rattle.ctr_meta.specs.Tables.{without_xid}
 use Rattle.ctr_record_laws.proofs.Members.{among_parts, all_each}
-use Rattle.ctr_records.specs.declared.record.SlogItem.{SlogItem}
-use Rattle.ctr_records.specs.declared.record.SlogItem.TheVariants.{AllocOf, FreeOf, CreateOf, DropOf}
+use Rattle.ctr_rec.specs.declared.record.SlogItem.{SlogItem}
+use Rattle.ctr_rec.specs.declared.record.SlogItem.TheVariants.{AllocOf, FreeOf, CreateOf, DropOf}
 use Rattle.ctr_record_laws.proofs.Undone.{undone_dead, one_of_from}
 use Rattle.ctr_versions.proofs.Keys.{known}
 

@@ -15,8 +15,8 @@ use Rattle.ctr_meta.specs.declared.items.Wanted.TheVariants.{Allocation}
 use Rattle.ctr_record_laws.proofs.Members.{among_rest, among_parts, on_page, count_append, bit}
 use Rattle.ctr_record_laws.specs.Bounds.{IsInBounds}
 use Rattle.ctr_page.specs.declared.header.Header.{Header}
-use Rattle.ctr_records.specs.declared.record.SlogItem.{SlogItem}
-use Rattle.ctr_records.specs.declared.record.SlogItem.TheVariants.{AllocOf}
+use Rattle.ctr_rec.specs.declared.record.SlogItem.{SlogItem}
+use Rattle.ctr_rec.specs.declared.record.SlogItem.TheVariants.{AllocOf}
 use Rattle.ctr_record_laws.proofs.Ends.{front_chain, front_ends, front_places, set_count, set_among, one_among, bucket_chain, buckets_with}
 use Rattle.ctr_record_laws.proofs.Few.{item_fine, short_bucket, short_versions}
 use Rattle.ctr_record_laws.proofs.Firsts.{firsts_readable, firsts_behind, firsts_keys, firsts_pointers, firsts_below, firsts_counts, pages_of_firsts, owned_moved, firsts_owned, AreGoodFirsts}

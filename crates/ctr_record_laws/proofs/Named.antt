@@ -5,8 +5,8 @@ use Rattle.ctr_area.specs.Areas.{Title}
 use Rattle.ctr_area.specs.Sound.{IsAmong, how_many, AreNamed, IsOneOf, IsSchemaItem, all_undone, undone, stands_for, is_creation, is_dropping}
 use Rattle.ctr_meta.specs.Items.{is_item_by}
 use Rattle.ctr_record_laws.proofs.Members.{bit}
-use Rattle.ctr_records.specs.declared.record.SlogItem.{SlogItem}
-use Rattle.ctr_records.specs.declared.record.SlogItem.TheVariants.{AllocOf, FreeOf, CreateOf, DropOf}
+use Rattle.ctr_rec.specs.declared.record.SlogItem.{SlogItem}
+use Rattle.ctr_rec.specs.declared.record.SlogItem.TheVariants.{AllocOf, FreeOf, CreateOf, DropOf}
 use Rattle.ctr_record_laws.proofs.Items.{with_one, or_the_one, count_with, IsWithOne}
 use Rattle.ctr_versions.proofs.Keys.{known}
 

@@ -17,8 +17,8 @@ use Rattle.ctr_meta.specs.declared.items.Wanted.TheVariants.{OfPage}
 use Rattle.ctr_record_laws.proofs.Heads.{turn}
 use Rattle.ctr_record_laws.proofs.Members.{among_front, among_rest, among_parts, among_flat, count_append, count_among, bit}
 use Rattle.ctr_record_laws.proofs.Xids.{in_among}
-use Rattle.ctr_records.specs.declared.record.SlogItem.{SlogItem}
-use Rattle.ctr_records.specs.declared.record.SlogItem.TheVariants.{AllocOf, FreeOf, CreateOf, DropOf}
+use Rattle.ctr_rec.specs.declared.record.SlogItem.{SlogItem}
+use Rattle.ctr_rec.specs.declared.record.SlogItem.TheVariants.{AllocOf, FreeOf, CreateOf, DropOf}
 use Rattle.ctr_record_laws.proofs.Items.{with_one, or_the_one, the_one, pages_with, added, taken_out, IsWithOne}
 use Rattle.ctr_record_laws.proofs.Named.{alloc_of_page, free_of_page, named_same, longer_same, shorter_same, items_up, items_down, IsOfPage}
 use Rattle.ctr_record_laws.specs.Owed.{OwedByAlloc, OwedByFree}

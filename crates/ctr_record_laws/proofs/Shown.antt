@@ -19,7 +19,7 @@ use Rattle.ctr_record_laws.proofs.Members.{among_front, on_page}
 use Rattle.ctr_record_laws.specs.Bounds.{IsInBounds}
 use Rattle.ctr_page.specs.declared.header.Header.{Header}
 use Rattle.ctr_page.specs.declared.rows.Place.{Place}
-use Rattle.ctr_records.specs.declared.record.SlogItem.TheVariants.{AllocOf, FreeOf, CreateOf, DropOf}
+use Rattle.ctr_rec.specs.declared.record.SlogItem.TheVariants.{AllocOf, FreeOf, CreateOf, DropOf}
 use Rattle.ctr_record_laws.proofs.Away.{away_chain, place_on_chains, slot_places_same, IsSameOn}
 use Rattle.ctr_record_laws.proofs.Ends.{front_places}
 use Rattle.ctr_record_laws.proofs.Firsts.{by_entry}

@@ -12,8 +12,8 @@ use Rattle.ctr_meta.specs.Items.{is_wanted, is_item_by, left_out}
 use Rattle.ctr_meta.specs.Tables.{Tables}
 use Rattle.ctr_meta.specs.declared.items.Wanted.TheVariants.{Creation}
 use Rattle.ctr_record_laws.proofs.Members.{among_parts, bit}
-use Rattle.ctr_records.specs.declared.record.SlogItem.{SlogItem}
-use Rattle.ctr_records.specs.declared.record.SlogItem.TheVariants.{AllocOf, FreeOf, CreateOf, DropOf}
+use Rattle.ctr_rec.specs.declared.record.SlogItem.{SlogItem}
+use Rattle.ctr_rec.specs.declared.record.SlogItem.TheVariants.{AllocOf, FreeOf, CreateOf, DropOf}
 use Rattle.ctr_record_laws.proofs.Items.{the_one, taken_out, up_one, down_one, count_one, it_is_in, any_there, IsWithOne}
 use Rattle.ctr_record_laws.proofs.Latest.{entry_of_item, create_isnt_drop, none_later, own_undone, others_same, owned_less, by_title, title_apart, titled_sound, live_below}
 use Rattle.ctr_record_laws.proofs.Named.{cut_with}

@@ -7,8 +7,8 @@ use Rattle.ctr_area.specs.Areas.{Title}
 use Rattle.ctr_area.specs.Images.{is_live}
 use Rattle.ctr_area.specs.Sound.{IsAmong, how_many, IsOneOf, all_undone, undone}
 use Rattle.ctr_record_laws.proofs.Members.{bit}
-use Rattle.ctr_records.specs.declared.record.SlogItem.{SlogItem}
-use Rattle.ctr_records.specs.declared.record.SlogItem.TheVariants.{AllocOf, FreeOf, CreateOf, DropOf}
+use Rattle.ctr_rec.specs.declared.record.SlogItem.{SlogItem}
+use Rattle.ctr_rec.specs.declared.record.SlogItem.TheVariants.{AllocOf, FreeOf, CreateOf, DropOf}
 use Rattle.ctr_record_laws.proofs.Items.{the_one}
 use Rattle.ctr_record_laws.proofs.Links.{none_pass}
 use Rattle.ctr_record_laws.proofs.Named.{head_same, tail_same}

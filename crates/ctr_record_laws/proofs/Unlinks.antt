@@ -16,8 +16,8 @@ use Rattle.ctr_record_laws.proofs.Heads.{listed_open}
 use Rattle.ctr_record_laws.proofs.Members.{among_front, among_rest, among_parts, on_page, count_append, bit}
 use Rattle.ctr_record_laws.specs.Bounds.{IsInBounds}
 use Rattle.ctr_page.specs.declared.rows.Place.{Place}
-use Rattle.ctr_records.specs.declared.record.SlogItem.{SlogItem}
-use Rattle.ctr_records.specs.declared.record.SlogItem.TheVariants.{FreeOf}
+use Rattle.ctr_rec.specs.declared.record.SlogItem.{SlogItem}
+use Rattle.ctr_rec.specs.declared.record.SlogItem.TheVariants.{FreeOf}
 use Rattle.ctr_record_laws.proofs.Ends.{behind_chain, front_places, set_count, set_among, one_among, bucket_chain, buckets_with}
 use Rattle.ctr_record_laws.proofs.Firsts.{firsts_readable, firsts_behind, firsts_keys, firsts_pointers, firsts_below, firsts_counts, pages_of_firsts, owned_moved, firsts_owned, AreGoodFirsts}
 use Rattle.ctr_record_laws.proofs.Items.{or_the_one, added, IsWithOne}

@@ -16,8 +16,8 @@ use Rattle.ctr_meta.specs.declared.items.Wanted.{Wanted}
 use Rattle.ctr_meta.specs.declared.items.Wanted.TheVariants.{Allocation, OfPage}
 use Rattle.ctr_meta.specs.Items.{is_wanted, is_item_by}
 use Rattle.ctr_page.specs.declared.header.Header.{Header}
-use Rattle.ctr_records.specs.declared.record.SlogItem.{SlogItem}
-use Rattle.ctr_records.specs.declared.record.SlogItem.TheVariants.{CreateOf, DropOf, AllocOf}
+use Rattle.ctr_rec.specs.declared.record.SlogItem.{SlogItem}
+use Rattle.ctr_rec.specs.declared.record.SlogItem.TheVariants.{CreateOf, DropOf, AllocOf}
 
 -- What a Keep owes: the place is one of the table's versions and is free, and the version is by a
 -- transaction that was drawn.

@@ -14,7 +14,7 @@ ghost use Rattle.ctr_versions.specs.Chains.{Numbers};
 ghost use Rattle.ctr_versions.specs.Changes.{write, revert, cut};
 ghost use Rattle.ctr_versions.specs.Versions.{rows_of, RowsSet};
 ghost use Rattle.ctr_meta.specs.Effects.{one_aborted_less, with_item};
-ghost use Rattle.ctr_records.specs.declared.record.SlogItem.TheVariants.{AllocOf, FreeOf, CreateOf, DropOf};
+ghost use Rattle.ctr_rec.specs.declared.record.SlogItem.TheVariants.{AllocOf, FreeOf, CreateOf, DropOf};
 ghost use Rattle.ctr_page.specs.declared.header.Header.{Header};
 ghost use Rattle.ctr_record_laws.specs.Shows.{ShowTheSame};
 

@@ -1,6 +1,6 @@
 // An area stays sound by each record on a whole page, on the catalog and on a transaction.
 ghost use Rattle.std.specs.Prelude.{◌≡◌, ◌≤◌, ◌∷◌, ℕ, Bool, true, false, List};
-ghost use Rattle.ctr_records.specs.declared.record.SlogItem.TheVariants.{AllocOf, FreeOf, CreateOf, DropOf};
+ghost use Rattle.ctr_rec.specs.declared.record.SlogItem.TheVariants.{AllocOf, FreeOf, CreateOf, DropOf};
 ghost use Rattle.ctr_meta.specs.declared.items.Wanted.TheVariants.{Allocation, OfPage, Creation, Dropping};
 ghost use Rattle.ctr_meta.specs.Tables.{Tables, is_in};
 ghost use Rattle.ctr_meta.specs.Effects.{with_item, without_item, opened_by, committed, rolled_back, forgotten_by};

@@ -9,8 +9,8 @@ use Rattle.ctr_log.specs.Logs.{Batches, Log, records}
 use Rattle.ctr_log.specs.Reading.{log_file}
 use Rattle.ctr_log.specs.Kept.{log_in, kept_log, other_file, writer_file, has_newer, IsDropped, HoldsTwo, HoldsLog, WritesBy}
 use Rattle.ctr_log.proofs.KeptLaws.{log_in_is, begins}
-use Rattle.ctr_records.specs.declared.record.Overlay.{Overlay}
-use Rattle.ctr_records.specs.Read.{record_in}
+use Rattle.ctr_rec.specs.declared.record.Overlay.{Overlay}
+use Rattle.ctr_rec.specs.Read.{record_in}
 use Rattle.ctr_meta.specs.Tables.{Tables, no_tables}
 use Rattle.ctr_meta.specs.Effects.{effect}
 use Rattle.ctr_pool.specs.Pages.{PageHeld}

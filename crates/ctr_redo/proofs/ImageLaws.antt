@@ -17,8 +17,8 @@ use Rattle.ctr_log.specs.Logs.{HasLog, records}
 use Rattle.ctr_log.specs.Reading.{log_file}
 use Rattle.ctr_log.specs.Kept.{log_in, kept_in, kept_log, other_file, writer_file, has_newer, IsDropped, HoldsLog, KeepsPrefix}
 use Rattle.ctr_log.proofs.KeptLaws.{holds_is}
-use Rattle.ctr_records.specs.declared.record.Record.{Record}
-use Rattle.ctr_records.specs.Read.{record_in}
+use Rattle.ctr_rec.specs.declared.record.Record.{Record}
+use Rattle.ctr_rec.specs.Read.{record_in}
 use Rattle.ctr_pool.specs.Pages.{PageHeld}
 use Rattle.ctr_meta.specs.Tables.{no_tables}
 use Rattle.ctr_redo.specs.Fitting.{EachFits, BeginsOnce, FilesBegin, last_file, MayFollow, TablesGoOn, HaveNoCheckpoint}

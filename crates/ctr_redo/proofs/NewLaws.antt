@@ -5,16 +5,16 @@ use Rattle.std.proofs.lemmas.Bool.{cases_lt}
 use Rattle.ctr_disk.specs.Image.{Image}
 use Rattle.ctr_home.specs.Blocks.{BlockValue, zero_bytes}
 use Rattle.ctr_bytes.specs.Fields.{spelled, field}
-use Rattle.ctr_records.specs.Checkpoint.{checkpoint_checks}
-use Rattle.ctr_records.specs.Members.{pairs_from, items_from, lists_bytes, MembersFit}
-use Rattle.ctr_records.specs.Spelling.{checkpoint_bytes, record_bytes}
-use Rattle.ctr_records.proofs.MemberLaws.{members_pass}
+use Rattle.ctr_rec.specs.Checkpoint.{checkpoint_checks}
+use Rattle.ctr_rec.specs.Members.{pairs_from, items_from, lists_bytes, MembersFit}
+use Rattle.ctr_rec.specs.Spelling.{checkpoint_bytes, record_bytes}
+use Rattle.ctr_rec.proofs.MemberLaws.{members_pass}
 use Rattle.ctr_log.specs.Fresh.{first_checkpoint, fresh_log, IsClosed}
 use Rattle.ctr_log.specs.Kept.{log_in, kept_log, has_newer, HoldsLog}
 use Rattle.ctr_log.proofs.KeptLaws.{holds_is}
-use Rattle.ctr_records.specs.declared.record.Record.{Record}
-use Rattle.ctr_records.specs.declared.record.Record.TheVariants.{Checkpoint}
-use Rattle.ctr_records.specs.Read.{record_in}
+use Rattle.ctr_rec.specs.declared.record.Record.{Record}
+use Rattle.ctr_rec.specs.declared.record.Record.TheVariants.{Checkpoint}
+use Rattle.ctr_rec.specs.Read.{record_in}
 use Rattle.ctr_meta.specs.Tables.{no_tables}
 use Rattle.ctr_meta.specs.Kept.{IsLogged}
 use Rattle.ctr_meta.specs.Needs.{needs}

@@ -6,9 +6,9 @@ use Rattle.ctr_disk.specs.Image.{Image, content}
 use Rattle.ctr_bytes.specs.Fields.{field}
 use Rattle.ctr_log.specs.Reading.{log_file}
 use Rattle.ctr_log.specs.Kept.{log_in, kept_log, other_file, has_newer, writer_file}
-use Rattle.ctr_records.specs.declared.record.Overlay.{Overlay}
-use Rattle.ctr_records.specs.Spelling.{record_bytes}
-use Rattle.ctr_records.specs.Read.{record_in}
+use Rattle.ctr_rec.specs.declared.record.Overlay.{Overlay}
+use Rattle.ctr_rec.specs.Spelling.{record_bytes}
+use Rattle.ctr_rec.specs.Read.{record_in}
 use Rattle.ctr_meta.specs.Tables.{Tables, no_tables}
 use Rattle.ctr_meta.specs.Effects.{effect}
 use Rattle.ctr_meta.specs.Needs.{needs}

@@ -12,8 +12,8 @@ use Rattle.ctr_log.specs.Logs.{HasLog}
 use Rattle.ctr_log.specs.Fresh.{fresh_log, IsClosed}
 use Rattle.ctr_meta.specs.Tables.{no_tables}
 use Rattle.ctr_log.specs.Kept.{kept_log, HoldsLog}
-use Rattle.ctr_records.specs.declared.record.Record.{Record}
-use Rattle.ctr_records.specs.Read.{record_in}
+use Rattle.ctr_rec.specs.declared.record.Record.{Record}
+use Rattle.ctr_rec.specs.Read.{record_in}
 use Rattle.ctr_pool.specs.Pages.{PageHeld}
 use Rattle.ctr_redo.specs.Overlaid.{overlaid}
 use Rattle.ctr_redo.specs.Fitting.{EachFits, FilesBegin, TablesGoOn}

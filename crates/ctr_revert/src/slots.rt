@@ -5,7 +5,7 @@ ghost use Rattle.ctr_page.specs.Making.{slot_bytes, IsSlot, IsEntry};
 ghost use Rattle.ctr_revert.specs.Reverting.{blank_slot, MadeFrom, MadeByEntry, IsMadeOr, if_used};
 
 use ctr_page::{Place, RowSlot, Tombstone, Use, Version, VersionEntry, make_slot};
-use ctr_records::Bytes;
+use ctr_rec::Bytes;
 use ctr_types::Xid;
 
 /// The most bytes of a slot.

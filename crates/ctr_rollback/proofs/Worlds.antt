@@ -11,8 +11,8 @@ use Rattle.ctr_model.specs.Texts.{answers}
 use Rattle.ctr_model.proofs.Sessions.{find-put-same}
 use Rattle.ctr_versions.proofs.Keys.{some_is}
 use Rattle.ctr_versions.specs.Engine.{SessionHeld}
-use Rattle.ctr_records.specs.declared.record.SlogItem.{SlogItem}
-use Rattle.ctr_records.specs.declared.record.SlogItem.TheVariants.{AllocOf, FreeOf, CreateOf, DropOf}
+use Rattle.ctr_rec.specs.declared.record.SlogItem.{SlogItem}
+use Rattle.ctr_rec.specs.declared.record.SlogItem.TheVariants.{AllocOf, FreeOf, CreateOf, DropOf}
 use Rattle.ctr_record_laws.specs.Owed.{IsLastItem}
 use Rattle.ctr_names.specs.Held.{IsNameHeldBy}
 use Rattle.ctr_area.specs.Areas.{Title}

@@ -1,8 +1,8 @@
 // Which item is undone next, and the two calls of a rollback that log a record, each beside the steps that it takes.
 ghost use Rattle.std.specs.Prelude.{◌≡◌, ◌+◌, ℕ, None, [], filter, IfSome, OnOk, IfErr};
 ghost use Rattle.ctr_disk.specs.declared.fault.StoreFault.TheVariants.{Fault};
-ghost use Rattle.ctr_records.specs.declared.record.Record.TheVariants.{Abort};
-ghost use Rattle.ctr_records.specs.Members.{ItemFits};
+ghost use Rattle.ctr_rec.specs.declared.record.Record.TheVariants.{Abort};
+ghost use Rattle.ctr_rec.specs.Members.{ItemFits};
 ghost use Rattle.ctr_meta.specs.Items.{is_item_by};
 ghost use Rattle.ctr_record_effects.specs.Standing.{IsDatabaseState};
 ghost use Rattle.ctr_record_laws.specs.Owed.{IsLastItem};
@@ -26,8 +26,8 @@ use ctr_passed::{
     owed_records_are_laid_as_their_actions, pages_lie_as_their_actions,
     records_without_bytes_lie_as_their_actions,
 };
+use ctr_rec::SlogItem;
 use ctr_record_laws::pages_are_in_bounds;
-use ctr_records::SlogItem;
 use ctr_store::Store;
 use ctr_tally::Steps;
 use ctr_txn::Txns;

@@ -17,14 +17,14 @@ use Rattle.ctr_model.specs.Tape.{at_start, final, progress_of, statements_of, st
 use Rattle.ctr_txn.specs.Held.{IsOneOfEight}
 use Rattle.ctr_serial.specs.Lines.{count_in}
 use Rattle.ctr_serial.proofs.Lists.{count_front, count_mine, serial_front}
-use Rattle.ctr_page_world.proofs.ctr_exec.Places.{count_of, runner_of}
-use Rattle.ctr_page_world.specs.ctr_exec.declared.runners.Runner.{Runner}
-use Rattle.ctr_page_world.specs.ctr_exec.declared.sessions.Sessions.{Sessions}
-use Rattle.ctr_page_world.specs.ctr_exec.Order.{IsOrdered, IsReleaseEntry, StandInOrder, led_from}
-use Rattle.ctr_page_world.specs.ctr_exec.Runners.{AreRunners, runner_at, IsRunnerOf}
-use Rattle.ctr_page_world.specs.Held.{Held}
-use Rattle.ctr_page_world.specs.Opened.{IsRunLine}
-use Rattle.ctr_page_world.specs.Turns.{EndsTurn, HasStatementLeft}
+use Rattle.ctr_world.proofs.ctr_exec.Places.{count_of, runner_of}
+use Rattle.ctr_world.specs.ctr_exec.declared.runners.Runner.{Runner}
+use Rattle.ctr_world.specs.ctr_exec.declared.sessions.Sessions.{Sessions}
+use Rattle.ctr_world.specs.ctr_exec.Order.{IsOrdered, IsReleaseEntry, StandInOrder, led_from}
+use Rattle.ctr_world.specs.ctr_exec.Runners.{AreRunners, runner_at, IsRunnerOf}
+use Rattle.ctr_world.specs.Held.{Held}
+use Rattle.ctr_world.specs.Opened.{IsRunLine}
+use Rattle.ctr_world.specs.Turns.{EndsTurn, HasStatementLeft}
 use Rattle.ctr_run.specs.Lines.{InLine, IsBetween, RanLines, RanOrStopped}
 use Rattle.ctr_run.proofs.Order.{all_append, all_as, only_recovery, order_behind, recovery_adds_none}
 use Rattle.ctr_run.proofs.Turning.{begins_line, of_line, serial_in, turn_comes, turned, Within}

@@ -26,12 +26,12 @@ use Rattle.ctr_home.specs.declared.root.Root.{Root}
 use Rattle.ctr_base.proofs.RootLaws.{one_root}
 use Rattle.ctr_store.specs.Opening.{IsUndamaged, worn_in}
 use Rattle.ctr_serial.proofs.Lists.{serial_front}
-use Rattle.ctr_page_world.specs.declared.opening.Opening.{Ghosts as Opening}
-use Rattle.ctr_page_world.specs.ctr_exec.Order.{StandInOrder}
-use Rattle.ctr_page_world.specs.Held.{Held}
-use Rattle.ctr_page_world.specs.Opened.{IsOpenedOn, IsRunLine}
-use Rattle.ctr_page_world.specs.World.{IsLegalTape, IsTapeOf, LeavesPrefix, StopsBy, IsUndamaged as GoesUndamaged}
-use Rattle.ctr_page_world.specs.Ended.{Ends, EndsInOrder, IsUnbegunWorld, PassesOpening, RefusesWith, RefusesWorld}
+use Rattle.ctr_world.specs.declared.opening.Opening.{Ghosts as Opening}
+use Rattle.ctr_world.specs.ctr_exec.Order.{StandInOrder}
+use Rattle.ctr_world.specs.Held.{Held}
+use Rattle.ctr_world.specs.Opened.{IsOpenedOn, IsRunLine}
+use Rattle.ctr_world.specs.World.{IsLegalTape, IsTapeOf, LeavesPrefix, StopsBy, IsUndamaged as GoesUndamaged}
+use Rattle.ctr_world.specs.Ended.{Ends, EndsInOrder, IsUnbegunWorld, PassesOpening, RefusesWith, RefusesWorld}
 use Rattle.ctr_run.specs.declared.ran.Ran.{Ran}
 use Rattle.ctr_run.specs.declared.ran.RunEnd.{RunEnd}
 use Rattle.ctr_run.specs.declared.ran.RunEnd.TheVariants.{Finished, Unopened, Stopped}

@@ -14,11 +14,11 @@ use Rattle.ctr_txn.specs.Held.{IsOneOfEight}
 use Rattle.ctr_serial.specs.Lines.{count_in, HasLines, IsEntryOfLine}
 use Rattle.ctr_serial.proofs.Lists.{serial_front, line_more, count_mine, count_other}
 use Rattle.ctr_serial.proofs.Walking.{line_has}
-use Rattle.ctr_page_world.proofs.ctr_exec.Points.{never_released, progress_mine, progress_other}
-use Rattle.ctr_page_world.specs.ctr_exec.declared.sessions.Sessions.{Sessions}
-use Rattle.ctr_page_world.specs.ctr_exec.Order.{IsNextInOrder, StandInOrder, led_from}
-use Rattle.ctr_page_world.specs.ctr_exec.Sessions.{AreAnswers, AreOfTurn}
-use Rattle.ctr_page_world.specs.Opened.{IsRunLine}
+use Rattle.ctr_world.proofs.ctr_exec.Points.{never_released, progress_mine, progress_other}
+use Rattle.ctr_world.specs.ctr_exec.declared.sessions.Sessions.{Sessions}
+use Rattle.ctr_world.specs.ctr_exec.Order.{IsNextInOrder, StandInOrder, led_from}
+use Rattle.ctr_world.specs.ctr_exec.Sessions.{AreAnswers, AreOfTurn}
+use Rattle.ctr_world.specs.Opened.{IsRunLine}
 use Rattle.ctr_run.specs.Lines.{IsAtRest, InLine, RanLines}
 use Rattle.ctr_run.proofs.Order.{all_append, answer_begun, answer_ends, goes_or_ends, is_of_eight, no_answer, none_answered, AllRest}
 

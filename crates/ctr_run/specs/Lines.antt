@@ -9,9 +9,9 @@ use Rattle.ctr_model.specs.declared.tape.Point.{Point}
 use Rattle.ctr_model.specs.Tape.{progress_of, IsSerial}
 use Rattle.ctr_txn.specs.Held.{IsOneOfEight}
 use Rattle.ctr_serial.specs.Lines.{count_in, HasLines, IsEntryOfLine}
-use Rattle.ctr_page_world.specs.ctr_exec.declared.sessions.Sessions.{Sessions}
-use Rattle.ctr_page_world.specs.ctr_exec.Order.{led_from}
-use Rattle.ctr_page_world.specs.Held.{Held}
+use Rattle.ctr_world.specs.ctr_exec.declared.sessions.Sessions.{Sessions}
+use Rattle.ctr_world.specs.ctr_exec.Order.{led_from}
+use Rattle.ctr_world.specs.Held.{Held}
 
 -- a session has finished the statements of the first lines, and is in the middle of none
 abbrev pub IsAtRest : List Line → ℕ → Point → ℕ → Type 0

@@ -13,9 +13,9 @@ use Rattle.ctr_area.specs.Images.{undo_size}
 use Rattle.ctr_redo.specs.States.{State}
 use Rattle.ctr_stops.specs.Stops.{HasFirstCommits}
 use Rattle.ctr_store.specs.Opening.{IsUndamaged}
-use Rattle.ctr_page_world.specs.declared.opening.Opening.{Ghosts as Opening}
-use Rattle.ctr_page_world.specs.World.{start_in, led_to, IsLegalTape, IsTapeOf, LeavesPrefix, StopsBy, IsUndamaged as GoesUndamaged}
-use Rattle.ctr_page_world.specs.Ended.{PassesOpening, RefusesWith, RefusesWorld, StandsForNone}
+use Rattle.ctr_world.specs.declared.opening.Opening.{Ghosts as Opening}
+use Rattle.ctr_world.specs.World.{start_in, led_to, IsLegalTape, IsTapeOf, LeavesPrefix, StopsBy, IsUndamaged as GoesUndamaged}
+use Rattle.ctr_world.specs.Ended.{PassesOpening, RefusesWith, RefusesWorld, StandsForNone}
 use Rattle.ctr_run.specs.declared.ran.Ran.{Ran}
 use Rattle.ctr_run.specs.declared.ran.RunEnd.{RunEnd}
 use Rattle.ctr_run.specs.declared.ran.RunEnd.TheVariants.{Finished, Unopened, Stopped}

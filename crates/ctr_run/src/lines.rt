@@ -2,14 +2,14 @@
 ghost use Rattle.std.specs.Prelude.{◌≡◌, ◌≤◌, ◌+◌, ℕ, List, length, map, slice_get, Some, None};
 ghost use Rattle.std.specs.List.{AllByRecursion};
 ghost use Rattle.ctr_types.specs.declared.statement.Line.{Line as HeldLine};
-ghost use Rattle.ctr_page_world.specs.Opened.{IsRunLine};
+ghost use Rattle.ctr_world.specs.Opened.{IsRunLine};
 ghost use Rattle.ctr_run.specs.declared.lines.Schedule.TheVariants.{Serial};
 ghost use Rattle.ctr_run.specs.Lines.{IsBetween, RanOrStopped};
 
 use ctr_base::Origin;
 use ctr_disk::Disk;
-use ctr_page_world::{Opening, World};
 use ctr_types::{Actor, Turn};
+use ctr_world::{Opening, World};
 use std::alloc::Global;
 
 /// In which order the actors of a run take their turns.

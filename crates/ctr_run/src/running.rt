@@ -4,7 +4,7 @@ ghost use Rattle.ctr_disk.specs.Crash.{Within};
 ghost use Rattle.ctr_model.specs.Tape.{IsSerial};
 ghost use Rattle.ctr_redo.specs.States.{State};
 ghost use Rattle.ctr_record_effects.specs.Standing.{StandsForDatabase};
-ghost use Rattle.ctr_page_world.specs.Opened.{IsOpenedOn, CanRun};
+ghost use Rattle.ctr_world.specs.Opened.{IsOpenedOn, CanRun};
 ghost use Rattle.ctr_run.specs.declared.lines.Schedule.TheVariants.{Serial};
 ghost use Rattle.ctr_run.specs.Running.{EndsAsAsked, EndsFor, RunsInOrder, RunsOver};
 
@@ -13,8 +13,8 @@ use crate::ran::{Ran, ended};
 use ctr_base::Origin;
 use ctr_disk::Disk;
 use ctr_log::OpenError;
-use ctr_page_world::{Opening, World};
 use ctr_types::{OutOfMemory, Script};
+use ctr_world::{Opening, World};
 use std::alloc::Global;
 use std::marker::Brand;
 

@@ -16,8 +16,8 @@ use Rattle.ctr_area.specs.Sound.{IsAmong}
 use Rattle.ctr_record_effects.specs.States.{area_in}
 use Rattle.ctr_actions.specs.Facts.{Fact, HasTable}
 use Rattle.ctr_store.specs.Store.{View}
-use Rattle.ctr_key_locks.specs.Held.{LocksOfSession, held_by_session, locks_key, session_locks}
-use Rattle.ctr_key_locks.specs.Shows.{ShowsKeyLocks}
+use Rattle.ctr_locks.specs.Held.{LocksOfSession, held_by_session, locks_key, session_locks}
+use Rattle.ctr_locks.specs.Shows.{ShowsKeyLocks}
 use Rattle.ctr_kept.specs.Walk.{Mind, with_facts}
 use Rattle.ctr_kept.specs.Turns.{Start, entry_of, state_now}
 use Rattle.ctr_stops.specs.World.{KeepsWorld}

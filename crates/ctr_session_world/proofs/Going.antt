@@ -12,7 +12,7 @@ use Rattle.ctr_types.specs.declared.tape.Act.{Act}
 use Rattle.ctr_types.specs.declared.tape.Reply.{Reply}
 use Rattle.ctr_redo.specs.States.{State as Stored}
 use Rattle.ctr_store.specs.Store.{View, KeepsRoom, LeavesFront, LeavesPage}
-use Rattle.ctr_key_locks.specs.Shows.{ShowsKeyLocks}
+use Rattle.ctr_locks.specs.Shows.{ShowsKeyLocks}
 use Rattle.ctr_kept.specs.Turns.{Start, state_now}
 use Rattle.ctr_stops.specs.World.{KeepsWorld}
 use Rattle.ctr_page_turns.specs.Turns.{RestsBehind}

@@ -11,8 +11,8 @@ use Rattle.ctr_model.specs.declared.state.State.{State}
 use Rattle.ctr_redo.specs.States.{State as Stored}
 use Rattle.ctr_store.specs.Store.{View, LeavesFront}
 use Rattle.ctr_meta.specs.Kept.{TablesKept}
-use Rattle.ctr_key_locks.specs.Held.{LocksOfSession, OfSession, SameHeld, locks_key, session_locks}
-use Rattle.ctr_key_locks.specs.Shows.{ShowsKeyLocks}
+use Rattle.ctr_locks.specs.Held.{LocksOfSession, OfSession, SameHeld, locks_key, session_locks}
+use Rattle.ctr_locks.specs.Shows.{ShowsKeyLocks}
 use Rattle.ctr_txn.specs.Held.{run_of}
 use Rattle.ctr_versions.proofs.Keys.{known}
 use Rattle.ctr_kept.specs.Turns.{Start, state_now, telling}

@@ -14,8 +14,8 @@ use Rattle.ctr_store.specs.Store.{View}
 use Rattle.ctr_kept.specs.Walk.{Mind}
 use Rattle.ctr_kept.specs.Turns.{Start, state_now}
 use Rattle.ctr_stops.specs.World.{KeepsWorld}
-use Rattle.ctr_key_locks.specs.Held.{LocksOfSession, session_locks}
-use Rattle.ctr_key_locks.specs.Shows.{ShowsKeyLocks}
+use Rattle.ctr_locks.specs.Held.{LocksOfSession, session_locks}
+use Rattle.ctr_locks.specs.Shows.{ShowsKeyLocks}
 use Rattle.ctr_txn.specs.Held.{TxnsHeld, run_of}
 
 -- the transactions of sessions, and their locks

@@ -19,7 +19,7 @@ use Rattle.ctr_model.proofs.Sessions.{known, find-put-other, find-put-same}
 use Rattle.ctr_legal.specs.Kept.{IsKept}
 use Rattle.ctr_legal.specs.Ready.{MayWriteIn, IsNext, IsReady, IsReached}
 use Rattle.ctr_legal.specs.Laws.{LegalTapesAreReached, LegalTapesGrow, IsTold}
-use Rattle.ctr_rec.specs.declared.item.Item.{Item}
+use Rattle.ctr_thin_rec.specs.declared.item.Item.{Item}
 use Rattle.ctr_gather.specs.Records.{GatheredHeld, HasRoomForItem, IsSession, OthersAlike}
 use Rattle.ctr_acts.specs.Acts.{ShowsActs}
 use Rattle.ctr_acts.specs.Writing.{CanWrite, OthersCanWrite}

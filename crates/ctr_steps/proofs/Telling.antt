@@ -17,7 +17,7 @@ use Rattle.ctr_model.specs.Tape.{goes_on}
 use Rattle.ctr_model.proofs.Sessions.{find-put-same}
 use Rattle.ctr_legal.specs.Kept.{IsKept}
 use Rattle.ctr_legal.specs.Ready.{TellsOf, IsUnasked}
-use Rattle.ctr_rec.specs.declared.item.Item.{Item}
+use Rattle.ctr_thin_rec.specs.declared.item.Item.{Item}
 use Rattle.ctr_turns.specs.Items.{HasItem, Stood}
 use Rattle.ctr_steps.specs.Steps.{AskedFor}
 

@@ -3,7 +3,7 @@
 use Rattle.std.proofs.Common.{◌≡◌, ◌⊎◌, ⊎_elim, inl, inr, ℕ, zero, suc, ◌+◌, ◌≤◌, List, [], ◌∷◌, ◌++◌, length, take, drop, refl, sym, ◌∙◌, ap, subst, arith, length-append}
 use Rattle.std.proofs.lemmas.List.{take-append-le, take_all, append-nil}
 use Rattle.ctr_disk.specs.Image.{Image}
-use Rattle.ctr_records.specs.declared.record.Record.{Record}
+use Rattle.ctr_rec.specs.declared.record.Record.{Record}
 use Rattle.ctr_model.specs.declared.database.Change.{Change}
 use Rattle.ctr_model.specs.Database.{Database, after_all}
 use Rattle.ctr_area.specs.Chains.{pages_bound}

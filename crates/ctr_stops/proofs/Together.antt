@@ -11,7 +11,7 @@ use Rattle.ctr_model.specs.Tape.{final}
 use Rattle.ctr_model.specs.Texts.{answers}
 use Rattle.ctr_legal.proofs.Tapes.{final_append, base_on, asked_on, answers_on}
 use Rattle.ctr_area.specs.Chains.{pages_bound}
-use Rattle.ctr_records.specs.declared.record.Record.{Record}
+use Rattle.ctr_rec.specs.declared.record.Record.{Record}
 use Rattle.ctr_redo.specs.States.{State as Folded, counting, grown}
 use Rattle.ctr_store.specs.Store.{View, LeavesFront, LeavesGrowing, GrowsByExtent, Logs}
 use Rattle.ctr_actions.specs.Sites.{site_of}

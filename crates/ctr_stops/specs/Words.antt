@@ -13,7 +13,7 @@ pub use Rattle.ctr_kept.specs.Turns.{Start, KeepsRun, InTransaction, AnswersEach
 pub use Rattle.ctr_types.specs.declared.tape.Entry.{Entry}
 pub use Rattle.ctr_disk.specs.Device.{LeavesOnly}
 pub use Rattle.ctr_disk.specs.Image.{Image}
-pub use Rattle.ctr_records.specs.declared.record.Record.{Record}
+pub use Rattle.ctr_rec.specs.declared.record.Record.{Record}
 pub use Rattle.ctr_model.specs.declared.database.Change.{Change}
 pub use Rattle.ctr_model.specs.Database.{Database, after_all}
 pub use Rattle.ctr_model.specs.State.{at_rest}

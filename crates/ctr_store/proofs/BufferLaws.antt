@@ -5,11 +5,11 @@ use Rattle.ctr_disk.specs.declared.fault.StoreFault.{StoreFault}
 use Rattle.std.proofs.lemmas.List.{map-append}
 use Rattle.ctr_log.specs.Logs.{Log, frame, frames, buffer_size, end_behind, log_end, WaitsOrNone}
 use Rattle.ctr_log.proofs.LogLemmas.{frames-push, length-frame}
-use Rattle.ctr_records.specs.declared.record.Record.{Record}
-use Rattle.ctr_records.specs.Records.{IsRecord}
-use Rattle.ctr_records.specs.Spelling.{record_bytes}
-use Rattle.ctr_records.specs.Read.{record_in}
-use Rattle.ctr_records.proofs.ReadBack.{record_read}
+use Rattle.ctr_rec.specs.declared.record.Record.{Record}
+use Rattle.ctr_rec.specs.Records.{IsRecord}
+use Rattle.ctr_rec.specs.Spelling.{record_bytes}
+use Rattle.ctr_rec.specs.Read.{record_in}
+use Rattle.ctr_rec.proofs.ReadBack.{record_read}
 use Rattle.ctr_home.specs.declared.root.Root.{Root}
 use Rattle.ctr_meta.specs.Effects.{effect}
 use Rattle.ctr_meta.specs.Kept.{TablesKept, RoomLeft, opens_added, items_added}

@@ -3,8 +3,8 @@ use Rattle.std.proofs.Common.{◌≡◌, ℕ, ◌+◌, List, [], ◌∷◌, map,
 use Rattle.std.proofs.lemmas.List.{length-append}
 use Rattle.ctr_bytes.specs.Fields.{spelled}
 use Rattle.ctr_bytes.proofs.FieldLaws.{length-spelled}
-use Rattle.ctr_records.specs.declared.record.Record.{Record}
-use Rattle.ctr_records.specs.Spelling.{record_bytes}
+use Rattle.ctr_rec.specs.declared.record.Record.{Record}
+use Rattle.ctr_rec.specs.Spelling.{record_bytes}
 use Rattle.ctr_log.specs.Logs.{Log, frame, frames}
 use Rattle.ctr_redo.specs.Images.{records_in}
 use Rattle.ctr_store.specs.Parts.{HasBuffer}

@@ -2,10 +2,10 @@
 use Rattle.std.proofs.Common.{◌≡◌, ◌⊎◌, ⊎_elim, ℕ, ◌+◌, ◌-◌, ◌^◌, ◌<◌, ◌≤◌, Bool, true, false, cond, eqb, List, [], ◌∷◌, ◌++◌, length, Some, Result, Ok, Err, inl, inr, sym, ◌∙◌, ap, subst, arith}
 use Rattle.std.specs.Prelude.{unwrap_or}
 use Rattle.std.specs.List.{AllByRecursion}
-use Rattle.ctr_records.specs.declared.record.Record.{Record}
-use Rattle.ctr_records.specs.declared.record.Record.TheVariants.{Checkpoint, Begin, Commit, Abort, Forget, Alloc, Format, Link, Free, Unlink, Create, Uncreate, Drop, Undrop, Row, Keep, Revert, Trim}
-use Rattle.ctr_records.specs.Members.{HasMembers, opens_listed}
-use Rattle.ctr_records.proofs.Listed.{listed_members}
+use Rattle.ctr_rec.specs.declared.record.Record.{Record}
+use Rattle.ctr_rec.specs.declared.record.Record.TheVariants.{Checkpoint, Begin, Commit, Abort, Forget, Alloc, Format, Link, Free, Unlink, Create, Uncreate, Drop, Undrop, Row, Keep, Revert, Trim}
+use Rattle.ctr_rec.specs.Members.{HasMembers, opens_listed}
+use Rattle.ctr_rec.proofs.Listed.{listed_members}
 use Rattle.ctr_meta.specs.Tables.{Tables, no_tables, is_in, heads_at, heads_in, without_xid, with_heads}
 use Rattle.ctr_meta.specs.Effects.{effect, listed, one_head_more, one_head_less, one_aborted_less}
 use Rattle.ctr_meta.specs.Kept.{IsLogged, NumbersFit}

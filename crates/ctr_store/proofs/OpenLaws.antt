@@ -36,8 +36,8 @@ use Rattle.ctr_meta.specs.Effects.{tables_of}
 use Rattle.ctr_meta.specs.Tables.{no_tables}
 use Rattle.ctr_log.specs.Logs.{Log, Batches, GoesOn}
 use Rattle.ctr_log.specs.Kept.{kept_log, OpensKept, WritesBehind}
-use Rattle.ctr_records.specs.declared.record.Record.{Record}
-use Rattle.ctr_records.specs.Read.{record_in}
+use Rattle.ctr_rec.specs.declared.record.Record.{Record}
+use Rattle.ctr_rec.specs.Read.{record_in}
 use Rattle.ctr_redo.specs.States.{state_of, steps, next_of}
 use Rattle.ctr_redo.specs.Images.{records_in, stored_in, IsSound, FoldsFront, IsLogFile}
 use Rattle.ctr_meta.specs.Tables.{no_tables}

@@ -14,8 +14,8 @@ use Rattle.ctr_home.specs.Blocks.{BlockValue, value_place, value_of, page_with}
 use Rattle.ctr_home.specs.Checks.{check_of, judged}
 use Rattle.ctr_home.specs.Reading.{number_check, IsMisnumbered, IsFaultOr}
 use Rattle.ctr_log.proofs.KeptLaws.{picks}
-use Rattle.ctr_records.specs.declared.record.Overlay.{Overlay}
-use Rattle.ctr_records.specs.declared.record.Record.{Record}
+use Rattle.ctr_rec.specs.declared.record.Overlay.{Overlay}
+use Rattle.ctr_rec.specs.declared.record.Record.{Record}
 use Rattle.ctr_pool.specs.Pages.{PageHeld}
 use Rattle.ctr_redo.specs.Overlaid.{overlay_of, lies_on, touches, with_record, overlaid}
 use Rattle.ctr_redo.specs.Images.{home_in}

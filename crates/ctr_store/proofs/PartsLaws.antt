@@ -6,9 +6,9 @@ use Rattle.std.specs.Option.{option_map}
 use Rattle.ctr_disk.specs.declared.disk.Disk.{Ghosts}
 use Rattle.ctr_disk.specs.Image.{Image}
 use Rattle.ctr_log.specs.Logs.{Log, Batches, GoesOn}
-use Rattle.ctr_records.specs.declared.record.Record.{Record}
-use Rattle.ctr_records.specs.declared.record.Overlay.{Overlay}
-use Rattle.ctr_records.specs.Read.{record_in}
+use Rattle.ctr_rec.specs.declared.record.Record.{Record}
+use Rattle.ctr_rec.specs.declared.record.Overlay.{Overlay}
+use Rattle.ctr_rec.specs.Read.{record_in}
 use Rattle.ctr_home.specs.declared.root.Root.{Root}
 use Rattle.ctr_meta.specs.Effects.{effect, tables_of}
 use Rattle.ctr_meta.specs.Kept.{IsLogged, MayApply}
@@ -16,8 +16,8 @@ use Rattle.ctr_meta.specs.Needs.{needs}
 use Rattle.ctr_meta.specs.Tables.{Tables, no_tables}
 use Rattle.ctr_bytes.specs.Fields.{field}
 use Rattle.ctr_log.specs.Kept.{kept_log, WritesBehind, WritesBy}
-use Rattle.ctr_records.specs.Spelling.{record_bytes}
-use Rattle.ctr_records.proofs.ReadBack.{record_read}
+use Rattle.ctr_rec.specs.Spelling.{record_bytes}
+use Rattle.ctr_rec.proofs.ReadBack.{record_read}
 use Rattle.ctr_pool.specs.declared.frame.Frame.{Frame}
 use Rattle.ctr_pool.specs.Pages.{PageHeld, overlaid_by}
 use Rattle.ctr_pool.specs.Below.{HoldsStill}

@@ -3,21 +3,21 @@ use Rattle.std.proofs.Common.{◌≡◌, ◌≢◌, ⊎_elim, ℕ, ◌+◌, ◌<
 use Rattle.std.specs.Prelude.{is_some, ◌||◌}
 use Rattle.std.specs.List.{list_any}
 use Rattle.std.proofs.lemmas.Bool.Decides.{eqb_tells}
-use Rattle.ctr_records.specs.declared.record.Overlay.{Overlay}
-use Rattle.ctr_records.specs.declared.record.Record.{Record}
-use Rattle.ctr_records.specs.declared.record.Form.{Form}
-use Rattle.ctr_records.specs.declared.record.Form.TheVariants.{Lists, Fields}
-use Rattle.ctr_records.specs.declared.table.Tag.{Tag}
-use Rattle.ctr_records.specs.declared.table.Tag.TheVariants as tag
-use Rattle.ctr_records.specs.Table.{layout, flag_at}
-use Rattle.ctr_records.specs.Parts.{form_of, OverlayFits}
-use Rattle.ctr_records.specs.Spelling.{record_bytes, form_bytes, parts_bytes, overlay_len}
-use Rattle.ctr_records.specs.Records.{FormFits, IsRecord}
-use Rattle.ctr_records.specs.Read.{record_in}
-use Rattle.ctr_records.proofs.ReadBack.{record_read}
+use Rattle.ctr_rec.specs.declared.record.Overlay.{Overlay}
+use Rattle.ctr_rec.specs.declared.record.Record.{Record}
+use Rattle.ctr_rec.specs.declared.record.Form.{Form}
+use Rattle.ctr_rec.specs.declared.record.Form.TheVariants.{Lists, Fields}
+use Rattle.ctr_rec.specs.declared.table.Tag.{Tag}
+use Rattle.ctr_rec.specs.declared.table.Tag.TheVariants as tag
+use Rattle.ctr_rec.specs.Table.{layout, flag_at}
+use Rattle.ctr_rec.specs.Parts.{form_of, OverlayFits}
+use Rattle.ctr_rec.specs.Spelling.{record_bytes, form_bytes, parts_bytes, overlay_len}
+use Rattle.ctr_rec.specs.Records.{FormFits, IsRecord}
+use Rattle.ctr_rec.specs.Read.{record_in}
+use Rattle.ctr_rec.proofs.ReadBack.{record_read}
 use Rattle.ctr_bytes.specs.Fields.{field}
-use Rattle.ctr_records.proofs.Forms.{begins_so}
-use Rattle.ctr_records.proofs.Laws.{length-parts}
+use Rattle.ctr_rec.proofs.Forms.{begins_so}
+use Rattle.ctr_rec.proofs.Laws.{length-parts}
 use Rattle.ctr_pool.specs.declared.frame.Frame.{Frame}
 use Rattle.ctr_pool.specs.Frames.{frame_of, has_page, change_of, since_in, IsOldest, AreClean}
 use Rattle.ctr_store.specs.Parts.{has_change, some_dirty}

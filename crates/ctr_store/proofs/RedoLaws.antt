@@ -8,8 +8,8 @@ use Rattle.std.specs.Option.{option_map}
 use Rattle.ctr_disk.specs.declared.disk.Disk.{Ghosts}
 use Rattle.ctr_disk.specs.Image.{Image}
 use Rattle.ctr_home.specs.declared.root.Root.{Root}
-use Rattle.ctr_records.specs.declared.record.Record.{Record}
-use Rattle.ctr_records.specs.declared.record.Overlay.{Overlay}
+use Rattle.ctr_rec.specs.declared.record.Record.{Record}
+use Rattle.ctr_rec.specs.declared.record.Overlay.{Overlay}
 use Rattle.ctr_meta.specs.Effects.{effect, tables_of}
 use Rattle.ctr_meta.specs.Kept.{TablesKept}
 use Rattle.ctr_pool.specs.declared.frame.Frame.{Frame}

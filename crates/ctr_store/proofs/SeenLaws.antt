@@ -8,11 +8,11 @@ use Rattle.ctr_log.specs.Kept.{kept_log}
 use Rattle.ctr_log.specs.declared.visitor.Visit.{Visit}
 use Rattle.ctr_log.specs.Visits.{visit_bytes, AreNumbered}
 use Rattle.ctr_log.proofs.VisitLaws.{bytes-append}
-use Rattle.ctr_records.specs.declared.record.Overlay.{Overlay}
-use Rattle.ctr_records.specs.declared.record.Record.{Record}
-use Rattle.ctr_records.specs.Read.{record_in}
-use Rattle.ctr_records.proofs.ReadBack.{record_read}
-use Rattle.ctr_records.specs.Damage.{wrong}
+use Rattle.ctr_rec.specs.declared.record.Overlay.{Overlay}
+use Rattle.ctr_rec.specs.declared.record.Record.{Record}
+use Rattle.ctr_rec.specs.Read.{record_in}
+use Rattle.ctr_rec.proofs.ReadBack.{record_read}
+use Rattle.ctr_rec.specs.Damage.{wrong}
 use Rattle.ctr_meta.specs.Effects.{effect, tables_of}
 use Rattle.ctr_meta.specs.Tables.{Tables}
 use Rattle.ctr_redo.specs.Overlaid.{overlay_of}

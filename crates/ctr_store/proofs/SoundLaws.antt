@@ -26,18 +26,18 @@ use Rattle.ctr_log.specs.LogChecks.{sound_kept_visits}
 use Rattle.ctr_log.proofs.LogLemmas.{batch_count}
 use Rattle.ctr_log.proofs.SoundLaws.{kept_front}
 use Rattle.ctr_log.proofs.VisitLaws.{file_bytes, kept_bytes}
-use Rattle.ctr_records.specs.declared.decoding.BadRecord.{BadRecord}
-use Rattle.ctr_records.specs.declared.record.Overlay.{Overlay}
-use Rattle.ctr_records.specs.declared.record.Record.{Record}
-use Rattle.ctr_records.specs.Damage.{wrong, expect, checks}
-use Rattle.ctr_records.specs.Table.{layout}
-use Rattle.ctr_records.specs.Parts.{form_of}
-use Rattle.ctr_records.specs.Checkpoint.{checkpoint_checks}
-use Rattle.ctr_records.specs.Spelling.{record_bytes}
-use Rattle.ctr_records.specs.Records.{IsRecord}
-use Rattle.ctr_records.specs.Read.{record_in}
-use Rattle.ctr_records.proofs.Forms.{reads, parts_pass}
-use Rattle.ctr_records.proofs.RecordForms.{one_record, is_checkpoint, is_fields}
+use Rattle.ctr_rec.specs.declared.decoding.BadRecord.{BadRecord}
+use Rattle.ctr_rec.specs.declared.record.Overlay.{Overlay}
+use Rattle.ctr_rec.specs.declared.record.Record.{Record}
+use Rattle.ctr_rec.specs.Damage.{wrong, expect, checks}
+use Rattle.ctr_rec.specs.Table.{layout}
+use Rattle.ctr_rec.specs.Parts.{form_of}
+use Rattle.ctr_rec.specs.Checkpoint.{checkpoint_checks}
+use Rattle.ctr_rec.specs.Spelling.{record_bytes}
+use Rattle.ctr_rec.specs.Records.{IsRecord}
+use Rattle.ctr_rec.specs.Read.{record_in}
+use Rattle.ctr_rec.proofs.Forms.{reads, parts_pass}
+use Rattle.ctr_rec.proofs.RecordForms.{one_record, is_checkpoint, is_fields}
 use Rattle.ctr_meta.specs.Tables.{Tables, no_tables}
 use Rattle.ctr_meta.specs.Effects.{effect}
 use Rattle.ctr_meta.specs.Needs.{needs}

@@ -11,7 +11,7 @@ use Rattle.ctr_home.specs.declared.root.Root.{Root}
 use Rattle.ctr_disk.specs.declared.fault.StoreFault.{StoreFault}
 use Rattle.ctr_disk.specs.declared.fault.StoreFault.TheVariants.{Fault}
 use Rattle.ctr_log.proofs.VisitLemmas.{ok_isnt}
-use Rattle.ctr_records.specs.declared.record.Record.{Record}
+use Rattle.ctr_rec.specs.declared.record.Record.{Record}
 use Rattle.ctr_meta.specs.Needs.{needs}
 use Rattle.ctr_disk.proofs.Moments.{weaker}
 use Rattle.ctr_base.specs.Base.{waiting_of, now_of, IsSoundImage, HasGate, LeavesBase, LeavesIf, MovesBase, MovesIf, KeepsBase}

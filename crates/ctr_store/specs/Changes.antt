@@ -1,8 +1,8 @@
 -- Records that a store logs.
-use Rattle.ctr_records.specs.declared.record.Record.{Record}
-use Rattle.ctr_records.specs.declared.record.Form.{Form}
-use Rattle.ctr_records.specs.declared.record.Form.TheVariants.{Lists, Fields}
-use Rattle.ctr_records.specs.Parts.{form_of}
+use Rattle.ctr_rec.specs.declared.record.Record.{Record}
+use Rattle.ctr_rec.specs.declared.record.Form.{Form}
+use Rattle.ctr_rec.specs.declared.record.Form.TheVariants.{Lists, Fields}
+use Rattle.ctr_rec.specs.Parts.{form_of}
 
 -- a form that isn't a Checkpoint's
 abbrev pub HasFields : Form → Type 0

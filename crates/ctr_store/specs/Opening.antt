@@ -24,7 +24,7 @@ use Rattle.ctr_log.specs.Kept.{kept_log, OpensKept, HoldsLog, WritesBehind}
 use Rattle.ctr_log.specs.LogChecks.{kept_damage, sound_kept_visits}
 use Rattle.ctr_log.specs.Visits.{kept_visits}
 use Rattle.ctr_log.specs.declared.visitor.Visit.{Visit}
-use Rattle.ctr_records.specs.declared.decoding.BadRecord.{BadRecord}
+use Rattle.ctr_rec.specs.declared.decoding.BadRecord.{BadRecord}
 use Rattle.ctr_base.specs.Opening.{FindsRoot, IsRootDamage}
 use Rattle.ctr_log.specs.declared.opening.OpenError.{OpenError}
 use Rattle.ctr_log.specs.declared.opening.OpenError.TheVariants as open_error

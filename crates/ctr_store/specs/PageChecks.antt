@@ -9,8 +9,8 @@ use Rattle.ctr_disk.specs.declared.fault.StoreFault.TheVariants.{Damaged}
 use Rattle.ctr_home.specs.declared.block.Block.TheVariants.{Page}
 use Rattle.ctr_home.specs.Blocks.{value_place}
 use Rattle.ctr_home.specs.Reading.{IsFaultOr, IsMisnumbered}
-use Rattle.ctr_records.specs.declared.record.Overlay.{Overlay}
-use Rattle.ctr_records.specs.declared.record.Record.{Record}
+use Rattle.ctr_rec.specs.declared.record.Overlay.{Overlay}
+use Rattle.ctr_rec.specs.declared.record.Record.{Record}
 use Rattle.ctr_pool.specs.declared.frame.Frame.{Frame}
 use Rattle.ctr_pool.specs.Frames.{frame_of, has_page, page_shown}
 use Rattle.ctr_redo.specs.Overlaid.{overlay_of}

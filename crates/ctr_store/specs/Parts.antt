@@ -8,8 +8,8 @@ use Rattle.ctr_disk.specs.Image.{Image}
 use Rattle.ctr_home.specs.declared.block.Block.TheVariants.{Page}
 use Rattle.ctr_home.specs.declared.block.Home.TheVariants.{First}
 use Rattle.ctr_home.specs.Blocks.{home_place, value_place}
-use Rattle.ctr_records.specs.declared.record.Record.{Record}
-use Rattle.ctr_records.specs.Spelling.{record_bytes}
+use Rattle.ctr_rec.specs.declared.record.Record.{Record}
+use Rattle.ctr_rec.specs.Spelling.{record_bytes}
 use Rattle.ctr_meta.specs.Effects.{effect, tables_of}
 use Rattle.ctr_meta.specs.Kept.{IsLogged, MayApply, RoomLeft, opens_added, items_added}
 use Rattle.ctr_pool.specs.declared.frame.Frame.{Frame}

@@ -15,14 +15,14 @@ use Rattle.ctr_log.specs.declared.visitor.Visit.{Visit}
 use Rattle.ctr_log.specs.declared.reading.ReadError.{ReadError}
 use Rattle.ctr_log.specs.declared.reading.ReadError.TheVariants.{Store, OutOfMemory}
 use Rattle.ctr_log.specs.Visits.{visit_bytes}
-use Rattle.ctr_records.specs.declared.decoding.BadRecord.{BadRecord}
-use Rattle.ctr_records.specs.declared.record.Overlay.{Overlay}
-use Rattle.ctr_records.specs.declared.record.Record.{Record}
-use Rattle.ctr_records.specs.declared.table.Tag.{Tag}
-use Rattle.ctr_records.specs.Table.{layout}
-use Rattle.ctr_records.specs.Damage.{wrong, expect, checks}
-use Rattle.ctr_records.specs.Checkpoint.{checkpoint_checks}
-use Rattle.ctr_records.specs.Spelling.{record_bytes}
+use Rattle.ctr_rec.specs.declared.decoding.BadRecord.{BadRecord}
+use Rattle.ctr_rec.specs.declared.record.Overlay.{Overlay}
+use Rattle.ctr_rec.specs.declared.record.Record.{Record}
+use Rattle.ctr_rec.specs.declared.table.Tag.{Tag}
+use Rattle.ctr_rec.specs.Table.{layout}
+use Rattle.ctr_rec.specs.Damage.{wrong, expect, checks}
+use Rattle.ctr_rec.specs.Checkpoint.{checkpoint_checks}
+use Rattle.ctr_rec.specs.Spelling.{record_bytes}
 use Rattle.ctr_meta.specs.Tables.{Tables}
 use Rattle.ctr_meta.specs.Effects.{tables_of}
 use Rattle.ctr_meta.specs.Needs.{needs}

@@ -5,7 +5,7 @@ use Rattle.ctr_disk.specs.Image.{Image}
 use Rattle.ctr_log.specs.declared.visitor.Visit.{Visit}
 use Rattle.ctr_log.specs.Kept.{kept_log}
 use Rattle.ctr_log.specs.Visits.{visit_bytes, AreNumbered}
-use Rattle.ctr_records.specs.declared.record.Record.{Record}
+use Rattle.ctr_rec.specs.declared.record.Record.{Record}
 use Rattle.ctr_pool.specs.Frames.{has_page, page_shown}
 use Rattle.ctr_pool.specs.Over.{IsOver}
 use Rattle.ctr_redo.specs.Overlaid.{overlay_of, overlaid}

@@ -4,7 +4,7 @@ ghost use Rattle.std.specs.Prelude.{◌≡◌, ◌+◌, ℕ, List, [], length, t
 ghost use Rattle.ctr_disk.specs.Image.{Image};
 ghost use Rattle.ctr_redo.specs.States.{State};
 ghost use Rattle.ctr_redo.specs.Images.{FoldsFront, FoldsGrown, IsNewDatabase};
-ghost use Rattle.ctr_records.specs.declared.record.Record.{Record};
+ghost use Rattle.ctr_rec.specs.declared.record.Record.{Record};
 ghost use Rattle.ctr_meta.specs.Effects.{effect, tables_of};
 ghost use Rattle.ctr_base.specs.declared.base.Base.{Base as Under};
 ghost use Rattle.ctr_base.specs.Base.{stored_of, IsSoundImage, StandsQuiet};

@@ -11,7 +11,7 @@ ghost use Rattle.ctr_base.specs.Base.{WhereSound, now_of, IsSoundImage, LeavesIf
 ghost use Rattle.ctr_pool.specs.Over.{IsOver, SavesOldest};
 ghost use Rattle.ctr_disk.specs.Device.{WhereTold, OnlyReads, CountsAs};
 ghost use Rattle.ctr_log.specs.Logs.{next_place};
-ghost use Rattle.ctr_records.specs.declared.decoding.BadRecord.{BadRecord};
+ghost use Rattle.ctr_rec.specs.declared.decoding.BadRecord.{BadRecord};
 ghost use Rattle.ctr_meta.specs.Kept.{IsLogged};
 ghost use Rattle.ctr_meta.specs.Needs.{needs};
 ghost use Rattle.ctr_store.specs.RecordChecks.{record_damage};
@@ -26,7 +26,7 @@ use ctr_disk::{Disk, StoreFault};
 use ctr_log::Lsn;
 use ctr_meta::Meta;
 use ctr_pool::Pool;
-use ctr_records::{Overlay, PageNo, Record};
+use ctr_rec::{Overlay, PageNo, Record};
 use ctr_types::{Damage, File};
 
 /// What a store is made of: the log and the homes, pages in frames over them, the tables.

@@ -12,7 +12,7 @@ use crate::parts::Parts;
 use ctr_base::Origin;
 use ctr_disk::{Disk, StoreFault};
 use ctr_home::{Block, Home};
-use ctr_records::PageNo;
+use ctr_rec::PageNo;
 
 impl<D: Disk, O: Origin> Parts<D, O> {
     // Where the home begins whose value a page is that a frame has.

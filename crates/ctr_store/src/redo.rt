@@ -3,10 +3,10 @@ ghost use Rattle.ctr_disk.specs.Device.{WhereTold};
 ghost use Rattle.std.specs.Prelude.{◌≡◌, ◌≤◌, ◌<◌, ◌+◌, IsTrue, ℕ, Some, length, IfErr, OnOk, MatchResult};
 ghost use Rattle.ctr_types.specs.Faults.{HasFault};
 ghost use Rattle.ctr_disk.specs.declared.fault.StoreFault.TheVariants.{Fault};
-ghost use Rattle.ctr_records.specs.declared.record.Record.{Record as Logged};
+ghost use Rattle.ctr_rec.specs.declared.record.Record.{Record as Logged};
 ghost use Rattle.ctr_meta.specs.Tables.{Tables};
-ghost use Rattle.ctr_records.specs.Records.{IsRecord};
-ghost use Rattle.ctr_records.specs.Spelling.{record_bytes};
+ghost use Rattle.ctr_rec.specs.Records.{IsRecord};
+ghost use Rattle.ctr_rec.specs.Spelling.{record_bytes};
 ghost use Rattle.ctr_store.specs.RecordChecks.{PassesAs, AllPass};
 ghost use Rattle.ctr_pool.specs.Over.{IsOver};
 ghost use Rattle.ctr_redo.specs.Overlaid.{overlay_of};
@@ -23,7 +23,7 @@ use crate::spelling::overlay_of;
 use ctr_base::Origin;
 use ctr_disk::{Disk, StoreFault};
 use ctr_log::{Lsn, Visit};
-use ctr_records::{Overlay, decode};
+use ctr_rec::{Overlay, decode};
 
 impl<D: Disk, O: Origin> Parts<D, O> {
     // Lays an overlay over its page, where the page lacks the overlay's record.

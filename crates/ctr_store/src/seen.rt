@@ -14,7 +14,7 @@ use ctr_bytes::get_u8;
 use ctr_disk::{Disk, StoreFault};
 use ctr_log::{Lsn, ReadError, Visit, Visitor};
 use ctr_meta::{Meta, room_for};
-use ctr_records::{BadRecord, Record, decode, expect};
+use ctr_rec::{BadRecord, Record, decode, expect};
 use ctr_types::{Damage, File, List, Text};
 use std::alloc::Global;
 use std::marker::{Model, PhantomData};

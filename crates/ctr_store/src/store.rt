@@ -24,7 +24,7 @@ use ctr_base::Origin;
 use ctr_disk::{Disk, StoreFault};
 use ctr_log::{Lsn, OpenError};
 use ctr_meta::Meta;
-use ctr_records::{PageNo, Record};
+use ctr_rec::{PageNo, Record};
 use ctr_types::OutOfMemory;
 use std::alloc::Global;
 use std::marker::Model;

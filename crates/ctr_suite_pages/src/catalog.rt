@@ -2,14 +2,14 @@
 ghost use Rattle.std.specs.Prelude.{◌≡◌, false, true, IsTrue, OnOk};
 ghost use Rattle.std.specs.List.{AllByRecursion};
 ghost use Rattle.ctr_types.specs.Names.{IsName};
-ghost use Rattle.ctr_records.specs.Members.{ItemFits};
+ghost use Rattle.ctr_rec.specs.Members.{ItemFits};
 ghost use Rattle.ctr_value.specs.Columns.{ColumnFits, ColumnsFit, KindFits};
 
 use crate::told::Told;
 use crate::turns::{Mem, ready};
 use ctr_catalog::{CatalogRefusal, changed, create, drop_table, find, undo_item};
 use ctr_disk::StoreFault;
-use ctr_records::SlogItem;
+use ctr_rec::SlogItem;
 use ctr_snap::Snapshot;
 use ctr_types::{Column, Kind, List, Name, OutOfMemory, Schema, Text};
 use std::alloc::Global;

@@ -9,7 +9,7 @@ use crate::turns::{Mem, ready};
 use ctr_disk::StoreFault;
 use ctr_heap::{find, free_slot, put_slot};
 use ctr_page::{Chain, Place, RowSlot, Tombstone, Use, Version, bucket_of, slot_size};
-use ctr_records::Bytes;
+use ctr_rec::Bytes;
 use ctr_walk::first_page;
 
 /// The widest payload.

@@ -5,7 +5,7 @@ ghost use Rattle.ctr_walk.specs.OneRecord.{HasRoomForOne};
 use crate::told::Told;
 use ctr_disk::StoreFault;
 use ctr_mem_disk::SilentDisk;
-use ctr_records::Record;
+use ctr_rec::Record;
 use ctr_snap::Snapshot;
 use ctr_store::Store;
 use ctr_types::OutOfMemory;

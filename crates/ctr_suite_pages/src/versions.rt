@@ -13,7 +13,7 @@ use ctr_page::{
     read_slot,
 };
 use ctr_pvs::{find_free_entry, free_entry, keep, row, version};
-use ctr_records::Bytes;
+use ctr_rec::Bytes;
 use ctr_revert::revert_row;
 use ctr_walk::first_page;
 

@@ -13,7 +13,7 @@ use ctr_disk::StoreFault;
 use ctr_heap::{Way, first, put_slot, replaced, to_keep, way_of, written};
 use ctr_page::{Place, RowSlot, Tombstone, Version, VersionEntry, read_slot};
 use ctr_pvs::keep;
-use ctr_records::Bytes;
+use ctr_rec::Bytes;
 use ctr_types::Fate;
 
 /// A row that is to be written.

@@ -2,8 +2,8 @@
 use crate::page::Page;
 use ctr_io::MemSource;
 use ctr_lex::tokens;
-use ctr_rec::{Item, RecordError, decode};
 use ctr_script::{ScriptError, read_script};
+use ctr_thin_rec::{Item, RecordError, decode};
 use ctr_types::{List, OutOfMemory, Script, Text};
 use std::alloc::Global;
 

@@ -11,7 +11,7 @@ use crate::steps::{Overlay, Step};
 use ctr_disk::StoreFault;
 use ctr_mem_disk::{Image, MemDisk, SilentDisk};
 use ctr_meta::room_for;
-use ctr_records::{Form, Record, decode, to_form};
+use ctr_rec::{Form, Record, decode, to_form};
 use ctr_store::Store;
 use ctr_types::List;
 use std::alloc::{AllocError, Global};

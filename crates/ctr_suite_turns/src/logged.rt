@@ -6,7 +6,7 @@ use ctr_disk::Disk;
 use ctr_home::read_root;
 use ctr_log::{Gathered, Visit, read_all};
 use ctr_mem_disk::SilentDisk;
-use ctr_records::{Overlay, Record, SlogItem, decode};
+use ctr_rec::{Overlay, Record, SlogItem, decode};
 use std::alloc::{AllocError, Global};
 
 /// The records of the log that a disk holds; none where it can't be read.

@@ -6,7 +6,7 @@ use crate::logged::put_item;
 use crate::page::Page;
 use crate::trouble::Trouble;
 use ctr_meta::Meta;
-use ctr_records::SlogItem;
+use ctr_rec::SlogItem;
 use ctr_types::{List, Name, OutOfMemory, Plain, Text, Xid};
 use std::alloc::{AllocError, Global};
 

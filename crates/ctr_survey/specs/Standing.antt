@@ -1,7 +1,7 @@
 -- Which entries of the catalog have a table that stands, and what is counted of one.
 use Rattle.std.specs.Prelude.{◌≡◌, ℕ, ◌+◌, ◌*◌, Bool, true, false, not, ◌&&◌, List, map, length, Option, None, Some, Result, Ok, Err, if◌then◌else◌}
 use Rattle.ctr_snap.specs.Seeing.{SnapshotTaken}
-use Rattle.ctr_records.specs.declared.decoding.BadRecord.{BadRecord}
+use Rattle.ctr_rec.specs.declared.decoding.BadRecord.{BadRecord}
 use Rattle.ctr_meta.specs.Tables.{Tables}
 use Rattle.ctr_page.specs.declared.table.TheConstants.{ENTRY_SIZE}
 use Rattle.ctr_page.specs.Columns.{entry_at}

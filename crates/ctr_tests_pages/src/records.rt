@@ -1,7 +1,7 @@
 // Each record, written out by hand and read; and each check, by bytes in which it fails.
 ghost use Rattle.std.specs.Prelude.{◌≤◌, length};
 
-use ctr_records::{BadRecord, Record, SlogItem, decode, encode, encode_checkpoint};
+use ctr_rec::{BadRecord, Record, SlogItem, decode, encode, encode_checkpoint};
 use std::test::Fail;
 
 // A record by its number, a field and another, as the bytes say; of others that they are none.

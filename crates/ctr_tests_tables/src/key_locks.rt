@@ -1,6 +1,6 @@
 // What sessions are answered, step by step, by hand: each refusal with the session that it names, the lowest of those that
 // have what was wanted, and who has what before and behind it.
-use ctr_key_locks::{Held, KeyLocks};
+use ctr_locks::{Held, KeyLocks};
 use ctr_model::Key;
 use ctr_types::{Name, OutOfMemory, Text};
 use std::alloc::Global;

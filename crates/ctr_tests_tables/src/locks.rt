@@ -1,6 +1,6 @@
 // Each call once, with what two sessions are answered by hand.
-use ctr_locks::{Held, Locks};
 use ctr_model::Key;
+use ctr_table_locks::{Held, Locks};
 use ctr_types::{Name, OutOfMemory, Text};
 use std::alloc::Global;
 use std::test::Fail;

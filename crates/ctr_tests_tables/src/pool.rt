@@ -5,7 +5,7 @@ ghost use Rattle.ctr_pool.specs.contracts.memory.MemoryBacking.TheImpl.{ghosts};
 
 use ctr_disk::StoreFault;
 use ctr_pool::{Backing, Lsn, Memory, Pool};
-use ctr_records::{Bytes, Overlay, PageNo};
+use ctr_rec::{Bytes, Overlay, PageNo};
 use ctr_types::OutOfMemory;
 use std::alloc::Global;
 use std::test::Fail;

@@ -1,6 +1,6 @@
 // Each call once, with what its numbers say by hand.
 use ctr_meta::{Meta, is_changed, is_seen, room_for};
-use ctr_records::decode;
+use ctr_rec::decode;
 use ctr_snap::Snapshot;
 use ctr_types::OutOfMemory;
 use std::alloc::Global;

@@ -1,6 +1,6 @@
 // The effect of each record on the tables, and each need that one lacks, by hand.
 use ctr_meta::{Meta, room_for};
-use ctr_records::{SlogItem, decode};
+use ctr_rec::{SlogItem, decode};
 use ctr_types::{Fate, OutOfMemory, Xid};
 use std::alloc::Global;
 use std::test::Fail;

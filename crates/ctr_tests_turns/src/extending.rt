@@ -10,7 +10,7 @@ use ctr_disk::{Disk, StoreFault};
 use ctr_extend::{Extended, OnWay, extend};
 use ctr_mem_disk::SilentDisk;
 use ctr_page::Chain;
-use ctr_records::PageNo;
+use ctr_rec::PageNo;
 use ctr_store::Store;
 use ctr_txn::Txns;
 use ctr_types::Xid;

@@ -11,7 +11,7 @@ use ctr_disk::{Disk, StoreFault};
 use ctr_mem_disk::SilentDisk;
 use ctr_page::{Tombstone, Version};
 use ctr_reading::{Sight, rows_of_table};
-use ctr_records::Bytes;
+use ctr_rec::Bytes;
 use ctr_snap::Snapshot;
 use ctr_store::Store;
 use ctr_txn::Txns;

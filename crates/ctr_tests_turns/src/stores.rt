@@ -5,7 +5,7 @@ ghost use Rattle.ctr_walk.specs.OneRecord.{HasRoomForOne};
 use ctr_base::Origin;
 use ctr_disk::{Disk, StoreFault};
 use ctr_mem_disk::{Image, MemDisk, SilentDisk};
-use ctr_records::PageNo;
+use ctr_rec::PageNo;
 use ctr_store::{Store, create};
 use ctr_types::{List, Xid};
 use std::alloc::{AllocError, Global};

@@ -8,7 +8,7 @@ use crate::stores::{new_disk, opened, ready, take};
 use ctr_base::Origin;
 use ctr_disk::{Disk, StoreFault};
 use ctr_mem_disk::SilentDisk;
-use ctr_records::SlogItem;
+use ctr_rec::SlogItem;
 use ctr_store::Store;
 use ctr_tally::Steps;
 use ctr_txn::Txns;

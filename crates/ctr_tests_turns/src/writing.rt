@@ -13,7 +13,7 @@ use ctr_extend::OnWay;
 use ctr_mem_disk::SilentDisk;
 use ctr_page::{Chain, Place, Tombstone, Version};
 use ctr_pvs::row;
-use ctr_records::{Bytes, PageNo, Record};
+use ctr_rec::{Bytes, PageNo, Record};
 use ctr_store::Store;
 use ctr_txn::Txns;
 use ctr_types::Xid;

@@ -5,7 +5,7 @@ use crate::plays::{Play, played};
 use crate::refused::Refused;
 use crate::steps::{lock, mark, open, take_item, told, write};
 use crate::turns::Mem;
-use ctr_records::SlogItem;
+use ctr_rec::SlogItem;
 use ctr_txn::Txns;
 use ctr_types::{Damage, Fate, File, Xid};
 use std::alloc::Global;

@@ -9,7 +9,7 @@ ghost use Rattle.ctr_tests_txn.specs.StandsReady.{StandsReady};
 use crate::refused::Refused;
 use crate::turns::{Mem, ready};
 use ctr_catalog::{drop_table, undo_item};
-use ctr_records::SlogItem;
+use ctr_rec::SlogItem;
 use ctr_txn::{Asked, Txns, room_that_is_kept_is_there};
 use ctr_types::Xid;
 use std::alloc::Global;

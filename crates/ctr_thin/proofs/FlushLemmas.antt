@@ -9,7 +9,7 @@ use Rattle.ctr_log.specs.Logs.{Batches, Log, records, HasLog, HasPrefix, GoesOn,
 use Rattle.ctr_log.specs.Reading.{log_file}
 use Rattle.ctr_log.proofs.LogLemmas.{records-push}
 use Rattle.ctr_model.specs.Database.{Database}
-use Rattle.ctr_rec.specs.Fold.{FoldsRecords}
+use Rattle.ctr_thin_rec.specs.Fold.{FoldsRecords}
 use Rattle.ctr_thin.specs.Thin.{StandsFor, NamesFile, GoesOnFor, first_behind, batches_behind, StandsForPrefix}
 use Rattle.ctr_thin.proofs.LawLemmas.{stands_by_records}
 

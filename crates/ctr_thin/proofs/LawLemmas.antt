@@ -9,11 +9,11 @@ use Rattle.ctr_log.specs.Fresh.{first_checkpoint, fresh_root, fresh_log, IsFresh
 use Rattle.ctr_log.proofs.LogLemmas.{length-batch}
 use Rattle.ctr_log.proofs.ReadLemmas.{batch_same, length-frames-le}
 use Rattle.ctr_model.specs.Database.{Database}
-use Rattle.ctr_rec.specs.Fold.{FoldsRecords}
+use Rattle.ctr_thin_rec.specs.Fold.{FoldsRecords}
 use Rattle.std.specs.Prelude.{Ok}
 use Rattle.ctr_bytes.specs.Fields.{field, spelled}
-use Rattle.ctr_records.specs.Damage.{at_most}
-use Rattle.ctr_records.specs.Checkpoint.{count_at, opens_in, aborted_in, items_at, items_in, end_at, end_check, kind_check, kinds_in, item_check, next_check, heads_check, xid_check, list_checks, checkpoint_checks}
+use Rattle.ctr_rec.specs.Damage.{at_most}
+use Rattle.ctr_rec.specs.Checkpoint.{count_at, opens_in, aborted_in, items_at, items_in, end_at, end_check, kind_check, kinds_in, item_check, next_check, heads_check, xid_check, list_checks, checkpoint_checks}
 use Rattle.ctr_thin.specs.Checks.{first_checks}
 use Rattle.ctr_thin.specs.Thin.{StandsFor, StandsBy}
 use Rattle.ctr_thin.proofs.LoadLemmas.{OneFold}

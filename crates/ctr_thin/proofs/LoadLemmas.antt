@@ -21,10 +21,10 @@ use Rattle.ctr_log.specs.Visits.{visit_of, visit_bytes, file_visits, IsGiven, St
 use Rattle.ctr_log.specs.declared.visitor.Visit.{Visit}
 use Rattle.ctr_log.proofs.VisitLaws.{bytes-append}
 use Rattle.ctr_model.specs.Database.{Database}
-use Rattle.ctr_records.specs.declared.decoding.BadRecord.{BadRecord as BadCheckpoint}
-use Rattle.ctr_rec.specs.declared.decoding.BadRecord.{BadRecord}
-use Rattle.ctr_rec.specs.Fold.{FoldsRecord, FoldsRecords}
-use Rattle.ctr_rec.specs.Replay.{replay_record}
+use Rattle.ctr_rec.specs.declared.decoding.BadRecord.{BadRecord as BadCheckpoint}
+use Rattle.ctr_thin_rec.specs.declared.decoding.BadRecord.{BadRecord}
+use Rattle.ctr_thin_rec.specs.Fold.{FoldsRecord, FoldsRecords}
+use Rattle.ctr_thin_rec.specs.Replay.{replay_record}
 use Rattle.ctr_log.specs.declared.opening.OpenError.{OpenError}
 use Rattle.ctr_log.specs.declared.opening.OpenError.TheVariants as open_error
 use Rattle.ctr_thin.specs.Opening.{of_visit}

@@ -18,7 +18,7 @@ use Rattle.ctr_home.specs.Roots.{ReadsRoot}
 use Rattle.ctr_log.specs.Logs.{Batches, records, HasLog, Log, GoesOn}
 use Rattle.ctr_log.specs.Reading.{log_file, OpensLog}
 use Rattle.ctr_model.specs.Database.{Database}
-use Rattle.ctr_rec.specs.Fold.{FoldsRecords}
+use Rattle.ctr_thin_rec.specs.Fold.{FoldsRecords}
 use Rattle.ctr_thin.specs.declared.opening.Opened.{Opened}
 use Rattle.ctr_log.specs.declared.opening.OpenError.{OpenError}
 use Rattle.ctr_log.specs.declared.opening.OpenError.TheVariants as open_error

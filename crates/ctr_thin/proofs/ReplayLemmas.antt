@@ -11,13 +11,13 @@ use Rattle.ctr_types.specs.declared.value.Schema.{Schema}
 use Rattle.ctr_model.specs.declared.database.Table.{Table}
 use Rattle.ctr_model.specs.Database.{Database, table_at}
 use Rattle.ctr_model.specs.Refusals.{columns_of}
-use Rattle.ctr_rec.specs.declared.decoding.RecordError.{RecordError}
-use Rattle.ctr_rec.specs.declared.decoding.RecordError.TheVariants as record_error
-use Rattle.ctr_rec.specs.declared.decoding.BadRecord.{BadRecord}
-use Rattle.ctr_rec.specs.Decode.{IsFault, Decodes, unwanted, decode_bytes, decode_key}
-use Rattle.ctr_rec.specs.Fold.{IsThere, HasSchemas}
-use Rattle.ctr_rec.specs.Items.{ColumnsFit}
-use Rattle.ctr_rec.specs.Replay.{wanted_at, number_there, check_table, check_texts, read_head, read_wide, row_told, replay_row, replay_body, replay_item, replay_items}
+use Rattle.ctr_thin_rec.specs.declared.decoding.RecordError.{RecordError}
+use Rattle.ctr_thin_rec.specs.declared.decoding.RecordError.TheVariants as record_error
+use Rattle.ctr_thin_rec.specs.declared.decoding.BadRecord.{BadRecord}
+use Rattle.ctr_thin_rec.specs.Decode.{IsFault, Decodes, unwanted, decode_bytes, decode_key}
+use Rattle.ctr_thin_rec.specs.Fold.{IsThere, HasSchemas}
+use Rattle.ctr_thin_rec.specs.Items.{ColumnsFit}
+use Rattle.ctr_thin_rec.specs.Replay.{wanted_at, number_there, check_table, check_texts, read_head, read_wide, row_told, replay_row, replay_body, replay_item, replay_items}
 use Rattle.ctr_value.specs.Payload.{width, IsNoPayload as RefusesPayload}
 use Rattle.ctr_value.specs.Values.{row_values}
 use Rattle.ctr_types.specs.declared.value.Value.{Value}

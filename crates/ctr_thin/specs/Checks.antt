@@ -1,9 +1,9 @@
 -- The first record of a log: its checks, and what it says.
 use Rattle.std.specs.Prelude.{◌==◌, if◌then◌else◌, ℕ, List, Result, Err, ⊤}
 use Rattle.ctr_bytes.specs.Fields.{field}
-use Rattle.ctr_records.specs.declared.decoding.BadRecord.{BadRecord}
-use Rattle.ctr_records.specs.Damage.{wrong}
-use Rattle.ctr_records.specs.Checkpoint.{checkpoint_checks}
+use Rattle.ctr_rec.specs.declared.decoding.BadRecord.{BadRecord}
+use Rattle.ctr_rec.specs.Damage.{wrong}
+use Rattle.ctr_rec.specs.Checkpoint.{checkpoint_checks}
 
 -- what the first record of a log is checked for: it is a Checkpoint, and then those of a Checkpoint
 abbrev pub first_checks : List ℕ → Result ⊤ BadRecord

@@ -1,5 +1,5 @@
 -- What the fields of a visitor that loads stand for, and what they keep.
-use Rattle.ctr_rec.specs.Fold.{HasSchemas}
+use Rattle.ctr_thin_rec.specs.Fold.{HasSchemas}
 use Rattle.ctr_thin.specs.declared.loading.Loading.TheInside.{Inside}
 use Rattle.ctr_thin.specs.Thin.{Loaded}
 

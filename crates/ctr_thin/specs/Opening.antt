@@ -6,8 +6,8 @@ use Rattle.ctr_log.specs.declared.visitor.VisitError.{VisitError}
 use Rattle.ctr_log.specs.declared.visitor.VisitError.TheVariants.{Read, Refused}
 use Rattle.ctr_value.specs.declared.payload.PayloadError.{PayloadError}
 use Rattle.ctr_value.specs.declared.payload.PayloadError.TheVariants as payload
-use Rattle.ctr_rec.specs.declared.decoding.RecordError.{RecordError}
-use Rattle.ctr_rec.specs.declared.decoding.RecordError.TheVariants as record_error
+use Rattle.ctr_thin_rec.specs.declared.decoding.RecordError.{RecordError}
+use Rattle.ctr_thin_rec.specs.declared.decoding.RecordError.TheVariants as record_error
 
 -- The error of an opening that a visit's error comes to: one of reading by its fault, a refusal as
 -- it was made.

@@ -21,13 +21,13 @@ use Rattle.ctr_log.specs.Visits.{visit_bytes}
 use Rattle.ctr_log.specs.declared.visitor.Visit.{Visit}
 use Rattle.ctr_log.specs.Logs.{Batches, Log, records, HasLog, GoesOn}
 use Rattle.ctr_log.specs.Reading.{log_file}
-use Rattle.ctr_records.specs.declared.decoding.BadRecord.{BadRecord as BadCheckpoint}
+use Rattle.ctr_rec.specs.declared.decoding.BadRecord.{BadRecord as BadCheckpoint}
 pub use Rattle.ctr_thin.specs.Checks.{first_checks, next_xid}
 use Rattle.ctr_model.specs.Database.{Database}
 use Rattle.ctr_bytes.specs.Following.{◌>>=◌}
-use Rattle.ctr_rec.specs.declared.decoding.BadRecord.{BadRecord}
-use Rattle.ctr_rec.specs.Fold.{FoldsRecords}
-use Rattle.ctr_rec.specs.Replay.{replay_record}
+use Rattle.ctr_thin_rec.specs.declared.decoding.BadRecord.{BadRecord}
+use Rattle.ctr_thin_rec.specs.Fold.{FoldsRecords}
+use Rattle.ctr_thin_rec.specs.Replay.{replay_record}
 use Rattle.ctr_log.specs.Opening.{fault_told}
 use Rattle.ctr_thin.specs.declared.opening.Opened.{Opened}
 use Rattle.ctr_log.specs.declared.opening.OpenError.{OpenError}

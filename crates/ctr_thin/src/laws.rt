@@ -5,10 +5,10 @@ ghost use Rattle.ctr_log.specs.Logs.{Log, records, HasPrefix, GoesOn, with_batch
 ghost use Rattle.ctr_log.specs.Reading.{log_file};
 ghost use Rattle.ctr_log.specs.Fresh.{IsFresh, fresh_root, fresh_log};
 ghost use Rattle.ctr_model.specs.Database.{Database};
-ghost use Rattle.ctr_rec.specs.Fold.{FoldsRecords};
+ghost use Rattle.ctr_thin_rec.specs.Fold.{FoldsRecords};
 ghost use Rattle.ctr_thin.specs.Thin.{StandsFor, StandsBy, next_lsn, GoesOnFor, first_behind, batches_behind, StandsForPrefix};
 
-use ctr_rec::fold_is_one;
+use ctr_thin_rec::fold_is_one;
 
 /// An image stands for one database at most, by one root and the same batches, so with one next LSN.
 /// Its log's file is one that a disk can hold.

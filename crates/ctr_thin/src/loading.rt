@@ -1,7 +1,7 @@
 // A visitor of a log that checks each record as it is given, and loads it.
 ghost use Rattle.std.specs.Prelude.{◌≡◌, ◌≢◌, ◌+◌, ℕ, min, Some, None, Ok, Err, IfOk, MatchResult};
 ghost use Rattle.ctr_log.specs.Visits.{visit_of};
-ghost use Rattle.ctr_rec.specs.Fold.{HasSchemas};
+ghost use Rattle.ctr_thin_rec.specs.Fold.{HasSchemas};
 ghost use Rattle.ctr_types.specs.Damage.{damage_of};
 ghost use Rattle.ctr_log.specs.declared.opening.OpenError.TheVariants.{Damaged};
 ghost use Rattle.ctr_thin.specs.Checks.{first_checks, next_xid};
@@ -10,9 +10,9 @@ ghost use Rattle.ctr_bytes.specs.Fields.{field};
 use crate::replay::replay_record;
 use ctr_bytes::{get_u8, get_u64};
 use ctr_log::{Lsn, OpenError, Visitor};
-use ctr_rec::{RecordError, fold_goes_on, fold_is_one, replay_is_fold};
-use ctr_records::{BadRecord, decode};
+use ctr_rec::{BadRecord, decode};
 use ctr_rows::Loader;
+use ctr_thin_rec::{RecordError, fold_goes_on, fold_is_one, replay_is_fold};
 use ctr_types::{Damage, File, OutOfMemory, Xid};
 use std::alloc::Global;
 use std::marker::Model;

@@ -16,8 +16,8 @@ use crate::loading::Loading;
 use ctr_disk::{Disk, Failed};
 use ctr_home::{Root, read_thin_root};
 use ctr_log::{LogFile, Lsn, OpenError, VisitError, sound_visits_are_first, visit_named};
-use ctr_rec::{fold_is_one, replay_is_fold};
 use ctr_rows::Loader;
+use ctr_thin_rec::{fold_is_one, replay_is_fold};
 use ctr_types::{Damage, File, Xid};
 use std::alloc::Global;
 

@@ -2,19 +2,19 @@
 // next one is read.
 ghost use Rattle.std.specs.Prelude.{◌≡◌, ◌+◌, ◌-◌, ◌<◌, ◌^◌, Some, Ok, Err, OnErr};
 ghost use Rattle.ctr_model.specs.Database.{table_at};
-ghost use Rattle.ctr_rec.specs.declared.decoding.RecordError.TheVariants.{Bad};
-ghost use Rattle.ctr_rec.specs.Decode.{Decodes};
-ghost use Rattle.ctr_rec.specs.Fold.{IsThere, HasSchemas};
-ghost use Rattle.ctr_rec.specs.Replay.{number_there, check_table, replay_put, replay_remove, replay_create, replay_body, replay_item, replay_items, replay_record};
+ghost use Rattle.ctr_thin_rec.specs.declared.decoding.RecordError.TheVariants.{Bad};
+ghost use Rattle.ctr_thin_rec.specs.Decode.{Decodes};
+ghost use Rattle.ctr_thin_rec.specs.Fold.{IsThere, HasSchemas};
+ghost use Rattle.ctr_thin_rec.specs.Replay.{number_there, check_table, replay_put, replay_remove, replay_create, replay_body, replay_item, replay_items, replay_record};
 ghost use Rattle.ctr_thin.specs.Opening.{of_payload};
 
 use ctr_model::Key;
-use ctr_rec::{
+use ctr_rows::Loader;
+use ctr_thin_rec::{
     BadRecord, CREATE, PUT, REMOVE, RecordError, expect_at, key_of, payload_is_checked, read_count,
     read_end, read_head, read_wide, replay_keeps_schemas, schema_is_keyed, schema_of,
     schema_of_table,
 };
-use ctr_rows::Loader;
 use ctr_types::{Name, OutOfMemory, Plain};
 use ctr_value::{PayloadError, decode_row, said_by_payload, width};
 use std::alloc::Global;
@@ -52,7 +52,7 @@ fn bad_payload(error: PayloadError, payload: u64) -> RecordError
 }
 
 // A row of a table that is there.
-#[tactic(auto, unfolding(ctr_rec::specs::Replay::replay_row))]
+#[tactic(auto, unfolding(ctr_thin_rec::specs::Replay::replay_row))]
 fn replay_put<'a>(
     alloc: Global,
     db: &mut Loader,
@@ -89,7 +89,7 @@ fn replay_put<'a>(
     }
 }
 
-#[tactic(auto, unfolding(ctr_rec::specs::Replay::replay_remove))]
+#[tactic(auto, unfolding(ctr_thin_rec::specs::Replay::replay_remove))]
 fn replay_remove<'a>(
     db: &mut Loader,
     name: &Name,
@@ -105,7 +105,7 @@ fn replay_remove<'a>(
     Ok(rest)
 }
 
-#[tactic(auto, unfolding(ctr_rec::specs::Replay::replay_create))]
+#[tactic(auto, unfolding(ctr_thin_rec::specs::Replay::replay_create))]
 fn replay_create<'a>(
     alloc: Global,
     db: &mut Loader,
@@ -155,7 +155,7 @@ fn replay_body<'a>(
 }
 
 // A change, behind which so many bytes must follow at least.
-#[tactic(auto, unfolding(ctr_rec::specs::Replay::replay_item))]
+#[tactic(auto, unfolding(ctr_thin_rec::specs::Replay::replay_item))]
 fn replay_item<'a>(
     alloc: Global,
     db: &mut Loader,
@@ -195,7 +195,7 @@ fn replay_items<'a>(
 }
 
 /// Replays a record. After an error some of its changes are done.
-#[tactic(auto, unfolding(ctr_rec::specs::Replay::replay_record))]
+#[tactic(auto, unfolding(ctr_thin_rec::specs::Replay::replay_record))]
 pub fn replay_record(alloc: Global, db: &mut Loader, bytes: &[u8]) -> Result<(), RecordError>
     requires { HasSchemas db.old }
     ensures gives { Decodes (λ _. db.new) result (replay_record db.old bytes.now) }

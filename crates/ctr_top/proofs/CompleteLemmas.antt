@@ -9,7 +9,7 @@ use Rattle.ctr_model.specs.Language.{SpellsLine}
 use Rattle.ctr_model.specs.Lines.{IsWritten, IsRefusedIn}
 use Rattle.ctr_script.specs.Written.{IsShortText}
 use Rattle.ctr_thin.proofs.FlushLemmas.{has_root}
-use Rattle.ctr_world.specs.World.{CanOpen}
+use Rattle.ctr_thin_world.specs.World.{CanOpen}
 use Rattle.ctr_top.specs.declared.outcome.Outcome.{Outcome}
 use Rattle.ctr_top.specs.declared.ending.Ending.{Ending}
 use Rattle.ctr_top.specs.declared.ending.Ending.TheVariants as ending

@@ -6,9 +6,9 @@ use Rattle.ctr_disk.specs.Device.{OnlyReads}
 use Rattle.ctr_types.specs.Faults.{CountsFault}
 use Rattle.ctr_log.specs.declared.opening.OpenError.{OpenError}
 use Rattle.ctr_thin.specs.Thin.{Explains, OpenDiffers}
-use Rattle.ctr_world.specs.Surveying.{OnlySurveys}
+use Rattle.ctr_thin_world.specs.Surveying.{OnlySurveys}
 use Rattle.ctr_thin.proofs.FlushLemmas.{has_root}
-use Rattle.ctr_world.specs.World.{CanOpen, RefusesWith}
+use Rattle.ctr_thin_world.specs.World.{CanOpen, RefusesWith}
 use Rattle.ctr_top.specs.declared.outcome.Outcome.{Outcome}
 use Rattle.ctr_top.specs.declared.ending.Ending.{Ending}
 use Rattle.ctr_top.specs.declared.ending.Ending.TheVariants as ending

@@ -20,9 +20,9 @@ use Rattle.ctr_disk.specs.Image.{Image, OtherFilesStay}
 use Rattle.ctr_log.specs.Fresh.{IsFresh, IsNoneOrFresh, fresh_root, fresh_log}
 use Rattle.ctr_thin.specs.Thin.{Explains, OpenDiffers, NamesFile, StandsBy, StandsFor}
 use Rattle.ctr_thin.proofs.FlushLemmas.{names}
-use Rattle.ctr_world.specs.declared.opening.Opening.{Ghosts as Opening}
-use Rattle.ctr_world.specs.Crash.{reached, HasCommits, IsPrefixAt, Survives}
-use Rattle.ctr_world.specs.World.{CanOpen, Ends, StopsBy, IsOpenedOn}
+use Rattle.ctr_thin_world.specs.declared.opening.Opening.{Ghosts as Opening}
+use Rattle.ctr_thin_world.specs.Crash.{reached, HasCommits, IsPrefixAt, Survives}
+use Rattle.ctr_thin_world.specs.World.{CanOpen, Ends, StopsBy, IsOpenedOn}
 use Rattle.ctr_script.specs.declared.error.ScriptError.{ScriptError}
 use Rattle.ctr_script.specs.declared.error.ScriptError.TheVariants as script_error
 use Rattle.ctr_script.specs.Written.{ErrorHasCause, MayHinder, IsShortText, DecideAnswer}

@@ -13,9 +13,9 @@ use Rattle.ctr_types.specs.declared.statement.Line.{Line}
 use Rattle.ctr_model.specs.Grammar.{Part, IsWithin, IsKind, column_parts, schema_parts, kind_parts, statement_parts, close_paren, open_paren, sign, session, key, name, IsSchema}
 use Rattle.ctr_model.specs.Language.{MatchParts, SpellsLine}
 use Rattle.ctr_model.specs.Lines.{lines_of, is_at_end, in_front, AllSay, IsWritten}
-use Rattle.ctr_rec.specs.Items.{KindFits, ColumnFits, ColumnsFit}
+use Rattle.ctr_thin_rec.specs.Items.{KindFits, ColumnFits, ColumnsFit}
 use Rattle.ctr_turns.specs.Items.{IsRecorded}
-use Rattle.ctr_world.specs.World.{IsRunLine}
+use Rattle.ctr_thin_world.specs.World.{IsRunLine}
 
 -- ---- names of columns
 

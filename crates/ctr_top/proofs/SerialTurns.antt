@@ -24,8 +24,8 @@ use Rattle.ctr_steps.specs.declared.steps.Steps.{Steps}
 use Rattle.ctr_steps.specs.Acting.{has_more}
 use Rattle.ctr_steps.specs.Runners.{runner_at, vacant, made_at, is_begun, after_stage, finished_with, session_places}
 use Rattle.ctr_steps.specs.Steps.{AddsEntry}
-use Rattle.ctr_world.specs.Held.{Held}
-use Rattle.ctr_world.specs.Turns.{AreSessions, AreUnbegun, HasStatementLeft, IsAsking, NoneIsLeft, IsAnswerTo, AnswersAll, EndsTurn}
+use Rattle.ctr_thin_world.specs.Held.{Held}
+use Rattle.ctr_thin_world.specs.Turns.{AreSessions, AreUnbegun, HasStatementLeft, IsAsking, NoneIsLeft, IsAnswerTo, AnswersAll, EndsTurn}
 use Rattle.ctr_serial.specs.Lines.{count_in, IsEntryOfLine}
 use Rattle.ctr_top.specs.Serial.{HasFinished, RanLines, RanOrStopped, InLine}
 use Rattle.ctr_serial.proofs.Lists.{count_of, count_cons, one_of, serial_front, line_more, count_mine, count_other, count_front}

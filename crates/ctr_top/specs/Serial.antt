@@ -9,8 +9,8 @@ use Rattle.ctr_steps.specs.declared.runners.Runner.{Runner}
 use Rattle.ctr_steps.specs.declared.runners.Stage.TheVariants as stage
 use Rattle.ctr_steps.specs.declared.steps.Steps.{Steps}
 use Rattle.ctr_steps.specs.Runners.{runner_at}
-use Rattle.ctr_world.specs.Held.{Held}
-use Rattle.ctr_world.specs.Turns.{AreSessions}
+use Rattle.ctr_thin_world.specs.Held.{Held}
+use Rattle.ctr_thin_world.specs.Turns.{AreSessions}
 
 -- the session has finished so many statements, and is in the middle of none
 pub record HasFinished (n : ℕ) (runner : Runner) : Type 0 where

@@ -22,10 +22,10 @@ use Rattle.ctr_script.specs.Written.{IsShortRefusal}
 use Rattle.ctr_thin.specs.Thin.{StandsFor, StandsForNone, IsThinDamage, IsWornOut}
 use Rattle.ctr_disk.specs.declared.fault.StoreFault.{StoreFault}
 use Rattle.ctr_disk.specs.declared.fault.StoreFault.TheVariants as store
-use Rattle.ctr_world.specs.Crash.{reached, HasCommits, IsPrefixAt, Survives, OnlyLogChanges, StraysOnlyLong}
-use Rattle.ctr_world.specs.Surveying.{survey_of}
-use Rattle.ctr_world.specs.Turns.{NoneFull}
-use Rattle.ctr_world.specs.World.{CanOpen}
+use Rattle.ctr_thin_world.specs.Crash.{reached, HasCommits, IsPrefixAt, Survives, OnlyLogChanges, StraysOnlyLong}
+use Rattle.ctr_thin_world.specs.Surveying.{survey_of}
+use Rattle.ctr_thin_world.specs.Turns.{NoneFull}
+use Rattle.ctr_thin_world.specs.World.{CanOpen}
 use Rattle.ctr_top.specs.declared.outcome.Outcome.{Outcome}
 use Rattle.ctr_top.specs.declared.run.Ended.{Ended}
 use Rattle.ctr_top.specs.declared.ending.Ending.{Ending}

@@ -2,7 +2,7 @@
 ghost use Rattle.std.specs.Prelude.{◌≡◌, ◌≤◌, IsTrue};
 ghost use Rattle.ctr_model.specs.Database.{Database};
 ghost use Rattle.ctr_thin.specs.Thin.{StandsFor};
-ghost use Rattle.ctr_world.specs.Surveying.{survey_of};
+ghost use Rattle.ctr_thin_world.specs.Surveying.{survey_of};
 ghost use Rattle.ctr_top.specs.declared.ending.Ending.TheVariants.{Finished};
 ghost use Rattle.ctr_top.specs.Top.{ReportLeaves};
 
@@ -10,7 +10,7 @@ use crate::ending::{Ending, not_opened};
 use crate::outcome::Outcome;
 use ctr_disk::Disk;
 use ctr_model::Survey;
-use ctr_world::survey;
+use ctr_thin_world::survey;
 use std::alloc::Global;
 
 /// What is counted where nothing is.

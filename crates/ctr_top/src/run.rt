@@ -9,7 +9,7 @@ ghost use Rattle.ctr_model.specs.Tape.{IsSerial};
 ghost use Rattle.ctr_model.specs.Texts.{transcript, last_line};
 ghost use Rattle.ctr_script.specs.Written.{IsShortText};
 ghost use Rattle.ctr_thin.specs.Thin.{StandsFor};
-ghost use Rattle.ctr_world.specs.World.{CanOpen};
+ghost use Rattle.ctr_thin_world.specs.World.{CanOpen};
 ghost use Rattle.ctr_top.specs.declared.ending.Ending.TheVariants.{Finished, WriteFault, OutOfMemory};
 ghost use Rattle.ctr_top.specs.Endings.{status_of, cause_of, work};
 ghost use Rattle.ctr_top.specs.Words.{command_asked, command_told};

@@ -12,8 +12,8 @@ ghost use Rattle.ctr_top.specs.Serial.{RanLines, RanOrStopped};
 ghost use Rattle.ctr_disk.specs.Crash.{Within};
 ghost use Rattle.ctr_model.specs.Database.{Database};
 ghost use Rattle.ctr_thin.specs.Thin.{StandsFor};
-ghost use Rattle.ctr_world.specs.Turns.{NoneFull};
-ghost use Rattle.ctr_world.specs.World.{IsOpenedOn, IsRunLine, CanRun};
+ghost use Rattle.ctr_thin_world.specs.Turns.{NoneFull};
+ghost use Rattle.ctr_thin_world.specs.World.{IsOpenedOn, IsRunLine, CanRun};
 ghost use Rattle.ctr_top.specs.Top.{Ran, RanScript, RunCauses, LinesCauses, RunLeaves, GoesForward};
 
 use crate::ending::{Ending, not_opened, not_read, stopped};
@@ -21,8 +21,8 @@ use crate::outcome::Outcome;
 use ctr_disk::Disk;
 use ctr_io::Source;
 use ctr_script::read_script;
+use ctr_thin_world::{Opening, World};
 use ctr_types::{Act, Actor, Entry, Reply, Script, Turn};
-use ctr_world::{Opening, World};
 use std::alloc::{AllocError, Global};
 use std::marker::Brand;
 

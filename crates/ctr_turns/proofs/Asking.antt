@@ -14,9 +14,9 @@ use Rattle.ctr_model.specs.Reply.{reply_from, MayStandFor, next_outside, next_fr
 use Rattle.ctr_legal.specs.Ready.{IsUnasked}
 use Rattle.ctr_legal.proofs.Keep.{turned}
 use Rattle.ctr_log.specs.Logs.{Log}
-use Rattle.ctr_rec.specs.declared.item.Item.{Item}
-use Rattle.ctr_rec.specs.Encode.{IsSpelled, commit_bytes}
-use Rattle.ctr_rec.specs.Fold.{FoldsRecord}
+use Rattle.ctr_thin_rec.specs.declared.item.Item.{Item}
+use Rattle.ctr_thin_rec.specs.Encode.{IsSpelled, commit_bytes}
+use Rattle.ctr_thin_rec.specs.Fold.{FoldsRecord}
 use Rattle.ctr_acts.specs.Acts.{ActsHeld, ShowsActs, ActReplies, ActKeeps}
 use Rattle.ctr_gather.specs.Gathered.{rows_asked, IsGathered, OthersGather, AskedRowsAre, CommitFolds}
 use Rattle.ctr_gather.specs.Records.{IsRecordOf, IsSession, record_at, OthersAlike}

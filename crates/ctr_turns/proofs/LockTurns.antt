@@ -21,8 +21,8 @@ use Rattle.ctr_versions.specs.Laws.{with_own}
 use Rattle.ctr_versions.proofs.Keys.{some_is}
 use Rattle.ctr_legal.specs.Ready.{IsUnasked, IsReady, MayWrite, MayWriteIn, HasKey}
 use Rattle.ctr_log.specs.Logs.{Log}
-use Rattle.ctr_rec.specs.declared.item.Item.{Item}
-use Rattle.ctr_rec.specs.Items.{item_table}
+use Rattle.ctr_thin_rec.specs.declared.item.Item.{Item}
+use Rattle.ctr_thin_rec.specs.Items.{item_table}
 use Rattle.ctr_acts.specs.Acts.{ActsHeld, ShowsActs, ActReplies, ActKeeps}
 use Rattle.ctr_gather.specs.Gathered.{rows_asked, IsGathered, LockGathers, WriteGathers, IsUnder}
 use Rattle.ctr_gather.specs.Records.{GatheredHeld, IsRecordOf, IsSession, record_at, OthersAlike}

@@ -33,11 +33,11 @@ use Rattle.ctr_legal.proofs.Keep.{all_none}
 use Rattle.ctr_sessions.specs.Answers.{Seat, made_seen, columns_seen, row_seen, with_rows, write_refused, row_left}
 use Rattle.ctr_sessions.specs.Laws.{IsSeat, WritesAreRefusedAlike, WritesAreOneChange}
 use Rattle.ctr_sessions.proofs.Answers.{reads}
-use Rattle.ctr_rec.specs.declared.item.Item.{Item}
-use Rattle.ctr_rec.specs.declared.item.Item.TheVariants as item
+use Rattle.ctr_thin_rec.specs.declared.item.Item.{Item}
+use Rattle.ctr_thin_rec.specs.declared.item.Item.TheVariants as item
 use Rattle.ctr_value.specs.Payload.{IsRow, payload_of}
-use Rattle.ctr_rec.specs.Items.{item_table}
-use Rattle.ctr_rec.specs.Fold.{Stands}
+use Rattle.ctr_thin_rec.specs.Items.{item_table}
+use Rattle.ctr_thin_rec.specs.Fold.{Stands}
 use Rattle.ctr_acts.specs.declared.prepared.Prepared.{Prepared}
 use Rattle.ctr_acts.specs.declared.prepared.Prepared.TheVariants as prepared
 use Rattle.ctr_acts.specs.Acts.{ActsHeld, ShowsActs}

@@ -5,7 +5,7 @@ use Rattle.ctr_model.specs.declared.database.Change.{Change}
 use Rattle.ctr_model.specs.declared.state.State.{State}
 use Rattle.ctr_model.specs.Database.{after_all}
 use Rattle.ctr_model.specs.State.{rows_at}
-use Rattle.ctr_rec.specs.Fold.{FoldsRecord}
+use Rattle.ctr_thin_rec.specs.Fold.{FoldsRecord}
 use Rattle.ctr_gather.specs.Gathered.{rows_asked}
 use Rattle.ctr_turns.specs.Turns.{WaitFrom}
 

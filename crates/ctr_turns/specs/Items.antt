@@ -11,10 +11,10 @@ use Rattle.ctr_model.specs.Database.{Database}
 use Rattle.ctr_model.specs.State.{transaction_of, view}
 use Rattle.ctr_model.specs.Refusals.{table_of, key_of, write_refusal}
 use Rattle.ctr_model.specs.Reply.{changes_of}
-use Rattle.ctr_rec.specs.declared.item.Item.{Item}
-use Rattle.ctr_rec.specs.declared.item.Item.TheVariants as item
-use Rattle.ctr_rec.specs.Items.{Fits, ColumnsFit, item_table}
-use Rattle.ctr_rec.specs.Fold.{Stands}
+use Rattle.ctr_thin_rec.specs.declared.item.Item.{Item}
+use Rattle.ctr_thin_rec.specs.declared.item.Item.TheVariants as item
+use Rattle.ctr_thin_rec.specs.Items.{Fits, ColumnsFit, item_table}
+use Rattle.ctr_thin_rec.specs.Fold.{Stands}
 use Rattle.ctr_value.specs.Payload.{IsRow, payload_of}
 use Rattle.ctr_acts.specs.declared.prepared.Prepared.{Prepared}
 use Rattle.ctr_acts.specs.declared.prepared.Prepared.TheVariants as prepared

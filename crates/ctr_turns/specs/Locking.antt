@@ -11,8 +11,8 @@ use Rattle.ctr_model.specs.Refusals.{table_of, key_written}
 use Rattle.ctr_legal.specs.Kept.{IsKept}
 use Rattle.ctr_legal.specs.Ready.{IsReady}
 use Rattle.ctr_log.specs.Logs.{Log}
-use Rattle.ctr_rec.specs.declared.item.Item.{Item}
-use Rattle.ctr_rec.specs.Items.{Fits}
+use Rattle.ctr_thin_rec.specs.declared.item.Item.{Item}
+use Rattle.ctr_thin_rec.specs.Items.{Fits}
 use Rattle.ctr_rows.specs.Running.{HeldEngine}
 use Rattle.ctr_sessions.specs.Answers.{columns_seen}
 use Rattle.ctr_acts.specs.declared.prepared.Prepared.{Prepared}

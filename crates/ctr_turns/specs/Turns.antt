@@ -13,8 +13,8 @@ use Rattle.ctr_model.specs.Tape.{IsInTurn, Allowed}
 use Rattle.ctr_legal.specs.Kept.{IsKept}
 use Rattle.ctr_legal.specs.Ready.{IsReady}
 use Rattle.ctr_log.specs.Logs.{Log}
-use Rattle.ctr_rec.specs.declared.item.Item.{Item}
-use Rattle.ctr_rec.specs.Fold.{FoldsRecord}
+use Rattle.ctr_thin_rec.specs.declared.item.Item.{Item}
+use Rattle.ctr_thin_rec.specs.Fold.{FoldsRecord}
 use Rattle.ctr_acts.specs.Acts.{ActsHeld, ShowsActs}
 use Rattle.ctr_acts.specs.Writing.{OthersCanWrite}
 use Rattle.ctr_gather.specs.Gathered.{rows_asked, IsGathered}

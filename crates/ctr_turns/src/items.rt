@@ -3,7 +3,7 @@ ghost use Rattle.std.specs.Prelude.{◌≡◌, ◌≤◌, ◌<◌, ◌^◌, leng
 ghost use Rattle.std.specs.Int.{w64};
 ghost use Rattle.std.specs.Option.{option_copied};
 ghost use Rattle.ctr_model.specs.Refusals.{key_of};
-ghost use Rattle.ctr_rec.specs.Items.{Fits, ColumnsFit};
+ghost use Rattle.ctr_thin_rec.specs.Items.{Fits, ColumnsFit};
 ghost use Rattle.ctr_value.specs.Payload.{AreOf, IsOf, IsKeyed, IsRow, payload_of};
 ghost use Rattle.ctr_sessions.specs.Answers.{columns_seen};
 ghost use Rattle.ctr_turns.specs.Items.{PutsRow, IsItemOf, IsWritable};
@@ -11,8 +11,8 @@ ghost use Rattle.ctr_turns.specs.Items.{PutsRow, IsItemOf, IsWritable};
 use ctr_acts::Prepared;
 use ctr_chains::Made;
 use ctr_model::Key;
-use ctr_rec::Item;
 use ctr_statement::key_of;
+use ctr_thin_rec::Item;
 use ctr_types::{Column, Kind, Name, OutOfMemory, Plain, Row, Schema, Text, Value};
 use ctr_value::{encode_row, width};
 use std::alloc::Global;

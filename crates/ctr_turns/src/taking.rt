@@ -1,8 +1,8 @@
 // A Lock with what its Write will want: what it will do, and the item of the commit's record.
 ghost use Rattle.std.specs.Prelude.{◌≡◌, ◌≤◌, ◌+◌, List, OnOk, IfOk, IfSome};
 ghost use Rattle.ctr_types.specs.declared.tape.Act.TheVariants as act;
-ghost use Rattle.ctr_rec.specs.declared.item.Item.{Item as HeldItem};
-ghost use Rattle.ctr_rec.specs.Items.{Fits};
+ghost use Rattle.ctr_thin_rec.specs.declared.item.Item.{Item as HeldItem};
+ghost use Rattle.ctr_thin_rec.specs.Items.{Fits};
 ghost use Rattle.ctr_acts.specs.Acts.{IsNotFull};
 ghost use Rattle.ctr_acts.specs.Writing.{IsPrepared};
 ghost use Rattle.ctr_gather.specs.Records.{room_kept, IsRecordOf, HasRoomForItem, IsSession, record_at, OthersAlike};
@@ -15,9 +15,9 @@ use crate::turns::Turns;
 use ctr_acts::Prepared;
 use ctr_gather::{Records, records_are_gathered};
 use ctr_log::LogFile;
-use ctr_rec::{Item, row_stands};
 use ctr_sessions::writes_are_the_models;
 use ctr_statement::{key_written, table_of};
+use ctr_thin_rec::{Item, row_stands};
 use ctr_types::{OutOfMemory, Refusal, Reply, Statement};
 use std::alloc::Global;
 

@@ -5,11 +5,11 @@ use Rattle.std.proofs.lemmas.List.{append-nil}
 use Rattle.ctr_disk.specs.declared.disk.Disk.{Ghosts}
 use Rattle.ctr_disk.specs.Image.{Image}
 use Rattle.ctr_disk.specs.declared.fault.StoreFault.{StoreFault}
-use Rattle.ctr_records.specs.declared.record.Record.{Record}
-use Rattle.ctr_records.specs.declared.decoding.BadRecord.{BadRecord}
+use Rattle.ctr_rec.specs.declared.record.Record.{Record}
+use Rattle.ctr_rec.specs.declared.decoding.BadRecord.{BadRecord}
 use Rattle.std.specs.Ordering.{nat_cmp}
 use Rattle.ctr_model.specs.Maps.{without}
-use Rattle.ctr_records.specs.declared.record.Record.TheVariants.{Begin, Commit, Abort}
+use Rattle.ctr_rec.specs.declared.record.Record.TheVariants.{Begin, Commit, Abort}
 use Rattle.ctr_meta.specs.Tables.{Tables}
 use Rattle.ctr_meta.specs.Effects.{effect}
 use Rattle.ctr_redo.specs.Overlaid.{touches, changed_by}

@@ -3,7 +3,7 @@ ghost use Rattle.std.specs.Prelude.{◌≡◌, ℕ, false, None, Some, [], IfOk,
 ghost use Rattle.ctr_model.specs.declared.state.State.{State};
 ghost use Rattle.ctr_model.specs.declared.state.Transaction.{Transaction};
 ghost use Rattle.ctr_model.specs.State.{transaction_of, with_transaction, without_transaction};
-ghost use Rattle.ctr_records.specs.declared.record.Record.TheVariants.{Begin, Commit, Abort};
+ghost use Rattle.ctr_rec.specs.declared.record.Record.TheVariants.{Begin, Commit, Abort};
 ghost use Rattle.ctr_versions.specs.Laws.{IsGranted};
 ghost use Rattle.ctr_versions.specs.Steps.{AreUntouched};
 ghost use Rattle.ctr_record_laws.specs.Owed.{OwedByCommit, OwedByAbort};
@@ -20,7 +20,7 @@ use ctr_actions::a_logged_record_is_its_action;
 use ctr_base::Origin;
 use ctr_disk::{Disk, StoreFault};
 use ctr_paged::an_action_is_shown;
-use ctr_records::Record;
+use ctr_rec::Record;
 use ctr_store::Store;
 use ctr_types::Xid;
 use ctr_walk::log_record;

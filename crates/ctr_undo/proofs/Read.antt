@@ -11,11 +11,11 @@ use Rattle.ctr_disk.specs.declared.disk.Disk.{Ghosts}
 use Rattle.ctr_disk.specs.Image.{Image}
 use Rattle.ctr_disk.specs.declared.fault.StoreFault.{StoreFault}
 use Rattle.ctr_disk.specs.declared.fault.StoreFault.TheVariants.{Fault, Damaged}
-use Rattle.ctr_records.specs.declared.decoding.BadRecord.{BadRecord}
-use Rattle.ctr_records.specs.declared.record.SlogItem.{SlogItem}
-use Rattle.ctr_records.specs.declared.record.SlogItem.TheVariants.{AllocOf, FreeOf, CreateOf, DropOf}
-use Rattle.ctr_records.specs.Damage.{at_most}
-use Rattle.ctr_records.specs.Members.{ItemFits}
+use Rattle.ctr_rec.specs.declared.decoding.BadRecord.{BadRecord}
+use Rattle.ctr_rec.specs.declared.record.SlogItem.{SlogItem}
+use Rattle.ctr_rec.specs.declared.record.SlogItem.TheVariants.{AllocOf, FreeOf, CreateOf, DropOf}
+use Rattle.ctr_rec.specs.Damage.{at_most}
+use Rattle.ctr_rec.specs.Members.{ItemFits}
 use Rattle.ctr_page.specs.declared.walk.BadChain.{BadChain}
 use Rattle.ctr_page.specs.declared.walk.BadChain.TheVariants.{OnPage, TooLong}
 use Rattle.ctr_page.specs.Reading.{piece}

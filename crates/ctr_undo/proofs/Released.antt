@@ -1,8 +1,8 @@
 -- The name of a table whose item is undone.
 use Rattle.std.proofs.Common.{◌≡◌, ◌⊎◌, ⊎_elim, inl, inr, ℕ, true, false, List, [], ◌∷◌, ◌++◌, refl, sym, ◌∙◌, ap, subst}
 use Rattle.std.proofs.lemmas.Bool.{false≢true, eq-eqb}
-use Rattle.ctr_records.specs.declared.record.SlogItem.{SlogItem}
-use Rattle.ctr_records.specs.declared.record.SlogItem.TheVariants.{AllocOf, FreeOf, CreateOf, DropOf}
+use Rattle.ctr_rec.specs.declared.record.SlogItem.{SlogItem}
+use Rattle.ctr_rec.specs.declared.record.SlogItem.TheVariants.{AllocOf, FreeOf, CreateOf, DropOf}
 use Rattle.ctr_model.specs.Database.{Database}
 use Rattle.ctr_model.specs.State.{has_name, at_rest}
 use Rattle.ctr_versions.specs.Laws.{IsNoSessions}

@@ -1,6 +1,6 @@
 -- A turn of undo in a World on pages, and the name that goes with it.
 use Rattle.std.specs.Prelude.{ℕ, ◌+◌, List, [], ◌∷◌, ◌++◌}
-use Rattle.ctr_records.specs.declared.record.SlogItem.TheVariants.{AllocOf, FreeOf, CreateOf, DropOf}
+use Rattle.ctr_rec.specs.declared.record.SlogItem.TheVariants.{AllocOf, FreeOf, CreateOf, DropOf}
 use Rattle.ctr_versions.specs.Laws.{IsNoSessions}
 use Rattle.ctr_meta.specs.declared.items.Wanted.TheVariants.{Creation, Dropping}
 use Rattle.ctr_names.specs.Held.{names_of_items}

@@ -1,8 +1,8 @@
 -- What is left of undo, and what is next.
 use Rattle.std.specs.Prelude.{◌≡◌, ℕ, ◌+◌, List, [], ◌∷◌, ◌++◌, length, Option, None, Some}
 use Rattle.std.specs.List.{AllByRecursion}
-use Rattle.ctr_records.specs.declared.record.SlogItem.{SlogItem}
-use Rattle.ctr_records.specs.Members.{ItemFits}
+use Rattle.ctr_rec.specs.declared.record.SlogItem.{SlogItem}
+use Rattle.ctr_rec.specs.Members.{ItemFits}
 use Rattle.ctr_undo.specs.declared.list.UndoItem.{UndoItem}
 use Rattle.ctr_undo.specs.declared.list.UndoItem.TheVariants.{Slog, Orphan}
 

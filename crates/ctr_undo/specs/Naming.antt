@@ -2,9 +2,9 @@
 use Rattle.std.specs.Prelude.{◌≡◌, ℕ, ◌*◌, ◌==◌, List, [], ◌∷◌, ⊤, Option, None, Some, Result, Ok, Err, IfOk, if◌then◌else◌}
 use Rattle.ctr_types.specs.declared.memory.OutOfMemory.{OutOfMemory}
 use Rattle.ctr_disk.specs.declared.fault.StoreFault.{StoreFault}
-use Rattle.ctr_records.specs.declared.decoding.BadRecord.{BadRecord}
-use Rattle.ctr_records.specs.declared.record.SlogItem.{SlogItem}
-use Rattle.ctr_records.specs.declared.record.SlogItem.TheVariants.{AllocOf, FreeOf, CreateOf, DropOf}
+use Rattle.ctr_rec.specs.declared.decoding.BadRecord.{BadRecord}
+use Rattle.ctr_rec.specs.declared.record.SlogItem.{SlogItem}
+use Rattle.ctr_rec.specs.declared.record.SlogItem.TheVariants.{AllocOf, FreeOf, CreateOf, DropOf}
 use Rattle.ctr_page.specs.declared.table.TheConstants.{ENTRY_SIZE}
 use Rattle.ctr_page.specs.Columns.{entry_at}
 use Rattle.ctr_page.specs.Damage.{entry_check}

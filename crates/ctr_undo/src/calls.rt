@@ -1,7 +1,7 @@
 // What a turn undoes, by one record, beside the steps that it takes.
 ghost use Rattle.std.specs.Prelude.{◌≡◌, ◌+◌, ℕ, OnOk, IfErr};
 ghost use Rattle.ctr_disk.specs.declared.fault.StoreFault.TheVariants.{Fault};
-ghost use Rattle.ctr_records.specs.declared.record.Record.TheVariants.{Abort};
+ghost use Rattle.ctr_rec.specs.declared.record.Record.TheVariants.{Abort};
 ghost use Rattle.ctr_record_effects.specs.Standing.{IsDatabaseState};
 ghost use Rattle.ctr_actions.specs.Sites.{site_of};
 ghost use Rattle.ctr_actions.specs.Actions.{Aborts, Owes};
@@ -17,7 +17,7 @@ use ctr_base::Origin;
 use ctr_disk::{Disk, StoreFault};
 use ctr_page_turns::{a_record_acts, a_record_is_refused_by_the_disk_alone};
 use ctr_passed::records_without_bytes_lie_as_their_actions;
-use ctr_records::Record;
+use ctr_rec::Record;
 use ctr_rollback::undo;
 use ctr_store::Store;
 use ctr_tally::Steps;

@@ -6,7 +6,7 @@ ghost use Rattle.ctr_undo.specs.declared.list.UndoItem.{UndoItem};
 ghost use Rattle.ctr_undo.specs.Left.{UndoLeft, left_in, IsOver, Goes, IsNext, ItemsFit, NextFits};
 
 use ctr_meta::Meta;
-use ctr_records::SlogItem;
+use ctr_rec::SlogItem;
 use ctr_types::{OutOfMemory, Xid};
 use std::alloc::Global;
 use std::marker::Model;

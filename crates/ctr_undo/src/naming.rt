@@ -3,7 +3,7 @@ ghost use Rattle.std.specs.Prelude.{◌≡◌, ◌≢◌, ◌⊎◌, ◌≤◌, 
 ghost use Rattle.ctr_bytes.specs.Fields.{field};
 ghost use Rattle.ctr_base.specs.Base.{WhereSound};
 ghost use Rattle.ctr_store.specs.Store.{LeavesPage};
-ghost use Rattle.ctr_records.specs.Members.{ItemFits};
+ghost use Rattle.ctr_rec.specs.Members.{ItemFits};
 ghost use Rattle.ctr_page.specs.declared.table.TheConstants.{PAGE_SIZE, ENTRY_SIZE, NAME_AT, NAME_MOST};
 ghost use Rattle.ctr_area.specs.Reading.{title_of};
 ghost use Rattle.ctr_names.specs.Held.{names_of_items};
@@ -16,7 +16,7 @@ use crate::list::UndoList;
 use ctr_base::Origin;
 use ctr_disk::{Disk, StoreFault};
 use ctr_page::{BadPage, CatalogEntry, EntryState, check_entry, read_entry};
-use ctr_records::SlogItem;
+use ctr_rec::SlogItem;
 use ctr_store::Store;
 use ctr_types::{Name, OutOfMemory, Text};
 use ctr_walk::{SearchFault, catalog_page, found_on, tell};

@@ -3,7 +3,7 @@ use Rattle.std.specs.Prelude.{◌≡◌, ℕ, Bool, List, Option, Some, ⊤, Res
 use Rattle.std.specs.Option.{option_and_then}
 use Rattle.std.specs.Ordering.{nat_cmp}
 use Rattle.std.specs.FinMap.Entries.{find}
-use Rattle.ctr_records.specs.declared.decoding.BadRecord.{BadRecord}
+use Rattle.ctr_rec.specs.declared.decoding.BadRecord.{BadRecord}
 use Rattle.ctr_model.specs.declared.state.Transaction.{Transaction}
 use Rattle.ctr_versions.specs.Chains.{above}
 use Rattle.ctr_versions.specs.Engine.{SessionHeld, IsCalm}

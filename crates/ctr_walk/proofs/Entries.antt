@@ -11,8 +11,8 @@ use Rattle.ctr_types.specs.declared.value.Kind.TheVariants.{Int, Chars}
 use Rattle.ctr_types.specs.declared.value.Kind.{Kind}
 use Rattle.ctr_value.specs.Columns.{KindFits, ColumnFits, ColumnsFit}
 use Rattle.ctr_value.specs.Payload.{IsKeyed}
-use Rattle.ctr_records.specs.declared.decoding.BadRecord.{BadRecord}
-use Rattle.ctr_records.specs.Damage.{at_most}
+use Rattle.ctr_rec.specs.declared.decoding.BadRecord.{BadRecord}
+use Rattle.ctr_rec.specs.Damage.{at_most}
 use Rattle.ctr_page.specs.Reading.{piece}
 use Rattle.ctr_page.specs.Columns.{entry_at, name_in, column_kind_at, kind_said, columns_from, columns_in}
 use Rattle.ctr_page.specs.Damage.{from_1_check, firsts_check, column_check, columns_check, used_entry_check, entry_check}

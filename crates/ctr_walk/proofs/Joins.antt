@@ -9,7 +9,7 @@ use Rattle.ctr_disk.specs.Image.{Image, content}
 use Rattle.ctr_disk.specs.declared.fault.StoreFault.{StoreFault}
 use Rattle.ctr_disk.specs.declared.fault.StoreFault.TheVariants.{Fault}
 use Rattle.ctr_disk.proofs.Moments.{joined, weaker, on_ok}
-use Rattle.ctr_records.specs.declared.record.Record.{Record}
+use Rattle.ctr_rec.specs.declared.record.Record.{Record}
 use Rattle.ctr_redo.specs.States.{State, steps}
 use Rattle.ctr_redo.specs.Images.{FoldsFront}
 use Rattle.ctr_redo.proofs.StateLaws.{steps-append}

@@ -4,8 +4,8 @@ use Rattle.std.specs.Prelude.{⊤}
 use Rattle.std.proofs.lemmas.Bool.{ltb-false}
 use Rattle.ctr_bytes.specs.Fields.{field}
 use Rattle.ctr_bytes.specs.Following.{◌>>=◌}
-use Rattle.ctr_records.specs.Damage.{wrong, expect, at_most}
-use Rattle.ctr_records.proofs.Reading.{bind_ok, guard_ok}
+use Rattle.ctr_rec.specs.Damage.{wrong, expect, at_most}
+use Rattle.ctr_rec.proofs.Reading.{bind_ok, guard_ok}
 use Rattle.ctr_redo.specs.States.{page_limit}
 use Rattle.ctr_page.specs.declared.checks.Chain.{Chain}
 use Rattle.ctr_page.specs.Reading.{header_in}

@@ -4,7 +4,7 @@ ghost use Rattle.ctr_base.specs.Base.{WhereSound};
 ghost use Rattle.ctr_record_effects.specs.States.{pages_in};
 ghost use Rattle.ctr_page.specs.declared.table.TheConstants.{PAGE_SIZE};
 ghost use Rattle.ctr_page.specs.Walking.{most_in_chain};
-ghost use Rattle.ctr_records.specs.declared.decoding.BadRecord.{BadRecord};
+ghost use Rattle.ctr_rec.specs.declared.decoding.BadRecord.{BadRecord};
 ghost use Rattle.ctr_walk.specs.Along.{LooksAt, EndsAlong};
 ghost use Rattle.ctr_walk.specs.Damage.{searched, EndsOnPage};
 ghost use Rattle.ctr_store.specs.Parts.{MayCount};
@@ -15,7 +15,7 @@ use crate::fault::{SearchFault, found_on};
 use ctr_base::Origin;
 use ctr_disk::Disk;
 use ctr_page::{BadChain, BadPage, Chain, Place, check_header, read_header};
-use ctr_records::PageNo;
+use ctr_rec::PageNo;
 use ctr_store::Store;
 use ctr_types::Kind;
 

@@ -13,7 +13,7 @@ use crate::fault::SearchFault;
 use ctr_base::Origin;
 use ctr_disk::{Disk, StoreFault};
 use ctr_page::BadChain;
-use ctr_records::PageNo;
+use ctr_rec::PageNo;
 use ctr_store::Store;
 use ctr_types::{Damage, File};
 

@@ -5,7 +5,7 @@ ghost use Rattle.ctr_walk.specs.Damage.{found_on};
 
 use ctr_disk::StoreFault;
 use ctr_page::{BadChain, BadPage};
-use ctr_records::PageNo;
+use ctr_rec::PageNo;
 
 /// Why a search on pages of a store has no answer.
 #[derive(Clone, Copy, Debug, PartialEq, Eq)]

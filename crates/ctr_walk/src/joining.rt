@@ -2,14 +2,14 @@
 ghost use Rattle.std.specs.Prelude.{◌≡◌, false, [], Ok, Err, Result, List, ℕ};
 ghost use Rattle.ctr_disk.specs.Image.{Image};
 ghost use Rattle.ctr_disk.specs.declared.fault.StoreFault.{StoreFault};
-ghost use Rattle.ctr_records.specs.declared.record.Record.{Record};
+ghost use Rattle.ctr_rec.specs.declared.record.Record.{Record};
 ghost use Rattle.ctr_store.specs.Store.{View, LeavesFront, MovesOn, Logs, MayLog, KeepsRoom, LeavesPage};
 ghost use Rattle.ctr_walk.specs.OneRecord.{LogsOne, AnswersLog};
 
 use ctr_base::Origin;
 use ctr_disk::{Disk, StoreFault};
 use ctr_log::Lsn;
-use ctr_records::Record as LogRecord;
+use ctr_rec::Record as LogRecord;
 use ctr_store::Store;
 
 /// Behind a page that was read another call goes on from what stood before: what a crash leaves, what is logged, and

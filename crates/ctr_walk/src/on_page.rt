@@ -1,6 +1,6 @@
 // A record on a page, which is read first.
 ghost use Rattle.std.specs.Prelude.{◌≡◌, ◌<◌, ◌≤◌, ℕ, false, OnOk, length};
-ghost use Rattle.ctr_records.specs.declared.record.Record.{Record};
+ghost use Rattle.ctr_rec.specs.declared.record.Record.{Record};
 ghost use Rattle.ctr_meta.specs.Kept.{IsLogged, opens_added, items_added};
 ghost use Rattle.ctr_redo.specs.States.{page_limit, page_at};
 ghost use Rattle.ctr_redo.specs.Overlaid.{overlay_of};
@@ -13,7 +13,7 @@ ghost use Rattle.ctr_walk.specs.OneRecord.{HasRoomForOne, LogsOne};
 use crate::joining::{a_record_behind_a_page, log_record};
 use ctr_base::Origin;
 use ctr_disk::{Disk, StoreFault};
-use ctr_records::{PageNo, Record as LogRecord};
+use ctr_rec::{PageNo, Record as LogRecord};
 use ctr_store::Store;
 
 // Brings a page into a frame.

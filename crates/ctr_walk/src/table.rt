@@ -14,7 +14,7 @@ use crate::fault::{SearchFault, found_on};
 use ctr_base::Origin;
 use ctr_disk::{Disk, StoreFault};
 use ctr_page::{BadPage, CatalogEntry, Chain, EntryState, Place, check_entry, read_entry};
-use ctr_records::PageNo;
+use ctr_rec::PageNo;
 use ctr_store::Store;
 use ctr_types::Kind;
 

@@ -14,8 +14,8 @@ use Rattle.ctr_bytes.proofs.FieldLaws.{field-append, field-drop}
 use Rattle.ctr_value.specs.Payload.{field_width, width, IsKeyed}
 use Rattle.ctr_value.specs.Values.{value_said, values_in, row_values}
 use Rattle.ctr_versions.proofs.Keys.{known}
-use Rattle.ctr_records.specs.declared.decoding.BadRecord.{BadRecord}
-use Rattle.ctr_records.specs.Damage.{at_most}
+use Rattle.ctr_rec.specs.declared.decoding.BadRecord.{BadRecord}
+use Rattle.ctr_rec.specs.Damage.{at_most}
 use Rattle.ctr_page.specs.declared.rows.Version.{Version}
 use Rattle.ctr_page.specs.Places.{has_previous, previous_at, pointer_at, kept_pointer_at, slot_size, kept_size}
 use Rattle.ctr_page.specs.Reading.{piece, version_in, if_there, previous_in, slot_at, older_at}

@@ -4,7 +4,7 @@ ghost use Rattle.ctr_page.specs.Making.{IsVersion};
 ghost use Rattle.ctr_wishes.specs.Heads.{version_by};
 
 use ctr_page::{Tombstone, Version};
-use ctr_records::Bytes;
+use ctr_rec::Bytes;
 use ctr_types::Xid;
 use std::marker::Model;
 

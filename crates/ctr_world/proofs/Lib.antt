@@ -1,10 +1,16 @@
-pub mod AloneLemmas
-pub mod AnswerLemmas
-pub mod CrashLemmas
-pub mod CreateLemmas
-pub mod HardenLemmas
-pub mod KeptLemmas
-pub mod OpenLemmas
-pub mod RunLemmas
-pub mod TapeLemmas
-pub mod SessionLemmas
+mod Quiet
+mod Adding
+mod Refused
+mod Keeping
+mod Leading
+mod Whole
+mod Ending
+mod Undone
+mod Titles
+mod Beside
+mod Started
+mod Stuck
+mod Going
+mod Undoing
+mod Nearer
+pub use Rattle.ctr_exec.proofs as ctr_exec

@@ -1,18 +1,36 @@
--- What contracts see of a World.
-use Rattle.std.specs.Prelude.{Option}
+-- What contracts see of a World on pages.
+use Rattle.std.specs.Prelude.{ℕ, List, Option}
 use Rattle.ctr_disk.specs.declared.fault.Stop.{Stop}
-use Rattle.ctr_log.specs.Logs.{Log}
-use Rattle.ctr_steps.specs.declared.steps.Steps.{Steps}
+use Rattle.ctr_store.specs.Store.{View}
+use Rattle.ctr_undo.specs.Left.{UndoLeft}
+use Rattle.ctr_exec.specs.declared.sessions.Sessions.{Sessions}
+use Rattle.ctr_world.specs.declared.engine.Engine.{Engine}
 use Rattle.ctr_world.specs.declared.parts.Parts.{Parts}
 
--- what the database stands on, the writer of its log, the sessions at the script's statements with
--- the tape, and why the World stopped, if it did
+-- The store, the sessions at the script's statements with the tape, what is left of undo with the
+-- names of its tables, and how large the undo of the start was.
+pub record Running (D : Type 0) : Type 0 where
+  pub store : View D
+  pub sessions : Sessions
+  pub undo : UndoLeft
+  pub names : List (List ℕ)
+  pub size : ℕ
+
+-- that, and why the World stopped, if it did
 pub record Held (D : Type 0) : Type 0 where
-  pub disk : D
-  pub log : Log
-  pub steps : Steps
+  pub running : Running D
   pub stop : Option Stop
 
--- What a World holds, by the fields of the code.
-abbrev pub held : {D : Type 0} → Parts D → Held D
-held a = record { disk = a.disk; log = a.log; steps = a.steps; stop = a.stop }
+-- what an engine and a World hold, by the fields of the code
+abbrev pub running : {D B : Type 0} → Engine D B → Running D
+running e = record {
+  store = e.store;
+  sessions = e.sessions;
+  undo = e.undo;
+  names = e.names.items;
+  size = e.size;
+}
+
+-- a World, with why it stopped
+abbrev pub held : {D B : Type 0} → Parts D B → Held D
+held p = record { running = running p.engine; stop = p.stop }

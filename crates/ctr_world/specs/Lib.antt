@@ -1,6 +1,7 @@
-pub mod Crash
-pub mod Creating
 pub mod Held
-pub mod Surveying
-pub mod Turns
+pub mod Opened
+pub mod Begun
 pub mod World
+pub mod Turns
+pub mod Ended
+pub use Rattle.ctr_exec.specs as ctr_exec

@@ -1,124 +1,176 @@
--- How a turn ends, and what it adds to the tape.
-use Rattle.std.specs.Prelude.{◌≡◌, ◌≢◌, ◌⊎◌, ℕ, ◌≤◌, ◌<◌, List, [], ◌++◌, length, None}
+-- How a turn of an actor ends, and what it adds to the tape.
+use Rattle.std.specs.Prelude.{◌≡◌, ◌≢◌, ◌⊎◌, ℕ, ◌+◌, ◌*◌, ◌≤◌, ◌<◌, true, false, List, [], ◌∷◌, ◌++◌, length, Option, Some, None, Result, Ok, Err, if◌then◌else◌}
 use Rattle.std.specs.List.{AllByRecursion}
 use Rattle.ctr_types.specs.declared.tape.Actor.{Actor}
 use Rattle.ctr_types.specs.declared.tape.Actor.TheVariants as actor
+use Rattle.ctr_types.specs.declared.tape.Entry.{Entry}
 use Rattle.ctr_types.specs.declared.tape.Turn.{Turn}
 use Rattle.ctr_types.specs.declared.tape.Turn.TheVariants as turn
-use Rattle.ctr_types.specs.declared.statement.Line.{Line}
-use Rattle.ctr_types.specs.declared.tape.Act.TheVariants as act
-use Rattle.ctr_types.specs.declared.tape.Entry.{Entry}
 use Rattle.ctr_disk.specs.declared.disk.Disk.{Ghosts}
-use Rattle.ctr_acts.specs.Acts.{IsNotFull}
-use Rattle.ctr_gather.specs.Records.{IsSession}
-use Rattle.ctr_steps.specs.declared.steps.Steps.{Steps}
-use Rattle.ctr_steps.specs.declared.runners.Stage.TheVariants as stage
-use Rattle.ctr_steps.specs.Runners.{runner_at, after_stage, all_left, session_places, IsUnbegun}
-use Rattle.ctr_steps.specs.Steps.{IsEntryOf, AddsEntry, AreAnswered}
-use Rattle.ctr_world.specs.Held.{Held}
+use Rattle.ctr_disk.specs.declared.fault.StoreFault.{StoreFault}
+use Rattle.ctr_rec.specs.declared.record.SlogItem.TheVariants.{AllocOf, FreeOf, CreateOf, DropOf}
+use Rattle.ctr_model.specs.State.{has_name}
+use Rattle.ctr_store.specs.Store.{WritesHome, turns_for_room}
+use Rattle.ctr_txn.specs.Held.{IsOneOfEight}
+use Rattle.ctr_undo.specs.declared.list.UndoItem.{UndoItem}
+use Rattle.ctr_undo.specs.declared.list.UndoItem.TheVariants.{Slog, Orphan}
+use Rattle.ctr_undo.specs.Left.{left_in, IsOver as NoneIsLeft}
+use Rattle.ctr_exec.specs.declared.sessions.Sessions.{Sessions}
+use Rattle.ctr_exec.specs.Order.{IsReleaseEntry}
+use Rattle.ctr_exec.specs.Runners.{runner_at}
+use Rattle.ctr_exec.specs.Sessions.{AreAnswers, AreOfTurn, IsReleased, turns_left}
+use Rattle.ctr_world.specs.Held.{Running, Held}
 
--- no reply is a refusal for want of room in the files
-abbrev pub NoneFull : List Entry → Type 0
-NoneFull es = AllByRecursion (λ e. IsNotFull e.reply) es
+-- a session has a statement that isn't finished
+pub record HasStatementLeft (s : ℕ) (h : Sessions) : Type 0 where
+  pub one : IsOneOfEight s
+  pub more : (runner_at s h.runners.items).finished < length (runner_at s h.runners.items).places
 
--- There are eight sessions: so many runners, and so many records.
-pub record AreEight (steps : Steps) : Type 0 where
-  pub same : length steps.turns.records ≡ length steps.runners.items
-  pub eight : length steps.runners.items ≡ 8
+-- ---- the tape
 
--- the eight sessions of the script, each at its own lines
-pub record AreSessions (steps : Steps) : Type 0 where
-  pub eight : AreEight steps
-  pub own : (s : ℕ) → 1 ≤ s → s ≤ 8 → (runner_at s steps.runners.items).places
-      ≡ session_places s 0 steps.script.lines
-
--- Sessions stand at the start of a script: none has begun a statement of it, and the tape is empty.
-pub record AreUnbegun (lines : List Line) (steps : Steps) : Type 0 where
-  pub sessions : AreSessions steps
-  pub lines_are : steps.script.lines ≡ lines
-  pub tape : steps.tape.items ≡ []
-  pub none : (s : ℕ) → 1 ≤ s → s ≤ 8 → IsUnbegun (runner_at s steps.runners.items)
-
--- a session of the script has a statement that isn't finished
-pub record HasStatementLeft (s : ℕ) (steps : Steps) : Type 0 where
-  pub one : IsSession s steps.turns.records
-  pub more : (runner_at s steps.runners.items).finished
-      < length (runner_at s steps.runners.items).places
-
--- A session waits for the answer of its commit.
-abbrev pub IsAsking : ℕ → Steps → Type 0
-IsAsking s steps = (k : ℕ) × ((runner_at s steps.runners.items).stage ≡ stage.Asked k)
-
--- entries more behind those that are there
-abbrev pub AddsMore : Steps → Steps → Type 0
-AddsMore old new = (more : List Entry) × (new.tape.items ≡ old.tape.items ++ more)
-
--- the entry is the answer, at this moment, to a session that waited for one
-pub record IsAnswerTo (moment : ℕ) (old : Steps) (e : Entry) : Type 0 where
-  pub least : 1 ≤ e.session
-  pub waits : IsAsking e.session old
-  pub is : IsEntryOf e.session moment (runner_at e.session old.runners.items) e
-  pub answer : e.act ≡ act.Answer
-
--- Behind some answers a session is where it was, or it waited for one, and its statement is finished.
-abbrev pub IsMovedBy : List Entry → Steps → Steps → ℕ → Type 0
-IsMovedBy entries old new s = (runner_at s new.runners.items ≡ runner_at s old.runners.items)
-    ⊎ (IsAsking s old × (0 < length entries)
-    × (runner_at s new.runners.items ≡ after_stage stage.Between (runner_at s old.runners.items)))
-
--- entries more, each the answer to a session that waited for it
-pub record AddsEntries (moment : ℕ) (old new : Steps) : Type 0 where
+-- The tape goes on by such entries, each at this moment; the script is as it was.
+pub record AddsEntries {D : Type 0} (such : List Entry → Type 0) (moment : ℕ) (old new : Running D)
+    : Type 0 where
   pub entries : List Entry
-  pub tape : new.tape.items ≡ old.tape.items ++ entries
-  pub answers : AllByRecursion (IsAnswerTo moment old) entries
-  pub moved : (s : ℕ) → 1 ≤ s → IsMovedBy entries old new s
-  pub script : new.script ≡ old.script
+  pub tape : new.sessions.tape.items ≡ old.sessions.tape.items ++ entries
+  pub are_such : such entries
+  pub moments : AllByRecursion (λ (e : Entry). e.moment ≡ moment) entries
+  pub script : new.sessions.script ≡ old.sessions.script
 
--- every commit that was asked for was made durable and is answered, at one moment
-pub record AnswersAll (moment : ℕ) (old new : Steps) : Type 0 where
-  pub adds : AddsEntries moment old new
-  pub all : AreAnswered new
+-- entries more behind those that are there, or none
+abbrev pub GrowsTape : {D : Type 0} → Running D → Running D → Type 0
+GrowsTape old new =
+    (more : List Entry) × (new.sessions.tape.items ≡ old.sessions.tape.items ++ more)
 
--- nothing is left to do for a session, whose statements are finished, or for undo, which has nothing
--- to undo
-abbrev pub NoneLeft : {D : Type 0} → Actor → Held D → Type 0
-NoneLeft (actor.Session s) w = HasStatementLeft s w.steps → ⊥
-NoneLeft actor.Undo w = Unit {0}
+-- one at most, by which recovery releases a name
+abbrev pub AreReleases : List Entry → Type 0
+AreReleases es = (length es ≤ 1) × AllByRecursion IsReleaseEntry es
+
+-- The entries of a turn: of a session's act, or answers; of undo's item; and behind these the
+-- answers of all commits that it made durable. The flusher answers alone.
+abbrev pub AreBy : Actor → List Entry → Type 0
+AreBy (actor.Session s) es = (own : List Entry) × (answers : List Entry) × (es ≡ own ++ answers)
+    × AreOfTurn s own × AreAnswers answers
+AreBy actor.Undo es = (own : List Entry) × (answers : List Entry) × (es ≡ own ++ answers)
+    × AreReleases own × AreAnswers answers
+AreBy actor.Flusher es = AreAnswers es
+AreBy actor.Cleaner es = es ≡ []
+
+-- The last of some names goes, and is told, where it isn't among the others.
+abbrev pub LastGoes : List (List ℕ) → List (List ℕ) → Option (List ℕ) → Type 0
+LastGoes old new told = ((old ≡ []) × (new ≡ []) × (told ≡ None))
+    ⊎ ((name : List ℕ) × (old ≡ new ++ name ∷ [])
+    × (told ≡ (if has_name name new then None else Some name)))
+
+-- The names of the tables that are left, behind the one of an item that was undone: of a page or a
+-- transaction there is none. What is told is that name, where no other item of it is left.
+abbrev pub NameGoes : UndoItem → List (List ℕ) → List (List ℕ) → Option (List ℕ) → Type 0
+NameGoes (Slog (AllocOf x p)) old new told = (new ≡ old) × (told ≡ None)
+NameGoes (Slog (FreeOf p)) old new told = (new ≡ old) × (told ≡ None)
+NameGoes (Slog (CreateOf x e)) old new told = LastGoes old new told
+NameGoes (Slog (DropOf x e)) old new told = LastGoes old new told
+NameGoes (Orphan x) old new told = (new ≡ old) × (told ≡ None)
+
+-- The sessions behind a turn of undo: this name is released at a moment, or they are as they were.
+abbrev pub AreSessionsBehind : Option (List ℕ) → ℕ → Sessions → Sessions → Type 0
+AreSessionsBehind None moment h now = now ≡ h
+AreSessionsBehind (Some name) moment h now = IsReleased name moment h now
+
+-- What is undone takes the name of its table with it: that is released, where no other item has it.
+pub record LetsNameGo (undone : UndoItem) (moment : ℕ) (names left : List (List ℕ)) (h now : Sessions)
+    : Type 0 where
+  pub told : Option (List ℕ)
+  pub goes : NameGoes undone names left told
+  pub behind : AreSessionsBehind told moment h now
+
+-- a turn that fails adds nothing
+abbrev pub AddsUnlessFails : {D T : Type 0} → (List Entry → Type 0) → ℕ → Running D → Running D
+    → Result T StoreFault → Type 0
+AddsUnlessFails such moment old new (Ok x) = AddsEntries such moment old new
+AddsUnlessFails such moment old new (Err e) = (new.sessions.tape.items ≡ old.sessions.tape.items)
+    × (new.sessions.script ≡ old.sessions.script)
+
+-- ---- how many there are
+
+-- How many turns undo has left at most, those for room among them.
+abbrev pub undo_left : {D : Type 0} → Running D → ℕ
+undo_left w = left_in w.undo * 4 + turns_for_room w.store
+
+-- all commits that are durable are answered
+abbrev pub AreAnswered : {D : Type 0} → Running D → Type 0
+AreAnswered w = w.store.waiting ≡ []
+    → w.sessions.txns.answered ≡ length w.sessions.txns.numbers.commits
+
+-- What a turn of the flusher did: where the log wasn't durable it is, and all that asked for their
+-- commit are answered; else the page that is changed the longest went home.
+pub record WritesBehind {D : Type 0} (old new : Running D) : Type 0 where
+  pub hardens : (old.store.waiting ≡ [] → ⊥) → (new.store.waiting ≡ []) × AreAnswered new
+  pub home : old.store.waiting ≡ [] → (old.store.dirty ≡ true) × WritesHome old.store new.store true
+
+-- What an actor's turn that isn't over does: it brings the actor nearer to its end, where others take
+-- none, and by a turn of undo no session gets further from its own; and behind it all commits that are
+-- durable are answered.
+abbrev pub ComesNearer : {D : Type 0} → Actor → Running D → Running D → Type 0
+ComesNearer (actor.Session s) old new =
+    (turns_left new.sessions new.store < turns_left old.sessions old.store) × AreAnswered new
+ComesNearer actor.Undo old new = (undo_left new < undo_left old)
+    × (turns_left new.sessions new.store < turns_left old.sessions old.store) × AreAnswered new
+ComesNearer actor.Flusher old new = WritesBehind old new
+ComesNearer actor.Cleaner old new = ⊥
+
+-- nothing is left to do for a session, whose statements are finished, or for undo
+abbrev pub NoneLeft : {D : Type 0} → Actor → Running D → Type 0
+NoneLeft (actor.Session s) w = HasStatementLeft s w.sessions → ⊥
+NoneLeft actor.Undo w = NoneIsLeft w.undo
 NoneLeft actor.Flusher w = ⊥
 NoneLeft actor.Cleaner w = ⊥
 
--- nothing is left to do for any session, or the World is stopped
-abbrev pub NoneIsLeft : {D : Type 0} → Held D → Type 0
-NoneIsLeft w = (w.stop ≢ None) ⊎ ((s : ℕ) → HasStatementLeft s w.steps → ⊥)
+-- a session that goes has a statement that isn't finished, and undo something that is left; what the
+-- flusher found is told with what it did
+abbrev pub HasTurnLeft : {D : Type 0} → Actor → Running D → Type 0
+HasTurnLeft (actor.Session s) w = HasStatementLeft s w.sessions
+HasTurnLeft actor.Undo w = NoneIsLeft w.undo → ⊥
+HasTurnLeft actor.Flusher w = Unit {0}
+HasTurnLeft actor.Cleaner w = ⊥
 
--- nothing is due for the flusher, where nothing waits in the log, or for the cleaner
-abbrev pub NoneDue : {D : Type 0} → Actor → Held D → Type 0
+-- all sessions are over, and nothing is left of undo
+pub record IsOver {D : Type 0} (w : Held D) : Type 0 where
+  pub sessions : (s : ℕ) → HasStatementLeft s w.running.sessions → ⊥
+  pub undo : NoneIsLeft w.running.undo
+
+-- nothing is due for the flusher, where the log is durable and no page is changed; nor ever for the
+-- cleaner, which there isn't yet
+abbrev pub NoneDue : {D : Type 0} → Actor → Running D → Type 0
 NoneDue (actor.Session s) w = ⊥
 NoneDue actor.Undo w = ⊥
-NoneDue actor.Flusher w = w.log.buffered ≡ []
+NoneDue actor.Flusher w = (w.store.waiting ≡ []) × (w.store.dirty ≡ false)
 NoneDue actor.Cleaner w = Unit {0}
 
--- Who did something, and what came on the tape. A session that waits for an answer flushes, as the
--- flusher does where something waits in the log; another makes one act, which is one entry.
-abbrev pub Moves : {D : Type 0} → ℕ → Actor → Held D → Held D → Type 0
-Moves moment (actor.Session s) old new = HasStatementLeft s old.steps
-    × ((IsAsking s old.steps × AnswersAll moment old.steps new.steps × (IsAsking s new.steps → ⊥))
-    ⊎ ((IsAsking s old.steps → ⊥) × AddsEntry s moment old.steps new.steps))
-Moves moment actor.Undo old new = ⊥
-Moves moment actor.Flusher old new = (0 < length old.log.buffered)
-    × AnswersAll moment old.steps new.steps
-Moves moment actor.Cleaner old new = ⊥
+-- ---- the end of a turn
 
--- how many acts of the sessions are left at most
-abbrev pub turns_left : {D : Type 0} → Held D → ℕ
-turns_left w = all_left w.steps.runners.items
+-- The tape and the script are as they were, and so is undo's list.
+pub record TellsNothing {D : Type 0} (old new : Running D) : Type 0 where
+  pub sessions : new.sessions ≡ old.sessions
+  pub undo : new.undo ≡ old.undo
 
 -- How a turn ended: a World that stops has added nothing, and a turn after a stop does nothing.
 abbrev pub EndsTurn : {D : Type 0} → Ghosts D → Turn → Actor → Held D → Held D → Type 0
-EndsTurn g turn.Went a old new = (new.stop ≡ None) × Moves (g.moment_of new.disk) a old new
-    × (turns_left new < turns_left old) × (old.stop ≡ None)
-EndsTurn g turn.Idle a old new = (old.stop ≡ None) × NoneDue a old × (new ≡ old)
+EndsTurn g turn.Went a old new = (old.stop ≡ None) × (new.stop ≡ None)
+    × AddsEntries (AreBy a) (g.moment_of new.running.store.disk) old.running new.running
+    × ComesNearer a old.running new.running × HasTurnLeft a old.running
+EndsTurn g turn.Idle a old new = (old.stop ≡ None) × (new.stop ≡ None) × NoneDue a old.running
+    × TellsNothing old.running new.running
 EndsTurn g turn.Short a old new = ⊥
-EndsTurn g turn.Over a old new = (old.stop ≡ None) × NoneLeft a old × (new ≡ old)
-EndsTurn g turn.Stopped a old new = (new.stop ≢ None) × (new.steps ≡ old.steps)
+EndsTurn g turn.Over a old new = (old.stop ≡ None) × NoneLeft a old.running × (new ≡ old)
+EndsTurn g turn.Stopped a old new = (new.stop ≢ None)
+    × (new.running.sessions.tape.items ≡ old.running.sessions.tape.items)
+    × (new.running.sessions.script ≡ old.running.sessions.script)
     × (old.stop ≢ None → new ≡ old)
+
+-- How a turn of the flusher ends: it is idle where nothing was due.
+abbrev pub FlusherEnds : {D : Type 0} → Running D → Running D → Turn → Type 0
+FlusherEnds old new turn.Went = WritesBehind old new
+FlusherEnds old new turn.Idle = NoneDue actor.Flusher old × TellsNothing old new
+FlusherEnds old new turn.Short = ⊥
+FlusherEnds old new turn.Over = ⊥
+FlusherEnds old new turn.Stopped = ⊥

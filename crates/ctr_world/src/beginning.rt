@@ -1,42 +1,94 @@
-// The sessions of a script over a database that was loaded, before their first act.
-ghost use Rattle.std.specs.Prelude.{◌≡◌, ◌≤◌, ◌<◌, ◌-◌, ◌^◌, ℕ, [], length, IfOk};
-ghost use Rattle.std.specs.List.{AllByRecursion};
-ghost use Rattle.ctr_types.specs.declared.statement.Line.{Line};
-ghost use Rattle.ctr_model.specs.Tape.{at_start};
-ghost use Rattle.ctr_log.specs.Logs.{Log};
-ghost use Rattle.ctr_turns.specs.Items.{IsRecorded};
-ghost use Rattle.ctr_steps.specs.Steps.{Walks, HasBounds};
+// The sessions of a script over a store that was opened, and undo, before their first turns.
+ghost use Rattle.std.specs.Prelude.{◌≡◌, ◌≤◌, ◌<◌, ℕ, false, IfOk, IfErr};
+ghost use Rattle.ctr_record_effects.specs.Standing.{IsDatabaseState};
+ghost use Rattle.ctr_base.specs.Base.{WhereSound};
+ghost use Rattle.ctr_store.specs.Opening.{IsUndamaged};
+ghost use Rattle.ctr_walk.specs.Damage.{ReadsPages};
+ghost use Rattle.ctr_exec.specs.Order.{IsOrdered};
+ghost use Rattle.ctr_exec.specs.Sessions.{AreFresh, AreSeated};
+ghost use Rattle.ctr_world.specs.Opened.{CanRun};
+ghost use Rattle.ctr_world.specs.Begun.{IsBegun, IsOfReading, UndoesAll, read_by, refused_by};
 
-use ctr_acts::Acts;
-use ctr_gather::Records;
-use ctr_rows::Loader;
-use ctr_steps::Steps;
-use ctr_turns::Turns;
-use ctr_types::{List, OutOfMemory, Script};
+use ctr_base::Origin;
+use ctr_disk::Disk;
+use ctr_exec::Sessions;
+use ctr_log::OpenError;
+use ctr_store::Store;
+use ctr_types::{List, Name, OutOfMemory, Script, Xid, copy_all};
+use ctr_undo::{NamesRefusal, UndoList};
 use std::alloc::Global;
 
-/// How many sessions there are.
-const SESSIONS: usize = 8;
+/// What a World has beside its store, before the first turn.
+#[derive(Drop)]
+pub(crate) struct Begun {
+    pub(crate) sessions: Sessions,
+    pub(crate) undo: UndoList,
+    /// The names of the tables of its items, in their order.
+    pub(crate) names: Vec<Name>,
+    /// How much undo there is.
+    pub(crate) size: usize,
+}
 
-/// The greatest number that the next table of a database has that is opened: 2^62.
-const MOST_TABLES: u64 = 1 << 62;
-
-/// The sessions at the beginning of a script. Memory is refused to a database that has had more tables than
-/// can be numbered.
-pub fn begin(alloc: Global, database: Loader, script: Script) -> Result<Steps, OutOfMemory>
-    requires few { length script.lines < 2 ^ 32 - 1 }
-    requires recorded { AllByRecursion (λ (l : Line). IsRecorded l.statement) script.lines }
-    ensures walks { IfOk result (λ h. (moment : ℕ) → Walks (at_start moment database []) 0 h [] moment) }
-    ensures bounds { IfOk result (λ h. (log : Log) → log.buffered ≡ [] → log.first ≤ 2 ^ 62 → HasBounds h log) }
-    ensures is { IfOk result (λ h. (h.script ≡ script) × (h.tape.items ≡ []) × (h.answered ≡ 0)) }
+// Why the names weren't given, as an opening tells it.
+fn refused(refusal: NamesRefusal) -> OpenError
+    ensures is { result ≡ refused_by refusal }
+    ensures reading { IsOfReading result }
 {
-    let engine = database.open(alloc);
-    if engine.next_table() > MOST_TABLES {
-        return Err(OutOfMemory);
+    match refusal {
+        NamesRefusal::Store(fault) => OpenError::from(fault),
+        NamesRefusal::OutOfMemory => OpenError::OutOfMemory,
     }
-    let records = Records::new(alloc, SESSIONS)?;
-    let acts = Acts::over(alloc, engine, List::new(alloc));
-    let turns = Turns::over(acts, records);
-    let steps = Steps::new(alloc, turns, script)?;
-    Ok(steps)
+}
+
+// The sessions of a script, over a store whose next transaction has this number, where recovery holds these names.
+fn sessions_of(
+    alloc: Global,
+    next: Xid,
+    names: &[Name],
+    script: Script,
+) -> Result<Sessions, OutOfMemory>
+    requires first { 0 < next }
+    requires runs { CanRun script.lines }
+    ensures seats { IfOk result (λ h. (counted : ℕ) → AreSeated h counted) }
+    ensures ordered { IfOk result (λ h. (start now : ℕ) → start ≤ now → IsOrdered start now h) }
+    ensures fresh { IfOk result AreFresh }
+    ensures is { IfOk result (λ h. (h.txns.numbers.next ≡ next) × (h.stuck ≡ names.now) × (h.script ≡ script)) }
+{
+    let stuck = List::from_vec(copy_all(alloc, names)?);
+    Sessions::new(alloc, next, stuck, script)
+}
+
+/// What a World has beside a store that was opened for it, before the first turn: the sessions of a script, and undo with its names, which are
+/// read from the catalog.
+pub(crate) fn begin<D: Disk, O: Origin>(
+    alloc: Global,
+    store: &mut Store<D, O>,
+    script: Script,
+) -> Result<Begun, OpenError>
+    requires going { store.old.stopped ≡ false }
+    requires runs { CanRun script.lines }
+    ensures begun { IfOk result (IsBegun store.old script) }
+    ensures whole { WhereSound O.first D.Disk (IsDatabaseState store.old.now → IfOk result (UndoesAll store.old.now)) }
+    ensures leaves { ReadsPages O.first D.Disk store.old store.new (read_by result) }
+    ensures undamaged { WhereSound O.first D.Disk (IsDatabaseState store.old.now → IfErr result IsUndamaged) }
+    ensures reading { IfErr result IsOfReading }
+{
+    store.rests();
+    let undo = match UndoList::of(alloc, store.meta()) {
+        Ok(undo) => undo,
+        Err(OutOfMemory) => return Err(OpenError::OutOfMemory),
+    };
+    let next = store.meta().next();
+    let names = match undo.names(alloc, store) {
+        Ok(names) => names,
+        Err(refusal) => return Err(refused(refusal)),
+    };
+    let sessions = sessions_of(alloc, next, names.as_slice(), script)?;
+    let size = undo.len();
+    Ok(Begun {
+        sessions,
+        undo,
+        names,
+        size,
+    })
 }

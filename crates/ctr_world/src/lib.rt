@@ -1,17 +1,15 @@
-//! The World over the thin form: it steps the sessions of a script over a disk, makes their commits
-//! durable, and keeps the tape.
+//! The World on pages: it steps the sessions of a script, recovery's undo and the flusher over the store of a disk, and keeps
+//! the tape.
 #![tactic(auto)]
 
-mod answers;
 mod beginning;
-mod creating;
+mod engine;
+mod laws;
 mod left;
+mod names;
 mod opening;
 mod parts;
-mod surveying;
 mod world;
 
-pub use creating::CreateError;
 pub use opening::Opening;
-pub use surveying::survey;
 pub use world::{Finished, World};

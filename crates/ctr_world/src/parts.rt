@@ -1,179 +1,219 @@
-// The parts of a World, and the turns of its actors.
-ghost use Rattle.std.specs.Prelude.{◌≡◌, ◌≢◌, ◌≤◌, ◌<◌, ◌⊎◌, IsTrue, ℕ, List, None, Some};
-ghost use Rattle.ctr_disk.specs.declared.fault.Stop.TheVariants.{Fault};
-ghost use Rattle.ctr_types.specs.Faults.{CountsFault};
+// The turns of a World's actors, and how a fault stops it.
+ghost use Rattle.std.specs.Prelude.{◌≡◌, ◌≢◌, ◌≤◌, ◌<◌, ◌-◌, ◌^◌, ℕ, [], true, false, None};
 ghost use Rattle.ctr_types.specs.declared.tape.Actor.TheVariants as who;
 ghost use Rattle.ctr_types.specs.declared.tape.Turn.TheVariants.{Went, Stopped};
-ghost use Rattle.ctr_model.specs.Database.{Database};
-ghost use Rattle.ctr_gather.specs.Records.{IsSession};
-ghost use Rattle.ctr_steps.specs.Runners.{runner_at, MayStep};
-ghost use Rattle.ctr_steps.specs.Steps.{HasBounds, AddsEntry};
+ghost use Rattle.ctr_exec.specs.Sessions.{turns_left};
 ghost use Rattle.ctr_world.specs.Held.{held};
-ghost use Rattle.ctr_world.specs.World.{WalksOn, RunsFrom, Kept};
-ghost use Rattle.ctr_world.specs.Turns.{AnswersAll, AddsMore, HasStatementLeft, EndsTurn, NoneIsLeft, turns_left};
+ghost use Rattle.ctr_world.specs.World.{Kept, stop_by};
+ghost use Rattle.ctr_world.specs.Turns.{EndsTurn, GrowsTape, HasStatementLeft, IsOver};
 
-use crate::answers::answer_all;
-use crate::left::{Next, first_left, next_of};
+use crate::engine::Engine;
+use crate::left::{first_left, has_left};
 use crate::opening::Opening;
-use ctr_disk::{Disk, Stop};
-use ctr_legal::numbers_are_own;
-use ctr_log::LogFile;
-use ctr_model::{legal_states_are_sound, states_grow};
-use ctr_steps::{Steps, durable_walks, later_walks};
-use ctr_thin::{a_flush_goes_on, a_flush_leaves_a_prefix};
+use ctr_base::Origin;
+use ctr_disk::{Disk, Stop, StoreFault};
+use ctr_exec::session_world::a_turn_that_ends_leaves_a_prefix;
 use ctr_types::{Actor, Turn};
 use std::alloc::Global;
 
-/// What a World is made of.
+/// The number of a record that there can't be.
+const LAST: u64 = (1 << 63) - 1;
+
+/// A World's engine, and why it stopped, if it did.
 #[derive(Drop)]
-pub(crate) struct Parts<D: Disk> {
-    /// What the database stands on.
-    pub(crate) disk: D,
-    /// The records of commits that were asked for wait here until they are flushed.
-    pub(crate) log: LogFile,
-    /// The sessions at the statements of the script, with the tape.
-    pub(crate) steps: Steps,
-    /// Why it stopped, if it did.
+pub(crate) struct Parts<D: Disk, B: Origin> {
+    pub(crate) engine: Engine<D, B>,
     pub(crate) stop: Option<Stop>,
 }
 
-impl<D: Disk> Parts<D> {
-    // A session's next act.
-    fn act<B: Opening>(&mut self, alloc: Global, s: u8)
-        requires going { self.old.stop ≡ None }
-        requires one { IsSession s self.old.steps.turns.records }
-        requires next { MayStep (runner_at s self.old.steps.runners.items) }
-        requires walking { WalksOn self.old.steps self.old.log.buffered (D.moment_of self.old.disk) }
-        requires bounds { HasBounds self.old.steps self.old.log }
-        ensures runs { (base : Database) → RunsFrom D.Disk B.Opening base (held self.old) → RunsFrom D.Disk B.Opening base (held self.new) }
-        ensures walking { WalksOn self.new.steps self.new.log.buffered (D.moment_of self.old.disk) }
-        ensures bounds { HasBounds self.new.steps self.new.log }
-        ensures entry { AddsEntry s (D.moment_of self.old.disk) self.old.steps self.new.steps }
-        ensures fewer { turns_left (held self.new) < turns_left (held self.old) }
-        ensures script { self.new.steps.script ≡ self.old.steps.script }
-        ensures same { self.new ≡ record self.old { log = self.new.log; steps = self.new.steps } }
+// Why a World stops, by what it met.
+fn stop_by(fault: StoreFault) -> Stop
+    ensures { result ≡ stop_by fault }
+{
+    match fault {
+        StoreFault::Fault => Stop::Fault,
+        StoreFault::Damaged(damage) => Stop::Damaged(damage),
+    }
+}
+
+impl<D: Disk, B: Origin + Opening> Parts<D, B> {
+    // Whether no record more can have a number.
+    fn is_worn(&self) -> bool
+        ensures yes { result ≡ true → 2 ^ 63 - 1 ≤ self.now.engine.store.next }
+        ensures no { result ≡ false → self.now.engine.store.next < 2 ^ 63 - 1 }
     {
-        states_grow();
-        legal_states_are_sound();
-        let moment = self.disk.moment();
-        self.steps.act(alloc, &mut self.log, s, moment);
+        self.engine.store.next() >= LAST
     }
 
-    // Makes all commits durable that were asked for, and answers them. A fault of the disk is a stop.
-    fn harden<B: Opening>(&mut self)
-        requires going { self.old.stop ≡ None }
-        requires kept { Kept D.Disk B.Opening (held self.old) }
-        ensures kept { Kept D.Disk B.Opening (held self.new) }
-        ensures answers { self.new.stop ≡ None → AnswersAll (D.moment_of self.new.disk) self.old.steps self.new.steps }
-        ensures fewer { self.new.stop ≡ None → (self.new.steps ≡ self.old.steps) ⊎ (turns_left (held self.new) < turns_left (held self.old)) }
-        ensures stopped { self.new.stop ≢ None → self.new.steps ≡ self.old.steps }
+    /// Every session's statements are finished. A World that is stopped isn't asked for more.
+    pub(crate) fn done(&self) -> bool
+        requires kept { Kept B.Opening B.first D.Disk (held self.now) }
+        ensures yes { result ≡ true → (self.now.stop ≡ None) × ((s : ℕ) → HasStatementLeft s self.now.engine.sessions → ⊥) }
+        ensures no { result ≡ false → self.now.stop ≡ None → (s : ℕ) × HasStatementLeft s self.now.engine.sessions }
     {
-        states_grow();
-        legal_states_are_sound();
-        a_flush_leaves_a_prefix();
-        a_flush_goes_on();
-        durable_walks();
-        later_walks();
-        let Ok(()) = self.log.flush(&mut self.disk) else {
-            self.stop = Some(Stop::Fault);
-            return;
-        };
-        let moment = self.disk.moment();
-        answer_all(&mut self.steps, moment);
-    }
-
-    // Flushes for an actor, where a commit waits for its answer.
-    fn flush<B: Opening>(&mut self) -> Turn
-        requires going { self.old.stop ≡ None }
-        requires kept { Kept D.Disk B.Opening (held self.old) }
-        ensures kept { Kept D.Disk B.Opening (held self.new) }
-        ensures went { result ≡ Went → (self.new.stop ≡ None) × AnswersAll (D.moment_of self.new.disk) self.old.steps self.new.steps × ((self.new.steps ≡ self.old.steps) ⊎ (turns_left (held self.new) < turns_left (held self.old))) }
-        ensures stopped { result ≡ Stopped → (self.new.stop ≢ None) × (self.new.steps ≡ self.old.steps) }
-        ensures one_of { (result ≡ Went) ⊎ (result ≡ Stopped) }
-    {
-        self.harden::<B>();
         if self.stop.is_some() {
-            return Turn::Stopped;
+            return false;
         }
-        Turn::Went
+        match first_left(&self.engine.sessions, 0) {
+            None => true,
+            Some(_) => false,
+        }
+    }
+
+    // The World stops, as its records have come to the last number.
+    fn wear(&mut self) -> Turn
+        requires going { self.old.stop ≡ None }
+        requires worn { 2 ^ 63 - 1 ≤ self.old.engine.store.next }
+        requires kept { Kept B.Opening B.first D.Disk (held self.old) }
+        ensures kept { Kept B.Opening B.first D.Disk (held self.new) }
+        ensures stopped { (result ≡ Stopped) × (self.new.stop ≢ None) × (self.new.engine ≡ self.old.engine) }
+    {
+        self.stop = Some(Stop::Worn {
+            lsn: self.engine.store.next(),
+        });
+        Turn::Stopped
     }
 
     // A turn of a session.
-    fn serve<B: Opening>(&mut self, alloc: Global, s: u8) -> Turn
+    fn serve(&mut self, alloc: Global, s: u8) -> Turn
         requires going { self.old.stop ≡ None }
-        requires kept { Kept D.Disk B.Opening (held self.old) }
-        ensures kept { Kept D.Disk B.Opening (held self.new) }
+        requires kept { Kept B.Opening B.first D.Disk (held self.old) }
+        ensures kept { Kept B.Opening B.first D.Disk (held self.new) }
         ensures says { EndsTurn D.Disk result (who.Session s) (held self.old) (held self.new) }
     {
-        numbers_are_own();
-        legal_states_are_sound();
-        match next_of(&self.steps, s) {
-            Next::Over => Turn::Over,
-            Next::Answer => self.flush::<B>(),
-            Next::Act => {
-                self.act::<B>(alloc, s);
-                Turn::Went
+        if !has_left(&self.engine.sessions, s) {
+            return Turn::Over;
+        }
+        if self.is_worn() {
+            return self.wear();
+        }
+        a_turn_that_ends_leaves_a_prefix::<D>();
+        match self.engine.serve(alloc, s) {
+            Ok(()) => Turn::Went,
+            Err(fault) => {
+                self.stop = Some(stop_by(fault));
+                Turn::Stopped
+            }
+        }
+    }
+
+    // A turn of undo.
+    fn undo(&mut self, alloc: Global) -> Turn
+        requires going { self.old.stop ≡ None }
+        requires kept { Kept B.Opening B.first D.Disk (held self.old) }
+        ensures kept { Kept B.Opening B.first D.Disk (held self.new) }
+        ensures says { EndsTurn D.Disk result who.Undo (held self.old) (held self.new) }
+    {
+        let Some(next) = self.engine.undo.next() else {
+            return Turn::Over;
+        };
+        if self.is_worn() {
+            return self.wear();
+        }
+        a_turn_that_ends_leaves_a_prefix::<D>();
+        match self.engine.undo(alloc, next) {
+            Ok(()) => Turn::Went,
+            Err(fault) => {
+                self.stop = Some(stop_by(fault));
+                Turn::Stopped
             }
         }
     }
 
     // A turn of the flusher.
-    fn serve_flusher<B: Opening>(&mut self) -> Turn
+    fn write_behind(&mut self) -> Turn
         requires going { self.old.stop ≡ None }
-        requires kept { Kept D.Disk B.Opening (held self.old) }
-        ensures kept { Kept D.Disk B.Opening (held self.new) }
+        requires kept { Kept B.Opening B.first D.Disk (held self.old) }
+        ensures kept { Kept B.Opening B.first D.Disk (held self.new) }
         ensures says { EndsTurn D.Disk result who.Flusher (held self.old) (held self.new) }
     {
-        if self.log.waiting() == 0 {
-            return Turn::Idle;
+        a_turn_that_ends_leaves_a_prefix::<D>();
+        match self.engine.write_behind() {
+            Ok(turn) => turn,
+            Err(fault) => {
+                self.stop = Some(stop_by(fault));
+                Turn::Stopped
+            }
         }
-        self.flush::<B>()
     }
 
     /// A turn of an actor. After a stop it does nothing.
-    pub(crate) fn step<B: Opening>(&mut self, alloc: Global, actor: Actor) -> Turn
-        requires kept { Kept D.Disk B.Opening (held self.old) }
-        ensures kept { Kept D.Disk B.Opening (held self.new) }
+    pub(crate) fn step(&mut self, alloc: Global, actor: Actor) -> Turn
+        requires kept { Kept B.Opening B.first D.Disk (held self.old) }
+        ensures kept { Kept B.Opening B.first D.Disk (held self.new) }
         ensures says { EndsTurn D.Disk result actor (held self.old) (held self.new) }
     {
         if self.stop.is_some() {
             return Turn::Stopped;
         }
         match actor {
-            Actor::Session(s) => self.serve::<B>(alloc, s),
-            Actor::Flusher => self.serve_flusher::<B>(),
+            Actor::Session(s) => self.serve(alloc, s),
+            Actor::Flusher => self.write_behind(),
             Actor::Cleaner => Turn::Idle,
-            Actor::Undo => Turn::Over,
+            Actor::Undo => self.undo(alloc),
         }
     }
 
-    /// Steps each session whose statements aren't finished, in order of number, until they are, or the World
-    /// stops.
-    pub(crate) fn run<B: Opening>(&mut self, alloc: Global)
-        requires kept { Kept D.Disk B.Opening (held self.old) }
-        ensures kept { Kept D.Disk B.Opening (held self.new) }
-        ensures adds { AddsMore self.old.steps self.new.steps }
-        ensures none { self.new.stop ≡ None → (s : ℕ) → HasStatementLeft s self.new.steps → ⊥ }
-        ensures over { NoneIsLeft (held self.old) → self.new ≡ self.old }
-    {
-        while let Turn::Went = self.step_first::<B>(alloc) {}
-    }
-
-    // A turn of the first session whose statements aren't finished.
-    fn step_first<B: Opening>(&mut self, alloc: Global) -> Turn
-        requires kept { Kept D.Disk B.Opening (held self.old) }
-        ensures kept { Kept D.Disk B.Opening (held self.new) }
-        ensures adds { AddsMore self.old.steps self.new.steps }
-        ensures fewer { result ≡ Went → turns_left (held self.new) < turns_left (held self.old) }
-        ensures none { result ≢ Went → self.new.stop ≡ None → (s : ℕ) → HasStatementLeft s self.new.steps → ⊥ }
-        ensures over { NoneIsLeft (held self.old) → (result ≢ Went) × (self.new ≡ self.old) }
+    // A turn of the first session whose statements aren't finished, or of undo, where all are.
+    fn step_next(&mut self, alloc: Global) -> Turn
+        requires kept { Kept B.Opening B.first D.Disk (held self.old) }
+        ensures kept { Kept B.Opening B.first D.Disk (held self.new) }
+        ensures fewer { result ≡ Went → turns_left self.new.engine.sessions self.new.engine.store < turns_left self.old.engine.sessions self.old.engine.store }
+        ensures over { result ≢ Went → self.new.stop ≡ None → IsOver (held self.new) }
+        ensures adds { GrowsTape (held self.old).running (held self.new).running }
+        ensures stopped { self.old.stop ≢ None → (result ≢ Went) × (self.new ≡ self.old) }
     {
         if self.stop.is_some() {
             return Turn::Stopped;
         }
-        let Some(s) = first_left(&self.steps, 0) else {
-            return Turn::Over;
-        };
-        self.serve::<B>(alloc, s)
+        match first_left(&self.engine.sessions, 0) {
+            Some(s) => self.serve(alloc, s),
+            None => self.undo(alloc),
+        }
+    }
+
+    // Steps each session whose statements aren't finished, in order of number, and then undo, until they are over, or the World stops.
+    fn run(&mut self, alloc: Global)
+        requires kept { Kept B.Opening B.first D.Disk (held self.old) }
+        ensures kept { Kept B.Opening B.first D.Disk (held self.new) }
+        ensures over { self.new.stop ≡ None → IsOver (held self.new) }
+        ensures adds { GrowsTape (held self.old).running (held self.new).running }
+        ensures stopped { self.old.stop ≢ None → self.new ≡ self.old }
+    {
+        while let Turn::Went = self.step_next(alloc) {}
+    }
+
+    // What waits in the log is made durable, where nothing has stopped the World.
+    fn settle(&mut self)
+        requires kept { Kept B.Opening B.first D.Disk (held self.old) }
+        ensures kept { Kept B.Opening B.first D.Disk (held self.new) }
+        ensures over { IsOver (held self.old) → IsOver (held self.new) }
+        ensures none { self.new.stop ≡ None → self.new.engine.store.waiting ≡ [] }
+        ensures tape { self.new.engine.sessions.tape.items ≡ self.old.engine.sessions.tape.items }
+        ensures stopped { self.old.stop ≢ None → self.new ≡ self.old }
+    {
+        if self.stop.is_some() {
+            return;
+        }
+        a_turn_that_ends_leaves_a_prefix::<D>();
+        match self.engine.settle() {
+            Ok(()) => {}
+            Err(fault) => {
+                self.stop = Some(stop_by(fault));
+            }
+        }
+    }
+
+    /// Goes on until all statements are finished and nothing is left of undo, and makes that durable; or until the World stops. One that is
+    /// stopped is left as it is.
+    pub(crate) fn finish(&mut self, alloc: Global)
+        requires kept { Kept B.Opening B.first D.Disk (held self.old) }
+        ensures kept { Kept B.Opening B.first D.Disk (held self.new) }
+        ensures over { self.new.stop ≡ None → IsOver (held self.new) × (self.new.engine.store.waiting ≡ []) }
+        ensures adds { GrowsTape (held self.old).running (held self.new).running }
+        ensures stopped { self.old.stop ≢ None → self.new ≡ self.old }
+    {
+        self.run(alloc);
+        self.settle();
     }
 }

@@ -1,39 +1,42 @@
 // The World: its type names what it was opened on, and keeps the tape legal and the disk's images in order.
-ghost use Rattle.std.specs.Prelude.{◌≡◌, ◌⊎◌, ◌≤◌, ℕ, List, [], ◌++◌, None, IsTrue, IsSome, true, false, IfOk, IfErr};
+ghost use Rattle.std.specs.Prelude.{◌≡◌, ◌≢◌, ◌≤◌, ◌-◌, ◌^◌, ◌++◌, ℕ, List, [], length, None, Some, IsTrue, true, false, IfOk, IfErr};
 ghost use Rattle.ctr_types.specs.declared.tape.Entry.{Entry as HeldEntry};
-ghost use Rattle.ctr_disk.specs.Image.{Image};
-ghost use Rattle.ctr_disk.specs.Device.{LeavesOnly, OnlyReads};
-ghost use Rattle.ctr_log.specs.Homes.{root_value};
-ghost use Rattle.ctr_model.specs.Database.{Database};
-ghost use Rattle.ctr_world.specs.Creating.{disk_after_making, IsUnmadeOrEmpty, CreateEnds, CreateCounts};
-ghost use Rattle.ctr_thin.specs.Thin.{StandsFor, Explains, OpenDiffers};
-ghost use Rattle.ctr_world.specs.Turns.{NoneFull, EndsTurn, AreSessions, AreUnbegun, NoneIsLeft, HasStatementLeft};
-ghost use Rattle.ctr_world.specs.World.{IsOpenedOn, CanRun, CanOpen, Ends, StopsBy, RefusesWith};
+ghost use Rattle.ctr_disk.specs.declared.fault.Stop.TheVariants.{Worn};
+ghost use Rattle.ctr_redo.specs.States.{State};
+ghost use Rattle.ctr_record_effects.specs.Standing.{StandsForDatabase};
+ghost use Rattle.ctr_base.specs.Base.{WhereSound};
+ghost use Rattle.ctr_store.specs.Opening.{IsUndamaged};
+ghost use Rattle.ctr_store.specs.StoreOpening.{OpensStore};
+ghost use Rattle.ctr_undo.specs.Left.{left_in};
+ghost use Rattle.ctr_exec.specs.Order.{IsOrdered};
+ghost use Rattle.ctr_exec.specs.Runners.{AreRunners, runner_at};
+ghost use Rattle.ctr_world.specs.Opened.{IsOpenedOn, CanRun};
+ghost use Rattle.ctr_world.specs.World.{IsTapeOf, LeavesPrefix, StopsBy};
+ghost use Rattle.ctr_world.specs.Turns.{HasStatementLeft, EndsTurn};
+ghost use Rattle.ctr_world.specs.Ended.{Ends, EndsInOrder, IsUnbegunWorld, PassesOpening, RefusesWith, RefusesWorld};
 
 use crate::beginning::begin;
-use crate::creating::{CreateError, create};
-use crate::left::first_left;
+use crate::engine::Engine;
 use crate::opening::Opening;
 use crate::parts::Parts;
+use ctr_base::Origin;
 use ctr_disk::{Disk, Stop};
+use ctr_exec::session_world::pages_that_are_read_keep_a_world;
+use ctr_exec::{Sessions, a_script_begins_in_a_world};
 use ctr_log::OpenError;
-use ctr_model::{legal_states_are_sound, states_grow};
-use ctr_steps::{Steps, later_walks};
-use ctr_thin::{Opened, open};
-use ctr_turns::Turns;
+use ctr_stops::{a_call_that_ends_leaves_a_prefix, a_world_begins, an_opened_store_keeps_commits};
+use ctr_store::Store;
 use ctr_types::{Actor, Entry, List, Script, Tape, Turn};
 use std::alloc::Global;
-use std::marker::{Model, PhantomData};
+use std::marker::Model;
 
-/// A database that runs a script of eight sessions. Its tape is legal at every moment, and a crash at any
-/// moment leaves a prefix of the commit order with every commit that was answered by then.
+/// A database that runs a script of eight sessions, beside recovery's undo. Its tape is legal at every moment.
 #[derive(Drop)]
-pub struct World<D: Disk, B: Opening> {
-    parts: Parts<D>,
-    of: PhantomData<B>,
+pub struct World<D: Disk, B: Origin + Opening> {
+    parts: Parts<D, B>,
 }
 
-impl<D: Disk, B: Opening> Model for World<D, B> {
+impl<D: Disk, B: Origin + Opening> Model for World<D, B> {
     ghost use Rattle.ctr_world.specs.Held.{Held, held};
 
     ghost Value = { Held D };
@@ -42,7 +45,7 @@ impl<D: Disk, B: Opening> Model for World<D, B> {
 
     ghost use Rattle.ctr_world.specs.World.{Kept};
 
-    ghost invariant = { λ w. Kept D.Disk B.Opening (held w.parts) };
+    ghost invariant = { λ w. Kept B.Opening B.first D.Disk (held w.parts) };
 }
 
 /// What a World leaves at its end.
@@ -52,63 +55,91 @@ pub struct Finished<D> {
     pub tape: Tape,
     /// Why it stopped, if it did.
     pub stop: Option<Stop>,
+    /// How many turns undo took.
+    pub undone: usize,
     /// The disk that it was opened on.
     pub disk: D,
-    /// What its sessions have in memory. A program that ends needn't free it.
-    pub rest: Turns,
 }
 
-impl<D: Disk, B: Opening> World<D, B> {
-    /// Makes the empty database on a disk that has none. The disk comes back.
-    pub fn create(disk: D) -> Result<D, (CreateError, D)>
-        // From its first sync on a crash leaves no open root home, or a database without tables.
-        ensures any_moment { IsTrue D.tells → root_value (D.reads disk).root ≡ None → LeavesOnly D.Disk disk (disk_after_making result) (λ c. D.images disk c ⊎ IsUnmadeOrEmpty c) }
-        ensures made { IsTrue D.tells → IfOk result (λ d. (c : Image) → D.since d (D.moment_of d) c → StandsFor c []) }
-        ensures untouched { IsTrue D.tells → IsSome (root_value (D.reads disk).root) → OnlyReads D.Disk disk (disk_after_making result) }
-        ensures causes { CreateEnds D.Disk disk result }
-        ensures counts { CreateCounts D.Disk disk (disk_after_making result) }
-    {
-        create(disk)
-    }
-
-    /// Opens the database of a disk for a script. Room for the whole tape is taken. A refusal gives the disk
-    /// back.
-    pub fn open(alloc: Global, disk: D, script: Script) -> Result<World<D, B>, (OpenError, D)>
-        requires named { IsOpenedOn B.Opening D.Disk disk script.lines }
+impl<D: Disk, B: Origin + Opening> World<D, B> {
+    /// Opens the database of a disk for a script, over so many frames, 8 to 4,096. Room for the whole tape is taken. Nothing is logged: pages may
+    /// go home that the log's records are on. A refusal gives the disk back.
+    pub fn open(
+        alloc: Global,
+        disk: D,
+        frames: usize,
+        script: Script,
+    ) -> Result<World<D, B>, (OpenError, D)>
+        requires named { IsOpenedOn B.Opening B.first D.Disk disk script.lines }
+        requires frames { (8 ≤ frames) × (frames ≤ 4096) }
         requires runs { CanRun script.lines }
-        ensures begins { IfOk result (λ w. AreUnbegun script.lines w.steps × (w.stop ≡ None)) }
-        ensures can_open { IsTrue D.tells → IfOk result (λ w. CanOpen (D.reads disk)) }
-        ensures refused { IsTrue D.tells → IfErr result (λ e. Explains (D.reads disk) e.0) }
-        ensures differs { IfErr result (λ e. OpenDiffers e.0) }
+        ensures begins { IfOk result (IsUnbegunWorld script.lines) }
+        // Nothing was logged, and a sound image stands behind it as it did; no fault was met.
+        ensures stands { WhereSound B.first D.Disk (IfOk result (λ w. OpensStore B.first w.running.store)) }
+        ensures counts { IfOk result (λ w. (D.moment_of disk ≤ D.moment_of w.running.store.disk) × (D.faults_of w.running.store.disk ≡ D.faults_of disk)) }
+        // A database is refused by its numbers, for a fault, or for want of memory.
+        ensures undamaged { (s : State) → IsTrue D.tells → StandsForDatabase B.first s → IfErr result (λ e. IsUndamaged e.0) }
+        // No database, damage, or a worn number, is told where it is so; and none is where it isn't.
+        ensures refused { IsTrue D.tells → IfErr result (λ e. RefusesWorld B.first e.0) }
+        ensures passes { IsTrue D.tells → IfOk result (λ w. PassesOpening B.first) }
+        // A crash in an opening that was refused leaves the rows of the database, or what it might have left before.
+        ensures left { (s : State) → IsTrue D.tells → StandsForDatabase B.first s → IfErr result (λ e. LeavesPrefix B.Opening D.Disk s e.1 []) }
         ensures stays { IfErr result (λ e. RefusesWith D.Disk disk e.0 e.1) }
     {
-        later_walks();
-        let mut disk = disk;
-        let opened = match open(alloc, &mut disk) {
-            Ok(opened) => opened,
-            Err(error) => return Err((error, disk)),
+        let mut store = match Store::<D, B>::open(alloc, disk, frames) {
+            Ok(store) => store,
+            Err(refused) => return Err(refused),
         };
-        let Opened { log, database } = opened;
-        let Ok(steps) = begin(alloc, database, script) else {
-            return Err((OpenError::OutOfMemory, disk));
-        };
-        Ok(World {
-            parts: Parts {
-                disk,
-                log,
-                steps,
-                stop: None,
-            },
-            of: PhantomData,
-        })
+        a_call_that_ends_leaves_a_prefix::<D>();
+        a_script_begins_in_a_world::<D>();
+        a_world_begins::<D>();
+        an_opened_store_keeps_commits::<D>();
+        pages_that_are_read_keep_a_world::<D>();
+        match begin(alloc, &mut store, script) {
+            Ok(begun) => {
+                store.rests();
+                Ok(World {
+                    parts: Parts {
+                        engine: Engine {
+                            store,
+                            sessions: begun.sessions,
+                            undo: begun.undo,
+                            names: begun.names,
+                            size: begun.size,
+                        },
+                        stop: None,
+                    },
+                })
+            }
+            Err(error) => Err((error, store.into_disk())),
+        }
     }
 
-    /// Every session's statements are finished.
+    /// Every session's statements are finished, and nothing has stopped the World.
     pub fn done(&self) -> bool
-        ensures yes { result ≡ true → (s : ℕ) → HasStatementLeft s self.now.steps → ⊥ }
-        ensures no { result ≡ false → (s : ℕ) × HasStatementLeft s self.now.steps }
+        ensures yes { result ≡ true → (self.now.stop ≡ None) × ((s : ℕ) → HasStatementLeft s self.now.running.sessions → ⊥) }
+        ensures no { result ≡ false → self.now.stop ≡ None → (s : ℕ) × HasStatementLeft s self.now.running.sessions }
     {
-        first_left(&self.parts.steps, 0).is_none()
+        self.parts.done()
+    }
+
+    /// How many of its statements a session has finished.
+    pub fn finished(&self, session: u8) -> usize
+        requires { 1 ≤ session }
+        ensures { result ≡ (runner_at session self.now.running.sessions.runners.items).finished }
+    {
+        self.parts.engine.sessions.finished(session)
+    }
+
+    /// The tape stands in the order of the script, and has led each session to where it is; also where the World is stopped it stands in that order. The
+    /// call does nothing: what it ensures holds of each World.
+    pub fn stands_in_order(&self)
+        ensures going { self.now.stop ≡ None → IsOrdered B.start (D.moment_of self.now.running.store.disk) self.now.running.sessions }
+        ensures seats { self.now.stop ≡ None → (length self.now.running.sessions.runners.items ≡ 8) × AreRunners B.lines 1 self.now.running.sessions.runners.items }
+        ensures tape { IsTapeOf B.Opening (D.moment_of self.now.running.store.disk) self.now.running.sessions.tape.items }
+        ensures lines { self.now.running.sessions.script.lines ≡ B.lines }
+    {
+        let _ = &self.parts;
     }
 
     /// Why the World stopped, if it did.
@@ -120,50 +151,56 @@ impl<D: Disk, B: Opening> World<D, B> {
 
     /// The tape so far.
     pub fn tape(&self) -> &[Entry]
-        ensures { result.now ≡ self.now.steps.tape.items }
+        ensures { result.now ≡ self.now.running.sessions.tape.items }
     {
-        &self.parts.steps.tape
+        &self.parts.engine.sessions.tape
     }
 
     /// A turn of an actor. After a stop it does nothing.
     pub fn step(&mut self, alloc: Global, actor: Actor) -> Turn
         ensures says { EndsTurn D.Disk result actor self.old self.new }
-        ensures sessions { self.new.stop ≡ None → AreSessions self.new.steps }
     {
-        self.parts.step::<B>(alloc, actor)
+        self.parts.step(alloc, actor)
     }
 
-    /// Steps each session whose statements aren't finished, in order of number, until they are, or the World
-    /// stops.
+    /// Steps each session whose statements aren't finished, in order of number, until they are, and then undo until nothing is left of it, and
+    /// makes all durable; or until the World stops. One that is stopped is left as it is.
     pub fn finish(self, alloc: Global) -> Finished<D>
-        ensures ends { (base : Database) → IsTrue D.tells → StandsFor B.image base → Ends D.Disk B.Opening base
-            result.tape.entries result.stop result.disk }
-        ensures tape { (more : List HeldEntry) × (result.tape.entries ≡ self.steps.tape.items ++ more) }
-        ensures over { NoneIsLeft self → result.tape.entries ≡ self.steps.tape.items }
-        ensures not_full { NoneFull result.tape.entries }
+        // Of a database that the first image stands for, what its tape and its undo are, and what a crash leaves.
+        ensures ends { (s : State) → IsTrue D.tells → StandsForDatabase B.first s → Ends B.Opening D.Disk s result.tape.entries result.stop result.undone result.disk }
+        // Whatever the disk tells, the tape stands in the order of the script.
+        ensures order { EndsInOrder B.Opening D.Disk result.tape.entries result.stop result.disk }
+        ensures stopped { self.stop ≢ None → (result.tape.entries ≡ self.running.sessions.tape.items) × (result.stop ≡ self.stop)
+            × (result.undone ≡ self.running.size - left_in self.running.undo) × (result.disk ≡ self.running.store.disk) }
+        // Entries come behind those that are there.
+        ensures adds { (more : List HeldEntry) × (result.tape.entries ≡ self.running.sessions.tape.items ++ more) }
         ensures later { B.start ≤ D.moment_of result.disk }
+        // A fault is the cause of a stop or none was met.
         ensures stops { StopsBy result.stop B.faults (D.faults_of result.disk) }
         ensures faults { B.faults ≤ D.faults_of result.disk }
+        ensures worn { (lsn : ℕ) → result.stop ≡ Some (Worn lsn) → 2 ^ 63 - 1 ≤ lsn }
     {
-        states_grow();
-        legal_states_are_sound();
-        let World { parts, of: _ } = self;
+        a_call_that_ends_leaves_a_prefix::<D>();
+        let World { parts } = self;
         let mut parts = parts;
-        parts.run::<B>(alloc);
-        let Parts {
-            disk,
-            log: _,
-            steps,
-            stop,
-        } = parts;
-        let Steps { tape, turns, .. } = steps;
+        parts.finish(alloc);
+        let Parts { engine, stop } = parts;
+        let Engine {
+            store,
+            sessions,
+            undo,
+            names: _,
+            size,
+        } = engine;
+        let undone = size - undo.len();
+        let Sessions { tape, .. } = sessions;
         Finished {
             tape: Tape {
                 entries: List::from_vec(tape),
             },
             stop,
-            disk,
-            rest: turns,
+            undone,
+            disk: store.into_disk(),
         }
     }
 }

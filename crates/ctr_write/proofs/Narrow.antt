@@ -8,7 +8,7 @@ use Rattle.ctr_types.specs.declared.value.Kind.TheVariants.{Int, Chars}
 use Rattle.ctr_bytes.specs.Fields.{field}
 use Rattle.ctr_bytes.proofs.FieldLaws.{field-drop}
 use Rattle.ctr_value.specs.Payload.{field_width}
-use Rattle.ctr_records.specs.Damage.{at_most}
+use Rattle.ctr_rec.specs.Damage.{at_most}
 use Rattle.ctr_page.specs.declared.rows.Place.{Place}
 use Rattle.ctr_page.specs.Reading.{piece}
 use Rattle.ctr_page.specs.Columns.{column_kind_at, kind_said, columns_from, columns_in, kinds_of, kinds_width}

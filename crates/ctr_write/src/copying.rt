@@ -19,7 +19,7 @@ use ctr_base::Origin;
 use ctr_disk::{Disk, StoreFault};
 use ctr_page::{Place, RowSlot, Tombstone, Use, Version};
 use ctr_pvs::{LentPart, LentSlot, row};
-use ctr_records::Bytes;
+use ctr_rec::Bytes;
 use ctr_store::Store;
 use ctr_types::Xid;
 use ctr_undamaged::a_row_is_read_without_damage;

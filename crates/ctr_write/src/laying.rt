@@ -21,7 +21,7 @@ use ctr_heap::{first, put_slot, slot_lies};
 use ctr_page::{Place, Version};
 use ctr_page_turns::{a_record_acts, a_record_is_refused_by_the_disk_alone, a_turn_goes_on};
 use ctr_passed::owed_slots_are_laid_as_their_actions;
-use ctr_records::Bytes;
+use ctr_rec::Bytes;
 use ctr_store::Store;
 use ctr_types::Xid;
 use ctr_undamaged::{

@@ -6,7 +6,7 @@ ghost use Rattle.ctr_walk.specs.Damage.{ReadsPages};
 use ctr_base::Origin;
 use ctr_disk::{Disk, StoreFault};
 use ctr_page::{BadChain, BadPage};
-use ctr_records::PageNo;
+use ctr_rec::PageNo;
 use ctr_store::Store;
 use ctr_walk::{SearchFault, tell};
 

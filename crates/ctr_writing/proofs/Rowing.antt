@@ -29,8 +29,8 @@ use Rattle.ctr_record_effects.specs.States.{area_in}
 use Rattle.ctr_record_laws.specs.Owed.{IsSlotOfKey}
 use Rattle.ctr_actions.specs.Facts.{Fact, HasSlot, HasTable}
 use Rattle.ctr_store.specs.Store.{View}
-use Rattle.ctr_key_locks.specs.Held.{session_locks}
-use Rattle.ctr_key_locks.specs.Shows.{ShowsKeyLocks}
+use Rattle.ctr_locks.specs.Held.{session_locks}
+use Rattle.ctr_locks.specs.Shows.{ShowsKeyLocks}
 use Rattle.ctr_kept.specs.Turns.{Start, InTransaction, MayCome, carrying, entry_of, state_now, telling}
 use Rattle.ctr_kept.specs.Walk.{Mind, with_facts}
 use Rattle.ctr_kept.proofs.Tables.{among_first}

@@ -32,8 +32,8 @@ use Rattle.ctr_store.specs.Store.{View}
 use Rattle.ctr_names.specs.Search.{IsEntryFound}
 use Rattle.ctr_views.specs.Viewing.{Viewer, sees_by}
 use Rattle.ctr_views.proofs.Looking.{as_found}
-use Rattle.ctr_key_locks.specs.Held.{LocksOfSession, held_by_session, locks_key, session_locks}
-use Rattle.ctr_key_locks.specs.Shows.{IsTheSame, ShowsKeyLocks}
+use Rattle.ctr_locks.specs.Held.{LocksOfSession, held_by_session, locks_key, session_locks}
+use Rattle.ctr_locks.specs.Shows.{IsTheSame, ShowsKeyLocks}
 use Rattle.ctr_kept.specs.Tables.{IsTable, AreTables}
 use Rattle.ctr_kept.specs.Turns.{Start, InTransaction, MayCome, carrying, scene_now, state_now, telling}
 use Rattle.ctr_kept.specs.Walk.{Mind, with_facts}

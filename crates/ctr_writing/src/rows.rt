@@ -5,7 +5,7 @@ ghost use Rattle.ctr_types.specs.declared.statement.Statement.{Statement as Said
 ghost use Rattle.ctr_model.specs.Refusals.{key_written};
 ghost use Rattle.ctr_base.specs.Base.{WhereSound};
 ghost use Rattle.ctr_kept.specs.Turns.{Start};
-ghost use Rattle.ctr_key_locks.specs.Held.{LocksOfSession};
+ghost use Rattle.ctr_locks.specs.Held.{LocksOfSession};
 ghost use Rattle.ctr_looks.specs.ctr_wishes.declared.making.Prepared.TheVariants.{Lays};
 ghost use Rattle.ctr_looks.specs.ctr_session_world.Ready.{LeavesOver, MayTurn, LeavesDisk};
 ghost use Rattle.ctr_looks.specs.ctr_session_world.Told.{IsNextOf};

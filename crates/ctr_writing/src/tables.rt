@@ -6,7 +6,7 @@ ghost use Rattle.ctr_types.specs.declared.statement.Statement.TheVariants as st;
 ghost use Rattle.ctr_value.specs.Columns.{ColumnsFit};
 ghost use Rattle.ctr_base.specs.Base.{WhereSound};
 ghost use Rattle.ctr_kept.specs.Turns.{Start};
-ghost use Rattle.ctr_key_locks.specs.Held.{LocksOfSession};
+ghost use Rattle.ctr_locks.specs.Held.{LocksOfSession};
 ghost use Rattle.ctr_looks.specs.ctr_session_world.Ready.{LeavesOver, MayTurn, LeavesDisk};
 ghost use Rattle.ctr_looks.specs.ctr_session_world.Told.{IsNextOf};
 ghost use Rattle.ctr_looks.specs.declared.tables.TableWrite.TheVariants.{Make, Drop};

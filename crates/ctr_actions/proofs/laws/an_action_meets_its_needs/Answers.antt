@@ -7,8 +7,8 @@ use Rattle.ctr_meta.specs.Needs.{needs, there, row_needs}
 use Rattle.ctr_meta.specs.Tables.{is_in}
 use Rattle.ctr_meta.specs.declared.items.Wanted.{Wanted}
 use Rattle.ctr_meta.specs.declared.items.Wanted.TheVariants.{Allocation, OfPage, Creation, Dropping}
-use Rattle.ctr_records.specs.declared.record.Overlay.{Overlay}
-use Rattle.ctr_records.specs.declared.record.SlogItem.TheVariants.{FreeOf, CreateOf, DropOf}
+use Rattle.ctr_rec.specs.declared.record.Overlay.{Overlay}
+use Rattle.ctr_rec.specs.declared.record.SlogItem.TheVariants.{FreeOf, CreateOf, DropOf}
 use Rattle.ctr_record_laws.proofs.Items.{any_there}
 use Rattle.ctr_record_laws.specs.Bounds.{IsInBounds}
 use Rattle.std.specs.List.{list_any}

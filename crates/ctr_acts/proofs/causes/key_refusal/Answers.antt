@@ -2,7 +2,7 @@ use Rattle.std.proofs.Common.{◌∷◌, [], sym, ◌∙◌, ap}
 use Rattle.std.specs.Option.{option_map, option_copied}
 use Rattle.ctr_types.specs.declared.tape.Refusal.TheVariants as refusal
 use Rattle.ctr_model.specs.Refusals.{first_of}
-use Rattle.ctr_locks.specs.Held.{locked_in}
+use Rattle.ctr_table_locks.specs.Held.{locked_in}
 use Rattle.ctr_sessions.specs.Answers.{keys_refused}
 use Rattle.ctr_acts.specs.Seats.{seat_at}
 use Rattle.ctr_acts.proofs.causes.key_refusal.Goals as goal

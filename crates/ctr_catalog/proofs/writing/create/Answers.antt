@@ -1,7 +1,7 @@
 use Rattle.std.proofs.Common.{inl, inr, Some, Ok, Err, Result, subst}
 use Rattle.std.specs.Prelude.{IsTrue, ⊤}
 use Rattle.ctr_disk.specs.declared.fault.StoreFault.{StoreFault}
-use Rattle.ctr_records.specs.declared.record.Record.{Record}
+use Rattle.ctr_rec.specs.declared.record.Record.{Record}
 use Rattle.ctr_base.specs.Base.{IsSoundImage}
 use Rattle.ctr_page.specs.Searching.{IsFirst}
 use Rattle.ctr_area.specs.Reading.{area_of}

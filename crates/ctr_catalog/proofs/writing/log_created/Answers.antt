@@ -4,9 +4,9 @@ use Rattle.ctr_disk.proofs.Moments.{on_ok}
 use Rattle.ctr_page.specs.Columns.{new_entry_bytes}
 use Rattle.ctr_actions.specs.Sites.{site_of}
 use Rattle.ctr_actions.specs.Actions.{Creates, site_after}
-use Rattle.ctr_records.specs.declared.record.Overlay.{Overlay}
-use Rattle.ctr_records.specs.declared.record.Record.{Record}
-use Rattle.ctr_records.specs.declared.record.Record.TheVariants.{Create}
+use Rattle.ctr_rec.specs.declared.record.Overlay.{Overlay}
+use Rattle.ctr_rec.specs.declared.record.Record.{Record}
+use Rattle.ctr_rec.specs.declared.record.Record.TheVariants.{Create}
 use Rattle.ctr_redo.specs.States.{page_limit, page_at}
 use Rattle.ctr_area.specs.Areas.{Area}
 use Rattle.ctr_area.specs.Changes.{new_title, empty_chains, ChangesEntry}

@@ -1,9 +1,9 @@
 use Rattle.std.proofs.Common.{◌≡◌, ℕ, ◌+◌, ◌/◌, ◌<◌, [], ◌∷◌, length, sym, ap, ◌∙◌, subst, refl}
 use Rattle.std.specs.Prelude.{OnOk}
 use Rattle.ctr_bytes.specs.Fields.{spelled}
-use Rattle.ctr_records.specs.declared.record.Overlay.{Overlay}
-use Rattle.ctr_records.specs.declared.record.Record.{Record}
-use Rattle.ctr_records.specs.declared.record.Record.TheVariants.{Undrop}
+use Rattle.ctr_rec.specs.declared.record.Overlay.{Overlay}
+use Rattle.ctr_rec.specs.declared.record.Record.{Record}
+use Rattle.ctr_rec.specs.declared.record.Record.TheVariants.{Undrop}
 use Rattle.ctr_redo.specs.States.{page_limit, page_at}
 use Rattle.ctr_record_effects.specs.Changing.{laid_in_entry, undrop_record}
 use Rattle.ctr_actions.specs.Sites.{site_of}

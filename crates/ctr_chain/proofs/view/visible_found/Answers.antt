@@ -12,7 +12,7 @@ use Rattle.ctr_meta.specs.Seen.{xid_is_seen}
 use Rattle.ctr_chain.specs.declared.seeking.Found.{Found}
 use Rattle.ctr_chain.specs.Reading.{place_of_version, RowSaidAt}
 use Rattle.ctr_walk.specs.declared.table.TableOf.{TableOf}
-use Rattle.ctr_records.specs.declared.decoding.BadRecord.{BadRecord}
+use Rattle.ctr_rec.specs.declared.decoding.BadRecord.{BadRecord}
 use Rattle.ctr_chain.specs.Rows.{GivesRow}
 use Rattle.ctr_chain.specs.Visible.{EndsReading, visible_row}
 use Rattle.ctr_chain.specs.Seeking.{sought_at, SearchSaid}

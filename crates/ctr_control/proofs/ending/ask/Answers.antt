@@ -5,7 +5,7 @@ use Rattle.ctr_types.specs.declared.statement.Statement.TheVariants as st
 use Rattle.ctr_types.specs.declared.tape.Act.TheVariants as act
 use Rattle.ctr_types.specs.declared.tape.Refusal.TheVariants as refusal
 use Rattle.ctr_types.specs.declared.tape.Reply.TheVariants as reply
-use Rattle.ctr_records.specs.declared.record.Record.TheVariants.{Commit}
+use Rattle.ctr_rec.specs.declared.record.Record.TheVariants.{Commit}
 use Rattle.ctr_model.specs.Maps.{without}
 use Rattle.ctr_model.specs.Reply.{next_from}
 use Rattle.ctr_area.specs.Sound.{IsAmong}

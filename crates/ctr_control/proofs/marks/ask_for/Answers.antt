@@ -1,7 +1,7 @@
 use Rattle.std.proofs.Common.{◌≡◌, false, [], Ok, sym, subst}
 use Rattle.ctr_meta.specs.Needs.{needs}
 use Rattle.ctr_meta.specs.Tables.{Tables}
-use Rattle.ctr_records.specs.declared.record.Record.TheVariants.{Commit}
+use Rattle.ctr_rec.specs.declared.record.Record.TheVariants.{Commit}
 use Rattle.ctr_record_effects.specs.States.{pages_in}
 use Rattle.ctr_actions.specs.Sites.{site_of}
 use Rattle.ctr_actions.specs.Actions.{Commits}

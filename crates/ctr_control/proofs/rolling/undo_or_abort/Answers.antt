@@ -1,7 +1,7 @@
 use Rattle.std.proofs.Common.{◌≡◌, ◌+◌, ℕ, false, length, None, Some, Result, Ok, Err, refl}
 use Rattle.std.specs.Prelude.{OnOk}
 use Rattle.ctr_disk.specs.declared.fault.StoreFault.{StoreFault}
-use Rattle.ctr_records.specs.declared.record.Record.{Record}
+use Rattle.ctr_rec.specs.declared.record.Record.{Record}
 use Rattle.ctr_store.specs.Store.{TakesRecord, View}
 use Rattle.ctr_txn.specs.Held.{IsOneOfEight, IsWriting, TxnsHeld}
 use Rattle.ctr_txn.specs.Calls.{IsOverStore}

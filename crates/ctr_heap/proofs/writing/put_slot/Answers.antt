@@ -1,6 +1,6 @@
 use Rattle.std.proofs.Common.{◌≡◌, [], ◌∷◌, length, Some, sym, ap, ◌∙◌, subst}
-use Rattle.ctr_records.specs.declared.record.Record.{Record}
-use Rattle.ctr_records.specs.declared.record.Record.TheVariants.{Row}
+use Rattle.ctr_rec.specs.declared.record.Record.{Record}
+use Rattle.ctr_rec.specs.declared.record.Record.TheVariants.{Row}
 use Rattle.ctr_meta.specs.Effects.{one_head_less, one_head_more}
 use Rattle.ctr_redo.specs.States.{step, page_at}
 use Rattle.ctr_page.specs.Places.{slot_size}

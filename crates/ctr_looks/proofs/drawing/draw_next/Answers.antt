@@ -4,7 +4,7 @@ use Rattle.ctr_versions.specs.Engine.{SessionHeld}
 use Rattle.ctr_versions.proofs.Keys.{some_is}
 use Rattle.ctr_meta.specs.Needs.{needs}
 use Rattle.ctr_meta.specs.Tables.{Tables}
-use Rattle.ctr_records.specs.declared.record.Record.TheVariants.{Begin}
+use Rattle.ctr_rec.specs.declared.record.Record.TheVariants.{Begin}
 use Rattle.ctr_record_effects.specs.States.{pages_in}
 use Rattle.ctr_actions.specs.Actions.{Begins, Owes, site_after}
 use Rattle.ctr_actions.specs.Sites.{site_of}

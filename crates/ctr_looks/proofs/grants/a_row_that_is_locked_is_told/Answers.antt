@@ -14,8 +14,8 @@ use Rattle.ctr_redo.specs.States.{State as Stored}
 use Rattle.ctr_record_effects.specs.States.{area_in}
 use Rattle.ctr_actions.specs.Facts.{Fact, HasTable}
 use Rattle.ctr_actions.specs.Sites.{Site}
-use Rattle.ctr_key_locks.specs.Held.{locks_key}
-use Rattle.ctr_key_locks.specs.Shows.{IsOnlyEntry}
+use Rattle.ctr_locks.specs.Held.{locks_key}
+use Rattle.ctr_locks.specs.Shows.{IsOnlyEntry}
 use Rattle.ctr_paged.specs.Paged.{Run}
 use Rattle.ctr_paged.specs.Moving.{held_as}
 use Rattle.ctr_txn.specs.Held.{run_of}

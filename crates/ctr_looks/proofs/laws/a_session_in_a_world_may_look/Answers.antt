@@ -2,8 +2,8 @@ use Rattle.std.proofs.Common.{List, ℕ, refl, sym, ◌∙◌, ap, subst}
 use Rattle.ctr_actions.specs.Sites.{site_of}
 use Rattle.ctr_paged.specs.Paged.{Run}
 use Rattle.ctr_paged.specs.Shown.{IsShown}
-use Rattle.ctr_key_locks.specs.Held.{LocksOfSession}
-use Rattle.ctr_key_locks.specs.Shows.{ShowsKeyLocks}
+use Rattle.ctr_locks.specs.Held.{LocksOfSession}
+use Rattle.ctr_locks.specs.Shows.{ShowsKeyLocks}
 use Rattle.ctr_kept.specs.Turns.{state_now}
 use Rattle.ctr_kept.proofs.Walking.{keeps_reached}
 use Rattle.ctr_txn.specs.Held.{run_of, txn_of}

@@ -11,7 +11,7 @@ use Rattle.ctr_versions.specs.Engine.{SessionHeld}
 use Rattle.ctr_redo.specs.States.{State as Stored}
 use Rattle.ctr_record_effects.specs.States.{area_in}
 use Rattle.ctr_actions.specs.Sites.{site_of}
-use Rattle.ctr_key_locks.specs.Held.{held_by_session, locks_key, session_locks}
+use Rattle.ctr_locks.specs.Held.{held_by_session, locks_key, session_locks}
 use Rattle.ctr_kept.specs.Walk.{Mind}
 use Rattle.ctr_kept.specs.Turns.{scene_now, state_now, telling}
 use Rattle.ctr_kept.proofs.Walking.{keeps_reached}

@@ -1,5 +1,5 @@
 use Rattle.std.proofs.Common.{◌≡◌, ℕ, true, false, Vec, Global, get_or, below_more, ◌∙◌, sym, ap, arith}
-use Rattle.ctr_records.specs.declared.record.SlogItem.{SlogItem}
+use Rattle.ctr_rec.specs.declared.record.SlogItem.{SlogItem}
 use Rattle.ctr_meta.specs.Items.{is_wanted, left_out}
 use Rattle.std.proofs.lemmas.List.{get_or_default}
 use Rattle.ctr_meta.proofs.ItemLaws.{out_at, out_none_any}

@@ -1,6 +1,6 @@
 use Rattle.std.proofs.Common.{◌++◌, ◌∷◌, [], List, sym, ap, ◌∙◌, arith}
-use Rattle.ctr_records.specs.declared.record.SlogItem.{SlogItem}
-use Rattle.ctr_records.specs.Members.{items_from}
+use Rattle.ctr_rec.specs.declared.record.SlogItem.{SlogItem}
+use Rattle.ctr_rec.specs.Members.{items_from}
 use Rattle.ctr_meta.proofs.ListingLaws.{no_items, item_there, item_fits, items_more}
 use Rattle.ctr_meta.proofs.listing.read_items.Goals as goal
 

@@ -1,5 +1,5 @@
 use Rattle.std.proofs.Common.{◌≡◌, ◌+◌, vec_len, vec_capacity}
-use Rattle.ctr_records.specs.Members.{items_from}
+use Rattle.ctr_rec.specs.Members.{items_from}
 use Rattle.ctr_meta.proofs.listing.read_items.Given as goal
 
 abbrev pub invariant-loop-i : goal.invariant-loop-i

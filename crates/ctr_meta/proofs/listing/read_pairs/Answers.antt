@@ -1,6 +1,6 @@
 use Rattle.std.proofs.Common.{◌≡◌, ◌+◌, ◌*◌, ◌++◌, ◌∷◌, [], ℕ, List, sym, ap, ◌∙◌, arith}
 use Rattle.ctr_bytes.specs.Fields.{field}
-use Rattle.ctr_records.specs.Members.{pairs_from}
+use Rattle.ctr_rec.specs.Members.{pairs_from}
 use Rattle.ctr_meta.specs.Tables.{is_in}
 use Rattle.ctr_meta.proofs.XidLaws.{absent}
 use Rattle.ctr_meta.proofs.ListingLaws.{no_pairs, pair_new, pairs_more}

@@ -1,5 +1,5 @@
 use Rattle.std.proofs.Common.{◌≡◌, ◌≤◌, ◌+◌}
-use Rattle.ctr_records.specs.Members.{pairs_from}
+use Rattle.ctr_rec.specs.Members.{pairs_from}
 use Rattle.ctr_meta.proofs.listing.read_pairs.Given as goal
 
 abbrev pub invariant-loop-i : goal.invariant-loop-i

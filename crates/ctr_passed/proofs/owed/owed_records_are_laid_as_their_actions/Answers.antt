@@ -1,5 +1,5 @@
 use Rattle.std.proofs.Common.{◌<◌, ℕ, [], ◌∷◌, subst, arith}
-use Rattle.ctr_records.specs.declared.record.SlogItem.TheVariants.{CreateOf, DropOf}
+use Rattle.ctr_rec.specs.declared.record.SlogItem.TheVariants.{CreateOf, DropOf}
 use Rattle.ctr_page.specs.declared.header.Header.{Header}
 use Rattle.ctr_record_laws.specs.Owed.{first_page}
 use Rattle.ctr_record_effects.specs.States.{area_in}

@@ -1,7 +1,7 @@
 use Rattle.std.proofs.Common.{◌≡◌, [], ◌∷◌, length, take, Some, sym, ap, ◌∙◌, subst}
-use Rattle.ctr_records.specs.declared.record.Overlay.{Overlay}
-use Rattle.ctr_records.specs.declared.record.Record.{Record}
-use Rattle.ctr_records.specs.declared.record.Record.TheVariants.{Trim}
+use Rattle.ctr_rec.specs.declared.record.Overlay.{Overlay}
+use Rattle.ctr_rec.specs.declared.record.Record.{Record}
+use Rattle.ctr_rec.specs.declared.record.Record.TheVariants.{Trim}
 use Rattle.ctr_redo.specs.States.{page_at}
 use Rattle.ctr_page.specs.Places.{kept_size}
 use Rattle.ctr_page.specs.Making.{kept_bytes, IsEntry}

@@ -2,7 +2,7 @@ use Rattle.std.proofs.Common.{◌≡◌, ℕ, inl, [], ◌∷◌, length, true, 
 use Rattle.std.specs.Prelude.{IsTrue, OnOk, ⊤}
 use Rattle.std.proofs.lemmas.Result.{err_from_is_err_and}
 use Rattle.ctr_base.specs.Base.{IsSoundImage}
-use Rattle.ctr_records.specs.declared.record.Record.TheVariants.{Revert}
+use Rattle.ctr_rec.specs.declared.record.Record.TheVariants.{Revert}
 use Rattle.ctr_redo.specs.States.{State, step}
 use Rattle.ctr_versions.specs.Changes.{revert}
 use Rattle.ctr_versions.specs.Versions.{rows_of, RowsSet}

@@ -1,6 +1,6 @@
 use Rattle.std.proofs.Common.{◌≡◌, ◌+◌, [], sym, ◌∙◌, ap, subst}
 use Rattle.std.specs.Prelude.{filter}
-use Rattle.ctr_records.specs.declared.record.Record.TheVariants.{Abort}
+use Rattle.ctr_rec.specs.declared.record.Record.TheVariants.{Abort}
 use Rattle.ctr_meta.specs.Items.{is_item_by}
 use Rattle.ctr_meta.specs.Kept.{TablesKept}
 use Rattle.ctr_meta.specs.Tables.{Tables}

@@ -1,5 +1,5 @@
 use Rattle.std.proofs.Common.{◌≡◌, ◌≤◌, length, arith, subst}
-use Rattle.ctr_page_world.specs.Opened.{IsRunLine}
+use Rattle.ctr_world.specs.Opened.{IsRunLine}
 use Rattle.ctr_run.specs.Lines.{RanOrStopped}
 use Rattle.ctr_serial.proofs.Walking.{line_there, line_has, as_many}
 use Rattle.ctr_run.proofs.lines.run_lines.Goals as goal

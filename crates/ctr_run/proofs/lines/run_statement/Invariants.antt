@@ -2,8 +2,8 @@ use Rattle.std.proofs.Common.{◌≡◌, ℕ, Some}
 use Rattle.std.specs.Prelude.{slice_get}
 use Rattle.std.specs.List.{AllByRecursion}
 use Rattle.ctr_types.specs.declared.statement.Line.{Line}
-use Rattle.ctr_page_world.specs.ctr_exec.Sessions.{turns_left}
-use Rattle.ctr_page_world.specs.Opened.{IsRunLine}
+use Rattle.ctr_world.specs.ctr_exec.Sessions.{turns_left}
+use Rattle.ctr_world.specs.Opened.{IsRunLine}
 use Rattle.ctr_run.specs.Lines.{RanOrStopped}
 use Rattle.ctr_run.proofs.Between.{Goes}
 use Rattle.ctr_run.proofs.lines.run_statement.Given as goal

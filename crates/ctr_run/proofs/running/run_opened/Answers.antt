@@ -3,9 +3,9 @@ use Rattle.std.specs.List.{AllByRecursion}
 use Rattle.ctr_model.specs.Tape.{statements_on, IsSerial}
 use Rattle.ctr_record_effects.specs.Standing.{StandsForDatabase}
 use Rattle.ctr_serial.proofs.Lists.{serial_front}
-use Rattle.ctr_page_world.specs.Ended.{IsUnbegunWorld, RefusesWith, RefusesWorld}
-use Rattle.ctr_page_world.specs.Opened.{IsRunLine}
-use Rattle.ctr_page_world.specs.World.{LeavesPrefix}
+use Rattle.ctr_world.specs.Ended.{IsUnbegunWorld, RefusesWith, RefusesWorld}
+use Rattle.ctr_world.specs.Opened.{IsRunLine}
+use Rattle.ctr_world.specs.World.{LeavesPrefix}
 use Rattle.ctr_run.specs.Running.{opened_on}
 use Rattle.ctr_run.proofs.Ends.{begins_serial, ends_for, left_moved, none_for, none_in_order, none_over, runs_in_order, runs_over, serial_end, untouched_for, untouched_in_order, untouched_over}
 use Rattle.ctr_run.proofs.running.run_opened.Goals as goal

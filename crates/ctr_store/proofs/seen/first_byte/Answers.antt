@@ -1,6 +1,6 @@
 use Rattle.std.proofs.Common.{length, sym, ◌∙◌}
 use Rattle.std.proofs.lemmas.Bool.{eqb-true}
-use Rattle.ctr_records.proofs.Laws.{field-empty}
+use Rattle.ctr_rec.proofs.Laws.{field-empty}
 use Rattle.ctr_store.proofs.seen.first_byte.Goals as goal
 
 pub returns-then-is_empty : goal.returns-then-is_empty

@@ -1,6 +1,6 @@
 use Rattle.std.proofs.Common.{◌≡◌, ◌<◌, ◌∙◌, ⊎_elim, ℕ, true, false, cond, eqb, List, Option, Some, None, is_some, vec_len, refl, sym, ap, subst, arith}
 use Rattle.std.specs.Option.{option_map}
-use Rattle.ctr_records.specs.declared.record.Overlay.{Overlay}
+use Rattle.ctr_rec.specs.declared.record.Overlay.{Overlay}
 use Rattle.ctr_pool.specs.declared.frame.Frame.{Frame}
 use Rattle.ctr_pool.specs.declared.memory.Memory.{Memory}
 use Rattle.ctr_pool.specs.Pages.{PageHeld}

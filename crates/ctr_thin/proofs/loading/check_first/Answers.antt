@@ -1,5 +1,5 @@
 use Rattle.std.proofs.Common.{sym, ◌∙◌, arith}
-use Rattle.ctr_records.proofs.ListLaws.{passes}
+use Rattle.ctr_rec.proofs.ListLaws.{passes}
 use Rattle.ctr_thin.proofs.loading.check_first.Goals as goal
 
 pub get_u64-requires : goal.get_u64-requires

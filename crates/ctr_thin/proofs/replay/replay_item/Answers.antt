@@ -1,7 +1,7 @@
 use Rattle.std.proofs.Common.{List, ℕ, Result, sym, subst, arith}
 use Rattle.ctr_model.specs.Database.{Database}
-use Rattle.ctr_rec.specs.declared.decoding.BadRecord.{BadRecord}
-use Rattle.ctr_rec.specs.Decode.{Decodes}
+use Rattle.ctr_thin_rec.specs.declared.decoding.BadRecord.{BadRecord}
+use Rattle.ctr_thin_rec.specs.Decode.{Decodes}
 use Rattle.ctr_thin.proofs.ReplayLemmas.{item_reads, item_schemas}
 use Rattle.ctr_thin.proofs.replay.replay_item.Goals as goal
 

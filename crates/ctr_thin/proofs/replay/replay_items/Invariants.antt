@@ -1,6 +1,6 @@
 use Rattle.std.proofs.Common.{◌≡◌, ◌-◌}
-use Rattle.ctr_rec.specs.Fold.{HasSchemas}
-use Rattle.ctr_rec.specs.Replay.{replay_items}
+use Rattle.ctr_thin_rec.specs.Fold.{HasSchemas}
+use Rattle.ctr_thin_rec.specs.Replay.{replay_items}
 use Rattle.ctr_thin.proofs.replay.replay_items.Given as goal
 
 -- what all changes make is what those that are left make of the database so far

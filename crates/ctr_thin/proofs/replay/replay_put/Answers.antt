@@ -4,10 +4,10 @@ use Rattle.ctr_types.specs.declared.value.Column.{Column}
 use Rattle.ctr_types.specs.declared.value.Row.{Row}
 use Rattle.ctr_model.specs.Database.{Database, table_at, changed}
 use Rattle.ctr_model.specs.declared.database.Change.TheVariants as change
-use Rattle.ctr_rec.specs.declared.decoding.BadRecord.{BadRecord}
-use Rattle.ctr_rec.specs.declared.decoding.RecordError.{RecordError}
-use Rattle.ctr_rec.specs.Decode.{IsFault}
-use Rattle.ctr_rec.specs.Replay.{check_texts, read_wide, row_told, replay_row}
+use Rattle.ctr_thin_rec.specs.declared.decoding.BadRecord.{BadRecord}
+use Rattle.ctr_thin_rec.specs.declared.decoding.RecordError.{RecordError}
+use Rattle.ctr_thin_rec.specs.Decode.{IsFault}
+use Rattle.ctr_thin_rec.specs.Replay.{check_texts, read_wide, row_told, replay_row}
 use Rattle.ctr_value.specs.Payload.{width, IsBadPayload}
 use Rattle.ctr_value.specs.Values.{row_values}
 use Rattle.ctr_thin.specs.Opening.{of_payload}

@@ -1,5 +1,5 @@
 use Rattle.std.proofs.Common.{◌≡◌, length, arith, subst}
-use Rattle.ctr_world.specs.World.{IsRunLine}
+use Rattle.ctr_thin_world.specs.World.{IsRunLine}
 use Rattle.ctr_top.specs.Serial.{RanOrStopped}
 use Rattle.ctr_serial.proofs.Walking.{line_there, line_has, as_many}
 use Rattle.ctr_top.proofs.script.run_lines.Goals as goal

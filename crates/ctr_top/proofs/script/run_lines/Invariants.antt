@@ -1,7 +1,7 @@
 use Rattle.std.proofs.Common.{◌≡◌, List, None, map}
 use Rattle.std.specs.List.{AllByRecursion}
 use Rattle.ctr_types.specs.declared.statement.Line.{Line}
-use Rattle.ctr_world.specs.World.{IsRunLine}
+use Rattle.ctr_thin_world.specs.World.{IsRunLine}
 use Rattle.ctr_top.specs.Serial.{RanLines, RanOrStopped}
 use Rattle.ctr_top.proofs.script.run_lines.Given as goal
 

@@ -6,8 +6,8 @@ use Rattle.std.proofs.Common.{◌∙◌, ⊎_elim, sym, subst}
 use Rattle.ctr_disk.specs.Device.{OnlyReads}
 use Rattle.ctr_types.specs.Faults.{CountsFault}
 use Rattle.ctr_thin.specs.Thin.{StandsFor}
-use Rattle.ctr_world.specs.Crash.{StraysOnlyLong}
-use Rattle.ctr_world.specs.World.{StopsBy}
+use Rattle.ctr_thin_world.specs.Crash.{StraysOnlyLong}
+use Rattle.ctr_thin_world.specs.World.{StopsBy}
 use Rattle.ctr_top.specs.Top.{DiskWhy, IsRefused, IsScriptRead}
 use Rattle.ctr_top.proofs.NothingDone.{leaves_nothing, memory_not_fine}
 use Rattle.ctr_top.proofs.RunLemmas.{open_causes, end_causes, ran_none, ran_ends, not_fine, not_stopped, no_refusal, only_reads_same}

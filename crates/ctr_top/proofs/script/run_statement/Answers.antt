@@ -4,8 +4,8 @@ use Rattle.ctr_types.specs.declared.statement.Line.{Line}
 use Rattle.ctr_types.specs.declared.tape.Actor.TheVariants as actor
 use Rattle.ctr_types.specs.declared.tape.Turn.TheVariants as turn
 use Rattle.ctr_steps.specs.Acting.{has_more}
-use Rattle.ctr_world.specs.Turns.{EndsTurn}
-use Rattle.ctr_world.specs.World.{IsRunLine}
+use Rattle.ctr_thin_world.specs.Turns.{EndsTurn}
+use Rattle.ctr_thin_world.specs.World.{IsRunLine}
 use Rattle.ctr_top.proofs.SerialTurns.{GoesOrStopped, Stepped, ended, went_on}
 use Rattle.ctr_top.proofs.script.run_statement.Given.{Over}
 use Rattle.ctr_top.proofs.script.run_statement.Goals.{After-goes_on}

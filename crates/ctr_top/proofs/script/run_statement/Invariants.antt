@@ -1,8 +1,8 @@
 use Rattle.std.proofs.Common.{◌≡◌, ℕ, List, Some}
 use Rattle.std.specs.Prelude.{slice_get}
 use Rattle.ctr_types.specs.declared.statement.Line.{Line}
-use Rattle.ctr_world.specs.Turns.{turns_left}
-use Rattle.ctr_world.specs.World.{IsRunLine}
+use Rattle.ctr_thin_world.specs.Turns.{turns_left}
+use Rattle.ctr_thin_world.specs.World.{IsRunLine}
 use Rattle.ctr_top.specs.Serial.{RanOrStopped}
 use Rattle.ctr_top.proofs.SerialTurns.{GoesOrStopped}
 use Rattle.ctr_top.proofs.script.run_statement.Given as goal

@@ -1,5 +1,5 @@
 use Rattle.std.proofs.Common.{false, [], Err, ap, ◌∙◌}
-use Rattle.ctr_records.specs.declared.record.Record.TheVariants.{Abort}
+use Rattle.ctr_rec.specs.declared.record.Record.TheVariants.{Abort}
 use Rattle.ctr_actions.specs.Sites.{site_of}
 use Rattle.ctr_actions.specs.Actions.{Aborts}
 use Rattle.ctr_rollback.proofs.ctr_txn.OneRecord.{aborted_site, logged_now, refused_now}

@@ -10,7 +10,7 @@ use Rattle.ctr_record_laws.specs.Owed.{written_slot, loses_head}
 use Rattle.ctr_record_effects.specs.States.{area_in}
 use Rattle.ctr_actions.specs.Sites.{site_of}
 use Rattle.ctr_actions.specs.Actions.{Writes, Owes}
-use Rattle.ctr_records.specs.declared.record.Record.TheVariants.{Row}
+use Rattle.ctr_rec.specs.declared.record.Record.TheVariants.{Row}
 use Rattle.ctr_record_effects.specs.Changing.{laid_on_place}
 use Rattle.ctr_walk.specs.OneRecord.{WhyNotLogged}
 use Rattle.ctr_heap.specs.Writing.{slot_width, row_record, LaysMove}

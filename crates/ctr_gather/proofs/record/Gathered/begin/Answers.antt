@@ -2,7 +2,7 @@ use Rattle.std.proofs.Common.{inr, refl, sym, [], ◌≡◌, ◌≤◌, ◌+◌,
 use Rattle.std.proofs.lemmas.List.{append-nil}
 use Rattle.ctr_bytes.specs.Fields.{spelled}
 use Rattle.ctr_bytes.proofs.FieldLaws.{length-spelled}
-use Rattle.ctr_rec.specs.Encode.{begun_bytes}
+use Rattle.ctr_thin_rec.specs.Encode.{begun_bytes}
 use Rattle.ctr_gather.proofs.record.Gathered.begin.Goals as goal
 
 length-begun : length (begun_bytes []) ≡ 5

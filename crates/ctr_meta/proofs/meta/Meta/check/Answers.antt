@@ -1,7 +1,7 @@
 use Rattle.std.proofs.Common.{sym, ap, subst, ◌∙◌}
-use Rattle.ctr_records.specs.declared.record.Record.{Record}
-use Rattle.ctr_records.specs.declared.record.Record.TheVariants.{Checkpoint}
-use Rattle.ctr_records.specs.Records.{IsRecord}
+use Rattle.ctr_rec.specs.declared.record.Record.{Record}
+use Rattle.ctr_rec.specs.declared.record.Record.TheVariants.{Checkpoint}
+use Rattle.ctr_rec.specs.Records.{IsRecord}
 use Rattle.ctr_meta.specs.Needs.{needs}
 use Rattle.ctr_meta.proofs.NeedLaws.{list_needs_met}
 use Rattle.ctr_meta.proofs.meta.Meta.check.Goals as goal

@@ -1,6 +1,6 @@
 use Rattle.std.proofs.Common.{ℕ, not, List, sym, subst, arith}
 use Rattle.std.specs.List.{AllByRecursion}
-use Rattle.ctr_records.specs.Members.{ItemFits}
+use Rattle.ctr_rec.specs.Members.{ItemFits}
 use Rattle.ctr_meta.specs.Items.{is_schema_by}
 use Rattle.ctr_meta.specs.Kept.{XidsFit}
 use Rattle.ctr_meta.proofs.Fits.{ended_fits}

@@ -1,6 +1,6 @@
 use Rattle.std.proofs.Common.{sym, subst}
 use Rattle.std.specs.List.{AllByRecursion}
-use Rattle.ctr_records.specs.Members.{ItemFits}
+use Rattle.ctr_rec.specs.Members.{ItemFits}
 use Rattle.ctr_meta.proofs.Fits.{other_items}
 use Rattle.ctr_meta.proofs.ItemLaws.{all_out}
 use Rattle.ctr_meta.proofs.meta.Meta.take_item.Goals as goal

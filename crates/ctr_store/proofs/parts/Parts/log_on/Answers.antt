@@ -1,7 +1,7 @@
 use Rattle.std.proofs.Common.{refl, ◌<◌, ◌∙◌, sym, ap, arith}
 use Rattle.ctr_meta.specs.Effects.{effect}
-use Rattle.ctr_records.proofs.ReadBack.{record_read}
-use Rattle.ctr_records.specs.Spelling.{record_bytes}
+use Rattle.ctr_rec.proofs.ReadBack.{record_read}
+use Rattle.ctr_rec.specs.Spelling.{record_bytes}
 use Rattle.ctr_store.proofs.RecordLaws.{on_page, off_page, overlay_inside, frame_there, inside_of}
 use Rattle.ctr_store.proofs.BufferLaws.{logs_room}
 use Rattle.ctr_store.proofs.PartsLaws.{can_follow, push_adds, push_tables, on_over, on_current}

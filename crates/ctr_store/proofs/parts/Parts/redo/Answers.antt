@@ -3,7 +3,7 @@ use Rattle.std.proofs.lemmas.Option.{slice_get_within, slice_get-get_or}
 use Rattle.std.proofs.lemmas.Result.{err_from_is_err_and}
 use Rattle.ctr_disk.specs.declared.fault.StoreFault.TheVariants.{Fault}
 use Rattle.ctr_log.proofs.VisitLemmas.{ok_isnt}
-use Rattle.ctr_records.specs.declared.record.Record.{Record}
+use Rattle.ctr_rec.specs.declared.record.Record.{Record}
 use Rattle.ctr_redo.specs.Images.{records_in}
 use Rattle.ctr_base.specs.Base.{stored_of}
 use Rattle.ctr_base.specs.BaseLaws.{rests_leaves, leaves_joined}

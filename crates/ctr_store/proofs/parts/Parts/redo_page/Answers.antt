@@ -9,7 +9,7 @@ use Rattle.ctr_store.specs.Parts.{BringsOver}
 use Rattle.ctr_store.specs.Redo.{RedoesPages}
 use Rattle.ctr_disk.specs.declared.disk.Disk.{Ghosts}
 use Rattle.ctr_disk.specs.Image.{Image}
-use Rattle.ctr_records.specs.declared.record.Record.{Record}
+use Rattle.ctr_rec.specs.declared.record.Record.{Record}
 use Rattle.ctr_base.specs.declared.base.Base.{Base}
 use Rattle.ctr_base.specs.Homes.{PassesHome}
 use Rattle.ctr_home.specs.Reading.{IsFaultOr}

@@ -1,6 +1,6 @@
 use Rattle.std.proofs.Common.{ℕ, Ok, Err, Some, refl, sym, ◌∙◌, ap, subst}
 use Rattle.ctr_meta.specs.Tables.{Tables}
-use Rattle.ctr_records.specs.declared.record.Record.TheVariants.{Commit}
+use Rattle.ctr_rec.specs.declared.record.Record.TheVariants.{Commit}
 use Rattle.ctr_walk.specs.OneRecord.{LogsOne}
 use Rattle.ctr_actions.specs.Sites.{Site, site_of}
 use Rattle.ctr_actions.specs.Actions.{Commits, site_after}

@@ -2,7 +2,7 @@ use Rattle.std.proofs.Common.{◌≤◌, Ok, Err, Some, refl, sym, ◌∙◌, ap
 use Rattle.ctr_meta.specs.Tables.{Tables}
 use Rattle.ctr_meta.specs.Kept.{TablesKept}
 use Rattle.ctr_model.specs.State.{with_transaction}
-use Rattle.ctr_records.specs.declared.record.Record.TheVariants.{Begin}
+use Rattle.ctr_rec.specs.declared.record.Record.TheVariants.{Begin}
 use Rattle.ctr_walk.specs.OneRecord.{LogsOne}
 use Rattle.ctr_actions.specs.Sites.{Site, site_of}
 use Rattle.ctr_actions.specs.Actions.{Begins, site_after}

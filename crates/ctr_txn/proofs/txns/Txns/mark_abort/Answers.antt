@@ -1,6 +1,6 @@
 use Rattle.std.proofs.Common.{Ok, Err, None, arith, inl, refl, sym, ◌∙◌, ap, subst}
 use Rattle.ctr_model.specs.State.{without_transaction}
-use Rattle.ctr_records.specs.declared.record.Record.TheVariants.{Abort}
+use Rattle.ctr_rec.specs.declared.record.Record.TheVariants.{Abort}
 use Rattle.ctr_walk.specs.OneRecord.{LogsOne}
 use Rattle.ctr_actions.specs.Sites.{Site, site_of}
 use Rattle.ctr_actions.specs.Actions.{Aborts, site_after}

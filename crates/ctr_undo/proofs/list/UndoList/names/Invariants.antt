@@ -3,7 +3,7 @@ use Rattle.std.specs.Prelude.{⊤}
 use Rattle.std.specs.List.{AllByRecursion}
 use Rattle.ctr_base.specs.Base.{WhereSound}
 use Rattle.ctr_store.specs.Store.{LeavesPage}
-use Rattle.ctr_records.specs.Members.{ItemFits}
+use Rattle.ctr_rec.specs.Members.{ItemFits}
 use Rattle.ctr_record_effects.specs.States.{area_in}
 use Rattle.ctr_undo.proofs.Read.{all_read}
 use Rattle.ctr_undo.proofs.list.UndoList.names.Given as goal

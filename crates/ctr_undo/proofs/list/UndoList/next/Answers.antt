@@ -1,5 +1,5 @@
 use Rattle.std.proofs.Common.{[], refl, sym, ◌∙◌, ap, reverse}
-use Rattle.ctr_records.specs.Members.{ItemFits}
+use Rattle.ctr_rec.specs.Members.{ItemFits}
 use Rattle.ctr_undo.specs.Left.{UndoLeft}
 use Rattle.ctr_undo.proofs.Lists.{nil_of, first_of_reversed, last_has}
 use Rattle.ctr_undo.proofs.list.UndoList.next.Goals as goal

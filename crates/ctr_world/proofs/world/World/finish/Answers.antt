@@ -1,21 +1,17 @@
-use Rattle.std.proofs.Common.{sym, subst, ap, ◌∙◌}
+use Rattle.std.proofs.Common.{◌++◌, ◌∙◌, ap}
 use Rattle.ctr_world.specs.Held.{Held, held}
-use Rattle.ctr_world.specs.Turns.{NoneIsLeft}
-use Rattle.ctr_world.specs.World.{Ends}
-use Rattle.ctr_world.specs.declared.parts.Parts.{Parts}
-use Rattle.ctr_world.proofs.OpenLemmas.{ended}
+use Rattle.ctr_world.proofs.Ending.{ended_as, in_order_as}
 use Rattle.ctr_world.proofs.world.World.finish.Goals as goal
 
 pub returns-clause-ends : goal.returns-clause-ends
-returns-clause-ends g c = λ base told stands.
-    let d = g.D.Disk in
-    let b = g.B.Opening in
-    let w = held c.run.new.self in
-    subst (λ es. Ends d b base es w.stop w.disk) (sym c.from_vec.ensures)
-    (ended d g.met.D.Disk.only_now c.states_grow.ensures c.legal_states_are_sound.ensures b w c.run.ensures.kept c.run.ensures.none base told stands)
+returns-clause-ends g c = λ s tells stands.
+    ended_as g.B.Opening g.B.Origin.first g.D.Disk (held c.finish.new.self) c.finish.ensures.kept c.finish.ensures.over s tells stands c.a_call_that_ends_leaves_a_prefix.ensures.end
+    c.from_vec.result c.len.result c.into_disk.result c.from_vec.ensures c.len.ensures c.into_disk.ensures
 
-pub returns-clause-over : goal.returns-clause-over
-returns-clause-over g c = λ over.
-    c.from_vec.ensures
-    ∙ ap (λ (w : Parts g.row.D.Denot). w.steps.tape.items) (c.run.ensures.over (subst NoneIsLeft (sym c.self.view_is) over))
-    ∙ ap (λ (w : Held g.row.D.Denot). w.steps.tape.items) c.self.view_is
+pub returns-clause-order : goal.returns-clause-order
+returns-clause-order g c =
+    in_order_as g.B.Opening g.B.Origin.first g.D.Disk (held c.finish.new.self) c.finish.ensures.kept c.finish.ensures.over
+    c.from_vec.result c.into_disk.result c.from_vec.ensures c.into_disk.ensures
+
+pub returns-clause-adds : goal.returns-clause-adds
+returns-clause-adds g c = (c.finish.ensures.adds.0, c.from_vec.ensures ∙ c.finish.ensures.adds.1 ∙ ap (λ (h : Held _). h.running.sessions.tape.items ++ c.finish.ensures.adds.0) c.self.view_is)

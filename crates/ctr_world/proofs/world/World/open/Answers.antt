@@ -1,42 +1,68 @@
-use Rattle.std.proofs.Common.{◌∙◌, sym, subst, arith, refl, ap}
-use Rattle.std.specs.List.{AllByRecursion}
-use Rattle.ctr_types.specs.declared.statement.Script.{Script}
-use Rattle.ctr_thin.specs.Thin.{StandsFor}
-use Rattle.ctr_world.specs.Turns.{NoneFull}
-use Rattle.ctr_world.specs.World.{IsRunLine}
-use Rattle.ctr_world.proofs.OpenLemmas.{runs_new, walking_new}
-use Rattle.ctr_world.proofs.SessionLemmas.{unbegun_by}
+use Rattle.std.proofs.Common.{◌≤◌, ⊎_elim, inl, inr, [], sym, ◌∙◌, subst}
+use Rattle.ctr_record_effects.specs.Standing.{IsDatabaseState}
+use Rattle.ctr_stops.proofs.Opened.{now_is}
+use Rattle.ctr_stops.specs.Fronts.{rows_of_state}
+use Rattle.ctr_world.specs.World.{LeavesPrefix}
+use Rattle.ctr_world.proofs.Keeping.{sound_of}
+use Rattle.ctr_world.proofs.Refused.{first_left, front_of, told_as, told_behind}
+use Rattle.ctr_world.proofs.Started.{kept_begun, stands_on}
 use Rattle.ctr_world.proofs.world.World.open.Goals as goal
 
 pub invariant_of-result : goal.invariant_of-result
 invariant_of-result g c =
-    let d = g.D.Disk in
-    let b = g.B.Opening in
-    let o = c.in-Ok.ensures in
-    let h = c.in-Ok-begin.ensures in
+    let v = c.in-Ok.store in
+    let b = c.begin.new.store in
+    let opened = c.in-Ok.ensures in
+    let e = c.in-Ok-begin.ensures in
+    kept_begun g.B.Opening g.B.Origin.first g.D.Disk c.args.disk c.args.script c.requires.named c.requires.runs v b c.in-Ok-begin.begun e.begun e.leaves opened.counts.later
+    g.met.D.Disk.earlier c.a_world_begins.ensures c.a_script_begins_in_a_world.ensures c.pages_that_are_read_keep_a_world.ensures
+    (λ s tells sound. record { opens = opened.answer tells; any_moment = opened.any_moment tells sound; durable = opened.durable tells sound; rests = c.rests.ensures tells sound e.leaves.going; all = e.whole tells sound })
+    (e.leaves.faults.fine (λ is. absurd cc) ∙ opened.counts.faults.fine (λ is. absurd cc))
+
+pub returns-in-Err-begin-clause-undamaged : goal.returns-in-Err-begin-clause-undamaged
+returns-in-Err-begin-clause-undamaged g c = λ s tells stands.
+    let v = c.in-Ok.store in
+    c.in-Err-begin.ensures.undamaged tells (sound_of g.B.Origin.first s stands)
+    (subst IsDatabaseState (sym (now_is g.D.Disk g.met.D.Disk.earlier g.B.Origin.first s c.args.disk v stands (c.in-Ok.ensures.answer tells))) stands.sound)
+
+pub returns-in-Ok-begin-clause-stands : goal.returns-in-Ok-begin-clause-stands
+returns-in-Ok-begin-clause-stands g c = λ tells sound.
+    let e = c.in-Ok-begin.ensures in
+    stands_on g.B.Opening g.B.Origin.first g.D.Disk c.args.disk c.args.script c.requires.named c.requires.runs c.in-Ok.store c.begin.new.store c.in-Ok-begin.begun e.begun e.leaves c.in-Ok.ensures.counts.later tells sound
+    (c.in-Ok.ensures.answer tells)
+
+-- ---- what is told of the image
+
+pub returns-in-Ok-begin-clause-passes : goal.returns-in-Ok-begin-clause-passes
+returns-in-Ok-begin-clause-passes g c = λ tells.
+    let opens = c.in-Ok.ensures.answer tells in
+    record { root = opens.root; stands = opens.stands; log = opens.passes; pages = opens.pages; fresh = opens.fresh }
+
+pub returns-in-Err-clause-refused : goal.returns-in-Err-clause-refused
+returns-in-Err-clause-refused g c = λ tells. told_as g.B.Origin.first c.in-Err.refused.0 (c.in-Err.ensures.answer tells)
+
+pub returns-in-Err-begin-clause-refused : goal.returns-in-Err-begin-clause-refused
+returns-in-Err-begin-clause-refused g c = λ tells.
+    let opens = c.in-Ok.ensures.answer tells in
+    told_behind g.B.Origin.first c.in-Err-begin.error (record { root = opens.root; stands = opens.stands; log = opens.passes; pages = opens.pages; fresh = opens.fresh }) c.in-Err-begin.ensures.reading
+    (λ s stands. c.in-Err-begin.ensures.undamaged tells (sound_of g.B.Origin.first s stands)
+    (subst IsDatabaseState (sym (now_is g.D.Disk g.met.D.Disk.earlier g.B.Origin.first s c.args.disk c.in-Ok.store stands opens)) stands.sound))
+
+-- ---- what a crash leaves of an opening that was refused
+
+pub returns-in-Err-clause-left : goal.returns-in-Err-clause-left
+returns-in-Err-clause-left g c = λ s tells stands.
     let named = c.requires.named in
-    let held = h.bounds c.in-Ok.opened.log o.next.1 (omega (arith, o.next.0)) in
-    record {
-      runs = λ base told stands. runs_new d g.met.D.Disk.earlier c.later_walks.ensures b base c.args.disk _ c.in-Ok.opened h.is.1 h.is.2 h.walks refl (o.opened told)
-          (o.only base told (subst (λ i. StandsFor i base) named.image stands)) o.quiet.same o.settled.now o.quiet.any_moment named.before
-          named.start (o.counts.stray ∙ sym named.strays) named.image;
-      walking = λ going. walking_new c.in-Ok.opened.database c.in-Ok-begin.steps c.in-Ok.opened.log.buffered (d.moment_of c.open.new.disk) h.walks h.is.2 o.next.1;
-      bounds = λ going. held;
-      eight = record { same = held.sessions; eight = held.eight };
-      not_full = subst NoneFull (sym h.is.1) tt;
-      lines_are = ap (λ (s : Script). s.lines) h.is.0 ∙ sym named.lines_are;
-      each = subst (AllByRecursion IsRunLine) (sym named.lines_are) c.requires.runs.each;
-      later = omega (arith, named.start, o.settled.rises);
-      faults_later = omega (arith, named.faults, o.counts.faults.later);
-      stops = o.counts.faults.fine (λ is. absurd (cc is)) ∙ sym named.faults;
-    }
+    first_left g.B.Opening g.B.Origin.first g.D.Disk g.met.D.Disk.earlier c.args.disk c.in-Err.refused.1 s stands named.start named.before (c.in-Err.ensures.any_moment tells (sound_of g.B.Origin.first s stands))
 
-pub returns-clause-can_open : goal.returns-clause-can_open
-returns-clause-can_open g c = λ told. let o = c.in-Ok.ensures.opened told in (_, (o.goes.stands, o.low))
-
-pub returns-clause-begins : goal.returns-clause-begins
-returns-clause-begins g c =
-    let o = c.in-Ok.ensures in
-    let h = c.in-Ok-begin.ensures in
-    let held = h.bounds c.in-Ok.opened.log o.next.1 (omega (arith, o.next.0)) in
-    (unbegun_by c.args.script.lines c.in-Ok.opened.database c.in-Ok-begin.steps c.in-Ok.opened.log (record { same = held.sessions; eight = held.eight }) held (ap (λ (s : Script). s.lines) h.is.0) h.is.1 h.walks, refl)
+pub returns-in-Err-begin-clause-left : goal.returns-in-Err-begin-clause-left
+returns-in-Err-begin-clause-left g c = λ s tells stands.
+    let named = c.requires.named in
+    let d = g.D.Disk in
+    let first = g.B.Origin.first in
+    let v = c.in-Ok.store in
+    let sound = sound_of first s stands in
+    let keeps = c.an_opened_store_keeps_commits.ensures.commits first s c.args.disk v stands (c.in-Ok.ensures.answer tells) (c.in-Ok.ensures.any_moment tells sound) in
+    let left = c.a_call_that_ends_leaves_a_prefix.ensures.call (record { opened = c.args.disk; base = rows_of_state s; asked = [] }) [] v c.begin.new.store keeps (front_of first d v c.begin.new.store _ tells sound c.in-Err-begin.ensures.leaves) in
+    subst (λ x. LeavesPrefix g.B.Opening d s x []) (sym c.into_disk.ensures)
+    (λ t c from le there. ⊎_elim (λ it. inl it) (λ was. inr (named.before c was.0, was.1)) (left t c (subst (λ n. n ≤ t) named.start from) le there))

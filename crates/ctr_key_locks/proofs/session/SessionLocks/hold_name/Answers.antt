@@ -1,9 +1,0 @@
-use Rattle.std.proofs.Common.{true}
-use Rattle.ctr_key_locks.proofs.Looks.{no_name, through_held}
-use Rattle.ctr_key_locks.proofs.session.SessionLocks.hold_name.Goals as goal
-
-pub returns-in_default : goal.returns-in_default
-returns-in_default c = no_name c.self.inside.entries c.self.inside.names c.args.self.now c.self.view_is c.args.name.now c.in_default.ensures.value c.requires
-
-pub returns : goal.returns
-returns c = through_held c.self.inside.entries c.self.inside.names c.args.self.now c.self.view_is c.args.name.now (c.get_mut.follows.lender (record c.in-Some.name.now { held = true })) c.in-Some.name.now c.in-Some.ensures.value (c.get_mut.follows.holds (record c.in-Some.name.now { held = true }))

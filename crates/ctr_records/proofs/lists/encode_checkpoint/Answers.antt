@@ -1,5 +1,0 @@
-use Rattle.ctr_records.proofs.MemberLaws.{members_pass}
-use Rattle.ctr_records.proofs.lists.encode_checkpoint.Goals as goal
-
-pub returns-clause-record : goal.returns-clause-record
-returns-clause-record c = members_pass c.args.next c.args.opens.now c.args.aborted.now c.args.items.now c.requires

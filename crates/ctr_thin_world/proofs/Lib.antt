@@ -1,0 +1,10 @@
+pub mod AloneLemmas
+pub mod AnswerLemmas
+pub mod CrashLemmas
+pub mod CreateLemmas
+pub mod HardenLemmas
+pub mod KeptLemmas
+pub mod OpenLemmas
+pub mod RunLemmas
+pub mod TapeLemmas
+pub mod SessionLemmas

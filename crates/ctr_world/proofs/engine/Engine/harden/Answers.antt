@@ -1,0 +1,18 @@
+use Rattle.ctr_exec.specs.Sessions.{AreAnswers}
+use Rattle.ctr_world.specs.Held.{running}
+use Rattle.ctr_world.proofs.Adding.{adds_answers}
+use Rattle.ctr_world.proofs.Quiet.{disk_answered}
+use Rattle.ctr_world.proofs.engine.Engine.harden.Goals as goal
+
+pub returns-in-Ok-clause-shows : goal.returns-in-Ok-clause-shows
+returns-in-Ok-clause-shows g c = λ s tells sound shows. c.answer.ensures.shows s tells sound (c.in-Ok.ensures.shows s tells sound shows)
+
+pub returns-in-Err-clause-shows : goal.returns-in-Err-clause-shows
+returns-in-Err-clause-shows g c = λ s tells sound shows. c.in-Err.ensures.shows s tells sound shows
+
+pub returns-in-Ok-clause-adds : goal.returns-in-Ok-clause-adds
+returns-in-Ok-clause-adds g c =
+    adds_answers g.D.Disk AreAnswers (running c.args.self.now) (running c.settle.new.self) (running c.answer.new.self) (λ i. (c.answer.ensures.same i).store) (λ i. (c.in-Ok.ensures.same i).sessions) c.answer.ensures.adds
+
+pub returns-in-Ok-clause-disk : goal.returns-in-Ok-clause-disk
+returns-in-Ok-clause-disk g c = disk_answered g.B.Origin.first g.D.Disk c.args.self.now.store c.settle.new.self.store c.answer.new.self.store _ (λ i. (c.answer.ensures.same i).store) c.in-Ok.ensures.disk

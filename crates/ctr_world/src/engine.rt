@@ -1,0 +1,277 @@
+// What a World is made of, and the turns of its actors, which a fault ends.
+ghost use Rattle.std.specs.Prelude.{◌≡◌, ◌≢◌, ◌<◌, ◌≤◌, ◌+◌, ◌-◌, ◌^◌, ℕ, [], false, OnOk, IfOk};
+ghost use Rattle.ctr_types.specs.declared.tape.Actor.TheVariants as who;
+ghost use Rattle.ctr_base.specs.Base.{WhereSound};
+ghost use Rattle.ctr_kept.specs.Turns.{Start};
+ghost use Rattle.ctr_kept.specs.Walk.{Mind};
+ghost use Rattle.ctr_redo.specs.States.{State};
+ghost use Rattle.ctr_store.specs.Store.{HasTurnRoom, LeavesPage, WritesHome, turns_for_room};
+ghost use Rattle.ctr_undo.specs.Left.{UndoLeft, Goes, left_in};
+ghost use Rattle.ctr_exec.specs.ctr_session_world.Ready.{LeavesDisk};
+ghost use Rattle.ctr_exec.specs.ctr_session_world.World.{SessionsHeld, InWorld};
+ghost use Rattle.ctr_exec.specs.Order.{IsOrdered};
+ghost use Rattle.ctr_exec.specs.Sessions.{AreAnswers, AreOfTurn, AreSeated, OrFails, turns_left};
+ghost use Rattle.ctr_world.specs.Held.{running};
+ghost use Rattle.ctr_world.specs.World.{HoldsLeft, IsReady, Shows};
+ghost use Rattle.ctr_world.specs.Turns.{HasStatementLeft, AreAnswered, AreBy, AreReleases, AddsEntries, AddsUnlessFails, ComesNearer, FlusherEnds, LetsNameGo};
+
+use crate::laws::undo_leaves_the_sessions;
+use crate::names::name_gone;
+use crate::opening::Opening;
+use ctr_base::Origin;
+use ctr_disk::{Disk, StoreFault};
+use ctr_exec::Sessions;
+use ctr_exec::control::{flush, make_room};
+use ctr_exec::session_world::pages_that_are_read_keep_a_world;
+use ctr_kept::recovery_is_in_no_transaction;
+use ctr_store::Store;
+use ctr_tally::Steps;
+use ctr_types::{Name, Turn};
+use ctr_undo::{
+    UndoItem, UndoList, UndoTurn, a_name_is_released_with_its_last_item, a_turn_of_undo_is_kept,
+    names_of_what_is_left_stay, turn, undo_takes_a_turn_an_item,
+};
+use std::alloc::Global;
+use std::marker::Brand;
+use std::sync::ledger::{Blank, Ledger};
+
+/// What a World is made of, where nothing stopped it.
+#[derive(Drop)]
+pub(crate) struct Engine<D: Disk, B: Origin> {
+    pub(crate) store: Store<D, B>,
+    /// The sessions at the statements of the script, with the tape.
+    pub(crate) sessions: Sessions,
+    /// What is left of undo.
+    pub(crate) undo: UndoList,
+    /// The names of the tables of its items, in their order.
+    pub(crate) names: Vec<Name>,
+    /// How much undo there was at the start: the items, and the transactions that were open.
+    pub(crate) size: usize,
+}
+
+impl<D: Disk, B: Origin + Opening> Engine<D, B> {
+    // All commits that are durable are answered.
+    fn answer(&mut self)
+        requires ready { IsReady B.Opening D.Disk (running self.old) }
+        ensures ready { IsReady B.Opening D.Disk (running self.new) }
+        ensures shows { (s : State) → WhereSound B.first D.Disk (Shows B.Opening B.first D.Disk s (running self.old) → Shows B.Opening B.first D.Disk s (running self.new)) }
+        ensures adds { AddsEntries AreAnswers (D.moment_of self.old.store.disk) (running self.old) (running self.new) }
+        ensures same { self.new ≡ record self.old { sessions = self.new.sessions } }
+        ensures nearer { turns_left self.new.sessions self.new.store ≤ turns_left self.old.sessions self.old.store }
+        ensures answered { AreAnswered (running self.new) }
+    {
+        self.sessions.answer(&self.store);
+    }
+
+    // A turn of a session that isn't over, whose steps are counted.
+    fn act<L: Ledger>(&mut self, alloc: Global, s: u8, blank: Blank) -> Result<(), StoreFault>
+        requires name { blank.name ≡ L.name }
+        requires parts { (blank.parts ≡ L.parts) × (0 < blank.parts) }
+        requires ready { IsReady B.Opening D.Disk (running self.old) }
+        requires left { HasStatementLeft s self.old.sessions }
+        requires number { self.old.store.next < 2 ^ 63 - 1 }
+        ensures ready { OnOk result (IsReady B.Opening D.Disk (running self.new)) }
+        ensures shows { (s : State) → WhereSound B.first D.Disk (Shows B.Opening B.first D.Disk s (running self.old) → OrFails (Shows B.Opening B.first D.Disk s (running self.new)) result) }
+        ensures adds { AddsUnlessFails (AreOfTurn s) (D.moment_of self.new.store.disk) (running self.old) (running self.new) result }
+        ensures nearer { OnOk result (turns_left self.new.sessions self.new.store < turns_left self.old.sessions self.old.store) }
+        ensures same { self.new ≡ record self.old { store = self.new.store; sessions = self.new.sessions } }
+        ensures disk { LeavesDisk B.first D.Disk self.old.store self.new.store result }
+    {
+        a_turn_of_undo_is_kept::<D>();
+        names_of_what_is_left_stay();
+        let mut steps = Steps::<L>::new(blank);
+        match self.sessions.turn(alloc, &mut self.store, s, &mut steps) {
+            Ok(_) => Ok(()),
+            Err(fault) => Err(fault),
+        }
+    }
+
+    /// A turn of a session that isn't over, and the answers of all commits that are durable then.
+    pub(crate) fn serve(&mut self, alloc: Global, s: u8) -> Result<(), StoreFault>
+        requires ready { IsReady B.Opening D.Disk (running self.old) }
+        requires left { HasStatementLeft s self.old.sessions }
+        requires number { self.old.store.next < 2 ^ 63 - 1 }
+        ensures ready { OnOk result (IsReady B.Opening D.Disk (running self.new)) }
+        ensures shows { (s : State) → WhereSound B.first D.Disk (Shows B.Opening B.first D.Disk s (running self.old) → OrFails (Shows B.Opening B.first D.Disk s (running self.new)) result) }
+        ensures adds { AddsUnlessFails (AreBy (who.Session s)) (D.moment_of self.new.store.disk) (running self.old) (running self.new) result }
+        ensures nearer { OnOk result (ComesNearer (who.Session s) (running self.old) (running self.new)) }
+        ensures same { self.new ≡ record self.old { store = self.new.store; sessions = self.new.sessions } }
+        ensures disk { LeavesDisk B.first D.Disk self.old.store self.new.store result }
+    {
+        match self.act::<Brand>(alloc, s, Blank::new(1)) {
+            Ok(()) => {
+                self.answer();
+                Ok(())
+            }
+            Err(fault) => Err(fault),
+        }
+    }
+
+    // The name of the table goes of which an item was undone: recovery releases it at this moment, where no other item has it.
+    fn let_go(&mut self, alloc: Global, undone: UndoItem)
+        requires seats { (counted : ℕ) × AreSeated self.old.sessions counted }
+        requires held { HoldsLeft (running self.old) }
+        ensures goes { LetsNameGo undone (D.moment_of self.old.store.disk) self.old.names.items self.new.names.items self.old.sessions self.new.sessions }
+        ensures same { self.new ≡ record self.old { sessions = self.new.sessions; names = self.new.names } }
+        ensures seats { (counted : ℕ) → AreSeated self.old.sessions counted → AreSeated self.new.sessions counted }
+        ensures held { HoldsLeft (running self.new) }
+        ensures order { (start before : ℕ) → before ≤ D.moment_of self.old.store.disk → IsOrdered start before self.old.sessions → IsOrdered start (D.moment_of self.old.store.disk) self.new.sessions }
+    {
+        if let Some(name) = name_gone(&mut self.names, undone) {
+            self.sessions.release(alloc, name, self.store.moment());
+        }
+    }
+
+    // What is next in undo's list is undone, and steps are counted; where it was the last of its table's name, recovery releases that.
+    fn undo_next<L: Ledger>(
+        &mut self,
+        alloc: Global,
+        next: UndoItem,
+        blank: Blank,
+    ) -> Result<(), StoreFault>
+        requires name { blank.name ≡ L.name }
+        requires parts { (blank.parts ≡ L.parts) × (0 < blank.parts) }
+        requires ready { IsReady B.Opening D.Disk (running self.old) }
+        requires room { HasTurnRoom self.old.store × (self.old.store.next < 2 ^ 63 - 1) }
+        requires next { (v : UndoLeft) × Goes next self.old.undo v }
+        ensures ready { OnOk result (IsReady B.Opening D.Disk (running self.new)) }
+        ensures shows { (s : State) → WhereSound B.first D.Disk (Shows B.Opening B.first D.Disk s (running self.old) → OrFails (Shows B.Opening B.first D.Disk s (running self.new)) result) }
+        ensures adds { AddsUnlessFails AreReleases (D.moment_of self.new.store.disk) (running self.old) (running self.new) result }
+        ensures one { OnOk result (left_in self.new.undo + 1 ≡ left_in self.old.undo) }
+        ensures fewer { OnOk result (turns_left self.new.sessions self.new.store < turns_left self.old.sessions self.old.store) }
+        ensures left { (self.new.size ≡ self.old.size) × (left_in self.new.undo ≤ left_in self.old.undo) }
+        ensures disk { LeavesDisk B.first D.Disk self.old.store self.new.store result }
+    {
+        a_name_is_released_with_its_last_item();
+        a_turn_of_undo_is_kept::<D>();
+        names_of_what_is_left_stay();
+        recovery_is_in_no_transaction();
+        undo_leaves_the_sessions::<D>();
+        undo_takes_a_turn_an_item();
+        let mut steps = Steps::<L>::new(blank);
+        match turn(&mut self.store, &mut self.undo, &mut steps) {
+            Ok(UndoTurn::Over) => Ok(()),
+            Ok(UndoTurn::Undone) => {
+                self.store.rests();
+                self.let_go(alloc, next);
+                Ok(())
+            }
+            Err(fault) => Err(fault),
+        }
+    }
+
+    // Behind a turn that logged nothing all commits that are durable are answered.
+    fn made_room(&mut self) -> Result<(), StoreFault>
+        requires ready { IsReady B.Opening D.Disk (running self.old) }
+        requires short { HasTurnRoom self.old.store → ⊥ }
+        ensures ready { OnOk result (IsReady B.Opening D.Disk (running self.new)) }
+        ensures shows { (s : State) → WhereSound B.first D.Disk (Shows B.Opening B.first D.Disk s (running self.old) → OrFails (Shows B.Opening B.first D.Disk s (running self.new)) result) }
+        ensures adds { AddsUnlessFails AreAnswers (D.moment_of self.new.store.disk) (running self.old) (running self.new) result }
+        ensures nearer { OnOk result (turns_for_room self.new.store < turns_for_room self.old.store) }
+        ensures fewer { OnOk result (turns_left self.new.sessions self.new.store < turns_left self.old.sessions self.old.store) }
+        ensures answered { OnOk result (AreAnswered (running self.new)) }
+        ensures same { self.new ≡ record self.old { store = self.new.store; sessions = self.new.sessions } }
+        ensures disk { LeavesDisk B.first D.Disk self.old.store self.new.store result }
+    {
+        match make_room(&mut self.store) {
+            Ok(()) => {
+                self.answer();
+                Ok(())
+            }
+            Err(fault) => Err(fault),
+        }
+    }
+
+    /// Makes all that waits in the log durable.
+    pub(crate) fn settle(&mut self) -> Result<(), StoreFault>
+        requires ready { IsReady B.Opening D.Disk (running self.old) }
+        ensures ready { OnOk result (IsReady B.Opening D.Disk (running self.new)) }
+        ensures shows { (s : State) → WhereSound B.first D.Disk (Shows B.Opening B.first D.Disk s (running self.old) → OrFails (Shows B.Opening B.first D.Disk s (running self.new)) result) }
+        ensures none { OnOk result (self.new.store.waiting ≡ []) }
+        ensures same { self.new ≡ record self.old { store = self.new.store } }
+        ensures disk { LeavesDisk B.first D.Disk self.old.store self.new.store result }
+    {
+        flush(&mut self.store)
+    }
+
+    // The same, and the answers of all commits that asked.
+    fn harden(&mut self) -> Result<(), StoreFault>
+        requires ready { IsReady B.Opening D.Disk (running self.old) }
+        ensures ready { OnOk result (IsReady B.Opening D.Disk (running self.new)) }
+        ensures shows { (s : State) → WhereSound B.first D.Disk (Shows B.Opening B.first D.Disk s (running self.old) → OrFails (Shows B.Opening B.first D.Disk s (running self.new)) result) }
+        ensures adds { AddsUnlessFails AreAnswers (D.moment_of self.new.store.disk) (running self.old) (running self.new) result }
+        ensures durable { OnOk result ((self.new.store.waiting ≡ []) × AreAnswered (running self.new)) }
+        ensures same { self.new ≡ record self.old { store = self.new.store; sessions = self.new.sessions } }
+        ensures disk { LeavesDisk B.first D.Disk self.old.store self.new.store result }
+    {
+        match self.settle() {
+            Ok(()) => {
+                self.answer();
+                Ok(())
+            }
+            Err(fault) => Err(fault),
+        }
+    }
+
+    /// A turn of undo, where this is next: a turn for room, where the store has none, or it is undone. All commits that are durable then are
+    /// answered.
+    pub(crate) fn undo(&mut self, alloc: Global, next: UndoItem) -> Result<(), StoreFault>
+        requires ready { IsReady B.Opening D.Disk (running self.old) }
+        requires number { self.old.store.next < 2 ^ 63 - 1 }
+        requires next { (v : UndoLeft) × Goes next self.old.undo v }
+        ensures ready { OnOk result (IsReady B.Opening D.Disk (running self.new)) }
+        ensures shows { (s : State) → WhereSound B.first D.Disk (Shows B.Opening B.first D.Disk s (running self.old) → OrFails (Shows B.Opening B.first D.Disk s (running self.new)) result) }
+        ensures adds { AddsUnlessFails (AreBy who.Undo) (D.moment_of self.new.store.disk) (running self.old) (running self.new) result }
+        ensures nearer { OnOk result (ComesNearer who.Undo (running self.old) (running self.new)) }
+        ensures left { (self.new.size ≡ self.old.size) × (left_in self.new.undo ≤ left_in self.old.undo) }
+        ensures disk { LeavesDisk B.first D.Disk self.old.store self.new.store result }
+    {
+        if !self.store.room() {
+            return self.made_room();
+        }
+        match self.undo_next::<Brand>(alloc, next, Blank::new(1)) {
+            Ok(()) => {
+                self.answer();
+                Ok(())
+            }
+            Err(fault) => Err(fault),
+        }
+    }
+
+    /// A turn of the flusher: where the log isn't durable it is made so, and all commits that asked are answered; else the page that is changed the
+    /// longest goes home; where none is it is idle.
+    pub(crate) fn write_behind(&mut self) -> Result<Turn, StoreFault>
+        requires ready { IsReady B.Opening D.Disk (running self.old) }
+        ensures ready { OnOk result (IsReady B.Opening D.Disk (running self.new)) }
+        ensures shows { (s : State) → WhereSound B.first D.Disk (Shows B.Opening B.first D.Disk s (running self.old) → OrFails (Shows B.Opening B.first D.Disk s (running self.new)) result) }
+        ensures adds { AddsUnlessFails AreAnswers (D.moment_of self.new.store.disk) (running self.old) (running self.new) result }
+        ensures went { IfOk result (FlusherEnds (running self.old) (running self.new)) }
+        ensures same { self.new ≡ record self.old { store = self.new.store; sessions = self.new.sessions } }
+        ensures disk { LeavesDisk B.first D.Disk self.old.store self.new.store result }
+    {
+        if !self.store.is_hardened() {
+            return match self.harden() {
+                Ok(()) => Ok(Turn::Went),
+                Err(fault) => Err(fault),
+            };
+        }
+        match write_home(&mut self.store) {
+            Ok(true) => Ok(Turn::Went),
+            Ok(false) => Ok(Turn::Idle),
+            Err(fault) => Err(fault),
+        }
+    }
+}
+
+// Writes the page home that is changed the longest, if one is. In a World nothing else changes, and nothing is told.
+fn write_home<D: Disk, O: Origin>(store: &mut Store<D, O>) -> Result<bool, StoreFault>
+    requires going { store.old.stopped ≡ false }
+    ensures wrote { IfOk result (λ wrote. (wrote ≡ store.old.dirty) × WritesHome store.old store.new wrote) }
+    ensures kept { (c : Start) (opened : D) (h : SessionsHeld) (w : Mind) → WhereSound O.first D.Disk (InWorld D.Disk c opened store.old h w → OnOk result (InWorld D.Disk c opened store.new h w)) }
+    ensures leaves { LeavesPage O.first D.Disk store.old store.new result }
+{
+    pages_that_are_read_keep_a_world::<D>();
+    let wrote = store.write_one_dirty();
+    store.rests();
+    wrote
+}
