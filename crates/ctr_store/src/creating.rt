@@ -1,5 +1,5 @@
 // Making a database: its logs, blank pages, and the root last.
-ghost use Rattle.std.specs.Prelude.{◌≡◌, ◌⊎◌, ◌↔◌, IsTrue, IsSome, None, Ok, Err, IfOk, OnOk, OnErr};
+ghost use Rattle.std.specs.Prelude.{◌≡◌, ◌≤◌, ◌⊎◌, ◌↔◌, IsTrue, IsSome, None, Ok, Err, IfOk, OnOk, OnErr};
 ghost use Rattle.ctr_types.specs.Faults.{HasFault};
 ghost use Rattle.ctr_disk.specs.declared.fault.StoreFault.TheVariants.{Fault};
 ghost use Rattle.ctr_disk.specs.Device.{WhereTold, LeavesOnly, IsDurable, IsSettled, OnlyReads, CountsAs};
@@ -72,6 +72,8 @@ pub fn create<D: Disk>(disk: D) -> Result<D, (CreateError, D)>
     ensures made { WhereTold D.Disk (IfOk result (λ d. IsEmptyStore (D.reads d))) }
     ensures durable { IfOk result (IsDurable D.Disk) }
     ensures faults { HasFault CreateFault (D.faults_of disk) (D.faults_of (disk_made result)) (making_told result) }
+    // The clock doesn't go back, and no call goes past the last place of a file.
+    ensures moves { (D.moment_of disk ≤ D.moment_of (disk_made result)) × (D.strays_of (disk_made result) ≡ D.strays_of disk) }
 {
     let mut disk = disk;
     match make(&mut disk) {

@@ -23,3 +23,12 @@ pub returns-in-Ok-Made-clause-made : goal.returns-in-Ok-Made-clause-made
 returns-in-Ok-Made-clause-made g c told =
     let new = c.make.ensures.made told (c.in-Ok-Made.is ∙ ap Ok c.in-Ok-Made.field-0-is) in
     (new, folds_new (g.D.Disk.reads c.make.new.disk) new)
+
+pub returns-in-Ok-Made-clause-moves : goal.returns-in-Ok-Made-clause-moves
+returns-in-Ok-Made-clause-moves g c = (c.make.ensures.counts.later, c.make.ensures.counts.stray)
+
+pub returns-in-Ok-Exists-clause-moves : goal.returns-in-Ok-Exists-clause-moves
+returns-in-Ok-Exists-clause-moves g c = (c.make.ensures.counts.later, c.make.ensures.counts.stray)
+
+pub returns-in-Err-clause-moves : goal.returns-in-Err-clause-moves
+returns-in-Err-clause-moves g c = (c.make.ensures.counts.later, c.make.ensures.counts.stray)
