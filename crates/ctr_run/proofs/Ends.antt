@@ -32,7 +32,7 @@ use Rattle.ctr_world.specs.Held.{Held}
 use Rattle.ctr_world.specs.Opened.{IsOpenedOn, IsRunLine}
 use Rattle.ctr_world.specs.World.{IsLegalTape, IsTapeOf, LeavesPrefix, StopsBy, IsUndamaged as GoesUndamaged}
 use Rattle.ctr_world.specs.Ended.{Ends, EndsInOrder, IsUnbegunWorld, PassesOpening, RefusesWith, RefusesWorld}
-use Rattle.ctr_run.specs.declared.ran.Ran.{Ran}
+use Rattle.ctr_run.specs.declared.ran.Left.{Left}
 use Rattle.ctr_run.specs.declared.ran.RunEnd.{RunEnd}
 use Rattle.ctr_run.specs.declared.ran.RunEnd.TheVariants.{Finished, Unopened, Stopped}
 use Rattle.ctr_run.specs.Lines.{IsAtRest, RanOrStopped}
@@ -67,37 +67,39 @@ module _ {D B : Type 0} (o : Opening B) (first : Image) (g : Ghosts D) (old : D)
       let moved = move (λ n ls. LeftSince g n disk (LeavesPrefixAt o.before (rows_of_state s) (final ls (point n ls s) es).state.asked es)) leaves in
       λ t c from le left. ⊎_elim (λ it. inl it) (λ was. inr (before c was.0, was.1)) (moved t c from le left)
 
-  module _ (r : Ran D) (stopped : Option Stop) (end : r.end ≡ end_by stopped) where
-    fine : r.end ≡ Finished → stopped ≡ None
-    fine is = not_stopped stopped (sym end ∙ is)
+  module _ (l : Left D) (end : RunEnd) (stopped : Option Stop) (ended : end ≡ end_by stopped) where
+    fine : end ≡ Finished → stopped ≡ None
+    fine is = not_stopped stopped (sym ended ∙ is)
 
     -- over a database
-    pub runs_over : (s : State) → Ends o g s r.tape.entries stopped r.undone r.disk → RunsOver g old s lines r
+    pub runs_over : (s : State) → Ends o g s l.tape.entries stopped l.undone l.disk → RunsOver g old s lines (end ≡ Finished) l
     runs_over s ends =
-        let es : List Entry = r.tape.entries in
+        let es : List Entry = l.tape.entries in
         record {
           legal = record {
             legal = move (λ n ls. Legal ls (point n ls s) es) ends.legal.legal;
-            later = move (λ n ls. (final ls (point n ls s) es).moment ≤ g.moment_of r.disk) ends.legal.later;
+            later = move (λ n ls. (final ls (point n ls s) es).moment ≤ g.moment_of l.disk) ends.legal.later;
           };
-          survives = left_moved s r.disk es ends.survives;
-          undamaged = subst TellsNoDamage (sym end) (no_damage stopped ends.undamaged);
+          survives = left_moved s l.disk es ends.survives;
           undone_most = ends.undone_most;
           complete = λ is. record {
             whole = move (λ n ls. IsWhole ls (final ls (point n ls s) es)) (ends.whole (fine is));
             no_stuck = move (λ n ls. (final ls (point n ls s) es).state.stuck ≡ []) (ends.no_stuck (fine is));
             undone = ends.undone_all (fine is);
-            durable = move (λ n ls. (c : Image) → g.since r.disk (g.moment_of r.disk) c → HasFirstCommits (rows_of_state s) (final ls (point n ls s) es).state.asked (answers es) c) (ends.durable (fine is));
+            durable = move (λ n ls. (c : Image) → g.since l.disk (g.moment_of l.disk) c → HasFirstCommits (rows_of_state s) (final ls (point n ls s) es).state.asked (answers es) c) (ends.durable (fine is));
           };
         }
 
+    pub tells_none : GoesUndamaged stopped → TellsNoDamage end
+    tells_none undamaged = subst TellsNoDamage (sym ended) (no_damage stopped undamaged)
+
     -- whatever the disk tells
-    pub runs_in_order : EndsInOrder o g r.tape.entries stopped r.disk → o.start ≤ g.moment_of r.disk → o.faults ≤ g.faults_of r.disk → RunsInOrder g old lines r
+    pub runs_in_order : EndsInOrder o g l.tape.entries stopped l.disk → o.start ≤ g.moment_of l.disk → o.faults ≤ g.faults_of l.disk → RunsInOrder g old lines (end ≡ Finished) l
     runs_in_order ends later faults = record {
-      tape = tape_moved (g.moment_of r.disk) r.tape.entries ends.tape;
-      whole = λ is. move (λ n ls. IsWhole ls (final ls (at_start n [] []) r.tape.entries)) (ends.whole (fine is));
-      later = subst (λ n. n ≤ g.moment_of r.disk) named.start later;
-      faults = subst (λ n. n ≤ g.faults_of r.disk) named.faults faults;
+      tape = tape_moved (g.moment_of l.disk) l.tape.entries ends.tape;
+      whole = λ is. move (λ n ls. IsWhole ls (final ls (at_start n [] []) l.tape.entries)) (ends.whole (fine is));
+      later = subst (λ n. n ≤ g.moment_of l.disk) named.start later;
+      faults = subst (λ n. n ≤ g.faults_of l.disk) named.faults faults;
     }
 
     stops_for : (s : Stop) → stopped ≡ Some s → (IsTrue g.tells → (st : State) → StandsForDatabase first st → GoesUndamaged stopped) → ((lsn : ℕ) → stopped ≡ Some (stop.Worn lsn) → 2 ^ 63 - 1 ≤ lsn) → StopsFor g old s
@@ -105,65 +107,66 @@ module _ {D B : Type 0} (o : Opening B) (first : Image) (g : Ghosts D) (old : D)
     stops_for (stop.Damaged d) is undamaged worn = λ told st stands. subst GoesUndamaged is (undamaged told st (subst (λ (i : Image). StandsForDatabase i st) (sym named.image) stands))
     stops_for (stop.Worn lsn) is undamaged worn = worn lsn is
 
-    pub ends_for : StopsBy stopped o.faults (g.faults_of r.disk) → (IsTrue g.tells → PassesOpening first) → (IsTrue g.tells → (st : State) → StandsForDatabase first st → GoesUndamaged stopped)
-        → ((lsn : ℕ) → stopped ≡ Some (stop.Worn lsn) → 2 ^ 63 - 1 ≤ lsn) → EndsFor g old r.disk r.end
-    ends_for stops passes undamaged worn = subst (EndsFor g old r.disk) (sym end) (by stopped refl (subst (λ n. StopsBy stopped n (g.faults_of r.disk)) named.faults stops))
+    pub ends_for : StopsBy stopped o.faults (g.faults_of l.disk) → (IsTrue g.tells → PassesOpening first) → (IsTrue g.tells → (st : State) → StandsForDatabase first st → GoesUndamaged stopped)
+        → ((lsn : ℕ) → stopped ≡ Some (stop.Worn lsn) → 2 ^ 63 - 1 ≤ lsn) → EndsFor g old l.disk end
+    ends_for stops passes undamaged worn = subst (EndsFor g old l.disk) (sym ended) (by stopped refl (subst (λ n. StopsBy stopped n (g.faults_of l.disk)) named.faults stops))
       where
         passes_old : IsTrue g.tells → PassesOpening (g.reads old)
         passes_old told = subst PassesOpening named.image (passes told)
 
-        by : (s : Option Stop) → stopped ≡ s → StopsBy stopped (g.faults_of old) (g.faults_of r.disk) → EndsFor g old r.disk (end_by s)
-        by None is stops = (subst (λ (q : Option Stop). StopsBy q (g.faults_of old) (g.faults_of r.disk)) is stops, passes_old)
-        by (Some s) is stops = (subst (λ (q : Option Stop). StopsBy q (g.faults_of old) (g.faults_of r.disk)) is stops, passes_old, stops_for s is undamaged worn)
+        by : (s : Option Stop) → stopped ≡ s → StopsBy stopped (g.faults_of old) (g.faults_of l.disk) → EndsFor g old l.disk (end_by s)
+        by None is stops = (subst (λ (q : Option Stop). StopsBy q (g.faults_of old) (g.faults_of l.disk)) is stops, passes_old)
+        by (Some s) is stops = (subst (λ (q : Option Stop). StopsBy q (g.faults_of old) (g.faults_of l.disk)) is stops, passes_old, stops_for s is undamaged worn)
 
 -- ---- nothing was run
 
-module _ {D : Type 0} (g : Ghosts D) (old : D) (lines : List Line) (r : Ran D) (error : OpenError) (end : r.end ≡ Unopened error) (tape : r.tape.entries ≡ []) (undone : r.undone ≡ 0) where
-  not_finished : r.end ≢ Finished
-  not_finished is = absurd (cc (sym end ∙ is))
-
-  pub none_over : (s : State) → g.moment_of old ≤ g.moment_of r.disk → LeavesPrefix (opened_on g old lines) g s r.disk [] → IsUndamaged error → RunsOver g old s lines r
-  none_over s later leaves undamaged = record {
-    legal = subst (IsLegalTape (opened_on g old lines) s (g.moment_of r.disk)) (sym tape) (record { legal = tt; later = later });
-    survives = subst (LeavesPrefix (opened_on g old lines) g s r.disk) (sym tape) leaves;
-    undamaged = subst TellsNoDamage (sym end) undamaged;
+module _ {D : Type 0} (g : Ghosts D) (old : D) (lines : List Line) (l : Left D) (done : Type 0) (unfinished : done → ⊥) (tape : l.tape.entries ≡ []) (undone : l.undone ≡ 0) where
+  pub none_over : (s : State) → g.moment_of old ≤ g.moment_of l.disk → LeavesPrefix (opened_on g old lines) g s l.disk [] → RunsOver g old s lines done l
+  none_over s later leaves = record {
+    legal = subst (IsLegalTape (opened_on g old lines) s (g.moment_of l.disk)) (sym tape) (record { legal = tt; later = later });
+    survives = subst (LeavesPrefix (opened_on g old lines) g s l.disk) (sym tape) leaves;
     undone_most = let none = undone in omega (arith, none);
-    complete = λ is. absurd (not_finished is);
+    complete = λ is. absurd (unfinished is);
   }
 
-  pub none_in_order : g.moment_of old ≤ g.moment_of r.disk → g.faults_of old ≤ g.faults_of r.disk → RunsInOrder g old lines r
+  pub none_in_order : g.moment_of old ≤ g.moment_of l.disk → g.faults_of old ≤ g.faults_of l.disk → RunsInOrder g old lines done l
   none_in_order later faults = record {
-    tape = subst (IsTapeOf (opened_on g old lines) (g.moment_of r.disk)) (sym tape) (record { order = tt; later = later });
-    whole = λ is. absurd (not_finished is);
+    tape = subst (IsTapeOf (opened_on g old lines) (g.moment_of l.disk)) (sym tape) (record { order = tt; later = later });
+    whole = λ is. absurd (unfinished is);
     later = later;
     faults = faults;
   }
 
-  pub none_for : RefusesWith g old error r.disk → (IsTrue g.tells → RefusesWorld (g.reads old) error) → EndsFor g old r.disk r.end
-  none_for with_ refuses = subst (EndsFor g old r.disk) (sym end) (with_, refuses)
-
 at_once : (n : ℕ) → n ≤ n
 at_once n = omega arith
 
--- the disk wasn't touched: memory was refused before
+-- the disk wasn't touched
 module _ {D : Type 0} (g : Ghosts D) (earlier : (d : D) (s t : ℕ) (c : Image) → s ≤ t → g.since d t c → g.since d s c) (only_now : (d : D) (c : Image) → g.since d (g.moment_of d) c → g.images d c)
-    (old : D) (lines : List Line) (r : Ran D) (end : r.end ≡ Unopened open_error.OutOfMemory) (tape : r.tape.entries ≡ []) (undone : r.undone ≡ 0) (disk : r.disk ≡ old) where
-  later_same : g.moment_of old ≤ g.moment_of r.disk
+    (old : D) (lines : List Line) (l : Left D) (done : Type 0) (unfinished : done → ⊥) (tape : l.tape.entries ≡ []) (undone : l.undone ≡ 0) (disk : l.disk ≡ old) where
+  later_same : g.moment_of old ≤ g.moment_of l.disk
   later_same = subst (λ d. g.moment_of old ≤ g.moment_of d) (sym disk) (at_once (g.moment_of old))
 
-  faults_same : g.faults_of old ≤ g.faults_of r.disk
+  faults_same : g.faults_of old ≤ g.faults_of l.disk
   faults_same = subst (λ d. g.faults_of old ≤ g.faults_of d) (sym disk) (at_once (g.faults_of old))
 
-  pub untouched_over : (s : State) → RunsOver g old s lines r
-  untouched_over s = none_over g old lines r open_error.OutOfMemory end tape undone s later_same
-      (subst (λ d. LeavesPrefix (opened_on g old lines) g s d []) (sym disk) (λ t c from le left. inr (only_now old c (earlier old (g.moment_of old) t c from left), tt))) tt
+  pub untouched_over : (s : State) → RunsOver g old s lines done l
+  untouched_over s = none_over g old lines l done unfinished tape undone s later_same
+      (subst (λ d. LeavesPrefix (opened_on g old lines) g s d []) (sym disk) (λ t c from le left. inr (only_now old c (earlier old (g.moment_of old) t c from left), tt)))
 
-  pub untouched_in_order : RunsInOrder g old lines r
-  untouched_in_order = none_in_order g old lines r open_error.OutOfMemory end tape undone later_same faults_same
+  pub untouched_in_order : RunsInOrder g old lines done l
+  untouched_in_order = none_in_order g old lines l done unfinished tape undone later_same faults_same
 
-  pub untouched_for : EndsFor g old r.disk r.end
-  untouched_for = none_for g old lines r open_error.OutOfMemory end tape undone
-      (record { later = later_same; faults_later = faults_same; fault = λ is. absurd (cc is); no_fault = λ isnt. ap (λ d. g.faults_of d) disk }) (λ told. tt)
+  pub untouched_for : EndsFor g old l.disk (Unopened open_error.OutOfMemory)
+  untouched_for = (record { later = later_same; faults_later = faults_same; fault = λ is. absurd (cc is); no_fault = λ isnt. ap (λ d. g.faults_of d) disk }, λ told. tt)
+
+-- the end of a World isn't that of one that wasn't opened
+pub not_unopened : {A : Type 0} (end : RunEnd) (stopped : Option Stop) → end ≡ end_by stopped → (error : OpenError) → end ≡ Unopened error → A
+not_unopened end None ended error is = absurd (cc (sym is ∙ ended))
+not_unopened end (Some s) ended error is = absurd (cc (sym is ∙ ended))
+
+-- a run that wasn't opened isn't finished
+pub not_finished : (end : RunEnd) (error : OpenError) → end ≡ Unopened error → end ≢ Finished
+not_finished end error is fine = absurd (cc (sym is ∙ fine))
 
 -- ---- where nothing fails
 

@@ -1,4 +1,4 @@
 mod Order
 mod Turning
 mod Between
-mod Ends
+pub mod Ends

@@ -16,11 +16,11 @@ use Rattle.ctr_store.specs.Opening.{IsUndamaged}
 use Rattle.ctr_world.specs.declared.opening.Opening.{Ghosts as Opening}
 use Rattle.ctr_world.specs.World.{start_in, led_to, IsLegalTape, IsTapeOf, LeavesPrefix, StopsBy, IsUndamaged as GoesUndamaged}
 use Rattle.ctr_world.specs.Ended.{PassesOpening, RefusesWith, RefusesWorld, StandsForNone}
-use Rattle.ctr_run.specs.declared.ran.Ran.{Ran}
+use Rattle.ctr_run.specs.declared.ran.Left.{Left}
 use Rattle.ctr_run.specs.declared.ran.RunEnd.{RunEnd}
 use Rattle.ctr_run.specs.declared.ran.RunEnd.TheVariants.{Finished, Unopened, Stopped}
 
--- the end of a run whose World has, by why it stopped
+-- how a run ended, by why its World stopped
 abbrev pub end_by : Option Stop → RunEnd
 end_by None = Finished
 end_by (Some s) = Stopped s
@@ -38,14 +38,14 @@ opened_on g disk lines = record {
 
 -- Every statement is finished, recovery holds no name, undo took a turn for each item and open
 -- transaction of the start, and a crash at the end leaves every commit.
-pub record IsComplete {D : Type 0} (g : Ghosts D) (old : D) (s : State) (lines : List Line) (r : Ran D)
-    : Type 0 where
-  pub whole : IsWhole lines (led_to (opened_on g old lines) s r.tape.entries)
-  pub no_stuck : (led_to (opened_on g old lines) s r.tape.entries).state.stuck ≡ []
-  pub undone : r.undone ≡ undo_size s.tables
-  pub durable : (c : Image) → g.since r.disk (g.moment_of r.disk) c
+pub record IsComplete {D : Type 0} (g : Ghosts D) (old : D) (s : State) (lines : List Line)
+    (l : Left D) : Type 0 where
+  pub whole : IsWhole lines (led_to (opened_on g old lines) s l.tape.entries)
+  pub no_stuck : (led_to (opened_on g old lines) s l.tape.entries).state.stuck ≡ []
+  pub undone : l.undone ≡ undo_size s.tables
+  pub durable : (c : Image) → g.since l.disk (g.moment_of l.disk) c
       → HasFirstCommits (start_in (opened_on g old lines) s).base
-      (led_to (opened_on g old lines) s r.tape.entries).state.asked (answers r.tape.entries) c
+      (led_to (opened_on g old lines) s l.tape.entries).state.asked (answers l.tape.entries) c
 
 -- the end tells no damage
 abbrev pub TellsNoDamage : RunEnd → Type 0
@@ -54,29 +54,28 @@ TellsNoDamage (Unopened e) = IsUndamaged e
 TellsNoDamage (Stopped s) = GoesUndamaged (Some s)
 
 -- The tape is legal, and its moments lie in the run. However it ends, a crash at each moment leaves a
--- prefix of the commit order with every commit answered by then. No damage is told, and undo took no
--- more turns than there was. What is finished is complete.
-pub record RunsOver {D : Type 0} (g : Ghosts D) (old : D) (s : State) (lines : List Line) (r : Ran D)
-    : Type 0 where
-  pub legal : IsLegalTape (opened_on g old lines) s (g.moment_of r.disk) r.tape.entries
-  pub survives : LeavesPrefix (opened_on g old lines) g s r.disk r.tape.entries
-  pub undamaged : TellsNoDamage r.end
-  pub undone_most : r.undone ≤ undo_size s.tables
-  pub complete : r.end ≡ Finished → IsComplete g old s lines r
+-- prefix of the commit order with every commit answered by then, or, before the first entry, what it
+-- might have left as the run began. Undo took no more turns than the start had items and open
+-- transactions. A run that is done is complete.
+pub record RunsOver {D : Type 0} (g : Ghosts D) (old : D) (s : State) (lines : List Line)
+    (done : Type 0) (l : Left D) : Type 0 where
+  pub legal : IsLegalTape (opened_on g old lines) s (g.moment_of l.disk) l.tape.entries
+  pub survives : LeavesPrefix (opened_on g old lines) g s l.disk l.tape.entries
+  pub undone_most : l.undone ≤ undo_size s.tables
+  pub complete : done → IsComplete g old s lines l
 
 -- ---- whatever the disk tells
 
--- The tape stands in the order of the script, and its moments lie in the run; where the run is
--- finished, the tape is whole.
-pub record RunsInOrder {D : Type 0} (g : Ghosts D) (old : D) (lines : List Line) (r : Ran D) : Type 0
-  where
-    pub tape : IsTapeOf (opened_on g old lines) (g.moment_of r.disk) r.tape.entries
-    pub whole : r.end ≡ Finished
-        → IsWhole lines (final lines (at_start (g.moment_of old) [] []) r.tape.entries)
-    pub later : g.moment_of old ≤ g.moment_of r.disk
-    pub faults : g.faults_of old ≤ g.faults_of r.disk
+-- The tape stands in the order of the script, and its moments lie in the run, in which neither time nor
+-- the count of faults goes back; where the run is done, the tape is whole.
+pub record RunsInOrder {D : Type 0} (g : Ghosts D) (old : D) (lines : List Line) (done : Type 0)
+    (l : Left D) : Type 0 where
+  pub tape : IsTapeOf (opened_on g old lines) (g.moment_of l.disk) l.tape.entries
+  pub whole : done → IsWhole lines (final lines (at_start (g.moment_of old) [] []) l.tape.entries)
+  pub later : g.moment_of old ≤ g.moment_of l.disk
+  pub faults : g.faults_of old ≤ g.faults_of l.disk
 
--- what each stop says of the disk
+-- what each stop says of the disk, and of its number
 abbrev pub StopsFor : {D : Type 0} → Ghosts D → D → Stop → Type 0
 StopsFor g old stop.Fault = Unit {0}
 StopsFor g old (stop.Damaged d) = IsTrue g.tells → StandsForNone (g.reads old)
@@ -92,7 +91,7 @@ EndsFor g old new (Stopped s) = StopsBy (Some s) (g.faults_of old) (g.faults_of 
     × (IsTrue g.tells → PassesOpening (g.reads old)) × StopsFor g old s
 
 -- Over a database a run is finished, unless the disk counts a fault, memory was refused before it was
--- opened, a number of the start is worn, or its records came to the last number.
+-- opened, a number of the start is worn, or it tells the last number of a record.
 abbrev pub EndsAsAsked : {D : Type 0} → Ghosts D → D → D → RunEnd → Type 0
 EndsAsAsked g old new Finished = Unit {0}
 EndsAsAsked g old new (Unopened open_error.NoDatabase) = ⊥

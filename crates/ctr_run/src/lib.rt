@@ -6,5 +6,5 @@ mod ran;
 mod running;
 
 pub use lines::Schedule;
-pub use ran::{Ran, RunEnd};
+pub use ran::{Left, Ran, RunEnd};
 pub use running::run;

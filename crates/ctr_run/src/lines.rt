@@ -18,7 +18,7 @@ pub enum Schedule<'a> {
     /// The statements stand in the order of the script's lines, each one's acts together; behind each come a turn of undo, of the flusher and of
     /// the cleaner.
     Serial,
-    /// A turn of each of these actors; then the sessions, in order of number, go to the end of their statements.
+    /// A turn of each of these actors; then the sessions, in order of number, go to the end of their statements, and undo to its own.
     Turns(&'a [Actor]),
 }
 

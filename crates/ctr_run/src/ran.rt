@@ -21,8 +21,7 @@ pub enum RunEnd {
 
 /// What a run leaves.
 #[derive(Drop)]
-pub struct Ran<D> {
-    pub end: RunEnd,
+pub struct Left<D> {
     /// Every act with its reply.
     pub tape: Tape,
     /// How many turns recovery's undo took.
@@ -31,16 +30,14 @@ pub struct Ran<D> {
     pub disk: D,
 }
 
-impl<D> Ran<D> {
-    /// Nothing was run.
-    pub(crate) fn none(alloc: Global, error: OpenError, disk: D) -> Ran<D>
-        ensures end { result.end ≡ Unopened error }
+impl<D> Left<D> {
+    /// What is left where nothing is run: no entry, and the disk.
+    pub fn none(alloc: Global, disk: D) -> Left<D>
         ensures tape { result.tape.entries ≡ [] }
         ensures undone { result.undone ≡ 0 }
         ensures disk { result.disk ≡ disk }
     {
-        Ran {
-            end: RunEnd::Unopened(error),
+        Left {
             tape: Tape {
                 entries: List::new(alloc),
             },
@@ -50,7 +47,29 @@ impl<D> Ran<D> {
     }
 }
 
-/// How a run ended whose World has, by why it stopped.
+/// How a run ended, and what it leaves.
+#[derive(Drop)]
+pub struct Ran<D> {
+    pub end: RunEnd,
+    pub left: Left<D>,
+}
+
+impl<D> Ran<D> {
+    /// Nothing was run.
+    pub(crate) fn none(alloc: Global, error: OpenError, disk: D) -> Ran<D>
+        ensures end { result.end ≡ Unopened error }
+        ensures tape { result.left.tape.entries ≡ [] }
+        ensures undone { result.left.undone ≡ 0 }
+        ensures disk { result.left.disk ≡ disk }
+    {
+        Ran {
+            end: RunEnd::Unopened(error),
+            left: Left::none(alloc, disk),
+        }
+    }
+}
+
+/// How a run ended, by why its World stopped.
 pub(crate) fn ended(stop: Option<Stop>) -> RunEnd
     ensures { result ≡ end_by stop }
 {

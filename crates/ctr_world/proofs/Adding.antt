@@ -1,5 +1,5 @@
 -- Entries that turns add, one behind another.
-use Rattle.std.proofs.Common.{◌≡◌, ℕ, List, [], ◌∷◌, ◌++◌, append_assoc, refl, sym, ◌∙◌, ap, subst}
+use Rattle.std.proofs.Common.{◌≡◌, ◌≢◌, ℕ, List, [], ◌∷◌, ◌++◌, append_assoc, refl, sym, ◌∙◌, ap, subst}
 use Rattle.std.specs.List.{AllByRecursion}
 use Rattle.std.proofs.lemmas.List.{append-nil}
 use Rattle.ctr_types.specs.declared.tape.Actor.{Actor}
@@ -10,7 +10,7 @@ use Rattle.ctr_disk.specs.declared.disk.Disk.{Ghosts}
 use Rattle.ctr_store.specs.Store.{View}
 use Rattle.ctr_exec.specs.declared.sessions.Sessions.{Sessions}
 use Rattle.ctr_world.specs.Held.{Held, Running}
-use Rattle.ctr_world.specs.Turns.{AddsEntries, EndsTurn, GrowsTape}
+use Rattle.ctr_world.specs.Turns.{AddsEntries, EndsTurn, GoesByTurns}
 
 all_append : (P : Entry → Type 0) (xs ys : List Entry) → AllByRecursion P xs → AllByRecursion P ys → AllByRecursion P (xs ++ ys)
 all_append P [] ys first then = then
@@ -47,6 +47,11 @@ adds_answers g Q old mid new same still then = record {
 
 -- ---- a tape that grows, or stays
 
+-- entries more behind those that are there, or none
+abbrev pub GrowsTape : {D : Type 0} → Running D → Running D → Type 0
+GrowsTape old new =
+    (more : List Entry) × (new.sessions.tape.items ≡ old.sessions.tape.items ++ more)
+
 module _ {D : Type 0} where
   pub adds_still : (a b : Running D) → b.sessions.tape.items ≡ a.sessions.tape.items → GrowsTape a b
   adds_still a b same = ([], same ∙ sym (append-nil a.sessions.tape.items))
@@ -54,10 +59,15 @@ module _ {D : Type 0} where
   pub adds_on : (a b c : Running D) → GrowsTape a b → GrowsTape b c → GrowsTape a c
   adds_on a b c one two = (one.0 ++ two.0, two.1 ∙ ap (λ (es : List Entry). es ++ two.0) one.1 ∙ append_assoc a.sessions.tape.items one.0 two.0)
 
-  -- a turn adds entries behind those that are there, however it ends
-  pub turn_adds : (g : Ghosts D) (t : Turn) (a : Actor) (w v : Held D) → EndsTurn g t a w v → GrowsTape w.running v.running
-  turn_adds g turn.Went a w v says = (says.2.entries, says.2.tape)
-  turn_adds g turn.Idle a w v says = adds_still w.running v.running (ap (λ (h : Sessions). h.tape.items) says.3.sessions)
-  turn_adds g turn.Short a w v says = absurd says
-  turn_adds g turn.Over a w v says = adds_still w.running v.running (ap (λ (x : Held D). x.running.sessions.tape.items) says.2)
-  turn_adds g turn.Stopped a w v says = adds_still w.running v.running says.1
+  -- a turn that doesn't go adds none
+  pub turn_adds_none : (g : Ghosts D) (t : Turn) (a : Actor) (w v : Held D) → EndsTurn g t a w v → t ≢ turn.Went → v.running.sessions.tape.items ≡ w.running.sessions.tape.items
+  turn_adds_none g turn.Went a w v says other = absurd (other refl)
+  turn_adds_none g turn.Idle a w v says other = ap (λ (h : Sessions). h.tape.items) says.3.sessions
+  turn_adds_none g turn.Short a w v says other = absurd says
+  turn_adds_none g turn.Over a w v says other = ap (λ (x : Held D). x.running.sessions.tape.items) says.2
+  turn_adds_none g turn.Stopped a w v says other = says.1
+
+  -- turns one after another add entries behind those that are there
+  pub turns_add : (g : Ghosts D) (between : List (Held D)) (w v : Held D) → GoesByTurns g between w v → GrowsTape w.running v.running
+  turns_add g [] w v same = adds_still w.running v.running (ap (λ (x : Held D). x.running.sessions.tape.items) same)
+  turns_add g (last ∷ before) w v goes = adds_on w.running last.running v.running (turns_add g before w last goes.0) (goes.1.ends.2.entries, goes.1.ends.2.tape)

@@ -25,7 +25,8 @@ use Rattle.ctr_world.specs.World.{start_in, led_to, IsLegalTape, IsTapeOf, IsUnd
 
 -- Of a database that the first image stands for, in a state: the tape is legal, no damage was told,
 -- undo took no more turns than there was, and, also where a fault stopped the World, a crash at each
--- moment leaves a prefix of the commit order with every commit answered by then. Where nothing stopped
+-- moment leaves a prefix of the commit order with every commit answered by then, or, before the first
+-- entry, what it might have left at the start. Where nothing stopped
 -- it, the tape is whole, recovery holds no name, undo took a turn for each item and transaction of the
 -- start, and a crash at the end leaves all commits.
 pub record Ends {D B : Type 0} (o : Opening B) (g : Ghosts D) (s : State) (es : List Entry)
@@ -62,8 +63,8 @@ pub record RefusesWith {D : Type 0} (g : Ghosts D) (old : D) (error : OpenError)
   pub fault : error ≡ Fault → CountsFault (g.faults_of old) (g.faults_of new)
   pub no_fault : error ≢ Fault → g.faults_of new ≡ g.faults_of old
 
--- An image can be opened: its root is open, all checks of its log and of the pages that the log's
--- records are on pass, and no number is worn.
+-- An image passes the checks that come first: its root is open, all checks of its log and of the pages
+-- that the log's records are on pass, and no number is worn. A database that passes them is opened.
 pub record PassesOpening (image : Image) : Type 0 where
   pub root : Root
   pub stands : FindsRoot image (Some root)
@@ -76,8 +77,8 @@ abbrev pub StandsForNone : Image → Type 0
 StandsForNone image = (s : State) → StandsForDatabase image s → ⊥
 
 -- Why a World isn't opened, by its image: there is no database; the first check of the root, the log
--- and the pages that its records are on fails so, or all of them pass, and of a page that was read
--- behind them one fails, which no database's does; or a number is worn.
+-- and the pages that its records are on fails so, or all of them pass and it stands for no database; or
+-- a number is worn.
 abbrev pub RefusesWorld : Image → OpenError → Type 0
 RefusesWorld image NoDatabase = RefusesAs image NoDatabase
 RefusesWorld image (Damaged d) =

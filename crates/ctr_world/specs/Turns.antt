@@ -37,11 +37,6 @@ pub record AddsEntries {D : Type 0} (such : List Entry → Type 0) (moment : ℕ
   pub moments : AllByRecursion (λ (e : Entry). e.moment ≡ moment) entries
   pub script : new.sessions.script ≡ old.sessions.script
 
--- entries more behind those that are there, or none
-abbrev pub GrowsTape : {D : Type 0} → Running D → Running D → Type 0
-GrowsTape old new =
-    (more : List Entry) × (new.sessions.tape.items ≡ old.sessions.tape.items ++ more)
-
 -- one at most, by which recovery releases a name
 abbrev pub AreReleases : List Entry → Type 0
 AreReleases es = (length es ≤ 1) × AllByRecursion IsReleaseEntry es
@@ -102,7 +97,8 @@ AreAnswered w = w.store.waiting ≡ []
     → w.sessions.txns.answered ≡ length w.sessions.txns.numbers.commits
 
 -- What a turn of the flusher did: where the log wasn't durable it is, and all that asked for their
--- commit are answered; else the page that is changed the longest went home.
+-- commit are answered; else the page whose oldest change
+-- waits the longest went home.
 pub record WritesBehind {D : Type 0} (old new : Running D) : Type 0 where
   pub hardens : (old.store.waiting ≡ [] → ⊥) → (new.store.waiting ≡ []) × AreAnswered new
   pub home : old.store.waiting ≡ [] → (old.store.dirty ≡ true) × WritesHome old.store new.store true
@@ -138,8 +134,8 @@ pub record IsOver {D : Type 0} (w : Held D) : Type 0 where
   pub sessions : (s : ℕ) → HasStatementLeft s w.running.sessions → ⊥
   pub undo : NoneIsLeft w.running.undo
 
--- nothing is due for the flusher, where the log is durable and no page is changed; nor ever for the
--- cleaner, which there isn't yet
+-- nothing is due for the flusher, where the log is durable and no page is changed; there is no cleaner
+-- yet, so nothing is ever due for it
 abbrev pub NoneDue : {D : Type 0} → Actor → Running D → Type 0
 NoneDue (actor.Session s) w = ⊥
 NoneDue actor.Undo w = ⊥
@@ -166,6 +162,34 @@ EndsTurn g turn.Stopped a old new = (new.stop ≢ None)
     × (new.running.sessions.tape.items ≡ old.running.sessions.tape.items)
     × (new.running.sessions.script ≡ old.running.sessions.script)
     × (old.stop ≢ None → new ≡ old)
+
+-- ---- a World that is finished
+
+-- whose turn comes next there: the first session's that has a statement left, or undo's
+abbrev pub IsFirstLeft : {D : Type 0} → Actor → Running D → Type 0
+IsFirstLeft (actor.Session s) w = HasStatementLeft s w.sessions
+    × ((q : ℕ) → q < s → HasStatementLeft q w.sessions → ⊥)
+IsFirstLeft actor.Undo w = (q : ℕ) → HasStatementLeft q w.sessions → ⊥
+IsFirstLeft actor.Flusher w = ⊥
+IsFirstLeft actor.Cleaner w = ⊥
+
+-- a turn of whose it is leads from one World to another
+pub record TakesFirst {D : Type 0} (g : Ghosts D) (old new : Held D) : Type 0 where
+  pub by : Actor
+  pub first : IsFirstLeft by old.running
+  pub ends : EndsTurn g turn.Went by old new
+
+-- such turns, one after another; given are the Worlds between, the latest first
+abbrev pub GoesByTurns : {D : Type 0} → Ghosts D → List (Held D) → Held D → Held D → Type 0
+GoesByTurns g [] old new = new ≡ old
+GoesByTurns g (last ∷ before) old new = GoesByTurns g before old last × TakesFirst g last new
+
+-- The tape is that of a World which such turns lead to.
+pub record FinishesBy {D : Type 0} (g : Ghosts D) (old : Held D) (tape : List Entry) : Type 0 where
+  pub between : List (Held D)
+  pub last : Held D
+  pub turns : GoesByTurns g between old last
+  pub tape_is : tape ≡ last.running.sessions.tape.items
 
 -- How a turn of the flusher ends: it is idle where nothing was due.
 abbrev pub FlusherEnds : {D : Type 0} → Running D → Running D → Turn → Type 0

@@ -77,7 +77,7 @@ pub record IsLegalTape {B : Type 0} (o : Opening B) (s : State) (now : ℕ) (es 
     pub legal : Legal o.lines (start_point (start_in o s)) es
     pub later : (final o.lines (start_point (start_in o s)) es).moment ≤ now
 
--- the stop is a fault of the disk, or a number that is worn
+-- nothing has stopped the World, or a fault of the disk, or a number that is worn
 abbrev pub IsUndamaged : Option Stop → Type 0
 IsUndamaged None = Unit {0}
 IsUndamaged (Some stop.Fault) = Unit {0}
@@ -94,7 +94,7 @@ abbrev pub led_to : {B : Type 0} → Opening B → State → List Entry → Poin
 led_to o s es = final o.lines (start_point (start_in o s)) es
 
 -- A crash at any moment from the start to now leaves a prefix of the commit order with every commit
--- that was answered by then.
+-- that was answered by then, or, before the first entry, what it might have left at the start.
 abbrev pub LeavesPrefix : {D B : Type 0} → Opening B → Ghosts D → State → D → List Entry → Type 0
 LeavesPrefix o g s disk es =
     LeftSince g o.start disk (LeavesPrefixAt o.before (start_in o s).base (led_to o s es).state.asked es)

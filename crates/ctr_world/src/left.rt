@@ -1,5 +1,5 @@
 // Which sessions have statements left.
-ghost use Rattle.std.specs.Prelude.{◌≡◌, ◌≤◌, ℕ, length, true, false, None, IfSome};
+ghost use Rattle.std.specs.Prelude.{◌≡◌, ◌≤◌, ◌<◌, ℕ, length, true, false, None, IfSome};
 ghost use Rattle.ctr_world.specs.Turns.{HasStatementLeft};
 
 use ctr_exec::Sessions;
@@ -21,6 +21,7 @@ pub(crate) fn first_left(sessions: &Sessions, s: u8) -> Option<u8>
     requires eight { length sessions.now.runners.items ≡ 8 }
     requires small { s ≤ 9 }
     ensures left { IfSome result (λ q. HasStatementLeft q sessions.now) }
+    ensures first { IfSome result (λ q. (p : ℕ) → s ≤ p → p < q → HasStatementLeft p sessions.now → ⊥) }
     ensures none { result ≡ None → (q : ℕ) → s ≤ q → HasStatementLeft q sessions.now → ⊥ }
 {
     if s > 8 {

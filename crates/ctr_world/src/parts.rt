@@ -5,7 +5,7 @@ ghost use Rattle.ctr_types.specs.declared.tape.Turn.TheVariants.{Went, Stopped};
 ghost use Rattle.ctr_exec.specs.Sessions.{turns_left};
 ghost use Rattle.ctr_world.specs.Held.{held};
 ghost use Rattle.ctr_world.specs.World.{Kept, stop_by};
-ghost use Rattle.ctr_world.specs.Turns.{EndsTurn, GrowsTape, HasStatementLeft, IsOver};
+ghost use Rattle.ctr_world.specs.Turns.{EndsTurn, FinishesBy, HasStatementLeft, IsOver, TakesFirst};
 
 use crate::engine::Engine;
 use crate::left::{first_left, has_left};
@@ -160,7 +160,8 @@ impl<D: Disk, B: Origin + Opening> Parts<D, B> {
         ensures kept { Kept B.Opening B.first D.Disk (held self.new) }
         ensures fewer { result ≡ Went → turns_left self.new.engine.sessions self.new.engine.store < turns_left self.old.engine.sessions self.old.engine.store }
         ensures over { result ≢ Went → self.new.stop ≡ None → IsOver (held self.new) }
-        ensures adds { GrowsTape (held self.old).running (held self.new).running }
+        ensures turn { result ≡ Went → TakesFirst D.Disk (held self.old) (held self.new) }
+        ensures still { result ≢ Went → (held self.new).running.sessions.tape.items ≡ (held self.old).running.sessions.tape.items }
         ensures stopped { self.old.stop ≢ None → (result ≢ Went) × (self.new ≡ self.old) }
     {
         if self.stop.is_some() {
@@ -177,7 +178,7 @@ impl<D: Disk, B: Origin + Opening> Parts<D, B> {
         requires kept { Kept B.Opening B.first D.Disk (held self.old) }
         ensures kept { Kept B.Opening B.first D.Disk (held self.new) }
         ensures over { self.new.stop ≡ None → IsOver (held self.new) }
-        ensures adds { GrowsTape (held self.old).running (held self.new).running }
+        ensures turns { FinishesBy D.Disk (held self.old) (held self.new).running.sessions.tape.items }
         ensures stopped { self.old.stop ≢ None → self.new ≡ self.old }
     {
         while let Turn::Went = self.step_next(alloc) {}
@@ -210,7 +211,7 @@ impl<D: Disk, B: Origin + Opening> Parts<D, B> {
         requires kept { Kept B.Opening B.first D.Disk (held self.old) }
         ensures kept { Kept B.Opening B.first D.Disk (held self.new) }
         ensures over { self.new.stop ≡ None → IsOver (held self.new) × (self.new.engine.store.waiting ≡ []) }
-        ensures adds { GrowsTape (held self.old).running (held self.new).running }
+        ensures turns { FinishesBy D.Disk (held self.old) (held self.new).running.sessions.tape.items }
         ensures stopped { self.old.stop ≢ None → self.new ≡ self.old }
     {
         self.run(alloc);

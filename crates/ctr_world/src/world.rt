@@ -12,7 +12,7 @@ ghost use Rattle.ctr_exec.specs.Order.{IsOrdered};
 ghost use Rattle.ctr_exec.specs.Runners.{AreRunners, runner_at};
 ghost use Rattle.ctr_world.specs.Opened.{IsOpenedOn, CanRun};
 ghost use Rattle.ctr_world.specs.World.{IsTapeOf, LeavesPrefix, StopsBy};
-ghost use Rattle.ctr_world.specs.Turns.{HasStatementLeft, EndsTurn};
+ghost use Rattle.ctr_world.specs.Turns.{HasStatementLeft, EndsTurn, FinishesBy};
 ghost use Rattle.ctr_world.specs.Ended.{Ends, EndsInOrder, IsUnbegunWorld, PassesOpening, RefusesWith, RefusesWorld};
 
 use crate::beginning::begin;
@@ -172,6 +172,8 @@ impl<D: Disk, B: Origin + Opening> World<D, B> {
         ensures order { EndsInOrder B.Opening D.Disk result.tape.entries result.stop result.disk }
         ensures stopped { self.stop ≢ None → (result.tape.entries ≡ self.running.sessions.tape.items) × (result.stop ≡ self.stop)
             × (result.undone ≡ self.running.size - left_in self.running.undo) × (result.disk ≡ self.running.store.disk) }
+        // It goes by turns, each of the first session that has a statement left, or of undo where none has; each adds its entries at its own end.
+        ensures turns { FinishesBy D.Disk self result.tape.entries }
         // Entries come behind those that are there.
         ensures adds { (more : List HeldEntry) × (result.tape.entries ≡ self.running.sessions.tape.items ++ more) }
         ensures later { B.start ≤ D.moment_of result.disk }

@@ -9,4 +9,4 @@ pub run_opened-requires-clause-before : goal.run_opened-requires-clause-before
 run_opened-requires-clause-before g c = λ i is. is
 
 pub returns-clause-complete : goal.returns-clause-complete
-returns-clause-complete g c = λ s told stands. as_asked g.D.Disk c.args.disk c.run_opened.result.disk s c.run_opened.result.end told stands (c.run_opened.ensures.ran s told stands).undamaged c.run_opened.ensures.ends
+returns-clause-complete g c = λ s told stands. as_asked g.D.Disk c.args.disk c.run_opened.result.left.disk s c.run_opened.result.end told stands (c.run_opened.ensures.undamaged s told stands) c.run_opened.ensures.ends

@@ -1,13 +1,15 @@
-use Rattle.std.proofs.Common.{◌≤◌, [], sym, ◌∙◌, ap, subst}
+use Rattle.std.proofs.Common.{◌≡◌, ◌≤◌, [], sym, ◌∙◌, ap, subst}
 use Rattle.std.specs.List.{AllByRecursion}
+use Rattle.ctr_log.specs.declared.opening.OpenError.TheVariants as open_error
 use Rattle.ctr_model.specs.Tape.{statements_on, IsSerial}
 use Rattle.ctr_record_effects.specs.Standing.{StandsForDatabase}
 use Rattle.ctr_serial.proofs.Lists.{serial_front}
 use Rattle.ctr_world.specs.Ended.{IsUnbegunWorld, RefusesWith, RefusesWorld}
 use Rattle.ctr_world.specs.Opened.{IsRunLine}
 use Rattle.ctr_world.specs.World.{LeavesPrefix}
-use Rattle.ctr_run.specs.Running.{opened_on}
-use Rattle.ctr_run.proofs.Ends.{begins_serial, ends_for, left_moved, none_for, none_in_order, none_over, runs_in_order, runs_over, serial_end, untouched_for, untouched_in_order, untouched_over}
+use Rattle.ctr_run.specs.declared.ran.RunEnd.TheVariants.{Finished}
+use Rattle.ctr_run.specs.Running.{EndsFor, TellsNoDamage, opened_on}
+use Rattle.ctr_run.proofs.Ends.{begins_serial, ends_for, left_moved, none_in_order, none_over, not_finished, not_unopened, runs_in_order, runs_over, serial_end, tells_none, untouched_for, untouched_in_order, untouched_over}
 use Rattle.ctr_run.proofs.running.run_opened.Goals as goal
 
 -- ---- memory was refused
@@ -15,55 +17,74 @@ use Rattle.ctr_run.proofs.running.run_opened.Goals as goal
 pub returns-in_default-clause-ran : goal.returns-in_default-clause-ran
 returns-in_default-clause-ran g c = λ s told stands.
     let t = c.none.ensures in
-    untouched_over g.D.Disk g.met.D.Disk.earlier g.met.D.Disk.only_now c.args.disk c.args.script.lines c.none.result t.end t.tape t.undone t.disk s
+    let r = c.none.result in
+    untouched_over g.D.Disk g.met.D.Disk.earlier g.met.D.Disk.only_now c.args.disk c.args.script.lines r.left _ (not_finished r.end open_error.OutOfMemory t.end) t.tape t.undone t.disk s
+
+pub returns-in_default-clause-undamaged : goal.returns-in_default-clause-undamaged
+returns-in_default-clause-undamaged g c = λ s told stands. subst TellsNoDamage (sym c.none.ensures.end) tt
 
 pub returns-in_default-clause-order : goal.returns-in_default-clause-order
 returns-in_default-clause-order g c =
     let t = c.none.ensures in
-    untouched_in_order g.D.Disk g.met.D.Disk.earlier g.met.D.Disk.only_now c.args.disk c.args.script.lines c.none.result t.end t.tape t.undone t.disk
+    let r = c.none.result in
+    untouched_in_order g.D.Disk g.met.D.Disk.earlier g.met.D.Disk.only_now c.args.disk c.args.script.lines r.left _ (not_finished r.end open_error.OutOfMemory t.end) t.tape t.undone t.disk
+
+pub returns-in_default-clause-none : goal.returns-in_default-clause-none
+returns-in_default-clause-none g c = λ e is. (c.none.ensures.tape, c.none.ensures.undone)
 
 pub returns-in_default-clause-ends : goal.returns-in_default-clause-ends
 returns-in_default-clause-ends g c =
     let t = c.none.ensures in
-    untouched_for g.D.Disk g.met.D.Disk.earlier g.met.D.Disk.only_now c.args.disk c.args.script.lines c.none.result t.end t.tape t.undone t.disk
+    let r = c.none.result in
+    subst (EndsFor g.D.Disk c.args.disk r.left.disk) (sym t.end)
+    (untouched_for g.D.Disk g.met.D.Disk.earlier g.met.D.Disk.only_now c.args.disk c.args.script.lines r.left (r.end ≡ Finished) (not_finished r.end open_error.OutOfMemory t.end) t.tape t.undone t.disk)
 
 pub returns-in_default-clause-serial : goal.returns-in_default-clause-serial
-returns-in_default-clause-serial g c = λ is. serial_front c.args.script.lines 0 c.none.result.tape.entries (ap statements_on c.none.ensures.tape)
+returns-in_default-clause-serial g c = λ is. serial_front c.args.script.lines 0 c.none.result.left.tape.entries (ap statements_on c.none.ensures.tape)
 
 -- ---- the database wasn't opened
 
 pub returns-in-Err-clause-ran : goal.returns-in-Err-clause-ran
 returns-in-Err-clause-ran g c = λ s told stands.
     let d = g.D.Disk in
+    let r = c.none-in-Err.result in
     let t = c.none-in-Err.ensures in
     let e = c.in-Err.ensures in
     let old = c.args.disk in
     let lines = c.args.script.lines in
     let named = c.requires.named in
     let here = subst (λ i. StandsForDatabase i s) (sym named.image) stands in
-    none_over d old lines c.none-in-Err.result c.in-Err.error t.end t.tape t.undone s (subst (λ n. d.moment_of old ≤ d.moment_of n) (sym t.disk) e.stays.later)
+    none_over d old lines r.left (r.end ≡ Finished) (not_finished r.end c.in-Err.error t.end) t.tape t.undone s (subst (λ n. d.moment_of old ≤ d.moment_of n) (sym t.disk) e.stays.later)
     (subst (λ n. LeavesPrefix (opened_on d old lines) d s n []) (sym t.disk) (left_moved g.B.Opening g.B.Origin.first d old lines named c.requires.before s c.in-Err.disk [] (e.left s told here)))
-    (e.undamaged s told here)
+
+pub returns-in-Err-clause-undamaged : goal.returns-in-Err-clause-undamaged
+returns-in-Err-clause-undamaged g c = λ s told stands.
+    subst TellsNoDamage (sym c.none-in-Err.ensures.end) (c.in-Err.ensures.undamaged s told (subst (λ i. StandsForDatabase i s) (sym c.requires.named.image) stands))
 
 pub returns-in-Err-clause-order : goal.returns-in-Err-clause-order
 returns-in-Err-clause-order g c =
     let d = g.D.Disk in
+    let r = c.none-in-Err.result in
     let t = c.none-in-Err.ensures in
     let e = c.in-Err.ensures in
     let old = c.args.disk in
-    none_in_order d old c.args.script.lines c.none-in-Err.result c.in-Err.error t.end t.tape t.undone (subst (λ n. d.moment_of old ≤ d.moment_of n) (sym t.disk) e.stays.later) (subst (λ n. d.faults_of old ≤ d.faults_of n) (sym t.disk) e.stays.faults_later)
+    none_in_order d old c.args.script.lines r.left (r.end ≡ Finished) (not_finished r.end c.in-Err.error t.end) t.tape t.undone (subst (λ n. d.moment_of old ≤ d.moment_of n) (sym t.disk) e.stays.later) (subst (λ n. d.faults_of old ≤ d.faults_of n) (sym t.disk) e.stays.faults_later)
+
+pub returns-in-Err-clause-none : goal.returns-in-Err-clause-none
+returns-in-Err-clause-none g c = λ e is. (c.none-in-Err.ensures.tape, c.none-in-Err.ensures.undone)
 
 pub returns-in-Err-clause-ends : goal.returns-in-Err-clause-ends
 returns-in-Err-clause-ends g c =
     let d = g.D.Disk in
+    let r = c.none-in-Err.result in
     let t = c.none-in-Err.ensures in
     let e = c.in-Err.ensures in
     let old = c.args.disk in
-    none_for d old c.args.script.lines c.none-in-Err.result c.in-Err.error t.end t.tape t.undone (subst (RefusesWith d old c.in-Err.error) (sym t.disk) e.stays)
-    (λ told. subst (λ i. RefusesWorld i c.in-Err.error) c.requires.named.image (e.refused told))
+    subst (EndsFor d old r.left.disk) (sym t.end)
+    (subst (RefusesWith d old c.in-Err.error) (sym t.disk) e.stays, λ told. subst (λ i. RefusesWorld i c.in-Err.error) c.requires.named.image (e.refused told))
 
 pub returns-in-Err-clause-serial : goal.returns-in-Err-clause-serial
-returns-in-Err-clause-serial g c = λ is. serial_front c.args.script.lines 0 c.none-in-Err.result.tape.entries (ap statements_on c.none-in-Err.ensures.tape)
+returns-in-Err-clause-serial g c = λ is. serial_front c.args.script.lines 0 c.none-in-Err.result.left.tape.entries (ap statements_on c.none-in-Err.ensures.tape)
 
 -- ---- the World has ended
 
@@ -71,18 +92,28 @@ pub returns-clause-ran : goal.returns-clause-ran
 returns-clause-ran g c = λ s told stands.
     let f = c.finish-finished in
     let named = c.requires.named in
-    runs_over g.B.Opening g.B.Origin.first g.D.Disk c.args.disk c.args.script.lines named c.requires.before (record { end = c.ended.result; tape = f.result.tape; undone = f.result.undone; disk = f.result.disk }) f.result.stop c.ended.ensures s
+    runs_over g.B.Opening g.B.Origin.first g.D.Disk c.args.disk c.args.script.lines named c.requires.before (record { tape = f.result.tape; undone = f.result.undone; disk = f.result.disk }) c.ended.result f.result.stop c.ended.ensures s
     (f.ensures.ends s told (subst (λ i. StandsForDatabase i s) (sym named.image) stands))
+
+pub returns-clause-undamaged : goal.returns-clause-undamaged
+returns-clause-undamaged g c = λ s told stands.
+    let f = c.finish-finished in
+    let named = c.requires.named in
+    tells_none g.B.Opening g.B.Origin.first g.D.Disk c.args.disk c.args.script.lines named c.requires.before (record { tape = f.result.tape; undone = f.result.undone; disk = f.result.disk }) c.ended.result f.result.stop c.ended.ensures
+    (f.ensures.ends s told (subst (λ i. StandsForDatabase i s) (sym named.image) stands)).undamaged
 
 pub returns-clause-order : goal.returns-clause-order
 returns-clause-order g c =
     let f = c.finish-finished in
-    runs_in_order g.B.Opening g.B.Origin.first g.D.Disk c.args.disk c.args.script.lines c.requires.named c.requires.before (record { end = c.ended.result; tape = f.result.tape; undone = f.result.undone; disk = f.result.disk }) f.result.stop c.ended.ensures f.ensures.order f.ensures.later f.ensures.faults
+    runs_in_order g.B.Opening g.B.Origin.first g.D.Disk c.args.disk c.args.script.lines c.requires.named c.requires.before (record { tape = f.result.tape; undone = f.result.undone; disk = f.result.disk }) c.ended.result f.result.stop c.ended.ensures f.ensures.order f.ensures.later f.ensures.faults
+
+pub returns-clause-none : goal.returns-clause-none
+returns-clause-none g c = λ e is. not_unopened c.ended.result c.finish-finished.result.stop c.ended.ensures e is
 
 pub returns-clause-ends : goal.returns-clause-ends
 returns-clause-ends g c =
     let f = c.finish-finished in
-    ends_for g.B.Opening g.B.Origin.first g.D.Disk c.args.disk c.args.script.lines c.requires.named c.requires.before (record { end = c.ended.result; tape = f.result.tape; undone = f.result.undone; disk = f.result.disk }) f.result.stop c.ended.ensures f.ensures.stops c.in-Ok-open.ensures.passes
+    ends_for g.B.Opening g.B.Origin.first g.D.Disk c.args.disk c.args.script.lines c.requires.named c.requires.before (record { tape = f.result.tape; undone = f.result.undone; disk = f.result.disk }) c.ended.result f.result.stop c.ended.ensures f.ensures.stops c.in-Ok-open.ensures.passes
     (λ told s stands. (f.ensures.ends s told stands).undamaged) f.ensures.worn
 
 pub returns-clause-serial : goal.returns-clause-serial

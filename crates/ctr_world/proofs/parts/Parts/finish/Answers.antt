@@ -1,6 +1,8 @@
+use Rattle.std.proofs.Common.{◌∙◌}
 use Rattle.ctr_world.specs.Held.{held}
-use Rattle.ctr_world.proofs.Adding.{adds_on, adds_still}
 use Rattle.ctr_world.proofs.parts.Parts.finish.Goals as goal
 
-pub returns-clause-adds : goal.returns-clause-adds
-returns-clause-adds g c = adds_on (held c.args.self.now).running (held c.run.new.self).running (held c.settle.new.self).running c.run.ensures.adds (adds_still (held c.run.new.self).running (held c.settle.new.self).running c.settle.ensures.tape)
+pub returns-clause-turns : goal.returns-clause-turns
+returns-clause-turns g c =
+    let by = c.run.ensures.turns in
+    record { between = by.between; last = by.last; turns = by.turns; tape_is = c.settle.ensures.tape ∙ by.tape_is }

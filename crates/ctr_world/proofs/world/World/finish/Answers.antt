@@ -1,5 +1,7 @@
-use Rattle.std.proofs.Common.{◌++◌, ◌∙◌, ap}
+use Rattle.std.proofs.Common.{◌∙◌, subst}
 use Rattle.ctr_world.specs.Held.{Held, held}
+use Rattle.ctr_world.specs.Turns.{GoesByTurns}
+use Rattle.ctr_world.proofs.Adding.{turns_add}
 use Rattle.ctr_world.proofs.Ending.{ended_as, in_order_as}
 use Rattle.ctr_world.proofs.world.World.finish.Goals as goal
 
@@ -13,5 +15,13 @@ returns-clause-order g c =
     in_order_as g.B.Opening g.B.Origin.first g.D.Disk (held c.finish.new.self) c.finish.ensures.kept c.finish.ensures.over
     c.from_vec.result c.into_disk.result c.from_vec.ensures c.into_disk.ensures
 
+pub returns-clause-turns : goal.returns-clause-turns
+returns-clause-turns g c =
+    let by = c.finish.ensures.turns in
+    record { between = by.between; last = by.last; turns = subst (λ (h : Held _). GoesByTurns g.D.Disk by.between h by.last) c.self.view_is by.turns; tape_is = c.from_vec.ensures ∙ by.tape_is }
+
 pub returns-clause-adds : goal.returns-clause-adds
-returns-clause-adds g c = (c.finish.ensures.adds.0, c.from_vec.ensures ∙ c.finish.ensures.adds.1 ∙ ap (λ (h : Held _). h.running.sessions.tape.items ++ c.finish.ensures.adds.0) c.self.view_is)
+returns-clause-adds g c =
+    let by = returns-clause-turns g c in
+    let adds = turns_add g.D.Disk by.between _ by.last by.turns in
+    (adds.0, by.tape_is ∙ adds.1)
