@@ -1,0 +1,3 @@
+mod FaultFree
+mod WordLemmas
+mod Examples

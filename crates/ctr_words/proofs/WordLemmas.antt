@@ -1,0 +1,159 @@
+-- What a command line asks for.
+use Rattle.std.proofs.Common.{◌≡◌, ◌∙◌, ◌==◌, ℕ, List, [], ◌∷◌, Bool, true, false, Option, Some, None, cond, drop, find, refl, sym, ap, ap₂, subst, arith, codes}
+use Rattle.std.specs.Prelude.{IfSome, if◌then◌else◌, option_and_then, option_map, pos, slice_get, unwrap_or}
+use Rattle.std.specs.Option.{option_map_or}
+use Rattle.std.specs.Str.{bytes_eq}
+use Rattle.std.specs.Str.Parse.{ParsesUnsigned, ExplainsUnsignedError, HasUnsignedDigitsIfOk, starts_with_minus}
+use Rattle.std.proofs.lemmas.Int.{ints}
+use Rattle.clap.specs.Words.{Text, Kinds, Row, IsAmong, IsSignedIn, ReadsOne, fault_of, one_of, read_as, subcommand_of, subcommand_rows_of, without_minus}
+use Rattle.clap.specs.Faults.{values_fault}
+use Rattle.clap.specs.Kinds.{or_else}
+use Rattle.clap.specs.Walk.{row_text}
+use Rattle.clap.specs.ValueTests.{accepts, is_unsigned_in}
+use Rattle.clap.specs.declared.error.kind.ErrorKind.{ErrorKind}
+use Rattle.clap.specs.declared.error.kind.ErrorKind.TheVariants.{ValueValidation}
+use Rattle.clap.specs.declared.builder.value_parser.Reading.TheVariants.{WithoutMinus}
+use Rattle.clap.specs.declared.builder.value_parser.ValueParser.TheVariants.{Signed, Unsigned}
+use Rattle.clap.specs.declared.parser.matches.ArgMatches.{ArgMatches}
+use Rattle.clap.proofs.ValueTestLemmas.{Accepts-accepts, accepts-Accepts}
+use Rattle.ctr_words.specs.declared.words.Subcommand.{Subcommand}
+use Rattle.ctr_words.specs.declared.words.Subcommand.TheVariants as asked
+use Rattle.ctr_words.specs.Words.{command_asked, frames_asked, has_folder, number_in, command_named, simple_command, unless_fault, HasFrames}
+use Rattle.ctr_words.specs.Read.{is_number, IsRead}
+use Rattle.ctr_words.proofs.FaultFree.{Fine, frames_filled, run_fine}
+
+abbrev wanted : Option (Text × List Row) → Bool → Kinds → Option Subcommand
+wanted met folder kinds = if folder then unless_fault kinds met else None
+
+wanted_none : (met : Option (Text × List Row)) (kind : ErrorKind) (kinds : Kinds) → IsAmong kind kinds → None ≡ wanted met true kinds
+wanted_none met kind [] among = absurd among
+wanted_none met kind (k ∷ kinds) among = refl
+
+-- what is taken is the command of the subcommand that was met
+pub taken : (words : List Text) (m : ArgMatches) → has_folder words ≡ true → fault_of simple_command words ≡ [] → subcommand_rows_of m ≡ subcommand_of simple_command words
+    → option_and_then command_named (subcommand_rows_of m) ≡ command_asked words
+taken words m folder fine rows =
+    ap (option_and_then command_named) rows ∙ sym (ap₂ (wanted (subcommand_of simple_command words)) folder fine)
+
+-- what is refused by one of the kinds is none
+pub refused : (words : List Text) (kind : ErrorKind) → has_folder words ≡ true → IsAmong kind (fault_of simple_command words) → None ≡ command_asked words
+refused words kind folder among =
+    wanted_none (subcommand_of simple_command words) kind (fault_of simple_command words) among
+    ∙ sym (ap (λ b. wanted (subcommand_of simple_command words) b (fault_of simple_command words)) folder)
+
+-- a text that is a number of 8 to 4,096 reads as that number
+one_read : (text : Text) (r : Option ℕ) → ReadsOne (λ bs x. ParsesUnsigned 16 10 bs x × ExplainsUnsignedError 10 bs x × HasUnsignedDigitsIfOk bs x) text r
+    → is_unsigned_in 8 4096 text ≡ true → r ≡ Some (number_in text)
+one_read text (Some n) read number = ap Some read.0.1
+one_read text None read number =
+    let accepted = accepts-Accepts false (Unsigned 8 4096) text number in
+    absurd (read.1.0 (accepted.0, omega arith))
+
+-- what is read of the frames is what the rows ask for
+pub frames_read : (text : Option Text) (rows : List Row) (r : Option ℕ) → text ≡ one_of (codes "frames") rows → (text ≡ None → r ≡ None)
+    → ((t : Text) → text ≡ Some t → ReadsOne (λ bs x. ParsesUnsigned 16 10 bs x × ExplainsUnsignedError 10 bs x × HasUnsignedDigitsIfOk bs x) t r)
+    → is_number rows ≡ true → unwrap_or r 64 ≡ frames_asked rows
+frames_read None rows r same none some number =
+    ap (λ o. unwrap_or o 64) (none refl) ∙ ap (λ o. option_map_or number_in o 64) same
+frames_read (Some t) rows r same none some number =
+    let told : is_unsigned_in 8 4096 t ≡ true = ap (λ o. option_map_or (is_unsigned_in 8 4096) o true) same ∙ number in
+    ap (λ o. unwrap_or o 64) (one_read t r (some t refl) told) ∙ ap (λ o. option_map_or number_in o 64) same
+
+-- ---- the frames of a run without a fault
+
+without_minus-cond : (text : Text) → without_minus text ≡ cond (starts_with_minus text) (drop 1 text) text
+without_minus-cond [] = refl
+without_minus-cond (x ∷ xs) = pick (x == 45)
+  where
+    pick : (b : Bool) → unwrap_or (cond b (Some xs) None) (x ∷ xs) ≡ cond b xs (x ∷ xs)
+    pick true = refl
+    pick false = refl
+
+-- a value that passed the reader is a number of 8 to 4,096, and is read as it was written
+passed_number : (text : Text) → accepts false (Signed (pos 8) (pos 4096)) text ≡ true → is_unsigned_in 8 4096 (without_minus text) ≡ true
+passed_number text passes = subst (λ (t : Text). is_unsigned_in 8 4096 t ≡ true) (sym (without_minus-cond text)) (go (starts_with_minus text) refl)
+  where
+    accepted : IsSignedIn (pos 8) (pos 4096) text
+    accepted = accepts-Accepts false (Signed (pos 8) (pos 4096)) text passes
+
+    go : (b : Bool) → starts_with_minus text ≡ b → is_unsigned_in 8 4096 (cond b (drop 1 text) text) ≡ true
+    go true minus =
+        let least = rw minus at accepted.2 in
+        absurd (omega (arith, ints))
+    go false minus =
+        let numeral = rw minus at accepted.0 in
+        let least = rw minus at accepted.2 in
+        let most = rw minus at accepted.3 in
+        Accepts-accepts false (Unsigned 8 4096) text (numeral, omega (arith, ints), omega (arith, ints), omega (arith, ints))
+
+first_passed : (v : Text) (vs : List Text) → values_fault frames_filled (v ∷ vs) ≡ [] → accepts false (Signed (pos 8) (pos 4096)) v ≡ true
+first_passed v vs fine = pick (accepts false (Signed (pos 8) (pos 4096)) v) refl fine
+  where
+    pick : (b : Bool) → accepts false (Signed (pos 8) (pos 4096)) v ≡ b → or_else (if b then [] else ValueValidation ∷ []) (values_fault frames_filled vs) ≡ []
+        → accepts false (Signed (pos 8) (pos 4096)) v ≡ true
+    pick true is e = is
+    pick false is e = cc
+
+row_number : (r : Row) → values_fault frames_filled r.values ≡ [] → r.reading ≡ WithoutMinus → option_map_or (is_unsigned_in 8 4096) (row_text r) true ≡ true
+row_number r fine how = go r.values fine
+  where
+    go : (values : List Text) → values_fault frames_filled values ≡ [] → option_map_or (is_unsigned_in 8 4096) (option_map (read_as r.reading) (slice_get values 0)) true ≡ true
+    go [] e = refl
+    go (v ∷ vs) e = rw how (passed_number v (first_passed v vs e))
+
+fine_number : (rows : List Row) → Fine rows → is_number rows ≡ true
+fine_number [] fine = refl
+fine_number (r ∷ rs) fine = pick (bytes_eq r.id (codes "frames")) refl (fine_number rs fine.1)
+  where
+    pick : (b : Bool) → bytes_eq r.id (codes "frames") ≡ b → is_number rs ≡ true
+        → option_map_or (is_unsigned_in 8 4096) (option_and_then row_text (cond b (Some r) (find (λ q. bytes_eq q.id (codes "frames")) rs))) true ≡ true
+    pick true is later =
+        let own = fine.0 is in
+        row_number r own.0 own.1
+    pick false is later = later
+
+-- so it is read
+pub all_read : (words : List Text) → fault_of simple_command words ≡ [] → IfSome (subcommand_of simple_command words) IsRead
+all_read words fault = go (subcommand_of simple_command words) refl
+  where
+    go : (o : Option (Text × List Row)) → subcommand_of simple_command words ≡ o → IfSome o IsRead
+    go None is = tt
+    go (Some met) is = λ run. fine_number met.1 (run_fine words fault met is run)
+
+-- ---- 8 to 4,096
+
+asked_fits : (rows : List Row) → is_number rows ≡ true → HasFrames (asked.Run (frames_asked rows))
+asked_fits rows number = go (one_of (codes "frames") rows) number
+  where
+    go : (o : Option Text) → option_map_or (is_unsigned_in 8 4096) o true ≡ true → HasFrames (asked.Run (option_map_or number_in o 64))
+    go None e = (omega arith, omega arith)
+    go (Some text) e =
+        let accepted = accepts-Accepts false (Unsigned 8 4096) text e in
+        (accepted.2, accepted.3)
+
+named_fits : (met : Text × List Row) (s : Subcommand) → IsRead met → command_named met ≡ Some s → HasFrames s
+named_fits met s read is = go (bytes_eq met.0 (codes "init")) (bytes_eq met.0 (codes "run")) (bytes_eq met.0 (codes "report")) refl is
+  where
+    go : (init run report : Bool) → bytes_eq met.0 (codes "run") ≡ run
+        → (if init then Some asked.Init else if run then Some (asked.Run (frames_asked met.1)) else if report then Some asked.Report else None) ≡ Some s → HasFrames s
+    go true run report met_run same =
+        let here : asked.Init ≡ s = cc in
+        subst HasFrames here tt
+    go false true report met_run same =
+        let here : asked.Run (frames_asked met.1) ≡ s = cc in
+        subst HasFrames here (asked_fits met.1 (read met_run))
+    go false false true met_run same =
+        let here : asked.Report ≡ s = cc in
+        subst HasFrames here tt
+    go false false false met_run same = cc
+
+-- a run that words ask for has 8 to 4,096 frames
+pub fits : (words : List Text) (s : Subcommand) → command_asked words ≡ Some s → HasFrames s
+fits words s is = go (has_folder words) (fault_of simple_command words) (subcommand_of simple_command words) refl (all_read words) is
+  where
+    go : (folder : Bool) (kinds : Kinds) (met : Option (Text × List Row)) → fault_of simple_command words ≡ kinds
+        → (fault_of simple_command words ≡ [] → IfSome met IsRead) → wanted met folder kinds ≡ Some s → HasFrames s
+    go true [] (Some met) fault read same = named_fits met s (read fault) same
+    go true [] None fault read same = cc
+    go true (k ∷ kinds) met fault read same = cc
+    go false kinds met fault read same = cc

@@ -1,0 +1,87 @@
+-- What the words behind the program's name ask for.
+use Rattle.std.specs.Prelude.{◌≡◌, ◌≤◌, ◌⊎◌, ◌==◌, ◌∷◌, ⊤, ℕ, pos, Bool, true, false, not, List, []}
+use Rattle.std.specs.Prelude.{Option, Some, None, codes, if◌then◌else◌, option_and_then}
+use Rattle.std.specs.Option.{option_map_or}
+use Rattle.std.specs.Str.{bytes_eq}
+use Rattle.std.specs.Str.Parse.{digits_value, without_leading_plus}
+use Rattle.clap.specs.Words.{App, Kinds, Row, Rule, Text, fault_of, new_app, new_rule, one_of}
+use Rattle.clap.specs.Words.{subcommand_of, with_rule, with_subcommand}
+use Rattle.clap.specs.declared.builder.action.ArgAction.TheVariants.{Set}
+use Rattle.clap.specs.declared.builder.value_parser.ValueParser.TheVariants.{Signed}
+use Rattle.ctr_words.specs.declared.words.Subcommand.{Subcommand}
+use Rattle.ctr_words.specs.declared.words.Subcommand.TheVariants as asked
+use Rattle.ctr_words.specs.declared.words.WordsError.{WordsError}
+use Rattle.ctr_words.specs.declared.words.WordsError.TheVariants as error
+
+-- a command with one word behind its name, the folder
+abbrev pub over_folder : Text → App
+over_folder name = with_rule (new_app name) (record (new_rule (codes "DIR")) { required = true })
+
+-- the option `--frames`, with a number of 8 to 4,096
+abbrev pub frames_rule : Rule
+frames_rule = record (new_rule (codes "frames")) {
+  long = Some (codes "frames");
+  action = Some Set;
+  parser = Some (Signed (pos 8) (pos 4096));
+}
+
+-- no command and no program's name: one of the commands below has to follow
+abbrev pub no_command : App
+no_command = record (new_app (codes "ctr")) {
+  top = record (new_app (codes "ctr")).top { no_binary_name = true; subcommand_required = true };
+}
+
+-- the command and one more below it
+abbrev pub or_command : App → App → App
+or_command a below = with_subcommand a below.top
+
+-- The simple command: `init DIR`, `run DIR [--frames N]` and `report DIR`.
+abbrev pub simple_command : App
+simple_command = or_command (or_command (or_command no_command (over_folder (codes "init")))
+    (with_rule (over_folder (codes "run")) frames_rule)) (over_folder (codes "report"))
+
+-- a word that doesn't begin with -
+abbrev pub is_folder : Text → Bool
+is_folder [] = true
+is_folder (byte ∷ bytes) = not (byte == 45)
+
+-- the second word is there, and is one
+abbrev pub has_folder : List Text → Bool
+has_folder [] = false
+has_folder (command ∷ []) = false
+has_folder (command ∷ folder ∷ rest) = is_folder folder
+
+-- the number that decimal digits write; a plus may stand before them
+abbrev pub number_in : Text → ℕ
+number_in text = digits_value 10 (without_leading_plus text)
+
+-- the frames that the rows of a run ask for: 64 where they have none
+abbrev pub frames_asked : List Row → ℕ
+frames_asked rows = option_map_or number_in (one_of (codes "frames") rows) 64
+
+-- the command of a name, with its rows
+abbrev pub command_named : Text × List Row → Option Subcommand
+command_named met = if bytes_eq met.0 (codes "init") then Some asked.Init
+    else if bytes_eq met.0 (codes "run") then Some (asked.Run (frames_asked met.1))
+    else if bytes_eq met.0 (codes "report") then Some asked.Report else None
+
+-- the command that was met, unless there is a fault of one of these kinds
+abbrev pub unless_fault : Kinds → Option (Text × List Row) → Option Subcommand
+unless_fault [] met = option_and_then command_named met
+unless_fault (kind ∷ kinds) met = None
+
+-- The command that the words ask for. They ask for none where the second isn't a folder's, or where
+-- `clap` refuses them for another cause than memory.
+abbrev pub command_asked : List Text → Option Subcommand
+command_asked words = if has_folder words
+    then unless_fault (fault_of simple_command words) (subcommand_of simple_command words)
+    else None
+
+-- Why no command comes of words: they ask for none, or memory was refused.
+abbrev pub AsksForNothing : Option Subcommand → WordsError → Type 0
+AsksForNothing asked e = ((e ≡ error.Usage) × (asked ≡ None)) ⊎ (e ≡ error.OutOfMemory)
+
+-- A run's frames are 8 to 4,096.
+abbrev pub HasFrames : Subcommand → Type 0
+HasFrames (asked.Run frames) = (8 ≤ frames) × (frames ≤ 4096)
+HasFrames command = ⊤

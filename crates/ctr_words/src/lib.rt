@@ -1,0 +1,6 @@
+//! What the words behind the program's name ask for.
+#![tactic(auto)]
+
+mod words;
+
+pub use words::{FRAMES, Subcommand, WordsError, command};
