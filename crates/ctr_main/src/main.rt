@@ -67,8 +67,7 @@ fn main(rt: HostRuntime) -> ExitCode {
     let mut sink = WriteSink::new(io::writer(&rt));
     let ended = ctr_top::run_serial(rt.alloc(), &words, disk, &mut source, &mut sink);
     let code = exit_code(&ended);
-    // The process ends here, and its memory with it: rows and a long tape aren't freed one by one.
-    forget(ended.tape);
-    forget(ended.rest);
+    // The process ends here, and its memory with it: a long tape isn't freed entry by entry.
+    forget(ended.left.tape);
     code
 }

@@ -2,13 +2,10 @@
 use crate::lists::{add, one};
 use crate::numbers::name_of;
 use crate::page::Page;
-use crate::setup::{Ask, Counts};
+use crate::setup::{Ask, Counts, Taken};
 use ctr_disk::Disk;
 use ctr_mem_disk::{Call, Image, MemDisk, Outcome, Recorded};
 use std::alloc::{AllocError, Global};
-
-/// How many images of a crash a sweep looks at after each call.
-pub const DIGITS: u64 = 64;
 
 /// The clock after each call.
 pub fn moments_of(alloc: Global, calls: &[Recorded]) -> Result<Vec<u64>, AllocError> {
@@ -29,32 +26,113 @@ pub fn counts_of(disk: &MemDisk) -> Counts {
     }
 }
 
-fn add_images(disk: &MemDisk, images: &mut Vec<Image>, count: usize) -> Result<(), AllocError> {
-    for digits in 0..DIGITS {
-        add(images, disk.image_after(count, digits)?)?;
+fn taken(calls: u64, image: Image) -> Taken {
+    Taken { calls, image }
+}
+
+// How many writes there were since the last sync, with one more call.
+fn writes_with(recorded: &Recorded, writes: u64) -> u64 {
+    match (&recorded.call, recorded.outcome) {
+        (Call::Write { .. }, Outcome::Done | Outcome::Failed) => writes.saturating_add(1),
+        (Call::Sync, Outcome::Done) => 0,
+        _ => writes,
+    }
+}
+
+// Behind a read, or what was refused, a crash leaves what it might have left before.
+fn changes_nothing(recorded: &Recorded) -> bool {
+    match (&recorded.call, recorded.outcome) {
+        (Call::Size { .. } | Call::Read { .. }, _) | (_, Outcome::Refused) => true,
+        _ => false,
+    }
+}
+
+/// The digit 1 for as many writes as a number has digits for.
+const ONES: u64 = 0o111_111_111_111_111_111_111;
+
+// Whether no write comes behind so many calls.
+fn is_last(disk: &MemDisk, count: usize) -> bool {
+    match disk.calls().get(count) {
+        Some(next) => !matches!(next.call, Call::Write { .. }),
+        None => true,
+    }
+}
+
+// How many images there are behind so many writes since the last sync.
+fn images_behind(writes: u64) -> u64 {
+    match writes {
+        0 => 1,
+        2 => 64,
+        _ => 8,
+    }
+}
+
+// The digits of an image: each number of them for one write and for two, the same for all where there are more.
+fn digits_of(writes: u64, image: u64) -> u64 {
+    if writes <= 2 {
+        image
+    } else {
+        image.saturating_mul(ONES)
+    }
+}
+
+fn add_images(
+    disk: &MemDisk,
+    images: &mut Vec<Taken>,
+    count: usize,
+    writes: u64,
+) -> Result<(), AllocError> {
+    for image in 0..images_behind(writes) {
+        let left = disk.image_after(count, digits_of(writes, image))?;
+        add(images, taken(count as u64, left))?;
     }
     Ok(())
 }
 
-fn add_each(disk: &MemDisk, images: &mut Vec<Image>) -> Result<(), AllocError> {
-    for count in 0..=disk.calls().len() {
-        add_images(disk, images, count)?;
+fn add_between(
+    disk: &MemDisk,
+    images: &mut Vec<Taken>,
+    from: u64,
+    to: u64,
+) -> Result<(), AllocError> {
+    let mut writes = 0;
+    if from == 0 {
+        add_images(disk, images, 0, 0)?;
+    }
+    for (number, recorded) in disk.calls().iter().enumerate() {
+        let count = number.saturating_add(1);
+        writes = writes_with(recorded, writes);
+        let looks = !changes_nothing(recorded) && (writes <= 2 || is_last(disk, count));
+        if looks && from <= count as u64 && count as u64 <= to {
+            add_images(disk, images, count, writes)?;
+        }
     }
     Ok(())
 }
 
-fn each_image(alloc: Global, disk: &MemDisk) -> Result<Vec<Image>, AllocError> {
+fn images_between(
+    alloc: Global,
+    disk: &MemDisk,
+    from: u64,
+    to: u64,
+) -> Result<Vec<Taken>, AllocError> {
     let mut images = Vec::new(alloc);
-    add_each(disk, &mut images)?;
+    add_between(disk, &mut images, from, to)?;
     Ok(images)
 }
 
 /// The images that are asked for.
-pub fn images_of(alloc: Global, disk: &MemDisk, ask: Ask) -> Result<Vec<Image>, AllocError> {
+pub fn images_of(alloc: Global, disk: &MemDisk, ask: Ask) -> Result<Vec<Taken>, AllocError> {
     match ask {
-        Ask::Last => one(alloc, disk.image_now().copy()?),
-        Ask::Stop(count, digits) => one(alloc, disk.image_after(count as usize, digits)?),
-        Ask::Each => each_image(alloc, disk),
+        Ask::Last => one(
+            alloc,
+            taken(disk.calls().len() as u64, disk.image_now().copy()?),
+        ),
+        Ask::Stop(count, digits) => one(
+            alloc,
+            taken(count, disk.image_after(count as usize, digits)?),
+        ),
+        Ask::Between(from, to) => images_between(alloc, disk, from, to),
         Ask::Calls => Ok(Vec::new(alloc)),
     }
 }

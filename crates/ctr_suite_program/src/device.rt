@@ -2,9 +2,9 @@
 use crate::numbers::{hex_bytes, split_file, split_number};
 use crate::page::Page;
 use crate::run::{disk_of, look_at};
-use crate::setup::{Ask, Ran, Setup};
+use crate::setup::{Ask, Ran, Setup, UNCOUNTED};
 use ctr_disk::Disk;
-use ctr_home::{Root, read_thin_root, write_root};
+use ctr_home::{Root, read_root, write_root};
 use ctr_mem_disk::MemDisk;
 use ctr_suite::split_word;
 use ctr_types::{File, List, Tape};
@@ -123,6 +123,7 @@ fn ended(alloc: Global, disk: &MemDisk, page: &Page, ask: Ask) -> Result<Ran, Al
             entries: List::new(alloc),
         },
         text,
+        survey: UNCOUNTED,
         seen,
     })
 }
@@ -141,7 +142,7 @@ fn calls_on(alloc: Global, disk: &mut MemDisk, script: &[u8], ask: Ask) -> Resul
 
 // Writes a root whose stamp is above that of the root that is there.
 fn write_above(disk: &mut MemDisk, page: &mut Page, root: &Root) {
-    match read_thin_root(disk) {
+    match read_root(disk) {
         Ok(Some(old)) if old.stamp < root.stamp => {
             if write_root(disk, root).is_err() {
                 put_failed(page);

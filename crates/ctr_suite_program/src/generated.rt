@@ -181,6 +181,14 @@ impl Maker {
         Ok(actors)
     }
 
+    /// How many frames the run has: 8, or 64.
+    pub fn frames(&mut self) -> u64 {
+        match self.below(2) {
+            0 => 8,
+            _ => 64,
+        }
+    }
+
     /// A number below this one, for what else a run wants.
     pub fn number(&mut self, most: u64) -> u64 {
         self.below(most)

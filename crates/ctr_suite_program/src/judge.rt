@@ -1,16 +1,19 @@
 // What the slow machine says of a tape, and of what a disk holds.
-ghost use Rattle.std.specs.Prelude.{◌≡◌, []};
+ghost use Rattle.std.specs.Prelude.{◌≡◌};
 ghost use Rattle.ctr_model.specs.Tape.{at_start};
 
 use crate::databases::{Right, probing};
+use crate::lists::add;
 use crate::run::play;
-use crate::setup::{Ask, Ran, Setup, plain_run};
+use crate::setup::{Ask, Ran, Setup, plain_report, plain_run, plain_turns};
 use ctr_io::MemSource;
 use ctr_machine::is_legal;
 use ctr_mem_disk::Image;
-use ctr_model::{Map, Point, State, Table};
+use ctr_model::{Map, Point, State, Survey, Table};
 use ctr_script::read_script;
-use ctr_types::{Entry, Line, List, Name, OutOfMemory, Plain, Reply, Script, Text};
+use ctr_types::{
+    Act, Actor, Entry, Line, List, Name, OutOfMemory, Plain, Reply, Script, Tape, Text,
+};
 use std::alloc::Global;
 
 // The script that bytes are. What is none is an empty one: no tape comes of it.
@@ -25,11 +28,11 @@ fn script_in(alloc: Global, source: &mut MemSource) -> Script {
     })
 }
 
-fn starting(alloc: Global, base: Map<Name, Table>) -> Point
-    ensures { result ≡ at_start 0 base [] }
+fn starting(alloc: Global, base: Map<Name, Table>, stuck: List<Name>) -> Point
+    ensures { result ≡ at_start 0 base stuck }
 {
     Point {
-        state: State::at_rest(alloc, base, List::new(alloc)),
+        state: State::at_rest(alloc, base, stuck),
         progress: Map::new(alloc),
         moment: 0,
     }
@@ -50,15 +53,63 @@ fn is_led(
     is_legal(alloc, lines, point, entries)
 }
 
-// Whether a tape is legal from a database.
+// Whether a tape is legal from a database of which recovery holds these names.
 fn is_led_from(
     alloc: Global,
     base: &Map<Name, Table>,
+    stuck: &[Name],
     lines: &[Line],
     entries: &[Entry],
 ) -> Result<bool, OutOfMemory> {
-    let mut point = starting(alloc, base.copy(alloc)?);
+    let mut point = starting(alloc, base.copy(alloc)?, copied(alloc, stuck)?);
     is_led(alloc, lines, &mut point, entries)
+}
+
+fn add_copies(alloc: Global, list: &mut Vec<Name>, names: &[Name]) -> Result<(), OutOfMemory> {
+    for name in names {
+        add(list, name.copy(alloc)?)?;
+    }
+    Ok(())
+}
+
+fn copied(alloc: Global, names: &[Name]) -> Result<List<Name>, OutOfMemory> {
+    let mut list = Vec::new(alloc);
+    add_copies(alloc, &mut list, names)?;
+    Ok(List::from_vec(list))
+}
+
+fn add_released(
+    alloc: Global,
+    names: &mut Vec<Name>,
+    entries: &[Entry],
+) -> Result<(), OutOfMemory> {
+    for entry in entries {
+        if let Act::Release { name } = &entry.act {
+            add(names, name.copy(alloc)?)?;
+        }
+    }
+    Ok(())
+}
+
+// The names that recovery releases on a tape.
+fn released_in(alloc: Global, tape: &Tape) -> Result<Vec<Name>, OutOfMemory> {
+    let mut names = Vec::new(alloc);
+    add_released(alloc, &mut names, tape.entries.as_slice())?;
+    Ok(names)
+}
+
+// The names that recovery holds as a run begins: those that a finished one releases, or else those that a run without statements does.
+fn held_before(alloc: Global, setup: &Setup, ran: &Ran) -> Result<Vec<Name>, OutOfMemory> {
+    if ran.status == 0 {
+        return released_in(alloc, &ran.tape);
+    }
+    let idle = plain_run(alloc, &setup.image, &[])?;
+    released_by(alloc, &idle)
+}
+
+fn released_by(alloc: Global, setup: &Setup) -> Result<Vec<Name>, OutOfMemory> {
+    let ran = play(alloc, setup, Ask::Last)?;
+    released_in(alloc, &ran.tape)
 }
 
 /// How many commits were answered by a moment.
@@ -77,22 +128,24 @@ pub fn answered_by(entries: &[Entry], moment: u64) -> usize {
 pub fn led_from(
     alloc: Global,
     right: &Right,
-    script: &[u8],
+    setup: &Setup,
     ran: &Ran,
 ) -> Result<Option<Right>, OutOfMemory> {
-    let script = script_of(alloc, script)?;
-    led_by(alloc, right, script.lines.as_slice(), ran)
+    let stuck = held_before(alloc, setup, ran)?;
+    let script = script_of(alloc, &setup.script)?;
+    led_by(alloc, right, &stuck, script.lines.as_slice(), ran)
 }
 
 fn led_by(
     alloc: Global,
     right: &Right,
+    stuck: &[Name],
     lines: &[Line],
     ran: &Ran,
 ) -> Result<Option<Right>, OutOfMemory> {
     for (number, base) in right.list.iter().enumerate() {
         if right.has(number) {
-            let after = right_after(alloc, base, lines, ran)?;
+            let after = right_after(alloc, base, stuck, lines, ran)?;
             if after.is_some() {
                 return Ok(after);
             }
@@ -104,10 +157,11 @@ fn led_by(
 fn right_after(
     alloc: Global,
     base: &Map<Name, Table>,
+    stuck: &[Name],
     lines: &[Line],
     ran: &Ran,
 ) -> Result<Option<Right>, OutOfMemory> {
-    let mut point = starting(alloc, base.copy(alloc)?);
+    let mut point = starting(alloc, base.copy(alloc)?, copied(alloc, stuck)?);
     right_at(alloc, lines, &mut point, ran)
 }
 
@@ -157,15 +211,25 @@ pub enum Found {
     Other,
 }
 
-/// What a run finds in an image.
+/// How many turns recovery's undo has before the statements that look at an image: more than it wants in any case.
+const UNDO_TURNS: usize = 200;
+
+/// The frames of the run that looks at an image.
+const FEW_FRAMES: u64 = 8;
+
+/// What a run finds in an image, and a report of it.
 pub fn found_in(
     alloc: Global,
     right: &Right,
     probe: &Probe,
     image: &Image,
 ) -> Result<Found, OutOfMemory> {
-    let setup = plain_run(alloc, image, &probe.bytes)?;
-    found_by(alloc, right, probe, &setup)
+    let script = probe.bytes.to_vec(alloc)?;
+    let undo = vec![in alloc; Actor::Undo; UNDO_TURNS]?;
+    let mut setup = plain_turns(alloc, image, script, undo)?;
+    setup.frames = FEW_FRAMES;
+    let found = found_by(alloc, right, probe, &setup)?;
+    reported(alloc, right, image, found)
 }
 
 /// What a run finds in an image, with a probe of its own.
@@ -188,12 +252,67 @@ fn fitting(alloc: Global, right: &Right, lines: &[Line], ran: &Ran) -> Result<Fo
     if ran.status != 0 {
         return Ok(Found::Status(ran.status));
     }
-    let entries = ran.tape.entries.as_slice();
+    let stuck = released_in(alloc, &ran.tape)?;
+    fitting_from(alloc, right, &stuck, lines, ran.tape.entries.as_slice())
+}
+
+fn fitting_from(
+    alloc: Global,
+    right: &Right,
+    stuck: &[Name],
+    lines: &[Line],
+    entries: &[Entry],
+) -> Result<Found, OutOfMemory> {
     let mut found = Found::Other;
     for (number, base) in right.list.iter().enumerate() {
-        if is_led_from(alloc, base, lines, entries)? {
+        if is_led_from(alloc, base, stuck, lines, entries)? {
             found = Found::Commits(number);
         }
     }
     Ok(found)
+}
+
+// What was found, if a report of the image says so too.
+fn reported(
+    alloc: Global,
+    right: &Right,
+    image: &Image,
+    found: Found,
+) -> Result<Found, OutOfMemory> {
+    let setup = plain_report(alloc, image)?;
+    told_by(alloc, right, &setup, found)
+}
+
+fn told_by(
+    alloc: Global,
+    right: &Right,
+    setup: &Setup,
+    found: Found,
+) -> Result<Found, OutOfMemory> {
+    let ran = play(alloc, setup, Ask::Last)?;
+    if is_told(right, &ran, found) {
+        Ok(found)
+    } else {
+        Ok(Found::Other)
+    }
+}
+
+fn is_told(right: &Right, ran: &Ran, found: Found) -> bool {
+    match found {
+        Found::Commits(number) => match right.list.get(number) {
+            Some(database) => ran.status == 0 && is_counted(database, ran.survey),
+            None => false,
+        },
+        Found::Status(status) => ran.status == status,
+        Found::Other => false,
+    }
+}
+
+// Whether a database has as many tables and rows as were counted.
+fn is_counted(database: &Map<Name, Table>, survey: Survey) -> bool {
+    let mut rows = 0u64;
+    for (_, table) in database.entries() {
+        rows = rows.saturating_add(table.rows.entries().len() as u64);
+    }
+    survey.tables == database.entries().len() as u64 && survey.rows == rows
 }

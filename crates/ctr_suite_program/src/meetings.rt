@@ -10,7 +10,7 @@ use ctr_mem_disk::Image;
 use ctr_types::{OutOfMemory, Refusal, Reply};
 use std::alloc::Global;
 
-/// The replies and refusals that a run over one database in memory gives, by their places in a `Met`.
+/// The replies and refusals that a run over one database gives, by their places in a `Met`.
 const NAMES: [&str; 21] = [
     "Began",
     "Granted",
@@ -191,11 +191,11 @@ fn is_found(
     image: &Ran,
     calls: usize,
 ) -> Result<bool, OutOfMemory> {
-    let Some(image) = image.seen.images.first() else {
+    let Some(taken) = image.seen.images.first() else {
         return Ok(false);
     };
     let least = owed(setup, ran, right, calls);
-    match found_in(alloc, right, probe, image)? {
+    match found_in(alloc, right, probe, &taken.image)? {
         Found::Commits(number) => Ok(number >= least),
         Found::Status(_) | Found::Other => Ok(false),
     }
@@ -229,7 +229,7 @@ fn judge_ran(
     if ran.status != 0 {
         return Ok(Some(Fault::Unfinished));
     }
-    match led_from(alloc, before, &setup.script, ran)? {
+    match led_from(alloc, before, setup, ran)? {
         None => Ok(Some(Fault::Illegal)),
         Some(right) => judge_left(alloc, setup, &right, ran, maker),
     }
@@ -255,7 +255,8 @@ fn play_made(
     met: &mut Met,
 ) -> Result<Option<Fault>, OutOfMemory> {
     let script = maker.script()?;
-    let setup = plain_turns(alloc, image, script, maker.actors()?)?;
+    let mut setup = plain_turns(alloc, image, script, maker.actors()?)?;
+    setup.frames = maker.frames();
     judge_setup(alloc, &setup, before, maker, met)
 }
 

@@ -60,6 +60,17 @@ pub fn hex_bytes(alloc: Global, words: &[u8]) -> Result<Option<Vec<u8>>, AllocEr
     Ok(Some(bytes))
 }
 
+/// A byte, in base 16, so often: `COUNT BYTE`. None where a word is none.
+pub fn filling(alloc: Global, words: &[u8]) -> Result<Option<Vec<u8>>, AllocError> {
+    let Some((count, rest)) = split_number(words) else {
+        return Ok(None);
+    };
+    match number_in(rest, 16) {
+        Some(byte) => Ok(Some(vec![in alloc; (byte % 256) as u8; count as usize]?)),
+        None => Ok(None),
+    }
+}
+
 fn numbers_in(alloc: Global, words: &[u8], base: u64) -> Result<Option<Vec<u64>>, AllocError> {
     let mut list = Vec::new(alloc);
     for word in words.split(|byte| *byte == b' ') {

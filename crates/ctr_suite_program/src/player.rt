@@ -2,7 +2,7 @@
 use crate::databases::Right;
 use crate::judge::{Found, found_alone, led_from};
 use crate::meetings::{Met, meet};
-use crate::numbers::{hex_bytes, name_of, number, numbers, split_file, split_number};
+use crate::numbers::{filling, hex_bytes, name_of, number, numbers, split_file, split_number};
 use crate::page::Page;
 use crate::reading::{put_cuts, put_line, put_record, put_tokens};
 use crate::run::play;
@@ -100,7 +100,9 @@ impl Player {
             Step::Init | Step::Run | Step::Words | Step::Turns | Step::Device | Step::Root => {
                 return self.begin_run(step, rest);
             }
-            Step::Alter | Step::Length | Step::Show => return self.on_file(step, rest),
+            Step::Alter | Step::Fill | Step::Length | Step::Show => {
+                return self.on_file(step, rest);
+            }
             Step::After => return self.go_on_after(rest),
             Step::Calls => self.list_calls()?,
             Step::Counts => self.counts.put(self.alloc, &mut self.page),
@@ -163,6 +165,7 @@ impl Player {
             Step::Gives => self.next.taken_most = first,
             Step::Takes => self.next.put_most = first,
             Step::Clock => self.next.moment = first,
+            Step::Frames => self.next.frames = first,
             _ => {
                 self.next.faults = first;
                 self.next.strays = list.get(1).copied().unwrap_or(0);
@@ -171,7 +174,7 @@ impl Player {
         Ok(Some(()))
     }
 
-    // alter FILE PLACE BYTES, length FILE LENGTH, show FILE FROM TO
+    // alter FILE PLACE BYTES, fill FILE PLACE COUNT BYTE, length FILE LENGTH, show FILE FROM TO
     fn on_file(&mut self, step: Step, rest: &[u8]) -> Result<Option<()>, OutOfMemory> {
         let Some((file, rest)) = split_file(rest) else {
             return Ok(None);
@@ -193,7 +196,12 @@ impl Player {
             self.page.put(b"\n");
             return Ok(Some(()));
         }
-        let Some(with) = hex_bytes(self.alloc, rest)? else {
+        let with = if step == Step::Fill {
+            filling(self.alloc, rest)?
+        } else {
+            hex_bytes(self.alloc, rest)?
+        };
+        let Some(with) = with else {
             return Ok(None);
         };
         self.image.write(self.alloc, file, place, &with)?;
@@ -230,8 +238,8 @@ impl Player {
 
     // Goes on with the image of a run.
     fn take_image(&mut self, ran: &Ran) -> Result<(), OutOfMemory> {
-        if let Some(image) = ran.seen.images.first() {
-            self.image = image.copy()?;
+        if let Some(taken) = ran.seen.images.first() {
+            self.image = taken.image.copy()?;
         }
         Ok(())
     }
@@ -262,7 +270,7 @@ impl Player {
         if ran.tape.entries.is_empty() {
             return Ok(());
         }
-        match led_from(self.alloc, &self.right, &self.last.script, ran)? {
+        match led_from(self.alloc, &self.right, &self.last, ran)? {
             Some(right) => self.right = right,
             None => self.page.put(b"WRONG: the tape isn't legal\n"),
         }
@@ -440,9 +448,9 @@ impl Player {
             return Ok(None);
         };
         if step == Step::Cuts {
-            put_cuts(self.alloc, &mut self.page, &bytes)?;
+            put_cuts(self.alloc, &mut self.page, &bytes);
         } else {
-            put_record(self.alloc, &mut self.page, &bytes)?;
+            put_record(self.alloc, &mut self.page, &bytes);
         }
         Ok(Some(()))
     }

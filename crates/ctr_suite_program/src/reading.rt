@@ -2,8 +2,8 @@
 use crate::page::Page;
 use ctr_io::MemSource;
 use ctr_lex::tokens;
+use ctr_rec::decode;
 use ctr_script::{ScriptError, read_script};
-use ctr_thin_rec::{Item, RecordError, decode};
 use ctr_types::{List, OutOfMemory, Script, Text};
 use std::alloc::Global;
 
@@ -64,51 +64,35 @@ pub fn put_line(alloc: Global, page: &mut Page, line: &[u8]) -> Result<(), OutOf
     put_script(alloc, page, &bytes)
 }
 
-/// How many items a record of a commit has, or which check fails at which byte.
-pub fn put_record(alloc: Global, page: &mut Page, bytes: &[u8]) -> Result<(), OutOfMemory> {
-    put_decoded(alloc, page, &decode(alloc, bytes))
-}
-
-fn put_decoded(
-    alloc: Global,
-    page: &mut Page,
-    decoded: &Result<List<Item>, RecordError>,
-) -> Result<(), OutOfMemory> {
-    match decoded {
-        Ok(items) => {
-            page.put_number(alloc, "items ", items.len() as u64);
+/// Whether bytes are a record of the log, or which check fails at which byte.
+pub fn put_record(alloc: Global, page: &mut Page, bytes: &[u8]) {
+    match decode(bytes) {
+        Ok(_) => {
+            let tag = bytes.first().copied().unwrap_or(0);
+            page.put_number(alloc, "a record of tag ", tag as u64);
             page.put(b"\n");
         }
-        Err(RecordError::Bad(bad)) => {
+        Err(bad) => {
             page.put_number(alloc, "bad at ", bad.at);
             page.put_wanted(alloc, bad.want, bad.got);
         }
-        Err(RecordError::OutOfMemory) => return Err(OutOfMemory),
     }
-    Ok(())
 }
 
 // The byte at which the check of a record fails that is cut to this length, and what it wants; None where none fails.
-fn cut_at(alloc: Global, bytes: &[u8], length: usize) -> Result<Option<(u64, u128)>, OutOfMemory> {
-    failing_in(&decode(alloc, &bytes[..length.min(bytes.len())]))
-}
-
-fn failing_in(
-    decoded: &Result<List<Item>, RecordError>,
-) -> Result<Option<(u64, u128)>, OutOfMemory> {
-    match decoded {
-        Ok(_) => Ok(None),
-        Err(RecordError::Bad(bad)) => Ok(Some((bad.at, bad.want))),
-        Err(RecordError::OutOfMemory) => Err(OutOfMemory),
+fn cut_at(bytes: &[u8], length: usize) -> Option<(u64, u128)> {
+    match decode(&bytes[..length.min(bytes.len())]) {
+        Ok(_) => None,
+        Err(bad) => Some((bad.at, bad.want)),
     }
 }
 
 /// Which check fails of a record that is cut short. Lengths at which the same fails are one line.
-pub fn put_cuts(alloc: Global, page: &mut Page, bytes: &[u8]) -> Result<(), OutOfMemory> {
+pub fn put_cuts(alloc: Global, page: &mut Page, bytes: &[u8]) {
     let mut first = 0usize;
-    let mut last = cut_at(alloc, bytes, 0)?;
+    let mut last = cut_at(bytes, 0);
     for length in 1..bytes.len() {
-        let next = cut_at(alloc, bytes, length)?;
+        let next = cut_at(bytes, length);
         if next != last {
             put_cut(alloc, page, first, length - 1, last);
             first = length;
@@ -116,7 +100,6 @@ pub fn put_cuts(alloc: Global, page: &mut Page, bytes: &[u8]) -> Result<(), OutO
         }
     }
     put_cut(alloc, page, first, bytes.len().saturating_sub(1), last);
-    Ok(())
 }
 
 fn put_cut(alloc: Global, page: &mut Page, from: usize, to: usize, bad: Option<(u64, u128)>) {

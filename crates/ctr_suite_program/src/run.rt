@@ -2,12 +2,12 @@
 //
 // Whoever owns a disk, or what a run has left of it, does nothing else: each step beside it that can fail has a proof
 // that frees all of it.
-ghost use Rattle.std.specs.Prelude.{◌<◌};
+ghost use Rattle.std.specs.Prelude.{◌<◌, ◌≤◌};
 
 use crate::calls::{counts_of, images_of, listing_of, moments_of};
 use crate::device::{play_calls, play_root};
 use crate::printed::printing_of;
-use crate::setup::{Ask, Ran, Seen, Setup, Work};
+use crate::setup::{Ask, Ran, Seen, Setup, UNCOUNTED, Work};
 use ctr_disk::Disk;
 use ctr_io::{MemSink, MemSource, Sink, Source};
 use ctr_mem_disk::MemDisk;
@@ -74,12 +74,13 @@ fn run_plainly<D: Disk, S: Source, K: Sink>(
     sink: &mut K,
 ) -> Left<D> {
     let ended = run_serial(alloc, words, disk, source, sink);
+    let left = ended.left;
     Left {
         ending: ended.ending,
-        tape: ended.tape,
+        tape: left.tape,
         report: ended.report,
         survey: ended.survey,
-        disk: ended.disk,
+        disk: left.disk,
     }
 }
 
@@ -87,16 +88,20 @@ fn run_plainly<D: Disk, S: Source, K: Sink>(
 fn turns_plainly<D: Disk, S: Source>(
     alloc: Global,
     disk: D,
+    frames: usize,
     source: &mut S,
     actors: &[Actor],
-) -> Left<D> {
-    let outcome = run_script(alloc, disk, source, Schedule::Turns(actors));
+) -> Left<D>
+    requires frames { (8 ≤ frames) × (frames ≤ 4096) }
+{
+    let outcome = run_script(alloc, disk, frames, source, Schedule::Turns(actors));
+    let left = outcome.left;
     Left {
         ending: outcome.ending,
-        report: report_of(&outcome.tape),
+        report: report_of(&left.tape, left.undone),
         survey: UNCOUNTED,
-        tape: outcome.tape,
-        disk: outcome.disk,
+        tape: left.tape,
+        disk: left.disk,
     }
 }
 
@@ -165,12 +170,14 @@ fn command_put(
     let left = run_plainly(alloc, &setup.words, disk, source, sink);
     let seen = seen_of(alloc, &command_of(setup, left.survey), &left, ask);
     let text = sink.bytes().to_vec(alloc);
-    ran_of(left.ending.status(), tape_of(left), text, seen)
+    let survey = left.survey;
+    ran_of(left.ending.status(), survey, tape_of(left), text, seen)
 }
 
 // What a run has left, where memory was given for all that is told of it.
 fn ran_of(
     status: u8,
+    survey: Survey,
     tape: Tape,
     text: Result<Vec<u8>, AllocError>,
     seen: Result<Seen, AllocError>,
@@ -180,31 +187,30 @@ fn ran_of(
             status,
             tape,
             text,
+            survey,
             seen,
         }),
         _ => Err(AllocError),
     }
 }
 
-// How often commits were answered and acts refused.
-fn report_of(tape: &Tape) -> Report {
+// How often commits were answered and acts refused, and how many turns undo took.
+fn report_of(tape: &Tape, undone: usize) -> Report {
     Report {
         commits: count_answers(tape),
         refused: count_refusals(tape),
-        undo_turns: 0,
+        undo_turns: undone as u64,
         rows: 0,
         sum: 0,
     }
 }
 
-// What a run that reports nothing has counted.
-const UNCOUNTED: Survey = Survey {
-    tables: 0,
-    rows: 0,
-    orphans: 0,
-    aborted: 0,
-    items: 0,
-};
+// The frames of a run by turns, of which there may be 8 to 4,096.
+fn frames_of(setup: &Setup) -> usize
+    ensures { (8 ≤ result) × (result ≤ 4096) }
+{
+    setup.frames.clamp(8, 4096) as usize
+}
 
 // Runs a script by turns of the setup's actors.
 fn play_turns(alloc: Global, setup: &Setup, ask: Ask) -> Result<Ran, AllocError> {
@@ -219,10 +225,10 @@ fn turns_put(
     source: &mut MemSource,
 ) -> Result<Ran, AllocError> {
     let disk = disk_of(alloc, setup)?;
-    let left = turns_plainly(alloc, disk, source, &setup.actors);
+    let left = turns_plainly(alloc, disk, frames_of(setup), source, &setup.actors);
     let seen = seen_of(alloc, &Command::Run, &left, ask);
     let text = printed_in(alloc, &seen);
-    ran_of(left.ending.status(), tape_of(left), text, seen)
+    ran_of(left.ending.status(), UNCOUNTED, tape_of(left), text, seen)
 }
 
 // A run by turns prints nothing itself, so what it puts is what it has to.

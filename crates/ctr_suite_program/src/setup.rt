@@ -2,6 +2,7 @@
 use crate::page::Page;
 use ctr_home::Root;
 use ctr_mem_disk::Image;
+use ctr_model::Survey;
 use ctr_types::{Actor, Tape};
 use std::alloc::{AllocError, Global};
 
@@ -25,6 +26,8 @@ pub struct Setup {
     pub words: Vec<String>,
     pub script: Vec<u8>,
     pub actors: Vec<Actor>,
+    /// How many frames a run by turns has for its pages; a command's words say it themselves.
+    pub frames: u64,
     pub image: Image,
     /// The numbers, from 1, of the calls that fail.
     pub disk_fails: Vec<u64>,
@@ -47,8 +50,9 @@ pub enum Ask {
     Last,
     /// What a crash leaves after so many calls, by these digits.
     Stop(u64, u64),
-    /// What a crash leaves after each number of calls, by each number of digits below 64.
-    Each,
+    /// What a crash leaves at the start, and behind each write and sync from one call up to another: by each number of digits where there were at
+    /// most two writes since the last sync; of more behind the last one alone, by those that say the same of each.
+    Between(u64, u64),
     /// No image, but a line for each call.
     Calls,
 }
@@ -84,7 +88,16 @@ pub struct Ran {
     pub tape: Tape,
     /// What was put.
     pub text: Vec<u8>,
+    /// What a report that is finished has counted.
+    pub survey: Survey,
     pub seen: Seen,
+}
+
+/// An image, and the number of calls behind which it was taken.
+#[derive(Drop)]
+pub struct Taken {
+    pub calls: u64,
+    pub image: Image,
 }
 
 /// What was asked of a run before its disk went.
@@ -94,10 +107,22 @@ pub struct Seen {
     pub printing: Vec<u8>,
     /// The clock after each call.
     pub moments: Vec<u64>,
-    pub images: Vec<Image>,
+    pub images: Vec<Taken>,
     pub listing: Page,
     pub counts: Counts,
 }
+
+/// What is counted where nothing is.
+pub const UNCOUNTED: Survey = Survey {
+    tables: 0,
+    rows: 0,
+    orphans: 0,
+    aborted: 0,
+    items: 0,
+};
+
+/// The frames that a run has where nothing else is said.
+const FRAMES: u64 = 64;
 
 impl Setup {
     pub fn new(alloc: Global, image: Image) -> Setup {
@@ -106,6 +131,7 @@ impl Setup {
             words: Vec::new(alloc),
             script: Vec::new(alloc),
             actors: Vec::new(alloc),
+            frames: FRAMES,
             image,
             disk_fails: Vec::new(alloc),
             source_fails: Vec::new(alloc),
@@ -142,6 +168,16 @@ pub fn plain_run(alloc: Global, image: &Image, script: &[u8]) -> Result<Setup, A
     let mut setup = Setup::new(alloc, image.copy()?);
     setup.words = words;
     setup.script = script;
+    Ok(setup)
+}
+
+/// A report of an image, in which nothing fails.
+pub fn plain_report(alloc: Global, image: &Image) -> Result<Setup, AllocError> {
+    let mut words = Vec::new(alloc);
+    words.push(String::from_str(alloc, "report")?)?;
+    words.push(String::from_str(alloc, "d")?)?;
+    let mut setup = Setup::new(alloc, image.copy()?);
+    setup.words = words;
     Ok(setup)
 }
 

@@ -26,14 +26,17 @@ pub enum Step {
     /// The clock, the faults and the strays with which the next run begins.
     Clock,
     Counted,
+    /// How many frames the next run by turns has for its pages.
+    Frames,
     /// Of the next run only the first lines and the last one are printed.
     Brief,
     /// The slow machine judges no more runs of this case.
     Unjudged,
     /// The disk may hold any number of the last run's commits.
     Any,
-    /// Bytes of a file are altered, or its length.
+    /// Bytes of a file are altered, the same byte so often, or its length.
     Alter,
+    Fill,
     Length,
     /// Goes on with what a crash of the last run leaves.
     After,
@@ -50,7 +53,7 @@ pub enum Step {
     /// The tokens of the lines that follow; and whether each of them is a script.
     Tokens,
     Lines,
-    /// Whether bytes are the record of a commit; and what is said of each shorter length.
+    /// Whether bytes are a record of the log; and what is said of each shorter length.
     Record,
     Cuts,
     /// The script that follows, by turns of these actors; and the commits that the last run answered, each at its moment.
@@ -60,7 +63,7 @@ pub enum Step {
     Generated,
 }
 
-const STEPS: [(&str, Step); 32] = [
+const STEPS: [(&str, Step); 34] = [
     ("case", Step::Case),
     ("init", Step::Init),
     ("run", Step::Run),
@@ -74,10 +77,12 @@ const STEPS: [(&str, Step); 32] = [
     ("sink-takes", Step::Takes),
     ("clock", Step::Clock),
     ("counted", Step::Counted),
+    ("frames", Step::Frames),
     ("brief", Step::Brief),
     ("unjudged", Step::Unjudged),
     ("any", Step::Any),
     ("alter", Step::Alter),
+    ("fill", Step::Fill),
     ("length", Step::Length),
     ("after", Step::After),
     ("show", Step::Show),

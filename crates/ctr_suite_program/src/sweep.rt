@@ -1,5 +1,4 @@
 // A run under every stop, and under every failing call.
-use crate::calls::DIGITS;
 use crate::databases::Right;
 use crate::judge::{Found, Probe, answered_by, found_alone, found_in, led_from};
 use crate::lists::one;
@@ -12,6 +11,9 @@ use std::mem;
 
 /// The status of a run that finds no database.
 pub const NO_DATABASE: u8 = 3;
+
+/// The images behind so many calls are held at once.
+const PART: u64 = 32;
 
 /// How many images held each number of commits, and how many were wrong.
 #[derive(Drop)]
@@ -96,11 +98,11 @@ fn tally_of(
     probe: &Probe,
     tally: &mut Tally,
 ) -> Result<(), OutOfMemory> {
-    for (number, image) in ran.seen.images.iter().enumerate() {
-        let calls = number / DIGITS as usize;
+    for taken in ran.seen.images.iter() {
+        let calls = taken.calls as usize;
         let least = owed(setup, ran, right, calls);
         let may_lack = was_none && (calls < ran.seen.moments.len() || right.none);
-        let found = found_in(alloc, right, probe, image)?;
+        let found = found_in(alloc, right, probe, &taken.image)?;
         tally.count(found, least, may_lack);
     }
     Ok(())
@@ -129,20 +131,29 @@ fn tally_stops(
     was_none: bool,
     tally: &mut Tally,
 ) -> Result<(), OutOfMemory> {
-    let ran = play(alloc, setup, Ask::Each)?;
-    tally_ran(alloc, setup, right, was_none, &ran, tally)
+    let probe = Probe::new(alloc, right)?;
+    for part in 0..=calls_of(alloc, setup)? / PART {
+        tally_part(alloc, setup, right, was_none, part, &probe, tally)?;
+    }
+    Ok(())
 }
 
-fn tally_ran(
+fn tally_part(
     alloc: Global,
     setup: &Setup,
     right: &Right,
     was_none: bool,
-    ran: &Ran,
+    part: u64,
+    probe: &Probe,
     tally: &mut Tally,
 ) -> Result<(), OutOfMemory> {
-    let probe = Probe::new(alloc, right)?;
-    tally_of(alloc, setup, right, was_none, ran, &probe, tally)
+    let from = part.saturating_mul(PART);
+    let ran = play(
+        alloc,
+        setup,
+        Ask::Between(from, from.saturating_add(PART - 1)),
+    )?;
+    tally_of(alloc, setup, right, was_none, &ran, probe, tally)
 }
 
 /// How a run ended whose call failed, as far as a line tells it.
@@ -183,7 +194,7 @@ fn right_after(
     if setup.is_command("init") {
         return Ok(Some(Right::empty(alloc, true)?));
     }
-    led_from(alloc, before, &setup.script, ran)
+    led_from(alloc, before, setup, ran)
 }
 
 // How the run ends, and what its disk holds then.
@@ -212,11 +223,11 @@ fn held_by(
     ran: &Ran,
     failing: Failing,
 ) -> Result<Failing, OutOfMemory> {
-    let Some(image) = ran.seen.images.first() else {
+    let Some(taken) = ran.seen.images.first() else {
         return Ok(failing);
     };
     let mut judged = failing;
-    match found_alone(alloc, right, image)? {
+    match found_alone(alloc, right, &taken.image)? {
         Found::Commits(number) if right.has(number) => judged.held = Some(number),
         Found::Status(NO_DATABASE) => judged.without = was_none,
         _ => {}

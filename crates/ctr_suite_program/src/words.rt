@@ -52,10 +52,10 @@ pub fn root_of(alloc: Global, rest: &[u8]) -> Result<Option<Root>, AllocError> {
     match (list.first(), list.get(1), list.get(2)) {
         (Some(stamp), Some(file), Some(first)) => Ok(Some(Root {
             stamp: *stamp,
-            format: 0,
+            format: 1,
             file: (*file % 2) as u8,
             first: *first,
-            pages: 0,
+            pages: 64,
         })),
         _ => Ok(None),
     }

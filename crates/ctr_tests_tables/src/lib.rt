@@ -6,8 +6,6 @@
 #![tactic(auto)]
 
 #[cfg(test)]
-mod key_locks;
-#[cfg(test)]
 mod locks;
 #[cfg(test)]
 mod pool;

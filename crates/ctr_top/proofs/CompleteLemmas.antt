@@ -1,20 +1,27 @@
 -- Where nothing fails a script runs to its end.
-use Rattle.std.proofs.Common.{◌≡◌, ◌≢◌, ◌⊎◌, inl, inr, ⊎_elim, ℕ, List, [], refl, sym, subst, arith}
+use Rattle.std.proofs.Common.{◌≡◌, ◌≢◌, inl, inr, ℕ, List, refl, arith}
 use Rattle.std.specs.Prelude.{IsTrue}
 use Rattle.ctr_types.specs.declared.statement.Line.{Line}
-use Rattle.ctr_disk.specs.declared.disk.Disk.{Ghosts}
-use Rattle.ctr_io.specs.declared.edges.Source.{Ghosts as Source}
 use Rattle.ctr_types.specs.Faults.{CountsFault}
+use Rattle.ctr_disk.specs.declared.disk.Disk.{Ghosts}
+use Rattle.ctr_disk.specs.declared.fault.Stop.TheVariants as stop
+use Rattle.ctr_io.specs.declared.edges.Source.{Ghosts as Source}
+use Rattle.ctr_log.specs.declared.opening.OpenError.{OpenError}
+use Rattle.ctr_log.specs.declared.opening.OpenError.TheVariants as open_error
 use Rattle.ctr_model.specs.Language.{SpellsLine}
 use Rattle.ctr_model.specs.Lines.{IsWritten, IsRefusedIn}
+use Rattle.ctr_redo.specs.States.{State}
+use Rattle.ctr_record_effects.specs.Standing.{StandsForDatabase}
 use Rattle.ctr_script.specs.Written.{IsShortText}
-use Rattle.ctr_thin.proofs.FlushLemmas.{has_root}
-use Rattle.ctr_thin_world.specs.World.{CanOpen}
+use Rattle.ctr_database.specs.ctr_run.ctr_world.Ended.{PassesOpening}
+use Rattle.ctr_database.specs.ctr_run.declared.ran.RunEnd.{RunEnd}
+use Rattle.ctr_database.specs.ctr_run.declared.ran.RunEnd.TheVariants as run
+use Rattle.ctr_database.specs.ctr_run.Running.{EndsAsAsked}
 use Rattle.ctr_top.specs.declared.outcome.Outcome.{Outcome}
 use Rattle.ctr_top.specs.declared.ending.Ending.{Ending}
 use Rattle.ctr_top.specs.declared.ending.Ending.TheVariants as ending
-use Rattle.ctr_top.specs.Endings.{work}
-use Rattle.ctr_top.specs.Top.{RunCauses, RunLeaves, DiskWhy, SourceWhy, IsRefused}
+use Rattle.ctr_top.specs.Endings.{ran_as, work}
+use Rattle.ctr_top.specs.Top.{EndsUnfailed, IsUnrun, RunCauses, SourceWhy, IsScriptRead}
 
 abbrev pub NoScriptIsRefused : Type 0
 NoScriptIsRefused = (bytes : List ℕ) (ls : List Line) (line at : ℕ) → IsWritten SpellsLine bytes ls → IsRefusedIn SpellsLine bytes line at → ⊥
@@ -34,23 +41,37 @@ work_is ending.OutOfMemory other = refl
 work_is ending.Exists other = refl
 work_is (ending.Worn number) other = refl
 
--- a run in which nothing failed is finished, or ended for want of memory before its first entry
-module _ {D S : Type 0} (law : NoScriptIsRefused) (g : Ghosts D) (old : D) (s : Source S) (source new : S) (o : Outcome D) (h : RunCauses g old s source new o) (leaves : RunLeaves g old o)
-    (told : IsTrue g.tells) (source_told : IsTrue s.tells) (ls : List Line) (script : IsShortText (s.left source) ls) (can_open : CanOpen (g.reads old))
-    (no_disk : CountsFault (g.faults_of old) (g.faults_of o.disk) → ⊥) (no_source : CountsFault (s.faults_of source) (s.faults_of new) → ⊥) where
-  each : (e : Ending) → DiskWhy g old o.disk e → SourceWhy s source new e → (e ≡ ending.Finished) ⊎ (e ≡ ending.OutOfMemory)
-  each ending.Finished disk from = inl refl
-  each (ending.Refused line at) disk from = absurd (law (s.left source) ls line at script.written (from source_told).refused)
-  each ending.TooLong disk from = absurd (omega (arith, script.few, from source_told))
-  each ending.Usage disk from = absurd disk
-  each ending.NoDatabase disk from = absurd (has_root (g.reads old) can_open.0 can_open.1.0 (disk told))
-  each (ending.Damaged d) disk from = absurd ((disk.1 told).1 can_open.0 can_open.1.0)
-  each ending.DiskFault disk from = absurd (no_disk disk)
-  each ending.ReadFault disk from = absurd (no_source from)
-  each ending.WriteFault disk from = absurd disk
-  each ending.OutOfMemory disk from = inr refl
-  each ending.Exists disk from = absurd disk
-  each (ending.Worn number) disk from = absurd ((disk.1 told).none_low can_open.0 can_open.1.0 can_open.1.1)
+-- a run in which nothing failed is finished, or ended for want of memory before its first entry, or is worn
+module _ {D S : Type 0} (law : NoScriptIsRefused) (g : Ghosts D) (old : D) (s : Source S) (source new : S) (o : Outcome D) (h : RunCauses g old s source new o)
+    (told : IsTrue g.tells) (source_told : IsTrue s.tells) (ls : List Line) (script : IsShortText (s.left source) ls) (base : State) (stands : StandsForDatabase (g.reads old) base) (passes : PassesOpening (g.reads old))
+    (no_disk : CountsFault (g.faults_of old) (g.faults_of o.left.disk) → ⊥) (no_source : CountsFault (s.faults_of source) (s.faults_of new) → ⊥) where
+  -- the script was read, since the source holds one and didn't fail
+  is_read : (e : Ending) → SourceWhy s source new e → IsScriptRead e
+  is_read ending.Finished from = tt
+  is_read (ending.Refused line at) from = absurd (law (s.left source) ls line at script.written (from source_told).refused)
+  is_read ending.TooLong from = absurd (omega (arith, script.few, from source_told))
+  is_read ending.Usage from = tt
+  is_read ending.NoDatabase from = tt
+  is_read (ending.Damaged d) from = tt
+  is_read ending.DiskFault from = tt
+  is_read ending.ReadFault from = absurd (no_source from)
+  is_read ending.WriteFault from = tt
+  is_read ending.OutOfMemory from = tt
+  is_read ending.Exists from = tt
+  is_read (ending.Worn number) from = tt
 
-  pub complete_of : (o.ending ≡ ending.Finished) ⊎ ((o.ending ≡ ending.OutOfMemory) × (o.tape.entries ≡ []))
-  complete_of = ⊎_elim (λ is. inl is) (λ is. inr (is, (leaves.nothing (inl (subst IsRefused (sym is) tt))).tape)) (each o.ending h.by_disk h.by_source)
+  by_end : (end : RunEnd) → o.ending ≡ ran_as end → ((error : OpenError) → end ≡ run.Unopened error → IsUnrun o.left) → EndsAsAsked g old o.left.disk end → EndsUnfailed o.ending o.left
+  by_end run.Finished is none asked = inl is
+  by_end (run.Unopened open_error.NoDatabase) is none asked = absurd asked
+  by_end (run.Unopened (open_error.Damaged d)) is none asked = absurd asked
+  by_end (run.Unopened (open_error.Worn n)) is none asked = absurd (asked passes)
+  by_end (run.Unopened open_error.Fault) is none asked = absurd (no_disk asked)
+  by_end (run.Unopened open_error.OutOfMemory) is none asked = inr (inl (is, (none open_error.OutOfMemory refl).0))
+  by_end (run.Stopped stop.Fault) is none asked = absurd (no_disk asked)
+  by_end (run.Stopped (stop.Damaged d)) is none asked = absurd asked
+  by_end (run.Stopped (stop.Worn lsn)) is none asked = inr (inr (lsn, is, asked))
+
+  pub complete_of : EndsUnfailed o.ending o.left
+  complete_of =
+      let by = h.by_disk (is_read o.ending h.by_source) in
+      by_end by.end by.is by.none (by.asked base told stands)

@@ -1,8 +1,7 @@
-mod WordLemmas
 mod RunLemmas
 mod NothingDone
+mod MakeLemmas
 mod ReportLemmas
 mod ScriptLemmas
 mod CompleteLemmas
 mod EndLemmas
-mod SerialTurns

@@ -1,60 +1,45 @@
 -- What a report leaves.
-use Rattle.std.proofs.Common.{◌≡◌, ◌∙◌, ◌⊎◌, inl, inr, [], refl, sym, ap, subst}
-use Rattle.std.specs.Prelude.{IsTrue}
+use Rattle.std.proofs.Common.{◌≡◌, ◌⊎◌, sym, subst}
+use Rattle.std.specs.Prelude.{◌≤◌, IsTrue}
+use Rattle.ctr_disk.specs.Device.{LeavesOnly}
 use Rattle.ctr_disk.specs.declared.disk.Disk.{Ghosts}
-use Rattle.ctr_disk.specs.Device.{OnlyReads}
-use Rattle.ctr_types.specs.Faults.{CountsFault}
 use Rattle.ctr_log.specs.declared.opening.OpenError.{OpenError}
-use Rattle.ctr_thin.specs.Thin.{Explains, OpenDiffers}
-use Rattle.ctr_thin_world.specs.Surveying.{OnlySurveys}
-use Rattle.ctr_thin.proofs.FlushLemmas.{has_root}
-use Rattle.ctr_thin_world.specs.World.{CanOpen, RefusesWith}
+use Rattle.ctr_log.specs.declared.opening.OpenError.TheVariants as open_error
+use Rattle.ctr_redo.specs.States.{State}
+use Rattle.ctr_record_effects.specs.Standing.{StandsForDatabase}
+use Rattle.ctr_store.specs.Opening.{IsUndamaged}
+use Rattle.ctr_database.specs.ctr_run.ctr_world.Ended.{PassesOpening, RefusesWith, RefusesWorld}
+use Rattle.ctr_database.specs.ctr_run.declared.ran.RunEnd.{RunEnd}
+use Rattle.ctr_database.specs.ctr_run.declared.ran.RunEnd.TheVariants.{Finished, Unopened}
+use Rattle.ctr_database.specs.ctr_run.Running.{EndsFor}
+use Rattle.ctr_database.proofs.ctr_run.Ends.{as_asked}
 use Rattle.ctr_top.specs.declared.outcome.Outcome.{Outcome}
-use Rattle.ctr_top.specs.declared.ending.Ending.{Ending}
 use Rattle.ctr_top.specs.declared.ending.Ending.TheVariants as ending
 use Rattle.ctr_top.specs.Endings.{opened_as}
-use Rattle.ctr_top.specs.Top.{DiskWhy, LinesCauses, IsScriptRead, ReportLeaves}
-use Rattle.ctr_top.proofs.RunLemmas.{open_causes}
+use Rattle.ctr_top.specs.Top.{IsUnrun, ReportLeaves}
 
-module _ {D : Type 0} (g : Ghosts D) (old : D) (o : Outcome D) (tape : o.tape.entries ≡ []) where
-  -- nothing failed, so it is finished, or memory was refused
-  completes : LinesCauses g old o → IsTrue g.tells → CanOpen (g.reads old) → (CountsFault (g.faults_of old) (g.faults_of o.disk) → ⊥) → (o.ending ≡ ending.Finished) ⊎ (o.ending ≡ ending.OutOfMemory)
-  completes h told can no_fault = each o.ending h.by_disk h.is_read
-    where
-      each : (e : Ending) → DiskWhy g old o.disk e → IsScriptRead e → (e ≡ ending.Finished) ⊎ (e ≡ ending.OutOfMemory)
-      each ending.Finished why read = inl refl
-      each (ending.Refused line at) why read = absurd read
-      each ending.TooLong why read = absurd read
-      each ending.Usage why read = absurd why
-      each ending.NoDatabase why read = absurd (has_root (g.reads old) can.0 can.1.0 (why told))
-      each (ending.Damaged d) why read = absurd ((why.1 told).1 can.0 can.1.0)
-      each ending.DiskFault why read = absurd (no_fault why)
-      each ending.ReadFault why read = absurd read
-      each ending.WriteFault why read = absurd why
-      each ending.OutOfMemory why read = inr refl
-      each ending.Exists why read = absurd why
-      each (ending.Worn number) why read = absurd ((why.1 told).none_low can.0 can.1.0 can.1.1)
+module _ {D : Type 0} (g : Ghosts D) (old : D) (o : Outcome D) (none : IsUnrun o.left) (disk : D) (same : o.left.disk ≡ disk)
+    (left : (base : State) → IsTrue g.tells → StandsForDatabase (g.reads old) base → LeavesOnly g old disk (λ c. g.images old c ⊎ StandsForDatabase c base)) where
+  left_told : (base : State) → IsTrue g.tells → StandsForDatabase (g.reads old) base → LeavesOnly g old o.left.disk (λ c. g.images old c ⊎ StandsForDatabase c base)
+  left_told base told stands = subst (λ d. LeavesOnly g old d (λ c. g.images old c ⊎ StandsForDatabase c base)) (sym same) (left base told stands)
 
   -- the database was counted
-  pub counted : (disk : _) → o.disk ≡ disk → o.ending ≡ ending.Finished → OnlySurveys g old disk → (IsTrue g.tells → CanOpen (g.reads old)) → ReportLeaves g old o
-  counted disk same is only can =
-      let causes : LinesCauses g old o = record { by_disk = subst (DiskWhy g old o.disk) (sym is) (can, ap (λ d. g.faults_of d) same ∙ only.faults); is_read = subst IsScriptRead (sym is) tt } in
-      record {
-        tape = tape;
-        left = subst (OnlyReads g old) (sym same) only.quiet;
-        stray = ap (λ d. g.strays_of d) same ∙ only.stray;
-        causes = causes;
-        complete = completes causes;
-      }
+  pub counted : o.ending ≡ ending.Finished → g.faults_of disk ≡ g.faults_of old → (IsTrue g.tells → PassesOpening (g.reads old)) → ReportLeaves g old o
+  counted is faults passes = record {
+    none = none;
+    left = left_told;
+    causes = record { end = Finished; is = is; why = subst (λ d. EndsFor g old d Finished) (sym same) (faults, passes); none = λ error unopened. none; asked = λ base told stands. tt };
+    unbegun = λ stop stopped. absurd (cc stopped);
+  }
 
   -- it wasn't opened
-  pub uncounted : (error : OpenError) (disk : _) → o.disk ≡ disk → o.ending ≡ opened_as error → OpenDiffers error → (IsTrue g.tells → Explains (g.reads old) error) → RefusesWith g old error disk → ReportLeaves g old o
-  uncounted error disk same is differs explains stays =
-      let causes = open_causes g old o error is differs explains (λ fault. subst (λ d. CountsFault (g.faults_of old) (g.faults_of d)) (sym same) (stays.fault fault)) in
+  pub uncounted : (error : OpenError) → o.ending ≡ opened_as error → RefusesWith g old error disk → (IsTrue g.tells → RefusesWorld (g.reads old) error)
+      → ((base : State) → IsTrue g.tells → StandsForDatabase (g.reads old) base → IsUndamaged error) → ReportLeaves g old o
+  uncounted error is stays refused undamaged =
+      let why : EndsFor g old o.left.disk (Unopened error) = subst (λ d. EndsFor g old d (Unopened error)) (sym same) (stays, refused) in
       record {
-        tape = tape;
-        left = subst (OnlyReads g old) (sym same) stays.quiet;
-        stray = ap (λ d. g.strays_of d) same ∙ stays.stray;
-        causes = causes;
-        complete = completes causes;
+        none = none;
+        left = left_told;
+        causes = record { end = Unopened error; is = is; why = why; none = λ it unopened. none; asked = λ base told stands. as_asked g old o.left.disk base (Unopened error) told stands (undamaged base told stands) why };
+        unbegun = λ stop stopped. absurd (cc stopped);
       }

@@ -1,5 +1,5 @@
--- What a script's lines are: each of one of the eight sessions, of a statement that a record can tell, and no
--- more than bytes.
+-- What a script's lines are: each of one of the eight sessions, with columns that fit where it makes a table, and
+-- no more than bytes.
 use Rattle.std.proofs.Common.{⊎_elim, ℕ, ◌+◌, ◌≤◌, ◌==◌, ◌&&◌, Bool, true, false, cond, List, [], ◌∷◌, ◌++◌, length, sym, ap, subst, arith}
 use Rattle.std.specs.Prelude.{codes}
 use Rattle.std.specs.List.{AllByRecursion}
@@ -13,9 +13,9 @@ use Rattle.ctr_types.specs.declared.statement.Line.{Line}
 use Rattle.ctr_model.specs.Grammar.{Part, IsWithin, IsKind, column_parts, schema_parts, kind_parts, statement_parts, close_paren, open_paren, sign, session, key, name, IsSchema}
 use Rattle.ctr_model.specs.Language.{MatchParts, SpellsLine}
 use Rattle.ctr_model.specs.Lines.{lines_of, is_at_end, in_front, AllSay, IsWritten}
-use Rattle.ctr_thin_rec.specs.Items.{KindFits, ColumnFits, ColumnsFit}
-use Rattle.ctr_turns.specs.Items.{IsRecorded}
-use Rattle.ctr_thin_world.specs.World.{IsRunLine}
+use Rattle.ctr_value.specs.Columns.{KindFits, ColumnFits, ColumnsFit}
+use Rattle.ctr_database.specs.ctr_run.ctr_world.ctr_exec.ctr_writing.Tables.{HasFittingColumns}
+use Rattle.ctr_database.specs.ctr_run.ctr_world.Opened.{IsRunLine}
 
 -- ---- names of columns
 
@@ -55,7 +55,7 @@ behind_six ps p q r s u v (a ∷ b ∷ c ∷ d ∷ []) m = absurd m.1.1.1.1
 behind_six ps p q r s u v (a ∷ b ∷ c ∷ d ∷ e ∷ []) m = absurd m.1.1.1.1.1
 behind_six ps p q r s u v (a ∷ b ∷ c ∷ d ∷ e ∷ f ∷ ts) m = (ts, m.1.1.1.1.1.1)
 
--- ---- what a record can tell
+-- ---- columns that fit
 
 kind_fits : (k : Kind) → IsKind k → KindFits 64 k
 kind_fits kind.Int is = tt
@@ -70,24 +70,24 @@ schema_fits [] is names = absurd is.key
 schema_fits (c ∷ cs) is names =
     ((names.0, subst (KindFits 0) (sym is.key) tt), columns_fit cs names.1 is.kinds.1, omega (arith, is.amount.1))
 
-recorded : (s : ℕ) (statement : Statement) (ts : List (List ℕ)) → IsWithin statement → MatchParts ts (session s ∷ sign 62 ∷ statement_parts statement ++ sign 59 ∷ []) → IsRecorded statement
-recorded s st.Begin ts within m = tt
-recorded s st.Commit ts within m = tt
-recorded s st.Rollback ts within m = tt
-recorded s (st.Create table schema) ts within m =
+fits : (s : ℕ) (statement : Statement) (ts : List (List ℕ)) → IsWithin statement → MatchParts ts (session s ∷ sign 62 ∷ statement_parts statement ++ sign 59 ∷ []) → HasFittingColumns statement
+fits s st.Begin ts within m = tt
+fits s st.Commit ts within m = tt
+fits s st.Rollback ts within m = tt
+fits s (st.Create table schema) ts within m =
     let cs = schema.columns in
     let six = behind_six ((schema_parts cs ++ close_paren ∷ []) ++ sign 59 ∷ []) (session s) (sign 62) (key (codes "CREATE")) (key (codes "TABLE")) (name table) open_paren ts m in
     let front = match_front (schema_parts cs ++ close_paren ∷ []) (sign 59 ∷ []) six.0 six.1 in
     let columns = match_front (schema_parts cs) (close_paren ∷ []) front.0 front.1 in
     schema_fits cs within (schema_names cs columns.0 columns.1)
-recorded s (st.DropTable table) ts within m = tt
-recorded s (st.Insert table values) ts within m = tt
-recorded s (st.Select table at) ts within m = tt
-recorded s (st.Update table sets at) ts within m = tt
-recorded s (st.Delete table at) ts within m = tt
+fits s (st.DropTable table) ts within m = tt
+fits s (st.Insert table values) ts within m = tt
+fits s (st.Select table at) ts within m = tt
+fits s (st.Update table sets at) ts within m = tt
+fits s (st.Delete table at) ts within m = tt
 
 run_line : (l : Line) (ts : List (List ℕ)) → SpellsLine ts l → IsRunLine l
-run_line l ts is = record { least = is.low; most = is.high; recorded = recorded l.session l.statement ts is.within is.spelled }
+run_line l ts is = record { least = is.low; most = is.high; fits = fits l.session l.statement ts is.within is.spelled }
 
 all_run : (lines : List (List ℕ)) (said : List Line) → AllSay SpellsLine lines said → AllByRecursion IsRunLine said
 all_run [] said is = subst (AllByRecursion IsRunLine) (sym is) tt

@@ -1,16 +1,18 @@
 -- How a command ends: one table from the ending to its status and to what its last line tells.
-use Rattle.std.specs.Prelude.{ℕ, Option, Some, None, Result, Ok, Err}
-use Rattle.ctr_disk.specs.declared.fault.Stop.{Stop}
+use Rattle.std.specs.Prelude.{ℕ, ⊤, Result, Ok, Err}
 use Rattle.ctr_disk.specs.declared.fault.Stop.TheVariants as stop
-use Rattle.ctr_disk.specs.declared.fault.StoreFault.{StoreFault}
-use Rattle.ctr_log.specs.declared.making.Making.{Making}
-use Rattle.ctr_log.specs.declared.making.Making.TheVariants as making
 use Rattle.ctr_model.specs.declared.tape.Cause.{Cause}
 use Rattle.ctr_model.specs.declared.tape.Cause.TheVariants as cause
 use Rattle.ctr_script.specs.declared.error.ScriptError.{ScriptError}
 use Rattle.ctr_script.specs.declared.error.ScriptError.TheVariants as script_error
 use Rattle.ctr_log.specs.declared.opening.OpenError.{OpenError}
 use Rattle.ctr_log.specs.declared.opening.OpenError.TheVariants as open_error
+use Rattle.ctr_database.specs.ctr_run.declared.ran.RunEnd.{RunEnd}
+use Rattle.ctr_database.specs.ctr_run.declared.ran.RunEnd.TheVariants as run
+use Rattle.ctr_store.specs.declared.creating.CreateError.{CreateError}
+use Rattle.ctr_store.specs.declared.creating.CreateError.TheVariants as create
+use Rattle.ctr_words.specs.declared.words.WordsError.{WordsError}
+use Rattle.ctr_words.specs.declared.words.WordsError.TheVariants as words
 use Rattle.ctr_top.specs.declared.ending.Ending.{Ending}
 use Rattle.ctr_top.specs.declared.ending.Ending.TheVariants as ending
 
@@ -43,6 +45,11 @@ work e = e
 
 -- ---- by what it ends
 
+-- How a command ends whose words ask for nothing, by the error.
+abbrev pub asked_as : WordsError → Ending
+asked_as words.Usage = ending.Usage
+asked_as words.OutOfMemory = ending.OutOfMemory
+
 -- How a command ends whose database wasn't opened, by the error.
 abbrev pub opened_as : OpenError → Ending
 opened_as open_error.NoDatabase = ending.NoDatabase
@@ -58,15 +65,16 @@ read_as script_error.TooLong = ending.TooLong
 read_as script_error.ReadFault = ending.ReadFault
 read_as script_error.OutOfMemory = ending.OutOfMemory
 
--- a World has ended, or was stopped
-abbrev pub stopped_as : Option Stop → Ending
-stopped_as None = ending.Finished
-stopped_as (Some stop.Fault) = ending.DiskFault
-stopped_as (Some (stop.Damaged d)) = ending.Damaged d
-stopped_as (Some (stop.Worn lsn)) = ending.Worn lsn
+-- How a run ends whose script was read, by its end.
+abbrev pub ran_as : RunEnd → Ending
+ran_as run.Finished = ending.Finished
+ran_as (run.Unopened error) = opened_as error
+ran_as (run.Stopped stop.Fault) = ending.DiskFault
+ran_as (run.Stopped (stop.Damaged d)) = ending.Damaged d
+ran_as (run.Stopped (stop.Worn lsn)) = ending.Worn lsn
 
 -- a database was made, or wasn't
-abbrev pub made_as : Result Making StoreFault → Ending
-made_as (Ok making.Made) = ending.Finished
-made_as (Ok making.Exists) = ending.Exists
-made_as (Err error) = ending.DiskFault
+abbrev pub made_as : Result ⊤ CreateError → Ending
+made_as (Ok made) = ending.Finished
+made_as (Err create.Exists) = ending.Exists
+made_as (Err create.Fault) = ending.DiskFault

@@ -1,4 +1,2 @@
-pub mod Words
 pub mod Endings
 pub mod Top
-pub mod Serial

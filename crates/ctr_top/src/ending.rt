@@ -1,12 +1,15 @@
 // How a command ends, with its status and its cause.
 ghost use Rattle.std.specs.Prelude.{◌≡◌};
-ghost use Rattle.ctr_top.specs.Endings.{status_of, cause_of, opened_as, read_as, stopped_as, made_as};
+ghost use Rattle.ctr_top.specs.Endings.{status_of, cause_of, asked_as, opened_as, read_as, ran_as, made_as};
 
-use ctr_disk::{Stop, StoreFault};
-use ctr_log::{Making, OpenError};
+use ctr_database::running::RunEnd;
+use ctr_disk::Stop;
+use ctr_log::OpenError;
 use ctr_model::Cause;
 use ctr_script::ScriptError;
+use ctr_store::CreateError;
 use ctr_types::Damage;
+use ctr_words::WordsError;
 
 /// How a command ends.
 #[derive(Clone, Copy, Debug, PartialEq, Eq)]
@@ -70,6 +73,16 @@ impl Ending {
     }
 }
 
+/// The ending of words that ask for nothing.
+pub fn not_asked(error: WordsError) -> Ending
+    ensures { result ≡ asked_as error }
+{
+    match error {
+        WordsError::Usage => Ending::Usage,
+        WordsError::OutOfMemory => Ending::OutOfMemory,
+    }
+}
+
 /// The ending of a run whose database wasn't opened.
 pub fn not_opened(error: OpenError) -> Ending
     ensures { result ≡ opened_as error }
@@ -95,25 +108,26 @@ pub fn not_read(error: ScriptError) -> Ending
     }
 }
 
-/// The ending of a run whose World has ended.
-pub fn stopped(stop: Option<Stop>) -> Ending
-    ensures { result ≡ stopped_as stop }
+/// The ending of a run whose script was read.
+pub fn ended(end: RunEnd) -> Ending
+    ensures { result ≡ ran_as end }
 {
-    match stop {
-        None => Ending::Finished,
-        Some(Stop::Fault) => Ending::DiskFault,
-        Some(Stop::Damaged(damage)) => Ending::Damaged(damage),
-        Some(Stop::Worn { lsn }) => Ending::Worn { number: lsn },
+    match end {
+        RunEnd::Finished => Ending::Finished,
+        RunEnd::Unopened(error) => not_opened(error),
+        RunEnd::Stopped(Stop::Fault) => Ending::DiskFault,
+        RunEnd::Stopped(Stop::Damaged(damage)) => Ending::Damaged(damage),
+        RunEnd::Stopped(Stop::Worn { lsn }) => Ending::Worn { number: lsn },
     }
 }
 
 /// The ending of a making.
-pub fn made(end: Result<Making, StoreFault>) -> Ending
+pub fn made(end: Result<(), CreateError>) -> Ending
     ensures { result ≡ made_as end }
 {
     match end {
-        Ok(Making::Made) => Ending::Finished,
-        Ok(Making::Exists) => Ending::Exists,
-        Err(_) => Ending::DiskFault,
+        Ok(()) => Ending::Finished,
+        Err(CreateError::Exists) => Ending::Exists,
+        Err(CreateError::Fault) => Ending::DiskFault,
     }
 }

@@ -7,9 +7,9 @@ mod outcome;
 mod report;
 mod run;
 mod script;
-mod words;
 
+pub use ctr_database::running::Schedule;
 pub use ending::Ending;
 pub use outcome::Outcome;
 pub use run::{Ended, run_serial};
-pub use script::{Schedule, run_script};
+pub use script::run_script;

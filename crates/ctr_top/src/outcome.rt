@@ -2,34 +2,28 @@
 ghost use Rattle.std.specs.Prelude.{◌≡◌, []};
 
 use crate::ending::Ending;
-use ctr_turns::Turns;
-use ctr_types::{List, Tape};
+use ctr_database::running::Left;
 use std::alloc::Global;
 
 /// What the work of a command leaves.
 #[derive(Drop)]
 pub struct Outcome<D> {
     pub ending: Ending,
-    pub tape: Tape,
-    pub disk: D,
-    /// What a run's sessions have in memory.
-    pub rest: Option<Turns>,
+    /// Its entries, the turns of undo, and the disk.
+    pub left: Left<D>,
 }
 
 impl<D> Outcome<D> {
     /// A command that has no entries.
     pub fn without_tape(alloc: Global, ending: Ending, disk: D) -> Outcome<D>
         ensures ending { result.ending ≡ ending }
-        ensures tape { result.tape.entries ≡ [] }
-        ensures disk { result.disk ≡ disk }
+        ensures tape { result.left.tape.entries ≡ [] }
+        ensures undone { result.left.undone ≡ 0 }
+        ensures disk { result.left.disk ≡ disk }
     {
         Outcome {
             ending,
-            tape: Tape {
-                entries: List::new(alloc),
-            },
-            disk,
-            rest: None,
+            left: Left::none(alloc, disk),
         }
     }
 }

@@ -1,46 +1,43 @@
 // The commands from words to a last line.
-ghost use Rattle.std.specs.Prelude.{◌≡◌, ◌≢◌, true, false, ◌⊎◌, ◌++◌, IsTrue, [], List, Some, map};
+ghost use Rattle.std.specs.Prelude.{◌≡◌, ◌≢◌, ◌≤◌, true, false, ◌++◌, IsTrue, ℕ, List, Some, map};
 ghost use Rattle.std.specs.String.{string_bytes};
 ghost use Rattle.ctr_types.specs.declared.statement.Line.{Line};
-ghost use Rattle.ctr_model.specs.Database.{Database};
 ghost use Rattle.ctr_model.specs.Language.{SpellsLine};
 ghost use Rattle.ctr_model.specs.Lines.{IsWritten};
 ghost use Rattle.ctr_model.specs.Tape.{IsSerial};
 ghost use Rattle.ctr_model.specs.Texts.{transcript, last_line};
+ghost use Rattle.ctr_redo.specs.States.{State};
+ghost use Rattle.ctr_record_effects.specs.Standing.{StandsForDatabase};
 ghost use Rattle.ctr_script.specs.Written.{IsShortText};
-ghost use Rattle.ctr_thin.specs.Thin.{StandsFor};
-ghost use Rattle.ctr_thin_world.specs.World.{CanOpen};
-ghost use Rattle.ctr_top.specs.declared.ending.Ending.TheVariants.{Finished, WriteFault, OutOfMemory};
+ghost use Rattle.ctr_words.specs.Words.{command_asked};
+ghost use Rattle.ctr_database.specs.ctr_run.ctr_world.Ended.{PassesOpening};
+ghost use Rattle.ctr_top.specs.declared.ending.Ending.TheVariants.{Finished, WriteFault};
 ghost use Rattle.ctr_top.specs.Endings.{status_of, cause_of, work};
-ghost use Rattle.ctr_top.specs.Words.{command_asked, command_told};
-ghost use Rattle.ctr_top.specs.Top.{RanScript, RunCauses, RunLeaves, Makes, GoesForward, MindsWords, PutsText, NoneFailed, IsReported, Reports, printed_text, work_of, report_of, faults_of};
+ghost use Rattle.ctr_top.specs.Top.{RanScript, RunCauses, EndsUnfailed, Makes, GoesForward, MindsWords, PutsText, NoneFailed, Reports, command_told, printed_text, work_of, report_of, faults_of};
 
-use crate::ending::Ending;
+use crate::ending::{Ending, not_asked};
 use crate::making::make;
 use crate::outcome::Outcome;
 use crate::report::{UNCOUNTED, report};
-use crate::script::{Schedule, run_script};
-use crate::words::{Subcommand, command};
+use crate::script::run_script;
+use ctr_database::running::{Left, Schedule};
 use ctr_disk::Disk;
 use ctr_io::{Sink, Source};
 use ctr_model::{Command, Report, Survey};
 use ctr_print::{count_answers, count_refusals, put_run};
 use ctr_script::one_script;
-use ctr_turns::Turns;
-use ctr_types::Tape;
+use ctr_words::{FRAMES, Subcommand, command};
 use std::alloc::Global;
 
 /// How a command ended.
 #[derive(Drop)]
 pub struct Ended<D> {
     pub ending: Ending,
-    pub tape: Tape,
+    /// Its entries, the turns of undo, and the disk.
+    pub left: Left<D>,
     pub report: Report,
     /// What a report that is finished has counted.
     pub survey: Survey,
-    pub disk: D,
-    /// What a run's sessions have in memory still. A program that ends needn't free it.
-    pub rest: Option<Turns>,
 }
 
 // The ending of work whose text was put, or not.
@@ -59,45 +56,38 @@ fn after_put(ending: Ending, fine: bool) -> Ending
 // Puts the transcript and the last line.
 fn ending<D, K: Sink>(sink: &mut K, command: &Command, outcome: Outcome<D>) -> Ended<D>
     requires { outcome.ending ≢ WriteFault }
-    ensures printed { PutsText K.Sink sink.old (transcript outcome.tape.entries ++ last_line command.now (status_of outcome.ending) (cause_of outcome.ending) outcome.tape.entries (report_of outcome.tape.entries)) sink.new result.ending }
+    ensures printed { PutsText K.Sink sink.old (transcript outcome.left.tape.entries ++ last_line command.now (status_of outcome.ending) (cause_of outcome.ending) outcome.left.tape.entries (report_of outcome.left)) sink.new result.ending }
     ensures outcome { work_of result ≡ outcome }
-    ensures report { result.report ≡ report_of outcome.tape.entries }
+    ensures report { result.report ≡ report_of outcome.left }
     ensures survey { (counts : Survey) → command.now ≡ Command.Survey counts → result.survey ≡ counts }
 {
+    let Outcome { ending, left } = outcome;
     let report = Report {
-        commits: count_answers(&outcome.tape),
-        refused: count_refusals(&outcome.tape),
-        undo_turns: 0,
+        commits: count_answers(&left.tape),
+        refused: count_refusals(&left.tape),
+        undo_turns: left.undone as u64,
         rows: 0,
         sum: 0,
     };
-    let Outcome {
-        ending,
-        tape,
-        disk,
-        rest,
-    } = outcome;
     let status = ending.status();
     let cause = ending.cause();
-    let fine = put_run(sink, command, status, &cause, &tape, &report);
+    let fine = put_run(sink, command, status, &cause, &left.tape, &report);
     let survey = match command {
         Command::Survey { start } => *start,
         Command::Init | Command::Run | Command::Load { .. } => UNCOUNTED,
     };
     Ended {
         ending: after_put(ending, fine),
-        tape,
+        left,
         report,
         survey,
-        disk,
-        rest,
     }
 }
 
 /// Runs a command: the words behind the program's name, over a disk, from a source to a sink.
 ///
-/// `init DIR` makes the empty database; `run DIR` runs the script of the source; `report DIR` counts what
-/// the database holds. DIR doesn't begin with `-`, and the disk is that of the folder. How it ends, and by
+/// `init DIR` makes the empty database; `run DIR [--frames N]` runs the script of the source, with so many frames for the database's pages;
+/// `report DIR` counts what the database holds. DIR doesn't begin with `-`, and the disk is that of the folder. How it ends, and by
 /// which status, is an `Ending`.
 pub fn run_serial<D: Disk, S: Source, K: Sink>(
     alloc: Global,
@@ -108,47 +98,45 @@ pub fn run_serial<D: Disk, S: Source, K: Sink>(
 ) -> Ended<D>
     // The text of the tape and the ending was put, or a prefix of it where the sink failed.
     ensures printed { PutsText K.Sink sink.old (printed_text (command_told (command_asked (map string_bytes words.now)) result.survey) result) sink.new result.ending }
-    ensures tape { IsReported result.tape.entries result.report }
+    ensures tape { result.report ≡ report_of result.left }
     // Usage comes exactly for words that are no command, unless memory is refused.
     ensures usage { MindsWords S.Source (command_asked (map string_bytes words.now)) disk result source.old source.new }
-    // A run's tape is legal over the database that the disk holds, and a crash at any moment from the
-    // call's start to its end leaves a prefix of the commit order with every commit answered by then.
-    ensures ran { command_asked (map string_bytes words.now) ≡ Some Subcommand.Run → (base : Database) → IsTrue D.tells → StandsFor (D.reads disk) base
-        → RanScript D.Disk disk base S.Source source.old (work_of result) }
-    ensures run_causes { command_asked (map string_bytes words.now) ≡ Some Subcommand.Run → RunCauses D.Disk disk S.Source source.old source.new (work_of result) }
-    ensures run_leaves { command_asked (map string_bytes words.now) ≡ Some Subcommand.Run → RunLeaves D.Disk disk (work_of result) }
+    // A run's tape stands in the order of its script, whatever the disk tells; over the database that the disk holds it is legal, and a crash at any
+    // moment from the call's start to its end leaves a prefix of the commit order with every commit answered by then.
+    ensures ran { (frames : ℕ) → command_asked (map string_bytes words.now) ≡ Some (Subcommand.Run frames) → RanScript D.Disk disk S.Source source.old (work_of result) }
+    ensures run_causes { (frames : ℕ) → command_asked (map string_bytes words.now) ≡ Some (Subcommand.Run frames) → RunCauses D.Disk disk S.Source source.old source.new (work_of result) }
     // The statements stand on the tape in the order of the script's lines, each one's entries together.
-    ensures serial { command_asked (map string_bytes words.now) ≡ Some Subcommand.Run → IsTrue S.tells → (lines : List Line) → IsWritten SpellsLine (S.left source.old) lines
-        → IsSerial lines result.tape.entries }
-    // Where nothing fails a script runs to its end, or memory was refused before its first entry.
-    ensures complete { command_asked (map string_bytes words.now) ≡ Some Subcommand.Run → IsTrue D.tells → IsTrue S.tells
-        → (lines : List Line) → IsShortText (S.left source.old) lines → CanOpen (D.reads disk)
-        → NoneFailed (faults_of D.Disk S.Source K.Sink disk source.old sink.old) (faults_of D.Disk S.Source K.Sink result.disk source.new sink.new)
-        → (result.ending ≡ Finished) ⊎ ((result.ending ≡ OutOfMemory) × (result.tape.entries ≡ [])) }
+    ensures serial { (frames : ℕ) → command_asked (map string_bytes words.now) ≡ Some (Subcommand.Run frames) → IsTrue S.tells → (lines : List Line)
+        → IsWritten SpellsLine (S.left source.old) lines → IsSerial lines result.left.tape.entries }
+    // Where nothing fails a script runs to its end, or memory was refused before its first entry, or the last number of a record is told.
+    ensures complete { (frames : ℕ) → command_asked (map string_bytes words.now) ≡ Some (Subcommand.Run frames) → IsTrue D.tells → IsTrue S.tells
+        → (lines : List Line) → IsShortText (S.left source.old) lines → (s : State) → StandsForDatabase (D.reads disk) s → PassesOpening (D.reads disk)
+        → NoneFailed (faults_of D.Disk S.Source K.Sink disk source.old sink.old) (faults_of D.Disk S.Source K.Sink result.left.disk source.new sink.new)
+        → EndsUnfailed result.ending result.left }
     ensures init { command_asked (map string_bytes words.now) ≡ Some Subcommand.Init → Makes D.Disk disk (work_of result) }
-    // A report changes nothing, at any moment, and tells what the disk held at the start.
+    // A report logs nothing, and tells what the disk held at the start.
     ensures report { command_asked (map string_bytes words.now) ≡ Some Subcommand.Report → Reports D.Disk disk result }
     // A command that is finished has met no fault.
     ensures calm { result.ending ≡ Finished
-        → faults_of D.Disk S.Source K.Sink result.disk source.new sink.new ≡ faults_of D.Disk S.Source K.Sink disk source.old sink.old }
-    ensures forward { GoesForward D.Disk S.Source disk result.disk source.old source.new }
+        → faults_of D.Disk S.Source K.Sink result.left.disk source.new sink.new ≡ faults_of D.Disk S.Source K.Sink disk source.old sink.old }
+    ensures forward { GoesForward D.Disk S.Source disk result.left.disk source.old source.new }
 {
     one_script();
     let subcommand = match command(alloc, words) {
         Ok(subcommand) => subcommand,
         Err(why) => {
-            let outcome = Outcome::without_tape(alloc, why, disk);
+            let outcome = Outcome::without_tape(alloc, not_asked(why), disk);
             return ending(sink, &Command::Run, outcome);
         }
     };
     match subcommand {
         Subcommand::Init => ending(sink, &Command::Init, make(alloc, disk)),
         Subcommand::Report => {
-            let (start, outcome) = report(alloc, disk);
+            let (start, outcome) = report(alloc, disk, usize::from(FRAMES));
             ending(sink, &Command::Survey { start }, outcome)
         }
-        Subcommand::Run => {
-            let outcome = run_script(alloc, disk, source, Schedule::Serial);
+        Subcommand::Run { frames } => {
+            let outcome = run_script(alloc, disk, usize::from(frames), source, Schedule::Serial);
             ending(sink, &Command::Run, outcome)
         }
     }

@@ -9,10 +9,10 @@ use Rattle.ctr_top.proofs.run.ending.Goals as goal
 pub returns-clause-printed : goal.returns-clause-printed
 returns-clause-printed g c =
     let o = c.args.outcome in
-    let es = o.tape.entries in
-    let made : Report = record { commits = c.count_answers.result; refused = c.count_refusals.result; undo_turns = 0; rows = 0; sum = pos 0 } in
-    let is : made ≡ report_of es = λ i. record { commits = c.count_answers.ensures i; refused = c.count_refusals.ensures i; undo_turns = 0; rows = 0; sum = pos 0 } in
-    let text : transcript es ++ last_line c.args.command.now c.status-status.result c.cause-cause.result es made ≡ transcript es ++ last_line c.args.command.now (status_of o.ending) (cause_of o.ending) es (report_of es) =
+    let es = o.left.tape.entries in
+    let made : Report = record { commits = c.count_answers.result; refused = c.count_refusals.result; undo_turns = o.left.undone; rows = 0; sum = pos 0 } in
+    let is : made ≡ report_of o.left = λ i. record { commits = c.count_answers.ensures i; refused = c.count_refusals.ensures i; undo_turns = o.left.undone; rows = 0; sum = pos 0 } in
+    let text : transcript es ++ last_line c.args.command.now c.status-status.result c.cause-cause.result es made ≡ transcript es ++ last_line c.args.command.now (status_of o.ending) (cause_of o.ending) es (report_of o.left) =
     λ i. transcript es ++ last_line c.args.command.now (c.status-status.ensures i) (c.cause-cause.ensures i) es (is i) in
     record {
       done = c.put_run-fine.result;

@@ -1,4 +1,0 @@
-pub mod Acts
-pub mod Seats
-pub mod Locking
-pub mod Writing

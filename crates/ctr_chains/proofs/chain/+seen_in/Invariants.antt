@@ -1,5 +1,0 @@
-use Rattle.std.proofs.Common.{length}
-use Rattle.ctr_chains.proofs.chain.+seen_in.Given as goal
-
-abbrev pub decreases-seen_in : goal.decreases-seen_in
-decreases-seen_in g l = length l.versions.now

@@ -1,4 +1,0 @@
-pub mod Counting
-pub mod Kept
-pub mod Numbered
-pub mod Stored

@@ -1,4 +1,0 @@
-pub mod Blind
-pub mod Loaded
-pub mod Counts
-pub mod Runs

@@ -1,3 +1,0 @@
-pub mod Runners
-pub mod Acting
-pub mod Steps

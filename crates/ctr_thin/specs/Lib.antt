@@ -1,4 +1,0 @@
-pub mod Opening
-pub mod Checks
-pub mod Thin
-pub mod Inside
