@@ -6,11 +6,10 @@ use Rattle.ctr_types.specs.declared.file.File.TheVariants.{Pages}
 use Rattle.ctr_disk.specs.Image.{Image, content}
 use Rattle.ctr_home.specs.declared.root.Root.{Root}
 use Rattle.ctr_home.specs.declared.block.Block.TheVariants.{Page}
-use Rattle.ctr_home.specs.declared.root.Form.TheVariants.{Paged}
 use Rattle.ctr_home.specs.declared.block.Home.{Home}
 use Rattle.ctr_home.specs.declared.block.Home.TheVariants.{First, Second}
 use Rattle.ctr_home.specs.Blocks.{zero_bytes, opens_to, greater, held_at, home_place, stamp_in, value_home, value_of}
-use Rattle.ctr_home.specs.Roots.{IsRootOf, SaysRootOf, root_value}
+use Rattle.ctr_home.specs.Roots.{IsRoot, SaysRoot, root_value}
 use Rattle.ctr_log.specs.Kept.{kept_log, HoldsLog}
 use Rattle.ctr_pool.specs.Pages.{PageHeld}
 use Rattle.ctr_redo.specs.ctr_meta.Tables.{no_tables}
@@ -66,7 +65,7 @@ module _ (root : Root) (old new : Image) (sound : IsSound root old) (keeps : Kee
 
   pub sound_cleared : IsSound root new
   sound_cleared = record {
-    says = subst (λ (o : _). SaysRootOf Paged o root) (sym (ap (λ (i : Image). root_value i.root) keeps.others)) sound.says;
+    says = subst (λ (o : _). SaysRoot o root) (sym (ap (λ (i : Image). root_value i.root) keeps.others)) sound.says;
     log = subst (λ (l : List (List ℕ)). HoldsLog root.file root.first l new) (sym (kept_same root.file root.first old new logs)) (holds_same root.file root.first (kept_log root.file root.first old) old new logs sound.log);
     fits = subst (EachFits root.pages no_tables) (sym (kept_same root.file root.first old new logs)) sound.fits;
     begins = begins_same root.file root.first old new logs sound.begins;
@@ -94,7 +93,7 @@ cleared_keeps from to old new order inside was =
       no_shorter = omega (arith, ap length was.pages, length-append (kept ++ zeros) rest, length-append kept zeros, long, length-replicate {A = ℕ} k 0, length-drop (8256 * to) old.pages, order);
     }
 
-pub can_count : (root more : Root) (old new : Image) → IsSound root old → IsRootOf Paged more → more.file ≡ root.file → more.first ≡ root.first → root.pages ≤ more.pages → AreCleared root.pages more.pages old new → CanCount root more new
+pub can_count : (root more : Root) (old new : Image) → IsSound root old → IsRoot more → more.file ≡ root.file → more.first ≡ root.first → root.pages ≤ more.pages → AreCleared root.pages more.pages old new → CanCount root more new
 can_count root more old new sound is_root file first grows was = record {
   is_root = is_root;
   file = file;

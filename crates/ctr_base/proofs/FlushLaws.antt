@@ -1,5 +1,5 @@
 -- What a flush leaves, and what goes on behind it.
-use Rattle.std.proofs.Common.{◌≡◌, inl, inr, ⊎_elim, ℕ, ◌+◌, ◌^◌, ◌<◌, ◌≤◌, List, [], ◌∷◌, ◌++◌, length, Result, sym, ◌∙◌, ap, subst, arith, length-append}
+use Rattle.std.proofs.Common.{◌≡◌, inl, inr, ⊎_elim, ℕ, ◌+◌, ◌-◌, ◌^◌, ◌<◌, ◌≤◌, List, [], ◌∷◌, ◌++◌, length, take, Result, sym, ◌∙◌, ap, subst, arith, length-append}
 use Rattle.std.proofs.lemmas.Bool.{cases_lt}
 use Rattle.std.proofs.lemmas.List.{append-nil, take_all, drop_all, length-map}
 use Rattle.ctr_types.specs.declared.file.File.{File}
@@ -146,5 +146,7 @@ module _ {D O : Type 0} (g : Ghosts D) where
                   inr (subst (λ (x : Stored). overlaid q x.first x.records v ≡ overlaid q x.first x.records (x.homes q)) (sym stored)
                   (overlaid-append q s.first s.records ws v ∙ ap (overlaid q (s.first + length s.records) ws) same ∙ sym (overlaid-append q s.first s.records ws (s.homes q)))))
                   may.is;
+              early = subst (λ (x : Stored). since < next_of x) (sym both) may.early;
+              behind = subst (λ (x : Stored). overlaid q x.first (take (since - x.first) x.records) (x.homes q) ≡ x.homes q) (sym both) may.behind;
             };
       }

@@ -1,5 +1,5 @@
 -- What a growth leaves, at each moment and behind it.
-use Rattle.std.proofs.Common.{◌≡◌, ◌⊎◌, inl, inr, ⊎_elim, ℕ, ◌+◌, ◌*◌, ◌<◌, ◌≤◌, List, ◌++◌, length, None, refl, sym, ◌∙◌, ap, subst, arith}
+use Rattle.std.proofs.Common.{◌≡◌, ◌⊎◌, inl, inr, ⊎_elim, ℕ, ◌+◌, ◌-◌, ◌*◌, ◌<◌, ◌≤◌, List, ◌++◌, length, take, None, refl, sym, ◌∙◌, ap, subst, arith}
 use Rattle.std.specs.Prelude.{min}
 use Rattle.ctr_disk.specs.declared.disk.Disk.{Ghosts}
 use Rattle.ctr_disk.specs.Image.{Image}
@@ -7,9 +7,8 @@ use Rattle.ctr_home.specs.declared.root.Root.{Root}
 use Rattle.ctr_disk.specs.Device.{LeavesOnly, IsDurable}
 use Rattle.ctr_disk.proofs.Moments.{weaker}
 use Rattle.ctr_home.specs.declared.block.Block.TheVariants.{Page, Root as RootBlock}
-use Rattle.ctr_home.specs.declared.root.Form.TheVariants.{Paged}
 use Rattle.ctr_home.specs.Blocks.{value_of}
-use Rattle.ctr_home.specs.Roots.{IsRootOf}
+use Rattle.ctr_home.specs.Roots.{IsRoot}
 use Rattle.ctr_home.specs.Writing.{OthersStay}
 use Rattle.ctr_log.specs.Kept.{kept_log}
 use Rattle.ctr_rec.specs.declared.record.Record.{Record}
@@ -40,7 +39,7 @@ grown_more n few = omega (arith, few)
 pub grown_most : (n : ℕ) → grown n ≤ 30000
 grown_most n = omega arith
 
-pub grown_is_root : (root : Root) → IsRootOf Paged root → root.pages < 30000 → IsRootOf Paged (grown_root root)
+pub grown_is_root : (root : Root) → IsRoot root → root.pages < 30000 → IsRoot (grown_root root)
 grown_is_root root is few =
     let more = grown_more root.pages few in
     let least = is.pages_low in
@@ -56,7 +55,7 @@ grown_is_root root is few =
     }
 
 -- the root that is written is that one
-pub is_grown_root : (root : Root) (stamp pages : ℕ) → IsRootOf Paged root → stamp ≡ min (root.stamp + 1) 18446744073709551615 → pages ≡ grown root.pages → record root { stamp = stamp; pages = pages } ≡ grown_root root
+pub is_grown_root : (root : Root) (stamp pages : ℕ) → IsRoot root → stamp ≡ min (root.stamp + 1) 18446744073709551615 → pages ≡ grown root.pages → record root { stamp = stamp; pages = pages } ≡ grown_root root
 is_grown_root root stamp pages is stamp_is pages_is =
     let most = is.pages_high in
     let first = is.first_high in
@@ -151,6 +150,7 @@ module _ {D O : Type 0} (g : Ghosts D) where
           file = stands.file;
           goes_on = (goes.0, goes.1, goes_on_same a.log old new (log_content a.log.file old new stands.file logs) goes.2);
           size = subst (λ (bytes : List ℕ). 8256 * more.pages ≤ length bytes) (sym (ap (λ (i : Image). i.pages) others.files)) (cleared_long a.root.pages more.pages old mid order stands.size has.1);
+          starts = stands.starts;
         }
 
     pub grows_quiet : IsQuiet g a → IsDurable g d → IsQuiet g b
@@ -186,6 +186,8 @@ module _ {D O : Type 0} (g : Ghosts D) where
               (λ full. inl (full ∙ sym (ap (λ l. overlaid q first l (home_of g b q)) all ∙ ap (overlaid q first (now_of g a).records) (homes q))))
               (λ same. inr (ap (λ l. overlaid q first l v) records_same ∙ same ∙ sym (ap (λ l. overlaid q first l (home_of g b q)) records_same ∙ ap (overlaid q first (stored_of g a).records) (homes q))))
               may.is;
+          early = let was = may.early in omega (arith, was, ap (λ (l : List Record). length l) all);
+          behind = ap (λ l. overlaid q first (take (since - first) l) (home_of g b q)) all ∙ ap (overlaid q first (take (since - first) (now_of g a).records)) (homes q) ∙ may.behind ∙ sym (homes q);
         }
 
     pub grows_holds : (first : Image) → HoldsStill (home_of g) (MayPut first g) a b

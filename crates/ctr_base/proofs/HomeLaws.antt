@@ -10,10 +10,9 @@ use Rattle.ctr_disk.specs.declared.fault.StoreFault.{StoreFault}
 use Rattle.ctr_disk.specs.declared.fault.StoreFault.TheVariants.{Fault, Damaged}
 use Rattle.ctr_disk.specs.Image.{Image, content}
 use Rattle.ctr_home.specs.declared.block.Block.TheVariants.{Page, Root as RootBlock}
-use Rattle.ctr_home.specs.declared.root.Form.TheVariants.{Paged}
 use Rattle.ctr_home.specs.Blocks.{BlockValue, held_at, value_of, value_place, page_with, blank_page}
 use Rattle.ctr_home.specs.Reading.{IsMisnumbered, IsFaultOr}
-use Rattle.ctr_home.specs.Roots.{SaysRootOf}
+use Rattle.ctr_home.specs.Roots.{SaysRoot}
 use Rattle.ctr_home.specs.Writing.{OthersStay, with_body}
 use Rattle.ctr_pool.specs.Below.{IsFound}
 use Rattle.ctr_redo.specs.Images.{home_in}
@@ -38,7 +37,7 @@ since_still first counted old new same since = record {
 }
 
 -- of the first image itself
-pub since_first : (first : Image) (root : Root) (image : Image) → SaysRootOf Paged (value_of RootBlock first) root → image ≡ first → HomesSince first root.pages image
+pub since_first : (first : Image) (root : Root) (image : Image) → SaysRoot (value_of RootBlock first) root → image ≡ first → HomesSince first root.pages image
 since_first first root image says same = record {
   more = λ r told. omega (arith, ap (λ (x : Root). x.pages) (one_root (value_of RootBlock first) r root told says));
   homes = λ r told p inside. inl (record { value = ap (λ (i : Image). value_of (Page p) i) same; place = ap (λ (i : Image). value_place (Page p) i) same });
@@ -61,7 +60,7 @@ since_written first counted p stamp body old new inside above others is since = 
     number_of : (q : ℕ) → Page q ≡ Page p → q ≡ p
     number_of q e = cc e
 
-    here : (r : Root) → SaysRootOf Paged (value_of RootBlock first) r → p < r.pages → IsSince p first new
+    here : (r : Root) → SaysRoot (value_of RootBlock first) r → p < r.pages → IsSince p first new
     here r says low =
         let lower = raw_lower counted p old stamp inside above in
         inr (record {

@@ -5,11 +5,10 @@ use Rattle.std.proofs.lemmas.List.{append-nil}
 use Rattle.ctr_bytes.specs.Fields.{spelled, field}
 use Rattle.ctr_bytes.proofs.FieldLaws.{field_at, length-spelled}
 use Rattle.ctr_home.specs.declared.root.Root.{Root}
-use Rattle.ctr_home.specs.declared.root.Form.TheVariants.{Paged}
 use Rattle.ctr_home.specs.Blocks.{BlockValue}
-use Rattle.ctr_home.specs.Roots.{root_block, IsRootOf, SaysRootOf}
+use Rattle.ctr_home.specs.Roots.{root_block, IsRoot, SaysRoot}
 
-module _ (r : Root) (root : IsRootOf Paged r) where
+module _ (r : Root) (root : IsRoot r) where
   abbrev to_format : List ℕ
   to_format = codes "CTRDB001" ++ spelled 4 r.format
 
@@ -43,7 +42,7 @@ module _ (r : Root) (root : IsRootOf Paged r) where
       let fits : r.pages < 256 ^ 4 = omega (arith, high) in
       ap (field 4 21) (sym (append-nil (to_first ++ spelled 4 r.pages))) ∙ field_at 4 r.pages 21 to_first [] long_first fits
 
-same_blocks : (a b : Root) → IsRootOf Paged a → IsRootOf Paged b → root_block a ≡ root_block b → a ≡ b
+same_blocks : (a b : Root) → IsRoot a → IsRoot b → root_block a ≡ root_block b → a ≡ b
 same_blocks a b ra rb same =
     let body : (root_block a).body ≡ (root_block b).body = ap (λ (x : BlockValue). x.body) same in
     let stamp : a.stamp ≡ b.stamp = ap (λ (x : BlockValue). x.stamp) same in
@@ -53,7 +52,7 @@ same_blocks a b ra rb same =
     let pages : a.pages ≡ b.pages = sym (pages_of_root a ra) ∙ ap (field 4 21) body ∙ pages_of_root b rb in
     λ i. record { stamp = stamp i; format = format i; file = file i; first = first i; pages = pages i }
 
-pub one_root : (value : Option BlockValue) (a b : Root) → SaysRootOf Paged value a → SaysRootOf Paged value b → a ≡ b
+pub one_root : (value : Option BlockValue) (a b : Root) → SaysRoot value a → SaysRoot value b → a ≡ b
 one_root value a b sa sb =
     let blocks : Some (root_block a) ≡ Some (root_block b) = sym sa.0 ∙ sb.0 in
     let same : root_block a ≡ root_block b = cc in

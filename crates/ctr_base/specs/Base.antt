@@ -1,11 +1,11 @@
 -- The log and the homes below a pool, on which nothing is pending, and how they change.
-use Rattle.std.specs.Prelude.{IsTrue, ◌≡◌, ◌≢◌, ◌⊎◌, ℕ, ◌+◌, ◌*◌, ◌^◌, ◌<◌, ◌≤◌, List, [], length, take, drop, Result, Ok, Err, Some, ⊤}
+use Rattle.std.specs.Prelude.{IsTrue, ◌≡◌, ◌≢◌, ◌⊎◌, ℕ, ◌+◌, ◌-◌, ◌*◌, ◌^◌, ◌<◌, ◌≤◌, List, [], length, take, drop, Result, Ok, Err, Some, ⊤}
 use Rattle.ctr_disk.specs.declared.disk.Disk.{Ghosts}
 use Rattle.ctr_disk.specs.Device.{LeavesOnly, IsDurable}
 use Rattle.ctr_disk.specs.Image.{Image, content}
 use Rattle.ctr_types.specs.declared.file.File.TheVariants.{Pages}
 use Rattle.ctr_home.specs.declared.root.Root.{Root}
-use Rattle.ctr_log.specs.Kept.{WritesBehind}
+use Rattle.ctr_log.specs.Kept.{WritesBehind, StartsAt}
 use Rattle.ctr_log.specs.Logs.{Log, Batches, GoesOn, buffer_size, log_end, WaitsOrNone}
 use Rattle.ctr_rec.specs.declared.record.Record.{Record}
 use Rattle.ctr_disk.specs.declared.fault.StoreFault.{StoreFault}
@@ -14,10 +14,9 @@ use Rattle.ctr_pool.specs.Pages.{PageHeld}
 use Rattle.ctr_pool.specs.declared.backing.Backing.{Ghosts as BackingGhosts}
 use Rattle.ctr_redo.specs.Overlaid.{overlaid}
 use Rattle.ctr_home.specs.declared.block.Block.TheVariants.{Page, Root as RootBlock}
-use Rattle.ctr_home.specs.declared.root.Form.TheVariants.{Paged}
 use Rattle.ctr_home.specs.Blocks.{BlockValue, value_of}
 use Rattle.ctr_home.specs.Reading.{IsMisnumbered}
-use Rattle.ctr_home.specs.Roots.{SaysRootOf}
+use Rattle.ctr_home.specs.Roots.{SaysRoot}
 use Rattle.ctr_redo.specs.Fitting.{MayFollow}
 use Rattle.ctr_redo.specs.States.{Stored, state_of, steps, with_more, next_of}
 use Rattle.ctr_redo.specs.Images.{records_in, home_in, stored_in, IsSound, FoldsFront, IsLogFile}
@@ -41,7 +40,8 @@ abbrev pub home_of : {D O : Type 0} → Ghosts D → Base D O → ℕ → PageHe
 home_of g b p = home_in b.root.pages (g.reads b.disk) p
 
 -- A page that may go home once its records are durable: it has all records so far, or the records
--- on the disk make the same page of it as of what is at home.
+-- on the disk make the same page of it as of what is at home. What is at home has all records below
+-- that of its first change since.
 pub record MaySave {D O : Type 0} (g : Ghosts D) (b : Base D O) (p since : ℕ) (v : PageHeld)
     : Type 0 where
   pub counted : p < b.root.pages
@@ -49,6 +49,9 @@ pub record MaySave {D O : Type 0} (g : Ghosts D) (b : Base D O) (p since : ℕ) 
   pub low : v.lsn < next_of (now_of g b)
   pub is : (v ≡ overlaid p b.root.first (now_of g b).records (home_of g b p))
       ⊎ (overlaid p b.root.first (stored_of g b).records v ≡ overlaid p b.root.first (stored_of g b).records (home_of g b p))
+  pub early : since < next_of (now_of g b)
+  pub behind : overlaid p b.root.first (take (since - b.root.first) (now_of g b).records) (home_of g b p)
+      ≡ home_of g b p
 
 -- Nothing is pending on the disk, which is sound; the log goes on behind what it holds, and the
 -- records that wait may follow there.
@@ -117,12 +120,14 @@ abbrev pub WhereSound : {D : Type 0} → Image → Ghosts D → Type 0 → Type 
 WhereSound first g P = IsTrue g.tells → IsSoundImage first → P
 
 -- Whatever the disk holds: it says the root, the log's writer goes on behind the batches of its
--- file, and the file of pages has all that are counted.
+-- file, in a generation that begins at the root's number, or behind it where an older one is kept,
+-- and the file of pages has all that are counted.
 pub record StandsWell {D O : Type 0} (g : Ghosts D) (b : Base D O) : Type 0 where
-  pub says : SaysRootOf Paged (value_of RootBlock (g.reads b.disk)) b.root
+  pub says : SaysRoot (value_of RootBlock (g.reads b.disk)) b.root
   pub file : IsLogFile b.log.file
   pub goes_on : (oldest : ℕ) × (bs : Batches) × GoesOn oldest bs b.log (g.reads b.disk)
   pub size : 8256 * b.root.pages ≤ length (content Pages (g.reads b.disk))
+  pub starts : StartsAt b.log.older b.root.first b.log.start
 
 -- The disk's parts stand well; each page is at home as in the first image, or was written since;
 -- and where that image was sound nothing is pending.

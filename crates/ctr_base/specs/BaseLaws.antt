@@ -1,5 +1,5 @@
 -- How the log and the homes go on under a pool.
-use Rattle.std.proofs.Common.{◌≡◌, ◌≢◌, inl, inr, ⊎_elim, ℕ, zero, suc, ◌+◌, ◌*◌, ◌<◌, ◌≤◌, nat_lt, if◌then◌else◌, Bool, true, false, List, [], ◌∷◌, ◌++◌, length, take, drop, refl, sym, ◌∙◌, ap, subst, arith, length-append, length-drop, Some}
+use Rattle.std.proofs.Common.{◌≡◌, ◌≢◌, inl, inr, ⊎_elim, ℕ, zero, suc, ◌+◌, ◌-◌, ◌*◌, ◌<◌, ◌≤◌, nat_lt, if◌then◌else◌, Bool, true, false, List, [], ◌∷◌, ◌++◌, length, take, drop, refl, sym, ◌∙◌, ap, subst, arith, length-append, length-drop, Some}
 use Rattle.std.proofs.Math.Seq.{take-nil}
 use Rattle.std.proofs.lemmas.List.{append-nil, drop-drop}
 use Rattle.ctr_types.specs.declared.file.File.{File}
@@ -10,13 +10,12 @@ use Rattle.ctr_disk.specs.Device.{LeavesOnly, OnlyReads, IsDurable}
 use Rattle.ctr_disk.specs.Image.{Image, content}
 use Rattle.ctr_disk.proofs.Moments.{starts, joined, weaker, still_only}
 use Rattle.ctr_home.specs.declared.block.Block.TheVariants.{Page, Root as RootBlock}
-use Rattle.ctr_home.specs.declared.root.Form.TheVariants.{Paged}
-use Rattle.ctr_home.specs.Roots.{SaysRootOf}
+use Rattle.ctr_home.specs.Roots.{SaysRoot}
 use Rattle.ctr_home.specs.Blocks.{BlockValue, value_of, value_in, page_with, blank_page}
 use Rattle.ctr_home.specs.Writing.{IsOldOrNewValue, with_body, OthersStay}
 use Rattle.ctr_log.specs.Logs.{Log, Batches, HasLog, GoesOn, batches, records}
 use Rattle.ctr_log.specs.Reading.{log_file}
-use Rattle.ctr_log.specs.Kept.{kept_log, other_file, IsDropped, HoldsLog, WritesBy, WritesBehind}
+use Rattle.ctr_log.specs.Kept.{kept_log, other_file, IsDropped, HoldsLog, StartsAt, WritesBy, WritesBehind}
 use Rattle.ctr_log.proofs.KeptLaws.{front_same}
 use Rattle.ctr_rec.specs.declared.record.Record.{Record}
 use Rattle.ctr_pool.specs.Pages.{PageHeld}
@@ -162,7 +161,7 @@ module _ {D O : Type 0} (g : Ghosts D) where
   Front b = FoldsFront (state_of (stored_of g b)) (waiting_of b)
 
   -- the gate lies in the file, where nothing is pending
-  gate_there : (b : Base D O) (c : Image) → IsQuiet g b → c ≡ g.reads b.disk → HasGate b.log c
+  pub gate_there : (b : Base D O) (c : Image) → IsQuiet g b → c ≡ g.reads b.disk → HasGate b.log c
   gate_there b c quiet is =
       let there = gate_in b.root.file b.root.first b.log (g.reads b.disk) quiet.writes in
       subst (HasGate b.log) (sym is) there
@@ -273,6 +272,8 @@ module _ {D O : Type 0} (g : Ghosts D) where
         is = ⊎_elim (λ all. inl (subst (λ (s : Stored). v ≡ overlaid p s.first s.records (s.homes p)) (sym both) all))
             (λ same. inr (subst (λ (s : Stored). overlaid p s.first s.records v ≡ overlaid p s.first s.records (s.homes p)) (sym stored) same))
             may.is;
+        early = subst (λ (s : Stored). since < next_of s) (sym both) may.early;
+        behind = subst (λ (s : Stored). overlaid p s.first (take (since - s.first) s.records) (s.homes p) ≡ s.homes p) (sym both) may.behind;
       }
 
   pub read_holds : (a : Base D O) (d : D) → OnlyReads g a.disk d → HoldsStill (home_of g) (MaySave g) a (record a { disk = d })
@@ -344,10 +345,11 @@ module _ {D O : Type 0} (g : Ghosts D) where
         let more = others.no_shorter in
         let size = stands.size in
         record {
-          says = subst (λ o. SaysRootOf Paged o a.root) (sym (others.blocks RootBlock (λ same. absurd (cc same)))) stands.says;
+          says = subst (λ o. SaysRoot o a.root) (sym (others.blocks RootBlock (λ same. absurd (cc same)))) stands.says;
           file = stands.file;
           goes_on = (goes.0, goes.1, goes_on_same a.log (g.reads a.disk) (g.reads d) (log_content a.log.file (g.reads a.disk) (g.reads d) stands.file same_logs) goes.2);
           size = omega (arith, more, size);
+          starts = stands.starts;
         }
 
   module _ (a : Base D O) (d : D) (p since : ℕ) (v : PageHeld) (quiet : IsQuiet g a) (may : MaySave g a p since v) (low : v.lsn < a.durable) (others : OthersStay (Page p) (g.reads a.disk) (g.reads d))
@@ -417,6 +419,8 @@ module _ {D O : Type 0} (g : Ghosts D) where
             is = ⊎_elim (λ all. inl (all ∙ sym (three (λ n l h. overlaid q n l h) from records held)))
                 (λ same. inr (three (λ n l h. overlaid q n l h) from home.records refl ∙ same ∙ sym (three (λ n l h. overlaid q n l h) from home.records held)))
                 may.is;
+            early = let was = may.early in omega (arith, was, from, ap (λ (l : List Record). length l) records);
+            behind = three (λ n l h. overlaid q n (take (since - n) l) h) from records held ∙ may.behind ∙ sym held;
           }
 
       still : (q since : ℕ) (w : PageHeld) → q ≢ p → MayPut first g m q since w → MayPut first g b q since w
@@ -429,12 +433,12 @@ module _ {D O : Type 0} (g : Ghosts D) where
   -- ---- what holds of every disk
 
   -- all is held, where the homes are as they were
-  pub holds_if : (first : Image) (a b : Base D O) → b.root ≡ a.root → ((q : ℕ) → home_of g b q ≡ home_of g a q) → (IsSoundImage first → HoldsStill (home_of g) (MaySave g) a b) → HoldsStill (home_of g) (MayPut first g) a b
+  pub holds_if : (first : Image) (a b : Base D O) → b.root.pages ≡ a.root.pages → ((q : ℕ) → home_of g b q ≡ home_of g a q) → (IsSoundImage first → HoldsStill (home_of g) (MaySave g) a b) → HoldsStill (home_of g) (MayPut first g) a b
   holds_if first a b root same sound = record {
     same = same;
     still = λ q since v may.
         record {
-          counted = subst (λ (r : Root). q < r.pages) (sym root) may.counted;
+          counted = subst (λ (n : ℕ). q < n) (sym root) may.counted;
           above = subst (λ (h : PageHeld). h.lsn < v.lsn) (sym (same q)) may.above;
           sound = λ s. (sound s).still q since v (may.sound s);
         };
@@ -446,10 +450,11 @@ module _ {D O : Type 0} (g : Ghosts D) where
   -- what a read leaves
   pub stands_read : (a : Base D O) (d : D) → g.reads d ≡ g.reads a.disk → StandsWell g a → StandsWell g (record a { disk = d })
   stands_read a d same stands = record {
-    says = subst (λ (i : Image). SaysRootOf Paged (value_of RootBlock i) a.root) (sym same) stands.says;
+    says = subst (λ (i : Image). SaysRoot (value_of RootBlock i) a.root) (sym same) stands.says;
     file = stands.file;
     goes_on = subst (λ (i : Image). (oldest : ℕ) × (bs : Batches) × GoesOn oldest bs a.log i) (sym same) stands.goes_on;
     size = subst (λ (i : Image). 8256 * a.root.pages ≤ length (content Pages i)) (sym same) stands.size;
+    starts = stands.starts;
   }
 
   pub read_rests : (first : Image) (a : Base D O) (d : D) → OnlyReads g a.disk d → StandsQuiet first g a → StandsQuiet first g (record a { disk = d })
@@ -460,15 +465,17 @@ module _ {D O : Type 0} (g : Ghosts D) where
   }
 
   -- what a flush leaves, that changes one file of the log
-  pub stands_flushed : (a b : Base D O) → StandsWell g a → b.root ≡ a.root → b.log.file ≡ a.log.file → KeepsHomes (g.reads a.disk) (g.reads b.disk) → (oldest : ℕ) (bs : Batches) → GoesOn oldest bs b.log (g.reads b.disk) → StandsWell g b
-  stands_flushed a b stands root file kept oldest bs goes =
+  pub stands_flushed : (a b : Base D O) → StandsWell g a → b.root ≡ a.root → b.log.file ≡ a.log.file → StartsAt b.log.older a.root.first b.log.start → KeepsHomes (g.reads a.disk) (g.reads b.disk) → (oldest : ℕ) (bs : Batches) → GoesOn oldest bs b.log (g.reads b.disk)
+      → StandsWell g b
+  stands_flushed a b stands root file starts kept oldest bs goes =
       let size = stands.size in
       record {
-        says = subst (λ (r : Root). SaysRootOf Paged (value_of RootBlock (g.reads b.disk)) r) (sym root)
-            (subst (λ (bytes : List ℕ). SaysRootOf Paged (value_of RootBlock (record (g.reads a.disk) { root = bytes })) a.root) (sym kept.root) stands.says);
+        says = subst (λ (r : Root). SaysRoot (value_of RootBlock (g.reads b.disk)) r) (sym root)
+            (subst (λ (bytes : List ℕ). SaysRoot (value_of RootBlock (record (g.reads a.disk) { root = bytes })) a.root) (sym kept.root) stands.says);
         file = subst IsLogFile (sym file) stands.file;
         goes_on = (oldest, bs, goes);
         size = omega (arith, size, ap (λ (r : Root). r.pages) root, ap (λ (l : List ℕ). length l) kept.pages);
+        starts = subst (λ (r : Root). StartsAt b.log.older r.first b.log.start) (sym root) starts;
       }
 
   pub homes_flushed : (a b : Base D O) → b.root ≡ a.root → KeepsHomes (g.reads a.disk) (g.reads b.disk) → (q : ℕ) → home_of g b q ≡ home_of g a q

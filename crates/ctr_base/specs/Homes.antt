@@ -6,11 +6,10 @@ use Rattle.ctr_home.specs.declared.root.Root.{Root}
 use Rattle.ctr_disk.specs.declared.fault.StoreFault.{StoreFault}
 use Rattle.ctr_home.specs.declared.block.Block.TheVariants.{Page, Root as RootBlock}
 use Rattle.ctr_home.specs.declared.checks.Check.{Check}
-use Rattle.ctr_home.specs.declared.root.Form.TheVariants.{Paged}
 use Rattle.ctr_home.specs.Blocks.{BlockValue, value_of, value_place, page_with}
 use Rattle.ctr_home.specs.Checks.{check_of, judged}
 use Rattle.ctr_home.specs.Reading.{number_check}
-use Rattle.ctr_home.specs.Roots.{SaysRootOf}
+use Rattle.ctr_home.specs.Roots.{SaysRoot}
 
 -- The checks of a value of a page whose home begins at a place, in order: its number is the page's,
 -- and its stamp is below the next LSN.
@@ -54,6 +53,6 @@ IsSince p first now = HasSameHome p first now
 -- The pages that the first image counts are counted, and each is at home as there, or was written
 -- since.
 pub record HomesSince (first : Image) (counted : ℕ) (image : Image) : Type 0 where
-  pub more : (r : Root) → SaysRootOf Paged (value_of RootBlock first) r → r.pages ≤ counted
-  pub homes : (r : Root) → SaysRootOf Paged (value_of RootBlock first) r → (p : ℕ) → p < r.pages
+  pub more : (r : Root) → SaysRoot (value_of RootBlock first) r → r.pages ≤ counted
+  pub homes : (r : Root) → SaysRoot (value_of RootBlock first) r → (p : ℕ) → p < r.pages
       → IsSince p first image

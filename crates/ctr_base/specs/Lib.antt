@@ -4,4 +4,5 @@ pub mod BaseLaws
 pub mod KeptLaws
 pub mod Opening
 pub mod Extent
+pub mod Generations
 pub mod Growth

@@ -6,10 +6,9 @@ use Rattle.ctr_disk.specs.declared.fault.StoreFault.{StoreFault}
 use Rattle.ctr_disk.specs.Image.{Image, content}
 use Rattle.ctr_home.specs.declared.block.Block.TheVariants.{Root as RootBlock}
 use Rattle.ctr_home.specs.declared.checks.Check.{Check}
-use Rattle.ctr_home.specs.declared.root.Form.TheVariants.{Paged}
 use Rattle.ctr_home.specs.Blocks.{value_of}
 use Rattle.ctr_home.specs.Checks.{check_of, judged}
-use Rattle.ctr_home.specs.Roots.{SaysRootOf, ReadsRoot}
+use Rattle.ctr_home.specs.Roots.{SaysRoot, ReadsRoot}
 
 -- the file of pages has all that are counted, at least
 abbrev pub size_check : ℕ → List ℕ → Check
@@ -19,11 +18,11 @@ size_check pages bytes = check_of 0 (max (length bytes) (pages * 8256)) (length 
 -- home is open
 abbrev pub FindsRoot : Image → Option Root → Type 0
 FindsRoot image None = value_of RootBlock image ≡ None
-FindsRoot image (Some r) = SaysRootOf Paged (value_of RootBlock image) r
+FindsRoot image (Some r) = SaysRoot (value_of RootBlock image) r
     × (8256 * r.pages ≤ length (content Pages image))
 
 -- the first check that fails is one of the root, or behind these that of the file of pages
 abbrev pub IsRootDamage : Image → StoreFault → Type 0
-IsRootDamage image e = ReadsRoot Paged image (Err e)
-    ⊎ ((r : Root) × SaysRootOf Paged (value_of RootBlock image) r
+IsRootDamage image e = ReadsRoot image (Err e)
+    ⊎ ((r : Root) × SaysRoot (value_of RootBlock image) r
     × (judged Pages (size_check r.pages (content Pages image) ∷ []) ≡ Err e))

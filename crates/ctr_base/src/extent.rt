@@ -3,8 +3,7 @@ ghost use Rattle.std.specs.Prelude.{◌≡◌, ◌≤◌, ◌*◌, ℕ, IsTrue, 
 ghost use Rattle.ctr_disk.specs.Image.{Image};
 ghost use Rattle.ctr_home.specs.declared.root.Root.{Root};
 ghost use Rattle.ctr_disk.specs.Device.{WhereTold, LeavesOnly, IsDurable, IsSettled, Counts};
-ghost use Rattle.ctr_home.specs.declared.root.Form.TheVariants.{Paged};
-ghost use Rattle.ctr_home.specs.Roots.{IsRootOf};
+ghost use Rattle.ctr_home.specs.Roots.{IsRoot};
 ghost use Rattle.ctr_redo.specs.States.{state_of};
 ghost use Rattle.ctr_redo.specs.Images.{stored_in, IsSound, CanCount};
 ghost use Rattle.ctr_base.specs.declared.growing.TheConstants.{MOST_PAGES};
@@ -37,6 +36,6 @@ pub fn clear_pages<D: Disk>(disk: &mut D, from: u32, to: u32) -> Result<(), Fail
 pub fn clearing_leaves_the_state()
     ensures same { (root : Root) (old new : Image) → IsSound root old → KeepsPages (8256 * root.pages) old new → IsSound root new × (state_of (stored_in root new) ≡ state_of (stored_in root old)) }
     ensures keeps { (from to : ℕ) (old new : Image) → from ≤ to → 8256 * from ≤ length old.pages → AreCleared from to old new → KeepsPages (8256 * from) old new }
-    ensures counts { (root more : Root) (old new : Image) → IsSound root old → IsRootOf Paged more → more.file ≡ root.file → more.first ≡ root.first → root.pages ≤ more.pages
+    ensures counts { (root more : Root) (old new : Image) → IsSound root old → IsRoot more → more.file ≡ root.file → more.first ≡ root.first → root.pages ≤ more.pages
         → AreCleared root.pages more.pages old new → CanCount root more new }
 {}

@@ -7,6 +7,7 @@ mod backed;
 mod base;
 mod extent;
 mod finding;
+mod generations;
 mod growing;
 mod opening;
 mod origin;

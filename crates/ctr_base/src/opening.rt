@@ -6,8 +6,7 @@ ghost use Rattle.ctr_disk.specs.Image.{content};
 ghost use Rattle.ctr_disk.specs.Device.{WhereTold, IsDurable, OnlyReads, CountsAs};
 ghost use Rattle.ctr_home.specs.Checks.{TellsApart, judged};
 ghost use Rattle.ctr_home.specs.Reading.{IsFaultOr};
-ghost use Rattle.ctr_home.specs.declared.root.Form.TheVariants.{Paged};
-ghost use Rattle.ctr_home.specs.Roots.{IsRootOf};
+ghost use Rattle.ctr_home.specs.Roots.{IsRoot};
 ghost use Rattle.ctr_base.specs.Opening.{size_check, FindsRoot, IsRootDamage};
 
 use ctr_disk::{Disk, StoreFault};
@@ -37,7 +36,7 @@ fn check_size<D: Disk>(disk: &mut D, pages: u32) -> Result<(), StoreFault>
 // The root and its checks, that of the file of pages behind them.
 fn read_checked<D: Disk>(disk: &mut D) -> Result<Option<Root>, StoreFault>
     ensures found { WhereTold D.Disk (MatchResult result (FindsRoot (D.reads disk.old)) (IsFaultOr (IsRootDamage (D.reads disk.old)))) }
-    ensures checked { IfOk result (λ o. IfSome o (IsRootOf Paged)) }
+    ensures checked { IfOk result (λ o. IfSome o IsRoot) }
     ensures differs { IfErr result TellsApart }
     ensures quiet { OnlyReads D.Disk disk.old disk.new }
     ensures counts { CountsAs D.Disk Fault disk.old disk.new result }
@@ -53,7 +52,7 @@ fn read_checked<D: Disk>(disk: &mut D) -> Result<Option<Root>, StoreFault>
 /// are counted; none exactly where no root home is open. It writes nothing.
 pub fn find_root<D: Disk>(disk: &mut D) -> Result<Option<Root>, StoreFault>
     ensures found { WhereTold D.Disk (MatchResult result (FindsRoot (D.reads disk.old)) (IsFaultOr (IsRootDamage (D.reads disk.old)))) }
-    ensures checked { IfOk result (λ o. IfSome o (IsRootOf Paged)) }
+    ensures checked { IfOk result (λ o. IfSome o IsRoot) }
     ensures differs { IfErr result TellsApart }
     ensures quiet { OnlyReads D.Disk disk.old disk.new }
     ensures durable { OnOk result (IsDurable D.Disk disk.new) }

@@ -10,4 +10,4 @@ mod rolling;
 pub use answering::{answer_one, flush, make_room};
 pub use beginning::begin;
 pub use ending::ask;
-pub use rolling::roll_back;
+pub use rolling::{a_writer_may_roll_back, roll_back};

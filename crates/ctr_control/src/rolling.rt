@@ -1,11 +1,12 @@
 // ROLLBACK, turn by turn.
-ghost use Rattle.std.specs.Prelude.{◌≡◌, ◌≤◌, ◌+◌, Ok, None, OnOk, IfOk, IfErr};
+ghost use Rattle.std.specs.Prelude.{◌≡◌, ◌≤◌, ◌+◌, ℕ, Ok, None, OnOk, IfOk, IfErr};
 ghost use Rattle.ctr_disk.specs.declared.fault.StoreFault.TheVariants.{Fault};
 ghost use Rattle.ctr_types.specs.declared.statement.Statement.TheVariants as st;
 ghost use Rattle.ctr_types.specs.declared.tape.Act.TheVariants as act;
 ghost use Rattle.ctr_base.specs.Base.{WhereSound};
 ghost use Rattle.ctr_kept.specs.Turns.{Start};
-ghost use Rattle.ctr_txn.specs.Held.{IsWriting, number_drawn};
+ghost use Rattle.ctr_store.specs.Store.{View};
+ghost use Rattle.ctr_txn.specs.Held.{IsOneOfEight, IsWriting, number_drawn};
 ghost use Rattle.ctr_txn.specs.Calls.{MayEnd};
 ghost use Rattle.ctr_txn.specs.Rooms.{HasItemRoom};
 ghost use Rattle.ctr_page_turns.specs.Turns.{LogsAtRest};
@@ -13,6 +14,7 @@ ghost use Rattle.ctr_rollback.specs.Rolling.{MayRoll, EndsRoll, RollsTxns, Takes
 ghost use Rattle.ctr_control.specs.Rolling.{as_rolled};
 ghost use Rattle.ctr_session_world.specs.Ready.{LeavesOver, MayTurn, LeavesDisk};
 ghost use Rattle.ctr_session_world.specs.Told.{IsNextOf, TellsOrGoesOn};
+ghost use Rattle.ctr_session_world.specs.World.{SessionsHeld};
 
 use ctr_base::Origin;
 use ctr_disk::{Disk, StoreFault};
@@ -46,6 +48,14 @@ fn undo_or_abort<D: Disk, O: Origin, L: Ledger>(
     rolled
 }
 
+/// Who is at its ROLLBACK, and wrote, may take a turn of it in a World. A call does nothing: what it ensures is the law.
+pub fn a_writer_may_roll_back<D: Disk>()
+    ensures { (c : Start) (opened : D) (a b : View D) (h : SessionsHeld) (s : ℕ) → IsOneOfEight s → IsNextOf D.Disk c opened a b h s st.Rollback 0 → IsWriting s h.txns
+        → MayRoll (number_drawn s h.txns) a.now }
+{
+    the_run_is_of_the_sessions();
+}
+
 /// A turn of a ROLLBACK: the reply, or None where it goes on at the session's next turn, and nothing is told yet. A transaction
 /// that wrote undoes its latest item of the secondary log by one record a turn, and is aborted by one more when none is left; then its locks are free. One that
 /// wrote nothing ends at once, with its locks, without a record. It takes no memory. Where an error is answered nothing was logged.
@@ -63,8 +73,8 @@ pub fn roll_back<D: Disk, O: Origin, L: Ledger>(
     // Of one that wrote an item went, or there was none and it is aborted.
     ensures rolls { IsWriting s txns.old → WhereSound O.first D.Disk (MayRoll (number_drawn s txns.old) store.old.now
         → EndsRoll (number_drawn s txns.old) store.old.now store.new.now (as_rolled result)) }
-    // Two steps at most; and where it goes on a record was logged.
-    ensures steps { (steps.new ≤ steps.old + 2) × (result ≡ Ok None → store.new.next ≡ store.old.next + 1) }
+    // Two steps at most; and where it goes on, or the transaction wrote, a record was logged.
+    ensures steps { (steps.new ≤ steps.old + 2) × (result ≡ Ok None → store.new.next ≡ store.old.next + 1) × (IsWriting s txns.old → OnOk result (store.new.next ≡ store.old.next + 1)) }
     // In a World it fails by the disk alone.
     ensures refused { (c : Start) (opened : D) → WhereSound O.first D.Disk (IsNextOf D.Disk c opened store.old store.new (record { txns = txns.old; locks = locks.old }) s st.Rollback 0 → IfErr result (λ e. e ≡ Fault)) }
     // However it ends, time doesn't go back, a fault is told where the disk counts one more, and a crash in it leaves what was hardened with

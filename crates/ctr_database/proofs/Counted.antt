@@ -1,46 +1,18 @@
--- What a count tells and leaves, over a store that was opened.
-use Rattle.std.proofs.Common.{◌≡◌, ◌⊎◌, ⊎_elim, inl, inr, ℕ, [], take, Result, Ok, Err, sym, ◌∙◌, ap, subst}
-use Rattle.std.specs.Prelude.{IsTrue}
-use Rattle.ctr_disk.specs.Device.{LeavesOnly}
+-- What a count tells, over a store that was opened.
+use Rattle.std.proofs.Common.{inr}
 use Rattle.ctr_disk.specs.Image.{Image}
-use Rattle.ctr_disk.specs.declared.disk.Disk.{Ghosts}
-use Rattle.ctr_disk.specs.declared.fault.StoreFault.{StoreFault}
 use Rattle.ctr_disk.specs.declared.fault.StoreFault.TheVariants as fault
-use Rattle.ctr_disk.proofs.Moments.{joined, weaker}
-use Rattle.ctr_home.specs.Blocks.{value_of}
-use Rattle.ctr_home.specs.declared.block.Block.TheVariants.{Root as RootBlock}
-use Rattle.ctr_home.specs.declared.root.Form.TheVariants.{Paged}
-use Rattle.ctr_home.specs.declared.root.Root.{Root}
-use Rattle.ctr_home.specs.Roots.{SaysRootOf}
-use Rattle.ctr_log.specs.declared.opening.OpenError.{OpenError}
-use Rattle.ctr_log.specs.declared.opening.OpenError.TheVariants.{NoDatabase, Damaged, Worn, Fault, OutOfMemory}
-use Rattle.ctr_redo.specs.Images.{FoldsFront, FoldsTo, stored_in}
-use Rattle.ctr_redo.specs.States.{State, state_of, steps}
+use Rattle.ctr_redo.specs.States.{State}
 use Rattle.ctr_record_effects.specs.Standing.{StandsForDatabase}
 use Rattle.ctr_base.specs.Base.{IsSoundImage}
-use Rattle.ctr_base.proofs.RootLaws.{one_root}
-use Rattle.ctr_store.specs.Opening.{IsUndamaged, LeavesFirst, RefusesAs}
-use Rattle.ctr_store.specs.Store.{LeavesFront, View}
-use Rattle.ctr_store.specs.StoreOpening.{OpensStore}
-use Rattle.ctr_stops.proofs.Fronts.{take_none}
-use Rattle.ctr_walk.specs.Damage.{ReadsPages}
+use Rattle.ctr_store.specs.Opening.{IsUndamaged}
 use Rattle.ctr_chain.specs.declared.view.ReadRefusal.{ReadRefusal}
 use Rattle.ctr_chain.specs.declared.view.ReadRefusal.TheVariants as refusal
 use Rattle.ctr_reading.specs.Reading.{IsDiskOrMemory}
 use Rattle.ctr_run.specs.ctr_world.Ended.{PassesOpening, RefusesWorld}
 use Rattle.ctr_database.specs.Database.{refused_by}
 
--- ---- why nothing is counted
-
--- as the opening of the store tells it
-pub told_opening : (image : Image) (e : OpenError) → RefusesAs image e → RefusesWorld image e
-told_opening image NoDatabase is = is
-told_opening image (Damaged d) is = inl is
-told_opening image (Worn n) is = is
-told_opening image Fault is = tt
-told_opening image OutOfMemory is = tt
-
--- as the reading of its pages tells it, which tells no damage of a database
+-- why nothing is counted, as the reading of the pages tells it, which tells no damage of a database
 pub told_reading : (image : Image) (r : ReadRefusal) → PassesOpening image → ((s : State) → StandsForDatabase image s → IsDiskOrMemory r) → RefusesWorld image (refused_by r)
 told_reading image (refusal.Store fault.Fault) passes undamaged = tt
 told_reading image (refusal.Store (fault.Damaged d)) passes undamaged = inr (passes, λ s stands. let same = undamaged s stands in cc)
@@ -51,41 +23,5 @@ reading_undamaged (refusal.Store fault.Fault) is = tt
 reading_undamaged (refusal.Store (fault.Damaged d)) is = absurd cc
 reading_undamaged refusal.OutOfMemory is = tt
 
--- ---- pages that were read
-
--- whatever their reading told
-pub front_read : {D T : Type 0} (first : Image) (g : Ghosts D) (a b : View D) (r : Result T StoreFault) → IsTrue g.tells → IsSoundImage first → ReadsPages first g a b r → LeavesFront g a b
-front_read first g a b (Ok x) told sound leaves = leaves.any_moment told sound
-front_read first g a b (Err fault.Fault) told sound leaves = leaves.any_moment told sound
-front_read first g a b (Err (fault.Damaged d)) told sound leaves = ⊎_elim (λ lost. lost.any_moment told sound) (λ found. found.any_moment told sound) leaves
-
--- ---- what a crash leaves of a database
-
 pub sound_of : (first : Image) (s : State) → StandsForDatabase first s → IsSoundImage first
 sound_of first s stands = (stands.folds.root, stands.folds.sound)
-
-module _ {D : Type 0} (g : Ghosts D) (first : Image) (disk : D) (s : State) (stands : StandsForDatabase first s) where
-  is_state : (root : Root) → SaysRootOf Paged (value_of RootBlock first) root → state_of (stored_in root first) ≡ s
-  is_state root says = ap (λ r. state_of (stored_in r first)) (one_root (value_of RootBlock first) root stands.folds.root says stands.folds.sound.says) ∙ stands.folds.state_is
-
-  abbrev BeforeOrSame : Image → Type 0
-  BeforeOrSame c = g.images disk c ⊎ StandsForDatabase c s
-
-  same_stands : (c : Image) (t : State) → t ≡ s → FoldsTo c t → BeforeOrSame c
-  same_stands c t is folds = inr (record { folds = subst (FoldsTo c) is folds; sound = stands.sound })
-
-  -- as it is opened
-  pub opening_leaves : (left : D) → LeavesOnly g disk left (LeavesFirst first (g.images disk)) → LeavesOnly g disk left BeforeOrSame
-  opening_leaves left leaves = weaker g disk left (LeavesFirst first (g.images disk)) BeforeOrSame leaves (λ c is. ⊎_elim
-      (λ was. inl was)
-      (λ folds. same_stands c (steps (take folds.2.0 []) (state_of (stored_in folds.0 first)))
-      (ap (λ ws. steps ws (state_of (stored_in folds.0 first))) (take_none folds.2.0) ∙ is_state folds.0 folds.1) folds.2.1)
-      is)
-
-  -- and as its pages are read
-  pub reading_leaves : (v b : View D) → OpensStore first v → LeavesOnly g disk v.disk (LeavesFirst first (g.images disk)) → LeavesFront g v b → LeavesOnly g disk b.disk BeforeOrSame
-  reading_leaves v b opens leaves front = joined g disk v.disk b.disk BeforeOrSame (opening_leaves v.disk leaves)
-      (weaker g v.disk b.disk (FoldsFront v.hardened v.waiting) BeforeOrSame front.front (λ c folds. same_stands c (steps (take folds.0 v.waiting) v.hardened) (front_is folds.0) folds.1))
-    where
-      front_is : (k : ℕ) → steps (take k v.waiting) v.hardened ≡ s
-      front_is k = ap (λ ws. steps (take k ws) v.hardened) opens.none ∙ ap (λ ws. steps ws v.hardened) (take_none k) ∙ opens.hardened (sound_of first s stands) ∙ is_state opens.root opens.stands.0

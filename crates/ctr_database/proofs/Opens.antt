@@ -9,11 +9,10 @@ use Rattle.ctr_disk.specs.declared.fault.StoreFault.{StoreFault}
 use Rattle.ctr_disk.specs.declared.fault.StoreFault.TheVariants.{Damaged}
 use Rattle.ctr_home.specs.declared.block.Block.TheVariants.{Root as RootBlock}
 use Rattle.ctr_home.specs.declared.checks.Check.{Check}
-use Rattle.ctr_home.specs.declared.root.Form.TheVariants.{Paged}
 use Rattle.ctr_home.specs.declared.root.Root.{Root}
 use Rattle.ctr_home.specs.Blocks.{value_of}
 use Rattle.ctr_home.specs.Checks.{check_of, judged}
-use Rattle.ctr_home.specs.Roots.{SaysRootOf}
+use Rattle.ctr_home.specs.Roots.{SaysRoot}
 use Rattle.ctr_log.specs.Fresh.{first_checkpoint, fresh_log, IsClosed}
 use Rattle.ctr_log.specs.Kept.{log_in, kept_log, other_file, has_newer, HoldsLog}
 use Rattle.ctr_log.specs.LogChecks.{batch_checks, log_checks, file_damage, damage_or, kept_damage}
@@ -87,7 +86,7 @@ module _ (image : Image) (is : IsNewDatabase image) (folds : FoldsTo image new_s
   kept_is : kept_log 0 1 image ≡ first_checkpoint ∷ []
   kept_is = holds_is 0 1 image (first_checkpoint ∷ []) held
 
-  says : SaysRootOf Paged (value_of RootBlock image) new_root
+  says : SaysRoot (value_of RootBlock image) new_root
   says = (is.root, record { format = refl; file = omega arith; first_low = omega arith; first_high = omega arith; pages_low = omega arith; pages_high = omega arith; stamp = omega arith })
 
   sound : IsSound new_root image

@@ -27,6 +27,7 @@ use Rattle.ctr_exec.specs.declared.runners.Runner.{Runner}
 use Rattle.ctr_exec.specs.declared.runners.Stage.TheVariants as stage
 use Rattle.ctr_exec.specs.declared.sessions.Sessions.{Sessions}
 use Rattle.ctr_exec.specs.Runners.{made_at, after_act, runner_at}
+use Rattle.ctr_exec.specs.Acting.{WantsRoom}
 use Rattle.ctr_exec.specs.Sessions.{AreAnswers, AreSeated, ShowsSessions, LeadsTo, held_by, noted}
 use Rattle.ctr_exec.proofs.Points.{act_ends, answered_gone, last_comes, state_is}
 use Rattle.ctr_exec.proofs.Shown.{RowsStay, idle_for}
@@ -93,6 +94,7 @@ module _ {D : Type 0} (g : Ghosts D) (c : Start) (opened : D) (v : View D) (h no
     tape = longer;
     are_such = (refl, tt);
     moments = (refl, tt);
+    causes = (tt, tt);
     undo = answered.undo;
     names = λ e there. refl;
   }
@@ -105,6 +107,11 @@ pub moments_append : (n : ℕ) (xs ys : List Entry) → AllByRecursion (λ (e : 
 moments_append n [] ys first rest = rest
 moments_append n (x ∷ xs) ys first rest = (first.0, moments_append n xs ys first.1 rest)
 
+-- an answer wants no room
+pub answers_want : {D : Type 0} (a b : View D) (es : List Entry) → AreAnswers es → AllByRecursion (λ (e : Entry). WantsRoom e.act e.reply a b) es
+answers_want a b [] all = tt
+answers_want a b (e ∷ es) all = (subst (λ x. WantsRoom x e.reply a b) (sym all.0) tt, answers_want a b es all.1)
+
 -- and once more are answered behind it, with them
 pub goes_then : {D : Type 0} (g : Ghosts D) (c : Start) (opened : D) (v : View D) (h mid last : Sessions) (w : Mind) (before : ShowsSessions g c opened v h w) (first : LeadsTo before AreAnswers v mid) → LeadsTo first.shows AreAnswers v last → LeadsTo before AreAnswers v last
 goes_then g c opened v h mid last w before first rest = record {
@@ -114,6 +121,7 @@ goes_then g c opened v h mid last w before first rest = record {
   tape = rest.tape ∙ ap (λ l. l ++ rest.entries) first.tape ∙ append_assoc w.tape first.entries rest.entries;
   are_such = answers_append first.entries rest.entries first.are_such rest.are_such;
   moments = moments_append (g.moment_of v.disk) first.entries rest.entries first.moments rest.moments;
+  causes = answers_want v v (first.entries ++ rest.entries) (answers_append first.entries rest.entries first.are_such rest.are_such);
   undo = rest.undo ∙ first.undo;
   names = λ e there. refl;
 }
@@ -134,6 +142,7 @@ answers_none g c opened v h w before txns locks same_txns same_locks = record {
   tape = sym (append-nil w.tape);
   are_such = tt;
   moments = tt;
+  causes = tt;
   undo = refl;
   names = λ e there. refl;
 }

@@ -20,6 +20,7 @@ use Rattle.ctr_exec.specs.declared.runners.Runner.{Runner}
 use Rattle.ctr_exec.specs.declared.runners.Stage.TheVariants as stage
 use Rattle.ctr_exec.specs.declared.sessions.Sessions.{Sessions}
 use Rattle.ctr_exec.specs.Runners.{made_at, runner_at}
+use Rattle.ctr_exec.proofs.Answering.{answers_want}
 use Rattle.ctr_exec.specs.Sessions.{AreAnswers, AreOfTurn, AreSeated, DoesTurn, LeadsTo, LeavesSeats, OrFails, ShowsSessions, TakesAct, TakesTurn, held_by}
 
 -- in a World the state that the tape has reached is sound
@@ -43,6 +44,7 @@ seats_kept h a b keeps going stand seats = record {
   going = going;
   seats = subst (AreSeated h) (sym keeps.counted) seats;
   one = one_at_most a b keeps;
+  counted = let same = keeps.counted in omega (arith, same);
 }
 
 -- a World is shown behind a call that tells nothing
@@ -58,6 +60,7 @@ goes_quiet g c opened a b h w s before pages world = record {
   tape = sym (append-nil w.tape);
   are_such = inr tt;
   moments = tt;
+  causes = tt;
   undo = refl;
   names = λ e there. (λ i. names_in (pages i) e);
 }
@@ -72,6 +75,7 @@ goes_answered g c opened a b h now w s before pages world goes = record {
   tape = goes.tape;
   are_such = inr goes.are_such;
   moments = goes.moments;
+  causes = answers_want a b goes.entries goes.are_such;
   undo = goes.undo;
   names = λ e there. (λ i. names_in (pages i) e);
 }
@@ -86,20 +90,20 @@ pages_behind first g a b (Err e) leaves tells sound = tt
 -- a flush, of a session that waits
 pub flush_takes : {D T : Type 0} (g : Ghosts D) (c : Start) (opened : D) (a b : View D) (h now : Sessions) (w : Mind) (s : ℕ) (before : ShowsSessions g c opened a h w) → (runner_at s h.runners.items).stage ≡ stage.Asked → (result : Result T StoreFault)
     → OnOk result ((b.waiting ≡ []) × (now.txns.answered ≡ length now.txns.numbers.commits)) → OrFails (LeadsTo before (AreOfTurn s) b now) result → OrFails (TakesTurn before s b now) result
-flush_takes g c opened a b h now w s before waits (Ok x) all goes = (goes, record { acts = λ has room. absurd (has.unasked waits); nearer = λ has none. absurd (has.unasked waits); answers = λ is. all })
+flush_takes g c opened a b h now w s before waits (Ok x) all goes = (goes, record { acts = λ has room. absurd (has.unasked waits); rolls = λ has room at_it. absurd (has.unasked waits); nearer = λ has none. absurd (has.unasked waits); answers = λ is. all })
 flush_takes g c opened a b h now w s before waits (Err e) all failed = failed
 
 -- a turn of an act
 pub act_takes : {D T : Type 0} (g : Ghosts D) (c : Start) (opened : D) (a b : View D) (h now : Sessions) (w : Mind) (s : ℕ) (before : ShowsSessions g c opened a h w) → ((runner_at s h.runners.items).stage ≡ stage.Asked → ⊥) → HasTurnRoom a → (result : Result T StoreFault)
     → OrFails (TakesAct before s b now) result → OrFails (TakesTurn before s b now) result
-act_takes g c opened a b h now w s before unasked room (Ok x) takes = (takes.0, record { acts = λ has some. takes.1; nearer = λ has none. absurd (none room); answers = λ waits. absurd (unasked waits) })
+act_takes g c opened a b h now w s before unasked room (Ok x) takes = (takes.0, record { acts = λ has some. takes.1; rolls = λ has some. takes.2; nearer = λ has none. absurd (none room); answers = λ waits. absurd (unasked waits) })
 act_takes g c opened a b h now w s before unasked room (Err e) failed = failed
 
 -- a turn for room
 pub room_takes : {D T : Type 0} (g : Ghosts D) (c : Start) (opened : D) (a b : View D) (h : Sessions) (w : Mind) (s : ℕ) (before : ShowsSessions g c opened a h w) → ((runner_at s h.runners.items).stage ≡ stage.Asked → ⊥) → (HasTurnRoom a → ⊥) → (result : Result T StoreFault)
     → OnOk result (b.now ≡ a.now) → OnOk result (InWorld g c opened b (held_by h) w) → OnOk result (turns_for_room b ≡ turns_for_room a - 1) → OnErr result (result ≡ Err Fault) → OrFails (TakesTurn before s b h) result
 room_takes g c opened a b h w s before unasked none (Ok x) pages kept nearer refused =
-    (goes_quiet g c opened a b h w s before pages kept, record { acts = λ has room. absurd (none room); nearer = λ has n. nearer; answers = λ waits. absurd (unasked waits) })
+    (goes_quiet g c opened a b h w s before pages kept, record { acts = λ has room. absurd (none room); rolls = λ has room at_it. absurd (none room); nearer = λ has n. nearer; answers = λ waits. absurd (unasked waits) })
 room_takes g c opened a b h w s before unasked none (Err e) pages kept nearer refused = cc refused
 
 -- a turn of a session that has no statement left
@@ -117,6 +121,7 @@ over_takes g c opened a h w s before over within = (goes_quiet g c opened a a h 
     did : (r : Runner) → runner_at s h.runners.items ≡ r → length r.places ≤ r.finished → r.finished + made_at r.stage ≤ length r.places → DoesTurn h h s a a []
     did r is over within = record {
       acts = λ has room. absurd (both (length r.places) r.finished over (subst (λ (q : Runner). q.finished < length q.places) is has.more));
+      rolls = λ has room at_it. absurd (both (length r.places) r.finished over (subst (λ (q : Runner). q.finished < length q.places) is has.more));
       nearer = λ has none. absurd (both (length r.places) r.finished over (subst (λ (q : Runner). q.finished < length q.places) is has.more));
       answers = λ waits. absurd (last (length r.places) r.finished over (subst (λ q. r.finished + made_at q ≤ length r.places) (ap (λ (q : Runner). q.stage) (sym is) ∙ waits) within));
     }

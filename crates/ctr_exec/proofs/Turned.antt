@@ -18,7 +18,8 @@ use Rattle.ctr_versions.proofs.Keys.{known, some_is}
 use Rattle.ctr_store.specs.Store.{View}
 use Rattle.ctr_kept.specs.Turns.{Start, point_now, state_now}
 use Rattle.ctr_kept.specs.Walk.{Mind}
-use Rattle.ctr_txn.specs.Held.{TxnsHeld, IsOneOfEight}
+use Rattle.ctr_txn.specs.Held.{TxnsHeld, IsOneOfEight, number_drawn}
+use Rattle.ctr_control.specs.ctr_rollback.declared.rolling.Rolled.TheVariants.{Undone, Back}
 use Rattle.ctr_writing.specs.ctr_session_world.Told.{IsNextOf, IsTold, IsKeptOn}
 use Rattle.ctr_exec.specs.declared.acting.Acted.{Acted}
 use Rattle.ctr_exec.specs.declared.acting.Acted.TheVariants as acted
@@ -26,9 +27,9 @@ use Rattle.ctr_exec.specs.declared.runners.Runner.{Runner}
 use Rattle.ctr_exec.specs.declared.runners.Stage.{Stage}
 use Rattle.ctr_exec.specs.declared.runners.Stage.TheVariants as stage
 use Rattle.ctr_exec.specs.declared.sessions.Sessions.{Sessions}
-use Rattle.ctr_exec.specs.Acting.{IsMidway, LeavesAct, TurnOfAct, WentByAct}
+use Rattle.ctr_exec.specs.Acting.{IsMidway, LeavesAct, RollsAct, TurnOfAct, WantsRoom, WentByAct}
 use Rattle.ctr_exec.specs.Runners.{made_at, finished_with, after_act, runner_at}
-use Rattle.ctr_exec.specs.Sessions.{TakesAct, AreSeated, IsSeatedAt, ShowsSessions, LeadsTo, AreOfTurn, held_by, noted, entries_by, runner_by}
+use Rattle.ctr_exec.specs.Sessions.{TakesAct, AreSeated, IsRollingBack, RollsTurn, IsSeatedAt, ShowsSessions, LeadsTo, AreOfTurn, held_by, noted, entries_by, runner_by}
 use Rattle.ctr_exec.proofs.Points.{act_ends, lock_goes, ask_goes}
 use Rattle.ctr_exec.proofs.Seats.{its, theirs, goes_with}
 use Rattle.ctr_exec.proofs.Shown.{RowsStay, idle_for, same_point, others_kept}
@@ -102,6 +103,7 @@ module _ {D : Type 0} (g : Ghosts D) (c : Start) (opened : D) (a b : View D) (h 
         tape = kept.tape ∙ sym (append-nil w.tape);
         are_such = inr tt;
         moments = tt;
+        causes = tt;
         undo = kept.undo;
         names = kept.names;
       }
@@ -117,7 +119,8 @@ module _ {D : Type 0} (g : Ghosts D) (c : Start) (opened : D) (a b : View D) (h 
 
       module _ (y : Stage) (led : advanced (acts_of (state_now c w) s statement) r (record { finished = mine.finished; made = made_at mine.stage }) ≡ record { finished = finished_with y mine.finished; made = made_at y })
           (is_at : (other : Statement) → statement_of c.lines s (finished_with y mine.finished + 1) ≡ Some other → IsMidway c s other u y)
-          (runners : now.runners.items ≡ slice_set h.runners.items (s - 1) (after_act y mine)) (tape : now.tape.items ≡ h.tape.items ++ noted s mine x r (g.moment_of b.disk) ∷ []) where
+          (runners : now.runners.items ≡ slice_set h.runners.items (s - 1) (after_act y mine)) (tape : now.tape.items ≡ h.tape.items ++ noted s mine x r (g.moment_of b.disk) ∷ [])
+          (rolls : IsRollingBack s h → RollsTurn s h a b (noted s mine x r (g.moment_of b.disk) ∷ [])) (wants : WantsRoom x r a b) where
         pub goes_told : TakesAct before s b now
         goes_told = (
           record {
@@ -127,10 +130,12 @@ module _ {D : Type 0} (g : Ghosts D) (c : Start) (opened : D) (a b : View D) (h 
             tape = told.tape;
             are_such = inl (one_at_most, (refl, tt));
             moments = (refl, tt);
+            causes = (wants, tt);
             undo = told.undo;
             names = told.names;
           },
           inl refl,
+          rolls,
         )
           where
             one_at_most : 1 ≤ 1
@@ -141,24 +146,26 @@ module _ {D : Type 0} (g : Ghosts D) (c : Start) (opened : D) (a b : View D) (h 
     none_made : made_at mine.stage ≡ 0 → (acts : List Act) (x : Act) → slice_get acts (made_at mine.stage) ≡ Some x → slice_get acts 0 ≡ Some x
     none_made none acts x is = subst (λ i. slice_get acts i ≡ Some x) none is
 
-    pub turned : (l : Acted) (txns : TxnsHeld) → LeavesAct mine.stage s statement txns n l → WentByAct a b l → TurnOfAct next (held_by now) (Ok l) → now.runners.items ≡ slice_set h.runners.items (s - 1) (runner_by l mine)
+    pub turned : (l : Acted) (txns : TxnsHeld) → LeavesAct mine.stage s statement txns n l → WentByAct a b l → (IsRollingBack s h → RollsAct (number_drawn s h.txns) a b l) → TurnOfAct next (held_by now) (Ok l) → now.runners.items ≡ slice_set h.runners.items (s - 1) (runner_by l mine)
         → now.tape.items ≡ h.tape.items ++ entries_by s mine (g.moment_of b.disk) l → TakesAct before s b now
-    turned (acted.On at) txns leaves went turn runners tape = (goes_on turn.0 at leaves.0 turn.1 runners (tape ∙ append-nil h.tape.items), inr went)
-    turned (acted.Granted at) txns leaves went turn runners tape =
+    unfolding goes_on
+    turned (acted.On at) txns leaves went rolls turn runners tape =
+        (goes_on turn.0 at leaves.0 turn.1 runners (tape ∙ append-nil h.tape.items), inr went, λ at_it. let its = rolls at_it in record { rolled = Undone; rolls = its.0; told = refl; logged = its.1 })
+    turned (acted.Granted at) txns leaves went rolls turn runners tape =
         goes_told act.Lock reply.Granted turn.0 at
         (ap (λ k. advanced (acts_of (state_now c w) s statement) reply.Granted (record { finished = mine.finished; made = k })) leaves.0
         ∙ lock_goes (state_now c w) s mine.finished statement (none_made leaves.0 (acts_of (state_now c w) s statement) act.Lock (acts act.Lock reply.Granted turn.0))
         ∙ (λ i. record { finished = sym (goes_with at mine.finished leaves.1) i; made = sym leaves.1 i }))
         (λ other is. subst (λ z. IsMidway c s z turn.0.mind at) (some_is statement other (sym there ∙ ap (λ f. statement_of c.lines s (f + 1)) (sym (goes_with at mine.finished leaves.1)) ∙ is)) turn.1)
-        runners tape
-    turned (acted.Asked k) txns leaves went turn runners tape =
+        runners tape (λ at_it. absurd (rolls at_it)) tt
+    turned (acted.Asked k) txns leaves went rolls turn runners tape =
         goes_told act.Ask (reply.Asked k) turn stage.Asked
         (ap (λ i. advanced (acts_of (state_now c w) s statement) (reply.Asked k) (record { finished = mine.finished; made = i })) leaves.0
         ∙ ask_goes (state_now c w) s mine.finished statement k (none_made leaves.0 (acts_of (state_now c w) s statement) act.Ask (acts act.Ask (reply.Asked k) turn)))
         (λ other is. tt)
-        runners tape
-    turned (acted.Ended x r) txns leaves went turn runners tape =
+        runners tape (λ at_it. absurd (rolls at_it)) tt
+    turned (acted.Ended x r) txns leaves went rolls turn runners tape =
         goes_told x r turn.0 stage.Between
         (act_ends (state_now c w) s mine.finished statement x r (made_at mine.stage) (acts x r turn.0) leaves.1)
         (λ other is. idle_for other turn.1)
-        runners tape
+        runners tape (λ at_it. let its = rolls at_it in record { rolled = Back; rolls = its.1; told = refl; logged = its.2 }) turn.2

@@ -1,5 +1,5 @@
 -- A turn of an act of a session's statement: what it asks, and what it leaves.
-use Rattle.std.specs.Prelude.{◌≡◌, ℕ, ◌<◌, Bool, true, false, not, Option, None, Some, is_some, Result, Ok, Err, slice_get}
+use Rattle.std.specs.Prelude.{◌≡◌, ℕ, ◌+◌, ◌<◌, Bool, true, false, not, Option, None, Some, is_some, Result, Ok, Err, slice_get}
 use Rattle.ctr_disk.specs.declared.disk.Disk.{Ghosts}
 use Rattle.ctr_disk.specs.declared.fault.StoreFault.{StoreFault}
 use Rattle.ctr_disk.specs.declared.fault.StoreFault.TheVariants.{Fault}
@@ -16,6 +16,8 @@ use Rattle.ctr_store.specs.Store.{View}
 use Rattle.ctr_kept.specs.Turns.{Start}
 use Rattle.ctr_kept.specs.Walk.{Mind}
 use Rattle.ctr_txn.specs.Held.{TxnsHeld, txn_of}
+use Rattle.ctr_control.specs.ctr_rollback.declared.rolling.Rolled.TheVariants.{Undone, Back}
+use Rattle.ctr_control.specs.ctr_rollback.Rolling.{RollsTo}
 use Rattle.ctr_writing.specs.ctr_looks.Granting.{HasItem}
 use Rattle.ctr_writing.specs.ctr_looks.Locking.{IsWriteOf}
 use Rattle.ctr_writing.specs.ctr_session_world.World.{SessionsHeld}
@@ -23,6 +25,7 @@ use Rattle.ctr_writing.specs.ctr_session_world.Told.{IsIdleIn, IsNextOf, IsTold,
 use Rattle.ctr_writing.specs.ctr_session_world.Ready.{LeavesReady, StaysUnasked, is_asking}
 use Rattle.ctr_writing.specs.Rows.{IsAtRow, MayGoOn, WentOn}
 use Rattle.ctr_writing.specs.Tables.{IsAtTableWrite}
+use Rattle.ctr_writing.specs.Wants.{HasRoomCause}
 use Rattle.ctr_exec.specs.declared.acting.Acted.{Acted}
 use Rattle.ctr_exec.specs.declared.acting.Acted.TheVariants as acted
 use Rattle.ctr_exec.specs.declared.runners.Stage.{Stage}
@@ -104,6 +107,18 @@ abbrev pub LeavesSessions : {D : Type 0} → ℕ → TxnsHeld → TxnsHeld → V
 LeavesSessions s txns now a b l =
     LeavesReady s txns now a b × LeavesAsking s txns now l × WentByAct a b l
 
+-- ---- a ROLLBACK
+
+-- What a turn of a ROLLBACK does whose transaction wrote, by what it came to: the latest item of the
+-- transaction goes, and the act goes on; or none was left, and the transaction is aborted as that is
+-- told. One record was logged.
+abbrev pub RollsAct : {D : Type 0} → ℕ → View D → View D → Acted → Type 0
+RollsAct x a b (acted.On at) = RollsTo x a.now b.now Undone × (b.next ≡ a.next + 1)
+RollsAct x a b (acted.Granted at) = ⊥
+RollsAct x a b (acted.Asked k) = ⊥
+RollsAct x a b (acted.Ended y r) =
+    (y ≡ act.Rollback) × RollsTo x a.now b.now Back × (b.next ≡ a.next + 1)
+
 -- ---- in a World
 
 -- what a session counts on in the middle of a ROLLBACK isn't said, and between other statements it
@@ -119,6 +134,17 @@ IsMidway c s statement w (stage.Row e prepared at) = IsAtRow c s statement w e p
 IsMidway c s statement w (stage.Table write) = IsAtTableWrite c s statement w write
 IsMidway c s statement w stage.Asked = Unit {0}
 
+-- A Write wants room where there is none. Of other acts nothing is said.
+abbrev pub WantsRoom : {D : Type 0} → Act → Reply → View D → View D → Type 0
+WantsRoom act.Begin r a b = Unit {0}
+WantsRoom act.Read r a b = Unit {0}
+WantsRoom act.Lock r a b = Unit {0}
+WantsRoom act.Write r a b = HasRoomCause r a.now b.now
+WantsRoom act.Ask r a b = Unit {0}
+WantsRoom act.Answer r a b = Unit {0}
+WantsRoom act.Rollback r a b = Unit {0}
+WantsRoom (act.Release name) r a b = Unit {0}
+
 -- What a turn of an act leaves: it goes on, and nothing is told; or its entry is told, and its
 -- statement goes on or is finished. It fails by the disk alone.
 abbrev pub TurnOfAct : {D : Type 0} {g : Ghosts D} {c : Start} {opened : D} {a b : View D}
@@ -129,6 +155,6 @@ TurnOfAct {c = c} {s = s} {statement = statement} next now (Ok (acted.On at)) =
 TurnOfAct {c = c} {s = s} {statement = statement} next now (Ok (acted.Granted at)) =
     (told : IsTold next now act.Lock reply.Granted) × IsMidway c s statement told.mind at
 TurnOfAct next now (Ok (acted.Asked k)) = IsTold next now act.Ask (reply.Asked k)
-TurnOfAct {c = c} {s = s} next now (Ok (acted.Ended x r)) =
-    (told : IsTold next now x r) × IsIdleIn c told.mind s
+TurnOfAct {c = c} {a = a} {b = b} {s = s} next now (Ok (acted.Ended x r)) =
+    (told : IsTold next now x r) × IsIdleIn c told.mind s × WantsRoom x r a b
 TurnOfAct next now (Err e) = e ≡ Fault

@@ -21,8 +21,11 @@ use Rattle.ctr_store.specs.Store.{View, HasTurnRoom, turns_for_room}
 use Rattle.ctr_kept.specs.Turns.{Start, point_now, release_entry, state_now}
 use Rattle.ctr_kept.specs.Walk.{Mind}
 use Rattle.ctr_meta.specs.Kept.{TablesKept}
-use Rattle.ctr_txn.specs.Held.{IsOneOfEight, txn_of}
+use Rattle.ctr_txn.specs.Held.{IsOneOfEight, IsWriting, number_drawn, txn_of}
 use Rattle.ctr_txn.specs.Rooms.{HasItemRoom}
+use Rattle.ctr_control.specs.ctr_rollback.declared.rolling.Rolled.{Rolled}
+use Rattle.ctr_control.specs.ctr_rollback.declared.rolling.Rolled.TheVariants.{Undone, Back}
+use Rattle.ctr_control.specs.ctr_rollback.Rolling.{RollsTo}
 use Rattle.ctr_writing.specs.ctr_session_world.World.{SessionsHeld, InWorld, NamesStay}
 use Rattle.ctr_writing.specs.ctr_session_world.Ready.{StandOver, is_asking}
 use Rattle.ctr_writing.specs.Rows.{WentOn}
@@ -32,7 +35,7 @@ use Rattle.ctr_exec.specs.declared.acting.Acted.TheVariants as acted
 use Rattle.ctr_exec.specs.declared.runners.Runner.{Runner}
 use Rattle.ctr_exec.specs.declared.runners.Stage.TheVariants as stage
 use Rattle.ctr_exec.specs.declared.sessions.Sessions.{Sessions}
-use Rattle.ctr_exec.specs.Acting.{IsMidway, MayAct}
+use Rattle.ctr_exec.specs.Acting.{IsMidway, MayAct, WantsRoom}
 use Rattle.ctr_exec.specs.Runners.{made_at, after_act, runner_at, all_left, AreRunners, IsUnbegun}
 
 -- ---- whatever the disk tells
@@ -66,11 +69,13 @@ pub record MayGo {D : Type 0} (s : ℕ) (h : Sessions) (v : View D) : Type 0 whe
   pub number : v.next < 2 ^ 63 - 1
   pub seats : AreSeated h v.now.counted
 
--- What a turn leaves: the same, but for the number; and it logged one record at most.
+-- What a turn leaves: the same, but for the number; it logged one record at most, and no page is
+-- counted less.
 pub record LeavesSeats {D : Type 0} (now : Sessions) (a b : View D) : Type 0 where
   pub stand : StandOver now.txns b
   pub going : b.stopped ≡ false
   pub seats : AreSeated now b.now.counted
+  pub counted : a.now.counted ≤ b.now.counted
   pub one : b.next ≤ a.next + 1
 
 -- a session has an act of its own next: a statement that isn't finished, and no answer to wait for
@@ -174,7 +179,8 @@ AreOfTurn s es = ((length es ≤ 1) × AllByRecursion (λ (e : Entry). e.session
     ⊎ AreAnswers es
 
 -- A turn leaves a World of these sessions, whose tape goes on by such entries, each at the moment
--- at which the turn ends; undo's list, and the names of entries that were taken, are as they were.
+-- at which the turn ends; undo's list, and the names of entries that were taken, are as they were. An
+-- entry is refused for want of room where there is none.
 pub record LeadsTo {D : Type 0} {g : Ghosts D} {c : Start} {opened : D} {a : View D} {h : Sessions}
     {w : Mind} (before : ShowsSessions g c opened a h w) (such : List Entry → Type 0) (b : View D)
     (now : Sessions) : Type 0 where
@@ -184,15 +190,37 @@ pub record LeadsTo {D : Type 0} {g : Ghosts D} {c : Start} {opened : D} {a : Vie
   pub tape : mind.tape ≡ w.tape ++ entries
   pub are_such : such entries
   pub moments : AllByRecursion (λ (e : Entry). e.moment ≡ g.moment_of b.disk) entries
+  pub causes : AllByRecursion (λ (e : Entry). WantsRoom e.act e.reply a b) entries
   pub undo : mind.undo ≡ w.undo
   pub names : NamesStay a.now b.now
 
+-- a session is at a ROLLBACK, of a transaction that wrote
+pub record IsRollingBack (s : ℕ) (h : Sessions) : Type 0 where
+  pub at : statement_of h.script.lines s ((runner_at s h.runners.items).finished + 1)
+      ≡ Some st.Rollback
+  pub writing : IsWriting s h.txns
+
+-- how many entries a turn of a ROLLBACK makes: it is told with the mark
+abbrev pub entries_of : Rolled → ℕ
+entries_of Undone = 0
+entries_of Back = 1
+
+-- A turn of a ROLLBACK takes the latest item of the transaction away; or there was none left, and it
+-- makes the entry, with the mark. One record was logged.
+pub record RollsTurn {D : Type 0} (s : ℕ) (h : Sessions) (a b : View D) (entries : List Entry)
+    : Type 0 where
+  pub rolled : Rolled
+  pub rolls : RollsTo (number_drawn s h.txns) a.now b.now rolled
+  pub told : length entries ≡ entries_of rolled
+  pub logged : b.next ≡ a.next + 1
+
 -- What a turn of a session did, by how the session was. Where it has an act of its own and there is
--- room, an act is told, or one goes on. Where there is no room, it has come nearer by a turn. Where
--- the session waits, all that was logged is durable, and all that asked are answered.
+-- room, an act is told, or one goes on; of a ROLLBACK so. Where there is no room, it has come nearer
+-- by a turn. Where the session waits, all that was logged is durable, and all that asked are answered.
 pub record DoesTurn {D : Type 0} (h now : Sessions) (s : ℕ) (a b : View D) (entries : List Entry)
     : Type 0 where
   pub acts : HasAct h s → HasTurnRoom a → (length entries ≡ 1) ⊎ WentOn a b
+  pub rolls : HasAct h s → HasTurnRoom a → IsRollingBack s h → RollsTurn s h a b entries
   pub nearer : HasAct h s → (HasTurnRoom a → ⊥) → turns_for_room b ≡ turns_for_room a - 1
   pub answers : (runner_at s h.runners.items).stage ≡ stage.Asked → (b.waiting ≡ [])
       × (now.txns.answered ≡ length now.txns.numbers.commits)
@@ -203,11 +231,12 @@ abbrev pub TakesTurn : {D : Type 0} {g : Ghosts D} {c : Start} {opened : D} {a :
 TakesTurn {a = a} {h = h} before s b now =
     (goes : LeadsTo before (AreOfTurn s) b now) × DoesTurn h now s a b goes.entries
 
--- An act is told, or one goes on.
+-- An act is told, or one goes on; of a ROLLBACK so.
 abbrev pub TakesAct : {D : Type 0} {g : Ghosts D} {c : Start} {opened : D} {a : View D}
     {h : Sessions} {w : Mind} → ShowsSessions g c opened a h w → ℕ → View D → Sessions → Type 0
-TakesAct {a = a} before s b now =
+TakesAct {a = a} {h = h} before s b now =
     (goes : LeadsTo before (AreOfTurn s) b now) × ((length goes.entries ≡ 1) ⊎ WentOn a b)
+    × (IsRollingBack s h → RollsTurn s h a b goes.entries)
 
 -- This holds, or the disk failed.
 abbrev pub OrFails : {T : Type 0} → Type 0 → Result T StoreFault → Type 0

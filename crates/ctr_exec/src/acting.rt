@@ -5,17 +5,18 @@ ghost use Rattle.ctr_model.specs.Refusals.{changes_schema, key_written};
 ghost use Rattle.ctr_base.specs.Base.{WhereSound};
 ghost use Rattle.ctr_kept.specs.Turns.{Start, state_now};
 ghost use Rattle.ctr_locks.specs.Held.{LocksOfSession};
+ghost use Rattle.ctr_txn.specs.Held.{IsWriting, number_drawn};
 ghost use Rattle.ctr_writing.specs.ctr_session_world.Ready.{MayTurn, LeavesDisk};
 ghost use Rattle.ctr_writing.specs.ctr_session_world.Told.{IsIdleIn, IsNextOf};
 ghost use Rattle.ctr_writing.specs.ctr_looks.Selecting.{IsSelect};
 ghost use Rattle.ctr_writing.specs.Tables.{HasFittingColumns};
 ghost use Rattle.ctr_exec.specs.declared.runners.Stage.TheVariants as stages;
 ghost use Rattle.ctr_exec.specs.Runners.{made_at};
-ghost use Rattle.ctr_exec.specs.Acting.{number_told, MayAct, LeavesAct, LeavesSessions, IsMidway, TurnOfAct};
+ghost use Rattle.ctr_exec.specs.Acting.{number_told, MayAct, LeavesAct, LeavesSessions, IsMidway, RollsAct, TurnOfAct};
 
 use crate::runners::Stage;
 use ctr_base::Origin;
-use ctr_control::{ask, begin, roll_back};
+use ctr_control::{a_writer_may_roll_back, ask, begin, roll_back};
 use ctr_disk::{Disk, StoreFault};
 use ctr_locks::KeyLocks;
 use ctr_store::Store;
@@ -217,10 +218,13 @@ fn rolled_back<D: Disk, O: Origin, L: Ledger>(
     ensures over { IfOk result (LeavesSessions s txns.old txns.new store.old store.new) }
     ensures told { (c : Start) (opened : D) → WhereSound O.first D.Disk ((next : IsNextOf D.Disk c opened store.old store.new (record { txns = txns.old; locks = locks.old }) s st.Rollback 0)
         → TurnOfAct next (record { txns = txns.new; locks = locks.new }) result) }
+    ensures rolls { (c : Start) (opened : D) → WhereSound O.first D.Disk (IsNextOf D.Disk c opened store.old store.new (record { txns = txns.old; locks = locks.old }) s st.Rollback 0
+        → IsWriting s txns.old → IfOk result (RollsAct (number_drawn s txns.old) store.old store.new)) }
     ensures steps { steps.new ≤ steps.old + 2 }
     ensures disk { LeavesDisk O.first D.Disk store.old store.new result }
 {
     a_session_is_idle_behind_a_reply::<D>();
+    a_writer_may_roll_back::<D>();
     match roll_back(store, txns, locks, s, steps) {
         Err(fault) => Err(fault),
         Ok(rolled) => match rolled {
@@ -250,6 +254,8 @@ fn first<D: Disk, O: Origin, L: Ledger>(
     ensures over { IfOk result (LeavesSessions s txns.old txns.new store.old store.new) }
     ensures told { (c : Start) (opened : D) → WhereSound O.first D.Disk ((next : IsNextOf D.Disk c opened store.old store.new (record { txns = txns.old; locks = locks.old }) s statement.now 0)
         → stuck.now ≡ (state_now c next.mind).stuck → IsMidway c s statement.now next.mind stages.Between → TurnOfAct next (record { txns = txns.new; locks = locks.new }) result) }
+    ensures rolls { (c : Start) (opened : D) → WhereSound O.first D.Disk (IsNextOf D.Disk c opened store.old store.new (record { txns = txns.old; locks = locks.old }) s statement.now 0
+        → statement.now ≡ st.Rollback → IsWriting s txns.old → IfOk result (RollsAct (number_drawn s txns.old) store.old store.new)) }
     ensures steps { steps.new ≤ steps.old + 2 }
     ensures disk { LeavesDisk O.first D.Disk store.old store.new result }
 {
@@ -351,6 +357,9 @@ pub fn act<D: Disk, O: Origin, L: Ledger>(
     // In a World it goes on or is told, and fails by the disk alone.
     ensures told { (c : Start) (opened : D) → WhereSound O.first D.Disk ((next : IsNextOf D.Disk c opened store.old store.new (record { txns = txns.old; locks = locks.old }) s statement.now (made_at stage))
         → stuck.now ≡ (state_now c next.mind).stuck → IsMidway c s statement.now next.mind stage → TurnOfAct next (record { txns = txns.new; locks = locks.new }) result) }
+    // A turn of a ROLLBACK takes the latest item away, or tells the entry with the mark.
+    ensures rolls { (c : Start) (opened : D) → WhereSound O.first D.Disk (IsNextOf D.Disk c opened store.old store.new (record { txns = txns.old; locks = locks.old }) s statement.now (made_at stage)
+        → statement.now ≡ st.Rollback → IsWriting s txns.old → IfOk result (RollsAct (number_drawn s txns.old) store.old store.new)) }
     ensures steps { steps.new ≤ steps.old + 2 }
     // However it ends, time doesn't go back, a fault is told where the disk counts one more, and a crash in it leaves what was hardened with
     // some of what waited.

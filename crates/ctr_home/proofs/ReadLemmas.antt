@@ -7,7 +7,6 @@ use Rattle.ctr_disk.specs.Image.{Image, content}
 use Rattle.ctr_home.specs.declared.block.Block.{Block}
 use Rattle.ctr_home.specs.declared.block.Block.TheVariants.{Root as RootBlock}
 use Rattle.ctr_home.specs.declared.block.Home.{Home}
-use Rattle.ctr_home.specs.declared.root.Form.{Form}
 use Rattle.ctr_home.specs.Blocks.{BlockValue, file_of, block_number, home_place, held_at, stamp_in, value_of, value_place}
 use Rattle.ctr_home.specs.Checks.{check_of, judged}
 use Rattle.ctr_home.specs.Reading.{FindsHome, IsMisnumbered, ReadsBlock}
@@ -46,7 +45,7 @@ reads_none b image into Fault is = tt
 reads_none b image into (Damaged d) is = is
 
 -- the root that was found
-module _ (form : Form) (image : Image) (found : Option (Home × ℕ)) (home : Home) (stamp : ℕ) (is : found ≡ Some (home, stamp)) (finds : FindsHome RootBlock image.root found)
+module _ (image : Image) (found : Option (Home × ℕ)) (home : Home) (stamp : ℕ) (is : found ≡ Some (home, stamp)) (finds : FindsHome RootBlock image.root found)
     (number : ℕ) (number_is : (v : BlockValue) → held_at RootBlock home image.root ≡ Some v → number ≡ v.number) (body : List ℕ) (body_is : (v : BlockValue) → held_at RootBlock home image.root ≡ Some v → body ≡ v.body) where
   its : (v : BlockValue) × (held_at RootBlock home image.root ≡ Some v) × (v.stamp ≡ stamp)
   its = held RootBlock image found home stamp is finds
@@ -62,11 +61,11 @@ module _ (form : Form) (image : Image) (found : Option (Home × ℕ)) (home : Ho
 
   -- so its answer is the block's
   module _ (at : ℕ) (at_is : at ≡ home_place RootBlock home) where
-    pub root_found : (r : Root) → SaysOrRefuses form at read (Ok r) → ReadsRoot form image (Ok (Some r))
+    pub root_found : (r : Root) → SaysOrRefuses at read (Ok r) → ReadsRoot image (Ok (Some r))
     root_found r says = (value_read ∙ ap Some says.0, says.1)
 
-    pub root_refused : (e : StoreFault) → SaysOrRefuses form at read (Err e) → ReadsRoot form image (Err e)
+    pub root_refused : (e : StoreFault) → SaysOrRefuses at read (Err e) → ReadsRoot image (Err e)
     root_refused Fault refuses = tt
     root_refused (Damaged d) refuses =
         let place = at_is ∙ place_is RootBlock image found home stamp is finds in
-        (read, value_read, subst (λ (k : ℕ). SaysOrRefuses form k read (Err (Damaged d))) place refuses)
+        (read, value_read, subst (λ (k : ℕ). SaysOrRefuses k read (Err (Damaged d))) place refuses)

@@ -7,11 +7,9 @@ use Rattle.ctr_home.specs.declared.root.Root.{Root}
 use Rattle.ctr_disk.specs.declared.fault.StoreFault.{StoreFault}
 use Rattle.ctr_bytes.specs.Fields.{spelled, field, with_field}
 use Rattle.ctr_bytes.proofs.FieldLaws.{AreBytes, put_next, side, length-spelled, field_at, field-append, spelled_field}
-use Rattle.ctr_home.specs.declared.root.Form.{Form}
-use Rattle.ctr_home.specs.declared.root.Form.TheVariants.{Thin, Paged}
 use Rattle.ctr_home.specs.Blocks.{BlockValue}
 use Rattle.ctr_home.specs.Checks.{judged}
-use Rattle.ctr_home.specs.Roots.{root_body, root_block, root_checks, IsRootOf, SaysOrRefuses, format_of, least_pages, most_pages}
+use Rattle.ctr_home.specs.Roots.{root_body, root_block, root_checks, IsRoot, SaysOrRefuses}
 use Rattle.ctr_home.proofs.CheckLemmas.{all_pass, pass_all}
 
 magic_is : spelled 8 0x3130304244525443 ≡ codes "CTRDB001"
@@ -23,7 +21,7 @@ abbrev pub root_in : BlockValue → Root
 root_in v = record { stamp = v.stamp; format = field 4 8 v.body; file = field 1 12 v.body; first = field 8 13 v.body; pages = field 4 21 v.body }
 
 -- what its checks say where all pass
-module _ (form : Form) (home : ℕ) (v : BlockValue) (whole : length v.body ≡ 25) (below : AreBytes v.body) where
+module _ (home : ℕ) (v : BlockValue) (whole : length v.body ≡ 25) (below : AreBytes v.body) where
   part : (n at : ℕ) → at + n ≤ 25 → spelled n (field n at v.body) ≡ take n (drop at v.body)
   part n at fits = spelled_field n at v.body (omega (arith, whole, fits)) below
 
@@ -40,9 +38,9 @@ module _ (form : Form) (home : ℕ) (v : BlockValue) (whole : length v.body ≡ 
       ∙ ap (λ (l : List ℕ). codes "CTRDB001" ++ spelled 4 (field 4 8 v.body) ++ spelled 1 (field 1 12 v.body) ++ l ++ take 4 (drop 21 v.body)) (sym (part 8 13 (omega arith)))
       ∙ ap (λ (l : List ℕ). codes "CTRDB001" ++ spelled 4 (field 4 8 v.body) ++ spelled 1 (field 1 12 v.body) ++ spelled 8 (field 8 13 v.body) ++ l) (sym (part 4 21 (omega arith)))
 
-  pub says : judged RootFile (root_checks form home v) ≡ Ok tt → SaysOrRefuses form home v (Ok (root_in v))
+  pub says : judged RootFile (root_checks home v) ≡ Ok tt → SaysOrRefuses home v (Ok (root_in v))
   says is =
-      let number = all_pass RootFile (root_checks form home v) is in
+      let number = all_pass RootFile (root_checks home v) is in
       let magic = number.1 in
       let format = magic.1 in
       let file = format.1 in
@@ -57,14 +55,10 @@ module _ (form : Form) (home : ℕ) (v : BlockValue) (whole : length v.body ≡ 
           first_low = omega (arith, first.0);
           first_high = omega (arith, first.0);
           pages_low = omega (arith, pages.0);
-          pages_high = omega (arith, pages.0, ordered form);
+          pages_high = omega (arith, pages.0);
           stamp = omega (arith, stamp.0);
         },
       )
-    where
-      ordered : (f : Form) → least_pages f ≤ most_pages f
-      ordered Thin = omega arith
-      ordered Paged = omega arith
 
 -- a root's body has its fields
 module _ (r : Root) where
@@ -118,28 +112,20 @@ module _ (r : Root) where
   pages fits = at_end 4 r.pages 21 to_first long_first fits
 
 -- a value that says a root passes its checks
-module _ (form : Form) (home : ℕ) (r : Root) (root : IsRootOf form r) where
+module _ (home : ℕ) (r : Root) (root : IsRoot r) where
   small_format : r.format < 256 ^ 4
-  small_format = let below = low form in omega (arith, root.format, below)
-    where
-      low : (f : Form) → format_of f ≤ 1
-      low Thin = omega arith
-      low Paged = omega arith
+  small_format = omega (arith, root.format)
 
   small_pages : r.pages < 256 ^ 4
-  small_pages = let below = low form in omega (arith, root.pages_high, below)
-    where
-      low : (f : Form) → most_pages f ≤ 30000
-      low Thin = omega arith
-      low Paged = omega arith
+  small_pages = omega (arith, root.pages_high)
 
-  pub passes : judged RootFile (root_checks form home (root_block r)) ≡ Ok tt
+  pub passes : judged RootFile (root_checks home (root_block r)) ≡ Ok tt
   passes =
       let f = format r small_format in
       let b = file r (omega (arith, root.file)) in
       let l = first r (omega (arith, root.first_high)) in
       let p = pages r small_pages in
-      pass_all RootFile (root_checks form home (root_block r)) (
+      pass_all RootFile (root_checks home (root_block r)) (
         refl,
         (
           sym (magic r),
@@ -163,8 +149,8 @@ module _ (form : Form) (home : ℕ) (r : Root) (root : IsRootOf form r) where
       )
 
 -- so one that fails says none
-pub refuses : (form : Form) (home : ℕ) (v : BlockValue) (e : StoreFault) → judged RootFile (root_checks form home v) ≡ Err e → SaysOrRefuses form home v (Err e)
-refuses form home v e is = (is, λ r same root. let passed = ap (λ (w : BlockValue). judged RootFile (root_checks form home w)) same ∙ passes form home r root in absurd (cc (is, passed)))
+pub refuses : (home : ℕ) (v : BlockValue) (e : StoreFault) → judged RootFile (root_checks home v) ≡ Err e → SaysOrRefuses home v (Err e)
+refuses home v e is = (is, λ r same root. let passed = ap (λ (w : BlockValue). judged RootFile (root_checks home w)) same ∙ passes home r root in absurd (cc (is, passed)))
 
 -- all fields of a root, put one behind another
 module _ (r : Root) (old : List ℕ) (long : length old ≡ 25) where

@@ -11,5 +11,5 @@ mod writing;
 pub use block::{Block, Home};
 pub use checks::{Check, judge};
 pub use reading::{is_open, read_home, read_page};
-pub use root::{Form, Root, read_root, read_thin_root, write_root};
+pub use root::{Root, read_root, write_root};
 pub use writing::write_home;

@@ -4,10 +4,9 @@ ghost use Rattle.ctr_types.specs.declared.file.File.TheVariants.{Root as RootFil
 ghost use Rattle.ctr_disk.specs.declared.fault.StoreFault.TheVariants.{Fault};
 ghost use Rattle.ctr_disk.specs.Device.{LeavesOnly, IsDurable, IsSettled, OnlyReads, CountsAs};
 ghost use Rattle.ctr_home.specs.declared.block.Block.TheVariants.{Root as RootBlock};
-ghost use Rattle.ctr_home.specs.declared.root.Form.TheVariants.{Thin, Paged};
 ghost use Rattle.ctr_home.specs.Blocks.{value_of};
 ghost use Rattle.ctr_home.specs.Checks.{TellsApart, bounded, check_of, judged};
-ghost use Rattle.ctr_home.specs.Roots.{ReadsRoot, IsRootOf, SaysOrRefuses, root_body, root_block, root_checks, format_of, least_pages, most_pages};
+ghost use Rattle.ctr_home.specs.Roots.{ReadsRoot, IsRoot, SaysOrRefuses, root_body, root_block, root_checks};
 ghost use Rattle.ctr_home.specs.Writing.{IsAbove, IsOldOrNewValue, IsNewValue};
 
 use crate::block::{Block, Home};
@@ -20,6 +19,15 @@ use ctr_types::File;
 
 /// The bytes `CTRDB001` as a number in 8 bytes.
 const MAGIC: u64 = 0x3130_3042_4452_5443;
+
+/// The version of the format of the files.
+const FORMAT: u32 = 1;
+
+/// How many pages are counted at least: as many as a database is made with.
+const LEAST_PAGES: u64 = 64;
+
+/// How many pages are counted at most.
+const MOST_PAGES: u64 = 30_000;
 
 /// What the value of the root says.
 #[derive(Clone, Copy, Debug, PartialEq, Eq)]
@@ -35,68 +43,10 @@ pub struct Root {
     pub pages: u32,
 }
 
-/// A form of the files.
-#[derive(Clone, Copy, Debug, PartialEq, Eq)]
-pub enum Form {
-    /// Without pages: each commit is one record of the log.
-    Thin,
-    /// On pages.
-    Paged,
-}
-
-impl Form {
-    fn format(self) -> u32
-        ensures { result ≡ format_of self }
-    {
-        match self {
-            Form::Thin => 0,
-            Form::Paged => 1,
-        }
-    }
-
-    fn least_pages(self) -> u64
-        ensures { result ≡ least_pages self }
-    {
-        match self {
-            Form::Thin => 0,
-            Form::Paged => 64,
-        }
-    }
-
-    fn most_pages(self) -> u64
-        ensures { result ≡ most_pages self }
-    {
-        match self {
-            Form::Thin => 0,
-            Form::Paged => 30_000,
-        }
-    }
-}
-
-/// Reads the root of a database on pages, where a home of it is open.
+/// Reads the root, where a home of it is open.
 pub fn read_root<D: Disk>(disk: &mut D) -> Result<Option<Root>, StoreFault>
-    ensures answer { IsTrue D.tells → ReadsRoot Paged (D.reads disk.old) result }
-    ensures checked { IfOk result (λ o. IfSome o (IsRootOf Paged)) }
-    ensures differs { IfErr result TellsApart }
-    ensures quiet { OnlyReads D.Disk disk.old disk.new }
-    ensures counts { CountsAs D.Disk Fault disk.old disk.new result }
-{
-    read_root_of(disk, Form::Paged)
-}
-
-/// Reads the root of a database without pages, where a home of it is open.
-pub fn read_thin_root<D: Disk>(disk: &mut D) -> Result<Option<Root>, StoreFault>
-    ensures answer { IsTrue D.tells → ReadsRoot Thin (D.reads disk.old) result }
-    ensures differs { IfErr result TellsApart }
-    ensures quiet { OnlyReads D.Disk disk.old disk.new }
-    ensures counts { CountsAs D.Disk Fault disk.old disk.new result }
-{
-    read_root_of(disk, Form::Thin)
-}
-
-fn read_root_of<D: Disk>(disk: &mut D, form: Form) -> Result<Option<Root>, StoreFault>
-    ensures answer { IsTrue D.tells → ReadsRoot form (D.reads disk.old) result }
-    ensures checked { IfOk result (λ o. IfSome o (IsRootOf form)) }
+    ensures answer { IsTrue D.tells → ReadsRoot (D.reads disk.old) result }
+    ensures checked { IfOk result (λ o. IfSome o IsRoot) }
     ensures differs { IfErr result TellsApart }
     ensures quiet { OnlyReads D.Disk disk.old disk.new }
     ensures counts { CountsAs D.Disk Fault disk.old disk.new result }
@@ -107,23 +57,17 @@ fn read_root_of<D: Disk>(disk: &mut D, form: Form) -> Result<Option<Root>, Store
     let number = read_number(disk, Block::Root, home)?;
     let mut body = [0; 25];
     read_body(disk, Block::Root, home, &mut body)?;
-    let root = root_of(form, Block::Root.at(home), number, stamp, &body)?;
+    let root = root_of(Block::Root.at(home), number, stamp, &body)?;
     Ok(Some(root))
 }
 
 // The root that a value says, whose home begins at a place, where its checks pass.
-fn root_of(
-    form: Form,
-    home: u64,
-    number: u32,
-    stamp: Stamp,
-    body: &[u8; 25],
-) -> Result<Root, StoreFault>
+fn root_of(home: u64, number: u32, stamp: Stamp, body: &[u8; 25]) -> Result<Root, StoreFault>
     requires { home ≤ 64 }
-    ensures answer { SaysOrRefuses form home (record { number = number; stamp = stamp; body = body.now }) result }
+    ensures answer { SaysOrRefuses home (record { number = number; stamp = stamp; body = body.now }) result }
     ensures differs { IfErr result TellsApart }
 {
-    check_root(form, home, number, stamp, body)?;
+    check_root(home, number, stamp, body)?;
     Ok(Root {
         stamp,
         format: get_u32(body, 8),
@@ -134,15 +78,9 @@ fn root_of(
 }
 
 // The checks in their order.
-fn check_root(
-    form: Form,
-    home: u64,
-    number: u32,
-    stamp: Stamp,
-    body: &[u8; 25],
-) -> Result<(), StoreFault>
+fn check_root(home: u64, number: u32, stamp: Stamp, body: &[u8; 25]) -> Result<(), StoreFault>
     requires { home ≤ 64 }
-    ensures row { result ≡ judged RootFile (root_checks form home (record { number = number; stamp = stamp; body = body.now })) }
+    ensures row { result ≡ judged RootFile (root_checks home (record { number = number; stamp = stamp; body = body.now })) }
     ensures differs { IfErr result TellsApart }
 {
     let first = get_u64(body, 13);
@@ -150,10 +88,10 @@ fn check_root(
     let checks = [
         check(home + 1, 0, number as u64),
         check(home + 13, MAGIC, get_u64(body, 0)),
-        check(home + 21, form.format() as u64, get_u32(body, 8) as u64),
+        check(home + 21, FORMAT as u64, get_u32(body, 8) as u64),
         inside(home + 25, 0, 1, get_u8(body, 12) as u64),
         inside(home + 26, 1, 1 << 63, first),
-        inside(home + 34, form.least_pages(), form.most_pages(), pages),
+        inside(home + 34, LEAST_PAGES, MOST_PAGES, pages),
         inside(home + 5, 0, first.saturating_add(pages), stamp),
     ];
     judge(File::Root, &checks)

@@ -94,7 +94,7 @@ module _ (lines : List Line) (moment : ℕ) (base : Database) (stuck : List (Lis
             shown = shown_answered keeps.scene.low site scene keeps.scene.shown s (point.state.answered + 1) next.me next.there next.asked more;
             begun = begun_fewer s w.since scene keeps.scene.begun;
             carried = carried_fewer s site scene w.facts keeps.scene.carried;
-            undo = (left_moved site.tables w.run.sessions w.undo keeps.scene.undo.0 site.tables (without nat_cmp s w.run.sessions) refl keeps.scene.undo.0.are_open (λ y in_. nobodys_fewer s y w.run.sessions (keeps.scene.undo.0.nobodys y in_)), keeps.scene.undo.1);
+            undo = (left_moved site.tables w.run.sessions w.undo keeps.scene.undo.0 (without nat_cmp s w.run.sessions) (λ y in_. nobodys_fewer s y w.run.sessions (keeps.scene.undo.0.nobodys y in_)), keeps.scene.undo.1);
           }))
           (rolls_moved lines point (answer_entry point s later) next.comes w.run (answered_mind s later).run keeps.rolls (λ r two. find-without-other r s w.run.sessions two)
           (λ b at undoing. absurd (false≢true (ap is_some (sym (find-without-same s w.run.sessions) ∙ at)))))

@@ -1,5 +1,5 @@
 -- Undo's list stays over each action of a session, and of the cleaner.
-use Rattle.std.proofs.Common.{cond, ap, true, ◌≡◌, inr, ℕ, true, false, cond, List, refl, sym, ap, subst}
+use Rattle.std.proofs.Common.{⊎_elim, cond, ap, true, ◌≡◌, inr, ℕ, ◌≤◌, true, false, cond, List, refl, sym, ap, subst, arith}
 use Rattle.std.proofs.lemmas.Bool.{ne_eqb}
 use Rattle.ctr_rec.specs.declared.record.SlogItem.{SlogItem}
 use Rattle.ctr_rec.specs.declared.record.SlogItem.TheVariants.{AllocOf, FreeOf, CreateOf, DropOf}
@@ -11,6 +11,7 @@ use Rattle.ctr_actions.specs.Actions.{Action, Owes, site_after}
 use Rattle.ctr_actions.proofs.Opens.{open_stays}
 use Rattle.ctr_actions.proofs.Order.{front_stays}
 use Rattle.ctr_record_laws.specs.Bounds.{IsInBounds}
+use Rattle.ctr_kept.proofs.Opening.{open_since, next_grows}
 use Rattle.ctr_kept.specs.Undo.{SparesUndo, Undo, IsTheirs, IsUndoLeft}
 
 module _ (site : Site) (bounds : IsInBounds site.area) (sound : IsSoundSite site) (sessions : List (ℕ × SessionHeld)) (u : Undo) (left : IsUndoLeft site.tables sessions u)
@@ -20,6 +21,9 @@ module _ (site : Site) (bounds : IsInBounds site.area) (sound : IsSoundSite site
   not_own (FreeOf p) in_ = refl
   not_own (CreateOf y e) in_ = ne_eqb y x (λ is. apart (subst (λ q. IsAmong q u.orphans) is in_))
   not_own (DropOf y e) in_ = ne_eqb y x (λ is. apart (subst (λ q. IsAmong q u.orphans) is in_))
+
+  no_less : {a b c : ℕ} → a ≤ b → b ≤ c → a ≤ c
+  no_less p q = omega (arith, p, q)
 
   pub left_by : (a : Action) → Owes x a site → SparesUndo a u → IsUndoLeft (site_after x a site).tables sessions u
   left_by a owed spares =
@@ -31,4 +35,6 @@ module _ (site : Site) (bounds : IsInBounds site.area) (sound : IsSoundSite site
         are_open = λ y in_. open_stays y x a site (inr (λ is. apart (subst (λ q. IsAmong q u.orphans) is in_))) (left.are_open y in_);
         nobodys = left.nobodys;
         once = left.once;
+        begun = λ y open_. ⊎_elim (left.begun y) (λ since. inr (no_less left.numbered since)) (open_since y x a site owed open_);
+        numbered = no_less left.numbered (next_grows x a site);
       }

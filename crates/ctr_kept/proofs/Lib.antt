@@ -1,3 +1,4 @@
+pub mod Opening
 pub mod Undo
 pub mod Carried
 pub mod Tables

@@ -24,11 +24,12 @@ use Rattle.ctr_meta.specs.declared.items.Wanted.{Wanted}
 use Rattle.ctr_meta.specs.declared.items.Wanted.TheVariants.{Allocation, Creation, Dropping}
 use Rattle.ctr_area.specs.Areas.{Title}
 use Rattle.ctr_area.specs.Chains.{pages_bound}
-use Rattle.ctr_area.specs.Sound.{IsAmong, IsSchemaItem}
+use Rattle.ctr_area.specs.Sound.{IsAmong, IsSchemaItem, xids_in}
 use Rattle.ctr_record_laws.proofs.Heads.{listed_drawn}
 use Rattle.ctr_record_laws.specs.Bounds.{IsInBounds}
 use Rattle.ctr_record_laws.proofs.Items.{any_there}
 use Rattle.ctr_record_laws.proofs.Members.{among_front, among_rest}
+use Rattle.ctr_record_laws.proofs.Xids.{once_parts}
 use Rattle.ctr_actions.specs.Sites.{Site}
 use Rattle.ctr_actions.specs.Actions.{Action, Frees, Reclaims, Uncreates, Undrops, Aborts, Owes, site_after}
 use Rattle.ctr_actions.specs.Facts.{Fact, IsOpen, HasPage, HasNoPageBut, HasBlank, HasSlot, HasCopy, HasTable, HoldsFact, IsAway}
@@ -134,7 +135,7 @@ module _ (leaves : AnotherLeaves) (lines : List Line) (moment : ℕ) (base : Dat
       let v : Mind = record w { undo = record w.undo { orphans = front ++ back; turns = w.undo.turns + 1 } } in
       keeps_on lines moment base stuck size now site w keeps later (site_after x Aborts site) v le refl
       (nobodys_scene x Aborts v scene (orphan_owes site.tables w.run.sessions w.undo left x none here) bounds (inr (left.nobodys x here, refl)) refl refl refl refl (left.nobodys x here) (λ s b t at is_t fact in_ holds under its. tt)
-      (left_orphan site.tables w.run.sessions w.undo left x front back none is, counts_orphan size w.undo x front back is keeps.scene.undo.1)) keeps.rolls
+      (left_orphan site.tables w.run.sessions w.undo left x front back none is (once_parts (xids_in site.tables.opens) (xids_in site.tables.aborted) keeps.scene.shown.paged.sound.below.once).0, counts_orphan size w.undo x front back is keeps.scene.undo.1)) keeps.rolls
 
   -- nobody has the next number
   next_nobodys : IsNoSessions w.run.sessions site.tables.next
@@ -167,7 +168,7 @@ module _ (leaves : AnotherLeaves) (lines : List Line) (moment : ℕ) (base : Dat
       let here : IsAmong x w.undo.orphans = left.theirs (AllocOf x p) in_ in
       keeps_on lines moment base stuck size now site w keeps later (site_after x (Frees p) site) (undone front) le refl
       (nobodys_scene x (Frees p) (undone front) scene (any_there (Allocation x p) (AllocOf x p) site.tables.items (wanted_itself x p) there) bounds refl refl refl refl refl (left.nobodys x here) (λ s b t at is_t fact in_ holds under its. tt) (
-        left_item site.tables w.run.sessions w.undo left front (AllocOf x p) is (site_after x (Frees p) site).tables (goes x (AllocOf x p) front is) refl,
+        left_item site.tables w.run.sessions w.undo left front (AllocOf x p) is (site_after x (Frees p) site).tables (goes x (AllocOf x p) front is) refl refl,
         counts_item size w.undo front (AllocOf x p) is keeps.scene.undo.1,
       ))
       keeps.rolls
@@ -179,14 +180,14 @@ module _ (leaves : AnotherLeaves) (lines : List Line) (moment : ℕ) (base : Dat
       let there = in_items (FreeOf p) (in_undo front (FreeOf p) is) in
       keeps_on lines moment base stuck size now site w keeps later (site_after site.tables.next (Reclaims p) site) (undone front) le refl
       (nobodys_scene site.tables.next (Reclaims p) (undone front) scene there bounds refl refl refl refl refl next_nobodys (λ s b t at is_t fact in_ holds under its. tt) (
-        left_item site.tables w.run.sessions w.undo left front (FreeOf p) is (site_after site.tables.next (Reclaims p) site).tables (goes site.tables.next (FreeOf p) front is) refl,
+        left_item site.tables w.run.sessions w.undo left front (FreeOf p) is (site_after site.tables.next (Reclaims p) site).tables (goes site.tables.next (FreeOf p) front is) refl refl,
         counts_item size w.undo front (FreeOf p) is keeps.scene.undo.1,
       ))
       keeps.rolls
 
   -- ---- an item of a table, the latest that is left
 
-  module _ (later x e : ℕ) (le : now ≤ later) (i : SlogItem) (front : List SlogItem) (wanted : Wanted) (a : Action) (is : w.undo.items ≡ front ++ i ∷ []) (gone : (site_after x a site).tables.items ≡ front ++ left.run) (opens : (site_after x a site).tables.opens ≡ site.tables.opens)
+  module _ (later x e : ℕ) (le : now ≤ later) (i : SlogItem) (front : List SlogItem) (wanted : Wanted) (a : Action) (is : w.undo.items ≡ front ++ i ∷ []) (gone : (site_after x a site).tables.items ≡ front ++ left.run) (opens : (site_after x a site).tables.opens ≡ site.tables.opens) (undrawn : (site_after x a site).tables.next ≡ site.tables.next)
       (here : IsAmong x w.undo.orphans) (item : IsSchemaItem x e site.tables.items) (owed : Owes x a site) (bounds : IsInBounds (site_after x a site).area)
       (to : (next : Scene) → UndoesOrphans x e wanted site scene next → MovesTo keeps.scene.low x a site scene next)
       (away : (t : Transaction) → IsClear point.state.stuck t → has_name (site.area.title e).name point.state.stuck ≡ true → (z : ℕ) (fact : Fact) → HoldsFact z fact site → IsUnderLock t fact site → IsAway a fact) where
@@ -197,7 +198,7 @@ module _ (leaves : AnotherLeaves) (lines : List Line) (moment : ℕ) (base : Dat
     scene_now v next moves runs states since facts undo = nobodys_scene x a v next owed bounds (to next moves) runs states since facts (left.nobodys x here)
         (λ s b t at is_t fact in_ holds under its. away t (legal.clear s t is_t) name_stuck b.me fact holds under)
         (subst (λ u. IsUndoLeft (site_after x a site).tables w.run.sessions u × CountsTo size u) (sym undo)
-        (left_item site.tables w.run.sessions w.undo left front i is (site_after x a site).tables gone opens, counts_item size w.undo front i is keeps.scene.undo.1))
+        (left_item site.tables w.run.sessions w.undo left front i is (site_after x a site).tables gone opens undrawn, counts_item size w.undo front i is keeps.scene.undo.1))
 
     -- the name has other items left
     more_items : (z g : ℕ) → IsItemOfName e wanted site z g → IsNoSessions w.run.sessions z → Keeps lines (at_start moment base stuck) size later (site_after x a site) (undone front)
@@ -235,12 +236,12 @@ module _ (leaves : AnotherLeaves) (lines : List Line) (moment : ℕ) (base : Dat
     their_creation = left.theirs (CreateOf x e) (in_undo front (CreateOf x e) is)
 
     pub uncreated_turn : (z g : ℕ) → IsItemOfName e (Creation e) site z g → IsNoSessions w.run.sessions z → Keeps lines (at_start moment base stuck) size later (site_after x (Uncreates e) site) (undone front)
-    uncreated_turn = more_items later x e le (CreateOf x e) front (Creation e) (Uncreates e) is (goes x (CreateOf x e) front is) refl their_creation (inl created_in)
+    uncreated_turn = more_items later x e le (CreateOf x e) front (Creation e) (Uncreates e) is (goes x (CreateOf x e) front is) refl refl their_creation (inl created_in)
         (item_is_last site.tables w.run.sessions w.undo left front (CreateOf x e) x is (eq-eqb x x refl) their_creation) bounds (λ next moves. inr moves) (λ t clear held. uncreate_away t point.state.stuck site e clear held)
 
     pub last_created_turn : transaction_of point.state 0 ≡ None → ((y f : ℕ) → IsItemOfName e (Creation e) site y f → ⊥)
         → Keeps lines (at_start moment base stuck) size later (site_after x (Uncreates e) site) (record (undone front) { tape = w.tape ++ record { session = 0; statement = 0; act = act.Release (site.area.title e).name; reply = reply.Released; moment = later } ∷ [] })
-    last_created_turn = last_of_name later x e le (CreateOf x e) front (Creation e) (Uncreates e) is (goes x (CreateOf x e) front is) refl their_creation (inl created_in)
+    last_created_turn = last_of_name later x e le (CreateOf x e) front (Creation e) (Uncreates e) is (goes x (CreateOf x e) front is) refl refl their_creation (inl created_in)
         (item_is_last site.tables w.run.sessions w.undo left front (CreateOf x e) x is (eq-eqb x x refl) their_creation) bounds (λ next moves. inr moves) (λ t clear held. uncreate_away t point.state.stuck site e clear held)
 
   -- a table that an orphan dropped
@@ -252,12 +253,12 @@ module _ (leaves : AnotherLeaves) (lines : List Line) (moment : ℕ) (base : Dat
     their_drop = left.theirs (DropOf x e) (in_undo front (DropOf x e) is)
 
     pub undropped_turn : (z g : ℕ) → IsItemOfName e (Dropping e) site z g → IsNoSessions w.run.sessions z → Keeps lines (at_start moment base stuck) size later (site_after x (Undrops e) site) (undone front)
-    undropped_turn = more_items later x e le (DropOf x e) front (Dropping e) (Undrops e) is (goes x (DropOf x e) front is) refl their_drop (inr dropped_in)
+    undropped_turn = more_items later x e le (DropOf x e) front (Dropping e) (Undrops e) is (goes x (DropOf x e) front is) refl refl their_drop (inr dropped_in)
         (item_is_last site.tables w.run.sessions w.undo left front (DropOf x e) x is (eq-eqb x x refl) their_drop) bounds (λ next moves. inr moves) (λ t clear held. undrop_away t point.state.stuck site e clear held)
 
     pub last_dropped_turn : transaction_of point.state 0 ≡ None → ((y f : ℕ) → IsItemOfName e (Dropping e) site y f → ⊥)
         → Keeps lines (at_start moment base stuck) size later (site_after x (Undrops e) site) (record (undone front) { tape = w.tape ++ record { session = 0; statement = 0; act = act.Release (site.area.title e).name; reply = reply.Released; moment = later } ∷ [] })
-    last_dropped_turn = last_of_name later x e le (DropOf x e) front (Dropping e) (Undrops e) is (goes x (DropOf x e) front is) refl their_drop (inr dropped_in)
+    last_dropped_turn = last_of_name later x e le (DropOf x e) front (Dropping e) (Undrops e) is (goes x (DropOf x e) front is) refl refl their_drop (inr dropped_in)
         (item_is_last site.tables w.run.sessions w.undo left front (DropOf x e) x is (eq-eqb x x refl) their_drop) bounds (λ next moves. inr moves) (λ t clear held. undrop_away t point.state.stuck site e clear held)
 
   -- ---- the cleaner, and the flusher

@@ -81,7 +81,7 @@ module _ (size : ℕ) (site : Site) (w : Mind) (scene : Scene) (kept : KeepsScen
           (λ two. let its = kept.carried.tables r fact e (subst (IsAmong fact) (apart r two) in_) is in (its.0, subst (IsAmong (HasTable e its.0)) (sym (apart r two)) its.1));
     });
     undo = subst (λ u. IsUndoLeft site.tables next.run.sessions u × CountsTo size u) (sym undo_is)
-        (left_moved site.tables scene.run.sessions w.undo kept.undo.0 site.tables next.run.sessions refl kept.undo.0.are_open (nobodys_now site moves), kept.undo.1);
+        (left_moved site.tables scene.run.sessions w.undo kept.undo.0 next.run.sessions (nobodys_now site moves), kept.undo.1);
   }
 
   -- a turn with an action, by a number that no other session has and nobody whom undo has left
@@ -100,7 +100,7 @@ module _ (size : ℕ) (site : Site) (w : Mind) (scene : Scene) (kept : KeepsScen
             (λ b fact at in_. moves.held b fact at (subst (IsAmong fact) here in_)) (λ t fact is_t in_. moves.under t fact is_t (subst (IsAmong fact) here in_))
             (λ fact e in_ is. let its = moves.tables fact e (subst (IsAmong fact) here in_) is in (its.0, subst (IsAmong (HasTable e its.0)) (sym here) its.1)));
         undo = subst (λ u. IsUndoLeft (site_after y a site).tables next.run.sessions u × CountsTo size u) (sym undo_is)
-            (left_moved (site_after y a site).tables scene.run.sessions w.undo left (site_after y a site).tables next.run.sessions refl left.are_open (nobodys_now (site_after y a site) moves), kept.undo.1);
+            (left_moved (site_after y a site).tables scene.run.sessions w.undo left next.run.sessions (nobodys_now (site_after y a site) moves), kept.undo.1);
       }
     where
       left : IsUndoLeft (site_after y a site).tables scene.run.sessions w.undo

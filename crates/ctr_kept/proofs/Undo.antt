@@ -13,7 +13,7 @@ use Rattle.ctr_meta.specs.Effects.{rolled_back}
 use Rattle.ctr_area.specs.Areas.{Area}
 use Rattle.ctr_area.specs.Sound.{IsAmong, AreAllOnce, xids_in, IsSoundArea}
 use Rattle.ctr_record_laws.specs.Owed.{HasNoItems, OwedByAbort, IsLastItem}
-use Rattle.ctr_record_laws.proofs.Leaving.{still_among}
+use Rattle.ctr_record_laws.proofs.Leaving.{still_among, among_without, once_less}
 use Rattle.ctr_record_laws.proofs.Members.{among_parts, among_rest, among_front}
 use Rattle.ctr_record_laws.proofs.Xids.{among_in, in_among, once_parts}
 use Rattle.ctr_record_laws.proofs.Undone.{filter_append}
@@ -58,6 +58,8 @@ module _ (counted : ℕ) (tables : Tables) (area : Area) (sound : IsSoundArea co
     are_open = λ x in_. among_in x tables.opens in_;
     nobodys = λ x in_ s b at. absurd (false≢true (ap is_some at));
     once = (once_parts (xids_in tables.opens) (xids_in tables.aborted) sound.below.once).0;
+    begun = λ x open_. inl (in_among x tables.opens open_);
+    numbered = omega arith;
   }
     where
       their : (i : SlogItem) → IsAmong i tables.items → IsTheirs (xids_in tables.opens) i
@@ -71,6 +73,12 @@ module _ (counted : ℕ) (tables : Tables) (area : Area) (sound : IsSoundArea co
 put_among : (front back : List ℕ) (x y : ℕ) → IsAmong y (front ++ back) → IsAmong y (front ++ x ∷ back)
 put_among front back x y in_ = ⊎_elim (λ before. among_front y front (x ∷ back) before) (λ behind. among_rest y front (x ∷ back) (inr behind)) (among_parts y front back in_)
 
+other_among : (front back : List ℕ) (x y : ℕ) → (y ≡ x → ⊥) → IsAmong y (front ++ x ∷ back) → IsAmong y (front ++ back)
+other_among front back x y apart in_ = ⊎_elim
+    (λ before. among_front y front back before)
+    (λ behind. ⊎_elim (λ same. absurd (apart same)) (λ later. among_rest y front back later) behind)
+    (among_parts y front (x ∷ back) in_)
+
 once_without : (front back : List ℕ) (x : ℕ) → AreAllOnce (front ++ x ∷ back) → AreAllOnce (front ++ back) × (IsAmong x (front ++ back) → ⊥)
 once_without [] back x once = (once.1, once.0)
 once_without (z ∷ front) back x once =
@@ -82,16 +90,27 @@ once_without (z ∷ front) back x once =
 -- ---- over turns
 
 module _ (tables : Tables) (sessions : List (ℕ × SessionHeld)) (u : Undo) (left : IsUndoLeft tables sessions u) where
-  -- sessions move, and heads: who is left is open still, and nobody's
-  pub left_moved : (new : Tables) (next : List (ℕ × SessionHeld)) → new.items ≡ tables.items → ((x : ℕ) → IsAmong x u.orphans → is_in x new.opens ≡ true) → ((x : ℕ) → IsAmong x u.orphans → IsNoSessions next x) → IsUndoLeft new next u
-  left_moved new next same opens nobodys = record { run = left.run; items = same ∙ left.items; theirs = left.theirs; own = left.own; are_open = opens; nobodys = nobodys; once = left.once }
+  -- sessions move: who is left is nobody's still
+  pub left_moved : (next : List (ℕ × SessionHeld)) → ((x : ℕ) → IsAmong x u.orphans → IsNoSessions next x) → IsUndoLeft tables next u
+  left_moved next nobodys = record {
+    run = left.run;
+    items = left.items;
+    theirs = left.theirs;
+    own = left.own;
+    are_open = left.are_open;
+    nobodys = nobodys;
+    once = left.once;
+    begun = left.begun;
+    numbered = left.numbered;
+  }
 
   -- the list's item: the latest of its transaction, and the only one
   pub with_latest : (front : List SlogItem) (i : SlogItem) → u.items ≡ front ++ i ∷ [] → tables.items ≡ front ++ i ∷ left.run
   with_latest front i is = left.items ∙ ap (λ l. l ++ left.run) is ∙ again front left.run i
 
-  pub left_item : (front : List SlogItem) (i : SlogItem) → u.items ≡ front ++ i ∷ [] → (new : Tables) → new.items ≡ front ++ left.run → new.opens ≡ tables.opens → IsUndoLeft new sessions (record u { items = front; turns = u.turns + 1 })
-  left_item front i is new items opens = record {
+  pub left_item : (front : List SlogItem) (i : SlogItem) → u.items ≡ front ++ i ∷ [] → (new : Tables) → new.items ≡ front ++ left.run → new.opens ≡ tables.opens → new.next ≡ tables.next
+      → IsUndoLeft new sessions (record u { items = front; turns = u.turns + 1 })
+  left_item front i is new items opens next = record {
     run = left.run;
     items = items;
     theirs = λ z in_. left.theirs z (subst (IsAmong z) (sym is) (among_front z front (i ∷ []) in_));
@@ -99,6 +118,8 @@ module _ (tables : Tables) (sessions : List (ℕ × SessionHeld)) (u : Undo) (le
     are_open = λ x in_. ap (is_in x) opens ∙ left.are_open x in_;
     nobodys = left.nobodys;
     once = left.once;
+    begun = λ x open_. left.begun x (sym (ap (is_in x) opens) ∙ open_);
+    numbered = subst (λ n. u.first ≤ n) (sym next) left.numbered;
   }
 
   pub item_is_last : (front : List SlogItem) (i : SlogItem) (x : ℕ) → u.items ≡ front ++ i ∷ [] → is_item_by x i ≡ true → IsAmong x u.orphans → IsLastItem x i tables.items
@@ -116,8 +137,9 @@ module _ (tables : Tables) (sessions : List (ℕ × SessionHeld)) (u : Undo) (le
   pub orphan_owes : (x : ℕ) → u.items ≡ [] → IsAmong x u.orphans → OwedByAbort tables x
   orphan_owes x none theirs = record { is_open = left.are_open x theirs; none = λ i in_. left.own x theirs i (subst (IsAmong i) (left.items ∙ ap (λ l. l ++ left.run) none) in_) }
 
-  pub left_orphan : (x : ℕ) (front back : List ℕ) → u.items ≡ [] → u.orphans ≡ front ++ x ∷ back → IsUndoLeft (rolled_back x tables) sessions (record u { orphans = front ++ back; turns = u.turns + 1 })
-  left_orphan x front back none is =
+  pub left_orphan : (x : ℕ) (front back : List ℕ) → u.items ≡ [] → u.orphans ≡ front ++ x ∷ back → AreAllOnce (xids_in tables.opens)
+      → IsUndoLeft (rolled_back x tables) sessions (record u { orphans = front ++ back; turns = u.turns + 1 })
+  left_orphan x front back none is opens_once =
       let once = once_without front back x (subst AreAllOnce is left.once) in
       let more : (y : ℕ) → IsAmong y (front ++ back) → IsAmong y u.orphans = λ y in_. subst (IsAmong y) (sym is) (put_among front back x y in_) in record {
         run = left.run;
@@ -127,4 +149,8 @@ module _ (tables : Tables) (sessions : List (ℕ × SessionHeld)) (u : Undo) (le
         are_open = λ y in_. among_in y (without_xid x tables.opens) (still_among x y tables.opens (λ same. once.1 (subst (λ q. IsAmong q (front ++ back)) same in_)) (in_among y tables.opens (left.are_open y (more y in_))));
         nobodys = λ y in_. left.nobodys y (more y in_);
         once = once.0;
+        begun = λ y open_. let there = in_among y (without_xid x tables.opens) open_ in
+            let apart : y ≡ x → ⊥ = λ same. (once_less x tables.opens opens_once).1 (subst (λ z. IsAmong z (xids_in (without_xid x tables.opens))) same there) in
+            ⊎_elim (λ in_. inl (other_among front back x y apart (subst (IsAmong y) is in_))) (λ since. inr since) (left.begun y (among_in y tables.opens (among_without x y tables.opens there)));
+        numbered = left.numbered;
       }

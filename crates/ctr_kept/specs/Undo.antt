@@ -1,6 +1,6 @@
 -- Undo's list: the items of the start that are left, and behind them the transactions that were
 -- open then.
-use Rattle.std.specs.Prelude.{◌≡◌, ℕ, ◌+◌, true, List, ◌++◌, length}
+use Rattle.std.specs.Prelude.{◌≡◌, ◌⊎◌, ℕ, ◌+◌, ◌≤◌, true, List, ◌++◌, length}
 use Rattle.ctr_rec.specs.declared.record.SlogItem.{SlogItem}
 use Rattle.ctr_rec.specs.declared.record.SlogItem.TheVariants.{AllocOf, FreeOf, CreateOf, DropOf}
 use Rattle.ctr_versions.specs.Engine.{SessionHeld}
@@ -10,12 +10,13 @@ use Rattle.ctr_area.specs.Sound.{IsAmong, AreAllOnce, xids_in}
 use Rattle.ctr_record_laws.specs.Owed.{HasNoItems}
 use Rattle.ctr_actions.specs.Actions.{Action, Reclaims}
 
--- The items that are left, in the order of the secondary log; the transactions that are left; and
--- how many turns of undo there were.
+-- The items that are left, in the order of the secondary log; the transactions that are left; how
+-- many turns of undo there were; and the first number that a transaction of the run may have.
 pub record Undo : Type 0 where
   pub items : List SlogItem
   pub orphans : List ℕ
   pub turns : ℕ
+  pub first : ℕ
 
 -- how many turns there are to come
 abbrev pub left_of : Undo → ℕ
@@ -23,7 +24,12 @@ left_of u = length u.items + length u.orphans
 
 -- undo's list as a run begins
 abbrev pub undo_at : Tables → Undo
-undo_at tables = record { items = tables.items; orphans = xids_in tables.opens; turns = 0 }
+undo_at tables = record {
+  items = tables.items;
+  orphans = xids_in tables.opens;
+  turns = 0;
+  first = tables.next;
+}
 
 -- an item is of one of these transactions, or of none
 abbrev pub IsTheirs : List ℕ → SlogItem → Type 0
@@ -33,7 +39,8 @@ IsTheirs xs (CreateOf y e) = IsAmong y xs
 IsTheirs xs (DropOf y e) = IsAmong y xs
 
 -- The items of the tables are those left of the start, and behind them those of this run, of which
--- none is of who is left; who is left is open, once, and no session's.
+-- none is of who is left; who is left is open, once, and no session's; and who else is open has begun
+-- in this run.
 pub record IsUndoLeft (tables : Tables) (sessions : List (ℕ × SessionHeld)) (u : Undo) : Type 0 where
   pub run : List SlogItem
   pub items : tables.items ≡ u.items ++ run
@@ -42,6 +49,8 @@ pub record IsUndoLeft (tables : Tables) (sessions : List (ℕ × SessionHeld)) (
   pub are_open : (x : ℕ) → IsAmong x u.orphans → is_in x tables.opens ≡ true
   pub nobodys : (x : ℕ) → IsAmong x u.orphans → IsNoSessions sessions x
   pub once : AreAllOnce u.orphans
+  pub begun : (x : ℕ) → is_in x tables.opens ≡ true → IsAmong x u.orphans ⊎ (u.first ≤ x)
+  pub numbered : u.first ≤ tables.next
 
 -- Of a start: what was done and what is left is the size of its undo.
 abbrev pub CountsTo : ℕ → Undo → Type 0

@@ -8,15 +8,16 @@ use Rattle.ctr_log.specs.Reading.{log_file}
 use Rattle.ctr_log.specs.Kept.{other_file, other_byte, IsDropped, WritesTwo, WritesBy, WritesBehind, Forgets}
 use Rattle.ctr_log.proofs.KeptLaws.{begins}
 
-named_other : (n : ℕ) → log_file (other_byte n) ≡ other_file n
+pub named_other : (n : ℕ) → log_file (other_byte n) ≡ other_file n
 named_other zero = refl
 named_other (suc n) = refl
 
-other_named : (n : ℕ) → other_file (other_byte n) ≡ log_file n
+pub other_named : (n : ℕ) → other_file (other_byte n) ≡ log_file n
 other_named zero = refl
 other_named (suc n) = refl
 
-some_records : (bs : Batches) → 0 < length bs → AreBatches bs → 0 < length (records bs)
+-- batches have a record
+pub some_records : (bs : Batches) → 0 < length bs → AreBatches bs → 0 < length (records bs)
 some_records [] some each = absurd (omega (arith, some))
 some_records (rs ∷ bs) some each = let one = each.0.0 in omega (arith, one, length-append rs (records bs))
 
@@ -29,7 +30,7 @@ module _ (log : Log) (file first : ℕ) (image : Image) (one : 1 ≤ first) (w :
       let head = begins first w.bs (content (log_file file) image) w.holds.named w.holds.short (omega (arith, w.holds.low)) in
       omega (arith, head.1, some_records w.bs w.holds.named.some w.holds.named.batches_are.each)
 
-  alone : WritesBehind (other_byte file) next (record log { older = false }) image
+  pub alone : WritesBehind (other_byte file) next (record log { older = false }) image
   alone = record {
     numbered = omega (arith, one);
     by = record {

@@ -1,12 +1,9 @@
 -- What the steps of making a database leave.
-use Rattle.std.proofs.Common.{◌≡◌, inl, inr, ℕ, List, [], ◌∷◌, ◌++◌, drop, refl, sym, ◌∙◌, ap, subst, arith, None, Some}
+use Rattle.std.proofs.Common.{◌≡◌, ℕ, List, [], ◌∷◌, ◌++◌, drop, refl, sym, ◌∙◌, ap, subst, arith}
 use Rattle.ctr_types.specs.declared.file.File.TheVariants.{LogA, LogB}
 use Rattle.ctr_disk.specs.Image.{Image, write_of, TornImage}
-use Rattle.ctr_home.specs.declared.block.Block.TheVariants.{Root as RootBlock}
-use Rattle.ctr_home.specs.Roots.{root_block, root_value}
-use Rattle.ctr_home.specs.Writing.{IsAbove, OthersStay, IsOldOrNewValue, IsNewValue}
-use Rattle.ctr_log.specs.Logs.{batch, HasLog, Extends, IsBeforeOrAfter, IsAfter}
-use Rattle.ctr_log.specs.Fresh.{first_checkpoint, fresh_log, fresh_root, IsClosed, IsFresh, IsNoneOrFresh, LogsAreReady, AreEmptied, SameRoot}
+use Rattle.ctr_log.specs.Logs.{batch, Extends, IsBeforeOrAfter, IsAfter}
+use Rattle.ctr_log.specs.Fresh.{first_checkpoint, IsClosed, LogsAreReady, AreEmptied, SameRoot}
 
 pub same_root_by_log_a : (at n : ℕ) (old d c : Image) → SameRoot old d → TornImage LogA at n d c → SameRoot old c
 same_root_by_log_a at n old d c same torn = (ap (λ i. i.root) torn.others ∙ same.0, ap (λ i. i.pages) torn.others ∙ same.1)
@@ -49,27 +46,3 @@ log_ready old mid new empty after = record {
   other_log = subst IsClosed (sym (ap (λ i. i.log_b) after.0)) empty.other_log;
   pages = ap (λ i. i.pages) after.0 ∙ empty.pages;
 }
-
--- the root is written last
-module _ (old : Image) (none : root_value old.root ≡ None) where
-  pub none_yet : (c : Image) → SameRoot old c → IsNoneOrFresh old c
-  none_yet c same = inl (ap root_value same.0 ∙ none)
-
-  module _ (mid : Image) (ready : LogsAreReady old mid) where
-    pub root_above : IsAbove 1 (root_value mid.root)
-    root_above = subst (IsAbove 1) (sym (ap root_value ready.root ∙ none)) tt
-
-    made_by : (c : Image) → OthersStay RootBlock mid c → root_value c.root ≡ Some (root_block fresh_root) → IsFresh old c
-    made_by c others value = record {
-      root = value;
-      log = subst (HasLog 1 fresh_log) (sym (ap (λ i. i.log_a) others.files)) ready.log;
-      other_log = subst IsClosed (sym (ap (λ i. i.log_b) others.files)) ready.other_log;
-      pages = ap (λ i. i.pages) others.files ∙ ready.pages;
-    }
-
-    pub root_made : (c : Image) → IsNewValue RootBlock (root_block fresh_root) mid c → IsFresh old c
-    root_made c new = made_by c new.0 new.1
-
-    pub root_step : (c : Image) → IsOldOrNewValue RootBlock (root_block fresh_root) mid c → IsNoneOrFresh old c
-    root_step c (same, inl was) = inl (was ∙ ap root_value ready.root ∙ none)
-    root_step c (same, inr new) = inr (made_by c same new)

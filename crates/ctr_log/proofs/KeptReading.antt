@@ -14,7 +14,7 @@ use Rattle.ctr_log.specs.declared.reading.ReadError.{ReadError}
 use Rattle.ctr_log.specs.declared.reading.ReadError.TheVariants.{Store, OutOfMemory}
 use Rattle.ctr_log.specs.Logs.{Batches, batch, batches, records, HasLog, Log, GoesOn}
 use Rattle.ctr_log.specs.Reading.{log_file, ReadsLog, HasSome, IsEmptyAt, RefusesOrFails}
-use Rattle.ctr_log.specs.Kept.{NamesKept, log_in, begins_at, kept_log, other_file, next_file, IsDropped, AreShort, RefusesKept, HoldsTwo, HoldsLog, StandsLog, OpensKept, WritesBy, WritesBehind, writer_file, has_newer}
+use Rattle.ctr_log.specs.Kept.{NamesKept, log_in, begins_at, kept_log, other_file, next_file, IsDropped, AreShort, RefusesKept, HoldsTwo, HoldsLog, StandsLog, OpensKept, StartsAt, WritesBy, WritesBehind, writer_file, has_newer}
 use Rattle.ctr_disk.specs.declared.fault.StoreFault.{StoreFault}
 use Rattle.ctr_log.specs.LogChecks.{file_damage, damage_or, kept_damage, if_passed, sound_visits, sound_kept_visits, IsThisDamage}
 use Rattle.ctr_log.specs.Visits.{IsGiven, GivesPart, StopsAt, OnRead}
@@ -22,6 +22,7 @@ use Rattle.ctr_log.specs.declared.visitor.Visit.{Visit}
 use Rattle.ctr_log.specs.declared.visitor.VisitError.{VisitError}
 use Rattle.ctr_log.specs.declared.visitor.VisitError.TheVariants.{Read, Refused}
 use Rattle.ctr_log.proofs.LogLemmas.{length-batch}
+use Rattle.ctr_log.proofs.ForgetLaws.{some_records}
 use Rattle.ctr_log.proofs.KeptLaws.{log_in_is, begins}
 use Rattle.ctr_log.proofs.StartLemmas.{next_other}
 use Rattle.ctr_log.proofs.DamageLaws.{section-drop, this_more}
@@ -238,6 +239,7 @@ module _ {r : Root} {image mid : Image} {f h : File} {rs : List (List ℕ)} {pla
       file_is = at.file_is ∙ w.named_is ∙ ap (λ (o : Bool). writer_file o r.file) (sym at.older_is);
       next_is = omega (arith, at.next_is, number_is, ap length read.records_are, ap length kept_one);
       goes_on = (r.first, read.bs, goes_one);
+      starts = subst (λ (o : Bool). StartsAt o r.first log.start) (sym at.older_is) at.start_is;
     }
 
     pub visited_one : {V : Type 0} (has_seen : V → List Visit → Type 0) (old new : V) → file_damage f r.first (content f image) ≡ Ok tt → IsGiven has_seen old new (sound_visits f r.first (content f image)) → IsGiven has_seen old new (sound_kept_visits r.file r.first image)
@@ -329,6 +331,7 @@ module _ {r : Root} {image mid : Image} {f h : File} {rs : List (List ℕ)} {pla
         file_is = at.file_is ∙ behind_is ∙ ap (λ (o : Bool). writer_file o r.file) (sym at.older_is);
         next_is = omega (arith, at.next_is, newer.next_is, number_is, ap length read.records_are, ap length newer.records_are, ap length kept_two, length-append rs qs);
         goes_on = (next, newer.bs, goes_two);
+        starts = subst (λ (o : Bool). StartsAt o r.first log.start) (sym at.older_is) (omega (arith, at.start_is, number_is, some_records read.bs read.log_is.some read.log_is.batches_are.each));
       }
 
       pub writes_two : (all : List (List ℕ)) → HoldsLog r.file r.first all image → WritesBehind r.file r.first log image

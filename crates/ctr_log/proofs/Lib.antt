@@ -12,4 +12,4 @@ pub mod KeptLaws
 pub mod StartLemmas
 pub mod GenerationLemmas
 mod KeptReading
-mod ForgetLaws
+pub mod ForgetLaws

@@ -10,10 +10,10 @@ use Rattle.ctr_disk.proofs.Moments.{joined, weaker}
 use Rattle.ctr_bytes.specs.Fields.{field}
 use Rattle.ctr_bytes.proofs.FieldLaws.{field-drop}
 use Rattle.ctr_log.specs.declared.log.LogFile.TheInside.{Inside}
-use Rattle.ctr_log.specs.Logs.{Log, frame, frames, batch, records, sealed, unframed, HasBatches, HasLog, Extends, IsBeforeOrAfter, IsAfter}
+use Rattle.ctr_log.specs.Logs.{Log, frame, frames, batch, records, sealed, unframed, HasBatches, HasLog, GoesOn, Extends, IsBeforeOrAfter, IsAfter}
 use Rattle.ctr_log.specs.LogFile.{log_of, IsWriter}
 use Rattle.ctr_log.specs.Reading.{log_file}
-use Rattle.ctr_log.specs.Kept.{other_file, next_file, IsDropped, WritesOne, WritesBy, WritesBehind, KeepsPrefix, GoesOnWith, StaysDropped, CanBegin}
+use Rattle.ctr_log.specs.Kept.{other_file, next_file, IsDropped, WritesOne, WritesBy, WritesBehind, KeepsPrefix, GoesOnWith, StaysDropped, CanBegin, BeginsFile}
 use Rattle.ctr_log.proofs.LogLemmas.{length-unframed, length-frame, length-batch}
 use Rattle.ctr_log.proofs.KeptLaws.{shut_front, begun_front, begun_holds, begun_log, kept_two}
 
@@ -54,6 +54,36 @@ module _ (a : Inside) (keeps : IsWriter a) (log : Log) (view : log_of a ≡ log)
       let empty : drop 20 a.buffer.items ≡ [] = keeps.frames_are ∙ ap (λ (n : ℕ). frames (unframed n (drop 20 a.buffer.items))) none_waits in
       omega (arith, keeps.head, long, ap length empty, length-drop 20 a.buffer.items)
 
+  -- the body that begins a file with this number
+  pub starts_at : (n : ℕ) → a.first ≡ n → (bytes items body : List ℕ) → HasBatches n [] bytes → items ≡ a.buffer.items ++ frame r → body ≡ sealed a.first 1 (drop 20 items) → Extends n [] (r ∷ []) 0 body bytes
+  starts_at n number_is bytes items body shut put is = record {
+    log_is = shut;
+    place_is = refl;
+    body_is = is ∙ ap (λ (l : List ℕ). sealed a.first 1 l) (ap (drop 20) put ∙ drop_at a.buffer.items (frame r) 20 only_head ∙ sym (append-nil (frame r)))
+        ∙ ap (λ (m : ℕ). sealed m 1 (frames (r ∷ []))) (number_is ∙ sym (add_none n));
+    is_batch = (omega arith, omega arith);
+  }
+    where
+      add_none : (n : ℕ) → n + 0 ≡ n
+      add_none n = omega arith
+
+  -- where a writer goes on in that file, whatever the others have
+  pub goes_on_alone : (file : File) (old mid c : Image) (next : Log) → OtherFilesStay file old mid → IsAfter file a.first [] (r ∷ []) mid c → next.file ≡ file → next.start ≡ a.first → next.first ≡ a.first + 1 → next.place ≡ 29 + length r
+      → file ≡ next_file a.file → BeginsFile r log next old c
+  goes_on_alone file old mid c next stays after here start first place is =
+      let n = a.first in
+      let to = is ∙ ap (λ (v : Log). next_file v.file) view in
+      let number : n ≡ log.first = ap (λ (v : Log). v.first) view in
+      record {
+        others = subst (λ (f : File). OtherFilesStay f old c) to (same_but file old mid c stays after.0);
+        goes_on = subst (λ (m : ℕ). GoesOn m ((r ∷ []) ∷ []) next c) number (record {
+          log_is = record { some = omega arith; batches_are = subst (λ (f : File). HasBatches n ((r ∷ []) ∷ []) (content f c)) (sym here) after.1 };
+          start = start;
+          place = omega (arith, place, length-append (batch n (r ∷ [])) [], length-batch n (r ∷ []), length-append (frame r) [], length-frame r);
+          first_is = omega (arith, first);
+        });
+      }
+
   module _ (named oldest : ℕ) (image : Image) (writes : WritesBehind named oldest log image) where
     pub one : WritesOne named oldest log image
     one = subst (λ (o : Bool). WritesBy o named oldest log image) can.one writes.by
@@ -78,16 +108,7 @@ module _ (a : Inside) (keeps : IsWriter a) (log : Log) (view : log_of a ≡ log)
 
     -- its body
     pub starts_with : (bytes items body : List ℕ) → HasBatches number [] bytes → items ≡ a.buffer.items ++ frame r → body ≡ sealed a.first 1 (drop 20 items) → Extends number [] (r ∷ []) 0 body bytes
-    starts_with bytes items body shut put is = record {
-      log_is = shut;
-      place_is = refl;
-      body_is = is ∙ ap (λ (l : List ℕ). sealed a.first 1 l) (ap (drop 20) put ∙ drop_at a.buffer.items (frame r) 20 only_head ∙ sym (append-nil (frame r)))
-          ∙ ap (λ (n : ℕ). sealed n 1 (frames (r ∷ []))) (number_is ∙ sym (add_none number));
-      is_batch = (omega arith, omega arith);
-    }
-      where
-        add_none : (n : ℕ) → n + 0 ≡ n
-        add_none n = omega arith
+    starts_with bytes items body shut put is = starts_at number number_is bytes items body shut put is
 
     -- what a crash leaves
     module _ {D : Type 0} (g : Ghosts D) (old mid new : D) (image_is : g.reads old ≡ image) (file : File) (is : file ≡ other_file named) where

@@ -1,6 +1,6 @@
 -- The log of an image: the generation that its root names, and behind it the one in the other file
 -- where that goes on from it.
-use Rattle.std.specs.Prelude.{◌≡◌, ◌≢◌, ◌⊎◌, ◌==◌, ◌&&◌, ◌≤◌, ◌<◌, ◌+◌, ◌-◌, ◌^◌, if◌then◌else◌, ℕ, zero, suc, Bool, true, false, List, [], ◌∷◌, ◌++◌, length, take, drop, slice_index}
+use Rattle.std.specs.Prelude.{◌≡◌, ◌≢◌, ◌⊎◌, ◌==◌, ◌&&◌, ◌≤◌, ◌<◌, ◌+◌, ◌-◌, ◌^◌, if◌then◌else◌, ℕ, zero, suc, Bool, true, false, List, [], ◌∷◌, ◌++◌, length, take, drop, slice_index, Result, OnOk, OnErr}
 use Rattle.ctr_types.specs.declared.file.Damage.{Damage}
 use Rattle.ctr_types.specs.declared.file.File.{File}
 use Rattle.ctr_types.specs.declared.file.File.TheVariants.{LogA, LogB}
@@ -159,6 +159,22 @@ abbrev pub next_file : File → File
 next_file LogA = LogB
 next_file f = LogA
 
+-- How the begin of a generation leaves the writer, whose first record has so many bytes: room isn't
+-- lost. At Ok it writes in the other file, in which the closed gate stands behind that record alone;
+-- else it is as it was.
+pub record KeepsWriter {T E : Type 0} (bytes : ℕ) (old new : Log) (result : Result T E) : Type 0
+  where
+    pub room : old.room ≤ new.room
+    pub file : OnOk result (new.file ≡ next_file old.file)
+    pub place : OnOk result (new.place ≡ 29 + bytes)
+    pub still : OnErr result (new ≡ record old { room = new.room })
+
+-- Behind a begin of a generation the writer goes on behind its one record in the other file, whatever
+-- that had, and the other files are as they were.
+pub record BeginsFile (r : List ℕ) (old new : Log) (was now : Image) : Type 0 where
+  pub others : OtherFilesStay (next_file old.file) was now
+  pub goes_on : GoesOn old.first ((r ∷ []) ∷ []) new now
+
 -- but for one file the others are as they were, and a generation in it that was no more kept isn't
 abbrev pub StaysDropped : File → Image → Image → Type 0
 StaysDropped file old new = OtherFilesStay file old new
@@ -199,6 +215,12 @@ abbrev pub writer_file : Bool → ℕ → File
 writer_file false file = log_file file
 writer_file true file = other_file file
 
+-- where a writer's generation begins, by whether an older one is kept: at the root's first number, or
+-- behind it
+abbrev pub StartsAt : Bool → ℕ → ℕ → Type 0
+StartsAt false first start = start ≡ first
+StartsAt true first start = first < start
+
 -- the log of an image was read, and a writer goes on behind its last record, which is in the other
 -- file where that begins at the next number
 pub record OpensKept (file first : ℕ) (image : Image) (log : Log) : Type 0 where
@@ -208,6 +230,7 @@ pub record OpensKept (file first : ℕ) (image : Image) (log : Log) : Type 0 whe
   pub file_is : log.file ≡ writer_file log.older file
   pub next_is : log.first ≡ first + length (kept_log file first image)
   pub goes_on : (oldest : ℕ) × (bs : Batches) × GoesOn oldest bs log image
+  pub starts : StartsAt log.older first log.start
 
 -- the byte by which a root names the file that this one doesn't
 abbrev pub other_byte : ℕ → ℕ

@@ -1,5 +1,4 @@
 pub mod Damage
-pub mod Homes
 pub mod Logs
 pub mod LogFile
 pub mod Reading

@@ -2,13 +2,12 @@
 use Rattle.std.specs.Prelude.{◌≡◌, ℕ, zero, suc, Bool, ◌+◌, ◌^◌, ◌≤◌, ◌<◌, List, [], ◌∷◌, ◌++◌, length}
 use Rattle.ctr_types.specs.declared.file.File.{File}
 use Rattle.ctr_types.specs.declared.file.File.TheVariants.{LogA, LogB}
-use Rattle.ctr_disk.specs.Image.{Image}
 use Rattle.ctr_home.specs.declared.root.Root.{Root}
 use Rattle.ctr_disk.specs.declared.fault.StoreFault.TheVariants.{Fault, Damaged}
 use Rattle.ctr_log.specs.declared.reading.ReadError.{ReadError}
 use Rattle.ctr_log.specs.declared.reading.ReadError.TheVariants.{Store, OutOfMemory}
 use Rattle.ctr_log.specs.Damage.{IsDamageOf, Differs}
-use Rattle.ctr_log.specs.Logs.{Batches, frame, frames, batch, batches, records, IsBatch, HasLog, Log, GoesOn}
+use Rattle.ctr_log.specs.Logs.{Batches, frame, frames, batch, batches, records, IsBatch, HasLog, Log}
 
 -- What was to be read isn't there, and damage of the file is told; or the disk failed, or memory
 -- was refused.
@@ -90,15 +89,6 @@ pub record IsEmptyAt (file : File) (older : Bool) (start place next : ℕ) (log 
   pub start_is : log.start ≡ start
   pub place_is : log.place ≡ place
   pub next_is : log.first ≡ next
-  pub none : log.buffered ≡ []
-
--- a writer that goes on behind the log of a file, with nothing to flush, and the log's records
-pub record OpensLog (first : ℕ) (file : File) (image : Image) (log : Log) (rs : List (List ℕ))
-    : Type 0 where
-  pub bs : Batches
-  pub records_are : rs ≡ records bs
-  pub file_is : log.file ≡ file
-  pub goes_on : GoesOn first bs log image
   pub none : log.buffered ≡ []
 
 -- the root names a file that is one of the log, and a number that its first record can have

@@ -1,17 +1,16 @@
 // Reads the log that is kept: the generation that the root names, and behind it the one in the other
 // file where that goes on from it.
-ghost use Rattle.std.specs.Prelude.{◌≡◌, IsTrue, ℕ, List, [], Result, MatchResult, IfOk, IfErr, OnOk, Ok, Err};
+ghost use Rattle.std.specs.Prelude.{◌≡◌, IsTrue, ℕ, List, [], Result, IfOk, IfErr, OnOk, Ok, Err};
 ghost use Rattle.ctr_disk.specs.declared.fault.StoreFault.TheVariants.{Fault};
 ghost use Rattle.ctr_disk.specs.Image.{content};
 ghost use Rattle.ctr_disk.specs.Device.{WhereTold, OnlyReads, Counts, CountsAs};
 ghost use Rattle.ctr_log.specs.declared.reading.ReadError.TheVariants.{Store};
 ghost use Rattle.ctr_log.specs.declared.visitor.VisitError.{VisitError};
 ghost use Rattle.ctr_log.specs.declared.visitor.VisitError.TheVariants.{Read};
-ghost use Rattle.ctr_log.specs.Logs.{Batches, records, HasLog};
-ghost use Rattle.ctr_log.specs.Reading.{OpensLog, NamesLog, log_file};
-ghost use Rattle.ctr_log.specs.Kept.{log_in, begins_at, NamesKept, HoldsLog, RefusesKept, OpensKept, WritesBehind};
-ghost use Rattle.ctr_log.specs.LogChecks.{kept_damage, sound_visits, sound_kept_visits, IsThisDamage, VisitsDamage, TellsFile};
-ghost use Rattle.ctr_log.specs.Visits.{kept_visits, IsGiven, Visits, StopsAt, OnRead, UnlessRead, EndsEarly, IsToldBy};
+ghost use Rattle.ctr_log.specs.Reading.{log_file};
+ghost use Rattle.ctr_log.specs.Kept.{begins_at, NamesKept, HoldsLog, RefusesKept, OpensKept, WritesBehind};
+ghost use Rattle.ctr_log.specs.LogChecks.{kept_damage, sound_kept_visits, IsThisDamage, VisitsDamage};
+ghost use Rattle.ctr_log.specs.Visits.{kept_visits, IsGiven, Visits, StopsAt, OnRead, EndsEarly, IsToldBy};
 
 use crate::batches::visit_file;
 use crate::log::{LogFile, Lsn, next_file};
@@ -22,34 +21,6 @@ use ctr_disk::{Disk, Failed, StoreFault};
 use ctr_home::Root;
 use ctr_types::{File, OutOfMemory};
 use std::alloc::Global;
-
-/// Gives the records of the one generation that the root of a database without pages names to a visitor, one
-/// after another, and answers the writer behind the last of them. It holds no more than a batch, and takes
-/// time linear in the log. Where the disk tells what it holds, damage is told by the first check of the file
-/// that fails, and the visitor has then been given the records of all batches before that.
-pub fn visit_named<D: Disk, V: Visitor>(
-    alloc: Global,
-    disk: &mut D,
-    root: &Root,
-    visitor: &mut V,
-) -> Result<LogFile, VisitError<V::E>>
-    requires names { NamesLog root.now }
-    ensures found { WhereTold D.Disk (IfOk result (λ log. OpensLog root.now.first (log_file root.now.file) (D.reads disk.old) log (log_in (content (log_file root.now.file) (D.reads disk.old))))) }
-    // A log that stands there has the records that are read, and no others.
-    ensures only { (bs : Batches) → IsTrue D.tells → HasLog root.now.first bs (content (log_file root.now.file) (D.reads disk.old))
-        → UnlessRead (log_in (content (log_file root.now.file) (D.reads disk.old)) ≡ records bs) result }
-    ensures visits { WhereTold D.Disk (Visits V.has_seen V.refuses visitor.old visitor.new (sound_visits (log_file root.now.file) root.now.first (content (log_file root.now.file) (D.reads disk.old))) result) }
-    ensures damage { WhereTold D.Disk (TellsFile (log_file root.now.file) root.now.first (content (log_file root.now.file) (D.reads disk.old)) result) }
-    // Whatever the disk tells.
-    ensures always { MatchResult result (λ log. log.buffered ≡ []) (EndsEarly V.has_seen V.refuses visitor.old) }
-    ensures quiet { OnlyReads D.Disk disk.old disk.new }
-    ensures counts { CountsAs D.Disk (Read (Store Fault)) disk.old disk.new result }
-{
-    let file = named_file(root);
-    let end = visit_file(alloc, disk, file, root.first, visitor)?;
-    let log = LogFile::behind(alloc, file, false, root.first, end.place, end.next)?;
-    Ok(log)
-}
 
 /// Gives the records of the log that is kept to a visitor, one after another, the older generation
 /// first, and answers the writer behind the last of them. It holds no more than a batch, and takes time

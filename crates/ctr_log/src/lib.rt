@@ -1,4 +1,4 @@
-//! What every crash leaves whole: the log, in one generation or two, and a new database.
+//! What every crash leaves whole: the log, in one generation or two, and that of a new database.
 #![tactic(auto)]
 
 mod batches;
@@ -13,10 +13,10 @@ mod reading;
 mod visitor;
 
 pub use gathered::Gathered;
-pub use kept::{read_all, visit_named};
+pub use kept::read_all;
 pub use laws::{sound_visits_are_first, the_newer_is_kept_alone, visits_are_the_log};
 pub use log::{LogFile, Lsn};
-pub use making::{Making, init, make_logs};
+pub use making::make_logs;
 pub use opening::OpenError;
 pub use reading::ReadError;
 pub use visitor::{Visit, VisitError, Visitor};

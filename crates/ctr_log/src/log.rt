@@ -7,7 +7,8 @@ ghost use Rattle.ctr_types.specs.Faults.{HasCause};
 ghost use Rattle.ctr_disk.specs.Device.{WhereTold, LeavesOnly, IsDurable, IsSettled, OnlyReads, Counts, CountsAs};
 ghost use Rattle.ctr_log.specs.Reading.{IsEmptyAt};
 ghost use Rattle.ctr_log.specs.Logs.{Batches, headed, sealed, frame, frames, records, HasLog, HasBatches, GoesOn, next_place, Extends, IsBeforeOrAfter, IsAfter, IsFlushing, IsEmptied, CountsFlush, with_batch};
-ghost use Rattle.ctr_log.specs.Kept.{next_file, StaysDropped, CanStart, CanBegin, IsStarted, HoldsPrefix, GoesOnBehind, WritesBehind, KeepsPrefix, GoesOnWith};
+ghost use Rattle.ctr_log.specs.declared.log.TheConstants.{MOST};
+ghost use Rattle.ctr_log.specs.Kept.{next_file, StaysDropped, CanStart, CanBegin, IsStarted, KeepsWriter, BeginsFile, HoldsPrefix, GoesOnBehind, WritesBehind, KeepsPrefix, GoesOnWith};
 
 use ctr_bytes::{put_u32, put_u64};
 use ctr_disk::{Disk, Failed, StoreFault, write_through};
@@ -96,6 +97,20 @@ impl LogFile {
         self.file
     }
 
+    /// The number of the first record of the generation that it writes in.
+    pub fn start(&self) -> Lsn
+        ensures { result ≡ self.now.start }
+    {
+        self.start
+    }
+
+    /// Whether the other file has an older generation that is kept.
+    pub fn keeps_older(&self) -> bool
+        ensures { result ≡ self.now.older }
+    {
+        self.older
+    }
+
     /// The byte of its file at which the next record would stand, once it is flushed.
     pub fn place_of_next(&self) -> u64
         ensures place { result ≡ next_place self.now }
@@ -141,6 +156,7 @@ impl LogFile {
     /// 2^34 bytes of one batch.
     pub fn reserve(&mut self, bytes: usize) -> Result<(), OutOfMemory>
         ensures ok { OnOk result (bytes ≤ self.new.room) }
+        ensures small { OnOk result (bytes < MOST) }
         ensures kept { self.old.room ≤ self.new.room }
         ensures same { self.new ≡ record self.old { room = self.new.room } }
     {
@@ -215,7 +231,7 @@ impl LogFile {
         ensures counts { CountsFlush D.Disk self.old.place disk.old disk.new result }
     {
         match self.flush_before(disk, first) {
-            Ok(()) => self.begin(disk, first),
+            Ok(()) => self.begin_generation(disk, first),
             Err(fault) => Err(fault),
         }
     }
@@ -233,14 +249,23 @@ impl LogFile {
         self.flush(disk)
     }
 
-    // The same where nothing waits.
-    fn begin<D: Disk>(&mut self, disk: &mut D, first: &[u8]) -> Result<(), StoreFault>
+    /// Begins a generation in the other file with this record, for which room was taken, where nothing waits. A crash at
+    /// any moment leaves the log as it was, or with this record behind it, and the other files as they were. It takes no
+    /// memory.
+    pub fn begin_generation<D: Disk>(
+        &mut self,
+        disk: &mut D,
+        first: &[u8],
+    ) -> Result<(), StoreFault>
         requires { CanBegin (length first.now) self.old }
         ensures any_moment { (named oldest : ℕ) → IsSettled D.Disk disk.old → WritesBehind named oldest self.old (D.reads disk.old)
             → LeavesOnly D.Disk disk.old disk.new (KeepsPrefix (next_file self.old.file) named oldest (first.now ∷ []) (D.reads disk.old)) }
         ensures begun { (named oldest : ℕ) → IsTrue D.tells → WritesBehind named oldest self.old (D.reads disk.old)
             → OnOk result (GoesOnWith named oldest (first.now ∷ []) self.new (D.reads disk.old) (D.reads disk.new)) }
+        // Whatever stands on the disk, the other file has this record alone.
+        ensures alone { IsTrue D.tells → OnOk result (BeginsFile first.now self.old self.new (D.reads disk.old) (D.reads disk.new)) }
         ensures writer { OnOk result (IsStarted self.old self.new) }
+        ensures keeps { KeepsWriter (length first.now) self.old self.new result }
         ensures durable { OnOk result (IsDurable D.Disk disk.new) }
         ensures refused { OnErr result (result ≡ Err Fault) }
         ensures counts { CountsAs D.Disk Fault disk.old disk.new result }

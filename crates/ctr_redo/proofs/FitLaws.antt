@@ -37,6 +37,11 @@ pub each_front : (counted : ℕ) (t : Tables) (xs ys : List (List ℕ)) → Each
 each_front counted t [] ys all = tt
 each_front counted t (x ∷ xs) ys all = (all.0, each_front counted (effect (record_in x) t) xs ys all.1)
 
+-- what fits behind others fits behind the tables that they leave
+pub each_behind : (counted : ℕ) (t : Tables) (xs ys : List (List ℕ)) → EachFits counted t (xs ++ ys) → EachFits counted (tables_behind t xs) ys
+each_behind counted t [] ys all = all
+each_behind counted t (x ∷ xs) ys all = each_behind counted (effect (record_in x) t) xs ys all.1
+
 -- with a prefix of what fits
 pub each_prefix : (counted n : ℕ) (t : Tables) (xs ys : List (List ℕ)) → EachFits counted t (xs ++ ys) → EachFits counted t (xs ++ take n ys)
 each_prefix counted n t xs ys all =
@@ -73,12 +78,21 @@ keep_append : (t : Tables) (xs ys : List (List ℕ)) → CheckpointsKeep t xs �
 keep_append t [] ys keep none = keep_none t ys none
 keep_append t (x ∷ xs) ys keep none = (keep.0, keep_append (effect (record_in x) t) xs ys keep.1 none)
 
+keep_push : (t : Tables) (xs : List (List ℕ)) (b : List ℕ) → CheckpointsKeep t xs → effect (record_in b) (tables_behind t xs) ≡ tables_behind t xs → CheckpointsKeep t (xs ++ b ∷ [])
+keep_push t [] b keep same = (λ is. same, tt)
+keep_push t (x ∷ xs) b keep same = (keep.0, keep_push (effect (record_in x) t) xs b keep.1 same)
+
+-- one that leaves the tables as they are may be a Checkpoint
+pub go_on_push : (xs : List (List ℕ)) (b : List ℕ) → TablesGoOn xs → effect (record_in b) (tables_behind no_tables xs) ≡ tables_behind no_tables xs → TablesGoOn (xs ++ b ∷ [])
+go_on_push [] b go same = tt
+go_on_push (x ∷ xs) b go same = keep_push (effect (record_in x) no_tables) xs b go same
+
 pub go_on_append : (xs ys : List (List ℕ)) → TablesGoOn xs → HaveNoCheckpoint ys → TablesGoOn (xs ++ ys)
 go_on_append [] [] go none = tt
 go_on_append [] (y ∷ ys) go none = keep_none (effect (record_in y) no_tables) ys none.1
 go_on_append (x ∷ xs) ys go none = keep_append (effect (record_in x) no_tables) xs ys go none
 
-begins_append : (xs ys : List (List ℕ)) → BeginsOnce xs → HaveNoCheckpoint ys → BeginsOnce (xs ++ ys)
+pub begins_append : (xs ys : List (List ℕ)) → BeginsOnce xs → HaveNoCheckpoint ys → BeginsOnce (xs ++ ys)
 begins_append [] ys here behind = absurd here
 begins_append (x ∷ xs) ys here behind = (here.0, none_append xs ys here.1 behind)
 
@@ -126,7 +140,7 @@ module _ (file first : ℕ) (image : Image) where
   abbrev other : List ℕ
   other = content (other_file file) image
 
-  two_newer : (bs cs : Batches) → (two : HoldsTwo file first bs cs image) → has_newer first named other ≡ true
+  pub two_newer : (bs cs : Batches) → (two : HoldsTwo file first bs cs image) → has_newer first named other ≡ true
   two_newer bs cs two =
       let low = two.low in
       let older = log_in_is first bs named two.named.batches_are two.short (omega (arith, low)) in

@@ -1,11 +1,14 @@
 -- Two generations of the log: a checkpoint changes nothing, and the older one can be dropped where its records are home.
-use Rattle.std.proofs.Common.{◌≡◌, ⊎_elim, ℕ, ◌+◌, ◌-◌, ◌≤◌, List, [], ◌∷◌, ◌++◌, length, take, refl, sym, ◌∙◌, ap, arith}
+use Rattle.std.proofs.Common.{◌≡◌, ⊎_elim, ℕ, ◌+◌, ◌-◌, ◌≤◌, List, [], ◌∷◌, ◌++◌, length, take, drop, refl, sym, ◌∙◌, ap, arith}
 use Rattle.std.proofs.Math.Seq.{take-append-add}
 use Rattle.std.proofs.lemmas.List.Sums.{fold-append}
 use Rattle.ctr_pool.specs.Pages.{PageHeld}
 use Rattle.ctr_meta.specs.Tables.{Tables, no_tables}
 use Rattle.ctr_meta.specs.Effects.{effect, listed, tables_of}
+use Rattle.ctr_bytes.specs.Fields.{field}
+use Rattle.ctr_log.proofs.KeptLaws.{picks}
 use Rattle.ctr_rec.specs.declared.record.Record.{Record}
+use Rattle.ctr_rec.specs.Read.{record_in, record_with, parts_read, tag_numbered}
 use Rattle.ctr_rec.specs.declared.record.Record.TheVariants.{Checkpoint}
 use Rattle.ctr_redo.specs.Overlaid.{overlaid, with_record}
 use Rattle.ctr_redo.specs.States.{page_limit, State, Stored, pages_of, state_of, pages_after, step, without_older, AreHome}
@@ -70,3 +73,12 @@ home_since p first xs ys since h late has =
 -- without the older generation, a page is the same
 pub page_dropped : (p first : ℕ) (xs rs : List Record) (k : PageHeld) → overlaid p first xs k ≡ k → overlaid p first (xs ++ rs) k ≡ overlaid p (first + length xs) rs k
 page_dropped p first xs rs k has = overlaid-append p first xs rs k ∙ ap (overlaid p (first + length xs) rs) has
+
+-- what has a Checkpoint's number is one
+pub is_checkpoint : (b : List ℕ) → field 1 0 b ≡ 1 → (next : ℕ) × (lists : List ℕ) × (record_in b ≡ Checkpoint next lists)
+unfolding record_in
+is_checkpoint b is = (
+  field 8 1 b,
+  take (length b - 10) (drop 9 b),
+  picks (field 1 0 b) 1 (Checkpoint (field 8 1 b) (take (length b - 10) (drop 9 b))) (record_with (parts_read (tag_numbered (field 1 0 b)) b)) is,
+)

@@ -6,9 +6,8 @@ use Rattle.ctr_types.specs.declared.file.File.TheVariants.{Pages}
 use Rattle.ctr_home.specs.declared.root.Root.{Root}
 use Rattle.ctr_disk.specs.Image.{Image, content}
 use Rattle.ctr_home.specs.declared.block.Block.TheVariants.{Page, Root as RootBlock}
-use Rattle.ctr_home.specs.declared.root.Form.TheVariants.{Paged}
 use Rattle.ctr_home.specs.Blocks.{BlockValue, value_of, zero_bytes, page_with, blank_page}
-use Rattle.ctr_home.specs.Roots.{SaysRootOf, root_block}
+use Rattle.ctr_home.specs.Roots.{SaysRoot, root_block}
 use Rattle.ctr_home.specs.Writing.{OthersStay, IsOldOrNewValue}
 use Rattle.ctr_log.specs.Kept.{kept_log, HoldsLog}
 use Rattle.ctr_meta.specs.Effects.{tables_of}
@@ -58,37 +57,26 @@ module _ (counted more : ℕ) (old new : Image) (grows : counted ≤ more) (blan
       (cases_lt q more))
       (cases_lt q counted)
 
-module _ (root more : Root) (old new : Image) (sound : IsSound root old) (can : CanCount root more old) (others : OthersStay RootBlock old new) where
-  page_same : (q : ℕ) → value_of (Page q) new ≡ value_of (Page q) old
+-- the root is written: the pages and the log stay
+module _ (root : Root) (old new : Image) (others : OthersStay RootBlock old new) where
+  pub page_same : (q : ℕ) → value_of (Page q) new ≡ value_of (Page q) old
   page_same q = others.blocks (Page q) (λ is. absurd (cc is))
 
   logs : KeepsLogs old new
   logs = root_apart old new others.files
 
-  pages_file : content Pages new ≡ content Pages old
+  pub pages_file : content Pages new ≡ content Pages old
   pages_file = ap (λ (i : Image). i.pages) others.files
 
-  -- each page at home is as it was, by the old count and by the new one
-  home_old : (q : ℕ) → home_in root.pages new q ≡ home_in root.pages old q
+  -- each page at home is as it was
+  pub home_old : (q : ℕ) → home_in root.pages new q ≡ home_in root.pages old q
   home_old q =
       ⊎_elim (λ inside. counted_page root.pages q new (value_of (Page q) old) inside (page_same q) ∙ sym (counted_page root.pages q old (value_of (Page q) old) inside refl))
       (λ outside. blank_home root.pages q new outside ∙ sym (blank_home root.pages q old outside))
       (cases_lt q root.pages)
 
-  home_new : (q : ℕ) → home_in more.pages new q ≡ home_in root.pages old q
-  home_new q = home_counted root.pages more.pages old new can.grows can.blank others q
-
-  pub log_new : kept_log more.file more.first new ≡ kept_log root.file root.first old
-  log_new = ap (λ (n : ℕ). kept_log n more.first new) can.file ∙ ap (λ (n : ℕ). kept_log root.file n new) can.first ∙ kept_same root.file root.first old new logs
-
-  pub next_new : next_of (stored_in more new) ≡ next_of (stored_in root old)
-  next_new = ap (λ (l : List (List ℕ)). more.first + length (records_in l)) log_new ∙ ap (λ (n : ℕ). n + length (records_in (kept_log root.file root.first old))) can.first
-
   next_old : next_of (stored_in root new) ≡ next_of (stored_in root old)
   next_old = ap (λ (l : List (List ℕ)). root.first + length (records_in l)) (kept_same root.file root.first old new logs)
-
-  below : (n : ℕ) (homes : ℕ → PageHeld) → n ≡ next_of (stored_in root old) → ((q : ℕ) → homes q ≡ home_in root.pages old q) → LieBelow n homes
-  below n homes is each q = let low = sound.below q in omega (arith, is, low, ap (λ (h : PageHeld). h.lsn) (each q))
 
   state_old : state_of (stored_in root new) ≡ state_of (stored_in root old)
   state_old =
@@ -96,21 +84,38 @@ module _ (root more : Root) (old new : Image) (sound : IsSound root old) (can : 
       ap (λ (l : List (List ℕ)). state_of (record { counted = root.pages; homes = home_in root.pages new; first = root.first; records = records_in l })) (kept_same root.file root.first old new logs)
       ∙ ap (λ (ps : List (List ℕ)). record { counted = root.pages; pages = ps; tables = tables_of rs }) (pages_same (home_in root.pages new) (home_in root.pages old) root.first root.first rs rs (λ q. ap (overlaid q root.first rs) (home_old q)) 0 page_limit)
 
-  pub folds_before : value_of RootBlock new ≡ value_of RootBlock old → FoldsTo new (state_of (stored_in root old))
-  folds_before is = record {
+  -- and the root's old value leaves what was
+  pub folds_before : IsSound root old → value_of RootBlock new ≡ value_of RootBlock old → FoldsTo new (state_of (stored_in root old))
+  folds_before sound is = record {
     root = root;
     sound = record {
-      says = subst (λ (o : Option BlockValue). SaysRootOf Paged o root) (sym is) sound.says;
+      says = subst (λ (o : Option BlockValue). SaysRoot o root) (sym is) sound.says;
       log = subst (λ (l : List (List ℕ)). HoldsLog root.file root.first l new) (sym (kept_same root.file root.first old new logs)) (holds_same root.file root.first (kept_log root.file root.first old) old new logs sound.log);
       fits = subst (EachFits root.pages no_tables) (sym (kept_same root.file root.first old new logs)) sound.fits;
       begins = begins_same root.file root.first old new logs sound.begins;
       continues = subst TablesGoOn (sym (kept_same root.file root.first old new logs)) sound.continues;
-      below = below (next_of (stored_in root new)) (home_in root.pages new) next_old home_old;
+      below = λ q. let low = sound.below q in omega (arith, next_old, low, ap (λ (h : PageHeld). h.lsn) (home_old q));
       numbered = λ q v inside has. sound.numbered q v inside (sym (page_same q) ∙ has);
       size = subst (λ (bytes : List ℕ). 8256 * root.pages ≤ length bytes) (sym pages_file) sound.size;
     };
     state_is = state_old;
   }
+
+module _ (root more : Root) (old new : Image) (sound : IsSound root old) (can : CanCount root more old) (others : OthersStay RootBlock old new) where
+  logs_new : KeepsLogs old new
+  logs_new = root_apart old new others.files
+
+  home_new : (q : ℕ) → home_in more.pages new q ≡ home_in root.pages old q
+  home_new q = home_counted root.pages more.pages old new can.grows can.blank others q
+
+  pub log_new : kept_log more.file more.first new ≡ kept_log root.file root.first old
+  log_new = ap (λ (n : ℕ). kept_log n more.first new) can.file ∙ ap (λ (n : ℕ). kept_log root.file n new) can.first ∙ kept_same root.file root.first old new logs_new
+
+  pub next_new : next_of (stored_in more new) ≡ next_of (stored_in root old)
+  next_new = ap (λ (l : List (List ℕ)). more.first + length (records_in l)) log_new ∙ ap (λ (n : ℕ). n + length (records_in (kept_log root.file root.first old))) can.first
+
+  below : (n : ℕ) (homes : ℕ → PageHeld) → n ≡ next_of (stored_in root old) → ((q : ℕ) → homes q ≡ home_in root.pages old q) → LieBelow n homes
+  below n homes is each q = let low = sound.below q in omega (arith, is, low, ap (λ (h : PageHeld). h.lsn) (each q))
 
   pub state_new : state_of (stored_in more new) ≡ record (state_of (stored_in root old)) { counted = more.pages }
   state_new =
@@ -123,20 +128,20 @@ module _ (root more : Root) (old new : Image) (sound : IsSound root old) (can : 
   sound_behind is = record {
     says = (is, can.is_root);
     log =
-        let held = holds_same root.file root.first (kept_log root.file root.first old) old new logs sound.log in
+        let held = holds_same root.file root.first (kept_log root.file root.first old) old new logs_new sound.log in
         subst (λ (l : List (List ℕ)). HoldsLog more.file more.first l new) (sym log_new)
         (subst (λ (n : ℕ). HoldsLog n more.first (kept_log root.file root.first old) new) (sym can.file) (subst (λ (n : ℕ). HoldsLog root.file n (kept_log root.file root.first old) new) (sym can.first) held));
     fits = subst (EachFits more.pages no_tables) (sym log_new) (each_more root.pages more.pages no_tables (kept_log root.file root.first old) can.grows sound.fits);
     begins =
         subst (λ (n : ℕ). FilesBegin n more.first new) (sym can.file)
-        (subst (λ (n : ℕ). FilesBegin root.file n new) (sym can.first) (begins_same root.file root.first old new logs sound.begins));
+        (subst (λ (n : ℕ). FilesBegin root.file n new) (sym can.first) (begins_same root.file root.first old new logs_new sound.begins));
     continues = subst TablesGoOn (sym log_new) sound.continues;
     below = below (next_of (stored_in more new)) (home_in more.pages new) next_new home_new;
     numbered = λ q v inside has.
-        ⊎_elim (λ before. sound.numbered q v before (sym (page_same q) ∙ has))
-        (λ outside. let none : None ≡ Some v = sym (can.blank q outside inside) ∙ sym (page_same q) ∙ has in absurd (cc none))
+        ⊎_elim (λ before. sound.numbered q v before (sym (page_same root old new others q) ∙ has))
+        (λ outside. let none : None ≡ Some v = sym (can.blank q outside inside) ∙ sym (page_same root old new others q) ∙ has in absurd (cc none))
         (cases_lt q root.pages);
-    size = subst (λ (bytes : List ℕ). 8256 * more.pages ≤ length bytes) (sym pages_file) can.size;
+    size = subst (λ (bytes : List ℕ). 8256 * more.pages ≤ length bytes) (sym (pages_file root old new others)) can.size;
   }
 
   pub folds_behind : value_of RootBlock new ≡ Some (root_block more) → FoldsTo new (record (state_of (stored_in root old)) { counted = more.pages })
@@ -144,5 +149,5 @@ module _ (root more : Root) (old new : Image) (sound : IsSound root old) (can : 
 
 pub folds_counted : (root more : Root) (old new : Image) → IsSound root old → CanCount root more old → IsOldOrNewValue RootBlock (root_block more) old new
     → FoldsTo new (state_of (stored_in root old)) ⊎ FoldsTo new (record (state_of (stored_in root old)) { counted = more.pages })
-folds_counted root more old new sound can (others, inl is) = inl (folds_before root more old new sound can others is)
+folds_counted root more old new sound can (others, inl is) = inl (folds_before root old new others sound is)
 folds_counted root more old new sound can (others, inr is) = inr (folds_behind root more old new sound can others is)

@@ -9,9 +9,8 @@ use Rattle.ctr_home.specs.declared.root.Root.{Root}
 use Rattle.ctr_disk.specs.Image.{Image, content, OtherFilesStay}
 use Rattle.ctr_home.specs.declared.block.Block.{Block}
 use Rattle.ctr_home.specs.declared.block.Block.TheVariants.{Page, Root as RootBlock}
-use Rattle.ctr_home.specs.declared.root.Form.TheVariants.{Paged}
 use Rattle.ctr_home.specs.Blocks.{BlockValue, value_of, page_with, blank_page}
-use Rattle.ctr_home.specs.Roots.{SaysRootOf}
+use Rattle.ctr_home.specs.Roots.{SaysRoot}
 use Rattle.ctr_home.specs.Writing.{OthersStay, IsOldOrNewValue}
 use Rattle.ctr_log.specs.Logs.{HasLog, records}
 use Rattle.ctr_log.specs.Reading.{log_file}
@@ -126,22 +125,27 @@ more_stored root more old new same log =
     homes_same : (counted : ℕ) (old new : Image) → content Pages new ≡ content Pages old → home_in counted new ≡ home_in counted old
     homes_same counted old new same = ap (λ (bytes : List ℕ). home_in counted (record old { pages = bytes })) same
 
-pub sound_flushed : (root : Root) (more : List (List ℕ)) (old new : Image) → IsSound root old → KeepsHomes old new → HoldsLog root.file root.first (kept_log root.file root.first old ++ more) new
-    → EachFits root.pages no_tables (kept_log root.file root.first old ++ more) → FilesBegin root.file root.first new → HaveNoCheckpoint more → IsSound root new
-sound_flushed root more old new sound same holds fits begun none =
+-- it is sound with them, where they fit and the tables go on over each Checkpoint
+pub sound_more : (root : Root) (more : List (List ℕ)) (old new : Image) → IsSound root old → KeepsHomes old new → HoldsLog root.file root.first (kept_log root.file root.first old ++ more) new
+    → EachFits root.pages no_tables (kept_log root.file root.first old ++ more) → FilesBegin root.file root.first new → TablesGoOn (kept_log root.file root.first old ++ more) → IsSound root new
+sound_more root more old new sound same holds fits begun goes_on =
     let log : kept_log root.file root.first new ≡ kept_log root.file root.first old ++ more = holds_is root.file root.first new (kept_log root.file root.first old ++ more) holds in
     let stored = more_stored root more old new same log in
     let later : next_of (stored_in root old) ≤ next_of (stored_in root new) = omega (arith, ap (λ (s : Stored). next_of s) stored, length-append (stored_in root old).records (records_in more)) in
     record {
-      says = subst (λ (bytes : List ℕ). SaysRootOf Paged (value_of RootBlock (record old { root = bytes })) root) (sym same.root) sound.says;
+      says = subst (λ (bytes : List ℕ). SaysRoot (value_of RootBlock (record old { root = bytes })) root) (sym same.root) sound.says;
       log = subst (λ (l : List (List ℕ)). HoldsLog root.file root.first l new) (sym log) holds;
       fits = subst (EachFits root.pages no_tables) (sym log) fits;
       begins = begun;
-      continues = subst TablesGoOn (sym log) (go_on_append (kept_log root.file root.first old) more sound.continues none);
+      continues = subst TablesGoOn (sym log) goes_on;
       below = subst (λ (h : ℕ → PageHeld). LieBelow (next_of (stored_in root new)) h) (sym (ap (λ (s : Stored). s.homes) stored)) (below_more (next_of (stored_in root old)) (next_of (stored_in root new)) (home_in root.pages old) later sound.below);
       numbered = λ p v inside is. sound.numbered p v inside (sym (ap (λ (bytes : List ℕ). value_of (Page p) (record old { pages = bytes })) same.pages) ∙ is);
       size = subst (λ (bytes : List ℕ). 8256 * root.pages ≤ length bytes) (sym same.pages) sound.size;
     }
+
+pub sound_flushed : (root : Root) (more : List (List ℕ)) (old new : Image) → IsSound root old → KeepsHomes old new → HoldsLog root.file root.first (kept_log root.file root.first old ++ more) new
+    → EachFits root.pages no_tables (kept_log root.file root.first old ++ more) → FilesBegin root.file root.first new → HaveNoCheckpoint more → IsSound root new
+sound_flushed root more old new sound same holds fits begun none = sound_more root more old new sound same holds fits begun (go_on_append (kept_log root.file root.first old) more sound.continues none)
 
 pub state_flushed : (root : Root) (more : List (List ℕ)) (old new : Image) → IsSound root old → KeepsHomes old new → kept_log root.file root.first new ≡ kept_log root.file root.first old ++ more
     → state_of (stored_in root new) ≡ steps (records_in more) (state_of (stored_in root old))
@@ -229,7 +233,7 @@ pub sound_page : (root : Root) (p : ℕ) (old new : Image) → IsSound root old 
 sound_page root p old new sound others below numbered =
     let same = pages_apart old new others.files in
     let next = next_same root old new same in record {
-      says = subst (λ (o : Option BlockValue). SaysRootOf Paged o root) (sym (root_stays p old new others)) sound.says;
+      says = subst (λ (o : Option BlockValue). SaysRoot o root) (sym (root_stays p old new others)) sound.says;
       log = subst (λ (l : List (List ℕ)). HoldsLog root.file root.first l new) (sym (kept_same root.file root.first old new same)) (holds_same root.file root.first (kept_log root.file root.first old) old new same sound.log);
       fits = subst (EachFits root.pages no_tables) (sym (kept_same root.file root.first old new same)) sound.fits;
       begins = begins_same root.file root.first old new same sound.begins;

@@ -5,3 +5,5 @@ pub mod Generations
 pub mod ImageLaws
 pub mod GrowthLaws
 pub mod NewLaws
+pub mod BeginLaws
+pub mod DropLaws

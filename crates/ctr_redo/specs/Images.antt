@@ -1,23 +1,25 @@
 -- What of an image folds to a state, and which images are sound.
-use Rattle.std.specs.Prelude.{◌≡◌, ◌⊎◌, ◌<◌, ◌≤◌, ◌*◌, ℕ, List, map, take, length, replicate, Some, None}
+use Rattle.std.specs.Prelude.{◌≡◌, ◌⊎◌, ◌+◌, ◌<◌, ◌≤◌, ◌*◌, ◌^◌, ℕ, true, false, List, [], ◌∷◌, ◌++◌, map, take, length, replicate, Some, None}
 use Rattle.ctr_types.specs.declared.file.File.{File}
 use Rattle.ctr_types.specs.declared.file.File.TheVariants.{Root as RootFile, LogA, LogB, Pages}
 use Rattle.ctr_home.specs.declared.root.Root.{Root}
 use Rattle.ctr_disk.specs.Image.{Image, content}
 use Rattle.ctr_home.specs.declared.block.Block.TheVariants.{Page, Root as RootBlock}
-use Rattle.ctr_home.specs.declared.root.Form.TheVariants.{Paged}
 use Rattle.ctr_home.specs.Blocks.{BlockValue, zero_bytes, value_of, page_at_home}
-use Rattle.ctr_home.specs.Roots.{IsRootOf, SaysRootOf, root_block}
+use Rattle.ctr_home.specs.Roots.{IsRoot, SaysRoot, root_block}
 use Rattle.ctr_log.specs.Logs.{HasLog}
 use Rattle.ctr_log.specs.Fresh.{fresh_log, IsClosed}
 use Rattle.ctr_meta.specs.Tables.{no_tables}
-use Rattle.ctr_log.specs.Kept.{kept_log, HoldsLog}
+use Rattle.ctr_meta.specs.Effects.{effect, tables_of}
+use Rattle.ctr_bytes.specs.Fields.{field}
+use Rattle.ctr_log.specs.Reading.{log_file}
+use Rattle.ctr_log.specs.Kept.{log_in, kept_log, other_file, other_byte, has_newer, HoldsLog}
 use Rattle.ctr_rec.specs.declared.record.Record.{Record}
 use Rattle.ctr_rec.specs.Read.{record_in}
 use Rattle.ctr_pool.specs.Pages.{PageHeld}
 use Rattle.ctr_redo.specs.Overlaid.{overlaid}
 use Rattle.ctr_redo.specs.Fitting.{EachFits, FilesBegin, TablesGoOn}
-use Rattle.ctr_redo.specs.States.{page_limit, State, Stored, state_of, steps, counting, grown, next_of, LieBelow}
+use Rattle.ctr_redo.specs.States.{page_limit, State, Stored, state_of, steps, counting, grown, next_of, LieBelow, AreHome}
 
 -- the records that the bytes of a log tell
 abbrev pub records_in : List (List ℕ) → List Record
@@ -44,7 +46,7 @@ stored_in root image = record {
 -- Checkpoint begins each of its files, and that of a second one lists the tables before it; its pages
 -- have their numbers and no record that the log lacks, and the file of pages has all that are counted.
 pub record IsSound (root : Root) (image : Image) : Type 0 where
-  pub says : SaysRootOf Paged (value_of RootBlock image) root
+  pub says : SaysRoot (value_of RootBlock image) root
   pub log : HoldsLog root.file root.first (kept_log root.file root.first image) image
   pub fits : EachFits root.pages no_tables (kept_log root.file root.first image)
   pub begins : FilesBegin root.file root.first image
@@ -90,12 +92,47 @@ pub record MayStand (root : Root) (image : Image) (p : ℕ) (v : BlockValue) : T
 -- More pages can be counted: the pages that are added are blank in the file, which has them, and the
 -- root says the rest as before.
 pub record CanCount (root more : Root) (image : Image) : Type 0 where
-  pub is_root : IsRootOf Paged more
+  pub is_root : IsRoot more
   pub file : more.file ≡ root.file
   pub first : more.first ≡ root.first
   pub grows : root.pages ≤ more.pages
   pub blank : (p : ℕ) → root.pages ≤ p → p < more.pages → value_of (Page p) image ≡ None
   pub size : 8256 * more.pages ≤ length (content Pages image)
+
+-- ---- two generations of the log
+
+-- the records of the generation that the root of an image names
+abbrev pub named_log : Root → Image → List (List ℕ)
+named_log root image = log_in (content (log_file root.file) image)
+
+-- the records of the other file
+abbrev pub other_log : Root → Image → List (List ℕ)
+other_log root image = log_in (content (other_file root.file) image)
+
+-- A second generation can begin with this record: one alone is kept, and the record fits behind it and
+-- is a Checkpoint that leaves the tables as they are.
+pub record MayBegin (root : Root) (bytes : List ℕ) (image : Image) : Type 0 where
+  pub one : has_newer root.first (content (log_file root.file) image) (content (other_file root.file) image)
+      ≡ false
+  pub fits : EachFits root.pages no_tables (kept_log root.file root.first image ++ bytes ∷ [])
+  pub number : field 1 0 bytes ≡ 1
+  pub keeps : effect (record_in bytes) (tables_of (stored_in root image).records)
+      ≡ tables_of (stored_in root image).records
+
+-- the root that drops the older of two generations: it names the newer one, which begins with this
+-- LSN, and says the rest as before
+abbrev pub newer_root : ℕ → Root → Root
+newer_root start r =
+    record r { stamp = r.stamp + 1; file = other_byte r.file; first = start }
+
+-- The older of two generations can be dropped: the newer one begins with this LSN, behind the older
+-- one's records, and each page's home has these.
+pub record CanDrop (root : Root) (start : ℕ) (image : Image) : Type 0 where
+  pub two : has_newer root.first (content (log_file root.file) image) (content (other_file root.file) image)
+      ≡ true
+  pub start_is : start ≡ root.first + length (named_log root image)
+  pub high : start ≤ 2 ^ 63
+  pub home : AreHome root.first (records_in (named_log root image)) (home_in root.pages image)
 
 -- ---- a new database
 

@@ -1,16 +1,16 @@
 // What a crash leaves of calls of the log and of the homes. A call does nothing: what it ensures is the law.
-ghost use Rattle.std.specs.Prelude.{◌≡◌, ◌≤◌, ◌<◌, ◌⊎◌, ℕ, List};
+ghost use Rattle.std.specs.Prelude.{◌≡◌, ◌≤◌, ◌<◌, ◌⊎◌, ℕ, List, [], ◌∷◌};
 ghost use Rattle.ctr_types.specs.declared.file.File.{File as FileOf};
 ghost use Rattle.ctr_disk.specs.Image.{Image};
 ghost use Rattle.ctr_home.specs.declared.root.Root.{Root};
 ghost use Rattle.ctr_home.specs.declared.block.Block.TheVariants.{Page, Root as RootBlock};
-ghost use Rattle.ctr_home.specs.Roots.{root_block};
+ghost use Rattle.ctr_home.specs.Roots.{IsRoot, root_block};
 ghost use Rattle.ctr_home.specs.Blocks.{BlockValue, zero_bytes};
 ghost use Rattle.ctr_home.specs.Writing.{IsOldOrNewValue};
-ghost use Rattle.ctr_log.specs.Kept.{KeepsPrefix};
+ghost use Rattle.ctr_log.specs.Kept.{other_file, KeepsPrefix};
 ghost use Rattle.ctr_redo.specs.States.{page_limit, state_of, with_more, page_at};
 ghost use Rattle.ctr_redo.specs.Fitting.{MayFollow};
-ghost use Rattle.ctr_redo.specs.Images.{records_in, stored_in, IsSound, FoldsTo, FoldsFront, MayStand, CanCount, new_state, IsNewDatabase};
+ghost use Rattle.ctr_redo.specs.Images.{records_in, stored_in, IsSound, FoldsTo, FoldsFront, MayStand, CanCount, MayBegin, newer_root, CanDrop, new_state, IsNewDatabase};
 
 /// A crash in a flush of records that may follow the log leaves an image that is sound and folds to the state with a
 /// prefix of them.
@@ -31,6 +31,21 @@ pub fn a_writing_home_leaves_the_state()
 pub fn more_pages_can_be_counted()
     ensures { (root more : Root) (old new : Image) → IsSound root old → CanCount root more old → IsOldOrNewValue RootBlock (root_block more) old new
         → FoldsTo new (state_of (stored_in root old)) ⊎ FoldsTo new (record (state_of (stored_in root old)) { counted = more.pages }) }
+{}
+
+/// A crash while a second generation begins leaves an image that is sound and folds to the same state: whether its
+/// Checkpoint is found or not.
+pub fn a_generation_leaves_the_state()
+    ensures { (root : Root) (checkpoint : List ℕ) (old new : Image) → IsSound root old → MayBegin root checkpoint old → KeepsPrefix (other_file root.file) root.file root.first (checkpoint ∷ []) old new
+        → FoldsTo new (state_of (stored_in root old)) }
+{}
+
+/// A crash in the root's writing that drops the older of two generations leaves an image that is sound and folds to the
+/// same state: whether the older one is kept or not. The root that is written passes its checks.
+pub fn an_older_generation_can_go()
+    ensures leaves { (root : Root) (start : ℕ) (old new : Image) → IsSound root old → CanDrop root start old → IsOldOrNewValue RootBlock (root_block (newer_root start root)) old new
+        → FoldsTo new (state_of (stored_in root old)) }
+    ensures passes { (root : Root) (start : ℕ) (image : Image) → IsSound root image → CanDrop root start image → IsRoot (newer_root start root) }
 {}
 
 /// A new database is sound, and folds to the state in which no page has anything and no transaction was.

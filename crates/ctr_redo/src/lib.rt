@@ -5,8 +5,9 @@ mod images;
 mod laws;
 
 pub use images::{
-    a_flush_leaves_a_prefix, a_new_database_is_empty, a_page_that_isnt_counted_is_blank,
-    a_writing_home_leaves_the_state, more_pages_can_be_counted,
+    a_flush_leaves_a_prefix, a_generation_leaves_the_state, a_new_database_is_empty,
+    a_page_that_isnt_counted_is_blank, a_writing_home_leaves_the_state, an_older_generation_can_go,
+    more_pages_can_be_counted,
 };
 pub use laws::{
     a_checkpoint_is_no_step, a_page_can_go_home, a_page_is_its_home_overlaid, older_records_can_go,

@@ -26,7 +26,8 @@ use Rattle.ctr_world.specs.Held.{Held}
 use Rattle.ctr_world.specs.Opened.{IsRunLine}
 use Rattle.ctr_world.specs.Turns.{EndsTurn, HasStatementLeft}
 use Rattle.ctr_run.specs.Lines.{InLine, IsBetween, RanLines, RanOrStopped}
-use Rattle.ctr_run.proofs.Order.{all_append, all_as, only_recovery, order_behind, recovery_adds_none}
+use Rattle.ctr_world.proofs.Adding.{all_append}
+use Rattle.ctr_run.proofs.Order.{all_as, only_recovery, order_behind, recovery_adds_none}
 use Rattle.ctr_run.proofs.Turning.{begins_line, of_line, serial_in, turn_comes, turned, Within}
 
 -- what a World says of where it stands
@@ -131,7 +132,7 @@ module _ {D : Type 0} (g : Ghosts D) (start : ℕ) (lines : List Line) (runs : A
             (turned lines runs k l there one.from start w.running.sessions v.running.sessions line es tape led_is comes),
       )
   goes_on before turn.Idle w v stands after is going at line says = absurd says.2
-  goes_on before turn.Short w v stands after is going at line says = absurd says
+  goes_on before turn.Short w v stands after is going at line says = absurd says.2
   goes_on before turn.Over w v stands after is going at line says = absurd (says.1 (left_in w stands going at))
   goes_on before turn.Stopped w v stands after is going at line says = inr (says.0, subst (IsSerial lines) (sym says.1) (serial_in lines runs k l there one.from start w.running.sessions line))
 
@@ -142,7 +143,7 @@ module _ {D : Type 0} (g : Ghosts D) (start : ℕ) (lines : List Line) (runs : A
   goes_next before t w v stands after test (inl (going, is, inr (at, ran))) says = absurd (one_more before (runner_at s w.running.sessions.runners.items).finished n test is at)
   goes_next before turn.Went w v stands after test (inr stopped) says = absurd (stopped.0 says.0)
   goes_next before turn.Idle w v stands after test (inr stopped) says = absurd (stopped.0 says.0)
-  goes_next before turn.Short w v stands after test (inr stopped) says = absurd says
+  goes_next before turn.Short w v stands after test (inr stopped) says = absurd (stopped.0 says.0)
   goes_next before turn.Over w v stands after test (inr stopped) says = absurd (stopped.0 says.0)
   goes_next before turn.Stopped w v stands after test (inr stopped) says = subst (Goes before) (sym (says.3 stopped.0)) (inr stopped)
 
@@ -151,7 +152,7 @@ module _ {D : Type 0} (g : Ghosts D) (start : ℕ) (lines : List Line) (runs : A
       → EndsTurn g t (actor.Session s) w v → RanOrStopped start lines (k + 1) v
   stops_here before turn.Went w v stands not test goes says = absurd (not refl)
   stops_here before turn.Idle w v stands not test goes says = absurd says.2
-  stops_here before turn.Short w v stands not test goes says = absurd says
+  stops_here before turn.Short w v stands not test goes says = absurd says.2
   stops_here before turn.Over w v stands not test (inl (going, is, inl (at, line))) says = absurd (says.1 (left_in w stands going at))
   stops_here before turn.Over w v stands not test (inl (going, is, inr (at, ran))) says = absurd (one_more before (runner_at s w.running.sessions.runners.items).finished n test is at)
   stops_here before turn.Over w v stands not test (inr stopped) says = absurd (stopped.0 says.0)
@@ -199,9 +200,10 @@ module _ {D : Type 0} (g : Ghosts D) (start : ℕ) (lines : List Line) (runs : A
   pub rests : (t : Turn) (a : Actor) → IsBetween a → (w v : Held D) → Stands g start lines w → (v.stop ≡ None → Stands g start lines v) → EndsTurn g t a w v → RanOrStopped start lines k w → RanOrStopped start lines k v
   rests turn.Went a between w v stands after says (inl (going, ran)) = inl (says.1, went a between w v stands after ran says)
   rests turn.Idle a between w v stands after says (inl (going, ran)) = inl (says.1, subst (RanLines start lines k) (sym says.3.sessions) ran)
-  rests turn.Short a between w v stands after says ran = absurd says
+  rests turn.Short a between w v stands after says (inl (going, ran)) = inl (says.1, subst (RanLines start lines k) (sym says.3.sessions) ran)
   rests turn.Over a between w v stands after says ran = subst (RanOrStopped start lines k) (sym says.2) ran
   rests turn.Stopped a between w v stands after says (inl (going, ran)) = inr (says.0, subst (IsSerial lines) (sym says.1) (serial_front lines k w.running.sessions.tape.items ran.tape))
   rests turn.Went a between w v stands after says (inr stopped) = absurd (stopped.0 says.0)
   rests turn.Idle a between w v stands after says (inr stopped) = absurd (stopped.0 says.0)
+  rests turn.Short a between w v stands after says (inr stopped) = absurd (stopped.0 says.0)
   rests turn.Stopped a between w v stands after says (inr stopped) = subst (RanOrStopped start lines k) (sym (says.3 stopped.0)) (inr stopped)

@@ -1,10 +1,11 @@
 -- What a run leaves, by what its World left, in the words of the disk and the script that it was given.
-use Rattle.std.proofs.Common.{◌≡◌, ◌≢◌, ◌∙◌, inl, inr, ⊎_elim, ℕ, ◌≤◌, List, [], ◌++◌, length, Option, Some, None, refl, sym, ap, subst, arith}
+use Rattle.std.proofs.Common.{◌≡◌, ◌≢◌, ◌⊎◌, ◌∙◌, inl, inr, ⊎_elim, ℕ, ◌≤◌, List, [], ◌++◌, length, Option, Some, None, refl, sym, ap, subst, arith}
 use Rattle.std.specs.Prelude.{IsTrue, ◌^◌, ◌-◌}
 use Rattle.std.specs.List.{AllByRecursion}
 use Rattle.ctr_types.specs.declared.statement.Line.{Line}
 use Rattle.ctr_types.specs.declared.tape.Entry.{Entry}
 use Rattle.ctr_disk.specs.Crash.{Within}
+use Rattle.ctr_disk.specs.Device.{LeavesOnly}
 use Rattle.ctr_disk.specs.Image.{Image}
 use Rattle.ctr_disk.specs.declared.disk.Disk.{Ghosts}
 use Rattle.ctr_disk.specs.declared.fault.Stop.{Stop}
@@ -31,7 +32,7 @@ use Rattle.ctr_world.specs.ctr_exec.Order.{StandInOrder}
 use Rattle.ctr_world.specs.Held.{Held}
 use Rattle.ctr_world.specs.Opened.{IsOpenedOn, IsRunLine}
 use Rattle.ctr_world.specs.World.{IsLegalTape, IsTapeOf, LeavesPrefix, StopsBy, IsUndamaged as GoesUndamaged}
-use Rattle.ctr_world.specs.Ended.{Ends, EndsInOrder, IsUnbegunWorld, PassesOpening, RefusesWith, RefusesWorld}
+use Rattle.ctr_world.specs.Ended.{Ends, EndsInOrder, IsUnbegunWorld, PassesOpening, RefusesWorld}
 use Rattle.ctr_run.specs.declared.ran.Left.{Left}
 use Rattle.ctr_run.specs.declared.ran.RunEnd.{RunEnd}
 use Rattle.ctr_run.specs.declared.ran.RunEnd.TheVariants.{Finished, Unopened, Stopped}
@@ -87,6 +88,8 @@ module _ {D B : Type 0} (o : Opening B) (first : Image) (g : Ghosts D) (old : D)
             no_stuck = move (λ n ls. (final ls (point n ls s) es).state.stuck ≡ []) (ends.no_stuck (fine is));
             undone = ends.undone_all (fine is);
             durable = move (λ n ls. (c : Image) → g.since l.disk (g.moment_of l.disk) c → HasFirstCommits (rows_of_state s) (final ls (point n ls s) es).state.asked (answers es) c) (ends.durable (fine is));
+            none_left = ends.none_left (fine is);
+            full = ends.full (fine is);
           };
         }
 
@@ -140,6 +143,14 @@ module _ {D : Type 0} (g : Ghosts D) (old : D) (lines : List Line) (l : Left D) 
 at_once : (n : ℕ) → n ≤ n
 at_once n = omega arith
 
+-- what a crash leaves of a database that wasn't opened, in the words of its rows
+pub none_leaves : {D : Type 0} (g : Ghosts D) → ((d : D) (s t : ℕ) (c : Image) → s ≤ t → g.since d t c → g.since d s c) → (old left : D) (lines : List Line) (s : State)
+    → LeavesOnly g old left (λ c. g.images old c ⊎ StandsForDatabase c s) → LeavesPrefix (opened_on g old lines) g s left []
+none_leaves g earlier old left lines s leaves = λ t c from le there. ⊎_elim
+    (λ was. inr (was, tt))
+    (λ stands. inl (record { k = 0; at_least = omega arith; at_most = omega arith; stands = record { state = s; stands = stands; rows_are = refl } }))
+    (leaves.each c (earlier left (g.moment_of old) t c from there))
+
 -- the disk wasn't touched
 module _ {D : Type 0} (g : Ghosts D) (earlier : (d : D) (s t : ℕ) (c : Image) → s ≤ t → g.since d t c → g.since d s c) (only_now : (d : D) (c : Image) → g.since d (g.moment_of d) c → g.images d c)
     (old : D) (lines : List Line) (l : Left D) (done : Type 0) (unfinished : done → ⊥) (tape : l.tape.entries ≡ []) (undone : l.undone ≡ 0) (disk : l.disk ≡ old) where
@@ -149,9 +160,14 @@ module _ {D : Type 0} (g : Ghosts D) (earlier : (d : D) (s t : ℕ) (c : Image) 
   faults_same : g.faults_of old ≤ g.faults_of l.disk
   faults_same = subst (λ d. g.faults_of old ≤ g.faults_of d) (sym disk) (at_once (g.faults_of old))
 
+  -- so a crash leaves what it might have left
+  pub untouched_leaves : (s : State) → LeavesOnly g old l.disk (λ c. g.images old c ⊎ StandsForDatabase c s)
+  untouched_leaves s = subst (λ d. LeavesOnly g old d (λ c. g.images old c ⊎ StandsForDatabase c s)) (sym disk)
+      (record { later = at_once (g.moment_of old); each = λ c left. inl (only_now old c left); before = λ t c le left. inl left })
+
   pub untouched_over : (s : State) → RunsOver g old s lines done l
   untouched_over s = none_over g old lines l done unfinished tape undone s later_same
-      (subst (λ d. LeavesPrefix (opened_on g old lines) g s d []) (sym disk) (λ t c from le left. inr (only_now old c (earlier old (g.moment_of old) t c from left), tt)))
+      (none_leaves g earlier old l.disk lines s (untouched_leaves s))
 
   pub untouched_in_order : RunsInOrder g old lines done l
   untouched_in_order = none_in_order g old lines l done unfinished tape undone later_same faults_same

@@ -2,3 +2,4 @@ mod Order
 mod Turning
 mod Between
 pub mod Ends
+pub use Rattle.ctr_world.proofs as ctr_world

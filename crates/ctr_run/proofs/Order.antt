@@ -27,10 +27,6 @@ pub none_there : {X : Type 0} (m : ℕ) (x : X) → slice_get [] m ≡ Some x �
 none_there zero x is = absurd (cc is)
 none_there (suc m) x is = absurd (cc is)
 
-pub all_append : (P : Entry → Type 0) (xs ys : List Entry) → AllByRecursion P xs → AllByRecursion P ys → AllByRecursion P (xs ++ ys)
-all_append P [] ys all rest = rest
-all_append P (x ∷ xs) ys all rest = (all.0, all_append P xs ys all.1 rest)
-
 pub all_as : (P Q : Entry → Type 0) → ((e : Entry) → P e → Q e) → (es : List Entry) → AllByRecursion P es → AllByRecursion Q es
 all_as P Q maps [] all = tt
 all_as P Q maps (e ∷ es) all = (maps e all.0, all_as P Q maps es all.1)

@@ -20,7 +20,8 @@ use Rattle.ctr_world.specs.ctr_exec.Order.{IsNextInOrder, StandInOrder, led_from
 use Rattle.ctr_world.specs.ctr_exec.Sessions.{AreAnswers, AreOfTurn}
 use Rattle.ctr_world.specs.Opened.{IsRunLine}
 use Rattle.ctr_run.specs.Lines.{IsAtRest, InLine, RanLines}
-use Rattle.ctr_run.proofs.Order.{all_append, answer_begun, answer_ends, goes_or_ends, is_of_eight, no_answer, none_answered, AllRest}
+use Rattle.ctr_world.proofs.Adding.{all_append}
+use Rattle.ctr_run.proofs.Order.{answer_begun, answer_ends, goes_or_ends, is_of_eight, no_answer, none_answered, AllRest}
 
 not_zero : (s : ℕ) → 1 ≤ s → s ≡ 0 → ⊥
 not_zero s some is = absurd (omega (arith, some, is))

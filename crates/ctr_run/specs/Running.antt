@@ -1,21 +1,25 @@
 -- What a run promises: what a crash leaves, the tape, and the cause of each end.
-use Rattle.std.specs.Prelude.{◌≡◌, ◌≤◌, ◌^◌, ◌-◌, IsTrue, List, [], Option, Some, None}
+use Rattle.std.specs.Prelude.{◌≡◌, ◌⊎◌, ◌≤◌, ◌^◌, ◌-◌, IsTrue, List, [], Option, Some, None}
 use Rattle.ctr_types.specs.Faults.{CountsFault}
 use Rattle.ctr_types.specs.declared.statement.Line.{Line}
+use Rattle.ctr_types.specs.declared.tape.Entry.{Entry}
 use Rattle.ctr_disk.specs.declared.disk.Disk.{Ghosts}
 use Rattle.ctr_disk.specs.declared.fault.Stop.{Stop}
 use Rattle.ctr_disk.specs.declared.fault.Stop.TheVariants as stop
+use Rattle.ctr_disk.specs.Device.{LeavesOnly}
 use Rattle.ctr_disk.specs.Image.{Image}
 use Rattle.ctr_log.specs.declared.opening.OpenError.TheVariants as open_error
 use Rattle.ctr_model.specs.Tape.{final, at_start, IsWhole}
 use Rattle.ctr_model.specs.Texts.{answers}
 use Rattle.ctr_area.specs.Images.{undo_size}
+use Rattle.ctr_area.specs.Sound.{IsAmong}
 use Rattle.ctr_redo.specs.States.{State}
+use Rattle.ctr_record_effects.specs.Standing.{StandsForDatabase}
 use Rattle.ctr_stops.specs.Stops.{HasFirstCommits}
 use Rattle.ctr_store.specs.Opening.{IsUndamaged}
 use Rattle.ctr_world.specs.declared.opening.Opening.{Ghosts as Opening}
-use Rattle.ctr_world.specs.World.{start_in, led_to, IsLegalTape, IsTapeOf, LeavesPrefix, StopsBy, IsUndamaged as GoesUndamaged}
-use Rattle.ctr_world.specs.Ended.{PassesOpening, RefusesWith, RefusesWorld, StandsForNone}
+use Rattle.ctr_world.specs.World.{start_in, led_to, IsFullEntry, IsLegalTape, IsTapeOf, LeavesPrefix, StopsBy, IsUndamaged as GoesUndamaged}
+use Rattle.ctr_world.specs.Ended.{CountsAllPages, HasNoUndoOf, PassesOpening, RefusesWith, RefusesWorld, StandsForNone}
 use Rattle.ctr_run.specs.declared.ran.Left.{Left}
 use Rattle.ctr_run.specs.declared.ran.RunEnd.{RunEnd}
 use Rattle.ctr_run.specs.declared.ran.RunEnd.TheVariants.{Finished, Unopened, Stopped}
@@ -37,7 +41,8 @@ opened_on g disk lines = record {
 -- ---- over a database in a state
 
 -- Every statement is finished, recovery holds no name, undo took a turn for each item and open
--- transaction of the start, and a crash at the end leaves every commit.
+-- transaction of the start, and a crash at the end leaves every commit, nothing of the start to undo,
+-- and, where a Write was refused as Full, a file of 30,000 pages.
 pub record IsComplete {D : Type 0} (g : Ghosts D) (old : D) (s : State) (lines : List Line)
     (l : Left D) : Type 0 where
   pub whole : IsWhole lines (led_to (opened_on g old lines) s l.tape.entries)
@@ -46,6 +51,9 @@ pub record IsComplete {D : Type 0} (g : Ghosts D) (old : D) (s : State) (lines :
   pub durable : (c : Image) → g.since l.disk (g.moment_of l.disk) c
       → HasFirstCommits (start_in (opened_on g old lines) s).base
       (led_to (opened_on g old lines) s l.tape.entries).state.asked (answers l.tape.entries) c
+  pub none_left : (c : Image) → g.since l.disk (g.moment_of l.disk) c → HasNoUndoOf s c
+  pub full : (e : Entry) → IsAmong e l.tape.entries → IsFullEntry e → (c : Image)
+      → g.since l.disk (g.moment_of l.disk) c → CountsAllPages c
 
 -- the end tells no damage
 abbrev pub TellsNoDamage : RunEnd → Type 0
@@ -63,6 +71,14 @@ pub record RunsOver {D : Type 0} (g : Ghosts D) (old : D) (s : State) (lines : L
   pub survives : LeavesPrefix (opened_on g old lines) g s l.disk l.tape.entries
   pub undone_most : l.undone ≤ undo_size s.tables
   pub complete : done → IsComplete g old s lines l
+
+-- Nothing was run: there is no entry, and undo took no turn. Over a database a crash at each moment
+-- leaves that in the state in which it was, or what it might have left as the run began.
+pub record RunsNone {D : Type 0} (g : Ghosts D) (old : D) (l : Left D) : Type 0 where
+  pub tape : l.tape.entries ≡ []
+  pub undone : l.undone ≡ 0
+  pub left : (s : State) → IsTrue g.tells → StandsForDatabase (g.reads old) s
+      → LeavesOnly g old l.disk (λ c. g.images old c ⊎ StandsForDatabase c s)
 
 -- ---- whatever the disk tells
 

@@ -1,5 +1,5 @@
 // Runs a script over the database of a disk.
-ghost use Rattle.std.specs.Prelude.{◌≡◌, ◌≤◌, [], map, IsTrue, IfOk};
+ghost use Rattle.std.specs.Prelude.{◌≡◌, ◌≤◌, map, IsTrue, IfOk};
 ghost use Rattle.ctr_disk.specs.Crash.{Within};
 ghost use Rattle.ctr_log.specs.declared.opening.OpenError.{OpenError as HeldError};
 ghost use Rattle.ctr_model.specs.Tape.{IsSerial};
@@ -8,7 +8,7 @@ ghost use Rattle.ctr_record_effects.specs.Standing.{StandsForDatabase};
 ghost use Rattle.ctr_world.specs.Opened.{IsOpenedOn, CanRun};
 ghost use Rattle.ctr_run.specs.declared.lines.Schedule.TheVariants.{Serial};
 ghost use Rattle.ctr_run.specs.declared.ran.RunEnd.TheVariants.{Finished, Unopened};
-ghost use Rattle.ctr_run.specs.Running.{EndsAsAsked, EndsFor, RunsInOrder, RunsOver, TellsNoDamage};
+ghost use Rattle.ctr_run.specs.Running.{EndsAsAsked, EndsFor, RunsInOrder, RunsNone, RunsOver, TellsNoDamage};
 
 use crate::lines::{Schedule, run_turns};
 use crate::ran::{Left, Ran, ended};
@@ -47,7 +47,7 @@ fn run_opened<D: Disk, B: Origin + Opening>(
     ensures undamaged { (s : State) → IsTrue D.tells → StandsForDatabase (D.reads disk) s → TellsNoDamage result.end }
     ensures order { RunsInOrder D.Disk disk script.lines (result.end ≡ Finished) result.left }
     ensures serial { schedule.entry ≡ Serial → IsSerial script.lines result.left.tape.entries }
-    ensures none { (e : HeldError) → result.end ≡ Unopened e → (result.left.tape.entries ≡ []) × (result.left.undone ≡ 0) }
+    ensures none { (e : HeldError) → result.end ≡ Unopened e → RunsNone D.Disk disk result.left }
     ensures ends { EndsFor D.Disk disk result.left.disk result.end }
 {
     let Ok(sessions) = sessions_of(alloc, &script) else {
@@ -84,14 +84,12 @@ pub fn run<D: Disk>(
     // Over a database the tape is legal, and a crash at any moment from the call's start to its end leaves the rows of a prefix of the commit order with
     // every commit answered by then, or, before the first entry, what it might have left as the call began; what is finished is complete.
     ensures ran { (s : State) → IsTrue D.tells → StandsForDatabase (D.reads disk) s → RunsOver D.Disk disk s script.lines (result.end ≡ Finished) result.left }
-    // There it tells no damage.
-    ensures undamaged { (s : State) → IsTrue D.tells → StandsForDatabase (D.reads disk) s → TellsNoDamage result.end }
     // Whatever the disk tells, the tape stands in the order of the script.
     ensures order { RunsInOrder D.Disk disk script.lines (result.end ≡ Finished) result.left }
     // In the serial order the statements stand on the tape in the order of the script's lines, each one's entries together.
     ensures serial { schedule.entry ≡ Serial → IsSerial script.lines result.left.tape.entries }
-    // Where the database isn't opened, nothing is run.
-    ensures none { (e : HeldError) → result.end ≡ Unopened e → (result.left.tape.entries ≡ []) × (result.left.undone ≡ 0) }
+    // Where the database isn't opened, nothing is run, and a crash leaves it as it was.
+    ensures none { (e : HeldError) → result.end ≡ Unopened e → RunsNone D.Disk disk result.left }
     // Each end has its cause.
     ensures ends { EndsFor D.Disk disk result.left.disk result.end }
     // Where nothing fails, what is opened is finished, or comes to the last number of a record.

@@ -5,9 +5,8 @@ use Rattle.ctr_disk.specs.Image.{Image}
 use Rattle.ctr_disk.specs.declared.disk.Disk.{Ghosts}
 use Rattle.ctr_home.specs.declared.block.Block.TheVariants.{Root as RootBlock}
 use Rattle.ctr_home.specs.Blocks.{value_of}
-use Rattle.ctr_home.specs.declared.root.Form.TheVariants.{Paged}
 use Rattle.ctr_home.specs.declared.root.Root.{Root}
-use Rattle.ctr_home.specs.Roots.{SaysRootOf}
+use Rattle.ctr_home.specs.Roots.{SaysRoot}
 use Rattle.ctr_redo.specs.States.{State, state_of, steps}
 use Rattle.ctr_redo.specs.Images.{FoldsTo, stored_in}
 use Rattle.ctr_record_effects.specs.Standing.{StandsForDatabase}
@@ -25,7 +24,7 @@ module _ {D : Type 0} (dev : Ghosts D) (earlier : (d : D) (s t : ℕ) (c : Image
   sound : IsSoundImage image
   sound = (stands.folds.root, stands.folds.sound)
 
-  is_state : (root : Root) → SaysRootOf Paged (value_of RootBlock image) root → state_of (stored_in root image) ≡ s
+  is_state : (root : Root) → SaysRoot (value_of RootBlock image) root → state_of (stored_in root image) ≡ s
   is_state root says = ap (λ r. state_of (stored_in r image)) (one_root (value_of RootBlock image) root stands.folds.root says stands.folds.sound.says) ∙ stands.folds.state_is
 
   pub now_is : v.now ≡ s

@@ -13,3 +13,5 @@ pub mod OpenLaws
 pub mod StoreLaws
 mod CreateLaws
 pub mod Hardened
+mod CheckpointLaws
+mod GenerationLaws

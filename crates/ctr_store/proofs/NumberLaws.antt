@@ -10,7 +10,7 @@ use Rattle.ctr_meta.specs.Tables.{Tables, no_tables, is_in, heads_at, heads_in, 
 use Rattle.ctr_meta.specs.Effects.{effect, listed, one_head_more, one_head_less, one_aborted_less}
 use Rattle.ctr_meta.specs.Kept.{IsLogged, NumbersFit}
 use Rattle.ctr_store.specs.Changes.{IsChange}
-use Rattle.ctr_store.specs.Numbers.{HeadsWithin, NumbersWithin, NumbersAt}
+use Rattle.ctr_store.specs.Numbers.{HeadsWithin, NumbersWithin, NumbersAt, NumbersLow}
 use Rattle.std.specs.Prelude.{IfOk, OnErr}
 use Rattle.ctr_disk.specs.declared.disk.Disk.{Ghosts}
 use Rattle.ctr_disk.specs.declared.fault.StoreFault.{StoreFault}
@@ -150,25 +150,32 @@ pub heads_seen : (n : ℕ) (t : Tables) → n ≤ 2 ^ 60 → NumbersWithin (2 ^ 
 heads_seen n t few within = few_more (2 ^ 62 + n) (2 ^ 63) t.opens (omega (arith, few)) within.1
 
 -- of what was opened
-pub numbers_opened : (lsn : ℕ) (t : Tables) → t.next < 2 ^ 62 → HeadsWithin (2 ^ 63) t → NumbersAt lsn t
-numbers_opened lsn t low heads = (omega (arith, low), few_more (2 ^ 63) (2 ^ 63 + lsn) t.opens (omega arith) heads)
+pub numbers_opened : (lsn : ℕ) (t : Tables) → lsn < 2 ^ 62 → t.next < 2 ^ 62 → HeadsWithin (2 ^ 63) t → NumbersLow lsn t
+numbers_opened lsn t below low heads = ((omega (arith, low), few_more (2 ^ 63) (2 ^ 63 + lsn) t.opens (omega arith) heads), omega (arith, below))
+
+-- behind a record more
+pub numbers_more : (lsn : ℕ) (t : Tables) → NumbersAt lsn t → NumbersAt (lsn + 1) t
+numbers_more lsn t within = within_more (2 ^ 62 + lsn) (2 ^ 63 + lsn) (2 ^ 62 + (lsn + 1)) (2 ^ 63 + (lsn + 1)) t (omega arith) (omega arith) within
 
 -- the next LSN by the parts of a store
 abbrev next_in : {D O : Type 0} → Parts D O → ℕ
 next_in s = s.base.log.first + length s.base.log.buffered
 
 -- a call that logs nothing
-pub numbers_kept : {D O : Type 0} (g : Ghosts D) (s t : Parts D O) → KeepsBase g s.base t.base → t.meta ≡ s.meta → NumbersAt (next_in s) s.meta.tables → NumbersAt (next_in t) t.meta.tables
+pub numbers_kept : {D O : Type 0} (g : Ghosts D) (s t : Parts D O) → KeepsBase g s.base t.base → t.meta ≡ s.meta → NumbersLow (next_in s) s.meta.tables → NumbersLow (next_in t) t.meta.tables
 numbers_kept g s t keeps meta within =
-    subst (λ (k : TablesKept). NumbersAt (next_in t) k.tables) (sym meta) (subst (λ (n : ℕ). NumbersAt n s.meta.tables) (sym keeps.next) within)
+    subst (λ (k : TablesKept). NumbersLow (next_in t) k.tables) (sym meta) (subst (λ (n : ℕ). NumbersLow n s.meta.tables) (sym keeps.next) within)
 
 -- one that logs a record, or is refused
-pub numbers_behind : {D O : Type 0} (g : Ghosts D) (r : Record) (s t : Parts D O) (result : Result ℕ StoreFault) → IsLogged r → IsChange r → NumbersAt (next_in s) s.meta.tables
-    → IfOk result (λ lsn. (lsn ≡ next_in s) × LogsRoom g r s t) → OnErr result (KeepsBase g s.base t.base × (t.meta ≡ s.meta)) → NumbersAt (next_in t) t.meta.tables
-numbers_behind g r s t (Ok lsn) logged change within logs keeps =
-    let most = 2 ^ 63 + next_in s in
+pub numbers_behind : {D O : Type 0} (g : Ghosts D) (r : Record) (s t : Parts D O) (result : Result ℕ StoreFault) → IsLogged r → IsChange r → next_in s < 2 ^ 63 - 1 → NumbersLow (next_in s) s.meta.tables
+    → IfOk result (λ lsn. (lsn ≡ next_in s) × LogsRoom g r s t) → OnErr result (KeepsBase g s.base t.base × (t.meta ≡ s.meta)) → NumbersLow (next_in t) t.meta.tables
+numbers_behind g r s t (Ok lsn) logged change low within logs keeps =
+    let xids = 2 ^ 62 + next_in s in
+    let heads = 2 ^ 63 + next_in s in
     let next = logs.1.next in
-    subst (λ (u : Tables). NumbersAt (next_in t) u) (sym logs.1.tables)
-    (within_more (most + 1) (most + 1) (2 ^ 63 + next_in t) (2 ^ 63 + next_in t) (effect r s.meta.tables) (omega (arith, next)) (omega (arith, next))
-    (within_behind r most most s.meta.tables logged (inl change) within))
-numbers_behind g r s t (Err e) logged change within logs keeps = numbers_kept g s t keeps.0 keeps.1 within
+    subst (λ (u : Tables). NumbersLow (next_in t) u) (sym logs.1.tables) (
+      within_more (xids + 1) (heads + 1) (2 ^ 62 + next_in t) (2 ^ 63 + next_in t) (effect r s.meta.tables) (omega (arith, next)) (omega (arith, next))
+          (within_behind r xids heads s.meta.tables logged (inl change) within.0),
+      omega (arith, low, next),
+    )
+numbers_behind g r s t (Err e) logged change low within logs keeps = numbers_kept g s t keeps.0 keeps.1 within

@@ -24,9 +24,8 @@ use Rattle.ctr_home.specs.declared.root.Root.{Root}
 use Rattle.ctr_disk.specs.Device.{LeavesOnly, IsDurable}
 use Rattle.ctr_disk.specs.Image.{Image, content}
 use Rattle.ctr_home.specs.declared.block.Block.TheVariants.{Root as RootBlock}
-use Rattle.ctr_home.specs.declared.root.Form.TheVariants.{Paged}
 use Rattle.ctr_home.specs.Blocks.{value_of}
-use Rattle.ctr_home.specs.Roots.{SaysRootOf, root_block}
+use Rattle.ctr_home.specs.Roots.{SaysRoot, root_block}
 use Rattle.ctr_log.specs.declared.visitor.Visit.{Visit}
 use Rattle.ctr_log.specs.Visits.{kept_visits, StopsAt, OnRead, EndsEarly, IsToldBy}
 use Rattle.ctr_log.proofs.VisitLaws.{kept_bytes}
@@ -35,7 +34,7 @@ use Rattle.ctr_log.proofs.KeptLaws.{picks}
 use Rattle.ctr_meta.specs.Effects.{tables_of}
 use Rattle.ctr_meta.specs.Tables.{no_tables}
 use Rattle.ctr_log.specs.Logs.{Log, Batches, GoesOn}
-use Rattle.ctr_log.specs.Kept.{kept_log, OpensKept, WritesBehind}
+use Rattle.ctr_log.specs.Kept.{kept_log, OpensKept, StartsAt, WritesBehind}
 use Rattle.ctr_rec.specs.declared.record.Record.{Record}
 use Rattle.ctr_rec.specs.Read.{record_in}
 use Rattle.ctr_redo.specs.States.{state_of, steps, next_of}
@@ -67,6 +66,7 @@ opens_room file first image log room k = record {
   file_is = k.file_is;
   next_is = k.next_is;
   goes_on = goes_more image log log.buffered room k.goes_on;
+  starts = k.starts;
 }
 
 -- it goes on behind the log still
@@ -223,11 +223,12 @@ module _ {D O : Type 0} (first : Image) (g : Ghosts D) where
       let stored : next_of (stored_of g b) ≡ next_of (stored_in root first) = ap (λ (r : Root). next_of (stored_in r (g.reads b.disk))) root_is ∙ ap (λ (i : Image). next_of (stored_in root i)) here in
       record {
         stands = record {
-          says = subst (λ (i : Image). SaysRootOf Paged (value_of RootBlock i) b.root) (sym here) (subst (SaysRootOf Paged (value_of RootBlock first)) (sym root_is) front.stands.0);
+          says = subst (λ (i : Image). SaysRoot (value_of RootBlock i) b.root) (sym here) (subst (SaysRoot (value_of RootBlock first)) (sym root_is) front.stands.0);
           file = subst (λ l. IsLogFile l.file) (sym log_is) (subst IsLogFile (sym found.kept.file_is) (last_is_log f.log.older root.file));
           goes_on = subst (λ l. (oldest : ℕ) × (bs : Batches) × GoesOn oldest bs l (g.reads b.disk)) (sym log_is)
               (subst (λ (i : Image). (oldest : ℕ) × (bs : Batches) × GoesOn oldest bs f.log i) (sym here) found.kept.goes_on);
           size = subst (λ (r : Root). 8256 * r.pages ≤ length (content Pages (g.reads b.disk))) (sym root_is) (subst (λ (i : Image). 8256 * root.pages ≤ length (content Pages i)) (sym here) front.stands.1);
+          starts = subst (λ l. StartsAt l.older b.root.first l.start) (sym log_is) (subst (λ (r : Root). StartsAt f.log.older r.first f.log.start) (sym root_is) found.kept.starts);
         };
         since = subst (λ (r : Root). HomesSince first r.pages (g.reads b.disk)) (sym root_is) (since_first first root (g.reads b.disk) front.stands.0 here);
         quiet = λ sound.
@@ -259,7 +260,7 @@ module _ {D O : Type 0} (first : Image) (g : Ghosts D) where
       let here : g.reads b.disk ≡ first = ap (λ (x : D). g.reads x) disk_is ∙ same in
       let next_is : f.log.first ≡ next_of (stored_in root first) = front.log.kept.next_is ∙ omega (arith, length-map kept record_in) in
       record {
-        says = subst (SaysRootOf Paged (value_of RootBlock first)) (sym root_is) front.stands.0;
+        says = subst (SaysRoot (value_of RootBlock first)) (sym root_is) front.stands.0;
         reads = here;
         next = ap (λ l. l.first) log_is ∙ next_is ∙ sym (ap (λ (r : Root). next_of (stored_in r (g.reads b.disk))) root_is ∙ ap (λ (i : Image). next_of (stored_in root i)) here);
       }

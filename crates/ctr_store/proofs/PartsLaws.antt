@@ -1,6 +1,6 @@
 -- How the parts of a store go on.
-use Rattle.std.proofs.Common.{◌≡◌, ◌≢◌, inl, inr, ⊎_elim, ℕ, ◌+◌, ◌<◌, ◌≤◌, ◌==◌, if◌then◌else◌, Bool, true, false, List, [], ◌∷◌, ◌++◌, length, Option, Some, None, Ok, refl, sym, ◌∙◌, ap, subst, arith, length-append, append_assoc}
-use Rattle.std.proofs.lemmas.List.{map-append, length-map}
+use Rattle.std.proofs.Common.{◌≡◌, ◌≢◌, inl, inr, ⊎_elim, ℕ, ◌+◌, ◌-◌, ◌<◌, ◌≤◌, ◌==◌, if◌then◌else◌, Bool, true, false, List, [], ◌∷◌, ◌++◌, length, take, Option, Some, None, Ok, refl, sym, ◌∙◌, ap, subst, arith, length-append, append_assoc}
+use Rattle.std.proofs.lemmas.List.{map-append, length-map, take_at, take-append-le}
 use Rattle.std.proofs.lemmas.Bool.Decides.{eqb_tells}
 use Rattle.std.specs.Option.{option_map}
 use Rattle.ctr_disk.specs.declared.disk.Disk.{Ghosts}
@@ -183,7 +183,7 @@ module _ {D O : Type 0} (first : Image) (g : Ghosts D) where
     }
 
     push_stands : StandsWell g a → StandsWell g b
-    push_stands stands = subst (λ (l : Log). StandsWell g (record a { log = l })) (sym log_is) (record { says = stands.says; file = stands.file; goes_on = goes_more (g.reads a.disk) a.log (a.log.buffered ++ bytes ∷ []) log.room stands.goes_on; size = stands.size })
+    push_stands stands = subst (λ (l : Log). StandsWell g (record a { log = l })) (sym log_is) (record { says = stands.says; file = stands.file; goes_on = goes_more (g.reads a.disk) a.log (a.log.buffered ++ bytes ∷ []) log.room stands.goes_on; size = stands.size; starts = stands.starts })
 
     pub push_rests : Fits → StandsQuiet first g a → StandsQuiet first g b
     push_rests may rests = record { stands = push_stands rests.stands; since = rests.since; quiet = λ sound. push_quiet (rests.quiet sound) (may.0 sound) may.1 }
@@ -200,6 +200,13 @@ module _ {D O : Type 0} (first : Image) (g : Ghosts D) where
     pub push_adds : (s t : Parts D O) → IsQuiet g a → AddsRecord g r (record s { base = a }) (record t { base = b })
     push_adds s t quiet = record { waiting = waits; hardened = refl; root = refl; now = push_state quiet }
 
+    -- the records below one that was there are those of before
+    front_same : (q since : ℕ) → since < next_of (now_of g a) → overlaid q a.root.first (take (since - a.root.first) (now_of g b).records) (home_of g a q) ≡ overlaid q a.root.first (take (since - a.root.first) (now_of g a).records) (home_of g a q)
+    front_same q since early =
+        let n = since - a.root.first in
+        ap (λ (l : List Record). overlaid q a.root.first (take n l) (home_of g a q)) records_are
+        ∙ ap (λ (l : List Record). overlaid q a.root.first l (home_of g a q)) (take-append-le n (now_of g a).records (r ∷ []) (omega (arith, early)))
+
     -- what might be saved of a page that the record isn't on
     still_saves : (q since : ℕ) (v : PageHeld) → touches r q ≡ false → MaySave g a q since v → MaySave g b q since v
     still_saves q since v off may = record {
@@ -207,6 +214,8 @@ module _ {D O : Type 0} (first : Image) (g : Ghosts D) where
       above = may.above;
       low = let low = may.low in omega (arith, low, length_more);
       is = ⊎_elim (λ all. inl (all ∙ sym (push_other q (home_of g a q) off))) (λ same. inr same) may.is;
+      early = let early = may.early in omega (arith, early, length_more);
+      behind = front_same q since may.early ∙ may.behind;
     }
 
     still_held : (q : ℕ) (v : PageHeld) (s : Option ℕ) → touches r q ≡ false → IsHeld (backing_of first g) a q v s → IsHeld (backing_of first g) b q v s
@@ -255,16 +264,36 @@ module _ {D O : Type 0} (first : Image) (g : Ghosts D) where
       high_home : (home_of g a p).lsn < lsn
       high_home = let h = held_high first g a p (page_of f) f.since (over.held p f there) in omega (arith, h, lower)
 
-      may_put : (since : ℕ) → MayPut first g b p since (page_of (after_change o lsn f))
-      may_put since = record {
+      -- what is at home has all records below that of the first change since
+      abbrev IsSince : ℕ → Type 0
+      IsSince since = (since < next_of (now_of g b)) × (overlaid p a.root.first (take (since - a.root.first) (now_of g b).records) (home_of g a p) ≡ home_of g a p)
+
+      may_put : (since : ℕ) → (IsSoundImage first → IsSince since) → MayPut first g b p since (page_of (after_change o lsn f))
+      may_put since has = record {
         counted = inside;
         above = high_home;
-        sound = λ sound. record { counted = inside; above = high_home; low = omega (arith, length_more, next_now sound); is = inl (now_is sound) };
+        sound = λ sound.
+            record { counted = inside; above = high_home; low = omega (arith, length_more, next_now sound); is = inl (now_is sound); early = (has sound).0; behind = (has sound).1 };
       }
 
-      held_now : (s : Option ℕ) → IsHeld (backing_of first g) b p (page_of (after_change o lsn f)) (since_then s lsn)
-      held_now None = may_put lsn
-      held_now (Some s) = may_put s
+      -- where the page had no change, it has all
+      since_now : page_of f ≡ home_of g a p → IsSoundImage first → IsSince lsn
+      since_now clean sound =
+          let rs = (now_of g a).records in
+          let n : lsn - a.root.first ≡ length rs = omega (arith, next_now sound) in
+          let front : take (lsn - a.root.first) (now_of g b).records ≡ rs =
+          ap (λ (m : ℕ). take m (now_of g b).records) n ∙ ap (λ (l : List Record). take (length rs) l) records_are ∙ take_at rs (r ∷ []) (length rs) refl in
+          (omega (arith, next_now sound, length_more), ap (λ (l : List Record). overlaid p a.root.first l (home_of g a p)) front ∙ sym (was_is sound) ∙ clean)
+
+      since_then_is : (s : ℕ) → MayPut first g a p s (page_of f) → IsSoundImage first → IsSince s
+      since_then_is s may sound =
+          let was_may = may.sound sound in
+          let early = was_may.early in
+          (omega (arith, early, length_more), front_same p s was_may.early ∙ was_may.behind)
+
+      held_now : (s : Option ℕ) → IsHeld (backing_of first g) a p (page_of f) s → IsHeld (backing_of first g) b p (page_of (after_change o lsn f)) (since_then s lsn)
+      held_now None clean = may_put lsn (since_now clean)
+      held_now (Some s) may = may_put s (since_then_is s may)
 
       one : {A : Type 0} (x y : A) → Some x ≡ Some y → x ≡ y
       one x y e = cc e
@@ -276,7 +305,7 @@ module _ {D O : Type 0} (first : Image) (g : Ghosts D) where
           at_page q h is same =
               let h_is : after_change o lsn f ≡ h = one (after_change o lsn f) h (sym here ∙ ap (λ (n : ℕ). frame_of n gs) (sym same) ∙ is) in
               subst (λ (x : Frame). IsHeld (backing_of first g) b q (page_of x) x.since) h_is
-              (subst (λ (n : ℕ). IsHeld (backing_of first g) b n (page_of (after_change o lsn f)) (since_then f.since lsn)) (sym same) (held_now f.since))
+              (subst (λ (n : ℕ). IsHeld (backing_of first g) b n (page_of (after_change o lsn f)) (since_then f.since lsn)) (sym same) (held_now f.since (over.held p f there)))
 
           beside : (q : ℕ) (h : Frame) → frame_of q gs ≡ Some h → q ≢ p → IsHeld (backing_of first g) b q (page_of h) h.since
           beside q h is other = still_held q (page_of h) h.since (others q other) (over.held q h (sym (elsewhere q other) ∙ is))

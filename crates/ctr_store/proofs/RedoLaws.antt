@@ -1,5 +1,5 @@
 -- A record more in the redo of a log.
-use Rattle.std.proofs.Common.{◌≡◌, ◌≢◌, inr, ⊎_elim, ℕ, zero, suc, ◌+◌, ◌<◌, ◌≤◌, ◌==◌, if◌then◌else◌, true, false, List, [], ◌∷◌, ◌++◌, length, take, drop, Option, Some, None, slice_get, refl, sym, ◌∙◌, ap, subst, arith, length-append, take-append-drop}
+use Rattle.std.proofs.Common.{◌≡◌, ◌≢◌, inr, ⊎_elim, ℕ, zero, suc, ◌+◌, ◌-◌, ◌<◌, ◌≤◌, ◌==◌, if◌then◌else◌, true, false, List, [], ◌∷◌, ◌++◌, length, take, drop, Option, Some, None, slice_get, refl, sym, ◌∙◌, ap, subst, arith, length-append, take-append-drop}
 use Rattle.std.proofs.Math.Seq.{drop-nil}
 use Rattle.std.proofs.lemmas.List.{append-nil, take_all}
 use Rattle.std.proofs.lemmas.Option.{slice_get_within}
@@ -20,10 +20,10 @@ use Rattle.ctr_pool.proofs.FrameLaws.{yes, no}
 use Rattle.ctr_redo.specs.Overlaid.{overlay_of, lies_on, laid_over, touches, with_record, overlaid}
 use Rattle.ctr_redo.specs.Images.{records_in}
 use Rattle.ctr_redo.specs.States.{Stored, next_of}
-use Rattle.ctr_redo.proofs.PageLaws.{stays_out, goes_in, overlaid-append, same_page, below_next, no_lower}
+use Rattle.ctr_redo.proofs.PageLaws.{stays_out, goes_in, overlaid-append, same_page, again, below_next, no_lower}
 use Rattle.ctr_redo.proofs.StateLaws.{tables-push}
 use Rattle.ctr_base.specs.declared.base.Base.{Base}
-use Rattle.ctr_base.specs.Base.{stored_of, waiting_of, home_of, MaySave, MayPut, IsSoundImage, StandsQuiet, MovesBase, MovesIf, KeepsBase, backing_of}
+use Rattle.ctr_base.specs.Base.{stored_of, waiting_of, now_of, home_of, MaySave, IsSoundImage, StandsQuiet, MovesBase, MovesIf, KeepsBase, backing_of}
 use Rattle.ctr_base.specs.BaseLaws.{moves_joined, stands_still}
 use Rattle.ctr_store.specs.declared.parts.Parts.{Parts}
 use Rattle.ctr_store.specs.Parts.{IsFold, AreLow}
@@ -204,20 +204,40 @@ module _ {D O : Type 0} (first : Image) (g : Ghosts D) where
             ∙ m.pages p ∙ ap (λ (l : List Record). overlaid p i.first l h) (ap (λ (l : List (List ℕ)). i.records ++ records_in l) doing.none ∙ append-nil i.records) in
             ap (λ (k : ℕ). overlaid p k (stored_of g b).records v) same_first ∙ ap (λ (l : List Record). overlaid p i.first l v) records_are ∙ one ∙ sym now
 
-        may_save : (since : ℕ) → MaySave g b p since v
-        may_save since = record {
+        -- what is at home has all records below that of the first change since
+        abbrev IsSince : ℕ → Type 0
+        IsSince since = (since < next_of (now_of g b)) × (overlaid p b.root.first (take (since - b.root.first) (now_of g b).records) (home_of g b p) ≡ home_of g b p)
+
+        now_is : (now_of g b).records ≡ i.records
+        now_is = ap (λ (l : List Record). (stored_of g b).records ++ l) waits_none ∙ append-nil (stored_of g b).records ∙ records_are
+
+        -- where the page had no change, it has the first n
+        since_now : page_of f ≡ home_of g b p → IsSince lsn
+        since_now clean =
+            let k : lsn - b.root.first ≡ n = omega (arith, same_first) in
+            let rs = take n i.records in
+            let home_is : home_of g b p ≡ was = sym clean ∙ was_is in
+            let has : overlaid p i.first rs was ≡ was = again p i.first rs (home_of g start p) in (
+              omega (arith, inside, same_first, ap (λ (l : List Record). length l) now_is),
+              ap (λ (m : ℕ). overlaid p b.root.first (take m (now_of g b).records) (home_of g b p)) k
+                  ∙ ap (λ (l : List Record). overlaid p b.root.first (take n l) (home_of g b p)) now_is
+                  ∙ ap (λ (m : ℕ). overlaid p m rs (home_of g b p)) same_first
+                  ∙ ap (overlaid p i.first rs) home_is ∙ has ∙ sym home_is,
+            )
+
+        may_save : (since : ℕ) → IsSince since → MaySave g b p since v
+        may_save since has = record {
           counted = counted;
           above = above;
           low = omega (arith, inside, same_first, ap (λ (l : List Record). length l) records_are, length-append (stored_of g b).records (waiting_of b));
           is = inr v_fits;
+          early = has.0;
+          behind = has.1;
         }
 
-      may_put : (since : ℕ) → MayPut first g b p since v
-      may_put since = record { counted = counted; above = above; sound = λ sound. may_save sound since }
-
-      held_now : (x : Option ℕ) → IsHeld (backing_of first g) b p v (since_then x lsn)
-      held_now None = may_put lsn
-      held_now (Some x) = may_put x
+      held_now : (x : Option ℕ) → IsHeld (backing_of first g) b p (page_of f) x → IsHeld (backing_of first g) b p v (since_then x lsn)
+      held_now None clean = record { counted = counted; above = above; sound = λ sound. may_save sound lsn (since_now sound clean) }
+      held_now (Some x) may = record { counted = counted; above = above; sound = λ sound. let was_may = may.sound sound in may_save sound x (was_may.early, was_may.behind) }
 
       one : {A : Type 0} (x y : A) → Some x ≡ Some y → x ≡ y
       one x y e = cc e
@@ -235,7 +255,7 @@ module _ {D O : Type 0} (first : Image) (g : Ghosts D) where
           at_page q h is same =
               let h_is : after_change o lsn f ≡ h = one (after_change o lsn f) h (sym here ∙ ap (λ (m : ℕ). frame_of m gs) (sym same) ∙ is) in
               subst (λ (x : Frame). IsHeld (backing_of first g) b q (page_of x) x.since) h_is
-              (subst (λ (m : ℕ). IsHeld (backing_of first g) b m v (since_then f.since lsn)) (sym same) (held_now f.since))
+              (subst (λ (m : ℕ). IsHeld (backing_of first g) b m v (since_then f.since lsn)) (sym same) (held_now f.since (doing.over.held p f there)))
 
       pub redo_on : (t : Parts D O) → t.base ≡ s.base → t.pool.frames ≡ gs → RedoesPages first g start (n + 1) t
       redo_on t base frames = record {

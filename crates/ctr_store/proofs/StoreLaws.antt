@@ -21,7 +21,7 @@ use Rattle.ctr_base.specs.BaseLaws.{rests_leaves}
 use Rattle.ctr_redo.specs.States.{State, state_of, grown, page_at}
 use Rattle.ctr_store.specs.Parts.{IsFold, HasBuffer, record_end, CanLog, EndsWithin, LogsRecord, LogsRoom, pages_held, some_dirty}
 use Rattle.ctr_store.specs.Store.{View, Logs, LeavesFront, ReachesEnd, HasLongLog, StraysOnlyLong, MovesOn, LeavesPage, MayLog, KeepsRoom, GrowsByExtent, TakesRecord, WritesHome, waiting_bytes}
-use Rattle.ctr_store.specs.Numbers.{NumbersAt}
+use Rattle.ctr_store.specs.Numbers.{NumbersLow}
 use Rattle.ctr_store.specs.StoreInside.{view_of}
 use Rattle.ctr_store.proofs.NumberLaws.{numbers_fit}
 use Rattle.ctr_store.proofs.BufferLaws.{kept_bytes, logged_bytes, since_held, end_at_most, ends_kept}
@@ -74,18 +74,20 @@ module _ {D O : Type 0} (g : Ghosts D) where
   rests_seen first only_now s b has fold sound = front_seen s s b b has (rests_leaves g first only_now s.base fold.over.at_rest sound)
 
   -- what callers see is enough for a record
-  pub can_of : (r : Record) (s : Parts D O) (b : Bool) → HasBuffer s.base.log → NumbersAt (s.base.log.first + length s.base.log.buffered) s.meta.tables → MayLog r (view_of g s b) → needs r s.meta.tables ≡ Ok tt → CanLog r s
+  pub can_of : (r : Record) (s : Parts D O) (b : Bool) → HasBuffer s.base.log → NumbersLow (s.base.log.first + length s.base.log.buffered) s.meta.tables → MayLog r (view_of g s b) → needs r s.meta.tables ≡ Ok tt → CanLog r s
   can_of r s b buffer numbers may fits =
       let room = may.room in
       let size = buffer.size in
       let number = may.number in
-      let most = 2 ^ 63 + (s.base.log.first + length s.base.log.buffered) in
-      let low : most < 2 ^ 64 - 1 = omega (arith, number) in
+      let xids = 2 ^ 62 + (s.base.log.first + length s.base.log.buffered) in
+      let heads = 2 ^ 63 + (s.base.log.first + length s.base.log.buffered) in
+      let low : heads < 2 ^ 64 - 1 = omega (arith, number) in
+      let less : xids < 2 ^ 64 - 1 = omega (arith, number) in
       record {
         logged = may.logged;
         change = may.change;
         counted = may.counted;
-        may = record { fits = fits; opens_fit = may.opens; items_fit = may.items; numbers_fit = numbers_fit r most most s.meta.tables low low numbers };
+        may = record { fits = fits; opens_fit = may.opens; items_fit = may.items; numbers_fit = numbers_fit r xids heads s.meta.tables less low numbers.0 };
         room = omega (arith, room, size, record_short r may.logged.record_is may.change);
         number = may.number;
       }

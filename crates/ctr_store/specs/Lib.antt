@@ -1,4 +1,5 @@
 pub mod Changes
+pub mod Checkpoints
 pub mod Numbers
 pub mod Parts
 pub mod PageChecks
@@ -8,6 +9,7 @@ pub mod Inside
 pub mod Opening
 pub mod Store
 pub mod StoreInside
+pub mod Generations
 pub mod StoreOpening
 pub mod Creating
 pub use Rattle.ctr_home.specs as ctr_home

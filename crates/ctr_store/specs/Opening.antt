@@ -6,9 +6,8 @@ use Rattle.ctr_disk.specs.declared.fault.StoreFault.{StoreFault}
 use Rattle.ctr_disk.specs.declared.fault.StoreFault.TheVariants as store
 use Rattle.ctr_disk.specs.declared.disk.Disk.{Ghosts}
 use Rattle.ctr_home.specs.declared.block.Block.TheVariants.{Root as RootBlock}
-use Rattle.ctr_home.specs.declared.root.Form.TheVariants.{Paged}
 use Rattle.ctr_home.specs.Blocks.{value_of}
-use Rattle.ctr_home.specs.Roots.{SaysRootOf}
+use Rattle.ctr_home.specs.Roots.{SaysRoot}
 use Rattle.ctr_redo.specs.States.{state_of, next_of}
 use Rattle.ctr_redo.specs.Images.{records_in, stored_in, FoldsFront}
 use Rattle.ctr_meta.specs.Effects.{tables_of}
@@ -193,5 +192,5 @@ AnswersOpen first g (Err e) = RefusesAs first e.0
 -- to the state of the first one.
 abbrev pub LeavesFirst : Image → (Image → Type 0) → Image → Type 0
 LeavesFirst first before c = before c
-    ⊎ ((root : Root) × SaysRootOf Paged (value_of RootBlock first) root
+    ⊎ ((root : Root) × SaysRoot (value_of RootBlock first) root
     × FoldsFront (state_of (stored_in root first)) [] c)

@@ -7,9 +7,8 @@ use Rattle.ctr_disk.specs.declared.fault.StoreFault.TheVariants.{Damaged}
 use Rattle.ctr_disk.specs.Image.{Image}
 use Rattle.ctr_home.specs.declared.root.Root.{Root}
 use Rattle.ctr_home.specs.declared.block.Block.TheVariants.{Root as RootBlock}
-use Rattle.ctr_home.specs.declared.root.Form.TheVariants.{Paged}
 use Rattle.ctr_home.specs.Blocks.{value_of}
-use Rattle.ctr_home.specs.Roots.{SaysRootOf}
+use Rattle.ctr_home.specs.Roots.{SaysRoot}
 use Rattle.ctr_bytes.specs.Fields.{field}
 use Rattle.ctr_log.specs.declared.visitor.Visit.{Visit}
 use Rattle.ctr_log.specs.declared.reading.ReadError.{ReadError}
@@ -87,7 +86,7 @@ AllPass pages vs = (i : ℕ) (v : Visit) → slice_get vs i ≡ Some v
 
 -- so many pages are counted by the root that an image says
 abbrev pub CountsPages : Image → ℕ → Type 0
-CountsPages image pages = (r : Root) → SaysRootOf Paged (value_of RootBlock image) r → pages ≡ r.pages
+CountsPages image pages = (r : Root) → SaysRoot (value_of RootBlock image) r → pages ≡ r.pages
 
 -- memory was refused; or where so many pages are counted, a record is refused behind those that pass
 abbrev pub RefusesVisit : (ℕ → Type 0) → List Visit → Visit → ReadError → Type 0

@@ -10,9 +10,8 @@ use Rattle.ctr_pool.specs.Frames.{has_page, page_shown}
 use Rattle.ctr_pool.specs.Over.{IsOver}
 use Rattle.ctr_redo.specs.Overlaid.{overlay_of, overlaid}
 use Rattle.ctr_home.specs.declared.block.Block.TheVariants.{Root as RootBlock}
-use Rattle.ctr_home.specs.declared.root.Form.TheVariants.{Paged}
 use Rattle.ctr_home.specs.Blocks.{value_of}
-use Rattle.ctr_home.specs.Roots.{SaysRootOf}
+use Rattle.ctr_home.specs.Roots.{SaysRoot}
 use Rattle.ctr_redo.specs.States.{next_of}
 use Rattle.ctr_base.specs.declared.base.Base.{Base}
 use Rattle.ctr_base.specs.Homes.{PassesHome}
@@ -25,7 +24,7 @@ use Rattle.ctr_store.specs.RecordChecks.{AllPass, tables_seen}
 -- Redo starts on the first image, whose root this is, and the writer is behind its log.
 pub record StartsRedo {D O : Type 0} (first : Image) (g : Ghosts D) (start : Base D O) : Type 0
   where
-    pub says : SaysRootOf Paged (value_of RootBlock first) start.root
+    pub says : SaysRoot (value_of RootBlock first) start.root
     pub reads : g.reads start.disk ≡ first
     pub next : start.log.first ≡ next_of (stored_of g start)
 

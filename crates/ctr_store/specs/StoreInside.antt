@@ -9,7 +9,7 @@ use Rattle.ctr_base.specs.Base.{stored_of, waiting_of, now_of}
 use Rattle.ctr_store.specs.declared.opening.TheConstants.{BUFFER_BYTES}
 use Rattle.ctr_store.specs.declared.parts.Parts.{Parts}
 use Rattle.ctr_store.specs.declared.store.Store.TheInside.{Inside}
-use Rattle.ctr_store.specs.Numbers.{NumbersAt}
+use Rattle.ctr_store.specs.Numbers.{NumbersLow}
 use Rattle.ctr_store.specs.Parts.{IsFold, HasBuffer, MayCount, pages_held, some_dirty}
 use Rattle.ctr_store.specs.Store.{View}
 
@@ -40,9 +40,10 @@ view_in g a = view_of g a.parts a.stopped
 
 -- What it shows is the fold of the records on the disk and behind them those that wait, where no
 -- call was answered an error; the log's buffer is there, of which what waits takes a part; as many
--- pages are counted as may be; and the numbers that the tables count with are bound by the next LSN.
+-- pages are counted as may be; and the numbers that the tables count with are bound by the next LSN,
+-- which is below 2^63.
 pub record IsStore {D O : Type 0} (first : Image) (g : Ghosts D) (a : Inside D O) : Type 0 where
   pub fold : IsTrue g.tells → a.stopped ≡ false → IsFold first g a.parts
   pub buffer : HasBuffer a.parts.base.log
   pub counted : MayCount a.parts.base.root.pages
-  pub numbers : NumbersAt (a.parts.base.log.first + length a.parts.base.log.buffered) a.parts.meta.tables
+  pub numbers : NumbersLow (a.parts.base.log.first + length a.parts.base.log.buffered) a.parts.meta.tables

@@ -5,15 +5,15 @@ ghost use Rattle.ctr_disk.specs.declared.fault.StoreFault.TheVariants.{Fault};
 ghost use Rattle.ctr_disk.specs.Device.{WhereTold, LeavesOnly, IsDurable, IsSettled, OnlyReads, CountsAs};
 ghost use Rattle.ctr_home.specs.declared.block.Block.TheVariants.{Root as RootBlock};
 ghost use Rattle.ctr_home.specs.Blocks.{value_of};
-ghost use Rattle.ctr_log.specs.declared.making.Making.TheVariants.{Made, Exists};
 ghost use Rattle.ctr_redo.specs.Images.{IsNewDatabase};
 ghost use Rattle.ctr_store.specs.Creating.{IsNoneOrNew, IsEmptyStore, IsNoneOrEmptyStore, AnswersCreate, disk_made, making_told};
 ghost use Rattle.ctr_store.specs.declared.creating.CreateError.TheVariants.{Fault as CreateFault};
+ghost use Rattle.ctr_store.specs.declared.creating.Making.TheVariants.{Made, Exists};
 
 use ctr_base::{EXTENT, clear_pages};
 use ctr_disk::{Disk, StoreFault};
 use ctr_home::{Block, Root, is_open, write_root};
-use ctr_log::{Making, make_logs};
+use ctr_log::make_logs;
 
 /// No database was made.
 #[derive(Clone, Copy, Debug, PartialEq, Eq)]
@@ -22,6 +22,13 @@ pub enum CreateError {
     Exists,
     /// The disk failed.
     Fault,
+}
+
+// How the making of a database ended.
+enum Making {
+    Made,
+    // A root home was open already, and nothing was written.
+    Exists,
 }
 
 // On a disk on which nothing is pending and no root home is open: the logs, the pages, the root last.

@@ -1,7 +1,9 @@
 //! The store: pages and tables are the fold of the log.
 #![tactic(auto)]
 
+mod checkpoint;
 mod creating;
+mod generations;
 mod laws;
 mod opening;
 mod parts;
@@ -16,4 +18,4 @@ pub use laws::{redo_makes_the_fold, strays_come_only_of_long_logs, what_a_crash_
 pub use opening::BUFFER_BYTES;
 pub use parts::Parts;
 pub use seen::Seen;
-pub use store::{Store, TURN_BYTES, TURN_FRAMES};
+pub use store::{DUE_RECORDS, Generation, Store, TURN_BYTES, TURN_FRAMES};

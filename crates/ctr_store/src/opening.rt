@@ -2,9 +2,8 @@
 ghost use Rattle.std.specs.Prelude.{◌≡◌, ◌⊎◌, ◌≤◌, ◌<◌, ◌+◌, ◌^◌, IsTrue, ℕ, [], Ok, Err, None, length, IfOk, IfErr, OnOk};
 ghost use Rattle.ctr_disk.specs.Device.{WhereTold, LeavesOnly, IsDurable, OnlyReads, CountsAs};
 ghost use Rattle.ctr_home.specs.declared.block.Block.TheVariants.{Root as RootBlock};
-ghost use Rattle.ctr_home.specs.declared.root.Form.TheVariants.{Paged};
 ghost use Rattle.ctr_home.specs.Blocks.{value_of};
-ghost use Rattle.ctr_home.specs.Roots.{IsRootOf, SaysRootOf};
+ghost use Rattle.ctr_home.specs.Roots.{IsRoot, SaysRoot};
 ghost use Rattle.ctr_store.specs.RecordChecks.{AllPass};
 ghost use Rattle.ctr_store.specs.Opening.{IsEmptyWithRoom, IsNewlyOpened, FindsLog, FindsFront, RefusesLog, RefusesAs, OpensParts, disk_left, opening_told, worn_by, IsWornBy, IsLater, IsUndamaged, AnswersOpen, LeavesFirst};
 ghost use Rattle.ctr_log.specs.declared.opening.OpenError.TheVariants.{Fault, OutOfMemory as NoMemory};
@@ -48,8 +47,8 @@ fn read_log<D: Disk, O: Origin>(
     disk: &mut D,
     root: &Root,
 ) -> Result<Found, ReadError>
-    requires root { IsRootOf Paged root.now }
-    requires says { IsTrue D.tells → SaysRootOf Paged (value_of RootBlock O.first) root.now }
+    requires root { IsRoot root.now }
+    requires says { IsTrue D.tells → SaysRoot (value_of RootBlock O.first) root.now }
     ensures found { WhereTold D.Disk (IfOk result (FindsLog (D.reads disk.old) root.now)) }
     ensures passed { IfOk result (λ f. (pages : ℕ) × AllPass pages f.visits) }
     ensures room { IfOk result (λ f. IsEmptyWithRoom f.log) }
@@ -71,7 +70,7 @@ fn read_front<D: Disk, O: Origin>(alloc: Global, disk: &mut D) -> Result<(Root, 
     requires named { O.first ≡ D.reads disk.old }
     ensures found { WhereTold D.Disk (IfOk result (λ r. FindsFront O.first r.0 r.1)) }
     ensures passed { IfOk result (λ r. ((pages : ℕ) × AllPass pages r.1.visits) × IsEmptyWithRoom r.1.log) }
-    ensures root { IfOk result (λ r. IsRootOf Paged r.0) }
+    ensures root { IfOk result (λ r. IsRoot r.0) }
     ensures heads { IfOk result (λ r. HeadsWithin (2 ^ 63) r.1.meta.tables) }
     ensures refused { WhereTold D.Disk (IfErr result (RefusesAs O.first)) }
     ensures undamaged { WhereSound O.first D.Disk (IfErr result IsUndamaged) }
@@ -166,7 +165,7 @@ fn finish<D: Disk, O: Origin>(
     requires passed { (pages : ℕ) × AllPass pages found.visits }
     requires room { IsEmptyWithRoom found.log }
     requires heads { HeadsWithin (2 ^ 63) found.meta.tables }
-    requires root { IsRootOf Paged root }
+    requires root { IsRoot root }
     ensures answer { WhereTold D.Disk (AnswersOpen O.first D.Disk result) }
     ensures undamaged { WhereSound O.first D.Disk (IfErr result (λ e. IsUndamaged e.0)) }
     ensures ready { IfOk result IsNewlyOpened }

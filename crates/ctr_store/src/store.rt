@@ -16,10 +16,16 @@ ghost use Rattle.ctr_store.specs.declared.store.TheConstants.{TURN_BYTES};
 ghost use Rattle.ctr_store.specs.Numbers.{NumbersAt};
 ghost use Rattle.ctr_store.specs.Parts.{MayCount};
 ghost use Rattle.ctr_store.specs.Store.{MovesOn, waiting_bytes, HasTurnRoom, turns_for_room, KeepsFrames, WritesHome, LeavesFront, LeavesPage, Logs, MayLog, unmet_need, RefusesUnfit, TakesRecord, LeavesGrowing, GrowsByExtent, CountsUp, page_home};
+ghost use Rattle.ctr_rec.specs.declared.decoding.BadRecord.{BadRecord as Bad};
+ghost use Rattle.ctr_store.specs.declared.store.Generation.TheVariants.{Begun};
+ghost use Rattle.ctr_store.specs.Checkpoints.{checkpoint_need};
+ghost use Rattle.ctr_store.specs.Generations.{IsDue, MayBegin, AnswersBegin, ShowsSame, AddsCheckpoint, RefusesCheckpoint, CanEnd, AnswersEnd, NamesCurrent};
 ghost use Rattle.ctr_store.specs.StoreOpening.{AnswersStore, IsOpened, store_left};
 
+use crate::checkpoint::{FIRST_PLACE, Unmade, file_behind, spell_checkpoint};
 use crate::opening::BUFFER_BYTES;
 use crate::parts::Parts;
+use crate::seen::damage_at;
 use ctr_base::Origin;
 use ctr_disk::{Disk, StoreFault};
 use ctr_log::{Lsn, OpenError};
@@ -34,6 +40,16 @@ pub const TURN_BYTES: usize = 5000;
 
 /// How many frames have nothing to be written home when a turn begins.
 pub const TURN_FRAMES: usize = 2;
+
+/// How many records a generation of the log has when a new one is due.
+pub const DUE_RECORDS: u64 = 1000;
+
+/// What the begin of a generation answers: it begun, or memory was refused.
+#[derive(Clone, Copy, Debug, PartialEq, Eq)]
+pub enum Generation {
+    Begun,
+    OutOfMemory,
+}
 
 /// The pages and the tables of a database, over its log and its homes.
 #[derive(Drop)]
@@ -141,8 +157,8 @@ impl<D: Disk, O: Origin> Store<D, O> {
         let _ = &self.parts;
     }
 
-    /// Neither the next transaction nor the heads of an open one are more than 2^63 beyond the next LSN, so no number comes to
-    /// its end by a record. The call does nothing: what it ensures holds of each store.
+    /// The next transaction is at most 2^62 beyond the next LSN, and the heads of an open one are 2^63, so no number comes to its
+    /// end by a record. The call does nothing: what it ensures holds of each store.
     pub fn bounds_numbers(&self)
         ensures { NumbersAt self.now.next self.now.meta.tables }
     {
@@ -271,6 +287,80 @@ impl<D: Disk, O: Origin> Store<D, O> {
         let counted = self.parts.grow();
         self.stopped = counted.is_err();
         counted
+    }
+
+    /// Whether an older generation of the log is kept, in the other file.
+    pub fn keeps_older(&self) -> bool
+        ensures { result ≡ self.now.older }
+    {
+        self.parts.base.log.keeps_older()
+    }
+
+    /// Whether a new generation of the log is due: the current one has 1,000 records, and no older one is kept.
+    pub fn due(&self) -> bool
+        ensures { IsTrue result ↔ IsDue self.now }
+    {
+        let log = &self.parts.base.log;
+        !log.keeps_older() && self.parts.base.next().saturating_sub(log.start()) >= DUE_RECORDS
+    }
+
+    /// Begins a generation of the log in the other file, with a Checkpoint of the tables. Pages and tables are as before, and
+    /// a crash at any moment leaves them, whichever of both generations it finds. Where memory is refused nothing has changed.
+    pub fn begin_checkpoint(&mut self, alloc: Global) -> Result<Generation, StoreFault>
+        requires { MayBegin self.old }
+        ensures begins { AnswersBegin self.old self.new result }
+        ensures any_moment { WhereSound O.first D.Disk (LeavesFront D.Disk self.old self.new) }
+        ensures shows { WhereSound O.first D.Disk (OnOk result (ShowsSame D.Disk self.old self.new)) }
+        ensures adds { WhereSound O.first D.Disk (result ≡ Ok Begun → AddsCheckpoint D.Disk self.old self.new) }
+        // A transaction with more than 2^62 heads is damage, by its row of a Checkpoint; nothing has changed then.
+        ensures unfit { (bad : Bad) → checkpoint_need self.old.meta.tables ≡ Err bad → RefusesCheckpoint bad self.old self.new result }
+        ensures stopped { OnOk result (self.new.stopped ≡ false) × (checkpoint_need self.old.meta.tables ≡ Ok tt → OnErr result (self.new.stopped ≡ true)) }
+        ensures refused { checkpoint_need self.old.meta.tables ≡ Ok tt → OnErr result (result ≡ Err Fault) }
+        ensures counts { CountsAs D.Disk Fault self.old.disk self.new.disk result }
+    {
+        let bytes = match spell_checkpoint(alloc, &self.parts.meta) {
+            Ok(bytes) => bytes,
+            Err(Unmade::OutOfMemory) => return Ok(Generation::OutOfMemory),
+            Err(Unmade::Unfit(bad)) => {
+                let file = file_behind(self.parts.base.log.file());
+                return Err(damage_at(file, FIRST_PLACE, bad));
+            }
+        };
+        match self.parts.base.log.reserve(8 + bytes.len()) {
+            Ok(()) => {}
+            Err(_) => return Ok(Generation::OutOfMemory),
+        }
+        let begun = self.parts.begin_generation(&bytes);
+        self.stopped = begun.is_err();
+        match begun {
+            Ok(()) => Ok(Generation::Begun),
+            Err(fault) => Err(fault),
+        }
+    }
+
+    /// Drops the older generation of the log, exactly where one is kept and no page has been changed since before the current
+    /// one that isn't home, whatever transactions are open. Pages and tables are as before, and a crash at any moment leaves
+    /// them, whether the older one is kept or not. The root is written once, and the older one is never read again.
+    pub fn end_checkpoint(&mut self) -> Result<bool, StoreFault>
+        requires { self.old.stopped ≡ false }
+        ensures dropped { IfOk result (λ dropped. IsTrue dropped ↔ CanEnd self.old) }
+        ensures ends { AnswersEnd self.old self.new result }
+        ensures any_moment { WhereSound O.first D.Disk (LeavesFront D.Disk self.old self.new) }
+        ensures shows { WhereSound O.first D.Disk (OnOk result (ShowsSame D.Disk self.old self.new)) }
+        ensures names { WhereSound O.first D.Disk (result ≡ Ok true → NamesCurrent D.Disk self.old self.new) }
+        ensures stopped { OnOk result (self.new.stopped ≡ false) × OnErr result (self.new.stopped ≡ true) }
+        ensures refused { OnErr result (result ≡ Err Fault) }
+        ensures counts { CountsAs D.Disk Fault self.old.disk self.new.disk result }
+    {
+        if !self.parts.can_drop() {
+            return Ok(false);
+        }
+        let dropped = self.parts.drop_older();
+        self.stopped = dropped.is_err();
+        match dropped {
+            Ok(()) => Ok(true),
+            Err(fault) => Err(fault),
+        }
     }
 
     /// The tables of transactions.

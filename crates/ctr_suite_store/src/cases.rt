@@ -4,7 +4,7 @@ use crate::plain::Plain;
 use crate::reading::{Patch, Question};
 use crate::run::{Progress, image_of, made, play};
 use crate::runs::{Runs, Start};
-use crate::steps::{Step, long_steps, random_steps};
+use crate::steps::{Step, cut_steps, long_steps, random_steps, switching_steps};
 use crate::stops::Seen;
 use ctr_mem_disk::Image;
 use ctr_types::List;
@@ -149,6 +149,11 @@ fn answer_on(
             start,
             &long_steps(alloc, from, count)?,
         ),
+        Question::Cut { from, count } => opens_long(alloc, start, &cut_steps(alloc, from, count)?),
+        Question::Switching { from, count } => {
+            let steps = switching_steps(alloc, from, count)?;
+            random_stops(&mut runs(alloc, start, &steps, EACH_RANDOM))
+        }
         Question::Failing { from, count } => {
             let steps = random_steps(alloc, from, count)?;
             failures(&mut runs(alloc, start, &steps, EACH_RANDOM))
@@ -159,8 +164,8 @@ fn answer_on(
 /// What a case answers.
 pub fn answer_of(alloc: Global, case: &Case, question: Question) -> Result<String, AllocError> {
     let growths = match question {
-        Question::Random { .. } | Question::Failing { .. } | Question::Long { .. } => GROWTHS,
-        _ => 0,
+        Question::Stops | Question::Failures | Question::Opens => 0,
+        _ => GROWTHS,
     };
     let start = Start {
         files: made(alloc, growths as u64)?,

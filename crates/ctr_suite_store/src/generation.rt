@@ -1,4 +1,4 @@
-// A second generation of the log, begun by hand: no call of a store begins one yet.
+// A second generation of the log, begun by hand, so that a case can alter it at known places.
 use crate::plain::Plain;
 use ctr_disk::{Disk, Failed};
 use ctr_mem_disk::SilentDisk;

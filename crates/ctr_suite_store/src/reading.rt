@@ -27,6 +27,10 @@ pub enum Question {
     Failing { from: u64, count: u64 },
     /// What an opening answers behind so many records that are made from a number, each behind turns for room.
     Long { from: u64, count: u64 },
+    /// The same where the log is cut behind each 500 of them.
+    Cut { from: u64, count: u64 },
+    /// What each stop leaves of so many steps that are made from a number, with generations that begin and go.
+    Switching { from: u64, count: u64 },
 }
 
 /// A line of a case.
@@ -59,6 +63,8 @@ fn read_step(verb: &[u8], words: &mut Words) -> Option<Step> {
         },
         b"grow" => Step::Grow,
         b"generation" => Step::Generation,
+        b"switch" => Step::Switch,
+        b"forget" => Step::Forget,
         _ => return None,
     };
     Some(step)
@@ -95,6 +101,14 @@ fn read_question(verb: &[u8], words: &mut Words) -> Option<Question> {
             count: words.value(),
         },
         b"long" => Question::Long {
+            from: words.value(),
+            count: words.value(),
+        },
+        b"cut" => Question::Cut {
+            from: words.value(),
+            count: words.value(),
+        },
+        b"switching" => Question::Switching {
             from: words.value(),
             count: words.value(),
         },

@@ -171,6 +171,18 @@ fn read_pages(store: &mut Mem, times: u32, pages: u32) -> Result<(), StoreFault>
     Ok(())
 }
 
+// Begins a generation, where one may begin.
+fn switch(alloc: Global, store: &mut Mem) -> Result<(), StoreFault>
+    requires going { store.old.stopped ≡ false }
+    ensures going { OnOk result (store.new.stopped ≡ false) }
+{
+    if store.keeps_older() || !store.is_hardened() || store.next() >= 1 << 62 {
+        return Ok(());
+    }
+    let _begun = store.begin_checkpoint(alloc)?;
+    Ok(())
+}
+
 // Takes a step.
 fn do_step(alloc: Global, store: &mut Mem, plain: &mut Plain, step: Step) -> Result<(), StoreFault>
     requires going { store.old.stopped ≡ false }
@@ -190,6 +202,11 @@ fn do_step(alloc: Global, store: &mut Mem, plain: &mut Plain, step: Step) -> Res
         }
         Step::Room => make_room(store, TURNS),
         Step::Read { times, pages } => read_pages(store, times, pages),
+        Step::Switch => switch(alloc, store),
+        Step::Forget => {
+            let _dropped = store.end_checkpoint()?;
+            Ok(())
+        }
         _ => do_log(alloc, store, plain, step),
     }
 }

@@ -19,8 +19,12 @@ pub enum Step {
     /// So many readings of the first so many pages, one after another and again from the first.
     Read { times: u32, pages: u32 },
     Grow,
-    /// Begins a second generation behind records that are all hardened.
+    /// Begins a second generation behind records that are all hardened, by bytes written by hand.
     Generation,
+    /// Begins a generation, where no older one is kept and all records are hardened.
+    Switch,
+    /// Drops the older generation, where it can go.
+    Forget,
 }
 
 /// Eight such bytes at a place of a page.
@@ -68,6 +72,53 @@ pub fn random_steps(alloc: Global, from: u64, count: u64) -> Result<Vec<Step>, A
             steps.push(Step::Grow)?;
         }
         steps.push(step_by(rng.next_u64()))?;
+    }
+    steps.push(Step::Harden)?;
+    Ok(steps)
+}
+
+/// So many steps from a number, with generations that begin behind hardenings and go again.
+pub fn switching_steps(alloc: Global, from: u64, count: u64) -> Result<Vec<Step>, AllocError> {
+    let mut rng = Xoshiro256PlusPlus::seed_from_u64(from);
+    let mut steps = Vec::new(alloc);
+    steps.push(Step::Begin)?;
+    for i in 0..count {
+        steps.push(step_by(rng.next_u64()))?;
+        match i % 12 {
+            5 => {
+                steps.push(Step::Harden)?;
+                steps.push(Step::Switch)?;
+            }
+            8 | 11 => steps.push(Step::Forget)?,
+            _ => {}
+        }
+    }
+    steps.push(Step::Harden)?;
+    Ok(steps)
+}
+
+// Begins a generation, and drops the older one once all pages are home.
+fn push_cut(steps: &mut Vec<Step>) -> Result<(), AllocError> {
+    steps.push(Step::Harden)?;
+    steps.push(Step::Switch)?;
+    for _ in 0..8 {
+        steps.push(Step::Write)?;
+    }
+    steps.push(Step::Forget)?;
+    Ok(())
+}
+
+/// A Begin and so many Keeps from a number, each behind turns for room; behind each 500 the log is cut.
+pub fn cut_steps(alloc: Global, from: u64, count: u64) -> Result<Vec<Step>, AllocError> {
+    let mut rng = Xoshiro256PlusPlus::seed_from_u64(from);
+    let mut steps = Vec::new(alloc);
+    steps.push(Step::Begin)?;
+    for i in 0..count {
+        steps.push(Step::Room)?;
+        steps.push(Step::Keep(overlay_by(rng.next_u64())))?;
+        if i % 500 == 499 {
+            push_cut(&mut steps)?;
+        }
     }
     steps.push(Step::Harden)?;
     Ok(steps)

@@ -5,7 +5,7 @@ ghost use Rattle.ctr_log.specs.Kept.{NamesKept, CanStart};
 use crate::disks::{calls_of, disk_with, image_left};
 use ctr_disk::StoreFault;
 use ctr_home::{Root, read_root, write_root};
-use ctr_log::{Gathered, LogFile, ReadError, VisitError, read_all, visit_named};
+use ctr_log::{Gathered, LogFile, ReadError, read_all};
 use ctr_mem_disk::{Call, Image, Recorded, SilentDisk};
 use ctr_types::{Damage, File};
 use std::alloc::{AllocError, Global};
@@ -125,10 +125,9 @@ fn named(alloc: Global, log: &[u8]) -> Result<Named, ReadError> {
 
 fn named_on(alloc: Global, disk: &mut SilentDisk) -> Named {
     let mut gathered = Gathered::new(alloc);
-    let ended = match visit_named(alloc, disk, &ROOT, &mut gathered) {
+    let ended = match read_all(alloc, disk, &ROOT, &mut gathered) {
         Ok(log) => Ok(log.next()),
-        Err(VisitError::Read(error)) => Err(error),
-        Err(VisitError::Refused(error)) => Err(error),
+        Err(error) => Err(error),
     };
     (ended, [given_at(&gathered, 0), given_at(&gathered, 1)])
 }

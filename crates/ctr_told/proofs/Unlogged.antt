@@ -10,7 +10,7 @@ use Rattle.ctr_extend.specs.declared.ways.OnWay.{OnWay}
 use Rattle.ctr_extend.specs.declared.ways.OnWay.TheVariants.{Wanted, Taken, Made}
 use Rattle.ctr_extend.specs.declared.ways.Extended.{Extended}
 use Rattle.ctr_extend.specs.declared.ways.Extended.TheVariants.{On as OnItsWay, Linked, Grown as IsGrown, Full as IsFull}
-use Rattle.ctr_extend.specs.Steps.{ExtendsBy}
+use Rattle.ctr_extend.specs.Steps.{ExtendsBy, IsFull as HasNoPage}
 use Rattle.ctr_write.specs.declared.stages.Stage.{Stage}
 use Rattle.ctr_write.specs.declared.stages.Stage.TheVariants.{Looking, Extending, Kept}
 use Rattle.ctr_write.specs.declared.stages.Written.{Written}
@@ -59,11 +59,11 @@ module _ (x : ℕ) (chain : Chain) (s t : State) where
   grows_by (Made p next) IsGrown is by = absurd by
   grows_by way IsFull is by = absurd (cc is)
 
-  stays_by : (way : OnWay) (e : Extended) → Full ≡ written_from chain e → ExtendsBy x chain way s t e → t ≡ s
+  stays_by : (way : OnWay) (e : Extended) → Full ≡ written_from chain e → ExtendsBy x chain way s t e → HasNoPage s t
   stays_by way (OnItsWay on) is by = absurd (cc is)
   stays_by way Linked is by = absurd (cc is)
   stays_by way IsGrown is by = absurd (cc is)
-  stays_by Wanted IsFull is by = by.same
+  stays_by Wanted IsFull is by = by
   stays_by (Taken p) IsFull is by = absurd by
   stays_by (Made p next) IsFull is by = absurd by
 
@@ -71,5 +71,5 @@ module _ (wish : Wish) (stage : Stage) (s t : State) where
   pub grows : EndsWrite wish stage s t Grown → (t ≡ counting (grown s.counted) s) × (s.counted < MOST_PAGES)
   grows ends = let page = for_page wish s t Grown tt stage ends in grows_by wish.x page.chain s t page.way page.extends.0 page.extends.1 page.extends.2
 
-  pub stays : EndsWrite wish stage s t Full → t ≡ s
+  pub stays : EndsWrite wish stage s t Full → HasNoPage s t
   stays ends = let page = for_page wish s t Full tt stage ends in stays_by wish.x page.chain s t page.way page.extends.0 page.extends.1 page.extends.2

@@ -8,6 +8,7 @@ ghost use Rattle.ctr_area.specs.Areas.{Title};
 ghost use Rattle.ctr_area.specs.Sound.{IsAmong};
 ghost use Rattle.ctr_actions.specs.Facts.{Fact, HasNoPageBut};
 ghost use Rattle.ctr_store.specs.Store.{View};
+ghost use Rattle.ctr_extend.specs.Steps.{IsFull};
 ghost use Rattle.ctr_kept.specs.Walk.{Mind};
 ghost use Rattle.ctr_kept.specs.Turns.{Start, Telling, MayCome, telling, carrying};
 ghost use Rattle.ctr_stops.specs.World.{KeepsWorld};
@@ -42,7 +43,7 @@ pub fn a_write_that_goes_on_is_kept<D: Disk>()
 /// changed. Before it the session had no page on the way, so it counts on the same behind it.
 pub fn a_write_without_a_record()
     ensures grown { (wish : Wish) (stage : Stage) (s t : State) → EndsWrite wish stage s t Grown → (t ≡ counting (grown s.counted) s) × (s.counted < MOST_PAGES) }
-    ensures full { (wish : Wish) (stage : Stage) (s t : State) → EndsWrite wish stage s t Full → t ≡ s }
+    ensures full { (wish : Wish) (stage : Stage) (s t : State) → EndsWrite wish stage s t Full → IsFull s t }
     ensures grown_without_page { (wish : Wish) (stage : Stage) (s t : State) (title : Title) (e : ℕ) (key : ℤ) (more facts : List Fact)
         → AreOfStage title e key stage more facts → EndsWrite wish stage s t Grown → IsAmong (HasNoPageBut []) facts }
     ensures full_without_page { (wish : Wish) (stage : Stage) (s t : State) (title : Title) (e : ℕ) (key : ℤ) (more facts : List Fact)

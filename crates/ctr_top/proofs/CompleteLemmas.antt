@@ -16,12 +16,12 @@ use Rattle.ctr_script.specs.Written.{IsShortText}
 use Rattle.ctr_database.specs.ctr_run.ctr_world.Ended.{PassesOpening}
 use Rattle.ctr_database.specs.ctr_run.declared.ran.RunEnd.{RunEnd}
 use Rattle.ctr_database.specs.ctr_run.declared.ran.RunEnd.TheVariants as run
-use Rattle.ctr_database.specs.ctr_run.Running.{EndsAsAsked}
+use Rattle.ctr_database.specs.ctr_run.Running.{EndsAsAsked, RunsNone}
 use Rattle.ctr_top.specs.declared.outcome.Outcome.{Outcome}
 use Rattle.ctr_top.specs.declared.ending.Ending.{Ending}
 use Rattle.ctr_top.specs.declared.ending.Ending.TheVariants as ending
 use Rattle.ctr_top.specs.Endings.{ran_as, work}
-use Rattle.ctr_top.specs.Top.{EndsUnfailed, IsUnrun, RunCauses, SourceWhy, IsScriptRead}
+use Rattle.ctr_top.specs.Top.{EndsUnfailed, RunCauses, SourceWhy, IsScriptRead}
 
 abbrev pub NoScriptIsRefused : Type 0
 NoScriptIsRefused = (bytes : List ℕ) (ls : List Line) (line at : ℕ) → IsWritten SpellsLine bytes ls → IsRefusedIn SpellsLine bytes line at → ⊥
@@ -60,13 +60,13 @@ module _ {D S : Type 0} (law : NoScriptIsRefused) (g : Ghosts D) (old : D) (s : 
   is_read ending.Exists from = tt
   is_read (ending.Worn number) from = tt
 
-  by_end : (end : RunEnd) → o.ending ≡ ran_as end → ((error : OpenError) → end ≡ run.Unopened error → IsUnrun o.left) → EndsAsAsked g old o.left.disk end → EndsUnfailed o.ending o.left
+  by_end : (end : RunEnd) → o.ending ≡ ran_as end → ((error : OpenError) → end ≡ run.Unopened error → RunsNone g old o.left) → EndsAsAsked g old o.left.disk end → EndsUnfailed o.ending o.left
   by_end run.Finished is none asked = inl is
   by_end (run.Unopened open_error.NoDatabase) is none asked = absurd asked
   by_end (run.Unopened (open_error.Damaged d)) is none asked = absurd asked
   by_end (run.Unopened (open_error.Worn n)) is none asked = absurd (asked passes)
   by_end (run.Unopened open_error.Fault) is none asked = absurd (no_disk asked)
-  by_end (run.Unopened open_error.OutOfMemory) is none asked = inr (inl (is, (none open_error.OutOfMemory refl).0))
+  by_end (run.Unopened open_error.OutOfMemory) is none asked = inr (inl (is, (none open_error.OutOfMemory refl).tape))
   by_end (run.Stopped stop.Fault) is none asked = absurd (no_disk asked)
   by_end (run.Stopped (stop.Damaged d)) is none asked = absurd asked
   by_end (run.Stopped (stop.Worn lsn)) is none asked = inr (inr (lsn, is, asked))

@@ -9,7 +9,7 @@ use Rattle.ctr_log.specs.declared.opening.OpenError.TheVariants as open_error
 use Rattle.ctr_record_effects.specs.Standing.{StandsForDatabase}
 use Rattle.ctr_database.specs.Database.{IsNoneOrNewlyMade}
 use Rattle.ctr_database.specs.ctr_run.declared.ran.RunEnd.TheVariants.{Unopened}
-use Rattle.ctr_database.proofs.ctr_run.Ends.{untouched_for, untouched_in_order, untouched_over}
+use Rattle.ctr_database.proofs.ctr_run.Ends.{untouched_for, untouched_in_order, untouched_leaves, untouched_over}
 use Rattle.ctr_top.specs.declared.outcome.Outcome.{Outcome}
 use Rattle.ctr_top.specs.declared.ending.Ending.{Ending}
 use Rattle.ctr_top.specs.declared.ending.Ending.TheVariants as ending
@@ -43,7 +43,11 @@ module _ {D : Type 0} (g : Ghosts D) (earlier : (d : D) (s t : ℕ) (c : Image) 
       end = Unopened open_error.OutOfMemory;
       is = is;
       why = untouched_for g earlier only_now old [] o.left (IsFinished o) not_fine tape undone disk;
-      none = λ error unopened. (tape, undone);
+      none = λ error unopened. record {
+        tape = tape;
+        undone = undone;
+        left = λ base told stands. untouched_leaves g earlier only_now old [] o.left (IsFinished o) not_fine tape undone disk base;
+      };
       asked = λ base told stands. tt;
     }
 

@@ -1,5 +1,5 @@
 -- What a run leaves, and the cause of each status.
-use Rattle.std.proofs.Common.{◌≡◌, ◌≢◌, ◌⊎◌, ◌∙◌, inl, inr, ℕ, List, [], refl, sym, ap, subst}
+use Rattle.std.proofs.Common.{◌≡◌, ◌≢◌, ◌⊎◌, ◌∙◌, inl, inr, ℕ, List, refl, sym, ap, subst}
 use Rattle.std.specs.Prelude.{IsTrue, Ok, Err}
 use Rattle.ctr_types.specs.Faults.{CountsFault}
 use Rattle.ctr_types.specs.declared.statement.Line.{Line}
@@ -109,19 +109,19 @@ module _ {S : Type 0} (s : Source S) (source new : S) where
   source_why_read script_error.ReadFault reason counts = counts refl
   source_why_read script_error.OutOfMemory reason counts = tt
 
-  source_why : (e : Ending) → IsScriptRead e → s.faults_of new ≡ s.faults_of source → SourceWhy s source new e
-  source_why ending.Finished read same = same
-  source_why (ending.Refused line at) read same = absurd read
-  source_why ending.TooLong read same = absurd read
-  source_why ending.Usage read same = tt
-  source_why ending.NoDatabase read same = tt
-  source_why (ending.Damaged d) read same = tt
-  source_why ending.DiskFault read same = tt
-  source_why ending.ReadFault read same = absurd read
-  source_why ending.WriteFault read same = tt
-  source_why ending.OutOfMemory read same = tt
-  source_why ending.Exists read same = tt
-  source_why (ending.Worn number) read same = tt
+  source_why : (e : Ending) → IsScriptRead e → SourceWhy s source new e
+  source_why ending.Finished read = tt
+  source_why (ending.Refused line at) read = absurd read
+  source_why ending.TooLong read = absurd read
+  source_why ending.Usage read = tt
+  source_why ending.NoDatabase read = tt
+  source_why (ending.Damaged d) read = tt
+  source_why ending.DiskFault read = tt
+  source_why ending.ReadFault read = absurd read
+  source_why ending.WriteFault read = tt
+  source_why ending.OutOfMemory read = tt
+  source_why ending.Exists read = tt
+  source_why (ending.Worn number) read = tt
 
 module _ {D S : Type 0} (g : Ghosts D) (old : D) (s : Source S) (source new : S) (o : Outcome D) where
   -- a script that was read
@@ -129,7 +129,7 @@ module _ {D S : Type 0} (g : Ghosts D) (old : D) (s : Source S) (source new : S)
   lines_causes script by read decided same = record {
     by_disk = λ is. by;
     unread = λ unread. absurd (unread (subst IsScriptRead (sym by.is) (ran_well by.end)));
-    by_source = source_why s source new o.ending (subst IsScriptRead (sym by.is) (ran_well by.end)) same;
+    by_source = source_why s source new o.ending (subst IsScriptRead (sym by.is) (ran_well by.end));
     by_script = λ t. record {
       wants = inr (inr (script.lines, (read t).written));
       refused = λ line at is. absurd ((decided t).refused line at is);

@@ -2,7 +2,6 @@
 use Rattle.std.specs.Prelude.{◌≡◌, ◌≢◌, ◌⊎◌, ◌≤◌, ◌<◌, ℕ, ◌+◌, ◌-◌, ◌^◌, pos, Bool, true, false, IsTrue, IsSome, List, [], ◌++◌, length, Option, None, Some}
 use Rattle.ctr_types.specs.Faults.{CountsFault}
 use Rattle.ctr_types.specs.declared.statement.Line.{Line}
-use Rattle.ctr_types.specs.declared.tape.Entry.{Entry}
 use Rattle.ctr_disk.specs.Image.{Image}
 use Rattle.ctr_disk.specs.declared.disk.Disk.{Ghosts}
 use Rattle.ctr_disk.specs.declared.fault.Stop.{Stop}
@@ -29,7 +28,7 @@ use Rattle.ctr_database.specs.Database.{IsNewlyMade, IsNoneOrNewlyMade}
 use Rattle.ctr_database.specs.ctr_run.declared.ran.Left.{Left}
 use Rattle.ctr_database.specs.ctr_run.declared.ran.RunEnd.{RunEnd}
 use Rattle.ctr_database.specs.ctr_run.declared.ran.RunEnd.TheVariants.{Stopped, Unopened}
-use Rattle.ctr_database.specs.ctr_run.Running.{EndsAsAsked, EndsFor, RunsInOrder, RunsOver}
+use Rattle.ctr_database.specs.ctr_run.Running.{EndsAsAsked, EndsFor, RunsInOrder, RunsNone, RunsOver}
 use Rattle.ctr_words.specs.declared.words.Subcommand.{Subcommand}
 use Rattle.ctr_words.specs.declared.words.Subcommand.TheVariants as subcommand
 use Rattle.ctr_top.specs.declared.outcome.Outcome.{Outcome}
@@ -99,20 +98,20 @@ pub record GoesForward {D S : Type 0} (g : Ghosts D) (s : Source S) (old new : D
 -- ---- the cause of each ending
 
 -- The ending is that of this end of a run, which has its cause: that the database was opened, why it
--- wasn't, and then nothing was run, or why its World was stopped. Over a database only some ends come
--- where nothing fails.
+-- wasn't, and then nothing was run, and a crash leaves a database as it was; or why its World was
+-- stopped. Over a database only some ends come where nothing fails.
 pub record EndsBy {D : Type 0} (g : Ghosts D) (old : D) (o : Outcome D) : Type 0 where
   pub end : RunEnd
   pub is : o.ending ≡ ran_as end
   pub why : EndsFor g old o.left.disk end
-  pub none : (error : OpenError) → end ≡ Unopened error → IsUnrun o.left
+  pub none : (error : OpenError) → end ≡ Unopened error → RunsNone g old o.left
   pub asked : (base : State) → IsTrue g.tells → StandsForDatabase (g.reads old) base
       → EndsAsAsked g old o.left.disk end
 
 -- What each ending says of the source: a script that was read, one that is none or is too long, or a
 -- fault.
 abbrev pub SourceWhy : {S : Type 0} → Source S → S → S → Ending → Type 0
-SourceWhy s old new ending.Finished = s.faults_of new ≡ s.faults_of old
+SourceWhy s old new ending.Finished = Unit {0}
 SourceWhy s old new (ending.Refused line at) = IsTrue s.tells → IsShortRefusal (s.left old) line at
 SourceWhy s old new ending.TooLong = IsTrue s.tells → most_bytes < length (s.left old)
 SourceWhy s old new ending.Usage = Unit {0}

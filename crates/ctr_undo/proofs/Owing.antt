@@ -26,7 +26,7 @@ LatestOwes = (x : ℕ) (s : Site) (i : SlogItem) → IsLastItem x i s.tables.ite
 
 module _ (u v : UndoLeft) (s : State) (may : MayUndo u s) where
   abbrev left_now : Undo
-  left_now = record { items = u.items; orphans = u.orphans; turns = may.turns }
+  left_now = record { items = u.items; orphans = u.orphans; turns = may.turns; first = may.first }
 
   last_among : (i : SlogItem) → u.items ≡ v.items ++ i ∷ [] → IsAmong i u.items
   last_among i is = subst (IsAmong i) (sym is) (among_rest i v.items (i ∷ []) (inl refl))

@@ -48,7 +48,7 @@ module _ (c : Start) (now later : ℕ) (site : Site) (w : Mind) (v : UndoLeft) (
 
   -- orphans as they are in the list that is left
   abbrev with_orphans : List ℕ → Mind
-  with_orphans orphans = record w { undo = record { items = v.items; orphans = orphans; turns = w.undo.turns + 1 } }
+  with_orphans orphans = record w { undo = record w.undo { items = v.items; orphans = orphans; turns = w.undo.turns + 1 } }
 
   abbrev at_site : UndoItem → Site
   at_site item = site_after (undo_actor item site.tables) (undo_action item) site
@@ -62,7 +62,7 @@ module _ (c : Start) (now later : ℕ) (site : Site) (w : Mind) (v : UndoLeft) (
   walks_on laws le (Slog (CreateOf x e)) goes bounds kept = same_orphans (at_site (Slog (CreateOf x e))) goes.1 (laws.created c now later x e site w v.items keeps le goes.0 bounds kept.0 kept.1 kept.2 kept.3)
   walks_on laws le (Slog (DropOf x e)) goes bounds kept = same_orphans (at_site (Slog (DropOf x e))) goes.1 (laws.dropped c now later x e site w v.items keeps le goes.0 bounds kept.0 kept.1 kept.2 kept.3)
   walks_on laws le (Orphan x) goes bounds kept =
-      subst (λ (items : List SlogItem). KeepsRun c later (at_site (Orphan x)) (record w { undo = record { items = items; orphans = v.orphans; turns = w.undo.turns + 1 } })) (goes.0 ∙ sym goes.1)
+      subst (λ (items : List SlogItem). KeepsRun c later (at_site (Orphan x)) (record w { undo = record w.undo { items = items; orphans = v.orphans; turns = w.undo.turns + 1 } })) (goes.0 ∙ sym goes.1)
       (laws.ended c now later x site w [] v.orphans keeps le goes.0 goes.2 bounds)
 
   released_orphans : (z : Site) (name : List ℕ) → v.orphans ≡ w.undo.orphans → KeepsRun c later z (record (undone_mind v.items w) { tape = w.tape ++ release_entry name later ∷ [] }) → KeepsRun c later z (released_to v name later w)

@@ -19,7 +19,7 @@ list_of w = record { items = w.undo.items; orphans = w.undo.orphans }
 -- the mind, once a turn has led the list on
 abbrev pub undone_to : UndoLeft → Mind → Mind
 undone_to v w = record w {
-  undo = record { items = v.items; orphans = v.orphans; turns = w.undo.turns + 1 };
+  undo = record w.undo { items = v.items; orphans = v.orphans; turns = w.undo.turns + 1 };
 }
 
 -- ---- the name of what is undone

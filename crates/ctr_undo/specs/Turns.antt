@@ -85,9 +85,10 @@ TakesSteps u (Err e) old new = new ≤ old + 2
 
 -- ---- in a state that may be a database's
 
--- the list, with how many turns there were
-abbrev pub as_undo : UndoLeft → ℕ → Undo
-as_undo u turns = record { items = u.items; orphans = u.orphans; turns = turns }
+-- the list, with how many turns there were, and the first number of the run
+abbrev pub as_undo : UndoLeft → ℕ → ℕ → Undo
+as_undo u turns first =
+    record { items = u.items; orphans = u.orphans; turns = turns; first = first }
 
 -- The state may be a database's, and the list is what is left of undo there, whatever sessions have
 -- done.
@@ -95,7 +96,8 @@ pub record MayUndo (u : UndoLeft) (s : State) : Type 0 where
   pub sound : IsDatabaseState s
   pub sessions : List (ℕ × SessionHeld)
   pub turns : ℕ
-  pub left : IsUndoLeft s.tables sessions (as_undo u turns)
+  pub first : ℕ
+  pub left : IsUndoLeft s.tables sessions (as_undo u turns first)
 
 -- What is next goes from the list, and its action leads from a state to the next.
 pub record Undoes (u v : UndoLeft) (s t : State) : Type 0 where

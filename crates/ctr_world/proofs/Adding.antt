@@ -12,7 +12,8 @@ use Rattle.ctr_exec.specs.declared.sessions.Sessions.{Sessions}
 use Rattle.ctr_world.specs.Held.{Held, Running}
 use Rattle.ctr_world.specs.Turns.{AddsEntries, EndsTurn, GoesByTurns}
 
-all_append : (P : Entry → Type 0) (xs ys : List Entry) → AllByRecursion P xs → AllByRecursion P ys → AllByRecursion P (xs ++ ys)
+-- what holds of each of two lists holds of both
+pub all_append : (P : Entry → Type 0) (xs ys : List Entry) → AllByRecursion P xs → AllByRecursion P ys → AllByRecursion P (xs ++ ys)
 all_append P [] ys first then = then
 all_append P (x ∷ xs) ys first then = (first.0, all_append P xs ys first.1 then)
 
@@ -63,7 +64,7 @@ module _ {D : Type 0} where
   pub turn_adds_none : (g : Ghosts D) (t : Turn) (a : Actor) (w v : Held D) → EndsTurn g t a w v → t ≢ turn.Went → v.running.sessions.tape.items ≡ w.running.sessions.tape.items
   turn_adds_none g turn.Went a w v says other = absurd (other refl)
   turn_adds_none g turn.Idle a w v says other = ap (λ (h : Sessions). h.tape.items) says.3.sessions
-  turn_adds_none g turn.Short a w v says other = absurd says
+  turn_adds_none g turn.Short a w v says other = ap (λ (h : Sessions). h.tape.items) says.3.sessions
   turn_adds_none g turn.Over a w v says other = ap (λ (x : Held D). x.running.sessions.tape.items) says.2
   turn_adds_none g turn.Stopped a w v says other = says.1
 

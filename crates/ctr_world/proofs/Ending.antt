@@ -27,6 +27,7 @@ use Rattle.ctr_world.specs.Turns.{IsOver}
 use Rattle.ctr_world.specs.Ended.{Ends, EndsInOrder}
 use Rattle.ctr_world.proofs.Keeping.{prefix_now}
 use Rattle.ctr_world.proofs.Stuck.{has_itself}
+use Rattle.ctr_world.proofs.Undoes.{full_left, none_left}
 use Rattle.ctr_world.proofs.Whole.{whole_from}
 
 -- at the end of a call a crash leaves the rows of a prefix with all that are answered
@@ -109,6 +110,8 @@ module _ {D B : Type 0} (o : Opening B) (first : Image) (g : Ghosts D) (w : Held
       whole = λ going. subst (λ (es : List Entry). IsWhole o.lines (led_to o s es)) (sym (tape_is going)) (whole_now going);
       no_stuck = λ going. subst (λ (es : List Entry). (led_to o s es).state.stuck ≡ []) (sym (tape_is going)) (stuck_none going);
       survives = survives_by w.stop (λ going. prefix_now o first g s r (kept.shows s tells stands going)) (kept.left s tells stands);
+      full = λ going. full_left o first g s r (kept.shows s tells stands going) (over going).0.undo (over going).1;
+      none_left = λ going. none_left o first g s r (kept.shows s tells stands going) (over going).0.undo (over going).1;
       durable = λ going. subst (λ (es : List Entry). (c : Image) → g.since r.store.disk (g.moment_of r.store.disk) c → HasFirstCommits (start_in o s).base (led_to o s es).state.asked (answers es) c) (sym (tape_is going)) (durable_now going);
     }
 

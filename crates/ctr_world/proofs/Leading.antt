@@ -1,5 +1,5 @@
 -- A World behind turns of its sessions.
-use Rattle.std.proofs.Common.{◌≡◌, ◌≢◌, ℕ, true, false, List, sym, ◌∙◌, ap, subst}
+use Rattle.std.proofs.Common.{◌≡◌, ◌≢◌, ℕ, ◌≤◌, true, false, List, sym, ◌∙◌, ap, subst}
 use Rattle.std.specs.List.{AllByRecursion}
 use Rattle.ctr_model.specs.State.{has_name}
 use Rattle.ctr_exec.specs.ctr_session_world.Ready.{StandOver}
@@ -25,6 +25,7 @@ use Rattle.ctr_world.specs.declared.opening.Opening.{Ghosts as Opening}
 use Rattle.ctr_world.specs.Held.{Running}
 use Rattle.ctr_world.specs.World.{IsReady, Shows, start_in}
 use Rattle.ctr_world.specs.Turns.{AddsEntries}
+use Rattle.ctr_world.proofs.Filling.{full_behind}
 
 -- ---- whatever the disk tells
 
@@ -53,14 +54,17 @@ module _ {D B : Type 0} (o : Opening B) (first : Image) (g : Ghosts D) (s : Stat
   led = record old { store = b; sessions = now }
 
   -- sessions were led on, and the names of what is left of undo are as they were
-  pub shows_led : (such : List Entry → Type 0) → LeadsTo shows.shows such b now → names_of_items (area_in b.now).title old.undo.items ≡ names_of_items (area_in old.store.now).title old.undo.items → Shows o first g s led
-  shows_led such leads names = record {
+  pub shows_led : (such : List Entry → Type 0) → LeadsTo shows.shows such b now → names_of_items (area_in b.now).title old.undo.items ≡ names_of_items (area_in old.store.now).title old.undo.items
+      → old.store.now.counted ≤ b.now.counted → Shows o first g s led
+  shows_led such leads names counted = record {
     opened = shows.opened;
     on = shows.on;
     mind = leads.mind;
     shows = leads.shows;
     undo = ap (λ (u : Undo). record { items = u.items; orphans = u.orphans }) leads.undo ∙ shows.undo;
     names = names ∙ shows.names;
+    numbered = ap (λ (u : Undo). u.first) leads.undo ∙ shows.numbered;
+    full = full_behind old.store b shows.mind.tape leads.mind.tape leads.entries leads.tape leads.causes counted shows.full;
   }
 
 module _ {D B : Type 0} (o : Opening B) (first : Image) (g : Ghosts D) (s : State) (old : Running D) (b : View D) (shows : Shows o first g s old) where

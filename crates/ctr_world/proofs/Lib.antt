@@ -1,9 +1,11 @@
 mod Quiet
-mod Adding
-mod Refused
+pub mod Adding
+pub mod Refused
 mod Keeping
+mod Filling
 mod Leading
 mod Whole
+mod Undoes
 mod Ending
 mod Undone
 mod Titles

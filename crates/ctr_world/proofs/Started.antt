@@ -137,6 +137,8 @@ module _ {D B : Type 0} (o : Opening B) (first : Image) (g : Ghosts D) (disk : D
         shows = fresh (start_in o s) disk b begun.sessions keeps is.fresh lines_now stuck_so;
         undo = λ i. record { items = (ap (λ (q : State). q.tables.items) now_so ∙ sym all.items) i; orphans = (ap (λ (q : State). xids_in q.tables.opens) now_so ∙ sym all.orphans) i };
         names = (λ i. names_of_items (area_in (now_so i)).title (all.items i)) ∙ sym all.names;
+        numbered = ap (λ (q : State). q.tables.next) now_so;
+        full = λ e in_ is. absurd in_;
       }
 
     -- it keeps what a World keeps

@@ -29,7 +29,8 @@ use Rattle.ctr_exec.specs.declared.sessions.Sessions.{Sessions}
 use Rattle.ctr_exec.specs.Sessions.{IsReleased, ShowsSessions}
 use Rattle.ctr_world.specs.declared.opening.Opening.{Ghosts as Opening}
 use Rattle.ctr_world.specs.Held.{Running}
-use Rattle.ctr_world.specs.World.{Shows, start_in}
+use Rattle.ctr_world.specs.World.{FullCountsAll, Shows, start_in}
+use Rattle.ctr_world.proofs.Filling.{full_released}
 use Rattle.ctr_world.specs.Turns.{AreSessionsBehind, LastGoes, NameGoes}
 
 -- ---- lists
@@ -102,6 +103,10 @@ module _ {D B : Type 0} (o : Opening B) (first : Image) (g : Ghosts D) (laws : L
   names_are = sym (laws.go does.item old.undo v (site_of b.now) does.goes)
       ∙ laws.stay _ _ a.now b.now old.undo (subst (λ (u : UndoLeft). MayUndo u a.now) shows.undo (laws.may c shows.opened a w keeps)) does.acts ∙ shows.names
 
+  -- as many pages are counted
+  full_now : FullCountsAll w.tape b.now.counted
+  full_now = subst (FullCountsAll w.tape) (sym (ap (λ (q : State). q.counted) rests.logs.now)) shows.full
+
   -- no name is released
   kept_so : IsNameKept does.item (site_of a.now) w → names_of_items (area_in b.now).title v.items ≡ names → now ≡ old.sessions → Shows o first g s new
   kept_so kept names_now same = record {
@@ -111,6 +116,8 @@ module _ {D B : Type 0} (o : Opening B) (first : Image) (g : Ghosts D) (laws : L
     shows = subst (λ (h : Sessions). ShowsSessions g c shows.opened b h (undone_to v w)) (sym same) (laws.beside c shows.opened a b old.sessions w v shows.shows its (laws.kept c shows.opened a b w v keeps its kept rests));
     undo = refl;
     names = names_now;
+    numbered = shows.numbered;
+    full = full_now;
   }
 
   -- one is
@@ -123,6 +130,8 @@ module _ {D B : Type 0} (o : Opening B) (first : Image) (g : Ghosts D) (laws : L
         (laws.released c shows.opened a b w v keeps its released (laws.nobody c _ (site_of a.now) w keeps.walks lines) rests);
     undo = refl;
     names = names_now;
+    numbered = shows.numbered;
+    full = full_released w.tape (name_undone does.item (site_of a.now)) (g.moment_of b.disk) b.now.counted full_now;
   }
 
   -- what is of no table takes no name with it

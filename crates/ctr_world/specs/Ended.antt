@@ -1,5 +1,5 @@
 -- What a World on pages leaves at its end, and why one isn't opened.
-use Rattle.std.specs.Prelude.{◌≡◌, ◌≢◌, ◌⊎◌, ℕ, ◌≤◌, List, [], Option, None, Some}
+use Rattle.std.specs.Prelude.{◌≡◌, ◌≢◌, ◌⊎◌, ℕ, ◌≤◌, ◌<◌, List, [], Option, None, Some}
 use Rattle.ctr_types.specs.Faults.{CountsFault}
 use Rattle.ctr_types.specs.declared.statement.Line.{Line}
 use Rattle.ctr_types.specs.declared.tape.Entry.{Entry}
@@ -11,24 +11,42 @@ use Rattle.ctr_log.specs.declared.opening.OpenError.TheVariants.{NoDatabase, Dam
 use Rattle.ctr_model.specs.Tape.{final, at_start, IsWhole}
 use Rattle.ctr_model.specs.Texts.{answers}
 use Rattle.ctr_area.specs.Images.{undo_size}
+use Rattle.ctr_area.specs.Sound.{IsAmong, xids_in}
+use Rattle.ctr_record_laws.specs.Owed.{HasNoItems}
 use Rattle.ctr_home.specs.declared.root.Root.{Root}
 use Rattle.ctr_redo.specs.States.{State}
 use Rattle.ctr_record_effects.specs.Standing.{StandsForDatabase}
 use Rattle.ctr_stops.specs.Stops.{HasFirstCommits}
+use Rattle.ctr_base.specs.declared.growing.TheConstants.{MOST_PAGES}
 use Rattle.ctr_base.specs.Opening.{FindsRoot}
 use Rattle.ctr_store.specs.Opening.{LogPasses, OverlaidPass, RefusesAs, worn_in}
 use Rattle.ctr_exec.specs.Runners.{IsUnbegun}
 use Rattle.std.specs.List.{AllByRecursion}
 use Rattle.ctr_world.specs.declared.opening.Opening.{Ghosts as Opening}
 use Rattle.ctr_world.specs.Held.{Held}
-use Rattle.ctr_world.specs.World.{start_in, led_to, IsLegalTape, IsTapeOf, IsUndamaged, LeavesPrefix}
+use Rattle.ctr_world.specs.World.{start_in, led_to, IsFullEntry, IsLegalTape, IsTapeOf, IsUndamaged, LeavesPrefix}
+
+-- The image stands for a database in which nothing is left to undo of one that was in a state: who is
+-- open has begun since, and so has who has an item of the secondary log.
+pub record HasNoUndoOf (s : State) (image : Image) : Type 0 where
+  pub state : State
+  pub stands : StandsForDatabase image state
+  pub opens : (x : ℕ) → IsAmong x (xids_in state.tables.opens) → s.tables.next ≤ x
+  pub items : (x : ℕ) → x < s.tables.next → HasNoItems x state.tables.items
+
+-- the image stands for a database that counts 30,000 pages
+pub record CountsAllPages (image : Image) : Type 0 where
+  pub state : State
+  pub stands : StandsForDatabase image state
+  pub all : MOST_PAGES ≤ state.counted
 
 -- Of a database that the first image stands for, in a state: the tape is legal, no damage was told,
 -- undo took no more turns than there was, and, also where a fault stopped the World, a crash at each
 -- moment leaves a prefix of the commit order with every commit answered by then, or, before the first
 -- entry, what it might have left at the start. Where nothing stopped
 -- it, the tape is whole, recovery holds no name, undo took a turn for each item and transaction of the
--- start, and a crash at the end leaves all commits.
+-- start, and a crash at the end leaves all commits, nothing of the start to undo, and, where a Write was
+-- refused as Full, a file of 30,000 pages.
 pub record Ends {D B : Type 0} (o : Opening B) (g : Ghosts D) (s : State) (es : List Entry)
     (stop : Option Stop) (undone : ℕ) (disk : D) : Type 0 where
   pub legal : IsLegalTape o s (g.moment_of disk) es
@@ -40,6 +58,9 @@ pub record Ends {D B : Type 0} (o : Opening B) (g : Ghosts D) (s : State) (es : 
   pub survives : LeavesPrefix o g s disk es
   pub durable : stop ≡ None → (c : Image) → g.since disk (g.moment_of disk) c
       → HasFirstCommits (start_in o s).base (led_to o s es).state.asked (answers es) c
+  pub none_left : stop ≡ None → (c : Image) → g.since disk (g.moment_of disk) c → HasNoUndoOf s c
+  pub full : stop ≡ None → (e : Entry) → IsAmong e es → IsFullEntry e → (c : Image)
+      → g.since disk (g.moment_of disk) c → CountsAllPages c
 
 -- Whatever the disk tells: the tape stands in the order of the script; where nothing stopped the
 -- World, it is whole.

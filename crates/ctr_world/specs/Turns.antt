@@ -10,7 +10,9 @@ use Rattle.ctr_disk.specs.declared.disk.Disk.{Ghosts}
 use Rattle.ctr_disk.specs.declared.fault.StoreFault.{StoreFault}
 use Rattle.ctr_rec.specs.declared.record.SlogItem.TheVariants.{AllocOf, FreeOf, CreateOf, DropOf}
 use Rattle.ctr_model.specs.State.{has_name}
-use Rattle.ctr_store.specs.Store.{WritesHome, turns_for_room}
+use Rattle.ctr_store.specs.Store.{turns_for_room}
+use Rattle.ctr_flush.specs.declared.flusher.FlushTurn.TheVariants.{Wrote}
+use Rattle.ctr_flush.specs.Turns.{AnswersTurn, IsIdle, IsShort}
 use Rattle.ctr_txn.specs.Held.{IsOneOfEight}
 use Rattle.ctr_undo.specs.declared.list.UndoItem.{UndoItem}
 use Rattle.ctr_undo.specs.declared.list.UndoItem.TheVariants.{Slog, Orphan}
@@ -96,12 +98,10 @@ abbrev pub AreAnswered : {D : Type 0} → Running D → Type 0
 AreAnswered w = w.store.waiting ≡ []
     → w.sessions.txns.answered ≡ length w.sessions.txns.numbers.commits
 
--- What a turn of the flusher did: where the log wasn't durable it is, and all that asked for their
--- commit are answered; else the page whose oldest change
--- waits the longest went home.
-pub record WritesBehind {D : Type 0} (old new : Running D) : Type 0 where
-  pub hardens : (old.store.waiting ≡ [] → ⊥) → (new.store.waiting ≡ []) × AreAnswered new
-  pub home : old.store.waiting ≡ [] → (old.store.dirty ≡ true) × WritesHome old.store new.store true
+-- What a turn of the flusher did: the first of its four things that there was to do; and all commits
+-- that are durable are answered.
+abbrev pub WritesBehind : {D : Type 0} → Running D → Running D → Type 0
+WritesBehind old new = AnswersTurn old.store new.store (Ok Wrote) × AreAnswered new
 
 -- What an actor's turn that isn't over does: it brings the actor nearer to its end, where others take
 -- none, and by a turn of undo no session gets further from its own; and behind it all commits that are
@@ -134,13 +134,21 @@ pub record IsOver {D : Type 0} (w : Held D) : Type 0 where
   pub sessions : (s : ℕ) → HasStatementLeft s w.running.sessions → ⊥
   pub undo : NoneIsLeft w.running.undo
 
--- nothing is due for the flusher, where the log is durable and no page is changed; there is no cleaner
--- yet, so nothing is ever due for it
+-- nothing is due for the flusher, where there is nothing to write and no new generation of the log is
+-- due; there is no cleaner yet, so nothing is ever due for it
 abbrev pub NoneDue : {D : Type 0} → Actor → Running D → Type 0
 NoneDue (actor.Session s) w = ⊥
 NoneDue actor.Undo w = ⊥
-NoneDue actor.Flusher w = (w.store.waiting ≡ []) × (w.store.dirty ≡ false)
+NoneDue actor.Flusher w = IsIdle w.store
 NoneDue actor.Cleaner w = Unit {0}
+
+-- The flusher alone falls short, where a new generation is due, for which memory was refused, and there
+-- is nothing to write.
+abbrev pub FallsShort : {D : Type 0} → Actor → Running D → Type 0
+FallsShort (actor.Session s) w = ⊥
+FallsShort actor.Undo w = ⊥
+FallsShort actor.Flusher w = IsShort w.store
+FallsShort actor.Cleaner w = ⊥
 
 -- ---- the end of a turn
 
@@ -156,7 +164,8 @@ EndsTurn g turn.Went a old new = (old.stop ≡ None) × (new.stop ≡ None)
     × ComesNearer a old.running new.running × HasTurnLeft a old.running
 EndsTurn g turn.Idle a old new = (old.stop ≡ None) × (new.stop ≡ None) × NoneDue a old.running
     × TellsNothing old.running new.running
-EndsTurn g turn.Short a old new = ⊥
+EndsTurn g turn.Short a old new = (old.stop ≡ None) × (new.stop ≡ None) × FallsShort a old.running
+    × TellsNothing old.running new.running
 EndsTurn g turn.Over a old new = (old.stop ≡ None) × NoneLeft a old.running × (new ≡ old)
 EndsTurn g turn.Stopped a old new = (new.stop ≢ None)
     × (new.running.sessions.tape.items ≡ old.running.sessions.tape.items)
@@ -195,6 +204,6 @@ pub record FinishesBy {D : Type 0} (g : Ghosts D) (old : Held D) (tape : List En
 abbrev pub FlusherEnds : {D : Type 0} → Running D → Running D → Turn → Type 0
 FlusherEnds old new turn.Went = WritesBehind old new
 FlusherEnds old new turn.Idle = NoneDue actor.Flusher old × TellsNothing old new
-FlusherEnds old new turn.Short = ⊥
+FlusherEnds old new turn.Short = FallsShort actor.Flusher old × TellsNothing old new
 FlusherEnds old new turn.Over = ⊥
 FlusherEnds old new turn.Stopped = ⊥

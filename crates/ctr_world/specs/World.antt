@@ -8,11 +8,16 @@ use Rattle.ctr_disk.specs.declared.fault.Stop.TheVariants as stop
 use Rattle.ctr_disk.specs.declared.fault.StoreFault.{StoreFault}
 use Rattle.ctr_disk.specs.declared.fault.StoreFault.TheVariants.{Fault, Damaged}
 use Rattle.ctr_disk.specs.Image.{Image}
+use Rattle.ctr_types.specs.declared.tape.Act.TheVariants as act
 use Rattle.ctr_types.specs.declared.tape.Entry.{Entry}
+use Rattle.ctr_types.specs.declared.tape.Refusal.TheVariants as refusal
+use Rattle.ctr_types.specs.declared.tape.Reply.TheVariants as reply
 use Rattle.ctr_model.specs.State.{has_name}
 use Rattle.ctr_model.specs.declared.tape.Point.{Point}
 use Rattle.ctr_model.specs.Tape.{Legal, at_start, final}
 use Rattle.ctr_area.specs.Images.{undo_size}
+use Rattle.ctr_area.specs.Sound.{IsAmong}
+use Rattle.ctr_base.specs.declared.growing.TheConstants.{MOST_PAGES}
 use Rattle.ctr_names.specs.Held.{names_of_items}
 use Rattle.ctr_redo.specs.States.{State}
 use Rattle.ctr_record_effects.specs.States.{area_in}
@@ -60,7 +65,18 @@ pub record IsTapeOf {B : Type 0} (o : Opening B) (now : ℕ) (es : List Entry) :
 
 -- ---- of a database that the first image stands for, in a state
 
+-- a Write was refused as Full
+pub record IsFullEntry (e : Entry) : Type 0 where
+  pub limit : ℕ
+  pub write : e.act ≡ act.Write
+  pub refused : e.reply ≡ reply.Refused (refusal.Full limit)
+
+-- where one was, 30,000 pages are counted
+abbrev pub FullCountsAll : List Entry → ℕ → Type 0
+FullCountsAll es counted = (e : Entry) → IsAmong e es → IsFullEntry e → MOST_PAGES ≤ counted
+
 -- The World shows what its tape has led to: its sessions, what is left of undo, and the names of that.
+-- Transactions that begin in it have numbers from the database's next on.
 pub record Shows {D B : Type 0} (o : Opening B) (first : Image) (g : Ghosts D) (s : State)
     (w : Running D) : Type 0 where
   pub opened : D
@@ -69,6 +85,8 @@ pub record Shows {D B : Type 0} (o : Opening B) (first : Image) (g : Ghosts D) (
   pub shows : ShowsSessions g (start_in o s) opened w.store w.sessions mind
   pub undo : list_of mind ≡ w.undo
   pub names : names_of_items (area_in w.store.now).title w.undo.items ≡ w.names
+  pub numbered : mind.undo.first ≡ s.tables.next
+  pub full : FullCountsAll mind.tape w.store.now.counted
 
 -- The tape is legal, from the rows of the database and the names that recovery holds, and its last
 -- entry isn't later than now.

@@ -5,7 +5,8 @@ ghost use Rattle.ctr_base.specs.Base.{WhereSound};
 ghost use Rattle.ctr_kept.specs.Turns.{Start};
 ghost use Rattle.ctr_kept.specs.Walk.{Mind};
 ghost use Rattle.ctr_redo.specs.States.{State};
-ghost use Rattle.ctr_store.specs.Store.{HasTurnRoom, LeavesPage, WritesHome, turns_for_room};
+ghost use Rattle.ctr_store.specs.Store.{HasTurnRoom, turns_for_room};
+ghost use Rattle.ctr_flush.specs.Turns.{AnswersTurn, KeepsPages};
 ghost use Rattle.ctr_undo.specs.Left.{UndoLeft, Goes, left_in};
 ghost use Rattle.ctr_exec.specs.ctr_session_world.Ready.{LeavesDisk};
 ghost use Rattle.ctr_exec.specs.ctr_session_world.World.{SessionsHeld, InWorld};
@@ -23,6 +24,7 @@ use ctr_disk::{Disk, StoreFault};
 use ctr_exec::Sessions;
 use ctr_exec::control::{flush, make_room};
 use ctr_exec::session_world::pages_that_are_read_keep_a_world;
+use ctr_flush::{FlushTurn, a_sound_state_can_be_listed, turn as flush_store};
 use ctr_kept::recovery_is_in_no_transaction;
 use ctr_store::Store;
 use ctr_tally::Steps;
@@ -194,25 +196,6 @@ impl<D: Disk, B: Origin + Opening> Engine<D, B> {
         flush(&mut self.store)
     }
 
-    // The same, and the answers of all commits that asked.
-    fn harden(&mut self) -> Result<(), StoreFault>
-        requires ready { IsReady B.Opening D.Disk (running self.old) }
-        ensures ready { OnOk result (IsReady B.Opening D.Disk (running self.new)) }
-        ensures shows { (s : State) → WhereSound B.first D.Disk (Shows B.Opening B.first D.Disk s (running self.old) → OrFails (Shows B.Opening B.first D.Disk s (running self.new)) result) }
-        ensures adds { AddsUnlessFails AreAnswers (D.moment_of self.new.store.disk) (running self.old) (running self.new) result }
-        ensures durable { OnOk result ((self.new.store.waiting ≡ []) × AreAnswered (running self.new)) }
-        ensures same { self.new ≡ record self.old { store = self.new.store; sessions = self.new.sessions } }
-        ensures disk { LeavesDisk B.first D.Disk self.old.store self.new.store result }
-    {
-        match self.settle() {
-            Ok(()) => {
-                self.answer();
-                Ok(())
-            }
-            Err(fault) => Err(fault),
-        }
-    }
-
     /// A turn of undo, where this is next: a turn for room, where the store has none, or it is undone. All commits that are durable then are
     /// answered.
     pub(crate) fn undo(&mut self, alloc: Global, next: UndoItem) -> Result<(), StoreFault>
@@ -238,10 +221,24 @@ impl<D: Disk, B: Origin + Opening> Engine<D, B> {
         }
     }
 
-    /// A turn of the flusher: where the log isn't durable it is made so, and all commits that asked are answered; else the page that is changed the
-    /// longest goes home; where none is it is idle.
-    pub(crate) fn write_behind(&mut self) -> Result<Turn, StoreFault>
+    // What the flusher does next to the store.
+    fn flush(&mut self, alloc: Global) -> Result<FlushTurn, StoreFault>
         requires ready { IsReady B.Opening D.Disk (running self.old) }
+        requires number { self.old.store.next < 2 ^ 63 - 1 }
+        ensures ready { OnOk result (IsReady B.Opening D.Disk (running self.new)) }
+        ensures shows { (s : State) → WhereSound B.first D.Disk (Shows B.Opening B.first D.Disk s (running self.old) → OrFails (Shows B.Opening B.first D.Disk s (running self.new)) result) }
+        ensures ends { AnswersTurn self.old.store self.new.store result }
+        ensures same { self.new ≡ record self.old { store = self.new.store } }
+        ensures disk { LeavesDisk B.first D.Disk self.old.store self.new.store result }
+    {
+        write_next(alloc, &mut self.store)
+    }
+
+    /// A turn of the flusher: the first of its four things that there is to do, and the answers of all commits that are durable then; where there
+    /// is none it is idle, or fell short, where memory was refused for a generation of the log that is due.
+    pub(crate) fn write_behind(&mut self, alloc: Global) -> Result<Turn, StoreFault>
+        requires ready { IsReady B.Opening D.Disk (running self.old) }
+        requires number { self.old.store.next < 2 ^ 63 - 1 }
         ensures ready { OnOk result (IsReady B.Opening D.Disk (running self.new)) }
         ensures shows { (s : State) → WhereSound B.first D.Disk (Shows B.Opening B.first D.Disk s (running self.old) → OrFails (Shows B.Opening B.first D.Disk s (running self.new)) result) }
         ensures adds { AddsUnlessFails AreAnswers (D.moment_of self.new.store.disk) (running self.old) (running self.new) result }
@@ -249,29 +246,31 @@ impl<D: Disk, B: Origin + Opening> Engine<D, B> {
         ensures same { self.new ≡ record self.old { store = self.new.store; sessions = self.new.sessions } }
         ensures disk { LeavesDisk B.first D.Disk self.old.store self.new.store result }
     {
-        if !self.store.is_hardened() {
-            return match self.harden() {
-                Ok(()) => Ok(Turn::Went),
-                Err(fault) => Err(fault),
-            };
-        }
-        match write_home(&mut self.store) {
-            Ok(true) => Ok(Turn::Went),
-            Ok(false) => Ok(Turn::Idle),
+        match self.flush(alloc) {
+            Ok(FlushTurn::Wrote) => {
+                self.answer();
+                Ok(Turn::Went)
+            }
+            Ok(FlushTurn::Idle) => Ok(Turn::Idle),
+            Ok(FlushTurn::Short) => Ok(Turn::Short),
             Err(fault) => Err(fault),
         }
     }
 }
 
-// Writes the page home that is changed the longest, if one is. In a World nothing else changes, and nothing is told.
-fn write_home<D: Disk, O: Origin>(store: &mut Store<D, O>) -> Result<bool, StoreFault>
+// A turn of the flusher over the store. In a World nothing else changes, and nothing is told.
+fn write_next<D: Disk, O: Origin>(
+    alloc: Global,
+    store: &mut Store<D, O>,
+) -> Result<FlushTurn, StoreFault>
     requires going { store.old.stopped ≡ false }
-    ensures wrote { IfOk result (λ wrote. (wrote ≡ store.old.dirty) × WritesHome store.old store.new wrote) }
-    ensures kept { (c : Start) (opened : D) (h : SessionsHeld) (w : Mind) → WhereSound O.first D.Disk (InWorld D.Disk c opened store.old h w → OnOk result (InWorld D.Disk c opened store.new h w)) }
-    ensures leaves { LeavesPage O.first D.Disk store.old store.new result }
+    requires number { store.old.next < 2 ^ 63 - 1 }
+    ensures ends { AnswersTurn store.old store.new result }
+    ensures kept { (c : Start) (opened : D) (h : SessionsHeld) (w : Mind) → WhereSound O.first D.Disk (InWorld D.Disk c opened store.old h w → OrFails (InWorld D.Disk c opened store.new h w) result) }
+    ensures leaves { KeepsPages O.first D.Disk store.old store.new result }
 {
     pages_that_are_read_keep_a_world::<D>();
-    let wrote = store.write_one_dirty();
-    store.rests();
-    wrote
+    a_sound_state_can_be_listed();
+    let _tables = store.meta();
+    flush_store(alloc, store)
 }

@@ -121,14 +121,17 @@ impl<D: Disk, B: Origin + Opening> Parts<D, B> {
     }
 
     // A turn of the flusher.
-    fn write_behind(&mut self) -> Turn
+    fn write_behind(&mut self, alloc: Global) -> Turn
         requires going { self.old.stop ≡ None }
         requires kept { Kept B.Opening B.first D.Disk (held self.old) }
         ensures kept { Kept B.Opening B.first D.Disk (held self.new) }
         ensures says { EndsTurn D.Disk result who.Flusher (held self.old) (held self.new) }
     {
+        if self.is_worn() {
+            return self.wear();
+        }
         a_turn_that_ends_leaves_a_prefix::<D>();
-        match self.engine.write_behind() {
+        match self.engine.write_behind(alloc) {
             Ok(turn) => turn,
             Err(fault) => {
                 self.stop = Some(stop_by(fault));
@@ -148,7 +151,7 @@ impl<D: Disk, B: Origin + Opening> Parts<D, B> {
         }
         match actor {
             Actor::Session(s) => self.serve(alloc, s),
-            Actor::Flusher => self.write_behind(),
+            Actor::Flusher => self.write_behind(alloc),
             Actor::Cleaner => Turn::Idle,
             Actor::Undo => self.undo(alloc),
         }

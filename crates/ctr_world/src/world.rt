@@ -1,7 +1,7 @@
 // The World: its type names what it was opened on, and keeps the tape legal and the disk's images in order.
-ghost use Rattle.std.specs.Prelude.{◌≡◌, ◌≢◌, ◌≤◌, ◌-◌, ◌^◌, ◌++◌, ℕ, List, [], length, None, Some, IsTrue, true, false, IfOk, IfErr};
-ghost use Rattle.ctr_types.specs.declared.tape.Entry.{Entry as HeldEntry};
+ghost use Rattle.std.specs.Prelude.{◌≡◌, ◌≢◌, ◌⊎◌, ◌≤◌, ◌-◌, ◌^◌, ℕ, List, length, None, Some, IsTrue, true, false, IfOk, IfErr};
 ghost use Rattle.ctr_disk.specs.declared.fault.Stop.TheVariants.{Worn};
+ghost use Rattle.ctr_disk.specs.Device.{LeavesOnly};
 ghost use Rattle.ctr_redo.specs.States.{State};
 ghost use Rattle.ctr_record_effects.specs.Standing.{StandsForDatabase};
 ghost use Rattle.ctr_base.specs.Base.{WhereSound};
@@ -11,7 +11,7 @@ ghost use Rattle.ctr_undo.specs.Left.{left_in};
 ghost use Rattle.ctr_exec.specs.Order.{IsOrdered};
 ghost use Rattle.ctr_exec.specs.Runners.{AreRunners, runner_at};
 ghost use Rattle.ctr_world.specs.Opened.{IsOpenedOn, CanRun};
-ghost use Rattle.ctr_world.specs.World.{IsTapeOf, LeavesPrefix, StopsBy};
+ghost use Rattle.ctr_world.specs.World.{IsTapeOf, StopsBy};
 ghost use Rattle.ctr_world.specs.Turns.{HasStatementLeft, EndsTurn, FinishesBy};
 ghost use Rattle.ctr_world.specs.Ended.{Ends, EndsInOrder, IsUnbegunWorld, PassesOpening, RefusesWith, RefusesWorld};
 
@@ -24,7 +24,7 @@ use ctr_disk::{Disk, Stop};
 use ctr_exec::session_world::pages_that_are_read_keep_a_world;
 use ctr_exec::{Sessions, a_script_begins_in_a_world};
 use ctr_log::OpenError;
-use ctr_stops::{a_call_that_ends_leaves_a_prefix, a_world_begins, an_opened_store_keeps_commits};
+use ctr_stops::{a_call_that_ends_leaves_a_prefix, a_world_begins};
 use ctr_store::Store;
 use ctr_types::{Actor, Entry, List, Script, Tape, Turn};
 use std::alloc::Global;
@@ -82,18 +82,17 @@ impl<D: Disk, B: Origin + Opening> World<D, B> {
         // No database, damage, or a worn number, is told where it is so; and none is where it isn't.
         ensures refused { IsTrue D.tells → IfErr result (λ e. RefusesWorld B.first e.0) }
         ensures passes { IsTrue D.tells → IfOk result (λ w. PassesOpening B.first) }
-        // A crash in an opening that was refused leaves the rows of the database, or what it might have left before.
-        ensures left { (s : State) → IsTrue D.tells → StandsForDatabase B.first s → IfErr result (λ e. LeavesPrefix B.Opening D.Disk s e.1 []) }
+        // A crash in an opening that was refused leaves the database as it was, or what it might have left before.
+        ensures left { (s : State) → IsTrue D.tells → StandsForDatabase B.first s
+            → IfErr result (λ e. LeavesOnly D.Disk disk e.1 (λ c. D.images disk c ⊎ StandsForDatabase c s)) }
         ensures stays { IfErr result (λ e. RefusesWith D.Disk disk e.0 e.1) }
     {
         let mut store = match Store::<D, B>::open(alloc, disk, frames) {
             Ok(store) => store,
             Err(refused) => return Err(refused),
         };
-        a_call_that_ends_leaves_a_prefix::<D>();
         a_script_begins_in_a_world::<D>();
         a_world_begins::<D>();
-        an_opened_store_keeps_commits::<D>();
         pages_that_are_read_keep_a_world::<D>();
         match begin(alloc, &mut store, script) {
             Ok(begun) => {
@@ -174,8 +173,6 @@ impl<D: Disk, B: Origin + Opening> World<D, B> {
             × (result.undone ≡ self.running.size - left_in self.running.undo) × (result.disk ≡ self.running.store.disk) }
         // It goes by turns, each of the first session that has a statement left, or of undo where none has; each adds its entries at its own end.
         ensures turns { FinishesBy D.Disk self result.tape.entries }
-        // Entries come behind those that are there.
-        ensures adds { (more : List HeldEntry) × (result.tape.entries ≡ self.running.sessions.tape.items ++ more) }
         ensures later { B.start ≤ D.moment_of result.disk }
         // A fault is the cause of a stop or none was met.
         ensures stops { StopsBy result.stop B.faults (D.faults_of result.disk) }

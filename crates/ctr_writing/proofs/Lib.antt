@@ -2,6 +2,7 @@ pub mod Counting
 pub mod Titles
 pub mod Roomy
 pub mod Seated
+pub mod Wanting
 pub mod Rowing
 pub mod Tabling
 pub mod Turned

@@ -68,6 +68,9 @@ use Rattle.ctr_looks.proofs.ctr_session_world.Standing.{RunFinds, told_state}
 use Rattle.ctr_looks.proofs.Granted.{MayCount, facts_twice}
 use Rattle.ctr_looks.specs.Locking.{MayWriteRow}
 use Rattle.ctr_writing.specs.declared.rows.Wrote.TheVariants.{On, Told}
+use Rattle.ctr_looks.specs.ctr_extend.Steps.{IsFull as HasNoPage}
+use Rattle.ctr_writing.specs.Wants.{IsRefusedFor}
+use Rattle.ctr_writing.proofs.Wanting.{models_cause}
 use Rattle.ctr_writing.specs.Rows.{AreAtStage, CountsAt, IsAtRow, IsBetweenTurns, TurnOfRow, wish_by}
 use Rattle.ctr_writing.proofs.Counting.{HasTitles, KeepsTables, StartsAt, idle, idle_among, idle_kept, idle_titles, looking, stages_keep, starts}
 use Rattle.ctr_writing.proofs.Seated.{me_is as its_number, may_come as write_comes, seat as seated, some as has_number}
@@ -388,26 +391,27 @@ module _ {D : Type 0} (g : Ghosts D) (c : Start) (opened : D) (a b : View D) (h 
         done_told =
             let its = changed_told g c opened a b h s statement 1 next act.Write reply.Done u done refl after counted facts_so h.locks (λ q no. refl) titles own
             h.txns next.world.run_is refl refl (is_state after refl) (shows_alike (names_in a.now) h.locks state done alike next.world.locks) (HasTable e title ∷ start.more, (tt, start.tables), refl) keeps_now in
-            (its.0, its.0.counts)
+            (its.0, its.0.counts, tt)
 
   -- ---- it is refused
 
   module _ (idle_now : CountsOnTables (w.facts s)) where
-    refused_so : (why : Refusal) → IsTold next h act.Write (reply.Refused why) → TurnOfRow next h e prepared (Told (reply.Refused why))
-    refused_so why told = (told, subst CountsOnTables (sym told.counts) idle_now)
+    refused_so : (why : Refusal) → IsRefusedFor why a.now b.now → IsTold next h act.Write (reply.Refused why) → TurnOfRow next h e prepared (Told (reply.Refused why))
+    refused_so why cause told = (told, subst CountsOnTables (sym told.counts) idle_now, cause)
 
     module _ (rested : RestsBehind g a b) (told : Refuses g) where
-      refuses : (why : Refusal) → Allowed state s act.Write statement (reply.Refused why) → TurnOfRow next h e prepared (Told (reply.Refused why))
-      refuses why allowed = refused_so why (refused_told g c opened a b h s statement 1 next act.Write why rested
+      refuses : (why : Refusal) → IsRefusedFor why a.now b.now → Allowed state s act.Write statement (reply.Refused why) → TurnOfRow next h e prepared (Told (reply.Refused why))
+      refuses why cause allowed = refused_so why cause (refused_told g c opened a b h s statement 1 next act.Write why rested
           (told c opened a b w s (record { keeps = next.world.keeps; seat = seat; e = next.e; at_end = next.at_end }) act.Write why (may_come (reply.Refused why) allowed) rested))
 
       -- as the model refuses it
       pub refused_by : (why : Refusal) → prepared ≡ Refused why → reply_from state s (Some t) act.Write statement ≡ reply_of prepared → TurnOfRow next h e prepared (Told (reply.Refused why))
-      refused_by why is replies = refuses why (inl (sym (model_replies replies ∙ ap reply_of is)))
+      refused_by why is replies = refuses why (models_cause (view state t) a.now b.now why statement (replies ∙ ap reply_of is)) (inl (sym (model_replies replies ∙ ap reply_of is)))
 
       -- or for want of pages
-      pub refused_full : (head : HeadMade) → prepared ≡ Lays head → reply_from state s (Some t) act.Write statement ≡ reply_of prepared → TurnOfRow next h e prepared (Told (reply.Refused (refusal.Full MOST_PAGES)))
-      refused_full head lays replies = refuses (refusal.Full MOST_PAGES)
+      pub refused_full : (head : HeadMade) → prepared ≡ Lays head → reply_from state s (Some t) act.Write statement ≡ reply_of prepared → HasNoPage a.now b.now
+          → TurnOfRow next h e prepared (Told (reply.Refused (refusal.Full MOST_PAGES)))
+      refused_full head lays replies none = refuses (refusal.Full MOST_PAGES) none
           (inr (subst (λ r. MayStandFor statement r (reply.Refused (refusal.Full MOST_PAGES))) (sym (model_replies replies ∙ ap reply_of lays)) (row_may_want statement key at.may.written)))
 
   -- a Write that isn't begun counts on tables

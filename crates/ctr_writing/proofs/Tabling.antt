@@ -40,7 +40,7 @@ use Rattle.ctr_kept.specs.Walk.{Mind, with_facts}
 use Rattle.ctr_kept.proofs.Walking.{keeps_reached}
 use Rattle.ctr_stops.specs.World.{KeepsWorld}
 use Rattle.ctr_txn.specs.Held.{IsOneOfEight, TxnsHeld, number_drawn, run_of}
-use Rattle.ctr_looks.specs.ctr_ddl.Tables.{IsMadeAt}
+use Rattle.ctr_looks.specs.ctr_ddl.Tables.{IsCatalogFull, IsMadeAt}
 use Rattle.ctr_looks.specs.ctr_told.Tables.{IsAtTable, FindsIt, AreOthers}
 use Rattle.ctr_looks.specs.ctr_told.Turning.{facts_idle}
 use Rattle.ctr_looks.proofs.ctr_told.Counted.{counted_found}
@@ -298,6 +298,7 @@ module _ {D : Type 0} (g : Ghosts D) (c : Start) (opened : D) (a b : View D) (h 
           counts = (mine, tables, facts_its);
         },
         (mine, tables, facts_its),
+        tt,
       )
 
   -- a lock stays in a table whose title stays, where it is counted on still
@@ -401,11 +402,11 @@ module _ {D : Type 0} (g : Ghosts D) (c : Start) (opened : D) (a b : View D) (h 
 
   -- ---- no entry is free
 
-  pub full_told : Refuses g → RestsBehind g a b → (name : List ℕ) (schema : Schema) → statement ≡ st.Create name schema → TurnOfTable next h (reply.Refused (refusal.CatalogFull CATALOG_ENTRIES))
-  full_told refuses rested name schema is =
+  pub full_told : Refuses g → IsCatalogFull a.now b.now → RestsBehind g a b → (name : List ℕ) (schema : Schema) → statement ≡ st.Create name schema → TurnOfTable next h (reply.Refused (refusal.CatalogFull CATALOG_ENTRIES))
+  full_told refuses none rested name schema is =
       let why = refusal.CatalogFull CATALOG_ENTRIES in
       let allowed : Allowed state s act.Write statement (reply.Refused why) = inr (subst (λ r. MayStandFor statement r (reply.Refused why)) (sym is_done) (subst (λ q. MayStandFor q reply.Done (reply.Refused why)) (sym is) refl)) in
       let told = refused_told g c opened a b h s statement 1 next act.Write why rested
       (refuses c opened a b w s (record { keeps = next.world.keeps; seat = its_seat; e = next.e; at_end = next.at_end }) act.Write why
       (may_come g c opened a b h s statement next one finds t at.may.is_t second (reply.Refused why) allowed) rested) in
-      (told, subst CountsOnTables (sym told.counts) at.counts)
+      (told, subst CountsOnTables (sym told.counts) at.counts, none)

@@ -1,3 +1,4 @@
+pub mod Wants
 pub mod Rows
 pub mod Tables
 pub use Rattle.ctr_looks.specs as ctr_looks

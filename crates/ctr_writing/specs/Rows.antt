@@ -24,6 +24,7 @@ use Rattle.ctr_looks.specs.ctr_wishes.declared.making.Prepared.TheVariants.{Refu
 use Rattle.ctr_looks.specs.ctr_session_world.World.{SessionsHeld}
 use Rattle.ctr_looks.specs.ctr_session_world.Told.{CountsOnTables, IsNextOf, IsTold, IsKeptOn}
 use Rattle.ctr_looks.specs.Locking.{MayWriteRow}
+use Rattle.ctr_writing.specs.Wants.{HasRoomCause}
 use Rattle.ctr_writing.specs.declared.rows.Wrote.{Wrote}
 use Rattle.ctr_writing.specs.declared.rows.Wrote.TheVariants.{On, Told}
 
@@ -75,14 +76,15 @@ WentBy a b (On stage) = WentOn a b
 WentBy a b (Told r) = Unit {0}
 
 -- What a turn of the Write leaves, by what it answers: it goes on, and nothing is told; or its reply
--- is told, and from then on its session counts on tables.
+-- is told, and from then on its session counts on tables. It wants room where there is none.
 abbrev pub TurnOfRow : {D : Type 0} {g : Ghosts D} {c : Start} {opened : D} {a b : View D}
     {h : SessionsHeld} {s : ℕ} {statement : Statement}
     → IsNextOf g c opened a b h s statement 1 → SessionsHeld → ℕ → Prepared → Wrote → Type 0
 TurnOfRow {c = c} {s = s} {statement = statement} next now e p (On stage) =
     (kept : IsKeptOn next now) × IsAtRow c s statement kept.mind e p stage
-TurnOfRow {s = s} next now e p (Told r) =
+TurnOfRow {a = a} {b = b} {s = s} next now e p (Told r) =
     (told : IsTold next now act.Write r) × CountsOnTables (told.mind.facts s)
+    × HasRoomCause r a.now b.now
 
 -- ---- whatever the disk tells
 

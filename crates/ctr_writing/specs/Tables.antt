@@ -13,6 +13,7 @@ use Rattle.ctr_looks.specs.ctr_session_world.World.{SessionsHeld}
 use Rattle.ctr_looks.specs.ctr_session_world.Told.{CountsOnTables, IsNextOf, IsTold}
 use Rattle.ctr_looks.specs.declared.tables.TableWrite.{TableWrite}
 use Rattle.ctr_looks.specs.Locking.{MayWriteTable}
+use Rattle.ctr_writing.specs.Wants.{HasRoomCause}
 
 -- the columns of a table that a statement makes are such as a table may have
 abbrev pub HasFittingColumns : Statement → Type 0
@@ -26,9 +27,11 @@ pub record IsAtTableWrite (c : Start) (s : ℕ) (statement : Statement) (w : Min
   pub may : MayWriteTable c s statement w write
   pub counts : CountsOnTables (w.facts s)
 
--- The reply is told, and from then on the session counts on tables.
+-- The reply is told, and from then on the session counts on tables. It wants an entry where none is
+-- free.
 abbrev pub TurnOfTable : {D : Type 0} {g : Ghosts D} {c : Start} {opened : D} {a b : View D}
     {h : SessionsHeld} {s : ℕ} {statement : Statement}
     → IsNextOf g c opened a b h s statement 1 → SessionsHeld → Reply → Type 0
-TurnOfTable {s = s} next now r =
+TurnOfTable {a = a} {b = b} {s = s} next now r =
     (told : IsTold next now act.Write r) × CountsOnTables (told.mind.facts s)
+    × HasRoomCause r a.now b.now

@@ -17,7 +17,7 @@ ghost use Rattle.ctr_stops.specs.World.{KeepsWorld};
 ghost use Rattle.ctr_actions.specs.Actions.{Drops};
 ghost use Rattle.ctr_page_turns.specs.Acts.{ActsBy};
 ghost use Rattle.ctr_page_turns.specs.Turns.{LogsAtRest, RestsBehind};
-ghost use Rattle.ctr_looks.specs.ctr_ddl.Tables.{IsMadeAt, MayDrop, MayMake};
+ghost use Rattle.ctr_looks.specs.ctr_ddl.Tables.{IsCatalogFull, IsMadeAt, MayDrop, MayMake};
 ghost use Rattle.ctr_txn.specs.Held.{TxnsHeld, run_of, number_drawn, IsOneOfEight};
 ghost use Rattle.ctr_looks.specs.ctr_write.declared.stages.Stage.{Stage as At};
 ghost use Rattle.ctr_looks.specs.ctr_write.declared.stages.Stage.TheVariants.{Looking};
@@ -115,7 +115,7 @@ pub(crate) fn a_turn_of_a_table_is_told<D: Disk>()
         → IsAtTableWrite c s (st.Create name schema) next.mind Make → IsMadeAt (number_drawn s h.txns) f name schema.columns a.now b.now → LogsAtRest D.Disk a b
         → (now : TxnsHeld) → run_of now ≡ run_of h.txns → TurnOfTable next (record h { txns = now }) reply.Done }
     ensures full { (c : Start) (opened : D) (a b : View D) (h : SessionsHeld) (s : ℕ) (name : List ℕ) (schema : Makes) (next : IsNextOf D.Disk c opened a b h s (st.Create name schema) 1) → IsOneOfEight s
-        → IsAtTableWrite c s (st.Create name schema) next.mind Make → RestsBehind D.Disk a b → TurnOfTable next h (reply.Refused (refusal.CatalogFull CATALOG_ENTRIES)) }
+        → IsAtTableWrite c s (st.Create name schema) next.mind Make → IsCatalogFull a.now b.now → RestsBehind D.Disk a b → TurnOfTable next h (reply.Refused (refusal.CatalogFull CATALOG_ENTRIES)) }
     ensures dropped { (c : Start) (opened : D) (a b : View D) (h : SessionsHeld) (s : ℕ) (statement : Told) (next : IsNextOf D.Disk c opened a b h s statement 1) (e : ℕ) → IsOneOfEight s
         → IsAtTableWrite c s statement next.mind (Drop e) → e < 32 → ActsBy (number_drawn s h.txns) (Drops e) a.now b.now → LogsAtRest D.Disk a b
         → (now : TxnsHeld) → run_of now ≡ run_of h.txns → TurnOfTable next (record h { txns = now }) reply.Done }

@@ -1,7 +1,7 @@
-// The root: each check, its bytes, its bounds, and both forms of it.
+// The root: each check, its bytes and its bounds.
 use crate::homes::laid::{HOME_7, HOME_9, ROOT_7, ROOT_9, Told, altered, disk_of, lay_roots, told};
 use ctr_disk::Disk;
-use ctr_home::{Root, read_root, read_thin_root, write_root};
+use ctr_home::{Root, read_root, write_root};
 use ctr_mem_disk::SilentDisk;
 use ctr_types::File;
 use std::alloc::{AllocError, Global};
@@ -80,28 +80,26 @@ const THIN: Root = Root {
 // What is done with a root, and what it answers.
 enum Act {
     Write(Root),
-    Thin(Result<Option<Root>, Told>),
-    Paged(Result<Option<Root>, Told>),
+    Read(Result<Option<Root>, Told>),
     Bytes(u64, [u8; 64]),
 }
 
 // One after another, on a file in whose homes other bytes stand. A root is written over the one with the
-// smaller stamp, with zeros behind its body, and each form is read by its own call.
-const ACTS: [Act; 14] = [
-    Act::Thin(Ok(None)),
+// smaller stamp, with zeros behind its body. One of format 0 is refused by its format.
+const ACTS: [Act; 13] = [
+    Act::Read(Ok(None)),
     Act::Write(THIN),
-    Act::Thin(Ok(Some(THIN))),
-    Act::Paged(Err((File::Root, 21, 1, 0))),
+    Act::Read(Err((File::Root, 21, 1, 0))),
     Act::Write(ROOT_7),
     Act::Bytes(64, HOME_7),
-    Act::Thin(Err((File::Root, 85, 0, 1))),
+    Act::Read(Ok(Some(ROOT_7))),
     Act::Write(ROOT_9),
     Act::Bytes(0, HOME_9),
-    Act::Paged(Ok(Some(ROOT_9))),
+    Act::Read(Ok(Some(ROOT_9))),
     Act::Write(LEAST),
-    Act::Paged(Ok(Some(LEAST))),
+    Act::Read(Ok(Some(LEAST))),
     Act::Write(MOST),
-    Act::Paged(Ok(Some(MOST))),
+    Act::Read(Ok(Some(MOST))),
 ];
 
 fn has_bytes(disk: &mut SilentDisk, at: u64, home: &[u8; 64]) -> bool {
@@ -112,8 +110,7 @@ fn has_bytes(disk: &mut SilentDisk, at: u64, home: &[u8; 64]) -> bool {
 fn goes(disk: &mut SilentDisk, act: &Act) -> bool {
     match act {
         Act::Write(root) => write_root(disk, root).is_ok(),
-        Act::Thin(answer) => read_thin_root(disk).map_err(told) == *answer,
-        Act::Paged(answer) => read_root(disk).map_err(told) == *answer,
+        Act::Read(answer) => read_root(disk).map_err(told) == *answer,
         Act::Bytes(at, home) => has_bytes(disk, *at, home),
     }
 }

@@ -5,7 +5,8 @@ use Rattle.ctr_store.specs.Opening.{IsUndamaged}
 use Rattle.ctr_reading.specs.Reading.{as_told}
 use Rattle.ctr_survey.specs.Surveying.{survey_of}
 use Rattle.ctr_run.specs.ctr_world.Ended.{RefusesWorld}
-use Rattle.ctr_database.proofs.Counted.{told_opening, told_reading, reading_undamaged, front_read, sound_of, opening_leaves, reading_leaves}
+use Rattle.ctr_run.proofs.ctr_world.Refused.{front_of, opening_leaves, reading_leaves, told_as}
+use Rattle.ctr_database.proofs.Counted.{told_reading, reading_undamaged, sound_of}
 use Rattle.ctr_database.proofs.counting.survey_opened.Goals as goal
 
 -- ---- the store wasn't opened
@@ -16,7 +17,7 @@ returns-in-Err-clause-any_moment g c = λ s told stands.
     opening_leaves g.D.Disk first c.args.disk s stands c.in-Err.error.1 (c.in-Err.ensures.any_moment told (sound_of first s stands))
 
 pub returns-in-Err-clause-refused : goal.returns-in-Err-clause-refused
-returns-in-Err-clause-refused g c = λ told. told_opening g.O.Origin.first c.in-Err.error.0 (c.in-Err.ensures.answer told)
+returns-in-Err-clause-refused g c = λ told. told_as g.O.Origin.first c.in-Err.error.0 (c.in-Err.ensures.answer told)
 
 -- ---- its pages were counted
 
@@ -51,7 +52,7 @@ returns-in-Err-survey_store-clause-any_moment g c = λ s told stands.
     let v = c.in-Ok.store in
     let b = c.survey.new.store in
     subst (λ x. LeavesOnly d c.args.disk x (λ i. d.images c.args.disk i ⊎ StandsForDatabase i s)) (sym c.into_disk-in-Err-survey_store.ensures)
-    (reading_leaves d first c.args.disk s stands v b (opened.answer told) (opened.any_moment told sound) (front_read first d v b (as_told (Err c.in-Err-survey_store.refusal)) told sound c.in-Err-survey_store.ensures.leaves))
+    (reading_leaves d first c.args.disk s stands v b (opened.answer told) (opened.any_moment told sound) (front_of first d v b (as_told (Err c.in-Err-survey_store.refusal)) told sound c.in-Err-survey_store.ensures.leaves))
 
 pub returns-in-Err-survey_store-clause-undamaged : goal.returns-in-Err-survey_store-clause-undamaged
 returns-in-Err-survey_store-clause-undamaged g c = λ s told stands.

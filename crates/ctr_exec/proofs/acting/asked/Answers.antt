@@ -36,6 +36,7 @@ returns-in-None-clause-told g c = λ run opened tells sound next idle.
     let none = asked_isnt c.in-Ok.reply in (
       told,
       c.a_session_is_idle_behind_a_reply.ensures.idle run opened a b h c.args.s st.Commit 0 next now act.Ask c.in-Ok.reply told (inl idle) (λ k. none k (sym c.number_told.ensures ∙ c.in-None.is)),
+      tt,
     )
 
 pub returns-in-Err-clause-told : goal.returns-in-Err-clause-told

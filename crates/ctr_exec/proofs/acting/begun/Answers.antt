@@ -21,6 +21,7 @@ returns-clause-told g c = λ run opened locks tells sound next idle.
       told,
       c.a_session_is_idle_behind_a_reply.ensures.idle run opened a a h c.args.s st.Begin 0 next now act.Begin c.begin.result told (inl idle)
           (not_asked g.D.Disk run opened a a h c.args.s c.requires.may.one st.Begin 0 next now act.Begin c.begin.result told (λ is. absurd (cc is))),
+      tt,
     )
 
 pub returns-clause-disk : goal.returns-clause-disk

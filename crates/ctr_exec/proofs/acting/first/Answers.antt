@@ -1,10 +1,12 @@
-use Rattle.std.proofs.Common.{◌≡◌, ⊎_elim, sym, subst}
+use Rattle.std.proofs.Common.{◌≡◌, ⊎_elim, sym, ◌∙◌, subst}
+use Rattle.std.specs.Prelude.{IfOk}
 use Rattle.ctr_types.specs.declared.statement.Statement.{Statement}
 use Rattle.ctr_types.specs.declared.statement.Statement.TheVariants as st
 use Rattle.ctr_kept.specs.Turns.{state_now}
 use Rattle.ctr_writing.specs.ctr_session_world.Told.{IsIdleIn, IsNextOf}
 use Rattle.ctr_writing.specs.ctr_session_world.World.{SessionsHeld}
-use Rattle.ctr_exec.specs.Acting.{IsIdleFor, TurnOfAct}
+use Rattle.ctr_txn.specs.Held.{IsWriting, number_drawn}
+use Rattle.ctr_exec.specs.Acting.{IsIdleFor, RollsAct, TurnOfAct}
 use Rattle.ctr_exec.proofs.acting.first.Goals as goal
 
 -- of a statement that is no ROLLBACK
@@ -53,4 +55,41 @@ returns-in-Create-clause-told g c = λ run opened tells sound next stuck idle.
     (⊎_elim
     (λ l. idle_as c.args.statement.now (st.Create l.0 l.1) l.2 (λ i. i) idle)
     (λ l. idle_as c.args.statement.now (st.DropTable l.0) l.1 (λ i. i) idle)
+    c.in-Create.is)
+
+-- ---- a ROLLBACK
+
+pub returns-in-Rollback-clause-rolls : goal.returns-in-Rollback-clause-rolls
+returns-in-Rollback-clause-rolls g c = λ run opened tells sound.
+    let a = c.args.store.now in
+    let b = c.rolled_back.new.store in
+    let old = c.args.txns.now in
+    let h : SessionsHeld = record { txns = old; locks = c.args.locks.now } in
+    subst (λ (z : Statement). IsNextOf g.D.Disk run opened a b h c.args.s z 0 → z ≡ st.Rollback → IsWriting c.args.s old → IfOk c.rolled_back.result (RollsAct (number_drawn c.args.s old) a b)) (sym c.in-Rollback.is)
+    (λ next is writing. c.rolled_back.ensures.rolls run opened tells sound next writing)
+
+pub returns-in-Begin-clause-rolls : goal.returns-in-Begin-clause-rolls
+returns-in-Begin-clause-rolls g c = λ run opened tells sound next is writing. absurd (let other = sym c.in-Begin.is ∙ is in cc other)
+
+pub returns-in-Commit-clause-rolls : goal.returns-in-Commit-clause-rolls
+returns-in-Commit-clause-rolls g c = λ run opened tells sound next is writing. absurd (let other = sym c.in-Commit.is ∙ is in cc other)
+
+pub returns-in-Select-clause-rolls : goal.returns-in-Select-clause-rolls
+returns-in-Select-clause-rolls g c = λ run opened tells sound next is writing. absurd (let other = sym c.in-Select.is ∙ is in cc other)
+
+pub returns-in-Insert-clause-rolls : goal.returns-in-Insert-clause-rolls
+returns-in-Insert-clause-rolls g c = λ run opened tells sound next is writing. absurd
+    (⊎_elim
+    (λ l. let other = sym l.2 ∙ is in cc other)
+    (λ r. ⊎_elim
+    (λ l. let other = sym l.3 ∙ is in cc other)
+    (λ l. let other = sym l.2 ∙ is in cc other)
+    r)
+    c.in-Insert.is)
+
+pub returns-in-Create-clause-rolls : goal.returns-in-Create-clause-rolls
+returns-in-Create-clause-rolls g c = λ run opened tells sound next is writing. absurd
+    (⊎_elim
+    (λ l. let other = sym l.2 ∙ is in cc other)
+    (λ l. let other = sym l.1 ∙ is in cc other)
     c.in-Create.is)

@@ -1,9 +1,13 @@
-use Rattle.std.proofs.Common.{inl, Ok, refl, ap, subst}
+use Rattle.std.proofs.Common.{inl, Ok, Option, refl, ap, subst}
 use Rattle.ctr_types.specs.declared.statement.Statement.TheVariants as st
 use Rattle.ctr_types.specs.declared.tape.Act.TheVariants as act
 use Rattle.ctr_writing.specs.ctr_session_world.World.{SessionsHeld}
 use Rattle.ctr_writing.proofs.ctr_session_world.Disks.{disk_done, disk_failed}
 use Rattle.ctr_writing.specs.ctr_session_world.Told.{TellsOrGoesOn}
+use Rattle.ctr_types.specs.declared.tape.Reply.{Reply}
+use Rattle.ctr_control.specs.Rolling.{rolled_by}
+use Rattle.ctr_control.specs.ctr_rollback.Rolling.{RollsTo}
+use Rattle.ctr_txn.specs.Held.{number_drawn}
 use Rattle.ctr_exec.proofs.acting.rolled_back.Goals as goal
 
 pub returns-in-None-clause-over : goal.returns-in-None-clause-over
@@ -27,7 +31,7 @@ returns-in-Some-clause-told g c = λ run opened tells sound next.
     let h : SessionsHeld = record { txns = c.args.txns.now; locks = c.args.locks.now } in
     let now : SessionsHeld = record { txns = c.roll_back.new.txns; locks = c.roll_back.new.locks } in
     let told = subst (TellsOrGoesOn next now act.Rollback) c.in-Some.is (c.in-Ok.ensures.told run opened tells sound next) in
-    (told, c.a_session_is_idle_behind_a_reply.ensures.rolled run opened a b h c.args.s st.Rollback 0 next now c.in-Some.reply told)
+    (told, c.a_session_is_idle_behind_a_reply.ensures.rolled run opened a b h c.args.s st.Rollback 0 next now c.in-Some.reply told, tt)
 
 pub returns-in-Err-clause-told : goal.returns-in-Err-clause-told
 returns-in-Err-clause-told g c = λ run opened tells sound next. c.in-Err.ensures.refused run opened tells sound next
@@ -40,3 +44,24 @@ returns-in-Some-clause-disk g c = disk_done g.O.Origin.first g.D.Disk _ _ c.in-O
 
 pub returns-in-Err-clause-disk : goal.returns-in-Err-clause-disk
 returns-in-Err-clause-disk g c = disk_failed g.O.Origin.first g.D.Disk _ _ c.in-Err.fault c.in-Err.ensures.disk
+
+pub returns-in-None-clause-rolls : goal.returns-in-None-clause-rolls
+returns-in-None-clause-rolls g c = λ run opened tells sound next writing.
+    let a = c.args.store.now in
+    let b = c.roll_back.new.store in
+    let h : SessionsHeld = record { txns = c.args.txns.now; locks = c.args.locks.now } in
+    let may = c.a_writer_may_roll_back.ensures run opened a b h c.args.s c.requires.may.one next writing in (
+      subst (λ (o : Option Reply). RollsTo (number_drawn c.args.s c.args.txns.now) a.now b.now (rolled_by o)) c.in-None.is (c.in-Ok.ensures.rolls writing tells sound may),
+      c.in-Ok.ensures.steps.2 writing,
+    )
+
+pub returns-in-Some-clause-rolls : goal.returns-in-Some-clause-rolls
+returns-in-Some-clause-rolls g c = λ run opened tells sound next writing.
+    let a = c.args.store.now in
+    let b = c.roll_back.new.store in
+    let h : SessionsHeld = record { txns = c.args.txns.now; locks = c.args.locks.now } in
+    let may = c.a_writer_may_roll_back.ensures run opened a b h c.args.s c.requires.may.one next writing in (
+      refl,
+      subst (λ (o : Option Reply). RollsTo (number_drawn c.args.s c.args.txns.now) a.now b.now (rolled_by o)) c.in-Some.is (c.in-Ok.ensures.rolls writing tells sound may),
+      c.in-Ok.ensures.steps.2 writing,
+    )

@@ -23,6 +23,7 @@ returns-in-Ok-clause-told g c = λ run opened tells sound next stuck idle.
       told,
       c.a_session_is_idle_behind_a_reply.ensures.idle run opened a b h c.args.s statement 0 next now act.Read c.in-Ok.reply told (inl idle)
           (not_asked g.D.Disk run opened a b h c.args.s c.requires.may.one statement 0 next now act.Read c.in-Ok.reply told (λ is. absurd (cc is))),
+      tt,
     )
 
 pub returns-in-Err-clause-told : goal.returns-in-Err-clause-told

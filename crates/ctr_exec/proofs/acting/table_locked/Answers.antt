@@ -27,6 +27,7 @@ returns-in-Refused-clause-told g c = λ run opened tells sound next stuck idle.
       told.0,
       c.a_session_is_idle_behind_a_reply.ensures.idle run opened a b h c.args.s statement 0 next now act.Lock (reply.Refused why) told.0 (inl idle)
           (not_asked g.D.Disk run opened a b h c.args.s c.requires.may.one statement 0 next now act.Lock (reply.Refused why) told.0 (λ is. absurd (cc is))),
+      tt,
     )
 
 pub returns-in-Granted-clause-told : goal.returns-in-Granted-clause-told

@@ -27,6 +27,7 @@ returns-in-Ok-clause-told g c = λ run opened locks tells sound next at.
       turn.0,
       c.a_session_is_idle_behind_a_reply.ensures.idle run opened a b h c.args.s statement 1 next now act.Write r turn.0 (inr turn.1)
           (not_asked g.D.Disk run opened a b h c.args.s c.requires.may.one statement 1 next now act.Write r turn.0 (λ is. absurd (cc is))),
+      turn.2,
     )
 
 pub returns-in-Err-clause-told : goal.returns-in-Err-clause-told

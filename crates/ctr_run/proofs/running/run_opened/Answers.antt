@@ -1,15 +1,16 @@
-use Rattle.std.proofs.Common.{◌≡◌, ◌≤◌, [], sym, ◌∙◌, ap, subst}
+use Rattle.std.proofs.Common.{◌≡◌, ◌⊎◌, ◌≤◌, sym, ◌∙◌, ap, subst}
 use Rattle.std.specs.List.{AllByRecursion}
+use Rattle.ctr_disk.specs.Device.{LeavesOnly}
 use Rattle.ctr_log.specs.declared.opening.OpenError.TheVariants as open_error
 use Rattle.ctr_model.specs.Tape.{statements_on, IsSerial}
 use Rattle.ctr_record_effects.specs.Standing.{StandsForDatabase}
 use Rattle.ctr_serial.proofs.Lists.{serial_front}
+use Rattle.ctr_world.proofs.Adding.{turns_add}
 use Rattle.ctr_world.specs.Ended.{IsUnbegunWorld, RefusesWith, RefusesWorld}
 use Rattle.ctr_world.specs.Opened.{IsRunLine}
-use Rattle.ctr_world.specs.World.{LeavesPrefix}
 use Rattle.ctr_run.specs.declared.ran.RunEnd.TheVariants.{Finished}
-use Rattle.ctr_run.specs.Running.{EndsFor, TellsNoDamage, opened_on}
-use Rattle.ctr_run.proofs.Ends.{begins_serial, ends_for, left_moved, none_in_order, none_over, not_finished, not_unopened, runs_in_order, runs_over, serial_end, tells_none, untouched_for, untouched_in_order, untouched_over}
+use Rattle.ctr_run.specs.Running.{EndsFor, TellsNoDamage}
+use Rattle.ctr_run.proofs.Ends.{begins_serial, ends_for, none_in_order, none_leaves, none_over, not_finished, not_unopened, runs_in_order, runs_over, serial_end, tells_none, untouched_for, untouched_in_order, untouched_leaves, untouched_over}
 use Rattle.ctr_run.proofs.running.run_opened.Goals as goal
 
 -- ---- memory was refused
@@ -30,7 +31,14 @@ returns-in_default-clause-order g c =
     untouched_in_order g.D.Disk g.met.D.Disk.earlier g.met.D.Disk.only_now c.args.disk c.args.script.lines r.left _ (not_finished r.end open_error.OutOfMemory t.end) t.tape t.undone t.disk
 
 pub returns-in_default-clause-none : goal.returns-in_default-clause-none
-returns-in_default-clause-none g c = λ e is. (c.none.ensures.tape, c.none.ensures.undone)
+returns-in_default-clause-none g c = λ e is.
+    let t = c.none.ensures in
+    let r = c.none.result in
+    record {
+      tape = t.tape;
+      undone = t.undone;
+      left = λ s told stands. untouched_leaves g.D.Disk g.met.D.Disk.earlier g.met.D.Disk.only_now c.args.disk c.args.script.lines r.left _ (not_finished r.end open_error.OutOfMemory t.end) t.tape t.undone t.disk s;
+    }
 
 pub returns-in_default-clause-ends : goal.returns-in_default-clause-ends
 returns-in_default-clause-ends g c =
@@ -55,7 +63,7 @@ returns-in-Err-clause-ran g c = λ s told stands.
     let named = c.requires.named in
     let here = subst (λ i. StandsForDatabase i s) (sym named.image) stands in
     none_over d old lines r.left (r.end ≡ Finished) (not_finished r.end c.in-Err.error t.end) t.tape t.undone s (subst (λ n. d.moment_of old ≤ d.moment_of n) (sym t.disk) e.stays.later)
-    (subst (λ n. LeavesPrefix (opened_on d old lines) d s n []) (sym t.disk) (left_moved g.B.Opening g.B.Origin.first d old lines named c.requires.before s c.in-Err.disk [] (e.left s told here)))
+    (none_leaves d g.met.D.Disk.earlier old r.left.disk lines s (subst (λ n. LeavesOnly d old n (λ i. d.images old i ⊎ StandsForDatabase i s)) (sym t.disk) (e.left s told here)))
 
 pub returns-in-Err-clause-undamaged : goal.returns-in-Err-clause-undamaged
 returns-in-Err-clause-undamaged g c = λ s told stands.
@@ -71,7 +79,16 @@ returns-in-Err-clause-order g c =
     none_in_order d old c.args.script.lines r.left (r.end ≡ Finished) (not_finished r.end c.in-Err.error t.end) t.tape t.undone (subst (λ n. d.moment_of old ≤ d.moment_of n) (sym t.disk) e.stays.later) (subst (λ n. d.faults_of old ≤ d.faults_of n) (sym t.disk) e.stays.faults_later)
 
 pub returns-in-Err-clause-none : goal.returns-in-Err-clause-none
-returns-in-Err-clause-none g c = λ e is. (c.none-in-Err.ensures.tape, c.none-in-Err.ensures.undone)
+returns-in-Err-clause-none g c = λ e is.
+    let d = g.D.Disk in
+    let t = c.none-in-Err.ensures in
+    let old = c.args.disk in
+    record {
+      tape = t.tape;
+      undone = t.undone;
+      left = λ s told stands. subst (λ n. LeavesOnly d old n (λ i. d.images old i ⊎ StandsForDatabase i s)) (sym t.disk)
+          (c.in-Err.ensures.left s told (subst (λ i. StandsForDatabase i s) (sym c.requires.named.image) stands));
+    }
 
 pub returns-in-Err-clause-ends : goal.returns-in-Err-clause-ends
 returns-in-Err-clause-ends g c =
@@ -122,7 +139,9 @@ returns-clause-serial g c = λ is.
     let o = g.B.Opening in
     let lines_are = c.requires.named.lines_are in
     let w = c.run_turns.new.world in
+    let by = f.ensures.turns in
+    let adds = turns_add g.D.Disk by.between w by.last by.turns in
     let begun = c.in-Ok-open.ensures.begins in
     let ran = c.run_turns.ensures is (begins_serial o.start o.lines c.in-Ok-open.world (begun.lines_are ∙ sym lines_are) (subst (λ ls. IsUnbegunWorld ls c.in-Ok-open.world) (sym lines_are) begun)) in
     subst (λ ls. IsSerial ls f.result.tape.entries) lines_are
-    (serial_end o.lines (subst (AllByRecursion IsRunLine) (sym lines_are) c.requires.runs.each) o.start w c.stands_in_order.ensures.lines ran f.result.tape.entries f.ensures.adds.0 f.ensures.adds.1 (λ stopped. (f.ensures.stopped stopped).0) f.ensures.order.tape.order)
+    (serial_end o.lines (subst (AllByRecursion IsRunLine) (sym lines_are) c.requires.runs.each) o.start w c.stands_in_order.ensures.lines ran f.result.tape.entries adds.0 (by.tape_is ∙ adds.1) (λ stopped. (f.ensures.stopped stopped).0) f.ensures.order.tape.order)

@@ -14,6 +14,7 @@ returns-clause-may g c = λ run opened a w world. record {
   sound = world.pages.sound;
   sessions = w.run.sessions;
   turns = w.undo.turns;
+  first = w.undo.first;
   left = world.walks.scene.undo.0;
 }
 

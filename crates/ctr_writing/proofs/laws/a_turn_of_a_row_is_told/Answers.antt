@@ -56,6 +56,7 @@ returns-clause-full g c = λ run opened a b h s statement next e key head stage 
     let here = idle_here D run opened a b h s statement next one finds e (Lays head) stage at head refl wish (some_is key at.may.key (sym keyed ∙ at.may.written)) refl written.Full (inr refl) ends in
     let replies = c.what_is_prepared_stays_the_models.ensures.reply (state_now run next.mind) s at.may.t at.may.title.columns statement (Lays head) at.may.models in
     refused_full D run opened a b h s statement next one finds e (Lays head) stage at here.1 rested c.a_refusal_is_told.ensures.inside head refl replies
+    (c.a_write_without_a_record.ensures.full wish stage a.now b.now ends)
 
 pub returns-clause-refused : goal.returns-clause-refused
 returns-clause-refused g c = λ run opened a b h s statement next e why stage one at rested.

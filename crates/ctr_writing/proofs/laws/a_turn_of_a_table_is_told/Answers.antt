@@ -22,11 +22,11 @@ returns-clause-made g c = λ run opened a b h s name schema next f one at made r
     made_told D run opened a b h s statement next one finds Make at alone _ f name schema made keeps now run_now
 
 pub returns-clause-full : goal.returns-clause-full
-returns-clause-full g c = λ run opened a b h s name schema next one at rested.
+returns-clause-full g c = λ run opened a b h s name schema next one at none rested.
     let D = g.D.Disk in
     let finds = c.the_run_is_of_the_sessions.ensures.found in
     let alone = c.who_rolls_back_is_at_its_rollback.ensures.next in
-    full_told D run opened a b h s (st.Create name schema) next one finds Make at alone c.a_refusal_is_told.ensures.inside rested name schema refl
+    full_told D run opened a b h s (st.Create name schema) next one finds Make at alone c.a_refusal_is_told.ensures.inside none rested name schema refl
 
 pub returns-clause-dropped : goal.returns-clause-dropped
 returns-clause-dropped g c = λ run opened a b h s statement next e one at inside acts rested now run_now.

@@ -176,7 +176,7 @@ returns-in-Full-clause-told g c = λ run opened locks statement tells sound next
     let next_is = subst (λ r. MovesWrite r a b) c.in-Full.is c.in-Ok.ensures.numbers in
     let rests = c.rests.ensures tells sound (c.a_turn_goes_or_counts_a_fault.ensures.going g.O.Origin.first a b w c.in-Ok.ensures.turns) in
     c.a_turn_of_a_row_is_told.ensures.full run opened a b h s statement next e key head stage c.requires.may.one keyed at ends
-    (c.a_turn_is_told_by_its_number.ensures.read g.O.Origin.first a b w tells sound c.in-Ok.ensures.turns next_is (c.a_write_without_a_record.ensures.full wish stage a.now b.now ends) rests)
+    (c.a_turn_is_told_by_its_number.ensures.read g.O.Origin.first a b w tells sound c.in-Ok.ensures.turns next_is (c.a_write_without_a_record.ensures.full wish stage a.now b.now ends).same rests)
 
 -- ---- errors
 

@@ -60,7 +60,7 @@ returns-in-CatalogFull-clause-told g c = λ run opened locks tells sound next at
     let turned = subst (λ m. MakesBy c.me-x.result name schema.columns a.now b.now m) c.in-CatalogFull.is (c.in-Ok.ensures.makes tells sound may) in
     let next_is = subst (λ m. b.next ≡ next_made m a.next) c.in-CatalogFull.is c.in-Ok.ensures.numbers in
     let rests = c.rests.ensures tells sound (c.a_turn_goes_or_counts_a_fault.ensures.going g.O.Origin.first a b made c.in-Ok.ensures.turns) in
-    c.a_turn_of_a_table_is_told.ensures.full run opened a b h s name schema next c.requires.may.one at
+    c.a_turn_of_a_table_is_told.ensures.full run opened a b h s name schema next c.requires.may.one at turned
     (c.a_turn_is_told_by_its_number.ensures.read g.O.Origin.first a b made tells sound c.in-Ok.ensures.turns next_is turned.same rests)
 
 pub returns-in-Err-clause-refused : goal.returns-in-Err-clause-refused

@@ -1,5 +1,5 @@
 use Rattle.std.specs.Prelude.{IsTrue}
-use Rattle.std.proofs.Common.{◌≡◌, ℕ, List, length, refl, sym, ap, subst, arith}
+use Rattle.std.proofs.Common.{◌≡◌, ℕ, Bool, List, length, refl, sym, ap, subst, arith}
 use Rattle.std.proofs.lemmas.List.{nil_from_length}
 use Rattle.ctr_disk.specs.Device.{LeavesOnly, IsSettled}
 use Rattle.ctr_redo.specs.States.{state_of}
@@ -8,6 +8,7 @@ use Rattle.ctr_disk.specs.Image.{Image}
 use Rattle.ctr_disk.proofs.Moments.{weaker}
 use Rattle.ctr_base.specs.Base.{IsSoundImage, HasGate, LeavesBase, stored_of, waiting_of}
 use Rattle.ctr_log.specs.Logs.{IsFlushing, with_batch}
+use Rattle.ctr_log.specs.Kept.{StartsAt}
 use Rattle.ctr_redo.proofs.ImageLaws.{logs_apart}
 use Rattle.ctr_base.specs.declared.base.Base.{Base}
 use Rattle.ctr_base.specs.BaseLaws.{holds_if, holds_still, rests_leaves, stands_still, stands_flushed, homes_flushed}
@@ -76,7 +77,7 @@ returns-clause-moves g c told =
     record { root = refl; file = file; place = c.flush.ensures.emptied.gate; none = e.emptied.none; next = e.emptied.next; durable = c.next-self.ensures; goes_on = e.kept a.root.file a.root.first told (rests.quiet sound).writes } in (
       λ sound. flush_moves d a b (rests.quiet sound) (f sound),
       record {
-        stands = stands_flushed d a b rests.stands refl file kept goes.0 (with_batch goes.1 a.log.buffered) flushed.1;
+        stands = stands_flushed d a b rests.stands refl file (subst (λ (n : ℕ). StartsAt c.flush.new.self.older a.root.first n) (sym c.flush.ensures.emptied.start) (subst (λ (o : Bool). StartsAt o a.root.first a.log.start) (sym c.flush.ensures.emptied.older) rests.stands.starts)) kept goes.0 (with_batch goes.1 a.log.buffered) flushed.1;
         since = since_still g.O.Origin.first a.root.pages (d.reads a.disk) (d.reads c.flush.new.disk) kept.pages rests.since;
         quiet = λ sound. flush_quiet d a b (rests.quiet sound) (f sound) (e.durable (rests.quiet sound).only);
       },

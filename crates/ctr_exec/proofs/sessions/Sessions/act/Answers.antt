@@ -3,8 +3,10 @@ use Rattle.std.specs.Prelude.{slice_get}
 use Rattle.ctr_disk.specs.declared.fault.StoreFault.TheVariants.{Fault}
 use Rattle.ctr_types.specs.declared.statement.Line.{Line}
 use Rattle.ctr_types.specs.declared.statement.Statement.{Statement}
+use Rattle.ctr_types.specs.declared.statement.Statement.TheVariants as st
+use Rattle.ctr_versions.proofs.Keys.{some_is}
 use Rattle.ctr_kept.specs.Turns.{state_now}
-use Rattle.ctr_txn.specs.Held.{TxnsHeld, txn_of}
+use Rattle.ctr_txn.specs.Held.{IsWriting, TxnsHeld, number_drawn, txn_of}
 use Rattle.ctr_writing.specs.ctr_session_world.Ready.{StandOver}
 use Rattle.ctr_writing.specs.ctr_session_world.Told.{IsNextOf}
 use Rattle.ctr_writing.specs.ctr_session_world.World.{SessionsHeld}
@@ -12,7 +14,7 @@ use Rattle.ctr_writing.proofs.ctr_session_world.Disks.{disk_done, disk_failed}
 use Rattle.ctr_writing.specs.Tables.{HasFittingColumns}
 use Rattle.ctr_exec.specs.declared.runners.Stage.{Stage}
 use Rattle.ctr_exec.specs.declared.sessions.Sessions.{Sessions}
-use Rattle.ctr_exec.specs.Acting.{IsMidway, LeavesAct, LeavesAsking, MayAct, TurnOfAct}
+use Rattle.ctr_exec.specs.Acting.{IsMidway, LeavesAct, LeavesAsking, MayAct, RollsAct, TurnOfAct}
 use Rattle.ctr_exec.specs.Runners.{made_at, runner_at}
 use Rattle.ctr_exec.specs.Sessions.{entries_by, held_by}
 use Rattle.ctr_exec.proofs.Noting.{all_at, capacity_now, held_now, len_now, runners_now, script_now, stuck_now, tape_now, txns_now}
@@ -94,6 +96,7 @@ returns-in-Ok-clause-leaves g c =
           (λ q some two. ap (λ (t : TxnsHeld). txn_of q t) txns_is ∙ over.0.others q some two ∙ ap (λ (z : Sessions). txn_of q z.txns) same) over.0.counted
           (subst (λ (t : TxnsHeld). LeavesAsking s h.txns t l) (sym txns_is) (subst (λ (z : Sessions). LeavesAsking s z.txns txns l) same over.1));
       one = over.0.one;
+      counted = over.0.counted;
     }
 
 pub returns-in-Ok-clause-told : goal.returns-in-Ok-clause-told
@@ -124,12 +127,17 @@ returns-in-Ok-clause-told g c = λ run opened w tells sound before.
     (subst (λ (z : Sessions). (next : IsNextOf g.D.Disk run opened a b (held_by z) s c.statement_at-statement.result.now (made_at c.take-place.result.1)) → z.stuck ≡ (state_now run next.mind).stuck → IsMidway run s c.statement_at-statement.result.now next.mind c.take-place.result.1 → TurnOfAct next held (Ok l)) same
     (λ next stuck at. c.in-Ok.ensures.told run opened tells sound next stuck at))) in
     let follows = next g.D.Disk run opened a b h now w before s go.one line.line.statement line.named c.act-acted.ensures.disk.later in
+    let rolls = subst (λ (q : Stage). IsNextOf g.D.Disk run opened a b (held_by h) s line.line.statement (made_at q) → line.line.statement ≡ st.Rollback → IsWriting s h.txns → RollsAct (number_drawn s h.txns) a b l) c.take-place.ensures.stage
+    (subst (λ (z : Statement). IsNextOf g.D.Disk run opened a b (held_by h) s z (made_at c.take-place.result.1) → z ≡ st.Rollback → IsWriting s h.txns → RollsAct (number_drawn s h.txns) a b l) said
+    (subst (λ (z : Sessions). IsNextOf g.D.Disk run opened a b (held_by z) s c.statement_at-statement.result.now (made_at c.take-place.result.1) → c.statement_at-statement.result.now ≡ st.Rollback → IsWriting s z.txns → RollsAct (number_drawn s z.txns) a b l) same
+    (λ next is writing. c.in-Ok.ensures.rolls run opened tells sound next is writing))) in
     let its = subst (λ (z : SessionsHeld). TurnOfAct follows z (Ok l)) (sym (held_now h mid now m go.seats s go.one txns locks l c.moment.result same c.take-place.ensures.runners told.is told.tape told.len told.capacity told.runners))
     (turn follows before.stuck (at_stage g.D.Disk run opened a b h now w before s go.one line.line.statement line.named c.act-acted.ensures.disk.later)) in
     turned g.D.Disk run opened a b h now w before s go.one line.line.statement line.named c.act-acted.ensures.disk.later m n go.seats
     (script_now h mid now m go.seats s go.one txns locks l c.moment.result same c.take-place.ensures.runners told.is told.tape told.len told.capacity told.runners)
     (stuck_now h mid now m go.seats s go.one txns locks l c.moment.result same c.take-place.ensures.runners told.is told.tape told.len told.capacity told.runners)
-    (sound_in g.D.Disk run opened a h w c.legal_states_are_sound.ensures before) c.what_a_write_counts_on_stays.ensures c.snapshots_stay.ensures l now.txns leaves c.in-Ok.ensures.over.2 its
+    (sound_in g.D.Disk run opened a h w c.legal_states_are_sound.ensures before) c.what_a_write_counts_on_stays.ensures c.snapshots_stay.ensures l now.txns leaves c.in-Ok.ensures.over.2
+    (λ at_it. rolls follows (some_is line.line.statement st.Rollback (sym line.named ∙ at_it.at)) at_it.writing) its
     (runners_now h mid now m go.seats s go.one txns locks l c.moment.result same c.take-place.ensures.runners told.is told.tape told.len told.capacity told.runners)
     (tape_now h mid now m go.seats s go.one txns locks l c.moment.result same c.take-place.ensures.runners told.is told.tape told.len told.capacity told.runners ∙ ap (λ t. h.tape.items ++ entries_by s (runner_at s h.runners.items) t l) c.moment.ensures)
 

@@ -10,5 +10,5 @@ returns-in-Ok-clause-any_moment g c named oldest settled writes =
     let next = c.flush_before.new.self in
     let flushed = c.in-Ok.ensures in
     let goes = flushed.kept named oldest settled.told writes in
-    both_leave named oldest c.args.self.now (d.reads old) writes c.args.first.now d old mid c.begin.new.disk (d.reads mid) next goes flushed.emptied.file (flushed.any_moment named oldest settled writes)
-    (c.begin.ensures.any_moment named oldest (settled_by d mid settled.told (flushed.durable settled.only)) goes.writes)
+    both_leave named oldest c.args.self.now (d.reads old) writes c.args.first.now d old mid c.begin_generation.new.disk (d.reads mid) next goes flushed.emptied.file (flushed.any_moment named oldest settled writes)
+    (c.begin_generation.ensures.any_moment named oldest (settled_by d mid settled.told (flushed.durable settled.only)) goes.writes)

@@ -1,9 +1,8 @@
 use Rattle.std.proofs.Common.{inl, inr, [], subst}
 use Rattle.ctr_disk.proofs.Moments.{read_then, weaker}
 use Rattle.ctr_home.specs.declared.block.Block.TheVariants.{Root as RootBlock}
-use Rattle.ctr_home.specs.declared.root.Form.TheVariants.{Paged}
 use Rattle.ctr_home.specs.Blocks.{value_of}
-use Rattle.ctr_home.specs.Roots.{SaysRootOf}
+use Rattle.ctr_home.specs.Roots.{SaysRoot}
 use Rattle.ctr_redo.specs.States.{state_of}
 use Rattle.ctr_redo.specs.Images.{stored_in, FoldsFront}
 use Rattle.ctr_store.specs.Opening.{disk_left, LeavesFirst}
@@ -17,6 +16,6 @@ returns-in-Ok-clause-any_moment g c told sound =
     let mid = c.read_front.new.disk in
     let new = disk_left c.finish.result in
     let root = c.in-Ok.root in
-    let says : SaysRootOf Paged (value_of RootBlock o) root = subst (SaysRootOf Paged (value_of RootBlock o)) c.in-Ok.root-is (c.in-Ok.ensures.found told).stands.0 in
+    let says : SaysRoot (value_of RootBlock o) root = subst (SaysRoot (value_of RootBlock o)) c.in-Ok.root-is (c.in-Ok.ensures.found told).stands.0 in
     let P = LeavesFirst o (d.images old) in
     read_then d old mid new P c.read_front.ensures.quiet (λ i is. inl is) (weaker d mid new (FoldsFront (state_of (stored_in root o)) []) P (c.finish.ensures.goes told sound) (λ i is. inr (root, says, is)))

@@ -1,7 +1,7 @@
 use Rattle.std.proofs.Common.{◌∙◌, ◌+◌, length, sym, subst}
 use Rattle.ctr_base.specs.declared.base.Base.{Base}
 use Rattle.ctr_meta.specs.Kept.{TablesKept}
-use Rattle.ctr_store.specs.Numbers.{NumbersAt}
+use Rattle.ctr_store.specs.Numbers.{NumbersLow}
 use Rattle.ctr_store.specs.Parts.{HasBuffer}
 use Rattle.ctr_store.specs.Store.{View, GrowsByExtent}
 use Rattle.ctr_store.specs.StoreInside.{view_of}
@@ -16,8 +16,8 @@ invariant_of-self g c =
       fold = λ told going. (of_ok c.grow-counted.result (sym c.is_err-self-inside.ensures.value ∙ going) (e.grows told)).1;
       buffer = subst (λ (b : Base g.row.D.Denot g.row.O.Denot). HasBuffer b.log) (sym e.counted.0.0) c.self.invariant.buffer;
       counted = count_grown c.self.inside.parts.base c.grow-counted.new.self.base c.grow-counted.result c.self.invariant.counted e.counted.0;
-      numbers = subst (λ (k : TablesKept). NumbersAt (c.grow-counted.new.self.base.log.first + length c.grow-counted.new.self.base.log.buffered) k.tables) (sym e.counted.2)
-          (subst (λ (b : Base g.row.D.Denot g.row.O.Denot). NumbersAt (b.log.first + length b.log.buffered) c.self.inside.parts.meta.tables) (sym e.counted.0.0) c.self.invariant.numbers);
+      numbers = subst (λ (k : TablesKept). NumbersLow (c.grow-counted.new.self.base.log.first + length c.grow-counted.new.self.base.log.buffered) k.tables) (sym e.counted.2)
+          (subst (λ (b : Base g.row.D.Denot g.row.O.Denot). NumbersLow (b.log.first + length b.log.buffered) c.self.inside.parts.meta.tables) (sym e.counted.0.0) c.self.invariant.numbers);
     }
 
 pub returns-clause-grows : goal.returns-clause-grows

@@ -1,4 +1,4 @@
-use Rattle.std.proofs.Common.{◌≡◌, ◌∙◌, ◌≤◌, [], ◌∷◌, false, sym, ap, subst}
+use Rattle.std.proofs.Common.{◌≡◌, ◌∙◌, ◌<◌, ◌≤◌, ◌-◌, ◌^◌, [], ◌∷◌, false, sym, ap, subst}
 use Rattle.std.specs.Prelude.{IfOk, OnErr}
 use Rattle.std.proofs.lemmas.Result.{on_ok_weaker, on_err_weaker}
 use Rattle.ctr_types.specs.Faults.{HasFault}
@@ -47,7 +47,7 @@ invariant_of-self g c =
       fold = λ told going. (of_ok c.log-logged.result (sym c.is_err-self-inside.ensures.value ∙ going) (e.logs told)).1;
       buffer = buffer_behind g.D.Disk c.args.rec.now s c.log-logged.new.self c.log-logged.result may.logged.record_is may.change room c.self.invariant.buffer e.takes keeps;
       counted = count_behind g.D.Disk c.args.rec.now s c.log-logged.new.self c.log-logged.result c.self.invariant.counted e.takes keeps;
-      numbers = numbers_behind g.D.Disk c.args.rec.now s c.log-logged.new.self c.log-logged.result may.logged may.change c.self.invariant.numbers e.takes e.keeps;
+      numbers = numbers_behind g.D.Disk c.args.rec.now s c.log-logged.new.self c.log-logged.result may.logged may.change (subst (λ (v : View g.row.D.Denot). v.next < 2 ^ 63 - 1) (sym c.self.view_is) may.number) c.self.invariant.numbers e.takes e.keeps;
     }
 
 pub returns-clause-takes : goal.returns-clause-takes

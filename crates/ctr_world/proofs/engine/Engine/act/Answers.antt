@@ -16,7 +16,7 @@ returns-in-Ok-clause-shows g c = λ s tells sound shows.
     let w = running c.args.self.now in
     let goes = (c.in-Ok.ensures.told (start_in g.B.Opening s) shows.opened shows.mind tells sound shows.shows).0 in
     shows_led g.B.Opening g.B.Origin.first g.D.Disk s w c.turn.new.store c.turn.new.self shows (AreOfTurn c.args.s) goes
-    (names_led g.B.Opening g.B.Origin.first g.D.Disk s w c.turn.new.store shows c.a_turn_of_undo_is_kept.ensures.may c.names_of_what_is_left_stay.ensures.named goes.names)
+    (names_led g.B.Opening g.B.Origin.first g.D.Disk s w c.turn.new.store shows c.a_turn_of_undo_is_kept.ensures.may c.names_of_what_is_left_stay.ensures.named goes.names) c.in-Ok.ensures.leaves.counted
 
 pub returns-clause-shows : goal.returns-clause-shows
 returns-clause-shows g c = λ s tells sound shows. c.in-Err.ensures.told (start_in g.B.Opening s) shows.opened shows.mind tells sound shows.shows

@@ -18,7 +18,7 @@ pub returns-clause-shows : goal.returns-clause-shows
 returns-clause-shows g c = λ s tells sound shows.
     let w = running c.args.self.now in
     shows_led g.B.Opening g.B.Origin.first g.D.Disk s w w.store c.answer.new.self shows AreAnswers
-    (c.answer.ensures.told (start_in g.B.Opening s) shows.opened shows.mind tells sound c.requires.ready.going shows.shows) refl
+    (c.answer.ensures.told (start_in g.B.Opening s) shows.opened shows.mind tells sound c.requires.ready.going shows.shows) refl (at_once w.store.now.counted)
 
 pub returns-clause-adds : goal.returns-clause-adds
 returns-clause-adds g c =

@@ -1,7 +1,6 @@
 use Rattle.std.proofs.Common.{◌∙◌, subst}
 use Rattle.ctr_world.specs.Held.{Held, held}
 use Rattle.ctr_world.specs.Turns.{GoesByTurns}
-use Rattle.ctr_world.proofs.Adding.{turns_add}
 use Rattle.ctr_world.proofs.Ending.{ended_as, in_order_as}
 use Rattle.ctr_world.proofs.world.World.finish.Goals as goal
 
@@ -19,9 +18,3 @@ pub returns-clause-turns : goal.returns-clause-turns
 returns-clause-turns g c =
     let by = c.finish.ensures.turns in
     record { between = by.between; last = by.last; turns = subst (λ (h : Held _). GoesByTurns g.D.Disk by.between h by.last) c.self.view_is by.turns; tape_is = c.from_vec.ensures ∙ by.tape_is }
-
-pub returns-clause-adds : goal.returns-clause-adds
-returns-clause-adds g c =
-    let by = returns-clause-turns g c in
-    let adds = turns_add g.D.Disk by.between _ by.last by.turns in
-    (adds.0, by.tape_is ∙ adds.1)

@@ -1,10 +1,9 @@
-use Rattle.std.proofs.Common.{◌≤◌, ⊎_elim, inl, inr, [], sym, ◌∙◌, subst}
-use Rattle.ctr_record_effects.specs.Standing.{IsDatabaseState}
+use Rattle.std.proofs.Common.{◌⊎◌, sym, ◌∙◌, subst}
+use Rattle.ctr_disk.specs.Device.{LeavesOnly}
+use Rattle.ctr_record_effects.specs.Standing.{IsDatabaseState, StandsForDatabase}
 use Rattle.ctr_stops.proofs.Opened.{now_is}
-use Rattle.ctr_stops.specs.Fronts.{rows_of_state}
-use Rattle.ctr_world.specs.World.{LeavesPrefix}
 use Rattle.ctr_world.proofs.Keeping.{sound_of}
-use Rattle.ctr_world.proofs.Refused.{first_left, front_of, told_as, told_behind}
+use Rattle.ctr_world.proofs.Refused.{front_of, opening_leaves, reading_leaves, told_as, told_behind}
 use Rattle.ctr_world.proofs.Started.{kept_begun, stands_on}
 use Rattle.ctr_world.proofs.world.World.open.Goals as goal
 
@@ -52,17 +51,16 @@ returns-in-Err-begin-clause-refused g c = λ tells.
 
 pub returns-in-Err-clause-left : goal.returns-in-Err-clause-left
 returns-in-Err-clause-left g c = λ s tells stands.
-    let named = c.requires.named in
-    first_left g.B.Opening g.B.Origin.first g.D.Disk g.met.D.Disk.earlier c.args.disk c.in-Err.refused.1 s stands named.start named.before (c.in-Err.ensures.any_moment tells (sound_of g.B.Origin.first s stands))
+    let first = g.B.Origin.first in
+    opening_leaves g.D.Disk first c.args.disk s stands c.in-Err.refused.1 (c.in-Err.ensures.any_moment tells (sound_of first s stands))
 
 pub returns-in-Err-begin-clause-left : goal.returns-in-Err-begin-clause-left
 returns-in-Err-begin-clause-left g c = λ s tells stands.
-    let named = c.requires.named in
     let d = g.D.Disk in
     let first = g.B.Origin.first in
     let v = c.in-Ok.store in
+    let b = c.begin.new.store in
+    let opened = c.in-Ok.ensures in
     let sound = sound_of first s stands in
-    let keeps = c.an_opened_store_keeps_commits.ensures.commits first s c.args.disk v stands (c.in-Ok.ensures.answer tells) (c.in-Ok.ensures.any_moment tells sound) in
-    let left = c.a_call_that_ends_leaves_a_prefix.ensures.call (record { opened = c.args.disk; base = rows_of_state s; asked = [] }) [] v c.begin.new.store keeps (front_of first d v c.begin.new.store _ tells sound c.in-Err-begin.ensures.leaves) in
-    subst (λ x. LeavesPrefix g.B.Opening d s x []) (sym c.into_disk.ensures)
-    (λ t c from le there. ⊎_elim (λ it. inl it) (λ was. inr (named.before c was.0, was.1)) (left t c (subst (λ n. n ≤ t) named.start from) le there))
+    subst (λ x. LeavesOnly d c.args.disk x (λ i. d.images c.args.disk i ⊎ StandsForDatabase i s)) (sym c.into_disk.ensures)
+    (reading_leaves d first c.args.disk s stands v b (opened.answer tells) (opened.any_moment tells sound) (front_of first d v b _ tells sound c.in-Err-begin.ensures.leaves))

@@ -1,0 +1,63 @@
+-- One step of the cleaner, at one place: it logs the record of one of its actions, which owes
+-- nothing more, or it does nothing.
+use Rattle.std.specs.Prelude.{◌≡◌, ℕ, ◌+◌, List, true, Option, None, Some, ℤ}
+use Rattle.ctr_page.specs.declared.rows.Place.{Place}
+use Rattle.ctr_locks.specs.Held.{LocksOfSession, locks_key, first_that}
+use Rattle.ctr_redo.specs.States.{State}
+use Rattle.ctr_record_effects.specs.States.{area_in}
+use Rattle.ctr_record_laws.specs.Owed.{Trimming, OwedByTrim}
+use Rattle.ctr_actions.specs.Sites.{Site, site_of}
+use Rattle.ctr_actions.specs.Actions.{Action, Reverts, Trims, Cuts, FreesOlder}
+use Rattle.ctr_actions.specs.Cleaning.{IsCleaning}
+use Rattle.ctr_page_turns.specs.Acts.{ActsBy}
+use Rattle.ctr_trim.specs.declared.slots.TrimWay.{TrimWay}
+use Rattle.ctr_trim.specs.Trimming.{trimming_by}
+use Rattle.ctr_clean.specs.Choosing.{passes_below, MayTrim}
+use Rattle.ctr_clean.specs.declared.steps.Step.{Step}
+use Rattle.ctr_clean.specs.declared.steps.Step.TheVariants.{Cleaned, Nothing}
+
+-- what sessions have locked
+abbrev pub Locks : Type 0
+Locks = List (ℕ × LocksOfSession)
+
+-- no session has the lock of a key of an entry of the catalog
+abbrev pub IsUnlocked : Locks → ℕ → ℤ → Type 0
+IsUnlocked locks e key = first_that (locks_key e key) locks ≡ None
+
+-- The row that an action is about isn't locked.
+abbrev pub IsFreeOf : Locks → Action → Site → Type 0
+IsFreeOf locks (Reverts e at way) s = IsUnlocked locks e (s.area.slot at).key
+IsFreeOf locks (Trims passes e at way) s = IsUnlocked locks e (s.area.slot at).key
+IsFreeOf locks (Cuts passes e at q) s = IsUnlocked locks e (s.area.slot at).key
+IsFreeOf locks (FreesOlder e q) s = IsUnlocked locks e (s.area.older q).key
+IsFreeOf locks a s = Unit {0}
+
+-- A state is left by an action of the cleaner's for nobody, which owes nothing more in the one
+-- before; its row isn't locked, its bytes lie at what it changes, and they pass their checks.
+pub record CleansOne (low : ℕ) (locks : Locks) (s t : State) : Type 0 where
+  pub action : Action
+  pub cleaning : IsCleaning (passes_below low s.tables) action (site_of s)
+  pub free : IsFreeOf locks action (site_of s)
+  pub acts : ActsBy s.tables.next action s t
+
+-- no row at a place of a table may be trimmed, unless it is locked
+abbrev pub HasNoTrim : ℕ → Locks → ℕ → Place → State → Type 0
+HasNoTrim low locks e at s = IsUnlocked locks e ((area_in s).slot at).key → (way : Trimming)
+    → OwedByTrim (passes_below low s.tables) s.tables (area_in s) e at way → ⊥
+
+-- The slot at a place may be trimmed in a way, and its row isn't locked; or no row there may be.
+abbrev pub ChoosesAt : ℕ → Locks → ℕ → Place → State → Option TrimWay → Type 0
+ChoosesAt low locks e at s (Some way) = (((area_in s).slot at).used ≡ true)
+    × IsUnlocked locks e ((area_in s).slot at).key
+    × MayTrim (trimming_by way) (passes_below low s.tables) ((area_in s).slot at)
+ChoosesAt low locks e at s None = HasNoTrim low locks e at s
+
+-- What a step at a slot of a live table did.
+abbrev pub TrimsAt : ℕ → Locks → ℕ → Place → State → State → Step → Type 0
+TrimsAt low locks e at s t Cleaned = CleansOne low locks s t
+TrimsAt low locks e at s t Nothing = (t ≡ s) × HasNoTrim low locks e at s
+
+-- the log's next number behind a step
+abbrev pub next_stepped : Step → ℕ → ℕ
+next_stepped Cleaned next = next + 1
+next_stepped Nothing next = next
