@@ -1,4 +1,0 @@
-use Rattle.ctr_tests_turns.proofs.undoing.+go_on.Given as goal
-
-abbrev pub decreases-go_on : goal.decreases-go_on
-decreases-go_on g l = l.most
